@@ -1,0 +1,7 @@
+-- The number that octets spell (the bit numbering convention of CCSDS 132.0-B, 133.0-B and 232.0-B, 1.6).
+use Rattle.std.specs.Prelude.{ℕ, ◌+◌, ◌*◌, ◌^◌, List, [], ◌∷◌, length}
+
+-- each octet times 256 to the power of the octets after it, summed
+abbrev pub number_of : List ℕ → ℕ
+number_of [] = 0
+number_of (b ∷ bs) = b * 256 ^ length bs + number_of bs
