@@ -1,0 +1,11 @@
+pub mod Outcomes
+pub mod Numbers
+pub mod Cuts
+pub mod Bits
+pub mod Register
+pub mod Division
+pub mod TableEntries
+pub mod Below
+pub mod Checked
+pub mod Bursts
+pub mod Streams

@@ -1,1 +1,6 @@
 pub mod Number
+pub mod Check
+pub mod Damage
+pub mod Outcome
+pub mod Records
+pub mod Holding

@@ -1,6 +1,18 @@
-//! Numbers that octets spell.
+//! What all layouts share: the numbers that octets spell, the check of frames, and the records of a
+//! stream of octets, however it was cut.
 #![tactic(auto)]
 
+mod checking;
+mod laws;
 mod number;
+mod splitter;
+mod table;
+#[cfg(test)]
+mod tests;
+mod wire;
 
+pub use checking::{append_check, check, check_holds};
+pub use laws::{law_of_cutting, law_of_damage, law_of_records, law_of_refusal, law_of_spellings};
 pub use number::first_two;
+pub use splitter::Splitter;
+pub use wire::Wire;

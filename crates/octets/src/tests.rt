@@ -1,0 +1,202 @@
+// The known checks, the table against the plain program, and a splitter over a layout of the tests' own.
+
+ghost use Rattle.std.specs.Prelude.{◌≡◌, ◌≤◌, List, ℕ, length, nat_lt, if◌then◌else◌, slice_index, Ok, Err};
+ghost use Rattle.std.proofs.Common.{rules};
+ghost use Rattle.std.proofs.lemmas.Grind.{common_steps};
+ghost use Rattle.octets.specs.declared.tests.BlockFault.TheVariants.{Empty, Truncated, Memory};
+
+use crate::table::table_entry;
+use crate::*;
+use std::process::Abort;
+
+#[derive(Clone, Copy, Debug, PartialEq, Eq)]
+enum BlockFault {
+    Empty,
+    Truncated,
+    Memory,
+}
+
+// Records whose first octet is their length.
+struct Blocks;
+
+impl Wire for Blocks {
+    type Fault = BlockFault;
+
+    const HEAD: usize = 1;
+
+    ghost HEAD = { 1 };
+
+    ghost extent_of = { λ head. if nat_lt (slice_index head 0) 1 then Err Empty else Ok (slice_index head 0) };
+
+    ghost Value = { List ℕ };
+
+    ghost IsSpelling = { λ v octets. (octets ≡ v) × ((1 ≤ length octets) × (slice_index octets 0 ≡ length octets)) };
+
+    ghost truncated_fault = { Truncated };
+
+    ghost memory_fault = { Memory };
+
+    fn extent(head: &[u8]) -> Result<usize, BlockFault> {
+        if head[0] < 1 {
+            return Err(BlockFault::Empty);
+        }
+        Ok(head[0] as usize)
+    }
+
+    fn truncated() -> BlockFault {
+        BlockFault::Truncated
+    }
+
+    fn memory() -> BlockFault {
+        BlockFault::Memory
+    }
+
+    ghost some_head = { Prim.search rules };
+
+    ghost extent_has_head = { Prim.search (rules, common_steps) };
+
+    ghost one_spelling = { λ v xs ys p q. Prim.cc };
+
+    ghost own_extent = { Prim.search (rules, common_steps) };
+}
+
+// The check bit by bit: a register preset to ones, shifted once a bit.
+fn plain_check(octets: &[u8]) -> u16 {
+    let mut register: u16 = 0xffff;
+    for octet in octets {
+        register ^= u16::from(*octet) << 8;
+        for _ in 0..8u8 {
+            let out = register >> 15;
+            register <<= 1;
+            if out == 1 {
+                register ^= 0x1021;
+            }
+        }
+    }
+    register
+}
+
+#[test]
+fn known_checks(rt: HostRuntime) {
+    assert_eq!(rt; check(b"123456789"), 0x29b1);
+    assert_eq!(rt; check(&[0, 0]), 0x1d0f);
+    assert_eq!(rt; check(&[]), 0xffff);
+}
+
+// The vectors of ECSS-E-ST-70-41C, annex B.
+#[test]
+fn vectors_of_the_packet_utilisation_standard(rt: HostRuntime) {
+    assert_eq!(rt; check(&[0, 0, 0]), 0xcc9c);
+    assert_eq!(rt; check(&[0xab, 0xcd, 0xef, 0x01]), 0x04a2);
+    assert_eq!(rt; check(&[0x14, 0x56, 0xf8, 0x9a, 0x00, 0x01]), 0x7fd5);
+}
+
+#[test]
+fn known_entries(rt: HostRuntime) {
+    assert_eq!(rt; table_entry(0), 0);
+    assert_eq!(rt; table_entry(1), 0x1021);
+    assert_eq!(rt; table_entry(2), 0x2042);
+    assert_eq!(rt; table_entry(255), 0x1ef0);
+}
+
+// Every octet, and every length up to 64 of octets that look random.
+#[test]
+fn the_table_is_the_plain_program(rt: HostRuntime) {
+    for octet in 0..=255u8 {
+        assert_eq!(rt; check(&[octet]), plain_check(&[octet]));
+    }
+    let mut octets = [0u8; 64];
+    let mut seed: u32 = 1;
+    for len in 0..64usize {
+        assert_eq!(rt; check(&octets[..len]), plain_check(&octets[..len]));
+        seed = seed.wrapping_mul(1_664_525).wrapping_add(1_013_904_223);
+        octets[len] = (seed >> 24) as u8;
+        assert_eq!(rt; check(&octets), plain_check(&octets));
+    }
+}
+
+#[test]
+fn a_check_is_set_and_holds(rt: HostRuntime) {
+    let mut octets = *b"123456789\x00\x00";
+    assert!(rt; !check_holds(&octets));
+    append_check(&mut octets);
+    assert_eq!(rt; first_two(&octets[9..]), 0x29b1);
+    assert!(rt; check_holds(&octets));
+    assert!(rt; !check_holds(&octets[..10]));
+    assert!(rt; !check_holds(&[]));
+}
+
+// Feeds. Where memory is refused nothing has changed, and the call made again answers as ever.
+fn feed(rt: &impl Abort, splitter: &mut Splitter<Blocks>, octets: &[u8]) {
+    let waits = splitter.next().is_none();
+    let ends = splitter.finish();
+    if let Err(fault) = splitter.feed(octets) {
+        assert_eq!(rt; fault, BlockFault::Memory);
+        assert_eq!(rt; splitter.next().is_none(), waits);
+        assert_eq!(rt; splitter.finish(), ends);
+        assert_eq!(rt; splitter.feed(octets), Ok(()));
+    }
+}
+
+// Three blocks and the beginning of a fourth.
+const STREAM: [u8; 8] = [2, 7, 1, 3, 8, 9, 4, 1];
+
+#[test]
+fn a_stream_fed_whole(rt: HostRuntime) {
+    let mut splitter: Splitter<Blocks> = Splitter::new(rt.alloc());
+    assert_eq!(rt; splitter.finish(), Ok(()));
+    feed(&rt, &mut splitter, &STREAM);
+    assert_eq!(rt; splitter.next(), Some(Ok(&STREAM[..2])));
+    assert_eq!(rt; splitter.next(), Some(Ok(&STREAM[2..3])));
+    assert_eq!(rt; splitter.next(), Some(Ok(&STREAM[3..6])));
+    assert_eq!(rt; splitter.next(), None);
+    assert_eq!(rt; splitter.finish(), Err(BlockFault::Truncated));
+    feed(&rt, &mut splitter, &[5, 6]);
+    assert_eq!(rt; splitter.next(), Some(Ok(&[4, 1, 5, 6][..])));
+    assert_eq!(rt; splitter.finish(), Ok(()));
+}
+
+#[test]
+fn a_stream_fed_an_octet_at_a_time(rt: HostRuntime) {
+    let mut splitter: Splitter<Blocks> = Splitter::new(rt.alloc());
+    for (place, octet) in STREAM.iter().enumerate() {
+        feed(&rt, &mut splitter, &[*octet]);
+        let expected = match place {
+            1 => Some(Ok(&STREAM[..2])),
+            2 => Some(Ok(&STREAM[2..3])),
+            5 => Some(Ok(&STREAM[3..6])),
+            _ => None,
+        };
+        assert_eq!(rt; splitter.next(), expected);
+        assert_eq!(rt; splitter.next(), None);
+    }
+    assert_eq!(rt; splitter.finish(), Err(BlockFault::Truncated));
+}
+
+#[test]
+fn a_refused_extent_is_for_good(rt: HostRuntime) {
+    let mut splitter: Splitter<Blocks> = Splitter::new(rt.alloc());
+    feed(&rt, &mut splitter, &[1, 0, 2]);
+    assert_eq!(rt; splitter.next(), Some(Ok(&[1][..])));
+    assert_eq!(rt; splitter.finish(), Err(BlockFault::Truncated));
+    assert_eq!(rt; splitter.next(), Some(Err(&BlockFault::Empty)));
+    feed(&rt, &mut splitter, &[2, 7]);
+    assert_eq!(rt; splitter.next(), Some(Err(&BlockFault::Empty)));
+    assert_eq!(rt; splitter.finish(), Ok(()));
+}
+
+// Three growths, the last of them where octets that were handed out are dropped. Each octet is 100,
+// so each block has 100 of them.
+#[test]
+fn a_stream_outgrows_its_memory(rt: HostRuntime) {
+    let mut splitter: Splitter<Blocks> = Splitter::new(rt.alloc());
+    feed(&rt, &mut splitter, &[100; 30]);
+    feed(&rt, &mut splitter, &[100; 90]);
+    assert_eq!(rt; splitter.next(), Some(Ok(&[100; 100][..])));
+    feed(&rt, &mut splitter, &[100; 980]);
+    for _ in 0..10u8 {
+        assert_eq!(rt; splitter.next(), Some(Ok(&[100; 100][..])));
+    }
+    assert_eq!(rt; splitter.next(), None);
+    assert_eq!(rt; splitter.finish(), Ok(()));
+}
