@@ -1,0 +1,64 @@
+// The telecommand transfer frame as a value.
+
+/// Whether a frame ends with its check, the frame error control field of two octets (CCSDS
+/// 232.0-B-4, 4.1.4).
+#[derive(Clone, Copy, Debug, PartialEq, Eq)]
+pub enum Check {
+    On,
+    Off,
+}
+
+/// Where a segment stands in what it is a part of (CCSDS 232.0-B-4, 4.1.3.2.2.2).
+#[derive(Clone, Copy, Debug, PartialEq, Eq)]
+pub enum SegmentFlags {
+    First,
+    Continuing,
+    Last,
+    Alone,
+}
+
+/// The octet before a segment's data: two bits of flags and six bits of MAP identifier (CCSDS
+/// 232.0-B-4, 4.1.3.2.2).
+#[derive(Clone, Copy, Debug, PartialEq, Eq)]
+pub struct SegmentHeader {
+    pub flags: SegmentFlags,
+    /// Below 64.
+    pub map: u8,
+}
+
+/// The data field of a Type-D frame: a segment header, and at least one octet after it.
+#[derive(Clone, Copy, Debug, PartialEq, Eq)]
+pub struct Segment<'a> {
+    pub header: SegmentHeader,
+    pub payload: &'a [u8],
+}
+
+/// A control command, an order to the receiving end of the link itself (CCSDS 232.0-B-4, 4.1.3.3).
+#[derive(Clone, Copy, Debug, PartialEq, Eq)]
+pub enum Command {
+    /// End a lockout: the octet 00.
+    Unlock,
+    /// Expect this number next: the octets 82 00 and the number.
+    SetVr(u8),
+}
+
+/// What a frame carries, by its bypass and control command flags (CCSDS 232.0-B-4, 4.1.2.3).
+#[derive(Clone, Copy, Debug, PartialEq, Eq)]
+pub enum Body<'a> {
+    /// Sequence-controlled data, with the frame sequence number N(S).
+    Ad { n: u8, segment: Segment<'a> },
+    /// Data that bypass the sequence control.
+    Bd { segment: Segment<'a> },
+    /// A control command, which bypasses it too.
+    Bc(Command),
+}
+
+/// A telecommand transfer frame of at most 1,024 octets (CCSDS 232.0-B-4, 4.1).
+#[derive(Clone, Copy, Debug, PartialEq, Eq)]
+pub struct TcFrame<'a> {
+    /// The spacecraft identifier, below 1,024.
+    pub scid: u16,
+    /// The virtual channel identifier, below 64.
+    pub vcid: u8,
+    pub body: Body<'a>,
+}

@@ -1,0 +1,110 @@
+// Frames as the records of a stream, with and without the check.
+
+ghost use Rattle.std.specs.Prelude.{◌≡◌, ◌≤◌, ◌%◌, ◌+◌, length, take, drop};
+ghost use Rattle.std.proofs.Common.{arith};
+ghost use Rattle.octets.specs.Number.{number_of};
+ghost use Rattle.tc_frame.specs.declared.frame.Check.TheVariants as checks;
+ghost use Rattle.tc_frame.specs.declared.fault.TcFault.TheVariants as faults;
+ghost use Rattle.tc_frame.specs.Layout.{FrameView};
+ghost use Rattle.tc_frame.specs.Splitting.{IsSpelling, total_at};
+ghost use Rattle.tc_frame.specs.Laws.{total_has_head, one_spelling_of, own_total};
+
+use crate::decoding::{len_of_check, low_ten};
+use crate::fault::TcFault;
+use crate::frame::Check;
+use octets::{Wire, first_two};
+
+/// Frames that end with their check, as records of a stream.
+#[derive(Clone, Copy, Debug, PartialEq, Eq)]
+pub struct Checked;
+
+/// Frames without a check, as records of a stream.
+#[derive(Clone, Copy, Debug, PartialEq, Eq)]
+pub struct Unchecked;
+
+fn declared_total(head: &[u8], check: Check) -> Result<usize, TcFault>
+    requires { 5 ≤ length head.now }
+    ensures { result ≡ total_at check (take 5 head.now) }
+{
+    let total = low_ten(first_two(&head[2..])) as usize + 1;
+    if total < 5 + len_of_check(check) {
+        return Err(TcFault::Length);
+    }
+    Ok(total)
+}
+
+impl Wire for Checked {
+    type Fault = TcFault;
+
+    const HEAD: usize = 5;
+
+    ghost HEAD = { 5 };
+
+    ghost extent_of = { λ head. total_at checks.On head };
+
+    ghost Value = { FrameView };
+
+    ghost IsSpelling = { λ f octets. IsSpelling checks.On f octets };
+
+    ghost truncated_fault = { faults.Short };
+
+    ghost memory_fault = { faults.Memory };
+
+    fn extent(head: &[u8]) -> Result<usize, TcFault> {
+        declared_total(head, Check::On)
+    }
+
+    fn truncated() -> TcFault {
+        TcFault::Short
+    }
+
+    fn memory() -> TcFault {
+        TcFault::Memory
+    }
+
+    ghost some_head = { Prim.omega arith };
+
+    ghost extent_has_head = { λ head n e. total_has_head checks.On head n e };
+
+    ghost one_spelling = { λ f xs ys p q. one_spelling_of checks.On f xs ys p q };
+
+    ghost own_extent = { λ f octets p. own_total checks.On f octets p.spells };
+}
+
+impl Wire for Unchecked {
+    type Fault = TcFault;
+
+    const HEAD: usize = 5;
+
+    ghost HEAD = { 5 };
+
+    ghost extent_of = { λ head. total_at checks.Off head };
+
+    ghost Value = { FrameView };
+
+    ghost IsSpelling = { λ f octets. IsSpelling checks.Off f octets };
+
+    ghost truncated_fault = { faults.Short };
+
+    ghost memory_fault = { faults.Memory };
+
+    fn extent(head: &[u8]) -> Result<usize, TcFault> {
+        declared_total(head, Check::Off)
+    }
+
+    fn truncated() -> TcFault {
+        TcFault::Short
+    }
+
+    fn memory() -> TcFault {
+        TcFault::Memory
+    }
+
+    ghost some_head = { Prim.omega arith };
+
+    ghost extent_has_head = { λ head n e. total_has_head checks.Off head n e };
+
+    ghost one_spelling = { λ f xs ys p q. one_spelling_of checks.Off f xs ys p q };
+
+    ghost own_extent = { λ f octets p. own_total checks.Off f octets p.spells };
+}

@@ -1,0 +1,70 @@
+// Frames taken from a stream that comes in pieces.
+
+ghost use Rattle.std.specs.Prelude.{◌≡◌, ◌<◌, ◌++◌, ◌↔◌, [], None, length, IsNone, IsErr, IfErr, OnOk, OnErr};
+
+use crate::fault::TcFault;
+use octets::{Splitter, Wire};
+use std::alloc::Global;
+
+/// Takes a stream of frames apart, with (`TcSplitter<Checked>`) or without their check
+/// (`TcSplitter<Unchecked>`), however it was cut into pieces. A record is as long as its head
+/// declares, and is not decoded.
+#[derive(Drop)]
+pub struct TcSplitter<C: Wire<Fault = TcFault>> {
+    splitter: Splitter<C>,
+}
+
+impl<C: Wire<Fault = TcFault>> TcSplitter<C> {
+    ghost use Rattle.octets.specs.Holding.{rest_after, failure_after, answer_view};
+    ghost use Rattle.octets.specs.Records.{first_record};
+    ghost use Rattle.tc_frame.specs.Holding.{octets_held, refusal};
+    ghost use Rattle.tc_frame.specs.contracts.splitter.TcSplitter.{the_row};
+    ghost use Rattle.std.specs.Borrow.{sem};
+    ghost use Rattle.std.specs.Io.BufRead.{Rests};
+
+    /// A splitter that holds nothing; it takes no memory until it is fed.
+    pub fn new(alloc: Global) -> Self
+        ensures held { octets_held result ≡ [] }
+        ensures refusal { refusal result ≡ None }
+    {
+        TcSplitter {
+            splitter: Splitter::new(alloc),
+        }
+    }
+
+    /// Takes more octets of the stream. The fault is 12 `Memory`, and after it the splitter is as it
+    /// was.
+    pub fn feed(&mut self, octets: &[u8]) -> Result<(), TcFault>
+        ensures ok { OnOk result (octets_held self.new ≡ octets_held self.old ++ octets.now) }
+        ensures err { OnErr result (octets_held self.new ≡ octets_held self.old) }
+        ensures fault { IfErr result (λ e. e ≡ C.memory_fault) }
+        ensures refusal { refusal self.new ≡ refusal self.old }
+    {
+        self.splitter.feed(octets)
+    }
+
+    /// The next whole record, or 5 `Length` where it declares a total below 5, or below 7 with the
+    /// check; `None` while octets are missing. Once a record was refused, this call and every later
+    /// one answer that fault.
+    pub fn next(&mut self) -> Option<Result<&[u8], TcFault>>
+        ensures* rests { sem 𝓛 (Rests (the_row C.row C.Wire) self.entry (λ last.
+            (octets_held last ≡ rest_after (answer_view result) (octets_held self.old))
+            × (refusal last ≡ failure_after (answer_view result) (refusal self.old)))) }
+        ensures answer { answer_view result ≡ first_record C.HEAD C.extent_of (octets_held self.old) }
+    {
+        match self.splitter.next() {
+            None => None,
+            Some(Err(fault)) => Some(Err(*fault)),
+            Some(Ok(record)) => Some(Ok(record)),
+        }
+    }
+
+    /// Whether the stream may end here. The fault is 1 `Short`: octets are left, and no record was
+    /// refused.
+    pub fn finish(&self) -> Result<(), TcFault>
+        ensures short { IsErr result ↔ ((0 < length (octets_held self.now)) × IsNone (refusal self.now)) }
+        ensures fault { IfErr result (λ e. e ≡ C.truncated_fault) }
+    {
+        self.splitter.finish()
+    }
+}
