@@ -1,0 +1,9 @@
+use Rattle.space_packet.specs.Laws.{spelling_from}
+use Rattle.space_packet.proofs.Spellings.{spelling_is}
+use Rattle.space_packet.proofs.laws.law_of_spelling.Goals as goal
+
+pub returns-clause-spells : goal.returns-clause-spells
+returns-clause-spells c = spelling_is
+
+pub returns-clause-only : goal.returns-clause-only
+returns-clause-only c = spelling_from

@@ -1,0 +1,46 @@
+// Why octets are no packet, and why a packet has no octets.
+
+ghost use Rattle.std.specs.Prelude.{◌≡◌};
+
+/// Why octets were refused as a packet (1 to 3), or a packet or octets were not taken (4 to 6).
+#[derive(Clone, Copy, Debug, PartialEq, Eq)]
+pub enum PacketFault {
+    /// Fewer than the 6 octets of the header, or fewer octets than it declares.
+    Truncated = 1,
+    /// The version number is not 000 (CCSDS 133.0-B-2, 4.1.3.2).
+    Version = 2,
+    /// An idle packet with a secondary header (4.1.3.3.3).
+    IdleWithSecondary = 3,
+    /// The output has too little room for the packet.
+    Room = 4,
+    /// A field out of its range, a payload of no octets or of more than 65,536, or an idle packet
+    /// with a secondary header.
+    FieldRange = 5,
+    /// There was no memory for octets that were fed.
+    Memory = 6,
+}
+
+impl PacketFault {
+    ghost use Rattle.space_packet.specs.Faults.{fault_number, fault_name};
+
+    /// The fault's number, from 1.
+    pub fn number(self) -> u8
+        ensures { result ≡ fault_number self }
+    {
+        self as u8
+    }
+
+    /// The fault's name, as it is written here.
+    pub fn name(self) -> &'static str
+        ensures { result.now ≡ fault_name self }
+    {
+        match self {
+            PacketFault::Truncated => "Truncated",
+            PacketFault::Version => "Version",
+            PacketFault::IdleWithSecondary => "IdleWithSecondary",
+            PacketFault::Room => "Room",
+            PacketFault::FieldRange => "FieldRange",
+            PacketFault::Memory => "Memory",
+        }
+    }
+}

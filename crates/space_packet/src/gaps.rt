@@ -1,0 +1,42 @@
+// How many packets of an application process are missing.
+
+ghost use Rattle.std.specs.Prelude.{◌≡◌, ◌<◌, ℕ, List, Option, Some, None, get_or, slice_set, replicate};
+ghost use Rattle.space_packet.specs.Counters.{gap_after, counts_seen};
+
+use std::marker::Model;
+
+/// The last sequence count that was seen of each application process (CCSDS 133.0-B-2, 4.1.3.4.3).
+/// In contracts it is the list of these counts by APID.
+#[derive(Drop)]
+pub struct GapCheck {
+    last: [Option<u16>; 2048],
+}
+
+impl Model for GapCheck {
+    ghost Value = { List (Option ℕ) };
+
+    ghost view = { λ g. g.last };
+}
+
+impl GapCheck {
+    /// No count was seen. It takes no memory.
+    pub fn new() -> Self
+        ensures { result ≡ replicate 2048 None }
+    {
+        GapCheck { last: [None; 2048] }
+    }
+
+    /// Sees a packet of this APID with this count. `None` for the first of the APID; else how many
+    /// are missing before it, (count - last - 1) modulo 16,384. No other APID's last count changes.
+    pub fn see(&mut self, apid: u16, count: u16) -> Option<u16>
+        requires { apid < 2048 }
+        ensures gap { result ≡ gap_after (get_or self.old apid None) count }
+        ensures last { self.new ≡ counts_seen self.old apid count }
+    {
+        let place = usize::from(apid);
+        let last = self.last[place];
+        self.last[place] = Some(count);
+        let last = last?;
+        Some(count.wrapping_sub(last).wrapping_sub(1) % 16384)
+    }
+}

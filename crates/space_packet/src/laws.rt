@@ -1,0 +1,23 @@
+// What follows for packets from their layout; these functions do nothing.
+
+ghost use Rattle.std.specs.Prelude.{◌≡◌, ◌++◌, ℕ, List, true, length, Some, Ok};
+ghost use Rattle.octets.specs.Records.{first_record};
+ghost use Rattle.space_packet.specs.Layout.{PacketView, IsPacket};
+ghost use Rattle.space_packet.specs.Reading.{extent_at, packet_at};
+ghost use Rattle.space_packet.specs.Splitting.{IsSpelling};
+ghost use Rattle.space_packet.specs.Writing.{packet_fits, spelling};
+
+/// A packet whose fields are in range has its spelling, and no other octets spell it.
+pub fn law_of_spelling()
+    ensures spells { (p : PacketView) → packet_fits p ≡ true → IsPacket p (spelling p) }
+    ensures only { (p : PacketView) (octets : List ℕ) → IsSpelling p octets → octets ≡ spelling p }
+{}
+
+/// The octets of a packet, whatever follows, are read as that packet, and on a stream they are its
+/// first record.
+pub fn law_of_reading()
+    ensures read { (p : PacketView) (octets more : List ℕ) → IsPacket p octets
+        → packet_at (octets ++ more) ≡ Ok (p, length octets) }
+    ensures record { (p : PacketView) (octets more : List ℕ) → IsPacket p octets
+        → first_record 6 extent_at (octets ++ more) ≡ Some (Ok octets) }
+{}

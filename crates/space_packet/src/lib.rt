@@ -1,0 +1,28 @@
+//! Space packets (CCSDS 133.0-B-2): the codec, packets on a stream, and sequence counts.
+//!
+//! `decode` reads the packet that octets begin with, and otherwise says the first fault; `encode`
+//! writes the one spelling of a packet. `PacketSplitter` takes a stream of packets apart.
+#![tactic(auto)]
+
+mod counters;
+mod decoding;
+mod encoding;
+mod fault;
+mod gaps;
+mod laws;
+mod layout;
+mod packet;
+mod splitter;
+
+pub use counters::SequenceCounters;
+pub use decoding::decode;
+pub use encoding::encode;
+pub use fault::PacketFault;
+pub use gaps::GapCheck;
+pub use laws::{law_of_reading, law_of_spelling};
+pub use layout::Packets;
+pub use packet::{Packet, PacketKind};
+pub use splitter::PacketSplitter;
+
+#[cfg(test)]
+mod tests;

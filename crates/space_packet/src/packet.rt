@@ -1,0 +1,27 @@
+// The space packet as a value.
+
+/// What a packet is a part of: reports from the spacecraft, or commands to it (the packet type,
+/// CCSDS 133.0-B-2, 4.1.3.3.2).
+#[derive(Clone, Copy, Debug, PartialEq, Eq)]
+pub enum PacketKind {
+    Telemetry,
+    Telecommand,
+}
+
+/// A space packet of 7 to 65,542 octets (CCSDS 133.0-B-2, 4.1).
+#[derive(Clone, Copy, Debug, PartialEq, Eq)]
+pub struct Packet<'a> {
+    pub kind: PacketKind,
+    /// Whether the payload begins with a secondary header, which is not interpreted here. An idle
+    /// packet has none (4.1.3.3.3).
+    pub secondary: bool,
+    /// The application process identifier, below 2,048; 2,047 is that of idle packets (4.1.3.3.4).
+    pub apid: u16,
+    /// The sequence flags, below 4, which are not interpreted here: 0 continuation, 1 first, 2 last,
+    /// 3 unsegmented (4.1.3.4.2).
+    pub flags: u8,
+    /// The sequence count or the packet's name, below 16,384 (4.1.3.4.3).
+    pub count: u16,
+    /// The packet data field, of 1 to 65,536 octets (4.1.4).
+    pub payload: &'a [u8],
+}

@@ -1,0 +1,122 @@
+// Packets in octets, worked by hand, and sequence counts.
+
+ghost use Rattle.std.specs.Prelude.{◌≡◌, IfOk, vec_len};
+
+use super::*;
+use std::alloc::{AllocError, Global};
+use std::process::Abort;
+use std::test::Fail;
+
+const PACKET: [u8; 7] = [0x10, 0x05, 0xc0, 0x00, 0x00, 0x00, 0xaa];
+
+fn packet(payload: &[u8]) -> Packet<'_> {
+    Packet {
+        kind: PacketKind::Telecommand,
+        secondary: false,
+        apid: 5,
+        flags: 3,
+        count: 0,
+        payload,
+    }
+}
+
+#[test]
+fn a_packet(rt: HostRuntime) -> Result<(), Fail> {
+    assert_eq!(rt; decode(&PACKET)?, (packet(&[0xaa]), 7));
+    let mut out = [0x55; 9];
+    assert_eq!(rt; encode(&packet(&[0xaa]), &mut out)?, 7);
+    assert!(rt; out.starts_with(&PACKET));
+    assert!(rt; out.ends_with(&[0x55, 0x55]));
+    Ok(())
+}
+
+// So many octets. Where memory is refused, it asks again.
+fn octets_55(alloc: Global, len: usize) -> Result<Vec<u8>, AllocError>
+    ensures { IfOk result (λ octets. vec_len octets ≡ len) }
+{
+    if let Ok(octets) = vec![in alloc; 0x55; len] {
+        return Ok(octets);
+    }
+    vec![in alloc; 0x55; len]
+}
+
+#[test]
+fn the_longest_packet(rt: HostRuntime) -> Result<(), Fail> {
+    let mut octets = octets_55(rt.alloc(), 65542)?;
+    octets.as_mut_slice()[..6].copy_from_slice(&[0x10, 0x05, 0xc0, 0x00, 0xff, 0xff]);
+    let (packet, len) = decode(&octets)?;
+    assert_eq!(rt; len, 65542);
+    assert_eq!(rt; packet.payload.len(), 65536);
+    let mut out = octets_55(rt.alloc(), 65542)?;
+    out.as_mut_slice()[..6].copy_from_slice(&[0; 6]);
+    assert_eq!(rt; encode(&packet, &mut out)?, 65542);
+    assert!(rt; out == octets);
+    Ok(())
+}
+
+#[test]
+fn refused_octets(rt: HostRuntime) {
+    assert_eq!(rt; decode(&PACKET[..5]), Err(PacketFault::Truncated));
+    assert_eq!(rt; decode(&PACKET[..6]), Err(PacketFault::Truncated));
+    let version = [0x20, 0x05, 0xc0, 0x00, 0x00, 0x00, 0xaa];
+    assert_eq!(rt; decode(&version), Err(PacketFault::Version));
+    let idle = [0x0f, 0xff, 0xc0, 0x00, 0x00, 0x00, 0x55];
+    assert_eq!(rt; decode(&idle), Err(PacketFault::IdleWithSecondary));
+}
+
+#[test]
+fn faults_by_number_and_name(rt: HostRuntime) {
+    assert_eq!(rt; PacketFault::FieldRange.number(), 5);
+    assert_eq!(rt; PacketFault::FieldRange.name(), "FieldRange");
+}
+
+// Feeds. Where memory is refused nothing has changed, and the call made again answers as ever.
+fn feed(rt: &impl Abort, splitter: &mut PacketSplitter, octets: &[u8]) {
+    if let Err(fault) = splitter.feed(octets) {
+        assert_eq!(rt; fault, PacketFault::Memory);
+        assert_eq!(rt; splitter.feed(octets), Ok(()));
+    }
+}
+
+#[test]
+fn a_packet_octet_by_octet(rt: HostRuntime) {
+    let mut splitter = PacketSplitter::new(rt.alloc());
+    for octet in PACKET {
+        assert_eq!(rt; splitter.next(), None);
+        feed(&rt, &mut splitter, &[octet]);
+    }
+    assert_eq!(rt; splitter.next(), Some(Ok(PACKET.as_slice())));
+    assert_eq!(rt; splitter.next(), None);
+    assert_eq!(rt; splitter.finish(), Ok(()));
+}
+
+#[test]
+fn a_stream_cut_short(rt: HostRuntime) {
+    let mut splitter = PacketSplitter::new(rt.alloc());
+    feed(&rt, &mut splitter, &[0x10]);
+    feed(&rt, &mut splitter, &[0x05, 0xc0]);
+    assert_eq!(rt; splitter.next(), None);
+    assert_eq!(rt; splitter.finish(), Err(PacketFault::Truncated));
+}
+
+#[test]
+fn counts(rt: HostRuntime) {
+    let mut counters = SequenceCounters::new();
+    assert_eq!(rt; counters.next(5), 0);
+    for _ in 2..16384u16 {
+        counters.next(5);
+    }
+    assert_eq!(rt; counters.next(5), 16383);
+    assert_eq!(rt; counters.next(5), 0);
+    assert_eq!(rt; counters.next(6), 0);
+}
+
+#[test]
+fn gaps(rt: HostRuntime) {
+    let mut check = GapCheck::new();
+    assert_eq!(rt; check.see(5, 0), None);
+    assert_eq!(rt; check.see(5, 1), Some(0));
+    assert_eq!(rt; check.see(5, 3), Some(1));
+    assert_eq!(rt; check.see(5, 3), Some(16383));
+    assert_eq!(rt; check.see(2047, 3), None);
+}
