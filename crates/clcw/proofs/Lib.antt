@@ -1,0 +1,2 @@
+mod NamedBits
+mod Words

@@ -1,0 +1,17 @@
+-- The one spelling of each control word (CCSDS 232.0-B-4, 4.2.1), and when there is one.
+use Rattle.std.specs.Prelude.{ℕ, ◌+◌, ◌*◌, ◌%◌, List, [], ◌∷◌, Bool, ◌&&◌, ◌==◌, nat_lt, if◌then◌else◌, Result, Ok, Err}
+use Rattle.clcw.specs.declared.word.Clcw.{Clcw}
+use Rattle.clcw.specs.declared.fault.ClcwFault.{ClcwFault}
+use Rattle.clcw.specs.declared.fault.ClcwFault.TheVariants.{Range}
+use Rattle.clcw.specs.Flags.{bits_of}
+
+-- each field is in its range, and each flag bit has a name
+abbrev pub fits : Clcw → Bool
+fits word = nat_lt word.status 8 && nat_lt word.vcid 64 && nat_lt word.farm_b 4 && (bits_of word.flags % 8 == 0)
+
+abbrev pub spelling : Clcw → List ℕ
+spelling word = (4 * word.status + 1) ∷ (4 * word.vcid) ∷ (bits_of word.flags + 2 * word.farm_b) ∷ word.value ∷ []
+
+-- what writing a word answers
+abbrev pub written : Clcw → Result (List ℕ) ClcwFault
+written word = if fits word then Ok (spelling word) else Err Range

@@ -1,0 +1,28 @@
+// Writing a control word.
+
+ghost use Rattle.std.specs.Prelude.{◌≡◌, Ok, IfOk};
+ghost use Rattle.clcw.specs.Layout.{IsClcw};
+ghost use Rattle.clcw.specs.Reading.{clcw_at};
+ghost use Rattle.clcw.specs.Writing.{written};
+
+use crate::fault::ClcwFault;
+use crate::word::Clcw;
+use bitflags::Flags;
+
+/// The four octets that spell a control word (CCSDS 232.0-B-4, 4.2.1); 5 Range where a field is too
+/// large for its bits or a flag bit has no name.
+pub fn encode(word: &Clcw) -> Result<[u8; 4], ClcwFault>
+    ensures answer { result ≡ written word.now }
+    ensures spells { IfOk result (λ octets. IsClcw word.now octets) }
+    ensures back { IfOk result (λ octets. clcw_at octets ≡ Ok word.now) }
+{
+    if word.status >= 8 || word.vcid >= 64 || word.farm_b >= 4 || !word.flags.are_named() {
+        return Err(ClcwFault::Range);
+    }
+    Ok([
+        4 * word.status + 1,
+        4 * word.vcid,
+        word.flags.bits() + 2 * word.farm_b,
+        word.value,
+    ])
+}

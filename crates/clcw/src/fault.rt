@@ -1,0 +1,42 @@
+// Why a control word was refused.
+
+ghost use Rattle.std.specs.Prelude.{◌≡◌};
+
+/// Why octets were refused as a control word, or a control word has no octets.
+#[derive(Clone, Copy, Debug, PartialEq, Eq)]
+pub enum ClcwFault {
+    /// The control word type is not 0.
+    Kind = 1,
+    /// The version number is not 00.
+    Version = 2,
+    /// The COP in effect is not 01, COP-1.
+    Cop = 3,
+    /// A spare bit is not 0.
+    Spare = 4,
+    /// A field is too large for its bits, or a flag bit has no name.
+    Range = 5,
+}
+
+impl ClcwFault {
+    ghost use Rattle.clcw.specs.Faults.{fault_number, fault_name};
+
+    /// The fault's number, 1 to 5.
+    pub fn number(self) -> u8
+        ensures { result ≡ fault_number self }
+    {
+        self as u8
+    }
+
+    /// The fault's name, as it is written here.
+    pub fn name(self) -> &'static str
+        ensures { result.now ≡ fault_name self }
+    {
+        match self {
+            ClcwFault::Kind => "Kind",
+            ClcwFault::Version => "Version",
+            ClcwFault::Cop => "Cop",
+            ClcwFault::Spare => "Spare",
+            ClcwFault::Range => "Range",
+        }
+    }
+}
