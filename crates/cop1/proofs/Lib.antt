@@ -1,0 +1,4 @@
+pub mod Agreeing
+pub mod Marks
+mod Sending
+mod Sound

@@ -1,0 +1,123 @@
+-- The sent queue as bare units, of which the last are marked.
+use Rattle.std.proofs.Common.{◌≡◌, ◌≤◌, ◌<◌, ℕ, zero, suc, ◌+◌, ◌-◌, true, false, List, [], ◌∷◌, ◌++◌, length, drop, map, min, Option, Some, None, inl, inr, refl, ap, arith, ltb, add-zero, length-drop}
+use Rattle.std.specs.Prelude.{slice_get, option_map}
+use Rattle.std.proofs.lemmas.Bool.{cases_lt, lt-ltb, le-ltb}
+use Rattle.cop1.specs.FopWords.{marked, unmarked}
+use Rattle.cop1.specs.FopReport.{ticks_for}
+use Rattle.cop1.specs.FopPull.{oldest_marked, without_oldest_mark, count_behind}
+use Rattle.cop1.specs.FopFields.{marked_last}
+
+module _ {U : Type 0} where
+  pub length-marked_last : (due : ℕ) (us : List U) → length (marked_last due us) ≡ length us
+  length-marked_last due [] = refl
+  length-marked_last due (u ∷ us) = ap suc (length-marked_last due us)
+
+  -- the marks are counted from the end, so they stay where units leave the front
+  pub drop-marked_last : (due n : ℕ) (us : List U) → drop n (marked_last due us) ≡ marked_last due (drop n us)
+  drop-marked_last due zero us = refl
+  drop-marked_last due (suc n) [] = refl
+  drop-marked_last due (suc n) (u ∷ us) = drop-marked_last due n us
+
+  -- no more are marked than there are
+  pub marked_last-all : (due more : ℕ) (us : List U) → length us ≤ due → length us ≤ more → marked_last due us ≡ marked_last more us
+  marked_last-all due more [] all all' = refl
+  marked_last-all due more (u ∷ us) all all' =
+      let here : ltb (length us) due ≡ true = lt-ltb _ _ (omega arith) in
+      let here' : ltb (length us) more ≡ true = lt-ltb _ _ (omega arith) in
+      rw (here, here', marked_last-all due more us (omega arith) (omega arith)) refl
+
+  pub map-marked-marked_last : (due : ℕ) (us : List U) → map marked (marked_last due us) ≡ marked_last (length us) us
+  map-marked-marked_last due [] = refl
+  map-marked-marked_last due (u ∷ us) =
+      let here : ltb (length us) (suc (length us)) ≡ true = lt-ltb _ _ (omega arith) in
+      rw (here, map-marked-marked_last due us, marked_last-all (length us) (suc (length us)) us (omega arith) (omega arith)) refl
+
+  -- where none is marked, a unit comes behind
+  pub marked_last-push : (us : List U) (u : U) → marked_last 0 (us ++ u ∷ []) ≡ marked_last 0 us ++ unmarked u ∷ []
+  marked_last-push [] u = refl
+  marked_last-push (x ∷ us) u =
+      let here : ltb (length us) 0 ≡ false = le-ltb _ _ (omega arith) in
+      let there : ltb (length (us ++ u ∷ [])) 0 ≡ false = le-ltb _ _ (omega arith) in
+      rw (there, here, marked_last-push us u) refl
+
+  -- the oldest marked unit is the first of the last `due`
+  pub oldest_marked-none : (place : ℕ) (us : List U) → oldest_marked place (marked_last 0 us) ≡ None
+  oldest_marked-none place [] = refl
+  oldest_marked-none place (u ∷ us) =
+      let here : ltb (length us) 0 ≡ false = le-ltb _ _ (omega arith) in
+      rw here (oldest_marked-none (place + 1) us)
+
+  pub oldest_marked-last : (place due : ℕ) (us : List U) (u : U) → 0 < due → due ≤ length us → slice_get us (length us - due) ≡ Some u
+      → oldest_marked place (marked_last due us) ≡ Some (place + (length us - due), u)
+  oldest_marked-last place due [] u some within found = absurd (omega arith)
+  oldest_marked-last place due (x ∷ us) u some within found =
+      elim (cases_lt (length us) due) [
+        | inl lt ↦
+            let here : ltb (length us) due ≡ true = lt-ltb _ _ lt in
+            let first : suc (length us) - due ≡ 0 = omega arith in
+            let unit : Some x ≡ Some u = rw first at found in
+            rw (here, first, add-zero) (ap (λ (o : Option U). option_map (λ v. (place, v)) o) unit)
+        | inr le ↦
+            let here : ltb (length us) due ≡ false = le-ltb _ _ le in
+            let behind : suc (length us) - due ≡ suc (length us - due) = omega arith in
+            let unit : slice_get us (length us - due) ≡ Some u = rw behind at found in
+            let further : place + 1 + (length us - due) ≡ place + suc (length us - due) = omega arith in
+            rw (here, behind, ← further) (oldest_marked-last (place + 1) due us u some le unit)
+      ]
+
+  pub without_oldest_mark-last : (due : ℕ) (us : List U) → 0 < due → due ≤ length us
+      → without_oldest_mark (marked_last due us) ≡ marked_last (due - 1) us
+  without_oldest_mark-last due [] some within = absurd (omega arith)
+  without_oldest_mark-last due (x ∷ us) some within =
+      elim (cases_lt (length us) due) [
+        | inl lt ↦
+            let here : ltb (length us) due ≡ true = lt-ltb _ _ lt in
+            let there : ltb (length us) (due - 1) ≡ false = le-ltb _ _ (omega arith) in
+            rw (here, there) (ap (λ us. record { unit = x; marked = false } ∷ us) (marked_last-all due (due - 1) us (omega arith) (omega arith)))
+        | inr le ↦
+            let here : ltb (length us) due ≡ false = le-ltb _ _ le in
+            let there : ltb (length us) (due - 1) ≡ false = le-ltb _ _ (omega arith) in
+            rw (here, there, without_oldest_mark-last due us some le) refl
+      ]
+
+  -- where the first units have left, as many are marked as were, or all that are left
+  pub marked_last-keep : (due gone left : ℕ) (us : List U) → left + gone ≡ length us → due ≤ length us
+      → marked_last (min due left) (drop (length us - left) us) ≡ drop gone (marked_last due us)
+  marked_last-keep due gone left us whole within =
+      let front : length us - left ≡ gone = omega arith in
+      let kept : length (drop gone us) ≡ left = omega (arith, length-drop gone us) in
+      rw (front, drop-marked_last due gone us) (elim (cases_lt left due) [
+        | inl lt ↦ marked_last-all (min due left) due (drop gone us) (omega arith) (omega arith)
+        | inr le ↦ let same : min due left ≡ due = omega arith in ap (λ k. marked_last k (drop gone us)) same
+      ])
+
+  pub ticks_for-some : (due : ℕ) (us : List U) (timer : ℕ) → (length us ≡ 0 → ⊥) → Some timer ≡ ticks_for (marked_last due us) timer
+  ticks_for-some due [] timer some = absurd (some refl)
+  ticks_for-some due (u ∷ us) timer some = refl
+
+  pub count_behind-some : (due : ℕ) (us : List U) (count : ℕ) → (length us ≡ 0 → ⊥) → count ≡ count_behind (marked_last due us) count
+  count_behind-some due [] count some = absurd (some refl)
+  count_behind-some due (u ∷ us) count some = refl
+
+  pub map-unit-marked_last : (due : ℕ) (us : List U) → map (λ u. u.unit) (marked_last due us) ≡ us
+  map-unit-marked_last due [] = refl
+  map-unit-marked_last due (u ∷ us) = ap (λ us. u ∷ us) (map-unit-marked_last due us)
+
+  -- a place within a list has its element
+  pub slice_get-within : (us : List U) (place : ℕ) → place < length us → (u : U) × (slice_get us place ≡ Some u)
+  slice_get-within [] place lt = absurd (omega arith)
+  slice_get-within (u ∷ us) zero lt = (u, refl)
+  slice_get-within (u ∷ us) (suc place) lt = slice_get-within us place (omega arith)
+
+  -- where no marked unit is found, none is due
+  pub none_due : (due : ℕ) (us : List U) → due ≤ length us → oldest_marked 0 (marked_last due us) ≡ None → due ≡ 0
+  none_due due us within none =
+      elim (cases_lt 0 due) [
+        | inl some ↦
+            let found = slice_get-within us (length us - due) (omega arith) in
+            let oldest = oldest_marked-last 0 due us found.0 some within found.1 in
+            absurd (cc (oldest, none))
+        | inr le ↦ omega arith
+      ]
+
+pub ruleset marks = (length-marked_last, drop-marked_last, map-marked-marked_last, marked_last-push, map-unit-marked_last)

@@ -1,0 +1,5 @@
+use Rattle.cop1.proofs.Agreeing.{always}
+use Rattle.cop1.proofs.laws.flags_always_agree.Goals as goal
+
+pub returns : goal.returns
+returns c = always

@@ -1,0 +1,56 @@
+-- What a directive does at the sender (this project's profile of CCSDS 232.1-B-2, 5.2.4 and table 5-1).
+use Rattle.std.specs.Prelude.{◌==◌, ◌||◌, nat_lt, if◌then◌else◌, [], Option, Some, None, Result, Ok, Err}
+use Rattle.tc_frame.specs.declared.frame.Command.TheVariants.{Unlock, SetVr}
+use Rattle.cop1.specs.declared.fault.CopFault.{CopFault}
+use Rattle.cop1.specs.declared.fault.CopFault.TheVariants.{Window, Limit, Timer, WrongState}
+use Rattle.cop1.specs.declared.fop.FopMode.{FopMode}
+use Rattle.cop1.specs.declared.fop.FopMode.TheVariants.{S1, S2, S3, S4, S5, S6}
+use Rattle.cop1.specs.declared.fop.Alert.{Alert}
+use Rattle.cop1.specs.declared.fop.Alert.TheVariants.{Terminated}
+use Rattle.cop1.specs.declared.fop.Control.TheVariants.{Due}
+use Rattle.cop1.specs.declared.fop.Directive.{Directive}
+use Rattle.cop1.specs.declared.fop.Directive.TheVariants.{InitWithoutCheck, InitWithCheck, InitUnlock, InitSetVr, Terminate, SetVs, SetWindow, SetLimit, SetTimer}
+use Rattle.cop1.specs.FopState.{FopState}
+use Rattle.cop1.specs.FopWords.{Outcome, restarted, given_up}
+
+module _ {U : Type 0} where
+  abbrev pub obeys : FopState U → Outcome U (Result (Option Alert) CopFault)
+  obeys s = record { after = s; answer = Ok None; gone = 0 }
+
+  abbrev pub refuses : FopState U → CopFault → Outcome U (Result (Option Alert) CopFault)
+  refuses s fault = record { after = s; answer = Err fault; gone = 0 }
+
+  abbrev pub terminates : FopState U → Outcome U (Result (Option Alert) CopFault)
+  terminates s = record { after = given_up s; answer = Ok (Some Terminated); gone = 0 }
+
+  -- an initiation begins with nothing queued to be numbered, and with the first transmission
+  abbrev pub begun : FopState U → FopState U
+  begun s = record s { sent = []; waiting = None; count = 1 }
+
+  -- what is obeyed in S6 alone
+  abbrev pub from_S6 : FopState U → FopMode → FopState U → Outcome U (Result (Option Alert) CopFault)
+  from_S6 s S1 next = refuses s WrongState
+  from_S6 s S2 next = refuses s WrongState
+  from_S6 s S3 next = refuses s WrongState
+  from_S6 s S4 next = refuses s WrongState
+  from_S6 s S5 next = refuses s WrongState
+  from_S6 s S6 next = obeys next
+
+  abbrev pub terminated : FopState U → FopMode → Outcome U (Result (Option Alert) CopFault)
+  terminated s S1 = terminates s
+  terminated s S2 = terminates s
+  terminated s S3 = terminates s
+  terminated s S4 = terminates s
+  terminated s S5 = terminates s
+  terminated s S6 = refuses s WrongState
+
+  abbrev pub directed : FopState U → Directive → Outcome U (Result (Option Alert) CopFault)
+  directed s InitWithoutCheck = from_S6 s s.state (record (begun s) { nn = s.vs; state = S1 })
+  directed s InitWithCheck = from_S6 s s.state (record (restarted (begun s)) { nn = s.vs; state = S4 })
+  directed s InitUnlock = from_S6 s s.state (record (begun s) { nn = s.vs; control = Due Unlock; state = S5 })
+  directed s (InitSetVr x) = from_S6 s s.state (record (begun s) { vs = x; nn = x; control = Due (SetVr x); state = S5 })
+  directed s Terminate = terminated s s.state
+  directed s (SetVs x) = from_S6 s s.state (record s { vs = x; nn = x })
+  directed s (SetWindow k) = if (k == 0) || nat_lt s.room k then refuses s Window else obeys (record s { window = k })
+  directed s (SetLimit n) = if n == 0 then refuses s Limit else obeys (record s { limit = n })
+  directed s (SetTimer t) = if t == 0 then refuses s Timer else obeys (record s { timer = t })

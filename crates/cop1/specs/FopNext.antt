@@ -1,0 +1,38 @@
+-- What is pulled, as the code hands it out.
+use Rattle.std.specs.Prelude.{ℕ, ◌<◌, List, length, map, slice_get, Option, Some, None}
+use Rattle.cop1.specs.FopState.{SentUnit}
+use Rattle.cop1.specs.FopPull.{PulledUnit, NothingPulled, ControlPulled, BypassPulled, SequencePulled}
+use Rattle.cop1.specs.declared.fop.pulling.Next.{Next}
+use Rattle.cop1.specs.declared.fop.pulling.Next.TheVariants as next
+use Rattle.cop1.specs.declared.fop.pulling.Pulled.{Pulled}
+use Rattle.cop1.specs.declared.fop.pulling.Pulled.TheVariants as pulled
+
+module _ {U : Type 0} where
+  -- the units of a sent queue
+  abbrev pub units_of : List (SentUnit U) → List U
+  units_of sent = map (λ u. u.unit) sent
+
+  abbrev pub numbered : ℕ → Option U → PulledUnit U
+  numbered number None = NothingPulled
+  numbered number (Some u) = SequencePulled number u
+
+  -- what is pulled, where these are the units of the sent queue
+  abbrev pub seen_at : List U → Next U → PulledUnit U
+  seen_at units next.Nothing = NothingPulled
+  seen_at units (next.Control command) = ControlPulled command
+  seen_at units (next.Bypass unit) = BypassPulled unit
+  seen_at units (next.Sequence number place) = numbered number (slice_get units place)
+
+  -- a unit that is named by its place is there
+  abbrev pub IsPlaced : List U → Next U → Type 0
+  IsPlaced units next.Nothing = Unit {0}
+  IsPlaced units (next.Control command) = Unit {0}
+  IsPlaced units (next.Bypass unit) = Unit {0}
+  IsPlaced units (next.Sequence number place) = place < length units
+
+  -- what is pulled, with the unit in place of the reference to it
+  abbrev pub shown : Pulled U → PulledUnit U
+  shown pulled.Nothing = NothingPulled
+  shown (pulled.Control command) = ControlPulled command
+  shown (pulled.Bypass unit) = BypassPulled unit
+  shown (pulled.Sequence number unit) = SequencePulled number unit.now

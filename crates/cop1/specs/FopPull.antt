@@ -1,0 +1,75 @@
+-- What goes on the link next, the first of five rules that applies (this project's profile of CCSDS 232.1-B-2, 5.2.7).
+use Rattle.std.specs.Prelude.{ℕ, ◌+◌, ◌%◌, false, nat_lt, if◌then◌else◌, List, [], ◌∷◌, ◌++◌, Option, Some, None}
+use Rattle.tc_frame.specs.declared.frame.Command.{Command}
+use Rattle.cop1.specs.Modulo.{ahead_by}
+use Rattle.cop1.specs.declared.fop.FopMode.{FopMode}
+use Rattle.cop1.specs.declared.fop.FopMode.TheVariants.{S1, S2, S3, S4, S5, S6}
+use Rattle.cop1.specs.declared.fop.Control.{Control}
+use Rattle.cop1.specs.declared.fop.Control.TheVariants.{Idle, Due, Sent}
+use Rattle.cop1.specs.FopState.{FopState, SentUnit}
+use Rattle.cop1.specs.FopWords.{Outcome, unmarked, restarted}
+
+-- what is pulled
+pub data PulledUnit (U : Type 0) : Type 0 where
+  NothingPulled : PulledUnit U
+  ControlPulled : (command : Command) → PulledUnit U
+  BypassPulled : (unit : U) → PulledUnit U
+  SequencePulled : (number : ℕ) (unit : U) → PulledUnit U
+
+module _ {U : Type 0} where
+  abbrev pub pulls : FopState U → PulledUnit U → Outcome U (PulledUnit U)
+  pulls s answer = record { after = s; answer = answer; gone = 0 }
+
+  -- the oldest marked unit with its place in the sent queue, which is counted from a number on
+  abbrev pub oldest_marked : ℕ → List (SentUnit U) → Option (ℕ × U)
+  oldest_marked place [] = None
+  oldest_marked place (u ∷ us) = if u.marked then Some (place, u.unit) else oldest_marked (place + 1) us
+
+  -- the sent queue once that mark is gone
+  abbrev pub without_oldest_mark : List (SentUnit U) → List (SentUnit U)
+  without_oldest_mark [] = []
+  without_oldest_mark (u ∷ us) = if u.marked then record u { marked = false } ∷ us else u ∷ without_oldest_mark us
+
+  -- the count where a unit is sent for the first time: it begins where the sent queue was empty
+  abbrev pub count_behind : List (SentUnit U) → ℕ → ℕ
+  count_behind [] count = 1
+  count_behind (u ∷ us) count = count
+
+  abbrev pub sent_first : FopState U → U → FopState U
+  sent_first s u =
+      record (restarted s) { waiting = None; sent = s.sent ++ unmarked u ∷ []; vs = (s.vs + 1) % 256; count = count_behind s.sent s.count }
+
+  -- the wait queue's unit, where the window has room for it
+  abbrev pub pulled_waiting : FopState U → Option U → Outcome U (PulledUnit U)
+  pulled_waiting s None = pulls s NothingPulled
+  pulled_waiting s (Some u) =
+      if nat_lt (ahead_by s.vs s.nn) s.window then pulls (sent_first s u) (SequencePulled s.vs u)
+      else pulls s NothingPulled
+
+  -- the oldest marked unit with its number, and otherwise the wait queue's
+  abbrev pub pulled_marked : FopState U → Option (ℕ × U) → Outcome U (PulledUnit U)
+  pulled_marked s (Some oldest) =
+      pulls (record (restarted s) { sent = without_oldest_mark s.sent }) (SequencePulled ((s.nn + oldest.0) % 256) oldest.1)
+  pulled_marked s None = pulled_waiting s s.waiting
+
+  abbrev pub pulled_in : FopState U → FopMode → Outcome U (PulledUnit U)
+  pulled_in s S1 = pulled_marked s (oldest_marked 0 s.sent)
+  pulled_in s S2 = pulled_marked s (oldest_marked 0 s.sent)
+  pulled_in s S3 = pulls s NothingPulled
+  pulled_in s S4 = pulls s NothingPulled
+  pulled_in s S5 = pulls s NothingPulled
+  pulled_in s S6 = pulls s NothingPulled
+
+  -- the oldest bypass unit, in any state
+  abbrev pub pulled_bypass : FopState U → List U → Outcome U (PulledUnit U)
+  pulled_bypass s (u ∷ us) = pulls (record s { bypass = us }) (BypassPulled u)
+  pulled_bypass s [] = pulled_in s s.state
+
+  -- the control command of S5, where it is due
+  abbrev pub pulled_control : FopState U → Control → Outcome U (PulledUnit U)
+  pulled_control s (Due command) = pulls (record (restarted s) { control = Sent command }) (ControlPulled command)
+  pulled_control s (Sent command) = pulled_bypass s s.bypass
+  pulled_control s Idle = pulled_bypass s s.bypass
+
+  abbrev pub pulled : FopState U → Outcome U (PulledUnit U)
+  pulled s = pulled_control s s.control

@@ -1,0 +1,17 @@
+pub mod Farm
+pub mod FarmRuns
+pub mod Faults
+pub mod FopDirective
+pub mod FopFields
+pub mod FopLends
+pub mod FopNew
+pub mod FopNext
+pub mod FopPull
+pub mod FopReport
+pub mod FopState
+pub mod FopStep
+pub mod FopTick
+pub mod FopUnits
+pub mod FopWords
+pub mod Modulo
+pub mod Report

@@ -1,0 +1,17 @@
+-- What a receiver reports (CCSDS 232.0-B-4, 4.2.1): V(R), its flags and FARM-B as they are.
+use Rattle.std.specs.Prelude.{ℕ, ◌+◌, Bool, true, false}
+use Rattle.clcw.specs.declared.word.Clcw.{Clcw}
+use Rattle.clcw.specs.declared.flags.ClcwFlags.{ClcwFlags}
+use Rattle.clcw.specs.Flags.{flags_of}
+use Rattle.cop1.specs.Farm.{FarmState}
+
+-- a flag's value where it is set
+abbrev pub value_if : Bool → ℕ → ℕ
+value_if true value = value
+value_if false value = 0
+
+abbrev pub report_flags : FarmState → ClcwFlags
+report_flags s = flags_of (value_if s.lockout 32 + value_if s.wait 16 + value_if s.retransmit 8)
+
+abbrev pub report_of : FarmState → ℕ → Clcw
+report_of s vcid = record { status = 0; vcid = vcid; flags = report_flags s; farm_b = s.farm_b; value = s.vr }

@@ -1,0 +1,265 @@
+// The receiver, FARM-1.
+
+ghost use Rattle.std.specs.Prelude.{◌≡◌, ◌↔◌, IfOk, IfErr, IsOk};
+
+use crate::fault::CopFault;
+use bitflags::Flags;
+use clcw::{Clcw, ClcwFlags};
+use std::marker::Model;
+
+/// The receiver's state (CCSDS 232.1-B-2, 6.1.2).
+#[derive(Clone, Copy, Debug, PartialEq, Eq)]
+pub enum FarmMode {
+    /// S1: frames are accepted.
+    Open,
+    /// S2: no room for a frame was left on board; a release opens again.
+    Wait,
+    /// S3: a number outside the window came; Unlock alone opens again.
+    Lockout,
+}
+
+/// What the receiver does with a Type-AD frame.
+#[derive(Clone, Copy, Debug, PartialEq, Eq)]
+pub enum Verdict {
+    /// The expected frame: its data is handed on, V(R) steps.
+    Accepted,
+    /// In the positive window, ahead of V(R): discarded, a retransmission is asked for.
+    Ahead,
+    /// The expected frame, and no room for it: discarded, a retransmission is asked for.
+    NoBuffer,
+    /// In the negative window: a repetition, discarded.
+    Behind,
+    /// Outside both windows: discarded, the receiver is locked.
+    Outside,
+    /// Discarded because of the state.
+    Discarded,
+}
+
+/// Where N(S) lies, seen from V(R) (CCSDS 232.1-B-2, 6.1.8).
+#[derive(Clone, Copy)]
+pub(crate) enum Place {
+    Expected,
+    InPositiveWindow,
+    InNegativeWindow,
+    OutsideWindows,
+}
+
+/// The receiver of one virtual channel, FARM-1 (CCSDS 232.1-B-2, section 6). Its positive and
+/// negative window are half its width each.
+#[derive(Drop)]
+pub struct Farm {
+    width: u8,
+    vr: u8,
+    lockout: bool,
+    wait: bool,
+    retransmit: bool,
+    farm_b: u8,
+}
+
+impl Model for Farm {
+    ghost use Rattle.cop1.specs.Farm.{FarmState};
+
+    ghost Value = { FarmState };
+
+    ghost use Rattle.std.specs.Prelude.{◌≡◌, ◌<◌, true};
+    ghost use Rattle.cop1.specs.Farm.{state_of};
+
+    ghost view = { λ f. record { width = f.width; state = state_of f.lockout f.wait; vr = f.vr; lockout = f.lockout; wait = f.wait; retransmit = f.retransmit; farm_b = f.farm_b } };
+
+    ghost invariant = { λ f. (f.farm_b < 4) × (f.wait ≡ true → f.retransmit ≡ true) };
+}
+
+impl Farm {
+    ghost use Rattle.std.specs.Prelude.{◌<◌, IsTrue};
+    ghost use Rattle.clcw.specs.Writing.{fits};
+    ghost use Rattle.cop1.specs.Report.{report_of};
+    ghost use Rattle.cop1.specs.FarmRuns.{FlagsAgree};
+    ghost use Rattle.cop1.specs.Farm.{IsWidth, opened, place_of, verdict_of, farm_step, AdArrives, BdArrives, UnlockArrives, SetVrArrives, BufferReleased};
+
+    /// An open receiver with all flags 0 and FARM-B 0, which expects the number `vr`. The width is
+    /// even, 2 to 254; 1 Width where it is not.
+    pub fn new(width: u8, vr: u8) -> Result<Farm, CopFault>
+        ensures opened { IfOk result (λ f. f ≡ opened width vr) }
+        ensures width { IsOk result ↔ IsWidth width }
+        ensures fault { IfErr result (λ e. e ≡ CopFault.Width) }
+    {
+        if width == 0 || width % 2 == 1 {
+            return Err(CopFault::Width);
+        }
+        Ok(Farm {
+            width,
+            vr,
+            lockout: false,
+            wait: false,
+            retransmit: false,
+            farm_b: 0,
+        })
+    }
+
+    /// A Type-AD frame with the number `n` has come, and there is room on board for its data or not.
+    /// Where the verdict is `Accepted` its data is handed on.
+    pub fn ad(&mut self, n: u8, buffer_free: bool) -> Verdict
+        ensures verdict { result ≡ verdict_of self.old n buffer_free }
+        ensures state { self.new ≡ farm_step self.old (AdArrives n buffer_free) }
+    {
+        let verdict = self.verdict(n, buffer_free);
+        match verdict {
+            Verdict::Accepted => {
+                self.vr = self.vr.wrapping_add(1);
+                self.retransmit = false;
+            }
+            Verdict::NoBuffer => {
+                self.retransmit = true;
+                self.wait = true;
+            }
+            Verdict::Ahead => self.retransmit = true,
+            Verdict::Outside => self.lockout = true,
+            Verdict::Behind | Verdict::Discarded => {}
+        }
+        verdict
+    }
+
+    fn verdict(&self, n: u8, buffer_free: bool) -> Verdict
+        ensures { result ≡ verdict_of self.now n buffer_free }
+    {
+        match (self.state(), self.place(n)) {
+            (FarmMode::Lockout, _) => Verdict::Discarded,
+            (_, Place::OutsideWindows) => Verdict::Outside,
+            (FarmMode::Wait, _) => Verdict::Discarded,
+            (FarmMode::Open, Place::Expected) if buffer_free => Verdict::Accepted,
+            (FarmMode::Open, Place::Expected) => Verdict::NoBuffer,
+            (FarmMode::Open, Place::InPositiveWindow) => Verdict::Ahead,
+            (FarmMode::Open, Place::InNegativeWindow) => Verdict::Behind,
+        }
+    }
+
+    fn place(&self, n: u8) -> Place
+        ensures { result ≡ place_of self.now n }
+    {
+        let half = self.width / 2;
+        let ahead = n.wrapping_sub(self.vr);
+        if ahead == 0 {
+            Place::Expected
+        } else if ahead < half {
+            Place::InPositiveWindow
+        } else if ahead > 255 - half {
+            Place::InNegativeWindow
+        } else {
+            Place::OutsideWindows
+        }
+    }
+
+    /// A Type-BD frame has come: FARM-B counts it. Its data is handed on in every state.
+    pub fn bd(&mut self)
+        ensures { self.new ≡ farm_step self.old BdArrives }
+    {
+        self.count_type_b();
+    }
+
+    fn count_type_b(&mut self)
+        ensures { self.new ≡ farm_step self.old BdArrives }
+    {
+        self.farm_b = (self.farm_b + 1) % 4;
+    }
+
+    /// The control command Unlock has come: FARM-B counts it, and the receiver is open with all
+    /// flags 0.
+    pub fn unlock(&mut self)
+        ensures { self.new ≡ farm_step self.old UnlockArrives }
+    {
+        self.count_type_b();
+        self.lockout = false;
+        self.wait = false;
+        self.retransmit = false;
+    }
+
+    /// The control command Set V(R) has come: FARM-B counts it, and unless the receiver is locked it
+    /// is open and expects `vr`.
+    pub fn set_vr(&mut self, vr: u8)
+        ensures { self.new ≡ farm_step self.old (SetVrArrives vr) }
+    {
+        self.count_type_b();
+        if !self.lockout {
+            self.vr = vr;
+            self.wait = false;
+            self.retransmit = false;
+        }
+    }
+
+    /// There is room on board again.
+    pub fn released(&mut self)
+        ensures { self.new ≡ farm_step self.old BufferReleased }
+    {
+        self.wait = false;
+    }
+
+    /// The control word that reports the receiver as it is, for the virtual channel `vcid`, below 64
+    /// (CCSDS 232.0-B-4, 4.2). The flags for the radio channel and bit lock are 0.
+    pub fn report(&self, vcid: u8) -> Clcw
+        requires { vcid < 64 }
+        ensures report { result ≡ report_of self.now vcid }
+        ensures fits { IsTrue (fits result) }
+    {
+        let mut flags = ClcwFlags::empty();
+        flags.set(ClcwFlags::LOCKOUT, self.lockout);
+        flags.set(ClcwFlags::WAIT, self.wait);
+        flags.set(ClcwFlags::RETRANSMIT, self.retransmit);
+        Clcw {
+            status: 0,
+            vcid,
+            flags,
+            farm_b: self.farm_b,
+            value: self.vr,
+        }
+    }
+
+    /// The state, which the lockout flag and the wait flag tell. The wait flag comes with the
+    /// retransmit flag.
+    pub fn state(&self) -> FarmMode
+        ensures state { result ≡ self.now.state }
+        ensures flags { FlagsAgree self.now }
+    {
+        if self.lockout {
+            FarmMode::Lockout
+        } else if self.wait {
+            FarmMode::Wait
+        } else {
+            FarmMode::Open
+        }
+    }
+
+    /// V(R), the number of the next frame to be accepted.
+    pub fn vr(&self) -> u8
+        ensures { result ≡ self.now.vr }
+    {
+        self.vr
+    }
+
+    /// The lockout flag.
+    pub fn lockout(&self) -> bool
+        ensures { result ≡ self.now.lockout }
+    {
+        self.lockout
+    }
+
+    /// The wait flag.
+    pub fn wait(&self) -> bool
+        ensures { result ≡ self.now.wait }
+    {
+        self.wait
+    }
+
+    /// The retransmit flag.
+    pub fn retransmit(&self) -> bool
+        ensures { result ≡ self.now.retransmit }
+    {
+        self.retransmit
+    }
+
+    /// FARM-B, the count of Type-B frames modulo 4.
+    pub fn farm_b(&self) -> u8
+        ensures { result ≡ self.now.farm_b }
+    {
+        self.farm_b
+    }
+}

@@ -1,0 +1,51 @@
+// Why a call of the receiver or the sender was refused.
+
+ghost use Rattle.std.specs.Prelude.{◌≡◌};
+
+/// Why a call of `Farm` or `Fop` was refused.
+#[derive(Clone, Copy, Debug, PartialEq, Eq)]
+pub enum CopFault {
+    /// The receiver's window width is not an even number from 2 to 254.
+    Width = 1,
+    /// The sender's window K is not from 1 to half the width.
+    Window = 2,
+    /// The transmission limit is not from 1 to 255.
+    Limit = 3,
+    /// The timer's value is not from 1 to 65,535 ticks.
+    Timer = 4,
+    /// No memory was to be had.
+    Memory = 5,
+    /// The sender is in its state Initial (S6).
+    NotOpen = 6,
+    /// The wait queue's one place is taken.
+    Busy = 7,
+    /// The directive is not allowed in the sender's state.
+    WrongState = 8,
+}
+
+impl CopFault {
+    ghost use Rattle.cop1.specs.Faults.{fault_number, fault_name};
+
+    /// The fault's number, 1 to 8.
+    pub fn number(self) -> u8
+        ensures { result ≡ fault_number self }
+    {
+        self as u8
+    }
+
+    /// The fault's name, as it is written here.
+    pub fn name(self) -> &'static str
+        ensures { result.now ≡ fault_name self }
+    {
+        match self {
+            CopFault::Width => "Width",
+            CopFault::Window => "Window",
+            CopFault::Limit => "Limit",
+            CopFault::Timer => "Timer",
+            CopFault::Memory => "Memory",
+            CopFault::NotOpen => "NotOpen",
+            CopFault::Busy => "Busy",
+            CopFault::WrongState => "WrongState",
+        }
+    }
+}

@@ -1,0 +1,211 @@
+// The sender, FOP-1: its state.
+
+mod directing;
+mod pulling;
+mod reporting;
+mod taking;
+mod ticking;
+mod words;
+
+use crate::fault::CopFault;
+use circular_buffer::HeapCircularBuffer;
+pub use pulling::{Next, Pulled};
+use std::alloc::Global;
+use std::collections::VecDeque;
+use std::marker::Model;
+use tc_frame::Command;
+
+/// The sender's state (CCSDS 232.1-B-2, 5.1.2).
+#[derive(Clone, Copy, Debug, PartialEq, Eq)]
+pub enum FopMode {
+    /// Active.
+    S1,
+    /// Retransmit without wait.
+    S2,
+    /// Retransmit with wait.
+    S3,
+    /// Initialising without a control command.
+    S4,
+    /// Initialising with a control command.
+    S5,
+    /// Initial.
+    S6,
+}
+
+/// Why the sender has given up (CCSDS 232.1-B-2, 5.2.5).
+#[derive(Clone, Copy, Debug, PartialEq, Eq)]
+pub enum Alert {
+    /// A report has the lockout flag.
+    Lockout,
+    /// A report's value is no number from NN(R) to V(S).
+    NnR,
+    /// A report has the wait flag without the retransmit flag.
+    Clcw,
+    /// A report asks for what was not sent, or no more for what it asked for.
+    Synch,
+    /// A report asks for units again, and each may be sent once.
+    Limit,
+    /// The timer has ended, and units may not be sent again.
+    Timer,
+    /// The directive Terminate.
+    Terminated,
+}
+
+/// A directive to the sender (CCSDS 232.1-B-2, 5.2.4).
+#[derive(Clone, Copy, Debug, PartialEq, Eq)]
+pub enum Directive {
+    /// Initiate without a check of the report.
+    InitWithoutCheck,
+    /// Initiate once a report has the value V(S).
+    InitWithCheck,
+    /// Initiate by the control command Unlock.
+    InitUnlock,
+    /// Initiate by the control command Set V(R), with this number.
+    InitSetVr(u8),
+    /// Give up.
+    Terminate,
+    /// Set V(S), and NN(R) to it.
+    SetVs(u8),
+    /// Set the window K, 1 to half the receiver's window width.
+    SetWindow(u8),
+    /// Set the transmission limit, 1 to 255.
+    SetLimit(u8),
+    /// Set the timer's value, 1 to 65,535 ticks.
+    SetTimer(u16),
+}
+
+/// The control command of S5, and whether it has to be sent.
+#[derive(Clone, Copy, Debug, PartialEq, Eq)]
+pub(crate) enum Control {
+    Idle,
+    Due(Command),
+    Sent(Command),
+}
+
+/// The sender of one virtual channel, FOP-1 (CCSDS 232.1-B-2, section 5, in this project's
+/// profile), over units of any type. Nothing but `new` and `bypass` takes memory.
+#[derive(Drop)]
+pub struct Fop<U> {
+    state: FopMode,
+    vs: u8,
+    nn: u8,
+    waiting: Option<U>,
+    sent: HeapCircularBuffer<U>,
+    due: usize,
+    bypass: VecDeque<U>,
+    window: u8,
+    limit: u8,
+    timer: u16,
+    ticks: Option<u16>,
+    count: u8,
+    control: Control,
+}
+
+impl<U> Model for Fop<U> {
+    ghost use Rattle.cop1.specs.FopState.{FopState};
+
+    ghost Value = { FopState U };
+
+    ghost use Rattle.cop1.specs.FopFields.{state_of, IsSound};
+
+    ghost view = { state_of };
+
+    ghost invariant = { IsSound };
+}
+
+impl<U: Drop> Fop<U> {
+    ghost use Rattle.std.specs.Prelude.{◌≡◌, ◌/◌, ◌-◌, ◌*◌, None, IfOk, IfErr, IfSome, IsOkUnless, Err, length, is_some};
+    ghost use Rattle.cop1.specs.FopState.{initial, IsFop};
+    ghost use Rattle.cop1.specs.FopNew.{new_fault};
+
+    /// A sender in its state S6 with V(S) and NN(R) 0, to a receiver of this window width, with the
+    /// window `window` (K), the transmission limit and the timer's value in ticks. The first that
+    /// applies: 1 Width (not even, 2 to 254), 2 Window (not 1 to half the width), 3 Limit (0),
+    /// 4 Timer (0), 5 Memory.
+    pub fn new(
+        alloc: Global,
+        width: u8,
+        window: u8,
+        limit: u8,
+        timer: u16,
+    ) -> Result<Fop<U>, CopFault>
+        ensures made { IfOk result (λ fop. fop ≡ initial width window limit timer) }
+        ensures refused { IfSome (new_fault width window limit timer) (λ fault. result ≡ Err fault) }
+        ensures memory { new_fault width window limit timer ≡ None → IsOkUnless result CopFault.Memory }
+    {
+        if width == 0 || width % 2 == 1 {
+            return Err(CopFault::Width);
+        }
+        if window == 0 || window > width / 2 {
+            return Err(CopFault::Window);
+        }
+        if limit == 0 {
+            return Err(CopFault::Limit);
+        }
+        if timer == 0 {
+            return Err(CopFault::Timer);
+        }
+        let Ok(sent) = HeapCircularBuffer::with_capacity(alloc, usize::from(width / 2)) else {
+            return Err(CopFault::Memory);
+        };
+        Ok(Fop {
+            state: FopMode::S6,
+            vs: 0,
+            nn: 0,
+            waiting: None,
+            sent,
+            due: 0,
+            bypass: VecDeque::new(alloc),
+            window,
+            limit,
+            timer,
+            ticks: None,
+            count: 1,
+            control: Control::Idle,
+        })
+    }
+
+    /// The state.
+    pub fn state(&self) -> FopMode
+        ensures state { result ≡ self.now.state }
+        ensures holds { IsFop self.now }
+    {
+        self.state
+    }
+
+    /// V(S), the number of the next unit to be sent for the first time.
+    pub fn vs(&self) -> u8
+        ensures { result ≡ self.now.vs }
+    {
+        self.vs
+    }
+
+    /// NN(R), the number that the receiver was last known to expect.
+    pub fn nn(&self) -> u8
+        ensures { result ≡ self.now.nn }
+    {
+        self.nn
+    }
+
+    #[tactic(auto, using(crate::proofs::Marks::marks))]
+    /// How many units are sent and not acknowledged.
+    pub fn sent(&self) -> usize
+        ensures { result ≡ length self.now.sent }
+    {
+        self.sent.len()
+    }
+
+    /// How many units wait in the bypass queue.
+    pub fn bypassed(&self) -> usize
+        ensures { result ≡ length self.now.bypass }
+    {
+        self.bypass.len()
+    }
+
+    /// Whether a unit waits to be sent for the first time.
+    pub fn waiting(&self) -> bool
+        ensures { result ≡ is_some self.now.waiting }
+    {
+        self.waiting.is_some()
+    }
+}

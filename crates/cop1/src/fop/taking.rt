@@ -1,0 +1,38 @@
+// How units come to the sender.
+
+use super::{Fop, FopMode};
+use crate::fault::CopFault;
+
+impl<U: Drop> Fop<U> {
+    ghost use Rattle.std.specs.Prelude.{◌≡◌, OnOk, OnErr, IfErr};
+    ghost use Rattle.cop1.specs.FopStep.{fop_step, Submit, Bypass};
+
+    /// A unit to be sent under sequence control. It comes back with the fault: 6 NotOpen in S6, and
+    /// 7 Busy where the wait queue's one place is taken.
+    pub fn submit(&mut self, unit: U) -> Result<(), (CopFault, U)>
+        ensures after { self.new ≡ (fop_step self.old (Submit unit)).after }
+        ensures answer { result ≡ (fop_step self.old (Submit unit)).answer }
+    {
+        if self.state == FopMode::S6 {
+            return Err((CopFault::NotOpen, unit));
+        }
+        if self.waiting.is_some() {
+            return Err((CopFault::Busy, unit));
+        }
+        self.waiting = Some(unit);
+        Ok(())
+    }
+
+    /// A unit to be sent past the sequence control, in any state. It comes back with the fault:
+    /// 5 Memory.
+    pub fn bypass(&mut self, unit: U) -> Result<(), (CopFault, U)>
+        ensures ok { OnOk result (self.new ≡ (fop_step self.old (Bypass unit)).after) }
+        ensures fault { IfErr result (λ e. e ≡ (CopFault.Memory, unit)) }
+        ensures err { OnErr result (self.new ≡ self.old) }
+    {
+        match self.bypass.push_back(unit) {
+            Ok(()) => Ok(()),
+            Err(refused) => Err((CopFault::Memory, refused.value)),
+        }
+    }
+}

@@ -1,0 +1,10 @@
+// What holds of the state tables themselves, whatever comes.
+
+ghost use Rattle.cop1.specs.FarmRuns.{FlagsAlwaysAgree};
+
+/// Of the receiver's table: after any events at a new receiver the wait flag comes with the
+/// retransmit flag, the state is Lockout exactly where the lockout flag stands, and Wait exactly
+/// where the wait flag stands without it.
+pub fn flags_always_agree()
+    ensures { FlagsAlwaysAgree }
+{}

@@ -1,0 +1,15 @@
+//! COP-1 (CCSDS 232.1-B-2): the receiver, FARM-1, with its reports, and the sender, FOP-1, as
+//! docs/PROFILE.md has them.
+#![tactic(auto)]
+
+mod farm;
+mod fault;
+mod fop;
+mod laws;
+#[cfg(test)]
+mod tests;
+
+pub use farm::{Farm, FarmMode, Verdict};
+pub use fault::CopFault;
+pub use fop::{Alert, Directive, Fop, FopMode, Next, Pulled};
+pub use laws::flags_always_agree;

@@ -1,0 +1,4 @@
+// Runs of calls, with the answers of the tables.
+
+mod receiver;
+mod sender;
