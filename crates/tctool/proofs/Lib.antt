@@ -1,0 +1,4 @@
+pub mod Walks
+pub mod GivenWords
+pub mod Listed
+pub mod Beginnings

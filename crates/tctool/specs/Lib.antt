@@ -1,0 +1,13 @@
+pub mod Calls
+pub mod Telling
+pub mod Devices
+pub mod Text
+pub mod FarmLines
+pub mod Ranges
+pub mod Listing
+pub mod Progress
+pub mod Beginning
+pub mod Outcome
+pub mod Gained
+pub mod Dumped
+pub mod Status

@@ -1,0 +1,15 @@
+-- The ranges of the numbers that the words give.
+use Rattle.std.specs.Prelude.{◌≡◌, ◌<◌, ◌%◌}
+use Rattle.cop1.specs.Farm.{IsWidth}
+use Rattle.tctool.specs.declared.task.Task.{Task}
+use Rattle.tctool.specs.declared.task.Task.TheVariants.{Farm}
+use Rattle.tctool.specs.declared.task.UsageFault.{UsageFault}
+use Rattle.tctool.specs.declared.task.UsageFault.TheVariants.{Words, OddWidth}
+
+abbrev pub IsInRange : Task → Type 0
+IsInRange (Farm check width vr) = IsWidth width × (vr < 256)
+
+-- a width that is refused is odd
+abbrev pub IsOddIfWidth : UsageFault → Type 0
+IsOddIfWidth (Words error) = Unit {0}
+IsOddIfWidth (OddWidth width) = width % 2 ≡ 1

@@ -1,0 +1,10 @@
+-- The exit status of the program.
+use Rattle.std.specs.Prelude.{ℕ, Result, Ok, Err}
+use Rattle.tctool.specs.declared.fault.DumpFault.{DumpFault}
+use Rattle.tctool.specs.declared.outcome.Outcome.{Outcome}
+use Rattle.tctool.specs.declared.outcome.Outcome.TheVariants.{Good, Faulty}
+
+abbrev pub status_of : Result Outcome DumpFault → ℕ
+status_of (Ok Good) = 0
+status_of (Ok Faulty) = 1
+status_of (Err fault) = 3

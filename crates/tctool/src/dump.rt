@@ -1,0 +1,51 @@
+// Reads a file, and writes what the words ask for of it.
+
+ghost use Rattle.std.specs.Prelude.{◌≡◌, ◌⊎◌, ◌<◌, ◌++◌, length, true, Err, OnOk, OnErr, IfOk};
+ghost use Rattle.tctool.specs.Beginning.{IsBeginning};
+ghost use Rattle.tctool.specs.Dumped.{lines_of, outcome_for, StopsAt};
+ghost use Rattle.tctool.specs.Gained.{gained};
+ghost use Rattle.tctool.specs.Ranges.{IsInRange};
+
+use crate::fault::DumpFault;
+use crate::outcome::Outcome;
+use crate::sink::Sink;
+use crate::source::Source;
+use crate::stream::list_stream;
+use crate::task::{Options, Task};
+use cop1::Farm;
+use std::alloc::Global;
+use tc_frame::{Check, Checked, Unchecked};
+
+/// Reads the input to its end, in pieces, and writes the lines that the words ask for: of each piece
+/// before the next is read.
+///
+/// An `Ok` says that all lines are written and nothing else, and whether every record was good. Where
+/// a record declares a length that none can have, its line is the last and nothing more is read. The
+/// fault is `Read` or `Write` where that device failed, `Memory` where none was left, and `TooLong`
+/// past `MOST_OCTETS` octets; what is written by then is a beginning of the lines.
+pub fn dump<R: Source, W: Sink>(
+    alloc: Global,
+    reader: &mut R,
+    writer: &mut W,
+    options: &Options,
+) -> Result<Outcome, DumpFault>
+    requires { IsInRange options.now.task }
+    ensures given { IsBeginning (R.given reader.old) (R.given reader.new) }
+    ensures text { OnOk result (W.taken_octets writer.new ≡ W.taken_octets writer.old ++ lines_of options.now.task (gained (R.given reader.old) (R.given reader.new))) }
+    ensures outcome { IfOk result (λ outcome. outcome ≡ outcome_for options.now.task (gained (R.given reader.old) (R.given reader.new))) }
+    ensures end { OnOk result ((R.has_ended reader.new ≡ true) ⊎ StopsAt options.now.task (gained (R.given reader.old) (R.given reader.new))) }
+    ensures beginning { OnErr result (IsBeginning (W.taken_octets writer.new) (W.taken_octets writer.old ++ lines_of options.now.task (gained (R.given reader.old) (R.given reader.new)))) }
+    ensures read { result ≡ Err DumpFault.Read → R.failures reader.old < R.failures reader.new }
+    ensures write { result ≡ Err DumpFault.Write → W.failures writer.old < W.failures writer.new }
+    ensures too_long { result ≡ Err DumpFault.TooLong → 9223372036854775807 < length (gained (R.given reader.old) (R.given reader.new)) }
+{
+    match options.task {
+        Task::Farm { check, width, vr } => {
+            let farm = Farm::new(width, vr).unwrap();
+            match check {
+                Check::On => list_stream::<Checked, Farm, R, W>(alloc, reader, writer, farm),
+                Check::Off => list_stream::<Unchecked, Farm, R, W>(alloc, reader, writer, farm),
+            }
+        }
+    }
+}

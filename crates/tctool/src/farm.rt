@@ -1,0 +1,133 @@
+// The lines of `tctool farm`.
+
+ghost use Rattle.std.specs.Prelude.{◌≡◌, ◌++◌, OnOk, IfOk, is_ok, string_bytes};
+ghost use Rattle.tc_frame.specs.Layout.{body_view, frame_view};
+ghost use Rattle.tc_frame.specs.Reading.{frame_at};
+ghost use Rattle.tc_frame.specs.declared.frame.Check.TheVariants as checks;
+ghost use Rattle.tctool.specs.FarmLines.{verdict_word, state_word, flag_number, state_text, body_text, after_body, farm_line, after_record, farm_lines};
+
+use crate::listing::Listing;
+use crate::text::push_invalid;
+use cop1::{Farm, FarmMode, Verdict};
+use std::alloc::AllocError;
+use std::fmt::Write;
+use tc_frame::{Body, Check, Checked, Command, TcFault, Unchecked, decode};
+
+fn word_of_verdict(verdict: Verdict) -> &'static str
+    ensures { result.now ≡ verdict_word verdict }
+{
+    match verdict {
+        Verdict::Accepted => "accepted",
+        Verdict::Ahead => "ahead",
+        Verdict::NoBuffer => "nobuffer",
+        Verdict::Behind => "behind",
+        Verdict::Outside => "outside",
+        Verdict::Discarded => "discarded",
+    }
+}
+
+fn word_of_state(state: FarmMode) -> &'static str
+    ensures { result.now ≡ state_word state }
+{
+    match state {
+        FarmMode::Open => "Open",
+        FarmMode::Wait => "Wait",
+        FarmMode::Lockout => "Lockout",
+    }
+}
+
+fn number_of_flag(flag: bool) -> u8
+    ensures { result ≡ flag_number flag }
+{
+    u8::from(flag)
+}
+
+fn push_state(text: &mut String, farm: &Farm) -> Result<(), AllocError>
+    ensures { OnOk result (string_bytes text.new ≡ string_bytes text.old ++ state_text farm.now) }
+{
+    let state = word_of_state(farm.state());
+    let vr = farm.vr();
+    let lockout = number_of_flag(farm.lockout());
+    let wait = number_of_flag(farm.wait());
+    let retransmit = number_of_flag(farm.retransmit());
+    let farm_b = farm.farm_b();
+    writeln!(
+        text,
+        "{state} vr={vr} l={lockout} w={wait} t={retransmit} b={farm_b}"
+    )
+}
+
+/// Gives a frame to the receiver, whose buffer is free, and appends what it made of it.
+fn push_body(text: &mut String, farm: &mut Farm, body: &Body) -> Result<(), AllocError>
+    ensures text { OnOk result (string_bytes text.new ≡ string_bytes text.old ++ body_text farm.old (body_view body.now)) }
+    ensures farm { farm.new ≡ after_body farm.old (body_view body.now) }
+{
+    match body {
+        Body::Ad { n, .. } => {
+            let verdict = word_of_verdict(farm.ad(*n, true));
+            write!(text, "AD {n} {verdict} ")
+        }
+        Body::Bd { .. } => {
+            farm.bd();
+            text.push_str("BD ")
+        }
+        Body::Bc(Command::Unlock) => {
+            farm.unlock();
+            text.push_str("BC unlock ")
+        }
+        Body::Bc(Command::SetVr(vr)) => {
+            farm.set_vr(*vr);
+            write!(text, "BC set {vr} ")
+        }
+    }
+}
+
+/// Gives a record to the receiver, appends its line, and answers whether it is a frame.
+fn push_frame(
+    text: &mut String,
+    farm: &mut Farm,
+    check: Check,
+    index: u64,
+    octets: &[u8],
+) -> Result<bool, AllocError>
+    ensures text { OnOk result (string_bytes text.new ≡ string_bytes text.old ++ farm_line check farm.old index octets.now) }
+    ensures farm { OnOk result (farm.new ≡ after_record check farm.old octets.now) }
+    ensures good { IfOk result (λ good. good ≡ is_ok (frame_at check octets.now)) }
+{
+    match decode(octets, check) {
+        Ok(frame) => {
+            write!(text, "{index} ")?;
+            push_body(text, farm, &frame.body)?;
+            push_state(text, farm)?;
+            Ok(true)
+        }
+        Err(fault) => {
+            push_invalid(text, index, fault.number(), fault.name())?;
+            Ok(false)
+        }
+    }
+}
+
+impl Listing<Unchecked> for Farm {
+    ghost lines = { farm_lines checks.Off };
+
+    fn take(&mut self, text: &mut String, index: u64, octets: &[u8]) -> Result<bool, AllocError> {
+        push_frame(text, self, Check::Off, index, octets)
+    }
+
+    fn refuse(text: &mut String, index: u64, fault: TcFault) -> Result<(), AllocError> {
+        push_invalid(text, index, fault.number(), fault.name())
+    }
+}
+
+impl Listing<Checked> for Farm {
+    ghost lines = { farm_lines checks.On };
+
+    fn take(&mut self, text: &mut String, index: u64, octets: &[u8]) -> Result<bool, AllocError> {
+        push_frame(text, self, Check::On, index, octets)
+    }
+
+    fn refuse(text: &mut String, index: u64, fault: TcFault) -> Result<(), AllocError> {
+        push_invalid(text, index, fault.number(), fault.name())
+    }
+}

@@ -1,0 +1,27 @@
+// How a dump ends that has come to its input's end.
+
+ghost use Rattle.std.specs.Prelude.{◌≡◌};
+
+/// How a dump ends that has come to its input's end.
+#[derive(Clone, Copy, Debug, Drop, PartialEq, Eq)]
+pub enum Outcome {
+    /// Every record is good, and nothing is left behind them.
+    Good,
+    /// There is a record that is refused, or octets are left that are no record.
+    Faulty,
+}
+
+impl Outcome {
+    ghost use Rattle.tctool.specs.Outcome.{outcome_of};
+
+    /// Good, or not.
+    pub fn of(all_good: bool) -> Outcome
+        ensures { result ≡ outcome_of all_good }
+    {
+        if all_good {
+            Outcome::Good
+        } else {
+            Outcome::Faulty
+        }
+    }
+}

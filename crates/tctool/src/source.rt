@@ -1,0 +1,64 @@
+// Where octets come from.
+
+ghost use Rattle.std.specs.Prelude.{◌≡◌, ◌≤◌, ◌+◌, ◌++◌, ℕ, Bool, List, length, IfOk, OnErr};
+ghost use Rattle.tctool.specs.Devices.{taken, read_failed, EndsOrNot};
+
+use crate::told::{Call, Told};
+use std::io;
+use std::io::Read;
+
+/// A device that octets are read from. It tells contracts what it gave and how often it failed.
+pub trait Source {
+    // The octets that its reads have given.
+    ghost given: { Self → List ℕ };
+
+    // Whether the last read that did not fail found the end.
+    ghost has_ended: { Self → Bool };
+
+    // How many of its reads have failed.
+    ghost failures: { Self → ℕ };
+
+    /// Reads octets into the front of a piece that is not empty, and answers how many; 0 at the end.
+    fn read(&mut self, piece: &mut [u8]) -> io::Result<usize>
+        ensures count { IfOk result (λ n. n ≤ length piece.new) }
+        ensures given { given self.new ≡ given self.old ++ taken result piece.new }
+        ensures ended { EndsOrNot result (has_ended self.new) }
+        ensures failures { failures self.new ≡ failures self.old + read_failed result };
+}
+
+/// A reader of the standard library as a source.
+#[derive(Drop)]
+pub struct Reader<R> {
+    inner: R,
+    told: Told,
+}
+
+impl<R> Reader<R> {
+    pub fn new(inner: R) -> Self {
+        Reader {
+            inner,
+            told: Told::new(),
+        }
+    }
+}
+
+impl<R: Read> Source for Reader<R> {
+    ghost given = { λ s. s.told.octets };
+
+    ghost has_ended = { λ s. s.told.has_ended };
+
+    ghost failures = { λ s. s.told.failures };
+
+    fn read(&mut self, piece: &mut [u8]) -> io::Result<usize> {
+        match self.inner.read(piece) {
+            Ok(count) => {
+                self.told = self.told.then(&Call::Moved(&piece[..count]));
+                Ok(count)
+            }
+            Err(error) => {
+                self.told = self.told.then(&Call::Failed);
+                Err(error)
+            }
+        }
+    }
+}

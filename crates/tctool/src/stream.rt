@@ -1,0 +1,208 @@
+// Reads a stream in pieces, and writes what a command makes of its records.
+
+ghost use Rattle.std.specs.Prelude.{◌≡◌, ◌⊎◌, None, false, true, ◌+◌, ◌-◌, ◌^◌, ◌<◌, ◌≤◌, ◌&&◌, ◌++◌, [], length, Ok, Err, OnOk, OnErr, IfOk, IfErr, string_bytes};
+ghost use Rattle.octets.specs.Holding.{held, failure};
+ghost use Rattle.octets.specs.Records.{first_record, rest_of};
+ghost use Rattle.tctool.specs.Listing.{fresh, listed, text_of, is_all_good, rest_line, is_empty, HasListed, HasRefused, IsRefused};
+ghost use Rattle.tctool.specs.Beginning.{IsBeginning};
+ghost use Rattle.tctool.specs.Gained.{gained};
+ghost use Rattle.tctool.specs.Outcome.{outcome_of};
+ghost use Rattle.tctool.specs.Progress.{refusal, standing};
+
+use crate::fault::DumpFault;
+use crate::listing::Listing;
+use crate::outcome::Outcome;
+use crate::output::{WriteFailed, write_all};
+use crate::sink::Sink;
+use crate::source::Source;
+use octets::{Splitter, Wire};
+use std::alloc::{AllocError, Global};
+
+/// How many records there were, and whether all of them were good.
+#[derive(Clone, Copy, Drop)]
+pub struct Progress {
+    count: u64,
+    all_good: bool,
+}
+
+impl Progress {
+    fn and(self, good: bool) -> Progress
+        ensures { result ≡ record { count = self.count; all_good = self.all_good && good } }
+    {
+        Progress {
+            count: self.count,
+            all_good: self.all_good && good,
+        }
+    }
+}
+
+/// Takes all whole records that the splitter holds, and answers the fault of the octets behind them
+/// where they are refused.
+fn list_records<L: Wire, C: Listing<L>>(
+    splitter: &mut Splitter<L>,
+    command: &mut C,
+    progress: &mut Progress,
+    text: &mut String,
+) -> Result<Option<L::Fault>, AllocError>
+    requires { progress.old.count + length (held splitter.old) < 2 ^ 64 }
+    ensures count { OnOk result (progress.new.count + length (held splitter.new) ≤ progress.old.count + length (held splitter.old)) }
+    ensures listed { OnOk result (standing (string_bytes text.new) command.new progress.new (held splitter.new)
+        ≡ listed C.lines L.HEAD L.extent_of L.truncated_fault (standing (string_bytes text.old) command.old progress.old (held splitter.old))) }
+    ensures fault { IfOk result (λ fault. first_record L.HEAD L.extent_of (held splitter.new) ≡ refusal fault) }
+    ensures failed { result ≡ Ok None → failure splitter.new ≡ failure splitter.old }
+{
+    while let Some(answer) = splitter.next() {
+        match answer {
+            Ok(octets) => {
+                progress.count += 1;
+                let good = command.take(text, progress.count, octets)?;
+                *progress = progress.and(good);
+            }
+            Err(fault) => return Ok(Some(*fault)),
+        }
+    }
+    Ok(None)
+}
+
+/// How a stream goes on: more octets may come, or they are refused.
+#[derive(Clone, Copy, Drop, PartialEq, Eq)]
+enum Course {
+    Open,
+    Refused,
+}
+
+/// Writes a text whole, and answers this.
+fn put<W: Sink, T: Copy>(writer: &mut W, text: &String, answer: T) -> Result<T, DumpFault>
+    ensures ok { IfOk result (λ answered. (answered ≡ answer) × (W.taken_octets writer.new ≡ W.taken_octets writer.old ++ string_bytes text.now)) }
+    ensures beginning { OnErr result (IsBeginning (W.taken_octets writer.new) (W.taken_octets writer.old ++ string_bytes text.now)) }
+    ensures write { IfErr result (λ e. (e ≡ DumpFault.Write) × (W.failures writer.old < W.failures writer.new)) }
+    ensures failures { W.failures writer.old ≤ W.failures writer.new }
+{
+    match write_all(writer, text.as_bytes()) {
+        Ok(()) => Ok(answer),
+        Err(WriteFailed) => Err(DumpFault::Write),
+    }
+}
+
+/// Takes a piece of the stream, and writes the lines of all records that are whole now, and the line
+/// of octets that are refused behind them.
+fn list_piece<L: Wire, C: Listing<L>, W: Sink>(
+    splitter: &mut Splitter<L>,
+    command: &mut C,
+    progress: &mut Progress,
+    text: &mut String,
+    writer: &mut W,
+    piece: &[u8],
+) -> Result<Course, DumpFault>
+    requires { progress.old.count + length (held splitter.old ++ piece.now) < 2 ^ 64 - 1 }
+    ensures open { result ≡ Ok Course.Open → HasListed C.lines L.HEAD L.extent_of L.truncated_fault (standing [] command.old progress.old (held splitter.old ++ piece.now)) (standing [] command.new progress.new (held splitter.new))
+        (W.taken_octets writer.old) (W.taken_octets writer.new) }
+    ensures going { result ≡ Ok Course.Open → failure splitter.new ≡ failure splitter.old }
+    ensures count { result ≡ Ok Course.Open → progress.new.count + length (held splitter.new) ≤ progress.old.count + length (held splitter.old ++ piece.now) }
+    ensures refused { result ≡ Ok Course.Refused → HasRefused C.lines L.HEAD L.extent_of L.truncated_fault (standing [] command.old progress.old (held splitter.old ++ piece.now))
+        (W.taken_octets writer.old) (W.taken_octets writer.new) }
+    ensures beginning { OnErr result (IsBeginning (W.taken_octets writer.new) (W.taken_octets writer.old ++ text_of C.lines L.HEAD L.extent_of L.truncated_fault (standing [] command.old progress.old (held splitter.old ++ piece.now)))) }
+    ensures write { result ≡ Err DumpFault.Write → W.failures writer.old < W.failures writer.new }
+    ensures failures { W.failures writer.old ≤ W.failures writer.new }
+    ensures faults { IfErr result (λ e. (e ≡ DumpFault.Write) ⊎ (e ≡ DumpFault.Memory)) }
+{
+    text.clear();
+    let Ok(()) = splitter.feed(piece) else {
+        return Err(DumpFault::Memory);
+    };
+    let Ok(fault) = list_records(splitter, command, progress, text) else {
+        return Err(DumpFault::Memory);
+    };
+    let Some(fault) = fault else {
+        return put(writer, text, Course::Open);
+    };
+    let Ok(()) = C::refuse(text, progress.count + 1, fault) else {
+        return Err(DumpFault::Memory);
+    };
+    put(writer, text, Course::Refused)
+}
+
+/// Writes the line of what is left when the input has ended, where anything is.
+fn list_rest<L: Wire, C: Listing<L>, W: Sink>(
+    splitter: &Splitter<L>,
+    progress: Progress,
+    text: &mut String,
+    writer: &mut W,
+) -> Result<Outcome, DumpFault>
+    requires open { first_record L.HEAD L.extent_of (held splitter.now) ≡ None }
+    requires going { failure splitter.now ≡ None }
+    requires count { progress.count < 2 ^ 64 - 1 }
+    ensures ok { IfOk result (λ outcome. (outcome ≡ outcome_of (progress.all_good && is_empty (held splitter.now)))
+        × (W.taken_octets writer.new ≡ W.taken_octets writer.old ++ rest_line C.lines L.HEAD L.extent_of L.truncated_fault (progress.count + 1) (held splitter.now))) }
+    ensures beginning { OnErr result (IsBeginning (W.taken_octets writer.new) (W.taken_octets writer.old ++ rest_line C.lines L.HEAD L.extent_of L.truncated_fault (progress.count + 1) (held splitter.now))) }
+    ensures write { result ≡ Err DumpFault.Write → W.failures writer.old < W.failures writer.new }
+    ensures failures { W.failures writer.old ≤ W.failures writer.new }
+    ensures faults { IfErr result (λ e. (e ≡ DumpFault.Write) ⊎ (e ≡ DumpFault.Memory)) }
+{
+    let Err(fault) = splitter.finish() else {
+        return Ok(Outcome::of(progress.all_good));
+    };
+    text.clear();
+    let Ok(()) = C::refuse(text, progress.count + 1, fault) else {
+        return Err(DumpFault::Memory);
+    };
+    put(writer, text, Outcome::Faulty)
+}
+
+/// The most octets that a dump reads.
+pub const MOST_OCTETS: u64 = 9_223_372_036_854_775_807;
+
+/// Reads a stream in pieces, and writes the lines of each piece before it reads the next.
+pub fn list_stream<L: Wire, C: Listing<L> + Drop, R: Source, W: Sink>(
+    alloc: Global,
+    reader: &mut R,
+    writer: &mut W,
+    mut command: C,
+) -> Result<Outcome, DumpFault>
+    ensures given { IsBeginning (R.given reader.old) (R.given reader.new) }
+    ensures text { OnOk result (W.taken_octets writer.new ≡ W.taken_octets writer.old
+        ++ text_of C.lines L.HEAD L.extent_of L.truncated_fault (fresh command (gained (R.given reader.old) (R.given reader.new)))) }
+    ensures outcome { IfOk result (λ outcome. outcome ≡ outcome_of (is_all_good C.lines L.HEAD L.extent_of L.truncated_fault (fresh command (gained (R.given reader.old) (R.given reader.new))))) }
+    ensures end { OnOk result ((R.has_ended reader.new ≡ true) ⊎ IsRefused C.lines L.HEAD L.extent_of L.truncated_fault (rest_of L.HEAD L.extent_of (gained (R.given reader.old) (R.given reader.new)))) }
+    ensures beginning { OnErr result (IsBeginning (W.taken_octets writer.new) (W.taken_octets writer.old
+        ++ text_of C.lines L.HEAD L.extent_of L.truncated_fault (fresh command (gained (R.given reader.old) (R.given reader.new))))) }
+    ensures read { result ≡ Err DumpFault.Read → R.failures reader.old < R.failures reader.new }
+    ensures write { result ≡ Err DumpFault.Write → W.failures writer.old < W.failures writer.new }
+    ensures too_long { result ≡ Err DumpFault.TooLong → MOST_OCTETS < length (gained (R.given reader.old) (R.given reader.new)) }
+{
+    let mut splitter = Splitter::<L>::new(alloc);
+    let mut progress = Progress {
+        count: 0,
+        all_good: true,
+    };
+    let mut text = String::new(alloc);
+    let mut piece = [0u8; 4096];
+    let mut total: u64 = 0;
+    loop {
+        let Ok(count) = reader.read(&mut piece) else {
+            return Err(DumpFault::Read);
+        };
+        if count == 0 {
+            return list_rest::<L, C, W>(&splitter, progress, &mut text, writer);
+        }
+        if count as u64 > MOST_OCTETS - total {
+            return Err(DumpFault::TooLong);
+        }
+        total += count as u64;
+        let course = match list_piece(
+            &mut splitter,
+            &mut command,
+            &mut progress,
+            &mut text,
+            writer,
+            &piece[..count],
+        ) {
+            Ok(course) => course,
+            Err(fault) => return Err(fault),
+        };
+        match course {
+            Course::Open => {}
+            Course::Refused => return Ok(Outcome::Faulty),
+        }
+    }
+}

@@ -1,0 +1,40 @@
+// What the words of a command line ask for.
+
+use clap::Error;
+use tc_frame::Check;
+
+/// What is to be done with the file.
+#[derive(Clone, Copy, Debug, Drop, PartialEq, Eq)]
+pub enum Task {
+    /// Tells what a receiver makes of each frame: one of this window width, even, 2 to 254, that
+    /// expects the number `vr` first.
+    Farm { check: Check, width: u8, vr: u8 },
+}
+
+/// What the words ask for.
+#[derive(Clone, Copy, Debug, Drop, PartialEq, Eq)]
+pub struct Options<'a> {
+    pub task: Task,
+    /// The name of the file, as it was given.
+    pub file: &'a str,
+}
+
+/// Why the words ask for nothing.
+#[derive(Debug, Drop)]
+pub enum UsageFault {
+    /// What the parser of the words answers, a text of help that was asked for among it.
+    Words(Error),
+    /// The width of the window is odd.
+    OddWidth { width: u8 },
+}
+
+impl From<Error> for UsageFault {
+    ghost use Rattle.std.specs.Prelude.{◌≡◌};
+    ghost use Rattle.tctool.specs.declared.task.UsageFault.TheVariants as faults;
+
+    ghost from_gives = { λ error fault. fault ≡ faults.Words error };
+
+    fn from(error: Error) -> UsageFault {
+        UsageFault::Words(error)
+    }
+}

@@ -1,0 +1,82 @@
+// What the words of a command line ask for.
+
+use crate::task::{Options, Task, UsageFault};
+use crate::words::options;
+use std::alloc::Global;
+use std::process::Abort;
+use tc_frame::Check;
+
+#[test]
+fn words_that_are_taken(rt: HostRuntime) {
+    let plain = Task::Farm {
+        check: Check::Off,
+        width: 254,
+        vr: 0,
+    };
+    let words = ["tctool", "farm", "frames"];
+    let taken = options(rt.alloc(), &words);
+    assert_eq!(rt;
+        taken.ok(),
+        Some(Options {
+            task: plain,
+            file: "frames"
+        })
+    );
+    let narrow = Task::Farm {
+        check: Check::On,
+        width: 10,
+        vr: 255,
+    };
+    let words = [
+        "tctool", "farm", "--check", "--width", "10", "--vr", "255", "frames",
+    ];
+    let taken = options(rt.alloc(), &words);
+    assert_eq!(rt;
+        taken.ok(),
+        Some(Options {
+            task: narrow,
+            file: "frames"
+        })
+    );
+}
+
+// The status with which the parser of the words ends the program, where it does.
+fn status_of_words(alloc: Global, words: &[&str]) -> Option<i32> {
+    match options(alloc, words) {
+        Err(UsageFault::Words(error)) => Some(error.exit_code()),
+        _ => None,
+    }
+}
+
+fn is_refused(rt: &impl Abort, alloc: Global, option: &str, number: &str) {
+    let words = ["tctool", "farm", option, number, "frames"];
+    assert_eq!(rt; status_of_words(alloc, &words), Some(2));
+}
+
+#[test]
+fn words_that_are_refused(rt: HostRuntime) {
+    for number in ["0", "1", "255", "256", "-2", "two"] {
+        is_refused(&rt, rt.alloc(), "--width", number);
+    }
+    for number in ["256", "-1", "one"] {
+        is_refused(&rt, rt.alloc(), "--vr", number);
+    }
+    assert_eq!(rt; status_of_words(rt.alloc(), &["tctool", "farm"]), Some(2));
+    assert_eq!(rt; status_of_words(rt.alloc(), &["tctool"]), Some(2));
+    assert_eq!(rt;
+        status_of_words(rt.alloc(), &["tctool", "form", "frames"]),
+        Some(2)
+    );
+    assert_eq!(rt; status_of_words(rt.alloc(), &["tctool", "--help"]), Some(0));
+    assert_eq!(rt;
+        status_of_words(rt.alloc(), &["tctool", "farm", "--help"]),
+        Some(0)
+    );
+}
+
+#[test]
+fn odd_widths(rt: HostRuntime) {
+    let words = ["tctool", "farm", "--width", "3", "frames"];
+    let refused = options(rt.alloc(), &words);
+    assert!(rt; matches!(refused, Err(UsageFault::OddWidth { width: 3 })));
+}

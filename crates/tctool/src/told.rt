@@ -1,0 +1,46 @@
+// What a device did, told to proofs alone: the octets that went through it, and how many of its calls failed.
+
+ghost use Rattle.std.specs.Prelude.{ℕ, Bool, List};
+ghost use base.Fml.{ftrue};
+ghost use Rattle.std.specs.Coded.{coded_list, coded_bool, coded_ℕ};
+
+use std::marker::Model;
+
+/// What one call did: it moved octets, or it failed.
+#[derive(Clone, Copy, Drop)]
+pub enum Call<'a> {
+    Moved(&'a [u8]),
+    Failed,
+}
+
+/// What the calls so far did. It takes no memory, and nothing of it is left when the program runs.
+#[derive(Drop)]
+pub struct Told {
+    pub ghost octets: { List ℕ } by { coded_list coded_ℕ },
+    pub ghost has_ended: { Bool } by { coded_bool },
+    pub ghost failures: { ℕ } by { coded_ℕ },
+}
+
+impl Model for Told {
+    ghost also_owns = { λ _. ftrue };
+}
+
+impl Told {
+    ghost use Rattle.std.specs.Prelude.{[], false};
+    ghost use Rattle.tctool.specs.Calls.{octets_with, ended_with, failures_with};
+    ghost use Rattle.tctool.specs.Telling.{Tells};
+
+    /// Before the first call.
+    pub fn new() -> Told
+        ensures { Tells result [] false 0 }
+    {
+        Told {}
+    }
+
+    /// After one call more.
+    pub fn then(&self, _call: &Call<'_>) -> Told
+        ensures { Tells result (octets_with self.now.octets _call.now) (ended_with self.now.has_ended _call.now) (failures_with self.now.failures _call.now) }
+    {
+        Told {}
+    }
+}
