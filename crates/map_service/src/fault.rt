@@ -1,0 +1,36 @@
+// Why octets are not cut, and why a segment is not taken.
+
+ghost use Rattle.std.specs.Prelude.{◌≡◌};
+
+/// Why octets were not cut (1 to 3), or a segment was not taken (3).
+#[derive(Clone, Copy, Debug, PartialEq, Eq)]
+pub enum MapFault {
+    /// The octets are not exactly one packet, or with blocking not one or more whole packets.
+    NotAPacket = 1,
+    /// A packet has more octets than `max_packet`.
+    TooLong = 2,
+    /// There was no memory.
+    Memory = 3,
+}
+
+impl MapFault {
+    ghost use Rattle.map_service.specs.Faults.{fault_number, fault_name};
+
+    /// The fault's number, from 1.
+    pub fn number(self) -> u8
+        ensures { result ≡ fault_number self }
+    {
+        self as u8
+    }
+
+    /// The fault's name, as it is written here.
+    pub fn name(self) -> &'static str
+        ensures { result.now ≡ fault_name self }
+    {
+        match self {
+            MapFault::NotAPacket => "NotAPacket",
+            MapFault::TooLong => "TooLong",
+            MapFault::Memory => "Memory",
+        }
+    }
+}

@@ -1,0 +1,10 @@
+//! Packets in segments for each multiplexer access point, MAP (CCSDS 232.0-B-4, 4.1.3.2), with
+//! blocking or without it.
+#![tactic(auto)]
+
+mod fault;
+mod limits;
+mod packets;
+
+pub use fault::MapFault;
+pub use limits::Limits;
