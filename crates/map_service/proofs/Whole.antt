@@ -1,7 +1,7 @@
 -- What a decoder of packets says of octets as whole packets.
-use Rattle.std.proofs.Common.{◌≡◌, ◌≤◌, ◌<◌, ℕ, suc, Bool, true, false, cond, ltb, eqb, List, [], ◌∷◌, length, take, drop, Option, Some, None, Result, Ok, Err, refl, sym, ◌∙◌, arith, inl, inr, length-take, length-drop}
+use Rattle.std.proofs.Common.{◌≡◌, ◌≤◌, ◌<◌, ℕ, suc, Bool, true, false, cond, ltb, eqb, List, [], ◌∷◌, length, take, drop, Option, Some, None, Result, Ok, Err, refl, sym, ap, ◌∙◌, arith, inl, inr, length-take, length-drop}
 use Rattle.std.specs.Prelude.{option_map, ◌&&◌}
-use Rattle.std.proofs.lemmas.Bool.{ne_eqb, eq-eqb, cases_lt}
+use Rattle.std.proofs.lemmas.Bool.{ne_eqb, eq-eqb, lt-ltb, le-ltb, cases_lt}
 use Rattle.std.proofs.lemmas.Bool.Decides.{nat_tests}
 use Rattle.std.proofs.lemmas.List.{drop_all}
 use Rattle.octets.specs.Records.{first_record, by_record, record_of}
@@ -10,7 +10,7 @@ use Rattle.space_packet.specs.declared.fault.PacketFault.{PacketFault}
 use Rattle.space_packet.specs.Layout.{PacketView}
 use Rattle.space_packet.specs.Laws.{extent_has_header}
 use Rattle.space_packet.specs.Reading.{extent_at, packet_at, packet_of}
-use Rattle.map_service.specs.Packets.{first_packet, packets_in, rest_in, is_packet}
+use Rattle.map_service.specs.Packets.{first_packet, packets_in, rest_in, is_packet, are_packets, is_some_over}
 
 -- how many octets the packet has that was read
 abbrev pub len_of : Result (PacketView × ℕ) PacketFault → Option ℕ
@@ -97,3 +97,33 @@ is_packet-by_len octets n e le =
       | inl lt ↦ ne_eqb n (length octets) (λ (h : n ≡ length octets). omega arith) ∙ sym (is_packet-more octets (take n octets) (sym e) (omega arith))
       | inr ge ↦ eq-eqb n (length octets) (omega arith) ∙ sym (is_packet-all octets (take n octets) (sym e) (omega arith))
     ]
+
+-- the same, where the first packet is told by its length
+pub one_more-by_len : (octets : List ℕ) (n : ℕ) → Some (take n octets) ≡ first_packet octets → n ≤ length octets
+    → (packets_in octets ≡ take n octets ∷ packets_in (drop n octets)) × (rest_in octets ≡ rest_in (drop n octets))
+one_more-by_len octets n e le =
+    let len : length (take n octets) ≡ n = omega (arith, length-take n octets) in
+    let h = one_more octets (take n octets) (sym e) in
+    (h.0 ∙ ap (λ (k : ℕ). take n octets ∷ packets_in (drop k octets)) len, h.1 ∙ ap (λ (k : ℕ). rest_in (drop k octets)) len)
+
+-- ---- tests over all packets
+
+-- octets that aren't none are packets where nothing is left
+pub are_packets-by_rest : (octets rest : List ℕ) → eqb (length octets) 0 ≡ false → rest_in rest ≡ rest_in octets → first_packet rest ≡ None
+    → eqb (length rest) 0 ≡ are_packets octets
+are_packets-by_rest octets rest some same none =
+    let left : rest_in octets ≡ rest = sym same ∙ (no_more rest none).1 in
+    let long : ltb 0 (length octets) ≡ true = lt-ltb 0 (length octets) (grind (arith, nat_tests)) in
+    rw (left, long) refl
+
+pub over-here : (most n : ℕ) (octets : List ℕ) → Some (take n octets) ≡ first_packet octets → n ≤ length octets → most < n → is_some_over most (packets_in octets) ≡ true
+over-here most n octets e le over =
+    rw ((one_more-by_len octets n e le).0, lt-ltb most (length (take n octets)) (omega (arith, length-take n octets))) refl
+
+pub over-behind : (most n : ℕ) (octets : List ℕ) → Some (take n octets) ≡ first_packet octets → n ≤ length octets → n ≤ most
+    → is_some_over most (packets_in octets) ≡ is_some_over most (packets_in (drop n octets))
+over-behind most n octets e le fits =
+    rw ((one_more-by_len octets n e le).0, le-ltb most (length (take n octets)) (omega (arith, length-take n octets))) refl
+
+pub over-none : (most : ℕ) (octets : List ℕ) → first_packet octets ≡ None → is_some_over most (packets_in octets) ≡ false
+over-none most octets e = rw ((no_more octets e).0) refl

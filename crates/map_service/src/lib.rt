@@ -2,9 +2,14 @@
 //! blocking or without it.
 #![tactic(auto)]
 
+mod cutting;
 mod fault;
 mod limits;
 mod packets;
 
+pub use cutting::cut;
 pub use fault::MapFault;
 pub use limits::Limits;
+
+#[cfg(test)]
+mod tests;

@@ -1,0 +1,81 @@
+-- Packets as segments of a MAP (CCSDS 232.0-B-4, 4.1.3.2.2): cut where they are long, joined where they are short.
+use Rattle.std.specs.Prelude.{ℕ, zero, suc, ◌-◌, List, [], ◌∷◌, length, take, drop, map, not, nat_lt, nat_le, if◌then◌else◌, Option, None, Some}
+use Rattle.std.specs.List.{concat, flat_map}
+use Rattle.tc_frame.specs.declared.frame.SegmentFlags.{SegmentFlags}
+use Rattle.tc_frame.specs.declared.frame.SegmentFlags.TheVariants.{First, Continuing, Last, Alone}
+use Rattle.tc_frame.specs.declared.frame.Segment.{Segment}
+use Rattle.tc_frame.specs.Layout.{SegmentView, segment_view}
+use Rattle.map_service.specs.declared.fault.MapFault.{MapFault}
+use Rattle.map_service.specs.declared.fault.MapFault.TheVariants.{NotAPacket, TooLong}
+use Rattle.map_service.specs.declared.limits.Limits.{Limits}
+use Rattle.map_service.specs.Packets.{packets_in, are_taken, is_some_over}
+
+-- segments without where their data lie in memory
+abbrev pub segment_views : List Segment → List SegmentView
+segment_views segments = map segment_view segments
+
+-- ---- octets cut into parts
+
+-- the pieces of octets, of exactly `part` octets each but the last, which has the 1 to `part` that are left
+abbrev pub pieces_within : ℕ → ℕ → List ℕ → List (List ℕ)
+pieces_within zero part octets = []
+pieces_within (suc n) part octets = if nat_le (length octets) part then octets ∷ [] else take part octets ∷ pieces_within n part (drop part octets)
+
+-- octets have no more pieces than octets
+unfoldable pub pieces_of : ℕ → List ℕ → List (List ℕ)
+pieces_of part octets = pieces_within (length octets) part octets
+
+abbrev pub segment_with : SegmentFlags → ℕ → List ℕ → SegmentView
+segment_with flags m octets = record { header = record { flags = flags; map = m }; payload = octets }
+
+-- the pieces behind a first: continuing as often as needed, and a last
+abbrev pub following : ℕ → List (List ℕ) → List SegmentView
+following m [] = []
+following m (x ∷ []) = segment_with Last m x ∷ []
+following m (x ∷ y ∷ ys) = segment_with Continuing m x ∷ following m (y ∷ ys)
+
+-- one piece stands alone, and the first of several is followed by the others
+abbrev pub flagged : ℕ → List (List ℕ) → List SegmentView
+flagged m [] = []
+flagged m (x ∷ []) = segment_with Alone m x ∷ []
+flagged m (x ∷ y ∷ ys) = segment_with First m x ∷ following m (y ∷ ys)
+
+-- the segments of a packet, or of packets that go into one segment, on MAP m
+abbrev pub parts_of : ℕ → ℕ → List ℕ → List SegmentView
+parts_of part m octets = flagged m (pieces_of part octets)
+
+-- ---- packets joined into groups
+
+-- the longest run of the first packets that have at most `room` octets together
+abbrev pub longest_run : ℕ → List (List ℕ) → List (List ℕ)
+longest_run room [] = []
+longest_run room (p ∷ ps) = if nat_lt room (length p) then [] else p ∷ longest_run (room - length p) ps
+
+-- a packet of more than `part` octets is a group by itself; any other group is the longest run of at most `part` octets
+abbrev pub first_group : ℕ → List (List ℕ) → List (List ℕ)
+first_group part [] = []
+first_group part (p ∷ ps) = if nat_lt part (length p) then p ∷ [] else longest_run part (p ∷ ps)
+
+-- the first n groups, from the left
+abbrev pub groups_within : ℕ → ℕ → List (List ℕ) → List (List (List ℕ))
+groups_within zero part packets = []
+groups_within (suc n) part [] = []
+groups_within (suc n) part (p ∷ ps) =
+    first_group part (p ∷ ps) ∷ groups_within n part (drop (length (first_group part (p ∷ ps))) (p ∷ ps))
+
+-- packets have no more groups than packets
+unfoldable pub groups_of : ℕ → List (List ℕ) → List (List (List ℕ))
+groups_of part packets = groups_within (length packets) part packets
+
+-- the segments of the packets that octets are, on MAP m
+abbrev pub segments_of : ℕ → ℕ → List ℕ → List SegmentView
+segments_of part m octets = flat_map (λ group. parts_of part m (concat group)) (groups_of part (packets_in octets))
+
+-- ---- which octets are cut
+
+-- why octets are not cut, where they are not
+abbrev pub cut_fault : Limits → List ℕ → Option MapFault
+cut_fault limits octets =
+    if not (are_taken limits.blocking octets) then Some NotAPacket
+    else (if is_some_over limits.max_packet (packets_in octets) then Some TooLong
+    else None)

@@ -1,0 +1,156 @@
+// Cutting packets into segments.
+
+ghost use Rattle.std.specs.Prelude.{◌≡◌, ◌≤◌, ◌<◌, ◌++◌, [], ◌∷◌, length, take, Err, None, IfSome, IsOkUnless, OnOk, OnErr};
+ghost use Rattle.std.specs.List.{concat};
+ghost use Rattle.map_service.specs.Cutting.{segment_views, pieces_of, segment_with, following, parts_of, longest_run, first_group, segments_of, cut_fault};
+ghost use Rattle.map_service.specs.Packets.{packets_in, rest_in};
+
+use crate::fault::MapFault;
+use crate::limits::Limits;
+use crate::packets::{has_packet_over, holds_packets, packet_len};
+use tc_frame::{Segment, SegmentFlags, SegmentHeader};
+
+/// Adds the segments of one packet, or with blocking of one or more packets one after another, on
+/// this MAP, which is below 64. A packet of more than `part` octets is cut into parts of exactly
+/// `part` octets, the last of 1 to `part`; with blocking each longest run of other packets, from the
+/// left, that have at most `part` octets together goes into one segment. The first that applies:
+/// 1 `NotAPacket` (not exactly one packet, or with blocking not one or more whole packets),
+/// 2 `TooLong` (one over `max_packet`), 3 `Memory`; and then the segments are as they were.
+pub fn cut<'a>(
+    octets: &'a [u8],
+    map: u8,
+    limits: &Limits,
+    segments: &mut Vec<Segment<'a>>,
+) -> Result<(), MapFault>
+    requires on_a_map { map < 64 }
+    requires some_part { 1 ≤ limits.now.part }
+    ensures ok { OnOk result (segment_views segments.new.items ≡ segment_views segments.old.items ++ segments_of limits.now.part map octets.now) }
+    ensures err { OnErr result (segments.new.items ≡ segments.old.items) }
+    ensures refused { IfSome (cut_fault limits.now octets.now) (λ fault. result ≡ Err fault) }
+    ensures memory { cut_fault limits.now octets.now ≡ None → IsOkUnless result MapFault.Memory }
+{
+    if !holds_packets(octets, limits.blocking) {
+        return Err(MapFault::NotAPacket);
+    }
+    if has_packet_over(octets, limits.max_packet as usize) {
+        return Err(MapFault::TooLong);
+    }
+    let before = segments.len();
+    if append_groups(octets, map, limits.part as usize, segments).is_err() {
+        segments.truncate(before);
+        return Err(MapFault::Memory);
+    }
+    Ok(())
+}
+
+fn append<'a>(
+    flags: SegmentFlags,
+    map: u8,
+    payload: &'a [u8],
+    segments: &mut Vec<Segment<'a>>,
+) -> Result<(), MapFault>
+    ensures ok { OnOk result (segment_views segments.new.items ≡ segment_views segments.old.items ++ segment_with flags map payload.now ∷ []) }
+    ensures before { take (length segments.old.items) segments.new.items ≡ segments.old.items }
+{
+    let header = SegmentHeader { flags, map };
+    if segments.push(Segment { header, payload }).is_err() {
+        return Err(MapFault::Memory);
+    }
+    Ok(())
+}
+
+// The parts behind a first.
+fn append_following<'a>(
+    octets: &'a [u8],
+    map: u8,
+    part: usize,
+    segments: &mut Vec<Segment<'a>>,
+) -> Result<(), MapFault>
+    requires some_octet { 1 ≤ length octets.now }
+    requires some_part { 1 ≤ part }
+    ensures ok { OnOk result (segment_views segments.new.items ≡ segment_views segments.old.items ++ following map (pieces_of part octets.now)) }
+    ensures before { take (length segments.old.items) segments.new.items ≡ segments.old.items }
+{
+    let mut rest = octets;
+    'parts: while rest.len() > part {
+        let (piece, behind) = rest.split_at(part);
+        append(SegmentFlags::Continuing, map, piece, segments)?;
+        rest = behind;
+    }
+    append(SegmentFlags::Last, map, rest, segments)
+}
+
+fn append_parts<'a>(
+    octets: &'a [u8],
+    map: u8,
+    part: usize,
+    segments: &mut Vec<Segment<'a>>,
+) -> Result<(), MapFault>
+    requires some_octet { 1 ≤ length octets.now }
+    requires some_part { 1 ≤ part }
+    ensures ok { OnOk result (segment_views segments.new.items ≡ segment_views segments.old.items ++ parts_of part map octets.now) }
+    ensures before { take (length segments.old.items) segments.new.items ≡ segments.old.items }
+{
+    if octets.len() <= part {
+        return append(SegmentFlags::Alone, map, octets, segments);
+    }
+    let (piece, behind) = octets.split_at(part);
+    append(SegmentFlags::First, map, piece, segments)?;
+    append_following(behind, map, part, segments)
+}
+
+// How many octets the longest run of the first packets has.
+fn run_len(octets: &[u8], part: usize) -> usize
+    ensures run { result ≡ length (concat (longest_run part (packets_in octets.now))) }
+    ensures within { result ≤ length octets.now }
+{
+    let mut rest = octets;
+    let mut len = 0;
+    'packets: while let Some(next) = packet_len(rest) {
+        if next > part - len {
+            return len;
+        }
+        len += next;
+        rest = rest.split_at(next).1;
+    }
+    len
+}
+
+// How many octets the first group has.
+fn group_len(octets: &[u8], part: usize) -> usize
+    requires some_octet { 1 ≤ length octets.now }
+    requires whole { rest_in octets.now ≡ [] }
+    ensures group { result ≡ length (concat (first_group part (packets_in octets.now))) }
+    ensures some { 1 ≤ result }
+    ensures within { result ≤ length octets.now }
+{
+    match packet_len(octets) {
+        Some(len) => {
+            if len > part {
+                return len;
+            }
+            run_len(octets, part)
+        }
+        None => unreachable!(),
+    }
+}
+
+fn append_groups<'a>(
+    octets: &'a [u8],
+    map: u8,
+    part: usize,
+    segments: &mut Vec<Segment<'a>>,
+) -> Result<(), MapFault>
+    requires some_part { 1 ≤ part }
+    requires whole { rest_in octets.now ≡ [] }
+    ensures ok { OnOk result (segment_views segments.new.items ≡ segment_views segments.old.items ++ segments_of part map octets.now) }
+    ensures before { take (length segments.old.items) segments.new.items ≡ segments.old.items }
+{
+    let mut rest = octets;
+    'groups: while !rest.is_empty() {
+        let (group, behind) = rest.split_at(group_len(rest, part));
+        append_parts(group, map, part, segments)?;
+        rest = behind;
+    }
+    Ok(())
+}
