@@ -1,3 +1,4 @@
+pub mod Joining
 pub mod Whole
 pub mod Pieces
 pub mod Groups

@@ -1,3 +1,6 @@
+pub mod Assembly
+pub mod Causes
+pub mod Cutting
 pub mod Faults
 pub mod Packets
-pub mod Cutting
+pub mod Taking

@@ -3,11 +3,13 @@
 #![tactic(auto)]
 
 mod cutting;
+mod dropped;
 mod fault;
 mod limits;
 mod packets;
 
 pub use cutting::cut;
+pub use dropped::Dropped;
 pub use fault::MapFault;
 pub use limits::Limits;
 

@@ -1,0 +1,204 @@
+-- What one more segment adds to what a list of segments of one MAP gives.
+use Rattle.std.proofs.Common.{◌≡◌, ℕ, List, [], ◌∷◌, ◌++◌, Option, Some, None, refl, sym, ap, ◌∙◌, append_assoc}
+use Rattle.std.proofs.lemmas.List.{append-nil}
+use Rattle.tc_frame.specs.declared.frame.SegmentFlags.{SegmentFlags}
+use Rattle.tc_frame.specs.declared.frame.SegmentFlags.TheVariants.{First, Continuing, Last, Alone}
+use Rattle.tc_frame.specs.Layout.{SegmentView}
+use Rattle.map_service.specs.declared.limits.Limits.{Limits}
+use Rattle.map_service.specs.Assembly.{packet_of, packets_of, before, goes_to_last, up_to_last, goes_on, up_to_end, block_packets, blocks_packets, begins, ending_part}
+
+-- ---- segments that are all continuing end no block, give no packet and begin no part
+
+pub record AllGoOn (limits : Limits) (segments : List SegmentView) : Type 0 where
+  pub unended : up_to_last segments ≡ None
+  pub given : blocks_packets limits segments ≡ []
+  pub unbegun : ending_part segments ≡ None
+
+one_goes_on : (limits : Limits) (s : SegmentView) (segments : List SegmentView) (flags : SegmentFlags) (more : Option (List ℕ)) (joined : List ℕ)
+    → s.header.flags ≡ flags → goes_on flags s.payload more ≡ Some joined
+    → ((j : List ℕ) → more ≡ Some j → AllGoOn limits segments) → AllGoOn limits (s ∷ segments)
+one_goes_on limits s segments Continuing (Some more) joined e h rest =
+    let r = rest more refl in
+    record { unended = rw (e, r.unended) refl; given = rw (e, r.given) refl; unbegun = rw (e, r.unbegun) refl }
+one_goes_on limits s segments Continuing None joined e h rest = absurd cc
+one_goes_on limits s segments First more joined e h rest = absurd cc
+one_goes_on limits s segments Last more joined e h rest = absurd cc
+one_goes_on limits s segments Alone more joined e h rest = absurd cc
+
+pub all_go_on : (limits : Limits) (segments : List SegmentView) (joined : List ℕ) → up_to_end segments ≡ Some joined → AllGoOn limits segments
+all_go_on limits [] joined h = record { unended = refl; given = refl; unbegun = refl }
+all_go_on limits (s ∷ segments) joined h = one_goes_on limits s segments s.header.flags (up_to_end segments) joined refl h (all_go_on limits segments)
+
+-- ---- the joined data up to a last segment
+
+-- behind it, where these are the data up to a last segment, and up to the end, before it
+abbrev pub ended : SegmentFlags → List ℕ → Option (List ℕ) → Option (List ℕ) → Option (List ℕ)
+ended flags octets (Some joined) all = Some joined
+ended Last octets None (Some joined) = Some (joined ++ octets)
+ended Last octets None None = None
+ended Alone octets None all = None
+ended First octets None all = None
+ended Continuing octets None all = None
+
+none_ended : (flags : SegmentFlags) (octets : List ℕ) → ended flags octets None None ≡ None
+none_ended Alone octets = refl
+none_ended First octets = refl
+none_ended Continuing octets = refl
+none_ended Last octets = refl
+
+before_ended : (flags : SegmentFlags) (octets o : List ℕ) (last all : Option (List ℕ))
+    → before o (ended flags octets last all) ≡ ended flags octets (before o last) (before o all)
+before_ended flags octets o (Some joined) all = refl
+before_ended Last octets o None (Some joined) = ap (λ (xs : List ℕ). Some xs) (sym (append_assoc o joined octets))
+before_ended Last octets o None None = refl
+before_ended Alone octets o None all = refl
+before_ended First octets o None all = refl
+before_ended Continuing octets o None all = refl
+
+goes_to_last_ended : (f flags : SegmentFlags) (octets o : List ℕ) (last all : Option (List ℕ))
+    → goes_to_last f o (ended flags octets last all) ≡ ended flags octets (goes_to_last f o last) (goes_on f o all)
+goes_to_last_ended Alone flags octets o last all = sym (none_ended flags octets)
+goes_to_last_ended First flags octets o last all = sym (none_ended flags octets)
+goes_to_last_ended Continuing flags octets o last all = before_ended flags octets o last all
+goes_to_last_ended Last flags octets o last all = refl
+
+one_ended : (flags : SegmentFlags) (octets : List ℕ) → goes_to_last flags octets None ≡ ended flags octets None (Some [])
+one_ended Alone octets = refl
+one_ended First octets = refl
+one_ended Continuing octets = refl
+one_ended Last octets = refl
+
+pub up_to_last-push : (segments : List SegmentView) (s : SegmentView)
+    → up_to_last (segments ++ s ∷ []) ≡ ended s.header.flags s.payload (up_to_last segments) (up_to_end segments)
+up_to_last-push [] s = one_ended s.header.flags s.payload
+up_to_last-push (x ∷ segments) s =
+    ap (goes_to_last x.header.flags x.payload) (up_to_last-push segments s)
+    ∙ goes_to_last_ended x.header.flags s.header.flags s.payload x.payload (up_to_last segments) (up_to_end segments)
+
+-- ---- the joined data up to the end
+
+abbrev pub continued : SegmentFlags → List ℕ → Option (List ℕ) → Option (List ℕ)
+continued Continuing octets (Some joined) = Some (joined ++ octets)
+continued Continuing octets None = None
+continued Alone octets all = None
+continued First octets all = None
+continued Last octets all = None
+
+none_continued : (flags : SegmentFlags) (octets : List ℕ) → continued flags octets None ≡ None
+none_continued Alone octets = refl
+none_continued First octets = refl
+none_continued Continuing octets = refl
+none_continued Last octets = refl
+
+before_continued : (flags : SegmentFlags) (octets o : List ℕ) (all : Option (List ℕ))
+    → before o (continued flags octets all) ≡ continued flags octets (before o all)
+before_continued Continuing octets o (Some joined) = ap (λ (xs : List ℕ). Some xs) (sym (append_assoc o joined octets))
+before_continued Continuing octets o None = refl
+before_continued Alone octets o all = refl
+before_continued First octets o all = refl
+before_continued Last octets o all = refl
+
+goes_on_continued : (f flags : SegmentFlags) (octets o : List ℕ) (all : Option (List ℕ))
+    → goes_on f o (continued flags octets all) ≡ continued flags octets (goes_on f o all)
+goes_on_continued Alone flags octets o all = sym (none_continued flags octets)
+goes_on_continued First flags octets o all = sym (none_continued flags octets)
+goes_on_continued Continuing flags octets o all = before_continued flags octets o all
+goes_on_continued Last flags octets o all = sym (none_continued flags octets)
+
+one_continued : (flags : SegmentFlags) (octets : List ℕ) → goes_on flags octets (Some []) ≡ continued flags octets (Some [])
+one_continued Alone octets = refl
+one_continued First octets = refl
+one_continued Continuing octets = ap (λ (xs : List ℕ). Some xs) (append-nil octets)
+one_continued Last octets = refl
+
+pub up_to_end-push : (segments : List SegmentView) (s : SegmentView)
+    → up_to_end (segments ++ s ∷ []) ≡ continued s.header.flags s.payload (up_to_end segments)
+up_to_end-push [] s = one_continued s.header.flags s.payload
+up_to_end-push (x ∷ segments) s =
+    ap (goes_on x.header.flags x.payload) (up_to_end-push segments s)
+    ∙ goes_on_continued x.header.flags s.header.flags s.payload x.payload (up_to_end segments)
+
+-- ---- the part at the end
+
+abbrev pub part_behind : SegmentFlags → List ℕ → Option (List ℕ) → Option (List ℕ)
+part_behind Alone octets part = None
+part_behind First octets part = Some octets
+part_behind Continuing octets (Some part) = Some (part ++ octets)
+part_behind Continuing octets None = None
+part_behind Last octets part = None
+
+first_begins : (flags : SegmentFlags) (octets o : List ℕ) (all later : Option (List ℕ))
+    → begins First o (continued flags octets all) (part_behind flags octets later) ≡ part_behind flags octets (begins First o all later)
+first_begins Alone octets o all (Some later) = elim all as (λ a. part_behind Alone octets (Some later) ≡ part_behind Alone octets (begins First o a (Some later))) [ None ↦ refl | Some j ↦ refl ]
+first_begins Alone octets o all None = refl
+first_begins First octets o all later = refl
+first_begins Continuing octets o (Some joined) later = ap (λ (xs : List ℕ). Some xs) (sym (append_assoc o joined octets))
+first_begins Continuing octets o None later = refl
+first_begins Last octets o all later = refl
+
+begins_behind : (f flags : SegmentFlags) (octets o : List ℕ) (all later : Option (List ℕ))
+    → begins f o (continued flags octets all) (part_behind flags octets later) ≡ part_behind flags octets (begins f o all later)
+begins_behind Alone flags octets o all later = refl
+begins_behind First flags octets o all later = first_begins flags octets o all later
+begins_behind Continuing flags octets o all later = refl
+begins_behind Last flags octets o all later = refl
+
+one_begins : (flags : SegmentFlags) (octets : List ℕ) → begins flags octets (Some []) None ≡ part_behind flags octets None
+one_begins Alone octets = refl
+one_begins First octets = ap (λ (xs : List ℕ). Some xs) (append-nil octets)
+one_begins Continuing octets = refl
+one_begins Last octets = refl
+
+pub ending_part-push : (segments : List SegmentView) (s : SegmentView)
+    → ending_part (segments ++ s ∷ []) ≡ part_behind s.header.flags s.payload (ending_part segments)
+ending_part-push [] s = one_begins s.header.flags s.payload
+ending_part-push (x ∷ segments) s =
+    rw (up_to_end-push segments s, ending_part-push segments s)
+    (begins_behind x.header.flags s.header.flags s.payload x.payload (up_to_end segments) (ending_part segments))
+
+-- ---- the packets
+
+-- those that the last segment adds, where this part stood open before it
+abbrev pub packets_behind : Limits → SegmentFlags → List ℕ → Option (List ℕ) → List (List ℕ)
+packets_behind limits Alone octets part = packets_of limits octets
+packets_behind limits First octets part = []
+packets_behind limits Continuing octets part = []
+packets_behind limits Last octets (Some part) = packet_of limits (part ++ octets)
+packets_behind limits Last octets None = []
+
+first_gives : (limits : Limits) (flags : SegmentFlags) (octets o : List ℕ) (last all later : Option (List ℕ)) (given : List (List ℕ))
+    → ((j : List ℕ) → all ≡ Some j → (last ≡ None) × (given ≡ []) × (later ≡ None))
+    → block_packets limits First o (ended flags octets last all) ++ (given ++ packets_behind limits flags octets later)
+    ≡ (block_packets limits First o last ++ given) ++ packets_behind limits flags octets (begins First o all later)
+first_gives limits flags octets o (Some joined) None later given h = sym (append_assoc (packet_of limits (o ++ joined)) given (packets_behind limits flags octets later))
+first_gives limits flags octets o (Some joined) (Some j) later given h = let impossible = (h j refl).0 in absurd cc
+first_gives limits Alone octets o None all later given h = refl
+first_gives limits First octets o None all later given h = refl
+first_gives limits Continuing octets o None all later given h = refl
+first_gives limits Last octets o None None later given h = refl
+first_gives limits Last octets o None (Some j) later given h =
+    let known = h j refl in
+    rw (known.1, known.2, append-nil, append_assoc o j octets) refl
+
+block_gives : (limits : Limits) (f flags : SegmentFlags) (octets o : List ℕ) (last all later : Option (List ℕ)) (given : List (List ℕ))
+    → ((j : List ℕ) → all ≡ Some j → (last ≡ None) × (given ≡ []) × (later ≡ None))
+    → block_packets limits f o (ended flags octets last all) ++ (given ++ packets_behind limits flags octets later)
+    ≡ (block_packets limits f o last ++ given) ++ packets_behind limits flags octets (begins f o all later)
+block_gives limits Alone flags octets o last all later given h = sym (append_assoc (packets_of limits o) given (packets_behind limits flags octets later))
+block_gives limits First flags octets o last all later given h = first_gives limits flags octets o last all later given h
+block_gives limits Continuing flags octets o last all later given h = refl
+block_gives limits Last flags octets o last all later given h = refl
+
+one_gives : (limits : Limits) (flags : SegmentFlags) (octets : List ℕ) → block_packets limits flags octets None ++ [] ≡ packets_behind limits flags octets None
+one_gives limits Alone octets = append-nil (packets_of limits octets)
+one_gives limits First octets = refl
+one_gives limits Continuing octets = refl
+one_gives limits Last octets = refl
+
+pub blocks_packets-push : (limits : Limits) (segments : List SegmentView) (s : SegmentView)
+    → blocks_packets limits (segments ++ s ∷ []) ≡ blocks_packets limits segments ++ packets_behind limits s.header.flags s.payload (ending_part segments)
+blocks_packets-push limits [] s = one_gives limits s.header.flags s.payload
+blocks_packets-push limits (x ∷ segments) s =
+    rw (up_to_last-push segments s, blocks_packets-push limits segments s)
+    (block_gives limits x.header.flags s.header.flags s.payload x.payload (up_to_last segments) (up_to_end segments) (ending_part segments) (blocks_packets limits segments)
+    (λ j e. let known = all_go_on limits segments j e in (known.unended, known.given, known.unbegun)))

@@ -1,0 +1,96 @@
+-- What a list of segments gives on a MAP. A block is an alone segment, or a first one followed directly, among the
+-- segments of its MAP, by any number of continuing ones and a last one (CCSDS 232.0-B-4, 4.1.3.2.2.2).
+use Rattle.std.specs.Prelude.{ℕ, ◌/◌, ◌%◌, ◌^◌, List, [], ◌∷◌, ◌++◌, length, filter, Bool, not, ◌&&◌, ◌==◌, nat_lt, if◌then◌else◌, Option, Some, None}
+use Rattle.tc_frame.specs.declared.frame.SegmentFlags.{SegmentFlags}
+use Rattle.tc_frame.specs.declared.frame.SegmentFlags.TheVariants.{First, Continuing, Last, Alone}
+use Rattle.tc_frame.specs.Layout.{SegmentView}
+use Rattle.map_service.specs.declared.limits.Limits.{Limits}
+use Rattle.map_service.specs.Packets.{packets_in, are_packets, is_packet, is_some_over}
+
+-- there are MAPs 0 to 63, and bit m tells of MAP m
+abbrev pub is_open : Limits → ℕ → Bool
+is_open limits m = nat_lt m 64 && (limits.maps / 2 ^ m % 2 == 1)
+
+abbrev pub of_map : ℕ → List SegmentView → List SegmentView
+of_map m segments = filter (λ (s : SegmentView). s.header.map == m) segments
+
+-- ---- the packets that octets are
+
+abbrev pub is_too_long : Limits → List ℕ → Bool
+is_too_long limits octets = nat_lt limits.max_packet (length octets)
+
+-- the octets, where they are exactly one packet
+abbrev pub packet_of : Limits → List ℕ → List (List ℕ)
+packet_of limits octets = if is_packet octets && not (is_too_long limits octets) then octets ∷ [] else []
+
+-- the packets of an alone segment, which with blocking are one or more
+abbrev pub packets_of : Limits → List ℕ → List (List ℕ)
+packets_of limits octets =
+    if limits.blocking then (if are_packets octets && not (is_some_over limits.max_packet (packets_in octets)) then packets_in octets else [])
+    else packet_of limits octets
+
+-- ---- what follows a place, in a list of segments of one MAP
+
+-- octets, and then more
+abbrev pub before : List ℕ → Option (List ℕ) → Option (List ℕ)
+before octets None = None
+before octets (Some more) = Some (octets ++ more)
+
+abbrev pub goes_to_last : SegmentFlags → List ℕ → Option (List ℕ) → Option (List ℕ)
+goes_to_last Alone octets more = None
+goes_to_last First octets more = None
+goes_to_last Continuing octets more = before octets more
+goes_to_last Last octets more = Some octets
+
+-- the joined data where the segments begin with any number of continuing ones and a last one
+abbrev pub up_to_last : List SegmentView → Option (List ℕ)
+up_to_last [] = None
+up_to_last (s ∷ segments) = goes_to_last s.header.flags s.payload (up_to_last segments)
+
+abbrev pub goes_on : SegmentFlags → List ℕ → Option (List ℕ) → Option (List ℕ)
+goes_on Alone octets more = None
+goes_on First octets more = None
+goes_on Continuing octets more = before octets more
+goes_on Last octets more = None
+
+-- the joined data where all segments are continuing ones
+abbrev pub up_to_end : List SegmentView → Option (List ℕ)
+up_to_end [] = Some []
+up_to_end (s ∷ segments) = goes_on s.header.flags s.payload (up_to_end segments)
+
+-- ---- what a list of segments gives
+
+-- the packets of the block that begins with this segment
+abbrev pub block_packets : Limits → SegmentFlags → List ℕ → Option (List ℕ) → List (List ℕ)
+block_packets limits Alone octets more = packets_of limits octets
+block_packets limits First octets (Some more) = packet_of limits (octets ++ more)
+block_packets limits First octets None = []
+block_packets limits Continuing octets more = []
+block_packets limits Last octets more = []
+
+-- the packets of the blocks, from left to right
+abbrev pub blocks_packets : Limits → List SegmentView → List (List ℕ)
+blocks_packets limits [] = []
+blocks_packets limits (s ∷ segments) = block_packets limits s.header.flags s.payload (up_to_last segments) ++ blocks_packets limits segments
+
+abbrev pub assembled : Limits → ℕ → List SegmentView → List (List ℕ)
+assembled limits m segments = if is_open limits m then blocks_packets limits (of_map m segments) else []
+
+-- the joined data of a first and the continuing segments that end the list, from this place or a later one
+abbrev pub begins : SegmentFlags → List ℕ → Option (List ℕ) → Option (List ℕ) → Option (List ℕ)
+begins Alone octets more later = later
+begins First octets (Some more) later = Some (octets ++ more)
+begins First octets None later = later
+begins Continuing octets more later = later
+begins Last octets more later = later
+
+abbrev pub ending_part : List SegmentView → Option (List ℕ)
+ending_part [] = None
+ending_part (s ∷ segments) = begins s.header.flags s.payload (up_to_end segments) (ending_part segments)
+
+abbrev pub unless_too_long : Limits → Option (List ℕ) → Option (List ℕ)
+unless_too_long limits None = None
+unless_too_long limits (Some octets) = if is_too_long limits octets then None else Some octets
+
+abbrev pub open_part : Limits → ℕ → List SegmentView → Option (List ℕ)
+open_part limits m segments = if is_open limits m then unless_too_long limits (ending_part (of_map m segments)) else None

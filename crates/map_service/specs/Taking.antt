@@ -1,0 +1,64 @@
+-- How the assembler takes a segment: a line for each cell of its table.
+use Rattle.std.specs.Prelude.{ℕ, List, [], ◌∷◌, ◌++◌, not, if◌then◌else◌, Option, Some, None, Result, Ok, Err}
+use Rattle.tc_frame.specs.declared.frame.SegmentFlags.{SegmentFlags}
+use Rattle.tc_frame.specs.declared.frame.SegmentFlags.TheVariants.{First, Continuing, Last, Alone}
+use Rattle.tc_frame.specs.Layout.{SegmentView}
+use Rattle.map_service.specs.declared.limits.Limits.{Limits}
+use Rattle.map_service.specs.declared.dropped.Dropped.{Dropped}
+use Rattle.map_service.specs.declared.dropped.Dropped.TheVariants.{ClosedMap, Interrupted, NoBeginning, NotAPacket, TooLong}
+use Rattle.map_service.specs.Packets.{packets_in, are_packets, is_packet, is_some_over}
+use Rattle.map_service.specs.Assembly.{is_open, is_too_long}
+
+-- what is dropped, which packets are handed out, and the part that is open then on the segment's MAP
+pub record Outcome : Type 0 where
+  pub dropped : Option Dropped
+  pub packets : List (List ℕ)
+  pub part : Option (List ℕ)
+
+-- ---- octets judged as a whole
+
+abbrev pub one_judged : Limits → List ℕ → Result (List (List ℕ)) Dropped
+one_judged limits octets =
+    if is_too_long limits octets then Err TooLong
+    else if not (is_packet octets) then Err NotAPacket
+    else Ok (octets ∷ [])
+
+abbrev pub several_judged : Limits → List ℕ → Result (List (List ℕ)) Dropped
+several_judged limits octets =
+    if not (are_packets octets) then Err NotAPacket
+    else if is_some_over limits.max_packet (packets_in octets) then Err TooLong
+    else Ok (packets_in octets)
+
+abbrev pub alone_judged : Limits → List ℕ → Result (List (List ℕ)) Dropped
+alone_judged limits octets = if limits.blocking then several_judged limits octets else one_judged limits octets
+
+-- ---- what follows; where something was dropped before, the later cause is told
+
+abbrev pub drops : Dropped → Outcome
+drops cause = record { dropped = Some cause; packets = []; part = None }
+
+abbrev pub gives : Option Dropped → Result (List (List ℕ)) Dropped → Outcome
+gives earlier (Ok packets) = record { dropped = earlier; packets = packets; part = None }
+gives earlier (Err cause) = drops cause
+
+abbrev pub opens : Limits → Option Dropped → List ℕ → Outcome
+opens limits earlier octets =
+    if is_too_long limits octets then drops TooLong else record { dropped = earlier; packets = []; part = Some octets }
+
+-- ---- the table: the segment's flags, the part that is open, the segment's data
+
+abbrev pub cell : Limits → SegmentFlags → Option (List ℕ) → List ℕ → Outcome
+cell limits Alone None octets = gives None (alone_judged limits octets)
+cell limits Alone (Some part) octets = gives (Some Interrupted) (alone_judged limits octets)
+cell limits First None octets = opens limits None octets
+cell limits First (Some part) octets = opens limits (Some Interrupted) octets
+cell limits Continuing None octets = drops NoBeginning
+cell limits Continuing (Some part) octets = opens limits None (part ++ octets)
+cell limits Last None octets = drops NoBeginning
+cell limits Last (Some part) octets = gives None (one_judged limits (part ++ octets))
+
+-- a segment of a closed MAP is dropped, and nothing else changes
+abbrev pub take_step : Limits → Option (List ℕ) → SegmentView → Outcome
+take_step limits part s =
+    if is_open limits s.header.map then cell limits s.header.flags part s.payload
+    else record { dropped = Some ClosedMap; packets = []; part = part }

@@ -1,0 +1,37 @@
+// Why what came on a MAP was dropped.
+
+ghost use Rattle.std.specs.Prelude.{◌≡◌};
+
+/// Why octets that came on a MAP were dropped.
+#[derive(Clone, Copy, Debug, PartialEq, Eq)]
+pub enum Dropped {
+    /// The segment: its MAP is not open.
+    ClosedMap,
+    /// The part that was open: a first or an alone segment came before its last.
+    Interrupted,
+    /// The segment: it continues or ends a packet, and no part is open.
+    NoBeginning,
+    /// What was joined, or stood alone: it is not exactly one packet, or with blocking not one or
+    /// more whole packets.
+    NotAPacket,
+    /// What was joined, or stood alone: it has more octets than a packet may have, or with blocking
+    /// one of its packets has.
+    TooLong,
+}
+
+impl Dropped {
+    ghost use Rattle.map_service.specs.Causes.{cause_name};
+
+    /// The cause's name, as it is written here.
+    pub fn name(self) -> &'static str
+        ensures { result.now ≡ cause_name self }
+    {
+        match self {
+            Dropped::ClosedMap => "ClosedMap",
+            Dropped::Interrupted => "Interrupted",
+            Dropped::NoBeginning => "NoBeginning",
+            Dropped::NotAPacket => "NotAPacket",
+            Dropped::TooLong => "TooLong",
+        }
+    }
+}
