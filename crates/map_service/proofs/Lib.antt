@@ -1,4 +1,6 @@
-pub mod Joining
-pub mod Whole
-pub mod Pieces
+pub mod Beginnings
 pub mod Groups
+pub mod Joining
+pub mod Pieces
+pub mod Steps
+pub mod Whole

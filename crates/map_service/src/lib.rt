@@ -5,12 +5,14 @@
 mod cutting;
 mod dropped;
 mod fault;
+mod laws;
 mod limits;
 mod packets;
 
 pub use cutting::cut;
 pub use dropped::Dropped;
 pub use fault::MapFault;
+pub use laws::law_of_beginnings;
 pub use limits::Limits;
 
 #[cfg(test)]

@@ -1,0 +1,32 @@
+-- What an assembler keeps, and what it does at a segment for every list of segments that led there.
+use Rattle.std.specs.Prelude.{◌≡◌, ◌≢◌, ℕ, List, [], ◌∷◌, ◌++◌, Option, None, get_or, set}
+use Rattle.tc_frame.specs.Layout.{SegmentView}
+use Rattle.map_service.specs.declared.limits.Limits.{Limits}
+use Rattle.map_service.specs.Assembly.{assembled, open_part}
+use Rattle.map_service.specs.Taking.{Outcome, take_step}
+
+-- the limits, and the open part of each MAP
+pub record AssemblerState : Type 0 where
+  pub limits : Limits
+  pub parts : List (Option (List ℕ))
+
+abbrev pub part_of : AssemblerState → ℕ → Option (List ℕ)
+part_of a m = get_or a.parts m None
+
+-- the step at a segment
+abbrev pub step_at : AssemblerState → SegmentView → Outcome
+step_at a s = take_step a.limits (part_of a s.header.map) s
+
+-- the part of the segment's MAP is that of the step, and no other changes
+abbrev pub after_step : AssemblerState → SegmentView → AssemblerState
+after_step a s = record a { parts = set a.parts s.header.map (step_at a s).part }
+
+-- the assembler keeps, for each MAP, the open part of these segments
+abbrev pub HasPartsOf : AssemblerState → List SegmentView → Type 0
+HasPartsOf a segments = (m : ℕ) → part_of a m ≡ open_part a.limits m segments
+
+-- Behind these segments comes one more, which hands out these packets and leaves the assembler so.
+pub record IsTakenExactly (a : AssemblerState) (segments : List SegmentView) (s : SegmentView) (packets : List (List ℕ)) : Type 0 where
+  pub given : assembled a.limits s.header.map (segments ++ s ∷ []) ≡ assembled a.limits s.header.map segments ++ packets
+  pub others : (m : ℕ) → m ≢ s.header.map → assembled a.limits m (segments ++ s ∷ []) ≡ assembled a.limits m segments
+  pub kept : HasPartsOf a (segments ++ s ∷ [])
