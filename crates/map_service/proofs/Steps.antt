@@ -1,5 +1,5 @@
 -- The assembler's step at a segment gives exactly what the segment adds.
-use Rattle.std.proofs.Common.{◌≡◌, ◌≢◌, ◌≤◌, ℕ, List, [], ◌∷◌, ◌++◌, length, Bool, true, false, not, cond, eqb, ◌&&◌, Option, Some, None, Result, Ok, Err, refl, sym, ap, ◌∙◌, set, length-append, arith, inl, inr}
+use Rattle.std.proofs.Common.{◌≡◌, ◌≢◌, ◌≤◌, ℕ, List, [], ◌∷◌, ◌++◌, length, Bool, true, false, not, cond, eqb, ◌&&◌, Option, Some, None, refl, sym, ap, ◌∙◌, set, length-append, arith, inl, inr}
 use Rattle.std.proofs.lemmas.Bool.{ne_eqb, eq-eqb, le-ltb, cases_lt, cases_eq}
 use Rattle.std.proofs.lemmas.Bool.Decides.{nat_tests}
 use Rattle.std.proofs.lemmas.List.{append-nil, get_or-set_same, get_or-set_other, get_or_past, length-set}
@@ -12,40 +12,40 @@ use Rattle.map_service.specs.declared.dropped.Dropped.{Dropped}
 use Rattle.map_service.specs.declared.dropped.Dropped.TheVariants.{Interrupted, NotAPacket, TooLong}
 use Rattle.map_service.specs.Packets.{packets_in, are_packets, is_packet, is_some_over}
 use Rattle.map_service.specs.Assembly.{is_open, of_map, is_too_long, packet_of, packets_of, ending_part, blocks_packets, unless_too_long, assembled, open_part}
-use Rattle.map_service.specs.Taking.{Outcome, one_judged, several_judged, alone_judged, gives, opens, cell, take_step}
+use Rattle.map_service.specs.Taking.{Outcome, one_fault, several_fault, alone_fault, alone_packets, gives, opens, cell, take_step}
 use Rattle.map_service.specs.Exactness.{AssemblerState, part_of, step_at, after_step, HasPartsOf, IsTakenExactly}
 use Rattle.map_service.proofs.Joining.{part_behind, ending_part-push, packets_behind, blocks_packets-push}
 
 -- ---- octets judged as a whole
 
-gives-part : (earlier : Option Dropped) (r : Result (List (List ℕ)) Dropped) → (gives earlier r).part ≡ None
-gives-part earlier (Ok packets) = refl
-gives-part earlier (Err cause) = refl
+gives-part : (earlier : Option Dropped) (packets : List (List ℕ)) (fault : Option Dropped) → (gives earlier packets fault).part ≡ None
+gives-part earlier packets None = refl
+gives-part earlier packets (Some cause) = refl
 
 one_by : (earlier : Option Dropped) (octets : List ℕ) (long whole : Bool)
-    → (cond (whole && not long) (octets ∷ []) []) ≡ (gives earlier (cond long (Err TooLong) (cond (not whole) (Err NotAPacket) (Ok (octets ∷ []))))).packets
+    → cond (whole && not long) (octets ∷ []) [] ≡ (gives earlier (octets ∷ []) (cond long (Some TooLong) (cond (not whole) (Some NotAPacket) None))).packets
 one_by earlier octets true true = refl
 one_by earlier octets true false = refl
 one_by earlier octets false true = refl
 one_by earlier octets false false = refl
 
-one_given : (limits : Limits) (earlier : Option Dropped) (octets : List ℕ) → packet_of limits octets ≡ (gives earlier (one_judged limits octets)).packets
+one_given : (limits : Limits) (earlier : Option Dropped) (octets : List ℕ) → packet_of limits octets ≡ (gives earlier (octets ∷ []) (one_fault limits octets)).packets
 one_given limits earlier octets = one_by earlier octets (is_too_long limits octets) (is_packet octets)
 
 several_by : (earlier : Option Dropped) (packets : List (List ℕ)) (over whole : Bool)
-    → (cond (whole && not over) packets []) ≡ (gives earlier (cond (not whole) (Err NotAPacket) (cond over (Err TooLong) (Ok packets)))).packets
+    → cond (whole && not over) packets [] ≡ (gives earlier packets (cond (not whole) (Some NotAPacket) (cond over (Some TooLong) None))).packets
 several_by earlier packets true true = refl
 several_by earlier packets true false = refl
 several_by earlier packets false true = refl
 several_by earlier packets false false = refl
 
 alone_by : (limits : Limits) (earlier : Option Dropped) (octets : List ℕ) (blocking : Bool)
-    → (cond blocking (cond (are_packets octets && not (is_some_over limits.max_packet (packets_in octets))) (packets_in octets) []) (packet_of limits octets))
-    ≡ (gives earlier (cond blocking (several_judged limits octets) (one_judged limits octets))).packets
+    → cond blocking (cond (are_packets octets && not (is_some_over limits.max_packet (packets_in octets))) (packets_in octets) []) (packet_of limits octets)
+    ≡ (gives earlier (cond blocking (packets_in octets) (octets ∷ [])) (cond blocking (several_fault limits octets) (one_fault limits octets))).packets
 alone_by limits earlier octets true = several_by earlier (packets_in octets) (is_some_over limits.max_packet (packets_in octets)) (are_packets octets)
 alone_by limits earlier octets false = one_given limits earlier octets
 
-alone_given : (limits : Limits) (earlier : Option Dropped) (octets : List ℕ) → packets_of limits octets ≡ (gives earlier (alone_judged limits octets)).packets
+alone_given : (limits : Limits) (earlier : Option Dropped) (octets : List ℕ) → packets_of limits octets ≡ (gives earlier (alone_packets limits octets) (alone_fault limits octets)).packets
 alone_given limits earlier octets = alone_by limits earlier octets limits.blocking
 
 -- ---- octets that are opened
@@ -84,19 +84,19 @@ packet_of-long limits octets h = let by : (whole : Bool) → (let xs : List (Lis
 
 cell-part_joined : (limits : Limits) (flags : SegmentFlags) (octets part : List ℕ) (long : Bool) → is_too_long limits part ≡ long
     → unless_too_long limits (part_behind flags octets (Some part)) ≡ (cell limits flags (unless_too_long limits (Some part)) octets).part
-cell-part_joined limits Alone octets part true h = rw (unless_long limits part h) (sym (gives-part None (alone_judged limits octets)))
-cell-part_joined limits Alone octets part false h = rw (unless_fits limits part h) (sym (gives-part (Some Interrupted) (alone_judged limits octets)))
+cell-part_joined limits Alone octets part true h = rw (unless_long limits part h) (sym (gives-part None (alone_packets limits octets) (alone_fault limits octets)))
+cell-part_joined limits Alone octets part false h = rw (unless_fits limits part h) (sym (gives-part (Some Interrupted) (alone_packets limits octets) (alone_fault limits octets)))
 cell-part_joined limits First octets part true h = rw (unless_long limits part h) (opens-part limits None octets)
 cell-part_joined limits First octets part false h = rw (unless_fits limits part h) (opens-part limits (Some Interrupted) octets)
 cell-part_joined limits Continuing octets part true h = rw (unless_long limits part h) (unless_long limits (part ++ octets) (too_long_more limits part octets h))
 cell-part_joined limits Continuing octets part false h = rw (unless_fits limits part h) (opens-part limits None (part ++ octets))
 cell-part_joined limits Last octets part true h = rw (unless_long limits part h) refl
-cell-part_joined limits Last octets part false h = rw (unless_fits limits part h) (sym (gives-part None (one_judged limits (part ++ octets))))
+cell-part_joined limits Last octets part false h = rw (unless_fits limits part h) (sym (gives-part None ((part ++ octets) ∷ []) (one_fault limits (part ++ octets))))
 
 cell-part : (limits : Limits) (flags : SegmentFlags) (octets : List ℕ) (part : Option (List ℕ))
     → unless_too_long limits (part_behind flags octets part) ≡ (cell limits flags (unless_too_long limits part) octets).part
 cell-part limits flags octets (Some part) = cell-part_joined limits flags octets part (is_too_long limits part) refl
-cell-part limits Alone octets None = sym (gives-part None (alone_judged limits octets))
+cell-part limits Alone octets None = sym (gives-part None (alone_packets limits octets) (alone_fault limits octets))
 cell-part limits First octets None = opens-part limits None octets
 cell-part limits Continuing octets None = refl
 cell-part limits Last octets None = refl
@@ -164,7 +164,7 @@ open_part-other limits segments s m ne = rw (of_map-other segments s m ne) refl
 
 -- ---- the assembler's parts then
 
-no_such_map : (limits : Limits) (m : ℕ) → 64 ≤ m → is_open limits m ≡ false
+pub no_such_map : (limits : Limits) (m : ℕ) → 64 ≤ m → is_open limits m ≡ false
 no_such_map limits m le = rw (le-ltb m 64 le) refl
 
 none_open : (limits : Limits) (segments : List SegmentView) (m : ℕ) → 64 ≤ m → open_part limits m segments ≡ None

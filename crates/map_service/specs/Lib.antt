@@ -5,3 +5,4 @@ pub mod Exactness
 pub mod Faults
 pub mod Packets
 pub mod Taking
+pub mod Views

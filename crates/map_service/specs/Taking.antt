@@ -1,5 +1,5 @@
 -- How the assembler takes a segment: a line for each cell of its table.
-use Rattle.std.specs.Prelude.{ℕ, List, [], ◌∷◌, ◌++◌, not, if◌then◌else◌, Option, Some, None, Result, Ok, Err}
+use Rattle.std.specs.Prelude.{ℕ, List, [], ◌∷◌, ◌++◌, not, if◌then◌else◌, Option, Some, None}
 use Rattle.tc_frame.specs.declared.frame.SegmentFlags.{SegmentFlags}
 use Rattle.tc_frame.specs.declared.frame.SegmentFlags.TheVariants.{First, Continuing, Last, Alone}
 use Rattle.tc_frame.specs.Layout.{SegmentView}
@@ -15,31 +15,38 @@ pub record Outcome : Type 0 where
   pub packets : List (List ℕ)
   pub part : Option (List ℕ)
 
--- ---- octets judged as a whole
+-- ---- octets judged as a whole: why they aren't handed out, where they aren't
 
-abbrev pub one_judged : Limits → List ℕ → Result (List (List ℕ)) Dropped
-one_judged limits octets =
-    if is_too_long limits octets then Err TooLong
-    else if not (is_packet octets) then Err NotAPacket
-    else Ok (octets ∷ [])
+abbrev pub one_fault : Limits → List ℕ → Option Dropped
+one_fault limits octets =
+    if is_too_long limits octets then Some TooLong
+    else if not (is_packet octets) then Some NotAPacket
+    else None
 
-abbrev pub several_judged : Limits → List ℕ → Result (List (List ℕ)) Dropped
-several_judged limits octets =
-    if not (are_packets octets) then Err NotAPacket
-    else if is_some_over limits.max_packet (packets_in octets) then Err TooLong
-    else Ok (packets_in octets)
+abbrev pub several_fault : Limits → List ℕ → Option Dropped
+several_fault limits octets =
+    if not (are_packets octets) then Some NotAPacket
+    else if is_some_over limits.max_packet (packets_in octets) then Some TooLong
+    else None
 
-abbrev pub alone_judged : Limits → List ℕ → Result (List (List ℕ)) Dropped
-alone_judged limits octets = if limits.blocking then several_judged limits octets else one_judged limits octets
+abbrev pub alone_fault : Limits → List ℕ → Option Dropped
+alone_fault limits octets = if limits.blocking then several_fault limits octets else one_fault limits octets
+
+abbrev pub alone_packets : Limits → List ℕ → List (List ℕ)
+alone_packets limits octets = if limits.blocking then packets_in octets else octets ∷ []
 
 -- ---- what follows; where something was dropped before, the later cause is told
+
+abbrev pub interrupts : Option (List ℕ) → Option Dropped
+interrupts None = None
+interrupts (Some part) = Some Interrupted
 
 abbrev pub drops : Dropped → Outcome
 drops cause = record { dropped = Some cause; packets = []; part = None }
 
-abbrev pub gives : Option Dropped → Result (List (List ℕ)) Dropped → Outcome
-gives earlier (Ok packets) = record { dropped = earlier; packets = packets; part = None }
-gives earlier (Err cause) = drops cause
+abbrev pub gives : Option Dropped → List (List ℕ) → Option Dropped → Outcome
+gives earlier packets None = record { dropped = earlier; packets = packets; part = None }
+gives earlier packets (Some cause) = drops cause
 
 abbrev pub opens : Limits → Option Dropped → List ℕ → Outcome
 opens limits earlier octets =
@@ -48,14 +55,14 @@ opens limits earlier octets =
 -- ---- the table: the segment's flags, the part that is open, the segment's data
 
 abbrev pub cell : Limits → SegmentFlags → Option (List ℕ) → List ℕ → Outcome
-cell limits Alone None octets = gives None (alone_judged limits octets)
-cell limits Alone (Some part) octets = gives (Some Interrupted) (alone_judged limits octets)
+cell limits Alone None octets = gives None (alone_packets limits octets) (alone_fault limits octets)
+cell limits Alone (Some part) octets = gives (Some Interrupted) (alone_packets limits octets) (alone_fault limits octets)
 cell limits First None octets = opens limits None octets
 cell limits First (Some part) octets = opens limits (Some Interrupted) octets
 cell limits Continuing None octets = drops NoBeginning
 cell limits Continuing (Some part) octets = opens limits None (part ++ octets)
 cell limits Last None octets = drops NoBeginning
-cell limits Last (Some part) octets = gives None (one_judged limits (part ++ octets))
+cell limits Last (Some part) octets = gives None ((part ++ octets) ∷ []) (one_fault limits (part ++ octets))
 
 -- a segment of a closed MAP is dropped, and nothing else changes
 abbrev pub take_step : Limits → Option (List ℕ) → SegmentView → Outcome

@@ -1,16 +1,22 @@
 //! Packets in segments for each multiplexer access point, MAP (CCSDS 232.0-B-4, 4.1.3.2), with
 //! blocking or without it.
+//!
+//! `cut` makes the segments of packets; an `Assembler` joins the segments of each MAP again.
 #![tactic(auto)]
 
+mod assembling;
+mod cells;
 mod cutting;
 mod dropped;
 mod fault;
+mod judging;
 mod laws;
 mod limits;
 mod packets;
 
+pub use assembling::Assembler;
 pub use cutting::cut;
-pub use dropped::Dropped;
+pub use dropped::{Dropped, Taken};
 pub use fault::MapFault;
 pub use laws::law_of_beginnings;
 pub use limits::Limits;

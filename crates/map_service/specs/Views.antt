@@ -1,0 +1,15 @@
+-- What is kept and handed out, without where it lies in memory.
+use Rattle.std.specs.Prelude.{ℕ, List, map, Option, option_map}
+use Rattle.std.specs.declared.vec.Vec.{Vec}
+use Rattle.map_service.specs.declared.dropped.Taken.{Taken}
+use Rattle.map_service.specs.Taking.{Outcome}
+
+abbrev pub part_view : {Z : Type 0} → Option (Vec ℕ Z) → Option (List ℕ)
+part_view part = option_map (λ v. v.items) part
+
+abbrev pub packets_view : {Y Z : Type 0} → Vec (Vec ℕ Y) Z → List (List ℕ)
+packets_view packets = map (λ v. v.items) packets.items
+
+-- an answer, and the part that is open then, as an outcome of the table
+abbrev pub outcome_of : {Z : Type 0} → Taken → Option (Vec ℕ Z) → Outcome
+outcome_of taken part = record { dropped = taken.dropped; packets = packets_view taken.packets; part = part_view part }

@@ -1,0 +1,151 @@
+// The table of the assembler: a segment of an open MAP against the part that is open there.
+
+ghost use Rattle.std.specs.Prelude.{◌≡◌, [], IfOk, OnErr};
+ghost use Rattle.tc_frame.specs.declared.frame.SegmentFlags.TheVariants as flags;
+ghost use Rattle.map_service.specs.Taking.{cell, interrupts};
+ghost use Rattle.map_service.specs.Views.{part_view, packets_view, outcome_of};
+
+use crate::dropped::{Dropped, Taken};
+use crate::judging::{copied_alone, fault_of_alone, fault_of_one, is_too_long};
+use crate::limits::Limits;
+use std::alloc::{AllocError, Global};
+use tc_frame::{Segment, SegmentFlags};
+
+pub(crate) fn no_packets(alloc: Global, dropped: Option<Dropped>) -> Taken
+    ensures dropped { result.dropped ≡ dropped }
+    ensures packets { packets_view result.packets ≡ [] }
+{
+    Taken {
+        dropped,
+        packets: Vec::new(alloc),
+    }
+}
+
+// What a first or an alone segment drops: the part that is open.
+fn interrupted(part: &Option<Vec<u8>>) -> Option<Dropped>
+    ensures { result ≡ interrupts (part_view part.now) }
+{
+    match part {
+        Some(_) => Some(Dropped::Interrupted),
+        None => None,
+    }
+}
+
+// The cells of an alone segment. Each growth comes before any change, in all cells.
+fn take_alone(
+    alloc: Global,
+    limits: &Limits,
+    part: &mut Option<Vec<u8>>,
+    octets: &[u8],
+) -> Result<Taken, AllocError>
+    ensures ok { IfOk result (λ t. outcome_of t part.new
+        ≡ cell limits.now flags.Alone (part_view part.old) octets.now) }
+    ensures err { OnErr result (part_view part.new ≡ part_view part.old) }
+{
+    let dropped = interrupted(part);
+    if let Some(cause) = fault_of_alone(limits, octets) {
+        *part = None;
+        return Ok(no_packets(alloc, Some(cause)));
+    }
+    let packets = copied_alone(alloc, limits, octets)?;
+    *part = None;
+    Ok(Taken { dropped, packets })
+}
+
+// The cells of a first segment.
+fn take_first(
+    alloc: Global,
+    limits: &Limits,
+    part: &mut Option<Vec<u8>>,
+    octets: &[u8],
+) -> Result<Taken, AllocError>
+    ensures ok { IfOk result (λ t. outcome_of t part.new
+        ≡ cell limits.now flags.First (part_view part.old) octets.now) }
+    ensures err { OnErr result (part_view part.new ≡ part_view part.old) }
+{
+    let dropped = interrupted(part);
+    if is_too_long(limits, octets.len()) {
+        *part = None;
+        return Ok(no_packets(alloc, Some(Dropped::TooLong)));
+    }
+    *part = Some(Vec::from_slice(alloc, octets)?);
+    Ok(no_packets(alloc, dropped))
+}
+
+// The cells of a continuing segment.
+fn take_continuing(
+    alloc: Global,
+    limits: &Limits,
+    part: &mut Option<Vec<u8>>,
+    octets: &[u8],
+) -> Result<Taken, AllocError>
+    ensures ok { IfOk result (λ t. outcome_of t part.new
+        ≡ cell limits.now flags.Continuing (part_view part.old) octets.now) }
+    ensures err { OnErr result (part_view part.new ≡ part_view part.old) }
+{
+    match part {
+        None => Ok(no_packets(alloc, Some(Dropped::NoBeginning))),
+        Some(joined) => {
+            if is_too_long(limits, joined.len() + octets.len()) {
+                *part = None;
+                return Ok(no_packets(alloc, Some(Dropped::TooLong)));
+            }
+            joined.extend_from_slice(octets)?;
+            Ok(no_packets(alloc, None))
+        }
+    }
+}
+
+// The cells of a last segment.
+fn take_last(
+    alloc: Global,
+    limits: &Limits,
+    part: &mut Option<Vec<u8>>,
+    octets: &[u8],
+) -> Result<Taken, AllocError>
+    ensures ok { IfOk result (λ t. outcome_of t part.new
+        ≡ cell limits.now flags.Last (part_view part.old) octets.now) }
+    ensures err { OnErr result (part_view part.new ≡ part_view part.old) }
+{
+    match part {
+        None => Ok(no_packets(alloc, Some(Dropped::NoBeginning))),
+        Some(joined) => {
+            if is_too_long(limits, joined.len() + octets.len()) {
+                *part = None;
+                return Ok(no_packets(alloc, Some(Dropped::TooLong)));
+            }
+            let mut packets = Vec::with_capacity(alloc, 1)?;
+            joined.extend_from_slice(octets)?;
+            let fault = fault_of_one(limits, joined);
+            if let Some(whole) = part.take() {
+                if fault.is_none() {
+                    let _ = packets.push(whole);
+                }
+            }
+            Ok(Taken {
+                dropped: fault,
+                packets,
+            })
+        }
+    }
+}
+
+// A segment comes on an open MAP.
+pub(crate) fn take_cell(
+    alloc: Global,
+    limits: &Limits,
+    part: &mut Option<Vec<u8>>,
+    segment: &Segment,
+) -> Result<Taken, AllocError>
+    ensures ok { IfOk result (λ t. outcome_of t part.new
+        ≡ cell limits.now segment.now.header.flags (part_view part.old) segment.now.payload.now) }
+    ensures err { OnErr result (part_view part.new ≡ part_view part.old) }
+{
+    let octets = segment.payload;
+    match segment.header.flags {
+        SegmentFlags::Alone => take_alone(alloc, limits, part, octets),
+        SegmentFlags::First => take_first(alloc, limits, part, octets),
+        SegmentFlags::Continuing => take_continuing(alloc, limits, part, octets),
+        SegmentFlags::Last => take_last(alloc, limits, part, octets),
+    }
+}

@@ -1,0 +1,92 @@
+// Octets judged as a whole: whether they are packets that may be handed out.
+
+ghost use Rattle.std.specs.Prelude.{◌≡◌, [], ◌∷◌, nat_lt, IfOk};
+ghost use Rattle.map_service.specs.Packets.{packets_in};
+ghost use Rattle.map_service.specs.Taking.{one_fault, several_fault, alone_fault, alone_packets};
+ghost use Rattle.map_service.specs.Views.{packets_view};
+
+use crate::dropped::Dropped;
+use crate::limits::Limits;
+use crate::packets::{are_one_packet, are_whole_packets, has_packet_over, packet_len};
+use std::alloc::{AllocError, Global};
+
+pub(crate) fn is_too_long(limits: &Limits, len: usize) -> bool
+    ensures { result ≡ nat_lt limits.now.max_packet len }
+{
+    len > limits.max_packet as usize
+}
+
+// Why octets that should be one packet are dropped.
+pub(crate) fn fault_of_one(limits: &Limits, octets: &[u8]) -> Option<Dropped>
+    ensures { result ≡ one_fault limits.now octets.now }
+{
+    if is_too_long(limits, octets.len()) {
+        return Some(Dropped::TooLong);
+    }
+    if !are_one_packet(octets) {
+        return Some(Dropped::NotAPacket);
+    }
+    None
+}
+
+// Why octets that should be one or more packets are dropped.
+fn fault_of_several(limits: &Limits, octets: &[u8]) -> Option<Dropped>
+    ensures { result ≡ several_fault limits.now octets.now }
+{
+    if !are_whole_packets(octets) {
+        return Some(Dropped::NotAPacket);
+    }
+    if has_packet_over(octets, limits.max_packet as usize) {
+        return Some(Dropped::TooLong);
+    }
+    None
+}
+
+// Why the octets of an alone segment are dropped.
+pub(crate) fn fault_of_alone(limits: &Limits, octets: &[u8]) -> Option<Dropped>
+    ensures { result ≡ alone_fault limits.now octets.now }
+{
+    if limits.blocking {
+        fault_of_several(limits, octets)
+    } else {
+        fault_of_one(limits, octets)
+    }
+}
+
+// The packets that octets are, each copied.
+fn copied_packets(alloc: Global, octets: &[u8]) -> Result<Vec<Vec<u8>>, AllocError>
+    ensures { IfOk result (λ v. packets_view v ≡ packets_in octets.now) }
+{
+    let mut packets = Vec::new(alloc);
+    let mut rest = octets;
+    'packets: while let Some(len) = packet_len(rest) {
+        let (packet, behind) = rest.split_at(len);
+        packets.push(Vec::from_slice(alloc, packet)?)?;
+        rest = behind;
+    }
+    Ok(packets)
+}
+
+// The packet that octets are, copied.
+fn copied_packet(alloc: Global, octets: &[u8]) -> Result<Vec<Vec<u8>>, AllocError>
+    ensures { IfOk result (λ v. packets_view v ≡ octets.now ∷ []) }
+{
+    let mut packets = Vec::with_capacity(alloc, 1)?;
+    packets.push(Vec::from_slice(alloc, octets)?)?;
+    Ok(packets)
+}
+
+// The packets of an alone segment, copied.
+pub(crate) fn copied_alone(
+    alloc: Global,
+    limits: &Limits,
+    octets: &[u8],
+) -> Result<Vec<Vec<u8>>, AllocError>
+    ensures { IfOk result (λ v. packets_view v ≡ alone_packets limits.now octets.now) }
+{
+    if limits.blocking {
+        copied_packets(alloc, octets)
+    } else {
+        copied_packet(alloc, octets)
+    }
+}
