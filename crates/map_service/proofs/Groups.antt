@@ -54,7 +54,7 @@ run-front room (p ∷ ps) =
       | inr ge ↦ rw (le-ltb room (length p) ge) (ap (λ (xs : List (List ℕ)). p ∷ xs) (run-front (room - length p) ps))
     ]
 
-group-front : (part : ℕ) (packets : List (List ℕ)) → take (length (first_group part packets)) packets ≡ first_group part packets
+pub group-front : (part : ℕ) (packets : List (List ℕ)) → take (length (first_group part packets)) packets ≡ first_group part packets
 group-front part [] = refl
 group-front part (p ∷ ps) =
     elim (cases_lt part (length p)) [
@@ -63,7 +63,7 @@ group-front part (p ∷ ps) =
     ]
 
 -- a group has a packet
-group-some : (part : ℕ) (p : List ℕ) (ps : List (List ℕ)) → 1 ≤ length (first_group part (p ∷ ps))
+pub group-some : (part : ℕ) (p : List ℕ) (ps : List (List ℕ)) → 1 ≤ length (first_group part (p ∷ ps))
 group-some part p ps =
     elim (cases_lt part (length p)) [
       | inl lt ↦ rw (lt-ltb part (length p) lt) (omega arith)
@@ -110,7 +110,7 @@ again packets each =
     only_split 6 extent_at (omega arith) extent_has_header (concat packets) [] packets
     (record { whole = sym (append-nil (concat packets)); each = each; left = inl (omega arith) })
 
-behind-each : {X : Type 0} (P : X → Type 0) (k : ℕ) (xs : List X) → AllByRecursion P xs → AllByRecursion P (drop k xs)
+pub behind-each : {X : Type 0} (P : X → Type 0) (k : ℕ) (xs : List X) → AllByRecursion P xs → AllByRecursion P (drop k xs)
 behind-each P zero xs h = h
 behind-each P (suc k) [] h = tt
 behind-each P (suc k) (x ∷ xs) h = behind-each P k xs h.1

@@ -5,3 +5,5 @@ pub mod Pieces
 pub mod Places
 pub mod Steps
 pub mod Whole
+pub mod Parts
+pub mod Passage

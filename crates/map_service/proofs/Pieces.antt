@@ -38,7 +38,7 @@ pieces-more part (x ∷ xs) one lt =
     (same_pieces (length xs) (length rest) part rest one (omega (arith, length-drop part (x ∷ xs))) (omega (arith, length-drop part (x ∷ xs))) (omega (arith))))
 
 -- octets that aren't none have a piece
-pieces-some : (part : ℕ) (xs : List ℕ) → 1 ≤ part → 1 ≤ length xs → (p : List ℕ) × (ps : List (List ℕ)) × (pieces_of part xs ≡ p ∷ ps)
+pub pieces-some : (part : ℕ) (xs : List ℕ) → 1 ≤ part → 1 ≤ length xs → (p : List ℕ) × (ps : List (List ℕ)) × (pieces_of part xs ≡ p ∷ ps)
 pieces-some part xs one some =
     elim (cases_lt part (length xs)) [
       | inl lt ↦ (take part xs, pieces_of part (drop part xs), pieces-more part xs one lt)

@@ -1,5 +1,5 @@
 -- Packets as segments of a MAP (CCSDS 232.0-B-4, 4.1.3.2.2): cut where they are long, joined where they are short.
-use Rattle.std.specs.Prelude.{ℕ, zero, suc, ◌-◌, List, [], ◌∷◌, length, take, drop, map, not, nat_lt, nat_le, if◌then◌else◌, Option, None, Some}
+use Rattle.std.specs.Prelude.{◌≡◌, ◌≤◌, ℕ, zero, suc, ◌-◌, List, [], ◌∷◌, length, take, drop, map, not, nat_lt, nat_le, if◌then◌else◌, Option, None, Some}
 use Rattle.std.specs.List.{concat, flat_map}
 use Rattle.tc_frame.specs.declared.frame.SegmentFlags.{SegmentFlags}
 use Rattle.tc_frame.specs.declared.frame.SegmentFlags.TheVariants.{First, Continuing, Last, Alone}
@@ -79,3 +79,14 @@ cut_fault limits octets =
     if not (are_taken limits.blocking octets) then Some NotAPacket
     else (if is_some_over limits.max_packet (packets_in octets) then Some TooLong
     else None)
+
+-- ---- what segments hold
+
+abbrev pub payloads : List SegmentView → List (List ℕ)
+payloads segments = map (λ s. s.payload) segments
+
+-- a segment on MAP m with 1 to `part` octets
+pub record IsPart (part m : ℕ) (s : SegmentView) : Type 0 where
+  pub on_map : s.header.map ≡ m
+  pub least : 1 ≤ length s.payload
+  pub most : length s.payload ≤ part

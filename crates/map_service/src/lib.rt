@@ -7,6 +7,7 @@
 mod assembling;
 mod cells;
 mod cutting;
+mod cutting_laws;
 mod dropped;
 mod fault;
 mod judging;
@@ -16,6 +17,7 @@ mod packets;
 
 pub use assembling::Assembler;
 pub use cutting::cut;
+pub use cutting_laws::{law_of_passage, law_of_segments};
 pub use dropped::{Dropped, Taken};
 pub use fault::MapFault;
 pub use laws::law_of_beginnings;
