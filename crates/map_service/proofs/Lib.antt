@@ -7,3 +7,5 @@ pub mod Steps
 pub mod Whole
 pub mod Parts
 pub mod Passage
+pub mod InParts
+pub mod Grouping

@@ -111,3 +111,6 @@ groups-parts part m (g ∷ gs) one =
 
 pub segments-parts : (part m : ℕ) (octets : List ℕ) → 1 ≤ part → AllByRecursion (IsPart part m) (segments_of part m octets)
 segments-parts part m octets one = groups-parts part m (groups_of part (packets_in octets)) one
+
+pub parts-each : (part m : ℕ) (octets : List ℕ) → 1 ≤ part → AllByRecursion (IsPart part m) (parts_of part m octets)
+parts-each part m octets one = flagged-parts part m (pieces_of part octets) (pieces-sizes part octets one)

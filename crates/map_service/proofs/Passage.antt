@@ -156,7 +156,7 @@ front-each P (suc k) [] h = tt
 front-each P (suc k) (x ∷ xs) h = (h.0, front-each P k xs h.1)
 
 -- a group fits in a part, or is one packet that does not
-pub record IsGroup (most part : ℕ) (g : List (List ℕ)) : Type 0 where
+pub record IsTakenGroup (most part : ℕ) (g : List (List ℕ)) : Type 0 where
   pub each : AllByRecursion (IsTaken most) g
   pub some : 1 ≤ length g
   pub size : (length (concat g) ≤ part) ⊎ ((p : List ℕ) × (g ≡ p ∷ []) × (part < length p))
@@ -169,7 +169,7 @@ run-fits room (p ∷ ps) =
       | inr ge ↦ rw (le-ltb room (length p) ge) (omega (arith, length-append p (concat (longest_run (room - length p) ps)), run-fits (room - length p) ps))
     ]
 
-group-size : (part : ℕ) (p : List ℕ) (ps : List (List ℕ))
+pub group-size : (part : ℕ) (p : List ℕ) (ps : List (List ℕ))
     → (length (concat (first_group part (p ∷ ps))) ≤ part) ⊎ ((q : List ℕ) × (first_group part (p ∷ ps) ≡ q ∷ []) × (part < length q))
 group-size part p ps =
     elim (cases_lt part (length p)) [
@@ -177,7 +177,7 @@ group-size part p ps =
       | inr ge ↦ inl (rw (le-ltb part (length p) ge) (omega (arith, length-append p (concat (longest_run (part - length p) ps)), run-fits (part - length p) ps)))
     ]
 
-each-group : (most n part : ℕ) (packets : List (List ℕ)) → AllByRecursion (IsTaken most) packets → AllByRecursion (IsGroup most part) (groups_within n part packets)
+each-group : (most n part : ℕ) (packets : List (List ℕ)) → AllByRecursion (IsTaken most) packets → AllByRecursion (IsTakenGroup most part) (groups_within n part packets)
 each-group most zero part packets h = tt
 each-group most (suc n) part [] h = tt
 each-group most (suc n) part (p ∷ ps) h =
@@ -228,7 +228,7 @@ single-gives : (limits : Limits) (part m : ℕ) (p : List ℕ) → 1 ≤ part �
 single-gives limits part m p one lt h =
     ap (λ (xs : List ℕ). blocks_packets limits (parts_of part m xs)) (append-nil p) ∙ long-gives limits part m p one lt ∙ packet-gives limits p h
 
-group-gives : (limits : Limits) (part m : ℕ) (g : List (List ℕ)) → 1 ≤ part → limits.blocking ≡ true → IsGroup limits.max_packet part g → GivesGroup limits part m g
+group-gives : (limits : Limits) (part m : ℕ) (g : List (List ℕ)) → 1 ≤ part → limits.blocking ≡ true → IsTakenGroup limits.max_packet part g → GivesGroup limits part m g
 group-gives limits part m g one blocking h =
     let some : 6 ≤ length (concat g) = concat-some limits.max_packet g h.each h.some in
     elim h.size [
@@ -239,7 +239,7 @@ group-gives limits part m g one blocking h =
           subst (λ (x : List (List ℕ)). GivesGroup limits part m x) (sym is) (single-gives limits part m s.0 one s.2 taken.0)
     ]
 
-groups-gives : (limits : Limits) (part m : ℕ) (groups : List (List (List ℕ))) → 1 ≤ part → limits.blocking ≡ true → AllByRecursion (IsGroup limits.max_packet part) groups
+groups-gives : (limits : Limits) (part m : ℕ) (groups : List (List (List ℕ))) → 1 ≤ part → limits.blocking ≡ true → AllByRecursion (IsTakenGroup limits.max_packet part) groups
     → AllByRecursion (GivesGroup limits part m) groups
 groups-gives limits part m [] one blocking h = tt
 groups-gives limits part m (g ∷ gs) one blocking h = (group-gives limits part m g one blocking h.0, groups-gives limits part m gs one blocking h.1)
@@ -256,7 +256,7 @@ joined-octets limits part m octets one blocking each =
     ∙ groups_joined n part packets (omega arith)
 
 -- one packet is one group
-one-group : (part m : ℕ) (octets : List ℕ) → packets_in octets ≡ octets ∷ [] → segments_of part m octets ≡ parts_of part m octets
+pub one-group : (part m : ℕ) (octets : List ℕ) → packets_in octets ≡ octets ∷ [] → segments_of part m octets ≡ parts_of part m octets
 unfolding groups_of
 one-group part m octets is =
     elim (cases_lt part (length octets)) [
@@ -290,7 +290,7 @@ one_of [] octets len e = absurd cc
 one_of (p ∷ []) octets len e = ap (λ (x : List ℕ). x ∷ []) (sym (append-nil p) ∙ sym e)
 one_of (p ∷ q ∷ ps) octets len e = let t : suc (suc (length ps)) ≡ 1 = eqb-true _ _ len in absurd (omega arith)
 
-one-from : (octets : List ℕ) → is_packet octets ≡ true → (rest_in octets ≡ []) × (packets_in octets ≡ octets ∷ [])
+pub one-from : (octets : List ℕ) → is_packet octets ≡ true → (rest_in octets ≡ []) × (packets_in octets ≡ octets ∷ [])
 one-from octets h =
     let both = both_true (eqb (length (packets_in octets)) 1) (eqb (length (rest_in octets)) 0) h in
     let left : rest_in octets ≡ [] = length-none (rest_in octets) both.1 in

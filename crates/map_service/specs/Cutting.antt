@@ -1,6 +1,6 @@
 -- Packets as segments of a MAP (CCSDS 232.0-B-4, 4.1.3.2.2): cut where they are long, joined where they are short.
-use Rattle.std.specs.Prelude.{◌≡◌, ◌≤◌, ℕ, zero, suc, ◌-◌, List, [], ◌∷◌, length, take, drop, map, not, nat_lt, nat_le, if◌then◌else◌, Option, None, Some}
-use Rattle.std.specs.List.{concat, flat_map}
+use Rattle.std.specs.Prelude.{◌≡◌, ◌≤◌, ◌<◌, ◌⊎◌, ℕ, zero, suc, ◌+◌, ◌-◌, List, [], ◌∷◌, length, take, drop, map, replicate, ◌++◌, not, nat_lt, nat_le, if◌then◌else◌, Option, None, Some}
+use Rattle.std.specs.List.{AllByRecursion, concat, flat_map}
 use Rattle.tc_frame.specs.declared.frame.SegmentFlags.{SegmentFlags}
 use Rattle.tc_frame.specs.declared.frame.SegmentFlags.TheVariants.{First, Continuing, Last, Alone}
 use Rattle.tc_frame.specs.declared.frame.Segment.{Segment}
@@ -90,3 +90,34 @@ pub record IsPart (part m : ℕ) (s : SegmentView) : Type 0 where
   pub on_map : s.header.map ≡ m
   pub least : 1 ≤ length s.payload
   pub most : length s.payload ≤ part
+
+abbrev pub flags_of : List SegmentView → List SegmentFlags
+flags_of segments = map (λ s. s.header.flags) segments
+
+-- The segments are the octets in parts: a first, so many continuing ones between, and a last; all before the last have
+-- exactly `part` octets, and the last has 1 to `part`.
+pub record IsInParts (part m : ℕ) (octets : List ℕ) (segments : List SegmentView) : Type 0 where
+  pub between : ℕ
+  pub flags : flags_of segments ≡ First ∷ (replicate between Continuing ++ Last ∷ [])
+  pub joined : concat (payloads segments) ≡ octets
+  pub each : AllByRecursion (IsPart part m) segments
+  pub full : AllByRecursion (λ s. length s.payload ≡ part) (take (suc between) segments)
+
+-- ---- what groups hold
+
+-- packets that have at most `part` octets together, or one packet that has more
+pub record IsGroup (part : ℕ) (group : List (List ℕ)) : Type 0 where
+  pub some : 1 ≤ length group
+  pub size : (length (concat group) ≤ part) ⊎ (length group ≡ 1)
+
+-- the first packet behind each group would not have fitted into it
+abbrev pub AreLongest : ℕ → List (List (List ℕ)) → Type 0
+AreLongest part [] = Unit {0}
+AreLongest part (g ∷ []) = Unit {0}
+AreLongest part (g ∷ h ∷ gs) = (part < length (concat g) + length (concat (take 1 h))) × AreLongest part (h ∷ gs)
+
+-- the groups are the packets in their order
+pub record IsGrouped (part : ℕ) (packets : List (List ℕ)) (groups : List (List (List ℕ))) : Type 0 where
+  pub joined : flat_map (λ g. g) groups ≡ packets
+  pub each : AllByRecursion (IsGroup part) groups
+  pub longest : AreLongest part groups

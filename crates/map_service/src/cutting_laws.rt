@@ -1,12 +1,29 @@
 // What follows from the definition of cutting; these functions do nothing.
 
-ghost use Rattle.std.specs.Prelude.{◌≡◌, ◌≢◌, ◌≤◌, ◌++◌, ℕ, List, true, None};
+ghost use Rattle.std.specs.Prelude.{◌≡◌, ◌≢◌, ◌≤◌, ◌<◌, ◌++◌, ◌∷◌, [], ℕ, List, length, true, None};
 ghost use Rattle.std.specs.List.{AllByRecursion, concat};
+ghost use Rattle.tc_frame.specs.declared.frame.SegmentFlags.TheVariants.{Alone};
 ghost use Rattle.tc_frame.specs.Layout.{SegmentView};
 ghost use Rattle.map_service.specs.declared.limits.Limits.{Limits};
 ghost use Rattle.map_service.specs.Assembly.{is_open, assembled, open_part};
-ghost use Rattle.map_service.specs.Cutting.{segments_of, cut_fault, payloads, IsPart};
-ghost use Rattle.map_service.specs.Packets.{packets_in};
+ghost use Rattle.map_service.specs.Cutting.{segment_with, parts_of, groups_of, segments_of, cut_fault, payloads, IsPart, IsInParts, IsGrouped};
+ghost use Rattle.map_service.specs.Packets.{packets_in, is_packet};
+
+/// One packet is one alone segment where it has at most `part` octets, and otherwise is cut in the
+/// only way: all parts but the last have exactly `part` octets, and the last has 1 to `part`.
+pub fn law_of_parts()
+    ensures packet { (part m : ℕ) (octets : List ℕ) → is_packet octets ≡ true → segments_of part m octets ≡ parts_of part m octets }
+    ensures alone { (part m : ℕ) (octets : List ℕ) → 1 ≤ length octets → length octets ≤ part → parts_of part m octets ≡ segment_with Alone m octets ∷ [] }
+    ensures parts { (part m : ℕ) (octets : List ℕ) → 1 ≤ part → part < length octets → IsInParts part m octets (parts_of part m octets) }
+    ensures only { (part m : ℕ) (octets : List ℕ) (segments : List SegmentView) → 1 ≤ part
+        → IsInParts part m octets segments → segments ≡ parts_of part m octets }
+{}
+
+/// The groups of packets are these packets in their order. A group fits in a part or is one packet,
+/// and the first packet behind it would not have fitted into it.
+pub fn law_of_groups()
+    ensures { (part : ℕ) (packets : List (List ℕ)) → IsGrouped part packets (groups_of part packets) }
+{}
 
 /// The segments of octets that are cut hold these octets, in their order, and each is on their MAP
 /// with 1 to `part` octets.
