@@ -37,10 +37,6 @@ alone_packets limits octets = if limits.blocking then packets_in octets else oct
 
 -- ---- what follows; where something was dropped before, the later cause is told
 
-abbrev pub interrupts : Option (List ℕ) → Option Dropped
-interrupts None = None
-interrupts (Some part) = Some Interrupted
-
 abbrev pub drops : Dropped → Outcome
 drops cause = record { dropped = Some cause; packets = []; part = None }
 

@@ -1,6 +1,8 @@
 -- What is kept and handed out, without where it lies in memory.
-use Rattle.std.specs.Prelude.{ℕ, List, map, Option, option_map}
+use Rattle.std.specs.Prelude.{ℕ, List, map, Option, None, Some, option_map}
 use Rattle.std.specs.declared.vec.Vec.{Vec}
+use Rattle.map_service.specs.declared.dropped.Dropped.{Dropped}
+use Rattle.map_service.specs.declared.dropped.Dropped.TheVariants.{Interrupted}
 use Rattle.map_service.specs.declared.dropped.Taken.{Taken}
 use Rattle.map_service.specs.Taking.{Outcome}
 
@@ -9,6 +11,11 @@ part_view part = option_map (λ v. v.items) part
 
 abbrev pub packets_view : {Y Z : Type 0} → Vec (Vec ℕ Y) Z → List (List ℕ)
 packets_view packets = map (λ v. v.items) packets.items
+
+-- what is dropped where a first or an alone segment comes
+abbrev pub interrupts : Option (List ℕ) → Option Dropped
+interrupts None = None
+interrupts (Some part) = Some Interrupted
 
 -- an answer, and the part that is open then, as an outcome of the table
 abbrev pub outcome_of : {Z : Type 0} → Taken → Option (Vec ℕ Z) → Outcome

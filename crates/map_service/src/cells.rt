@@ -2,8 +2,8 @@
 
 ghost use Rattle.std.specs.Prelude.{◌≡◌, [], IfOk, OnErr};
 ghost use Rattle.tc_frame.specs.declared.frame.SegmentFlags.TheVariants as flags;
-ghost use Rattle.map_service.specs.Taking.{cell, interrupts};
-ghost use Rattle.map_service.specs.Views.{part_view, packets_view, outcome_of};
+ghost use Rattle.map_service.specs.Taking.{drops, cell};
+ghost use Rattle.map_service.specs.Views.{part_view, packets_view, interrupts, outcome_of};
 
 use crate::dropped::{Dropped, Taken};
 use crate::judging::{copied_alone, fault_of_alone, fault_of_one, is_too_long};
@@ -19,6 +19,14 @@ pub(crate) fn no_packets(alloc: Global, dropped: Option<Dropped>) -> Taken
         dropped,
         packets: Vec::new(alloc),
     }
+}
+
+// Nothing is open then, and nothing handed out.
+fn dropped_for(alloc: Global, cause: Dropped, part: &mut Option<Vec<u8>>) -> Taken
+    ensures { outcome_of result part.new ≡ drops cause }
+{
+    *part = None;
+    no_packets(alloc, Some(cause))
 }
 
 // What a first or an alone segment drops: the part that is open.
@@ -44,8 +52,7 @@ fn take_alone(
 {
     let dropped = interrupted(part);
     if let Some(cause) = fault_of_alone(limits, octets) {
-        *part = None;
-        return Ok(no_packets(alloc, Some(cause)));
+        return Ok(dropped_for(alloc, cause, part));
     }
     let packets = copied_alone(alloc, limits, octets)?;
     *part = None;
@@ -65,8 +72,7 @@ fn take_first(
 {
     let dropped = interrupted(part);
     if is_too_long(limits, octets.len()) {
-        *part = None;
-        return Ok(no_packets(alloc, Some(Dropped::TooLong)));
+        return Ok(dropped_for(alloc, Dropped::TooLong, part));
     }
     *part = Some(Vec::from_slice(alloc, octets)?);
     Ok(no_packets(alloc, dropped))
@@ -84,11 +90,10 @@ fn take_continuing(
     ensures err { OnErr result (part_view part.new ≡ part_view part.old) }
 {
     match part {
-        None => Ok(no_packets(alloc, Some(Dropped::NoBeginning))),
+        None => Ok(dropped_for(alloc, Dropped::NoBeginning, part)),
         Some(joined) => {
             if is_too_long(limits, joined.len() + octets.len()) {
-                *part = None;
-                return Ok(no_packets(alloc, Some(Dropped::TooLong)));
+                return Ok(dropped_for(alloc, Dropped::TooLong, part));
             }
             joined.extend_from_slice(octets)?;
             Ok(no_packets(alloc, None))
@@ -108,11 +113,10 @@ fn take_last(
     ensures err { OnErr result (part_view part.new ≡ part_view part.old) }
 {
     match part {
-        None => Ok(no_packets(alloc, Some(Dropped::NoBeginning))),
+        None => Ok(dropped_for(alloc, Dropped::NoBeginning, part)),
         Some(joined) => {
             if is_too_long(limits, joined.len() + octets.len()) {
-                *part = None;
-                return Ok(no_packets(alloc, Some(Dropped::TooLong)));
+                return Ok(dropped_for(alloc, Dropped::TooLong, part));
             }
             let mut packets = Vec::with_capacity(alloc, 1)?;
             joined.extend_from_slice(octets)?;

@@ -2,6 +2,8 @@
 
 ghost use Rattle.std.specs.Prelude.{◌≡◌, ◌≤◌};
 
+mod assembling;
+
 use super::*;
 use std::process::Abort;
 use tc_frame::{Segment, SegmentFlags, SegmentHeader};
