@@ -1,10 +1,10 @@
 -- Groups are the packets in their order, and each is as long as it can be.
-use Rattle.std.proofs.Common.{◌≡◌, ◌≤◌, ◌<◌, ◌⊎◌, ℕ, zero, suc, ◌+◌, ◌-◌, List, [], ◌∷◌, length, take, drop, Bool, true, false, cond, ltb, refl, ap, ◌∙◌, arith, inl, inr, length-append}
-use Rattle.std.specs.List.{AllByRecursion, concat}
-use Rattle.std.proofs.lemmas.Bool.{ltb-true, ltb-false}
-use Rattle.std.proofs.lemmas.List.{append-nil}
+use Rattle.std.proofs.Common.{◌≡◌, ◌≤◌, ◌<◌, ◌⊎◌, ℕ, zero, suc, ◌+◌, ◌-◌, List, [], ◌∷◌, ◌++◌, length, take, drop, Bool, true, false, cond, ltb, refl, sym, ap, ◌∙◌, arith, inl, inr, length-append}
+use Rattle.std.specs.List.{AllByRecursion, concat, flat_map}
+use Rattle.std.proofs.lemmas.Bool.{cases_lt, lt-ltb, le-ltb, ltb-true, ltb-false}
+use Rattle.std.proofs.lemmas.List.{append-nil, drop_at}
 use Rattle.map_service.specs.Cutting.{longest_run, first_group, groups_within, groups_of, IsGroup, AreLongest, IsGrouped}
-use Rattle.map_service.proofs.Groups.{group-some}
+use Rattle.map_service.proofs.Groups.{group-some, groups-first}
 use Rattle.map_service.proofs.Parts.{groups_joined}
 use Rattle.map_service.proofs.Passage.{group-size}
 
@@ -73,3 +73,59 @@ is_grouped part packets = record {
   each = groups_within_each (length packets) part packets;
   longest = longest_within (length packets) part packets;
 }
+
+-- ---- and no others
+
+-- the first packet behind would not fit
+abbrev NoneFits : ℕ → List (List ℕ) → List (List ℕ) → Type 0
+NoneFits room g rest = (q : List ℕ) (qs : List (List ℕ)) → rest ≡ q ∷ qs → room < length (concat g) + length q
+
+run_is : (room : ℕ) (g rest : List (List ℕ)) → length (concat g) ≤ room → NoneFits room g rest → longest_run room (g ++ rest) ≡ g
+run_is room [] [] le next = refl
+run_is room [] (q ∷ qs) le next = rw (lt-ltb room (length q) (omega (arith, next q qs refl))) refl
+run_is room (p ∷ g) rest le next =
+    let both : length (p ++ concat g) ≡ length p + length (concat g) = length-append p (concat g) in
+    rw (le-ltb room (length p) (omega arith)) (ap (λ (ps : List (List ℕ)). p ∷ ps)
+    (run_is (room - length p) g rest (omega arith) (λ q qs e. omega (arith, next q qs e))))
+
+group_is : (part : ℕ) (p : List ℕ) (g rest : List (List ℕ)) → (length (concat (p ∷ g)) ≤ part) ⊎ (length (p ∷ g) ≡ 1) → NoneFits part (p ∷ g) rest
+    → first_group part (p ∷ g ++ rest) ≡ p ∷ g
+group_is part p g rest (inl le) next =
+    let both : length (p ++ concat g) ≡ length p + length (concat g) = length-append p (concat g) in
+    rw (le-ltb part (length p) (omega arith)) (ap (λ (ps : List (List ℕ)). p ∷ ps)
+    (run_is (part - length p) g rest (omega arith) (λ q qs e. omega (arith, next q qs e))))
+group_is part p (x ∷ g) rest (inr one) next = absurd (omega arith)
+group_is part p [] rest (inr one) next =
+    elim (cases_lt part (length p)) [
+      | inl lt ↦ rw (lt-ltb part (length p) lt) refl
+      | inr ge ↦
+          rw (le-ltb part (length p) ge) (ap (λ (ps : List (List ℕ)). p ∷ ps)
+          (run_is (part - length p) [] rest (omega arith) (λ q qs e. omega (arith, next q qs e, length-append p []))))
+    ]
+
+next_of : (part : ℕ) (g : List (List ℕ)) (gs : List (List (List ℕ))) → AreLongest part (g ∷ gs) → AllByRecursion (IsGroup part) gs → NoneFits part g (flat_map (λ h. h) gs)
+next_of part g [] longest each = λ q qs e. absurd cc
+next_of part g ([] ∷ gs) longest each = absurd (omega (arith, each.0.some))
+next_of part g ((x ∷ h) ∷ gs) longest each = λ q qs e.
+    let is : x ≡ q = cc in
+    omega (arith, longest.0, length-append x [], ap length is)
+
+longest_behind : (part : ℕ) (g : List (List ℕ)) (gs : List (List (List ℕ))) → AreLongest part (g ∷ gs) → AreLongest part gs
+longest_behind part g [] longest = tt
+longest_behind part g (h ∷ gs) longest = longest.1
+
+only_groups : (part : ℕ) (groups : List (List (List ℕ))) → AllByRecursion (IsGroup part) groups → AreLongest part groups → groups ≡ groups_of part (flat_map (λ g. g) groups)
+unfolding groups_of
+only_groups part [] each longest = refl
+only_groups part ([] ∷ gs) each longest = absurd (omega (arith, each.0.some))
+only_groups part ((p ∷ g) ∷ gs) each longest =
+    let rest : List (List ℕ) = flat_map (λ (h : List (List ℕ)). h) gs in
+    let first : first_group part (p ∷ g ++ rest) ≡ p ∷ g = group_is part p g rest each.0.size (next_of part (p ∷ g) gs longest each.1) in
+    let behind : drop (length (p ∷ g)) (p ∷ g ++ rest) ≡ rest = drop_at (p ∷ g) rest (length (p ∷ g)) refl in
+    ap (λ (hs : List (List (List ℕ))). (p ∷ g) ∷ hs) (only_groups part gs each.1 (longest_behind part (p ∷ g) gs longest))
+    ∙ sym (groups-first part (p ∷ g ++ rest) (omega arith)
+    ∙ ap (λ (h : List (List ℕ)). h ∷ groups_of part (drop (length h) (p ∷ g ++ rest))) first
+    ∙ ap (λ (xs : List (List ℕ)). (p ∷ g) ∷ groups_of part xs) behind)
+
+pub only_grouped : (part : ℕ) (packets : List (List ℕ)) (groups : List (List (List ℕ))) → IsGrouped part packets groups → groups ≡ groups_of part packets
+only_grouped part packets groups h = only_groups part groups h.each h.longest ∙ ap (groups_of part) h.joined

@@ -83,7 +83,7 @@ same_groups (suc n) (suc k) part (p ∷ ps) le le' =
     ap (λ (gs : List (List (List ℕ))). first_group part (p ∷ ps) ∷ gs)
     (same_groups n k part (drop taken (p ∷ ps)) (omega (arith, length-drop taken (p ∷ ps))) (omega (arith, length-drop taken (p ∷ ps))))
 
-groups-first : (part : ℕ) (packets : List (List ℕ)) → 1 ≤ length packets
+pub groups-first : (part : ℕ) (packets : List (List ℕ)) → 1 ≤ length packets
     → groups_of part packets ≡ first_group part packets ∷ groups_of part (drop (length (first_group part packets)) packets)
 unfolding groups_of
 groups-first part [] some = absurd (omega arith)

@@ -24,7 +24,8 @@ pub fn cut<'a>(
 ) -> Result<(), MapFault>
     requires on_a_map { map < 64 }
     requires some_part { 1 ≤ limits.now.part }
-    ensures ok { OnOk result (segment_views segments.new.items ≡ segment_views segments.old.items ++ segments_of limits.now.part map octets.now) }
+    ensures ok { OnOk result (segment_views segments.new.items
+        ≡ segment_views segments.old.items ++ segments_of limits.now.part map octets.now) }
     ensures err { OnErr result (segments.new.items ≡ segments.old.items) }
     ensures refused { IfSome (cut_fault limits.now octets.now) (λ fault. result ≡ Err fault) }
     ensures memory { cut_fault limits.now octets.now ≡ None → IsOkUnless result MapFault.Memory }
@@ -49,7 +50,8 @@ fn append<'a>(
     payload: &'a [u8],
     segments: &mut Vec<Segment<'a>>,
 ) -> Result<(), MapFault>
-    ensures ok { OnOk result (segment_views segments.new.items ≡ segment_views segments.old.items ++ segment_with flags map payload.now ∷ []) }
+    ensures ok { OnOk result (segment_views segments.new.items
+        ≡ segment_views segments.old.items ++ segment_with flags map payload.now ∷ []) }
     ensures before { take (length segments.old.items) segments.new.items ≡ segments.old.items }
 {
     let header = SegmentHeader { flags, map };
@@ -68,7 +70,8 @@ fn append_following<'a>(
 ) -> Result<(), MapFault>
     requires some_octet { 1 ≤ length octets.now }
     requires some_part { 1 ≤ part }
-    ensures ok { OnOk result (segment_views segments.new.items ≡ segment_views segments.old.items ++ following map (pieces_of part octets.now)) }
+    ensures ok { OnOk result (segment_views segments.new.items
+        ≡ segment_views segments.old.items ++ following map (pieces_of part octets.now)) }
     ensures before { take (length segments.old.items) segments.new.items ≡ segments.old.items }
 {
     let mut rest = octets;
@@ -88,7 +91,8 @@ fn append_parts<'a>(
 ) -> Result<(), MapFault>
     requires some_octet { 1 ≤ length octets.now }
     requires some_part { 1 ≤ part }
-    ensures ok { OnOk result (segment_views segments.new.items ≡ segment_views segments.old.items ++ parts_of part map octets.now) }
+    ensures ok { OnOk result (segment_views segments.new.items
+        ≡ segment_views segments.old.items ++ parts_of part map octets.now) }
     ensures before { take (length segments.old.items) segments.new.items ≡ segments.old.items }
 {
     if octets.len() <= part {
@@ -143,7 +147,8 @@ fn append_groups<'a>(
 ) -> Result<(), MapFault>
     requires some_part { 1 ≤ part }
     requires whole { rest_in octets.now ≡ [] }
-    ensures ok { OnOk result (segment_views segments.new.items ≡ segment_views segments.old.items ++ segments_of part map octets.now) }
+    ensures ok { OnOk result (segment_views segments.new.items
+        ≡ segment_views segments.old.items ++ segments_of part map octets.now) }
     ensures before { take (length segments.old.items) segments.new.items ≡ segments.old.items }
 {
     let mut rest = octets;

@@ -12,17 +12,22 @@ ghost use Rattle.map_service.specs.Packets.{packets_in, is_packet};
 /// One packet is one alone segment where it has at most `part` octets, and otherwise is cut in the
 /// only way: all parts but the last have exactly `part` octets, and the last has 1 to `part`.
 pub fn law_of_parts()
-    ensures packet { (part m : ℕ) (octets : List ℕ) → is_packet octets ≡ true → segments_of part m octets ≡ parts_of part m octets }
-    ensures alone { (part m : ℕ) (octets : List ℕ) → 1 ≤ length octets → length octets ≤ part → parts_of part m octets ≡ segment_with Alone m octets ∷ [] }
-    ensures parts { (part m : ℕ) (octets : List ℕ) → 1 ≤ part → part < length octets → IsInParts part m octets (parts_of part m octets) }
+    ensures packet { (part m : ℕ) (octets : List ℕ) → is_packet octets ≡ true
+        → segments_of part m octets ≡ parts_of part m octets }
+    ensures alone { (part m : ℕ) (octets : List ℕ) → 1 ≤ length octets → length octets ≤ part
+        → parts_of part m octets ≡ segment_with Alone m octets ∷ [] }
+    ensures parts { (part m : ℕ) (octets : List ℕ) → 1 ≤ part → part < length octets
+        → IsInParts part m octets (parts_of part m octets) }
     ensures only { (part m : ℕ) (octets : List ℕ) (segments : List SegmentView) → 1 ≤ part
         → IsInParts part m octets segments → segments ≡ parts_of part m octets }
 {}
 
-/// The groups of packets are these packets in their order. A group fits in a part or is one packet,
-/// and the first packet behind it would not have fitted into it.
+/// Packets are grouped in the only way in which the groups are these packets in their order, each
+/// fits in a part or is one packet, and the first packet behind it would not have fitted into it.
 pub fn law_of_groups()
-    ensures { (part : ℕ) (packets : List (List ℕ)) → IsGrouped part packets (groups_of part packets) }
+    ensures found { (part : ℕ) (packets : List (List ℕ)) → IsGrouped part packets (groups_of part packets) }
+    ensures only { (part : ℕ) (packets : List (List ℕ)) (groups : List (List (List ℕ)))
+        → IsGrouped part packets groups → groups ≡ groups_of part packets }
 {}
 
 /// The segments of octets that are cut hold these octets, in their order, and each is on their MAP
@@ -30,7 +35,8 @@ pub fn law_of_groups()
 pub fn law_of_segments()
     ensures joined { (limits : Limits) (m : ℕ) (octets : List ℕ) → 1 ≤ limits.part → cut_fault limits octets ≡ None
         → concat (payloads (segments_of limits.part m octets)) ≡ octets }
-    ensures each { (part m : ℕ) (octets : List ℕ) → 1 ≤ part → AllByRecursion (IsPart part m) (segments_of part m octets) }
+    ensures each { (part m : ℕ) (octets : List ℕ) → 1 ≤ part
+        → AllByRecursion (IsPart part m) (segments_of part m octets) }
 {}
 
 /// Packets that were cut are assembled again, whatever came before: on an open MAP the segments of

@@ -1,5 +1,8 @@
-use Rattle.map_service.proofs.Grouping.{is_grouped}
+use Rattle.map_service.proofs.Grouping.{is_grouped, only_grouped}
 use Rattle.map_service.proofs.cutting_laws.law_of_groups.Goals as goal
 
-pub returns : goal.returns
-returns c = is_grouped
+pub returns-clause-found : goal.returns-clause-found
+returns-clause-found c = is_grouped
+
+pub returns-clause-only : goal.returns-clause-only
+returns-clause-only c = only_grouped
