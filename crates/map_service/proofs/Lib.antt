@@ -9,3 +9,4 @@ pub mod Parts
 pub mod Passage
 pub mod InParts
 pub mod Grouping
+pub mod Histories

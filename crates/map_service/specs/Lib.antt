@@ -6,3 +6,4 @@ pub mod Faults
 pub mod Packets
 pub mod Taking
 pub mod Views
+pub mod History

@@ -7,6 +7,7 @@ ghost use Rattle.tc_frame.specs.Layout.{SegmentView};
 ghost use Rattle.map_service.specs.declared.limits.Limits.{Limits};
 ghost use Rattle.map_service.specs.Assembly.{is_open, assembled, open_part};
 ghost use Rattle.map_service.specs.Cutting.{segment_with, parts_of, groups_of, segments_of, cut_fault, payloads, IsPart, IsInParts, IsGrouped};
+ghost use Rattle.map_service.specs.History.{Submission, IsSubmitted, segments_of_all, packets_on};
 ghost use Rattle.map_service.specs.Packets.{packets_in, is_packet};
 
 /// One packet is one alone segment where it has at most `part` octets, and otherwise is cut in the
@@ -51,4 +52,19 @@ pub fn law_of_passage()
     ensures others { (limits : Limits) (part m k : ℕ) (segments : List SegmentView) (octets : List ℕ) → 1 ≤ part → k ≢ m
         → (assembled limits k (segments ++ segments_of part m octets) ≡ assembled limits k segments)
         × (open_part limits k (segments ++ segments_of part m octets) ≡ open_part limits k segments) }
+{}
+
+/// What calls handed over is assembled again, whatever MAPs they were on: of all their segments, on
+/// each MAP, just its packets in their order, with no part open; of a beginning of the segments, a
+/// beginning of the packets.
+pub fn law_of_histories()
+    ensures all { (limits : Limits) (m : ℕ) (submissions : List Submission) → 1 ≤ limits.part
+        → AllByRecursion (IsSubmitted limits) submissions
+        → assembled limits m (segments_of_all limits.part submissions) ≡ packets_on m submissions }
+    ensures closed { (limits : Limits) (m : ℕ) (submissions : List Submission) → 1 ≤ limits.part
+        → AllByRecursion (IsSubmitted limits) submissions
+        → open_part limits m (segments_of_all limits.part submissions) ≡ None }
+    ensures beginning { (limits : Limits) (m : ℕ) (submissions : List Submission) (segments more : List SegmentView) → 1 ≤ limits.part
+        → AllByRecursion (IsSubmitted limits) submissions → segments ++ more ≡ segments_of_all limits.part submissions
+        → (packets : List (List ℕ)) × (packets_on m submissions ≡ assembled limits m segments ++ packets) }
 {}

@@ -17,7 +17,9 @@ mod packets;
 
 pub use assembling::Assembler;
 pub use cutting::cut;
-pub use cutting_laws::{law_of_groups, law_of_parts, law_of_passage, law_of_segments};
+pub use cutting_laws::{
+    law_of_groups, law_of_histories, law_of_parts, law_of_passage, law_of_segments,
+};
 pub use dropped::{Dropped, Taken};
 pub use fault::MapFault;
 pub use laws::law_of_beginnings;
