@@ -158,7 +158,7 @@ pub assembled-other : (limits : Limits) (segments : List SegmentView) (s : Segme
     → assembled limits m (segments ++ s ∷ []) ≡ assembled limits m segments
 assembled-other limits segments s m ne = rw (of_map-other segments s m ne) refl
 
-open_part-other : (limits : Limits) (segments : List SegmentView) (s : SegmentView) (m : ℕ) → m ≢ s.header.map
+pub open_part-other : (limits : Limits) (segments : List SegmentView) (s : SegmentView) (m : ℕ) → m ≢ s.header.map
     → open_part limits m (segments ++ s ∷ []) ≡ open_part limits m segments
 open_part-other limits segments s m ne = rw (of_map-other segments s m ne) refl
 

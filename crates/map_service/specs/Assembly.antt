@@ -60,7 +60,7 @@ up_to_end (s ∷ segments) = goes_on s.header.flags s.payload (up_to_end segment
 
 -- ---- what a list of segments gives
 
--- the packets of the block that begins with this segment
+-- the packets of the block that begins with a segment of these flags and data, before this joined data up to a last one
 abbrev pub block_packets : Limits → SegmentFlags → List ℕ → Option (List ℕ) → List (List ℕ)
 block_packets limits Alone octets more = packets_of limits octets
 block_packets limits First octets (Some more) = packet_of limits (octets ++ more)
@@ -76,7 +76,8 @@ blocks_packets limits (s ∷ segments) = block_packets limits s.header.flags s.p
 abbrev pub assembled : Limits → ℕ → List SegmentView → List (List ℕ)
 assembled limits m segments = if is_open limits m then blocks_packets limits (of_map m segments) else []
 
--- the joined data of a first and the continuing segments that end the list, from this place or a later one
+-- the joined data of a first and the continuing segments that end the list, from a segment of these flags and data on or
+-- from a later one
 abbrev pub begins : SegmentFlags → List ℕ → Option (List ℕ) → Option (List ℕ) → Option (List ℕ)
 begins Alone octets more later = later
 begins First octets (Some more) later = Some (octets ++ more)

@@ -22,7 +22,7 @@ pub use cutting_laws::{
 };
 pub use dropped::{Dropped, Taken};
 pub use fault::MapFault;
-pub use laws::law_of_beginnings;
+pub use laws::{law_of_beginnings, law_of_steps};
 pub use limits::Limits;
 
 #[cfg(test)]
