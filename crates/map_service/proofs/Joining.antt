@@ -5,7 +5,7 @@ use Rattle.tc_frame.specs.declared.frame.SegmentFlags.{SegmentFlags}
 use Rattle.tc_frame.specs.declared.frame.SegmentFlags.TheVariants.{First, Continuing, Last, Alone}
 use Rattle.tc_frame.specs.Layout.{SegmentView}
 use Rattle.map_service.specs.declared.limits.Limits.{Limits}
-use Rattle.map_service.specs.Assembly.{packet_of, packets_of, before, goes_to_last, up_to_last, goes_on, up_to_end, block_packets, blocks_packets, begins, ending_part}
+use Rattle.map_service.specs.Assembly.{packet_of, packets_of, joined_data, up_to_last_from, up_to_last, up_to_end_from, up_to_end, block_packets, blocks_packets, part_from, ending_part}
 
 -- ---- segments that are all continuing end no block, give no packet and begin no part
 
@@ -15,7 +15,7 @@ pub record AllGoOn (limits : Limits) (segments : List SegmentView) : Type 0 wher
   pub unbegun : ending_part segments ≡ None
 
 one_goes_on : (limits : Limits) (s : SegmentView) (segments : List SegmentView) (flags : SegmentFlags) (more : Option (List ℕ)) (joined : List ℕ)
-    → s.header.flags ≡ flags → goes_on flags s.payload more ≡ Some joined
+    → s.header.flags ≡ flags → up_to_end_from flags s.payload more ≡ Some joined
     → ((j : List ℕ) → more ≡ Some j → AllGoOn limits segments) → AllGoOn limits (s ∷ segments)
 one_goes_on limits s segments Continuing (Some more) joined e h rest =
     let r = rest more refl in
@@ -46,23 +46,23 @@ none_ended First octets = refl
 none_ended Continuing octets = refl
 none_ended Last octets = refl
 
-before_ended : (flags : SegmentFlags) (octets o : List ℕ) (last all : Option (List ℕ))
-    → before o (ended flags octets last all) ≡ ended flags octets (before o last) (before o all)
-before_ended flags octets o (Some joined) all = refl
-before_ended Last octets o None (Some joined) = ap (λ (xs : List ℕ). Some xs) (sym (append_assoc o joined octets))
-before_ended Last octets o None None = refl
-before_ended Alone octets o None all = refl
-before_ended First octets o None all = refl
-before_ended Continuing octets o None all = refl
+joined_data-ended : (flags : SegmentFlags) (octets o : List ℕ) (last all : Option (List ℕ))
+    → joined_data o (ended flags octets last all) ≡ ended flags octets (joined_data o last) (joined_data o all)
+joined_data-ended flags octets o (Some joined) all = refl
+joined_data-ended Last octets o None (Some joined) = ap (λ (xs : List ℕ). Some xs) (sym (append_assoc o joined octets))
+joined_data-ended Last octets o None None = refl
+joined_data-ended Alone octets o None all = refl
+joined_data-ended First octets o None all = refl
+joined_data-ended Continuing octets o None all = refl
 
-goes_to_last_ended : (f flags : SegmentFlags) (octets o : List ℕ) (last all : Option (List ℕ))
-    → goes_to_last f o (ended flags octets last all) ≡ ended flags octets (goes_to_last f o last) (goes_on f o all)
-goes_to_last_ended Alone flags octets o last all = sym (none_ended flags octets)
-goes_to_last_ended First flags octets o last all = sym (none_ended flags octets)
-goes_to_last_ended Continuing flags octets o last all = before_ended flags octets o last all
-goes_to_last_ended Last flags octets o last all = refl
+up_to_last_from-ended : (f flags : SegmentFlags) (octets o : List ℕ) (last all : Option (List ℕ))
+    → up_to_last_from f o (ended flags octets last all) ≡ ended flags octets (up_to_last_from f o last) (up_to_end_from f o all)
+up_to_last_from-ended Alone flags octets o last all = sym (none_ended flags octets)
+up_to_last_from-ended First flags octets o last all = sym (none_ended flags octets)
+up_to_last_from-ended Continuing flags octets o last all = joined_data-ended flags octets o last all
+up_to_last_from-ended Last flags octets o last all = refl
 
-one_ended : (flags : SegmentFlags) (octets : List ℕ) → goes_to_last flags octets None ≡ ended flags octets None (Some [])
+one_ended : (flags : SegmentFlags) (octets : List ℕ) → up_to_last_from flags octets None ≡ ended flags octets None (Some [])
 one_ended Alone octets = refl
 one_ended First octets = refl
 one_ended Continuing octets = refl
@@ -72,8 +72,8 @@ pub up_to_last-push : (segments : List SegmentView) (s : SegmentView)
     → up_to_last (segments ++ s ∷ []) ≡ ended s.header.flags s.payload (up_to_last segments) (up_to_end segments)
 up_to_last-push [] s = one_ended s.header.flags s.payload
 up_to_last-push (x ∷ segments) s =
-    ap (goes_to_last x.header.flags x.payload) (up_to_last-push segments s)
-    ∙ goes_to_last_ended x.header.flags s.header.flags s.payload x.payload (up_to_last segments) (up_to_end segments)
+    ap (up_to_last_from x.header.flags x.payload) (up_to_last-push segments s)
+    ∙ up_to_last_from-ended x.header.flags s.header.flags s.payload x.payload (up_to_last segments) (up_to_end segments)
 
 -- ---- the joined data up to the end
 
@@ -90,22 +90,22 @@ none_continued First octets = refl
 none_continued Continuing octets = refl
 none_continued Last octets = refl
 
-before_continued : (flags : SegmentFlags) (octets o : List ℕ) (all : Option (List ℕ))
-    → before o (continued flags octets all) ≡ continued flags octets (before o all)
-before_continued Continuing octets o (Some joined) = ap (λ (xs : List ℕ). Some xs) (sym (append_assoc o joined octets))
-before_continued Continuing octets o None = refl
-before_continued Alone octets o all = refl
-before_continued First octets o all = refl
-before_continued Last octets o all = refl
+joined_data-continued : (flags : SegmentFlags) (octets o : List ℕ) (all : Option (List ℕ))
+    → joined_data o (continued flags octets all) ≡ continued flags octets (joined_data o all)
+joined_data-continued Continuing octets o (Some joined) = ap (λ (xs : List ℕ). Some xs) (sym (append_assoc o joined octets))
+joined_data-continued Continuing octets o None = refl
+joined_data-continued Alone octets o all = refl
+joined_data-continued First octets o all = refl
+joined_data-continued Last octets o all = refl
 
-goes_on_continued : (f flags : SegmentFlags) (octets o : List ℕ) (all : Option (List ℕ))
-    → goes_on f o (continued flags octets all) ≡ continued flags octets (goes_on f o all)
-goes_on_continued Alone flags octets o all = sym (none_continued flags octets)
-goes_on_continued First flags octets o all = sym (none_continued flags octets)
-goes_on_continued Continuing flags octets o all = before_continued flags octets o all
-goes_on_continued Last flags octets o all = sym (none_continued flags octets)
+up_to_end_from-continued : (f flags : SegmentFlags) (octets o : List ℕ) (all : Option (List ℕ))
+    → up_to_end_from f o (continued flags octets all) ≡ continued flags octets (up_to_end_from f o all)
+up_to_end_from-continued Alone flags octets o all = sym (none_continued flags octets)
+up_to_end_from-continued First flags octets o all = sym (none_continued flags octets)
+up_to_end_from-continued Continuing flags octets o all = joined_data-continued flags octets o all
+up_to_end_from-continued Last flags octets o all = sym (none_continued flags octets)
 
-one_continued : (flags : SegmentFlags) (octets : List ℕ) → goes_on flags octets (Some []) ≡ continued flags octets (Some [])
+one_continued : (flags : SegmentFlags) (octets : List ℕ) → up_to_end_from flags octets (Some []) ≡ continued flags octets (Some [])
 one_continued Alone octets = refl
 one_continued First octets = refl
 one_continued Continuing octets = ap (λ (xs : List ℕ). Some xs) (append-nil octets)
@@ -115,8 +115,8 @@ pub up_to_end-push : (segments : List SegmentView) (s : SegmentView)
     → up_to_end (segments ++ s ∷ []) ≡ continued s.header.flags s.payload (up_to_end segments)
 up_to_end-push [] s = one_continued s.header.flags s.payload
 up_to_end-push (x ∷ segments) s =
-    ap (goes_on x.header.flags x.payload) (up_to_end-push segments s)
-    ∙ goes_on_continued x.header.flags s.header.flags s.payload x.payload (up_to_end segments)
+    ap (up_to_end_from x.header.flags x.payload) (up_to_end-push segments s)
+    ∙ up_to_end_from-continued x.header.flags s.header.flags s.payload x.payload (up_to_end segments)
 
 -- ---- the part at the end
 
@@ -127,34 +127,34 @@ part_behind Continuing octets (Some part) = Some (part ++ octets)
 part_behind Continuing octets None = None
 part_behind Last octets part = None
 
-first_begins : (flags : SegmentFlags) (octets o : List ℕ) (all later : Option (List ℕ))
-    → begins First o (continued flags octets all) (part_behind flags octets later) ≡ part_behind flags octets (begins First o all later)
-first_begins Alone octets o all (Some later) = elim all as (λ a. part_behind Alone octets (Some later) ≡ part_behind Alone octets (begins First o a (Some later))) [ None ↦ refl | Some j ↦ refl ]
-first_begins Alone octets o all None = refl
-first_begins First octets o all later = refl
-first_begins Continuing octets o (Some joined) later = ap (λ (xs : List ℕ). Some xs) (sym (append_assoc o joined octets))
-first_begins Continuing octets o None later = refl
-first_begins Last octets o all later = refl
+first_part_from : (flags : SegmentFlags) (octets o : List ℕ) (all later : Option (List ℕ))
+    → part_from First o (continued flags octets all) (part_behind flags octets later) ≡ part_behind flags octets (part_from First o all later)
+first_part_from Alone octets o all (Some later) = elim all as (λ a. part_behind Alone octets (Some later) ≡ part_behind Alone octets (part_from First o a (Some later))) [ None ↦ refl | Some j ↦ refl ]
+first_part_from Alone octets o all None = refl
+first_part_from First octets o all later = refl
+first_part_from Continuing octets o (Some joined) later = ap (λ (xs : List ℕ). Some xs) (sym (append_assoc o joined octets))
+first_part_from Continuing octets o None later = refl
+first_part_from Last octets o all later = refl
 
-begins_behind : (f flags : SegmentFlags) (octets o : List ℕ) (all later : Option (List ℕ))
-    → begins f o (continued flags octets all) (part_behind flags octets later) ≡ part_behind flags octets (begins f o all later)
-begins_behind Alone flags octets o all later = refl
-begins_behind First flags octets o all later = first_begins flags octets o all later
-begins_behind Continuing flags octets o all later = refl
-begins_behind Last flags octets o all later = refl
+part_from-behind : (f flags : SegmentFlags) (octets o : List ℕ) (all later : Option (List ℕ))
+    → part_from f o (continued flags octets all) (part_behind flags octets later) ≡ part_behind flags octets (part_from f o all later)
+part_from-behind Alone flags octets o all later = refl
+part_from-behind First flags octets o all later = first_part_from flags octets o all later
+part_from-behind Continuing flags octets o all later = refl
+part_from-behind Last flags octets o all later = refl
 
-one_begins : (flags : SegmentFlags) (octets : List ℕ) → begins flags octets (Some []) None ≡ part_behind flags octets None
-one_begins Alone octets = refl
-one_begins First octets = ap (λ (xs : List ℕ). Some xs) (append-nil octets)
-one_begins Continuing octets = refl
-one_begins Last octets = refl
+one_part_from : (flags : SegmentFlags) (octets : List ℕ) → part_from flags octets (Some []) None ≡ part_behind flags octets None
+one_part_from Alone octets = refl
+one_part_from First octets = ap (λ (xs : List ℕ). Some xs) (append-nil octets)
+one_part_from Continuing octets = refl
+one_part_from Last octets = refl
 
 pub ending_part-push : (segments : List SegmentView) (s : SegmentView)
     → ending_part (segments ++ s ∷ []) ≡ part_behind s.header.flags s.payload (ending_part segments)
-ending_part-push [] s = one_begins s.header.flags s.payload
+ending_part-push [] s = one_part_from s.header.flags s.payload
 ending_part-push (x ∷ segments) s =
     rw (up_to_end-push segments s, ending_part-push segments s)
-    (begins_behind x.header.flags s.header.flags s.payload x.payload (up_to_end segments) (ending_part segments))
+    (part_from-behind x.header.flags s.header.flags s.payload x.payload (up_to_end segments) (ending_part segments))
 
 -- ---- the packets
 
@@ -169,7 +169,7 @@ packets_behind limits Last octets None = []
 first_gives : (limits : Limits) (flags : SegmentFlags) (octets o : List ℕ) (last all later : Option (List ℕ)) (given : List (List ℕ))
     → ((j : List ℕ) → all ≡ Some j → (last ≡ None) × (given ≡ []) × (later ≡ None))
     → block_packets limits First o (ended flags octets last all) ++ (given ++ packets_behind limits flags octets later)
-    ≡ (block_packets limits First o last ++ given) ++ packets_behind limits flags octets (begins First o all later)
+    ≡ (block_packets limits First o last ++ given) ++ packets_behind limits flags octets (part_from First o all later)
 first_gives limits flags octets o (Some joined) None later given h = sym (append_assoc (packet_of limits (o ++ joined)) given (packets_behind limits flags octets later))
 first_gives limits flags octets o (Some joined) (Some j) later given h = let impossible = (h j refl).0 in absurd cc
 first_gives limits Alone octets o None all later given h = refl
@@ -183,7 +183,7 @@ first_gives limits Last octets o None (Some j) later given h =
 block_gives : (limits : Limits) (f flags : SegmentFlags) (octets o : List ℕ) (last all later : Option (List ℕ)) (given : List (List ℕ))
     → ((j : List ℕ) → all ≡ Some j → (last ≡ None) × (given ≡ []) × (later ≡ None))
     → block_packets limits f o (ended flags octets last all) ++ (given ++ packets_behind limits flags octets later)
-    ≡ (block_packets limits f o last ++ given) ++ packets_behind limits flags octets (begins f o all later)
+    ≡ (block_packets limits f o last ++ given) ++ packets_behind limits flags octets (part_from f o all later)
 block_gives limits Alone flags octets o last all later given h = sym (append_assoc (packets_of limits o) given (packets_behind limits flags octets later))
 block_gives limits First flags octets o last all later given h = first_gives limits flags octets o last all later given h
 block_gives limits Continuing flags octets o last all later given h = refl

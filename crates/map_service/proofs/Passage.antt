@@ -12,7 +12,7 @@ use Rattle.tc_frame.specs.declared.frame.SegmentFlags.TheVariants.{First, Contin
 use Rattle.tc_frame.specs.Layout.{SegmentView}
 use Rattle.map_service.specs.declared.fault.MapFault.TheVariants.{NotAPacket, TooLong}
 use Rattle.map_service.specs.declared.limits.Limits.{Limits}
-use Rattle.map_service.specs.Assembly.{is_open, of_map, packet_of, packets_of, before, goes_to_last, up_to_last, goes_on, up_to_end, block_packets, blocks_packets, assembled, begins, ending_part, unless_too_long, open_part}
+use Rattle.map_service.specs.Assembly.{is_open, of_map, packet_of, packets_of, joined_data, up_to_last_from, up_to_last, up_to_end_from, up_to_end, block_packets, blocks_packets, assembled, part_from, ending_part, unless_too_long, open_part}
 use Rattle.map_service.specs.Cutting.{pieces_of, following, flagged, parts_of, longest_run, first_group, groups_within, groups_of, segments_of, cut_fault, payloads, IsPart}
 use Rattle.map_service.specs.Packets.{packets_in, rest_in, are_packets, is_packet, is_some_over}
 use Rattle.map_service.proofs.Groups.{IsWhole, again, none_from, all_of, packets-split, behind-each, group-front, group-some}
@@ -23,7 +23,7 @@ use Rattle.map_service.proofs.Parts.{pieces-joined, groups_joined, segments-join
 
 up_to_last-append : (xs ys : List SegmentView) → up_to_last ys ≡ None → up_to_last (xs ++ ys) ≡ up_to_last xs
 up_to_last-append [] ys e = e
-up_to_last-append (s ∷ xs) ys e = ap (goes_to_last s.header.flags s.payload) (up_to_last-append xs ys e)
+up_to_last-append (s ∷ xs) ys e = ap (up_to_last_from s.header.flags s.payload) (up_to_last-append xs ys e)
 
 -- where a block begins, the packets are those before it and those from it on
 pub blocks-append : (limits : Limits) (xs ys : List SegmentView) → up_to_last ys ≡ None → blocks_packets limits (xs ++ ys) ≡ blocks_packets limits xs ++ blocks_packets limits ys
@@ -33,34 +33,34 @@ blocks-append limits (s ∷ xs) ys e =
     ap (λ (u : Option (List ℕ)). block_packets limits s.header.flags s.payload u ++ blocks_packets limits (xs ++ ys)) (up_to_last-append xs ys e)
     ∙ ap (λ (ps : List (List ℕ)). block ++ ps) (blocks-append limits xs ys e) ∙ sym (append_assoc block (blocks_packets limits xs) (blocks_packets limits ys))
 
-goes_on-none : (flags : SegmentFlags) (octets : List ℕ) → goes_on flags octets None ≡ None
-goes_on-none Alone octets = refl
-goes_on-none First octets = refl
-goes_on-none Continuing octets = refl
-goes_on-none Last octets = refl
+up_to_end_from-none : (flags : SegmentFlags) (octets : List ℕ) → up_to_end_from flags octets None ≡ None
+up_to_end_from-none Alone octets = refl
+up_to_end_from-none First octets = refl
+up_to_end_from-none Continuing octets = refl
+up_to_end_from-none Last octets = refl
 
-begins-none : (flags : SegmentFlags) (octets : List ℕ) (later : Option (List ℕ)) → begins flags octets None later ≡ later
-begins-none Alone octets later = refl
-begins-none First octets later = refl
-begins-none Continuing octets later = refl
-begins-none Last octets later = refl
+part_from-none : (flags : SegmentFlags) (octets : List ℕ) (later : Option (List ℕ)) → part_from flags octets None later ≡ later
+part_from-none Alone octets later = refl
+part_from-none First octets later = refl
+part_from-none Continuing octets later = refl
+part_from-none Last octets later = refl
 
 up_to_end-append : (xs ys : List SegmentView) → up_to_end ys ≡ None → up_to_end (xs ++ ys) ≡ None
 up_to_end-append [] ys e = e
-up_to_end-append (s ∷ xs) ys e = ap (goes_on s.header.flags s.payload) (up_to_end-append xs ys e) ∙ goes_on-none s.header.flags s.payload
+up_to_end-append (s ∷ xs) ys e = ap (up_to_end_from s.header.flags s.payload) (up_to_end-append xs ys e) ∙ up_to_end_from-none s.header.flags s.payload
 
 -- what is open before segments that aren't all continuing ones is dropped
 pub ending-append : (xs ys : List SegmentView) → up_to_end ys ≡ None → ending_part (xs ++ ys) ≡ ending_part ys
 ending-append [] ys e = refl
 ending-append (s ∷ xs) ys e =
-    ap (λ (u : Option (List ℕ)). begins s.header.flags s.payload u (ending_part (xs ++ ys))) (up_to_end-append xs ys e)
-    ∙ begins-none s.header.flags s.payload (ending_part (xs ++ ys)) ∙ ending-append xs ys e
+    ap (λ (u : Option (List ℕ)). part_from s.header.flags s.payload u (ending_part (xs ++ ys))) (up_to_end-append xs ys e)
+    ∙ part_from-none s.header.flags s.payload (ending_part (xs ++ ys)) ∙ ending-append xs ys e
 
 -- ---- the segments of a group
 
 following-last_data : (m : ℕ) (x : List ℕ) (xs : List (List ℕ)) → up_to_last (following m (x ∷ xs)) ≡ Some (concat (x ∷ xs))
 following-last_data m x [] = ap (λ (ys : List ℕ). Some ys) (sym (append-nil x))
-following-last_data m x (y ∷ ys) = ap (before x) (following-last_data m y ys)
+following-last_data m x (y ∷ ys) = ap (joined_data x) (following-last_data m y ys)
 
 following-gives : (limits : Limits) (m : ℕ) (xs : List (List ℕ)) → blocks_packets limits (following m xs) ≡ []
 following-gives limits m [] = refl
@@ -69,12 +69,12 @@ following-gives limits m (x ∷ y ∷ ys) = following-gives limits m (y ∷ ys)
 
 following-ends : (m : ℕ) (x : List ℕ) (xs : List (List ℕ)) → up_to_end (following m (x ∷ xs)) ≡ None
 following-ends m x [] = refl
-following-ends m x (y ∷ ys) = ap (before x) (following-ends m y ys)
+following-ends m x (y ∷ ys) = ap (joined_data x) (following-ends m y ys)
 
-following-begins : (m : ℕ) (xs : List (List ℕ)) → ending_part (following m xs) ≡ None
-following-begins m [] = refl
-following-begins m (x ∷ []) = refl
-following-begins m (x ∷ y ∷ ys) = following-begins m (y ∷ ys)
+following-part_from : (m : ℕ) (xs : List (List ℕ)) → ending_part (following m xs) ≡ None
+following-part_from m [] = refl
+following-part_from m (x ∷ []) = refl
+following-part_from m (x ∷ y ∷ ys) = following-part_from m (y ∷ ys)
 
 -- several parts give what their joined data are
 flagged-gives : (limits : Limits) (m : ℕ) (x y : List ℕ) (ys : List (List ℕ)) → blocks_packets limits (flagged m (x ∷ y ∷ ys)) ≡ packet_of limits (concat (x ∷ y ∷ ys))
@@ -93,11 +93,11 @@ flagged-ends m [] rest e = e
 flagged-ends m (x ∷ []) rest e = inr refl
 flagged-ends m (x ∷ y ∷ ys) rest e = inr refl
 
-flagged-begins : (m : ℕ) (xs : List (List ℕ)) → ending_part (flagged m xs) ≡ None
-flagged-begins m [] = refl
-flagged-begins m (x ∷ []) = refl
-flagged-begins m (x ∷ y ∷ ys) =
-    ap (λ (u : Option (List ℕ)). begins First x u (ending_part (following m (y ∷ ys)))) (following-ends m y ys) ∙ following-begins m (y ∷ ys)
+flagged-part_from : (m : ℕ) (xs : List (List ℕ)) → ending_part (flagged m xs) ≡ None
+flagged-part_from m [] = refl
+flagged-part_from m (x ∷ []) = refl
+flagged-part_from m (x ∷ y ∷ ys) =
+    ap (λ (u : Option (List ℕ)). part_from First x u (ending_part (following m (y ∷ ys)))) (following-ends m y ys) ∙ following-part_from m (y ∷ ys)
 
 -- ---- the segments of groups
 
@@ -119,7 +119,7 @@ open_behind xs ys (inr e) p q = ending-append xs ys e ∙ q
 groups-open : (part m : ℕ) (groups : List (List (List ℕ))) → ending_part (all_parts part m groups) ≡ None
 groups-open part m [] = refl
 groups-open part m (g ∷ gs) =
-    open_behind (parts_of part m (concat g)) (all_parts part m gs) (groups-end part m gs) (flagged-begins m (pieces_of part (concat g))) (groups-open part m gs)
+    open_behind (parts_of part m (concat g)) (all_parts part m gs) (groups-end part m gs) (flagged-part_from m (pieces_of part (concat g))) (groups-open part m gs)
 
 abbrev GivesGroup : Limits → ℕ → ℕ → List (List ℕ) → Type 0
 GivesGroup limits part m g = blocks_packets limits (parts_of part m (concat g)) ≡ g

@@ -32,31 +32,31 @@ packets_of limits octets =
 -- ---- what follows a place, in a list of segments of one MAP
 
 -- octets, and then more
-abbrev pub before : List ℕ → Option (List ℕ) → Option (List ℕ)
-before octets None = None
-before octets (Some more) = Some (octets ++ more)
+abbrev pub joined_data : List ℕ → Option (List ℕ) → Option (List ℕ)
+joined_data octets None = None
+joined_data octets (Some more) = Some (octets ++ more)
 
-abbrev pub goes_to_last : SegmentFlags → List ℕ → Option (List ℕ) → Option (List ℕ)
-goes_to_last Alone octets more = None
-goes_to_last First octets more = None
-goes_to_last Continuing octets more = before octets more
-goes_to_last Last octets more = Some octets
+abbrev pub up_to_last_from : SegmentFlags → List ℕ → Option (List ℕ) → Option (List ℕ)
+up_to_last_from Alone octets more = None
+up_to_last_from First octets more = None
+up_to_last_from Continuing octets more = joined_data octets more
+up_to_last_from Last octets more = Some octets
 
 -- the joined data where the segments begin with any number of continuing ones and a last one
 abbrev pub up_to_last : List SegmentView → Option (List ℕ)
 up_to_last [] = None
-up_to_last (s ∷ segments) = goes_to_last s.header.flags s.payload (up_to_last segments)
+up_to_last (s ∷ segments) = up_to_last_from s.header.flags s.payload (up_to_last segments)
 
-abbrev pub goes_on : SegmentFlags → List ℕ → Option (List ℕ) → Option (List ℕ)
-goes_on Alone octets more = None
-goes_on First octets more = None
-goes_on Continuing octets more = before octets more
-goes_on Last octets more = None
+abbrev pub up_to_end_from : SegmentFlags → List ℕ → Option (List ℕ) → Option (List ℕ)
+up_to_end_from Alone octets more = None
+up_to_end_from First octets more = None
+up_to_end_from Continuing octets more = joined_data octets more
+up_to_end_from Last octets more = None
 
 -- the joined data where all segments are continuing ones
 abbrev pub up_to_end : List SegmentView → Option (List ℕ)
 up_to_end [] = Some []
-up_to_end (s ∷ segments) = goes_on s.header.flags s.payload (up_to_end segments)
+up_to_end (s ∷ segments) = up_to_end_from s.header.flags s.payload (up_to_end segments)
 
 -- ---- what a list of segments gives
 
@@ -78,16 +78,16 @@ assembled limits m segments = if is_open limits m then blocks_packets limits (of
 
 -- the joined data of a first and the continuing segments that end the list, from a segment of these flags and data on or
 -- from a later one
-abbrev pub begins : SegmentFlags → List ℕ → Option (List ℕ) → Option (List ℕ) → Option (List ℕ)
-begins Alone octets more later = later
-begins First octets (Some more) later = Some (octets ++ more)
-begins First octets None later = later
-begins Continuing octets more later = later
-begins Last octets more later = later
+abbrev pub part_from : SegmentFlags → List ℕ → Option (List ℕ) → Option (List ℕ) → Option (List ℕ)
+part_from Alone octets more later = later
+part_from First octets (Some more) later = Some (octets ++ more)
+part_from First octets None later = later
+part_from Continuing octets more later = later
+part_from Last octets more later = later
 
 abbrev pub ending_part : List SegmentView → Option (List ℕ)
 ending_part [] = None
-ending_part (s ∷ segments) = begins s.header.flags s.payload (up_to_end segments) (ending_part segments)
+ending_part (s ∷ segments) = part_from s.header.flags s.payload (up_to_end segments) (ending_part segments)
 
 abbrev pub unless_too_long : Limits → Option (List ℕ) → Option (List ℕ)
 unless_too_long limits None = None
