@@ -120,16 +120,22 @@ fn a_long_packet_between_two_short_ones(rt: HostRuntime) {
     assert!(rt; segments.as_slice() == parts.as_slice());
 }
 
-// Two growths of the list, the second of them behind four segments.
+// Two growths of the list, the second of them within a packet and behind a segment that was there.
 #[test]
 fn a_packet_octet_by_octet(rt: HostRuntime) {
+    let whole = segment(SegmentFlags::Alone, 4, &P0);
     let mut segments = Vec::new(rt.alloc());
     assert_eq!(rt;
-        cut_on(&rt, &P0, &limits(1, false), &mut segments, &[]),
+        cut_on(&rt, &P0, &limits(7, false), &mut segments, &[]),
         Ok(())
     );
-    assert_eq!(rt; segments.len(), 7);
-    for (place, part) in segments.iter().enumerate() {
+    assert_eq!(rt;
+        cut_on(&rt, &P0, &limits(1, false), &mut segments, &[whole]),
+        Ok(())
+    );
+    assert_eq!(rt; segments.len(), 8);
+    assert!(rt; segments[0] == whole);
+    for (place, part) in segments.as_slice()[1..].iter().enumerate() {
         let flags = match place {
             0 => SegmentFlags::First,
             6 => SegmentFlags::Last,
