@@ -1,5 +1,5 @@
 -- What the parser of words says of a value that it hands out: the value passed the parser of its argument.
-use Rattle.std.proofs.Common.{zero, suc, ◌≡◌, ◌∙◌, ◌++◌, subst, ◌<◌, ◌≤◌, ap, ◌||◌, ◌^◌, ℕ, Bool, true, false, List, [], ◌∷◌, length, Option, Some, None, refl, sym, inl, inr, arith}
+use Rattle.std.proofs.Common.{codes, zero, suc, ◌≡◌, ◌∙◌, ◌++◌, subst, ◌<◌, ◌≤◌, ap, ◌||◌, ◌^◌, ℕ, Bool, true, false, List, [], ◌∷◌, length, Option, Some, None, refl, sym, inl, inr, arith}
 use Rattle.std.specs.List.{All, slice_index_or}
 use Rattle.std.specs.Prelude.{slice_index}
 use Rattle.std.specs.Str.{bytes_eq}
@@ -256,3 +256,54 @@ module _ (a b c e : Arg) (w x y z : ℕ) (p : IsNamed a w) (q : IsNamed b x) (r 
     fit = some_letter letters;
     distinct = distinct_four;
   }
+
+-- ---- a command of one argument, and of two
+
+module _ (a : Arg) (w : ℕ) (p : IsNamed a w) where
+  pub fit_one : 0 < w → All FitsChain (a ∷ [])
+  fit_one some zero d l = fits a w p some
+  fit_one some (suc k) d l = absurd (omega arith)
+
+  pub distinct_one : HasDistinctIds (a ∷ [])
+  distinct_one zero zero d f l m t = refl
+  distinct_one zero (suc k) d f l m t = absurd (omega arith)
+  distinct_one (suc j) k d f l m t = absurd (omega arith)
+
+module _ (a b : Arg) (w x : ℕ) (p : IsNamed a w) (q : IsNamed b x) where
+  pub fit_two : 0 < w → 0 < x → All FitsChain (a ∷ b ∷ [])
+  fit_two some other zero d l = fits a w p some
+  fit_two some other (suc zero) d l = fits b x q other
+  fit_two some other (suc (suc k)) d l = absurd (omega arith)
+
+  pub distinct_two : (w ≡ x → ⊥) → HasDistinctIds (a ∷ b ∷ [])
+  distinct_two apart zero zero d f l m t = refl
+  distinct_two apart zero (suc zero) d f l m t = absurd (apart (same_letter a b w x p q t))
+  distinct_two apart zero (suc (suc k)) d f l m t = absurd (omega arith)
+  distinct_two apart (suc zero) zero d f l m t = absurd (apart (sym (same_letter b a x w q p t)))
+  distinct_two apart (suc zero) (suc zero) d f l m t = refl
+  distinct_two apart (suc zero) (suc (suc k)) d f l m t = absurd (omega arith)
+  distinct_two apart (suc (suc j)) k d f l m t = absurd (omega arith)
+
+-- ---- the arguments that several commands have; a name of another length, or with another first letter, is none of the flags that building adds
+
+pub check_named : (a : Arg) → a.id.now ≡ codes "check" → IsPlainArg a × (a.global ≡ false) → IsNamed a 99
+check_named a id h = record {
+  plain = h.0;
+  is_local = h.1;
+  begins = ap (λ (l : List ℕ). slice_index l 0) id;
+  is_own = λ auto. elim auto [
+    | inl e ↦ let bad : 5 ≡ 4 = ap length (sym id ∙ e) in absurd (omega arith)
+    | inr e ↦ let bad : 5 ≡ 7 = ap length (sym id ∙ e) in absurd (omega arith)
+  ];
+}
+
+pub file_named : (a : Arg) → a.id.now ≡ codes "FILE" → IsPlainArg a × (a.global ≡ false) → IsNamed a 70
+file_named a id h = record {
+  plain = h.0;
+  is_local = h.1;
+  begins = ap (λ (l : List ℕ). slice_index l 0) id;
+  is_own = λ auto. elim auto [
+    | inl e ↦ let bad : 70 ≡ 104 = ap (λ (l : List ℕ). slice_index l 0) (sym id ∙ e) in absurd (omega arith)
+    | inr e ↦ let bad : 4 ≡ 7 = ap length (sym id ∙ e) in absurd (omega arith)
+  ];
+}

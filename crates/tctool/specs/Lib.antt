@@ -3,6 +3,9 @@ pub mod Telling
 pub mod Devices
 pub mod Text
 pub mod FarmLines
+pub mod FrameLines
+pub mod RefusalLines
+pub mod PacketLines
 pub mod Ranges
 pub mod Listing
 pub mod Progress

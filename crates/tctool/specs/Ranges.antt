@@ -2,12 +2,15 @@
 use Rattle.std.specs.Prelude.{◌≡◌, ◌<◌, ◌%◌}
 use Rattle.cop1.specs.Farm.{IsWidth}
 use Rattle.tctool.specs.declared.task.Task.{Task}
-use Rattle.tctool.specs.declared.task.Task.TheVariants.{Farm}
+use Rattle.tctool.specs.declared.task.Task.TheVariants as tasks
 use Rattle.tctool.specs.declared.task.UsageFault.{UsageFault}
 use Rattle.tctool.specs.declared.task.UsageFault.TheVariants.{Words, OddWidth}
 
 abbrev pub IsInRange : Task → Type 0
-IsInRange (Farm check width vr) = IsWidth width × (vr < 256)
+IsInRange (tasks.Farm check width vr) = IsWidth width × (vr < 256)
+IsInRange (tasks.Tc check) = Unit {0}
+IsInRange tasks.Check = Unit {0}
+IsInRange tasks.Packets = Unit {0}
 
 -- a width that is refused is odd
 abbrev pub IsOddIfWidth : UsageFault → Type 0

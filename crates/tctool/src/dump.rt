@@ -7,12 +7,16 @@ ghost use Rattle.tctool.specs.Gained.{gained};
 ghost use Rattle.tctool.specs.Ranges.{IsInRange};
 
 use crate::fault::DumpFault;
+use crate::frames::FrameListing;
 use crate::outcome::Outcome;
+use crate::packets::PacketListing;
+use crate::refusals::RefusalListing;
 use crate::sink::Sink;
 use crate::source::Source;
 use crate::stream::list_stream;
 use crate::task::{Options, Task};
 use cop1::Farm;
+use space_packet::Packets;
 use std::alloc::Global;
 use tc_frame::{Check, Checked, Unchecked};
 
@@ -46,6 +50,24 @@ pub fn dump<R: Source, W: Sink>(
                 Check::On => list_stream::<Checked, Farm, R, W>(alloc, reader, writer, farm),
                 Check::Off => list_stream::<Unchecked, Farm, R, W>(alloc, reader, writer, farm),
             }
+        }
+        Task::Tc { check } => {
+            let frames = FrameListing::new(alloc);
+            match check {
+                Check::On => list_stream::<Checked, FrameListing, R, W>(
+                    alloc, reader, writer, frames,
+                ),
+                Check::Off => list_stream::<Unchecked, FrameListing, R, W>(
+                    alloc, reader, writer, frames,
+                ),
+            }
+        }
+        Task::Check => {
+            list_stream::<Checked, RefusalListing, R, W>(alloc, reader, writer, RefusalListing)
+        }
+        Task::Packets => {
+            let packets = PacketListing::new(alloc);
+            list_stream::<Packets, PacketListing, R, W>(alloc, reader, writer, packets)
         }
     }
 }

@@ -1,4 +1,5 @@
-//! The command `tctool`: what files of telecommand frames hold, and what a receiver makes of them.
+//! The command `tctool`: what files of telecommand frames and of space packets hold, and what a receiver makes of
+//! the frames.
 #![tactic(auto)]
 
 ghost use Rattle.tctool.specs.Ranges.{IsInRange};
@@ -7,9 +8,12 @@ mod dump;
 mod ending;
 mod farm;
 mod fault;
+mod frames;
 mod listing;
 mod outcome;
 mod output;
+mod packets;
+mod refusals;
 mod sink;
 mod source;
 mod stream;

@@ -9,6 +9,12 @@ pub enum Task {
     /// Tells what a receiver makes of each frame: one of this window width, even, 2 to 254, that
     /// expects the number `vr` first.
     Farm { check: Check, width: u8, vr: u8 },
+    /// Tells what each telecommand frame says.
+    Tc { check: Check },
+    /// Tells the frames that are refused, of frames that end with their check.
+    Check,
+    /// Tells what each space packet says.
+    Packets,
 }
 
 /// What the words ask for.

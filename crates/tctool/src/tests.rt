@@ -1,8 +1,9 @@
-// Files, and what the tool writes of them.
+// What the tool writes of files, over devices in memory.
 
 ghost use Rattle.tctool.specs.Ranges.{IsInRange};
 
 mod devices;
+mod rows;
 mod usage;
 
 use crate::dump::dump;
@@ -13,110 +14,9 @@ use crate::sink::Writer;
 use crate::source::Reader;
 use crate::task::{Options, Task};
 use devices::{Store, Supply};
+use rows::{Row, check_rows, faulty_farm_rows, good_farm_rows, packets_rows, tc_rows};
 use std::alloc::Global;
 use std::process::Abort;
-use tc_frame::Check;
-
-/// What is written of a file.
-#[derive(Clone, Copy, Drop)]
-struct Row {
-    task: Task,
-    octets: &'static [u8],
-    text: &'static str,
-    outcome: Outcome,
-}
-
-fn farm(check: Check, width: u8, vr: u8) -> Task {
-    Task::Farm { check, width, vr }
-}
-
-fn good(task: Task, octets: &'static [u8], text: &'static str) -> Row {
-    Row {
-        task,
-        octets,
-        text,
-        outcome: Outcome::Good,
-    }
-}
-
-fn faulty(task: Task, octets: &'static [u8], text: &'static str) -> Row {
-    Row {
-        outcome: Outcome::Faulty,
-        ..good(task, octets, text)
-    }
-}
-
-fn good_rows() -> [Row; 4] {
-    [
-        good(
-            farm(Check::Off, 254, 255),
-            b"\x00\x01\x08\x0c\xff\xc4\x10\x05\xc0\x00\x00\x00\xaa\
-              \x00\x01\x08\x0c\xff\xc4\x10\x05\xc0\x00\x00\x00\xaa\
-              \x30\x01\x08\x05\x00\x00",
-            "1 AD 255 accepted Open vr=0 l=0 w=0 t=0 b=0\n\
-             2 AD 255 behind Open vr=0 l=0 w=0 t=0 b=0\n\
-             3 BC unlock Open vr=0 l=0 w=0 t=0 b=1\n",
-        ),
-        good(
-            farm(Check::Off, 10, 0),
-            b"\x00\x01\x08\x0c\x04\xc4\x10\x05\xc0\x00\x00\x00\xaa\
-              \x00\x01\x08\x0c\xfb\xc4\x10\x05\xc0\x00\x00\x00\xaa\
-              \x00\x01\x08\x0c\x05\xc4\x10\x05\xc0\x00\x00\x00\xaa\
-              \x00\x01\x08\x0c\x00\xc4\x10\x05\xc0\x00\x00\x00\xaa\
-              \x30\x01\x08\x07\x00\x82\x00\x07\
-              \x30\x01\x08\x05\x00\x00\
-              \x00\x01\x08\x0c\x00\xc4\x10\x05\xc0\x00\x00\x00\xaa",
-            "1 AD 4 ahead Open vr=0 l=0 w=0 t=1 b=0\n\
-             2 AD 251 behind Open vr=0 l=0 w=0 t=1 b=0\n\
-             3 AD 5 outside Lockout vr=0 l=1 w=0 t=1 b=0\n\
-             4 AD 0 discarded Lockout vr=0 l=1 w=0 t=1 b=0\n\
-             5 BC set 7 Lockout vr=0 l=1 w=0 t=1 b=1\n\
-             6 BC unlock Open vr=0 l=0 w=0 t=0 b=2\n\
-             7 AD 0 accepted Open vr=1 l=0 w=0 t=0 b=2\n",
-        ),
-        good(
-            farm(Check::Off, 254, 0),
-            b"\x20\x01\x08\x0c\x00\xc4\x10\x05\xc0\x00\x00\x00\xaa",
-            "1 BD Open vr=0 l=0 w=0 t=0 b=1\n",
-        ),
-        good(farm(Check::On, 254, 0), b"", ""),
-    ]
-}
-
-fn faulty_rows() -> [Row; 6] {
-    [
-        faulty(farm(Check::Off, 254, 0), b"\x30", "1 invalid 1 Short\n"),
-        faulty(
-            farm(Check::Off, 254, 0),
-            b"\x30\x01\x08\x05\x00\x00\x30\x01\x08\x05\x00",
-            "1 BC unlock Open vr=0 l=0 w=0 t=0 b=1\n\
-             2 invalid 1 Short\n",
-        ),
-        faulty(
-            farm(Check::Off, 254, 0),
-            b"\x30\x01\x08\x05\x01\x00\x30\x01\x08\x05\x00\x00",
-            "1 invalid 7 BypassNumber\n\
-             2 BC unlock Open vr=0 l=0 w=0 t=0 b=1\n",
-        ),
-        faulty(
-            farm(Check::On, 254, 0),
-            b"\x30\x01\x08\x05\x00\x00\x30\x01\x08\x05\x00\x00",
-            "1 invalid 5 Length\n",
-        ),
-        faulty(
-            farm(Check::On, 254, 0),
-            b"\x30\x01\x08\x07\x00\x00\x8b\x9e\
-              \x30\x01\x08\x07\x00\x00\x8b\x9f",
-            "1 BC unlock Open vr=0 l=0 w=0 t=0 b=1\n\
-             2 invalid 6 Check\n",
-        ),
-        faulty(
-            farm(Check::Off, 254, 0),
-            b"\x00\x01\x08\x03\x00\x30\x01\x08\x05\x00\x00",
-            "1 invalid 5 Length\n",
-        ),
-    ]
-}
 
 fn is_in_range(rt: &impl Abort, task: Task)
     ensures { IsInRange task }
@@ -125,6 +25,9 @@ fn is_in_range(rt: &impl Abort, task: Task)
         Task::Farm { width, .. } => {
             assert!(rt; width % 2 == 0 && 2 <= width && width <= 254);
         }
+        Task::Tc { .. } => {}
+        Task::Check => {}
+        Task::Packets => {}
     }
 }
 
@@ -191,27 +94,45 @@ fn fails_with_each_call(rt: &impl Abort, alloc: Global, row: &Row) {
 
 #[test]
 fn files(rt: HostRuntime) {
-    for row in &good_rows() {
+    for row in &good_farm_rows() {
         is_written_in_pieces(&rt, rt.alloc(), row);
     }
-    for row in &faulty_rows() {
+    for row in &faulty_farm_rows() {
+        is_written_in_pieces(&rt, rt.alloc(), row);
+    }
+    for row in &tc_rows() {
+        is_written_in_pieces(&rt, rt.alloc(), row);
+    }
+    for row in &check_rows() {
+        is_written_in_pieces(&rt, rt.alloc(), row);
+    }
+    for row in &packets_rows() {
         is_written_in_pieces(&rt, rt.alloc(), row);
     }
 }
 
 #[test]
 fn failing_devices(rt: HostRuntime) {
-    for row in &good_rows() {
+    for row in &good_farm_rows() {
         fails_with_each_call(&rt, rt.alloc(), row);
     }
-    for row in &faulty_rows() {
+    for row in &faulty_farm_rows() {
+        fails_with_each_call(&rt, rt.alloc(), row);
+    }
+    for row in &tc_rows() {
+        fails_with_each_call(&rt, rt.alloc(), row);
+    }
+    for row in &check_rows() {
+        fails_with_each_call(&rt, rt.alloc(), row);
+    }
+    for row in &packets_rows() {
         fails_with_each_call(&rt, rt.alloc(), row);
     }
 }
 
 #[test]
 fn a_line_is_written_before_the_next_read(rt: HostRuntime) {
-    let [row, ..] = good_rows();
+    let [row, ..] = good_farm_rows();
     let mut supply = Supply::new(row.octets, 13, 1);
     let mut store = Store::new(rt.alloc(), 4096, usize::MAX);
     let result = dumped(&rt, rt.alloc(), &row, &mut supply, &mut store);
@@ -222,7 +143,7 @@ fn a_line_is_written_before_the_next_read(rt: HostRuntime) {
 
 #[test]
 fn nothing_is_read_behind_a_refused_length(rt: HostRuntime) {
-    let [.., row] = faulty_rows();
+    let [.., row] = faulty_farm_rows();
     let mut supply = Supply::new(row.octets, 5, usize::MAX);
     let mut store = Store::new(rt.alloc(), 4096, usize::MAX);
     let result = dumped(&rt, rt.alloc(), &row, &mut supply, &mut store);
@@ -232,7 +153,7 @@ fn nothing_is_read_behind_a_refused_length(rt: HostRuntime) {
 
 #[test]
 fn a_write_that_takes_none_has_failed(rt: HostRuntime) {
-    let [row, ..] = good_rows();
+    let [row, ..] = good_farm_rows();
     let mut supply = Supply::new(row.octets, 4096, usize::MAX);
     let mut store = Store::new(rt.alloc(), 0, usize::MAX);
     let result = dumped(&rt, rt.alloc(), &row, &mut supply, &mut store);
@@ -242,7 +163,7 @@ fn a_write_that_takes_none_has_failed(rt: HostRuntime) {
 
 #[test]
 fn readers_and_writers_of_std(rt: HostRuntime) {
-    let [row, ..] = good_rows();
+    let [row, ..] = good_farm_rows();
     let mut text = Vec::new(rt.alloc());
     is_in_range(&rt, row.task);
     let options = Options {

@@ -1,9 +1,9 @@
 // Pieces of lines.
 
 ghost use Rattle.std.specs.Prelude.{◌≡◌, ◌++◌, OnOk, string_bytes};
-ghost use Rattle.tctool.specs.Text.{invalid_line};
+ghost use Rattle.tctool.specs.Text.{invalid_line, octets_line};
 
-use std::alloc::AllocError;
+use std::alloc::{AllocError, Global};
 use std::fmt::Write;
 
 /// Appends the line of a record that was refused, or of a rest.
@@ -11,4 +11,13 @@ pub fn push_invalid(text: &mut String, index: u64, number: u8, name: &str) -> Re
     ensures { OnOk result (string_bytes text.new ≡ string_bytes text.old ++ invalid_line index number name.now) }
 {
     writeln!(text, "{index} invalid {number} {name}")
+}
+
+/// Appends octets as upper-case hexadecimal digits, and ends the line.
+pub fn push_octets(text: &mut String, alloc: Global, octets: &[u8]) -> Result<(), AllocError>
+    ensures { OnOk result (string_bytes text.new ≡ string_bytes text.old ++ octets_line octets.now) }
+{
+    let digits = hex::encode_upper(alloc, octets)?;
+    text.push_str(digits.as_str())?;
+    text.push('\n')
 }

@@ -40,6 +40,31 @@ fn words_that_are_taken(rt: HostRuntime) {
     );
 }
 
+fn asks_for(rt: &impl Abort, alloc: Global, words: &[&str], task: Task) {
+    let file = "frames";
+    assert_eq!(rt; options(alloc, words).ok(), Some(Options { task, file }));
+}
+
+#[test]
+fn words_without_numbers(rt: HostRuntime) {
+    let unchecked = Task::Tc { check: Check::Off };
+    let checked = Task::Tc { check: Check::On };
+    asks_for(&rt, rt.alloc(), &["tctool", "tc", "frames"], unchecked);
+    asks_for(
+        &rt,
+        rt.alloc(),
+        &["tctool", "tc", "--check", "frames"],
+        checked,
+    );
+    asks_for(&rt, rt.alloc(), &["tctool", "check", "frames"], Task::Check);
+    asks_for(
+        &rt,
+        rt.alloc(),
+        &["tctool", "packets", "frames"],
+        Task::Packets,
+    );
+}
+
 // The status with which the parser of the words ends the program, where it does.
 fn status_of_words(alloc: Global, words: &[&str]) -> Option<i32> {
     match options(alloc, words) {
@@ -62,6 +87,15 @@ fn words_that_are_refused(rt: HostRuntime) {
         is_refused(&rt, rt.alloc(), "--vr", number);
     }
     assert_eq!(rt; status_of_words(rt.alloc(), &["tctool", "farm"]), Some(2));
+    assert_eq!(rt; status_of_words(rt.alloc(), &["tctool", "tc"]), Some(2));
+    assert_eq!(rt;
+        status_of_words(rt.alloc(), &["tctool", "check", "--check", "frames"]),
+        Some(2)
+    );
+    assert_eq!(rt;
+        status_of_words(rt.alloc(), &["tctool", "packets", "--vr", "1", "frames"]),
+        Some(2)
+    );
     assert_eq!(rt; status_of_words(rt.alloc(), &["tctool"]), Some(2));
     assert_eq!(rt;
         status_of_words(rt.alloc(), &["tctool", "form", "frames"]),
@@ -70,6 +104,10 @@ fn words_that_are_refused(rt: HostRuntime) {
     assert_eq!(rt; status_of_words(rt.alloc(), &["tctool", "--help"]), Some(0));
     assert_eq!(rt;
         status_of_words(rt.alloc(), &["tctool", "farm", "--help"]),
+        Some(0)
+    );
+    assert_eq!(rt;
+        status_of_words(rt.alloc(), &["tctool", "packets", "--help"]),
         Some(0)
     );
 }

@@ -6,8 +6,8 @@ use Rattle.clap.specs.Built.{IsPlainArg}
 use Rattle.std.specs.Str.Parse.{ParsesUnsigned, ExplainsUnsignedError, HasUnsignedDigitsIfOk}
 use Rattle.std.proofs.Common.{is_some}
 use Rattle.clap.proofs.CallerLemmas.{required_in_chain, some_of_text}
-use Rattle.tctool.proofs.GivenWords.{IsNamed, made_of_four, number_given}
-use Rattle.tctool.proofs.words.farm_words.Goals as goal
+use Rattle.tctool.proofs.GivenWords.{IsNamed, check_named, file_named, made_of_four, number_given}
+use Rattle.tctool.proofs.words.farm.farm_words.Goals as goal
 
 -- a name of another length, or with another first letter, is none of the flags that building adds
 width_named : (a : Arg) → a.id.now ≡ codes "width" → IsPlainArg a × (a.global ≡ false) → IsNamed a 119
@@ -29,28 +29,6 @@ vr_named a id h = record {
   is_own = λ auto. elim auto [
     | inl e ↦ let bad : 2 ≡ 4 = ap length (sym id ∙ e) in absurd (omega arith)
     | inr e ↦ let bad : 2 ≡ 7 = ap length (sym id ∙ e) in absurd (omega arith)
-  ];
-}
-
-check_named : (a : Arg) → a.id.now ≡ codes "check" → IsPlainArg a × (a.global ≡ false) → IsNamed a 99
-check_named a id h = record {
-  plain = h.0;
-  is_local = h.1;
-  begins = ap (λ (l : List ℕ). slice_index l 0) id;
-  is_own = λ auto. elim auto [
-    | inl e ↦ let bad : 5 ≡ 4 = ap length (sym id ∙ e) in absurd (omega arith)
-    | inr e ↦ let bad : 5 ≡ 7 = ap length (sym id ∙ e) in absurd (omega arith)
-  ];
-}
-
-file_named : (a : Arg) → a.id.now ≡ codes "FILE" → IsPlainArg a × (a.global ≡ false) → IsNamed a 70
-file_named a id h = record {
-  plain = h.0;
-  is_local = h.1;
-  begins = ap (λ (l : List ℕ). slice_index l 0) id;
-  is_own = λ auto. elim auto [
-    | inl e ↦ let bad : 70 ≡ 104 = ap (λ (l : List ℕ). slice_index l 0) (sym id ∙ e) in absurd (omega arith)
-    | inr e ↦ let bad : 4 ≡ 7 = ap length (sym id ∙ e) in absurd (omega arith)
   ];
 }
 

@@ -1,0 +1,136 @@
+// The lines of `tctool tc`.
+
+ghost use Rattle.std.specs.Prelude.{◌≡◌, ◌++◌, OnOk, IfOk, is_ok, string_bytes};
+ghost use Rattle.tc_frame.specs.Layout.{flags_code, frame_view, body_view, segment_view};
+ghost use Rattle.tc_frame.specs.Reading.{frame_at};
+ghost use Rattle.tc_frame.specs.declared.frame.Check.TheVariants as checks;
+ghost use Rattle.tctool.specs.FrameLines.{type_word, channel_text, segment_text, body_line, frame_line, frame_lines};
+
+use crate::listing::Listing;
+use crate::text::{push_invalid, push_octets};
+use std::alloc::{AllocError, Global};
+use std::fmt::Write;
+use std::marker::Model;
+use tc_frame::{
+    Body, Check, Checked, Command, Segment, SegmentFlags, TcFault, TcFrame, Unchecked, decode,
+};
+
+/// Tells what each frame says. Nothing is kept between two frames.
+#[derive(Drop)]
+pub struct FrameListing {
+    alloc: Global,
+}
+
+impl Model for FrameListing {
+    ghost Value = { Unit {0} };
+
+    ghost view = { λ l. tt };
+}
+
+impl FrameListing {
+    pub fn new(alloc: Global) -> Self {
+        FrameListing { alloc }
+    }
+
+    /// Appends the line of a record, and answers whether it is a frame.
+    fn push_frame(
+        &self,
+        text: &mut String,
+        check: Check,
+        index: u64,
+        octets: &[u8],
+    ) -> Result<bool, AllocError>
+        ensures text { OnOk result (string_bytes text.new ≡ string_bytes text.old ++ frame_line index (frame_at check octets.now)) }
+        ensures good { IfOk result (λ good. good ≡ is_ok (frame_at check octets.now)) }
+    {
+        match decode(octets, check) {
+            Ok(frame) => {
+                write!(text, "{index} ")?;
+                push_channel(text, &frame)?;
+                push_body(text, self.alloc, &frame.body)?;
+                Ok(true)
+            }
+            Err(fault) => {
+                push_invalid(text, index, fault.number(), fault.name())?;
+                Ok(false)
+            }
+        }
+    }
+}
+
+fn word_of_type(body: &Body) -> &'static str
+    ensures { result.now ≡ type_word (body_view body.now) }
+{
+    match body {
+        Body::Ad { .. } => "AD",
+        Body::Bd { .. } => "BD",
+        Body::Bc(_) => "BC",
+    }
+}
+
+fn code_of_flags(flags: SegmentFlags) -> u8
+    ensures { result ≡ flags_code flags }
+{
+    match flags {
+        SegmentFlags::Continuing => 0,
+        SegmentFlags::First => 1,
+        SegmentFlags::Last => 2,
+        SegmentFlags::Alone => 3,
+    }
+}
+
+fn push_channel(text: &mut String, frame: &TcFrame) -> Result<(), AllocError>
+    ensures { OnOk result (string_bytes text.new ≡ string_bytes text.old ++ channel_text (frame_view frame.now)) }
+{
+    text.push_str(word_of_type(&frame.body))?;
+    let scid = frame.scid;
+    let vcid = frame.vcid;
+    write!(text, " scid={scid} vcid={vcid}")
+}
+
+fn push_segment(text: &mut String, alloc: Global, segment: &Segment) -> Result<(), AllocError>
+    ensures { OnOk result (string_bytes text.new ≡ string_bytes text.old ++ segment_text (segment_view segment.now)) }
+{
+    let flags = code_of_flags(segment.header.flags);
+    let map = segment.header.map;
+    write!(text, " seg={flags} map={map} data=")?;
+    push_octets(text, alloc, segment.payload)
+}
+
+fn push_body(text: &mut String, alloc: Global, body: &Body) -> Result<(), AllocError>
+    ensures { OnOk result (string_bytes text.new ≡ string_bytes text.old ++ body_line (body_view body.now)) }
+{
+    match body {
+        Body::Ad { n, segment } => {
+            write!(text, " n={n}")?;
+            push_segment(text, alloc, segment)
+        }
+        Body::Bd { segment } => push_segment(text, alloc, segment),
+        Body::Bc(Command::Unlock) => text.push_str(" unlock\n"),
+        Body::Bc(Command::SetVr(vr)) => writeln!(text, " set {vr}"),
+    }
+}
+
+impl Listing<Unchecked> for FrameListing {
+    ghost lines = { frame_lines checks.Off };
+
+    fn take(&mut self, text: &mut String, index: u64, octets: &[u8]) -> Result<bool, AllocError> {
+        self.push_frame(text, Check::Off, index, octets)
+    }
+
+    fn refuse(text: &mut String, index: u64, fault: TcFault) -> Result<(), AllocError> {
+        push_invalid(text, index, fault.number(), fault.name())
+    }
+}
+
+impl Listing<Checked> for FrameListing {
+    ghost lines = { frame_lines checks.On };
+
+    fn take(&mut self, text: &mut String, index: u64, octets: &[u8]) -> Result<bool, AllocError> {
+        self.push_frame(text, Check::On, index, octets)
+    }
+
+    fn refuse(text: &mut String, index: u64, fault: TcFault) -> Result<(), AllocError> {
+        push_invalid(text, index, fault.number(), fault.name())
+    }
+}

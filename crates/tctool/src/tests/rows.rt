@@ -1,0 +1,205 @@
+// Files, and what the tool writes of them.
+
+use crate::outcome::Outcome;
+use crate::task::Task;
+use tc_frame::Check;
+
+/// What is written of a file.
+#[derive(Clone, Copy, Drop)]
+pub struct Row {
+    pub task: Task,
+    pub octets: &'static [u8],
+    pub text: &'static str,
+    pub outcome: Outcome,
+}
+
+fn farm(check: Check, width: u8, vr: u8) -> Task {
+    Task::Farm { check, width, vr }
+}
+
+fn good(task: Task, octets: &'static [u8], text: &'static str) -> Row {
+    Row {
+        task,
+        octets,
+        text,
+        outcome: Outcome::Good,
+    }
+}
+
+fn faulty(task: Task, octets: &'static [u8], text: &'static str) -> Row {
+    Row {
+        outcome: Outcome::Faulty,
+        ..good(task, octets, text)
+    }
+}
+
+pub fn good_farm_rows() -> [Row; 4] {
+    [
+        good(
+            farm(Check::Off, 254, 255),
+            b"\x00\x01\x08\x0c\xff\xc4\x10\x05\xc0\x00\x00\x00\xaa\
+              \x00\x01\x08\x0c\xff\xc4\x10\x05\xc0\x00\x00\x00\xaa\
+              \x30\x01\x08\x05\x00\x00",
+            "1 AD 255 accepted Open vr=0 l=0 w=0 t=0 b=0\n\
+             2 AD 255 behind Open vr=0 l=0 w=0 t=0 b=0\n\
+             3 BC unlock Open vr=0 l=0 w=0 t=0 b=1\n",
+        ),
+        good(
+            farm(Check::Off, 10, 0),
+            b"\x00\x01\x08\x0c\x04\xc4\x10\x05\xc0\x00\x00\x00\xaa\
+              \x00\x01\x08\x0c\xfb\xc4\x10\x05\xc0\x00\x00\x00\xaa\
+              \x00\x01\x08\x0c\x05\xc4\x10\x05\xc0\x00\x00\x00\xaa\
+              \x00\x01\x08\x0c\x00\xc4\x10\x05\xc0\x00\x00\x00\xaa\
+              \x30\x01\x08\x07\x00\x82\x00\x07\
+              \x30\x01\x08\x05\x00\x00\
+              \x00\x01\x08\x0c\x00\xc4\x10\x05\xc0\x00\x00\x00\xaa",
+            "1 AD 4 ahead Open vr=0 l=0 w=0 t=1 b=0\n\
+             2 AD 251 behind Open vr=0 l=0 w=0 t=1 b=0\n\
+             3 AD 5 outside Lockout vr=0 l=1 w=0 t=1 b=0\n\
+             4 AD 0 discarded Lockout vr=0 l=1 w=0 t=1 b=0\n\
+             5 BC set 7 Lockout vr=0 l=1 w=0 t=1 b=1\n\
+             6 BC unlock Open vr=0 l=0 w=0 t=0 b=2\n\
+             7 AD 0 accepted Open vr=1 l=0 w=0 t=0 b=2\n",
+        ),
+        good(
+            farm(Check::Off, 254, 0),
+            b"\x20\x01\x08\x0c\x00\xc4\x10\x05\xc0\x00\x00\x00\xaa",
+            "1 BD Open vr=0 l=0 w=0 t=0 b=1\n",
+        ),
+        good(farm(Check::On, 254, 0), b"", ""),
+    ]
+}
+
+pub fn faulty_farm_rows() -> [Row; 6] {
+    [
+        faulty(farm(Check::Off, 254, 0), b"\x30", "1 invalid 1 Short\n"),
+        faulty(
+            farm(Check::Off, 254, 0),
+            b"\x30\x01\x08\x05\x00\x00\x30\x01\x08\x05\x00",
+            "1 BC unlock Open vr=0 l=0 w=0 t=0 b=1\n\
+             2 invalid 1 Short\n",
+        ),
+        faulty(
+            farm(Check::Off, 254, 0),
+            b"\x30\x01\x08\x05\x01\x00\x30\x01\x08\x05\x00\x00",
+            "1 invalid 7 BypassNumber\n\
+             2 BC unlock Open vr=0 l=0 w=0 t=0 b=1\n",
+        ),
+        faulty(
+            farm(Check::On, 254, 0),
+            b"\x30\x01\x08\x05\x00\x00\x30\x01\x08\x05\x00\x00",
+            "1 invalid 5 Length\n",
+        ),
+        faulty(
+            farm(Check::On, 254, 0),
+            b"\x30\x01\x08\x07\x00\x00\x8b\x9e\
+              \x30\x01\x08\x07\x00\x00\x8b\x9f",
+            "1 BC unlock Open vr=0 l=0 w=0 t=0 b=1\n\
+             2 invalid 6 Check\n",
+        ),
+        faulty(
+            farm(Check::Off, 254, 0),
+            b"\x00\x01\x08\x03\x00\x30\x01\x08\x05\x00\x00",
+            "1 invalid 5 Length\n",
+        ),
+    ]
+}
+
+/// The packet 1005C0000000AA on MAP 4 in a frame of each type, and the two control commands.
+pub fn tc_rows() -> [Row; 8] {
+    [
+        good(
+            Task::Tc { check: Check::Off },
+            b"\x00\x01\x08\x0c\x03\xc4\x10\x05\xc0\x00\x00\x00\xaa\
+              \x20\x01\x08\x0c\x00\xc4\x10\x05\xc0\x00\x00\x00\xaa\
+              \x30\x01\x08\x05\x00\x00\
+              \x30\x01\x08\x07\x00\x82\x00\x07",
+            "1 AD scid=1 vcid=2 n=3 seg=3 map=4 data=1005C0000000AA\n\
+             2 BD scid=1 vcid=2 seg=3 map=4 data=1005C0000000AA\n\
+             3 BC scid=1 vcid=2 unlock\n\
+             4 BC scid=1 vcid=2 set 7\n",
+        ),
+        good(
+            Task::Tc { check: Check::On },
+            b"\x30\x01\x08\x07\x00\x00\x8b\x9e",
+            "1 BC scid=1 vcid=2 unlock\n",
+        ),
+        good(Task::Tc { check: Check::Off }, b"", ""),
+        good(Task::Tc { check: Check::On }, b"", ""),
+        faulty(
+            Task::Tc { check: Check::Off },
+            b"\x30",
+            "1 invalid 1 Short\n",
+        ),
+        faulty(
+            Task::Tc { check: Check::Off },
+            b"\x00\x01\x08\x03\x00",
+            "1 invalid 5 Length\n",
+        ),
+        faulty(
+            Task::Tc { check: Check::On },
+            b"\x30\x01\x08\x05\x00\x00",
+            "1 invalid 5 Length\n",
+        ),
+        faulty(
+            Task::Tc { check: Check::Off },
+            b"\x40\x01\x08\x05\x00\x00\x30\x01\x08\x05\x00\x00",
+            "1 invalid 2 Version\n\
+             2 BC scid=1 vcid=2 unlock\n",
+        ),
+    ]
+}
+
+pub fn check_rows() -> [Row; 4] {
+    [
+        good(Task::Check, b"\x30\x01\x08\x07\x00\x00\x8b\x9e", ""),
+        good(Task::Check, b"", ""),
+        faulty(
+            Task::Check,
+            b"\x30\x01\x08\x07\x00\x00\x8b\x9e\
+              \x30\x01\x08\x07\x00\x00\x8b\x9f",
+            "2 invalid 6 Check\n",
+        ),
+        faulty(
+            Task::Check,
+            b"\x30\x01\x08\x07\x00\x00\x8b\x9e\x30\x01\x08",
+            "2 invalid 1 Short\n",
+        ),
+    ]
+}
+
+/// Packets of APID 5 with the counts 0, 1, 3 and 3, and one of telemetry with a secondary header between them.
+pub fn packets_rows() -> [Row; 5] {
+    [
+        good(
+            Task::Packets,
+            b"\x10\x05\xc0\x00\x00\x00\xaa",
+            "1 TC secondary=0 apid=5 flags=3 count=0 gap=- data=AA\n",
+        ),
+        good(
+            Task::Packets,
+            b"\x10\x05\xc0\x00\x00\x00\xaa\
+              \x10\x05\xc0\x01\x00\x00\xab\
+              \x08\x06\x00\x02\x00\x01\x09\xf0\
+              \x10\x05\xc0\x03\x00\x00\xac\
+              \x10\x05\xc0\x03\x00\x00\xac",
+            "1 TC secondary=0 apid=5 flags=3 count=0 gap=- data=AA\n\
+             2 TC secondary=0 apid=5 flags=3 count=1 gap=0 data=AB\n\
+             3 TM secondary=1 apid=6 flags=0 count=2 gap=- data=09F0\n\
+             4 TC secondary=0 apid=5 flags=3 count=3 gap=1 data=AC\n\
+             5 TC secondary=0 apid=5 flags=3 count=3 gap=16383 data=AC\n",
+        ),
+        good(Task::Packets, b"", ""),
+        faulty(
+            Task::Packets,
+            b"\x10\x05\xc0\x00\x00\x00\xaa\x10\x05\xc0\x00\x00\x00",
+            "1 TC secondary=0 apid=5 flags=3 count=0 gap=- data=AA\n\
+             2 invalid 1 Truncated\n",
+        ),
+        faulty(
+            Task::Packets,
+            b"\x20\x05\xc0\x00\x00\x00\xaa\x10\x05\xc0\x00\x00\x00\xaa",
+            "1 invalid 2 Version\n",
+        ),
+    ]
+}

@@ -1,0 +1,44 @@
+// What the commands have in common.
+
+ghost use Rattle.std.specs.Prelude.{◌≡◌, false, codes};
+ghost use Rattle.clap.specs.Built.{IsPlainArg, TakesValue};
+
+use clap::{Arg, ArgAction};
+use std::alloc::Global;
+use tc_frame::Check;
+
+/// A command as its help tells of it.
+#[derive(Clone, Copy, Debug)]
+pub struct Described<'a> {
+    pub name: &'a str,
+    /// The program and the command, as usage is shown.
+    pub bin_name: &'a str,
+    pub about: &'a str,
+}
+
+/// `--check`, whether frames end with their check.
+pub fn check_flag<'a>(alloc: Global) -> Arg<'a>
+    ensures id { result.id.now ≡ codes "check" }
+    ensures plain { IsPlainArg result × (result.global ≡ false) }
+{
+    Arg::new(alloc, "check")
+        .long("check")
+        .help("The frames end with their check")
+        .action(ArgAction::SetTrue)
+}
+
+/// `FILE`.
+pub fn file_argument<'a>(alloc: Global, help: &'a str) -> Arg<'a>
+    ensures id { result.id.now ≡ codes "FILE" }
+    ensures plain { IsPlainArg result × (result.global ≡ false) }
+    ensures takes { TakesValue result }
+{
+    Arg::new(alloc, "FILE")
+        .required(true)
+        .help(help)
+        .action(ArgAction::Set)
+}
+
+pub fn check_of_flag(given: bool) -> Check {
+    if given { Check::On } else { Check::Off }
+}

@@ -1,0 +1,100 @@
+// The words of `tctool farm`.
+
+ghost use Rattle.std.specs.Prelude.{◌≡◌, ◌≤◌, false, codes, pos, Some, IfOk, IfErr, IfSome};
+ghost use Rattle.tctool.specs.Ranges.{IsInRange, IsOddIfWidth};
+ghost use Rattle.clap.specs.Built.{IsPlainArg};
+ghost use Rattle.clap.specs.declared.builder.value_parser.ValueParser.TheVariants as parsers;
+
+use crate::task::{Options, Task, UsageFault};
+use crate::words::arguments::{Described, check_flag, check_of_flag, file_argument};
+use clap::{Arg, ArgAction, Command, Error, value_parser};
+use std::alloc::Global;
+
+pub const FARM: Described<'static> = Described {
+    name: "farm",
+    bin_name: "tctool farm",
+    about: "Tells what a receiver (FARM-1) makes of each frame",
+};
+
+/// The words of `tctool farm`, the command's name first.
+pub fn farm_options<'a>(alloc: Global, words: &'a [&'a str]) -> Result<Options<'a>, UsageFault>
+    ensures range { IfOk result (λ options. IsInRange options.task) }
+    ensures odd { IfErr result IsOddIfWidth }
+{
+    let given = farm_words(alloc, FARM, words)?;
+    let width = given.width.unwrap_or(254);
+    if width % 2 == 1 {
+        return Err(UsageFault::OddWidth { width });
+    }
+    Ok(Options {
+        task: Task::Farm {
+            check: check_of_flag(given.check),
+            width,
+            vr: given.vr.unwrap_or(0),
+        },
+        file: given.file,
+    })
+}
+
+/// The words of `tctool farm` as they were given.
+#[derive(Drop)]
+struct FarmWords<'a> {
+    width: Option<u8>,
+    vr: Option<u8>,
+    check: bool,
+    file: &'a str,
+}
+
+// `--width W`, the width of the window.
+fn width_option<'a>(alloc: Global) -> Arg<'a>
+    ensures id { result.id.now ≡ codes "width" }
+    ensures plain { IsPlainArg result × (result.global ≡ false) }
+    ensures parser { result.value_parser ≡ Some (parsers.Signed (pos 2) (pos 254)) }
+{
+    Arg::new(alloc, "width")
+        .long("width")
+        .value_name("W")
+        .value_parser(value_parser!(u8).range(2..=254))
+        .help("Width of the window, even [default: 254]")
+        .action(ArgAction::Set)
+}
+
+// `--vr N`, the number of the first frame that is expected.
+fn vr_option<'a>(alloc: Global) -> Arg<'a>
+    ensures id { result.id.now ≡ codes "vr" }
+    ensures plain { IsPlainArg result × (result.global ≡ false) }
+{
+    Arg::new(alloc, "vr")
+        .long("vr")
+        .value_name("N")
+        .value_parser(value_parser!(u8))
+        .help("Number of the first frame that is expected [default: 0]")
+        .action(ArgAction::Set)
+}
+
+fn farm_words<'a>(
+    alloc: Global,
+    described: Described<'a>,
+    words: &'a [&'a str],
+) -> Result<FarmWords<'a>, Error>
+    ensures { IfOk result (λ given. IfSome given.width (λ n. (2 ≤ n) × (n ≤ 254))) }
+{
+    let width = width_option(alloc);
+    let vr = vr_option(alloc);
+    let check = check_flag(alloc);
+    let file = file_argument(alloc, "Telecommand frames, one after another");
+    let start = Command::new(alloc, described.name)
+        .bin_name(described.bin_name)?
+        .about(described.about);
+    let with_width = start.arg(width)?;
+    let with_vr = with_width.arg(vr)?;
+    let with_check = with_vr.arg(check)?;
+    let command = with_check.arg(file)?;
+    let matches = command.try_get_matches_from(words)?;
+    Ok(FarmWords {
+        width: matches.get_one::<u8>("width"),
+        vr: matches.get_one::<u8>("vr"),
+        check: matches.get_flag("check"),
+        file: matches.get_str("FILE").unwrap(),
+    })
+}

@@ -1,0 +1,103 @@
+// The words of the commands that take a file, and no number.
+
+ghost use Rattle.std.specs.Prelude.{IfOk, IfErr};
+ghost use Rattle.tctool.specs.Ranges.{IsInRange, IsOddIfWidth};
+
+use crate::task::{Options, Task, UsageFault};
+use crate::words::arguments::{Described, check_flag, check_of_flag, file_argument};
+use clap::{Command, Error};
+use std::alloc::Global;
+use tc_frame::Check;
+
+pub const TC: Described<'static> = Described {
+    name: "tc",
+    bin_name: "tctool tc",
+    about: "Tells what each telecommand frame says",
+};
+
+pub const CHECK: Described<'static> = Described {
+    name: "check",
+    bin_name: "tctool check",
+    about: "Tells the telecommand frames with check that are refused",
+};
+
+pub const PACKETS: Described<'static> = Described {
+    name: "packets",
+    bin_name: "tctool packets",
+    about: "Tells what each space packet says",
+};
+
+/// The words of `tctool tc`, the command's name first.
+pub fn tc_options<'a>(alloc: Global, words: &'a [&'a str]) -> Result<Options<'a>, UsageFault>
+    ensures range { IfOk result (λ options. IsInRange options.task) }
+    ensures odd { IfErr result IsOddIfWidth }
+{
+    let (check, file) = checked_file(alloc, TC, words)?;
+    Ok(Options {
+        task: Task::Tc { check },
+        file,
+    })
+}
+
+/// The words of `tctool check`, the command's name first.
+pub fn check_options<'a>(alloc: Global, words: &'a [&'a str]) -> Result<Options<'a>, UsageFault>
+    ensures range { IfOk result (λ options. IsInRange options.task) }
+    ensures odd { IfErr result IsOddIfWidth }
+{
+    let file = plain_file(
+        alloc,
+        CHECK,
+        "Telecommand frames with check, one after another",
+        words,
+    )?;
+    Ok(Options {
+        task: Task::Check,
+        file,
+    })
+}
+
+/// The words of `tctool packets`, the command's name first.
+pub fn packets_options<'a>(alloc: Global, words: &'a [&'a str]) -> Result<Options<'a>, UsageFault>
+    ensures range { IfOk result (λ options. IsInRange options.task) }
+    ensures odd { IfErr result IsOddIfWidth }
+{
+    let file = plain_file(alloc, PACKETS, "Space packets, one after another", words)?;
+    Ok(Options {
+        task: Task::Packets,
+        file,
+    })
+}
+
+// The words of a command that takes `--check` and a file of frames.
+fn checked_file<'a>(
+    alloc: Global,
+    described: Described<'a>,
+    words: &'a [&'a str],
+) -> Result<(Check, &'a str), Error> {
+    let check = check_flag(alloc);
+    let file = file_argument(alloc, "Telecommand frames, one after another");
+    let start = Command::new(alloc, described.name)
+        .bin_name(described.bin_name)?
+        .about(described.about);
+    let with_check = start.arg(check)?;
+    let command = with_check.arg(file)?;
+    let matches = command.try_get_matches_from(words)?;
+    let check = check_of_flag(matches.get_flag("check"));
+    Ok((check, matches.get_str("FILE").unwrap()))
+}
+
+// The words of a command that takes a file alone.
+fn plain_file<'a>(
+    alloc: Global,
+    described: Described<'a>,
+    help: &'a str,
+    words: &'a [&'a str],
+) -> Result<&'a str, Error> {
+    let file = file_argument(alloc, help);
+    let start = Command::new(alloc, described.name)
+        .bin_name(described.bin_name)?
+        .about(described.about);
+    let command = start.arg(file)?;
+    let matches = command.try_get_matches_from(words)?;
+    Ok(matches.get_str("FILE").unwrap())
+}
