@@ -1,0 +1,5 @@
+use Rattle.tm_link.proofs.Frames.{frame_again}
+use Rattle.tm_link.proofs.laws.law_of_reading.Goals as goal
+
+pub returns : goal.returns
+returns c = λ total f octets h. frame_again total octets f h

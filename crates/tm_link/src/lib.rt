@@ -1,0 +1,20 @@
+//! Telemetry transfer frames (CCSDS 132.0-B-3) of one fixed length.
+//!
+//! `decode` reads octets that are exactly one frame, and otherwise says the first fault; `encode`
+//! writes the one spelling of a frame.
+#![tactic(auto)]
+
+mod decoding;
+mod encoding;
+mod fault;
+mod frame;
+mod laws;
+
+pub use decoding::decode;
+pub use encoding::encode;
+pub use fault::TmFault;
+pub use frame::{Pointer, TmFrame};
+pub use laws::{law_of_reading, law_of_spelling};
+
+#[cfg(test)]
+mod tests;
