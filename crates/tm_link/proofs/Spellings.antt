@@ -52,10 +52,10 @@ spelling_is f ocf fits =
     }
 
 -- what was written in front of other octets
-pub written_is : (f : FrameView) (n : ℕ) (out rest : List ℕ) → length f.ocf ≡ 4 → frame_fits f ≡ true → n ≡ total_of f → out ≡ spelling f → IsTmFrame n f (take n (out ++ rest))
-written_is f n out rest ocf fits total is =
-    let front : take n (out ++ rest) ≡ out = take_at out rest n (ap length is ∙ length-spelling f ocf ∙ sym total) in
-    subst (IsTmFrame n f) (sym (front ∙ is)) (subst (λ (k : ℕ). IsTmFrame k f (spelling f)) (sym total) (spelling_is f ocf fits))
+pub written_is : (n : ℕ) (f : FrameView) (out rest : List ℕ) → out ≡ spelling f → IsTmFrame n f (spelling f) → IsTmFrame n f (take n (out ++ rest))
+written_is n f out rest is h =
+    let front : take n (out ++ rest) ≡ out = take_at out rest n (ap length is ∙ h.count) in
+    subst (IsTmFrame n f) (sym (front ∙ is)) h
 
 -- two octets from a place on are those of their number
 two_at : (b : List ℕ) (k : ℕ) → k + 2 ≤ length b → IsOctets b → take 2 (drop k b) ≡ big_bytes 2 (number_of (take 2 (drop k b)))

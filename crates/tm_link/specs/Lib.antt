@@ -1,3 +1,5 @@
+pub mod BuilderFields
+pub mod Building
 pub mod Faults
 pub mod Layout
 pub mod Reading

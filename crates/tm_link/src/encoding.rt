@@ -51,7 +51,7 @@ fn is_pointer_in_range(pointer: Pointer, size: usize) -> bool
     }
 }
 
-fn put_frame(frame: &TmFrame, out: &mut [u8])
+pub(crate) fn put_frame(frame: &TmFrame, out: &mut [u8])
     requires fits { frame_fits (frame_view frame.now) ≡ true }
     requires room { length out.old ≡ total_of (frame_view frame.now) }
     ensures { out.new ≡ spelling (frame_view frame.now) }

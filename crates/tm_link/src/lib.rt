@@ -1,15 +1,18 @@
 //! Telemetry transfer frames (CCSDS 132.0-B-3) of one fixed length.
 //!
 //! `decode` reads octets that are exactly one frame, and otherwise says the first fault; `encode`
-//! writes the one spelling of a frame.
+//! writes the one spelling of a frame. `TmBuilder` builds frames of the packets that it is given.
 #![tactic(auto)]
 
+mod builder;
 mod decoding;
 mod encoding;
 mod fault;
+mod filling;
 mod frame;
 mod laws;
 
+pub use builder::TmBuilder;
 pub use decoding::decode;
 pub use encoding::encode;
 pub use fault::TmFault;

@@ -1,6 +1,7 @@
 // Frames in octets, worked by hand.
 
 use super::*;
+use std::alloc::Global;
 use std::process::Abort;
 use std::test::Fail;
 
@@ -86,4 +87,131 @@ fn refusals(rt: HostRuntime) {
         encode(&frame(Pointer::At(3)), &mut out),
         Err(TmFault::Room)
     );
+}
+
+// The data field and the pointer of each frame that a builder of frames of 20 octets makes of packets.
+fn builds(
+    rt: &impl Abort,
+    alloc: Global,
+    packets: &[&[u8]],
+    frames: &[([u8; 8], Pointer)],
+) -> Result<(), Fail> {
+    let mut builder = TmBuilder::new(alloc, 1, 0, 20)?;
+    for packet in packets {
+        queue(rt, &mut builder, packet);
+    }
+    let ocf = [0x01, 0x08, 0x00, 0x00];
+    for (number, (payload, pointer)) in frames.iter().enumerate() {
+        let mut out = [0xee; 2048];
+        assert_eq!(rt; builder.build(ocf, &mut out), 20);
+        assert_eq!(rt; out[20], 0xee);
+        let frame = decode(&out[..20], 20)?;
+        assert_eq!(rt; (frame.scid, frame.vcid), (1, 0));
+        assert_eq!(rt;
+            (usize::from(frame.mc_count), usize::from(frame.vc_count)),
+            (number, number)
+        );
+        assert_eq!(rt; (frame.pointer, frame.ocf), (*pointer, ocf));
+        assert!(rt; frame.payload == payload.as_slice());
+    }
+    Ok(())
+}
+
+// Queues. Where memory is refused nothing has changed, and the call made again answers as ever.
+fn queue(rt: &impl Abort, builder: &mut TmBuilder, packet: &[u8]) {
+    if let Err(fault) = builder.queue(packet) {
+        assert_eq!(rt; fault, TmFault::Memory);
+        assert_eq!(rt; builder.queue(packet), Ok(()));
+    }
+}
+
+#[test]
+fn packets_in_frames(rt: HostRuntime) -> Result<(), Fail> {
+    let packets: [&[u8]; 4] = [
+        &[0x00, 0x05, 0xc0, 0x00, 0x00, 0x00, 0xaa],
+        &[0x00, 0x05, 0xc0, 0x01, 0x00, 0x00, 0xbb],
+        &[0x00, 0x05, 0xc0, 0x02, 0x00, 0x00, 0xcc],
+        &[0x00, 0x05, 0xc0, 0x03, 0x00, 0x00, 0xdd],
+    ];
+    let frames = [
+        (
+            [0x00, 0x05, 0xc0, 0x00, 0x00, 0x00, 0xaa, 0x00],
+            Pointer::At(0),
+        ),
+        (
+            [0x05, 0xc0, 0x01, 0x00, 0x00, 0xbb, 0x00, 0x05],
+            Pointer::At(6),
+        ),
+        (
+            [0xc0, 0x02, 0x00, 0x00, 0xcc, 0x00, 0x05, 0xc0],
+            Pointer::At(5),
+        ),
+        (
+            [0x03, 0x00, 0x00, 0xdd, 0x07, 0xff, 0xc0, 0x00],
+            Pointer::At(4),
+        ),
+    ];
+    builds(&rt, rt.alloc(), &packets, &frames)
+}
+
+#[test]
+fn idle_packets_in_frames(rt: HostRuntime) -> Result<(), Fail> {
+    let packets: [&[u8]; 1] = [&[0x00, 0x05, 0xc0, 0x00, 0x00, 0x00, 0xaa]];
+    let frames = [
+        (
+            [0x00, 0x05, 0xc0, 0x00, 0x00, 0x00, 0xaa, 0x07],
+            Pointer::At(0),
+        ),
+        (
+            [0xff, 0xc0, 0x00, 0x00, 0x00, 0x55, 0x07, 0xff],
+            Pointer::At(6),
+        ),
+        (
+            [0xc0, 0x00, 0x00, 0x00, 0x55, 0x07, 0xff, 0xc0],
+            Pointer::At(5),
+        ),
+        (
+            [0x00, 0x00, 0x00, 0x55, 0x07, 0xff, 0xc0, 0x00],
+            Pointer::At(4),
+        ),
+        (
+            [0x00, 0x00, 0x55, 0x07, 0xff, 0xc0, 0x00, 0x00],
+            Pointer::At(3),
+        ),
+        (
+            [0x00, 0x55, 0x07, 0xff, 0xc0, 0x00, 0x00, 0x00],
+            Pointer::At(2),
+        ),
+        (
+            [0x55, 0x07, 0xff, 0xc0, 0x00, 0x00, 0x00, 0x55],
+            Pointer::At(1),
+        ),
+        ([0x55; 8], Pointer::OnlyIdle),
+    ];
+    builds(&rt, rt.alloc(), &packets, &frames)
+}
+
+#[test]
+fn what_is_not_queued(rt: HostRuntime) -> Result<(), Fail> {
+    assert!(rt;
+        matches!(
+            TmBuilder::new(rt.alloc(), 1, 8, 20),
+            Err(TmFault::FieldRange)
+        )
+    );
+    assert!(rt;
+        matches!(
+            TmBuilder::new(rt.alloc(), 1, 0, 15),
+            Err(TmFault::FieldRange)
+        )
+    );
+    let mut builder = TmBuilder::new(rt.alloc(), 1, 0, 2048)?;
+    let idle = [0x07, 0xff, 0xc0, 0x00, 0x00, 0x00, 0x55];
+    assert_eq!(rt; builder.queue(&idle), Err(TmFault::NotAPacket));
+    let two = [0x00, 0x05, 0xc0, 0x00, 0x00, 0x00, 0xaa, 0x00];
+    assert_eq!(rt; builder.queue(&two), Err(TmFault::NotAPacket));
+    let mut out = [0; 2048];
+    assert_eq!(rt; builder.build([0; 4], &mut out), 2048);
+    assert_eq!(rt; decode(&out, 2048)?.pointer, Pointer::OnlyIdle);
+    Ok(())
 }

@@ -1,0 +1,120 @@
+-- Building the frames of a stream of packets (this project's rule for CCSDS 132.0-B-3, 4.1.4 and 4.2.2).
+use Rattle.std.specs.Prelude.{ℕ, ◌+◌, ◌-◌, ◌%◌, max, List, [], ◌∷◌, ◌++◌, length, take, drop, replicate, Bool, true, false, not, ◌&&◌, ◌==◌, nat_lt, nat_le, if◌then◌else◌, Result, Ok, Err}
+use Rattle.byteorder.specs.Endian.{big_bytes}
+use Rattle.space_packet.specs.declared.fault.PacketFault.{PacketFault}
+use Rattle.space_packet.specs.Layout.{PacketView}
+use Rattle.space_packet.specs.Reading.{packet_at}
+use Rattle.tm_link.specs.declared.frame.Pointer.{Pointer}
+use Rattle.tm_link.specs.declared.frame.Pointer.TheVariants.{At, NoStart, OnlyIdle}
+use Rattle.tm_link.specs.declared.fault.TmFault.{TmFault}
+use Rattle.tm_link.specs.declared.fault.TmFault.TheVariants as faults
+use Rattle.tm_link.specs.Layout.{FrameView}
+
+-- What a builder holds. The octets that are still to be sent are those left of an idle packet, and then `pending`: the
+-- end of a packet that was begun, and whole packets.
+pub record BuilderState : Type 0 where
+  pub scid : ℕ
+  pub vcid : ℕ
+  -- octets of a frame
+  pub total : ℕ
+  -- the next frame's count, on the master and on the virtual channel
+  pub count : ℕ
+  -- octets left of an idle packet
+  pub idle_left : ℕ
+  pub pending : List ℕ
+  -- octets left of the packet that was begun, and octets of each whole packet behind it
+  pub begun : ℕ
+  pub sizes : List ℕ
+
+-- ---- a new builder
+
+abbrev pub builder_fits : ℕ → ℕ → ℕ → Bool
+builder_fits scid vcid total = nat_lt scid 1024 && nat_lt vcid 8 && nat_le 16 total && nat_le total 2048
+
+abbrev pub new_builder : ℕ → ℕ → ℕ → BuilderState
+new_builder scid vcid total = record { scid = scid; vcid = vcid; total = total; count = 0; idle_left = 0; pending = []; begun = 0; sizes = [] }
+
+-- ---- queueing
+
+abbrev pub is_whole : Result (PacketView × ℕ) PacketFault → ℕ → Bool
+is_whole (Ok p) size = (p.1 == size) && not (p.0.apid == 2047)
+is_whole (Err e) size = false
+
+-- the octets are exactly one packet, which isn't idle
+abbrev pub is_to_send : List ℕ → Bool
+is_to_send octets = is_whole (packet_at octets) (length octets)
+
+abbrev pub queue_fault : List ℕ → TmFault
+queue_fault octets = if is_to_send octets then faults.Memory else faults.NotAPacket
+
+abbrev pub queued : BuilderState → List ℕ → BuilderState
+queued s octets = record s { pending = s.pending ++ octets; sizes = s.sizes ++ length octets ∷ [] }
+
+-- ---- building
+
+-- an idle packet of n octets, 7 at least (CCSDS 133.0-B-2, 4.1.3.3.4)
+abbrev pub idle_packet : ℕ → List ℕ
+idle_packet n = 0x07 ∷ 0xFF ∷ 0xC0 ∷ 0x00 ∷ (big_bytes 2 (n - 7) ++ replicate (n - 6) 0x55)
+
+-- its last octets, where it has 7
+abbrev pub idle_tail : ℕ → List ℕ
+idle_tail left = drop (7 - left) (idle_packet 7)
+
+-- octets of the data field
+abbrev pub data_size : BuilderState → ℕ
+data_size s = s.total - 12
+
+-- the stream stands at a packet's end, and nothing is queued
+abbrev pub is_at_rest : BuilderState → Bool
+is_at_rest s = (s.idle_left == 0) && (length s.pending == 0)
+
+-- the room where packets run out, in a field of so many octets
+abbrev pub room_left : ℕ → ℕ → ℕ → ℕ
+room_left size idle_left count = size - idle_left - count
+
+-- the field is filled from the stream; where packets run out an idle packet is placed
+abbrev pub data_from : ℕ → List ℕ → ℕ → List ℕ
+data_from idle_left pending size = take size (idle_tail idle_left ++ pending ++ idle_packet (max (room_left size idle_left (length pending)) 7))
+
+abbrev pub data_built : BuilderState → List ℕ
+data_built s = if is_at_rest s then replicate (data_size s) 0x55 else data_from s.idle_left s.pending (data_size s)
+
+-- the least place where a packet starts: behind what is left of one, in a field of so many octets
+abbrev pub first_start : ℕ → ℕ → Pointer
+first_start left size = if nat_lt left size then At left else NoStart
+
+abbrev pub pointer_built : BuilderState → Pointer
+pointer_built s = if is_at_rest s then OnlyIdle else first_start (s.idle_left + s.begun) (data_size s)
+
+abbrev pub frame_built : BuilderState → List ℕ → FrameView
+frame_built s ocf = record { scid = s.scid; vcid = s.vcid; mc_count = s.count; vc_count = s.count; pointer = pointer_built s; payload = data_built s; ocf = ocf }
+
+-- what is left of an idle packet behind a field of so many octets
+abbrev pub idle_after : ℕ → ℕ → ℕ → ℕ
+idle_after size idle_left count = if room_left size idle_left count == 0 then idle_left - size else 7 - room_left size idle_left count
+
+-- what is left of the packet that was begun, and the packets behind it, once so many of their octets were sent
+abbrev pub passed : ℕ → ℕ → List ℕ → ℕ × List ℕ
+passed room begun [] = (begun - room, [])
+passed room begun (size ∷ sizes) = if nat_le room begun then (begun - room, size ∷ sizes) else passed (room - begun) size sizes
+
+-- behind a field of so many octets
+abbrev pub sent : BuilderState → ℕ → BuilderState
+sent s size =
+    let room : ℕ = size - s.idle_left in
+    record s {
+      idle_left = idle_after size s.idle_left (length s.pending);
+      pending = drop room s.pending;
+      begun = (passed room s.begun s.sizes).0;
+      sizes = (passed room s.begun s.sizes).1;
+    }
+
+abbrev pub filled : BuilderState → BuilderState
+filled s = if is_at_rest s then s else sent s (data_size s)
+
+abbrev pub counted : BuilderState → BuilderState
+counted s = record s { count = (s.count + 1) % 256 }
+
+-- the next frame, with this operational control field, and what the builder holds then
+abbrev pub build_step : BuilderState → List ℕ → FrameView × BuilderState
+build_step s ocf = (frame_built s ocf, counted (filled s))

@@ -1,0 +1,207 @@
+// Building frames of a stream of packets.
+
+ghost use Rattle.std.specs.Prelude.{◌≡◌, ◌≤◌, ◌++◌, ◌↔◌, length, take, drop, IsTrue, IsOk, IfOk, IfErr, OnOk, OnErr};
+ghost use Rattle.tm_link.specs.Building.{new_builder, builder_fits, queued, queue_fault, is_to_send, data_size, is_at_rest, first_start, data_built, pointer_built, idle_after, sent, filled, build_step};
+ghost use Rattle.tm_link.specs.Layout.{IsTmFrame};
+ghost use Rattle.tm_link.specs.Writing.{spelling};
+
+use crate::encoding::put_frame;
+use crate::fault::TmFault;
+use crate::filling::{pass, put_data, remove_front};
+use crate::frame::{Pointer, TmFrame};
+use std::alloc::Global;
+use std::collections::VecDeque;
+use std::marker::Model;
+
+/// Builds the frames of one virtual channel, all of one length (CCSDS 132.0-B-3, 4.2). The packets
+/// that are queued follow one another in the frames' data fields. Where they run out within a frame
+/// an idle packet is placed, which may go on in the next; where nothing is to be sent a frame has
+/// only idle data. Nothing but `queue` takes memory.
+#[derive(Drop)]
+pub struct TmBuilder {
+    scid: u16,
+    vcid: u8,
+    total: usize,
+    count: u8,
+    idle_left: usize,
+    // octets of packets, of which those before `start` were sent
+    octets: Vec<u8>,
+    start: usize,
+    begun: u32,
+    sizes: VecDeque<u32>,
+}
+
+impl Model for TmBuilder {
+    ghost use Rattle.tm_link.specs.Building.{BuilderState};
+
+    ghost Value = { BuilderState };
+
+    ghost use Rattle.tm_link.specs.BuilderFields.{state_of, IsSound};
+
+    ghost view = { state_of };
+
+    ghost invariant = { IsSound };
+}
+
+impl TmBuilder {
+    /// A builder of frames of `length` octets, 16 to 2,048, whose counts start at 0. It takes no
+    /// memory. A spacecraft identifier of 1,024 or more, a virtual channel of 8 or more and another
+    /// length are refused by 10 `FieldRange`.
+    pub fn new(alloc: Global, scid: u16, vcid: u8, length: usize) -> Result<Self, TmFault>
+        ensures ok { IfOk result (λ b. b ≡ new_builder scid vcid length) }
+        ensures fits { IsOk result ↔ IsTrue (builder_fits scid vcid length) }
+        ensures fault { IfErr result (λ e. e ≡ TmFault.FieldRange) }
+    {
+        if !is_in_range(scid, vcid, length) {
+            return Err(TmFault::FieldRange);
+        }
+        Ok(TmBuilder {
+            scid,
+            vcid,
+            total: length,
+            count: 0,
+            idle_left: 0,
+            octets: Vec::new(alloc),
+            start: 0,
+            begun: 0,
+            sizes: VecDeque::new(alloc),
+        })
+    }
+
+    /// Queues the packet behind those that are to be sent. Refuses by 8 `NotAPacket` octets that are
+    /// not exactly one packet, or an idle packet, and then by 7 `Memory`; the builder is as it was
+    /// then.
+    pub fn queue(&mut self, packet: &[u8]) -> Result<(), TmFault>
+        ensures ok { OnOk result (self.new ≡ queued self.old packet.now) }
+        ensures taken { OnOk result (IsTrue (is_to_send packet.now)) }
+        ensures err { OnErr result (self.new ≡ self.old) }
+        ensures fault { IfErr result (λ e. e ≡ queue_fault packet.now) }
+    {
+        if !is_whole_packet(packet) {
+            return Err(TmFault::NotAPacket);
+        }
+        self.drop_sent();
+        if self.sizes.try_reserve(1).is_err() {
+            return Err(TmFault::Memory);
+        }
+        if self.octets.extend_from_slice(packet).is_err() {
+            return Err(TmFault::Memory);
+        }
+        let _ = self.sizes.push_back(packet.len() as u32);
+        Ok(())
+    }
+
+    /// Writes the next frame, with this operational control field, at the beginning of `out`, and
+    /// says how many octets it has: as many as all frames. Octets past it stay.
+    pub fn build(&mut self, ocf: [u8; 4], out: &mut [u8; 2048]) -> usize
+        ensures count { result ≡ self.old.total }
+        ensures frame { out.new ≡ spelling (build_step self.old ocf).0 ++ drop result out.old }
+        ensures after { self.new ≡ (build_step self.old ocf).1 }
+
+        // So `decode` reads this frame.
+        ensures spells { IsTmFrame result (build_step self.old ocf).0 (take result out.new) }
+    {
+        let mut field = [0; 2036];
+        let size = self.total - 12;
+        let pointer = self.fill(&mut field[..size]);
+        let frame = TmFrame {
+            scid: self.scid,
+            vcid: self.vcid,
+            mc_count: self.count,
+            vc_count: self.count,
+            pointer,
+            payload: &field[..size],
+            ocf,
+        };
+        self.count = self.count.wrapping_add(1);
+        put_frame(&frame, &mut out[..self.total]);
+        self.total
+    }
+
+    fn fill(&mut self, field: &mut [u8]) -> Pointer
+        requires { length field.old ≡ data_size self.old }
+        ensures field { field.new ≡ data_built self.old }
+        ensures size { length field.new ≡ data_size self.old }
+        ensures pointer { result ≡ pointer_built self.old }
+        ensures after { self.new ≡ filled self.old }
+    {
+        if self.is_at_rest() {
+            field.fill(0x55);
+            return Pointer::OnlyIdle;
+        }
+        let pointer = start_behind(self.idle_left + self.begun as usize, field.len());
+        put_data(self.idle_left, &self.octets[self.start..], field);
+        self.send(field.len());
+        pointer
+    }
+
+    fn is_at_rest(&self) -> bool
+        ensures { result ≡ is_at_rest self.now }
+    {
+        self.idle_left == 0 && self.octets.len() - self.start == 0
+    }
+
+    // Passes a data field of so many octets.
+    fn send(&mut self, size: usize)
+        requires { size ≤ 2036 }
+        ensures { self.new ≡ sent self.old size }
+    {
+        let room = size - self.idle_left.min(size);
+        let count = room.min(self.octets.len() - self.start);
+        self.idle_left = idle_behind(size, self.idle_left, self.octets.len() - self.start);
+        self.start += count;
+        self.begun = pass(self.begun, &mut self.sizes, room);
+    }
+
+    // Gives up the octets that were sent, once they are no fewer than those that weren't.
+    fn drop_sent(&mut self)
+        ensures { self.new ≡ self.old }
+    {
+        if self.octets.len() - self.start <= self.start {
+            remove_front(&mut self.octets, self.start);
+            self.start = 0;
+        }
+    }
+}
+
+fn is_in_range(scid: u16, vcid: u8, total: usize) -> bool
+    ensures { result ≡ builder_fits scid vcid total }
+{
+    scid < 1024 && vcid < 8 && 16 <= total && total <= 2048
+}
+
+fn is_whole_packet(octets: &[u8]) -> bool
+    ensures value { result ≡ is_to_send octets.now }
+    ensures most { IsTrue result → length octets.now ≤ 65542 }
+{
+    match space_packet::decode(octets) {
+        Ok((packet, size)) => size == octets.len() && packet.apid != 2047,
+        Err(_) => false,
+    }
+}
+
+fn start_behind(left: usize, size: usize) -> Pointer
+    requires { size ≤ 2036 }
+    ensures { result ≡ first_start left size }
+{
+    if left < size {
+        Pointer::At(left as u16)
+    } else {
+        Pointer::NoStart
+    }
+}
+
+fn idle_behind(size: usize, idle_left: usize, count: usize) -> usize
+    requires { idle_left ≤ 6 }
+    ensures value { result ≡ idle_after size idle_left count }
+    ensures most { result ≤ 6 }
+{
+    let tail = idle_left.min(size);
+    let rest = size - tail;
+    let room = rest - count.min(rest);
+    if room == 0 {
+        idle_left - tail
+    } else {
+        7 - room.min(7)
+    }
+}
