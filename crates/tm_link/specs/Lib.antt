@@ -1,6 +1,9 @@
 pub mod BuilderFields
 pub mod Building
+pub mod Extraction
+pub mod ExtractorFields
 pub mod Faults
 pub mod Layout
 pub mod Reading
+pub mod Splitting
 pub mod Writing

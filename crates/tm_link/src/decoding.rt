@@ -108,7 +108,7 @@ fn four_of(octets: &[u8], place: usize) -> [u8; 4]
     ]
 }
 
-fn low_eleven(number: u16) -> u16
+pub(crate) fn low_eleven(number: u16) -> u16
     ensures { result ≡ number % 2048 }
 {
     number & 0x7ff

@@ -1,7 +1,7 @@
 // Frames in octets, worked by hand.
 
 use super::*;
-use std::alloc::Global;
+use std::alloc::{AllocError, Global};
 use std::process::Abort;
 use std::test::Fail;
 
@@ -213,5 +213,170 @@ fn what_is_not_queued(rt: HostRuntime) -> Result<(), Fail> {
     let mut out = [0; 2048];
     assert_eq!(rt; builder.build([0; 4], &mut out), 2048);
     assert_eq!(rt; decode(&out, 2048)?.pointer, Pointer::OnlyIdle);
+    Ok(())
+}
+
+// Takes a frame. Where memory is refused nothing has changed, and the call made again answers as ever.
+fn take(
+    rt: &impl Abort,
+    extractor: &mut Extractor,
+    octets: &[u8],
+    packets: &mut Vec<Vec<u8>>,
+) -> Result<Gap, Fail> {
+    let frame = decode(octets, octets.len())?;
+    let count = packets.len();
+    match extractor.frame(&frame, packets) {
+        Ok(gap) => Ok(gap),
+        Err(fault) => {
+            assert_eq!(rt; fault, TmFault::Memory);
+            assert_eq!(rt; packets.len(), count);
+            Ok(extractor.frame(&frame, packets)?)
+        }
+    }
+}
+
+// The gap and the number of packets behind each of these frames of a builder.
+fn extracts(
+    rt: &impl Abort,
+    alloc: Global,
+    packets: &[&[u8]],
+    chosen: &[(u8, Gap, usize)],
+    found: &mut Vec<Vec<u8>>,
+) -> Result<(), Fail> {
+    let mut builder = TmBuilder::new(alloc, 1, 0, 20)?;
+    for packet in packets {
+        queue(rt, &mut builder, packet);
+    }
+    let mut extractor = extractor(rt, alloc)?;
+    let mut out = [0; 2048];
+    for number in 0..8 {
+        builder.build([0x01, 0x08, 0x00, 0x00], &mut out);
+        for (count, gap, packets) in chosen {
+            if *count == number {
+                let behind = take(rt, &mut extractor, &out[..20], found)?;
+                assert_eq!(rt; behind, *gap);
+                assert_eq!(rt; found.len(), *packets);
+            }
+        }
+    }
+    Ok(())
+}
+
+// A new extractor. Where memory is refused the call made again answers as ever.
+fn extractor(rt: &impl Abort, alloc: Global) -> Result<Extractor, Fail> {
+    match Extractor::new(alloc) {
+        Ok(extractor) => Ok(extractor),
+        Err(fault) => {
+            assert_eq!(rt; fault, TmFault::Memory);
+            Ok(Extractor::new(alloc)?)
+        }
+    }
+}
+
+#[test]
+fn a_lost_frame(rt: HostRuntime) -> Result<(), Fail> {
+    let packets: [&[u8]; 4] = [
+        &[0x00, 0x05, 0xc0, 0x00, 0x00, 0x00, 0xaa],
+        &[0x00, 0x05, 0xc0, 0x01, 0x00, 0x00, 0xbb],
+        &[0x00, 0x05, 0xc0, 0x02, 0x00, 0x00, 0xcc],
+        &[0x00, 0x05, 0xc0, 0x03, 0x00, 0x00, 0xdd],
+    ];
+    let chosen = [
+        (0, Gap::First, 1),
+        (2, Gap::Lost(1), 1),
+        (3, Gap::Lost(0), 2),
+    ];
+    let mut found = Vec::new(rt.alloc());
+    extracts(&rt, rt.alloc(), &packets, &chosen, &mut found)?;
+    for (packet, is) in found.iter().zip([packets[0], packets[3]]) {
+        assert!(rt; packet.as_slice() == is);
+    }
+    Ok(())
+}
+
+#[test]
+fn idle_packets_are_not_handed_out(rt: HostRuntime) -> Result<(), Fail> {
+    let packets: [&[u8]; 1] = [&[0x00, 0x05, 0xc0, 0x00, 0x00, 0x00, 0xaa]];
+    let chosen = [
+        (0, Gap::First, 1),
+        (1, Gap::Lost(0), 1),
+        (2, Gap::Lost(0), 1),
+        (3, Gap::Lost(0), 1),
+        (4, Gap::Lost(0), 1),
+        (5, Gap::Lost(0), 1),
+        (6, Gap::Lost(0), 1),
+        (7, Gap::Lost(0), 1),
+    ];
+    let mut found = Vec::new(rt.alloc());
+    extracts(&rt, rt.alloc(), &packets, &chosen, &mut found)
+}
+
+#[test]
+fn parts_across_a_gap(rt: HostRuntime) -> Result<(), Fail> {
+    let packet = [
+        0x00, 0x05, 0xc0, 0x00, 0x00, 0x09, 0xaa, 0xaa, 0xaa, 0xaa, 0xaa, 0xaa, 0xaa, 0xaa, 0xaa,
+        0xaa,
+    ];
+    let packets: [&[u8]; 2] = [&packet, &packet];
+    let chosen = [(0, Gap::First, 0), (3, Gap::Lost(2), 0)];
+    let mut found = Vec::new(rt.alloc());
+    extracts(&rt, rt.alloc(), &packets, &chosen, &mut found)
+}
+
+#[test]
+fn a_frame_of_only_idle_data_between_halves(rt: HostRuntime) -> Result<(), Fail> {
+    let packet = [
+        0x00, 0x05, 0xc0, 0x00, 0x00, 0x09, 0xaa, 0xaa, 0xaa, 0xaa, 0xaa, 0xaa, 0xaa, 0xaa, 0xaa,
+        0xaa,
+    ];
+    let mut extractor = extractor(&rt, rt.alloc())?;
+    let mut found = Vec::new(rt.alloc());
+    let mut out = [0; 20];
+    for (vc_count, pointer, payload, packets) in [
+        (0, Pointer::At(0), &packet[..8], 0),
+        (1, Pointer::OnlyIdle, &[0x55; 8], 0),
+        (2, Pointer::NoStart, &packet[8..], 0),
+        (3, Pointer::At(0), &packet[..8], 0),
+        (4, Pointer::NoStart, &packet[8..], 1),
+    ] {
+        let frame = TmFrame {
+            vc_count,
+            payload,
+            ..frame(pointer)
+        };
+        encode(&frame, &mut out)?;
+        take(&rt, &mut extractor, &out, &mut found)?;
+        assert_eq!(rt; found.len(), packets);
+    }
+    Ok(())
+}
+
+// The longest packet. Where memory is refused, it asks again.
+fn longest_packet(alloc: Global) -> Result<Vec<u8>, AllocError> {
+    if let Ok(octets) = vec![in alloc; 0x5a; 65542] {
+        return Ok(octets);
+    }
+    vec![in alloc; 0x5a; 65542]
+}
+
+#[test]
+fn a_packet_across_many_frames(rt: HostRuntime) -> Result<(), Fail> {
+    let mut packet = longest_packet(rt.alloc())?;
+    for (octet, is) in packet.iter_mut().zip([0x00, 0x05, 0xc0, 0x00, 0xff, 0xff]) {
+        *octet = is;
+    }
+    let mut builder = TmBuilder::new(rt.alloc(), 1, 0, 2048)?;
+    queue(&rt, &mut builder, &packet);
+    let mut extractor = extractor(&rt, rt.alloc())?;
+    let mut found = Vec::new(rt.alloc());
+    let mut out = [0; 2048];
+    for count in 0..33 {
+        assert_eq!(rt; builder.build([0; 4], &mut out), 2048);
+        take(&rt, &mut extractor, &out, &mut found)?;
+        assert_eq!(rt; found.len(), if count == 32 { 1 } else { 0 });
+    }
+    for is in &found {
+        assert!(rt; *is == packet);
+    }
     Ok(())
 }

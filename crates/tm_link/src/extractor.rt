@@ -1,0 +1,101 @@
+// Extracting packets from frames.
+
+ghost use Rattle.std.specs.Prelude.{◌≡◌, ◌++◌, [], length, Some, IsTrue, IsOk, IfOk, IfErr, OnOk, OnErr};
+ghost use Rattle.tm_link.specs.Extraction.{new_extractor, part_after, part_behind, extract_step, octets_of};
+ghost use Rattle.tm_link.specs.Layout.{frame_view, pointer_fits};
+
+use crate::fault::TmFault;
+use crate::frame::{Pointer, TmFrame};
+use crate::gap::{Gap, gap_behind, is_lost, part_kept};
+use crate::handing::find;
+use crate::part::{go_on, open};
+use std::alloc::Global;
+use std::marker::Model;
+
+/// Takes packets out of the frames of one virtual channel, in their order, of which any may be
+/// missing (CCSDS 132.0-B-3, 4.3.2). A packet is finished where all of its octets came; idle packets
+/// are not handed out.
+#[derive(Drop)]
+pub struct Extractor {
+    last: Option<u8>,
+    part: Vec<u8>,
+    alloc: Global,
+}
+
+impl Model for Extractor {
+    ghost use Rattle.tm_link.specs.Extraction.{ExtractorState};
+
+    ghost Value = { ExtractorState };
+
+    ghost use Rattle.tm_link.specs.ExtractorFields.{state_of, IsReserved};
+
+    ghost view = { state_of };
+
+    ghost invariant = { IsReserved };
+}
+
+impl Extractor {
+    /// An extractor that has seen no frame. It reserves the 65,542 octets of the longest packet; the
+    /// fault is 7 `Memory`.
+    pub fn new(alloc: Global) -> Result<Self, TmFault>
+        ensures ok { IfOk result (λ x. x ≡ new_extractor) }
+        ensures fault { IfErr result (λ e. e ≡ TmFault.Memory) }
+    {
+        match Vec::with_capacity(alloc, 65542) {
+            Ok(part) => Ok(Extractor {
+                last: None,
+                part,
+                alloc,
+            }),
+            Err(_) => Err(TmFault::Memory),
+        }
+    }
+
+    /// Takes the next frame that came, appends the packets that are finished with it, and says how
+    /// many frames are missing before it. All growths are made first: at 7 `Memory` the extractor
+    /// and the packets are as they were.
+    pub fn frame(&mut self, frame: &TmFrame, packets: &mut Vec<Vec<u8>>) -> Result<Gap, TmFault>
+        requires { IsTrue (pointer_fits frame.now.pointer (length frame.now.payload.now)) }
+        ensures gap { IfOk result (λ gap. gap ≡ (extract_step self.old (frame_view frame.now)).gap) }
+        ensures packets { OnOk result (octets_of packets.new.items ≡ octets_of packets.old.items ++ (extract_step self.old (frame_view frame.now)).packets) }
+        ensures after { OnOk result (self.new ≡ (extract_step self.old (frame_view frame.now)).after) }
+
+        // It takes no memory for a frame with which no packet is finished.
+        ensures none { (extract_step self.old (frame_view frame.now)).packets ≡ [] → IsOk result }
+        ensures kept { OnErr result (packets.new.items ≡ packets.old.items) }
+        ensures err { OnErr result (self.new ≡ self.old) }
+        ensures fault { IfErr result (λ e. e ≡ TmFault.Memory) }
+    {
+        let gap = gap_behind(self.last, frame.vc_count);
+        let mut found = Vec::new(self.alloc);
+        find(
+            self.alloc,
+            part_kept(gap, self.part.as_slice()),
+            frame.pointer,
+            frame.payload,
+            &mut found,
+        )?;
+        if packets.append(&mut found).is_err() {
+            return Err(TmFault::Memory);
+        }
+        self.pass(gap, frame);
+        Ok(gap)
+    }
+
+    // Passes a frame.
+    fn pass(&mut self, gap: Gap, frame: &TmFrame)
+        requires { IsTrue (pointer_fits frame.now.pointer (length frame.now.payload.now)) }
+        ensures last { self.new.last ≡ Some frame.now.vc_count }
+        ensures part { self.new.part ≡ part_after (part_behind gap self.old.part) frame.now.pointer frame.now.payload.now }
+    {
+        if is_lost(gap) {
+            self.part.clear();
+        }
+        self.last = Some(frame.vc_count);
+        match frame.pointer {
+            Pointer::OnlyIdle => self.part.clear(),
+            Pointer::NoStart => go_on(&mut self.part, frame.payload),
+            Pointer::At(place) => open(&mut self.part, &frame.payload[usize::from(place)..]),
+        }
+    }
+}

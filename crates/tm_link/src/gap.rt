@@ -1,0 +1,38 @@
+// Frames that are missing.
+
+ghost use Rattle.std.specs.Prelude.{◌≡◌};
+ghost use Rattle.tm_link.specs.Extraction.{gap_of, part_behind, is_any_lost};
+
+/// How many frames of the virtual channel are missing before one (CCSDS 132.0-B-3, 4.1.2.6).
+#[derive(Clone, Copy, Debug, PartialEq, Eq)]
+pub enum Gap {
+    /// It is the first frame.
+    First,
+    /// So many, modulo 256.
+    Lost(u8),
+}
+
+pub(crate) fn gap_behind(last: Option<u8>, count: u8) -> Gap
+    ensures { result ≡ gap_of last count }
+{
+    match last {
+        None => Gap::First,
+        Some(last) => Gap::Lost(count.wrapping_sub(last).wrapping_sub(1)),
+    }
+}
+
+pub(crate) fn is_lost(gap: Gap) -> bool
+    ensures { result ≡ is_any_lost gap }
+{
+    match gap {
+        Gap::First => false,
+        Gap::Lost(count) => count != 0,
+    }
+}
+
+// The part, where no frame is missing behind it.
+pub(crate) fn part_kept(gap: Gap, part: &[u8]) -> &[u8]
+    ensures { result.now ≡ part_behind gap part.now }
+{
+    if is_lost(gap) { &part[..0] } else { part }
+}
