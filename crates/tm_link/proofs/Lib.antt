@@ -1,4 +1,5 @@
 pub mod Fields
 pub mod Frames
+pub mod Queueing
 pub mod Records
 pub mod Spellings

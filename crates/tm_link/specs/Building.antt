@@ -1,8 +1,8 @@
 -- Building the frames of a stream of packets (this project's rule for CCSDS 132.0-B-3, 4.1.4 and 4.2.2).
-use Rattle.std.specs.Prelude.{ℕ, ◌+◌, ◌-◌, ◌%◌, max, List, [], ◌∷◌, ◌++◌, length, take, drop, replicate, Bool, false, not, ◌&&◌, ◌==◌, nat_lt, nat_le, if◌then◌else◌, Result, Ok, Err}
+use Rattle.std.specs.Prelude.{◌≢◌, ℕ, ◌+◌, ◌-◌, ◌%◌, max, List, [], ◌∷◌, ◌++◌, length, take, drop, replicate, Bool, false, not, ◌&&◌, ◌==◌, nat_lt, nat_le, if◌then◌else◌, Result, Ok, Err}
 use Rattle.byteorder.specs.Endian.{big_bytes}
 use Rattle.space_packet.specs.declared.fault.PacketFault.{PacketFault}
-use Rattle.space_packet.specs.Layout.{PacketView}
+use Rattle.space_packet.specs.Layout.{PacketView, IsPacket}
 use Rattle.space_packet.specs.Reading.{packet_at}
 use Rattle.tm_link.specs.declared.frame.Pointer.{Pointer}
 use Rattle.tm_link.specs.declared.frame.Pointer.TheVariants.{At, NoStart, OnlyIdle}
@@ -43,6 +43,11 @@ is_whole (Err e) size = false
 -- the octets are exactly one packet, which isn't idle
 abbrev pub is_to_send : List ℕ → Bool
 is_to_send octets = is_whole (packet_at octets) (length octets)
+
+-- the octets are this packet, which isn't idle
+pub record IsToSend (p : PacketView) (octets : List ℕ) : Type 0 where
+  pub packet : IsPacket p octets
+  pub not_idle : p.apid ≢ 2047
 
 abbrev pub queue_fault : List ℕ → TmFault
 queue_fault octets = if is_to_send octets then faults.Memory else faults.NotAPacket
