@@ -3,7 +3,9 @@ pub mod Building
 pub mod Extraction
 pub mod ExtractorFields
 pub mod Faults
+pub mod Laying
 pub mod Layout
 pub mod Reading
 pub mod Splitting
+pub mod Stream
 pub mod Writing

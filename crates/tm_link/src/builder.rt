@@ -1,8 +1,9 @@
 // Building frames of a stream of packets.
 
-ghost use Rattle.std.specs.Prelude.{◌≡◌, ◌≤◌, ◌++◌, ◌↔◌, length, take, drop, IsTrue, IsOk, IfOk, IfErr, OnOk, OnErr};
+ghost use Rattle.std.specs.Prelude.{◌≡◌, ◌≤◌, ◌++◌, ◌↔◌, ℕ, List, [], ◌∷◌, length, take, drop, IsTrue, IsOk, IfOk, IfErr, OnOk, OnErr};
 ghost use Rattle.tm_link.specs.Building.{new_builder, builder_fits, queued, queue_fault, is_to_send, data_size, is_at_rest, first_start, data_built, pointer_built, idle_after, sent, filled, build_step};
-ghost use Rattle.tm_link.specs.Layout.{IsTmFrame};
+ghost use Rattle.tm_link.specs.Layout.{FrameView, IsTmFrame};
+ghost use Rattle.tm_link.specs.Laying.{IsLaidOutBy};
 ghost use Rattle.tm_link.specs.Writing.{spelling};
 
 use crate::encoding::put_frame;
@@ -51,6 +52,9 @@ impl TmBuilder {
         ensures ok { IfOk result (λ b. b ≡ new_builder scid vcid length) }
         ensures fits { IsOk result ↔ IsTrue (builder_fits scid vcid length) }
         ensures fault { IfErr result (λ e. e ≡ TmFault.FieldRange) }
+
+        // No frames lay out no packets, and nothing is held.
+        ensures laid { IfOk result (λ b. IsLaidOutBy b [] []) }
     {
         if !is_in_range(scid, vcid, length) {
             return Err(TmFault::FieldRange);
@@ -76,6 +80,9 @@ impl TmBuilder {
         ensures taken { OnOk result (IsTrue (is_to_send packet.now)) }
         ensures err { OnErr result (self.new ≡ self.old) }
         ensures fault { IfErr result (λ e. e ≡ queue_fault packet.now) }
+
+        // The packet is the last of those that the frames lay out, up to what is held.
+        ensures laid { OnOk result ((packets : List (List ℕ)) (frames : List FrameView) → IsLaidOutBy self.old packets frames → IsLaidOutBy self.new (packets ++ packet.now ∷ []) frames) }
     {
         if !is_whole_packet(packet) {
             return Err(TmFault::NotAPacket);
@@ -100,6 +107,9 @@ impl TmBuilder {
 
         // So `decode` reads this frame.
         ensures spells { IsTmFrame result (build_step self.old ocf).0 (take result out.new) }
+
+        // The frame goes on with the stream of the packets where the frames before it ended.
+        ensures laid { (packets : List (List ℕ)) (frames : List FrameView) → IsLaidOutBy self.old packets frames → IsLaidOutBy self.new packets (frames ++ (build_step self.old ocf).0 ∷ []) }
     {
         let mut field = [0; 2036];
         let size = self.total - 12;

@@ -1,0 +1,11 @@
+use Rattle.std.proofs.Common.{[], rules, sym, subst}
+use Rattle.tm_link.specs.Building.{BuilderState}
+use Rattle.tm_link.specs.Laying.{IsLaidOutBy}
+use Rattle.tm_link.proofs.Laying.{new_laid}
+use Rattle.tm_link.proofs.builder.TmBuilder.new.Goals as goal
+
+pub returns-clause-ok : goal.returns-clause-ok
+returns-clause-ok c = search rules
+
+pub returns-clause-laid : goal.returns-clause-laid
+returns-clause-laid c = subst (λ (b : BuilderState). IsLaidOutBy b [] []) (sym (returns-clause-ok c)) (new_laid c.args.scid c.args.vcid c.args.length)
