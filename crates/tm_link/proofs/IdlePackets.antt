@@ -1,7 +1,7 @@
 -- Idle packets, and what is left of them.
 use Rattle.std.proofs.Common.{◌≡◌, ◌≤◌, ℕ, zero, suc, ◌+◌, ◌-◌, max, List, [], ◌∷◌, ◌++◌, length, take, drop, replicate, refl, ap, ◌∙◌, arith, inl, inr, length-append}
 use Rattle.std.proofs.lemmas.Bool.{cases_lt}
-use Rattle.std.proofs.lemmas.List.{drop-drop, drop_all, length-drop, length-replicate}
+use Rattle.std.proofs.lemmas.List.{append-nil, drop-drop, drop_all, length-drop, length-replicate}
 use Rattle.byteorder.specs.Endian.{big_bytes}
 use Rattle.octets.specs.Number.{number_of}
 use Rattle.octets.specs.Records.{IsRecord}
@@ -32,8 +32,9 @@ idle_is n least most =
     let total : number_of (take 2 (drop 4 (take 6 (idle_packet n)))) + 7 ≡ length (idle_packet n) = omega arith in
     record { has_head = omega arith; extent_is = ap (done {F = PacketFault}) total }
 
-pub idle_unheard : (n : ℕ) → handed_out (idle_packet n ∷ []) ≡ []
-idle_unheard n = refl
+-- it isn't handed out
+pub not_handed : (packets : List (List ℕ)) (n : ℕ) → packets ++ handed_out (idle_packet n ∷ []) ≡ packets
+not_handed packets n = append-nil packets
 
 -- ---- what is left of one
 

@@ -1,7 +1,9 @@
+pub mod BuiltFrames
 pub mod Fields
 pub mod Frames
 pub mod IdlePackets
 pub mod Laying
+pub mod Passing
 pub mod Places
 pub mod Queueing
 pub mod Records

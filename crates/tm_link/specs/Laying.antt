@@ -21,7 +21,7 @@ pub record IsCutAt (all : List (List ℕ)) (place left : ℕ) (sizes : List ℕ)
 -- The frames lay out the stream of the packets, up to what this builder holds.
 pub record IsLaidOutBy (s : BuilderState) (packets : List (List ℕ)) (frames : List FrameView) : Type 0 where
   pub laid : IsLaidOut packets frames (held_by s)
-  -- the next frame's count is behind the last one's
+  -- the next frame's count follows the last one's
   pub next : (before : List FrameView) (f : FrameView) → frames ≡ before ++ f ∷ [] → s.count ≡ (f.vc_count + 1) % 256
   -- where packets start in what is held
   pub cut : IsCutAt laid.all (length (carried frames)) (s.idle_left + s.begun) s.sizes

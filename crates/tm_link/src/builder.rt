@@ -53,7 +53,7 @@ impl TmBuilder {
         ensures fits { IsOk result ↔ IsTrue (builder_fits scid vcid length) }
         ensures fault { IfErr result (λ e. e ≡ TmFault.FieldRange) }
 
-        // No frames lay out no packets, and nothing is held.
+        // Nothing is laid out yet, and nothing is held.
         ensures laid { IfOk result (λ b. IsLaidOutBy b [] []) }
     {
         if !is_in_range(scid, vcid, length) {
@@ -81,7 +81,7 @@ impl TmBuilder {
         ensures err { OnErr result (self.new ≡ self.old) }
         ensures fault { IfErr result (λ e. e ≡ queue_fault packet.now) }
 
-        // The packet is the last of those that the frames lay out, up to what is held.
+        // The packet is the last of the stream, whose end is held.
         ensures laid { OnOk result ((packets : List (List ℕ)) (frames : List FrameView) → IsLaidOutBy self.old packets frames → IsLaidOutBy self.new (packets ++ packet.now ∷ []) frames) }
     {
         if !is_whole_packet(packet) {
@@ -108,7 +108,7 @@ impl TmBuilder {
         // So `decode` reads this frame.
         ensures spells { IsTmFrame result (build_step self.old ocf).0 (take result out.new) }
 
-        // The frame goes on with the stream of the packets where the frames before it ended.
+        // The frame goes on with the stream where those before it ended.
         ensures laid { (packets : List (List ℕ)) (frames : List FrameView) → IsLaidOutBy self.old packets frames → IsLaidOutBy self.new packets (frames ++ (build_step self.old ocf).0 ∷ []) }
     {
         let mut field = [0; 2036];

@@ -5,7 +5,7 @@ use Rattle.tm_link.specs.Laying.{IsLaidOutBy}
 use Rattle.tm_link.specs.Layout.{IsTmFrame}
 use Rattle.tm_link.specs.Writing.{spelling}
 use Rattle.tm_link.proofs.Fields.{built_is}
-use Rattle.tm_link.proofs.Laying.{build_laid}
+use Rattle.tm_link.proofs.BuiltFrames.{build_laid}
 use Rattle.tm_link.proofs.Spellings.{written_is}
 use Rattle.tm_link.proofs.builder.TmBuilder.build.Goals as goal
 
