@@ -1,10 +1,17 @@
 pub mod BuiltFrames
+pub mod Choices
+pub mod Endings
 pub mod Fields
 pub mod Frames
+pub mod Gaining
 pub mod IdlePackets
 pub mod Laying
+pub mod Marking
 pub mod Passing
 pub mod Places
+pub mod Pointing
 pub mod Queueing
 pub mod Records
 pub mod Spellings
+pub mod Standing
+pub mod Stepping

@@ -1,3 +1,4 @@
+pub mod Arriving
 pub mod BuilderFields
 pub mod Building
 pub mod Extraction

@@ -1,6 +1,7 @@
 // Extracting packets from frames.
 
 ghost use Rattle.std.specs.Prelude.{◌≡◌, ◌++◌, [], length, Some, IsTrue, IsOk, IfOk, IfErr, OnOk, OnErr};
+ghost use Rattle.tm_link.specs.Arriving.{HasGained};
 ghost use Rattle.tm_link.specs.Extraction.{new_extractor, part_after, part_behind, extract_step, octets_of};
 ghost use Rattle.tm_link.specs.Layout.{frame_view, pointer_fits};
 
@@ -59,6 +60,10 @@ impl Extractor {
         ensures gap { IfOk result (λ gap. gap ≡ (extract_step self.old (frame_view frame.now)).gap) }
         ensures packets { OnOk result (octets_of packets.new.items ≡ octets_of packets.old.items ++ (extract_step self.old (frame_view frame.now)).packets) }
         ensures after { OnOk result (self.new ≡ (extract_step self.old (frame_view frame.now)).after) }
+
+        // For every stream and every choice of its frames that led here, what arrives with this
+        // frame is what arrived without it, and then the packets that were appended.
+        ensures exact { OnOk result (HasGained self.old (frame_view frame.now) (octets_of packets.old.items) (octets_of packets.new.items)) }
 
         // It takes no memory for a frame with which no packet is finished.
         ensures none { (extract_step self.old (frame_view frame.now)).packets ≡ [] → IsOk result }

@@ -1,11 +1,15 @@
 // What follows for frames and packets from their layouts; these functions do nothing.
 
-ghost use Rattle.std.specs.Prelude.{◌≡◌, ℕ, List, length, true, Ok};
+ghost use Rattle.std.specs.Prelude.{◌≡◌, ℕ, List, Bool, length, true, Ok};
+ghost use Rattle.std.specs.List.{AllByRecursion};
 ghost use Rattle.octets.specs.Number.{IsOctets};
 ghost use Rattle.space_packet.specs.Layout.{PacketView};
+ghost use Rattle.tm_link.specs.Arriving.{IsInRange, all_extracted};
 ghost use Rattle.tm_link.specs.Building.{is_to_send, IsToSend};
+ghost use Rattle.tm_link.specs.Extraction.{new_extractor};
 ghost use Rattle.tm_link.specs.Layout.{FrameView, IsTmFrame, IsSpelling};
 ghost use Rattle.tm_link.specs.Reading.{frame_at};
+ghost use Rattle.tm_link.specs.Stream.{IsLaidOut, IsClose, choice, arrived};
 ghost use Rattle.tm_link.specs.Writing.{total_of, frame_fits, spelling};
 
 /// A frame whose fields are in range has its spelling, and no other octets spell it.
@@ -23,4 +27,13 @@ pub fn law_of_reading()
 pub fn law_of_queueing()
     ensures only { (octets : List ℕ) → IsOctets octets → is_to_send octets ≡ true → (p : PacketView) × IsToSend p octets }
     ensures all { (p : PacketView) (octets : List ℕ) → IsToSend p octets → is_to_send octets ≡ true }
+{}
+
+/// Of frames that lay out a stream of packets, any may be missing before the first that comes, and
+/// fewer than 256 between two that come: a new extractor hands out exactly the packets all of whose
+/// octets came, in their order.
+pub fn law_of_extraction()
+    ensures { (packets : List (List ℕ)) (frames : List FrameView) (rest : List ℕ) (laid : IsLaidOut packets frames rest) (chosen : List Bool)
+        → AllByRecursion IsInRange frames → IsClose chosen
+        → all_extracted new_extractor (choice frames chosen) ≡ arrived laid.all frames chosen }
 {}
