@@ -1,3 +1,4 @@
+pub mod Arrivals
 pub mod BuiltFrames
 pub mod Choices
 pub mod Endings

@@ -1,6 +1,6 @@
 // What follows for frames and packets from their layouts; these functions do nothing.
 
-ghost use Rattle.std.specs.Prelude.{◌≡◌, ℕ, List, Bool, length, true, Ok};
+ghost use Rattle.std.specs.Prelude.{◌≡◌, ℕ, List, [], Bool, length, true, Ok};
 ghost use Rattle.std.specs.List.{AllByRecursion};
 ghost use Rattle.octets.specs.Number.{IsOctets};
 ghost use Rattle.space_packet.specs.Layout.{PacketView};
@@ -31,9 +31,13 @@ pub fn law_of_queueing()
 
 /// Of frames that lay out a stream of packets, any may be missing before the first that comes, and
 /// fewer than 256 between two that come: a new extractor hands out exactly the packets all of whose
-/// octets came, in their order.
+/// octets came, in their order; where all frames of a whole stream come, all packets. Each frame has
+/// an octet as its count and some data, as all that octets spell have.
 pub fn law_of_extraction()
-    ensures { (packets : List (List ℕ)) (frames : List FrameView) (rest : List ℕ) (laid : IsLaidOut packets frames rest) (chosen : List Bool)
+    ensures some { (packets : List (List ℕ)) (frames : List FrameView) (rest : List ℕ) (laid : IsLaidOut packets frames rest) (chosen : List Bool)
         → AllByRecursion IsInRange frames → IsClose chosen
         → all_extracted new_extractor (choice frames chosen) ≡ arrived laid.all frames chosen }
+    ensures all { (packets : List (List ℕ)) (frames : List FrameView) → IsLaidOut packets frames []
+        → AllByRecursion IsInRange frames → all_extracted new_extractor frames ≡ packets }
+    ensures range { (total : ℕ) (f : FrameView) (octets : List ℕ) → IsSpelling total f octets → IsInRange f }
 {}
