@@ -3,6 +3,7 @@
 #![tactic(auto)]
 
 mod checking;
+mod front;
 mod laws;
 mod number;
 mod splitter;
@@ -12,6 +13,7 @@ mod tests;
 mod wire;
 
 pub use checking::{append_check, check, check_holds};
+pub use front::remove_front;
 pub use laws::{law_of_cutting, law_of_damage, law_of_records, law_of_refusal, law_of_spellings};
 pub use number::first_two;
 pub use splitter::Splitter;

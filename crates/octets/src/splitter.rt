@@ -2,6 +2,7 @@
 
 ghost use Rattle.std.specs.Prelude.{◌≡◌, ◌≤◌, ◌<◌, ◌-◌, ◌++◌, ◌↔◌, [], length, take, drop, vec_len, None, Some, IsNone, IsSome, IsErr, IfErr, OnOk, OnErr};
 
+use crate::front::remove_front;
 use crate::wire::Wire;
 use std::alloc::Global;
 use std::marker::PhantomData;
@@ -15,15 +16,6 @@ pub struct Splitter<W: Wire> {
     failed: Option<W::Fault>,
     layout: PhantomData<W>,
     ghost in_range: { start ≤ vec_len octets },
-}
-
-fn remove_front(octets: &mut Vec<u8>, count: usize)
-    requires { count ≤ vec_len octets.old }
-    ensures { octets.new.items ≡ drop count octets.old.items }
-{
-    let len = octets.len();
-    octets.as_mut_slice().copy_within(count..len, 0);
-    octets.truncate(len - count);
 }
 
 impl<W: Wire> Splitter<W> {

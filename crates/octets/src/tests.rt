@@ -126,6 +126,15 @@ fn a_check_is_set_and_holds(rt: HostRuntime) {
     assert!(rt; !check_holds(&[]));
 }
 
+#[test]
+fn a_front_is_removed(rt: HostRuntime) {
+    let mut octets = Vec::new(rt.alloc());
+    if octets.extend_from_slice(&[1, 2, 3, 4]).is_ok() {
+        remove_front(&mut octets, 3);
+        assert_eq!(rt; octets.as_slice(), [4]);
+    }
+}
+
 // Feeds. Where memory is refused nothing has changed, and the call made again answers as ever.
 fn feed(rt: &impl Abort, splitter: &mut Splitter<Blocks>, octets: &[u8]) {
     let waits = splitter.next().is_none();

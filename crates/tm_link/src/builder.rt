@@ -8,8 +8,9 @@ ghost use Rattle.tm_link.specs.Writing.{spelling};
 
 use crate::encoding::put_frame;
 use crate::fault::TmFault;
-use crate::filling::{pass, put_data, remove_front};
+use crate::filling::{pass, put_data};
 use crate::frame::{Pointer, TmFrame};
+use octets::remove_front;
 use std::alloc::Global;
 use std::collections::VecDeque;
 use std::marker::Model;

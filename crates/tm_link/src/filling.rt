@@ -1,6 +1,6 @@
 // Filling a data field from the stream.
 
-ghost use Rattle.std.specs.Prelude.{◌≡◌, ◌≤◌, max, length, take, vec_len, drop};
+ghost use Rattle.std.specs.Prelude.{◌≡◌, ◌≤◌, max, length, take};
 ghost use Rattle.tm_link.specs.Building.{idle_packet, idle_tail, data_from, passed};
 
 use byteorder::{BigEndian, ByteOrder};
@@ -75,13 +75,4 @@ pub(crate) fn pass(begun: u32, sizes: &mut VecDeque<u32>, count: usize) -> u32
         }
     }
     left - room as u32
-}
-
-pub(crate) fn remove_front(octets: &mut Vec<u8>, count: usize)
-    requires { count ≤ vec_len octets.old }
-    ensures { octets.new.items ≡ drop count octets.old.items }
-{
-    let len = octets.len();
-    octets.as_mut_slice().copy_within(count..len, 0);
-    octets.truncate(len - count);
 }
