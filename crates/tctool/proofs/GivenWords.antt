@@ -1,5 +1,5 @@
 -- What the parser of words says of a value that it hands out: the value passed the parser of its argument.
-use Rattle.std.proofs.Common.{codes, zero, suc, ◌≡◌, ◌∙◌, ◌++◌, subst, ◌<◌, ◌≤◌, ap, ◌||◌, ◌^◌, ℕ, Bool, true, false, List, [], ◌∷◌, length, Option, Some, None, refl, sym, inl, inr, arith}
+use Rattle.std.proofs.Common.{codes, zero, suc, ◌≡◌, ◌∙◌, ◌++◌, subst, ◌<◌, ◌≤◌, ap, ◌||◌, ◌^◌, ℕ, Bool, true, false, List, [], ◌∷◌, length, is_some, Option, Some, None, refl, sym, inl, inr, arith}
 use Rattle.std.specs.List.{All, slice_index_or}
 use Rattle.std.specs.Prelude.{slice_index}
 use Rattle.std.specs.Str.{bytes_eq}
@@ -9,9 +9,9 @@ use Rattle.std.specs.Str.Parse.{ParsesUnsigned}
 use Rattle.std.proofs.lemmas.List.Elements.{All-get_or, All-nil}
 use Rattle.std.proofs.lemmas.List.{append-nil, append_assoc}
 use Rattle.std.proofs.lemmas.Slice.Eq.{bytes_eq-Decides}
-use Rattle.clap.specs.Facts.{args_of, groups_of, Entry, EntryPasses, PassesArg, HasReading, parser_of, parser_of_value}
-use Rattle.clap.specs.Built.{AddsArg, AddsInTurn, HasDistinctIds, FitsChain, IsPlain, IsPlainArg, IsParsedFrom, IsAuto, SameRules, KeepsList}
-use Rattle.clap.specs.Matches.{matched_of, one_text, found_of, ReadsOne}
+use Rattle.clap.specs.Facts.{args_of, Entry, EntryPasses, PassesArg, HasReading, parser_of, parser_of_value}
+use Rattle.clap.specs.Built.{AddsArg, AddsInTurn, HasDistinctIds, FitsChain, TakesValue, IsPlain, IsPlainArg, IsParsedFrom, IsAuto, SameRules, KeepsList}
+use Rattle.clap.specs.Matches.{matched_of, first_value, one_text, found_of, ReadsOne}
 use Rattle.clap.specs.Values.{Accepts, read_as, reading_of}
 use Rattle.clap.specs.declared.builder.value_parser.Reading.{Reading}
 use Rattle.clap.specs.declared.builder.arg.Arg.{Arg}
@@ -21,17 +21,15 @@ use Rattle.clap.specs.declared.builder.value_parser.ValueParser.{ValueParser}
 use Rattle.clap.specs.declared.builder.value_parser.ValueParser.TheVariants as vp
 use Rattle.clap.specs.declared.parser.matches.ArgMatches.{ArgMatches}
 use Rattle.clap.specs.declared.parser.matches.MatchedArg.{MatchedArg}
-use Rattle.clap.proofs.CallerLemmas.{added_plain, entry_by_id, same_rules_by_id}
+use Rattle.clap.proofs.CallerLemmas.{added_plain, entry_by_id, required_in_chain, same_rules_by_id, some_of_text}
 use Rattle.clap.proofs.CallerReads.{signed_reads}
+use Rattle.tctool.specs.Commands.{IsBare}
 
 -- a command that these arguments made, one after another
 pub record IsMadeOf (xs : List Arg) (cmd : Command) : Type 0 where
   pub start : Command
   pub chain : AddsInTurn AddsArg start xs cmd
-  pub args : args_of start ≡ []
-  pub groups : groups_of start ≡ []
-  pub globals : (out-Command start).has_globals ≡ false
-  pub negates : (out-Command start).subcommand_negates_reqs ≡ false
+  pub bare : IsBare start
   pub fit : All FitsChain xs
   pub distinct : HasDistinctIds xs
 
@@ -140,14 +138,24 @@ module _ (cmd : Command) (m : ArgMatches) (p : IsParsedFrom cmd m) (plain : IsPl
   accepted_at : (t : List ℕ) → one_text (found_of m) arg.id.now ≡ Some t → IsAccepted arg q t
   accepted_at t one = accepted_of (matched_of (found_of m) arg.id.now) t refl one
 
+-- a first value is read as some text
+text_of_value : (o : Option MatchedArg) → is_some (option_and_then (λ a. option_map (λ s. s.now) (slice_get a.vals.items 0)) o) ≡ true
+    → (t : List ℕ) × (option_and_then (λ a. option_map (λ s. read_as a.reading s.now) (slice_get a.vals.items 0)) o ≡ Some t)
+text_of_value None h = cc
+text_of_value (Some x) h = go (slice_get x.vals.items 0) h
+  where
+    go : (v : Option (Bor (List ℕ))) → is_some (option_map (λ s. s.now) v) ≡ true → (t : List ℕ) × (option_map (λ s. read_as x.reading s.now) v ≡ Some t)
+    go None some = cc
+    go (Some v) some = (read_as x.reading v.now, refl)
+
 -- ---- a command that is made of arguments
 
 module _ (xs : List Arg) (cmd : Command) (made : IsMadeOf xs cmd) (m : ArgMatches) (p : IsParsedFrom cmd m) (k : ℕ) (d : Arg) (lt : k < length xs) where
   has : Kept (args_of made.start) xs cmd
-  has = kept made.start cmd xs made.chain made.fit (subst (All IsPlainArg) (sym made.args) (All-nil IsPlainArg), made.groups) made.globals
+  has = kept made.start cmd xs made.chain made.fit (subst (All IsPlainArg) (sym made.bare.0) (All-nil IsPlainArg), made.bare.1) made.bare.2
 
   list : args_of cmd ≡ has.added
-  list = has.args ∙ ap (λ (l : List Arg). l ++ has.added) made.args
+  list = has.args ∙ ap (λ (l : List Arg). l ++ has.added) made.bare.0
 
   abbrev pub given : Arg
   given = slice_index_or xs k d
@@ -180,6 +188,30 @@ module _ (xs : List Arg) (cmd : Command) (made : IsMadeOf xs cmd) (m : ArgMatche
       q (same.parser q parser) t (subst (λ (u : List ℕ). one_text (found_of m) u ≡ Some t) (sym same_now) one) in
       (a.given, a.read, a.accepted)
 
+  -- a required argument gives a value
+  value_given : TakesValue given → is_some (first_value (found_of m) given.id.now) ≡ true
+  value_given takes = required_in_chain made.start cmd xs k d m made.chain made.bare.0 made.bare.1 made.bare.2 made.bare.3 made.fit made.distinct lt takes p
+
+  -- and so the text of that value is handed out
+  pub text_given : TakesValue given → (id : List ℕ) → given.id.now ≡ id → (text : Option (Bor (List ℕ))) → option_map (λ s. s.now) text ≡ first_value (found_of m) id → is_some text ≡ true
+  text_given takes id is text shown = some_of_text _ text _ shown (ap (λ (t : List ℕ). is_some (first_value (found_of m) t)) (sym is) ∙ value_given takes)
+
+  -- the number of a text that the argument gives is in the range of its parser
+  number_read : (E : Type 0) (G : List ℕ → Result ℕ E → Type 0) (bits low high : ℕ) (t : List ℕ) (r : Option ℕ) → given.value_parser ≡ Some (vp.Signed (pos low) (pos high))
+      → one_text (found_of m) given.id.now ≡ Some t → ReadsOne G t r → ((u : List ℕ) (x : Result ℕ E) → G u x → ParsesUnsigned bits 10 u x) → high < 2 ^ bits
+      → (n : ℕ) × (r ≡ Some n) × (low ≤ n) × (n ≤ high)
+  number_read E G bits low high t r parser one reads only fits =
+      let g = gives (vp.Signed (pos low) (pos high)) parser t one in
+      signed_reads E G bits low high g.0 r (subst (λ (w : List ℕ). ReadsOne G w r) g.1 reads) only fits g.2
+
+  -- a required argument gives a number in the range of its parser
+  pub required_number : (E : Type 0) (G : List ℕ → Result ℕ E → Type 0) (bits low high : ℕ) (r : Option ℕ) → given.value_parser ≡ Some (vp.Signed (pos low) (pos high)) → TakesValue given
+      → ((t : List ℕ) → one_text (found_of m) given.id.now ≡ Some t → ReadsOne G t r) → ((u : List ℕ) (x : Result ℕ E) → G u x → ParsesUnsigned bits 10 u x) → high < 2 ^ bits
+      → (n : ℕ) × (r ≡ Some n) × (low ≤ n) × (n ≤ high)
+  required_number E G bits low high r parser takes some only fits =
+      let t = text_of_value (matched_of (found_of m) given.id.now) (value_given takes) in
+      number_read E G bits low high t.0 r parser t.1 (some t.0 t.1) only fits
+
   -- a number that the argument gives is in the range of its parser
   pub number_given : (E : Type 0) (G : List ℕ → Result ℕ E → Type 0) (bits low high : ℕ) (r : Option ℕ) → given.value_parser ≡ Some (vp.Signed (pos low) (pos high))
       → (one_text (found_of m) given.id.now ≡ None → r ≡ None) → ((t : List ℕ) → one_text (found_of m) given.id.now ≡ Some t → ReadsOne G t r)
@@ -189,8 +221,7 @@ module _ (xs : List Arg) (cmd : Command) (made : IsMadeOf xs cmd) (m : ArgMatche
       go : (o : Option (List ℕ)) → one_text (found_of m) given.id.now ≡ o → IfSome r (λ n. (low ≤ n) × (n ≤ high))
       go None e = subst (λ (x : Option ℕ). IfSome x (λ n. (low ≤ n) × (n ≤ high))) (sym (none e)) tt
       go (Some t) e =
-          let g = gives (vp.Signed (pos low) (pos high)) parser t e in
-          let n = signed_reads E G bits low high g.0 r (subst (λ (w : List ℕ). ReadsOne G w r) g.1 (some t e)) only fits g.2 in
+          let n = number_read E G bits low high t r parser e (some t e) only fits in
           subst (λ (x : Option ℕ). IfSome x (λ n. (low ≤ n) × (n ≤ high))) (sym n.1) (n.2, n.3)
 
 -- ---- a command of four arguments
@@ -245,14 +276,11 @@ module _ (a b c e : Arg) (w x y z : ℕ) (p : IsNamed a w) (q : IsNamed b x) (r 
 
   -- a command that these four made
   pub made_of_four : (start one two three cmd : Command) → AddsArg start a one → AddsArg one b two → AddsArg two c three → AddsArg three e cmd
-      → args_of start ≡ [] → groups_of start ≡ [] → (out-Command start).has_globals ≡ false → (out-Command start).subcommand_negates_reqs ≡ false → (0 < w) × (0 < x) × (0 < y) × (0 < z) → IsMadeOf (a ∷ b ∷ c ∷ e ∷ []) cmd
-  made_of_four start one two three cmd f g h i args groups globals negates letters = record {
+      → IsBare start → (0 < w) × (0 < x) × (0 < y) × (0 < z) → IsMadeOf (a ∷ b ∷ c ∷ e ∷ []) cmd
+  made_of_four start one two three cmd f g h i bare letters = record {
     start = start;
     chain = (one, f, (two, g, (three, h, (cmd, i, refl))));
-    args = args;
-    groups = groups;
-    globals = globals;
-    negates = negates;
+    bare = bare;
     fit = some_letter letters;
     distinct = distinct_four;
   }
@@ -260,22 +288,31 @@ module _ (a b c e : Arg) (w x y z : ℕ) (p : IsNamed a w) (q : IsNamed b x) (r 
 -- ---- a command of one argument, and of two
 
 module _ (a : Arg) (w : ℕ) (p : IsNamed a w) where
-  pub fit_one : 0 < w → All FitsChain (a ∷ [])
+  fit_one : 0 < w → All FitsChain (a ∷ [])
   fit_one some zero d l = fits a w p some
   fit_one some (suc k) d l = absurd (omega arith)
 
-  pub distinct_one : HasDistinctIds (a ∷ [])
+  distinct_one : HasDistinctIds (a ∷ [])
   distinct_one zero zero d f l m t = refl
   distinct_one zero (suc k) d f l m t = absurd (omega arith)
   distinct_one (suc j) k d f l m t = absurd (omega arith)
 
+  pub made_of_one : (start cmd : Command) → AddsArg start a cmd → IsBare start → 0 < w → IsMadeOf (a ∷ []) cmd
+  made_of_one start cmd f bare some = record {
+    start = start;
+    chain = (cmd, f, refl);
+    bare = bare;
+    fit = fit_one some;
+    distinct = distinct_one;
+  }
+
 module _ (a b : Arg) (w x : ℕ) (p : IsNamed a w) (q : IsNamed b x) where
-  pub fit_two : 0 < w → 0 < x → All FitsChain (a ∷ b ∷ [])
+  fit_two : 0 < w → 0 < x → All FitsChain (a ∷ b ∷ [])
   fit_two some other zero d l = fits a w p some
   fit_two some other (suc zero) d l = fits b x q other
   fit_two some other (suc (suc k)) d l = absurd (omega arith)
 
-  pub distinct_two : (w ≡ x → ⊥) → HasDistinctIds (a ∷ b ∷ [])
+  distinct_two : (w ≡ x → ⊥) → HasDistinctIds (a ∷ b ∷ [])
   distinct_two apart zero zero d f l m t = refl
   distinct_two apart zero (suc zero) d f l m t = absurd (apart (same_letter a b w x p q t))
   distinct_two apart zero (suc (suc k)) d f l m t = absurd (omega arith)
@@ -284,19 +321,42 @@ module _ (a b : Arg) (w x : ℕ) (p : IsNamed a w) (q : IsNamed b x) where
   distinct_two apart (suc zero) (suc (suc k)) d f l m t = absurd (omega arith)
   distinct_two apart (suc (suc j)) k d f l m t = absurd (omega arith)
 
--- ---- the arguments that several commands have; a name of another length, or with another first letter, is none of the flags that building adds
+  pub made_of_two : (start one cmd : Command) → AddsArg start a one → AddsArg one b cmd → IsBare start → 0 < w → 0 < x → (w ≡ x → ⊥) → IsMadeOf (a ∷ b ∷ []) cmd
+  made_of_two start one cmd f g bare some other apart = record {
+    start = start;
+    chain = (one, f, (cmd, g, refl));
+    bare = bare;
+    fit = fit_two some other;
+    distinct = distinct_two apart;
+  }
 
-pub check_named : (a : Arg) → a.id.now ≡ codes "check" → IsPlainArg a × (a.global ≡ false) → IsNamed a 99
-check_named a id h = record {
+-- ---- the arguments of the commands
+
+-- a name of another length is none of the flags that building adds
+option_named : (a : Arg) (name : List ℕ) → a.id.now ≡ name → (length name ≡ 4 → ⊥) → (length name ≡ 7 → ⊥) → IsPlainArg a × (a.global ≡ false) → IsNamed a (slice_index name 0)
+option_named a name id help version h = record {
   plain = h.0;
   is_local = h.1;
   begins = ap (λ (l : List ℕ). slice_index l 0) id;
   is_own = λ auto. elim auto [
-    | inl e ↦ let bad : 5 ≡ 4 = ap length (sym id ∙ e) in absurd (omega arith)
-    | inr e ↦ let bad : 5 ≡ 7 = ap length (sym id ∙ e) in absurd (omega arith)
+    | inl e ↦ help (ap length (sym id ∙ e))
+    | inr e ↦ version (ap length (sym id ∙ e))
   ];
 }
 
+pub check_named : (a : Arg) → a.id.now ≡ codes "check" → IsPlainArg a × (a.global ≡ false) → IsNamed a 99
+check_named a id h = option_named a (codes "check") id (λ e. omega arith) (λ e. omega arith) h
+
+pub width_named : (a : Arg) → a.id.now ≡ codes "width" → IsPlainArg a × (a.global ≡ false) → IsNamed a 119
+width_named a id h = option_named a (codes "width") id (λ e. omega arith) (λ e. omega arith) h
+
+pub vr_named : (a : Arg) → a.id.now ≡ codes "vr" → IsPlainArg a × (a.global ≡ false) → IsNamed a 118
+vr_named a id h = option_named a (codes "vr") id (λ e. omega arith) (λ e. omega arith) h
+
+pub length_named : (a : Arg) → a.id.now ≡ codes "length" → IsPlainArg a × (a.global ≡ false) → IsNamed a 108
+length_named a id h = option_named a (codes "length") id (λ e. omega arith) (λ e. omega arith) h
+
+-- and so is one with another first letter
 pub file_named : (a : Arg) → a.id.now ≡ codes "FILE" → IsPlainArg a × (a.global ≡ false) → IsNamed a 70
 file_named a id h = record {
   plain = h.0;

@@ -2,11 +2,14 @@ pub mod Calls
 pub mod Telling
 pub mod Devices
 pub mod Text
+pub mod Cutting
 pub mod FarmLines
 pub mod FrameLines
 pub mod RefusalLines
 pub mod PacketLines
+pub mod TelemetryLines
 pub mod Ranges
+pub mod Commands
 pub mod Listing
 pub mod Progress
 pub mod Beginning

@@ -1,5 +1,5 @@
 -- The ranges of the numbers that the words give.
-use Rattle.std.specs.Prelude.{◌≡◌, ◌<◌, ◌%◌}
+use Rattle.std.specs.Prelude.{◌≡◌, ◌<◌, ◌≤◌, ◌%◌}
 use Rattle.cop1.specs.Farm.{IsWidth}
 use Rattle.tctool.specs.declared.task.Task.{Task}
 use Rattle.tctool.specs.declared.task.Task.TheVariants as tasks
@@ -9,6 +9,7 @@ use Rattle.tctool.specs.declared.task.UsageFault.TheVariants.{Words, OddWidth}
 abbrev pub IsInRange : Task → Type 0
 IsInRange (tasks.Farm check width vr) = IsWidth width × (vr < 256)
 IsInRange (tasks.Tc check) = Unit {0}
+IsInRange (tasks.Tm length) = (16 ≤ length) × (length ≤ 2048)
 IsInRange tasks.Check = Unit {0}
 IsInRange tasks.Packets = Unit {0}
 

@@ -1,12 +1,14 @@
 // Reads a file, and writes what the words ask for of it.
 
-ghost use Rattle.std.specs.Prelude.{◌≡◌, ◌⊎◌, ◌<◌, ◌++◌, length, true, Err, OnOk, OnErr, IfOk};
+ghost use Rattle.std.specs.Prelude.{◌≡◌, ◌⊎◌, ◌+◌, ◌<◌, ◌++◌, length, true, Err, OnOk, OnErr, IfOk};
 ghost use Rattle.tctool.specs.Beginning.{IsBeginning};
 ghost use Rattle.tctool.specs.Dumped.{lines_of, outcome_for, StopsAt};
 ghost use Rattle.tctool.specs.Gained.{gained};
 ghost use Rattle.tctool.specs.Ranges.{IsInRange};
+ghost use Rattle.tctool.specs.declared.task.Task.TheVariants as tasks;
 
 use crate::fault::DumpFault;
+use crate::frame_cutter::{FrameCutter, FrameLength};
 use crate::frames::FrameListing;
 use crate::outcome::Outcome;
 use crate::packets::PacketListing;
@@ -15,9 +17,12 @@ use crate::sink::Sink;
 use crate::source::Source;
 use crate::stream::list_stream;
 use crate::task::{Options, Task};
+use crate::telemetry::TelemetryListing;
 use cop1::Farm;
+use octets::Splitter;
 use space_packet::Packets;
 use std::alloc::Global;
+use std::marker::Brand;
 use tc_frame::{Check, Checked, Unchecked};
 
 /// Reads the input to its end, in pieces, and writes the lines that the words ask for: of each piece
@@ -43,31 +48,53 @@ pub fn dump<R: Source, W: Sink>(
     ensures write { result ≡ Err DumpFault.Write → W.failures writer.old < W.failures writer.new }
     ensures too_long { result ≡ Err DumpFault.TooLong → 9223372036854775807 < length (gained (R.given reader.old) (R.given reader.new)) }
 {
+    let checked = Splitter::<Checked>::new(alloc);
+    let unchecked = Splitter::<Unchecked>::new(alloc);
     match options.task {
         Task::Farm { check, width, vr } => {
             let farm = Farm::new(width, vr).unwrap();
             match check {
-                Check::On => list_stream::<Checked, Farm, R, W>(alloc, reader, writer, farm),
-                Check::Off => list_stream::<Unchecked, Farm, R, W>(alloc, reader, writer, farm),
+                Check::On => list_stream(alloc, reader, writer, checked, farm),
+                Check::Off => list_stream(alloc, reader, writer, unchecked, farm),
             }
         }
         Task::Tc { check } => {
             let frames = FrameListing::new(alloc);
             match check {
-                Check::On => list_stream::<Checked, FrameListing, R, W>(
-                    alloc, reader, writer, frames,
-                ),
-                Check::Off => list_stream::<Unchecked, FrameListing, R, W>(
-                    alloc, reader, writer, frames,
-                ),
+                Check::On => list_stream(alloc, reader, writer, checked, frames),
+                Check::Off => list_stream(alloc, reader, writer, unchecked, frames),
             }
         }
-        Task::Check => {
-            list_stream::<Checked, RefusalListing, R, W>(alloc, reader, writer, RefusalListing)
-        }
+        Task::Tm { length } => list_frames::<Brand, R, W>(alloc, reader, writer, length),
+        Task::Check => list_stream(alloc, reader, writer, checked, RefusalListing),
         Task::Packets => {
+            let splitter = Splitter::<Packets>::new(alloc);
             let packets = PacketListing::new(alloc);
-            list_stream::<Packets, PacketListing, R, W>(alloc, reader, writer, packets)
+            list_stream(alloc, reader, writer, splitter, packets)
         }
     }
+}
+
+// Lists telemetry frames of this length, for which `K` stands.
+fn list_frames<K: FrameLength, R: Source, W: Sink>(
+    alloc: Global,
+    reader: &mut R,
+    writer: &mut W,
+    size: u16,
+) -> Result<Outcome, DumpFault>
+    requires { size ≡ K.payload + 12 }
+    ensures given { IsBeginning (R.given reader.old) (R.given reader.new) }
+    ensures text { OnOk result (W.taken_octets writer.new ≡ W.taken_octets writer.old ++ lines_of (tasks.Tm size) (gained (R.given reader.old) (R.given reader.new))) }
+    ensures outcome { IfOk result (λ outcome. outcome ≡ outcome_for (tasks.Tm size) (gained (R.given reader.old) (R.given reader.new))) }
+    ensures end { OnOk result ((R.has_ended reader.new ≡ true) ⊎ StopsAt (tasks.Tm size) (gained (R.given reader.old) (R.given reader.new))) }
+    ensures beginning { OnErr result (IsBeginning (W.taken_octets writer.new) (W.taken_octets writer.old ++ lines_of (tasks.Tm size) (gained (R.given reader.old) (R.given reader.new)))) }
+    ensures read { result ≡ Err DumpFault.Read → R.failures reader.old < R.failures reader.new }
+    ensures write { result ≡ Err DumpFault.Write → W.failures writer.old < W.failures writer.new }
+    ensures too_long { result ≡ Err DumpFault.TooLong → 9223372036854775807 < length (gained (R.given reader.old) (R.given reader.new)) }
+{
+    let Ok(frames) = TelemetryListing::<K>::new(alloc, size) else {
+        return Err(DumpFault::Memory);
+    };
+    let cutter = FrameCutter::<K>::new(alloc, usize::from(size));
+    list_stream(alloc, reader, writer, cutter, frames)
 }

@@ -9,6 +9,7 @@ ghost use Rattle.tctool.specs.FarmLines.{verdict_word, state_word, flag_number, 
 use crate::listing::Listing;
 use crate::text::push_invalid;
 use cop1::{Farm, FarmMode, Verdict};
+use octets::Splitter;
 use std::alloc::AllocError;
 use std::fmt::Write;
 use tc_frame::{Body, Check, Checked, Command, TcFault, Unchecked, decode};
@@ -108,7 +109,7 @@ fn push_frame(
     }
 }
 
-impl Listing<Unchecked> for Farm {
+impl Listing<Splitter<Unchecked>> for Farm {
     ghost lines = { farm_lines checks.Off };
 
     fn take(&mut self, text: &mut String, index: u64, octets: &[u8]) -> Result<bool, AllocError> {
@@ -120,7 +121,7 @@ impl Listing<Unchecked> for Farm {
     }
 }
 
-impl Listing<Checked> for Farm {
+impl Listing<Splitter<Checked>> for Farm {
     ghost lines = { farm_lines checks.On };
 
     fn take(&mut self, text: &mut String, index: u64, octets: &[u8]) -> Result<bool, AllocError> {

@@ -8,6 +8,7 @@ ghost use Rattle.tctool.specs.FrameLines.{type_word, channel_text, segment_text,
 
 use crate::listing::Listing;
 use crate::text::{push_invalid, push_octets};
+use octets::Splitter;
 use std::alloc::{AllocError, Global};
 use std::fmt::Write;
 use std::marker::Model;
@@ -111,7 +112,7 @@ fn push_body(text: &mut String, alloc: Global, body: &Body) -> Result<(), AllocE
     }
 }
 
-impl Listing<Unchecked> for FrameListing {
+impl Listing<Splitter<Unchecked>> for FrameListing {
     ghost lines = { frame_lines checks.Off };
 
     fn take(&mut self, text: &mut String, index: u64, octets: &[u8]) -> Result<bool, AllocError> {
@@ -123,7 +124,7 @@ impl Listing<Unchecked> for FrameListing {
     }
 }
 
-impl Listing<Checked> for FrameListing {
+impl Listing<Splitter<Checked>> for FrameListing {
     ghost lines = { frame_lines checks.On };
 
     fn take(&mut self, text: &mut String, index: u64, octets: &[u8]) -> Result<bool, AllocError> {

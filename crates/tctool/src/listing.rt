@@ -3,12 +3,12 @@
 ghost use Rattle.std.specs.Prelude.{◌≡◌, ◌++◌, OnOk, IfOk, string_bytes};
 ghost use Rattle.tctool.specs.Listing.{Lines};
 
-use octets::Wire;
+use crate::cutter::Cutter;
 use std::alloc::AllocError;
 
 /// What a command writes of the records of a layout.
-pub trait Listing<L: Wire> {
-    ghost lines: { Lines Self L.Fault };
+pub trait Listing<S: Cutter> {
+    ghost lines: { Lines Self S.Fault };
 
     /// Takes a record, appends its lines, and answers whether it is good.
     fn take(&mut self, text: &mut String, index: u64, octets: &[u8]) -> Result<bool, AllocError>
@@ -17,6 +17,6 @@ pub trait Listing<L: Wire> {
         ensures good { IfOk result (λ good. good ≡ lines.is_good octets.now) };
 
     /// Appends the line of octets that are refused as no record.
-    fn refuse(text: &mut String, index: u64, fault: L::Fault) -> Result<(), AllocError>
+    fn refuse(text: &mut String, index: u64, fault: S::Fault) -> Result<(), AllocError>
         ensures { OnOk result (string_bytes text.new ≡ string_bytes text.old ++ lines.fault_line index fault) };
 }

@@ -1,13 +1,15 @@
-//! The command `tctool`: what files of telecommand frames and of space packets hold, and what a receiver makes of
-//! the frames.
+//! The command `tctool`: what files of telecommand frames, telemetry frames and space packets hold, and what a
+//! receiver makes of telecommand frames.
 #![tactic(auto)]
 
 ghost use Rattle.tctool.specs.Ranges.{IsInRange};
 
+mod cutter;
 mod dump;
 mod ending;
 mod farm;
 mod fault;
+mod frame_cutter;
 mod frames;
 mod listing;
 mod outcome;
@@ -18,6 +20,7 @@ mod sink;
 mod source;
 mod stream;
 mod task;
+mod telemetry;
 mod text;
 mod told;
 mod words;

@@ -8,6 +8,7 @@ ghost use Rattle.tctool.specs.PacketLines.{kind_word, none_seen, process_text, s
 
 use crate::listing::Listing;
 use crate::text::{push_invalid, push_octets};
+use octets::Splitter;
 use space_packet::{GapCheck, Packet, PacketFault, PacketKind, Packets, decode};
 use std::alloc::{AllocError, Global};
 use std::fmt::Write;
@@ -77,7 +78,7 @@ fn push_gap(text: &mut String, gap: Option<u16>) -> Result<(), AllocError>
     }
 }
 
-impl Listing<Packets> for PacketListing {
+impl Listing<Splitter<Packets>> for PacketListing {
     ghost lines = { packet_lines };
 
     fn take(&mut self, text: &mut String, index: u64, octets: &[u8]) -> Result<bool, AllocError> {

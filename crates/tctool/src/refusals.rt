@@ -5,6 +5,7 @@ ghost use Rattle.tctool.specs.RefusalLines.{refusal_lines};
 
 use crate::listing::Listing;
 use crate::text::push_invalid;
+use octets::Splitter;
 use std::alloc::AllocError;
 use std::marker::Model;
 use tc_frame::{Check, Checked, TcFault, decode};
@@ -19,7 +20,7 @@ impl Model for RefusalListing {
     ghost view = { λ l. tt };
 }
 
-impl Listing<Checked> for RefusalListing {
+impl Listing<Splitter<Checked>> for RefusalListing {
     ghost lines = { refusal_lines };
 
     fn take(&mut self, text: &mut String, index: u64, octets: &[u8]) -> Result<bool, AllocError> {

@@ -1,7 +1,6 @@
 // Reads a stream in pieces, and writes what a command makes of its records.
 
 ghost use Rattle.std.specs.Prelude.{◌≡◌, ◌⊎◌, None, false, true, ◌+◌, ◌-◌, ◌^◌, ◌<◌, ◌≤◌, ◌&&◌, ◌++◌, [], length, Ok, Err, OnOk, OnErr, IfOk, IfErr, string_bytes};
-ghost use Rattle.octets.specs.Holding.{held, failure};
 ghost use Rattle.octets.specs.Records.{first_record, rest_of};
 ghost use Rattle.tctool.specs.Listing.{fresh, listed, text_of, is_all_good, rest_line, is_empty, HasListed, HasRefused, IsRefused};
 ghost use Rattle.tctool.specs.Beginning.{IsBeginning};
@@ -9,13 +8,13 @@ ghost use Rattle.tctool.specs.Gained.{gained};
 ghost use Rattle.tctool.specs.Outcome.{outcome_of};
 ghost use Rattle.tctool.specs.Progress.{refusal, standing};
 
+use crate::cutter::Cutter;
 use crate::fault::DumpFault;
 use crate::listing::Listing;
 use crate::outcome::Outcome;
 use crate::output::{WriteFailed, write_all};
 use crate::sink::Sink;
 use crate::source::Source;
-use octets::{Splitter, Wire};
 use std::alloc::{AllocError, Global};
 
 /// How many records there were, and whether all of them were good.
@@ -36,22 +35,22 @@ impl Progress {
     }
 }
 
-/// Takes all whole records that the splitter holds, and answers the fault of the octets behind them
+/// Takes all whole records that the cutter holds, and answers the fault of the octets behind them
 /// where they are refused.
-fn list_records<L: Wire, C: Listing<L>>(
-    splitter: &mut Splitter<L>,
+fn list_records<S: Cutter, C: Listing<S>>(
+    cutter: &mut S,
     command: &mut C,
     progress: &mut Progress,
     text: &mut String,
-) -> Result<Option<L::Fault>, AllocError>
-    requires { progress.old.count + length (held splitter.old) < 2 ^ 64 }
-    ensures count { OnOk result (progress.new.count + length (held splitter.new) ≤ progress.old.count + length (held splitter.old)) }
-    ensures listed { OnOk result (standing (string_bytes text.new) command.new progress.new (held splitter.new)
-        ≡ listed C.lines L.HEAD L.extent_of L.truncated_fault (standing (string_bytes text.old) command.old progress.old (held splitter.old))) }
-    ensures fault { IfOk result (λ fault. first_record L.HEAD L.extent_of (held splitter.new) ≡ refusal fault) }
-    ensures failed { result ≡ Ok None → failure splitter.new ≡ failure splitter.old }
+) -> Result<Option<S::Fault>, AllocError>
+    requires { progress.old.count + length (S.held cutter.old) < 2 ^ 64 }
+    ensures count { OnOk result (progress.new.count + length (S.held cutter.new) ≤ progress.old.count + length (S.held cutter.old)) }
+    ensures listed { OnOk result (standing (string_bytes text.new) command.new progress.new (S.held cutter.new)
+        ≡ listed C.lines S.head S.extent_of S.truncated_fault (standing (string_bytes text.old) command.old progress.old (S.held cutter.old))) }
+    ensures fault { IfOk result (λ fault. first_record S.head S.extent_of (S.held cutter.new) ≡ refusal fault) }
+    ensures failed { result ≡ Ok None → S.failure cutter.new ≡ S.failure cutter.old }
 {
-    while let Some(answer) = splitter.next() {
+    while let Some(answer) = cutter.next() {
         match answer {
             Ok(octets) => {
                 progress.count += 1;
@@ -86,31 +85,31 @@ fn put<W: Sink, T: Copy>(writer: &mut W, text: &String, answer: T) -> Result<T, 
 
 /// Takes a piece of the stream, and writes the lines of all records that are whole now, and the line
 /// of octets that are refused behind them.
-fn list_piece<L: Wire, C: Listing<L>, W: Sink>(
-    splitter: &mut Splitter<L>,
+fn list_piece<S: Cutter, C: Listing<S>, W: Sink>(
+    cutter: &mut S,
     command: &mut C,
     progress: &mut Progress,
     text: &mut String,
     writer: &mut W,
     piece: &[u8],
 ) -> Result<Course, DumpFault>
-    requires { progress.old.count + length (held splitter.old ++ piece.now) < 2 ^ 64 - 1 }
-    ensures open { result ≡ Ok Course.Open → HasListed C.lines L.HEAD L.extent_of L.truncated_fault (standing [] command.old progress.old (held splitter.old ++ piece.now)) (standing [] command.new progress.new (held splitter.new))
+    requires { progress.old.count + length (S.held cutter.old ++ piece.now) < 2 ^ 64 - 1 }
+    ensures open { result ≡ Ok Course.Open → HasListed C.lines S.head S.extent_of S.truncated_fault (standing [] command.old progress.old (S.held cutter.old ++ piece.now)) (standing [] command.new progress.new (S.held cutter.new))
         (W.taken_octets writer.old) (W.taken_octets writer.new) }
-    ensures going { result ≡ Ok Course.Open → failure splitter.new ≡ failure splitter.old }
-    ensures count { result ≡ Ok Course.Open → progress.new.count + length (held splitter.new) ≤ progress.old.count + length (held splitter.old ++ piece.now) }
-    ensures refused { result ≡ Ok Course.Refused → HasRefused C.lines L.HEAD L.extent_of L.truncated_fault (standing [] command.old progress.old (held splitter.old ++ piece.now))
+    ensures going { result ≡ Ok Course.Open → S.failure cutter.new ≡ S.failure cutter.old }
+    ensures count { result ≡ Ok Course.Open → progress.new.count + length (S.held cutter.new) ≤ progress.old.count + length (S.held cutter.old ++ piece.now) }
+    ensures refused { result ≡ Ok Course.Refused → HasRefused C.lines S.head S.extent_of S.truncated_fault (standing [] command.old progress.old (S.held cutter.old ++ piece.now))
         (W.taken_octets writer.old) (W.taken_octets writer.new) }
-    ensures beginning { OnErr result (IsBeginning (W.taken_octets writer.new) (W.taken_octets writer.old ++ text_of C.lines L.HEAD L.extent_of L.truncated_fault (standing [] command.old progress.old (held splitter.old ++ piece.now)))) }
+    ensures beginning { OnErr result (IsBeginning (W.taken_octets writer.new) (W.taken_octets writer.old ++ text_of C.lines S.head S.extent_of S.truncated_fault (standing [] command.old progress.old (S.held cutter.old ++ piece.now)))) }
     ensures write { result ≡ Err DumpFault.Write → W.failures writer.old < W.failures writer.new }
     ensures failures { W.failures writer.old ≤ W.failures writer.new }
     ensures faults { IfErr result (λ e. (e ≡ DumpFault.Write) ⊎ (e ≡ DumpFault.Memory)) }
 {
     text.clear();
-    let Ok(()) = splitter.feed(piece) else {
+    let Ok(()) = cutter.feed(piece) else {
         return Err(DumpFault::Memory);
     };
-    let Ok(fault) = list_records(splitter, command, progress, text) else {
+    let Ok(fault) = list_records(cutter, command, progress, text) else {
         return Err(DumpFault::Memory);
     };
     let Some(fault) = fault else {
@@ -123,23 +122,23 @@ fn list_piece<L: Wire, C: Listing<L>, W: Sink>(
 }
 
 /// Writes the line of what is left when the input has ended, where anything is.
-fn list_rest<L: Wire, C: Listing<L>, W: Sink>(
-    splitter: &Splitter<L>,
+fn list_rest<S: Cutter, C: Listing<S>, W: Sink>(
+    cutter: &S,
     progress: Progress,
     text: &mut String,
     writer: &mut W,
 ) -> Result<Outcome, DumpFault>
-    requires open { first_record L.HEAD L.extent_of (held splitter.now) ≡ None }
-    requires going { failure splitter.now ≡ None }
+    requires open { first_record S.head S.extent_of (S.held cutter.now) ≡ None }
+    requires going { S.failure cutter.now ≡ None }
     requires count { progress.count < 2 ^ 64 - 1 }
-    ensures ok { IfOk result (λ outcome. (outcome ≡ outcome_of (progress.all_good && is_empty (held splitter.now)))
-        × (W.taken_octets writer.new ≡ W.taken_octets writer.old ++ rest_line C.lines L.HEAD L.extent_of L.truncated_fault (progress.count + 1) (held splitter.now))) }
-    ensures beginning { OnErr result (IsBeginning (W.taken_octets writer.new) (W.taken_octets writer.old ++ rest_line C.lines L.HEAD L.extent_of L.truncated_fault (progress.count + 1) (held splitter.now))) }
+    ensures ok { IfOk result (λ outcome. (outcome ≡ outcome_of (progress.all_good && is_empty (S.held cutter.now)))
+        × (W.taken_octets writer.new ≡ W.taken_octets writer.old ++ rest_line C.lines S.head S.extent_of S.truncated_fault (progress.count + 1) (S.held cutter.now))) }
+    ensures beginning { OnErr result (IsBeginning (W.taken_octets writer.new) (W.taken_octets writer.old ++ rest_line C.lines S.head S.extent_of S.truncated_fault (progress.count + 1) (S.held cutter.now))) }
     ensures write { result ≡ Err DumpFault.Write → W.failures writer.old < W.failures writer.new }
     ensures failures { W.failures writer.old ≤ W.failures writer.new }
     ensures faults { IfErr result (λ e. (e ≡ DumpFault.Write) ⊎ (e ≡ DumpFault.Memory)) }
 {
-    let Err(fault) = splitter.finish() else {
+    let Err(fault) = cutter.finish() else {
         return Ok(Outcome::of(progress.all_good));
     };
     text.clear();
@@ -153,24 +152,26 @@ fn list_rest<L: Wire, C: Listing<L>, W: Sink>(
 pub const MOST_OCTETS: u64 = 9_223_372_036_854_775_807;
 
 /// Reads a stream in pieces, and writes the lines of each piece before it reads the next.
-pub fn list_stream<L: Wire, C: Listing<L> + Drop, R: Source, W: Sink>(
+pub fn list_stream<S: Cutter + Drop, C: Listing<S> + Drop, R: Source, W: Sink>(
     alloc: Global,
     reader: &mut R,
     writer: &mut W,
+    mut cutter: S,
     mut command: C,
 ) -> Result<Outcome, DumpFault>
+    requires held { S.held cutter ≡ [] }
+    requires going { S.failure cutter ≡ None }
     ensures given { IsBeginning (R.given reader.old) (R.given reader.new) }
     ensures text { OnOk result (W.taken_octets writer.new ≡ W.taken_octets writer.old
-        ++ text_of C.lines L.HEAD L.extent_of L.truncated_fault (fresh command (gained (R.given reader.old) (R.given reader.new)))) }
-    ensures outcome { IfOk result (λ outcome. outcome ≡ outcome_of (is_all_good C.lines L.HEAD L.extent_of L.truncated_fault (fresh command (gained (R.given reader.old) (R.given reader.new))))) }
-    ensures end { OnOk result ((R.has_ended reader.new ≡ true) ⊎ IsRefused C.lines L.HEAD L.extent_of L.truncated_fault (rest_of L.HEAD L.extent_of (gained (R.given reader.old) (R.given reader.new)))) }
+        ++ text_of C.lines S.head S.extent_of S.truncated_fault (fresh command (gained (R.given reader.old) (R.given reader.new)))) }
+    ensures outcome { IfOk result (λ outcome. outcome ≡ outcome_of (is_all_good C.lines S.head S.extent_of S.truncated_fault (fresh command (gained (R.given reader.old) (R.given reader.new))))) }
+    ensures end { OnOk result ((R.has_ended reader.new ≡ true) ⊎ IsRefused C.lines S.head S.extent_of S.truncated_fault (rest_of S.head S.extent_of (gained (R.given reader.old) (R.given reader.new)))) }
     ensures beginning { OnErr result (IsBeginning (W.taken_octets writer.new) (W.taken_octets writer.old
-        ++ text_of C.lines L.HEAD L.extent_of L.truncated_fault (fresh command (gained (R.given reader.old) (R.given reader.new))))) }
+        ++ text_of C.lines S.head S.extent_of S.truncated_fault (fresh command (gained (R.given reader.old) (R.given reader.new))))) }
     ensures read { result ≡ Err DumpFault.Read → R.failures reader.old < R.failures reader.new }
     ensures write { result ≡ Err DumpFault.Write → W.failures writer.old < W.failures writer.new }
     ensures too_long { result ≡ Err DumpFault.TooLong → MOST_OCTETS < length (gained (R.given reader.old) (R.given reader.new)) }
 {
-    let mut splitter = Splitter::<L>::new(alloc);
     let mut progress = Progress {
         count: 0,
         all_good: true,
@@ -183,14 +184,14 @@ pub fn list_stream<L: Wire, C: Listing<L> + Drop, R: Source, W: Sink>(
             return Err(DumpFault::Read);
         };
         if count == 0 {
-            return list_rest::<L, C, W>(&splitter, progress, &mut text, writer);
+            return list_rest::<S, C, W>(&cutter, progress, &mut text, writer);
         }
         if count as u64 > MOST_OCTETS - total {
             return Err(DumpFault::TooLong);
         }
         total += count as u64;
         let course = match list_piece(
-            &mut splitter,
+            &mut cutter,
             &mut command,
             &mut progress,
             &mut text,

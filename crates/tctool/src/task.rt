@@ -11,6 +11,9 @@ pub enum Task {
     Farm { check: Check, width: u8, vr: u8 },
     /// Tells what each telecommand frame says.
     Tc { check: Check },
+    /// Tells what each telemetry frame says, of frames of this length, 16 to 2,048 octets, and the
+    /// packets that are finished with it.
+    Tm { length: u16 },
     /// Tells the frames that are refused, of frames that end with their check.
     Check,
     /// Tells what each space packet says.

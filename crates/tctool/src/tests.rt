@@ -14,7 +14,7 @@ use crate::sink::Writer;
 use crate::source::Reader;
 use crate::task::{Options, Task};
 use devices::{Store, Supply};
-use rows::{Row, check_rows, faulty_farm_rows, good_farm_rows, packets_rows, tc_rows};
+use rows::{Row, check_rows, faulty_farm_rows, good_farm_rows, packets_rows, tc_rows, tm_rows};
 use std::alloc::Global;
 use std::process::Abort;
 
@@ -26,6 +26,9 @@ fn is_in_range(rt: &impl Abort, task: Task)
             assert!(rt; width % 2 == 0 && 2 <= width && width <= 254);
         }
         Task::Tc { .. } => {}
+        Task::Tm { length } => {
+            assert!(rt; 16 <= length && length <= 2048);
+        }
         Task::Check => {}
         Task::Packets => {}
     }
@@ -106,6 +109,9 @@ fn files(rt: HostRuntime) {
     for row in &check_rows() {
         is_written_in_pieces(&rt, rt.alloc(), row);
     }
+    for row in &tm_rows() {
+        is_written_in_pieces(&rt, rt.alloc(), row);
+    }
     for row in &packets_rows() {
         is_written_in_pieces(&rt, rt.alloc(), row);
     }
@@ -123,6 +129,9 @@ fn failing_devices(rt: HostRuntime) {
         fails_with_each_call(&rt, rt.alloc(), row);
     }
     for row in &check_rows() {
+        fails_with_each_call(&rt, rt.alloc(), row);
+    }
+    for row in &tm_rows() {
         fails_with_each_call(&rt, rt.alloc(), row);
     }
     for row in &packets_rows() {

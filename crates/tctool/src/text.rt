@@ -1,6 +1,7 @@
 // Pieces of lines.
 
 ghost use Rattle.std.specs.Prelude.{◌≡◌, ◌++◌, OnOk, string_bytes};
+ghost use Rattle.hex.specs.Hex.{encode_upper};
 ghost use Rattle.tctool.specs.Text.{invalid_line, octets_line};
 
 use std::alloc::{AllocError, Global};
@@ -17,7 +18,14 @@ pub fn push_invalid(text: &mut String, index: u64, number: u8, name: &str) -> Re
 pub fn push_octets(text: &mut String, alloc: Global, octets: &[u8]) -> Result<(), AllocError>
     ensures { OnOk result (string_bytes text.new ≡ string_bytes text.old ++ octets_line octets.now) }
 {
-    let digits = hex::encode_upper(alloc, octets)?;
-    text.push_str(digits.as_str())?;
+    push_digits(text, alloc, octets)?;
     text.push('\n')
+}
+
+/// Appends octets as upper-case hexadecimal digits.
+pub fn push_digits(text: &mut String, alloc: Global, octets: &[u8]) -> Result<(), AllocError>
+    ensures { OnOk result (string_bytes text.new ≡ string_bytes text.old ++ encode_upper octets.now) }
+{
+    let digits = hex::encode_upper(alloc, octets)?;
+    text.push_str(digits.as_str())
 }

@@ -6,6 +6,7 @@ ghost use Rattle.tctool.specs.Ranges.{IsInRange, IsOddIfWidth};
 mod arguments;
 mod farm;
 mod files;
+mod tm;
 
 use crate::task::{Options, UsageFault};
 use arguments::Described;
@@ -25,6 +26,7 @@ pub fn options<'a>(alloc: Global, words: &'a [&'a str]) -> Result<Options<'a>, U
         match *command {
             "farm" => return farm::farm_options(alloc, &words[1..]),
             "tc" => return files::tc_options(alloc, &words[1..]),
+            "tm" => return tm::tm_options(alloc, &words[1..]),
             "check" => return files::check_options(alloc, &words[1..]),
             "packets" => return files::packets_options(alloc, &words[1..]),
             _ => {}
@@ -56,7 +58,8 @@ fn no_command<'a>(alloc: Global, words: &'a [&'a str]) -> Result<Error, AllocErr
         .disable_help_subcommand(true);
     let with_farm = listed(alloc, start, farm::FARM)?;
     let with_tc = listed(alloc, with_farm, files::TC)?;
-    let with_check = listed(alloc, with_tc, files::CHECK)?;
+    let with_tm = listed(alloc, with_tc, tm::TM)?;
+    let with_check = listed(alloc, with_tm, files::CHECK)?;
     let mut command = listed(alloc, with_check, files::PACKETS)?;
     match command.try_get_matches_from_mut(words) {
         Err(error) => Ok(error),

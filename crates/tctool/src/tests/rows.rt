@@ -203,3 +203,130 @@ pub fn packets_rows() -> [Row; 5] {
         ),
     ]
 }
+
+/// Frames that carry packets of 7 octets: with the second lost, whole, with one of only idle data in the second's place,
+/// and with idle packets behind the one packet. Then a packet of 24 octets over three frames, the last of another channel,
+/// a frame of the least length, no octets, and octets that are refused, at last between other frames.
+pub fn tm_rows() -> [Row; 11] {
+    [
+        good(
+            Task::Tm { length: 20 },
+            b"\x00\x11\x00\x00\x18\x00\x00\x05\xc0\x00\x00\x00\xaa\x00\x01\x08\x00\x00\xc1\xcb\
+              \x00\x11\x02\x02\x18\x05\xc0\x02\x00\x00\xcc\x00\x05\xc0\x01\x08\x00\x00\x49\xb2\
+              \x00\x11\x03\x03\x18\x04\x03\x00\x00\xdd\x07\xff\xc0\x00\x01\x08\x00\x00\x83\x64",
+            "1 scid=1 vcid=0 mc=0 vc=0 pointer=0 ocf=01080000 gap=-\n\
+             packet 0005C0000000AA\n\
+             2 scid=1 vcid=0 mc=2 vc=2 pointer=5 ocf=01080000 gap=1\n\
+             3 scid=1 vcid=0 mc=3 vc=3 pointer=4 ocf=01080000 gap=0\n\
+             packet 0005C0030000DD\n",
+        ),
+        good(
+            Task::Tm { length: 20 },
+            b"\x00\x11\x00\x00\x18\x00\x00\x05\xc0\x00\x00\x00\xaa\x00\x01\x08\x00\x00\xc1\xcb\
+              \x00\x11\x01\x01\x18\x06\x05\xc0\x01\x00\x00\xbb\x00\x05\x01\x08\x00\x00\x06\xe5\
+              \x00\x11\x02\x02\x18\x05\xc0\x02\x00\x00\xcc\x00\x05\xc0\x01\x08\x00\x00\x49\xb2\
+              \x00\x11\x03\x03\x18\x04\x03\x00\x00\xdd\x07\xff\xc0\x00\x01\x08\x00\x00\x83\x64",
+            "1 scid=1 vcid=0 mc=0 vc=0 pointer=0 ocf=01080000 gap=-\n\
+             packet 0005C0000000AA\n\
+             2 scid=1 vcid=0 mc=1 vc=1 pointer=6 ocf=01080000 gap=0\n\
+             packet 0005C0010000BB\n\
+             3 scid=1 vcid=0 mc=2 vc=2 pointer=5 ocf=01080000 gap=0\n\
+             packet 0005C0020000CC\n\
+             4 scid=1 vcid=0 mc=3 vc=3 pointer=4 ocf=01080000 gap=0\n\
+             packet 0005C0030000DD\n",
+        ),
+        good(
+            Task::Tm { length: 20 },
+            b"\x00\x11\x00\x00\x18\x00\x00\x05\xc0\x00\x00\x00\xaa\x00\x01\x08\x00\x00\xc1\xcb\
+              \x00\x11\x01\x01\x1f\xfe\x55\x55\x55\x55\x55\x55\x55\x55\x01\x08\x00\x00\xa9\xd8\
+              \x00\x11\x02\x02\x18\x05\xc0\x02\x00\x00\xcc\x00\x05\xc0\x01\x08\x00\x00\x49\xb2\
+              \x00\x11\x03\x03\x18\x04\x03\x00\x00\xdd\x07\xff\xc0\x00\x01\x08\x00\x00\x83\x64",
+            "1 scid=1 vcid=0 mc=0 vc=0 pointer=0 ocf=01080000 gap=-\n\
+             packet 0005C0000000AA\n\
+             2 scid=1 vcid=0 mc=1 vc=1 pointer=idle ocf=01080000 gap=0\n\
+             3 scid=1 vcid=0 mc=2 vc=2 pointer=5 ocf=01080000 gap=0\n\
+             4 scid=1 vcid=0 mc=3 vc=3 pointer=4 ocf=01080000 gap=0\n\
+             packet 0005C0030000DD\n",
+        ),
+        good(
+            Task::Tm { length: 20 },
+            b"\x00\x11\x00\x00\x18\x00\x00\x05\xc0\x00\x00\x00\xaa\x07\x01\x08\x00\x00\xa6\x1f\
+              \x00\x11\x01\x01\x18\x06\xff\xc0\x00\x00\x00\x55\x07\xff\x01\x08\x00\x00\xc1\x21\
+              \x00\x11\x02\x02\x18\x05\xc0\x00\x00\x00\x55\x07\xff\xc0\x01\x08\x00\x00\x7e\xc7\
+              \x00\x11\x03\x03\x18\x04\x00\x00\x00\x55\x07\xff\xc0\x00\x01\x08\x00\x00\x10\xb6\
+              \x00\x11\x04\x04\x18\x03\x00\x00\x55\x07\xff\xc0\x00\x00\x01\x08\x00\x00\x1a\x09\
+              \x00\x11\x05\x05\x18\x02\x00\x55\x07\xff\xc0\x00\x00\x00\x01\x08\x00\x00\x2d\xcf\
+              \x00\x11\x06\x06\x18\x01\x55\x07\xff\xc0\x00\x00\x00\x55\x01\x08\x00\x00\x9c\x74\
+              \x00\x11\x07\x07\x1f\xfe\x55\x55\x55\x55\x55\x55\x55\x55\x01\x08\x00\x00\xbf\x08",
+            "1 scid=1 vcid=0 mc=0 vc=0 pointer=0 ocf=01080000 gap=-\n\
+             packet 0005C0000000AA\n\
+             2 scid=1 vcid=0 mc=1 vc=1 pointer=6 ocf=01080000 gap=0\n\
+             3 scid=1 vcid=0 mc=2 vc=2 pointer=5 ocf=01080000 gap=0\n\
+             4 scid=1 vcid=0 mc=3 vc=3 pointer=4 ocf=01080000 gap=0\n\
+             5 scid=1 vcid=0 mc=4 vc=4 pointer=3 ocf=01080000 gap=0\n\
+             6 scid=1 vcid=0 mc=5 vc=5 pointer=2 ocf=01080000 gap=0\n\
+             7 scid=1 vcid=0 mc=6 vc=6 pointer=1 ocf=01080000 gap=0\n\
+             8 scid=1 vcid=0 mc=7 vc=7 pointer=idle ocf=01080000 gap=0\n",
+        ),
+        good(
+            Task::Tm { length: 20 },
+            b"\x00\x11\x00\x00\x18\x00\x00\x05\xc0\x00\x00\x11\x01\x02\x01\x08\x00\x00\x28\xd8\
+              \x00\x11\x01\x01\x1f\xff\x03\x04\x05\x06\x07\x08\x09\x0a\x01\x08\x00\x00\x4c\x38\
+              \x3f\xff\xff\x02\x1f\xff\x0b\x0c\x0d\x0e\x0f\x10\x11\x12\x01\x08\x00\x00\xb9\x83",
+            "1 scid=1 vcid=0 mc=0 vc=0 pointer=0 ocf=01080000 gap=-\n\
+             2 scid=1 vcid=0 mc=1 vc=1 pointer=none ocf=01080000 gap=0\n\
+             3 scid=1023 vcid=7 mc=255 vc=2 pointer=none ocf=01080000 gap=0\n\
+             packet 0005C00000110102030405060708090A0B0C0D0E0F101112\n",
+        ),
+        good(
+            Task::Tm { length: 16 },
+            b"\x00\x11\x00\x00\x1f\xfe\x55\x55\x55\x55\x01\x08\x00\x00\x95\x8b",
+            "1 scid=1 vcid=0 mc=0 vc=0 pointer=idle ocf=01080000 gap=-\n",
+        ),
+        good(Task::Tm { length: 16 }, b"", ""),
+        faulty(
+            Task::Tm { length: 20 },
+            b"\x00\x11\x00\x00\x18\x00\x00\x05\xc0\x00\x00\x00\xaa\x00\x01\x08\x00\x00\xc1\xcb\
+              \x00\x11\x01\x01\x18\x06\x05\xc0\x01\x00\x00\xbb\x00\x05\x01\x08\x00\x00\x06\xe4\
+              \x00\x11\x02\x02\x18\x05\xc0\x02\x00\x00\xcc\x00\x05\xc0\x01\x08\x00\x00\x49\xb2\
+              \x00\x11\x03\x03\x18\x04\x03\x00\x00\xdd\x07\xff\xc0\x00\x01\x08\x00\x00\x83\x64",
+            "1 scid=1 vcid=0 mc=0 vc=0 pointer=0 ocf=01080000 gap=-\n\
+             packet 0005C0000000AA\n\
+             2 invalid 3 Check\n\
+             3 scid=1 vcid=0 mc=2 vc=2 pointer=5 ocf=01080000 gap=1\n\
+             4 scid=1 vcid=0 mc=3 vc=3 pointer=4 ocf=01080000 gap=0\n\
+             packet 0005C0030000DD\n",
+        ),
+        faulty(
+            Task::Tm { length: 20 },
+            b"\x00\x11\x00\x00\x18\x00\x00\x05\xc0\x00\x00\x00\xaa\x00\x01\x08\x00\x00\xc1\xcb\
+              \x00\x11\x01\x01\x18\x06\x05\xc0\x01\x00\x00\xbb\x00\x05\x01\x08\x00\x00\x06",
+            "1 scid=1 vcid=0 mc=0 vc=0 pointer=0 ocf=01080000 gap=-\n\
+             packet 0005C0000000AA\n\
+             2 invalid 1 Length\n",
+        ),
+        faulty(
+            Task::Tm { length: 2048 },
+            &[0x55; 4095],
+            "1 invalid 2 Version\n\
+             2 invalid 1 Length\n",
+        ),
+        faulty(
+            Task::Tm { length: 20 },
+            b"\x00\x11\x00\x00\x18\x00\x00\x05\xc0\x00\x00\x00\xaa\x00\x01\x08\x00\x00\xc1\xcb\
+              \x00\x11\x01\x01\x1f\xff\x05\xc0\x01\x00\x0a\xbb\xbb\xbb\x01\x08\x00\x00\xa4\x92\
+              \x00\x11\x02\x02\x1f\xff\xbb\xbb\xbb\xbb\xbb\xbb\xbb\xbb\x01\x08\x00\x00\x43\x30\
+              \x00\x11\x03\x03\x1f\xfe\x55\x55\x55\x55\x55\x55\x55\x55\x01\x08\x00\x00\xa4\x69\
+              \x00\x11\x05\x07\x18\x05\x55\x55\x55\x55\x55\x00\x05\xc0\x01\x08\x00\x00\x79\x4d\
+              \x00\x11\x06\x08\x18\x05",
+            "1 scid=1 vcid=0 mc=0 vc=0 pointer=0 ocf=01080000 gap=-\n\
+             packet 0005C0000000AA\n\
+             2 scid=1 vcid=0 mc=1 vc=1 pointer=none ocf=01080000 gap=0\n\
+             3 scid=1 vcid=0 mc=2 vc=2 pointer=none ocf=01080000 gap=0\n\
+             packet 0005C001000ABBBBBBBBBBBBBBBBBBBBBB\n\
+             4 invalid 3 Check\n\
+             5 scid=1 vcid=0 mc=5 vc=7 pointer=5 ocf=01080000 gap=4\n\
+             6 invalid 1 Length\n",
+        ),
+    ]
+}

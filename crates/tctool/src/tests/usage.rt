@@ -118,3 +118,48 @@ fn odd_widths(rt: HostRuntime) {
     let refused = options(rt.alloc(), &words);
     assert!(rt; matches!(refused, Err(UsageFault::OddWidth { width: 3 })));
 }
+
+#[test]
+fn words_with_a_length(rt: HostRuntime) {
+    for (given, length) in [("--length=16", 16), ("--length=2048", 2048)] {
+        asks_for(
+            &rt,
+            rt.alloc(),
+            &["tctool", "tm", given, "frames"],
+            Task::Tm { length },
+        );
+    }
+    asks_for(
+        &rt,
+        rt.alloc(),
+        &["tctool", "tm", "--length", "20", "frames"],
+        Task::Tm { length: 20 },
+    );
+}
+
+fn is_refused_for_tm(rt: &impl Abort, alloc: Global, option: &str, file: &str) {
+    let words = ["tctool", "tm", option, file];
+    assert_eq!(rt; status_of_words(alloc, &words), Some(2));
+}
+
+#[test]
+fn lengths_that_are_refused(rt: HostRuntime) {
+    for option in [
+        "--length=15",
+        "--length=2049",
+        "--length=65536",
+        "--length=-20",
+        "--length=twenty",
+    ] {
+        is_refused_for_tm(&rt, rt.alloc(), option, "frames");
+    }
+    is_refused_for_tm(&rt, rt.alloc(), "--length", "20");
+    assert_eq!(rt;
+        status_of_words(rt.alloc(), &["tctool", "tm", "frames"]),
+        Some(2)
+    );
+    let with_check = ["tctool", "tm", "--length", "20", "--check", "frames"];
+    assert_eq!(rt; status_of_words(rt.alloc(), &with_check), Some(2));
+    let help = ["tctool", "tm", "--help"];
+    assert_eq!(rt; status_of_words(rt.alloc(), &help), Some(0));
+}

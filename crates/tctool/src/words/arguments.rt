@@ -1,10 +1,11 @@
 // What the commands have in common.
 
-ghost use Rattle.std.specs.Prelude.{◌≡◌, false, codes};
+ghost use Rattle.std.specs.Prelude.{◌≡◌, false, codes, IfOk};
 ghost use Rattle.clap.specs.Built.{IsPlainArg, TakesValue};
+ghost use Rattle.tctool.specs.Commands.{IsBare};
 
-use clap::{Arg, ArgAction};
-use std::alloc::Global;
+use clap::{Arg, ArgAction, Command};
+use std::alloc::{AllocError, Global};
 use tc_frame::Check;
 
 /// A command as its help tells of it.
@@ -14,6 +15,14 @@ pub struct Described<'a> {
     /// The program and the command, as usage is shown.
     pub bin_name: &'a str,
     pub about: &'a str,
+}
+
+/// The command as its help tells of it, with no argument yet.
+pub fn bare_command<'a>(alloc: Global, described: Described<'a>) -> Result<Command<'a>, AllocError>
+    ensures { IfOk result IsBare }
+{
+    let named = Command::new(alloc, described.name).bin_name(described.bin_name)?;
+    Ok(named.about(described.about))
 }
 
 /// `--check`, whether frames end with their check.

@@ -6,8 +6,8 @@ ghost use Rattle.clap.specs.Built.{IsPlainArg};
 ghost use Rattle.clap.specs.declared.builder.value_parser.ValueParser.TheVariants as parsers;
 
 use crate::task::{Options, Task, UsageFault};
-use crate::words::arguments::{Described, check_flag, check_of_flag, file_argument};
-use clap::{Arg, ArgAction, Command, Error, value_parser};
+use crate::words::arguments::{Described, bare_command, check_flag, check_of_flag, file_argument};
+use clap::{Arg, ArgAction, Error, value_parser};
 use std::alloc::Global;
 
 pub const FARM: Described<'static> = Described {
@@ -83,9 +83,7 @@ fn farm_words<'a>(
     let vr = vr_option(alloc);
     let check = check_flag(alloc);
     let file = file_argument(alloc, "Telecommand frames, one after another");
-    let start = Command::new(alloc, described.name)
-        .bin_name(described.bin_name)?
-        .about(described.about);
+    let start = bare_command(alloc, described)?;
     let with_width = start.arg(width)?;
     let with_vr = with_width.arg(vr)?;
     let with_check = with_vr.arg(check)?;

@@ -4,8 +4,8 @@ ghost use Rattle.std.specs.Prelude.{IfOk, IfErr};
 ghost use Rattle.tctool.specs.Ranges.{IsInRange, IsOddIfWidth};
 
 use crate::task::{Options, Task, UsageFault};
-use crate::words::arguments::{Described, check_flag, check_of_flag, file_argument};
-use clap::{Command, Error};
+use crate::words::arguments::{Described, bare_command, check_flag, check_of_flag, file_argument};
+use clap::Error;
 use std::alloc::Global;
 use tc_frame::Check;
 
@@ -76,9 +76,7 @@ fn checked_file<'a>(
 ) -> Result<(Check, &'a str), Error> {
     let check = check_flag(alloc);
     let file = file_argument(alloc, "Telecommand frames, one after another");
-    let start = Command::new(alloc, described.name)
-        .bin_name(described.bin_name)?
-        .about(described.about);
+    let start = bare_command(alloc, described)?;
     let with_check = start.arg(check)?;
     let command = with_check.arg(file)?;
     let matches = command.try_get_matches_from(words)?;
@@ -94,9 +92,7 @@ fn plain_file<'a>(
     words: &'a [&'a str],
 ) -> Result<&'a str, Error> {
     let file = file_argument(alloc, help);
-    let start = Command::new(alloc, described.name)
-        .bin_name(described.bin_name)?
-        .about(described.about);
+    let start = bare_command(alloc, described)?;
     let command = start.arg(file)?;
     let matches = command.try_get_matches_from(words)?;
     Ok(matches.get_str("FILE").unwrap())

@@ -1,14 +1,9 @@
-use Rattle.std.proofs.Common.{◌∙◌, List, ℕ, [], ◌∷◌, refl, rules, sym, ap, arith, is_some}
-use Rattle.clap.specs.Words.{found_of, first_value}
-use Rattle.clap.proofs.CallerLemmas.{required_in_chain, some_of_text}
-use Rattle.tctool.proofs.GivenWords.{file_named, fit_one, distinct_one}
+use Rattle.std.proofs.Common.{[], ◌∷◌, arith}
+use Rattle.tctool.proofs.GivenWords.{file_named, made_of_one, text_given}
 use Rattle.tctool.proofs.words.files.plain_file.Goals as goal
 
 pub unwrap-requires : goal.unwrap-requires
 unwrap-requires c =
     let f = c.file_argument-file in
-    let named = file_named f.result f.ensures.id f.ensures.plain in
-    let given = required_in_chain c.about-start.result c.in_ok-command.command (f.result ∷ []) 0 f.result c.in_ok-matches.matches
-    (c.in_ok-command.command, c.in_ok-command.ensures, refl) (search rules) (search rules) (search rules) (search rules)
-    (fit_one f.result 70 named (omega arith)) (distinct_one f.result 70 named) (omega arith) f.ensures.takes c.in_ok-matches.ensures.parsed in
-    some_of_text _ c.get_str.result _ c.get_str.ensures (ap (λ (t : List ℕ). is_some (first_value (found_of c.in_ok-matches.matches) t)) (sym f.ensures.id) ∙ given)
+    let made = made_of_one f.result 70 (file_named f.result f.ensures.id f.ensures.plain) c.in_ok-start.start c.in_ok-command.command c.in_ok-command.ensures c.in_ok-start.ensures (omega arith) in
+    text_given (f.result ∷ []) c.in_ok-command.command made c.in_ok-matches.matches c.in_ok-matches.ensures.parsed 0 f.result (omega arith) f.ensures.takes _ f.ensures.id c.get_str.result c.get_str.ensures

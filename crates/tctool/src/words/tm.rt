@@ -1,0 +1,73 @@
+// The words of `tctool tm`.
+
+ghost use Rattle.std.specs.Prelude.{◌≡◌, ◌≤◌, false, codes, pos, Some, IfOk, IfErr};
+ghost use Rattle.tctool.specs.Ranges.{IsInRange, IsOddIfWidth};
+ghost use Rattle.clap.specs.Built.{IsPlainArg, TakesValue};
+ghost use Rattle.clap.specs.declared.builder.value_parser.ValueParser.TheVariants as parsers;
+
+use crate::task::{Options, Task, UsageFault};
+use crate::words::arguments::{Described, bare_command, file_argument};
+use clap::{Arg, ArgAction, Error, value_parser};
+use std::alloc::Global;
+
+pub const TM: Described<'static> = Described {
+    name: "tm",
+    bin_name: "tctool tm",
+    about: "Tells what each telemetry frame says, and its finished packets",
+};
+
+/// The words of `tctool tm`, the command's name first.
+pub fn tm_options<'a>(alloc: Global, words: &'a [&'a str]) -> Result<Options<'a>, UsageFault>
+    ensures range { IfOk result (λ options. IsInRange options.task) }
+    ensures odd { IfErr result IsOddIfWidth }
+{
+    let given = tm_words(alloc, TM, words)?;
+    Ok(Options {
+        task: Task::Tm {
+            length: given.length,
+        },
+        file: given.file,
+    })
+}
+
+/// The words of `tctool tm` as they were given.
+#[derive(Drop)]
+struct TmWords<'a> {
+    length: u16,
+    file: &'a str,
+}
+
+// `--length F`, the octets of a frame.
+fn length_option<'a>(alloc: Global) -> Arg<'a>
+    ensures id { result.id.now ≡ codes "length" }
+    ensures plain { IsPlainArg result × (result.global ≡ false) }
+    ensures parser { result.value_parser ≡ Some (parsers.Signed (pos 16) (pos 2048)) }
+    ensures takes { TakesValue result }
+{
+    Arg::new(alloc, "length")
+        .long("length")
+        .required(true)
+        .value_name("F")
+        .value_parser(value_parser!(u16).range(16..=2048))
+        .help("Octets of a frame, 16 to 2048")
+        .action(ArgAction::Set)
+}
+
+fn tm_words<'a>(
+    alloc: Global,
+    described: Described<'a>,
+    words: &'a [&'a str],
+) -> Result<TmWords<'a>, Error>
+    ensures { IfOk result (λ given. (16 ≤ given.length) × (given.length ≤ 2048)) }
+{
+    let length = length_option(alloc);
+    let file = file_argument(alloc, "Telemetry frames, one after another");
+    let start = bare_command(alloc, described)?;
+    let with_length = start.arg(length)?;
+    let command = with_length.arg(file)?;
+    let matches = command.try_get_matches_from(words)?;
+    Ok(TmWords {
+        length: matches.get_one::<u16>("length").unwrap(),
+        file: matches.get_str("FILE").unwrap(),
+    })
+}
