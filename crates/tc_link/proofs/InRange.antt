@@ -3,8 +3,7 @@ use Rattle.std.proofs.Common.{◌≡◌, ◌≤◌, ℕ, ◌/◌, ◌%◌, List,
 use Rattle.std.specs.Prelude.{◌&&◌}
 use Rattle.std.proofs.lemmas.Bool.{ltb-false, le-ltb, leb-true, le-leb, eqb-true, eq-eqb, and_parts, not-false}
 use Rattle.tc_link.specs.declared.config.Config.{Config}
-use Rattle.tc_link.specs.Within.{is_within}
-use Rattle.tc_link.specs.Parameters.{channel_fault, cop_fault, node_fault, config_fault, first_of, IsConfig}
+use Rattle.tc_link.specs.Parameters.{is_within, channel_fault, cop_fault, node_fault, config_fault, first_of, IsConfig}
 
 -- a test that told nothing
 passed : (b : Bool) (field : List ℕ) (rest : Option (List ℕ)) → cond b (Some field) rest ≡ None → (b ≡ false) × (rest ≡ None)

@@ -1,3 +1,4 @@
 pub mod Counting
+pub mod Delivering
 pub mod InRange
 pub mod Walks

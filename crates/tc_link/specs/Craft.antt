@@ -1,5 +1,5 @@
 -- The spacecraft: what it holds, and what each of its calls answers and leaves.
-use Rattle.std.specs.Prelude.{ℕ, List, [], ◌∷◌, ◌++◌, length, Bool, true, false, ◌&&◌, ◌==◌, nat_lt, if◌then◌else◌, Option, Some, None, Result, Ok, Err}
+use Rattle.std.specs.Prelude.{◌≡◌, ℕ, List, [], ◌∷◌, ◌++◌, length, Bool, true, false, ◌&&◌, ◌==◌, nat_lt, if◌then◌else◌, Option, Some, None, Result, Ok, Err}
 use Rattle.circular_buffer.specs.Buffer.{keep_last}
 use Rattle.clcw.specs.Writing as words
 use Rattle.tc_frame.specs.declared.frame.Check.TheVariants.{On}
@@ -92,6 +92,9 @@ sequence_arrived s n segment verdict =
       after = after_farm s (AdArrives n (is_free s));
     }
 
+abbrev pub sequence_received : CraftState → ℕ → SegmentView → CraftOutcome Received
+sequence_received s n segment = sequence_arrived s n segment (verdict_of s.farm n (is_free s))
+
 -- ---- a Type-BD frame arrives
 
 -- where as many packets wait as there are slots, the oldest goes
@@ -105,6 +108,9 @@ bypass_arrived s segment true = record {
 }
 bypass_arrived s segment false = record { answer = Bypass false; after = after_farm s BdArrives }
 
+abbrev pub bypass_received : CraftState → SegmentView → CraftOutcome Received
+bypass_received s segment = bypass_arrived s segment (is_kept (limits_of s.config) segment)
+
 -- ---- octets arrive
 
 abbrev pub command_event : Command → FarmEvent
@@ -112,8 +118,8 @@ command_event Unlock = UnlockArrives
 command_event (SetVr x) = SetVrArrives x
 
 abbrev pub body_arrived : CraftState → BodyView → CraftOutcome Received
-body_arrived s (Ad n segment) = sequence_arrived s n segment (verdict_of s.farm n (is_free s))
-body_arrived s (Bd segment) = bypass_arrived s segment (is_kept (limits_of s.config) segment)
+body_arrived s (Ad n segment) = sequence_received s n segment
+body_arrived s (Bd segment) = bypass_received s segment
 body_arrived s (Bc command) = record { answer = Control command; after = after_farm s (command_event command) }
 
 -- a frame of this spacecraft's virtual channel
@@ -160,6 +166,11 @@ reported s = record {
   answer = (build_step s.builder (report_octets s)).0;
   after = record s { builder = (build_step s.builder (report_octets s)).1 };
 }
+
+-- a telemetry frame of this spacecraft's virtual channel
+pub record IsOwnFrame (c : Config) (f : telemetry.FrameView) : Type 0 where
+  pub scid : f.scid ≡ c.scid
+  pub vcid : f.vcid ≡ c.tm_vcid
 
 -- ---- all calls
 

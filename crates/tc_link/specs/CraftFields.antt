@@ -1,12 +1,20 @@
 -- How a spacecraft's fields stand for its state.
 use Rattle.std.specs.Prelude.{◌≡◌, ◌<◌}
 use Rattle.map_service.specs.Exactness.{HasPartsOf}
+use Rattle.tm_link.specs.Building.{BuilderState}
+use Rattle.tc_link.specs.declared.config.Config.{Config}
 use Rattle.tc_link.specs.declared.spacecraft.Spacecraft.TheInside.{Inside}
 use Rattle.tc_link.specs.Parameters.{limits_of}
 use Rattle.tc_link.specs.Craft.{CraftState}
 
 abbrev pub state_of : Inside → CraftState
 state_of s = record { config = s.config; farm = s.farm; accepted = s.history.segments; ready = s.ready.items; bypass = s.bypass.items; builder = s.builder }
+
+-- frames of the length and the virtual channel that are configured
+pub record IsBuilderOf (c : Config) (b : BuilderState) : Type 0 where
+  pub scid : b.scid ≡ c.scid
+  pub vcid : b.vcid ≡ c.tm_vcid
+  pub total : b.total ≡ c.frame_length
 
 -- what the fields keep to
 pub record IsSound (s : Inside) : Type 0 where
@@ -15,3 +23,4 @@ pub record IsSound (s : Inside) : Type 0 where
   -- the assembler keeps the open parts of the segments that were accepted
   pub parts : HasPartsOf s.assembler s.history.segments
   pub slots : s.bypass.capacity ≡ s.config.bypass_slots
+  pub frames : IsBuilderOf s.config s.builder

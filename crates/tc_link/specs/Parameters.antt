@@ -1,9 +1,11 @@
 -- The managed parameters: their ranges in their order, the values that a script begins with, and what the segmentation
 -- service keeps to.
-use Rattle.std.specs.Prelude.{◌≡◌, ◌≤◌, ℕ, ◌/◌, ◌%◌, ◌^◌, ◌-◌, List, codes, not, ◌&&◌, ◌==◌, nat_lt, if◌then◌else◌, Option, Some, None}
+use Rattle.std.specs.Prelude.{◌≡◌, ◌≤◌, ℕ, ◌/◌, ◌%◌, ◌^◌, ◌-◌, List, codes, Bool, not, ◌&&◌, ◌==◌, nat_lt, nat_le, if◌then◌else◌, Option, Some, None}
 use Rattle.map_service.specs.declared.limits.Limits.{Limits}
 use Rattle.tc_link.specs.declared.config.Config.{Config}
-use Rattle.tc_link.specs.Within.{is_within}
+
+abbrev pub is_within : ℕ → ℕ → ℕ → Bool
+is_within number least most = nat_le least number && nat_le number most
 
 -- each field is in its range; `maps` is any 64 bits
 pub record IsConfig (c : Config) : Type 0 where

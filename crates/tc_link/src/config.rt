@@ -2,7 +2,7 @@
 
 ghost use Rattle.std.specs.Prelude.{◌≡◌, ◌↔◌, IsNone};
 ghost use Rattle.std.specs.Option.{option_copied};
-ghost use Rattle.tc_link.specs.Within.{is_within};
+ghost use Rattle.tc_link.specs.Parameters.{is_within};
 
 use map_service::Limits;
 

@@ -9,12 +9,14 @@ mod config;
 mod fault;
 mod history;
 mod keeping;
+mod laws;
 mod map_packet;
 mod received;
 mod spacecraft;
 
 pub use config::Config;
 pub use fault::LinkFault;
+pub use laws::law_of_delivery;
 pub use received::Received;
 pub use spacecraft::Spacecraft;
 

@@ -47,7 +47,7 @@ impl Spacecraft {
     ghost use Rattle.tm_link.specs.Layout.{IsTmFrame};
     ghost use Rattle.tm_link.specs.Writing.{spelling};
     ghost use Rattle.tc_link.specs.Parameters.{IsConfig};
-    ghost use Rattle.tc_link.specs.Craft.{new_craft, craft_step, Take, TakeBypass, Telemetry, Report};
+    ghost use Rattle.tc_link.specs.Craft.{new_craft, craft_step, Take, TakeBypass, Telemetry, Report, IsOwnFrame};
     ghost use Rattle.tc_link.specs.Packets.{packet_view};
 
     /// A spacecraft that has received nothing, with each field of the configuration in its range. The
@@ -121,12 +121,13 @@ impl Spacecraft {
     /// Writes the next telemetry frame, which reports on the receiver, at the beginning of `out`, and
     /// says how many octets it has. Octets past it stay.
     pub fn report(&mut self, out: &mut [u8; 2048]) -> usize
-        ensures count { result ≡ self.old.builder.total }
+        ensures count { result ≡ self.old.config.frame_length }
         ensures frame { out.new ≡ spelling (craft_step self.old Report).answer ++ drop result out.old }
         ensures after { self.new ≡ (craft_step self.old Report).after }
 
-        // So the octets are this frame.
+        // So the octets are this frame, of the spacecraft's own channel.
         ensures spells { IsTmFrame result (craft_step self.old Report).answer (take result out.new) }
+        ensures own { IsOwnFrame self.old.config (craft_step self.old Report).answer }
     {
         let Ok(ocf) = encode(&self.farm.report(self.config.vcid as u8)) else {
             unreachable!()

@@ -17,7 +17,7 @@ impl Spacecraft {
     ghost use Rattle.tc_frame.specs.Reading.{frame_at};
     ghost use Rattle.tc_link.specs.Parameters.{limits_of};
     ghost use Rattle.tc_link.specs.Keeping.{is_kept};
-    ghost use Rattle.tc_link.specs.Craft.{craft_step, Receive, is_free, is_own, is_accepted, handed_on, after_segment, after_farm, command_event, sequence_arrived, bypass_arrived};
+    ghost use Rattle.tc_link.specs.Craft.{craft_step, Receive, is_free, is_own, is_accepted, handed_on, after_segment, after_farm, command_event, sequence_received, bypass_received};
 
     /// Takes octets that came from the ground: exactly one telecommand frame, with its check (CCSDS
     /// 232.0-B-4, 4.1). The fault is 6 `Memory`; all growths are made first, so that the spacecraft is
@@ -71,8 +71,8 @@ impl Spacecraft {
     }
 
     fn receive_sequence(&mut self, n: u8, segment: &Segment<'_>) -> Result<Received, LinkFault>
-        ensures answer { IfOk result (λ r. r ≡ (sequence_arrived self.old n (segment_view segment.now) (verdict_of self.old.farm n (is_free self.old))).answer) }
-        ensures after { OnOk result (self.new ≡ (sequence_arrived self.old n (segment_view segment.now) (verdict_of self.old.farm n (is_free self.old))).after) }
+        ensures answer { IfOk result (λ r. r ≡ (sequence_received self.old n (segment_view segment.now)).answer) }
+        ensures after { OnOk result (self.new ≡ (sequence_received self.old n (segment_view segment.now)).after) }
         ensures err { OnErr result (self.new ≡ self.old) }
         ensures fault { IfErr result (λ e. e ≡ LinkFault.Memory) }
     {
@@ -105,11 +105,8 @@ impl Spacecraft {
         ensures err { OnErr result (self.new ≡ self.old) }
         ensures fault { IfErr result (λ e. e ≡ LinkFault.Memory) }
     {
-        if self
-            .ready
-            .try_reserve(segment.payload.len() / 6 + 1)
-            .is_err()
-        {
+        let most = segment.payload.len() / 6 + 1;
+        if self.ready.try_reserve(most).is_err() {
             return Err(LinkFault::Memory);
         }
         let Ok(taken) = self.assembler.take(segment) else {
@@ -122,8 +119,8 @@ impl Spacecraft {
     }
 
     fn receive_bypass(&mut self, segment: &Segment<'_>) -> Result<Received, LinkFault>
-        ensures answer { IfOk result (λ r. r ≡ (bypass_arrived self.old (segment_view segment.now) (is_kept (limits_of self.old.config) (segment_view segment.now))).answer) }
-        ensures after { OnOk result (self.new ≡ (bypass_arrived self.old (segment_view segment.now) (is_kept (limits_of self.old.config) (segment_view segment.now))).after) }
+        ensures answer { IfOk result (λ r. r ≡ (bypass_received self.old (segment_view segment.now)).answer) }
+        ensures after { OnOk result (self.new ≡ (bypass_received self.old (segment_view segment.now)).after) }
         ensures err { OnErr result (self.new ≡ self.old) }
         ensures fault { IfErr result (λ e. e ≡ LinkFault.Memory) }
     {
@@ -135,8 +132,8 @@ impl Spacecraft {
             return Err(LinkFault::Memory);
         };
         self.farm.bd();
-        self.bypass
-            .push_back(MapPacket::new(segment.header.map, octets));
+        let packet = MapPacket::new(segment.header.map, octets);
+        let _oldest = self.bypass.push_back(packet);
         Ok(Received::Bypass { kept: true })
     }
 

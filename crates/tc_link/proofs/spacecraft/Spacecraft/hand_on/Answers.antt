@@ -27,4 +27,5 @@ invariant_of-self-2 c = record {
   limits = ap (λ (a : AssemblerState). a.limits) c.in-Ok.ensures.state ∙ c.self.invariant.limits;
   parts = subst (λ (segments : List SegmentView). HasPartsOf c.take.new.self segments) (sym c.then-self-inside.ensures) (c.in-Ok.ensures.exact c.self.inside.history.segments c.self.invariant.parts).kept;
   slots = c.self.invariant.slots;
+  frames = c.self.invariant.frames;
 }
