@@ -62,8 +62,7 @@ fn craft(rt: &impl Abort, alloc: Global, config: &Config) -> Result<Spacecraft, 
     }
 }
 
-// Receives. Where memory is refused the spacecraft reports as before, and the call made again answers
-// as ever.
+// Receives. Where memory is refused the call made again answers as ever.
 fn receive(craft: &mut Spacecraft, octets: &[u8]) -> Result<Received, LinkFault> {
     match craft.receive(octets) {
         Ok(received) => Ok(received),
