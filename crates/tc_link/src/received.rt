@@ -27,6 +27,6 @@ pub enum Received {
         /// Whether it carried a packet, which is kept.
         kept: bool,
     },
-    /// A Type-BC frame: the command that was obeyed.
+    /// A Type-BC frame, with its command.
     Control(Command),
 }
