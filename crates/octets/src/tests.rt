@@ -131,7 +131,7 @@ fn a_front_is_removed(rt: HostRuntime) {
     let mut octets = Vec::new(rt.alloc());
     if octets.extend_from_slice(&[1, 2, 3, 4]).is_ok() {
         remove_front(&mut octets, 3);
-        assert_eq!(rt; octets.as_slice(), [4]);
+        assert_eq!(rt; octets.as_slice(), [4].as_slice());
     }
 }
 
