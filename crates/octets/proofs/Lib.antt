@@ -9,3 +9,4 @@ pub mod Below
 pub mod Checked
 pub mod Bursts
 pub mod Streams
+pub mod Walks

@@ -1,4 +1,4 @@
--- A step that the walks over `Told` share. Assumes `Logic`.
+-- A step that walks over structs with ghost fields alone share. Assumes `Logic`.
 use Rattle.std.proofs.Common.{List, [], ◌∷◌, refl}
 use seplogic.Ra.Ura.{Ura}
 use mir.Val.{Val, vstruct, vnil}

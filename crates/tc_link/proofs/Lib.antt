@@ -1,4 +1,3 @@
 pub mod Counting
 pub mod Delivering
 pub mod InRange
-pub mod Walks

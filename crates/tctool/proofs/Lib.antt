@@ -1,4 +1,3 @@
-pub mod Walks
 pub mod GivenWords
 pub mod Listed
 pub mod Beginnings

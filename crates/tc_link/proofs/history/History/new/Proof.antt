@@ -23,7 +23,7 @@ use denote.Triple.Entry.{alive}
 use denote.Triple.Spec.{Meets, triple_of}
 use denote.Triple.Table.{entered}
 use denote.Triple.Walked.{says, Stays, walk_of, ends_at, walk_Meets}
-use Rattle.tc_link.proofs.Walks.{none, none_made}
+use Rattle.octets.proofs.Walks.{none, none_made}
 use Rattle.tc_link.specs.contracts.history.History as History
 use Rattle.tc_link.specs.contracts.history.History.new as F
 use Rattle.tc_link.specs.contracts.history.History.new.Key.{name as #self}

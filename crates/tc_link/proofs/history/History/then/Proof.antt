@@ -25,7 +25,7 @@ use denote.Triple.Entry.{alive}
 use denote.Triple.Spec.{Meets, triple_of}
 use denote.Triple.Table.{entered}
 use denote.Triple.Walked.{says, Stays, stay_dropped, walk_of, ends_at, walk_Meets, Goes-dropped}
-use Rattle.tc_link.proofs.Walks.{none, none_made}
+use Rattle.octets.proofs.Walks.{none, none_made}
 use Rattle.tc_link.specs.contracts.history.History as History
 use Rattle.tc_frame.specs.contracts.frame.Segment as Segment
 use Rattle.tc_frame.specs.Layout.{segment_view}

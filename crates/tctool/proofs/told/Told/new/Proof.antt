@@ -23,7 +23,7 @@ use denote.Triple.Entry.{alive}
 use denote.Triple.Spec.{Meets, triple_of}
 use denote.Triple.Table.{entered}
 use denote.Triple.Walked.{says, Stays, walk_of, ends_at, walk_Meets}
-use Rattle.tctool.proofs.Walks.{none, none_made}
+use Rattle.octets.proofs.Walks.{none, none_made}
 use Rattle.tctool.specs.contracts.told.Told as Told
 use Rattle.tctool.specs.contracts.told.Told.new as F
 use Rattle.tctool.specs.contracts.told.Told.new.Key.{name as #self}

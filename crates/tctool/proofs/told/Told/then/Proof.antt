@@ -25,7 +25,7 @@ use denote.Triple.Entry.{alive}
 use denote.Triple.Spec.{Meets, triple_of}
 use denote.Triple.Table.{entered}
 use denote.Triple.Walked.{says, Stays, stay_dropped, walk_of, ends_at, walk_Meets, Goes-dropped}
-use Rattle.tctool.proofs.Walks.{none, none_made}
+use Rattle.octets.proofs.Walks.{none, none_made}
 use Rattle.tctool.specs.contracts.told.Told as Told
 use Rattle.tctool.specs.contracts.told.Call as Call
 use Rattle.tctool.specs.Calls.{octets_with, ended_with, failures_with}
