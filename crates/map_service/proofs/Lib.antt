@@ -8,5 +8,6 @@ pub mod Whole
 pub mod Parts
 pub mod Passage
 pub mod InParts
+pub mod Counts
 pub mod Grouping
 pub mod Histories

@@ -121,7 +121,7 @@ fn run_len(octets: &[u8], part: usize) -> usize
 }
 
 // How many octets the first group has.
-fn group_len(octets: &[u8], part: usize) -> usize
+pub(crate) fn group_len(octets: &[u8], part: usize) -> usize
     requires some_octet { 1 ≤ length octets.now }
     requires whole { rest_in octets.now ≡ [] }
     ensures group { result ≡ length (concat (first_group part (packets_in octets.now))) }

@@ -6,6 +6,7 @@
 
 mod assembling;
 mod cells;
+mod counting;
 mod cutting;
 mod cutting_laws;
 mod dropped;
@@ -16,6 +17,7 @@ mod limits;
 mod packets;
 
 pub use assembling::Assembler;
+pub use counting::segment_count;
 pub use cutting::cut;
 pub use cutting_laws::{
     law_of_groups, law_of_histories, law_of_parts, law_of_passage, law_of_segments,

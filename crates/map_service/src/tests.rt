@@ -180,3 +180,18 @@ fn faults_by_number_and_name(rt: HostRuntime) {
     assert_eq!(rt; MapFault::TooLong.number(), 2);
     assert_eq!(rt; MapFault::TooLong.name(), "TooLong");
 }
+
+#[test]
+fn segments_counted(rt: HostRuntime) {
+    assert_eq!(rt; segment_count(&P0, &limits(3, false)), Ok(3));
+    assert_eq!(rt; segment_count(&P0, &limits(7, false)), Ok(1));
+    assert_eq!(rt; segment_count(&LONG_BETWEEN, &limits(9, true)), Ok(4));
+    assert_eq!(rt; segment_count(&THREE, &limits(20, true)), Ok(2));
+    let alone = limits(20, false);
+    assert_eq!(rt; segment_count(&THREE, &alone), Err(MapFault::NotAPacket));
+    let short = Limits {
+        max_packet: 6,
+        ..alone
+    };
+    assert_eq!(rt; segment_count(&P0, &short), Err(MapFault::TooLong));
+}

@@ -1,3 +1,10 @@
+pub mod Commanding
 pub mod Counting
 pub mod Delivering
+pub mod Foreseen
+pub mod Fronts
 pub mod InRange
+pub mod Refusing
+pub mod Running
+pub mod Sending
+pub mod Submitting

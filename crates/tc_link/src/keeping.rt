@@ -20,7 +20,7 @@ pub(crate) fn is_kept(limits: &Limits, segment: &Segment<'_>) -> bool
         && is_one_packet(segment.payload)
 }
 
-fn is_open(limits: &Limits, map: u8) -> bool
+pub(crate) fn is_open(limits: &Limits, map: u8) -> bool
     ensures { result ≡ is_open limits.now map }
 {
     map < 64 && (limits.maps >> map) & 1 == 1
@@ -35,7 +35,7 @@ fn is_alone(flags: SegmentFlags) -> bool
     }
 }
 
-fn is_too_long(limits: &Limits, octets: &[u8]) -> bool
+pub(crate) fn is_too_long(limits: &Limits, octets: &[u8]) -> bool
     ensures { result ≡ is_too_long limits.now octets.now }
 {
     octets.len() > limits.max_packet as usize

@@ -1,6 +1,7 @@
 // The node on board.
 
 mod receiving;
+mod telling;
 
 use crate::config::Config;
 use crate::fault::LinkFault;

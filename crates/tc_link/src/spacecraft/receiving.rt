@@ -48,7 +48,7 @@ impl Spacecraft {
         }
     }
 
-    fn is_own(&self, frame: &TcFrame<'_>) -> bool
+    pub(super) fn is_own(&self, frame: &TcFrame<'_>) -> bool
         ensures { result ≡ is_own self.now.config (frame_view frame.now) }
     {
         u32::from(frame.scid) == self.config.scid && u32::from(frame.vcid) == self.config.vcid
@@ -61,7 +61,7 @@ impl Spacecraft {
     }
 
     // Whether a Type-AD frame with this number will be accepted.
-    fn will_accept(&self, n: u8) -> bool
+    pub(super) fn will_accept(&self, n: u8) -> bool
         ensures { result ≡ is_accepted (verdict_of self.now.farm n (is_free self.now)) }
     {
         match self.farm.state() {

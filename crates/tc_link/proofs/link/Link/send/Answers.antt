@@ -1,0 +1,34 @@
+use Rattle.std.proofs.Common.{◌≡◌, ℕ, List, [], ◌∷◌, ◌++◌, true, map, option_map, option_to_list, Option, ap, sym, subst, ◌∙◌}
+use Rattle.std.proofs.lemmas.List.{map-append}
+use Rattle.std.specs.Option.{is_some}
+use Rattle.tc_frame.specs.declared.frame.Check.TheVariants.{On}
+use Rattle.tc_frame.specs.Layout.{FrameView, IsTcFrame}
+use Rattle.tm_link.specs.Extraction.{octets_of}
+use Rattle.tc_link.specs.Ground.{GroundState, ground_step, Pull}
+use Rattle.tc_link.specs.LinkFields.{world_of}
+use Rattle.tc_link.specs.World.{World, first_sent, after_pull, after_send}
+use Rattle.tc_link.proofs.Sending.{with_sent, send_is}
+use Rattle.tc_link.proofs.link.Link.send.Goals as goal
+
+pub returns-clause-after : goal.returns-clause-after
+returns-clause-after c =
+    let w : World = world_of c.self.inside in
+    let after : GroundState = c.put_next.new.self in
+    let answer : Option FrameView = (ground_step c.self.inside.station Pull).answer in
+    let octets : List ℕ = c.put_next.new.to.items in
+    let first : List (List ℕ) = option_to_list (option_map (λ v. v.items) c.first_sent.result) in
+    let some : is_some answer ≡ true = sym c.put_next.ensures.some ∙ c.if-not-put_next.false in
+    let up : octets_of c.push_back_reserved.new.self.items ≡ w.up ++ octets ∷ [] =
+    ap octets_of c.push_back_reserved.ensures.items
+    ∙ map-append (λ v. v.items) c.try_reserve.new.self.items (c.shrink_to_fit.new.self ∷ [])
+    ∙ ap (λ xs. octets_of xs ++ c.shrink_to_fit.new.self.items ∷ []) c.try_reserve.ensures.items
+    ∙ ap (λ (x : List ℕ). w.up ++ x ∷ []) c.shrink_to_fit.ensures.items in
+    let sent : octets_of c.push_some.new.fields.items ≡ w.session.sent ++ first =
+    c.push_some.ensures.items ∙ ap (λ xs. octets_of xs ++ first) c.try_reserve-else-is_err.ensures.items in
+    let fields : (f : FrameView) → IsTcFrame On f octets → first_sent w.station.fop.vs f.body ≡ first =
+    λ f spells. ap (λ (vs : ℕ). first_sent vs f.body) (sym c.vs-vs.ensures) ∙ c.first_sent.ensures f (subst (λ (o : List ℕ). IsTcFrame On f o) (sym c.deref-2.ensures.value) spells) in
+    ap (λ (x : List (List ℕ)). with_sent w after x (octets_of c.push_some.new.fields.items)) up
+    ∙ ap (λ (x : List (List ℕ)). with_sent w after (w.up ++ octets ∷ []) x) sent
+    ∙ send_is w after answer octets first some c.put_next.ensures.frame c.put_next.ensures.spells fields
+    ∙ ap (λ (s : GroundState). (after_pull w s answer).after) c.put_next.ensures.after
+    ∙ ap (λ (x : World). (after_send x (ground_step x.station Pull)).after) c.self.view_is

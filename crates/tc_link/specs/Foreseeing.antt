@@ -1,0 +1,21 @@
+-- What a spacecraft will accept of octets that are on their way.
+use Rattle.std.specs.Prelude.{List, ℕ, Bool, true, false, if◌then◌else◌, Option, Some, None, Result, Ok, Err}
+use Rattle.tc_frame.specs.declared.frame.Check.TheVariants.{On}
+use Rattle.tc_frame.specs.declared.fault.TcFault.{TcFault}
+use Rattle.tc_frame.specs.Layout.{SegmentView, BodyView, Ad, Bd, Bc, FrameView}
+use Rattle.tc_frame.specs.Reading.{frame_at}
+use Rattle.cop1.specs.Farm.{verdict_of}
+use Rattle.tc_link.specs.Craft.{CraftState, is_free, is_own, is_accepted}
+
+abbrev pub in_body : CraftState → BodyView → Option SegmentView
+in_body s (Ad n segment) = if is_accepted (verdict_of s.farm n (is_free s)) then Some segment else None
+in_body s (Bd segment) = None
+in_body s (Bc command) = None
+
+abbrev pub in_frame : CraftState → Result FrameView TcFault → Option SegmentView
+in_frame s (Err fault) = None
+in_frame s (Ok frame) = if is_own s.config frame then in_body s frame.body else None
+
+-- the segment that will be accepted
+abbrev pub foreseen : CraftState → List ℕ → Option SegmentView
+foreseen s octets = in_frame s (frame_at On octets)

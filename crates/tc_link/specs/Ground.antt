@@ -1,0 +1,242 @@
+-- The ground: what it holds, and what each of its calls answers and leaves.
+use Rattle.std.specs.Prelude.{◌≡◌, ℕ, ◌+◌, List, [], ◌∷◌, ◌++◌, length, map, option_to_list, Bool, true, false, not, ◌&&◌, ◌==◌, nat_lt, if◌then◌else◌, Option, Some, None, Result, Ok, Err}
+use Rattle.clcw.specs.declared.word.Clcw.{Clcw}
+use Rattle.clcw.specs.declared.fault.ClcwFault.{ClcwFault}
+use Rattle.clcw.specs.Reading.{clcw_at}
+use Rattle.tc_frame.specs.declared.frame.SegmentFlags.TheVariants.{Alone}
+use Rattle.tc_frame.specs.Layout.{SegmentView, BodyView, Ad, Bd, Bc, FrameView}
+use Rattle.map_service.specs.Assembly.{is_open, is_too_long}
+use Rattle.map_service.specs.Cutting.{segment_with, segments_of}
+use Rattle.map_service.specs.Packets.{packets_in, is_some_over}
+use Rattle.cop1.specs.declared.fault.CopFault.{CopFault}
+use Rattle.cop1.specs.declared.fop.FopMode.{FopMode}
+use Rattle.cop1.specs.declared.fop.FopMode.TheVariants.{S1, S2, S3, S4, S5, S6}
+use Rattle.cop1.specs.declared.fop.Alert.{Alert}
+use Rattle.cop1.specs.declared.fop.Directive.{Directive}
+use Rattle.cop1.specs.FopState.{FopState, initial}
+use Rattle.cop1.specs.FopPull.{PulledUnit, NothingPulled, ControlPulled, BypassPulled, SequencePulled}
+use Rattle.cop1.specs.FopStep as sender
+use Rattle.cop1.specs.FopWords.{Outcome}
+use Rattle.tm_link.specs.declared.fault.TmFault.{TmFault}
+use Rattle.tm_link.specs.Layout as telemetry
+use Rattle.tm_link.specs.Reading.{frame_at}
+use Rattle.tm_link.specs.Extraction.{ExtractorState, Extracted, new_extractor, extract_step}
+use Rattle.tc_link.specs.declared.config.Config.{Config}
+use Rattle.tc_link.specs.declared.fault.LinkFault.{LinkFault}
+use Rattle.tc_link.specs.declared.fault.LinkFault.TheVariants.{NotOpen, ClosedMap, NotCommand, TooLong, QueueFull}
+use Rattle.tc_link.specs.declared.heard.Heard.{Heard}
+use Rattle.tc_link.specs.declared.heard.Heard.TheVariants.{Invalid, Foreign, Frame}
+use Rattle.tc_link.specs.declared.heard.HeardReport.TheVariants.{Used, Refused, OtherChannel}
+use Rattle.tc_link.specs.Commands.{are_commands}
+use Rattle.tc_link.specs.Parameters.{limits_of}
+
+-- a ground node
+pub record GroundState : Type 0 where
+  pub config : Config
+  -- the sender, FOP-1, of segments
+  pub fop : FopState SegmentView
+  -- the segments behind its wait queue, the oldest first
+  pub pending : List SegmentView
+  -- what takes packets out of the telemetry frames, and those that wait to be taken, the oldest first
+  pub extractor : ExtractorState
+  pub telemetry : List (List ℕ)
+
+-- what a call answers, and the ground after it
+pub record GroundOutcome (A : Type 0) : Type 0 where
+  pub answer : A
+  pub after : GroundState
+
+abbrev pub new_ground : Config → GroundState
+new_ground c = record {
+  config = c;
+  fop = initial c.width c.window c.limit c.timer;
+  pending = [];
+  extractor = new_extractor;
+  telemetry = [];
+}
+
+-- ---- what is pending
+
+-- the oldest pending segment goes into the wait queue where its one place is free
+abbrev pub moved_up : GroundState → Option SegmentView → List SegmentView → GroundState
+moved_up s (Some waiting) pending = s
+moved_up s None [] = s
+moved_up s None (segment ∷ pending) = record s { fop = record s.fop { waiting = Some segment }; pending = pending }
+
+-- nothing is pending in S6, where an alert leads; in the other states the oldest moves up
+abbrev pub settled_in : GroundState → FopMode → GroundState
+settled_in s S1 = moved_up s s.fop.waiting s.pending
+settled_in s S2 = moved_up s s.fop.waiting s.pending
+settled_in s S3 = moved_up s s.fop.waiting s.pending
+settled_in s S4 = moved_up s s.fop.waiting s.pending
+settled_in s S5 = moved_up s s.fop.waiting s.pending
+settled_in s S6 = record s { pending = [] }
+
+abbrev pub settled : GroundState → GroundState
+settled s = settled_in s s.fop.state
+
+-- the ground, where its sender is so
+abbrev pub with_fop : GroundState → FopState SegmentView → GroundState
+with_fop s fop = settled (record s { fop = fop })
+
+-- the segments that were not sent, and those that were not acknowledged, the oldest first
+abbrev pub unsent : GroundState → List SegmentView
+unsent s = option_to_list s.fop.waiting ++ s.pending
+
+abbrev pub outstanding : GroundState → List SegmentView
+outstanding s = map (λ u. u.unit) s.fop.sent ++ unsent s
+
+-- ---- packets are submitted
+
+abbrev pub is_closed : FopMode → Bool
+is_closed S1 = false
+is_closed S2 = false
+is_closed S3 = false
+is_closed S4 = false
+is_closed S5 = false
+is_closed S6 = true
+
+abbrev pub segments_on : GroundState → ℕ → List ℕ → List SegmentView
+segments_on s m octets = segments_of s.config.part m octets
+
+-- the first of the refusals that applies
+abbrev pub submit_fault : GroundState → ℕ → List ℕ → Option LinkFault
+submit_fault s m octets =
+    if is_closed s.fop.state then Some NotOpen
+    else if not (is_open (limits_of s.config) m) then Some ClosedMap
+    else if not (are_commands (s.config.blocking == 1) octets) then Some NotCommand
+    else if is_some_over s.config.max_packet (packets_in octets) then Some TooLong
+    else if nat_lt s.config.queue_slots (length (unsent s) + length (segments_on s m octets)) then Some QueueFull
+    else None
+
+abbrev pub submitted : GroundState → ℕ → List ℕ → GroundState
+submitted s m octets = settled (record s { pending = s.pending ++ segments_on s m octets })
+
+-- the call is refused, or the ground is the next
+abbrev pub unless : Option LinkFault → GroundState → GroundState → GroundOutcome (Result (Unit {0}) LinkFault)
+unless None s next = record { answer = Ok tt; after = next }
+unless (Some fault) s next = record { answer = Err fault; after = s }
+
+-- ---- packets are sent past the sequence control, each as one segment that stands alone
+
+abbrev pub bypass_fault : GroundState → ℕ → List ℕ → Option LinkFault
+bypass_fault s m octets =
+    if not (is_open (limits_of s.config) m) then Some ClosedMap
+    else if not (are_commands false octets) then Some NotCommand
+    else if is_too_long (limits_of s.config) octets then Some TooLong
+    else if nat_lt s.config.part (length octets) then Some TooLong
+    else if nat_lt s.config.queue_slots (length s.fop.bypass + 1) then Some QueueFull
+    else None
+
+abbrev pub bypassed : GroundState → ℕ → List ℕ → GroundState
+bypassed s m octets = record s { fop = (sender.fop_step s.fop (sender.Bypass (segment_with Alone m octets))).after }
+
+-- ---- directives and ticks
+
+-- what the sender answers, and the ground after it
+abbrev pub by_sender : {A : Type 0} → GroundState → Outcome SegmentView A → GroundOutcome A
+by_sender s outcome = record { answer = outcome.answer; after = with_fop s outcome.after }
+
+-- a directive that is refused changes nothing
+abbrev pub after_directive : GroundState → Result (Option Alert) CopFault → FopState SegmentView → GroundState
+after_directive s (Ok alert) fop = with_fop s fop
+after_directive s (Err fault) fop = s
+
+abbrev pub directed_by : GroundState → Outcome SegmentView (Result (Option Alert) CopFault) → GroundOutcome (Result (Option Alert) CopFault)
+directed_by s outcome = record { answer = outcome.answer; after = after_directive s outcome.answer outcome.after }
+
+abbrev pub directed : GroundState → Directive → GroundOutcome (Result (Option Alert) CopFault)
+directed s directive = directed_by s (sender.fop_step s.fop (sender.Direct directive))
+
+abbrev pub ticked : GroundState → GroundOutcome (Option Alert)
+ticked s = by_sender s (sender.fop_step s.fop sender.Tick)
+
+-- ---- what goes on the link next, as a frame (CCSDS 232.0-B-4, 4.1)
+
+abbrev pub frame_of : Config → BodyView → FrameView
+frame_of c body = record { scid = c.scid; vcid = c.vcid; body = body }
+
+abbrev pub frame_pulled : Config → PulledUnit SegmentView → Option FrameView
+frame_pulled c NothingPulled = None
+frame_pulled c (ControlPulled command) = Some (frame_of c (Bc command))
+frame_pulled c (BypassPulled segment) = Some (frame_of c (Bd segment))
+frame_pulled c (SequencePulled n segment) = Some (frame_of c (Ad n segment))
+
+abbrev pub pulled : GroundState → GroundOutcome (Option FrameView)
+pulled s = record {
+  answer = frame_pulled s.config (sender.fop_step s.fop sender.Pull).answer;
+  after = with_fop s (sender.fop_step s.fop sender.Pull).after;
+}
+
+-- ---- telemetry arrives
+
+-- the ground once the packets of a frame were taken out
+abbrev pub after_extraction : GroundState → Extracted → GroundState
+after_extraction s x = record s { extractor = x.after; telemetry = s.telemetry ++ x.packets }
+
+-- the report reaches the sender where it is one of this ground's virtual channel
+abbrev pub frame_heard : GroundState → Extracted → Result Clcw ClcwFault → GroundOutcome Heard
+frame_heard s x (Err fault) = record {
+  answer = Frame x.gap (length x.packets) (Refused fault) None;
+  after = after_extraction s x;
+}
+frame_heard s x (Ok report) =
+    if report.vcid == s.config.vcid then record {
+      answer = Frame x.gap (length x.packets) Used (sender.fop_step s.fop (sender.Report report)).answer;
+      after = with_fop (after_extraction s x) (sender.fop_step s.fop (sender.Report report)).after;
+    }
+    else record { answer = Frame x.gap (length x.packets) OtherChannel None; after = after_extraction s x }
+
+-- a frame of this spacecraft's virtual channel
+abbrev pub is_own : Config → telemetry.FrameView → Bool
+is_own c frame = (frame.scid == c.scid) && (frame.vcid == c.tm_vcid)
+
+abbrev pub telemetry_arrived : GroundState → Result telemetry.FrameView TmFault → GroundOutcome Heard
+telemetry_arrived s (Err fault) = record { answer = Invalid fault; after = s }
+telemetry_arrived s (Ok frame) =
+    if is_own s.config frame then frame_heard s (extract_step s.extractor frame) (clcw_at frame.ocf)
+    else record { answer = Foreign; after = s }
+
+abbrev pub heard : GroundState → List ℕ → GroundOutcome Heard
+heard s octets = telemetry_arrived s (frame_at s.config.frame_length octets)
+
+-- no packet is finished with the octets that arrive
+abbrev pub FinishesNothing : GroundState → Result telemetry.FrameView TmFault → Type 0
+FinishesNothing s (Err fault) = Unit {0}
+FinishesNothing s (Ok frame) = (extract_step s.extractor frame).packets ≡ []
+
+-- ---- packets of telemetry are taken
+
+abbrev pub taken : GroundState → List (List ℕ) → GroundOutcome (Option (List ℕ))
+taken s [] = record { answer = None; after = s }
+taken s (packet ∷ left) = record { answer = Some packet; after = record s { telemetry = left } }
+
+-- ---- all calls
+
+pub data GroundEvent : Type 0 where
+  Submit : (on_map : ℕ) (octets : List ℕ) → GroundEvent
+  Bypass : (on_map : ℕ) (octets : List ℕ) → GroundEvent
+  Direct : (directive : Directive) → GroundEvent
+  Pull : GroundEvent
+  Tick : GroundEvent
+  Telemetry : (octets : List ℕ) → GroundEvent
+  TakeTelemetry : GroundEvent
+
+-- what is answered to a call; to a pull the frame that is sent
+abbrev pub GroundAnswer : GroundEvent → Type 0
+GroundAnswer (Submit m octets) = Result (Unit {0}) LinkFault
+GroundAnswer (Bypass m octets) = Result (Unit {0}) LinkFault
+GroundAnswer (Direct directive) = Result (Option Alert) CopFault
+GroundAnswer Pull = Option FrameView
+GroundAnswer Tick = Option Alert
+GroundAnswer (Telemetry octets) = Heard
+GroundAnswer TakeTelemetry = Option (List ℕ)
+
+abbrev pub ground_step : GroundState → (event : GroundEvent) → GroundOutcome (GroundAnswer event)
+ground_step s (Submit m octets) = unless (submit_fault s m octets) s (submitted s m octets)
+ground_step s (Bypass m octets) = unless (bypass_fault s m octets) s (bypassed s m octets)
+ground_step s (Direct directive) = directed s directive
+ground_step s Pull = pulled s
+ground_step s Tick = ticked s
+ground_step s (Telemetry octets) = heard s octets
+ground_step s TakeTelemetry = taken s s.telemetry

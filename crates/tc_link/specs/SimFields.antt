@@ -1,0 +1,9 @@
+-- How the fields of a simulation stand for its state.
+use Rattle.std.specs.Prelude.{map}
+use Rattle.octets.specs.Outcome.{map_ok}
+use Rattle.tc_link.specs.declared.sim.Sim.TheInside.{Inside}
+use Rattle.tc_link.specs.Replies.{reply_view}
+use Rattle.tc_link.specs.Simulation.{SimState}
+
+abbrev pub state_of : Inside → SimState
+state_of s = record { world = s.link; answers = map (λ a. map_ok reply_view a) s.answers.items }

@@ -1,0 +1,58 @@
+-- A simulated link with the answers of a run.
+use Rattle.std.specs.Prelude.{ℕ, List, [], ◌∷◌, ◌++◌, Option, Some, None, Result, Ok, Err}
+use Rattle.cop1.specs.declared.fop.Directive.{Directive}
+use Rattle.tc_link.specs.declared.config.Config.{Config}
+use Rattle.tc_link.specs.declared.event.Event.{Event}
+use Rattle.tc_link.specs.declared.event.Event.TheVariants as events
+use Rattle.tc_link.specs.declared.sim.fault.SimFault.{SimFault}
+use Rattle.tc_link.specs.declared.sim.fault.SimFault.TheVariants as faults
+use Rattle.tc_link.specs.Replies.{ReplyView}
+use Rattle.tc_link.specs.World.{World, new_world, world_step, world_run, run_answers}
+
+pub record SimState : Type 0 where
+  pub world : World
+  -- what was answered to each event of the run
+  pub answers : List (Result ReplyView SimFault)
+
+abbrev pub new_sim : Config → SimState
+new_sim c = record { world = new_world c; answers = [] }
+
+abbrev pub sim_run : Config → List Event → SimState
+sim_run c events = record { world = world_run (new_world c) events; answers = run_answers (new_world c) events }
+
+-- the step of a run records its answer
+abbrev pub recorded : SimState → Event → SimState
+recorded s event = record { world = (world_step s.world event).after; answers = s.answers ++ (world_step s.world event).answer ∷ [] }
+
+abbrev pub run_from : SimState → List Event → SimState
+run_from s [] = s
+run_from s (event ∷ more) = run_from (recorded s event) more
+
+-- the field of the configuration for which a call was refused
+abbrev pub field_of : SimFault → Option (List ℕ)
+field_of faults.Memory = None
+field_of faults.NothingInTransit = None
+field_of faults.NotDetectable = None
+field_of (faults.Config field) = Some field.now
+
+abbrev pub refused_field : {A : Type 0} → Result A SimFault → Option (List ℕ)
+refused_field (Ok made) = None
+refused_field (Err fault) = field_of fault
+
+-- the events that take no memory
+abbrev pub TakesNone : Event → Type 0
+TakesNone (events.Submit m octets) = ⊥
+TakesNone (events.Bypass m octets) = ⊥
+TakesNone (events.Directive directive) = Unit {0}
+TakesNone events.Send = ⊥
+TakesNone events.UpDeliver = ⊥
+TakesNone events.UpLose = Unit {0}
+TakesNone (events.UpDamage octets) = Unit {0}
+TakesNone events.Report = ⊥
+TakesNone events.DownDeliver = ⊥
+TakesNone events.DownLose = Unit {0}
+TakesNone (events.DownDamage octets) = Unit {0}
+TakesNone events.Tick = Unit {0}
+TakesNone events.Take = Unit {0}
+TakesNone events.TakeBypass = Unit {0}
+TakesNone (events.Telemetry octets) = ⊥

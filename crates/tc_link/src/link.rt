@@ -1,0 +1,123 @@
+// What a simulated link is made of.
+
+mod calls;
+mod downward;
+mod losing;
+mod stepping;
+mod upward;
+
+use crate::config::Config;
+use crate::ground_node::Ground;
+use crate::sim::{Opening, SimFault};
+use crate::spacecraft::Spacecraft;
+use std::alloc::Global;
+use std::collections::VecDeque;
+use std::marker::Model;
+
+/// Two nodes, what is on its way between them, and the records of the session.
+#[derive(Drop)]
+pub(crate) struct Link {
+    alloc: Global,
+    station: Ground,
+    craft: Spacecraft,
+    up: VecDeque<Vec<u8>>,
+    down: VecDeque<Vec<u8>>,
+    opening: Option<Opening>,
+    confirmed: bool,
+    submissions: Vec<(u8, Vec<u8>)>,
+    sent: Vec<Vec<u8>>,
+    acknowledged: usize,
+    // The data fields that were accepted in the whole run, and how many before the session.
+    accepted: Vec<Vec<u8>>,
+    before: usize,
+}
+
+impl Model for Link {
+    ghost use Rattle.tc_link.specs.World.{World};
+
+    ghost Value = { World };
+
+    ghost use Rattle.tc_link.specs.LinkFields.{world_of, IsSound};
+
+    ghost view = { world_of };
+
+    ghost invariant = { IsSound };
+}
+
+impl Link {
+    ghost use Rattle.std.specs.Prelude.{◌≡◌, map, length, IfOk, IfErr, IsOkUnless};
+    ghost use Rattle.tm_link.specs.Extraction.{octets_of};
+    ghost use Rattle.tc_link.specs.Packets.{packet_view};
+    ghost use Rattle.tc_link.specs.Parameters.{IsConfig};
+    ghost use Rattle.tc_link.specs.Ground.{outstanding};
+    ghost use Rattle.tc_link.specs.World.{new_world, accepted};
+
+    pub(crate) fn new(alloc: Global, config: &Config) -> Result<Link, SimFault>
+        requires { IsConfig config.now }
+        ensures made { IfOk result (λ link. link ≡ new_world config.now) }
+        ensures fault { IsOkUnless result SimFault.Memory }
+    {
+        let Ok(station) = Ground::new(alloc, config) else {
+            return Err(SimFault::Memory);
+        };
+        let Ok(craft) = Spacecraft::new(alloc, config) else {
+            return Err(SimFault::Memory);
+        };
+        Ok(Link {
+            alloc,
+            station,
+            craft,
+            up: VecDeque::new(alloc),
+            down: VecDeque::new(alloc),
+            opening: None,
+            confirmed: false,
+            submissions: Vec::new(alloc),
+            sent: Vec::new(alloc),
+            acknowledged: 0,
+            accepted: Vec::new(alloc),
+            before: 0,
+        })
+    }
+
+    pub(crate) fn station(&self) -> &Ground
+        ensures { result.now ≡ self.now.station }
+    {
+        &self.station
+    }
+
+    pub(crate) fn opening(&self) -> Option<Opening>
+        ensures { result ≡ self.now.session.opening }
+    {
+        self.opening
+    }
+
+    pub(crate) fn confirmed(&self) -> bool
+        ensures { result ≡ self.now.session.confirmed }
+    {
+        self.confirmed
+    }
+
+    pub(crate) fn submissions(&self) -> &[(u8, Vec<u8>)]
+        ensures { map packet_view result.now ≡ self.now.session.submissions }
+    {
+        self.submissions.as_slice()
+    }
+
+    pub(crate) fn sent(&self) -> &[Vec<u8>]
+        ensures { octets_of result.now ≡ self.now.session.sent }
+    {
+        self.sent.as_slice()
+    }
+
+    pub(crate) fn acknowledged(&self) -> usize
+        ensures { result ≡ self.now.session.acknowledged }
+    {
+        self.acknowledged
+    }
+
+    pub(crate) fn accepted(&self) -> &[Vec<u8>]
+        ensures { octets_of result.now ≡ accepted self.now }
+    {
+        self.accepted.split_at(self.before).1
+    }
+}

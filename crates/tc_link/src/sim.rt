@@ -1,0 +1,155 @@
+// A simulated link.
+
+mod fault;
+mod opening;
+mod running;
+
+use crate::config::Config;
+use crate::event::Event;
+use crate::link::Link;
+use crate::reply::Reply;
+use cop1::{Directive, FopMode};
+pub use fault::SimFault;
+pub(crate) use opening::Opening;
+pub use running::run;
+use std::alloc::Global;
+use std::marker::Model;
+
+/// A ground, a spacecraft and the link between them, which keeps its order in each direction, and
+/// loses or damages frames only so that the receiver sees it. It keeps records of the session, which
+/// begins with each initiation directive that the ground accepts.
+#[derive(Drop)]
+pub struct Sim {
+    link: Link,
+    answers: Vec<Result<Reply, SimFault>>,
+}
+
+impl Model for Sim {
+    ghost use Rattle.tc_link.specs.Simulation.{SimState};
+
+    ghost Value = { SimState };
+
+    ghost use Rattle.tc_link.specs.SimFields.{state_of};
+
+    ghost view = { state_of };
+}
+
+impl Sim {
+    ghost use Rattle.std.specs.Prelude.{◌≡◌, ◌≢◌, map, length, option_map, None, Ok, Err, IfOk, IfErr, OnOk, OnErr, IsOkUnless};
+    ghost use Rattle.octets.specs.Outcome.{map_ok};
+    ghost use Rattle.tm_link.specs.Extraction.{octets_of};
+    ghost use Rattle.tc_link.specs.Ground.{outstanding};
+    ghost use Rattle.tc_link.specs.Packets.{packet_view};
+    ghost use Rattle.tc_link.specs.Parameters.{config_fault};
+    ghost use Rattle.tc_link.specs.Replies.{reply_view};
+    ghost use Rattle.tc_link.specs.Simulation.{new_sim, recorded, refused_field, TakesNone};
+    ghost use Rattle.tc_link.specs.World.{world_step, accepted};
+
+    /// Two new nodes, and nothing between them. The faults are 9 `Config`, with the name of the first
+    /// field that is out of its range, and then 6 `Memory`.
+    pub fn new(alloc: Global, config: Config) -> Result<Sim, SimFault>
+        ensures made { IfOk result (λ sim. sim ≡ new_sim config) }
+        ensures range { refused_field result ≡ config_fault config }
+        ensures memory { config_fault config ≡ None → IsOkUnless result SimFault.Memory }
+    {
+        if let Some(field) = config.fault() {
+            return Err(SimFault::Config(field));
+        }
+        let link = Link::new(alloc, &config)?;
+        Ok(Sim {
+            link,
+            answers: Vec::new(alloc),
+        })
+    }
+
+    /// Lets an event happen. First 7 `NothingInTransit`, where the event needs a frame on its way; then 8
+    /// `NotDetectable`, for octets of a damaged frame that the receiver's decoder accepts; then 6
+    /// `Memory`. Nothing has changed then. Any other refusal of a node is a reply.
+    pub fn step(&mut self, event: Event<'_>) -> Result<Reply, SimFault>
+        ensures reply { IfOk result (λ reply. (world_step self.old.world event.entry).answer ≡ Ok (reply_view reply)) }
+        ensures after { OnOk result (self.new ≡ record self.old { world = (world_step self.old.world event.entry).after }) }
+        ensures err { OnErr result (self.new ≡ self.old) }
+        ensures refused { IfErr (world_step self.old.world event.entry).answer (λ e. result ≡ Err e) }
+        ensures memory { IfOk (world_step self.old.world event.entry).answer (λ _. IsOkUnless result SimFault.Memory) }
+        ensures none { TakesNone event.entry → result ≢ Err SimFault.Memory }
+    {
+        self.link.step(event)
+    }
+
+    /// What was answered to each event of `run`.
+    pub fn answers(&self) -> &[Result<Reply, SimFault>]
+        ensures { map (λ a. map_ok reply_view a) result.now ≡ self.now.answers }
+    {
+        self.answers.as_slice()
+    }
+
+    /// The state of the ground's sender.
+    pub fn state(&self) -> FopMode
+        ensures { result ≡ self.now.world.station.fop.state }
+    {
+        self.link.station().state()
+    }
+
+    /// How many segments were submitted and are not acknowledged.
+    pub fn outstanding(&self) -> usize
+        ensures { result ≡ length (outstanding self.now.world.station) }
+    {
+        self.link.station().outstanding()
+    }
+
+    /// Whether the session began clean: with nothing on its way and, for an initiation without a check,
+    /// with V(R) = V(S). None before any session.
+    pub fn clean(&self) -> Option<bool>
+        ensures { result ≡ option_map (λ o. o.clean) self.now.world.session.opening }
+    {
+        match self.link.opening() {
+            Some(opening) => Some(opening.clean),
+            None => None,
+        }
+    }
+
+    /// The initiation directive that began the session. None before any.
+    pub fn begun(&self) -> Option<Directive>
+        ensures { result ≡ option_map (λ o. o.directive) self.now.world.session.opening }
+    {
+        match self.link.opening() {
+            Some(opening) => Some(opening.directive),
+            None => None,
+        }
+    }
+
+    /// Whether a report has taken the ground from S4 or S5 to S1 in the session.
+    pub fn confirmed(&self) -> bool
+        ensures { result ≡ self.now.world.session.confirmed }
+    {
+        self.link.confirmed()
+    }
+
+    /// The octets of each submission that was accepted in the session, with its MAP.
+    pub fn submissions(&self) -> &[(u8, Vec<u8>)]
+        ensures { map packet_view result.now ≡ self.now.world.session.submissions }
+    {
+        self.link.submissions()
+    }
+
+    /// The data fields of the session's Type-AD frames, in the order in which they were first sent.
+    pub fn sent(&self) -> &[Vec<u8>]
+        ensures { octets_of result.now ≡ self.now.world.session.sent }
+    {
+        self.link.sent()
+    }
+
+    /// The data fields of the Type-AD frames that were accepted on board since the session began.
+    pub fn accepted(&self) -> &[Vec<u8>]
+        ensures { octets_of result.now ≡ accepted self.now.world }
+    {
+        self.link.accepted()
+    }
+
+    /// How many of the first ones of `sent` the ground holds acknowledged.
+    pub fn acknowledged(&self) -> usize
+        ensures { result ≡ self.now.world.session.acknowledged }
+    {
+        self.link.acknowledged()
+    }
+}

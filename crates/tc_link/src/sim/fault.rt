@@ -1,0 +1,44 @@
+// Why a simulated link answered no reply.
+
+ghost use Rattle.std.specs.Prelude.{◌≡◌};
+
+/// Why a simulated link answered no reply. It is as it was then.
+#[derive(Clone, Copy, Debug, PartialEq, Eq)]
+pub enum SimFault {
+    /// There was no memory.
+    Memory,
+    /// No frame is on its way in this direction.
+    NothingInTransit,
+    /// The receiver's decoder would accept the octets of the damaged frame.
+    NotDetectable,
+    /// This field of the configuration is out of its range.
+    Config(&'static str),
+}
+
+impl SimFault {
+    ghost use Rattle.tc_link.specs.SimFaults.{fault_number, fault_name};
+
+    /// The fault's number, 6 to 9.
+    pub fn number(self) -> u8
+        ensures { result ≡ fault_number self }
+    {
+        match self {
+            SimFault::Memory => 6,
+            SimFault::NothingInTransit => 7,
+            SimFault::NotDetectable => 8,
+            SimFault::Config(_) => 9,
+        }
+    }
+
+    /// The fault's name, as it is written here.
+    pub fn name(self) -> &'static str
+        ensures { result.now ≡ fault_name self }
+    {
+        match self {
+            SimFault::Memory => "Memory",
+            SimFault::NothingInTransit => "NothingInTransit",
+            SimFault::NotDetectable => "NotDetectable",
+            SimFault::Config(_) => "Config",
+        }
+    }
+}

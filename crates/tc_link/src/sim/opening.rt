@@ -1,0 +1,12 @@
+// How a session begins.
+
+use cop1::Directive;
+
+/// How a session began: by an initiation directive that the ground accepted.
+#[derive(Clone, Copy, Debug, PartialEq, Eq)]
+pub(crate) struct Opening {
+    /// The directive.
+    pub(crate) directive: Directive,
+    /// Nothing was on its way then, and for an initiation without a check V(R) was V(S).
+    pub(crate) clean: bool,
+}
