@@ -76,7 +76,7 @@ pub enum Directive {
 
 /// The control command of S5, and whether it has to be sent.
 #[derive(Clone, Copy, Debug, PartialEq, Eq)]
-pub(crate) enum Control {
+pub enum Control {
     Idle,
     Due(Command),
     Sent(Command),

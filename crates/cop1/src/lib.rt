@@ -11,5 +11,5 @@ mod tests;
 
 pub use farm::{Farm, FarmMode, Verdict};
 pub use fault::CopFault;
-pub use fop::{Alert, Directive, Fop, FopMode, Next, Pulled};
+pub use fop::{Alert, Control, Directive, Fop, FopMode, Next, Pulled};
 pub use laws::flags_always_agree;

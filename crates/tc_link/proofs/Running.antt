@@ -1,9 +1,9 @@
 -- A run with its answers, from steps that record theirs.
-use Rattle.std.proofs.Common.{◌≡◌, List, [], ◌∷◌, ◌++◌, ap, sym, ◌∙◌}
-use Rattle.std.proofs.lemmas.List.{append-nil, append_assoc}
+use Rattle.std.proofs.Common.{◌≡◌, ◌≤◌, ℕ, List, [], ◌∷◌, ◌++◌, length, drop, ap, sym, ◌∙◌}
+use Rattle.std.proofs.lemmas.List.{append-nil, append_assoc, at_drop_all}
 use Rattle.tc_link.specs.declared.config.Config.{Config}
 use Rattle.tc_link.specs.declared.event.Event.{Event}
-use Rattle.tc_link.specs.World.{World, world_step, world_run, run_answers}
+use Rattle.tc_link.specs.World.{world_step, world_run, run_answers}
 use Rattle.tc_link.specs.Simulation.{SimState, recorded, run_from, new_sim, sim_run}
 
 from_is : (s : SimState) (events : List Event) → run_from s events ≡ record { world = world_run s.world events; answers = s.answers ++ run_answers s.world events }
@@ -15,3 +15,7 @@ from_is s (event ∷ more) =
 
 pub run_is : (c : Config) (events : List Event) → run_from (new_sim c) events ≡ sim_run c events
 run_is c events = from_is (new_sim c) events
+
+-- behind the last event
+pub run_ends : (c : Config) (events : List Event) (s : SimState) (i : ℕ) → length events ≤ i → run_from s (drop i events) ≡ run_from (new_sim c) events → s ≡ sim_run c events
+run_ends c events s i end led = sym (at_drop_all (λ (es : List Event). run_from s es) events i end) ∙ led ∙ run_is c events

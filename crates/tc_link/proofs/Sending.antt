@@ -1,5 +1,5 @@
 -- What is so once a frame was sent.
-use Rattle.std.proofs.Common.{◌≡◌, refl, ℕ, List, [], ◌∷◌, ◌++◌, Bool, true, false, Option, None, Some, IfSome, ap, sym, ◌∙◌}
+use Rattle.std.proofs.Common.{◌≡◌, ℕ, List, [], ◌∷◌, ◌++◌, true, Option, None, Some, IfSome, ap, sym, ◌∙◌}
 use Rattle.std.specs.Option.{is_some}
 use Rattle.tc_frame.specs.declared.frame.Check.TheVariants.{On}
 use Rattle.tc_frame.specs.Layout.{FrameView, IsTcFrame}

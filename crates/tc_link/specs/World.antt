@@ -1,6 +1,6 @@
 -- A simulated link: its world, and what each event answers and leaves. Each direction keeps its order, and loses or
 -- damages frames only so that the receiver sees it.
-use Rattle.std.specs.Prelude.{◌≡◌, option_map, ℕ, List, [], ◌∷◌, ◌++◌, length, take, drop, map, flat_map, filter, Bool, true, false, ◌&&◌, ◌||◌, ◌==◌, if◌then◌else◌, ◌+◌, Option, Some, None, Result, Ok, Err}
+use Rattle.std.specs.Prelude.{◌≡◌, ◌⊎◌, option_map, ℕ, List, [], ◌∷◌, ◌++◌, length, take, drop, map, flat_map, filter, Bool, true, false, ◌&&◌, ◌||◌, ◌==◌, if◌then◌else◌, ◌+◌, Option, Some, None, Result, Ok, Err}
 use Rattle.tc_frame.specs.declared.frame.Check.TheVariants.{On}
 use Rattle.tc_frame.specs.declared.fault.TcFault.{TcFault}
 use Rattle.tc_frame.specs.Layout.{SegmentView, BodyView, Ad, Bd, Bc, FrameView, segment_octets}
@@ -94,6 +94,14 @@ delivered w m = drop (length (assembled_on w m (take w.session.before w.craft.ac
 -- the session began clean
 abbrev pub IsClean : World → Type 0
 IsClean w = option_map (λ (o : Opening). o.clean) w.session.opening ≡ Some true
+
+-- the directive that began it
+abbrev pub directive_of : World → Option Directive
+directive_of w = option_map (λ (o : Opening). o.directive) w.session.opening
+
+-- a report has confirmed it, or it was begun without a check
+abbrev pub IsSettled : World → Type 0
+IsSettled w = (w.session.confirmed ≡ true) ⊎ (directive_of w ≡ Some InitWithoutCheck)
 
 abbrev pub is_none : {A : Type 0} → List A → Bool
 is_none [] = true

@@ -36,3 +36,18 @@ pub enum Event<'a> {
     /// A packet is queued on board to be sent as telemetry.
     Telemetry(&'a [u8]),
 }
+
+impl Event<'_> {
+    ghost use Rattle.tc_link.specs.Reached.{IsEvent};
+
+    // The numbers that an event sets are octets; this does nothing.
+    pub(crate) fn has_octets(self)
+        ensures { IsEvent self.entry }
+    {
+        match self {
+            Event::Directive(Directive::InitSetVr(_x)) => {}
+            Event::Directive(Directive::SetVs(_x)) => {}
+            _ => {}
+        }
+    }
+}

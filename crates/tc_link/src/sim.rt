@@ -29,9 +29,11 @@ impl Model for Sim {
 
     ghost Value = { SimState };
 
-    ghost use Rattle.tc_link.specs.SimFields.{state_of};
+    ghost use Rattle.tc_link.specs.SimFields.{state_of, IsSound};
 
     ghost view = { state_of };
+
+    ghost invariant = { IsSound };
 }
 
 impl Sim {
@@ -43,7 +45,12 @@ impl Sim {
     ghost use Rattle.tc_link.specs.Parameters.{config_fault};
     ghost use Rattle.tc_link.specs.Replies.{reply_view};
     ghost use Rattle.tc_link.specs.Simulation.{new_sim, recorded, refused_field, TakesNone};
-    ghost use Rattle.tc_link.specs.World.{world_step, accepted};
+    ghost use Rattle.tc_link.specs.Confirmation.{ConfirmsExactly, IsChecking, IsConfirmedExactly};
+    ghost use Rattle.tc_link.specs.FalseAlarms.{HasNoFalseAlarm};
+    ghost use Rattle.tc_link.specs.InOrder.{IsInOrder, HasPlainHistory};
+    ghost use Rattle.tc_link.specs.InTransit.{KeepsToWindow};
+    ghost use Rattle.tc_link.specs.Promises.{IsPromised};
+    ghost use Rattle.tc_link.specs.World.{world_step, accepted, directive_of, IsClean};
 
     /// Two new nodes, and nothing between them. The faults are 9 `Config`, with the name of the first
     /// field that is out of its range, and then 6 `Memory`.
@@ -51,6 +58,7 @@ impl Sim {
         ensures made { IfOk result (λ sim. sim ≡ new_sim config) }
         ensures range { refused_field result ≡ config_fault config }
         ensures memory { config_fault config ≡ None → IsOkUnless result SimFault.Memory }
+        ensures promised { IfOk result (λ sim. IsClean sim.world → IsPromised sim.world) }
     {
         if let Some(field) = config.fault() {
             return Err(SimFault::Config(field));
@@ -65,6 +73,10 @@ impl Sim {
     /// Lets an event happen. First 7 `NothingInTransit`, where the event needs a frame on its way; then 8
     /// `NotDetectable`, for octets of a damaged frame that the receiver's decoder accepts; then 6
     /// `Memory`. Nothing has changed then. Any other refusal of a node is a reply.
+    ///
+    /// Whatever the events of a session that began clean: packets are delivered in order, each once; what
+    /// the ground holds acknowledged was accepted on board; and where it was begun by check, Unlock or
+    /// Set V(R), no alert is a false one.
     pub fn step(&mut self, event: Event<'_>) -> Result<Reply, SimFault>
         ensures reply { IfOk result (λ reply. (world_step self.old.world event.entry).answer ≡ Ok (reply_view reply)) }
         ensures after { OnOk result (self.new ≡ record self.old { world = (world_step self.old.world event.entry).after }) }
@@ -72,7 +84,14 @@ impl Sim {
         ensures refused { IfErr (world_step self.old.world event.entry).answer (λ e. result ≡ Err e) }
         ensures memory { IfOk (world_step self.old.world event.entry).answer (λ _. IsOkUnless result SimFault.Memory) }
         ensures none { TakesNone event.entry → result ≢ Err SimFault.Memory }
+        ensures in_order { IsClean self.new.world → IsInOrder self.new.world }
+        ensures history { IsClean self.new.world → HasPlainHistory self.new.world }
+        ensures window { IsClean self.new.world → KeepsToWindow self.new.world }
+        ensures confirmed { IsClean self.new.world → IsConfirmedExactly self.new.world }
+        ensures confirms { IsClean self.old.world → IsChecking (directive_of self.old.world) → ConfirmsExactly self.old.world self.new.world }
+        ensures no_false_alarm { IsClean self.old.world → IsChecking (directive_of self.old.world) → HasNoFalseAlarm self.old.world event.entry }
     {
+        event.has_octets();
         self.link.step(event)
     }
 

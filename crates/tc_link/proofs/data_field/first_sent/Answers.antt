@@ -1,4 +1,4 @@
-use Rattle.std.proofs.Common.{◌≡◌, suc, ◌-◌, ℕ, List, length, take, drop, ap, sym, ◌∙◌, arith, length-drop, length-take}
+use Rattle.std.proofs.Common.{◌≡◌, suc, ◌-◌, ℕ, List, length, take, drop, ap, arith, length-drop, length-take}
 use Rattle.tc_frame.specs.declared.frame.Body.{Body}
 use Rattle.tc_frame.specs.Layout.{body_view, body_octets}
 use Rattle.tc_link.proofs.data_field.first_sent.Goals as goal

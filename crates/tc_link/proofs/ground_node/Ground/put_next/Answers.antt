@@ -1,4 +1,3 @@
-use Rattle.std.proofs.Common.{◌≡◌, ◌∙◌, sym}
 use Rattle.tc_link.specs.Ground.{ground_step, Pull}
 use Rattle.tc_link.proofs.Fronts.{next_is}
 use Rattle.tc_link.proofs.ground_node.Ground.put_next.Goals as goal

@@ -1,4 +1,4 @@
-use Rattle.std.proofs.Common.{◌≡◌, ℕ, List, map, drop, ap, sym, ◌∙◌}
+use Rattle.std.proofs.Common.{ℕ, List, drop, ap, sym, ◌∙◌}
 use Rattle.std.proofs.lemmas.List.{drop-map}
 use Rattle.tc_frame.specs.Layout.{segment_octets}
 use Rattle.tm_link.specs.Extraction.{octets_of}

@@ -1,4 +1,4 @@
-use Rattle.std.proofs.Common.{◌≡◌, ◌≤◌, length, List, ℕ, ◌∙◌, replicate, arith}
+use Rattle.std.proofs.Common.{◌∙◌, replicate}
 use Rattle.tm_link.specs.Writing.{spelling}
 use Rattle.tc_link.specs.Craft.{craft_step, Report}
 use Rattle.tc_link.proofs.Fronts.{front_is}

@@ -1,0 +1,201 @@
+-- In a clean session packets are delivered in order.
+use Rattle.std.proofs.Common.{◌≡◌, ◌≢◌, ℕ, ◌+◌, ◌≤◌, ◌⊎◌, inl, inr, Bool, true, false, cond, eqb, List, [], ◌∷◌, ◌++◌, length, take, drop, map, filter, None, refl, ap, sym, subst, ◌∙◌, append_assoc, arith, length-append, length-drop}
+use Rattle.std.specs.List.{AllByRecursion, flat_map}
+use Rattle.std.proofs.lemmas.Bool.{eqb-true, eqb-false}
+use Rattle.std.proofs.lemmas.List.{append-nil, take-append-drop, take_all, take-take, append_cancel_left, length-take-le, take-map, length-map}
+use Rattle.tc_frame.specs.Layout.{SegmentView, segment_octets}
+use Rattle.map_service.specs.declared.limits.Limits.{Limits}
+use Rattle.map_service.specs.Assembly.{is_open, assembled, blocks_packets}
+use Rattle.map_service.specs.Cutting.{segments_of, cut_fault}
+use Rattle.map_service.specs.Packets.{packets_in}
+use Rattle.map_service.proofs.Beginnings.{assembled_begins}
+use Rattle.map_service.proofs.Passage.{given-passed, other-append}
+use Rattle.cop1.specs.declared.fop.Directive.{Directive}
+use Rattle.cop1.specs.declared.fop.FopMode.TheVariants.{S1}
+use Rattle.cop1.specs.FopNext.{units_of}
+use Rattle.tc_link.specs.declared.config.Config.{Config}
+use Rattle.tc_link.specs.Packets.{PacketOn}
+use Rattle.tc_link.specs.Parameters.{limits_of}
+use Rattle.tc_link.specs.Ground.{outstanding, unsent}
+use Rattle.tc_link.specs.World.{World, submitted, accepted, delivered}
+use Rattle.tc_link.specs.PlainLink.{PlainLink, PlainRun, new_link, none, more, adds}
+use Rattle.tc_link.specs.InOrder.{IsBeginning, IsInOrder, HasPlainHistory}
+use Rattle.tc_link.proofs.Beginning.{Clean}
+use Rattle.tc_link.proofs.Early.{Begun, IsEarly}
+use Rattle.tc_link.proofs.Linked.{Late, IsGiven, units_of_all, Holds, Held}
+use Rattle.tc_link.proofs.SteadyWorld.{Sound}
+
+-- ---- packets that were given are assembled, whatever came before
+
+pub record Goes (limits : Limits) (p : PacketOn) : Type 0 where
+  pub opened : is_open limits p.on_map ≡ true
+  pub cut : cut_fault limits p.octets ≡ None
+
+module _ (limits : Limits) (m : ℕ) (one : 1 ≤ limits.part) where
+  abbrev segments : PacketOn → List SegmentView
+  segments p = segments_of limits.part p.on_map p.octets
+
+  abbrev packets : List PacketOn → List (List ℕ)
+  packets ps = flat_map (λ (p : PacketOn). packets_in p.octets) (filter (λ (p : PacketOn). eqb p.on_map m) ps)
+
+  one_given : (before : List SegmentView) (p : PacketOn) (b : Bool) → eqb p.on_map m ≡ b → Goes limits p → assembled limits m (before ++ segments p) ≡ assembled limits m before ++ cond b (packets_in p.octets) []
+  one_given before p true own h =
+      let is : p.on_map ≡ m = eqb-true _ _ own in
+      subst (λ (k : ℕ). assembled limits k (before ++ segments p) ≡ assembled limits k before ++ packets_in p.octets) is (given-passed limits p.on_map before p.octets one h.opened h.cut)
+  one_given before p false other h =
+      let ne : m ≢ p.on_map = λ e. eqb-false _ _ other (sym e) in
+      ap (λ (xs : List SegmentView). cond (is_open limits m) (blocks_packets limits xs) []) (other-append limits.part p.on_map m before p.octets one ne) ∙ sym (append-nil (assembled limits m before))
+
+  cond_first : (b : Bool) (p : PacketOn) (ps : List PacketOn) → cond b (packets_in p.octets) [] ++ packets ps ≡ flat_map (λ (p : PacketOn). packets_in p.octets) (cond b (p ∷ filter (λ (p : PacketOn). eqb p.on_map m) ps) (filter (λ (p : PacketOn). eqb p.on_map m) ps))
+  cond_first true p ps = refl
+  cond_first false p ps = refl
+
+  pub all_given : (before : List SegmentView) (ps : List PacketOn) → AllByRecursion (Goes limits) ps → assembled limits m (before ++ flat_map segments ps) ≡ assembled limits m before ++ packets ps
+  all_given before [] h = ap (assembled limits m) (append-nil before) ∙ sym (append-nil (assembled limits m before))
+  all_given before (p ∷ ps) h =
+      ap (assembled limits m) (sym (append_assoc before (segments p) (flat_map segments ps)))
+      ∙ all_given (before ++ segments p) ps h.1
+      ∙ ap (λ (xs : List (List ℕ)). xs ++ packets ps) (one_given before p (eqb p.on_map m) refl h.0)
+      ∙ append_assoc (assembled limits m before) (cond (eqb p.on_map m) (packets_in p.octets) []) (packets ps)
+      ∙ ap (λ (xs : List (List ℕ)). assembled limits m before ++ xs) (cond_first (eqb p.on_map m) p ps)
+
+-- ---- what the records tell
+
+pub record History (c : Config) (w : World) : Type 0 where
+  pub plain : PlainLink
+  pub ran : PlainRun new_link plain
+  pub given : AllByRecursion (IsGiven c) w.session.submissions
+  pub units_are : plain.units ≡ units_of_all c w.session.submissions
+  pub sent_is : w.session.sent ≡ map segment_octets (take plain.n plain.units)
+  pub accepted_is : drop w.session.before w.craft.accepted ≡ take plain.r plain.units
+  pub acked_is : w.session.acknowledged ≡ plain.a
+  pub n_most : plain.n ≤ length plain.units
+  pub a_r : plain.a ≤ plain.r
+  pub r_n : plain.r ≤ plain.n
+  pub complete : w.station.fop.state ≡ S1 → outstanding w.station ≡ [] → length plain.units ≤ plain.r
+
+late_complete : (c : Config) (d : Directive) (base : ℕ) (w : World) (g : Late c d base w) → w.station.fop.state ≡ S1 → outstanding w.station ≡ [] → length g.plain.units ≤ g.plain.r
+late_complete c d base w g on nothing =
+    let p = g.plain in
+    let l = g.linked in
+    let was : Holds base w.station.fop.vs w.station.fop.nn w.station.fop.sent (unsent w.station) p.a p.n p.units = let it : Held false base w.station.fop.vs w.station.fop.nn w.station.fop.sent (unsent w.station) p.a p.n p.units = rw on at l.held in it in
+    let none_left : length (units_of w.station.fop.sent) + length (unsent w.station) ≡ 0 = sym (length-append (units_of w.station.fop.sent) (unsent w.station)) ∙ ap length nothing in
+    let sent : length (drop p.a (take p.n p.units)) ≡ length (units_of w.station.fop.sent) = ap length (sym was.sent_is) in
+    let rest : length (drop p.n p.units) ≡ length (unsent w.station) = ap length (sym was.rest_is) in
+    omega (arith, none_left, sent, rest, length-drop p.a (take p.n p.units), length-take-le p.n p.units l.n_most, length-drop p.n p.units, l.a_r, l.r_n, l.n_most)
+
+history : (c : Config) (d : Directive) (base : ℕ) (w : World) → Begun c d base w ⊎ Late c d base w → History c w
+history c d base w s = elim s [
+  | inl g ↦ (let l = g.early in record {
+    plain = record new_link { units = units_of_all c w.session.submissions };
+    ran = more none (adds (units_of_all c w.session.submissions));
+    given = l.given;
+    units_are = refl;
+    sent_is = l.sent_none;
+    accepted_is = l.accepted_none;
+    acked_is = l.acked_none;
+    n_most = omega arith;
+    a_r = omega arith;
+    r_n = omega arith;
+    complete = λ on nothing. absurd (let no : IsEarly d S1 = rw on at l.early in no);
+  })
+  | inr g ↦ (let l = g.linked in record {
+    plain = g.plain;
+    ran = g.ran;
+    given = l.given;
+    units_are = l.units_are;
+    sent_is = l.sent_is;
+    accepted_is = l.accepted_is;
+    acked_is = l.acked_is;
+    n_most = l.n_most;
+    a_r = l.a_r;
+    r_n = l.r_n;
+    complete = late_complete c d base w g;
+  })
+]
+
+given_go : (c : Config) (ps : List PacketOn) → AllByRecursion (IsGiven c) ps → AllByRecursion (Goes (limits_of c)) ps
+given_go c [] h = tt
+given_go c (p ∷ ps) h = (record { opened = h.0.opened; cut = h.0.cut }, given_go c ps h.1)
+
+drop_front : {A : Type 0} (xs ys : List A) → drop (length xs) (xs ++ ys) ≡ ys
+drop_front [] ys = refl
+drop_front (x ∷ xs) ys = drop_front xs ys
+
+module _ (c : Config) (w : World) (k : Sound c w) (h : History c w) (m : ℕ) where
+  abbrev lim : Limits
+  lim = limits_of c
+
+  abbrev old : List SegmentView
+  old = take w.session.before w.craft.accepted
+
+  abbrev new : List SegmentView
+  new = take h.plain.r h.plain.units
+
+  all_is : w.craft.accepted ≡ old ++ new
+  all_is = sym (take-append-drop w.session.before w.craft.accepted) ∙ ap (λ xs. old ++ xs) h.accepted_is
+
+  begins : (rest : List (List ℕ)) × (assembled lim m (old ++ new) ≡ assembled lim m old ++ rest)
+  begins = assembled_begins lim m old new
+
+  delivered_is : delivered w m ≡ begins.0
+  delivered_is =
+      ap (λ (x : Config). drop (length (assembled (limits_of x) m old)) (assembled (limits_of x) m w.craft.accepted)) k.craft.config
+      ∙ ap (λ xs. drop (length (assembled lim m old)) (assembled lim m xs)) all_is
+      ∙ ap (drop (length (assembled lim m old))) begins.1
+      ∙ drop_front (assembled lim m old) begins.0
+
+  whole : assembled lim m (old ++ h.plain.units) ≡ assembled lim m old ++ submitted w m
+  whole = ap (λ us. assembled lim m (old ++ us)) h.units_are ∙ all_given lim m k.ranges.part.0 old w.session.submissions (given_go c w.session.submissions h.given)
+
+  pub in_order : IsBeginning (delivered w m) (submitted w m)
+  in_order =
+      let left : List SegmentView = drop h.plain.r h.plain.units in
+      let further = assembled_begins lim m (old ++ new) left in
+      let joined : old ++ h.plain.units ≡ (old ++ new) ++ left = ap (λ us. old ++ us) (sym (take-append-drop h.plain.r h.plain.units)) ∙ sym (append_assoc old new left) in
+      let both : assembled lim m old ++ submitted w m ≡ assembled lim m old ++ (begins.0 ++ further.0) = sym whole ∙ ap (assembled lim m) joined ∙ further.1 ∙ ap (λ ps. ps ++ further.0) begins.1 ∙ append_assoc (assembled lim m old) begins.0 further.0 in
+      (further.0, append_cancel_left (assembled lim m old) (submitted w m) (begins.0 ++ further.0) both ∙ ap (λ ps. ps ++ further.0) (sym delivered_is))
+
+  pub all_delivered : length h.plain.units ≤ h.plain.r → delivered w m ≡ submitted w m
+  all_delivered most =
+      let same : new ≡ h.plain.units = take_all h.plain.r h.plain.units most in
+      let both : assembled lim m old ++ begins.0 ≡ assembled lim m old ++ submitted w m = sym begins.1 ∙ ap (λ us. assembled lim m (old ++ us)) same ∙ whole in
+      delivered_is ∙ append_cancel_left (assembled lim m old) begins.0 (submitted w m) both
+
+-- ---- the promises
+
+pub history_of : (c : Config) (w : World) → Clean c w → History c w
+history_of c w s = history c s.directive s.base w s.session
+
+module _ (c : Config) (w : World) (k : Sound c w) (s : Clean c w) where
+  accepted_octets : accepted w ≡ map segment_octets (take (history_of c w s).plain.r (history_of c w s).plain.units)
+  accepted_octets = ap (map segment_octets) (history_of c w s).accepted_is
+
+  pub is_in_order : IsInOrder w
+  is_in_order =
+      let h = history_of c w s in
+      let p = h.plain in
+      let sent_a : take p.a w.session.sent ≡ map segment_octets (take p.a p.units) = ap (take p.a) h.sent_is ∙ take-map segment_octets p.a (take p.n p.units) ∙ ap (map segment_octets) (take-take p.a p.n p.units (omega (arith, h.a_r, h.r_n))) in
+      let accepted_a : take p.a (accepted w) ≡ map segment_octets (take p.a p.units) = ap (take p.a) accepted_octets ∙ take-map segment_octets p.a (take p.r p.units) ∙ ap (map segment_octets) (take-take p.a p.r p.units h.a_r) in
+      let sent_count : length w.session.sent ≡ p.n = ap length h.sent_is ∙ length-map (take p.n p.units) segment_octets ∙ length-take-le p.n p.units h.n_most in
+      let r_most : p.r ≤ length p.units = omega (arith, h.r_n, h.n_most) in
+      let accepted_count : length (accepted w) ≡ p.r = ap length accepted_octets ∙ length-map (take p.r p.units) segment_octets ∙ length-take-le p.r p.units r_most in
+      record {
+        in_order = λ m. in_order c w k h m;
+        acknowledged = rw h.acked_is (sent_a ∙ sym accepted_a);
+        counted = (omega (arith, h.acked_is, sent_count, h.a_r, h.r_n), omega (arith, h.acked_is, accepted_count, h.a_r));
+        complete = λ on nothing m. all_delivered c w k h m (h.complete on nothing);
+      }
+
+  pub has_plain_history : HasPlainHistory w
+  has_plain_history =
+      let h = history_of c w s in
+      record {
+        plain = h.plain;
+        ran = h.ran;
+        units = h.units_are ∙ ap (λ (x : Config). units_of_all x w.session.submissions) (sym k.station.config);
+        sent = h.sent_is;
+        accepted_so = accepted_octets;
+        acknowledged = h.acked_is;
+        order = (h.a_r, h.r_n, h.n_most);
+      }

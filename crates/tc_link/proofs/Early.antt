@@ -1,0 +1,222 @@
+-- Before a session that is begun by check, Unlock or Set V(R) is confirmed, and how it comes to be.
+use Rattle.std.proofs.Common.{◌≡◌, ℕ, ◌<◌, Bool, true, false, List, [], ◌∷◌, ◌++◌, drop, Some, option_to_list, refl, ap, ◌∙◌, arith}
+use Rattle.std.specs.List.{AllByRecursion}
+use Rattle.clcw.specs.declared.word.Clcw.{Clcw}
+use Rattle.tc_frame.specs.Layout.{SegmentView, BodyView}
+use Rattle.cop1.specs.declared.fop.Control.{Control}
+use Rattle.cop1.specs.declared.fop.Control.TheVariants.{Idle, Due, Sent}
+use Rattle.cop1.specs.declared.fop.Directive.{Directive}
+use Rattle.cop1.specs.declared.fop.Directive.TheVariants.{InitWithCheck}
+use Rattle.cop1.specs.declared.fop.FopMode.{FopMode}
+use Rattle.cop1.specs.declared.fop.FopMode.TheVariants.{S1, S2, S3, S4, S5, S6}
+use Rattle.cop1.specs.FopReport.{locks, waits, asks}
+use Rattle.cop1.specs.FopState.{SentUnit}
+use Rattle.tc_link.specs.declared.config.Config.{Config}
+use Rattle.tc_link.specs.OwnedFields.{FitsFrame}
+use Rattle.tc_link.specs.Ground.{GroundState, is_closed, unsent, settled}
+use Rattle.tc_link.specs.Craft.{CraftState}
+use Rattle.tc_link.specs.World.{World}
+use Rattle.tc_link.specs.PlainLink.{PlainLink, PlainRun, new_link, none, more, adds, reports as tells}
+use Rattle.tc_link.specs.Confirmation.{IsChecked}
+use Rattle.tc_link.proofs.Transit.{CommandFits, UpIs, DownIs, Rises, Ranks}
+use Rattle.tc_link.proofs.Linked.{Late, IsGiven, units_of_all, Carries, Reporting, Held}
+use Rattle.tc_link.proofs.Settled.{settled_keeps}
+
+-- ---- reports that confirm
+
+-- a report that confirms
+abbrev pub Good : ℕ → Clcw → Type 0
+Good base c = (locks c ≡ false) × (waits c ≡ false) × (asks c ≡ false) × (c.value ≡ base)
+
+-- a receiver that would now report so
+abbrev pub Confirming : (base : ℕ) (lockout wait retransmit : Bool) (vr : ℕ) → Type 0
+Confirming base lockout wait retransmit vr = (lockout ≡ false) × (wait ≡ false) × (retransmit ≡ false) × (vr ≡ base)
+
+abbrev pub WouldConfirm : ℕ → CraftState → Type 0
+WouldConfirm base s = Confirming base s.farm.lockout s.farm.wait s.farm.retransmit s.farm.vr
+
+-- each report confirms, and at their end this is so
+abbrev pub AllGood : ℕ → List Clcw → Type 0 → Type 0
+AllGood base [] last = last
+AllGood base (c ∷ cs) last = Good base c × AllGood base cs last
+
+-- from a report that confirms on, each one does
+abbrev pub Lasts : ℕ → List Clcw → Type 0 → Type 0
+Lasts base [] last = Unit {0}
+Lasts base (c ∷ cs) last = (Good base c → AllGood base cs last) × Lasts base cs last
+
+all_good_on : (base : ℕ) (cs : List Clcw) (l m : Type 0) → (l → m) → AllGood base cs l → AllGood base cs m
+all_good_on base [] l m on all = on all
+all_good_on base (c ∷ cs) l m on all = (all.0, all_good_on base cs l m on all.1)
+
+pub lasts_on : (base : ℕ) (cs : List Clcw) (l m : Type 0) → (l → m) → Lasts base cs l → Lasts base cs m
+lasts_on base [] l m on all = tt
+lasts_on base (c ∷ cs) l m on all = (λ good. all_good_on base cs l m on (all.0 good), lasts_on base cs l m on all.1)
+
+all_good_push : (base : ℕ) (c : Clcw) (cs : List Clcw) (l : Type 0) → (l → Good base c) → AllGood base cs l → AllGood base (cs ++ c ∷ []) l
+all_good_push base c [] l is all = (is all, all)
+all_good_push base c (x ∷ xs) l is all = (all.0, all_good_push base c xs l is all.1)
+
+pub lasts_push : (base : ℕ) (c : Clcw) (cs : List Clcw) (l : Type 0) → (l → Good base c) → (Good base c → l) → Lasts base cs l → Lasts base (cs ++ c ∷ []) l
+lasts_push base c [] l is so all = (so, tt)
+lasts_push base c (x ∷ xs) l is so all = (λ good. all_good_push base c xs l is (all.0 good), lasts_push base c xs l is so all.1)
+
+pub last_good : (base : ℕ) (cs : List Clcw) (l : Type 0) → AllGood base cs l → l
+last_good base [] l all = all
+last_good base (c ∷ cs) l all = last_good base cs l all.1
+
+-- ---- a plain link with as many reports of 0
+
+abbrev zeros : List Clcw → List ℕ
+zeros [] = []
+zeros (c ∷ cs) = 0 ∷ zeros cs
+
+zeros-push : (cs : List Clcw) → zeros cs ++ 0 ∷ [] ≡ 0 ∷ zeros cs
+zeros-push [] = refl
+zeros-push (c ∷ cs) = ap (λ l. 0 ∷ l) (zeros-push cs)
+
+abbrev zeros_plain : List SegmentView → List ℕ → PlainLink
+zeros_plain units down = record { units = units; a = 0; r = 0; n = 0; up = []; down = down }
+
+zeros_run : (units : List SegmentView) (cs : List Clcw) → PlainRun new_link (zeros_plain units (zeros cs))
+zeros_run units [] = more none (adds units)
+zeros_run units (c ∷ cs) = let one : PlainRun new_link (zeros_plain units (zeros cs ++ 0 ∷ [])) = more (zeros_run units cs) tells in rw zeros-push at one
+
+zeros_down : (base : ℕ) (cs : List Clcw) (l : Type 0) → base < 256 → AllGood base cs l → DownIs base cs (zeros cs)
+zeros_down base [] l most all = tt
+zeros_down base (c ∷ cs) l most all = (omega (arith, all.0.3), zeros_down base cs l most all.1)
+
+zeros_rise : (cs : List Clcw) → Rises 0 (zeros cs) 0
+zeros_rise [] = omega arith
+zeros_rise (c ∷ cs) = (omega arith, zeros_rise cs)
+
+zeros_rank : (base : ℕ) (cs : List Clcw) (l : Type 0) → AllGood base cs l → Ranks 0 cs (zeros cs) 0
+zeros_rank base [] l all = omega arith
+zeros_rank base (c ∷ cs) l all = (all.0.0, λ t. absurd (let no : waits c ≡ false = all.0.1 in cc), omega arith, rw all.0.2 (zeros_rank base cs l all.1))
+
+-- ---- what holds before the confirmation
+
+-- where a session waits for it, or has ended before
+abbrev pub IsEarly : Directive → FopMode → Type 0
+IsEarly d S1 = ⊥
+IsEarly d S2 = ⊥
+IsEarly d S3 = ⊥
+IsEarly d S4 = d ≡ InitWithCheck
+IsEarly d S5 = d ≡ InitWithCheck → ⊥
+IsEarly d S6 = Unit {0}
+
+abbrev pub ControlFits : Directive → ℕ → Control → Type 0
+ControlFits d base Idle = Unit {0}
+ControlFits d base (Due command) = CommandFits d base command
+ControlFits d base (Sent command) = CommandFits d base command
+
+pub record HoldsEarly (base vs nn : ℕ) (sent : List (SentUnit SegmentView)) (rest units : List SegmentView) : Type 0 where
+  pub vs_is : vs ≡ base
+  pub nn_is : nn ≡ base
+  pub sent_is : sent ≡ []
+  pub rest_is : rest ≡ units
+
+abbrev pub HeldEarly : Bool → (base vs nn : ℕ) → List (SentUnit SegmentView) → (rest units : List SegmentView) → Type 0
+HeldEarly true base vs nn sent rest units = Unit {0}
+HeldEarly false base vs nn sent rest units = HoldsEarly base vs nn sent rest units
+
+-- each report has the receiver's lockout flag, retransmit flag and V(R), and one that waits asks for repetition
+abbrev pub AllSame : List Clcw → (lockout retransmit : Bool) (vr : ℕ) → Type 0
+AllSame [] lockout retransmit vr = Unit {0}
+AllSame (c ∷ cs) lockout retransmit vr = (locks c ≡ lockout) × (asks c ≡ retransmit) × (c.value ≡ vr) × (waits c ≡ true → asks c ≡ true) × AllSame cs lockout retransmit vr
+
+pub same_push : (c : Clcw) (cs : List Clcw) (lockout retransmit : Bool) (vr : ℕ) → (locks c ≡ lockout) → (asks c ≡ retransmit) → (c.value ≡ vr) → (waits c ≡ true → asks c ≡ true) → AllSame cs lockout retransmit vr → AllSame (cs ++ c ∷ []) lockout retransmit vr
+same_push c [] lockout retransmit vr l t v w all = (l, t, v, w, tt)
+same_push c (x ∷ xs) lockout retransmit vr l t v w all = (all.0, all.1, all.2, all.3, same_push c xs lockout retransmit vr l t v w all.4)
+
+pub record Early (c : Config) (d : Directive) (base : ℕ) (w : World) (frames : List BodyView) (reports : List Clcw) : Type 0 where
+  pub opened : w.session.opening ≡ Some (record { directive = d; clean = true })
+  pub base_octet : base < 256
+  pub checked : IsChecked d
+  pub nn_octet : w.station.fop.nn < 256
+  pub early : IsEarly d w.station.fop.state
+  pub held : HeldEarly (is_closed w.station.fop.state) base w.station.fop.vs w.station.fop.nn w.station.fop.sent (unsent w.station) (units_of_all c w.session.submissions)
+  pub given : AllByRecursion (IsGiven c) w.session.submissions
+  pub units_fit : AllByRecursion FitsFrame (units_of_all c w.session.submissions)
+  pub sent_none : w.session.sent ≡ []
+  pub accepted_none : drop w.session.before w.craft.accepted ≡ []
+  pub acked_none : w.session.acknowledged ≡ 0
+  pub command_is : ControlFits d base w.station.fop.control
+  pub carries : Carries c w.up frames
+  pub reporting : Reporting c w.down reports
+  pub up_is : UpIs d base true frames []
+  pub lasts : Lasts base reports (WouldConfirm base w.craft)
+  pub same : d ≡ InitWithCheck → AllSame reports w.craft.farm.lockout w.craft.farm.retransmit w.craft.farm.vr
+  pub confirmed_not : w.session.confirmed ≡ false
+
+pub record Begun (c : Config) (d : Directive) (base : ℕ) (w : World) : Type 0 where
+  pub frames : List BodyView
+  pub reports : List Clcw
+  pub early : Early c d base w frames reports
+
+-- just confirmed
+pub record Confirmed (c : Config) (d : Directive) (base : ℕ) (w : World) : Type 0 where
+  pub late : Late c d base w
+  pub exact : (w.craft.farm.vr ≡ w.station.fop.vs) × (w.station.fop.nn ≡ w.station.fop.vs)
+
+pub held_early_again : (off : Bool) (base vs nn : ℕ) (sent : List (SentUnit SegmentView)) (rest new units : List SegmentView) → (off ≡ false → new ≡ rest) → HeldEarly off base vs nn sent rest units → HeldEarly off base vs nn sent new units
+held_early_again true base vs nn sent rest new units same held = tt
+held_early_again false base vs nn sent rest new units same held = let rest_is : new ≡ units = same refl ∙ held.rest_is in assumption (rest_is, held)
+
+module _ (c : Config) (d : Directive) (base : ℕ) where
+  pub early_settled : (w : World) → Begun c d base w → Begun c d base (record w { station = settled w.station })
+  early_settled w g = settled_keeps (λ s. Begun c d base (record w { station = s })) w.station (λ waiting pending on off.
+      let l = g.early in
+      let held : HeldEarly (is_closed w.station.fop.state) base w.station.fop.vs w.station.fop.nn w.station.fop.sent (option_to_list waiting ++ pending) (units_of_all c w.session.submissions) = held_early_again (is_closed w.station.fop.state) base w.station.fop.vs w.station.fop.nn w.station.fop.sent (unsent w.station) (option_to_list waiting ++ pending) (units_of_all c w.session.submissions) on l.held in
+      record { frames = g.frames; reports = g.reports; early = assumption (held, l) })
+
+  -- the report that confirms
+  pub confirmed : (w : World) (g : Begun c d base w) → is_closed w.station.fop.state ≡ false
+      → (bs : List (List ℕ)) (rs : List Clcw) → Reporting c bs rs → AllGood base rs (WouldConfirm base w.craft)
+      → (station : GroundState) → station.fop.state ≡ S1 → station.fop.vs ≡ w.station.fop.vs → station.fop.nn ≡ w.station.fop.nn → station.fop.sent ≡ w.station.fop.sent → unsent station ≡ unsent w.station
+      → (now : Bool) → now ≡ true → (acked : ℕ) → acked ≡ 0 → Late c d base (record w { station = station; down = bs; session = record w.session { confirmed = now; acknowledged = acked } })
+  confirmed w g on bs rs rest all station state_is vs nn sent waiting now now_is acked acked_is =
+      let l = g.early in
+      let good = last_good base rs (WouldConfirm base w.craft) all in
+      let units : List SegmentView = units_of_all c w.session.submissions in
+      let was : HoldsEarly base w.station.fop.vs w.station.fop.nn w.station.fop.sent (unsent w.station) units = let it : HeldEarly false base w.station.fop.vs w.station.fop.nn w.station.fop.sent (unsent w.station) units = rw on at l.held in it in
+      let held : Held (is_closed station.fop.state) base station.fop.vs station.fop.nn station.fop.sent (unsent station) 0 0 units = rw state_is (record { vs_is = omega (arith, vs, was.vs_is, l.base_octet); nn_is = omega (arith, nn, was.nn_is, l.base_octet); sent_is = rw (sent, was.sent_is) refl; rest_is = waiting ∙ was.rest_is }) in
+      record {
+        plain = zeros_plain units (zeros rs);
+        ran = zeros_run units rs;
+        front = true;
+        frames = g.frames;
+        reports = rs;
+        linked = record {
+          opened = l.opened;
+          confirmed_is = λ t. now_is;
+          base_octet = l.base_octet;
+          vr_is = omega (arith, good.3, l.base_octet);
+          nn_octet = omega (arith, nn, l.nn_octet);
+          late = rw state_is tt;
+          held = held;
+          given = l.given;
+          units_are = refl;
+          units_fit = l.units_fit;
+          sent_is = l.sent_none;
+          accepted_is = l.accepted_none;
+          acked_is = acked_is;
+          n_most = omega arith;
+          a_r = omega arith;
+          r_n = omega arith;
+          n_a = omega arith;
+          first = λ e. refl;
+          carries = l.carries;
+          reporting = rest;
+          up_is = l.up_is;
+          down_is = zeros_down base rs (WouldConfirm base w.craft) l.base_octet all;
+          fits = tt;
+          rises = zeros_rise rs;
+        };
+        calm = λ t. record {
+          unlocked = good.0;
+          clear = λ e. good.2;
+          ranks = let ranks : Ranks 0 rs (zeros rs) 0 = zeros_rank base rs (WouldConfirm base w.craft) all in rw (state_is, good.2) ranks;
+          rank_most = rw good.2 (omega arith);
+        };
+      }

@@ -1,0 +1,185 @@
+-- Before the confirmation: what happens on board, and on the way there, keeps what holds.
+use Rattle.std.proofs.Common.{◌≡◌, ℕ, ◌+◌, ◌-◌, ◌<◌, ◌⊎◌, inl, inr, Bool, true, false, not, List, [], ◌∷◌, ◌++◌, length, drop, Option, Some, None, option_to_list, Result, Ok, Err, refl, ap, sym, subst, ◌∙◌, append_assoc, arith}
+use Rattle.std.specs.Prelude.{◌==◌, ◌&&◌, ◌||◌, nat_lt}
+use Rattle.std.specs.List.{AllByRecursion}
+use Rattle.std.proofs.lemmas.Bool.{cond_both, eqb-true, not-true, not-false, and_parts}
+use Rattle.std.proofs.lemmas.List.{append-nil}
+use Rattle.clcw.specs.declared.word.Clcw.{Clcw}
+use Rattle.tc_frame.specs.declared.fault.TcFault.{TcFault}
+use Rattle.tc_frame.specs.declared.frame.Check.TheVariants.{On}
+use Rattle.tc_frame.specs.declared.frame.Command.{Command}
+use Rattle.tc_frame.specs.declared.frame.Command.TheVariants.{Unlock, SetVr}
+use Rattle.tc_frame.specs.Layout.{SegmentView, BodyView, Ad, Bd, Bc, FrameView}
+use Rattle.tc_frame.specs.Reading.{frame_at}
+use Rattle.tc_frame.specs.Writing.{spelling}
+use Rattle.map_service.specs.Cutting.{segments_of}
+use Rattle.cop1.specs.Modulo.{ahead_by}
+use Rattle.cop1.specs.declared.fault.CopFault.TheVariants as faults
+use Rattle.cop1.specs.declared.farm.FarmMode.{FarmMode}
+use Rattle.cop1.specs.declared.farm.FarmMode.TheVariants.{Open, Wait, Lockout}
+use Rattle.cop1.specs.declared.fop.Alert.{Alert}
+use Rattle.cop1.specs.declared.fop.Alert.TheVariants as alert
+use Rattle.cop1.specs.declared.fop.Control.{Control}
+use Rattle.cop1.specs.declared.fop.Control.TheVariants.{Idle, Due, Sent}
+use Rattle.cop1.specs.declared.fop.Directive.{Directive}
+use Rattle.cop1.specs.declared.fop.Directive.TheVariants.{InitWithoutCheck, InitWithCheck, InitUnlock, InitSetVr, Terminate, SetVs, SetWindow, SetLimit, SetTimer}
+use Rattle.cop1.specs.declared.fop.FopMode.{FopMode}
+use Rattle.cop1.specs.declared.fop.FopMode.TheVariants.{S1, S2, S3, S4, S5, S6}
+use Rattle.cop1.specs.Farm.{FarmState, after_unlock, after_set_vr, after_release, counted, farm_step, BufferReleased}
+use Rattle.cop1.specs.FopDirective.{obeys, refuses, from_S6, terminated}
+use Rattle.cop1.specs.FopPull.{PulledUnit, NothingPulled, pulls, pulled, pulled_control, pulled_bypass, pulled_in}
+use Rattle.cop1.specs.FopReport.{locks, waits, asks, report_in, confirms as confirms_by}
+use Rattle.cop1.specs.FopState.{FopState}
+use Rattle.cop1.specs.FopTick.{ticked_with, timer_ended, counted as counted_on, due_again}
+use Rattle.cop1.specs.FopWords.{Outcome, given_up, stopped, restarted, alerts, goes_on}
+use Rattle.cop1.specs.Report.{report_of}
+use Rattle.tm_link.specs.Building.{is_to_send, queued}
+use Rattle.tm_link.specs.declared.fault.TmFault.{TmFault}
+use Rattle.tm_link.specs.Extraction.{Extracted, extract_step}
+use Rattle.tm_link.specs.Layout as telemetry
+use Rattle.tm_link.specs.Reading as telemetry_reading
+use Rattle.tm_link.specs.Writing as telemetry_writing
+use Rattle.tc_link.specs.declared.config.Config.{Config}
+use Rattle.tc_link.specs.declared.event.Event.TheVariants as events
+use Rattle.tc_link.specs.declared.fault.LinkFault.{LinkFault}
+use Rattle.tc_link.specs.declared.heard.Heard.{Heard}
+use Rattle.tc_link.specs.Craft.{CraftState, craft_step, Report, reported, body_arrived, bypass_arrived, taken, bypass_taken, telemetry_queued}
+use Rattle.tc_link.specs.Keeping.{is_kept}
+use Rattle.tc_link.specs.OwnedFields.{FitsFrame}
+use Rattle.tc_link.specs.Packets.{PacketOn, packet_on}
+use Rattle.tc_link.specs.Parameters.{limits_of}
+use Rattle.tc_link.specs.Ground.{GroundState, GroundOutcome, is_closed, unsent, with_fop, frame_of, frame_pulled, directed_by, segments_on, submit_fault, submitted, bypass_fault, bypassed, unless, after_extraction}
+use Rattle.tc_link.specs.World.{World, confirms, is_initialising, is_initiation, world_step, after_directive, after_pull, after_submission, after_bypass, after_taking, after_queueing, after_report, up_delivered, up_lost, up_detected, up_damaged, down_delivered, down_lost, down_detected, down_damaged, session_heard}
+use Rattle.tc_link.proofs.Submitting.{segments_fit}
+use Rattle.tc_link.specs.Reached.{IsDirective}
+use Rattle.tc_link.proofs.Arriving.{own_arrives}
+use Rattle.tc_link.proofs.Early.{WouldConfirm, Good, Confirming, AllGood, Lasts, lasts_on, lasts_push, IsEarly, ControlFits, HoldsEarly, HeldEarly, AllSame, same_push, Begun, held_early_again, early_settled, last_good, Confirmed, confirmed}
+use Rattle.tc_link.proofs.Hearing.{used_is}
+use Rattle.tc_link.proofs.Linked.{Steady, IsGiven, units_of_all, Carries, Reporting, carries_push, reporting_push}
+use Rattle.tc_link.proofs.Settled.{settled_keeps, queued_as}
+use Rattle.tc_link.proofs.Spelled.{Goes, reads_back}
+use Rattle.tc_link.proofs.LateSubmitting.{taken_is, all_push, all_append, units-push}
+use Rattle.tc_link.proofs.Telling.{tells_now}
+use Rattle.tc_link.proofs.Transit.{CommandFits, UpIs, up_push_bypass, up_push_control}
+use Rattle.tc_link.proofs.Words.{locks_is, waits_is, asks_is}
+
+module _ (c : Config) (d : Directive) (base : ℕ) (w : World) (k : Steady c w) (g : Begun c d base w) where
+  -- ---- the spacecraft
+
+  craft_early : (bs : List (List ℕ)) (fs : List BodyView) (craft : CraftState) → Carries c bs fs → UpIs d base true fs [] → craft.accepted ≡ w.craft.accepted → (WouldConfirm base w.craft → WouldConfirm base craft)
+      → (d ≡ InitWithCheck → (craft.farm.lockout ≡ w.craft.farm.lockout) × (craft.farm.retransmit ≡ w.craft.farm.retransmit) × (craft.farm.vr ≡ w.craft.farm.vr))
+      → Begun c d base (record w { up = bs; craft = craft })
+  craft_early bs fs craft rest up accepted so sames =
+      let l = g.early in
+      let accepted_none : drop w.session.before craft.accepted ≡ [] = rw accepted l.accepted_none in
+      let lasts : Lasts base g.reports (Confirming base craft.farm.lockout craft.farm.wait craft.farm.retransmit craft.farm.vr) = lasts_on base g.reports (WouldConfirm base w.craft) (WouldConfirm base craft) so l.lasts in
+      let same : d ≡ InitWithCheck → AllSame g.reports craft.farm.lockout craft.farm.retransmit craft.farm.vr = λ e. let t = sames e in rw (t.0, t.1, t.2) (l.same e) in
+      record { frames = fs; reports = g.reports; early = assumption (rest, up, accepted_none, lasts, same, l) }
+
+  unchanged : (craft : CraftState) → craft.farm.lockout ≡ w.craft.farm.lockout → craft.farm.wait ≡ w.craft.farm.wait → craft.farm.retransmit ≡ w.craft.farm.retransmit → craft.farm.vr ≡ w.craft.farm.vr → WouldConfirm base w.craft → WouldConfirm base craft
+  unchanged craft l w t v good = (l ∙ good.0, w ∙ good.1, t ∙ good.2, v ∙ good.3)
+
+  module _ (bs : List (List ℕ)) (fs : List BodyView) (rest : Carries c bs fs) (up : UpIs d base true fs []) where
+    still : (craft : CraftState) → craft.accepted ≡ w.craft.accepted → craft.farm.lockout ≡ w.craft.farm.lockout → craft.farm.wait ≡ w.craft.farm.wait → craft.farm.retransmit ≡ w.craft.farm.retransmit → craft.farm.vr ≡ w.craft.farm.vr → Begun c d base (record w { up = bs; craft = craft })
+    still craft accepted lockout wait retransmit vr = craft_early bs fs craft rest up accepted (unchanged craft lockout wait retransmit vr) (λ e. (lockout, retransmit, vr))
+
+    unlocks : (mode : FarmMode) → (d ≡ InitWithCheck → ⊥) → Begun c d base (record w { up = bs; craft = record w.craft { farm = after_unlock w.craft.farm mode } })
+    unlocks Open other = craft_early bs fs (record w.craft { farm = after_unlock w.craft.farm Open }) rest up refl (λ good. (good.0, good.1, refl, good.3)) (λ e. absurd (other e))
+    unlocks Wait other = craft_early bs fs (record w.craft { farm = after_unlock w.craft.farm Wait }) rest up refl (λ good. (good.0, refl, refl, good.3)) (λ e. absurd (other e))
+    unlocks Lockout other = craft_early bs fs (record w.craft { farm = after_unlock w.craft.farm Lockout }) rest up refl (λ good. (refl, refl, refl, good.3)) (λ e. absurd (other e))
+
+    sets : (y : ℕ) (mode : FarmMode) → (d ≡ InitWithCheck → ⊥) → y ≡ base → Begun c d base (record w { up = bs; craft = record w.craft { farm = after_set_vr w.craft.farm y mode } })
+    sets y Open other is = craft_early bs fs (record w.craft { farm = after_set_vr w.craft.farm y Open }) rest up refl (λ good. (good.0, good.1, refl, is)) (λ e. absurd (other e))
+    sets y Wait other is = craft_early bs fs (record w.craft { farm = after_set_vr w.craft.farm y Wait }) rest up refl (λ good. (good.0, refl, refl, is)) (λ e. absurd (other e))
+    sets y Lockout other is = still (record w.craft { farm = counted w.craft.farm }) refl refl refl refl refl
+
+    control_early : (command : Command) (e : Directive) → e ≡ d → CommandFits e base command → Begun c d base (record w { up = bs; craft = (body_arrived w.craft (Bc command)).after })
+    control_early Unlock InitUnlock is fits = unlocks w.craft.farm.state (λ x. absurd (cc (is, x)))
+    control_early (SetVr y) (InitSetVr x) is fits = sets y w.craft.farm.state (λ x. absurd (cc (is, x))) fits
+    control_early Unlock (InitSetVr x) is fits = elim fits [ ]
+    control_early (SetVr y) InitUnlock is fits = elim fits [ ]
+    control_early command InitWithoutCheck is fits = elim fits [ ]
+    control_early command InitWithCheck is fits = elim fits [ ]
+    control_early command Terminate is fits = elim fits [ ]
+    control_early command (SetVs x) is fits = elim fits [ ]
+    control_early command (SetWindow x) is fits = elim fits [ ]
+    control_early command (SetLimit x) is fits = elim fits [ ]
+    control_early command (SetTimer x) is fits = elim fits [ ]
+
+    bypass_early : (s : SegmentView) (kept : Bool) → Begun c d base (record w { up = bs; craft = (bypass_arrived w.craft s kept).after })
+    bypass_early s true = still (bypass_arrived w.craft s true).after refl refl refl refl refl
+    bypass_early s false = still (bypass_arrived w.craft s false).after refl refl refl refl refl
+
+    release_early : (left : List PacketOn) (mode : FarmMode) → Begun c d base (record w { up = bs; craft = record w.craft { ready = left; farm = after_release w.craft.farm mode } })
+    release_early left Open = still (record w.craft { ready = left }) refl refl refl refl refl
+    release_early left Wait = craft_early bs fs (record w.craft { ready = left; farm = after_release w.craft.farm Wait }) rest up refl (λ good. (good.0, refl, good.2, good.3)) (λ e. (refl, refl, refl))
+    release_early left Lockout = craft_early bs fs (record w.craft { ready = left; farm = after_release w.craft.farm Lockout }) rest up refl (λ good. (good.0, refl, good.2, good.3)) (λ e. (refl, refl, refl))
+
+  body_early : (f : BodyView) (bs : List (List ℕ)) (fs : List BodyView) → Carries c bs fs → UpIs d base true (f ∷ fs) [] → Begun c d base (record w { up = bs; craft = (body_arrived w.craft f).after })
+  body_early (Bd s) bs fs rest up = bypass_early bs fs rest up s (is_kept (limits_of w.craft.config) s)
+  body_early (Bc command) bs fs rest up = control_early bs fs rest up.2 command d refl up.1
+  body_early (Ad n s) bs fs rest up = elim up [ ]
+
+  lost_early : (f : BodyView) (bs : List (List ℕ)) (fs : List BodyView) → Carries c bs fs → UpIs d base true (f ∷ fs) [] → Begun c d base (record w { up = bs })
+  lost_early (Bd s) bs fs rest up = still bs fs rest up w.craft refl refl refl refl refl
+  lost_early (Bc command) bs fs rest up = still bs fs rest up.2 w.craft refl refl refl refl refl
+  lost_early (Ad n s) bs fs rest up = elim up [ ]
+
+  deliver_early : (bs : List (List ℕ)) (fs : List BodyView) → Carries c bs fs → UpIs d base true fs [] → Begun c d base (up_delivered w bs).after
+  deliver_early [] fs carries up = g
+  deliver_early (b ∷ bs) [] carries up = elim carries [ ]
+  deliver_early (b ∷ bs) (f ∷ fs) carries up =
+      subst (λ o. Begun c d base (record w { up = bs; craft = o.after })) (sym (own_arrives w.craft c f (frame_at On b) k.craft_config carries.0)) (body_early f bs fs carries.1 up)
+
+  lose_early : (bs : List (List ℕ)) (fs : List BodyView) → Carries c bs fs → UpIs d base true fs [] → Begun c d base (up_lost w bs).after
+  lose_early [] fs carries up = g
+  lose_early (b ∷ bs) [] carries up = elim carries [ ]
+  lose_early (b ∷ bs) (f ∷ fs) carries up = lost_early f bs fs carries.1 up
+
+  detect_early : (b : List ℕ) (bs : List (List ℕ)) (r : Result FrameView TcFault) → Begun c d base (up_lost w (b ∷ bs)).after → Begun c d base (up_detected w bs r).after
+  detect_early b bs (Ok frame) lost = g
+  detect_early b bs (Err fault) lost = lost
+
+  damage_early : (bs : List (List ℕ)) (fs : List BodyView) (damaged : List ℕ) → Carries c bs fs → UpIs d base true fs [] → Begun c d base (up_damaged w bs damaged).after
+  damage_early [] fs damaged carries up = g
+  damage_early (b ∷ bs) fs damaged carries up = detect_early b bs (frame_at On damaged) (lose_early (b ∷ bs) fs carries up)
+
+  pub early_up_deliver : Begun c d base (up_delivered w w.up).after
+  early_up_deliver = deliver_early w.up g.frames g.early.carries g.early.up_is
+
+  pub early_up_lose : Begun c d base (up_lost w w.up).after
+  early_up_lose = lose_early w.up g.frames g.early.carries g.early.up_is
+
+  pub early_up_damage : (damaged : List ℕ) → Begun c d base (up_damaged w w.up damaged).after
+  early_up_damage damaged = damage_early w.up g.frames damaged g.early.carries g.early.up_is
+
+  take_early : (packets : List PacketOn) → Begun c d base (after_taking w (taken w.craft packets)).after
+  take_early [] = g
+  take_early (packet ∷ left) = cond_both (nat_lt (length left) w.craft.config.ready_slots) (farm_step w.craft.farm BufferReleased) w.craft.farm (λ (farm : FarmState). Begun c d base (record w { craft = record w.craft { ready = left; farm = farm } }))
+      (λ t. release_early w.up g.frames g.early.carries g.early.up_is left w.craft.farm.state) (λ t. still w.up g.frames g.early.carries g.early.up_is (record w.craft { ready = left }) refl refl refl refl refl)
+
+  pub early_take : Begun c d base (after_taking w (taken w.craft w.craft.ready)).after
+  early_take = take_early w.craft.ready
+
+  take_bypass_early : (packets : List PacketOn) → Begun c d base (after_taking w (bypass_taken w.craft packets)).after
+  take_bypass_early [] = g
+  take_bypass_early (packet ∷ left) = still w.up g.frames g.early.carries g.early.up_is (record w.craft { bypass = left }) refl refl refl refl refl
+
+  pub early_take_bypass : Begun c d base (after_taking w (bypass_taken w.craft w.craft.bypass)).after
+  early_take_bypass = take_bypass_early w.craft.bypass
+
+  pub early_telemetry : (octets : List ℕ) → Begun c d base (after_queueing w (telemetry_queued w.craft octets)).after
+  early_telemetry octets = cond_both (is_to_send octets) _ _ (λ o. Begun c d base (after_queueing w o).after) (λ t. still w.up g.frames g.early.carries g.early.up_is (record w.craft { builder = queued w.craft.builder octets }) refl refl refl refl refl) (λ t. g)
+
+  pub early_report : Begun c d base (after_report w (craft_step w.craft Report)).after
+  early_report =
+      let l = g.early in
+      let farm = w.craft.farm in
+      let r : Clcw = report_of farm w.craft.config.vcid in
+      let asks_so : asks r ≡ farm.retransmit = asks_is farm farm.lockout farm.wait farm.retransmit refl refl refl w.craft.config.vcid in
+      let waits_so : waits r ≡ farm.wait = waits_is farm farm.lockout farm.wait farm.retransmit refl refl refl w.craft.config.vcid in
+      let locks_so : locks r ≡ farm.lockout = locks_is farm farm.lockout farm.wait farm.retransmit refl refl refl w.craft.config.vcid in
+      let reporting : Reporting c (w.down ++ telemetry_writing.spelling (reported w.craft).answer ∷ []) (g.reports ++ r ∷ []) = reporting_push c (telemetry_writing.spelling (reported w.craft).answer) r w.down g.reports (tells_now c w k) l.reporting in
+      let lasts : Lasts base (g.reports ++ r ∷ []) (WouldConfirm base w.craft) = lasts_push base r g.reports (WouldConfirm base w.craft) (λ good. (locks_so ∙ good.0, waits_so ∙ good.1, asks_so ∙ good.2, good.3)) (λ good. (sym locks_so ∙ good.0, sym waits_so ∙ good.1, sym asks_so ∙ good.2, good.3)) l.lasts in
+      let same : d ≡ InitWithCheck → AllSame (g.reports ++ r ∷ []) farm.lockout farm.retransmit farm.vr = λ e. same_push r g.reports farm.lockout farm.retransmit farm.vr locks_so asks_so refl (λ t. asks_so ∙ k.flags.asks (sym waits_so ∙ t)) (l.same e) in
+      record { frames = g.frames; reports = g.reports ++ r ∷ []; early = assumption (reporting, lasts, same, l) }

@@ -1,0 +1,177 @@
+-- Before the confirmation: telemetry that arrives keeps what holds, or confirms.
+use Rattle.std.proofs.Common.{◌≡◌, ℕ, ◌+◌, ◌-◌, ◌<◌, ◌⊎◌, inl, inr, Bool, true, false, not, List, [], ◌∷◌, ◌++◌, length, drop, Option, Some, None, option_to_list, Result, Ok, Err, refl, ap, sym, subst, ◌∙◌, append_assoc, arith}
+use Rattle.std.specs.Prelude.{◌==◌, ◌&&◌, ◌||◌, nat_lt}
+use Rattle.std.specs.List.{AllByRecursion}
+use Rattle.std.proofs.lemmas.Bool.{cond_both, eqb-true, not-true, not-false, and_parts}
+use Rattle.std.proofs.lemmas.List.{append-nil}
+use Rattle.clcw.specs.declared.word.Clcw.{Clcw}
+use Rattle.tc_frame.specs.declared.fault.TcFault.{TcFault}
+use Rattle.tc_frame.specs.declared.frame.Check.TheVariants.{On}
+use Rattle.tc_frame.specs.declared.frame.Command.{Command}
+use Rattle.tc_frame.specs.declared.frame.Command.TheVariants.{Unlock, SetVr}
+use Rattle.tc_frame.specs.Layout.{SegmentView, BodyView, Ad, Bd, Bc, FrameView}
+use Rattle.tc_frame.specs.Reading.{frame_at}
+use Rattle.tc_frame.specs.Writing.{spelling}
+use Rattle.map_service.specs.Cutting.{segments_of}
+use Rattle.cop1.specs.Modulo.{ahead_by}
+use Rattle.cop1.specs.declared.fault.CopFault.TheVariants as faults
+use Rattle.cop1.specs.declared.farm.FarmMode.{FarmMode}
+use Rattle.cop1.specs.declared.farm.FarmMode.TheVariants.{Open, Wait, Lockout}
+use Rattle.cop1.specs.declared.fop.Alert.{Alert}
+use Rattle.cop1.specs.declared.fop.Alert.TheVariants as alert
+use Rattle.cop1.specs.declared.fop.Control.{Control}
+use Rattle.cop1.specs.declared.fop.Control.TheVariants.{Idle, Due, Sent}
+use Rattle.cop1.specs.declared.fop.Directive.{Directive}
+use Rattle.cop1.specs.declared.fop.Directive.TheVariants.{InitWithoutCheck, InitWithCheck, InitUnlock, InitSetVr, Terminate, SetVs, SetWindow, SetLimit, SetTimer}
+use Rattle.cop1.specs.declared.fop.FopMode.{FopMode}
+use Rattle.cop1.specs.declared.fop.FopMode.TheVariants.{S1, S2, S3, S4, S5, S6}
+use Rattle.cop1.specs.Farm.{FarmState, after_unlock, after_set_vr, after_release, counted, farm_step, BufferReleased}
+use Rattle.cop1.specs.FopDirective.{obeys, refuses, from_S6, terminated}
+use Rattle.cop1.specs.FopPull.{PulledUnit, NothingPulled, pulls, pulled, pulled_control, pulled_bypass, pulled_in}
+use Rattle.cop1.specs.FopReport.{locks, waits, asks, report_in, confirms as confirms_by}
+use Rattle.cop1.specs.FopState.{FopState}
+use Rattle.cop1.specs.FopTick.{ticked_with, timer_ended, counted as counted_on, due_again}
+use Rattle.cop1.specs.FopWords.{Outcome, given_up, stopped, restarted, alerts, goes_on}
+use Rattle.cop1.specs.Report.{report_of}
+use Rattle.tm_link.specs.Building.{is_to_send, queued}
+use Rattle.tm_link.specs.declared.fault.TmFault.{TmFault}
+use Rattle.tm_link.specs.Extraction.{Extracted, extract_step}
+use Rattle.tm_link.specs.Layout as telemetry
+use Rattle.tm_link.specs.Reading as telemetry_reading
+use Rattle.tm_link.specs.Writing as telemetry_writing
+use Rattle.tc_link.specs.declared.config.Config.{Config}
+use Rattle.tc_link.specs.declared.event.Event.TheVariants as events
+use Rattle.tc_link.specs.declared.fault.LinkFault.{LinkFault}
+use Rattle.tc_link.specs.declared.heard.Heard.{Heard}
+use Rattle.tc_link.specs.Craft.{CraftState, craft_step, Report, reported, body_arrived, bypass_arrived, taken, bypass_taken, telemetry_queued}
+use Rattle.tc_link.specs.Keeping.{is_kept}
+use Rattle.tc_link.specs.OwnedFields.{FitsFrame}
+use Rattle.tc_link.specs.Packets.{PacketOn, packet_on}
+use Rattle.tc_link.specs.Parameters.{limits_of}
+use Rattle.tc_link.specs.Ground.{GroundState, GroundOutcome, is_closed, unsent, with_fop, frame_of, frame_pulled, directed_by, segments_on, submit_fault, submitted, bypass_fault, bypassed, unless, after_extraction}
+use Rattle.tc_link.specs.World.{World, confirms, is_initialising, is_initiation, world_step, after_directive, after_pull, after_submission, after_bypass, after_taking, after_queueing, after_report, up_delivered, up_lost, up_detected, up_damaged, down_delivered, down_lost, down_detected, down_damaged, session_heard}
+use Rattle.tc_link.proofs.Submitting.{segments_fit}
+use Rattle.tc_link.specs.Reached.{IsDirective}
+use Rattle.tc_link.proofs.Arriving.{own_arrives}
+use Rattle.tc_link.proofs.Early.{WouldConfirm, Good, Confirming, AllGood, Lasts, lasts_on, lasts_push, IsEarly, ControlFits, HoldsEarly, HeldEarly, AllSame, same_push, Begun, held_early_again, early_settled, last_good, Confirmed, confirmed}
+use Rattle.tc_link.proofs.Hearing.{used_is}
+use Rattle.tc_link.proofs.Linked.{Steady, IsGiven, units_of_all, Carries, Reporting, carries_push, reporting_push}
+use Rattle.tc_link.proofs.Settled.{settled_keeps, queued_as}
+use Rattle.tc_link.proofs.Spelled.{Goes, reads_back}
+use Rattle.tc_link.proofs.LateSubmitting.{taken_is, all_push, all_append, units-push}
+use Rattle.tc_link.proofs.Telling.{tells_now}
+use Rattle.tc_link.proofs.Transit.{CommandFits, UpIs, up_push_bypass, up_push_control}
+use Rattle.tc_link.proofs.Words.{locks_is, waits_is, asks_is}
+
+confirms_not : (d : Directive) (old new : FopMode) → IsEarly d new → confirms old new ≡ false
+confirms_not d old S1 early = elim early [ ]
+confirms_not d old S2 early = elim early [ ]
+confirms_not d old S3 early = elim early [ ]
+confirms_not d old S4 early = refl
+confirms_not d old S5 early = refl
+confirms_not d old S6 early = refl
+
+confirms_now : (was : Bool) (old new : FopMode) → new ≡ S1 → is_initialising old ≡ true → was || confirms old new ≡ true
+confirms_now true old new is waits_for = refl
+confirms_now false old new is waits_for = rw is waits_for
+
+module _ (c : Config) (d : Directive) (base : ℕ) (w : World) (k : Steady c w) (g : Begun c d base w) where
+  -- ---- telemetry arrives
+
+  abbrev with_heard : GroundState → List (List ℕ) → World
+  with_heard t down = record w { station = t; down = down; session = session_heard w.session w.station t }
+
+  acked_same : w.session.acknowledged + ahead_by w.station.fop.nn w.station.fop.nn ≡ 0
+  acked_same = omega (arith, g.early.nn_octet, g.early.acked_none)
+
+  module _ (x : Extracted) (r : Clcw) (bs : List (List ℕ)) (rs : List Clcw) (rest : Reporting c bs rs) (on_good : Good base r → AllGood base rs (WouldConfirm base w.craft)) (lasts_rest : Lasts base rs (WouldConfirm base w.craft)) (same_rest : d ≡ InitWithCheck → AllSame rs w.craft.farm.lockout w.craft.farm.retransmit w.craft.farm.vr) where
+    abbrev Hears : Outcome SegmentView (Option Alert) → Type 0
+    Hears o = Begun c d base (with_heard (with_fop (after_extraction w.station x) o.after) bs) ⊎ Confirmed c d base (with_heard (with_fop (after_extraction w.station x) o.after) bs)
+
+    -- the sender stays early
+    stays : (f : FopState SegmentView) → IsEarly d f.state → f.nn ≡ w.station.fop.nn → ControlFits d base f.control → HeldEarly (is_closed f.state) base f.vs f.nn f.sent (option_to_list f.waiting ++ w.station.pending) (units_of_all c w.session.submissions) → Begun c d base (with_heard (with_fop (after_extraction w.station x) f) bs)
+    stays f early nn command_is held_f = settled_keeps (λ t. Begun c d base (with_heard t bs)) (record (after_extraction w.station x) { fop = f }) (λ waiting pending on off.
+        let l = g.early in
+        let units : List SegmentView = units_of_all c w.session.submissions in
+        let held : HeldEarly (is_closed f.state) base f.vs f.nn f.sent (option_to_list waiting ++ pending) units = held_early_again (is_closed f.state) base f.vs f.nn f.sent (option_to_list f.waiting ++ w.station.pending) (option_to_list waiting ++ pending) units on held_f in
+        let nn_octet : f.nn < 256 = omega (arith, nn, l.nn_octet) in
+        let acked_none : w.session.acknowledged + ahead_by f.nn w.station.fop.nn ≡ 0 = rw nn acked_same in
+        let confirmed_not : w.session.confirmed || confirms w.station.fop.state f.state ≡ false = rw (l.confirmed_not, confirms_not d w.station.fop.state f.state early) refl in
+        record { frames = g.frames; reports = rs; early = assumption (rest, lasts_rest, same_rest, held, early, nn_octet, command_is, acked_none, confirmed_not, l) })
+
+    goes_off : (alert : Alert) → Hears (alerts w.station.fop alert)
+    goes_off alert = inl (stays (given_up w.station.fop) tt refl tt tt)
+
+    goes_on_early : Hears (goes_on w.station.fop)
+    goes_on_early = inl (stays w.station.fop g.early.early refl g.early.command_is g.early.held)
+
+    held_on : is_closed w.station.fop.state ≡ false → HoldsEarly base w.station.fop.vs w.station.fop.nn w.station.fop.sent (unsent w.station) (units_of_all c w.session.submissions)
+    held_on on = let it : HeldEarly false base w.station.fop.vs w.station.fop.nn w.station.fop.sent (unsent w.station) (units_of_all c w.session.submissions) = rw on at g.early.held in it
+
+    vs_of : is_closed w.station.fop.state ≡ false → w.station.fop.vs ≡ base
+    vs_of on = (held_on on).vs_is
+
+    -- the report confirms
+    goes_late : (f : FopState SegmentView) → is_closed w.station.fop.state ≡ false → is_initialising w.station.fop.state ≡ true → f.state ≡ S1 → f.vs ≡ w.station.fop.vs → f.nn ≡ w.station.fop.nn → f.sent ≡ w.station.fop.sent → f.waiting ≡ w.station.fop.waiting → Good base r → Hears (goes_on f)
+    goes_late f on waits_for state vs nn sent waiting good = inr (settled_keeps (λ t. Confirmed c d base (with_heard t bs)) (record (after_extraction w.station x) { fop = f }) (λ wait pending so off.
+        let was = held_on on in
+        let all = last_good base rs (WouldConfirm base w.craft) (on_good good) in
+        record { exact = (all.3 ∙ sym was.vs_is ∙ sym vs, nn ∙ was.nn_is ∙ sym was.vs_is ∙ sym vs); late = confirmed c d base w g on bs rs rest (on_good good) (queued_as (record (after_extraction w.station x) { fop = f }) wait pending) state vs nn sent (so (rw state refl) ∙ ap (λ o. option_to_list o ++ w.station.pending) waiting) (w.session.confirmed || confirms w.station.fop.state f.state) (confirms_now w.session.confirmed w.station.fop.state f.state state waits_for) (w.session.acknowledged + ahead_by f.nn w.station.fop.nn) (rw nn acked_same) }))
+
+    hears_in : (m : FopMode) → w.station.fop.state ≡ m → Hears (report_in w.station.fop r m)
+    hears_in S1 is = absurd (let no : IsEarly d S1 = rw is at g.early.early in no)
+    hears_in S2 is = absurd (let no : IsEarly d S2 = rw is at g.early.early in no)
+    hears_in S3 is = absurd (let no : IsEarly d S3 = rw is at g.early.early in no)
+    hears_in S6 is = goes_on_early
+    hears_in S4 is =
+        let s = w.station.fop in
+        let on : is_closed s.state ≡ false = rw is refl in
+        cond_both (locks r) (alerts s alert.Lockout) _ (λ o. Hears o) (λ t. goes_off alert.Lockout)
+        (λ l. cond_both (not (r.value == s.vs)) (alerts s alert.NnR) _ (λ o. Hears o) (λ t. goes_off alert.NnR)
+        (λ v. cond_both (asks r) (alerts s alert.Synch) _ (λ o. Hears o) (λ t. goes_off alert.Synch)
+        (λ a. cond_both (waits r) (alerts s alert.Clcw) _ (λ o. Hears o) (λ t. goes_off alert.Clcw)
+        (λ t. goes_late (record s { state = S1; ticks = None }) on (rw is refl) refl refl refl refl refl (l, t, a, eqb-true r.value s.vs (not-false (r.value == s.vs) v) ∙ vs_of on)))))
+    hears_in S5 is =
+        let s = w.station.fop in
+        let on : is_closed s.state ≡ false = rw is refl in
+        cond_both (confirms_by s r) (goes_on (record s { state = S1; ticks = None; control = Idle })) (goes_on s) (λ o. Hears o)
+        (λ t.
+        let p = and_parts (not (locks r) && not (waits r) && not (asks r)) (r.value == s.vs) t in
+        let q = and_parts (not (locks r) && not (waits r)) (not (asks r)) p.0 in
+        let u = and_parts (not (locks r)) (not (waits r)) q.0 in
+        goes_late (record s { state = S1; ticks = None; control = Idle }) on (rw is refl) refl refl refl refl refl (not-true (locks r) u.0, not-true (waits r) u.1, not-true (asks r) q.1, eqb-true r.value s.vs p.1 ∙ vs_of on))
+        (λ t. goes_on_early)
+
+  down_early : (bs : List (List ℕ)) (rs : List Clcw) → Reporting c bs rs → Lasts base rs (WouldConfirm base w.craft) → (d ≡ InitWithCheck → AllSame rs w.craft.farm.lockout w.craft.farm.retransmit w.craft.farm.vr) → Begun c d base (down_delivered w bs).after ⊎ Confirmed c d base (down_delivered w bs).after
+  down_early [] rs rest lasts same = inl g
+  down_early (b ∷ bs) [] rest lasts same = elim rest [ ]
+  down_early (b ∷ bs) (r ∷ rs) rest lasts same =
+      let x : Extracted = extract_step w.station.extractor rest.0.frame in
+      subst (λ (o : GroundOutcome Heard). Begun c d base (with_heard o.after bs) ⊎ Confirmed c d base (with_heard o.after bs)) (sym (used_is c w.station b r k.station_config rest.0))
+      (hears_in x r bs rs rest.1 lasts.0 lasts.1 (λ e. (same e).4) w.station.fop.state refl)
+
+  down_lose_early : (bs : List (List ℕ)) (rs : List Clcw) → Reporting c bs rs → Lasts base rs (WouldConfirm base w.craft) → (d ≡ InitWithCheck → AllSame rs w.craft.farm.lockout w.craft.farm.retransmit w.craft.farm.vr) → Begun c d base (down_lost w bs).after
+  down_lose_early [] rs rest lasts same = g
+  down_lose_early (b ∷ bs) [] rest lasts same = elim rest [ ]
+  down_lose_early (b ∷ bs) (r ∷ rs) rest lasts same =
+      let left = rest.1 in
+      let lasts_left = lasts.1 in
+      let same_left : d ≡ InitWithCheck → AllSame rs w.craft.farm.lockout w.craft.farm.retransmit w.craft.farm.vr = λ e. (same e).4 in
+      record { frames = g.frames; reports = rs; early = assumption (left, lasts_left, same_left, g.early) }
+
+  down_detect_early : (b : List ℕ) (bs : List (List ℕ)) (r : Result telemetry.FrameView TmFault) → Begun c d base (down_lost w (b ∷ bs)).after → Begun c d base (down_detected w bs r).after
+  down_detect_early b bs (Ok frame) lost = g
+  down_detect_early b bs (Err fault) lost = lost
+
+  down_damage_early : (bs : List (List ℕ)) (damaged : List ℕ) → Begun c d base (down_lost w bs).after → Begun c d base (down_damaged w bs damaged).after
+  down_damage_early [] damaged lost = g
+  down_damage_early (b ∷ bs) damaged lost = down_detect_early b bs (telemetry_reading.frame_at w.station.config.frame_length damaged) lost
+
+  pub early_down_deliver : Begun c d base (down_delivered w w.down).after ⊎ Confirmed c d base (down_delivered w w.down).after
+  early_down_deliver = down_early w.down g.reports g.early.reporting g.early.lasts g.early.same
+
+  pub early_down_lose : Begun c d base (down_lost w w.down).after
+  early_down_lose = down_lose_early w.down g.reports g.early.reporting g.early.lasts g.early.same
+
+  pub early_down_damage : (damaged : List ℕ) → Begun c d base (down_damaged w w.down damaged).after
+  early_down_damage damaged = down_damage_early w.down damaged early_down_lose

@@ -1,0 +1,163 @@
+-- How the nodes, what is on its way, the records and a plain link hold together in a clean session.
+use Rattle.std.proofs.Common.{◌≡◌, ℕ, ◌+◌, ◌*◌, ◌/◌, ◌%◌, ◌<◌, ◌≤◌, Bool, true, false, List, [], ◌∷◌, ◌++◌, length, take, drop, map, Some, None, Ok}
+use Rattle.std.specs.List.{AllByRecursion, flat_map}
+use Rattle.clcw.specs.declared.word.Clcw.{Clcw}
+use Rattle.clcw.specs.Reading.{clcw_at}
+use Rattle.tc_frame.specs.declared.frame.Check.TheVariants.{On}
+use Rattle.tc_frame.specs.Layout.{SegmentView, BodyView, segment_octets}
+use Rattle.tc_frame.specs.Reading as command
+use Rattle.map_service.specs.Assembly.{is_open}
+use Rattle.map_service.specs.Cutting.{segments_of, cut_fault}
+use Rattle.cop1.specs.declared.fop.Control.{Control}
+use Rattle.cop1.specs.declared.fop.Control.TheVariants.{Idle}
+use Rattle.cop1.specs.declared.fop.Directive.{Directive}
+use Rattle.cop1.specs.declared.fop.FopMode.{FopMode}
+use Rattle.cop1.specs.declared.fop.FopMode.TheVariants.{S1, S2, S3, S4, S5, S6}
+use Rattle.cop1.specs.FarmRuns.{FlagsAgree}
+use Rattle.cop1.specs.FopState.{SentUnit}
+use Rattle.cop1.specs.FopNext.{units_of}
+use Rattle.tm_link.specs.Layout as telemetry
+use Rattle.tm_link.specs.Reading as telemetry_reading
+use Rattle.tc_link.specs.declared.config.Config.{Config}
+use Rattle.tc_link.specs.Confirmation.{IsChecked}
+use Rattle.tc_link.specs.CraftFields.{IsBuilderOf}
+use Rattle.tc_link.specs.Parameters.{IsConfig, limits_of}
+use Rattle.tc_link.specs.OwnedFields.{FitsFrame}
+use Rattle.tc_link.specs.Packets.{PacketOn}
+use Rattle.tc_link.specs.Ground.{frame_of, is_closed, unsent}
+use Rattle.tc_link.specs.World.{World}
+use Rattle.tc_link.specs.PlainLink.{PlainLink, PlainRun, new_link}
+use Rattle.tc_link.proofs.Reports.{IsLate, asked}
+use Rattle.tc_link.proofs.Transit.{UpIs, DownIs, Fits, Rises, Ranks, bit}
+
+-- ---- octets on their way
+
+abbrev pub Carries : Config → List (List ℕ) → List BodyView → Type 0
+Carries c [] [] = Unit {0}
+Carries c [] (f ∷ fs) = ⊥
+Carries c (b ∷ bs) [] = ⊥
+Carries c (b ∷ bs) (f ∷ fs) = (command.frame_at On b ≡ Ok (frame_of c f)) × Carries c bs fs
+
+-- octets of a telemetry frame with this report
+pub record Tells (c : Config) (octets : List ℕ) (report : Clcw) : Type 0 where
+  pub frame : telemetry.FrameView
+  pub reads : telemetry_reading.frame_at c.frame_length octets ≡ Ok frame
+  pub scid : frame.scid ≡ c.scid
+  pub vcid : frame.vcid ≡ c.tm_vcid
+  pub word : clcw_at frame.ocf ≡ Ok report
+  pub own : report.vcid ≡ c.vcid
+
+abbrev pub Reporting : Config → List (List ℕ) → List Clcw → Type 0
+Reporting c [] [] = Unit {0}
+Reporting c [] (r ∷ rs) = ⊥
+Reporting c (b ∷ bs) [] = ⊥
+Reporting c (b ∷ bs) (r ∷ rs) = Tells c b r × Reporting c bs rs
+
+-- ---- what holds always
+
+-- a control command is there in S5 alone
+abbrev pub Commanded : FopMode → Control → Type 0
+Commanded S1 control = control ≡ Idle
+Commanded S2 control = control ≡ Idle
+Commanded S3 control = control ≡ Idle
+Commanded S4 control = control ≡ Idle
+Commanded S5 control = Unit {0}
+Commanded S6 control = control ≡ Idle
+
+pub record Steady (c : Config) (w : World) : Type 0 where
+  pub ranges : IsConfig c
+  pub station_config : w.station.config ≡ c
+  pub craft_config : w.craft.config ≡ c
+  pub width : w.craft.farm.width ≡ c.width
+  pub farm_b : w.craft.farm.farm_b < 4
+  pub flags : FlagsAgree w.craft.farm
+  pub room : w.station.fop.room ≡ c.width / 2
+  pub window : w.station.fop.window ≤ c.width / 2
+  pub vs_octet : w.station.fop.vs < 256
+  -- nothing is queued where the sender is off
+  pub unsent_none : is_closed w.station.fop.state ≡ true → unsent w.station ≡ []
+  pub sent_none : is_closed w.station.fop.state ≡ true → w.station.fop.sent ≡ []
+  pub commanded : Commanded w.station.fop.state w.station.fop.control
+  pub bypass_fits : AllByRecursion FitsFrame w.station.fop.bypass
+  pub before : w.session.before ≤ length w.craft.accepted
+  pub builder : IsBuilderOf c w.craft.builder
+  pub idle_left : w.craft.builder.idle_left ≤ 6
+
+-- ---- a submission that was accepted
+
+pub record IsGiven (c : Config) (p : PacketOn) : Type 0 where
+  pub opened : is_open (limits_of c) p.on_map ≡ true
+  pub cut : cut_fault (limits_of c) p.octets ≡ None
+
+abbrev pub units_of_all : Config → List PacketOn → List SegmentView
+units_of_all c ps = flat_map (λ (p : PacketOn). segments_of c.part p.on_map p.octets) ps
+
+-- ---- what the sender holds where it is on
+
+pub record Holds (base vs nn : ℕ) (sent : List (SentUnit SegmentView)) (rest : List SegmentView) (a n : ℕ) (units : List SegmentView) : Type 0 where
+  pub vs_is : vs ≡ (base + n) % 256
+  pub nn_is : nn ≡ (base + a) % 256
+  pub sent_is : units_of sent ≡ drop a (take n units)
+  pub rest_is : rest ≡ drop n units
+
+abbrev pub Held : Bool → (base vs nn : ℕ) → List (SentUnit SegmentView) → List SegmentView → (a n : ℕ) → List SegmentView → Type 0
+Held true base vs nn sent rest a n units = Unit {0}
+Held false base vs nn sent rest a n units = Holds base vs nn sent rest a n units
+
+-- ---- once the session is confirmed, or begun without a check
+
+pub record Linked (c : Config) (d : Directive) (base : ℕ) (w : World) (p : PlainLink) (front : Bool) (frames : List BodyView) (reports : List Clcw) : Type 0 where
+  pub opened : w.session.opening ≡ Some (record { directive = d; clean = true })
+  pub confirmed_is : IsChecked d → w.session.confirmed ≡ true
+  pub base_octet : base < 256
+  pub vr_is : w.craft.farm.vr ≡ (base + p.r) % 256
+  pub nn_octet : w.station.fop.nn < 256
+  pub late : IsLate w.station.fop.state
+  pub held : Held (is_closed w.station.fop.state) base w.station.fop.vs w.station.fop.nn w.station.fop.sent (unsent w.station) p.a p.n p.units
+  pub given : AllByRecursion (IsGiven c) w.session.submissions
+  pub units_are : p.units ≡ units_of_all c w.session.submissions
+  pub units_fit : AllByRecursion FitsFrame p.units
+  pub sent_is : w.session.sent ≡ map segment_octets (take p.n p.units)
+  pub accepted_is : drop w.session.before w.craft.accepted ≡ take p.r p.units
+  pub acked_is : w.session.acknowledged ≡ p.a
+  pub n_most : p.n ≤ length p.units
+  pub a_r : p.a ≤ p.r
+  pub r_n : p.r ≤ p.n
+  pub n_a : p.n ≤ p.a + c.width / 2
+  pub first : front ≡ true → p.r ≡ 0
+  pub carries : Carries c w.up frames
+  pub reporting : Reporting c w.down reports
+  pub up_is : UpIs d base front frames p.up
+  pub down_is : DownIs base reports p.down
+  pub fits : Fits (c.width / 2) p.n p.units p.r p.up
+  pub rises : Rises p.a p.down p.r
+
+-- no false alarm is on its way
+pub record Calm (w : World) (p : PlainLink) (front : Bool) (reports : List Clcw) : Type 0 where
+  pub unlocked : w.craft.farm.lockout ≡ false
+  pub clear : front ≡ true → w.craft.farm.retransmit ≡ false
+  pub ranks : Ranks (2 * p.a + asked w.station.fop.state) reports p.down (2 * p.r + bit w.craft.farm.retransmit)
+  pub rank_most : 2 * p.r + bit w.craft.farm.retransmit ≤ 2 * p.n
+
+pub record Late (c : Config) (d : Directive) (base : ℕ) (w : World) : Type 0 where
+  pub plain : PlainLink
+  pub ran : PlainRun new_link plain
+  pub front : Bool
+  pub frames : List BodyView
+  pub reports : List Clcw
+  pub linked : Linked c d base w plain front frames reports
+  pub calm : IsChecked d → Calm w plain front reports
+
+-- ---- what keeps the octets
+
+pub carries_push : (c : Config) (octets : List ℕ) (f : BodyView) (bs : List (List ℕ)) (fs : List BodyView) → command.frame_at On octets ≡ Ok (frame_of c f) → Carries c bs fs → Carries c (bs ++ octets ∷ []) (fs ++ f ∷ [])
+carries_push c octets f [] [] reads h = (reads, tt)
+carries_push c octets f [] (g ∷ gs) reads h = elim h [ ]
+carries_push c octets f (b ∷ bs) [] reads h = elim h [ ]
+carries_push c octets f (b ∷ bs) (g ∷ gs) reads h = (h.0, carries_push c octets f bs gs reads h.1)
+
+pub reporting_push : (c : Config) (octets : List ℕ) (r : Clcw) (bs : List (List ℕ)) (rs : List Clcw) → Tells c octets r → Reporting c bs rs → Reporting c (bs ++ octets ∷ []) (rs ++ r ∷ [])
+reporting_push c octets r [] [] tells h = (tells, tt)
+reporting_push c octets r [] (g ∷ gs) tells h = elim h [ ]
+reporting_push c octets r (b ∷ bs) [] tells h = elim h [ ]
+reporting_push c octets r (b ∷ bs) (g ∷ gs) tells h = (h.0, reporting_push c octets r bs gs tells h.1)

@@ -1,0 +1,218 @@
+-- The receiver doesn't enter Lockout, and a confirmation is exact, in a clean session begun by check, Unlock or Set V(R).
+use Rattle.std.proofs.Common.{◌≡◌, ◌≢◌, ℕ, ◌⊎◌, inl, inr, Bool, true, false, List, [], ◌∷◌, length, Option, Some, None, Result, Ok, Err, refl, ap, sym, subst, ◌∙◌}
+use Rattle.std.specs.Prelude.{nat_lt}
+use Rattle.std.proofs.lemmas.Bool.{cond_both}
+use Rattle.tc_frame.specs.declared.fault.TcFault.{TcFault}
+use Rattle.tc_frame.specs.declared.frame.Check.TheVariants.{On}
+use Rattle.tc_frame.specs.declared.frame.Command.TheVariants.{Unlock, SetVr}
+use Rattle.tc_frame.specs.Layout.{SegmentView, BodyView, Ad, Bd, Bc, FrameView}
+use Rattle.tc_frame.specs.Reading.{frame_at}
+use Rattle.cop1.specs.declared.fault.CopFault.{CopFault}
+use Rattle.cop1.specs.declared.farm.FarmMode.{FarmMode}
+use Rattle.cop1.specs.declared.farm.FarmMode.TheVariants.{Open, Wait, Lockout}
+use Rattle.cop1.specs.declared.fop.Alert.{Alert}
+use Rattle.cop1.specs.declared.fop.Directive.{Directive}
+use Rattle.cop1.specs.FarmRuns.{FlagsAgree}
+use Rattle.cop1.specs.Farm.{state_of, FarmState, after_unlock, after_set_vr, after_release, farm_step, BufferReleased}
+use Rattle.cop1.specs.FopDirective.{directed as directed_fop}
+use Rattle.cop1.specs.FopPull.{pulled as pulled_fop}
+use Rattle.tm_link.specs.Building.{is_to_send}
+use Rattle.tm_link.specs.declared.fault.TmFault.{TmFault}
+use Rattle.tm_link.specs.Layout as telemetry
+use Rattle.tm_link.specs.Reading as telemetry_reading
+use Rattle.tc_link.specs.declared.config.Config.{Config}
+use Rattle.tc_link.specs.declared.event.Event.{Event}
+use Rattle.tc_link.specs.declared.event.Event.TheVariants as events
+use Rattle.tc_link.specs.Keeping.{is_kept}
+use Rattle.tc_link.specs.Packets.{PacketOn}
+use Rattle.tc_link.specs.Parameters.{limits_of}
+use Rattle.tc_link.specs.Craft.{CraftState, CraftOutcome, body_arrived, bypass_arrived, taken, bypass_taken, telemetry_queued}
+use Rattle.tc_link.specs.Ground.{GroundState, with_fop, frame_pulled, directed_by}
+use Rattle.tc_link.specs.World.{World, world_step, is_initiation, begun_by, session_after, after_pull, up_delivered, up_lost, up_detected, up_damaged, down_delivered, down_lost, down_detected, down_damaged, directive_of}
+use Rattle.tc_link.specs.Confirmation.{ConfirmsExactly, IsChecked, IsChecking}
+use Rattle.tc_link.specs.FalseAlarms.{HasNoFalseAlarm}
+use Rattle.tc_link.specs.Reached.{IsEvent}
+use Rattle.tc_link.proofs.Alerts.{cause}
+use Rattle.tc_link.proofs.Arriving.{own_arrives}
+use Rattle.tc_link.proofs.Beginning.{Clean}
+use Rattle.tc_link.proofs.Early.{Begun}
+use Rattle.tc_link.proofs.EarlyBoard.{early_up_deliver, early_up_lose, early_up_damage}
+use Rattle.tc_link.proofs.EarlyGround.{early_tick, early_send}
+use Rattle.tc_link.proofs.EarlyHearing.{early_down_deliver, early_down_lose, early_down_damage}
+use Rattle.tc_link.proofs.Invariant.{late_step}
+use Rattle.tc_link.proofs.Linked.{Steady, Late, Carries}
+use Rattle.tc_link.proofs.SteadyWorld.{Sound, steady_of, step_sound}
+use Rattle.tc_link.proofs.Transit.{UpIs}
+use Rattle.tc_link.proofs.Windows.{directive_is}
+
+-- ---- what leaves the receiver as it is
+
+abbrev SameFarm : World → World → Type 0
+SameFarm old new = new.craft.farm ≡ old.craft.farm
+
+module _ (w : World) where
+  pull_same : (station : GroundState) (frame : Option FrameView) → SameFarm w (after_pull w station frame).after
+  pull_same station None = refl
+  pull_same station (Some frame) = refl
+
+  lost_same : (bs : List (List ℕ)) → SameFarm w (up_lost w bs).after
+  lost_same [] = refl
+  lost_same (b ∷ bs) = refl
+
+  detected_same : (bs : List (List ℕ)) (r : Result FrameView TcFault) → SameFarm w (up_detected w bs r).after
+  detected_same bs (Ok frame) = refl
+  detected_same bs (Err fault) = refl
+
+  damaged_same : (bs : List (List ℕ)) (octets : List ℕ) → SameFarm w (up_damaged w bs octets).after
+  damaged_same [] octets = refl
+  damaged_same (b ∷ bs) octets = detected_same bs (frame_at On octets)
+
+  down_same : (bs : List (List ℕ)) → SameFarm w (down_delivered w bs).after × SameFarm w (down_lost w bs).after
+  down_same [] = (refl, refl)
+  down_same (b ∷ bs) = (refl, refl)
+
+  down_detected_same : (bs : List (List ℕ)) (r : Result telemetry.FrameView TmFault) → SameFarm w (down_detected w bs r).after
+  down_detected_same bs (Ok frame) = refl
+  down_detected_same bs (Err fault) = refl
+
+  down_damaged_same : (bs : List (List ℕ)) (octets : List ℕ) → SameFarm w (down_damaged w bs octets).after
+  down_damaged_same [] octets = refl
+  down_damaged_same (b ∷ bs) octets = down_detected_same bs (telemetry_reading.frame_at w.station.config.frame_length octets)
+
+bypass_same : (s : CraftState) (ps : List PacketOn) → (bypass_taken s ps).after.farm ≡ s.farm
+bypass_same s [] = refl
+bypass_same s (p ∷ ps) = refl
+
+queued_same : (s : CraftState) (octets : List ℕ) → (telemetry_queued s octets).after.farm ≡ s.farm
+queued_same s octets = cond_both (is_to_send octets) _ _ (λ (o : CraftOutcome (Result (Unit {0}) TmFault)). o.after.farm ≡ s.farm) (λ t. refl) (λ t. refl)
+
+released : (s : FarmState) (m : FarmMode) → (after_release s m).lockout ≡ s.lockout
+released s Open = refl
+released s Wait = refl
+released s Lockout = refl
+
+taken_same : (s : CraftState) (ps : List PacketOn) → (taken s ps).after.farm.lockout ≡ s.farm.lockout
+taken_same s [] = refl
+taken_same s (p ∷ left) = cond_both (nat_lt (length left) s.config.ready_slots) (farm_step s.farm BufferReleased) s.farm (λ (farm : FarmState). farm.lockout ≡ s.farm.lockout) (λ t. released s.farm s.farm.state) (λ t. refl)
+
+-- ---- frames before the confirmation
+
+unlocked_by : (s : FarmState) (m : FarmMode) → s.lockout ≡ false → (after_unlock s m).lockout ≡ false
+unlocked_by s Open is = is
+unlocked_by s Wait is = is
+unlocked_by s Lockout is = refl
+
+set_by : (s : FarmState) (x : ℕ) (m : FarmMode) → s.lockout ≡ false → (after_set_vr s x m).lockout ≡ false
+set_by s x Open is = is
+set_by s x Wait is = is
+set_by s x Lockout is = is
+
+bypass_by : (s : CraftState) (u : SegmentView) (kept : Bool) → s.farm.lockout ≡ false → (bypass_arrived s u kept).after.farm.lockout ≡ false
+bypass_by s u true is = is
+bypass_by s u false is = is
+
+module _ (c : Config) (d : Directive) (base : ℕ) (w : World) (k : Steady c w) where
+  body_by : (f : BodyView) (fs : List BodyView) → UpIs d base true (f ∷ fs) [] → w.craft.farm.lockout ≡ false → (body_arrived w.craft f).after.farm.lockout ≡ false
+  body_by (Ad n u) fs up is = elim up [ ]
+  body_by (Bd u) fs up is = bypass_by w.craft u (is_kept (limits_of w.craft.config) u) is
+  body_by (Bc Unlock) fs up is = unlocked_by w.craft.farm w.craft.farm.state is
+  body_by (Bc (SetVr x)) fs up is = set_by w.craft.farm x w.craft.farm.state is
+
+  delivered_by : (bs : List (List ℕ)) (fs : List BodyView) → Carries c bs fs → UpIs d base true fs [] → w.craft.farm.lockout ≡ false → (up_delivered w bs).after.craft.farm.lockout ≡ false
+  delivered_by [] fs carries up is = is
+  delivered_by (b ∷ bs) [] carries up is = elim carries [ ]
+  delivered_by (b ∷ bs) (f ∷ fs) carries up is = subst (λ o. o.after.farm.lockout ≡ false) (sym (own_arrives w.craft c f (frame_at On b) k.craft_config carries.0)) (body_by f fs up is)
+
+  up_unlocked : IsChecked d → Begun c d base w ⊎ Late c d base w → w.craft.farm.lockout ≡ false → (up_delivered w w.up).after.craft.farm.lockout ≡ false
+  up_unlocked checked s is = elim s [
+    | inl g ↦ delivered_by w.up g.frames g.early.carries g.early.up_is is
+    | inr g ↦ ((late_step c d base w k g events.UpDeliver tt tt).calm checked).unlocked
+  ]
+
+  not_locked : IsChecked d → Begun c d base w ⊎ Late c d base w → (e : Event) → w.craft.farm.lockout ≡ false → (world_step w e).after.craft.farm.lockout ≡ false
+  not_locked checked s (events.Submit m octets) is = is
+  not_locked checked s (events.Bypass m octets) is = is
+  not_locked checked s (events.Directive e) is = is
+  not_locked checked s events.Send is = ap (λ f. f.lockout) (pull_same w (with_fop w.station (pulled_fop w.station.fop).after) (frame_pulled w.station.config (pulled_fop w.station.fop).answer)) ∙ is
+  not_locked checked s events.UpDeliver is = up_unlocked checked s is
+  not_locked checked s events.UpLose is = ap (λ f. f.lockout) (lost_same w w.up) ∙ is
+  not_locked checked s (events.UpDamage octets) is = ap (λ f. f.lockout) (damaged_same w w.up octets.now) ∙ is
+  not_locked checked s events.Report is = is
+  not_locked checked s events.DownDeliver is = ap (λ f. f.lockout) (down_same w w.down).0 ∙ is
+  not_locked checked s events.DownLose is = ap (λ f. f.lockout) (down_same w w.down).1 ∙ is
+  not_locked checked s (events.DownDamage octets) is = ap (λ f. f.lockout) (down_damaged_same w w.down octets.now) ∙ is
+  not_locked checked s events.Tick is = is
+  not_locked checked s events.Take is = taken_same w.craft w.craft.ready ∙ is
+  not_locked checked s events.TakeBypass is = ap (λ f. f.lockout) (bypass_same w.craft w.craft.bypass) ∙ is
+  not_locked checked s (events.Telemetry octets) is = ap (λ f. f.lockout) (queued_same w.craft octets.now) ∙ is
+
+  unlocked : IsChecked d → Begun c d base w ⊎ Late c d base w → w.session.confirmed ≡ true → w.craft.farm.lockout ≡ false
+  unlocked checked s confirmed = elim s [
+    | inl g ↦ (absurd (let no : w.session.confirmed ≡ false = g.early.confirmed_not in cc))
+    | inr g ↦ (g.calm checked).unlocked
+  ]
+
+  -- ---- the event that confirms
+
+  confirmed_by : (e : Directive) (r : Result (Option Alert) CopFault) → w.session.confirmed ≡ false → (session_after w e r).confirmed ≡ false
+  confirmed_by e (Err fault) not_yet = not_yet
+  confirmed_by e (Ok alert) not_yet = cond_both (is_initiation e) (begun_by w e) w.session (λ s. s.confirmed ≡ false) (λ t. refl) (λ t. not_yet)
+
+  exactly : (g : Begun c d base w) (e : Event) → w.session.confirmed ≡ false → (world_step w e).after.session.confirmed ≡ true → ((world_step w e).after.craft.farm.vr ≡ (world_step w e).after.station.fop.vs) × ((world_step w e).after.station.fop.nn ≡ (world_step w e).after.station.fop.vs)
+  exactly g (events.Submit m octets) not_yet now = absurd cc
+  exactly g (events.Bypass m octets) not_yet now = absurd cc
+  exactly g (events.Directive e) not_yet now = absurd (cc (confirmed_by e (directed_by w.station (directed_fop w.station.fop e)).answer not_yet, now))
+  exactly g events.Send not_yet now = absurd (cc ((early_send c d base w k g).early.confirmed_not, now))
+  exactly g events.UpDeliver not_yet now = absurd (cc ((early_up_deliver c d base w k g).early.confirmed_not, now))
+  exactly g events.UpLose not_yet now = absurd (cc ((early_up_lose c d base w k g).early.confirmed_not, now))
+  exactly g (events.UpDamage octets) not_yet now = absurd (cc ((early_up_damage c d base w k g octets.now).early.confirmed_not, now))
+  exactly g events.Report not_yet now = absurd cc
+  exactly g events.DownDeliver not_yet now = elim (early_down_deliver c d base w k g) [ inl t ↦ absurd (let no = t.early.confirmed_not in cc (no, now)) | inr t ↦ t.exact ]
+  exactly g events.DownLose not_yet now = absurd (cc ((early_down_lose c d base w k g).early.confirmed_not, now))
+  exactly g (events.DownDamage octets) not_yet now = absurd (cc ((early_down_damage c d base w k g octets.now).early.confirmed_not, now))
+  exactly g events.Tick not_yet now = absurd (cc ((early_tick c d base w k g).early.confirmed_not, now))
+  exactly g events.Take not_yet now = absurd cc
+  exactly g events.TakeBypass not_yet now = absurd cc
+  exactly g (events.Telemetry octets) not_yet now = absurd cc
+
+  confirms_so : IsChecked d → Begun c d base w ⊎ Late c d base w → (e : Event) → ConfirmsExactly w (world_step w e).after
+  confirms_so checked s e not_yet now = elim s [
+    | inl g ↦ exactly g e not_yet now
+    | inr g ↦ absurd (let was : w.session.confirmed ≡ true = g.linked.confirmed_is checked in cc (was, not_yet))
+  ]
+
+-- ---- the state and the flag
+
+locked_flag : (lockout wait : Bool) → state_of lockout wait ≢ Lockout → lockout ≡ false
+locked_flag true wait other = absurd (other refl)
+locked_flag false wait other = refl
+
+flag_locked : (lockout wait : Bool) → lockout ≡ false → state_of lockout wait ≢ Lockout
+flag_locked true wait is e = absurd cc
+flag_locked false true is e = absurd cc
+flag_locked false false is e = absurd cc
+
+flag_of : (s : FarmState) → FlagsAgree s → s.state ≢ Lockout → s.lockout ≡ false
+flag_of s agree other = locked_flag s.lockout s.wait (λ e. other (agree.state ∙ e))
+
+state_by : (s : FarmState) → FlagsAgree s → s.lockout ≡ false → s.state ≢ Lockout
+state_by s agree is e = flag_locked s.lockout s.wait is (sym agree.state ∙ e)
+
+-- ---- the promises
+
+opened_as : (c : Config) (w : World) (s : Clean c w) → directive_of w ≡ Some s.directive
+opened_as c w s = elim s.session [ inl g ↦ directive_is w s.directive g.early.opened | inr g ↦ directive_is w s.directive g.linked.opened ]
+
+module _ (c : Config) (w : World) (k : Sound c w) (s : Clean c w) (checking : IsChecking (directive_of w)) where
+  checked : IsChecked s.directive
+  checked = let it : IsChecking (Some s.directive) = rw (opened_as c w s) at checking in it
+
+  pub has_no_false_alarm : (e : Event) → IsEvent e → HasNoFalseAlarm w e
+  has_no_false_alarm e fits = record {
+    not_locked = λ other. state_by (world_step w e).after.craft.farm (step_sound c w k e fits).craft.farm.flags (not_locked c s.directive s.base w (steady_of c w k) checked s.session e (flag_of w.craft.farm k.craft.farm.flags other));
+    unlocked = λ confirmed. state_by w.craft.farm k.craft.farm.flags (unlocked c s.directive s.base w (steady_of c w k) checked s.session confirmed);
+    alerts = λ alert is. cause c s.directive s.base w (steady_of c w k) checked s.session e alert is;
+  }
+
+  pub confirms_exactly : (e : Event) → ConfirmsExactly w (world_step w e).after
+  confirms_exactly e = confirms_so c s.directive s.base w (steady_of c w k) checked s.session e

@@ -1,0 +1,89 @@
+-- What a world that a run leads to promises.
+use Rattle.std.proofs.Common.{◌≡◌, ◌<◌, ℕ, ◌+◌, get_or, length, take, List, [], ◌∷◌, ◌++◌, Result, Ok, Err, OnOk, OnErr, refl, ap, sym, subst, ◌∙◌}
+use Rattle.std.specs.List.{AllByRecursion}
+use Rattle.std.proofs.lemmas.List.{take_more}
+use Rattle.tc_link.specs.declared.config.Config.{Config}
+use Rattle.tc_link.specs.declared.event.Event.{Event}
+use Rattle.tc_link.specs.declared.sim.fault.SimFault.{SimFault}
+use Rattle.tc_link.specs.Confirmation.{ConfirmsExactly, IsChecking}
+use Rattle.tc_link.specs.Parameters.{IsConfig}
+use Rattle.tc_link.specs.Promises.{IsPromised, IsPromisedOf, HoldsThroughout}
+use Rattle.tc_link.specs.Reached.{IsEvent, IsReached}
+use Rattle.tc_link.specs.Simulation.{SimState, sim_run}
+use Rattle.tc_link.specs.World.{World, new_world, world_step, world_run, IsClean, directive_of}
+use Rattle.tc_link.proofs.Delivered.{is_in_order, has_plain_history}
+use Rattle.tc_link.proofs.Invariant.{reached_holds}
+use Rattle.tc_link.proofs.LateSubmitting.{all_push}
+use Rattle.tc_link.proofs.Locks.{has_no_false_alarm, confirms_exactly}
+use Rattle.tc_link.proofs.Windows.{keeps_to_window, is_confirmed_exactly}
+
+pub promised : (w : World) → IsReached w → IsClean w → IsPromised w
+promised w r is =
+    let h = reached_holds w r in
+    let s = h.clean is in
+    record {
+      in_order = is_in_order r.config w h.sound s;
+      history = has_plain_history r.config w h.sound s;
+      window = keeps_to_window r.config w h.sound s;
+      confirmed = is_confirmed_exactly r.config w h.sound s;
+    }
+
+pub promised_of : (w : World) (e : Event) → IsReached w → IsEvent e → IsClean w → IsChecking (directive_of w) → IsPromisedOf w e
+promised_of w e r fits is checking =
+    let h = reached_holds w r in
+    let s = h.clean is in
+    record {
+      confirms = confirms_exactly r.config w h.sound s checking e;
+      no_false_alarm = has_no_false_alarm r.config w h.sound s checking e fits;
+    }
+
+-- ---- how worlds are reached
+
+run_push : (w : World) (events : List Event) (e : Event) → world_run w (events ++ e ∷ []) ≡ (world_step (world_run w events) e).after
+run_push w [] e = refl
+run_push w (x ∷ xs) e = run_push (world_step w x).after xs e
+
+pub reached_new : (c : Config) → IsConfig c → IsReached (new_world c)
+reached_new c ranges = record { config = c; ranges = ranges; events = []; octets = tt; led = refl }
+
+reached_step : (w : World) (e : Event) → IsReached w → IsEvent e → IsReached (world_step w e).after
+reached_step w e r fits = record {
+  config = r.config;
+  ranges = r.ranges;
+  events = r.events ++ e ∷ [];
+  octets = all_push IsEvent r.events e r.octets fits;
+  led = run_push (new_world r.config) r.events e ∙ ap (λ x. (world_step x e).after) r.led;
+}
+
+pub reached_run : (c : Config) (events : List Event) → IsConfig c → AllByRecursion IsEvent events → IsReached (world_run (new_world c) events)
+reached_run c events ranges all = record { config = c; ranges = ranges; events = events; octets = all; led = refl }
+
+-- ---- as a call leaves it
+
+module _ {A : Type 0} (w new : World) (e : Event) where
+  pub reached_after : (r : Result A SimFault) → IsReached w → IsEvent e → OnOk r (new ≡ (world_step w e).after) → OnErr r (new ≡ w) → IsReached new
+  reached_after (Ok x) reached fits ok err = subst IsReached (sym ok) (reached_step w e reached fits)
+  reached_after (Err fault) reached fits ok err = subst IsReached (sym err) reached
+
+  pub confirmed_after : (r : Result A SimFault) → OnOk r (new ≡ (world_step w e).after) → OnErr r (new ≡ w) → ConfirmsExactly w (world_step w e).after → ConfirmsExactly w new
+  confirmed_after (Ok x) ok err confirms = subst (ConfirmsExactly w) (sym ok) confirms
+  confirmed_after (Err fault) ok err confirms = λ not_yet now. absurd (let same : new.session.confirmed ≡ w.session.confirmed = ap (λ (x : World). x.session.confirmed) err in cc)
+
+-- ---- at each event of a run
+
+parts : (before : List Event) (e : Event) (after : List Event) → AllByRecursion IsEvent (before ++ e ∷ after) → AllByRecursion IsEvent before × IsEvent e
+parts [] e after all = (tt, all.0)
+parts (x ∷ xs) e after all = let t = parts xs e after all.1 in ((all.0, t.0), t.1)
+
+pub holds_throughout : (c : Config) (events : List Event) → IsConfig c → AllByRecursion IsEvent events → HoldsThroughout c events
+holds_throughout c events ranges all before after e split is =
+    let t = parts before e after (subst (AllByRecursion IsEvent) split all) in
+    let r : IsReached (world_run (new_world c) before) = reached_run c before ranges t.0 in
+    (promised (world_run (new_world c) before) r is, promised_of (world_run (new_world c) before) e r t.1 is)
+
+pub promised_run : (c : Config) (events : List Event) (s : SimState) → s ≡ sim_run c events → IsConfig c → AllByRecursion IsEvent events → IsClean s.world → IsPromised s.world
+promised_run c events s ran ranges all = subst (λ (s : SimState). IsClean s.world → IsPromised s.world) (sym ran) (promised (world_run (new_world c) events) (reached_run c events ranges all))
+
+-- one event more of a run was seen
+pub one_more : (events : List Event) (i : ℕ) (d : Event) → i < length events → AllByRecursion IsEvent (take i events) → IsEvent (get_or events i d) → AllByRecursion IsEvent (take (i + 1) events)
+one_more events i d lt all is = subst (AllByRecursion IsEvent) (sym (take_more events i d lt)) (all_push IsEvent (take i events) (get_or events i d) all is)

@@ -1,0 +1,98 @@
+-- What is pending moves up, and what is known of the ground is still so.
+use Rattle.std.proofs.Common.{◌≡◌, ℕ, ◌+◌, ◌*◌, ◌<◌, Bool, true, false, List, [], ◌∷◌, ◌++◌, drop, Option, Some, None, option_to_list, refl, ◌∙◌, arith}
+use Rattle.tc_frame.specs.Layout.{SegmentView}
+use Rattle.cop1.specs.declared.fop.Directive.{Directive}
+use Rattle.cop1.specs.declared.fop.FopMode.{FopMode}
+use Rattle.cop1.specs.declared.fop.FopMode.TheVariants.{S1, S2, S3, S4, S5, S6}
+use Rattle.cop1.specs.FopState.{FopState, SentUnit}
+use Rattle.cop1.specs.FopNext.{units_of}
+use Rattle.tc_link.specs.declared.config.Config.{Config}
+use Rattle.tc_link.specs.Ground.{GroundState, is_closed, unsent, moved_up, settled_in, settled, with_fop}
+use Rattle.tc_link.specs.World.{World}
+use Rattle.tc_link.proofs.Linked.{Late, Held}
+use Rattle.tc_link.proofs.Reports.{IsLate, asked}
+use Rattle.tc_link.proofs.Transit.{Ranks, bit, ranks_lower}
+
+abbrev pub queued_as : GroundState → Option SegmentView → List SegmentView → GroundState
+queued_as s waiting pending = record s { fop = record s.fop { waiting = waiting }; pending = pending }
+
+module _ (P : GroundState → Type 0) (s : GroundState) (each : (waiting : Option SegmentView) (pending : List SegmentView)
+    → (is_closed s.fop.state ≡ false → option_to_list waiting ++ pending ≡ unsent s)
+    → (is_closed s.fop.state ≡ true → (waiting ≡ s.fop.waiting) × (pending ≡ []))
+    → P (queued_as s waiting pending)) where
+  moved : (o : Option SegmentView) (ps : List SegmentView) → s.fop.waiting ≡ o → s.pending ≡ ps → is_closed s.fop.state ≡ false → P (moved_up s o ps)
+  moved (Some u) ps has is on = each s.fop.waiting s.pending (λ e. refl) (λ e. absurd cc)
+  moved None [] has is on = each s.fop.waiting s.pending (λ e. refl) (λ e. absurd cc)
+  moved None (u ∷ ps) has is on = each (Some u) ps (λ e. rw (has, is) refl) (λ e. absurd cc)
+
+  moved_in : (m : FopMode) → s.fop.state ≡ m → P (settled_in s m)
+  moved_in S1 is = moved s.fop.waiting s.pending refl refl (rw is refl)
+  moved_in S2 is = moved s.fop.waiting s.pending refl refl (rw is refl)
+  moved_in S3 is = moved s.fop.waiting s.pending refl refl (rw is refl)
+  moved_in S4 is = moved s.fop.waiting s.pending refl refl (rw is refl)
+  moved_in S5 is = moved s.fop.waiting s.pending refl refl (rw is refl)
+  moved_in S6 is = each s.fop.waiting [] (λ e. absurd (let no : true ≡ false = rw is at e in cc)) (λ e. (refl, refl))
+
+  pub settled_keeps : P (settled s)
+  settled_keeps = moved_in s.fop.state refl
+
+pub held_again : (off : Bool) (base vs nn : ℕ) (sent : List (SentUnit SegmentView)) (rest new : List SegmentView) (a n : ℕ) (units : List SegmentView) → (off ≡ false → new ≡ rest) → Held off base vs nn sent rest a n units → Held off base vs nn sent new a n units
+held_again true base vs nn sent rest new a n units same held = tt
+held_again false base vs nn sent rest new a n units same held = let rest_is : new ≡ drop n units = same refl ∙ held.rest_is in assumption (rest_is, held)
+
+module _ (c : Config) (d : Directive) (base : ℕ) where
+  -- the ground may be settled
+  pub late_settled : (w : World) → Late c d base w → Late c d base (record w { station = settled w.station })
+  late_settled w g = settled_keeps (λ s. Late c d base (record w { station = s })) w.station (λ waiting pending on off.
+      let l = g.linked in
+      let held : Held (is_closed w.station.fop.state) base w.station.fop.vs w.station.fop.nn w.station.fop.sent (option_to_list waiting ++ pending) g.plain.a g.plain.n g.plain.units = held_again (is_closed w.station.fop.state) base w.station.fop.vs w.station.fop.nn w.station.fop.sent (unsent w.station) (option_to_list waiting ++ pending) g.plain.a g.plain.n g.plain.units on l.held in
+      record { plain = g.plain; ran = g.ran; front = g.front; frames = g.frames; reports = g.reports; linked = assumption (held, l); calm = λ checked. let m = g.calm checked in assumption m })
+
+  module _ (w : World) (g : Late c d base w) where
+    held_same : (off : Bool) (f : FopState SegmentView) → f.vs ≡ w.station.fop.vs → f.nn ≡ w.station.fop.nn → units_of f.sent ≡ units_of w.station.fop.sent → f.waiting ≡ w.station.fop.waiting
+        → Held off base w.station.fop.vs w.station.fop.nn w.station.fop.sent (unsent w.station) g.plain.a g.plain.n g.plain.units
+        → Held off base f.vs f.nn f.sent (option_to_list f.waiting ++ w.station.pending) g.plain.a g.plain.n g.plain.units
+    held_same true f vs nn sent waiting held = tt
+    held_same false f vs nn sent waiting held = record { vs_is = vs ∙ held.vs_is; nn_is = nn ∙ held.nn_is; sent_is = sent ∙ held.sent_is; rest_is = rw waiting held.rest_is }
+
+    -- the sender holds the same
+    pub same_keeps : (f : FopState SegmentView) → f.vs ≡ w.station.fop.vs → f.nn ≡ w.station.fop.nn → f.state ≡ w.station.fop.state → units_of f.sent ≡ units_of w.station.fop.sent → f.waiting ≡ w.station.fop.waiting
+        → Late c d base (record w { station = with_fop w.station f })
+    same_keeps f vs nn state sent waiting =
+        let p = g.plain in
+        let l = g.linked in
+        let held : Held (is_closed f.state) base f.vs f.nn f.sent (option_to_list f.waiting ++ w.station.pending) p.a p.n p.units = rw state (held_same (is_closed w.station.fop.state) f vs nn sent waiting l.held) in
+        let late : IsLate f.state = rw state l.late in
+        let nn_octet : f.nn < 256 = omega (arith, nn, l.nn_octet) in
+        late_settled (record w { station = record w.station { fop = f } }) (record {
+          plain = p;
+          ran = g.ran;
+          front = g.front;
+          frames = g.frames;
+          reports = g.reports;
+          linked = assumption (held, late, nn_octet, l);
+          calm = λ checked.
+              let m = g.calm checked in
+              let ranks : Ranks (2 * p.a + asked f.state) g.reports p.down (2 * p.r + bit w.craft.farm.retransmit) = rw state m.ranks in
+              assumption (ranks, m);
+        })
+
+    -- the sender is off
+    pub off_keeps : (f : FopState SegmentView) → f.state ≡ S6 → f.nn < 256 → Late c d base (record w { station = with_fop w.station f })
+    off_keeps f state nn_octet =
+        let p = g.plain in
+        let l = g.linked in
+        let held : Held (is_closed f.state) base f.vs f.nn f.sent (option_to_list f.waiting ++ w.station.pending) p.a p.n p.units = rw state tt in
+        let late : IsLate f.state = rw state tt in
+        late_settled (record w { station = record w.station { fop = f } }) (record {
+          plain = p;
+          ran = g.ran;
+          front = g.front;
+          frames = g.frames;
+          reports = g.reports;
+          linked = assumption (held, late, nn_octet, l);
+          calm = λ checked.
+              let m = g.calm checked in
+              let ranks : Ranks (2 * p.a + asked f.state) g.reports p.down (2 * p.r + bit w.craft.farm.retransmit) = rw state (ranks_lower (2 * p.a + asked w.station.fop.state) (2 * p.a + 0) (2 * p.r + bit w.craft.farm.retransmit) g.reports p.down (omega arith) m.ranks) in
+              assumption (ranks, m);
+        })

@@ -1,0 +1,247 @@
+-- What holds of each node at every moment, in any session.
+use Rattle.std.proofs.Common.{◌≡◌, ℕ, ◌-◌, ◌/◌, ◌<◌, ◌≤◌, true, false, not, List, [], ◌∷◌, Option, Some, None, refl, ◌∙◌, arith}
+use Rattle.std.specs.Prelude.{◌==◌, ◌&&◌, nat_lt}
+use Rattle.std.specs.List.{AllByRecursion}
+use Rattle.std.proofs.lemmas.Bool.{cond_both}
+use Rattle.clcw.specs.declared.word.Clcw.{Clcw}
+use Rattle.tc_frame.specs.Layout.{SegmentView}
+use Rattle.cop1.specs.Modulo.{ahead_by}
+use Rattle.cop1.specs.declared.farm.FarmMode.{FarmMode}
+use Rattle.cop1.specs.declared.farm.FarmMode.TheVariants.{Open, Wait, Lockout}
+use Rattle.cop1.specs.declared.farm.Verdict.{Verdict}
+use Rattle.cop1.specs.declared.farm.Verdict.TheVariants.{Accepted, Ahead, NoBuffer, Behind, Outside, Discarded}
+use Rattle.cop1.specs.declared.fop.Alert.TheVariants as alert
+use Rattle.cop1.specs.declared.fop.Control.{Control}
+use Rattle.cop1.specs.declared.fop.Control.TheVariants.{Idle, Due, Sent}
+use Rattle.cop1.specs.declared.fop.FopMode.{FopMode}
+use Rattle.cop1.specs.declared.fop.FopMode.TheVariants.{S1, S2, S3, S4, S5, S6}
+use Rattle.cop1.specs.Farm.{FarmState, FarmEvent, AdArrives, BdArrives, UnlockArrives, SetVrArrives, InvalidArrives, BufferReleased, farm_step, after_verdict, after_unlock, after_set_vr, after_release, verdict_of}
+use Rattle.cop1.specs.FarmRuns.{FlagsAgree}
+use Rattle.cop1.proofs.Agreeing.{FlagsAgree-step}
+use Rattle.cop1.specs.FopPull.{NothingPulled, SequencePulled, pulls, pulled as pulled_fop, pulled_control, pulled_bypass, pulled_in, pulled_marked, pulled_waiting, oldest_marked, without_oldest_mark, sent_first}
+use Rattle.cop1.specs.FopReport.{locks, waits, asks, reported as heard_by, report_in, report_while_active, report_in_S4, confirms as confirms_by, nothing_new, moved_on, goes_back, repeated_below, goes_back_again, counting_from}
+use Rattle.cop1.specs.FopState.{FopState}
+use Rattle.cop1.specs.FopTick.{ticked as ticked_fop, ticked_with, timer_ended, counted, due_again}
+use Rattle.cop1.specs.FopWords.{Outcome, is_outside, acknowledged, repeated, given_up, stopped, restarted, alerts, goes_on, after_gone}
+use Rattle.tc_link.specs.declared.config.Config.{Config}
+use Rattle.tc_link.specs.OwnedFields.{FitsFrame}
+use Rattle.tc_link.specs.Ground.{GroundState, is_closed, settled}
+use Rattle.tc_link.proofs.Linked.{Commanded}
+use Rattle.tc_link.proofs.Settled.{settled_keeps}
+
+-- ---- the sender
+
+pub record FopSteady (c : Config) (f : FopState SegmentView) : Type 0 where
+  pub room : f.room ≡ c.width / 2
+  pub window : f.window ≤ c.width / 2
+  pub vs_octet : f.vs < 256
+  pub sent_none : is_closed f.state ≡ true → f.sent ≡ []
+  pub waiting_none : is_closed f.state ≡ true → f.waiting ≡ None
+  pub commanded : Commanded f.state f.control
+  pub bypass_fits : AllByRecursion FitsFrame f.bypass
+
+module _ (c : Config) (s : FopState SegmentView) (k : FopSteady c s) where
+  abbrev Steadily : {A : Type 0} → Outcome SegmentView A → Type 0
+  Steadily o = FopSteady c o.after
+
+  pub gives_up : (f : FopState SegmentView) → f.room ≡ s.room → f.window ≡ s.window → f.vs ≡ s.vs → f.bypass ≡ s.bypass → FopSteady c (given_up f)
+  gives_up f room window vs bypass =
+      let bypass_fits : AllByRecursion FitsFrame f.bypass = rw bypass k.bypass_fits in
+      record { room = room ∙ k.room; window = omega (arith, window, k.window); vs_octet = omega (arith, vs, k.vs_octet); sent_none = λ e. refl; waiting_none = λ e. refl; commanded = refl; bypass_fits = bypass_fits }
+
+  goes_so : (f : FopState SegmentView) → f.room ≡ s.room → f.window ≡ s.window → f.vs ≡ s.vs → f.bypass ≡ s.bypass → is_closed f.state ≡ false → Commanded f.state f.control → FopSteady c f
+  goes_so f room window vs bypass on commanded =
+      let bypass_fits : AllByRecursion FitsFrame f.bypass = rw bypass k.bypass_fits in
+      record { room = room ∙ k.room; window = omega (arith, window, k.window); vs_octet = omega (arith, vs, k.vs_octet); sent_none = λ e. absurd (cc (e, on)); waiting_none = λ e. absurd (cc (e, on)); commanded = commanded; bypass_fits = bypass_fits }
+
+  -- the sender is as it was but for what no field speaks of
+  pub goes_same : (f : FopState SegmentView) → f.room ≡ s.room → f.window ≡ s.window → f.vs ≡ s.vs → f.bypass ≡ s.bypass → f.state ≡ s.state → f.control ≡ s.control → (is_closed s.state ≡ true → f.sent ≡ s.sent) → f.waiting ≡ s.waiting → FopSteady c f
+  goes_same f room window vs bypass state control sent waiting =
+      let bypass_fits : AllByRecursion FitsFrame f.bypass = rw bypass k.bypass_fits in
+      let commanded : Commanded f.state f.control = rw (state, control) k.commanded in
+      record { room = room ∙ k.room; window = omega (arith, window, k.window); vs_octet = omega (arith, vs, k.vs_octet); sent_none = λ e. let off : is_closed s.state ≡ true = rw state at e in sent off ∙ k.sent_none off; waiting_none = λ e. let off : is_closed s.state ≡ true = rw state at e in waiting ∙ k.waiting_none off; commanded = commanded; bypass_fits = bypass_fits }
+
+  -- ---- a report
+
+  module _ (r : Clcw) (idle : s.control ≡ Idle) where
+    again_so : FopSteady c (record (repeated_below s) { state = S2 })
+    again_so = cond_both (nat_lt s.count s.limit) (repeated s) s (λ (f : FopState SegmentView). FopSteady c (record f { state = S2 })) (λ t. goes_so (record (repeated s) { state = S2 }) refl refl refl refl refl idle) (λ t. goes_so (record s { state = S2 }) refl refl refl refl refl idle)
+
+    back_again_so : (m : FopMode) → FopSteady c (goes_back_again s m)
+    back_again_so S1 = again_so
+    back_again_so S2 = k
+    back_again_so S3 = again_so
+    back_again_so S4 = k
+    back_again_so S5 = k
+    back_again_so S6 = k
+
+    nothing_so : (m : FopMode) → Steadily (nothing_new s m)
+    nothing_so S1 = k
+    nothing_so S2 = gives_up s refl refl refl refl
+    nothing_so S3 = gives_up s refl refl refl refl
+    nothing_so S4 = k
+    nothing_so S5 = k
+    nothing_so S6 = k
+
+    active_so : Steadily (report_while_active s r)
+    active_so =
+        cond_both (locks r) (alerts s alert.Lockout) _ (λ o. Steadily o) (λ t. gives_up s refl refl refl refl)
+        (λ l. cond_both (is_outside s r.value) (alerts s alert.NnR) _ (λ o. Steadily o) (λ t. gives_up s refl refl refl refl)
+        (λ o. cond_both (not (asks r) && waits r) (alerts s alert.Clcw) _ (λ o. Steadily o) (λ t. gives_up s refl refl refl refl)
+        (λ w. cond_both (asks r && (r.value == s.vs)) (alerts s alert.Synch) _ (λ o. Steadily o) (λ t. gives_up s refl refl refl refl)
+        (λ y. cond_both (not (asks r) && (r.value == s.nn)) (nothing_new s s.state) _ (λ o. Steadily o) (λ t. nothing_so s.state)
+        (λ n. cond_both (not (asks r)) (after_gone (ahead_by r.value s.nn) (goes_on (moved_on (acknowledged s r.value)))) _ (λ o. Steadily o)
+        (λ t. goes_so (moved_on (acknowledged s r.value)) refl refl refl refl refl idle)
+        (λ t. cond_both (not (r.value == s.nn)) (after_gone (ahead_by r.value s.nn) (goes_back (counting_from s r.value) (waits r))) _ (λ o. Steadily o)
+        (λ t. cond_both (s.limit == 1) (alerts (counting_from s r.value) alert.Limit) _ (λ o. Steadily (after_gone (ahead_by r.value s.nn) o)) (λ t. gives_up (counting_from s r.value) refl refl refl refl)
+        (λ f. cond_both (waits r) (goes_on (record (counting_from s r.value) { state = S3 })) _ (λ o. Steadily (after_gone (ahead_by r.value s.nn) o))
+        (λ t. goes_so (record (counting_from s r.value) { state = S3 }) refl refl refl refl refl idle)
+        (λ t. goes_so (record (repeated (counting_from s r.value)) { state = S2 }) refl refl refl refl refl idle)))
+        (λ t. cond_both (s.limit == 1) (alerts s alert.Limit) _ (λ o. Steadily o) (λ t. gives_up s refl refl refl refl)
+        (λ f. cond_both (waits r) (goes_on (record s { state = S3 })) _ (λ o. Steadily o)
+        (λ t. goes_so (record s { state = S3 }) refl refl refl refl refl idle)
+        (λ t. back_again_so s.state)))))))))
+
+    in_S4_so : Steadily (report_in_S4 s r)
+    in_S4_so =
+        cond_both (locks r) (alerts s alert.Lockout) _ (λ o. Steadily o) (λ t. gives_up s refl refl refl refl)
+        (λ l. cond_both (not (r.value == s.vs)) (alerts s alert.NnR) _ (λ o. Steadily o) (λ t. gives_up s refl refl refl refl)
+        (λ v. cond_both (asks r) (alerts s alert.Synch) _ (λ o. Steadily o) (λ t. gives_up s refl refl refl refl)
+        (λ a. cond_both (waits r) (alerts s alert.Clcw) _ (λ o. Steadily o) (λ t. gives_up s refl refl refl refl)
+        (λ t. goes_so (record s { state = S1; ticks = None }) refl refl refl refl refl idle))))
+
+  report_in_so : (r : Clcw) (m : FopMode) → s.state ≡ m → Commanded m s.control → Steadily (report_in s r m)
+  report_in_so r S1 is idle = active_so r idle
+  report_in_so r S2 is idle = active_so r idle
+  report_in_so r S3 is idle = active_so r idle
+  report_in_so r S4 is idle = in_S4_so r idle
+  report_in_so r S5 is idle = cond_both (confirms_by s r) (goes_on (record s { state = S1; ticks = None; control = Idle })) (goes_on s) (λ o. Steadily o) (λ t. goes_so (record s { state = S1; ticks = None; control = Idle }) refl refl refl refl refl refl) (λ t. k)
+  report_in_so r S6 is idle = k
+
+  pub report_so : (r : Clcw) → FopSteady c (heard_by s r).after
+  report_so r = report_in_so r s.state refl k.commanded
+
+  -- ---- a tick
+
+  due_so : (m : FopMode) → s.state ≡ m → m ≡ S5 → Commanded s.state (due_again s.control)
+  due_so m is five = rw (is, five) tt
+
+  timer_so : (m : FopMode) → s.state ≡ m → Steadily (timer_ended (stopped s) m)
+  timer_so S1 is = cond_both (nat_lt s.count s.limit) (goes_on (repeated (stopped s))) _ (λ o. Steadily o) (λ t. goes_same (repeated (stopped s)) refl refl refl refl refl refl (λ e. absurd (let no : false ≡ true = rw is at e in cc)) refl) (λ t. gives_up (stopped s) refl refl refl refl)
+  timer_so S2 is = cond_both (nat_lt s.count s.limit) (goes_on (repeated (stopped s))) _ (λ o. Steadily o) (λ t. goes_same (repeated (stopped s)) refl refl refl refl refl refl (λ e. absurd (let no : false ≡ true = rw is at e in cc)) refl) (λ t. gives_up (stopped s) refl refl refl refl)
+  timer_so S3 is = cond_both (nat_lt s.count s.limit) (goes_on (counted (stopped s))) _ (λ o. Steadily o) (λ t. goes_same (counted (stopped s)) refl refl refl refl refl refl (λ e. refl) refl) (λ t. gives_up (stopped s) refl refl refl refl)
+  timer_so S4 is = gives_up (stopped s) refl refl refl refl
+  timer_so S5 is = cond_both (nat_lt s.count s.limit) (goes_on (record (counted (stopped s)) { control = due_again s.control })) _ (λ o. Steadily o) (λ t. goes_so (record (counted (stopped s)) { control = due_again s.control }) refl refl refl refl (rw is refl) (due_so S5 is refl)) (λ t. gives_up (stopped s) refl refl refl refl)
+  timer_so S6 is = goes_same (stopped s) refl refl refl refl refl refl (λ e. refl) refl
+
+  ticking_so : (ticks : Option ℕ) → Steadily (ticked_with s ticks)
+  ticking_so None = k
+  ticking_so (Some left) = cond_both (left == 1) (timer_ended (stopped s) s.state) _ (λ o. Steadily o) (λ t. timer_so s.state refl) (λ t. goes_same (record s { ticks = Some (left - 1) }) refl refl refl refl refl refl (λ e. refl) refl)
+
+  pub tick_so : FopSteady c (ticked_fop s).after
+  tick_so = ticking_so s.ticks
+
+  -- ---- a directive
+
+  pub off_so : (f : FopState SegmentView) → s.state ≡ S6 → f.room ≡ s.room → f.window ≡ s.window → f.vs < 256 → f.bypass ≡ s.bypass → is_closed f.state ≡ false → Commanded f.state f.control → FopSteady c f
+  off_so f is room window vs bypass on commanded =
+      let bypass_fits : AllByRecursion FitsFrame f.bypass = rw bypass k.bypass_fits in
+      record { room = room ∙ k.room; window = omega (arith, window, k.window); vs_octet = vs; sent_none = λ e. absurd (cc (e, on)); waiting_none = λ e. absurd (cc (e, on)); commanded = commanded; bypass_fits = bypass_fits }
+
+  -- ---- a pull
+
+  pull_waiting_so : (m : FopMode) → s.state ≡ m → is_closed m ≡ false → Commanded m s.control → (o : Option SegmentView) → Steadily (pulled_waiting s o)
+  pull_waiting_so m is on commanded None = k
+  pull_waiting_so m is on commanded (Some u) = cond_both (nat_lt (ahead_by s.vs s.nn) s.window) (pulls (sent_first s u) (SequencePulled s.vs u)) (pulls s NothingPulled) (λ o. Steadily o)
+      (λ t. record { room = k.room; window = k.window; vs_octet = omega arith; sent_none = λ e. absurd (let no : is_closed m ≡ true = rw is at e in cc (no, on)); waiting_none = λ e. refl; commanded = k.commanded; bypass_fits = k.bypass_fits }) (λ t. k)
+
+  pull_marked_so : (m : FopMode) → s.state ≡ m → is_closed m ≡ false → Commanded m s.control → (o : Option (ℕ × SegmentView)) → Steadily (pulled_marked s o)
+  pull_marked_so m is on commanded None = pull_waiting_so m is on commanded s.waiting
+  pull_marked_so m is on commanded (Some x) = goes_same (record (restarted s) { sent = without_oldest_mark s.sent }) refl refl refl refl refl refl (λ e. absurd (let no : is_closed m ≡ true = rw is at e in cc (no, on))) refl
+
+  pull_in_so : (m : FopMode) → s.state ≡ m → Commanded m s.control → Steadily (pulled_in s m)
+  pull_in_so S1 is commanded = pull_marked_so S1 is refl commanded (oldest_marked 0 s.sent)
+  pull_in_so S2 is commanded = pull_marked_so S2 is refl commanded (oldest_marked 0 s.sent)
+  pull_in_so S3 is commanded = k
+  pull_in_so S4 is commanded = k
+  pull_in_so S5 is commanded = k
+  pull_in_so S6 is commanded = k
+
+  pull_bypass_so : (us : List SegmentView) → s.bypass ≡ us → Steadily (pulled_bypass s us)
+  pull_bypass_so [] is = pull_in_so s.state refl k.commanded
+  pull_bypass_so (u ∷ us) is =
+      let fit : AllByRecursion FitsFrame (u ∷ us) = rw is at k.bypass_fits in
+      let bypass_fits : AllByRecursion FitsFrame us = fit.1 in
+      record { room = k.room; window = k.window; vs_octet = k.vs_octet; sent_none = k.sent_none; waiting_none = k.waiting_none; commanded = k.commanded; bypass_fits = bypass_fits }
+
+  sent_so : (command : Control) (m : FopMode) (new : Control) → Commanded m command → (command ≡ Idle → ⊥) → Commanded m new
+  sent_so command S1 new is not_idle = absurd (not_idle is)
+  sent_so command S2 new is not_idle = absurd (not_idle is)
+  sent_so command S3 new is not_idle = absurd (not_idle is)
+  sent_so command S4 new is not_idle = absurd (not_idle is)
+  sent_so command S5 new is not_idle = tt
+  sent_so command S6 new is not_idle = absurd (not_idle is)
+
+  pull_control_so : (control : Control) → s.control ≡ control → Steadily (pulled_control s control)
+  pull_control_so Idle is = pull_bypass_so s.bypass refl
+  pull_control_so (Sent command) is = pull_bypass_so s.bypass refl
+  pull_control_so (Due command) is =
+      let commanded : Commanded s.state (Sent command) = sent_so s.control s.state (Sent command) k.commanded (λ e. absurd (cc (e, is))) in
+      record { room = k.room; window = k.window; vs_octet = k.vs_octet; sent_none = k.sent_none; waiting_none = k.waiting_none; commanded = commanded; bypass_fits = k.bypass_fits }
+
+  pub pull_so : FopSteady c (pulled_fop s).after
+  pull_so = pull_control_so s.control refl
+
+-- ---- the ground
+
+pub record StationSteady (c : Config) (s : GroundState) : Type 0 where
+  pub config : s.config ≡ c
+  pub fop : FopSteady c s.fop
+  pub pending_none : is_closed s.fop.state ≡ true → s.pending ≡ []
+
+pub settled_so : (c : Config) (s : GroundState) → s.config ≡ c → FopSteady c s.fop → StationSteady c (settled s)
+settled_so c s is k = settled_keeps (StationSteady c) s (λ waiting pending on off.
+    let waiting_none : is_closed s.fop.state ≡ true → waiting ≡ None = λ e. (off e).0 ∙ k.waiting_none e in
+    let fop : FopSteady c (record s.fop { waiting = waiting }) = assumption (waiting_none, k) in
+    record { config = is; fop = fop; pending_none = λ e. (off e).1 })
+
+-- ---- the receiver
+
+pub record FarmSteady (c : Config) (s : FarmState) : Type 0 where
+  pub width : s.width ≡ c.width
+  pub farm_b : s.farm_b < 4
+  pub flags : FlagsAgree s
+
+verdict_so : (s : FarmState) (v : Verdict) → ((after_verdict s v).width ≡ s.width) × ((after_verdict s v).farm_b ≡ s.farm_b)
+verdict_so s Accepted = (refl, refl)
+verdict_so s Ahead = (refl, refl)
+verdict_so s NoBuffer = (refl, refl)
+verdict_so s Behind = (refl, refl)
+verdict_so s Outside = (refl, refl)
+verdict_so s Discarded = (refl, refl)
+
+unlock_so : (s : FarmState) (m : FarmMode) → ((after_unlock s m).width ≡ s.width) × ((after_unlock s m).farm_b < 4)
+unlock_so s Open = (refl, omega arith)
+unlock_so s Wait = (refl, omega arith)
+unlock_so s Lockout = (refl, omega arith)
+
+set_so : (s : FarmState) (x : ℕ) (m : FarmMode) → ((after_set_vr s x m).width ≡ s.width) × ((after_set_vr s x m).farm_b < 4)
+set_so s x Open = (refl, omega arith)
+set_so s x Wait = (refl, omega arith)
+set_so s x Lockout = (refl, omega arith)
+
+release_so : (s : FarmState) (m : FarmMode) → ((after_release s m).width ≡ s.width) × ((after_release s m).farm_b ≡ s.farm_b)
+release_so s Open = (refl, refl)
+release_so s Wait = (refl, refl)
+release_so s Lockout = (refl, refl)
+
+farm_fields : (s : FarmState) (e : FarmEvent) → s.farm_b < 4 → ((farm_step s e).width ≡ s.width) × ((farm_step s e).farm_b < 4)
+farm_fields s (AdArrives n free) lt = let t = verdict_so s (verdict_of s n free) in (t.0, omega (arith, t.1, lt))
+farm_fields s BdArrives lt = (refl, omega arith)
+farm_fields s UnlockArrives lt = unlock_so s s.state
+farm_fields s (SetVrArrives x) lt = set_so s x s.state
+farm_fields s InvalidArrives lt = (refl, lt)
+farm_fields s BufferReleased lt = let t = release_so s s.state in (t.0, omega (arith, t.1, lt))
+
+pub farm_so : (c : Config) (s : FarmState) (e : FarmEvent) → FarmSteady c s → FarmSteady c (farm_step s e)
+farm_so c s e k = let t = farm_fields s e k.farm_b in record { width = t.0 ∙ k.width; farm_b = t.1; flags = FlagsAgree-step s e k.flags }

@@ -1,0 +1,180 @@
+-- Where the numbers on their way lie in a clean session.
+use Rattle.std.proofs.Common.{◌≡◌, ℕ, ◌+◌, ◌-◌, ◌/◌, ◌%◌, ◌<◌, ◌≤◌, inl, inr, max, Bool, true, false, List, [], ◌∷◌, ◌++◌, length, take, map, Some, refl, ap, sym, subst, ◌∙◌, arith}
+use Rattle.std.specs.Prelude.{option_map, flat_map}
+use Rattle.std.specs.List.{AllByRecursion}
+use Rattle.std.proofs.lemmas.Bool.{cases_lt}
+use Rattle.std.proofs.lemmas.List.{length-take-le, length-map}
+use Rattle.clcw.specs.declared.word.Clcw.{Clcw}
+use Rattle.tc_frame.specs.declared.frame.Check.TheVariants.{On}
+use Rattle.tc_frame.specs.declared.frame.Command.{Command}
+use Rattle.tc_frame.specs.declared.frame.Command.TheVariants.{Unlock, SetVr}
+use Rattle.tc_frame.specs.Layout.{SegmentView, BodyView, Ad, Bd, Bc, segment_octets}
+use Rattle.tc_frame.specs.Reading.{frame_at}
+use Rattle.cop1.specs.Modulo.{ahead_by}
+use Rattle.cop1.specs.declared.fop.Directive.{Directive}
+use Rattle.cop1.specs.declared.fop.Directive.TheVariants.{InitWithoutCheck, InitWithCheck, InitUnlock, InitSetVr, Terminate, SetVs, SetWindow, SetLimit, SetTimer}
+use Rattle.cop1.specs.declared.fop.FopMode.{FopMode}
+use Rattle.cop1.specs.declared.fop.FopMode.TheVariants.{S1, S2, S3, S4, S5, S6}
+use Rattle.tc_link.specs.declared.config.Config.{Config}
+use Rattle.tc_link.specs.declared.sim.opening.Opening.{Opening}
+use Rattle.tc_link.specs.Ground.{is_closed, unsent}
+use Rattle.tc_link.specs.World.{World, directive_of}
+use Rattle.tc_link.specs.Confirmation.{LeavesVr, IsChecking, IsConfirmedExactly}
+use Rattle.tc_link.specs.InTransit.{number_in, command_in, in_frame, report_in, report_of_frame, report_carried, reports_down, IsInWindow, IsRising, IsActive, KeepsToWindow}
+use Rattle.tc_link.proofs.Beginning.{Clean}
+use Rattle.tc_link.proofs.Early.{Begun, IsEarly}
+use Rattle.tc_link.proofs.Linked.{Late, Carries, Tells, Reporting, Holds, Held}
+use Rattle.tc_link.proofs.SteadyWorld.{Sound}
+use Rattle.tc_link.proofs.Transit.{CommandFits, UpIs, DownIs, Fits, Rises, rises_to}
+
+-- ---- what octets on their way tell
+
+abbrev numbers : List (List ℕ) → List ℕ
+numbers bs = flat_map (λ octets. in_frame number_in (frame_at On octets)) bs
+
+abbrev commands : List (List ℕ) → List Command
+commands bs = flat_map (λ octets. in_frame command_in (frame_at On octets)) bs
+
+module _ (c : Config) (d : Directive) (base h n : ℕ) (units : List SegmentView) where
+  numbers_in : (P : ℕ → Type 0) (low : ℕ) (front : Bool) (bs : List (List ℕ)) (fs : List BodyView) (qs : List (ℕ × SegmentView)) (r : ℕ) → ((i : ℕ) → low ≤ i + h → i < n → P ((base + i) % 256)) → low ≤ r
+      → Carries c bs fs → UpIs d base front fs qs → Fits h n units r qs → AllByRecursion P (numbers bs)
+  numbers_in P low front [] fs qs r each le carries up fit = tt
+  numbers_in P low front (b ∷ bs) [] qs r each le carries up fit = elim carries [ ]
+  numbers_in P low front (b ∷ bs) (Bd s ∷ fs) qs r each le carries up fit =
+      subst (λ x. AllByRecursion P (in_frame number_in x ++ numbers bs)) (sym carries.0) (numbers_in P low front bs fs qs r each le carries.1 up fit)
+  numbers_in P low front (b ∷ bs) (Bc command ∷ fs) qs r each le carries up fit =
+      subst (λ x. AllByRecursion P (in_frame number_in x ++ numbers bs)) (sym carries.0) (numbers_in P low front bs fs qs r each le carries.1 up.2 fit)
+  numbers_in P low front (b ∷ bs) (Ad m s ∷ fs) [] r each le carries up fit = elim up [ ]
+  numbers_in P low front (b ∷ bs) (Ad m s ∷ fs) (q ∷ qs) r each le carries up fit =
+      subst (λ x. AllByRecursion P (in_frame number_in x ++ numbers bs)) (sym carries.0)
+      (subst P (sym up.0) (each q.0 (omega (arith, fit.2)) fit.1), numbers_in P low false bs fs qs (max r (q.0 + 1)) each (omega arith) carries.1 up.2 fit.3)
+
+  commands_in : (P : Command → Type 0) (front : Bool) (bs : List (List ℕ)) (fs : List BodyView) (qs : List (ℕ × SegmentView)) → ((command : Command) → front ≡ true → CommandFits d base command → P command)
+      → Carries c bs fs → UpIs d base front fs qs → AllByRecursion P (commands bs)
+  commands_in P front [] fs qs each carries up = tt
+  commands_in P front (b ∷ bs) [] qs each carries up = elim carries [ ]
+  commands_in P front (b ∷ bs) (Bd s ∷ fs) qs each carries up =
+      subst (λ x. AllByRecursion P (in_frame command_in x ++ commands bs)) (sym carries.0) (commands_in P front bs fs qs each carries.1 up)
+  commands_in P front (b ∷ bs) (Bc command ∷ fs) qs each carries up =
+      subst (λ x. AllByRecursion P (in_frame command_in x ++ commands bs)) (sym carries.0) (each command up.0 up.1, commands_in P front bs fs qs each carries.1 up.2)
+  commands_in P front (b ∷ bs) (Ad m s ∷ fs) [] each carries up = elim up [ ]
+  commands_in P front (b ∷ bs) (Ad m s ∷ fs) (q ∷ qs) each carries up =
+      subst (λ x. AllByRecursion P (in_frame command_in x ++ commands bs)) (sym carries.0) (commands_in P false bs fs qs (λ command e. absurd cc) carries.1 up.2)
+
+pub report_told : (c : Config) (b : List ℕ) (r : Clcw) → Tells c b r → report_carried c b ≡ r ∷ []
+report_told c b r tells = ap report_of_frame tells.reads ∙ ap report_in tells.word
+
+reports_are : (c : Config) (bs : List (List ℕ)) (rs : List Clcw) → Reporting c bs rs → flat_map (report_carried c) bs ≡ rs
+reports_are c [] [] h = refl
+reports_are c [] (r ∷ rs) h = elim h [ ]
+reports_are c (b ∷ bs) [] h = elim h [ ]
+reports_are c (b ∷ bs) (r ∷ rs) h = ap (λ xs. xs ++ flat_map (report_carried c) bs) (report_told c b r h.0) ∙ ap (λ xs. r ∷ xs) (reports_are c bs rs h.1)
+
+reports_of : (c : Config) (w : World) (rs : List Clcw) → w.station.config ≡ c → Reporting c w.down rs → reports_down w ≡ rs
+reports_of c w rs is h = ap (λ (x : Config). flat_map (report_carried x) w.down) is ∙ reports_are c w.down rs h
+
+rising_in : (base nn a low r last most : ℕ) (rs : List Clcw) (vs : List ℕ) → nn ≡ (base + a) % 256 → last ≡ (base + r) % 256 → a ≤ low → r ≤ a + most → most ≤ 127 → DownIs base rs vs → Rises low vs r → IsRising nn (low - a) rs last
+rising_in base nn a low r last most [] [] nn_is last_is le near small down up = omega (arith, nn_is, last_is, le, near, small, up)
+rising_in base nn a low r last most [] (v ∷ vs) nn_is last_is le near small down up = elim down [ ]
+rising_in base nn a low r last most (c ∷ cs) [] nn_is last_is le near small down up = elim down [ ]
+rising_in base nn a low r last most (c ∷ cs) (v ∷ vs) nn_is last_is le near small down up =
+    let high : v ≤ r = rises_to v r vs up.1 in
+    let value : ahead_by c.value nn ≡ v - a = omega (arith, down.0, nn_is, le, near, small, up.0, high) in
+    (omega (arith, value, le, up.0), rw value (rising_in base nn a v r last most cs vs nn_is last_is (omega (arith, le, up.0)) near small down.1 up.1))
+
+-- ---- the promises
+
+pub directive_is : (w : World) (d : Directive) → w.session.opening ≡ Some (record { directive = d; clean = true }) → directive_of w ≡ Some d
+directive_is w d is = ap (option_map (λ (o : Opening). o.directive)) is
+
+late_on : (m : FopMode) → IsActive m → is_closed m ≡ false
+late_on S1 active = refl
+late_on S2 active = refl
+late_on S3 active = refl
+late_on S4 active = refl
+late_on S5 active = refl
+late_on S6 active = elim active [ ]
+
+early_off : (d : Directive) (m : FopMode) → IsEarly d m → IsActive m → ⊥
+early_off d S1 early active = early
+early_off d S2 early active = early
+early_off d S3 early active = early
+early_off d S4 early active = active
+early_off d S5 early active = active
+early_off d S6 early active = active
+
+leaves : (d : Directive) (base vr : ℕ) (command : Command) → CommandFits d base command → vr ≡ base → LeavesVr vr command
+leaves d base vr Unlock fits is = tt
+leaves InitUnlock base vr (SetVr y) fits is = elim fits [ ]
+leaves (InitSetVr x) base vr (SetVr y) fits is = fits ∙ sym is
+leaves InitWithoutCheck base vr (SetVr y) fits is = elim fits [ ]
+leaves InitWithCheck base vr (SetVr y) fits is = elim fits [ ]
+leaves Terminate base vr (SetVr y) fits is = elim fits [ ]
+leaves (SetVs x) base vr (SetVr y) fits is = elim fits [ ]
+leaves (SetWindow x) base vr (SetVr y) fits is = elim fits [ ]
+leaves (SetLimit x) base vr (SetVr y) fits is = elim fits [ ]
+leaves (SetTimer x) base vr (SetVr y) fits is = elim fits [ ]
+
+module _ (c : Config) (w : World) (k : Sound c w) (d : Directive) (base : ℕ) where
+  late_window : Late c d base w → KeepsToWindow w
+  late_window g =
+      let p = g.plain in
+      let l = g.linked in
+      let h : ℕ = c.width / 2 in
+      let half : w.craft.farm.width / 2 ≡ h = ap (λ x. x / 2) k.craft.farm.width in
+      let each : (i : ℕ) → p.r ≤ i + h → i < p.n → IsInWindow (w.craft.farm.width / 2) w.craft.farm.vr ((base + i) % 256) = λ i low high. rw half (elim (cases_lt i p.r) [
+        | inl lt ↦ inr (omega (arith, l.vr_is, lt, low, k.ranges.width))
+        | inr ge ↦ inl (omega (arith, l.vr_is, ge, high, l.n_a, l.a_r, k.ranges.width))
+      ]) in
+      record {
+        up = numbers_in c d base h p.n p.units (IsInWindow (w.craft.farm.width / 2) w.craft.farm.vr) p.r g.front w.up g.frames p.up p.r each (omega arith) l.carries l.up_is l.fits;
+        down = λ settled active.
+            let on : is_closed w.station.fop.state ≡ false = late_on w.station.fop.state active in
+            let was : Holds base w.station.fop.vs w.station.fop.nn w.station.fop.sent (unsent w.station) p.a p.n p.units = let it : Held false base w.station.fop.vs w.station.fop.nn w.station.fop.sent (unsent w.station) p.a p.n p.units = rw on at l.held in it in
+            let most : h ≤ 127 = omega (arith, k.ranges.width) in
+            let rising : IsRising w.station.fop.nn (p.a - p.a) g.reports w.craft.farm.vr = rising_in base w.station.fop.nn p.a p.a p.r w.craft.farm.vr h g.reports p.down was.nn_is l.vr_is (omega arith) (omega (arith, l.r_n, l.n_a)) most l.down_is l.rises in
+            let zero : p.a - p.a ≡ 0 = omega arith in
+            let from_zero : IsRising w.station.fop.nn 0 g.reports w.craft.farm.vr = rw zero at rising in
+            (rw (reports_of c w g.reports k.station.config l.reporting) from_zero, omega (arith, was.vs_is, was.nn_is, l.vr_is, l.a_r, l.r_n, l.n_a, most));
+      }
+
+  early_window : Begun c d base w → KeepsToWindow w
+  early_window g =
+      let l = g.early in
+      record {
+        up = numbers_in c d base 0 0 [] (IsInWindow (w.craft.farm.width / 2) w.craft.farm.vr) 0 true w.up g.frames [] 0 (λ i low high. absurd (omega (arith, high))) (omega arith) l.carries l.up_is tt;
+        down = λ settled active. absurd (early_off d w.station.fop.state l.early active);
+      }
+
+  late_confirmed : Late c d base w → IsConfirmedExactly w
+  late_confirmed g =
+      let p = g.plain in
+      let l = g.linked in
+      record {
+        nothing_before = λ checking not_yet. absurd (
+            let checks : IsChecking (Some d) = rw (directive_is w d l.opened) at checking in
+            let confirmed : w.session.confirmed ≡ true = l.confirmed_is checks in
+            cc
+            );
+        exact = λ confirmed active nothing.
+            let on : is_closed w.station.fop.state ≡ false = late_on w.station.fop.state active in
+            let was : Holds base w.station.fop.vs w.station.fop.nn w.station.fop.sent (unsent w.station) p.a p.n p.units = let it : Held false base w.station.fop.vs w.station.fop.nn w.station.fop.sent (unsent w.station) p.a p.n p.units = rw on at l.held in it in
+            let none : p.n ≡ 0 = sym (length-take-le p.n p.units l.n_most) ∙ sym (length-map (take p.n p.units) segment_octets) ∙ sym (ap length l.sent_is) ∙ ap length nothing in
+            (omega (arith, none, l.vr_is, was.vs_is, l.r_n), omega (arith, none, was.nn_is, was.vs_is, l.a_r, l.r_n));
+        commands = λ confirmed. commands_in c d base 0 0 [] (LeavesVr w.craft.farm.vr) g.front w.up g.frames p.up (λ command front fits. leaves d base w.craft.farm.vr command fits (omega (arith, l.first front, l.vr_is, l.base_octet))) l.carries l.up_is;
+      }
+
+  early_confirmed : Begun c d base w → IsConfirmedExactly w
+  early_confirmed g =
+      let l = g.early in
+      record {
+        nothing_before = λ checking not_yet. (l.sent_none, ap (map segment_octets) l.accepted_none);
+        exact = λ confirmed. absurd (let no : w.session.confirmed ≡ false = l.confirmed_not in cc);
+        commands = λ confirmed. absurd (let no : w.session.confirmed ≡ false = l.confirmed_not in cc);
+      }
+
+pub keeps_to_window : (c : Config) (w : World) → Sound c w → Clean c w → KeepsToWindow w
+keeps_to_window c w k s = elim s.session [ inl g ↦ early_window c w k s.directive s.base g | inr g ↦ late_window c w k s.directive s.base g ]
+
+pub is_confirmed_exactly : (c : Config) (w : World) → Sound c w → Clean c w → IsConfirmedExactly w
+is_confirmed_exactly c w k s = elim s.session [ inl g ↦ early_confirmed c w k s.directive s.base g | inr g ↦ late_confirmed c w k s.directive s.base g ]

@@ -1,0 +1,74 @@
+-- No false alarm: the receiver does not lock, and each alert has its cause.
+use Rattle.std.specs.Prelude.{◌≡◌, ◌≢◌, ℕ, List, [], ◌∷◌, true, false, Option, Some, None, Result, Ok, Err}
+use Rattle.clcw.specs.declared.word.Clcw.{Clcw}
+use Rattle.cop1.specs.declared.farm.FarmMode.TheVariants as farm
+use Rattle.cop1.specs.declared.fop.Alert.{Alert}
+use Rattle.cop1.specs.declared.fop.Alert.TheVariants.{Lockout, NnR, Clcw as ClcwAlert, Synch, Limit, Timer, Terminated}
+use Rattle.cop1.specs.declared.fop.Directive.TheVariants.{InitWithCheck, Terminate}
+use Rattle.cop1.specs.FopReport.{asks}
+use Rattle.tc_link.specs.declared.config.Config.{Config}
+use Rattle.tc_link.specs.declared.event.Event.{Event}
+use Rattle.tc_link.specs.declared.event.Event.TheVariants as events
+use Rattle.tc_link.specs.declared.heard.Heard.{Heard}
+use Rattle.tc_link.specs.declared.heard.Heard.TheVariants as hearing
+use Rattle.tc_link.specs.declared.sim.fault.SimFault.{SimFault}
+use Rattle.tc_link.specs.InTransit.{report_carried}
+use Rattle.tc_link.specs.Replies.{ReplyView, Done, Nothing, Lost, Refused, Alerted, Sent, Reported, Up, Down, Packet}
+use Rattle.tc_link.specs.World.{World, world_step, directive_of}
+
+-- ---- the alert that is answered
+
+abbrev pub heard_alert : Heard → Option Alert
+heard_alert (hearing.Invalid fault) = None
+heard_alert hearing.Foreign = None
+heard_alert (hearing.Frame gap packets report alert) = alert
+
+abbrev pub replied_alert : ReplyView → Option Alert
+replied_alert Done = None
+replied_alert Nothing = None
+replied_alert Lost = None
+replied_alert (Refused fault) = None
+replied_alert (Alerted alert) = Some alert
+replied_alert (Sent octets) = None
+replied_alert (Reported report) = None
+replied_alert (Up received) = None
+replied_alert (Down heard) = heard_alert heard
+replied_alert (Packet packet) = None
+
+abbrev pub alert_in : Result ReplyView SimFault → Option Alert
+alert_in (Ok reply) = replied_alert reply
+alert_in (Err fault) = None
+
+-- ---- its cause
+
+-- begun by check, and not confirmed yet
+abbrev pub IsUnderCheck : World → Type 0
+IsUnderCheck w = (directive_of w ≡ Some InitWithCheck) × (w.session.confirmed ≡ false)
+
+-- there is a report, with the retransmit flag
+abbrev pub AsksAgain : List Clcw → Type 0
+AsksAgain [] = ⊥
+AsksAgain (report ∷ more) = asks report ≡ true
+
+-- the first frame on its way down carries such a report
+abbrev pub FirstAsks : Config → List (List ℕ) → Type 0
+FirstAsks c [] = ⊥
+FirstAsks c (octets ∷ more) = AsksAgain (report_carried c octets)
+
+-- the one cause of each alert
+abbrev pub HasCause : World → Event → Alert → Type 0
+HasCause w event Lockout = IsUnderCheck w × (w.craft.farm.state ≡ farm.Lockout)
+HasCause w event NnR = IsUnderCheck w × (w.craft.farm.vr ≢ w.station.fop.vs)
+HasCause w event ClcwAlert = ⊥
+HasCause w event Synch = IsUnderCheck w × (w.craft.farm.retransmit ≡ true)
+HasCause w event Limit = (event ≡ events.DownDeliver) × FirstAsks w.station.config w.down × (w.station.fop.limit ≡ 1)
+HasCause w event Timer = event ≡ events.Tick
+HasCause w event Terminated = event ≡ events.Directive Terminate
+
+pub record HasNoFalseAlarm (w : World) (event : Event) : Type 0 where
+  -- the receiver does not enter Lockout
+  pub not_locked : w.craft.farm.state ≢ farm.Lockout → (world_step w event).after.craft.farm.state ≢ farm.Lockout
+  -- and is not there once the session is confirmed
+  pub unlocked : w.session.confirmed ≡ true → w.craft.farm.state ≢ farm.Lockout
+  -- and each alert that the ground answers has its cause
+  pub alerts : (alert : Alert) → alert_in (world_step w event).answer ≡ Some alert → HasCause w event alert

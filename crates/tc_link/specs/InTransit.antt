@@ -1,0 +1,86 @@
+-- What is on its way between the nodes, and where its numbers lie.
+use Rattle.std.specs.Prelude.{◌<◌, ◌≤◌, ◌⊎◌, ℕ, ◌/◌, List, [], ◌∷◌, flat_map, Result, Ok, Err}
+use Rattle.std.specs.List.{AllByRecursion}
+use Rattle.clcw.specs.declared.word.Clcw.{Clcw}
+use Rattle.clcw.specs.declared.fault.ClcwFault.{ClcwFault}
+use Rattle.clcw.specs.Reading.{clcw_at}
+use Rattle.tc_frame.specs.declared.fault.TcFault.{TcFault}
+use Rattle.tc_frame.specs.declared.frame.Check.TheVariants.{On}
+use Rattle.tc_frame.specs.declared.frame.Command.{Command}
+use Rattle.tc_frame.specs.Layout.{BodyView, Ad, Bd, Bc, FrameView}
+use Rattle.tc_frame.specs.Reading as command
+use Rattle.cop1.specs.Modulo.{ahead_by}
+use Rattle.cop1.specs.declared.fop.FopMode.{FopMode}
+use Rattle.cop1.specs.declared.fop.FopMode.TheVariants.{S1, S2, S3, S4, S5, S6}
+use Rattle.tm_link.specs.declared.fault.TmFault.{TmFault}
+use Rattle.tm_link.specs.Layout as telemetry
+use Rattle.tm_link.specs.Reading as telemetry_reading
+use Rattle.tc_link.specs.declared.config.Config.{Config}
+use Rattle.tc_link.specs.World.{World, IsSettled}
+
+-- ---- frames on their way up
+
+-- the number N(S) of a Type-AD frame
+abbrev pub number_in : BodyView → List ℕ
+number_in (Ad n s) = n ∷ []
+number_in (Bd s) = []
+number_in (Bc command) = []
+
+abbrev pub command_in : BodyView → List Command
+command_in (Ad n s) = []
+command_in (Bd s) = []
+command_in (Bc command) = command ∷ []
+
+abbrev pub in_frame : {A : Type 0} → (BodyView → List A) → Result FrameView TcFault → List A
+in_frame found (Ok frame) = found frame.body
+in_frame found (Err fault) = []
+
+abbrev pub numbers_up : World → List ℕ
+numbers_up w = flat_map (λ octets. in_frame number_in (command.frame_at On octets)) w.up
+
+abbrev pub commands_up : World → List Command
+commands_up w = flat_map (λ octets. in_frame command_in (command.frame_at On octets)) w.up
+
+-- ---- reports on their way down
+
+abbrev pub report_in : Result Clcw ClcwFault → List Clcw
+report_in (Ok report) = report ∷ []
+report_in (Err fault) = []
+
+abbrev pub report_of_frame : Result telemetry.FrameView TmFault → List Clcw
+report_of_frame (Ok frame) = report_in (clcw_at frame.ocf)
+report_of_frame (Err fault) = []
+
+-- the report that the octets of a telemetry frame carry
+abbrev pub report_carried : Config → List ℕ → List Clcw
+report_carried c octets = report_of_frame (telemetry_reading.frame_at c.frame_length octets)
+
+abbrev pub reports_down : World → List Clcw
+reports_down w = flat_map (report_carried w.station.config) w.down
+
+-- ---- where the numbers lie
+
+-- modulo 256 at most the half below V(R), or less than the half above it
+abbrev pub IsInWindow : ℕ → ℕ → ℕ → Type 0
+IsInWindow half vr n = (ahead_by n vr < half) ⊎ (ahead_by vr n ≤ half)
+
+-- the values lie within NN(R) to a last one, in rising order
+abbrev pub IsRising : (nn low : ℕ) → List Clcw → ℕ → Type 0
+IsRising nn low [] last = low ≤ ahead_by last nn
+IsRising nn low (report ∷ reports) last = (low ≤ ahead_by report.value nn) × IsRising nn (ahead_by report.value nn) reports last
+
+-- S1 to S3
+abbrev pub IsActive : FopMode → Type 0
+IsActive S1 = Unit {0}
+IsActive S2 = Unit {0}
+IsActive S3 = Unit {0}
+IsActive S4 = ⊥
+IsActive S5 = ⊥
+IsActive S6 = ⊥
+
+pub record KeepsToWindow (w : World) : Type 0 where
+  -- each Type-AD number on its way lies at most W/2 below and at most W/2 - 1 above V(R)
+  pub up : AllByRecursion (IsInWindow (w.craft.farm.width / 2) w.craft.farm.vr) (numbers_up w)
+  -- V(R) and the reports' values lie within NN(R) to V(S), the reports in rising order
+  pub down : IsSettled w → IsActive w.station.fop.state
+      → IsRising w.station.fop.nn 0 (reports_down w) w.craft.farm.vr × (ahead_by w.craft.farm.vr w.station.fop.nn ≤ ahead_by w.station.fop.vs w.station.fop.nn)
