@@ -1,17 +1,19 @@
 -- Packets: what is read is spelled so, and what is spelled so is read.
-use Rattle.std.proofs.Common.{◌≡◌, ◌<◌, ◌≤◌, ℕ, zero, suc, ◌+◌, ◌/◌, ◌%◌, false, eqb, ltb, List, length, take, drop, Result, Ok, Err, refl, sym, ap, subst, ◌∙◌, arith}
+use Rattle.std.proofs.Common.{◌≡◌, ◌<◌, ◌≤◌, ℕ, zero, suc, ◌+◌, ◌/◌, ◌%◌, false, eqb, ltb, List, [], ◌∷◌, ◌++◌, length, take, drop, Result, Ok, Err, refl, sym, ap, subst, ◌∙◌, arith}
 use Rattle.std.specs.Prelude.{IfOk}
+use Rattle.std.specs.List.{AllByRecursion, concat}
 use Rattle.std.proofs.lemmas.Bool.{ltb-false, le-ltb}
-use Rattle.std.proofs.lemmas.List.{length-take, length-drop, take-take}
+use Rattle.std.proofs.lemmas.List.{length-take, length-drop, take-take, take_all, take_at, drop_at}
 use Rattle.octets.specs.Number.{number_of, IsOctets}
 use Rattle.octets.specs.Outcome.{map_ok}
+use Rattle.octets.specs.Records.{IsRecord}
 use Rattle.octets.proofs.Outcomes.{passed, ok_is}
 use Rattle.octets.proofs.Numbers.{two_below}
-use Rattle.octets.proofs.Cuts.{drop_fits}
+use Rattle.octets.proofs.Cuts.{take_fits, drop_fits}
 use Rattle.space_packet.specs.declared.packet.Packet.{Packet}
 use Rattle.space_packet.specs.declared.fault.PacketFault.{PacketFault}
 use Rattle.space_packet.specs.declared.fault.PacketFault.TheVariants as faults
-use Rattle.space_packet.specs.Layout.{PacketView, packet_view, type_bit, secondary_bit, is_idle_with_secondary, IsPacket, IsFirstPacket}
+use Rattle.space_packet.specs.Layout.{PacketView, packet_view, type_bit, secondary_bit, is_idle_with_secondary, IsPacket, IsSomePacket, IsFirstPacket}
 use Rattle.space_packet.specs.Reading.{found_view, extent_at, kind_at, packet_with, packet_of, packet_at}
 use Rattle.space_packet.specs.Laws.{HasExtent, extent_is, kind_again, secondary_again, own_extent_of, two_within}
 
@@ -81,7 +83,25 @@ packet_is b p n octets h =
     let whole = made_is b n octets (extent_is (take 6 b) n read.extent) read.within in
     record { within = read.within; spells = subst (λ (q : PacketView). IsPacket q (take n b)) read.is whole }
 
+-- a record of a stream of packets is a packet
+pub record_is : (b : List ℕ) → IsOctets b → IsRecord 6 extent_at b → IsSomePacket b
+record_is b octets h =
+    let made = made_is b (length b) octets (extent_is (take 6 b) (length b) h.extent_is) (omega arith) in
+    (_, subst (IsPacket _) (take_all (length b) b (omega arith)) made)
+
+-- so are all records that stand one after another
+pub records_are : (records : List (List ℕ)) → IsOctets (concat records) → AllByRecursion (IsRecord 6 extent_at) records → AllByRecursion IsSomePacket records
+records_are [] octets h = tt
+records_are (b ∷ bs) octets h =
+    let here : IsOctets b = subst IsOctets (take_at b (concat bs) (length b) refl) (take_fits (b ++ concat bs) (length b) octets) in
+    let behind : IsOctets (concat bs) = subst IsOctets (drop_at b (concat bs) (length b) refl) (drop_fits (b ++ concat bs) (length b) octets) in
+    (record_is b here h.0, records_are bs behind h.1)
+
 -- ---- from what was spelled
+
+-- a packet is a record of a stream of packets
+pub record_again : (b : List ℕ) → IsSomePacket b → IsRecord 6 extent_at b
+record_again b h = let own = own_extent_of h.0 b h.1 in record { has_head = own.0; extent_is = own.1 }
 
 pub packet_again : (b : List ℕ) (p : PacketView) (n : ℕ) → IsFirstPacket p n b → packet_at b ≡ Ok (p, n)
 unfolding packet_at

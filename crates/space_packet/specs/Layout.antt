@@ -50,6 +50,10 @@ pub record IsPacket (p : PacketView) (b : List ℕ) : Type 0 where
   pub most : length b ≤ 65542
   pub idle : is_idle_with_secondary p.apid p.secondary ≡ false
 
+-- The octets b, all of them, spell some packet, idle or not.
+abbrev pub IsSomePacket : List ℕ → Type 0
+IsSomePacket b = (p : PacketView) × IsPacket p b
+
 -- The first n of the octets b spell the packet p; what follows them doesn't matter.
 pub record IsFirstPacket (p : PacketView) (n : ℕ) (b : List ℕ) : Type 0 where
   pub within : n ≤ length b

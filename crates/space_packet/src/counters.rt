@@ -1,6 +1,6 @@
 // The next sequence count of each application process.
 
-ghost use Rattle.std.specs.Prelude.{◌≡◌, ◌<◌, ℕ, List, slice_index, replicate};
+ghost use Rattle.std.specs.Prelude.{◌≡◌, ◌<◌, ◌+◌, ◌%◌, ℕ, List, length, slice_index, replicate};
 ghost use Rattle.space_packet.specs.Counters.{IsCounts, counts_after};
 
 use std::marker::Model;
@@ -35,6 +35,10 @@ impl SequenceCounters {
         ensures count { result ≡ slice_index self.old apid }
         ensures counts { self.new ≡ counts_after self.old apid }
         ensures below { result < 16384 }
+
+        // There are 2,048 places, so the next count of this APID is one more.
+        ensures places { (length self.old ≡ 2048) × (length self.new ≡ 2048) }
+        ensures following { slice_index self.new apid ≡ (result + 1) % 16384 }
     {
         let place = usize::from(apid);
         let count = self.counts[place];

@@ -1,6 +1,6 @@
 // How many packets of an application process are missing.
 
-ghost use Rattle.std.specs.Prelude.{◌≡◌, ◌<◌, ℕ, List, Option, Some, None, get_or, slice_set, replicate};
+ghost use Rattle.std.specs.Prelude.{◌≡◌, ◌<◌, ℕ, List, Option, Some, None, length, get_or, replicate};
 ghost use Rattle.space_packet.specs.Counters.{gap_after, counts_seen};
 
 use std::marker::Model;
@@ -32,6 +32,10 @@ impl GapCheck {
         requires { apid < 2048 }
         ensures gap { result ≡ gap_after (get_or self.old apid None) count }
         ensures last { self.new ≡ counts_seen self.old apid count }
+
+        // There are 2,048 places, so the next gap of this APID is counted from this packet.
+        ensures places { (length self.old ≡ 2048) × (length self.new ≡ 2048) }
+        ensures seen { get_or self.new apid None ≡ Some count }
     {
         let place = usize::from(apid);
         let last = self.last[place];

@@ -1,8 +1,10 @@
 // What follows for packets from their layout; these functions do nothing.
 
 ghost use Rattle.std.specs.Prelude.{◌≡◌, ◌++◌, ℕ, List, true, length, Some, Ok};
-ghost use Rattle.octets.specs.Records.{first_record};
-ghost use Rattle.space_packet.specs.Layout.{PacketView, IsPacket};
+ghost use Rattle.std.specs.List.{AllByRecursion, concat};
+ghost use Rattle.octets.specs.Number.{IsOctets};
+ghost use Rattle.octets.specs.Records.{IsRecord, first_record};
+ghost use Rattle.space_packet.specs.Layout.{PacketView, IsPacket, IsSomePacket};
 ghost use Rattle.space_packet.specs.Reading.{extent_at, packet_at};
 ghost use Rattle.space_packet.specs.Splitting.{IsSpelling};
 ghost use Rattle.space_packet.specs.Writing.{packet_fits, spelling};
@@ -20,4 +22,13 @@ pub fn law_of_reading()
         → packet_at (octets ++ more) ≡ Ok (p, length octets) }
     ensures record { (p : PacketView) (octets more : List ℕ) → IsPacket p octets
         → first_record 6 extent_at (octets ++ more) ≡ Some (Ok octets) }
+{}
+
+/// The records of a stream are its packets: octets are a record exactly where they spell a packet,
+/// idle or not. So it is for all records that stand one after another.
+pub fn law_of_records()
+    ensures found { (octets : List ℕ) → IsOctets octets → IsRecord 6 extent_at octets → IsSomePacket octets }
+    ensures only { (octets : List ℕ) → IsSomePacket octets → IsRecord 6 extent_at octets }
+    ensures all { (records : List (List ℕ)) → IsOctets (concat records)
+        → AllByRecursion (IsRecord 6 extent_at) records → AllByRecursion IsSomePacket records }
 {}

@@ -19,7 +19,7 @@ pub use decoding::decode;
 pub use encoding::encode;
 pub use fault::PacketFault;
 pub use gaps::GapCheck;
-pub use laws::{law_of_reading, law_of_spelling};
+pub use laws::{law_of_reading, law_of_records, law_of_spelling};
 pub use layout::Packets;
 pub use packet::{Packet, PacketKind};
 pub use splitter::PacketSplitter;

@@ -1,6 +1,7 @@
 // Packets in octets, worked by hand, and sequence counts.
 
-ghost use Rattle.std.specs.Prelude.{◌≡◌, IfOk, vec_len};
+ghost use Rattle.std.specs.Prelude.{◌≡◌, ◌<◌, ◌+◌, ◌%◌, IfOk, Some, vec_len};
+ghost use Rattle.space_packet.specs.Counters.{gap_between};
 
 use super::*;
 use std::alloc::{AllocError, Global};
@@ -71,8 +72,9 @@ fn faults_by_number_and_name(rt: HostRuntime) {
 }
 
 // Feeds. Where memory is refused nothing has changed, and the call made again answers as ever.
-fn feed(rt: &impl Abort, splitter: &mut PacketSplitter, octets: &[u8]) {
+fn feed(rt: &(impl Abort + Eprint), splitter: &mut PacketSplitter, octets: &[u8]) {
     if let Err(fault) = splitter.feed(octets) {
+        let _ = eprintln!(rt; "refused a growth");
         assert_eq!(rt; fault, PacketFault::Memory);
         assert_eq!(rt; splitter.feed(octets), Ok(()));
     }
@@ -99,6 +101,24 @@ fn a_stream_cut_short(rt: HostRuntime) {
     assert_eq!(rt; splitter.finish(), Err(PacketFault::Truncated));
 }
 
+// What any caller knows: the counts of two packets are one apart.
+fn two_counts(counters: &mut SequenceCounters, apid: u16) -> (u16, u16)
+    requires { apid < 2048 }
+    ensures { result.1 ≡ (result.0 + 1) % 16384 }
+{
+    let first = counters.next(apid);
+    (first, counters.next(apid))
+}
+
+// What any caller knows: a gap is counted from the last packet of its APID.
+fn gap_of_two(check: &mut GapCheck, apid: u16, last: u16, count: u16) -> Option<u16>
+    requires { apid < 2048 }
+    ensures { result ≡ Some (gap_between last count) }
+{
+    check.see(apid, last);
+    check.see(apid, count)
+}
+
 #[test]
 fn counts(rt: HostRuntime) {
     let mut counters = SequenceCounters::new();
@@ -109,6 +129,7 @@ fn counts(rt: HostRuntime) {
     assert_eq!(rt; counters.next(5), 16383);
     assert_eq!(rt; counters.next(5), 0);
     assert_eq!(rt; counters.next(6), 0);
+    assert_eq!(rt; two_counts(&mut counters, 2047), (0, 1));
 }
 
 #[test]
@@ -119,4 +140,5 @@ fn gaps(rt: HostRuntime) {
     assert_eq!(rt; check.see(5, 3), Some(1));
     assert_eq!(rt; check.see(5, 3), Some(16383));
     assert_eq!(rt; check.see(2047, 3), None);
+    assert_eq!(rt; gap_of_two(&mut check, 2047, 16383, 1), Some(1));
 }
