@@ -92,7 +92,7 @@ divided_first octets =
     let count : 0 + 8 * length octets ≡ 8 * length octets = omega arith in
     ap (λ (n : ℕ). number_of_bits (remainder n (sum_without_carries (replicate 16 true) (octet_bits octets ++ replicate 16 false)))) count
 
--- the end of a loop over the octets
-pub check_from : (r i : ℕ) (octets : List ℕ) → r < 2 ^ 16 → length octets ≤ i → divided r 0 (drop i octets) ≡ divided 0xffff 0 octets → r ≡ check_of octets
-check_from r i octets fits le e =
-    sym (divided_all r fits) ∙ ap (λ (xs : List ℕ). number_of_bits (divided r 0 xs)) (sym (drop_all i octets le)) ∙ ap number_of_bits e ∙ divided_first octets
+-- the end of a loop over the octets that are left
+pub check_from : (r i : ℕ) (left octets : List ℕ) → r < 2 ^ 16 → length left ≤ i → divided r 0 (drop i left) ≡ divided 0xffff 0 octets → r ≡ check_of octets
+check_from r i left octets fits le e =
+    sym (divided_all r fits) ∙ ap (λ (xs : List ℕ). number_of_bits (divided r 0 xs)) (sym (drop_all i left le)) ∙ ap number_of_bits e ∙ divided_first octets

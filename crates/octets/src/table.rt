@@ -1,6 +1,6 @@
 // The table of the check: what each octet adds to the register.
 
-ghost use Rattle.std.specs.Prelude.{◌≡◌, slice_index};
+ghost use Rattle.std.specs.Prelude.{◌≡◌, ◌<◌, ◌^◌, slice_index};
 
 static TABLE: [u16; 256] = [
     0x0000, 0x1021, 0x2042, 0x3063, 0x4084, 0x50a5, 0x60c6, 0x70e7, 0x8108, 0x9129, 0xa14a, 0xb16b,
@@ -27,8 +27,10 @@ static TABLE: [u16; 256] = [
     0x2e93, 0x3eb2, 0x0ed1, 0x1ef0,
 ];
 
-pub fn table_entry(octet: u8) -> u16
-    ensures { result ≡ slice_index TABLE octet }
+pub fn table_entry(place: u32) -> u32
+    requires { place < 256 }
+    ensures entry { result ≡ slice_index TABLE place }
+    ensures fits { result < 2 ^ 16 }
 {
-    TABLE[octet as usize]
+    u32::from(TABLE[place as usize])
 }

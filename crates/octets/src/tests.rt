@@ -136,10 +136,11 @@ fn a_front_is_removed(rt: HostRuntime) {
 }
 
 // Feeds. Where memory is refused nothing has changed, and the call made again answers as ever.
-fn feed(rt: &impl Abort, splitter: &mut Splitter<Blocks>, octets: &[u8]) {
+fn feed(rt: &(impl Abort + Eprint), splitter: &mut Splitter<Blocks>, octets: &[u8]) {
     let waits = splitter.next().is_none();
     let ends = splitter.finish();
     if let Err(fault) = splitter.feed(octets) {
+        let _ = eprintln!(rt; "refused a growth");
         assert_eq!(rt; fault, BlockFault::Memory);
         assert_eq!(rt; splitter.next().is_none(), waits);
         assert_eq!(rt; splitter.finish(), ends);
