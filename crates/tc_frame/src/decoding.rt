@@ -11,6 +11,7 @@ use octets::{check_holds, first_two};
 
 /// Reads all of the octets as one frame, with or without the check at its end (CCSDS 232.0-B-4, 4.1),
 /// or says the first of the faults 1 to 9 that applies.
+#[inline(always)]
 pub fn decode(octets: &[u8], check: Check) -> Result<TcFrame<'_>, TcFault>
     ensures answer { map_ok frame_view result ≡ frame_at check octets.now }
 
@@ -21,6 +22,7 @@ pub fn decode(octets: &[u8], check: Check) -> Result<TcFrame<'_>, TcFault>
     frame_of(octets, check)
 }
 
+#[inline(always)]
 #[tactic(auto, unfolding(crate::specs::Reading::frame_at))]
 fn frame_of(octets: &[u8], check: Check) -> Result<TcFrame<'_>, TcFault>
     ensures { map_ok frame_view result ≡ frame_at check octets.now }
@@ -58,6 +60,7 @@ fn frame_of(octets: &[u8], check: Check) -> Result<TcFrame<'_>, TcFault>
     })
 }
 
+#[inline(always)]
 #[tactic(auto, unfolding(crate::specs::Reading::body_at))]
 fn body_of(bypass: bool, control: bool, n: u8, field: &[u8]) -> Result<Body<'_>, TcFault>
     ensures { map_ok body_view result ≡ body_at bypass control n field.now }
@@ -76,6 +79,7 @@ fn body_of(bypass: bool, control: bool, n: u8, field: &[u8]) -> Result<Body<'_>,
     }
 }
 
+#[inline(always)]
 #[tactic(auto, unfolding(crate::specs::Reading::command_at))]
 fn command_of(field: &[u8]) -> Result<Command, TcFault>
     ensures { result ≡ command_at field.now }
@@ -88,6 +92,7 @@ fn command_of(field: &[u8]) -> Result<Command, TcFault>
     }
 }
 
+#[inline(always)]
 #[tactic(auto, unfolding(crate::specs::Reading::segment_at))]
 fn segment_of(field: &[u8]) -> Result<Segment<'_>, TcFault>
     ensures { map_ok segment_view result ≡ segment_at field.now }

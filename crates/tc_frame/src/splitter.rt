@@ -37,10 +37,13 @@ impl<C: Wire<Fault = TcFault>> TcSplitter<C> {
     pub fn feed(&mut self, octets: &[u8]) -> Result<(), TcFault>
         ensures ok { OnOk result (octets_held self.new ≡ octets_held self.old ++ octets.now) }
         ensures err { OnErr result (octets_held self.new ≡ octets_held self.old) }
-        ensures fault { IfErr result (λ e. e ≡ C.memory_fault) }
+        ensures fault { IfErr result (λ e. e ≡ TcFault.Memory) }
         ensures refusal { refusal self.new ≡ refusal self.old }
     {
-        self.splitter.feed(octets)
+        if self.splitter.feed(octets).is_err() {
+            return Err(TcFault::Memory);
+        }
+        Ok(())
     }
 
     /// The next whole record, or 5 `Length` where it declares a total below 5, or below 7 with the
@@ -63,8 +66,11 @@ impl<C: Wire<Fault = TcFault>> TcSplitter<C> {
     /// refused.
     pub fn finish(&self) -> Result<(), TcFault>
         ensures short { IsErr result ↔ ((0 < length (octets_held self.now)) × IsNone (refusal self.now)) }
-        ensures fault { IfErr result (λ e. e ≡ C.truncated_fault) }
+        ensures fault { IfErr result (λ e. e ≡ TcFault.Short) }
     {
-        self.splitter.finish()
+        if self.splitter.finish().is_err() {
+            return Err(TcFault::Short);
+        }
+        Ok(())
     }
 }

@@ -1,5 +1,7 @@
 // Frames in octets, worked by hand.
 
+ghost use Rattle.std.specs.Prelude.{◌<◌};
+
 use super::*;
 use octets::Wire;
 use std::process::Abort;
@@ -88,6 +90,33 @@ fn faults_behind_the_header(rt: HostRuntime) {
     }
 }
 
+// How many of the frames are refused that differ in one octet, at this place.
+fn refused_at(octets: &[u8; 15], place: usize) -> u8
+    requires { place < 15 }
+{
+    let mut refused = 0_u8;
+    for octet in 0..=255_u8 {
+        let mut damaged = *octets;
+        damaged[place] = octet;
+        if decode(&damaged, Check::On).is_err() {
+            refused = refused.wrapping_add(1);
+        }
+    }
+    refused
+}
+
+#[test]
+fn a_wrong_octet(rt: HostRuntime) -> Result<(), Fail> {
+    let octets = [
+        0x00, 0x01, 0x08, 0x0e, 0x00, 0xc4, 0x10, 0x05, 0xc0, 0x00, 0x00, 0x00, 0xaa, 0xe7, 0x5d,
+    ];
+    decode(&octets, Check::On)?;
+    for place in 0..15 {
+        assert_eq!(rt; refused_at(&octets, place), 255, "at {place}");
+    }
+    Ok(())
+}
+
 #[test]
 fn faults_by_number_and_name(rt: HostRuntime) {
     assert_eq!(rt; TcFault::FieldRange.number(), 11);
@@ -95,8 +124,13 @@ fn faults_by_number_and_name(rt: HostRuntime) {
 }
 
 // Feeds. Where memory is refused nothing has changed, and the call made again answers as ever.
-fn feed<C: Wire<Fault = TcFault>>(rt: &impl Abort, splitter: &mut TcSplitter<C>, octets: &[u8]) {
+fn feed<C: Wire<Fault = TcFault>>(
+    rt: &(impl Abort + Eprint),
+    splitter: &mut TcSplitter<C>,
+    octets: &[u8],
+) {
     if let Err(fault) = splitter.feed(octets) {
+        let _ = eprintln!(rt; "refused a growth");
         assert_eq!(rt; fault, TcFault::Memory);
         assert_eq!(rt; splitter.feed(octets), Ok(()));
     }
