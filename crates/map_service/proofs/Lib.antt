@@ -7,6 +7,7 @@ pub mod Steps
 pub mod Whole
 pub mod Parts
 pub mod Passage
+pub mod Spelled
 pub mod InParts
 pub mod Counts
 pub mod Grouping

@@ -280,7 +280,7 @@ alone-octets limits part m octets one blocking is taken =
 length-none : (xs : List ℕ) → eqb (length xs) 0 ≡ true → xs ≡ []
 length-none xs e = none_from xs (sym e)
 
-whole-from : (octets : List ℕ) → are_packets octets ≡ true → (1 ≤ length octets) × (rest_in octets ≡ [])
+pub whole-from : (octets : List ℕ) → are_packets octets ≡ true → (1 ≤ length octets) × (rest_in octets ≡ [])
 whole-from octets h =
     let both = both_true (ltb 0 (length octets)) (eqb (length (rest_in octets)) 0) h in
     (ltb-true _ _ both.0, length-none (rest_in octets) both.1)

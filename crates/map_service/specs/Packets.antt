@@ -1,7 +1,8 @@
 -- Octets as whole packets, one after another.
-use Rattle.std.specs.Prelude.{ℕ, List, length, Bool, ◌&&◌, ◌==◌, nat_lt, if◌then◌else◌, Option, None, Some}
-use Rattle.std.specs.List.{list_any}
+use Rattle.std.specs.Prelude.{◌≡◌, ◌≤◌, ℕ, List, length, Bool, ◌&&◌, ◌==◌, nat_lt, if◌then◌else◌, Option, None, Some}
+use Rattle.std.specs.List.{AllByRecursion, concat, list_any}
 use Rattle.octets.specs.Records.{first_record, by_record, records_of, rest_of}
+use Rattle.space_packet.specs.Layout.{IsSomePacket}
 use Rattle.space_packet.specs.Reading.{extent_at}
 
 -- the packet that octets begin with, where they begin with one
@@ -31,3 +32,9 @@ are_taken blocking octets = if blocking then are_packets octets else is_packet o
 -- one of these packets has more octets than this
 abbrev pub is_some_over : ℕ → List (List ℕ) → Bool
 is_some_over most packets = list_any (λ p. nat_lt most (length p)) packets
+
+-- the octets are one or more packets, each as octets that spell it, one after another
+pub record ArePackets (octets : List ℕ) (packets : List (List ℕ)) : Type 0 where
+  pub some : 1 ≤ length packets
+  pub each : AllByRecursion IsSomePacket packets
+  pub joined : concat packets ≡ octets

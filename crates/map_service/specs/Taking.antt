@@ -1,5 +1,5 @@
 -- How the assembler takes a segment: a line for each cell of its table.
-use Rattle.std.specs.Prelude.{ℕ, List, [], ◌∷◌, ◌++◌, not, if◌then◌else◌, Option, Some, None}
+use Rattle.std.specs.Prelude.{ℕ, List, [], ◌∷◌, ◌++◌, Bool, true, false, not, if◌then◌else◌, Option, Some, None}
 use Rattle.tc_frame.specs.declared.frame.SegmentFlags.{SegmentFlags}
 use Rattle.tc_frame.specs.declared.frame.SegmentFlags.TheVariants.{First, Continuing, Last, Alone}
 use Rattle.tc_frame.specs.Layout.{SegmentView}
@@ -65,3 +65,12 @@ abbrev pub take_step : Limits → Option (List ℕ) → SegmentView → Outcome
 take_step limits part s =
     if is_open limits s.header.map then cell limits s.header.flags part s.payload
     else record { dropped = Some ClosedMap; packets = []; part = part }
+
+-- what is dropped with no memory taken first
+abbrev pub is_dropped_at_once : Option Dropped → Bool
+is_dropped_at_once None = false
+is_dropped_at_once (Some ClosedMap) = true
+is_dropped_at_once (Some Interrupted) = false
+is_dropped_at_once (Some NoBeginning) = true
+is_dropped_at_once (Some NotAPacket) = false
+is_dropped_at_once (Some TooLong) = true

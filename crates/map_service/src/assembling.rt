@@ -1,6 +1,8 @@
 // Joining segments to packets.
 
-ghost use Rattle.std.specs.Prelude.{◌≡◌, List, length, IfOk, IfErr, OnOk, OnErr};
+mod foreseeing;
+
+ghost use Rattle.std.specs.Prelude.{◌≡◌, List, length, true, IsOk, IfOk, IfErr, OnOk, OnErr};
 ghost use Rattle.map_service.specs.Assembly.{is_open};
 
 use crate::cells::{no_packets, take_cell};
@@ -38,6 +40,7 @@ impl Assembler {
     ghost use Rattle.std.specs.Prelude.{[], None, replicate};
     ghost use Rattle.tc_frame.specs.Layout.{SegmentView, segment_view};
     ghost use Rattle.map_service.specs.Exactness.{AssemblerState, step_at, after_step, HasPartsOf, IsTakenExactly};
+    ghost use Rattle.map_service.specs.Taking.{is_dropped_at_once};
     ghost use Rattle.map_service.specs.Views.{packets_view};
 
     /// An assembler with no part open. It takes no memory.
@@ -75,6 +78,9 @@ impl Assembler {
         ensures memory { OnErr result (self.new ≡ self.old) }
         ensures fault { IfErr result (λ e. e ≡ MapFault.Memory) }
 
+        // It takes no memory for a segment that is dropped by `ClosedMap`, `NoBeginning` or `TooLong`.
+        ensures none { is_dropped_at_once (step_at self.old (segment_view segment.now)).dropped ≡ true → IsOk result }
+
         // Exact assembly, whichever segments led here.
         ensures exact { IfOk result (λ t. (segments : List SegmentView) → HasPartsOf self.old segments
             → IsTakenExactly self.new segments (segment_view segment.now) (packets_view t.packets)) }
@@ -89,6 +95,7 @@ impl Assembler {
         ensures state { OnOk result (self.new ≡ after_step self.old (segment_view segment.now)) }
         ensures memory { OnErr result (self.new ≡ self.old) }
         ensures fault { IfErr result (λ e. e ≡ MapFault.Memory) }
+        ensures none { is_dropped_at_once (step_at self.old (segment_view segment.now)).dropped ≡ true → IsOk result }
         ensures maps { length self.old.parts ≡ 64 }
     {
         let map = segment.header.map;

@@ -1,8 +1,8 @@
 // The table of the assembler: a segment of an open MAP against the part that is open there.
 
-ghost use Rattle.std.specs.Prelude.{◌≡◌, [], IfOk, OnErr};
+ghost use Rattle.std.specs.Prelude.{◌≡◌, [], true, IsOk, IfOk, OnErr};
 ghost use Rattle.tc_frame.specs.declared.frame.SegmentFlags.TheVariants as flags;
-ghost use Rattle.map_service.specs.Taking.{drops, cell};
+ghost use Rattle.map_service.specs.Taking.{drops, cell, is_dropped_at_once};
 ghost use Rattle.map_service.specs.Views.{part_view, packets_view, interrupts, outcome_of};
 
 use crate::dropped::{Dropped, Taken};
@@ -49,6 +49,7 @@ fn take_alone(
     ensures ok { IfOk result (λ t. outcome_of t part.new
         ≡ cell limits.now flags.Alone (part_view part.old) octets.now) }
     ensures err { OnErr result (part_view part.new ≡ part_view part.old) }
+    ensures none { is_dropped_at_once (cell limits.now flags.Alone (part_view part.old) octets.now).dropped ≡ true → IsOk result }
 {
     let dropped = interrupted(part);
     if let Some(cause) = fault_of_alone(limits, octets) {
@@ -69,6 +70,7 @@ fn take_first(
     ensures ok { IfOk result (λ t. outcome_of t part.new
         ≡ cell limits.now flags.First (part_view part.old) octets.now) }
     ensures err { OnErr result (part_view part.new ≡ part_view part.old) }
+    ensures none { is_dropped_at_once (cell limits.now flags.First (part_view part.old) octets.now).dropped ≡ true → IsOk result }
 {
     let dropped = interrupted(part);
     if is_too_long(limits, octets.len()) {
@@ -88,6 +90,7 @@ fn take_continuing(
     ensures ok { IfOk result (λ t. outcome_of t part.new
         ≡ cell limits.now flags.Continuing (part_view part.old) octets.now) }
     ensures err { OnErr result (part_view part.new ≡ part_view part.old) }
+    ensures none { is_dropped_at_once (cell limits.now flags.Continuing (part_view part.old) octets.now).dropped ≡ true → IsOk result }
 {
     match part {
         None => Ok(dropped_for(alloc, Dropped::NoBeginning, part)),
@@ -111,6 +114,7 @@ fn take_last(
     ensures ok { IfOk result (λ t. outcome_of t part.new
         ≡ cell limits.now flags.Last (part_view part.old) octets.now) }
     ensures err { OnErr result (part_view part.new ≡ part_view part.old) }
+    ensures none { is_dropped_at_once (cell limits.now flags.Last (part_view part.old) octets.now).dropped ≡ true → IsOk result }
 {
     match part {
         None => Ok(dropped_for(alloc, Dropped::NoBeginning, part)),
@@ -144,6 +148,7 @@ pub(crate) fn take_cell(
     ensures ok { IfOk result (λ t. outcome_of t part.new
         ≡ cell limits.now segment.now.header.flags (part_view part.old) segment.now.payload.now) }
     ensures err { OnErr result (part_view part.new ≡ part_view part.old) }
+    ensures none { is_dropped_at_once (cell limits.now segment.now.header.flags (part_view part.old) segment.now.payload.now).dropped ≡ true → IsOk result }
 {
     let octets = segment.payload;
     match segment.header.flags {

@@ -53,8 +53,8 @@ pub(crate) fn fault_of_alone(limits: &Limits, octets: &[u8]) -> Option<Dropped>
     }
 }
 
-// The packets that octets are, each copied.
-fn copied_packets(alloc: Global, octets: &[u8]) -> Result<Vec<Vec<u8>>, AllocError>
+/// The packets that octets are, one after another, as far as they are whole, each copied.
+pub fn copied_packets(alloc: Global, octets: &[u8]) -> Result<Vec<Vec<u8>>, AllocError>
     ensures { IfOk result (λ v. packets_view v ≡ packets_in octets.now) }
 {
     let mut packets = Vec::new(alloc);

@@ -24,7 +24,8 @@ pub use cutting_laws::{
 };
 pub use dropped::{Dropped, Taken};
 pub use fault::MapFault;
-pub use laws::{law_of_beginnings, law_of_steps};
+pub use judging::copied_packets;
+pub use laws::{law_of_beginnings, law_of_packets, law_of_steps};
 pub use limits::Limits;
 
 #[cfg(test)]

@@ -41,7 +41,7 @@ fn segment(flags: SegmentFlags, map: u8, payload: &[u8]) -> Segment<'_> {
 // Cuts. Where memory is refused the segments are as they were, and the call made again answers as
 // ever.
 fn cut_on<'a>(
-    rt: &impl Abort,
+    rt: &(impl Abort + Eprint),
     octets: &'a [u8],
     limits: &Limits,
     segments: &mut Vec<Segment<'a>>,
@@ -54,6 +54,7 @@ fn cut_on<'a>(
         assert!(rt; segments.as_slice() == before);
     }
     if answer == Err(MapFault::Memory) {
+        let _ = eprintln!(rt; "refused a growth");
         return cut(octets, 4, limits, segments);
     }
     answer

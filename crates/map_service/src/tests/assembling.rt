@@ -6,7 +6,7 @@ const P1: [u8; 7] = [0x10, 0x05, 0xc0, 0x01, 0x00, 0x00, 0xab];
 
 // Takes. Where memory is refused nothing has changed, and the call made again answers as ever.
 fn takes(
-    rt: &impl Abort,
+    rt: &(impl Abort + Eprint),
     assembler: &mut Assembler,
     segment: &Segment,
     dropped: Option<Dropped>,
@@ -14,6 +14,7 @@ fn takes(
 ) {
     let mut answer = assembler.take(segment);
     if let Err(fault) = answer {
+        let _ = eprintln!(rt; "refused a growth");
         assert_eq!(rt; fault, MapFault::Memory);
         answer = assembler.take(segment);
     }
@@ -115,6 +116,98 @@ fn several_packets_in_a_segment(rt: HostRuntime) {
         Some(Dropped::NotAPacket),
         &[],
     );
+    let first = segment(SegmentFlags::First, 4, &THREE[..10]);
+    let last = segment(SegmentFlags::Last, 4, &THREE[10..14]);
+    takes(&rt, &mut assembler, &first, None, &[]);
+    takes(&rt, &mut assembler, &last, Some(Dropped::NotAPacket), &[]);
+}
+
+// MAP 4 alone is open, and packets have at most 7 octets.
+fn short(blocking: bool) -> Limits {
+    Limits {
+        part: 20,
+        max_packet: 7,
+        maps: 1 << 4,
+        blocking,
+    }
+}
+
+// Takes segments that hand out nothing: the flags, the MAP, between which places of the octets the
+// data lie, and what is dropped.
+fn drops(
+    rt: &(impl Abort + Eprint),
+    assembler: &mut Assembler,
+    octets: &[u8],
+    rows: &[(SegmentFlags, u8, (usize, usize), Option<Dropped>)],
+) {
+    for (flags, map, (from, end), dropped) in rows {
+        let payload = octets.get(*from..*end).unwrap_or_default();
+        takes(
+            rt,
+            assembler,
+            &segment(*flags, *map, payload),
+            *dropped,
+            &[],
+        );
+    }
+}
+
+#[test]
+fn closed_maps_and_interruptions(rt: HostRuntime) {
+    let mut assembler = Assembler::new(rt.alloc(), short(false));
+    let rows = [
+        (SegmentFlags::Alone, 5, (0, 7), Some(Dropped::ClosedMap)),
+        (SegmentFlags::Alone, 64, (0, 7), Some(Dropped::ClosedMap)),
+        (SegmentFlags::First, 4, (0, 3), None),
+        (SegmentFlags::First, 4, (7, 9), Some(Dropped::Interrupted)),
+        (SegmentFlags::Last, 5, (9, 14), Some(Dropped::ClosedMap)),
+    ];
+    drops(&rt, &mut assembler, &THREE, &rows);
+    let last = segment(SegmentFlags::Last, 4, &P1[2..]);
+    takes(&rt, &mut assembler, &last, None, &[&P1]);
+}
+
+// A part of 8 octets, in each place. With no part open, nothing is too long for one.
+#[test]
+fn parts_too_long(rt: HostRuntime) {
+    let mut assembler = Assembler::new(rt.alloc(), short(false));
+    let rows = [
+        (SegmentFlags::First, 4, (0, 8), Some(Dropped::TooLong)),
+        (
+            SegmentFlags::Continuing,
+            4,
+            (0, 8),
+            Some(Dropped::NoBeginning),
+        ),
+        (SegmentFlags::First, 4, (0, 7), None),
+        (SegmentFlags::First, 4, (0, 8), Some(Dropped::TooLong)),
+        (SegmentFlags::Last, 4, (0, 8), Some(Dropped::NoBeginning)),
+        (SegmentFlags::First, 4, (0, 7), None),
+        (SegmentFlags::Continuing, 4, (7, 8), Some(Dropped::TooLong)),
+        (SegmentFlags::Last, 4, (7, 8), Some(Dropped::NoBeginning)),
+    ];
+    drops(&rt, &mut assembler, &THREE, &rows);
+}
+
+// Without blocking the length of all is asked for first; with it that of each packet, once they are
+// whole.
+#[test]
+fn alone_too_long(rt: HostRuntime) {
+    let mut single = Assembler::new(rt.alloc(), short(false));
+    let rows = [
+        (SegmentFlags::Alone, 4, (7, 19), Some(Dropped::TooLong)),
+        (SegmentFlags::Alone, 4, (0, 20), Some(Dropped::TooLong)),
+    ];
+    drops(&rt, &mut single, &LONG_BETWEEN, &rows);
+    let mut several = Assembler::new(rt.alloc(), short(true));
+    let rows = [
+        (SegmentFlags::Alone, 4, (7, 19), Some(Dropped::TooLong)),
+        (SegmentFlags::Alone, 4, (0, 20), Some(Dropped::NotAPacket)),
+    ];
+    drops(&rt, &mut several, &LONG_BETWEEN, &rows);
+    let two = segment(SegmentFlags::Alone, 4, &THREE[..14]);
+    takes(&rt, &mut single, &two, Some(Dropped::TooLong), &[]);
+    takes(&rt, &mut several, &two, None, &[&P0, &P1]);
 }
 
 #[test]

@@ -1,0 +1,89 @@
+// What the next segment would hand out.
+
+ghost use Rattle.std.specs.Prelude.{◌≡◌, None, Some, IfOk};
+ghost use Rattle.tc_frame.specs.declared.frame.SegmentFlags.TheVariants as flags;
+ghost use Rattle.map_service.specs.Taking.{gives, alone_packets, alone_fault, cell};
+ghost use Rattle.map_service.specs.Views.{part_view, packets_view};
+
+use super::{Assembler, is_open};
+use crate::fault::MapFault;
+use crate::judging::{copied_alone, fault_of_alone, fault_of_one, is_too_long};
+use crate::limits::Limits;
+use std::alloc::{AllocError, Global};
+use tc_frame::{Segment, SegmentFlags};
+
+impl Assembler {
+    ghost use Rattle.std.specs.Prelude.{IsOkUnless};
+    ghost use Rattle.tc_frame.specs.Layout.{segment_view};
+    ghost use Rattle.map_service.specs.Exactness.{step_at};
+
+    /// The packets that `take` would hand out at this segment, copied; it takes none. The fault is 3
+    /// `Memory`.
+    pub fn foreseen(&self, segment: &Segment) -> Result<Vec<Vec<u8>>, MapFault>
+        ensures packets { IfOk result (λ packets. packets_view packets ≡ (step_at self.now (segment_view segment.now)).packets) }
+        ensures fault { IsOkUnless result MapFault.Memory }
+    {
+        let map = segment.header.map;
+        if !is_open(&self.limits, map) {
+            return Ok(Vec::new(self.alloc));
+        }
+        let part = &self.parts[usize::from(map)];
+        match foreseen_cell(self.alloc, &self.limits, part, segment) {
+            Ok(packets) => Ok(packets),
+            Err(_) => Err(MapFault::Memory),
+        }
+    }
+}
+
+fn foreseen_cell(
+    alloc: Global,
+    limits: &Limits,
+    part: &Option<Vec<u8>>,
+    segment: &Segment,
+) -> Result<Vec<Vec<u8>>, AllocError>
+    ensures { IfOk result (λ packets. packets_view packets
+        ≡ (cell limits.now segment.now.header.flags (part_view part.now) segment.now.payload.now).packets) }
+{
+    match segment.header.flags {
+        SegmentFlags::Alone => foreseen_alone(alloc, limits, segment.payload),
+        SegmentFlags::First | SegmentFlags::Continuing => Ok(Vec::new(alloc)),
+        SegmentFlags::Last => match part {
+            Some(begun) => foreseen_last(alloc, limits, begun, segment.payload),
+            None => Ok(Vec::new(alloc)),
+        },
+    }
+}
+
+fn foreseen_alone(alloc: Global, limits: &Limits, octets: &[u8]) -> Result<Vec<Vec<u8>>, AllocError>
+    ensures { IfOk result (λ packets. packets_view packets
+        ≡ (gives None (alone_packets limits.now octets.now) (alone_fault limits.now octets.now)).packets) }
+{
+    if fault_of_alone(limits, octets).is_some() {
+        return Ok(Vec::new(alloc));
+    }
+    copied_alone(alloc, limits, octets)
+}
+
+fn foreseen_last(
+    alloc: Global,
+    limits: &Limits,
+    begun: &[u8],
+    octets: &[u8],
+) -> Result<Vec<Vec<u8>>, AllocError>
+    ensures { IfOk result (λ packets. packets_view packets
+        ≡ (cell limits.now flags.Last (Some begun.now) octets.now).packets) }
+{
+    let size = begun.len() + octets.len();
+    if is_too_long(limits, size) {
+        return Ok(Vec::new(alloc));
+    }
+    let mut joined = Vec::with_capacity(alloc, size)?;
+    joined.extend_from_slice(begun)?;
+    joined.extend_from_slice(octets)?;
+    if fault_of_one(limits, &joined).is_some() {
+        return Ok(Vec::new(alloc));
+    }
+    let mut packets = Vec::with_capacity(alloc, 1)?;
+    packets.push(joined)?;
+    Ok(packets)
+}
