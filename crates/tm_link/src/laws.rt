@@ -1,15 +1,15 @@
 // What follows for frames and packets from their layouts; these functions do nothing.
 
-ghost use Rattle.std.specs.Prelude.{◌≡◌, ℕ, List, [], Bool, length, true, Ok};
+ghost use Rattle.std.specs.Prelude.{◌≡◌, ◌++◌, ℕ, List, [], Bool, length, true, Ok};
 ghost use Rattle.std.specs.List.{AllByRecursion};
 ghost use Rattle.octets.specs.Number.{IsOctets};
-ghost use Rattle.space_packet.specs.Layout.{PacketView};
+ghost use Rattle.space_packet.specs.Layout.{PacketView, IsSomePacket};
 ghost use Rattle.tm_link.specs.Arriving.{IsInRange, all_extracted};
 ghost use Rattle.tm_link.specs.Building.{is_to_send, IsToSend};
 ghost use Rattle.tm_link.specs.Extraction.{new_extractor};
 ghost use Rattle.tm_link.specs.Layout.{FrameView, IsTmFrame, IsSpelling};
 ghost use Rattle.tm_link.specs.Reading.{frame_at};
-ghost use Rattle.tm_link.specs.Stream.{IsLaidOut, IsClose, choice, arrived};
+ghost use Rattle.tm_link.specs.Stream.{carried, IsLaidOut, IsClose, choice, arrived};
 ghost use Rattle.tm_link.specs.Writing.{total_of, frame_fits, spelling};
 
 /// A frame whose fields are in range has its spelling, and no other octets spell it.
@@ -40,4 +40,10 @@ pub fn law_of_extraction()
     ensures all { (packets : List (List ℕ)) (frames : List FrameView) → IsLaidOut packets frames []
         → AllByRecursion IsInRange frames → all_extracted new_extractor frames ≡ packets }
     ensures range { (total : ℕ) (f : FrameView) (octets : List ℕ) → IsSpelling total f octets → IsInRange f }
+{}
+
+/// The stream that frames lay out is packets, idle ones among them: each of its records spells one.
+pub fn law_of_stream()
+    ensures { (packets : List (List ℕ)) (frames : List FrameView) (rest : List ℕ) (laid : IsLaidOut packets frames rest)
+        → IsOctets (carried frames ++ rest) → AllByRecursion IsSomePacket laid.all }
 {}

@@ -25,7 +25,9 @@ pub use extractor::Extractor;
 pub use fault::TmFault;
 pub use frame::{Pointer, TmFrame};
 pub use gap::Gap;
-pub use laws::{law_of_extraction, law_of_queueing, law_of_reading, law_of_spelling};
+pub use laws::{
+    law_of_extraction, law_of_queueing, law_of_reading, law_of_spelling, law_of_stream,
+};
 
 #[cfg(test)]
 mod tests;

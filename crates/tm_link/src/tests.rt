@@ -47,6 +47,10 @@ fn an_idle_frame(rt: HostRuntime) -> Result<(), Fail> {
     assert!(rt; out.starts_with(&IDLE));
     let report = frame(Pointer::OnlyIdle).report()?;
     assert_eq!(rt; (report.vcid, report.value), (2, 0));
+    let mut out = [0xee; 2048];
+    let mut builder = TmBuilder::new(rt.alloc(), 1, 0, 16)?;
+    assert_eq!(rt; builder.build([0x01, 0x08, 0x00, 0x00], &mut out), 16);
+    assert!(rt; out.starts_with(&IDLE));
     Ok(())
 }
 
@@ -91,7 +95,7 @@ fn refusals(rt: HostRuntime) {
 
 // The data field and the pointer of each frame that a builder of frames of 20 octets makes of packets.
 fn builds(
-    rt: &impl Abort,
+    rt: &(impl Abort + Eprint),
     alloc: Global,
     packets: &[&[u8]],
     frames: &[([u8; 8], Pointer)],
@@ -118,8 +122,9 @@ fn builds(
 }
 
 // Queues. Where memory is refused nothing has changed, and the call made again answers as ever.
-fn queue(rt: &impl Abort, builder: &mut TmBuilder, packet: &[u8]) {
+fn queue(rt: &(impl Abort + Eprint), builder: &mut TmBuilder, packet: &[u8]) {
     if let Err(fault) = builder.queue(packet) {
+        let _ = eprintln!(rt; "refused a growth");
         assert_eq!(rt; fault, TmFault::Memory);
         assert_eq!(rt; builder.queue(packet), Ok(()));
     }
@@ -218,7 +223,7 @@ fn what_is_not_queued(rt: HostRuntime) -> Result<(), Fail> {
 
 // Takes a frame. Where memory is refused nothing has changed, and the call made again answers as ever.
 fn take(
-    rt: &impl Abort,
+    rt: &(impl Abort + Eprint),
     extractor: &mut Extractor,
     octets: &[u8],
     packets: &mut Vec<Vec<u8>>,
@@ -228,6 +233,7 @@ fn take(
     match extractor.frame(&frame, packets) {
         Ok(gap) => Ok(gap),
         Err(fault) => {
+            let _ = eprintln!(rt; "refused a growth");
             assert_eq!(rt; fault, TmFault::Memory);
             assert_eq!(rt; packets.len(), count);
             Ok(extractor.frame(&frame, packets)?)
@@ -237,7 +243,7 @@ fn take(
 
 // The gap and the number of packets behind each of these frames of a builder.
 fn extracts(
-    rt: &impl Abort,
+    rt: &(impl Abort + Eprint),
     alloc: Global,
     packets: &[&[u8]],
     chosen: &[(u8, Gap, usize)],
@@ -263,10 +269,11 @@ fn extracts(
 }
 
 // A new extractor. Where memory is refused the call made again answers as ever.
-fn extractor(rt: &impl Abort, alloc: Global) -> Result<Extractor, Fail> {
+fn extractor(rt: &(impl Abort + Eprint), alloc: Global) -> Result<Extractor, Fail> {
     match Extractor::new(alloc) {
         Ok(extractor) => Ok(extractor),
         Err(fault) => {
+            let _ = eprintln!(rt; "refused a growth");
             assert_eq!(rt; fault, TmFault::Memory);
             Ok(Extractor::new(alloc)?)
         }
@@ -289,6 +296,21 @@ fn a_lost_frame(rt: HostRuntime) -> Result<(), Fail> {
     let mut found = Vec::new(rt.alloc());
     extracts(&rt, rt.alloc(), &packets, &chosen, &mut found)?;
     for (packet, is) in found.iter().zip([packets[0], packets[3]]) {
+        assert!(rt; packet.as_slice() == is);
+    }
+    Ok(())
+}
+
+#[test]
+fn a_frame_that_finishes_two_packets(rt: HostRuntime) -> Result<(), Fail> {
+    let packets: [&[u8]; 2] = [
+        &[0x00, 0x05, 0xc0, 0x00, 0x00, 0x02, 0xaa, 0xab, 0xac],
+        &[0x00, 0x05, 0xc0, 0x01, 0x00, 0x00, 0xbb],
+    ];
+    let chosen = [(0, Gap::First, 0), (1, Gap::Lost(0), 2)];
+    let mut found = Vec::new(rt.alloc());
+    extracts(&rt, rt.alloc(), &packets, &chosen, &mut found)?;
+    for (packet, is) in found.iter().zip(packets) {
         assert!(rt; packet.as_slice() == is);
     }
     Ok(())
