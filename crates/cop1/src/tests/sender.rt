@@ -78,6 +78,14 @@ fn a_window_is_at_most_half_the_width(rt: HostRuntime) {
     }
 }
 
+// As many ticks as a timer of 10, started three times, does not outlast.
+fn has_no_timer(rt: &impl Abort, fop: &mut Fop<u8>) {
+    for _ in 0..40 {
+        assert_eq!(rt; fop.tick(), None);
+    }
+    assert_eq!(rt; fop.state(), FopMode::S1);
+}
+
 #[test]
 fn a_sender_counts_past_255(rt: HostRuntime) -> Result<(), Fail> {
     let mut fop = Fop::new(rt.alloc(), 254, 127, 3, 10)?;
@@ -104,6 +112,7 @@ fn a_sender_counts_past_255(rt: HostRuntime) -> Result<(), Fail> {
         (fop.state(), fop.sent(), fop.nn(), fop.vs()),
         (FopMode::S1, 0, 0, 0)
     );
+    has_no_timer(&rt, &mut fop);
     Ok(())
 }
 
@@ -227,12 +236,14 @@ fn a_sender_does_without_memory(rt: HostRuntime) -> Result<(), Fail> {
     let mut fop = match Fop::new(rt.alloc(), 254, 127, 3, 10) {
         Ok(fop) => fop,
         Err(fault) => {
+            let _ = eprintln!(rt; "refused a growth");
             assert_eq!(rt; fault, CopFault::Memory);
             Fop::new(rt.alloc(), 254, 127, 3, 10)?
         }
     };
     for unit in 0..20u8 {
         if let Err(refused) = fop.bypass(unit) {
+            let _ = eprintln!(rt; "refused a growth");
             assert_eq!(rt; refused, (CopFault::Memory, unit));
             assert_eq!(rt; fop.bypassed(), usize::from(unit));
             assert_eq!(rt; fop.bypass(unit), Ok(()));
