@@ -1,67 +1,39 @@
 -- Before the confirmation: what the ground takes and sends keeps what holds.
-use Rattle.std.proofs.Common.{◌≡◌, ℕ, ◌+◌, ◌-◌, ◌<◌, ◌⊎◌, inl, inr, Bool, true, false, not, List, [], ◌∷◌, ◌++◌, length, drop, Option, Some, None, option_to_list, Result, Ok, Err, refl, ap, sym, subst, ◌∙◌, append_assoc, arith}
-use Rattle.std.specs.Prelude.{◌==◌, ◌&&◌, ◌||◌, nat_lt}
+use Rattle.std.proofs.Common.{◌≡◌, ℕ, ◌-◌, ◌<◌, Bool, true, false, List, [], ◌∷◌, ◌++◌, Option, Some, None, option_to_list, refl, ap, sym, subst, ◌∙◌, append_assoc, arith}
+use Rattle.std.specs.Prelude.{◌==◌, ◌||◌, nat_lt}
 use Rattle.std.specs.List.{AllByRecursion}
-use Rattle.std.proofs.lemmas.Bool.{cond_both, eqb-true, not-true, not-false, and_parts}
+use Rattle.std.proofs.lemmas.Bool.{cond_both}
 use Rattle.std.proofs.lemmas.List.{append-nil}
-use Rattle.clcw.specs.declared.word.Clcw.{Clcw}
-use Rattle.tc_frame.specs.declared.fault.TcFault.{TcFault}
 use Rattle.tc_frame.specs.declared.frame.Check.TheVariants.{On}
-use Rattle.tc_frame.specs.declared.frame.Command.{Command}
-use Rattle.tc_frame.specs.declared.frame.Command.TheVariants.{Unlock, SetVr}
-use Rattle.tc_frame.specs.Layout.{SegmentView, BodyView, Ad, Bd, Bc, FrameView}
-use Rattle.tc_frame.specs.Reading.{frame_at}
+use Rattle.tc_frame.specs.Layout.{SegmentView, BodyView, Bd, Bc}
 use Rattle.tc_frame.specs.Writing.{spelling}
 use Rattle.map_service.specs.Cutting.{segments_of}
-use Rattle.cop1.specs.Modulo.{ahead_by}
 use Rattle.cop1.specs.declared.fault.CopFault.TheVariants as faults
-use Rattle.cop1.specs.declared.farm.FarmMode.{FarmMode}
-use Rattle.cop1.specs.declared.farm.FarmMode.TheVariants.{Open, Wait, Lockout}
-use Rattle.cop1.specs.declared.fop.Alert.{Alert}
-use Rattle.cop1.specs.declared.fop.Alert.TheVariants as alert
 use Rattle.cop1.specs.declared.fop.Control.{Control}
 use Rattle.cop1.specs.declared.fop.Control.TheVariants.{Idle, Due, Sent}
 use Rattle.cop1.specs.declared.fop.Directive.{Directive}
 use Rattle.cop1.specs.declared.fop.Directive.TheVariants.{InitWithoutCheck, InitWithCheck, InitUnlock, InitSetVr, Terminate, SetVs, SetWindow, SetLimit, SetTimer}
 use Rattle.cop1.specs.declared.fop.FopMode.{FopMode}
 use Rattle.cop1.specs.declared.fop.FopMode.TheVariants.{S1, S2, S3, S4, S5, S6}
-use Rattle.cop1.specs.Farm.{FarmState, after_unlock, after_set_vr, after_release, counted, farm_step, BufferReleased}
 use Rattle.cop1.specs.FopDirective.{obeys, refuses, from_S6, terminated}
 use Rattle.cop1.specs.FopPull.{PulledUnit, NothingPulled, pulls, pulled, pulled_control, pulled_bypass, pulled_in}
-use Rattle.cop1.specs.FopReport.{locks, waits, asks, report_in, confirms as confirms_by}
 use Rattle.cop1.specs.FopState.{FopState}
 use Rattle.cop1.specs.FopTick.{ticked_with, timer_ended, counted as counted_on, due_again}
-use Rattle.cop1.specs.FopWords.{Outcome, given_up, stopped, restarted, alerts, goes_on}
-use Rattle.cop1.specs.Report.{report_of}
-use Rattle.tm_link.specs.Building.{is_to_send, queued}
-use Rattle.tm_link.specs.declared.fault.TmFault.{TmFault}
-use Rattle.tm_link.specs.Extraction.{Extracted, extract_step}
-use Rattle.tm_link.specs.Layout as telemetry
-use Rattle.tm_link.specs.Reading as telemetry_reading
-use Rattle.tm_link.specs.Writing as telemetry_writing
+use Rattle.cop1.specs.FopWords.{Outcome, given_up, stopped, restarted, goes_on}
 use Rattle.tc_link.specs.declared.config.Config.{Config}
 use Rattle.tc_link.specs.declared.event.Event.TheVariants as events
 use Rattle.tc_link.specs.declared.fault.LinkFault.{LinkFault}
-use Rattle.tc_link.specs.declared.heard.Heard.{Heard}
-use Rattle.tc_link.specs.Craft.{CraftState, craft_step, Report, reported, body_arrived, bypass_arrived, taken, bypass_taken, telemetry_queued}
-use Rattle.tc_link.specs.Keeping.{is_kept}
 use Rattle.tc_link.specs.OwnedFields.{FitsFrame}
 use Rattle.tc_link.specs.Packets.{PacketOn, packet_on}
-use Rattle.tc_link.specs.Parameters.{limits_of}
-use Rattle.tc_link.specs.Ground.{GroundState, GroundOutcome, is_closed, unsent, with_fop, frame_of, frame_pulled, directed_by, segments_on, submit_fault, submitted, bypass_fault, bypassed, unless, after_extraction}
-use Rattle.tc_link.specs.World.{World, confirms, is_initialising, is_initiation, world_step, after_directive, after_pull, after_submission, after_bypass, after_taking, after_queueing, after_report, up_delivered, up_lost, up_detected, up_damaged, down_delivered, down_lost, down_detected, down_damaged, session_heard}
+use Rattle.tc_link.specs.Ground.{is_closed, unsent, with_fop, frame_of, frame_pulled, directed_by, segments_on, submit_fault, submitted, bypass_fault, bypassed, unless}
+use Rattle.tc_link.specs.World.{World, is_initiation, world_step, after_directive, after_pull, after_submission, after_bypass}
 use Rattle.tc_link.proofs.Submitting.{segments_fit}
 use Rattle.tc_link.specs.Reached.{IsDirective}
-use Rattle.tc_link.proofs.Arriving.{own_arrives}
-use Rattle.tc_link.proofs.Early.{WouldConfirm, Good, Confirming, AllGood, Lasts, lasts_on, lasts_push, IsEarly, ControlFits, HoldsEarly, HeldEarly, AllSame, same_push, Begun, held_early_again, early_settled, last_good, Confirmed, confirmed}
-use Rattle.tc_link.proofs.Hearing.{used_is}
-use Rattle.tc_link.proofs.Linked.{Steady, IsGiven, units_of_all, Carries, Reporting, carries_push, reporting_push}
-use Rattle.tc_link.proofs.Settled.{settled_keeps, queued_as}
+use Rattle.tc_link.proofs.Early.{IsEarly, ControlFits, HoldsEarly, HeldEarly, Begun, early_settled}
+use Rattle.tc_link.proofs.Linked.{Steady, IsGiven, units_of_all, Carries, carries_push}
 use Rattle.tc_link.proofs.Spelled.{Goes, reads_back}
 use Rattle.tc_link.proofs.LateSubmitting.{taken_is, all_push, all_append, units-push}
-use Rattle.tc_link.proofs.Telling.{tells_now}
-use Rattle.tc_link.proofs.Transit.{CommandFits, UpIs, up_push_bypass, up_push_control}
-use Rattle.tc_link.proofs.Words.{locks_is, waits_is, asks_is}
+use Rattle.tc_link.proofs.Transit.{UpIs, up_push_bypass, up_push_control}
 
 module _ (c : Config) (d : Directive) (base : ℕ) (w : World) (k : Steady c w) (g : Begun c d base w) where
   -- ---- the ground

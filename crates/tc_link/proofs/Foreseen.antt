@@ -36,7 +36,7 @@ in_own s (Ad n segment) = in_sequence s n segment (verdict_of s.farm n (is_free 
 in_own s (Bd segment) = in_bypass s segment (is_kept (limits_of s.config) segment)
 in_own s (Bc command) = same s.accepted
 
-abbrev foreign : CraftState → CraftOutcome Received
+abbrev pub foreign : CraftState → CraftOutcome Received
 foreign s = record { answer = Foreign; after = s }
 
 in_any : (s : CraftState) (frame : FrameView) (own : Bool)

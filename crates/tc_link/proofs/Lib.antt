@@ -3,6 +3,7 @@ pub mod Arriving
 pub mod Beginning
 pub mod Board
 pub mod Commanding
+pub mod Counted
 pub mod Counting
 pub mod Delivered
 pub mod Delivering
@@ -13,6 +14,7 @@ pub mod EarlyGround
 pub mod EarlyHearing
 pub mod Foreseen
 pub mod Fronts
+pub mod Gained
 pub mod Hearing
 pub mod InRange
 pub mod Invariant
@@ -21,6 +23,7 @@ pub mod LateSubmitting
 pub mod Linked
 pub mod Lists
 pub mod Locks
+pub mod MapLists
 pub mod Promised
 pub mod Queue
 pub mod Refusing

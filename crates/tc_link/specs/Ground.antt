@@ -200,10 +200,10 @@ telemetry_arrived s (Ok frame) =
 abbrev pub heard : GroundState → List ℕ → GroundOutcome Heard
 heard s octets = telemetry_arrived s (frame_at s.config.frame_length octets)
 
--- no packet is finished with the octets that arrive
+-- no packet is finished with the octets that arrive: they are no frame, or a frame of another channel, or one that finishes none
 abbrev pub FinishesNothing : GroundState → Result telemetry.FrameView TmFault → Type 0
 FinishesNothing s (Err fault) = Unit {0}
-FinishesNothing s (Ok frame) = (extract_step s.extractor frame).packets ≡ []
+FinishesNothing s (Ok frame) = is_own s.config frame ≡ true → (extract_step s.extractor frame).packets ≡ []
 
 -- ---- packets of telemetry are taken
 

@@ -13,6 +13,7 @@ pub mod InOrder
 pub mod InTransit
 pub mod Keeping
 pub mod LinkFields
+pub mod MapLists
 pub mod OwnedFields
 pub mod Packets
 pub mod Parameters

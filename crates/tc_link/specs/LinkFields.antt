@@ -1,10 +1,15 @@
 -- How the fields of a simulated link stand for its world.
-use Rattle.std.specs.Prelude.{◌≡◌, ◌≤◌, map, length}
+use Rattle.std.specs.Prelude.{◌≡◌, ◌≤◌, ◌<◌, ◌==◌, ℕ, ◌+◌, List, [], map, length, if◌then◌else◌, Option, Some, None}
+use Rattle.std.specs.declared.vec.Vec.{Vec}
+use Rattle.std.specs.Vec.{vec_len, vec_capacity}
 use Rattle.tc_frame.specs.Layout.{segment_octets}
 use Rattle.tm_link.specs.Extraction.{octets_of}
 use Rattle.tc_link.specs.declared.link.Link.TheInside.{Inside}
+use Rattle.tc_link.specs.declared.spacecraft.foreseeing.Foreseen.{Foreseen}
+use Rattle.tc_link.specs.Foreseeing.{Gain}
+use Rattle.tc_link.specs.MapLists.{packets_at, HasRoom}
 use Rattle.tc_link.specs.Packets.{packet_view}
-use Rattle.tc_link.specs.World.{World}
+use Rattle.tc_link.specs.World.{World, submitted, delivered}
 
 abbrev pub world_of : Inside → World
 world_of s = record {
@@ -27,3 +32,18 @@ pub record IsSound (s : Inside) : Type 0 where
   -- the data fields of all frames that were accepted
   pub accepted : octets_of s.accepted.items ≡ map segment_octets s.craft.accepted
   pub before : s.before ≤ length s.accepted.items
+  -- what is acknowledged and what is in the sent queue are different data fields that were sent
+  pub counted : s.acknowledged + length s.station.fop.sent ≤ length s.sent.items
+  -- the packets of the session on each MAP
+  pub submitted_on : (m : ℕ) → packets_at s.submitted m ≡ submitted (world_of s) m
+  pub delivered_on : (m : ℕ) → packets_at s.delivered m ≡ delivered (world_of s) m
+
+-- the packets that are ready on a MAP with what is accepted
+abbrev pub gained_on : ℕ → Option Gain → List (List ℕ)
+gained_on m None = []
+gained_on m (Some gain) = if gain.on_map == m then gain.packets else []
+
+-- there is room for what will be accepted
+abbrev pub HasRoomFor : {Y Z W : Type 0} → Vec (Vec ℕ Y) Z → List (Vec (Vec ℕ Y) W) → Option Foreseen → Type 0
+HasRoomFor accepted delivered None = Unit {0}
+HasRoomFor accepted delivered (Some f) = (f.map < 64) × (vec_len accepted < vec_capacity accepted) × HasRoom delivered f.map (length f.packets.items)

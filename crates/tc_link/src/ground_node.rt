@@ -43,6 +43,7 @@ impl Model for Ground {
 
 impl Ground {
     ghost use Rattle.std.specs.Prelude.{◌≡◌, length, option_map, IfOk, OnErr, IsOkUnless};
+    ghost use Rattle.cop1.specs.FopState.{IsFop};
     ghost use Rattle.tc_link.specs.Parameters.{IsConfig};
     ghost use Rattle.tc_link.specs.Ground.{new_ground, ground_step, Direct, Tick, TakeTelemetry, settled, outstanding};
 
@@ -78,7 +79,8 @@ impl Ground {
 
     /// The sender's state.
     pub fn state(&self) -> FopMode
-        ensures { result ≡ self.now.fop.state }
+        ensures state { result ≡ self.now.fop.state }
+        ensures holds { IsFop self.now.fop }
     {
         self.fop.state()
     }

@@ -19,6 +19,7 @@ mod history;
 mod keeping;
 mod laws;
 mod link;
+mod map_lists;
 mod map_packet;
 mod owned_segment;
 mod received;

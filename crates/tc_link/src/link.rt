@@ -1,5 +1,6 @@
 // What a simulated link is made of.
 
+mod accepting;
 mod calls;
 mod downward;
 mod losing;
@@ -8,6 +9,7 @@ mod upward;
 
 use crate::config::Config;
 use crate::ground_node::Ground;
+use crate::map_lists::{no_packets, packets_of};
 use crate::sim::{Opening, SimFault};
 use crate::spacecraft::Spacecraft;
 use std::alloc::Global;
@@ -25,6 +27,9 @@ pub(crate) struct Link {
     opening: Option<Opening>,
     confirmed: bool,
     submissions: Vec<(u8, Vec<u8>)>,
+    // The packets of the session, for each MAP.
+    submitted: [Vec<Vec<u8>>; 64],
+    delivered: [Vec<Vec<u8>>; 64],
     sent: Vec<Vec<u8>>,
     acknowledged: usize,
     // The data fields that were accepted in the whole run, and how many before the session.
@@ -50,7 +55,7 @@ impl Link {
     ghost use Rattle.tc_link.specs.Packets.{packet_view};
     ghost use Rattle.tc_link.specs.Parameters.{IsConfig};
     ghost use Rattle.tc_link.specs.Ground.{outstanding};
-    ghost use Rattle.tc_link.specs.World.{new_world, accepted};
+    ghost use Rattle.tc_link.specs.World.{new_world, submitted, accepted, delivered};
 
     pub(crate) fn new(alloc: Global, config: &Config) -> Result<Link, SimFault>
         requires { IsConfig config.now }
@@ -72,6 +77,8 @@ impl Link {
             opening: None,
             confirmed: false,
             submissions: Vec::new(alloc),
+            submitted: no_packets(alloc),
+            delivered: no_packets(alloc),
             sent: Vec::new(alloc),
             acknowledged: 0,
             accepted: Vec::new(alloc),
@@ -101,6 +108,18 @@ impl Link {
         ensures { map packet_view result.now ≡ self.now.session.submissions }
     {
         self.submissions.as_slice()
+    }
+
+    pub(crate) fn submitted(&self, map: u8) -> &[Vec<u8>]
+        ensures { octets_of result.now ≡ submitted self.now map }
+    {
+        packets_of(&self.submitted, map)
+    }
+
+    pub(crate) fn delivered(&self, map: u8) -> &[Vec<u8>]
+        ensures { octets_of result.now ≡ delivered self.now map }
+    {
+        packets_of(&self.delivered, map)
     }
 
     pub(crate) fn sent(&self) -> &[Vec<u8>]

@@ -50,7 +50,7 @@ impl Sim {
     ghost use Rattle.tc_link.specs.InOrder.{IsInOrder, HasPlainHistory};
     ghost use Rattle.tc_link.specs.InTransit.{KeepsToWindow};
     ghost use Rattle.tc_link.specs.Promises.{IsPromised};
-    ghost use Rattle.tc_link.specs.World.{world_step, accepted, directive_of, IsClean};
+    ghost use Rattle.tc_link.specs.World.{world_step, submitted, accepted, delivered, directive_of, IsClean};
 
     /// Two new nodes, and nothing between them. The faults are 9 `Config`, with the name of the first
     /// field that is out of its range, and then 6 `Memory`.
@@ -149,6 +149,21 @@ impl Sim {
         ensures { map packet_view result.now ≡ self.now.world.session.submissions }
     {
         self.link.submissions()
+    }
+
+    /// The packets of these submissions on a MAP, in their order; above MAP 63 there are none.
+    pub fn submitted(&self, map: u8) -> &[Vec<u8>]
+        ensures { octets_of result.now ≡ submitted self.now.world map }
+    {
+        self.link.submitted(map)
+    }
+
+    /// The packets that are ready on board on a MAP since the session began, taken or not, in their
+    /// order; above MAP 63 there are none.
+    pub fn delivered(&self, map: u8) -> &[Vec<u8>]
+        ensures { octets_of result.now ≡ delivered self.now.world map }
+    {
+        self.link.delivered(map)
     }
 
     /// The data fields of the session's Type-AD frames, in the order in which they were first sent.

@@ -1,5 +1,6 @@
 // The node on board.
 
+mod foreseeing;
 mod receiving;
 mod telling;
 
@@ -10,6 +11,7 @@ use crate::map_packet::MapPacket;
 use circular_buffer::HeapCircularBuffer;
 use clcw::encode;
 use cop1::Farm;
+pub(crate) use foreseeing::Foreseen;
 use map_service::Assembler;
 use std::alloc::Global;
 use std::collections::VecDeque;

@@ -23,7 +23,8 @@ impl Ground {
         ensures err { OnErr result (self.new ≡ self.old) }
         ensures fault { IfErr result (λ e. e ≡ LinkFault.Memory) }
 
-        // It takes no memory for octets that are no frame, nor for a frame that finishes no packet.
+        // It takes no memory for octets that are no frame, nor for a frame of another spacecraft or
+        // virtual channel, nor for one that finishes no packet.
         ensures none { FinishesNothing self.old (frame_at self.old.config.frame_length octets.now) → IsOk result }
     {
         let frame = match decode(octets, self.config.frame_length as usize) {

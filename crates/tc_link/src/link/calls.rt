@@ -7,13 +7,14 @@ ghost use Rattle.tc_link.specs.World.{is_initiation};
 
 use super::Link;
 use crate::event::Event;
+use crate::map_lists::no_packets;
 use crate::reply::{NodeFault, Reply};
 use crate::sim::{Opening, SimFault};
 use cop1::{Alert, Directive};
 use tm_link::TmFault;
 
 impl Link {
-    ghost use Rattle.std.specs.Prelude.{◌≡◌, Ok, Some, IfOk, OnOk, OnErr, IsOkUnless};
+    ghost use Rattle.std.specs.Prelude.{◌≡◌, [], Ok, Some, IfOk, OnOk, OnErr, IsOkUnless};
     ghost use Rattle.tc_link.specs.World.{world_step, is_quiet, begins_clean, begun_by};
 
     pub(crate) fn directive(&mut self, directive: Directive) -> Reply
@@ -87,11 +88,14 @@ impl Link {
     }
 
     fn begin(&mut self, directive: Directive, clean: bool)
+        requires { self.old.station.fop.sent ≡ [] }
         ensures { self.new ≡ record self.old { session = record (begun_by self.old directive) { opening = Some (record { directive = directive; clean = clean }) } } }
     {
         self.opening = Some(Opening { directive, clean });
         self.confirmed = false;
         self.submissions.clear();
+        self.submitted = no_packets(self.alloc);
+        self.delivered = no_packets(self.alloc);
         self.sent.clear();
         self.acknowledged = 0;
         self.before = self.accepted.len();
@@ -124,6 +128,9 @@ fn reply_to_taking(packet: Option<(u8, Vec<u8>)>) -> Reply
 {
     match packet {
         None => Reply::Nothing,
-        Some((map, octets)) => Reply::Packet(map, octets),
+        Some((map, mut octets)) => {
+            octets.shrink_to_fit();
+            Reply::Packet(map, octets)
+        }
     }
 }

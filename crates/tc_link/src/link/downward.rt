@@ -43,9 +43,6 @@ impl Link {
         let Some(octets) = self.down.front() else {
             return Err(SimFault::NothingInTransit);
         };
-        if self.acknowledged > usize::MAX - 255 {
-            return Err(SimFault::Memory);
-        }
         let (mode, nn) = (self.station.state(), self.station.nn());
         let Ok(heard) = self.station.telemetry(octets) else {
             return Err(SimFault::Memory);

@@ -5,12 +5,15 @@ ghost use Rattle.std.specs.Vec.{vec_len, vec_capacity};
 ghost use Rattle.tm_link.specs.Extraction.{octets_of};
 
 use super::Link;
+use super::accepting::{make_room_for, record_accepted};
 use crate::copying::copy_front;
 use crate::data_field::first_sent;
 use crate::event::Event;
 use crate::fault::LinkFault;
+use crate::map_lists::{append_on, make_room};
 use crate::reply::{NodeFault, Reply};
 use crate::sim::SimFault;
+use map_service::copied_packets;
 use std::alloc::Global;
 
 impl Link {
@@ -30,10 +33,17 @@ impl Link {
         let Ok(copy) = Vec::from_slice(self.alloc, octets) else {
             return Err(SimFault::Memory);
         };
-        if self.submissions.try_reserve(1).is_err() || self.station.submit(map, octets).is_err() {
+        let Ok(packets) = copied_packets(self.alloc, octets) else {
+            return Err(SimFault::Memory);
+        };
+        if self.submissions.try_reserve(1).is_err()
+            || make_room(&mut self.submitted, map, packets.len()).is_err()
+            || self.station.submit(map, octets).is_err()
+        {
             return Err(SimFault::Memory);
         }
         self.submissions.push_reserved((map, copy));
+        append_on(&mut self.submitted, map, packets);
         Ok(Reply::Done)
     }
 
@@ -70,6 +80,7 @@ impl Link {
         push_some(&mut self.sent, first_sent(field, vs, &frame));
         frame.shrink_to_fit();
         self.up.push_back_reserved(frame);
+        copy.shrink_to_fit();
         Ok(Reply::Sent(copy))
     }
 
@@ -83,17 +94,17 @@ impl Link {
         let Some(octets) = self.up.front() else {
             return Err(SimFault::NothingInTransit);
         };
-        let Ok(field) = self.craft.foreseen(octets) else {
+        let Ok(foreseen) = self.craft.foreseen(octets) else {
             return Err(SimFault::Memory);
         };
-        if self.accepted.try_reserve(1).is_err() {
+        if make_room_for(&mut self.accepted, &mut self.delivered, &foreseen).is_err() {
             return Err(SimFault::Memory);
         }
         let Ok(received) = self.craft.receive(octets) else {
             return Err(SimFault::Memory);
         };
         let _ = self.up.pop_front();
-        push_some(&mut self.accepted, field);
+        record_accepted(&mut self.accepted, &mut self.delivered, foreseen);
         Ok(Reply::Up(received))
     }
 }
@@ -102,7 +113,6 @@ impl Link {
 fn push_some(fields: &mut Vec<Vec<u8>>, field: Option<Vec<u8>>)
     requires { vec_len fields.old < vec_capacity fields.old }
     ensures items { octets_of fields.new.items ≡ octets_of fields.old.items ++ option_to_list (option_map (λ v. v.items) field) }
-    ensures more { length fields.old.items ≤ length fields.new.items }
 {
     if let Some(field) = field {
         fields.push_reserved(field);

@@ -1,5 +1,5 @@
-use Rattle.std.proofs.Common.{◌≡◌, ℕ, List, [], ◌∷◌, ◌++◌, true, option_map, option_to_list, Option, ap, sym, subst, ◌∙◌}
-use Rattle.std.proofs.lemmas.List.{map-append}
+use Rattle.std.proofs.Common.{◌≡◌, ◌≤◌, ◌+◌, length, arith, length-append, ℕ, List, [], ◌∷◌, ◌++◌, true, option_map, option_to_list, Option, ap, sym, subst, ◌∙◌}
+use Rattle.std.proofs.lemmas.List.{map-append, length-map}
 use Rattle.std.specs.Option.{is_some}
 use Rattle.tc_frame.specs.declared.frame.Check.TheVariants.{On}
 use Rattle.tc_frame.specs.Layout.{FrameView, IsTcFrame}
@@ -7,8 +7,31 @@ use Rattle.tm_link.specs.Extraction.{octets_of}
 use Rattle.tc_link.specs.Ground.{GroundState, ground_step, Pull}
 use Rattle.tc_link.specs.LinkFields.{world_of}
 use Rattle.tc_link.specs.World.{World, first_sent, after_pull, after_send}
+use Rattle.tc_link.proofs.Counted.{first_in, pull_first, nothing_first, some_first}
 use Rattle.tc_link.proofs.Sending.{with_sent, send_is}
 use Rattle.tc_link.proofs.link.Link.send.Goals as goal
+
+pub invariant_of-self-then-not-put_next : goal.invariant_of-self-then-not-put_next
+invariant_of-self-then-not-put_next c =
+    let s : GroundState = c.self.inside.station in
+    let none : first_in s.fop.vs (ground_step s Pull).answer ≡ [] = nothing_first s.fop.vs (ground_step s Pull).answer (sym c.put_next.ensures.some ∙ c.if-not-put_next.true) in
+    let counted : c.self.inside.acknowledged + length c.put_next.new.self.fop.sent ≤ length c.try_reserve-else-is_err.new.self.items =
+    omega (arith, c.self.invariant.counted, pull_first s, ap length none, ap (λ (t : GroundState). length t.fop.sent) c.put_next.ensures.after, ap length c.try_reserve-else-is_err.ensures.items) in
+    assumption (counted, c.self.invariant)
+
+pub invariant_of-self-2 : goal.invariant_of-self-2
+invariant_of-self-2 c =
+    let s : GroundState = c.self.inside.station in
+    let octets : List ℕ = c.put_next.new.to.items in
+    let first : List (List ℕ) = option_to_list (option_map (λ v. v.items) c.first_sent.result) in
+    let is : first_in s.fop.vs (ground_step s Pull).answer ≡ first =
+    some_first s.fop.vs (ground_step s Pull).answer octets first (sym c.put_next.ensures.some ∙ c.if-not-put_next.false) c.put_next.ensures.spells
+    (λ f spells. ap (λ (vs : ℕ). first_sent vs f.body) (sym c.vs-vs.ensures) ∙ c.first_sent.ensures f (subst (λ (o : List ℕ). IsTcFrame On f o) (sym c.deref-2.ensures.value) spells)) in
+    let more : length c.push_some.new.fields.items ≡ length c.self.inside.sent.items + length first =
+    omega (arith, ap length c.push_some.ensures.items, length-append (octets_of c.try_reserve-else-is_err.new.self.items) first, length-map c.push_some.new.fields.items (λ v. v.items), length-map c.try_reserve-else-is_err.new.self.items (λ v. v.items), ap length c.try_reserve-else-is_err.ensures.items) in
+    let counted : c.self.inside.acknowledged + length c.put_next.new.self.fop.sent ≤ length c.push_some.new.fields.items =
+    omega (arith, c.self.invariant.counted, pull_first s, ap length is, more, ap (λ (t : GroundState). length t.fop.sent) c.put_next.ensures.after) in
+    assumption (counted, c.self.invariant)
 
 pub returns-clause-after : goal.returns-clause-after
 returns-clause-after c =
