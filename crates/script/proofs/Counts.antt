@@ -1,0 +1,22 @@
+-- Counts over all MAPs.
+use Rattle.std.proofs.Common.{◌≡◌, ◌∙◌, ◌++◌, ap, ℕ, List, Result, Ok, Err, OnOk}
+use Rattle.std.specs.Prelude.{decimal}
+use Rattle.std.proofs.lemmas.List.{append_assoc}
+use Rattle.script.specs.Playing.{below_map, over_maps}
+
+-- a count of those below MAP 64 is one of all
+pub all_maps : (packets_on : ℕ → List (List ℕ)) (count map : ℕ) → count ≡ below_map packets_on map → map ≡ 64 → count ≡ over_maps packets_on
+unfolding over_maps
+all_maps packets_on count map counted end = counted ∙ ap (below_map packets_on) end
+
+-- two counts that are told one after the other
+pub two_counts : {E : Type 0} (r : Result (Unit {0}) E) (before middle new first second : List ℕ) (m n k l : ℕ) → middle ≡ before ++ (first ++ decimal m) → m ≡ k → n ≡ l → OnOk r (new ≡ middle ++ (second ++ decimal n))
+    → OnOk r (new ≡ before ++ (first ++ (decimal k ++ (second ++ decimal l))))
+two_counts (Err e) before middle new first second m n k l is same_k same_l told = tt
+two_counts (Ok done) before middle new first second m n k l is same_k same_l told =
+    told
+    ∙ ap (λ (t : List ℕ). t ++ (second ++ decimal n)) is
+    ∙ append_assoc before (first ++ decimal m) (second ++ decimal n)
+    ∙ ap (λ (t : List ℕ). before ++ t) (append_assoc first (decimal m) (second ++ decimal n))
+    ∙ ap (λ (i : ℕ). before ++ (first ++ (decimal i ++ (second ++ decimal n)))) same_k
+    ∙ ap (λ (i : ℕ). before ++ (first ++ (decimal k ++ (second ++ decimal i)))) same_l

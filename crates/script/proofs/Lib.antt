@@ -1,0 +1,6 @@
+pub mod Parts
+pub mod Numerals
+pub mod Digits
+pub mod Plays
+pub mod Refused
+pub mod Counts

@@ -1,0 +1,46 @@
+-- How a script ends, and all that is answered to it.
+use Rattle.std.specs.Prelude.{◌≡◌, ℕ, List, [], Option, Some, None}
+use Rattle.tc_link.specs.Parameters.{config_fault}
+use Rattle.tc_link.specs.World.{World, new_world}
+use Rattle.script.specs.declared.opening.ScriptFault.{ScriptFault}
+use Rattle.script.specs.declared.opening.ScriptFault.TheVariants as faults
+use Rattle.script.specs.Scripts.{script_in, unreadable_line, config_in}
+use Rattle.script.specs.Playing.{answers_from}
+
+pub data Ending : Type 0 where
+  -- it is played to its end
+  Good : Ending
+  -- this line is the first that is unreadable
+  Unreadable : ℕ → Ending
+  -- this field of the configuration is the first that is out of its range
+  OutOfRange : List ℕ → Ending
+
+-- a line that is unreadable comes before a field that is out of its range
+abbrev pub ending_by : Option ℕ → Option (List ℕ) → Ending
+ending_by (Some line) field = Unreadable line
+ending_by None (Some field) = OutOfRange field
+ending_by None None = Good
+
+abbrev pub script_ending : List ℕ → Ending
+script_ending script = ending_by (unreadable_line script) (config_fault (config_in script))
+
+-- a fault is what the ending says; want of memory comes last
+abbrev pub Explains : ScriptFault → Ending → Type 0
+Explains faults.Memory ending = ending ≡ Good
+Explains (faults.Unreadable line) ending = ending ≡ Unreadable line
+Explains (faults.OutOfRange field) ending = ending ≡ OutOfRange field.now
+
+-- a script is played where all its lines are readable and its configuration is in range
+abbrev pub told_if_good : Ending → List ℕ → List ℕ
+told_if_good Good script = answers_from (new_world (config_in script)) (script_in script)
+told_if_good (Unreadable line) script = []
+told_if_good (OutOfRange field) script = []
+
+-- all lines that are written of a script
+abbrev pub script_text : List ℕ → List ℕ
+script_text script = told_if_good (script_ending script) script
+
+-- what is still to be told, where lines are left
+abbrev pub told_behind : World → Option (List ℕ) → List ℕ
+told_behind w None = []
+told_behind w (Some rest) = answers_from w (script_in rest)
