@@ -32,14 +32,16 @@ abbrev pub flag_number : Bool → ℕ
 flag_number true = 1
 flag_number false = 0
 
--- the receiver behind a frame, as its line ends
-abbrev pub state_text : FarmState → List ℕ
-state_text s = state_word s.state
-    ++ (codes " vr=" ++ (decimal s.vr
-    ++ (codes " l=" ++ (decimal (flag_number s.lockout)
+-- the flags behind a frame, and FARM-B, as its line ends
+abbrev pub flags_text : FarmState → List ℕ
+flags_text s = codes " l=" ++ (decimal (flag_number s.lockout)
     ++ (codes " w=" ++ (decimal (flag_number s.wait)
     ++ (codes " t=" ++ (decimal (flag_number s.retransmit)
-    ++ (codes " b=" ++ (decimal s.farm_b ++ line_end))))))))))
+    ++ (codes " b=" ++ (decimal s.farm_b ++ line_end)))))))
+
+-- the receiver behind a frame
+abbrev pub state_text : FarmState → List ℕ
+state_text s = state_word s.state ++ (codes " vr=" ++ (decimal s.vr ++ flags_text s))
 
 -- the receiver behind a frame; the buffer on board is free
 abbrev pub after_body : FarmState → BodyView → FarmState

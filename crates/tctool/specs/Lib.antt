@@ -14,6 +14,7 @@ pub mod Listing
 pub mod Progress
 pub mod Beginning
 pub mod Outcome
+pub mod Failures
 pub mod Gained
 pub mod Dumped
 pub mod Status

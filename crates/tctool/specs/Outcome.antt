@@ -1,9 +1,29 @@
 -- The outcome of a dump.
-use Rattle.std.specs.Prelude.{Bool, true, false}
+use Rattle.std.specs.Prelude.{ℕ, Bool, true, false, List}
+use Rattle.script.specs.Ending as ends
 use Rattle.tctool.specs.declared.outcome.Outcome.{Outcome}
-use Rattle.tctool.specs.declared.outcome.Outcome.TheVariants.{Good, Faulty}
+use Rattle.tctool.specs.declared.outcome.Outcome.TheVariants as outcomes
+
+-- an outcome without where its octets lie in memory
+pub data OutcomeView : Type 0 where
+  Good : OutcomeView
+  Faulty : OutcomeView
+  Unreadable : ℕ → OutcomeView
+  OutOfRange : List ℕ → OutcomeView
+
+abbrev pub outcome_view : Outcome → OutcomeView
+outcome_view outcomes.Good = Good
+outcome_view outcomes.Faulty = Faulty
+outcome_view (outcomes.Unreadable line) = Unreadable line
+outcome_view (outcomes.OutOfRange field) = OutOfRange field.now
 
 -- Good exactly where all is good
 abbrev pub outcome_of : Bool → Outcome
-outcome_of true = Good
-outcome_of false = Faulty
+outcome_of true = outcomes.Good
+outcome_of false = outcomes.Faulty
+
+-- how a script ends
+abbrev pub as_outcome : ends.Ending → OutcomeView
+as_outcome ends.Good = Good
+as_outcome (ends.Unreadable line) = Unreadable line
+as_outcome (ends.OutOfRange field) = OutOfRange field

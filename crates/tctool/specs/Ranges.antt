@@ -12,6 +12,7 @@ IsInRange (tasks.Tc check) = Unit {0}
 IsInRange (tasks.Tm length) = (16 ≤ length) × (length ≤ 2048)
 IsInRange tasks.Check = Unit {0}
 IsInRange tasks.Packets = Unit {0}
+IsInRange tasks.Sim = Unit {0}
 
 -- a width that is refused is odd
 abbrev pub IsOddIfWidth : UsageFault → Type 0

@@ -3,7 +3,9 @@
 ghost use Rattle.std.specs.Prelude.{◌≡◌, ◌⊎◌, ◌+◌, ◌<◌, ◌++◌, length, true, Err, OnOk, OnErr, IfOk};
 ghost use Rattle.tctool.specs.Beginning.{IsBeginning};
 ghost use Rattle.tctool.specs.Dumped.{lines_of, outcome_for, StopsAt};
+ghost use Rattle.tctool.specs.Failures.{reads_failed_in, writes_failed_in};
 ghost use Rattle.tctool.specs.Gained.{gained};
+ghost use Rattle.tctool.specs.Outcome.{outcome_view};
 ghost use Rattle.tctool.specs.Ranges.{IsInRange};
 ghost use Rattle.tctool.specs.declared.task.Task.TheVariants as tasks;
 
@@ -13,6 +15,7 @@ use crate::frames::FrameListing;
 use crate::outcome::Outcome;
 use crate::packets::PacketListing;
 use crate::refusals::RefusalListing;
+use crate::simulation::simulate;
 use crate::sink::Sink;
 use crate::source::Source;
 use crate::stream::list_stream;
@@ -26,12 +29,14 @@ use std::marker::Brand;
 use tc_frame::{Check, Checked, Unchecked};
 
 /// Reads the input to its end, in pieces, and writes the lines that the words ask for: of each piece
-/// before the next is read.
+/// before the next is read, but of a script once all of it is read.
 ///
 /// An `Ok` says that all lines are written and nothing else, and whether every record was good. Where
-/// a record declares a length that none can have, its line is the last and nothing more is read. The
+/// a record declares a length that none can have, its line is the last and nothing more is read. Of a
+/// script that is not played nothing is written. The
 /// fault is `Read` or `Write` where that device failed, `Memory` where none was left, and `TooLong`
-/// past `MOST_OCTETS` octets; what is written by then is a beginning of the lines.
+/// past `MOST_OCTETS` octets; what is written by then is a beginning of the lines. A call that failed
+/// is the last of its device.
 pub fn dump<R: Source, W: Sink>(
     alloc: Global,
     reader: &mut R,
@@ -41,11 +46,11 @@ pub fn dump<R: Source, W: Sink>(
     requires { IsInRange options.now.task }
     ensures given { IsBeginning (R.given reader.old) (R.given reader.new) }
     ensures text { OnOk result (W.taken_octets writer.new ≡ W.taken_octets writer.old ++ lines_of options.now.task (gained (R.given reader.old) (R.given reader.new))) }
-    ensures outcome { IfOk result (λ outcome. outcome ≡ outcome_for options.now.task (gained (R.given reader.old) (R.given reader.new))) }
+    ensures outcome { IfOk result (λ outcome. outcome_view outcome ≡ outcome_for options.now.task (gained (R.given reader.old) (R.given reader.new))) }
     ensures end { OnOk result ((R.has_ended reader.new ≡ true) ⊎ StopsAt options.now.task (gained (R.given reader.old) (R.given reader.new))) }
     ensures beginning { OnErr result (IsBeginning (W.taken_octets writer.new) (W.taken_octets writer.old ++ lines_of options.now.task (gained (R.given reader.old) (R.given reader.new)))) }
-    ensures read { result ≡ Err DumpFault.Read → R.failures reader.old < R.failures reader.new }
-    ensures write { result ≡ Err DumpFault.Write → W.failures writer.old < W.failures writer.new }
+    ensures read { R.failures reader.new ≡ R.failures reader.old + reads_failed_in result }
+    ensures write { W.failures writer.new ≡ W.failures writer.old + writes_failed_in result }
     ensures too_long { result ≡ Err DumpFault.TooLong → 9223372036854775807 < length (gained (R.given reader.old) (R.given reader.new)) }
 {
     let checked = Splitter::<Checked>::new(alloc);
@@ -72,6 +77,7 @@ pub fn dump<R: Source, W: Sink>(
             let packets = PacketListing::new(alloc);
             list_stream(alloc, reader, writer, splitter, packets)
         }
+        Task::Sim => simulate(alloc, reader, writer),
     }
 }
 
@@ -85,11 +91,11 @@ fn list_frames<K: FrameLength, R: Source, W: Sink>(
     requires { size ≡ K.payload + 12 }
     ensures given { IsBeginning (R.given reader.old) (R.given reader.new) }
     ensures text { OnOk result (W.taken_octets writer.new ≡ W.taken_octets writer.old ++ lines_of (tasks.Tm size) (gained (R.given reader.old) (R.given reader.new))) }
-    ensures outcome { IfOk result (λ outcome. outcome ≡ outcome_for (tasks.Tm size) (gained (R.given reader.old) (R.given reader.new))) }
+    ensures outcome { IfOk result (λ outcome. outcome_view outcome ≡ outcome_for (tasks.Tm size) (gained (R.given reader.old) (R.given reader.new))) }
     ensures end { OnOk result ((R.has_ended reader.new ≡ true) ⊎ StopsAt (tasks.Tm size) (gained (R.given reader.old) (R.given reader.new))) }
     ensures beginning { OnErr result (IsBeginning (W.taken_octets writer.new) (W.taken_octets writer.old ++ lines_of (tasks.Tm size) (gained (R.given reader.old) (R.given reader.new)))) }
-    ensures read { result ≡ Err DumpFault.Read → R.failures reader.old < R.failures reader.new }
-    ensures write { result ≡ Err DumpFault.Write → W.failures writer.old < W.failures writer.new }
+    ensures read { R.failures reader.new ≡ R.failures reader.old + reads_failed_in result }
+    ensures write { W.failures writer.new ≡ W.failures writer.old + writes_failed_in result }
     ensures too_long { result ≡ Err DumpFault.TooLong → 9223372036854775807 < length (gained (R.given reader.old) (R.given reader.new)) }
 {
     let Ok(frames) = TelemetryListing::<K>::new(alloc, size) else {

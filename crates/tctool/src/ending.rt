@@ -5,11 +5,12 @@ ghost use Rattle.tctool.specs.Status.{status_of};
 
 use crate::fault::DumpFault;
 use crate::outcome::Outcome;
-use crate::output::write_all;
+use crate::output::{WriteFailed, write_all};
 use crate::sink::Sink;
+use itoa::Buffer;
 
 /// Writes the line for standard error, where there is one, and answers the status: 0 where all was
-/// good, 1 for a fault in the data, 3 where a device or memory failed or the input was too long. A
+/// good, 1 for a fault in the data or the script, 3 where a device or memory failed or the input was too long. A
 /// fault of the sink is passed over.
 pub fn ending<W: Sink>(dumped: &Result<Outcome, DumpFault>, errors: &mut W) -> u8
     ensures { result ≡ status_of dumped.now }
@@ -17,6 +18,20 @@ pub fn ending<W: Sink>(dumped: &Result<Outcome, DumpFault>, errors: &mut W) -> u
     match dumped {
         Ok(Outcome::Good) => 0,
         Ok(Outcome::Faulty) => 1,
+        Ok(Outcome::Unreadable(line)) => {
+            let mut digits = Buffer::new();
+            let _ = write_parts(
+                errors,
+                "tctool: line ",
+                digits.format(*line),
+                ": unreadable\n",
+            );
+            1
+        }
+        Ok(Outcome::OutOfRange(field)) => {
+            let _ = write_parts(errors, "tctool: config out of range: ", field, "\n");
+            1
+        }
         Err(fault) => {
             let _ = write_all(errors, line_of(*fault).as_bytes());
             3
@@ -31,4 +46,16 @@ fn line_of(fault: DumpFault) -> &'static str {
         DumpFault::Memory => "tctool: no memory\n",
         DumpFault::TooLong => "tctool: input too long\n",
     }
+}
+
+// Writes a line of three parts.
+fn write_parts<W: Sink>(
+    errors: &mut W,
+    start: &str,
+    word: &str,
+    end: &str,
+) -> Result<(), WriteFailed> {
+    write_all(errors, start.as_bytes())?;
+    write_all(errors, word.as_bytes())?;
+    write_all(errors, end.as_bytes())
 }

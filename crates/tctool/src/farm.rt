@@ -4,14 +4,13 @@ ghost use Rattle.std.specs.Prelude.{◌≡◌, ◌++◌, OnOk, IfOk, is_ok, stri
 ghost use Rattle.tc_frame.specs.Layout.{body_view, frame_view};
 ghost use Rattle.tc_frame.specs.Reading.{frame_at};
 ghost use Rattle.tc_frame.specs.declared.frame.Check.TheVariants as checks;
-ghost use Rattle.tctool.specs.FarmLines.{verdict_word, state_word, flag_number, state_text, body_text, after_body, farm_line, after_record, farm_lines};
+ghost use Rattle.tctool.specs.FarmLines.{verdict_word, state_word, flag_number, flags_text, state_text, body_text, after_body, farm_line, after_record, farm_lines};
 
 use crate::listing::Listing;
-use crate::text::push_invalid;
+use crate::text::{push_field, push_index, push_invalid};
 use cop1::{Farm, FarmMode, Verdict};
 use octets::Splitter;
 use std::alloc::AllocError;
-use std::fmt::Write;
 use tc_frame::{Body, Check, Checked, Command, TcFault, Unchecked, decode};
 
 fn word_of_verdict(verdict: Verdict) -> &'static str
@@ -37,25 +36,28 @@ fn word_of_state(state: FarmMode) -> &'static str
     }
 }
 
-fn number_of_flag(flag: bool) -> u8
+fn number_of_flag(flag: bool) -> u64
     ensures { result ≡ flag_number flag }
 {
-    u8::from(flag)
+    u64::from(flag)
 }
 
 fn push_state(text: &mut String, farm: &Farm) -> Result<(), AllocError>
     ensures { OnOk result (string_bytes text.new ≡ string_bytes text.old ++ state_text farm.now) }
 {
-    let state = word_of_state(farm.state());
-    let vr = farm.vr();
-    let lockout = number_of_flag(farm.lockout());
-    let wait = number_of_flag(farm.wait());
-    let retransmit = number_of_flag(farm.retransmit());
-    let farm_b = farm.farm_b();
-    writeln!(
-        text,
-        "{state} vr={vr} l={lockout} w={wait} t={retransmit} b={farm_b}"
-    )
+    text.push_str(word_of_state(farm.state()))?;
+    push_field(text, " vr=", u64::from(farm.vr()))?;
+    push_flags(text, farm)
+}
+
+fn push_flags(text: &mut String, farm: &Farm) -> Result<(), AllocError>
+    ensures { OnOk result (string_bytes text.new ≡ string_bytes text.old ++ flags_text farm.now) }
+{
+    push_field(text, " l=", number_of_flag(farm.lockout()))?;
+    push_field(text, " w=", number_of_flag(farm.wait()))?;
+    push_field(text, " t=", number_of_flag(farm.retransmit()))?;
+    push_field(text, " b=", u64::from(farm.farm_b()))?;
+    text.push('\n')
 }
 
 /// Gives a frame to the receiver, whose buffer is free, and appends what it made of it.
@@ -66,7 +68,10 @@ fn push_body(text: &mut String, farm: &mut Farm, body: &Body) -> Result<(), Allo
     match body {
         Body::Ad { n, .. } => {
             let verdict = word_of_verdict(farm.ad(*n, true));
-            write!(text, "AD {n} {verdict} ")
+            push_field(text, "AD ", u64::from(*n))?;
+            text.push(' ')?;
+            text.push_str(verdict)?;
+            text.push(' ')
         }
         Body::Bd { .. } => {
             farm.bd();
@@ -78,7 +83,8 @@ fn push_body(text: &mut String, farm: &mut Farm, body: &Body) -> Result<(), Allo
         }
         Body::Bc(Command::SetVr(vr)) => {
             farm.set_vr(*vr);
-            write!(text, "BC set {vr} ")
+            push_field(text, "BC set ", u64::from(*vr))?;
+            text.push(' ')
         }
     }
 }
@@ -97,7 +103,7 @@ fn push_frame(
 {
     match decode(octets, check) {
         Ok(frame) => {
-            write!(text, "{index} ")?;
+            push_index(text, index)?;
             push_body(text, farm, &frame.body)?;
             push_state(text, farm)?;
             Ok(true)

@@ -7,10 +7,9 @@ ghost use Rattle.tc_frame.specs.declared.frame.Check.TheVariants as checks;
 ghost use Rattle.tctool.specs.FrameLines.{type_word, channel_text, segment_text, body_line, frame_line, frame_lines};
 
 use crate::listing::Listing;
-use crate::text::{push_invalid, push_octets};
+use crate::text::{push_field, push_index, push_invalid, push_octets};
 use octets::Splitter;
 use std::alloc::{AllocError, Global};
-use std::fmt::Write;
 use std::marker::Model;
 use tc_frame::{
     Body, Check, Checked, Command, Segment, SegmentFlags, TcFault, TcFrame, Unchecked, decode,
@@ -46,7 +45,7 @@ impl FrameListing {
     {
         match decode(octets, check) {
             Ok(frame) => {
-                write!(text, "{index} ")?;
+                push_index(text, index)?;
                 push_channel(text, &frame)?;
                 push_body(text, self.alloc, &frame.body)?;
                 Ok(true)
@@ -84,17 +83,17 @@ fn push_channel(text: &mut String, frame: &TcFrame) -> Result<(), AllocError>
     ensures { OnOk result (string_bytes text.new ≡ string_bytes text.old ++ channel_text (frame_view frame.now)) }
 {
     text.push_str(word_of_type(&frame.body))?;
-    let scid = frame.scid;
-    let vcid = frame.vcid;
-    write!(text, " scid={scid} vcid={vcid}")
+    push_field(text, " scid=", u64::from(frame.scid))?;
+    push_field(text, " vcid=", u64::from(frame.vcid))
 }
 
 fn push_segment(text: &mut String, alloc: Global, segment: &Segment) -> Result<(), AllocError>
     ensures { OnOk result (string_bytes text.new ≡ string_bytes text.old ++ segment_text (segment_view segment.now)) }
 {
     let flags = code_of_flags(segment.header.flags);
-    let map = segment.header.map;
-    write!(text, " seg={flags} map={map} data=")?;
+    push_field(text, " seg=", u64::from(flags))?;
+    push_field(text, " map=", u64::from(segment.header.map))?;
+    text.push_str(" data=")?;
     push_octets(text, alloc, segment.payload)
 }
 
@@ -103,12 +102,15 @@ fn push_body(text: &mut String, alloc: Global, body: &Body) -> Result<(), AllocE
 {
     match body {
         Body::Ad { n, segment } => {
-            write!(text, " n={n}")?;
+            push_field(text, " n=", u64::from(*n))?;
             push_segment(text, alloc, segment)
         }
         Body::Bd { segment } => push_segment(text, alloc, segment),
         Body::Bc(Command::Unlock) => text.push_str(" unlock\n"),
-        Body::Bc(Command::SetVr(vr)) => writeln!(text, " set {vr}"),
+        Body::Bc(Command::SetVr(vr)) => {
+            push_field(text, " set ", u64::from(*vr))?;
+            text.push('\n')
+        }
     }
 }
 

@@ -1,5 +1,5 @@
-//! The command `tctool`: what files of telecommand frames, telemetry frames and space packets hold, and what a
-//! receiver makes of telecommand frames.
+//! The command `tctool`: what files of telecommand frames, telemetry frames and space packets hold, what a
+//! receiver makes of telecommand frames, and what scripts of a simulated link answer.
 #![tactic(auto)]
 
 ghost use Rattle.tctool.specs.Ranges.{IsInRange};
@@ -11,11 +11,13 @@ mod farm;
 mod fault;
 mod frame_cutter;
 mod frames;
+mod given;
 mod listing;
 mod outcome;
 mod output;
 mod packets;
 mod refusals;
+mod simulation;
 mod sink;
 mod source;
 mod stream;
@@ -25,43 +27,85 @@ mod text;
 mod told;
 mod words;
 
+use clap::Error;
+use clap::error::ErrorKind;
+use ending::ending;
+use fault::DumpFault;
+use given::GivenWords;
 use sink::Writer;
 use source::Reader;
 use std::fs::File;
 use std::io;
+use std::io::Read;
 use std::process::ExitCode;
 use task::{Options, UsageFault};
 
-fn main(rt: HostRuntime) -> io::Result<ExitCode> {
-    let alloc = rt.alloc();
-    let words: Vec<String> = std::env::args(&rt)?.collect(alloc)?;
-    let texts: Vec<&str> = words.iter().map(|word| word.as_str()).collect(alloc)?;
-    let status = match words::options(alloc, texts.as_slice()) {
-        Ok(options) => run(&rt, &options),
-        Err(UsageFault::Words(error)) => {
-            error.print(&rt)?;
-            error.exit_code() as u8
-        }
+fn main(rt: HostRuntime) -> ExitCode {
+    ExitCode::from(match GivenWords::read(&rt, rt.alloc()) {
+        Ok(given) => status_for(&rt, &given),
+        Err(_) => fails(&rt, DumpFault::Memory),
+    })
+}
+
+// Tells a fault on standard error, and answers the status.
+fn fails(rt: &HostRuntime, fault: DumpFault) -> u8 {
+    ending(&Err(fault), &mut Writer::new(rt.stderr()))
+}
+
+fn status_for(rt: &HostRuntime, given: &GivenWords) -> u8 {
+    let Ok(texts) = given.texts(rt.alloc()) else {
+        return fails(rt, DumpFault::Memory);
+    };
+    match words::options(rt.alloc(), texts.as_slice()) {
+        Ok(options) if given.is_unicode() => run(rt, &options),
+        Ok(options) => cannot_open(rt, options.file),
+        Err(UsageFault::Words(error)) => answer(rt, &error),
         Err(UsageFault::OddWidth { .. }) => {
-            eprintln!(rt; "tctool: width is odd")?;
+            let _ = eprintln!(rt; "tctool: width is odd");
             2
         }
-    };
-    Ok(ExitCode::from(status))
+    }
+}
+
+// Prints what the parser of the words answers.
+fn answer(rt: &HostRuntime, error: &Error) -> u8 {
+    if error.kind() == ErrorKind::OutOfMemory {
+        return fails(rt, DumpFault::Memory);
+    }
+    let printed = error.print(rt);
+    if error.use_stderr() {
+        2
+    } else if printed.is_err() {
+        fails(rt, DumpFault::Write)
+    } else {
+        0
+    }
+}
+
+fn cannot_open(rt: &HostRuntime, file: &str) -> u8 {
+    let _ = eprintln!(rt; "tctool: cannot open {file}");
+    3
 }
 
 fn run(rt: &HostRuntime, options: &Options) -> u8
     requires { IsInRange options.now.task }
 {
-    let Ok(file) = File::open(rt, options.file) else {
-        let file = options.file;
-        let _ = eprintln!(rt; "tctool: cannot open {file}");
-        return 3;
-    };
-    let mut reader = Reader::new(file);
+    if options.file == "-" {
+        return tell(rt, rt.stdin(), options);
+    }
+    match File::open(rt, options.file) {
+        Ok(file) => tell(rt, file, options),
+        Err(_) => cannot_open(rt, options.file),
+    }
+}
+
+fn tell<R: Read + Drop>(rt: &HostRuntime, input: R, options: &Options) -> u8
+    requires { IsInRange options.now.task }
+{
+    let mut reader = Reader::new(input);
     let mut writer = Writer::new(io::writer(rt));
     let dumped = dump::dump(rt.alloc(), &mut reader, &mut writer, options);
-    ending::ending(&dumped, &mut Writer::new(rt.stderr()))
+    ending(&dumped, &mut Writer::new(rt.stderr()))
 }
 
 #[cfg(test)]

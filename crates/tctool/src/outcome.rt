@@ -9,6 +9,10 @@ pub enum Outcome {
     Good,
     /// There is a record that is refused, or octets are left that are no record.
     Faulty,
+    /// This line of a script, counted from 1, is the first that is unreadable.
+    Unreadable(u64),
+    /// This field of a script's configuration is the first that is out of its range.
+    OutOfRange(&'static str),
 }
 
 impl Outcome {

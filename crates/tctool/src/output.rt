@@ -1,7 +1,8 @@
 // Writes a text whole.
 
-ghost use Rattle.std.specs.Prelude.{◌≡◌, ◌<◌, ◌≤◌, ◌++◌, OnOk, OnErr};
+ghost use Rattle.std.specs.Prelude.{◌≡◌, ◌+◌, ◌++◌, OnOk};
 ghost use Rattle.tctool.specs.Beginning.{IsBeginning};
+ghost use Rattle.tctool.specs.Failures.{failed_in};
 
 use crate::sink::Sink;
 
@@ -14,8 +15,7 @@ pub struct WriteFailed;
 pub fn write_all<W: Sink>(writer: &mut W, text: &[u8]) -> Result<(), WriteFailed>
     ensures ok { OnOk result (W.taken_octets writer.new ≡ W.taken_octets writer.old ++ text.now) }
     ensures beginning { IsBeginning (W.taken_octets writer.new) (W.taken_octets writer.old ++ text.now) }
-    ensures failed { OnErr result (W.failures writer.old < W.failures writer.new) }
-    ensures failures { W.failures writer.old ≤ W.failures writer.new }
+    ensures failures { W.failures writer.new ≡ W.failures writer.old + failed_in result }
 {
     let mut done = 0;
     while done < text.len() {

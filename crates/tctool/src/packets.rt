@@ -7,11 +7,10 @@ ghost use Rattle.space_packet.specs.Reading.{packet_at};
 ghost use Rattle.tctool.specs.PacketLines.{kind_word, none_seen, process_text, sequence_text, gap_text, packet_line, after_packet, packet_lines};
 
 use crate::listing::Listing;
-use crate::text::{push_invalid, push_octets};
+use crate::text::{push_field, push_index, push_invalid, push_octets};
 use octets::Splitter;
 use space_packet::{GapCheck, Packet, PacketFault, PacketKind, Packets, decode};
 use std::alloc::{AllocError, Global};
-use std::fmt::Write;
 use std::marker::Model;
 
 /// Tells what each packet says, and how many of its application process are missing before it.
@@ -58,15 +57,16 @@ fn number_of_flag(flag: bool) -> u8
 fn push_process(text: &mut String, kind: &str, secondary: u8, apid: u16) -> Result<(), AllocError>
     ensures { OnOk result (string_bytes text.new ≡ string_bytes text.old ++ process_text kind.now secondary apid) }
 {
-    write!(text, "{kind} secondary={secondary} apid={apid}")
+    text.push_str(kind)?;
+    push_field(text, " secondary=", u64::from(secondary))?;
+    push_field(text, " apid=", u64::from(apid))
 }
 
 fn push_sequence(text: &mut String, packet: &Packet) -> Result<(), AllocError>
     ensures { OnOk result (string_bytes text.new ≡ string_bytes text.old ++ sequence_text (packet_view packet.now)) }
 {
-    let flags = packet.flags;
-    let count = packet.count;
-    write!(text, " flags={flags} count={count}")
+    push_field(text, " flags=", u64::from(packet.flags))?;
+    push_field(text, " count=", u64::from(packet.count))
 }
 
 fn push_gap(text: &mut String, gap: Option<u16>) -> Result<(), AllocError>
@@ -74,7 +74,10 @@ fn push_gap(text: &mut String, gap: Option<u16>) -> Result<(), AllocError>
 {
     match gap {
         None => text.push_str(" gap=- data="),
-        Some(gap) => write!(text, " gap={gap} data="),
+        Some(gap) => {
+            push_field(text, " gap=", u64::from(gap))?;
+            text.push_str(" data=")
+        }
     }
 }
 
@@ -85,7 +88,7 @@ impl Listing<Splitter<Packets>> for PacketListing {
         match decode(octets) {
             Ok((packet, _)) => {
                 let gap = self.gaps.see(packet.apid, packet.count);
-                write!(text, "{index} ")?;
+                push_index(text, index)?;
                 let kind = word_of_kind(packet.kind);
                 let secondary = number_of_flag(packet.secondary);
                 push_process(text, kind, secondary, packet.apid)?;

@@ -1,6 +1,6 @@
 // Where octets come from.
 
-ghost use Rattle.std.specs.Prelude.{◌≡◌, ◌≤◌, ◌+◌, ◌++◌, ℕ, Bool, List, length, IfOk, OnErr};
+ghost use Rattle.std.specs.Prelude.{◌≡◌, ◌≤◌, ◌<◌, ◌+◌, ◌++◌, ℕ, Bool, List, length, IfOk, OnErr};
 ghost use Rattle.tctool.specs.Devices.{taken, read_failed, EndsOrNot};
 
 use crate::told::{Call, Told};
@@ -20,6 +20,7 @@ pub trait Source {
 
     /// Reads octets into the front of a piece that is not empty, and answers how many; 0 at the end.
     fn read(&mut self, piece: &mut [u8]) -> io::Result<usize>
+        requires { 0 < length piece.old }
         ensures count { IfOk result (λ n. n ≤ length piece.new) }
         ensures given { given self.new ≡ given self.old ++ taken result piece.new }
         ensures ended { EndsOrNot result (has_ended self.new) }

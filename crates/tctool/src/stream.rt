@@ -4,6 +4,7 @@ ghost use Rattle.std.specs.Prelude.{◌≡◌, ◌⊎◌, None, false, true, ◌
 ghost use Rattle.octets.specs.Records.{first_record, rest_of};
 ghost use Rattle.tctool.specs.Listing.{fresh, listed, text_of, is_all_good, rest_line, is_empty, HasListed, HasRefused, IsRefused};
 ghost use Rattle.tctool.specs.Beginning.{IsBeginning};
+ghost use Rattle.tctool.specs.Failures.{reads_failed_in, writes_failed_in};
 ghost use Rattle.tctool.specs.Gained.{gained};
 ghost use Rattle.tctool.specs.Outcome.{outcome_of};
 ghost use Rattle.tctool.specs.Progress.{refusal, standing};
@@ -74,8 +75,8 @@ enum Course {
 fn put<W: Sink, T: Copy>(writer: &mut W, text: &String, answer: T) -> Result<T, DumpFault>
     ensures ok { IfOk result (λ answered. (answered ≡ answer) × (W.taken_octets writer.new ≡ W.taken_octets writer.old ++ string_bytes text.now)) }
     ensures beginning { OnErr result (IsBeginning (W.taken_octets writer.new) (W.taken_octets writer.old ++ string_bytes text.now)) }
-    ensures write { IfErr result (λ e. (e ≡ DumpFault.Write) × (W.failures writer.old < W.failures writer.new)) }
-    ensures failures { W.failures writer.old ≤ W.failures writer.new }
+    ensures fault { IfErr result (λ e. e ≡ DumpFault.Write) }
+    ensures failures { W.failures writer.new ≡ W.failures writer.old + writes_failed_in result }
 {
     match write_all(writer, text.as_bytes()) {
         Ok(()) => Ok(answer),
@@ -101,8 +102,7 @@ fn list_piece<S: Cutter, C: Listing<S>, W: Sink>(
     ensures refused { result ≡ Ok Course.Refused → HasRefused C.lines S.head S.extent_of S.truncated_fault (standing [] command.old progress.old (S.held cutter.old ++ piece.now))
         (W.taken_octets writer.old) (W.taken_octets writer.new) }
     ensures beginning { OnErr result (IsBeginning (W.taken_octets writer.new) (W.taken_octets writer.old ++ text_of C.lines S.head S.extent_of S.truncated_fault (standing [] command.old progress.old (S.held cutter.old ++ piece.now)))) }
-    ensures write { result ≡ Err DumpFault.Write → W.failures writer.old < W.failures writer.new }
-    ensures failures { W.failures writer.old ≤ W.failures writer.new }
+    ensures failures { W.failures writer.new ≡ W.failures writer.old + writes_failed_in result }
     ensures faults { IfErr result (λ e. (e ≡ DumpFault.Write) ⊎ (e ≡ DumpFault.Memory)) }
 {
     text.clear();
@@ -134,8 +134,7 @@ fn list_rest<S: Cutter, C: Listing<S>, W: Sink>(
     ensures ok { IfOk result (λ outcome. (outcome ≡ outcome_of (progress.all_good && is_empty (S.held cutter.now)))
         × (W.taken_octets writer.new ≡ W.taken_octets writer.old ++ rest_line C.lines S.head S.extent_of S.truncated_fault (progress.count + 1) (S.held cutter.now))) }
     ensures beginning { OnErr result (IsBeginning (W.taken_octets writer.new) (W.taken_octets writer.old ++ rest_line C.lines S.head S.extent_of S.truncated_fault (progress.count + 1) (S.held cutter.now))) }
-    ensures write { result ≡ Err DumpFault.Write → W.failures writer.old < W.failures writer.new }
-    ensures failures { W.failures writer.old ≤ W.failures writer.new }
+    ensures failures { W.failures writer.new ≡ W.failures writer.old + writes_failed_in result }
     ensures faults { IfErr result (λ e. (e ≡ DumpFault.Write) ⊎ (e ≡ DumpFault.Memory)) }
 {
     let Err(fault) = cutter.finish() else {
@@ -168,8 +167,8 @@ pub fn list_stream<S: Cutter + Drop, C: Listing<S> + Drop, R: Source, W: Sink>(
     ensures end { OnOk result ((R.has_ended reader.new ≡ true) ⊎ IsRefused C.lines S.head S.extent_of S.truncated_fault (rest_of S.head S.extent_of (gained (R.given reader.old) (R.given reader.new)))) }
     ensures beginning { OnErr result (IsBeginning (W.taken_octets writer.new) (W.taken_octets writer.old
         ++ text_of C.lines S.head S.extent_of S.truncated_fault (fresh command (gained (R.given reader.old) (R.given reader.new))))) }
-    ensures read { result ≡ Err DumpFault.Read → R.failures reader.old < R.failures reader.new }
-    ensures write { result ≡ Err DumpFault.Write → W.failures writer.old < W.failures writer.new }
+    ensures read { R.failures reader.new ≡ R.failures reader.old + reads_failed_in result }
+    ensures write { W.failures writer.new ≡ W.failures writer.old + writes_failed_in result }
     ensures too_long { result ≡ Err DumpFault.TooLong → MOST_OCTETS < length (gained (R.given reader.old) (R.given reader.new)) }
 {
     let mut progress = Progress {

@@ -18,6 +18,8 @@ pub enum Task {
     Check,
     /// Tells what each space packet says.
     Packets,
+    /// Plays a script of the simulated link.
+    Sim,
 }
 
 /// What the words ask for.

@@ -8,9 +8,8 @@ ghost use Rattle.tctool.specs.TelemetryLines.{counts_text, pointer_text, lost_te
 
 use crate::frame_cutter::{FrameCutter, FrameLength};
 use crate::listing::Listing;
-use crate::text::{push_digits, push_invalid, push_octets};
+use crate::text::{push_digits, push_field, push_invalid, push_number, push_octets};
 use std::alloc::{AllocError, Global};
-use std::fmt::Write;
 use std::marker::{Model, PhantomData};
 use tm_link::{Extractor, Gap, Pointer, TmFault, TmFrame, decode};
 
@@ -81,21 +80,21 @@ impl<K: FrameLength> Listing<FrameCutter<K>> for TelemetryListing<K> {
 fn push_counts(text: &mut String, index: u64, frame: &TmFrame) -> Result<(), AllocError>
     ensures { OnOk result (string_bytes text.new ≡ string_bytes text.old ++ counts_text index (frame_view frame.now)) }
 {
-    let scid = frame.scid;
-    let vcid = frame.vcid;
-    let mc_count = frame.mc_count;
-    let vc_count = frame.vc_count;
-    write!(
-        text,
-        "{index} scid={scid} vcid={vcid} mc={mc_count} vc={vc_count}"
-    )
+    push_number(text, index)?;
+    push_field(text, " scid=", u64::from(frame.scid))?;
+    push_field(text, " vcid=", u64::from(frame.vcid))?;
+    push_field(text, " mc=", u64::from(frame.mc_count))?;
+    push_field(text, " vc=", u64::from(frame.vc_count))
 }
 
 fn push_pointer(text: &mut String, pointer: Pointer) -> Result<(), AllocError>
     ensures { OnOk result (string_bytes text.new ≡ string_bytes text.old ++ (codes " pointer=" ++ (pointer_text pointer ++ codes " ocf="))) }
 {
     match pointer {
-        Pointer::At(place) => write!(text, " pointer={place} ocf="),
+        Pointer::At(place) => {
+            push_field(text, " pointer=", u64::from(place))?;
+            text.push_str(" ocf=")
+        }
         Pointer::NoStart => text.push_str(" pointer=none ocf="),
         Pointer::OnlyIdle => text.push_str(" pointer=idle ocf="),
     }
@@ -106,7 +105,10 @@ fn push_gap(text: &mut String, gap: Gap) -> Result<(), AllocError>
 {
     match gap {
         Gap::First => text.push_str(" gap=-\n"),
-        Gap::Lost(count) => writeln!(text, " gap={count}"),
+        Gap::Lost(count) => {
+            push_field(text, " gap=", u64::from(count))?;
+            text.push('\n')
+        }
     }
 }
 

@@ -2,8 +2,12 @@
 
 ghost use Rattle.tctool.specs.Ranges.{IsInRange};
 
+mod beginnings;
+mod carrying;
 mod devices;
+mod given;
 mod rows;
+mod scripts;
 mod usage;
 
 use crate::dump::dump;
@@ -13,10 +17,13 @@ use crate::outcome::Outcome;
 use crate::sink::Writer;
 use crate::source::Reader;
 use crate::task::{Options, Task};
-use devices::{Store, Supply};
-use rows::{Row, check_rows, faulty_farm_rows, good_farm_rows, packets_rows, tc_rows, tm_rows};
-use std::alloc::Global;
+use devices::{Store, Supply, WriteFault};
+use rows::{
+    Row, check_rows, faulty, faulty_farm_rows, good_farm_rows, packets_rows, tc_rows, tm_rows,
+};
+use std::alloc::{AllocError, Global};
 use std::process::Abort;
+use tc_frame::Check;
 
 fn is_in_range(rt: &impl Abort, task: Task)
     ensures { IsInRange task }
@@ -31,6 +38,7 @@ fn is_in_range(rt: &impl Abort, task: Task)
         }
         Task::Check => {}
         Task::Packets => {}
+        Task::Sim => {}
     }
 }
 
@@ -46,9 +54,13 @@ fn dumped(
     dump(alloc, supply, store, &Options { task, file: "" })
 }
 
+fn writes_all(alloc: Global, step: usize) -> Store {
+    Store::new(alloc, step, usize::MAX, WriteFault::Error)
+}
+
 fn is_written(rt: &impl Abort, alloc: Global, row: &Row, read_step: usize, write_step: usize) {
     let mut supply = Supply::new(row.octets, read_step, usize::MAX);
-    let mut store = Store::new(alloc, write_step, usize::MAX);
+    let mut store = writes_all(alloc, write_step);
     let result = dumped(rt, alloc, row, &mut supply, &mut store);
     assert_eq!(rt; result, Ok(row.outcome));
     assert_eq!(rt; store.octets(), row.text.as_bytes());
@@ -61,38 +73,50 @@ fn is_written_in_pieces(rt: &impl Abort, alloc: Global, row: &Row) {
     is_written(rt, alloc, row, 4096, 1);
 }
 
-// Whether a device failed, where this many reads and writes go well. What is written by then begins the text.
+// Whether a device failed, whose call behind so many fails, and no other. What is written by then begins the text.
 fn ends_early(
     rt: &impl Abort,
     alloc: Global,
     row: &Row,
-    reads: usize,
-    writes: usize,
+    mut supply: Supply,
+    mut store: Store,
     fault: DumpFault,
 ) -> bool {
-    let mut supply = Supply::new(row.octets, 5, reads);
-    let mut store = Store::new(alloc, 9, writes);
     let result = dumped(rt, alloc, row, &mut supply, &mut store);
-    assert!(rt; row.text.as_bytes().starts_with(store.octets()));
-    if result == Ok(row.outcome) {
-        assert_eq!(rt; store.octets(), row.text.as_bytes());
-        return false;
+    if supply.has_failed() || store.has_failed() {
+        assert!(rt; row.text.as_bytes().starts_with(store.octets()));
+        assert_eq!(rt; result, Err(fault));
+        return true;
     }
-    assert_eq!(rt; result, Err(fault));
-    true
+    assert_eq!(rt; store.octets(), row.text.as_bytes());
+    assert_eq!(rt; result, Ok(row.outcome));
+    false
+}
+
+fn fails_with_each_read(rt: &impl Abort, alloc: Global, row: &Row) {
+    for reads in 0..1000usize {
+        let supply = Supply::new(row.octets, 5, reads);
+        let store = writes_all(alloc, 9);
+        if !ends_early(rt, alloc, row, supply, store, DumpFault::Read) {
+            break;
+        }
+    }
+}
+
+fn fails_with_each_write(rt: &impl Abort, alloc: Global, row: &Row, fault: WriteFault) {
+    for writes in 0..1000usize {
+        let supply = Supply::new(row.octets, 5, usize::MAX);
+        let store = Store::new(alloc, 9, writes, fault);
+        if !ends_early(rt, alloc, row, supply, store, DumpFault::Write) {
+            break;
+        }
+    }
 }
 
 fn fails_with_each_call(rt: &impl Abort, alloc: Global, row: &Row) {
-    for reads in 0..1000usize {
-        if !ends_early(rt, alloc, row, reads, usize::MAX, DumpFault::Read) {
-            break;
-        }
-    }
-    for writes in 0..1000usize {
-        if !ends_early(rt, alloc, row, usize::MAX, writes, DumpFault::Write) {
-            break;
-        }
-    }
+    fails_with_each_read(rt, alloc, row);
+    fails_with_each_write(rt, alloc, row, WriteFault::Error);
+    fails_with_each_write(rt, alloc, row, WriteFault::Nothing);
 }
 
 #[test]
@@ -143,31 +167,62 @@ fn failing_devices(rt: HostRuntime) {
 fn a_line_is_written_before_the_next_read(rt: HostRuntime) {
     let [row, ..] = good_farm_rows();
     let mut supply = Supply::new(row.octets, 13, 1);
-    let mut store = Store::new(rt.alloc(), 4096, usize::MAX);
+    let mut store = writes_all(rt.alloc(), 4096);
     let result = dumped(&rt, rt.alloc(), &row, &mut supply, &mut store);
     assert_eq!(rt; result, Err(DumpFault::Read));
     let line = "1 AD 255 accepted Open vr=0 l=0 w=0 t=0 b=0\n";
     assert_eq!(rt; store.octets(), line.as_bytes());
 }
 
+// The octets that are left are no record, and the read that would find the end fails.
 #[test]
-fn nothing_is_read_behind_a_refused_length(rt: HostRuntime) {
-    let [.., row] = faulty_farm_rows();
-    let mut supply = Supply::new(row.octets, 5, usize::MAX);
-    let mut store = Store::new(rt.alloc(), 4096, usize::MAX);
+fn an_error_is_no_end(rt: HostRuntime) {
+    let [_, _, _, _, row, ..] = tc_rows();
+    let mut supply = Supply::new(row.octets, 4096, 1);
+    let mut store = writes_all(rt.alloc(), 4096);
     let result = dumped(&rt, rt.alloc(), &row, &mut supply, &mut store);
-    assert_eq!(rt; result, Ok(Outcome::Faulty));
-    assert_eq!(rt; supply.given(), 5);
+    assert_eq!(rt; result, Err(DumpFault::Read));
+    assert!(rt; store.octets().is_empty());
 }
 
+fn stops_at(rt: &impl Abort, alloc: Global, task: Task, octets: &'static [u8], line: &'static str) {
+    let row = faulty(task, octets, line);
+    let mut supply = Supply::new(octets, 6, usize::MAX);
+    let mut store = writes_all(alloc, 4096);
+    let result = dumped(rt, alloc, &row, &mut supply, &mut store);
+    assert_eq!(rt; result, Ok(Outcome::Faulty));
+    assert_eq!(rt; store.octets(), line.as_bytes());
+    assert_eq!(rt; supply.given(), 6);
+}
+
+// Each length is refused with the first six octets. The frames of `tctool tm` declare none.
 #[test]
-fn a_write_that_takes_none_has_failed(rt: HostRuntime) {
-    let [row, ..] = good_farm_rows();
-    let mut supply = Supply::new(row.octets, 4096, usize::MAX);
-    let mut store = Store::new(rt.alloc(), 0, usize::MAX);
-    let result = dumped(&rt, rt.alloc(), &row, &mut supply, &mut store);
-    assert_eq!(rt; result, Err(DumpFault::Write));
-    assert!(rt; store.octets().is_empty());
+fn nothing_is_read_behind_a_refused_length(rt: HostRuntime) {
+    let frames = b"\x00\x01\x08\x03\x00\x30\x01\x08\x05\x00\x00\x30";
+    let packets = b"\x20\x05\xc0\x00\x00\x00\xaa\x10\x05\xc0\x00\x00\x00\xaa";
+    for check in [Check::Off, Check::On] {
+        let farm = Task::Farm {
+            check,
+            width: 254,
+            vr: 0,
+        };
+        stops_at(&rt, rt.alloc(), farm, frames, "1 invalid 5 Length\n");
+        stops_at(
+            &rt,
+            rt.alloc(),
+            Task::Tc { check },
+            frames,
+            "1 invalid 5 Length\n",
+        );
+    }
+    stops_at(&rt, rt.alloc(), Task::Check, frames, "1 invalid 5 Length\n");
+    stops_at(
+        &rt,
+        rt.alloc(),
+        Task::Packets,
+        packets,
+        "1 invalid 2 Version\n",
+    );
 }
 
 #[test]
@@ -194,15 +249,64 @@ fn endings(rt: HostRuntime) {
     for (dumped, status, line) in [
         (Ok(Outcome::Good), 0, ""),
         (Ok(Outcome::Faulty), 1, ""),
+        (
+            Ok(Outcome::Unreadable(1)),
+            1,
+            "tctool: line 1: unreadable\n",
+        ),
+        (
+            Ok(Outcome::Unreadable(u64::MAX)),
+            1,
+            "tctool: line 18446744073709551615: unreadable\n",
+        ),
+        (
+            Ok(Outcome::OutOfRange("window")),
+            1,
+            "tctool: config out of range: window\n",
+        ),
         (Err(DumpFault::Read), 3, "tctool: read failed\n"),
         (Err(DumpFault::Write), 3, "tctool: write failed\n"),
         (Err(DumpFault::Memory), 3, "tctool: no memory\n"),
         (Err(DumpFault::TooLong), 3, "tctool: input too long\n"),
     ] {
-        let mut errors = Store::new(rt.alloc(), 4096, usize::MAX);
+        let mut errors = writes_all(rt.alloc(), 4096);
         assert_eq!(rt; ending(&dumped, &mut errors), status);
         assert_eq!(rt; errors.octets(), line.as_bytes());
-        let mut closed = Store::new(rt.alloc(), 4096, 0);
+        let mut closed = Store::new(rt.alloc(), 4096, 0, WriteFault::Error);
         assert_eq!(rt; ending(&dumped, &mut closed), status);
     }
+}
+
+fn says(rt: &impl Abort, alloc: Global, fault: DumpFault, text: &str) -> Result<(), AllocError> {
+    let said = format!(in alloc; "{fault}")?;
+    assert_eq!(rt; said.as_str(), text);
+    Ok(())
+}
+
+#[test]
+fn texts_of_faults(rt: HostRuntime) -> Result<(), AllocError> {
+    says(&rt, rt.alloc(), DumpFault::Read, "read failed")?;
+    says(&rt, rt.alloc(), DumpFault::Write, "write failed")?;
+    says(&rt, rt.alloc(), DumpFault::Memory, "no memory")?;
+    says(&rt, rt.alloc(), DumpFault::TooLong, "input too long")
+}
+
+// A growth that is refused ends the dump. What is written by then are whole lines, nothing of the piece that needed it.
+fn dumps_again(rt: &(impl Abort + Eprint), alloc: Global, row: &Row) {
+    let mut supply = Supply::new(row.octets, 13, usize::MAX);
+    let mut store = writes_all(alloc, 4096);
+    let result = dumped(rt, alloc, row, &mut supply, &mut store);
+    if result != Ok(row.outcome) {
+        let _ = eprintln!(rt; "refused a growth");
+        assert!(rt; matches!(result, Err(DumpFault::Memory | DumpFault::Write)));
+        assert!(rt; row.text.as_bytes().starts_with(store.octets()));
+        assert!(rt; store.octets().is_empty() || store.octets().ends_with(b"\n"));
+        is_written(rt, alloc, row, 13, 4096);
+    }
+}
+
+#[test]
+fn refused_growths(rt: HostRuntime) {
+    let [frames, ..] = tc_rows();
+    dumps_again(&rt, rt.alloc(), &frames);
 }

@@ -1,17 +1,59 @@
 // Pieces of lines.
 
-ghost use Rattle.std.specs.Prelude.{◌≡◌, ◌++◌, OnOk, string_bytes};
+ghost use Rattle.std.specs.Prelude.{◌≡◌, ◌++◌, OnOk, codes, decimal, string_bytes};
 ghost use Rattle.hex.specs.Hex.{encode_upper};
 ghost use Rattle.tctool.specs.Text.{invalid_line, octets_line};
 
+use itoa::Buffer;
 use std::alloc::{AllocError, Global};
-use std::fmt::Write;
 
 /// Appends the line of a record that was refused, or of a rest.
 pub fn push_invalid(text: &mut String, index: u64, number: u8, name: &str) -> Result<(), AllocError>
     ensures { OnOk result (string_bytes text.new ≡ string_bytes text.old ++ invalid_line index number name.now) }
 {
-    writeln!(text, "{index} invalid {number} {name}")
+    push_number(text, index)?;
+    push_field(text, " invalid ", u64::from(number))?;
+    text.push(' ')?;
+    text.push_str(name)?;
+    text.push('\n')
+}
+
+/// Appends a number's decimal digits. Most numbers of a line have one, which needs no buffer.
+#[inline(always)]
+#[tactic(auto, using(std::proofs::lemmas::Fmt::decimal_digit))]
+pub fn push_number(text: &mut String, number: u64) -> Result<(), AllocError>
+    ensures { OnOk result (string_bytes text.new ≡ string_bytes text.old ++ decimal number) }
+{
+    if number < 10 {
+        text.push((b'0' + number as u8) as char)
+    } else {
+        push_digits_of(text, number)
+    }
+}
+
+#[inline(never)]
+fn push_digits_of(text: &mut String, number: u64) -> Result<(), AllocError>
+    ensures { OnOk result (string_bytes text.new ≡ string_bytes text.old ++ decimal number) }
+{
+    let mut buffer = Buffer::new();
+    text.push_str(buffer.format(number))
+}
+
+/// Appends the number of a record, and a blank.
+pub fn push_index(text: &mut String, index: u64) -> Result<(), AllocError>
+    ensures { OnOk result (string_bytes text.new ≡ string_bytes text.old ++ (decimal index ++ codes " ")) }
+{
+    push_number(text, index)?;
+    text.push(' ')
+}
+
+/// Appends a word, and a number's decimal digits behind it.
+#[inline(always)]
+pub fn push_field(text: &mut String, name: &str, number: u64) -> Result<(), AllocError>
+    ensures { OnOk result (string_bytes text.new ≡ string_bytes text.old ++ (name.now ++ decimal number)) }
+{
+    text.push_str(name)?;
+    push_number(text, number)
 }
 
 /// Appends octets as upper-case hexadecimal digits, and ends the line.

@@ -1,6 +1,6 @@
 // The words of the command line.
 
-ghost use Rattle.std.specs.Prelude.{IfOk, IfErr};
+ghost use Rattle.std.specs.Prelude.{IfOk, IfErr, IfSome};
 ghost use Rattle.tctool.specs.Ranges.{IsInRange, IsOddIfWidth};
 
 mod arguments;
@@ -9,15 +9,15 @@ mod files;
 mod tm;
 
 use crate::task::{Options, UsageFault};
-use arguments::Described;
+use arguments::{Described, ending_of_help};
 use clap::error::ErrorKind;
 use clap::{Command, Error};
 use std::alloc::{AllocError, Global};
 
 /// Reads the words of a command line, the program's name first.
 ///
-/// The fault `Words` is what the parser answers to words that it refuses, or to a request for help;
-/// `OddWidth` an odd width, where the words are else in order.
+/// The fault `Words` is what the parser answers to words that it refuses, or to a request for help or
+/// the version; `OddWidth` an odd width, where the words are else in order.
 pub fn options<'a>(alloc: Global, words: &'a [&'a str]) -> Result<Options<'a>, UsageFault>
     ensures range { IfOk result (λ options. IsInRange options.task) }
     ensures odd { IfErr result IsOddIfWidth }
@@ -29,10 +29,32 @@ pub fn options<'a>(alloc: Global, words: &'a [&'a str]) -> Result<Options<'a>, U
             "tm" => return tm::tm_options(alloc, &words[1..]),
             "check" => return files::check_options(alloc, &words[1..]),
             "packets" => return files::packets_options(alloc, &words[1..]),
+            "sim" => return files::sim_options(alloc, &words[1..]),
             _ => {}
         }
     }
+    if let [_, "help", command] = words {
+        if let Some(fault) = help_of(alloc, command) {
+            return Err(fault);
+        }
+    }
     Err(UsageFault::Words(other_words(alloc, words)))
+}
+
+// What `help` answers for a command.
+fn help_of(alloc: Global, command: &str) -> Option<UsageFault>
+    ensures { IfSome result IsOddIfWidth }
+{
+    let asked = match command {
+        "farm" => farm::farm_options(alloc, &["farm", "--help"]),
+        "tc" => files::tc_options(alloc, &["tc", "--help"]),
+        "tm" => tm::tm_options(alloc, &["tm", "--help"]),
+        "check" => files::check_options(alloc, &["check", "--help"]),
+        "packets" => files::packets_options(alloc, &["packets", "--help"]),
+        "sim" => files::sim_options(alloc, &["sim", "--help"]),
+        _ => return None,
+    };
+    asked.err()
 }
 
 // What the parser answers where no command is named: help that was asked for, or what is wrong.
@@ -54,13 +76,15 @@ fn listed<'a>(
 fn no_command<'a>(alloc: Global, words: &'a [&'a str]) -> Result<Error, AllocError> {
     let start = Command::new(alloc, "tctool")
         .about("Tools for the telecommand link")
-        .subcommand_required(true)
-        .disable_help_subcommand(true);
+        .version("0.1.0")
+        .after_help(ending_of_help!("3 BC unlock Open vr=0 l=0 w=0 t=0 b=1"))
+        .subcommand_required(true);
     let with_farm = listed(alloc, start, farm::FARM)?;
     let with_tc = listed(alloc, with_farm, files::TC)?;
     let with_tm = listed(alloc, with_tc, tm::TM)?;
     let with_check = listed(alloc, with_tm, files::CHECK)?;
-    let mut command = listed(alloc, with_check, files::PACKETS)?;
+    let with_packets = listed(alloc, with_check, files::PACKETS)?;
+    let mut command = listed(alloc, with_packets, files::SIM)?;
     match command.try_get_matches_from_mut(words) {
         Err(error) => Ok(error),
         Ok(_) => command.error(ErrorKind::MissingSubcommand, "a command is wanted"),

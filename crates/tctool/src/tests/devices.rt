@@ -1,4 +1,4 @@
-// Devices over memory. They move few octets at a call, and fail for good once so many calls went well.
+// Devices over memory. They move few octets at a call, and fail once, at the call behind so many.
 
 ghost use Rattle.std.specs.Prelude.{◌≤◌, length, take};
 
@@ -15,19 +15,21 @@ pub struct Supply<'a> {
     given: usize,
     step: usize,
     calls_left: usize,
+    has_failed: bool,
     has_ended: bool,
     told: Told,
     ghost in_range: { given ≤ length octets.now },
 }
 
 impl<'a> Supply<'a> {
-    /// Gives at most `step` octets at each of the first `calls` reads.
+    /// Gives at most `step` octets at each read. The read behind the first `calls` fails.
     pub fn new(octets: &'a [u8], step: usize, calls: usize) -> Self {
         Supply {
             octets,
             given: 0,
             step,
             calls_left: calls,
+            has_failed: false,
             has_ended: false,
             told: Told::new(),
         }
@@ -36,6 +38,10 @@ impl<'a> Supply<'a> {
     /// How many octets were given.
     pub fn given(&self) -> usize {
         self.given
+    }
+
+    pub fn has_failed(&self) -> bool {
+        self.has_failed
     }
 }
 
@@ -47,11 +53,12 @@ impl<'a> Source for Supply<'a> {
     ghost failures = { λ s. s.told.failures };
 
     fn read(&mut self, piece: &mut [u8]) -> io::Result<usize> {
-        if self.calls_left == 0 {
+        if self.calls_left == 0 && !self.has_failed {
+            self.has_failed = true;
             self.told = self.told.then(&Call::Failed);
-            return Err(io::Error::other("no more reads"));
+            return Err(io::Error::other("a read that fails"));
         }
-        self.calls_left -= 1;
+        self.calls_left = self.calls_left.saturating_sub(1);
         let left = &self.octets[self.given..];
         let count = left.len().min(self.step).min(piece.len());
         piece[..count].copy_from_slice(&left[..count]);
@@ -61,22 +68,33 @@ impl<'a> Source for Supply<'a> {
     }
 }
 
+/// How a write fails: it answers an error, or takes none of its octets.
+#[derive(Clone, Copy, Drop, PartialEq, Eq)]
+pub enum WriteFault {
+    Error,
+    Nothing,
+}
+
 /// Takes octets.
 #[derive(Drop)]
 pub struct Store {
     octets: Vec<u8>,
     step: usize,
     calls_left: usize,
+    fault: WriteFault,
+    has_failed: bool,
     told: Told,
 }
 
 impl Store {
-    /// Takes at most `step` octets at each of the first `calls` writes.
-    pub fn new(alloc: Global, step: usize, calls: usize) -> Self {
+    /// Takes at most `step` octets at each write. The write behind the first `calls` fails.
+    pub fn new(alloc: Global, step: usize, calls: usize, fault: WriteFault) -> Self {
         Store {
             octets: Vec::new(alloc),
             step,
             calls_left: calls,
+            fault,
+            has_failed: false,
             told: Told::new(),
         }
     }
@@ -84,6 +102,10 @@ impl Store {
     /// The octets that were taken.
     pub fn octets(&self) -> &[u8] {
         self.octets.as_slice()
+    }
+
+    pub fn has_failed(&self) -> bool {
+        self.has_failed
     }
 }
 
@@ -93,15 +115,19 @@ impl Sink for Store {
     ghost failures = { λ s. s.told.failures };
 
     fn write(&mut self, text: &[u8]) -> io::Result<usize> {
-        if self.calls_left == 0 {
-            self.told = self.told.then(&Call::Failed);
-            return Err(io::Error::other("no more writes"));
+        if text.is_empty() {
+            return Ok(0);
         }
-        self.calls_left -= 1;
-        let count = text.len().min(self.step);
-        if count == 0 && !text.is_empty() {
+        if self.calls_left == 0 && !self.has_failed {
+            self.has_failed = true;
             self.told = self.told.then(&Call::Failed);
+            return match self.fault {
+                WriteFault::Error => Err(io::Error::other("a write that fails")),
+                WriteFault::Nothing => Ok(0),
+            };
         }
+        self.calls_left = self.calls_left.saturating_sub(1);
+        let count = text.len().min(self.step.max(1));
         match self.octets.extend_from_slice(&text[..count]) {
             Ok(()) => Ok(count),
             Err(error) => {

@@ -26,7 +26,7 @@ fn good(task: Task, octets: &'static [u8], text: &'static str) -> Row {
     }
 }
 
-fn faulty(task: Task, octets: &'static [u8], text: &'static str) -> Row {
+pub fn faulty(task: Task, octets: &'static [u8], text: &'static str) -> Row {
     Row {
         outcome: Outcome::Faulty,
         ..good(task, octets, text)

@@ -2,7 +2,7 @@
 
 use crate::task::{Options, Task, UsageFault};
 use crate::words::options;
-use std::alloc::Global;
+use std::alloc::{AllocError, Global};
 use std::process::Abort;
 use tc_frame::Check;
 
@@ -63,6 +63,7 @@ fn words_without_numbers(rt: HostRuntime) {
         &["tctool", "packets", "frames"],
         Task::Packets,
     );
+    asks_for(&rt, rt.alloc(), &["tctool", "sim", "frames"], Task::Sim);
 }
 
 // The status with which the parser of the words ends the program, where it does.
@@ -110,6 +111,68 @@ fn words_that_are_refused(rt: HostRuntime) {
         status_of_words(rt.alloc(), &["tctool", "packets", "--help"]),
         Some(0)
     );
+}
+
+fn says_with_status(
+    rt: &impl Abort,
+    alloc: Global,
+    words: &[&str],
+    part: &str,
+    status: i32,
+) -> Result<(), AllocError> {
+    match options(alloc, words) {
+        Err(UsageFault::Words(error)) => {
+            let text = format!(in alloc; "{error}")?;
+            assert!(rt; text.contains(part));
+            assert_eq!(rt; error.exit_code(), status);
+            Ok(())
+        }
+        _ => Err(AllocError),
+    }
+}
+
+#[test]
+fn words_of_help(rt: HostRuntime) -> Result<(), AllocError> {
+    let line = "3 BC unlock Open vr=0 l=0 w=0 t=0 b=1";
+    let statuses = "Status: 0 where all is good, 1 for a fault in the data, 2 for usage,";
+    let alloc = rt.alloc();
+    says_with_status(&rt, alloc, &["tctool", "--help"], line, 0)?;
+    says_with_status(
+        &rt,
+        alloc,
+        &["tctool", "help"],
+        "Usage: tctool <COMMAND>",
+        0,
+    )?;
+    says_with_status(&rt, alloc, &["tctool", "-V"], "tctool ", 0)?;
+    says_with_status(&rt, alloc, &["tctool", "--version"], "tctool ", 0)?;
+    says_with_status(&rt, alloc, &["tctool", "help", "form"], "'form'", 2)?;
+    says_with_status(
+        &rt,
+        alloc,
+        &["tctool", "farm", "--help"],
+        "even, 2 to 254",
+        0,
+    )?;
+    says_with_status(
+        &rt,
+        alloc,
+        &["tctool", "help", "farm"],
+        "expected, 0 to 255",
+        0,
+    )?;
+    says_with_status(&rt, alloc, &["tctool", "help", "farm"], line, 0)?;
+    for command in ["tc", "tm", "check", "packets"] {
+        says_with_status(&rt, alloc, &["tctool", "help", command], statuses, 0)?;
+        says_with_status(
+            &rt,
+            alloc,
+            &["tctool", command, "--help"],
+            "Writes lines such as",
+            0,
+        )?;
+    }
+    Ok(())
 }
 
 #[test]

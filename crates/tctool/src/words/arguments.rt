@@ -15,14 +15,30 @@ pub struct Described<'a> {
     /// The program and the command, as usage is shown.
     pub bin_name: &'a str,
     pub about: &'a str,
+    /// What stands at the end of its help.
+    pub ending: &'a str,
 }
+
+/// The end of a help: a line of output, and the statuses.
+macro_rules! ending_of_help {
+    ($line:literal) => {
+        concat!(
+            "Writes lines such as\n  ",
+            $line,
+            "\n\nStatus: 0 where all is good, 1 for a fault in the data, 2 for usage,\n",
+            "3 where a file or memory failed or the input was too long"
+        )
+    };
+}
+
+pub(crate) use ending_of_help;
 
 /// The command as its help tells of it, with no argument yet.
 pub fn bare_command<'a>(alloc: Global, described: Described<'a>) -> Result<Command<'a>, AllocError>
     ensures { IfOk result IsBare }
 {
     let named = Command::new(alloc, described.name).bin_name(described.bin_name)?;
-    Ok(named.about(described.about))
+    Ok(named.about(described.about).after_help(described.ending))
 }
 
 /// `--check`, whether frames end with their check.

@@ -6,7 +6,9 @@ ghost use Rattle.clap.specs.Built.{IsPlainArg};
 ghost use Rattle.clap.specs.declared.builder.value_parser.ValueParser.TheVariants as parsers;
 
 use crate::task::{Options, Task, UsageFault};
-use crate::words::arguments::{Described, bare_command, check_flag, check_of_flag, file_argument};
+use crate::words::arguments::{
+    Described, bare_command, check_flag, check_of_flag, ending_of_help, file_argument,
+};
 use clap::{Arg, ArgAction, Error, value_parser};
 use std::alloc::Global;
 
@@ -14,6 +16,7 @@ pub const FARM: Described<'static> = Described {
     name: "farm",
     bin_name: "tctool farm",
     about: "Tells what a receiver (FARM-1) makes of each frame",
+    ending: ending_of_help!("3 BC unlock Open vr=0 l=0 w=0 t=0 b=1"),
 };
 
 /// The words of `tctool farm`, the command's name first.
@@ -55,7 +58,7 @@ fn width_option<'a>(alloc: Global) -> Arg<'a>
         .long("width")
         .value_name("W")
         .value_parser(value_parser!(u8).range(2..=254))
-        .help("Width of the window, even [default: 254]")
+        .help("Width of the window, even, 2 to 254 [default: 254]")
         .action(ArgAction::Set)
 }
 
@@ -68,7 +71,7 @@ fn vr_option<'a>(alloc: Global) -> Arg<'a>
         .long("vr")
         .value_name("N")
         .value_parser(value_parser!(u8))
-        .help("Number of the first frame that is expected [default: 0]")
+        .help("Number of the first frame that is expected, 0 to 255 [default: 0]")
         .action(ArgAction::Set)
 }
 

@@ -4,7 +4,9 @@ ghost use Rattle.std.specs.Prelude.{IfOk, IfErr};
 ghost use Rattle.tctool.specs.Ranges.{IsInRange, IsOddIfWidth};
 
 use crate::task::{Options, Task, UsageFault};
-use crate::words::arguments::{Described, bare_command, check_flag, check_of_flag, file_argument};
+use crate::words::arguments::{
+    Described, bare_command, check_flag, check_of_flag, ending_of_help, file_argument,
+};
 use clap::Error;
 use std::alloc::Global;
 use tc_frame::Check;
@@ -13,18 +15,28 @@ pub const TC: Described<'static> = Described {
     name: "tc",
     bin_name: "tctool tc",
     about: "Tells what each telecommand frame says",
+    ending: ending_of_help!("1 AD scid=1 vcid=2 n=3 seg=3 map=4 data=1005C0000000AA"),
 };
 
 pub const CHECK: Described<'static> = Described {
     name: "check",
     bin_name: "tctool check",
     about: "Tells the telecommand frames with check that are refused",
+    ending: ending_of_help!("2 invalid 6 Check"),
 };
 
 pub const PACKETS: Described<'static> = Described {
     name: "packets",
     bin_name: "tctool packets",
     about: "Tells what each space packet says",
+    ending: ending_of_help!("1 TC secondary=0 apid=5 flags=3 count=0 gap=- data=AA"),
+};
+
+pub const SIM: Described<'static> = Described {
+    name: "sim",
+    bin_name: "tctool sim",
+    about: "Plays a script of the simulated link",
+    ending: ending_of_help!("AD 0 accepted ready"),
 };
 
 /// The words of `tctool tc`, the command's name first.
@@ -64,6 +76,18 @@ pub fn packets_options<'a>(alloc: Global, words: &'a [&'a str]) -> Result<Option
     let file = plain_file(alloc, PACKETS, "Space packets, one after another", words)?;
     Ok(Options {
         task: Task::Packets,
+        file,
+    })
+}
+
+/// The words of `tctool sim`, the command's name first.
+pub fn sim_options<'a>(alloc: Global, words: &'a [&'a str]) -> Result<Options<'a>, UsageFault>
+    ensures range { IfOk result (λ options. IsInRange options.task) }
+    ensures odd { IfErr result IsOddIfWidth }
+{
+    let file = plain_file(alloc, SIM, "A script, a line for each event", words)?;
+    Ok(Options {
+        task: Task::Sim,
         file,
     })
 }

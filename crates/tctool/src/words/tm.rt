@@ -6,7 +6,7 @@ ghost use Rattle.clap.specs.Built.{IsPlainArg, TakesValue};
 ghost use Rattle.clap.specs.declared.builder.value_parser.ValueParser.TheVariants as parsers;
 
 use crate::task::{Options, Task, UsageFault};
-use crate::words::arguments::{Described, bare_command, file_argument};
+use crate::words::arguments::{Described, bare_command, ending_of_help, file_argument};
 use clap::{Arg, ArgAction, Error, value_parser};
 use std::alloc::Global;
 
@@ -14,6 +14,7 @@ pub const TM: Described<'static> = Described {
     name: "tm",
     bin_name: "tctool tm",
     about: "Tells what each telemetry frame says, and its finished packets",
+    ending: ending_of_help!("1 scid=1 vcid=0 mc=0 vc=0 pointer=0 ocf=01080000 gap=-"),
 };
 
 /// The words of `tctool tm`, the command's name first.

@@ -4,6 +4,7 @@ use Rattle.std.proofs.lemmas.List.{append-nil, length-append, length-take-le}
 use Rattle.std.proofs.lemmas.Result.{on_err_weaker}
 use Rattle.octets.specs.Records.{first_record, rest_of}
 use Rattle.tctool.specs.Devices.{taken as moved}
+use Rattle.tctool.specs.Failures.{writes_failed_in}
 use Rattle.tctool.specs.Gained.{gained}
 use Rattle.tctool.specs.Listing.{IsRefused, Standing, fresh, fed, listed, text_of, rest_line}
 use Rattle.tctool.specs.Outcome.{outcome_of}
@@ -42,8 +43,8 @@ loop-count-init g c =
       counted = ap length (sym none);
       short = omega arith;
       bound = omega (arith, ap length held_nothing);
-      read_failures = omega arith;
-      write_failures = omega arith;
+      read_failures = refl;
+      write_failures = refl;
     }
 
 pub loop-count-preserved : goal.loop-count-preserved
@@ -70,7 +71,7 @@ loop-count-preserved g c =
       short = omega (arith, c.if-count-total.false);
       bound = omega (arith, c.list_piece.ensures.count went, length-append (g.S.Cutter.held c.loop-count.cutter) piece, c.loop-count.invariant.bound);
       read_failures = omega (arith, c.in-Ok.ensures.failures, c.loop-count.invariant.read_failures);
-      write_failures = omega (arith, c.list_piece.ensures.failures, c.loop-count.invariant.write_failures);
+      write_failures = omega (arith, c.list_piece.ensures.failures ∙ ap (λ (r : Result Course DumpFault). g.W.Sink.failures c.loop-count.writer + writes_failed_in r) went, c.loop-count.invariant.write_failures);
     }
 
 pub returns-in_default-clause-beginning : goal.returns-in_default-clause-beginning

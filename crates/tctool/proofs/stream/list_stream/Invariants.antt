@@ -21,8 +21,8 @@ invariant-loop-count g l =
       counted : l.total ≡ length octets;
       short : l.total ≤ MOST_OCTETS;
       bound : l.progress.count + length (g.S.Cutter.held l.cutter) ≤ l.total;
-      read_failures : g.R.Source.failures l.fn.reader ≤ g.R.Source.failures l.reader;
-      write_failures : g.W.Sink.failures l.fn.writer ≤ g.W.Sink.failures l.writer;
+      read_failures : g.R.Source.failures l.reader ≡ g.R.Source.failures l.fn.reader;
+      write_failures : g.W.Sink.failures l.writer ≡ g.W.Sink.failures l.fn.writer;
     }
 
 abbrev pub decreases-loop-count : goal.decreases-loop-count

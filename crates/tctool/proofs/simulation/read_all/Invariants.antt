@@ -1,0 +1,16 @@
+use Rattle.std.proofs.Common.{◌≡◌, ◌≤◌, ◌++◌, ◌-◌, length}
+use Rattle.tctool.specs.Gained.{gained}
+use Rattle.tctool.specs.declared.stream.TheConstants.{MOST_OCTETS}
+use Rattle.tctool.proofs.simulation.read_all.Given as goal
+
+-- what was given is kept
+abbrev pub invariant-pieces : goal.invariant-pieces
+invariant-pieces g l = record {
+  gave : g.R.Source.given l.reader ≡ g.R.Source.given l.fn.reader ++ l.text.items;
+  kept : l.text.items ≡ gained (g.R.Source.given l.fn.reader) (g.R.Source.given l.reader);
+  short : length l.text.items ≤ MOST_OCTETS;
+  failures : g.R.Source.failures l.reader ≡ g.R.Source.failures l.fn.reader;
+}
+
+abbrev pub decreases-pieces : goal.decreases-pieces
+decreases-pieces g l = MOST_OCTETS - length l.text.items

@@ -1,0 +1,122 @@
+// `tctool sim`: plays a script of the simulated link.
+
+ghost use Rattle.std.specs.Prelude.{◌≡◌, ◌⊎◌, ◌+◌, ◌<◌, ◌≤◌, ◌^◌, ◌-◌, ◌++◌, length, true, Err, OnOk, OnErr, IfOk, IfErr};
+ghost use Rattle.script.specs.Ending.{script_ending, script_text};
+ghost use Rattle.script.specs.Playing.{answers_from};
+ghost use Rattle.script.specs.Scripts.{script_in};
+ghost use Rattle.tctool.specs.Beginning.{IsBeginning};
+ghost use Rattle.tctool.specs.Failures.{writes_failed, reads_failed_in, writes_failed_in};
+ghost use Rattle.tctool.specs.Gained.{gained};
+ghost use Rattle.tctool.specs.Outcome.{outcome_view, as_outcome};
+
+use crate::fault::DumpFault;
+use crate::outcome::Outcome;
+use crate::output::{WriteFailed, write_all};
+use crate::sink::Sink;
+use crate::source::Source;
+use crate::stream::MOST_OCTETS;
+use script::{ScriptFault, open, play_some};
+use std::alloc::Global;
+use tc_link::Sim;
+
+/// Plays a script, and writes the answers of each piece of it before the next is played.
+fn write_answers<W: Sink>(
+    alloc: Global,
+    writer: &mut W,
+    sim: &mut Sim,
+    script: &[u8],
+) -> Result<(), DumpFault>
+    ensures ok { OnOk result (W.taken_octets writer.new ≡ W.taken_octets writer.old ++ answers_from sim.old.world (script_in script.now)) }
+    ensures beginning { OnErr result (IsBeginning (W.taken_octets writer.new) (W.taken_octets writer.old ++ answers_from sim.old.world (script_in script.now))) }
+    ensures failures { W.failures writer.new ≡ W.failures writer.old + writes_failed_in result }
+    ensures faults { IfErr result (λ e. (e ≡ DumpFault.Write) ⊎ (e ≡ DumpFault.Memory)) }
+{
+    let mut text = String::new(alloc);
+    let mut rest = script;
+    'pieces: loop {
+        text.clear();
+        let Ok(behind) = play_some(alloc, sim, &mut text, rest) else {
+            return Err(DumpFault::Memory);
+        };
+        if let Err(WriteFailed) = write_all(writer, text.as_bytes()) {
+            return Err(DumpFault::Write);
+        }
+        let Some(behind) = behind else {
+            return Ok(());
+        };
+        rest = behind;
+    }
+}
+
+/// Reads the lines of a script and then plays it, where all are readable and the configuration is in
+/// range.
+fn run_script<W: Sink>(alloc: Global, writer: &mut W, script: &[u8]) -> Result<Outcome, DumpFault>
+    requires { length script.now < 2 ^ 64 - 1 }
+    ensures text { OnOk result (W.taken_octets writer.new ≡ W.taken_octets writer.old ++ script_text script.now) }
+    ensures outcome { IfOk result (λ outcome. outcome_view outcome ≡ as_outcome (script_ending script.now)) }
+    ensures beginning { OnErr result (IsBeginning (W.taken_octets writer.new) (W.taken_octets writer.old ++ script_text script.now)) }
+    ensures failures { W.failures writer.new ≡ W.failures writer.old + writes_failed_in result }
+    ensures faults { IfErr result (λ e. (e ≡ DumpFault.Write) ⊎ (e ≡ DumpFault.Memory)) }
+{
+    match open(alloc, script) {
+        Ok(mut sim) => {
+            let written = write_answers(alloc, writer, &mut sim, script);
+            match written {
+                Ok(()) => Ok(Outcome::Good),
+                Err(fault) => Err(fault),
+            }
+        }
+        Err(ScriptFault::Unreadable(line)) => Ok(Outcome::Unreadable(line)),
+        Err(ScriptFault::OutOfRange(field)) => Ok(Outcome::OutOfRange(field)),
+        Err(ScriptFault::Memory) => Err(DumpFault::Memory),
+    }
+}
+
+/// Reads the input to its end, in pieces, and keeps it.
+fn read_all<R: Source>(alloc: Global, reader: &mut R) -> Result<Vec<u8>, DumpFault>
+    ensures given { IsBeginning (R.given reader.old) (R.given reader.new) }
+    ensures all { IfOk result (λ text. text.items ≡ gained (R.given reader.old) (R.given reader.new)) }
+    ensures short { IfOk result (λ text. length text.items ≤ MOST_OCTETS) }
+    ensures end { OnOk result (R.has_ended reader.new ≡ true) }
+    ensures failures { R.failures reader.new ≡ R.failures reader.old + reads_failed_in result }
+    ensures faults { IfErr result (λ e. writes_failed e ≡ 0) }
+    ensures too_long { result ≡ Err DumpFault.TooLong → MOST_OCTETS < length (gained (R.given reader.old) (R.given reader.new)) }
+{
+    let mut text = Vec::new(alloc);
+    let mut piece = [0; 4096];
+    'pieces: loop {
+        let Ok(count) = reader.read(&mut piece) else {
+            return Err(DumpFault::Read);
+        };
+        if count == 0 {
+            return Ok(text);
+        }
+        if count as u64 > MOST_OCTETS - text.len() as u64 {
+            return Err(DumpFault::TooLong);
+        }
+        let Ok(()) = text.extend_from_slice(&piece[..count]) else {
+            return Err(DumpFault::Memory);
+        };
+    }
+}
+
+/// Reads a script to its end, and then plays it. Before the whole script is read nothing is written.
+pub fn simulate<R: Source, W: Sink>(
+    alloc: Global,
+    reader: &mut R,
+    writer: &mut W,
+) -> Result<Outcome, DumpFault>
+    ensures given { IsBeginning (R.given reader.old) (R.given reader.new) }
+    ensures text { OnOk result (W.taken_octets writer.new ≡ W.taken_octets writer.old ++ script_text (gained (R.given reader.old) (R.given reader.new))) }
+    ensures outcome { IfOk result (λ outcome. outcome_view outcome ≡ as_outcome (script_ending (gained (R.given reader.old) (R.given reader.new)))) }
+    ensures end { OnOk result (R.has_ended reader.new ≡ true) }
+    ensures beginning { OnErr result (IsBeginning (W.taken_octets writer.new) (W.taken_octets writer.old ++ script_text (gained (R.given reader.old) (R.given reader.new)))) }
+    ensures read { R.failures reader.new ≡ R.failures reader.old + reads_failed_in result }
+    ensures write { W.failures writer.new ≡ W.failures writer.old + writes_failed_in result }
+    ensures too_long { result ≡ Err DumpFault.TooLong → MOST_OCTETS < length (gained (R.given reader.old) (R.given reader.new)) }
+{
+    match read_all(alloc, reader) {
+        Ok(script) => run_script::<W>(alloc, writer, script.as_slice()),
+        Err(fault) => Err(fault),
+    }
+}
