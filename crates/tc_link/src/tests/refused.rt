@@ -18,9 +18,11 @@ fn allocate(alloc: Global, count: u16) {
 
 // A telemetry frame that carries a packet, at the beginning of `out`. Where memory is refused the calls
 // made again answer as ever.
-fn report(rt: &impl Abort, alloc: Global, config: &Config, out: &mut [u8; 2048]) {
-    let made = match Spacecraft::new(alloc, config) {
-        Err(_) => Spacecraft::new(alloc, config),
+fn report(rt: &impl Abort, alloc: Global, out: &mut [u8; 2048]) {
+    let config = Config::default();
+    assert!(rt; config.fault().is_none());
+    let made = match Spacecraft::new(alloc, &config) {
+        Err(_) => Spacecraft::new(alloc, &config),
         made => made,
     };
     if let Ok(mut craft) = made {
@@ -53,13 +55,13 @@ fn play_ground(rt: &impl Abort, alloc: Global) {
     let config = Config::default();
     assert!(rt; config.fault().is_none());
     let mut out = [0; 2048];
-    report(rt, alloc, &config, &mut out);
+    report(rt, alloc, &mut out);
     let made = match Ground::new(alloc, &config) {
         Err(_) => Ground::new(alloc, &config),
         made => made,
     };
     if let Ok(mut ground) = made {
-        takes(rt, &mut ground, &out[..64]);
+        takes(rt, &mut ground, out.get(..64).unwrap_or_default());
     }
 }
 
