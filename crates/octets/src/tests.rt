@@ -210,3 +210,16 @@ fn a_stream_outgrows_its_memory(rt: HostRuntime) {
     assert_eq!(rt; splitter.next(), None);
     assert_eq!(rt; splitter.finish(), Ok(()));
 }
+
+#[test]
+fn handing_out_takes_no_memory(rt: HostRuntime) {
+    let mut splitter: Splitter<Blocks> = Splitter::new(rt.alloc());
+    if splitter.feed(&STREAM).is_ok() {
+        let _ = eprintln!(rt; "set up");
+        assert_eq!(rt; splitter.next(), Some(Ok(&STREAM[..2])));
+        assert_eq!(rt; splitter.next(), Some(Ok(&STREAM[2..3])));
+        assert_eq!(rt; splitter.next(), Some(Ok(&STREAM[3..6])));
+        assert_eq!(rt; splitter.next(), None);
+        assert_eq!(rt; splitter.finish(), Err(BlockFault::Truncated));
+    }
+}

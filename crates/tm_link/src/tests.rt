@@ -402,3 +402,24 @@ fn a_packet_across_many_frames(rt: HostRuntime) -> Result<(), Fail> {
     }
     Ok(())
 }
+
+// A packet on its way across two frames, the first of which is taken.
+#[test]
+fn building_and_waiting_takes_no_memory(rt: HostRuntime) -> Result<(), Fail> {
+    let packet = [0x00, 0x05, 0xc0, 0x00, 0x00, 0x02, 0xaa, 0xab, 0xac];
+    let mut builder = TmBuilder::new(rt.alloc(), 1, 0, 20)?;
+    let mut found = Vec::new(rt.alloc());
+    if builder.queue(&packet).is_err() {
+        return Ok(());
+    }
+    if let Ok(mut extractor) = Extractor::new(rt.alloc()) {
+        let _ = eprintln!(rt; "set up");
+        let mut out = [0; 2048];
+        assert_eq!(rt; builder.build([0x01, 0x08, 0x00, 0x00], &mut out), 20);
+        let frame = decode(&out[..20], 20)?;
+        assert_eq!(rt; frame.pointer, Pointer::At(0));
+        assert_eq!(rt; extractor.frame(&frame, &mut found), Ok(Gap::First));
+        assert_eq!(rt; found.len(), 0);
+    }
+    Ok(())
+}

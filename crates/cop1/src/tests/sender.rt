@@ -255,3 +255,23 @@ fn a_sender_does_without_memory(rt: HostRuntime) -> Result<(), Fail> {
     assert!(rt; !fop.waiting());
     Ok(())
 }
+
+#[test]
+fn a_sender_that_is_made_takes_no_memory(rt: HostRuntime) {
+    if let Ok(mut fop) = Fop::new(rt.alloc(), 254, 127, 3, 10) {
+        let _ = eprintln!(rt; "set up");
+        run(&rt, &mut fop, &ONE_SENT);
+        run(&rt, &mut fop, &TO_S2);
+        run(
+            &rt,
+            &mut fop,
+            &[
+                Call::Pull(Some((0, 10))),
+                Call::Report(0, 1, None),
+                Call::Tick(None),
+                Call::Submit(20, Ok(())),
+            ],
+        );
+        run(&rt, &mut fop, &TO_S4);
+    }
+}
