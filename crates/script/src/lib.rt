@@ -24,3 +24,6 @@ pub use line::{Carrier, Line};
 pub use opening::{ScriptFault, open};
 pub use playing::play_some;
 pub use reading::read_line;
+
+#[cfg(test)]
+mod tests;
