@@ -1,5 +1,9 @@
 pub mod Parts
 pub mod Numerals
+pub mod HexWords
+pub mod Spaces
+pub mod Spelled
+pub mod Commands
 pub mod Digits
 pub mod Plays
 pub mod Refused

@@ -1,5 +1,6 @@
 pub mod Words
 pub mod Lines
+pub mod Spelling
 pub mod Scripts
 pub mod Answers
 pub mod Playing

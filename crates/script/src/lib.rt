@@ -19,8 +19,11 @@ mod words;
 
 pub use field::Field;
 pub use finding::{config_in, unreadable_line};
-pub use laws::law_of_numbers;
+pub use laws::{law_of_commands, law_of_numbers, law_of_octets};
 pub use line::{Carrier, Line};
 pub use opening::{ScriptFault, open};
 pub use playing::play_some;
 pub use reading::read_line;
+
+#[cfg(test)]
+mod tests;

@@ -1,5 +1,4 @@
-use Rattle.std.proofs.Common.{◌≡◌, ◌∙◌, sym, ap}
-use Rattle.std.specs.Result.{IsOkUnless}
+use Rattle.std.proofs.Common.{◌∙◌, sym, ap}
 use Rattle.tc_link.specs.Simulation.{SimState}
 use Rattle.tc_link.specs.World.{world_step}
 use Rattle.tc_link.proofs.Refusing.{refused_keeps}
