@@ -16,8 +16,9 @@ pub(crate) fn packet_len(octets: &[u8]) -> Option<usize>
     }
 }
 
-// Whether the octets are exactly one packet.
-pub(crate) fn are_one_packet(octets: &[u8]) -> bool
+/// Whether the octets are exactly one space packet, of either type, idle too: a whole one, and
+/// nothing behind it (CCSDS 133.0-B-2, 4.1).
+pub fn are_one_packet(octets: &[u8]) -> bool
     ensures { result ≡ is_packet octets.now }
 {
     match packet_len(octets) {

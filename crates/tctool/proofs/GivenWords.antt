@@ -1,5 +1,5 @@
 -- What the parser of words says of a value that it hands out: the value passed the parser of its argument.
-use Rattle.std.proofs.Common.{codes, zero, suc, ◌≡◌, ◌∙◌, ◌++◌, subst, ◌<◌, ◌≤◌, ap, ◌||◌, ◌^◌, ℕ, Bool, true, false, List, [], ◌∷◌, length, is_some, Option, Some, None, refl, sym, inl, inr, arith}
+use Rattle.std.proofs.Common.{codes, zero, suc, ◌≡◌, ◌∙◌, ◌++◌, subst, ◌<◌, ◌≤◌, ap, ◌||◌, ◌&&◌, not, eqb, ◌^◌, ℕ, Bool, true, false, List, [], ◌∷◌, length, is_some, Option, Some, None, refl, sym, inl, inr, arith}
 use Rattle.std.specs.List.{All, slice_index_or}
 use Rattle.std.specs.Prelude.{slice_index}
 use Rattle.std.specs.Str.{bytes_eq}
@@ -8,6 +8,7 @@ use Rattle.std.specs.Borrow.{Bor}
 use Rattle.std.specs.Str.Parse.{ParsesUnsigned}
 use Rattle.std.proofs.lemmas.List.Elements.{All-get_or, All-nil}
 use Rattle.std.proofs.lemmas.List.{append-nil, append_assoc}
+use Rattle.std.proofs.lemmas.Bool.{eq-eqb}
 use Rattle.std.proofs.lemmas.Slice.Eq.{bytes_eq-Decides}
 use Rattle.clap.specs.Facts.{args_of, Entry, EntryPasses, PassesArg, HasReading, parser_of, parser_of_value}
 use Rattle.clap.specs.Built.{AddsArg, AddsInTurn, HasDistinctIds, FitsChain, TakesValue, IsPlain, IsPlainArg, IsParsedFrom, IsAuto, SameRules, KeepsList}
@@ -224,7 +225,7 @@ module _ (xs : List Arg) (cmd : Command) (made : IsMadeOf xs cmd) (m : ArgMatche
           let n = number_read E G bits low high t r parser e (some t e) only fits in
           subst (λ (x : Option ℕ). IfSome x (λ n. (low ≤ n) × (n ≤ high))) (sym n.1) (n.2, n.3)
 
--- ---- a command of four arguments
+-- ---- a command of arguments that have names of their own
 
 -- an argument that can stand in a chain, whose name begins with this letter
 pub record IsNamed (a : Arg) (letter : ℕ) : Type 0 where
@@ -239,96 +240,75 @@ fits a letter h some = (h.plain, h.is_local, (λ e. let bad : 0 ≡ letter = ap 
 same_letter : (a b : Arg) (x y : ℕ) → IsNamed a x → IsNamed b y → bytes_eq a.id.now b.id.now ≡ true → x ≡ y
 same_letter a b x y p q e = sym p.begins ∙ ap (λ (l : List ℕ). slice_index l 0) ((bytes_eq-Decides a.id.now b.id.now).0 e) ∙ q.begins
 
-module _ (a b c e : Arg) (w x y z : ℕ) (p : IsNamed a w) (q : IsNamed b x) (r : IsNamed c y) (s : IsNamed e z)
-    (apart : (w ≡ x → ⊥) × (w ≡ y → ⊥) × (w ≡ z → ⊥) × (x ≡ y → ⊥) × (x ≡ z → ⊥) × (y ≡ z → ⊥)) where
-  pub distinct_four : HasDistinctIds (a ∷ b ∷ c ∷ e ∷ [])
-  distinct_four zero zero d f l m t = refl
-  distinct_four zero (suc zero) d f l m t = absurd (apart.0 (same_letter a b w x p q t))
-  distinct_four zero (suc (suc zero)) d f l m t = absurd (apart.1 (same_letter a c w y p r t))
-  distinct_four zero (suc (suc (suc zero))) d f l m t = absurd (apart.2 (same_letter a e w z p s t))
-  distinct_four zero (suc (suc (suc (suc k)))) d f l m t = absurd (omega arith)
-  distinct_four (suc zero) zero d f l m t = absurd (apart.0 (sym (same_letter b a x w q p t)))
-  distinct_four (suc zero) (suc zero) d f l m t = refl
-  distinct_four (suc zero) (suc (suc zero)) d f l m t = absurd (apart.3 (same_letter b c x y q r t))
-  distinct_four (suc zero) (suc (suc (suc zero))) d f l m t = absurd (apart.4 (same_letter b e x z q s t))
-  distinct_four (suc zero) (suc (suc (suc (suc k)))) d f l m t = absurd (omega arith)
-  distinct_four (suc (suc zero)) zero d f l m t = absurd (apart.1 (sym (same_letter c a y w r p t)))
-  distinct_four (suc (suc zero)) (suc zero) d f l m t = absurd (apart.3 (sym (same_letter c b y x r q t)))
-  distinct_four (suc (suc zero)) (suc (suc zero)) d f l m t = refl
-  distinct_four (suc (suc zero)) (suc (suc (suc zero))) d f l m t = absurd (apart.5 (same_letter c e y z r s t))
-  distinct_four (suc (suc zero)) (suc (suc (suc (suc k)))) d f l m t = absurd (omega arith)
-  distinct_four (suc (suc (suc zero))) zero d f l m t = absurd (apart.2 (sym (same_letter e a z w s p t)))
-  distinct_four (suc (suc (suc zero))) (suc zero) d f l m t = absurd (apart.4 (sym (same_letter e b z x s q t)))
-  distinct_four (suc (suc (suc zero))) (suc (suc zero)) d f l m t = absurd (apart.5 (sym (same_letter e c z y s r t)))
-  distinct_four (suc (suc (suc zero))) (suc (suc (suc zero))) d f l m t = refl
-  distinct_four (suc (suc (suc zero))) (suc (suc (suc (suc k)))) d f l m t = absurd (omega arith)
-  distinct_four (suc (suc (suc (suc j)))) k d f l m t = absurd (omega arith)
+-- arguments by the letters that their names begin with
+abbrev pub AreNamed : List Arg → List ℕ → Type 0
+AreNamed [] [] = Unit {0}
+AreNamed [] (w ∷ ws) = ⊥
+AreNamed (a ∷ xs) [] = ⊥
+AreNamed (a ∷ xs) (w ∷ ws) = IsNamed a w × AreNamed xs ws
 
-  some_letter : (0 < w) × (0 < x) × (0 < y) × (0 < z) → All FitsChain (a ∷ b ∷ c ∷ e ∷ [])
-  some_letter h = λ k d l. at k d l
-    where
-      at : (k : ℕ) (d : Arg) → k < 4 → FitsChain (slice_index_or (a ∷ b ∷ c ∷ e ∷ []) k d)
-      at zero d l = fits a w p h.0
-      at (suc zero) d l = fits b x q h.1
-      at (suc (suc zero)) d l = fits c y r h.2
-      at (suc (suc (suc zero))) d l = fits e z s h.3
-      at (suc (suc (suc (suc k)))) d l = absurd (omega arith)
+abbrev is_none_of : ℕ → List ℕ → Bool
+is_none_of w [] = true
+is_none_of w (x ∷ ws) = not (eqb w x) && is_none_of w ws
 
-  -- a command that these four made
-  pub made_of_four : (start one two three cmd : Command) → AddsArg start a one → AddsArg one b two → AddsArg two c three → AddsArg three e cmd
-      → IsBare start → (0 < w) × (0 < x) × (0 < y) × (0 < z) → IsMadeOf (a ∷ b ∷ c ∷ e ∷ []) cmd
-  made_of_four start one two three cmd f g h i bare letters = record {
-    start = start;
-    chain = (one, f, (two, g, (three, h, (cmd, i, refl))));
-    bare = bare;
-    fit = some_letter letters;
-    distinct = distinct_four;
-  }
+-- letters of which no two are the same
+abbrev pub are_letters : List ℕ → Bool
+are_letters [] = true
+are_letters (w ∷ ws) = not (eqb w 0) && (is_none_of w ws && are_letters ws)
 
--- ---- a command of one argument, and of two
+both : (a b : Bool) → a && b ≡ true → (a ≡ true) × (b ≡ true)
+both true b h = (refl, h)
+both false b h = absurd cc
 
-module _ (a : Arg) (w : ℕ) (p : IsNamed a w) where
-  fit_one : 0 < w → All FitsChain (a ∷ [])
-  fit_one some zero d l = fits a w p some
-  fit_one some (suc k) d l = absurd (omega arith)
+apart : (w x : ℕ) → not (eqb w x) ≡ true → w ≡ x → ⊥
+apart w x h e = let bad : not true ≡ true = subst (λ (b : Bool). not b ≡ true) (eq-eqb w x e) h in absurd cc
 
-  distinct_one : HasDistinctIds (a ∷ [])
-  distinct_one zero zero d f l m t = refl
-  distinct_one zero (suc k) d f l m t = absurd (omega arith)
-  distinct_one (suc j) k d f l m t = absurd (omega arith)
+some_letter : (w : ℕ) → not (eqb w 0) ≡ true → 0 < w
+some_letter zero h = absurd (apart 0 0 h refl)
+some_letter (suc n) h = omega arith
 
-  pub made_of_one : (start cmd : Command) → AddsArg start a cmd → IsBare start → 0 < w → IsMadeOf (a ∷ []) cmd
-  made_of_one start cmd f bare some = record {
-    start = start;
-    chain = (cmd, f, refl);
-    bare = bare;
-    fit = fit_one some;
-    distinct = distinct_one;
-  }
+parted : (w : ℕ) (ws : List ℕ) → are_letters (w ∷ ws) ≡ true → (not (eqb w 0) ≡ true) × (is_none_of w ws ≡ true) × (are_letters ws ≡ true)
+parted w ws h =
+    let some = both (not (eqb w 0)) (is_none_of w ws && are_letters ws) h in
+    let others = both (is_none_of w ws) (are_letters ws) some.1 in
+    (some.0, others.0, others.1)
 
-module _ (a b : Arg) (w x : ℕ) (p : IsNamed a w) (q : IsNamed b x) where
-  fit_two : 0 < w → 0 < x → All FitsChain (a ∷ b ∷ [])
-  fit_two some other zero d l = fits a w p some
-  fit_two some other (suc zero) d l = fits b x q other
-  fit_two some other (suc (suc k)) d l = absurd (omega arith)
+fit_all : (xs : List Arg) (ws : List ℕ) → AreNamed xs ws → are_letters ws ≡ true → All FitsChain xs
+fit_all [] ws named letters k d lt = absurd (omega arith)
+fit_all (a ∷ xs) [] named letters k d lt = absurd named
+fit_all (a ∷ xs) (w ∷ ws) named letters zero d lt = fits a w named.0 (some_letter w (parted w ws letters).0)
+fit_all (a ∷ xs) (w ∷ ws) named letters (suc k) d lt = fit_all xs ws named.1 (parted w ws letters).2 k d (omega arith)
 
-  distinct_two : (w ≡ x → ⊥) → HasDistinctIds (a ∷ b ∷ [])
-  distinct_two apart zero zero d f l m t = refl
-  distinct_two apart zero (suc zero) d f l m t = absurd (apart (same_letter a b w x p q t))
-  distinct_two apart zero (suc (suc k)) d f l m t = absurd (omega arith)
-  distinct_two apart (suc zero) zero d f l m t = absurd (apart (sym (same_letter b a x w q p t)))
-  distinct_two apart (suc zero) (suc zero) d f l m t = refl
-  distinct_two apart (suc zero) (suc (suc k)) d f l m t = absurd (omega arith)
-  distinct_two apart (suc (suc j)) k d f l m t = absurd (omega arith)
+other_name : (a : Arg) (w : ℕ) (xs : List Arg) (ws : List ℕ) → IsNamed a w → AreNamed xs ws → is_none_of w ws ≡ true → (k : ℕ) (d : Arg) → k < length xs
+    → bytes_eq a.id.now (slice_index_or xs k d).id.now ≡ true → ⊥
+other_name a w [] ws own named none k d lt same = absurd (omega arith)
+other_name a w (b ∷ xs) [] own named none k d lt same = named
+other_name a w (b ∷ xs) (x ∷ ws) own named none zero d lt same = apart w x (both (not (eqb w x)) (is_none_of w ws) none).0 (same_letter a b w x own named.0 same)
+other_name a w (b ∷ xs) (x ∷ ws) own named none (suc k) d lt same = other_name a w xs ws own named.1 (both (not (eqb w x)) (is_none_of w ws) none).1 k d (omega arith) same
 
-  pub made_of_two : (start one cmd : Command) → AddsArg start a one → AddsArg one b cmd → IsBare start → 0 < w → 0 < x → (w ≡ x → ⊥) → IsMadeOf (a ∷ b ∷ []) cmd
-  made_of_two start one cmd f g bare some other apart = record {
-    start = start;
-    chain = (one, f, (cmd, g, refl));
-    bare = bare;
-    fit = fit_two some other;
-    distinct = distinct_two apart;
-  }
+turned : (a b : List ℕ) → bytes_eq a b ≡ true → bytes_eq b a ≡ true
+turned a b e = (bytes_eq-Decides b a).1 (sym ((bytes_eq-Decides a b).0 e))
+
+distinct_all : (xs : List Arg) (ws : List ℕ) → AreNamed xs ws → are_letters ws ≡ true → HasDistinctIds xs
+distinct_all [] ws named letters j k d f l m t = absurd (omega arith)
+distinct_all (a ∷ xs) [] named letters j k d f l m t = absurd named
+distinct_all (a ∷ xs) (w ∷ ws) named letters zero zero d f l m t = refl
+distinct_all (a ∷ xs) (w ∷ ws) named letters zero (suc k) d f l m t =
+    absurd (other_name a w xs ws named.0 named.1 (parted w ws letters).1 k d (omega arith) t)
+distinct_all (a ∷ xs) (w ∷ ws) named letters (suc j) zero d f l m t =
+    absurd (other_name a w xs ws named.0 named.1 (parted w ws letters).1 j f (omega arith) (turned (slice_index_or xs j f).id.now a.id.now t))
+distinct_all (a ∷ xs) (w ∷ ws) named letters (suc j) (suc k) d f l m t =
+    ap suc (distinct_all xs ws named.1 (parted w ws letters).2 j k d f (omega arith) (omega arith) t)
+
+-- a command that these made, one after another
+pub made_of : (xs : List Arg) (ws : List ℕ) → AreNamed xs ws → are_letters ws ≡ true → (start cmd : Command) → AddsInTurn AddsArg start xs cmd → IsBare start → IsMadeOf xs cmd
+made_of xs ws named letters start cmd chain bare = record {
+  start = start;
+  chain = chain;
+  bare = bare;
+  fit = fit_all xs ws named letters;
+  distinct = distinct_all xs ws named letters;
+}
 
 -- ---- the arguments of the commands
 
@@ -349,6 +329,9 @@ check_named a id h = option_named a (codes "check") id (λ e. omega arith) (λ e
 
 pub width_named : (a : Arg) → a.id.now ≡ codes "width" → IsPlainArg a × (a.global ≡ false) → IsNamed a 119
 width_named a id h = option_named a (codes "width") id (λ e. omega arith) (λ e. omega arith) h
+
+pub blocking_named : (a : Arg) → a.id.now ≡ codes "blocking" → IsPlainArg a × (a.global ≡ false) → IsNamed a 98
+blocking_named a id h = option_named a (codes "blocking") id (λ e. omega arith) (λ e. omega arith) h
 
 pub vr_named : (a : Arg) → a.id.now ≡ codes "vr" → IsPlainArg a × (a.global ≡ false) → IsNamed a 118
 vr_named a id h = option_named a (codes "vr") id (λ e. omega arith) (λ e. omega arith) h

@@ -1,3 +1,4 @@
 pub mod GivenWords
 pub mod Listed
 pub mod Beginnings
+pub mod ToldPackets

@@ -5,6 +5,8 @@ pub mod Text
 pub mod Cutting
 pub mod FarmLines
 pub mod FrameLines
+pub mod MapLines
+pub mod ToldPackets
 pub mod RefusalLines
 pub mod PacketLines
 pub mod TelemetryLines

@@ -8,6 +8,7 @@ use Rattle.tctool.specs.declared.task.UsageFault.TheVariants.{Words, OddWidth}
 
 abbrev pub IsInRange : Task → Type 0
 IsInRange (tasks.Farm check width vr) = IsWidth width × (vr < 256)
+IsInRange (tasks.Map check width vr blocking) = IsWidth width × (vr < 256)
 IsInRange (tasks.Tc check) = Unit {0}
 IsInRange (tasks.Tm length) = (16 ≤ length) × (length ≤ 2048)
 IsInRange tasks.Check = Unit {0}

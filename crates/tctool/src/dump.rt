@@ -12,6 +12,7 @@ ghost use Rattle.tctool.specs.declared.task.Task.TheVariants as tasks;
 use crate::fault::DumpFault;
 use crate::frame_cutter::{FrameCutter, FrameLength};
 use crate::frames::FrameListing;
+use crate::mapping::MapListing;
 use crate::outcome::Outcome;
 use crate::packets::PacketListing;
 use crate::refusals::RefusalListing;
@@ -61,6 +62,18 @@ pub fn dump<R: Source, W: Sink>(
             match check {
                 Check::On => list_stream(alloc, reader, writer, checked, farm),
                 Check::Off => list_stream(alloc, reader, writer, unchecked, farm),
+            }
+        }
+        Task::Map {
+            check,
+            width,
+            vr,
+            blocking,
+        } => {
+            let packets = MapListing::new(alloc, width, vr, blocking);
+            match check {
+                Check::On => list_stream(alloc, reader, writer, checked, packets),
+                Check::Off => list_stream(alloc, reader, writer, unchecked, packets),
             }
         }
         Task::Tc { check } => {

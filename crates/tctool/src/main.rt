@@ -1,5 +1,6 @@
 //! The command `tctool`: what files of telecommand frames, telemetry frames and space packets hold, what a
-//! receiver makes of telecommand frames, and what scripts of a simulated link answer.
+//! receiver makes of telecommand frames and which packets come out of them, and what scripts of a simulated
+//! link answer.
 #![tactic(auto)]
 
 ghost use Rattle.tctool.specs.Ranges.{IsInRange};
@@ -13,6 +14,7 @@ mod frame_cutter;
 mod frames;
 mod given;
 mod listing;
+mod mapping;
 mod outcome;
 mod output;
 mod packets;

@@ -8,12 +8,28 @@ use tc_frame::Check;
 pub enum Task {
     /// Tells what a receiver makes of each frame: one of this window width, even, 2 to 254, that
     /// expects the number `vr` first.
-    Farm { check: Check, width: u8, vr: u8 },
+    Farm {
+        check: Check,
+        width: u8,
+        vr: u8,
+    },
+    /// Tells the packets out of the frames that such a receiver accepts, where a segment may hold
+    /// several packets or, with no blocking, one.
+    Map {
+        check: Check,
+        width: u8,
+        vr: u8,
+        blocking: bool,
+    },
     /// Tells what each telecommand frame says.
-    Tc { check: Check },
+    Tc {
+        check: Check,
+    },
     /// Tells what each telemetry frame says, of frames of this length, 16 to 2,048 octets, and the
     /// packets that are finished with it.
-    Tm { length: u16 },
+    Tm {
+        length: u16,
+    },
     /// Tells the frames that are refused, of frames that end with their check.
     Check,
     /// Tells what each space packet says.

@@ -6,6 +6,7 @@ mod beginnings;
 mod carrying;
 mod devices;
 mod given;
+mod map_rows;
 mod rows;
 mod scripts;
 mod usage;
@@ -29,7 +30,7 @@ fn is_in_range(rt: &impl Abort, task: Task)
     ensures { IsInRange task }
 {
     match task {
-        Task::Farm { width, .. } => {
+        Task::Farm { width, .. } | Task::Map { width, .. } => {
             assert!(rt; width % 2 == 0 && 2 <= width && width <= 254);
         }
         Task::Tc { .. } => {}

@@ -6,6 +6,7 @@ ghost use Rattle.tctool.specs.Ranges.{IsInRange, IsOddIfWidth};
 mod arguments;
 mod farm;
 mod files;
+mod map;
 mod tm;
 
 use crate::task::{Options, UsageFault};
@@ -25,6 +26,7 @@ pub fn options<'a>(alloc: Global, words: &'a [&'a str]) -> Result<Options<'a>, U
     if let [_, command, ..] = words {
         match *command {
             "farm" => return farm::farm_options(alloc, &words[1..]),
+            "map" => return map::map_options(alloc, &words[1..]),
             "tc" => return files::tc_options(alloc, &words[1..]),
             "tm" => return tm::tm_options(alloc, &words[1..]),
             "check" => return files::check_options(alloc, &words[1..]),
@@ -47,6 +49,7 @@ fn help_of(alloc: Global, command: &str) -> Option<UsageFault>
 {
     let asked = match command {
         "farm" => farm::farm_options(alloc, &["farm", "--help"]),
+        "map" => map::map_options(alloc, &["map", "--help"]),
         "tc" => files::tc_options(alloc, &["tc", "--help"]),
         "tm" => tm::tm_options(alloc, &["tm", "--help"]),
         "check" => files::check_options(alloc, &["check", "--help"]),
@@ -80,7 +83,8 @@ fn no_command<'a>(alloc: Global, words: &'a [&'a str]) -> Result<Error, AllocErr
         .after_help(ending_of_help!("3 BC unlock Open vr=0 l=0 w=0 t=0 b=1"))
         .subcommand_required(true);
     let with_farm = listed(alloc, start, farm::FARM)?;
-    let with_tc = listed(alloc, with_farm, files::TC)?;
+    let with_map = listed(alloc, with_farm, map::MAP)?;
+    let with_tc = listed(alloc, with_map, files::TC)?;
     let with_tm = listed(alloc, with_tc, tm::TM)?;
     let with_check = listed(alloc, with_tm, files::CHECK)?;
     let with_packets = listed(alloc, with_check, files::PACKETS)?;

@@ -17,7 +17,7 @@ fn farm(check: Check, width: u8, vr: u8) -> Task {
     Task::Farm { check, width, vr }
 }
 
-fn good(task: Task, octets: &'static [u8], text: &'static str) -> Row {
+pub fn good(task: Task, octets: &'static [u8], text: &'static str) -> Row {
     Row {
         task,
         octets,

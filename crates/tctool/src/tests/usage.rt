@@ -46,6 +46,55 @@ fn asks_for(rt: &impl Abort, alloc: Global, words: &[&str], task: Task) {
 }
 
 #[test]
+fn words_of_map(rt: HostRuntime) {
+    let plain = Task::Map {
+        check: Check::Off,
+        width: 254,
+        vr: 0,
+        blocking: false,
+    };
+    asks_for(&rt, rt.alloc(), &["tctool", "map", "frames"], plain);
+    let narrow = Task::Map {
+        check: Check::On,
+        width: 10,
+        vr: 255,
+        blocking: true,
+    };
+    let words = [
+        "tctool",
+        "map",
+        "--check",
+        "--width",
+        "10",
+        "--vr",
+        "255",
+        "--blocking",
+        "frames",
+    ];
+    asks_for(&rt, rt.alloc(), &words, narrow);
+    for words in [
+        ["tctool", "map", "--width", "255", "frames"],
+        ["tctool", "map", "--vr", "256", "frames"],
+        ["tctool", "map", "--blocking", "--block", "frames"],
+    ] {
+        assert_eq!(rt; status_of_words(rt.alloc(), &words), Some(2));
+    }
+    assert_eq!(rt; status_of_words(rt.alloc(), &["tctool", "map"]), Some(2));
+    let odd = options(rt.alloc(), &["tctool", "map", "--width", "253", "frames"]);
+    assert!(rt; matches!(odd, Err(UsageFault::OddWidth { width: 253 })));
+}
+
+#[test]
+fn words_of_help_of_map(rt: HostRuntime) -> Result<(), AllocError> {
+    let alloc = rt.alloc();
+    let line = "packet 4 1005C0000000AA";
+    says_with_status(&rt, alloc, &["tctool", "help", "map"], line, 0)?;
+    let help = ["tctool", "map", "--help"];
+    says_with_status(&rt, alloc, &help, "A segment may hold several packets", 0)?;
+    says_with_status(&rt, alloc, &["tctool", "--help"], "the packets out of", 0)
+}
+
+#[test]
 fn words_without_numbers(rt: HostRuntime) {
     let unchecked = Task::Tc { check: Check::Off };
     let checked = Task::Tc { check: Check::On };

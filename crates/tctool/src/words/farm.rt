@@ -1,6 +1,7 @@
 // The words of `tctool farm`.
 
 ghost use Rattle.std.specs.Prelude.{◌≡◌, ◌≤◌, false, codes, pos, Some, IfOk, IfErr, IfSome};
+ghost use Rattle.cop1.specs.Farm.{IsWidth};
 ghost use Rattle.tctool.specs.Ranges.{IsInRange, IsOddIfWidth};
 ghost use Rattle.clap.specs.Built.{IsPlainArg};
 ghost use Rattle.clap.specs.declared.builder.value_parser.ValueParser.TheVariants as parsers;
@@ -25,10 +26,7 @@ pub fn farm_options<'a>(alloc: Global, words: &'a [&'a str]) -> Result<Options<'
     ensures odd { IfErr result IsOddIfWidth }
 {
     let given = farm_words(alloc, FARM, words)?;
-    let width = given.width.unwrap_or(254);
-    if width % 2 == 1 {
-        return Err(UsageFault::OddWidth { width });
-    }
+    let width = even_width(given.width)?;
     Ok(Options {
         task: Task::Farm {
             check: check_of_flag(given.check),
@@ -37,6 +35,19 @@ pub fn farm_options<'a>(alloc: Global, words: &'a [&'a str]) -> Result<Options<'
         },
         file: given.file,
     })
+}
+
+/// The width that is given, or else 254, where it is even.
+pub fn even_width(given: Option<u8>) -> Result<u8, UsageFault>
+    requires { IfSome given (λ n. (2 ≤ n) × (n ≤ 254)) }
+    ensures even { IfOk result IsWidth }
+    ensures odd { IfErr result IsOddIfWidth }
+{
+    let width = given.unwrap_or(254);
+    if width % 2 == 1 {
+        return Err(UsageFault::OddWidth { width });
+    }
+    Ok(width)
 }
 
 /// The words of `tctool farm` as they were given.
@@ -48,8 +59,8 @@ struct FarmWords<'a> {
     file: &'a str,
 }
 
-// `--width W`, the width of the window.
-fn width_option<'a>(alloc: Global) -> Arg<'a>
+/// `--width W`, the width of the window.
+pub fn width_option<'a>(alloc: Global) -> Arg<'a>
     ensures id { result.id.now ≡ codes "width" }
     ensures plain { IsPlainArg result × (result.global ≡ false) }
     ensures parser { result.value_parser ≡ Some (parsers.Signed (pos 2) (pos 254)) }
@@ -62,8 +73,8 @@ fn width_option<'a>(alloc: Global) -> Arg<'a>
         .action(ArgAction::Set)
 }
 
-// `--vr N`, the number of the first frame that is expected.
-fn vr_option<'a>(alloc: Global) -> Arg<'a>
+/// `--vr N`, the number of the first frame that is expected.
+pub fn vr_option<'a>(alloc: Global) -> Arg<'a>
     ensures id { result.id.now ≡ codes "vr" }
     ensures plain { IsPlainArg result × (result.global ≡ false) }
 {
