@@ -138,7 +138,8 @@ read_behind digits octets false long e =
     let even = (decode_of-ok digits octets decoded).0 in
     some_pairs octets digits long (read_pairs 0 digits octets (sym (decode_of-even digits even) ∙ decoded))
 
-read_word : (digits octets : List ℕ) (dash : Bool) → bytes_eq digits (codes "-") ≡ dash → cond dash (Some []) (cond (length digits == 0) None (result_ok (decode_of digits))) ≡ Some octets → IsHex octets digits
+read_word : (digits octets : List ℕ) (dash : Bool) → bytes_eq digits (codes "-") ≡ dash
+    → cond dash (Some []) (cond (length digits == 0) None (result_ok (decode_of digits))) ≡ Some octets → IsHex octets digits
 read_word digits octets true is e =
     let same : digits ≡ codes "-" = (bytes_eq-Decides digits (codes "-")).0 is in
     let none : [] ≡ octets = ap (λ (o : Option (List ℕ)). unwrap_or o []) e in
