@@ -35,7 +35,8 @@ module _ (check : Check) (m : ℕ) where
   IsTold records = (x : MapState) (segments : List SegmentView) → length x.assembler.parts ≡ 64 → HasPartsOf x.assembler segments
       → assembled x.assembler.limits m (segments ++ accepted_in check x.receiver records) ≡ assembled x.assembler.limits m segments ++ told_on check m x records
 
-  behind_segment : (records : List (List ℕ)) → IsTold records → (r : FarmState) (a : AssemblerState) (segments : List SegmentView) → length a.parts ≡ 64 → HasPartsOf a segments → (o : Option SegmentView)
+  behind_segment : (records : List (List ℕ)) → IsTold records → (r : FarmState) (a : AssemblerState) (segments : List SegmentView) → length a.parts ≡ 64 → HasPartsOf a segments
+      → (o : Option SegmentView)
       → assembled a.limits m (segments ++ (as_list o ++ accepted_in check r records))
       ≡ assembled a.limits m segments ++ (told_at m a o ++ told_on check m (record { receiver = r; assembler = after_segment a o }) records)
   behind_segment records told r a segments count has None = told (record { receiver = r; assembler = a }) segments count has
@@ -48,7 +49,8 @@ module _ (check : Check) (m : ℕ) where
       ∙ ap (λ (ps : List (List ℕ)). ps ++ told_on check m x records) (told_once m a segments s exact)
       ∙ append_assoc (assembled a.limits m segments) (told_at m a (Some s)) (told_on check m x records)
 
-  behind_record : (records : List (List ℕ)) → IsTold records → (x : MapState) (segments : List SegmentView) → length x.assembler.parts ≡ 64 → HasPartsOf x.assembler segments → (f : Result FrameView TcFault)
+  behind_record : (records : List (List ℕ)) → IsTold records → (x : MapState) (segments : List SegmentView) → length x.assembler.parts ≡ 64 → HasPartsOf x.assembler segments
+      → (f : Result FrameView TcFault)
       → assembled x.assembler.limits m (segments ++ (as_list (segment_in x.receiver f) ++ accepted_in check (farms.after_frame x.receiver f) records))
       ≡ assembled x.assembler.limits m segments ++ (told_at m x.assembler (segment_in x.receiver f) ++ told_on check m (after_frame x f) records)
   behind_record records told x segments count has (Ok f) =
@@ -65,7 +67,8 @@ module _ (check : Check) (m : ℕ) where
   none_either false = refl
 
   -- and so from the first frame on
-  pub told_of_all : (width vr : ℕ) (blocking : Bool) (records : List (List ℕ)) → told_on check m (map_opened width vr blocking) records ≡ assembled (map_limits blocking) m (accepted_in check (opened width vr) records)
+  pub told_of_all : (width vr : ℕ) (blocking : Bool) (records : List (List ℕ))
+      → told_on check m (map_opened width vr blocking) records ≡ assembled (map_limits blocking) m (accepted_in check (opened width vr) records)
   told_of_all width vr blocking records =
       let nothing : Option (List ℕ) = None in
       let x : MapState = map_opened width vr blocking in

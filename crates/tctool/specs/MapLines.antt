@@ -1,5 +1,5 @@
--- The lines of `tctool map`: the packets out of each frame, by the receiver's table and then the assembler's, and what is
--- dropped.
+-- The lines of `tctool map`: the packets out of each frame, by the receiver's table and then by the assembler's, and what
+-- is dropped.
 use Rattle.std.specs.Prelude.{ℕ, is_ok, Bool, true, false, ◌&&◌, List, [], ◌∷◌, ◌++◌, map, replicate, codes, decimal, if◌then◌else◌, Option, Some, None, Result, Ok, Err}
 use Rattle.std.specs.List.{concat}
 use Rattle.tc_frame.specs.declared.frame.Check.{Check}
@@ -110,7 +110,8 @@ abbrev pub is_bypass : SegmentView → Bool
 is_bypass s = are_alone s.header.flags && is_packet s.payload
 
 abbrev pub bypass_text : ℕ → SegmentView → List ℕ
-bypass_text i s = if is_bypass s then on_map_line (codes "bypass ") s.header.map s.payload else dropped_line i (codes "Bypass")
+bypass_text i s =
+    if is_bypass s then on_map_line (codes "bypass ") s.header.map s.payload else dropped_line i (codes "Bypass")
 
 -- the lines of a frame
 abbrev pub body_text : MapState → ℕ → BodyView → List ℕ

@@ -10,7 +10,11 @@ unwrap-requires c =
     let l = c.length_option-length in
     let f = c.file_argument-file in
     let made = made_of (l.result ∷ f.result ∷ []) (108 ∷ 70 ∷ []) (length_named l.result l.ensures.id l.ensures.plain, (file_named f.result f.ensures.id f.ensures.plain, tt)) refl
-    c.in_ok-start.start c.in_ok-command.command (c.in_ok-with_length.with_length, c.in_ok-with_length.ensures, (c.in_ok-command.command, c.in_ok-command.ensures, refl)) c.in_ok-start.ensures in
+    c.in_ok-start.start c.in_ok-command.command (
+      c.in_ok-with_length.with_length,
+      c.in_ok-with_length.ensures,
+      (c.in_ok-command.command, c.in_ok-command.ensures, refl),
+    ) c.in_ok-start.ensures in
     let same = ap (one_text (found_of c.in_ok-matches.matches)) l.ensures.id in
     let n = required_number (l.result ∷ f.result ∷ []) c.in_ok-command.command made c.in_ok-matches.matches c.in_ok-matches.ensures.parsed 0 l.result (omega arith)
     _ (λ bs r. ParsesUnsigned 16 10 bs r × ExplainsUnsignedError 10 bs r × HasUnsignedDigitsIfOk bs r) 16 16 2048 c.get_one.result l.ensures.parser l.ensures.takes
@@ -22,7 +26,11 @@ unwrap-requires-2 c =
     let l = c.length_option-length in
     let f = c.file_argument-file in
     let made = made_of (l.result ∷ f.result ∷ []) (108 ∷ 70 ∷ []) (length_named l.result l.ensures.id l.ensures.plain, (file_named f.result f.ensures.id f.ensures.plain, tt)) refl
-    c.in_ok-start.start c.in_ok-command.command (c.in_ok-with_length.with_length, c.in_ok-with_length.ensures, (c.in_ok-command.command, c.in_ok-command.ensures, refl)) c.in_ok-start.ensures in
+    c.in_ok-start.start c.in_ok-command.command (
+      c.in_ok-with_length.with_length,
+      c.in_ok-with_length.ensures,
+      (c.in_ok-command.command, c.in_ok-command.ensures, refl),
+    ) c.in_ok-start.ensures in
     text_given (l.result ∷ f.result ∷ []) c.in_ok-command.command made c.in_ok-matches.matches c.in_ok-matches.ensures.parsed 1 l.result (omega arith) f.ensures.takes _ f.ensures.id c.get_str.result c.get_str.ensures
 
 pub returns : goal.returns
@@ -30,7 +38,11 @@ returns c =
     let l = c.length_option-length in
     let f = c.file_argument-file in
     let made = made_of (l.result ∷ f.result ∷ []) (108 ∷ 70 ∷ []) (length_named l.result l.ensures.id l.ensures.plain, (file_named f.result f.ensures.id f.ensures.plain, tt)) refl
-    c.in_ok-start.start c.in_ok-command.command (c.in_ok-with_length.with_length, c.in_ok-with_length.ensures, (c.in_ok-command.command, c.in_ok-command.ensures, refl)) c.in_ok-start.ensures in
+    c.in_ok-start.start c.in_ok-command.command (
+      c.in_ok-with_length.with_length,
+      c.in_ok-with_length.ensures,
+      (c.in_ok-command.command, c.in_ok-command.ensures, refl),
+    ) c.in_ok-start.ensures in
     let same = ap (one_text (found_of c.in_ok-matches.matches)) l.ensures.id in
     let n = required_number (l.result ∷ f.result ∷ []) c.in_ok-command.command made c.in_ok-matches.matches c.in_ok-matches.ensures.parsed 0 l.result (omega arith)
     _ (λ bs r. ParsesUnsigned 16 10 bs r × ExplainsUnsignedError 10 bs r × HasUnsignedDigitsIfOk bs r) 16 16 2048 c.get_one.result l.ensures.parser l.ensures.takes
