@@ -1,10 +1,12 @@
-// Runs of a spacecraft, and sessions on a simulated link, in octets worked by hand.
+// Runs of the nodes, and sessions on a simulated link, in octets worked by hand.
 
 mod carrying;
+mod lines;
+mod nodes;
 mod play;
 mod refused;
+mod refusing;
 mod sessions;
-mod spacecraft;
 
 use super::*;
 
@@ -14,3 +16,18 @@ const P1: [u8; 7] = [0x10, 0x05, 0xc0, 0x01, 0x00, 0x00, 0xab];
 
 // The command Unlock.
 const UNLOCK: [u8; 8] = [0x30, 0x01, 0x08, 0x07, 0x00, 0x00, 0x8b, 0x9e];
+
+#[test]
+fn config_ranges(rt: HostRuntime) {
+    let config = Config::default();
+    assert_eq!(rt; config.fault(), None);
+    let narrow = Config {
+        width: 10,
+        ..config
+    };
+    assert_eq!(rt; narrow.fault(), Some("window"));
+    let odd = Config { width: 3, ..narrow };
+    assert_eq!(rt; odd.fault(), Some("width"));
+    assert_eq!(rt; LinkFault::Memory.number(), 6);
+    assert_eq!(rt; LinkFault::Memory.name(), "Memory");
+}

@@ -172,7 +172,7 @@ fn every_seventh_frame_lost(rt: HostRuntime) -> Result<(), Fail> {
         ..Config::default()
     };
     let mut carrier = Carrier {
-        play: Play::new(rt.alloc(), config)?,
+        play: Play::new(&rt, rt.alloc(), config)?,
         packets: packets(rt.alloc())?,
         fields: fields(rt.alloc())?,
         compared: Lengths {

@@ -65,11 +65,11 @@ const LINES: &str = "ok\n\
         gap=0 packets=0\n\
         clean=yes state=S1 submitted=3 delivered=3 sent=3 accepted=3 acknowledged=3 outstanding=0\n";
 
-pub fn lose_one_frame(rt: &impl Abort, alloc: Global) -> Result<(), Fail> {
+pub fn lose_one_frame(rt: &(impl Abort + Eprint), alloc: Global) -> Result<(), Fail> {
     plays(rt, alloc, Config::default(), &ONE_FRAME_LOST, LINES)
 }
 
-pub fn run_and_lose_one_frame(rt: &impl Abort, alloc: Global) -> Result<(), Fail> {
+pub fn run_and_lose_one_frame(rt: &(impl Abort + Eprint), alloc: Global) -> Result<(), Fail> {
     runs(rt, alloc, Config::default(), &ONE_FRAME_LOST, LINES)
 }
 
@@ -421,11 +421,68 @@ const BOTH_LINES: &str = "ok\n\
         nothing\n\
         clean=none state=S6 submitted=0 delivered=0 sent=0 accepted=0 acknowledged=0 outstanding=0\n";
 
-pub fn carry_both_ways(rt: &impl Abort, alloc: Global) -> Result<(), Fail> {
+pub fn carry_both_ways(rt: &(impl Abort + Eprint), alloc: Global) -> Result<(), Fail> {
     plays(rt, alloc, Config::default(), &BOTH_WAYS, BOTH_LINES)
 }
 
 #[test]
 fn bypass_and_telemetry(rt: HostRuntime) -> Result<(), Fail> {
     carry_both_ways(&rt, rt.alloc())
+}
+
+// Each event that takes no memory, and where there is nothing in transit.
+const WITHOUT_MEMORY: [Event; 19] = [
+    Event::Directive(Directive::InitWithoutCheck),
+    Event::Submit(4, &P0),
+    Event::Send,
+    Event::UpDeliver,
+    Event::Take,
+    Event::Take,
+    Event::TakeBypass,
+    Event::Tick,
+    Event::Send,
+    Event::UpDamage(&DAMAGED),
+    Event::UpDamage(&DAMAGED),
+    Event::UpLose,
+    Event::Report,
+    Event::Report,
+    Event::DownLose,
+    Event::DownDamage(&P0),
+    Event::DownLose,
+    Event::Directive(Directive::SetWindow(128)),
+    Event::Directive(Directive::Terminate),
+];
+
+const WITHOUT_LINES: &str = "ok\n\
+        ok\n\
+        sent 0001080E00C41005C0000000AAE75D\n\
+        AD 0 accepted ready\n\
+        packet 4 1005C0000000AA\n\
+        nothing\n\
+        nothing\n\
+        ok\n\
+        sent 0001080E00C41005C0000000AAE75D\n\
+        invalid 6 Check\n\
+        refused 7 NothingInTransit\n\
+        refused 7 NothingInTransit\n\
+        report 01080001\n\
+        report 01080001\n\
+        lost\n\
+        invalid 1 Length\n\
+        refused 7 NothingInTransit\n\
+        refused 2 Window\n\
+        alert Terminated\n\
+        clean=yes state=S6 submitted=1 delivered=1 sent=1 accepted=1 acknowledged=0 outstanding=0\n";
+
+pub fn lose_and_take(rt: &(impl Abort + Eprint), alloc: Global) -> Result<(), Fail> {
+    let config = Config {
+        timer: 1,
+        ..Config::default()
+    };
+    plays(rt, alloc, config, &WITHOUT_MEMORY, WITHOUT_LINES)
+}
+
+#[test]
+fn frames_lost_and_packets_taken(rt: HostRuntime) -> Result<(), Fail> {
+    lose_and_take(&rt, rt.alloc())
 }

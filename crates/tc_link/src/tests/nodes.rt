@@ -1,0 +1,7 @@
+// Each node by itself, and each of its growths refused in turn: a test here says each growth that is
+// refused, and makes one more at its end.
+
+mod ground;
+mod play_ground;
+mod play_spacecraft;
+mod spacecraft;
