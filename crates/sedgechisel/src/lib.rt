@@ -2,3 +2,6 @@
 #![tactic(auto)]
 
 mod checking;
+mod control_word;
+mod numbers;
+mod receiver;
