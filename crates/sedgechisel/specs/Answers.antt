@@ -22,3 +22,13 @@ status_of (Err number) = number
 abbrev pub left_by : {A S : Type 0} → (A → S) → Result A ℕ → S → S
 left_by fields (Ok x) old = fields x
 left_by fields (Err number) old = old
+
+-- the answer of a call that has first another's answer
+abbrev pub and_then : {A B : Type 0} → Result A ℕ → (A → Result B ℕ) → Result B ℕ
+and_then (Ok x) next = next x
+and_then (Err number) next = Err number
+
+-- the value, where the call answers
+abbrev pub if_ok : {A B : Type 0} → Result B ℕ → A → Result A ℕ
+if_ok (Ok count) x = Ok x
+if_ok (Err number) x = Err number

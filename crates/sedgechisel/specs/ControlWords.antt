@@ -1,5 +1,5 @@
 -- Control words as C has them.
-use Rattle.std.specs.Prelude.{ℕ, List, length, ◌==◌, if◌then◌else◌, Result, Ok, Err}
+use Rattle.std.specs.Prelude.{ℕ, List, length, ◌==◌, if◌then◌else◌, Result, Err}
 use Rattle.clcw.specs.declared.word.Clcw.{Clcw}
 use Rattle.clcw.specs.Faults.{fault_number}
 use Rattle.clcw.specs.Flags.{bits_of, flags_of}

@@ -2,6 +2,10 @@
 #![tactic(auto)]
 
 mod checking;
+mod command_frame;
 mod control_word;
 mod numbers;
+mod packet;
+mod part;
 mod receiver;
+mod report_frame;
