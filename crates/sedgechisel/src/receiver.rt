@@ -229,18 +229,18 @@ fn count_type_b(farm: &mut Farm, count: u8)
 }
 
 // The flags are brought about by what sets them: a frame without room, and a frame outside both windows.
-fn set_flags(farm: &mut Farm, fields: &Receiver)
-    requires start { farm.old ≡ record (opened fields.now.width fields.now.vr) { farm_b = fields.now.farm_b } }
+fn set_flags(begun: &mut Farm, fields: &Receiver)
+    requires start { begun.old ≡ record (opened fields.now.width fields.now.vr) { farm_b = fields.now.farm_b } }
     requires whole { IsTrue (is_whole fields.now) }
-    ensures { farm.new ≡ farm_of fields.now }
+    ensures { begun.new ≡ farm_of fields.now }
 {
     if fields.retransmit == 1 {
-        farm.ad(fields.vr, false);
+        begun.ad(fields.vr, false);
         if fields.wait == 0 {
-            farm.released();
+            begun.released();
         }
     }
     if fields.lockout == 1 {
-        farm.ad(fields.vr.wrapping_add(128), false);
+        begun.ad(fields.vr.wrapping_add(128), false);
     }
 }
