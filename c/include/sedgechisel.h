@@ -2,15 +2,15 @@
  * frames, and the receiver FARM-1. For C99 and later, and for C++.
  *
  * Nothing here allocates, keeps a state of its own, or calls a function of another library; so each function may be
- * called anywhere, from two threads at once too, where they do not share what they write. Each is proved to do what its
- * crate's contract says, for every value of its arguments and of the structs behind its pointers. The books are CCSDS
- * 133.0-B-2 (space packets), 132.0-B-3 (telemetry), 232.0-B-4 (telecommand) and 232.1-B-2 (COP-1).
+ * called anywhere, from two threads at once too, where they do not share what they write. Each is proved to do what
+ * its crate's contract says, for every value of its arguments and of the structs behind its pointers. The books are
+ * CCSDS 133.0-B-2 (space packets), 132.0-B-3 (telemetry), 232.0-B-4 (telecommand) and 232.1-B-2 (COP-1).
  *
  * What a caller owes, and nothing can check:
  * - No pointer is null, and each is aligned for its type; this holds of a pointer to no octets too.
  * - Behind a pointer to octets, as many octets as the count after it says may be read, or written where the pointer is
- *   not to const; behind a pointer to a struct or a number, that struct or number. Octets and structs that are read have
- *   been written before; what is written alone need not have been.
+ *   not to const; behind a pointer to a struct or a number, that struct or number. Octets and structs that are read
+ *   have been written before; what is written alone need not have been.
  * - What is written overlaps nothing else that the call is given.
  * - A bool is false or true, as it is wherever C or C++ makes it of another value.
  *
@@ -83,12 +83,12 @@ struct sedge_clcw {
     uint8_t value;  /* the report value, V(R) of the receiver */
 };
 
-/* Reads four octets as a control word. Answers 0, or the first of 1 to 4 of sedge_clcw_fault, or SEDGE_WRONG_COUNT where
- * the octets are not four. */
+/* Reads four octets as a control word. Answers 0, or the first of 1 to 4 of sedge_clcw_fault, or SEDGE_WRONG_COUNT
+ * where the octets are not four. */
 uint8_t sedge_clcw_decode(const uint8_t *octets, size_t count, struct sedge_clcw *word);
 
-/* Writes a control word as four octets. Answers 0, or SEDGE_CLCW_RANGE, or SEDGE_WRONG_COUNT where there is not room for
- * exactly four octets. */
+/* Writes a control word as four octets. Answers 0, or SEDGE_CLCW_RANGE, or SEDGE_WRONG_COUNT where there is not room
+ * for exactly four octets. */
 uint8_t sedge_clcw_encode(const struct sedge_clcw *word, uint8_t *out, size_t room);
 
 /* ---- The receiver FARM-1 of one virtual channel (232.1-B-2, section 6). ---- */
@@ -114,9 +114,9 @@ enum sedge_farm_mode {
     SEDGE_FARM_LOCKOUT = 2 /* S3: a number outside the window came; Unlock alone opens again */
 };
 
-/* A receiver, which its owner keeps. Begin it with sedge_farm_open, and then read its fields as you like. Each call looks
- * whether the fields are a receiver's: the width even, 2 to 254; the flags 0 or 1; the retransmit flag 1 where the wait
- * flag is; FARM-B 0 to 3. Where they are not, it answers SEDGE_DAMAGED and changes nothing. */
+/* A receiver, which its owner keeps. Begin it with sedge_farm_open, and then read its fields as you like. Each call
+ * looks whether the fields are a receiver's: the width even, 2 to 254; the flags 0 or 1; the retransmit flag 1 where
+ * the wait flag is; FARM-B 0 to 3. Where they are not, it answers SEDGE_DAMAGED and changes nothing. */
 struct sedge_farm {
     uint8_t width;      /* of both windows together; each is half of it */
     uint8_t vr;         /* V(R), the number of the next frame to be accepted */
@@ -130,8 +130,8 @@ struct sedge_farm {
  * SEDGE_COP_WIDTH. */
 uint8_t sedge_farm_open(struct sedge_farm *farm, uint8_t width, uint8_t vr);
 
-/* A Type-AD frame with the number n has come, and there is room for its data or not. Answers its verdict; where that is
- * SEDGE_ACCEPTED, hand its data on. Or SEDGE_DAMAGED. */
+/* A Type-AD frame with the number n has come, and there is room for its data or not. Answers its verdict; where that
+ * is SEDGE_ACCEPTED, hand its data on. Or SEDGE_DAMAGED. */
 uint8_t sedge_farm_ad(struct sedge_farm *farm, uint8_t n, bool buffer_free);
 
 /* A Type-BD frame has come; hand its data on in every state. Answers 0, or SEDGE_DAMAGED. */
@@ -146,8 +146,8 @@ uint8_t sedge_farm_set_vr(struct sedge_farm *farm, uint8_t vr);
 /* There is room on board again. Answers 0, or SEDGE_DAMAGED. */
 uint8_t sedge_farm_released(struct sedge_farm *farm);
 
-/* The control word that reports the receiver as it is, for the virtual channel vcid; the flags for the radio channel and
- * bit lock are 0. Answers 0, or SEDGE_DAMAGED, or SEDGE_CLCW_RANGE where vcid is not below 64. */
+/* The control word that reports the receiver as it is, for the virtual channel vcid; the flags for the radio channel
+ * and bit lock are 0. Answers 0, or SEDGE_DAMAGED, or SEDGE_CLCW_RANGE where vcid is not below 64. */
 uint8_t sedge_farm_report(const struct sedge_farm *farm, uint8_t vcid, struct sedge_clcw *word);
 
 /* The state, of sedge_farm_mode, or SEDGE_DAMAGED. */
@@ -203,21 +203,21 @@ struct sedge_tc_frame {
     uint8_t vr;      /* Type-BC, Set V(R): the number */
 };
 
-/* Reads all of the octets as one frame, which ends with its check where checked is true, and tells where the data behind
- * the segment header stand among them; a control frame has none, and the part is 0 octets from place 0. Answers 0, or the
- * first of 1 to 9 of sedge_tc_fault. */
+/* Reads all of the octets as one frame, which ends with its check where checked is true, and tells where the data
+ * behind the segment header stand among them; a control frame has none, and the part is 0 octets from place 0. Answers
+ * 0, or the first of 1 to 9 of sedge_tc_fault. */
 uint8_t sedge_tc_decode(const uint8_t *octets, size_t count, bool checked, struct sedge_tc_frame *frame,
                         struct sedge_part *data);
 
-/* Writes the frame with these data, which a control frame lacks and are not looked at then, to the beginning of out, with
- * its check where checked is true, and tells how many octets it has: 6 to 1,024. Answers 0; or SEDGE_DAMAGED where the
- * kind, the segment flags or the command is none; then SEDGE_TC_FIELD_RANGE, then SEDGE_TC_ROOM. */
+/* Writes the frame with these data, which a control frame lacks and are not looked at then, to the beginning of out,
+ * with its check where checked is true, and tells how many octets it has: 6 to 1,024. Answers 0; or SEDGE_DAMAGED
+ * where the kind, the segment flags or the command is none; then SEDGE_TC_FIELD_RANGE, then SEDGE_TC_ROOM. */
 uint8_t sedge_tc_encode(const struct sedge_tc_frame *frame, const uint8_t *data, size_t data_count, bool checked,
                         uint8_t *out, size_t room, size_t *total);
 
-/* How many octets the frame has that the octets begin, for cutting a stream (4.1.2.7); the first 5 alone are looked at.
- * Answers 0; or SEDGE_TC_SHORT for fewer than 5; or SEDGE_TC_LENGTH where it declares fewer than 5, or than 7 with the
- * check. */
+/* How many octets the frame has that the octets begin, for cutting a stream (4.1.2.7); the first 5 alone are looked
+ * at. Answers 0; or SEDGE_TC_SHORT for fewer than 5; or SEDGE_TC_LENGTH where it declares fewer than 5, or than 7 with
+ * the check. */
 uint8_t sedge_tc_declared(const uint8_t *octets, size_t count, bool checked, size_t *total);
 
 /* ---- Space packets of 7 to 65,542 octets (133.0-B-2, 4.1). ---- */
@@ -251,14 +251,14 @@ struct sedge_packet {
  * fewer octets than declared comes last). */
 uint8_t sedge_packet_decode(const uint8_t *octets, size_t count, struct sedge_packet *packet, struct sedge_part *data);
 
-/* Writes the packet with this data field to the beginning of out, and tells how many octets it has: 6 more than its data.
- * Answers 0; or SEDGE_DAMAGED where the kind or the secondary header flag is none; then SEDGE_PACKET_FIELD_RANGE, then
- * SEDGE_PACKET_ROOM. */
+/* Writes the packet with this data field to the beginning of out, and tells how many octets it has: 6 more than its
+ * data. Answers 0; or SEDGE_DAMAGED where the kind or the secondary header flag is none; then
+ * SEDGE_PACKET_FIELD_RANGE, then SEDGE_PACKET_ROOM. */
 uint8_t sedge_packet_encode(const struct sedge_packet *packet, const uint8_t *data, size_t data_count, uint8_t *out,
                             size_t room, size_t *total);
 
-/* How many octets the packet has that the octets begin, for cutting a stream (4.1.3.5); the first 6 alone are looked at.
- * Answers 0, or SEDGE_PACKET_TRUNCATED for fewer than 6, or SEDGE_PACKET_VERSION, or
+/* How many octets the packet has that the octets begin, for cutting a stream (4.1.3.5); the first 6 alone are looked
+ * at. Answers 0, or SEDGE_PACKET_TRUNCATED for fewer than 6, or SEDGE_PACKET_VERSION, or
  * SEDGE_PACKET_IDLE_WITH_SECONDARY. */
 uint8_t sedge_packet_declared(const uint8_t *octets, size_t count, size_t *total);
 
@@ -292,13 +292,13 @@ struct sedge_tm_frame {
     uint8_t ocf[4];   /* the operational control field, as sedge_clcw_encode writes it (4.1.5) */
 };
 
-/* Reads all of the octets as one frame of the channel's length, and tells where its data stand among them. Answers 0, or
- * the first of 1 to 6 of sedge_tm_fault. */
+/* Reads all of the octets as one frame of the channel's length, and tells where its data stand among them. Answers 0,
+ * or the first of 1 to 6 of sedge_tm_fault. */
 uint8_t sedge_tm_decode(const uint8_t *octets, size_t count, size_t length, struct sedge_tm_frame *frame,
                         struct sedge_part *data);
 
-/* Writes the frame with these data and its check to the beginning of out, and tells how many octets it has: 12 more than
- * its data. Answers 0, or SEDGE_TM_FIELD_RANGE, then SEDGE_TM_ROOM. */
+/* Writes the frame with these data and its check to the beginning of out, and tells how many octets it has: 12 more
+ * than its data. Answers 0, or SEDGE_TM_FIELD_RANGE, then SEDGE_TM_ROOM. */
 uint8_t sedge_tm_encode(const struct sedge_tm_frame *frame, const uint8_t *data, size_t data_count, uint8_t *out,
                         size_t room, size_t *total);
 

@@ -1,17 +1,17 @@
-/* The library as a program in C meets it: rows worked by hand, vectors from outside, the receiver's table, each refusal
- * by its number, and damaged structs. Ends with 0 where all is as wanted, and tells each line that is not. */
+/* The library as a program in C meets it: rows worked by hand, vectors from outside, the receiver's table, each
+ * refusal by its number, and damaged structs. Ends with 0 where all is as wanted, and tells each line that is not. */
 #include <sedgechisel.h>
 #include <stdio.h>
 #include <string.h>
 
 static int failures;
 
-#define WANT(holds)                                                \
-    do {                                                           \
-        if (!(holds)) {                                            \
-            printf("%s:%d: not so: %s\n", __FILE__, __LINE__, #holds); \
-            failures++;                                            \
-        }                                                          \
+#define WANT(holds)                                                                                                    \
+    do {                                                                                                               \
+        if (!(holds)) {                                                                                                \
+            printf("%s:%d: not so: %s\n", __FILE__, __LINE__, #holds);                                                 \
+            failures++;                                                                                                \
+        }                                                                                                              \
     } while (0)
 
 /* ---- The check. The vectors of CCSDS and of ECSS-E-ST-70-41C, annex B. ---- */
@@ -61,10 +61,14 @@ static void control_words(void) {
     WANT(sedge_clcw_decode(out, 4, &word) == SEDGE_OK && is_word(&word, 7, 63, 0xf8, 3, 255));
     for (bit = 0; bit < 32; bit++) {
         uint8_t want = SEDGE_OK;
-        if (bit < 1) want = SEDGE_CLCW_KIND;
-        else if (bit < 3) want = SEDGE_CLCW_VERSION;
-        else if (bit == 6 || bit == 7) want = SEDGE_CLCW_COP;
-        else if (bit == 14 || bit == 15 || bit == 23) want = SEDGE_CLCW_SPARE;
+        if (bit < 1)
+            want = SEDGE_CLCW_KIND;
+        else if (bit < 3)
+            want = SEDGE_CLCW_VERSION;
+        else if (bit == 6 || bit == 7)
+            want = SEDGE_CLCW_COP;
+        else if (bit == 14 || bit == 15 || bit == 23)
+            want = SEDGE_CLCW_SPARE;
         memcpy(turn, octets, 4);
         turn[bit / 8] ^= (uint8_t)(0x80 >> bit % 8);
         WANT(sedge_clcw_decode(turn, 4, &word) == want);
@@ -73,14 +77,16 @@ static void control_words(void) {
 }
 
 static void control_words_without_octets(void) {
-    static const struct sedge_clcw wrong[] = {{8, 2, 8, 1, 7}, {0, 64, 8, 1, 7}, {0, 2, 9, 1, 7}, {0, 2, 4, 1, 7}, {0, 2, 8, 4, 7}};
+    static const struct sedge_clcw wrong[] = {
+        {8, 2, 8, 1, 7}, {0, 64, 8, 1, 7}, {0, 2, 9, 1, 7}, {0, 2, 4, 1, 7}, {0, 2, 8, 4, 7}};
     static const uint8_t blank[5] = {0x55, 0x55, 0x55, 0x55, 0x55};
     struct sedge_clcw word = {0, 2, 8, 1, 7};
     uint8_t out[5];
     size_t i;
     memcpy(out, blank, 5);
     for (i = 0; i < sizeof wrong / sizeof *wrong; i++) WANT(sedge_clcw_encode(&wrong[i], out, 4) == SEDGE_CLCW_RANGE);
-    WANT(sedge_clcw_encode(&word, out, 3) == SEDGE_WRONG_COUNT && sedge_clcw_encode(&word, out, 5) == SEDGE_WRONG_COUNT);
+    WANT(sedge_clcw_encode(&word, out, 3) == SEDGE_WRONG_COUNT
+         && sedge_clcw_encode(&word, out, 5) == SEDGE_WRONG_COUNT);
     WANT(memcmp(out, blank, 5) == 0);
 }
 
@@ -88,7 +94,7 @@ static void control_words_without_octets(void) {
 
 static int is_farm(const struct sedge_farm *f, int width, int vr, int lockout, int wait, int retransmit, int farm_b) {
     return f->width == width && f->vr == vr && f->lockout == lockout && f->wait == wait && f->retransmit == retransmit
-        && f->farm_b == farm_b;
+           && f->farm_b == farm_b;
 }
 
 /* A width of 10 has a positive and a negative window of 5 each. */
@@ -122,7 +128,7 @@ static int reports(const struct sedge_farm *farm, const char *octets) {
     struct sedge_clcw word;
     uint8_t out[4];
     return sedge_farm_report(farm, 2, &word) == SEDGE_OK && sedge_clcw_encode(&word, out, 4) == SEDGE_OK
-        && memcmp(out, octets, 4) == 0;
+           && memcmp(out, octets, 4) == 0;
 }
 
 static void a_receiver_reports(void) {
@@ -136,9 +142,23 @@ static void a_receiver_reports(void) {
     WANT(sedge_farm_set_vr(&farm, 9) == SEDGE_OK && reports(&farm, "\x01\x08\x2a\x00"));
 }
 
-/* The receiver's table (docs/PROFILE.md), cell by cell: the state, the event, and what is wanted. Each receiver has the
- * width 10, V(R) 100 and FARM-B 3. */
-enum event { AD_100_FREE, AD_100_FULL, AD_101, AD_104, AD_105, AD_94, AD_95, AD_99, BD, UNLOCK, SET_7, RELEASED, EVENTS };
+/* The receiver's table (docs/PROFILE.md), cell by cell: the state, the event, and what is wanted. Each receiver has
+ * the width 10, V(R) 100 and FARM-B 3. */
+enum event {
+    AD_100_FREE,
+    AD_100_FULL,
+    AD_101,
+    AD_104,
+    AD_105,
+    AD_94,
+    AD_95,
+    AD_99,
+    BD,
+    UNLOCK,
+    SET_7,
+    RELEASED,
+    EVENTS
+};
 
 struct cell {
     uint8_t answer;
@@ -167,18 +187,51 @@ static void the_table(void) {
         {10, 100, 0, 0, 1, 3}, {10, 100, 0, 1, 1, 3}, {10, 100, 1, 0, 1, 3}, {10, 100, 1, 1, 1, 3}};
     static const struct cell cells[EVENTS][4] = {
         /* Open, Wait, Lockout, Lockout with the wait flag */
-        {{0, {10, 101, 0, 0, 0, 3}}, {5, {10, 100, 0, 1, 1, 3}}, {5, {10, 100, 1, 0, 1, 3}}, {5, {10, 100, 1, 1, 1, 3}}},
-        {{2, {10, 100, 0, 1, 1, 3}}, {5, {10, 100, 0, 1, 1, 3}}, {5, {10, 100, 1, 0, 1, 3}}, {5, {10, 100, 1, 1, 1, 3}}},
-        {{1, {10, 100, 0, 0, 1, 3}}, {5, {10, 100, 0, 1, 1, 3}}, {5, {10, 100, 1, 0, 1, 3}}, {5, {10, 100, 1, 1, 1, 3}}},
-        {{1, {10, 100, 0, 0, 1, 3}}, {5, {10, 100, 0, 1, 1, 3}}, {5, {10, 100, 1, 0, 1, 3}}, {5, {10, 100, 1, 1, 1, 3}}},
-        {{4, {10, 100, 1, 0, 1, 3}}, {4, {10, 100, 1, 1, 1, 3}}, {5, {10, 100, 1, 0, 1, 3}}, {5, {10, 100, 1, 1, 1, 3}}},
-        {{4, {10, 100, 1, 0, 1, 3}}, {4, {10, 100, 1, 1, 1, 3}}, {5, {10, 100, 1, 0, 1, 3}}, {5, {10, 100, 1, 1, 1, 3}}},
-        {{3, {10, 100, 0, 0, 1, 3}}, {5, {10, 100, 0, 1, 1, 3}}, {5, {10, 100, 1, 0, 1, 3}}, {5, {10, 100, 1, 1, 1, 3}}},
-        {{3, {10, 100, 0, 0, 1, 3}}, {5, {10, 100, 0, 1, 1, 3}}, {5, {10, 100, 1, 0, 1, 3}}, {5, {10, 100, 1, 1, 1, 3}}},
-        {{0, {10, 100, 0, 0, 1, 0}}, {0, {10, 100, 0, 1, 1, 0}}, {0, {10, 100, 1, 0, 1, 0}}, {0, {10, 100, 1, 1, 1, 0}}},
-        {{0, {10, 100, 0, 0, 0, 0}}, {0, {10, 100, 0, 0, 0, 0}}, {0, {10, 100, 0, 0, 0, 0}}, {0, {10, 100, 0, 0, 0, 0}}},
+        {{0, {10, 101, 0, 0, 0, 3}},
+         {5, {10, 100, 0, 1, 1, 3}},
+         {5, {10, 100, 1, 0, 1, 3}},
+         {5, {10, 100, 1, 1, 1, 3}}},
+        {{2, {10, 100, 0, 1, 1, 3}},
+         {5, {10, 100, 0, 1, 1, 3}},
+         {5, {10, 100, 1, 0, 1, 3}},
+         {5, {10, 100, 1, 1, 1, 3}}},
+        {{1, {10, 100, 0, 0, 1, 3}},
+         {5, {10, 100, 0, 1, 1, 3}},
+         {5, {10, 100, 1, 0, 1, 3}},
+         {5, {10, 100, 1, 1, 1, 3}}},
+        {{1, {10, 100, 0, 0, 1, 3}},
+         {5, {10, 100, 0, 1, 1, 3}},
+         {5, {10, 100, 1, 0, 1, 3}},
+         {5, {10, 100, 1, 1, 1, 3}}},
+        {{4, {10, 100, 1, 0, 1, 3}},
+         {4, {10, 100, 1, 1, 1, 3}},
+         {5, {10, 100, 1, 0, 1, 3}},
+         {5, {10, 100, 1, 1, 1, 3}}},
+        {{4, {10, 100, 1, 0, 1, 3}},
+         {4, {10, 100, 1, 1, 1, 3}},
+         {5, {10, 100, 1, 0, 1, 3}},
+         {5, {10, 100, 1, 1, 1, 3}}},
+        {{3, {10, 100, 0, 0, 1, 3}},
+         {5, {10, 100, 0, 1, 1, 3}},
+         {5, {10, 100, 1, 0, 1, 3}},
+         {5, {10, 100, 1, 1, 1, 3}}},
+        {{3, {10, 100, 0, 0, 1, 3}},
+         {5, {10, 100, 0, 1, 1, 3}},
+         {5, {10, 100, 1, 0, 1, 3}},
+         {5, {10, 100, 1, 1, 1, 3}}},
+        {{0, {10, 100, 0, 0, 1, 0}},
+         {0, {10, 100, 0, 1, 1, 0}},
+         {0, {10, 100, 1, 0, 1, 0}},
+         {0, {10, 100, 1, 1, 1, 0}}},
+        {{0, {10, 100, 0, 0, 0, 0}},
+         {0, {10, 100, 0, 0, 0, 0}},
+         {0, {10, 100, 0, 0, 0, 0}},
+         {0, {10, 100, 0, 0, 0, 0}}},
         {{0, {10, 7, 0, 0, 0, 0}}, {0, {10, 7, 0, 0, 0, 0}}, {0, {10, 100, 1, 0, 1, 0}}, {0, {10, 100, 1, 1, 1, 0}}},
-        {{0, {10, 100, 0, 0, 1, 3}}, {0, {10, 100, 0, 0, 1, 3}}, {0, {10, 100, 1, 0, 1, 3}}, {0, {10, 100, 1, 0, 1, 3}}}};
+        {{0, {10, 100, 0, 0, 1, 3}},
+         {0, {10, 100, 0, 0, 1, 3}},
+         {0, {10, 100, 1, 0, 1, 3}},
+         {0, {10, 100, 1, 0, 1, 3}}}};
     int event, state;
     for (event = 0; event < EVENTS; event++) {
         for (state = 0; state < 4; state++) {
@@ -195,7 +248,7 @@ static void the_table(void) {
 /* Whether the fields are a receiver's. */
 static int is_whole(const struct sedge_farm *f) {
     return f->width >= 2 && f->width <= 254 && f->width % 2 == 0 && f->lockout < 2 && f->wait < 2 && f->retransmit < 2
-        && f->farm_b < 4 && (!f->wait || f->retransmit);
+           && f->farm_b < 4 && (!f->wait || f->retransmit);
 }
 
 static void judge_fields(struct sedge_farm farm) {
@@ -260,16 +313,18 @@ static const uint8_t SET_SEVEN[8] = {0x30, 0x01, 0x08, 0x07, 0x00, 0x82, 0x00, 0
 
 static int is_frame(const struct sedge_tc_frame *f, int kind, int n, int flags, int map, int command, int vr) {
     return f->scid == 1 && f->vcid == 2 && f->kind == kind && f->n == n && f->flags == flags && f->map == map
-        && f->command == command && f->vr == vr;
+           && f->command == command && f->vr == vr;
 }
 
 /* The octets are read as a frame, and written again of it, with what stands behind them left. */
-static int is_spelled(const uint8_t *octets, size_t count, bool checked, struct sedge_tc_frame *frame, struct sedge_part *data) {
+static int is_spelled(const uint8_t *octets, size_t count, bool checked, struct sedge_tc_frame *frame,
+                      struct sedge_part *data) {
     uint8_t out[16];
     size_t total = 99, i;
     memset(out, 0x55, sizeof out);
     if (sedge_tc_decode(octets, count, checked, frame, data) != SEDGE_OK) return 0;
-    if (sedge_tc_encode(frame, octets + data->from, data->count, checked, out, sizeof out, &total) != SEDGE_OK) return 0;
+    if (sedge_tc_encode(frame, octets + data->from, data->count, checked, out, sizeof out, &total) != SEDGE_OK)
+        return 0;
     if (total != count || memcmp(out, octets, count) != 0) return 0;
     for (i = count; i < sizeof out; i++) {
         if (out[i] != 0x55) return 0;
@@ -286,7 +341,8 @@ static void telecommand_frames(void) {
     memcpy(bypass, DATA, 13);
     bypass[0] = 0x20;
     bypass[4] = 0x00;
-    WANT(is_spelled(bypass, 13, false, &frame, &data) && is_frame(&frame, SEDGE_TC_BD, 0, SEDGE_SEGMENT_ALONE, 4, 0, 0));
+    WANT(is_spelled(bypass, 13, false, &frame, &data)
+         && is_frame(&frame, SEDGE_TC_BD, 0, SEDGE_SEGMENT_ALONE, 4, 0, 0));
     WANT(data.from == 6 && data.count == 7);
     WANT(is_spelled(SET_SEVEN, 8, false, &frame, &data) && is_frame(&frame, SEDGE_TC_BC, 0, 0, 0, SEDGE_SET_VR, 7));
     WANT(data.from == 0 && data.count == 0);
@@ -307,7 +363,8 @@ static uint8_t refused(const uint8_t *octets, size_t count, bool checked) {
 
 static void refused_telecommand_frames(void) {
     static const uint8_t more[7] = {0x30, 0x01, 0x08, 0x05, 0x00, 0x00, 0x00};
-    static const uint8_t number[6] = {0x30, 0x01, 0x08, 0x05, 0x01, 0x00}, lone[6] = {0x00, 0x01, 0x08, 0x05, 0x03, 0xc4};
+    static const uint8_t number[6] = {0x30, 0x01, 0x08, 0x05, 0x01, 0x00},
+                         lone[6] = {0x00, 0x01, 0x08, 0x05, 0x03, 0xc4};
     static const uint8_t none[5] = {0x00, 0x01, 0x08, 0x04, 0x03}, command[6] = {0x30, 0x01, 0x08, 0x05, 0x00, 0x01};
     uint8_t octets[13];
     size_t total = 99;
@@ -325,7 +382,8 @@ static void refused_telecommand_frames(void) {
     WANT(refused(octets, 8, true) == SEDGE_TC_CHECK);
     WANT(refused(number, 6, false) == SEDGE_TC_BYPASS_NUMBER && refused(lone, 6, false) == SEDGE_TC_EMPTY_DATA);
     WANT(refused(none, 5, false) == SEDGE_TC_EMPTY_DATA && refused(command, 6, false) == SEDGE_TC_COMMAND);
-    WANT(sedge_tc_declared(DATA, 4, false, &total) == SEDGE_TC_SHORT && sedge_tc_declared(DATA, 0, true, &total) == SEDGE_TC_SHORT);
+    WANT(sedge_tc_declared(DATA, 4, false, &total) == SEDGE_TC_SHORT
+         && sedge_tc_declared(DATA, 0, true, &total) == SEDGE_TC_SHORT);
     WANT(sedge_tc_declared(UNLOCK_FRAME, 6, true, &total) == SEDGE_TC_LENGTH && total == 99);
     octets[2] = 0x08;
     octets[3] = 0x03;
@@ -334,7 +392,8 @@ static void refused_telecommand_frames(void) {
 
 /* Each frame that differs from one in one octet is refused. */
 static void a_wrong_octet(void) {
-    static const uint8_t whole[15] = {0x00, 0x01, 0x08, 0x0e, 0x00, 0xc4, 0x10, 0x05, 0xc0, 0x00, 0x00, 0x00, 0xaa, 0xe7, 0x5d};
+    static const uint8_t whole[15] = {0x00, 0x01, 0x08, 0x0e, 0x00, 0xc4, 0x10, 0x05,
+                                      0xc0, 0x00, 0x00, 0x00, 0xaa, 0xe7, 0x5d};
     uint8_t octets[15];
     int place, value, accepted = 0;
     for (place = 0; place < 15; place++) {
@@ -402,7 +461,8 @@ static void space_packets(void) {
     size_t total = 99;
     memset(out, 0x55, 9);
     WANT(sedge_packet_decode(PACKET, 7, &packet, &data) == SEDGE_OK && data.from == 6 && data.count == 1);
-    WANT(packet.kind == SEDGE_PACKET_TELECOMMAND && packet.secondary == 0 && packet.apid == 5 && packet.flags == 3 && packet.count == 0);
+    WANT(packet.kind == SEDGE_PACKET_TELECOMMAND && packet.secondary == 0 && packet.apid == 5 && packet.flags == 3
+         && packet.count == 0);
     WANT(sedge_packet_encode(&packet, PACKET + 6, 1, out, 9, &total) == SEDGE_OK && total == 7);
     WANT(memcmp(out, PACKET, 7) == 0 && out[7] == 0x55 && out[8] == 0x55);
     WANT(sedge_packet_declared(PACKET, 6, &total) == SEDGE_OK && total == 7);
@@ -444,7 +504,8 @@ static void unwritten_packets(void) {
     struct sedge_packet packet = good;
     int value;
     WANT(packet_unwritten(good, 1, 7) == SEDGE_OK && packet_unwritten(good, 1, 6) == SEDGE_PACKET_ROOM);
-    WANT(packet_unwritten(good, 0, 100) == SEDGE_PACKET_FIELD_RANGE && packet_unwritten(good, 65537, 65543) == SEDGE_PACKET_FIELD_RANGE);
+    WANT(packet_unwritten(good, 0, 100) == SEDGE_PACKET_FIELD_RANGE
+         && packet_unwritten(good, 65537, 65543) == SEDGE_PACKET_FIELD_RANGE);
     packet.secondary = 1;
     WANT(packet_unwritten(packet, 1, 0) == SEDGE_PACKET_FIELD_RANGE);
     packet = good;
@@ -488,7 +549,8 @@ static void telemetry_frames(void) {
         WANT(memcmp(out, IDLE, 4) == 0 && memcmp(out + 4, lasts[i], 2) == 0 && memcmp(out + 6, IDLE + 6, 8) == 0);
         WANT(sedge_check_holds(out, 16) && out[16] == 0xee && out[19] == 0xee);
         WANT(sedge_tm_decode(out, 16, 16, &found, &data) == SEDGE_OK && data.from == 6 && data.count == 4);
-        WANT(found.scid == 1 && found.pointer == pointers[i] && found.vcid == 0 && found.mc_count == 0 && found.vc_count == 0);
+        WANT(found.scid == 1 && found.pointer == pointers[i] && found.vcid == 0 && found.mc_count == 0
+             && found.vc_count == 0);
         WANT(sedge_clcw_decode(found.ocf, 4, &word) == SEDGE_OK && is_word(&word, 0, 2, 0, 0, 0));
     }
     frame.scid = 1023;
@@ -513,8 +575,13 @@ static uint8_t telemetry_refused(const uint8_t *octets, size_t count, size_t len
 }
 
 static void refused_telemetry_frames(void) {
-    static const struct { uint8_t place, octet, fault; } damages[] = {
-        {0, 0x40, SEDGE_TM_VERSION}, {4, 0x98, SEDGE_TM_STATUS}, {4, 0x10, SEDGE_TM_STATUS}, {5, 0x04, SEDGE_TM_POINTER}, {1, 0x10, SEDGE_TM_NO_OCF}};
+    static const struct {
+        uint8_t place, octet, fault;
+    } damages[] = {{0, 0x40, SEDGE_TM_VERSION},
+                   {4, 0x98, SEDGE_TM_STATUS},
+                   {4, 0x10, SEDGE_TM_STATUS},
+                   {5, 0x04, SEDGE_TM_POINTER},
+                   {1, 0x10, SEDGE_TM_NO_OCF}};
     uint8_t octets[16], damaged[16];
     size_t i;
     memcpy(octets, IDLE, 14);
@@ -522,7 +589,8 @@ static void refused_telemetry_frames(void) {
     octets[5] = 0x00;
     WANT(sedge_check_append(octets, 16) && telemetry_refused(octets, 16, 16) == SEDGE_OK);
     WANT(telemetry_refused(octets, 16, 17) == SEDGE_TM_LENGTH && telemetry_refused(octets, 15, 15) == SEDGE_TM_LENGTH);
-    WANT(telemetry_refused(octets, 0, 16) == SEDGE_TM_LENGTH && telemetry_refused(long_octets, 2049, 2049) == SEDGE_TM_LENGTH);
+    WANT(telemetry_refused(octets, 0, 16) == SEDGE_TM_LENGTH
+         && telemetry_refused(long_octets, 2049, 2049) == SEDGE_TM_LENGTH);
     for (i = 0; i < sizeof damages / sizeof *damages; i++) {
         memcpy(damaged, octets, 16);
         damaged[damages[i].place] = damages[i].octet;
@@ -536,7 +604,8 @@ static uint8_t telemetry_unwritten(struct sedge_tm_frame frame, size_t data_coun
     uint8_t answer;
     memset(long_out, 0x55, sizeof long_out);
     answer = sedge_tm_encode(&frame, long_octets, data_count, long_out, room, &total);
-    WANT(answer == SEDGE_OK || (total == 99 && long_out[0] == 0x55 && memcmp(long_out, long_out + 1, sizeof long_out - 1) == 0));
+    WANT(answer == SEDGE_OK
+         || (total == 99 && long_out[0] == 0x55 && memcmp(long_out, long_out + 1, sizeof long_out - 1) == 0));
     return answer;
 }
 
@@ -544,7 +613,8 @@ static void unwritten_telemetry_frames(void) {
     static const struct sedge_tm_frame good = {1023, 3, 7, 255, 255, {1, 2, 3, 4}};
     struct sedge_tm_frame frame = good;
     WANT(telemetry_unwritten(good, 4, 16) == SEDGE_OK && telemetry_unwritten(good, 4, 15) == SEDGE_TM_ROOM);
-    WANT(telemetry_unwritten(good, 3, 100) == SEDGE_TM_FIELD_RANGE && telemetry_unwritten(good, 2037, 3000) == SEDGE_TM_FIELD_RANGE);
+    WANT(telemetry_unwritten(good, 3, 100) == SEDGE_TM_FIELD_RANGE
+         && telemetry_unwritten(good, 2037, 3000) == SEDGE_TM_FIELD_RANGE);
     frame.scid = 1024;
     WANT(telemetry_unwritten(frame, 4, 0) == SEDGE_TM_FIELD_RANGE);
     frame = good;

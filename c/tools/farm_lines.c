@@ -5,8 +5,8 @@
 #include <stdlib.h>
 #include <string.h>
 
-static const char *const FAULTS[] = {"", "Short", "Version", "ReservedType", "Spare", "Length", "Check", "BypassNumber",
-                                     "EmptyData", "Command"};
+static const char *const FAULTS[] = {"",       "Short", "Version",      "ReservedType", "Spare",
+                                     "Length", "Check", "BypassNumber", "EmptyData",    "Command"};
 static const char *const VERDICTS[] = {"accepted", "ahead", "nobuffer", "behind", "outside", "discarded"};
 static const char *const MODES[] = {"Open", "Wait", "Lockout"};
 
@@ -30,7 +30,8 @@ static void write_body(struct sedge_farm *farm, const struct sedge_tc_frame *fra
     }
 }
 
-static void write_line(unsigned long index, struct sedge_farm *farm, const uint8_t *octets, size_t count, bool checked) {
+static void write_line(unsigned long index, struct sedge_farm *farm, const uint8_t *octets, size_t count,
+                       bool checked) {
     struct sedge_tc_frame frame;
     struct sedge_part data;
     uint8_t fault = sedge_tc_decode(octets, count, checked, &frame, &data);
@@ -55,7 +56,8 @@ int main(int count, char **words) {
     while ((more = fread(octets + held, 1, sizeof octets - held, stdin)) > 0) {
         held += more;
         from = 0;
-        while ((fault = sedge_tc_declared(octets + from, held - from, checked, &total)) == SEDGE_OK && total <= held - from) {
+        while ((fault = sedge_tc_declared(octets + from, held - from, checked, &total)) == SEDGE_OK
+               && total <= held - from) {
             write_line(++index, &farm, octets + from, total, checked);
             from += total;
         }
@@ -63,7 +65,9 @@ int main(int count, char **words) {
         memmove(octets, octets + from, held - from);
         held -= from;
     }
-    if (fault == SEDGE_TC_LENGTH) write_refusal(index + 1, SEDGE_TC_LENGTH);
-    else if (held > 0) write_refusal(index + 1, SEDGE_TC_SHORT);
+    if (fault == SEDGE_TC_LENGTH)
+        write_refusal(index + 1, SEDGE_TC_LENGTH);
+    else if (held > 0)
+        write_refusal(index + 1, SEDGE_TC_SHORT);
     return 0;
 }

@@ -1,6 +1,6 @@
-/* Writes random telecommand frames: Type-AD frames mostly in sequence, Type-BD frames and control commands among them, and
- * one in sixteen damaged behind its length. The words are how many, and whether they end with their check, 0 or 1. The
- * same words give the same frames. */
+/* Writes random telecommand frames: Type-AD frames mostly in sequence, Type-BD frames and control commands among them,
+ * and one in sixteen damaged behind its length. The words are how many, and whether they end with their check, 0 or 1.
+ * The same words give the same frames. */
 #include <sedgechisel.h>
 #include <stdio.h>
 #include <stdlib.h>
@@ -25,8 +25,8 @@ static uint8_t number_behind(uint8_t last) {
     return (uint8_t)below(256);
 }
 
-/* A frame behind others, of which the last Type-AD frame had the number last. Set V(R) mostly brings the receiver to the
- * number that comes next. */
+/* A frame behind others, of which the last Type-AD frame had the number last. Set V(R) mostly brings the receiver to
+ * the number that comes next. */
 static struct sedge_tc_frame any_frame(uint8_t *last) {
     struct sedge_tc_frame frame;
     unsigned choice = below(32);
@@ -56,7 +56,8 @@ int main(int count, char **words) {
         uint8_t before = last;
         struct sedge_tc_frame frame = any_frame(&last);
         for (i = 0; i < sizeof data; i++) data[i] = (uint8_t)below(256);
-        if (sedge_tc_encode(&frame, data, 1 + below(sizeof data), checked, octets, sizeof octets, &total) != SEDGE_OK) return 1;
+        if (sedge_tc_encode(&frame, data, 1 + below(sizeof data), checked, octets, sizeof octets, &total) != SEDGE_OK)
+            return 1;
         if (below(16) == 0) {
             last = before;
             place = below((unsigned)total - 2);
