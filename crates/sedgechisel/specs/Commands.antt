@@ -21,7 +21,8 @@ check_if false = Off
 
 abbrev pub segment_told : CommandFrame → List ℕ → Result SegmentView ℕ
 segment_told f payload =
-    if nat_lt f.flags 4 then Ok (record { header = record { flags = flags_at f.flags; map = f.map }; payload = payload })
+    if nat_lt f.flags 4
+    then Ok (record { header = record { flags = flags_at f.flags; map = f.map }; payload = payload })
     else Err damaged
 
 abbrev pub command_told : CommandFrame → Result BodyView ℕ
@@ -44,15 +45,27 @@ frame_told f payload = map_ok (frame_with f.scid f.vcid) (body_told f payload)
 
 -- ---- from a frame to fields, those that its kind lacks 0, and to where its data stand
 
+abbrev pub segment_fields : ℕ → ℕ → ℕ → ℕ → SegmentView → CommandFrame
+segment_fields scid vcid kind n s = record {
+  scid = scid;
+  vcid = vcid;
+  kind = kind;
+  n = n;
+  flags = flags_code s.header.flags;
+  map = s.header.map;
+  command = 0;
+  vr = 0;
+}
+
+abbrev pub command_fields : ℕ → ℕ → ℕ → ℕ → CommandFrame
+command_fields scid vcid command vr =
+    record { scid = scid; vcid = vcid; kind = 2; n = 0; flags = 0; map = 0; command = command; vr = vr }
+
 abbrev pub fields_with : ℕ → ℕ → BodyView → CommandFrame
-fields_with scid vcid (Ad n s) =
-    record { scid = scid; vcid = vcid; kind = 0; n = n; flags = flags_code s.header.flags; map = s.header.map; command = 0; vr = 0 }
-fields_with scid vcid (Bd s) =
-    record { scid = scid; vcid = vcid; kind = 1; n = 0; flags = flags_code s.header.flags; map = s.header.map; command = 0; vr = 0 }
-fields_with scid vcid (Bc Unlock) =
-    record { scid = scid; vcid = vcid; kind = 2; n = 0; flags = 0; map = 0; command = 0; vr = 0 }
-fields_with scid vcid (Bc (SetVr x)) =
-    record { scid = scid; vcid = vcid; kind = 2; n = 0; flags = 0; map = 0; command = 1; vr = x }
+fields_with scid vcid (Ad n s) = segment_fields scid vcid 0 n s
+fields_with scid vcid (Bd s) = segment_fields scid vcid 1 0 s
+fields_with scid vcid (Bc Unlock) = command_fields scid vcid 0 0
+fields_with scid vcid (Bc (SetVr x)) = command_fields scid vcid 1 x
 
 abbrev pub fields_of : FrameView → CommandFrame
 fields_of f = fields_with f.scid f.vcid f.body
@@ -85,4 +98,5 @@ total_declared checked octets =
 -- what the fields and the octets at the place tell is the frame that was read
 abbrev pub TellsFrame : Bool → List ℕ → CommandFrame → Part → Type 0
 TellsFrame checked octets f part =
-    (view : FrameView) → frame_read checked octets ≡ Ok view → frame_told f (take part.count (drop part.from octets)) ≡ Ok view
+    (view : FrameView) → frame_read checked octets ≡ Ok view
+    → frame_told f (take part.count (drop part.from octets)) ≡ Ok view

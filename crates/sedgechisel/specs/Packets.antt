@@ -23,8 +23,13 @@ packet_told p payload =
 
 -- the fields that tell the packet
 abbrev pub fields_of : PacketView → PacketFields
-fields_of p =
-    record { apid = p.apid; count = p.count; kind = type_bit p.kind; secondary = secondary_bit p.secondary; flags = p.flags }
+fields_of p = record {
+  apid = p.apid;
+  count = p.count;
+  kind = type_bit p.kind;
+  secondary = secondary_bit p.secondary;
+  flags = p.flags;
+}
 
 -- where its data stand, behind the header
 abbrev pub part_of : PacketView → Part
@@ -38,7 +43,8 @@ packet_read octets = numbered fault_number (packet_at octets)
 
 -- the packet that is written where there is so much room
 abbrev pub packet_taken : PacketFields → List ℕ → ℕ → Result PacketView ℕ
-packet_taken p payload room = and_then (packet_told p payload) (λ view. if_ok (numbered fault_number (written view room)) view)
+packet_taken p payload room =
+    and_then (packet_told p payload) (λ view. if_ok (numbered fault_number (written view room)) view)
 
 -- the declared length of the packet that octets begin; 1 Truncated for fewer than 6
 abbrev pub total_declared : List ℕ → Result ℕ ℕ
@@ -49,4 +55,5 @@ total_declared octets =
 -- what the fields and the octets at the place tell is the packet that was read
 abbrev pub TellsPacket : List ℕ → PacketFields → Part → Type 0
 TellsPacket octets p part =
-    (view : PacketView) (n : ℕ) → packet_read octets ≡ Ok (view, n) → packet_told p (take part.count (drop part.from octets)) ≡ Ok view
+    (view : PacketView) (n : ℕ) → packet_read octets ≡ Ok (view, n)
+    → packet_told p (take part.count (drop part.from octets)) ≡ Ok view

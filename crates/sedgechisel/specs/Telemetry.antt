@@ -22,8 +22,14 @@ frame_told f payload = record {
 
 -- the fields that tell the frame
 abbrev pub fields_of : FrameView → ReportFrame
-fields_of f =
-    record { scid = f.scid; pointer = pointer_number f.pointer; vcid = f.vcid; mc_count = f.mc_count; vc_count = f.vc_count; ocf = f.ocf }
+fields_of f = record {
+  scid = f.scid;
+  pointer = pointer_number f.pointer;
+  vcid = f.vcid;
+  mc_count = f.mc_count;
+  vc_count = f.vc_count;
+  ocf = f.ocf;
+}
 
 -- where its data stand, behind the header
 abbrev pub part_of : FrameView → Part
@@ -41,4 +47,5 @@ frame_taken f payload room = if_ok (numbered fault_number (written (frame_told f
 -- what the fields and the octets at the place tell is the frame that was read
 abbrev pub TellsFrame : ℕ → List ℕ → ReportFrame → Part → Type 0
 TellsFrame total octets f part =
-    (view : FrameView) → frame_read total octets ≡ Ok view → frame_told f (take part.count (drop part.from octets)) ≡ view
+    (view : FrameView) → frame_read total octets ≡ Ok view
+    → frame_told f (take part.count (drop part.from octets)) ≡ view

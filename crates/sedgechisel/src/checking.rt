@@ -12,7 +12,8 @@ pub extern "C" fn sedge_check(octets: &[u8]) -> u16
     octets::check(octets)
 }
 
-/// Sets the last two octets to the check of those before them, and answers true; fewer than two octets stay as they are.
+/// Sets the last two octets to the check of those before them, and answers true; fewer than two octets stay as they
+/// are.
 #[unsafe(no_mangle)]
 pub extern "C" fn sedge_check_append(octets: &mut [u8]) -> bool
     ensures done { IsTrue result ↔ (2 ≤ length octets.old) }

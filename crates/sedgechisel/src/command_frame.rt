@@ -31,8 +31,8 @@ pub struct CommandFrame {
     pub vr: u8,
 }
 
-/// Reads all of the octets as one frame, with its check or without, and says where its data stand in them. Answers 0, or
-/// the first of the faults 1 to 9 of `TcFault`.
+/// Reads all of the octets as one frame, with its check or without, and says where its data stand in them. Answers 0,
+/// or the first of the faults 1 to 9 of `TcFault`.
 #[unsafe(no_mangle)]
 pub extern "C" fn sedge_tc_decode(
     octets: &[u8],
@@ -68,8 +68,10 @@ pub extern "C" fn sedge_tc_encode(
     total: &mut usize,
 ) -> u8
     ensures answer { result ≡ status_of (frame_taken checked frame.now payload.now (length out.old)) }
-    ensures total { total.new ≡ left_by (total_of (check_if checked)) (frame_taken checked frame.now payload.now (length out.old)) total.old }
-    ensures out { out.new ≡ left_by (λ view. spelling (check_if checked) view ++ drop (total_of (check_if checked) view) out.old)
+    ensures total { total.new ≡ left_by (total_of (check_if checked))
+        (frame_taken checked frame.now payload.now (length out.old)) total.old }
+    ensures out { let check = check_if checked in
+        out.new ≡ left_by (λ view. spelling check view ++ drop (total_of check view) out.old)
         (frame_taken checked frame.now payload.now (length out.old)) out.old }
 {
     match frame_from(frame, payload) {

@@ -43,8 +43,10 @@ pub extern "C" fn sedge_farm_open(receiver: &mut Receiver, width: u8, vr: u8) ->
 /// or 255 where the receiver is damaged.
 #[unsafe(no_mangle)]
 pub extern "C" fn sedge_farm_ad(receiver: &mut Receiver, n: u8, buffer_free: bool) -> u8
-    ensures answer { result ≡ answer_of verdict_number (map_ok (λ s. verdict_of s n buffer_free) (farm_told receiver.old)) }
-    ensures receiver { receiver.new ≡ left_by receiver_of (farm_stepped receiver.old (AdArrives n buffer_free)) receiver.old }
+    ensures answer { result
+        ≡ answer_of verdict_number (map_ok (λ s. verdict_of s n buffer_free) (farm_told receiver.old)) }
+    ensures receiver { receiver.new
+        ≡ left_by receiver_of (farm_stepped receiver.old (AdArrives n buffer_free)) receiver.old }
 {
     match told(receiver) {
         Some(mut farm) => {
