@@ -1,0 +1,34 @@
+-- What a caller in C is told: 0, or the number of the first fault; and what a call leaves in a struct of the caller's.
+use Rattle.std.specs.Prelude.{ℕ, Result, Ok, Err}
+
+-- a struct has a value that no such value of a crate has
+abbrev pub damaged : ℕ
+damaged = 255
+
+-- the octets are not as many as the call wants
+abbrev pub wrong_count : ℕ
+wrong_count = 254
+
+-- a crate's answer, with its fault's number
+abbrev pub numbered : {A F : Type 0} → (F → ℕ) → Result A F → Result A ℕ
+numbered number (Ok x) = Ok x
+numbered number (Err e) = Err (number e)
+
+abbrev pub status_of : {A : Type 0} → Result A ℕ → ℕ
+status_of (Ok x) = 0
+status_of (Err number) = number
+
+-- what a struct holds behind a call: what spells the answer, or what it held
+abbrev pub left_by : {A S : Type 0} → (A → S) → Result A ℕ → S → S
+left_by fields (Ok x) old = fields x
+left_by fields (Err number) old = old
+
+-- the answer of a call that has first another's answer
+abbrev pub and_then : {A B : Type 0} → Result A ℕ → (A → Result B ℕ) → Result B ℕ
+and_then (Ok x) next = next x
+and_then (Err number) next = Err number
+
+-- the value, where the call answers
+abbrev pub if_ok : {A B : Type 0} → Result B ℕ → A → Result A ℕ
+if_ok (Ok count) x = Ok x
+if_ok (Err number) x = Err number

@@ -1,0 +1,59 @@
+-- Space packets as C has them.
+use Rattle.std.specs.Prelude.{◌≡◌, ℕ, List, length, take, drop, ◌&&◌, ◌==◌, nat_lt, if◌then◌else◌, Result, Ok, Err}
+use Rattle.space_packet.specs.Faults.{fault_number}
+use Rattle.space_packet.specs.Layout.{PacketView, type_bit, secondary_bit}
+use Rattle.space_packet.specs.Reading.{kind_at, extent_at, packet_at}
+use Rattle.space_packet.specs.Writing.{written}
+use Rattle.sedgechisel.specs.declared.packet.PacketFields.{PacketFields}
+use Rattle.sedgechisel.specs.declared.part.Part.{Part}
+use Rattle.sedgechisel.specs.Answers.{damaged, numbered, and_then, if_ok}
+
+-- the packet that the fields and the data tell; kind 0 is telemetry, 1 telecommand
+abbrev pub packet_told : PacketFields → List ℕ → Result PacketView ℕ
+packet_told p payload =
+    if nat_lt p.kind 2 && nat_lt p.secondary 2 then Ok (record {
+      kind = kind_at p.kind;
+      secondary = p.secondary == 1;
+      apid = p.apid;
+      flags = p.flags;
+      count = p.count;
+      payload = payload;
+    })
+    else Err damaged
+
+-- the fields that tell the packet
+abbrev pub fields_of : PacketView → PacketFields
+fields_of p = record {
+  apid = p.apid;
+  count = p.count;
+  kind = type_bit p.kind;
+  secondary = secondary_bit p.secondary;
+  flags = p.flags;
+}
+
+-- where its data stand, behind the header
+abbrev pub part_of : PacketView → Part
+part_of p = record { from = 6; count = length p.payload }
+
+-- ---- the calls
+
+-- the packet that octets begin with, and how many octets it has
+abbrev pub packet_read : List ℕ → Result (PacketView × ℕ) ℕ
+packet_read octets = numbered fault_number (packet_at octets)
+
+-- the packet that is written where there is so much room
+abbrev pub packet_taken : PacketFields → List ℕ → ℕ → Result PacketView ℕ
+packet_taken p payload room =
+    and_then (packet_told p payload) (λ view. if_ok (numbered fault_number (written view room)) view)
+
+-- the declared length of the packet that octets begin; 1 Truncated for fewer than 6
+abbrev pub total_declared : List ℕ → Result ℕ ℕ
+total_declared octets =
+    if nat_lt (length octets) 6 then Err 1
+    else numbered fault_number (extent_at (take 6 octets))
+
+-- what the fields and the octets at the place tell is the packet that was read
+abbrev pub TellsPacket : List ℕ → PacketFields → Part → Type 0
+TellsPacket octets p part =
+    (view : PacketView) (n : ℕ) → packet_read octets ≡ Ok (view, n)
+    → packet_told p (take part.count (drop part.from octets)) ≡ Ok view

@@ -1,0 +1,51 @@
+-- Telemetry frames as C has them.
+use Rattle.std.specs.Prelude.{◌≡◌, ℕ, List, length, take, drop, Result, Ok}
+use Rattle.tm_link.specs.Faults.{fault_number}
+use Rattle.tm_link.specs.Layout.{FrameView, pointer_number}
+use Rattle.tm_link.specs.Reading.{pointer_at, frame_at}
+use Rattle.tm_link.specs.Writing.{written}
+use Rattle.sedgechisel.specs.declared.report_frame.ReportFrame.{ReportFrame}
+use Rattle.sedgechisel.specs.declared.part.Part.{Part}
+use Rattle.sedgechisel.specs.Answers.{numbered, if_ok}
+
+-- the frame that the fields and the data tell; the pointer is as the header has it
+abbrev pub frame_told : ReportFrame → List ℕ → FrameView
+frame_told f payload = record {
+  scid = f.scid;
+  vcid = f.vcid;
+  mc_count = f.mc_count;
+  vc_count = f.vc_count;
+  pointer = pointer_at f.pointer;
+  payload = payload;
+  ocf = f.ocf;
+}
+
+-- the fields that tell the frame
+abbrev pub fields_of : FrameView → ReportFrame
+fields_of f = record {
+  scid = f.scid;
+  pointer = pointer_number f.pointer;
+  vcid = f.vcid;
+  mc_count = f.mc_count;
+  vc_count = f.vc_count;
+  ocf = f.ocf;
+}
+
+-- where its data stand, behind the header
+abbrev pub part_of : FrameView → Part
+part_of f = record { from = 6; count = length f.payload }
+
+-- ---- the calls
+
+abbrev pub frame_read : ℕ → List ℕ → Result FrameView ℕ
+frame_read total octets = numbered fault_number (frame_at total octets)
+
+-- the frame that is written where there is so much room
+abbrev pub frame_taken : ReportFrame → List ℕ → ℕ → Result FrameView ℕ
+frame_taken f payload room = if_ok (numbered fault_number (written (frame_told f payload) room)) (frame_told f payload)
+
+-- what the fields and the octets at the place tell is the frame that was read
+abbrev pub TellsFrame : ℕ → List ℕ → ReportFrame → Part → Type 0
+TellsFrame total octets f part =
+    (view : FrameView) → frame_read total octets ≡ Ok view
+    → frame_told f (take part.count (drop part.from octets)) ≡ view

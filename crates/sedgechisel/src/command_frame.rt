@@ -1,0 +1,243 @@
+// Telecommand transfer frames.
+
+ghost use Rattle.std.specs.Prelude.{◌≡◌, ◌++◌, length, drop};
+ghost use Rattle.octets.specs.Outcome.{map_ok};
+ghost use Rattle.tc_frame.specs.Layout.{body_view, frame_view, flags_code, segment_view};
+ghost use Rattle.tc_frame.specs.Reading.{flags_at};
+ghost use Rattle.tc_frame.specs.Writing.{total_of, spelling};
+ghost use Rattle.sedgechisel.specs.Answers.{status_of, left_by};
+ghost use Rattle.sedgechisel.specs.Commands.{check_if, segment_told, command_told, body_told, frame_told, fields_of, part_of, part_with, frame_read, frame_taken, total_declared, TellsFrame};
+
+use crate::numbers::DAMAGED;
+use crate::part::Part;
+use octets::Wire;
+use tc_frame::{
+    Body, Check, Checked, Command, Segment, SegmentFlags, SegmentHeader, TcFault, TcFrame,
+    Unchecked,
+};
+
+/// A telecommand frame's fields (CCSDS 232.0-B-4, 4.1) without its data. The kind is 0 for Type-AD, 1 for Type-BD and 2
+/// for Type-BC; the command is 0 for Unlock and 1 for Set V(R).
+#[repr(C)]
+#[derive(Clone, Copy)]
+pub struct CommandFrame {
+    pub scid: u16,
+    pub vcid: u8,
+    pub kind: u8,
+    pub n: u8,
+    pub flags: u8,
+    pub map: u8,
+    pub command: u8,
+    pub vr: u8,
+}
+
+/// Reads all of the octets as one frame, with its check or without, and says where its data stand in them. Answers 0,
+/// or the first of the faults 1 to 9 of `TcFault`.
+#[unsafe(no_mangle)]
+pub extern "C" fn sedge_tc_decode(
+    octets: &[u8],
+    checked: bool,
+    frame: &mut CommandFrame,
+    payload: &mut Part,
+) -> u8
+    ensures answer { result ≡ status_of (frame_read checked octets.now) }
+    ensures frame { frame.new ≡ left_by fields_of (frame_read checked octets.now) frame.old }
+    ensures payload { payload.new ≡ left_by part_of (frame_read checked octets.now) payload.old }
+
+    // So `sedge_tc_encode` writes this frame from the fields and the data there.
+    ensures tells { TellsFrame checked octets.now frame.new payload.new }
+{
+    match tc_frame::decode(octets, check_for(checked)) {
+        Ok(found) => {
+            *frame = fields_from(&found);
+            *payload = part_from(&found.body);
+            0
+        }
+        Err(fault) => fault.number(),
+    }
+}
+
+/// Writes the frame that the fields and the data tell at the beginning of `out`, with its check or without, and says
+/// how many octets it has. Answers 0, or 11 `FieldRange`, or 10 `Room`, or 255 where the fields tell no frame.
+#[unsafe(no_mangle)]
+pub extern "C" fn sedge_tc_encode(
+    frame: &CommandFrame,
+    payload: &[u8],
+    checked: bool,
+    out: &mut [u8],
+    total: &mut usize,
+) -> u8
+    ensures answer { result ≡ status_of (frame_taken checked frame.now payload.now (length out.old)) }
+    ensures total { total.new ≡ left_by (total_of (check_if checked))
+        (frame_taken checked frame.now payload.now (length out.old)) total.old }
+    ensures out { let check = check_if checked in
+        out.new ≡ left_by (λ view. spelling check view ++ drop (total_of check view) out.old)
+        (frame_taken checked frame.now payload.now (length out.old)) out.old }
+{
+    match frame_from(frame, payload) {
+        Ok(told) => match tc_frame::encode(&told, check_for(checked), out) {
+            Ok(count) => {
+                *total = count;
+                0
+            }
+            Err(fault) => fault.number(),
+        },
+        Err(number) => number,
+    }
+}
+
+/// How many octets the frame has that begins so, for cutting a stream. Answers 0, or 1 `Short` for fewer than 5 octets,
+/// or 5 `Length` where it declares fewer than any frame has.
+#[unsafe(no_mangle)]
+pub extern "C" fn sedge_tc_declared(octets: &[u8], checked: bool, total: &mut usize) -> u8
+    ensures answer { result ≡ status_of (total_declared checked octets.now) }
+    ensures total { total.new ≡ left_by (λ n. n) (total_declared checked octets.now) total.old }
+{
+    if octets.len() < 5 {
+        return TcFault::Short.number();
+    }
+    let declared = if checked {
+        Checked::extent(octets)
+    } else {
+        Unchecked::extent(octets)
+    };
+    match declared {
+        Ok(count) => {
+            *total = count;
+            0
+        }
+        Err(fault) => fault.number(),
+    }
+}
+
+fn check_for(checked: bool) -> Check
+    ensures { result ≡ check_if checked }
+{
+    if checked { Check::On } else { Check::Off }
+}
+
+// ---- from fields and data to a frame
+
+fn frame_from<'a>(fields: &CommandFrame, payload: &'a [u8]) -> Result<TcFrame<'a>, u8>
+    ensures { map_ok frame_view result ≡ frame_told fields.now payload.now }
+{
+    let body = body_from(fields, payload)?;
+    Ok(TcFrame {
+        scid: fields.scid,
+        vcid: fields.vcid,
+        body,
+    })
+}
+
+fn body_from<'a>(fields: &CommandFrame, payload: &'a [u8]) -> Result<Body<'a>, u8>
+    ensures { map_ok body_view result ≡ body_told fields.now payload.now }
+{
+    match fields.kind {
+        0 => Ok(Body::Ad {
+            n: fields.n,
+            segment: segment_from(fields, payload)?,
+        }),
+        1 => Ok(Body::Bd {
+            segment: segment_from(fields, payload)?,
+        }),
+        2 => command_from(fields),
+        _ => Err(DAMAGED),
+    }
+}
+
+fn segment_from<'a>(fields: &CommandFrame, payload: &'a [u8]) -> Result<Segment<'a>, u8>
+    ensures { map_ok segment_view result ≡ segment_told fields.now payload.now }
+{
+    if fields.flags >= 4 {
+        return Err(DAMAGED);
+    }
+    Ok(Segment {
+        header: SegmentHeader {
+            flags: flags_from(fields.flags),
+            map: fields.map,
+        },
+        payload: payload,
+    })
+}
+
+fn flags_from(code: u8) -> SegmentFlags
+    ensures { result ≡ flags_at code }
+{
+    match code {
+        0 => SegmentFlags::Continuing,
+        1 => SegmentFlags::First,
+        2 => SegmentFlags::Last,
+        _ => SegmentFlags::Alone,
+    }
+}
+
+fn command_from<'a>(fields: &CommandFrame) -> Result<Body<'a>, u8>
+    ensures { map_ok body_view result ≡ command_told fields.now }
+{
+    match fields.command {
+        0 => Ok(Body::Bc(Command::Unlock)),
+        1 => Ok(Body::Bc(Command::SetVr(fields.vr))),
+        _ => Err(DAMAGED),
+    }
+}
+
+// ---- from a frame to fields, and to where its data stand
+
+fn fields_from(frame: &TcFrame) -> CommandFrame
+    ensures { result ≡ fields_of (frame_view frame.now) }
+{
+    let bare = CommandFrame {
+        scid: frame.scid,
+        vcid: frame.vcid,
+        kind: 2,
+        n: 0,
+        flags: 0,
+        map: 0,
+        command: 0,
+        vr: 0,
+    };
+    match &frame.body {
+        Body::Ad { n, segment } => CommandFrame {
+            kind: 0,
+            n: *n,
+            flags: code_of(segment.header.flags),
+            map: segment.header.map,
+            ..bare
+        },
+        Body::Bd { segment } => CommandFrame {
+            kind: 1,
+            flags: code_of(segment.header.flags),
+            map: segment.header.map,
+            ..bare
+        },
+        Body::Bc(Command::Unlock) => bare,
+        Body::Bc(Command::SetVr(vr)) => CommandFrame {
+            command: 1,
+            vr: *vr,
+            ..bare
+        },
+    }
+}
+
+fn code_of(flags: SegmentFlags) -> u8
+    ensures { result ≡ flags_code flags }
+{
+    match flags {
+        SegmentFlags::Continuing => 0,
+        SegmentFlags::First => 1,
+        SegmentFlags::Last => 2,
+        SegmentFlags::Alone => 3,
+    }
+}
+
+fn part_from(body: &Body) -> Part
+    ensures { result ≡ part_with (body_view body.now) }
+{
+    match body {
+        Body::Ad { segment, .. } | Body::Bd { segment } => Part {
+            from: 6,
+            count: segment.payload.len(),
+        },
+        Body::Bc(_) => Part { from: 0, count: 0 },
+    }
+}

@@ -1,0 +1,11 @@
+//! The half of the link on board for programs in C: a static library that allocates nothing and calls nothing.
+#![tactic(auto)]
+
+mod checking;
+mod command_frame;
+mod control_word;
+mod numbers;
+mod packet;
+mod part;
+mod receiver;
+mod report_frame;

@@ -1,0 +1,248 @@
+// The receiver, FARM-1, whose state the caller keeps.
+
+ghost use Rattle.std.specs.Prelude.{◌≡◌, ◌<◌, ◌↔◌, IsTrue, IfSome, IsSome};
+ghost use Rattle.cop1.specs.Farm.{AdArrives, BdArrives, UnlockArrives, SetVrArrives, BufferReleased, verdict_of, opened};
+ghost use Rattle.octets.specs.Outcome.{map_ok};
+ghost use Rattle.sedgechisel.specs.Answers.{status_of, left_by};
+ghost use Rattle.sedgechisel.specs.ControlWords.{fields_of};
+ghost use Rattle.sedgechisel.specs.Receivers.{is_whole, farm_of, receiver_of, farm_told, farm_opened, farm_stepped, farm_report, answer_of, verdict_number, mode_number, flag_number, are_flags_whole};
+
+use crate::control_word::{ControlWord, fields_from};
+use crate::numbers::DAMAGED;
+use clcw::ClcwFault;
+use cop1::{Farm, FarmMode, Verdict};
+
+/// A receiver (CCSDS 232.1-B-2, 6.1): its window width, V(R), the flags, each 0 or 1, and FARM-B.
+#[repr(C)]
+#[derive(Clone, Copy)]
+pub struct Receiver {
+    pub width: u8,
+    pub vr: u8,
+    pub lockout: u8,
+    pub wait: u8,
+    pub retransmit: u8,
+    pub farm_b: u8,
+}
+
+/// Opens a receiver that expects `vr`, and answers 0, or 1 `Width` where the width is not even, 2 to 254.
+#[unsafe(no_mangle)]
+pub extern "C" fn sedge_farm_open(receiver: &mut Receiver, width: u8, vr: u8) -> u8
+    ensures answer { result ≡ status_of (farm_opened width vr) }
+    ensures receiver { receiver.new ≡ left_by receiver_of (farm_opened width vr) receiver.old }
+{
+    match Farm::new(width, vr) {
+        Ok(farm) => {
+            *receiver = kept(&farm, width);
+            0
+        }
+        Err(fault) => fault.number(),
+    }
+}
+
+/// A Type-AD frame with the number `n` has come, and there is room for its data or not. Answers the verdict's number,
+/// or 255 where the receiver is damaged.
+#[unsafe(no_mangle)]
+pub extern "C" fn sedge_farm_ad(receiver: &mut Receiver, n: u8, buffer_free: bool) -> u8
+    ensures answer { result
+        ≡ answer_of verdict_number (map_ok (λ s. verdict_of s n buffer_free) (farm_told receiver.old)) }
+    ensures receiver { receiver.new
+        ≡ left_by receiver_of (farm_stepped receiver.old (AdArrives n buffer_free)) receiver.old }
+{
+    match told(receiver) {
+        Some(mut farm) => {
+            let verdict = farm.ad(n, buffer_free);
+            *receiver = kept(&farm, receiver.width);
+            number_of_verdict(verdict)
+        }
+        None => DAMAGED,
+    }
+}
+
+/// A Type-BD frame has come.
+#[unsafe(no_mangle)]
+pub extern "C" fn sedge_farm_bd(receiver: &mut Receiver) -> u8
+    ensures answer { result ≡ status_of (farm_told receiver.old) }
+    ensures receiver { receiver.new ≡ left_by receiver_of (farm_stepped receiver.old BdArrives) receiver.old }
+{
+    match told(receiver) {
+        Some(mut farm) => {
+            farm.bd();
+            *receiver = kept(&farm, receiver.width);
+            0
+        }
+        None => DAMAGED,
+    }
+}
+
+/// The control command Unlock has come.
+#[unsafe(no_mangle)]
+pub extern "C" fn sedge_farm_unlock(receiver: &mut Receiver) -> u8
+    ensures answer { result ≡ status_of (farm_told receiver.old) }
+    ensures receiver { receiver.new ≡ left_by receiver_of (farm_stepped receiver.old UnlockArrives) receiver.old }
+{
+    match told(receiver) {
+        Some(mut farm) => {
+            farm.unlock();
+            *receiver = kept(&farm, receiver.width);
+            0
+        }
+        None => DAMAGED,
+    }
+}
+
+/// The control command Set V(R) has come.
+#[unsafe(no_mangle)]
+pub extern "C" fn sedge_farm_set_vr(receiver: &mut Receiver, vr: u8) -> u8
+    ensures answer { result ≡ status_of (farm_told receiver.old) }
+    ensures receiver { receiver.new ≡ left_by receiver_of (farm_stepped receiver.old (SetVrArrives vr)) receiver.old }
+{
+    match told(receiver) {
+        Some(mut farm) => {
+            farm.set_vr(vr);
+            *receiver = kept(&farm, receiver.width);
+            0
+        }
+        None => DAMAGED,
+    }
+}
+
+/// There is room on board again.
+#[unsafe(no_mangle)]
+pub extern "C" fn sedge_farm_released(receiver: &mut Receiver) -> u8
+    ensures answer { result ≡ status_of (farm_told receiver.old) }
+    ensures receiver { receiver.new ≡ left_by receiver_of (farm_stepped receiver.old BufferReleased) receiver.old }
+{
+    match told(receiver) {
+        Some(mut farm) => {
+            farm.released();
+            *receiver = kept(&farm, receiver.width);
+            0
+        }
+        None => DAMAGED,
+    }
+}
+
+/// What the receiver reports for the virtual channel `vcid` (CCSDS 232.0-B-4, 4.2). Answers 0, or 255 where the
+/// receiver is damaged, or 5 `Range` where the virtual channel is not below 64.
+#[unsafe(no_mangle)]
+pub extern "C" fn sedge_farm_report(receiver: &Receiver, vcid: u8, word: &mut ControlWord) -> u8
+    ensures answer { result ≡ status_of (farm_report receiver.now vcid) }
+    ensures word { word.new ≡ left_by fields_of (farm_report receiver.now vcid) word.old }
+{
+    match told(receiver) {
+        Some(farm) => {
+            if vcid >= 64 {
+                return ClcwFault::Range.number();
+            }
+            *word = fields_from(&farm.report(vcid));
+            0
+        }
+        None => DAMAGED,
+    }
+}
+
+/// The receiver's state: 0 Open, 1 Wait, 2 Lockout, or 255 where it is damaged.
+#[unsafe(no_mangle)]
+pub extern "C" fn sedge_farm_state(receiver: &Receiver) -> u8
+    ensures { result ≡ answer_of mode_number (map_ok (λ s. s.state) (farm_told receiver.now)) }
+{
+    match told(receiver) {
+        Some(farm) => number_of_mode(farm.state()),
+        None => DAMAGED,
+    }
+}
+
+fn number_of_verdict(verdict: Verdict) -> u8
+    ensures { result ≡ verdict_number verdict }
+{
+    verdict as u8
+}
+
+fn number_of_mode(mode: FarmMode) -> u8
+    ensures { result ≡ mode_number mode }
+{
+    mode as u8
+}
+
+fn number_of_flag(flag: bool) -> u8
+    ensures { result ≡ flag_number flag }
+{
+    u8::from(flag)
+}
+
+// What C keeps of a receiver with this width.
+fn kept(farm: &Farm, width: u8) -> Receiver
+    requires { width ≡ farm.now.width }
+    ensures { result ≡ receiver_of farm.now }
+{
+    Receiver {
+        width,
+        vr: farm.vr(),
+        lockout: number_of_flag(farm.lockout()),
+        wait: number_of_flag(farm.wait()),
+        retransmit: number_of_flag(farm.retransmit()),
+        farm_b: farm.farm_b(),
+    }
+}
+
+// The receiver that the fields tell, unless they are damaged.
+fn told(fields: &Receiver) -> Option<Farm>
+    ensures whole { IsSome result ↔ IsTrue (is_whole fields.now) }
+    ensures farm { IfSome result (λ f. f ≡ farm_of fields.now) }
+{
+    if !has_whole_flags(fields) {
+        return None;
+    }
+    match Farm::new(fields.width, fields.vr) {
+        Ok(mut farm) => {
+            count_type_b(&mut farm, fields.farm_b);
+            set_flags(&mut farm, fields);
+            Some(farm)
+        }
+        Err(_) => None,
+    }
+}
+
+fn has_whole_flags(fields: &Receiver) -> bool
+    ensures { result ≡ are_flags_whole fields.now }
+{
+    fields.lockout < 2
+        && fields.wait < 2
+        && fields.retransmit < 2
+        && fields.farm_b < 4
+        && fields.wait <= fields.retransmit
+}
+
+// So many Type-B frames come to a new receiver.
+fn count_type_b(farm: &mut Farm, count: u8)
+    requires none { farm.old.farm_b ≡ 0 }
+    requires count { count < 4 }
+    ensures { farm.new ≡ record farm.old { farm_b = count } }
+{
+    if count > 0 {
+        farm.bd();
+    }
+    if count > 1 {
+        farm.bd();
+    }
+    if count > 2 {
+        farm.bd();
+    }
+}
+
+// The flags are brought about by what sets them: a frame without room, and a frame outside both windows.
+fn set_flags(begun: &mut Farm, fields: &Receiver)
+    requires start { begun.old ≡ record (opened fields.now.width fields.now.vr) { farm_b = fields.now.farm_b } }
+    requires whole { IsTrue (is_whole fields.now) }
+    ensures { begun.new ≡ farm_of fields.now }
+{
+    if fields.retransmit == 1 {
+        begun.ad(fields.vr, false);
+        if fields.wait == 0 {
+            begun.released();
+        }
+    }
+    if fields.lockout == 1 {
+        begun.ad(fields.vr.wrapping_add(128), false);
+    }
+}

@@ -1,0 +1,123 @@
+// Telemetry transfer frames.
+
+ghost use Rattle.std.specs.Prelude.{◌≡◌, ◌<◌, ◌++◌, length, drop, IsTrue};
+ghost use Rattle.tm_link.specs.Layout.{frame_view, pointer_number, pointer_fits};
+ghost use Rattle.tm_link.specs.Reading.{pointer_at};
+ghost use Rattle.tm_link.specs.Writing.{total_of, spelling};
+ghost use Rattle.sedgechisel.specs.Answers.{status_of, left_by};
+ghost use Rattle.sedgechisel.specs.Telemetry.{frame_told, fields_of, part_of, frame_read, frame_taken, TellsFrame};
+
+use crate::part::Part;
+use tm_link::{Pointer, TmFrame};
+
+/// A telemetry frame's fields (CCSDS 132.0-B-3, 4.1) without its data. The pointer is the place where the first packet
+/// starts, or 2047 for none, or 2046 for idle data alone.
+#[repr(C)]
+#[derive(Clone, Copy)]
+pub struct ReportFrame {
+    pub scid: u16,
+    pub pointer: u16,
+    pub vcid: u8,
+    pub mc_count: u8,
+    pub vc_count: u8,
+    pub ocf: [u8; 4],
+}
+
+/// Reads all of the octets as one frame of `length` octets, and says where its data stand in them. Answers 0, or the
+/// first of the faults 1 to 6 of `TmFault`.
+#[unsafe(no_mangle)]
+pub extern "C" fn sedge_tm_decode(
+    octets: &[u8],
+    length: usize,
+    frame: &mut ReportFrame,
+    payload: &mut Part,
+) -> u8
+    ensures answer { result ≡ status_of (frame_read length octets.now) }
+    ensures frame { frame.new ≡ left_by fields_of (frame_read length octets.now) frame.old }
+    ensures payload { payload.new ≡ left_by part_of (frame_read length octets.now) payload.old }
+
+    // So `sedge_tm_encode` writes this frame from the fields and the data there.
+    ensures tells { TellsFrame length octets.now frame.new payload.new }
+{
+    match tm_link::decode(octets, length) {
+        Ok(found) => {
+            *frame = fields_from(&found);
+            *payload = Part {
+                from: 6,
+                count: found.payload.len(),
+            };
+            0
+        }
+        Err(fault) => fault.number(),
+    }
+}
+
+/// Writes the frame that the fields and the data tell at the beginning of `out`, and says how many octets it has.
+/// Answers 0, or 10 `FieldRange`, or 9 `Room`.
+#[unsafe(no_mangle)]
+pub extern "C" fn sedge_tm_encode(
+    frame: &ReportFrame,
+    payload: &[u8],
+    out: &mut [u8],
+    total: &mut usize,
+) -> u8
+    ensures answer { result ≡ status_of (frame_taken frame.now payload.now (length out.old)) }
+    ensures total { total.new ≡ left_by total_of (frame_taken frame.now payload.now (length out.old)) total.old }
+    ensures out { out.new ≡ left_by (λ view. spelling view ++ drop (total_of view) out.old)
+        (frame_taken frame.now payload.now (length out.old)) out.old }
+{
+    match tm_link::encode(&frame_from(frame, payload), out) {
+        Ok(count) => {
+            *total = count;
+            0
+        }
+        Err(fault) => fault.number(),
+    }
+}
+
+fn frame_from<'a>(fields: &ReportFrame, payload: &'a [u8]) -> TmFrame<'a>
+    ensures { frame_view result ≡ frame_told fields.now payload.now }
+{
+    TmFrame {
+        scid: fields.scid,
+        vcid: fields.vcid,
+        mc_count: fields.mc_count,
+        vc_count: fields.vc_count,
+        pointer: pointer_from(fields.pointer),
+        payload: payload,
+        ocf: fields.ocf,
+    }
+}
+
+fn pointer_from(number: u16) -> Pointer
+    ensures { result ≡ pointer_at number }
+{
+    match number {
+        2046 => Pointer::OnlyIdle,
+        2047 => Pointer::NoStart,
+        _ => Pointer::At(number),
+    }
+}
+
+fn fields_from(frame: &TmFrame) -> ReportFrame
+    ensures { result ≡ fields_of (frame_view frame.now) }
+{
+    ReportFrame {
+        scid: frame.scid,
+        pointer: number_of_pointer(frame.pointer),
+        vcid: frame.vcid,
+        mc_count: frame.mc_count,
+        vc_count: frame.vc_count,
+        ocf: frame.ocf,
+    }
+}
+
+fn number_of_pointer(pointer: Pointer) -> u16
+    ensures { result ≡ pointer_number pointer }
+{
+    match pointer {
+        Pointer::At(place) => place,
+        Pointer::NoStart => 2047,
+        Pointer::OnlyIdle => 2046,
+    }
+}
