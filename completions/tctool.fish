@@ -14,4 +14,4 @@ complete -c tctool -n "__fish_seen_subcommand_from farm" -l width -x -d 'Width o
 complete -c tctool -n "__fish_seen_subcommand_from farm" -l vr -x -d 'Number of the first frame that is expected, 0 to 255'
 complete -c tctool -n "__fish_seen_subcommand_from tm" -l length -x -d 'Octets of a frame, 16 to 2048'
 complete -c tctool -s h -l help -d 'Help'
-complete -c tctool -s V -l version -d 'The version'
+complete -c tctool -n "not __fish_seen_subcommand_from $commands" -s V -l version -d 'The version'

@@ -55,7 +55,7 @@ class Picture:
         height = 12 + 17 * len(lines)
         self.add("rect", x=x - width / 2, y=y, width=width, height=height, rx=8, fill="#eef3f8", stroke="#345")
         for k, line in enumerate(lines):
-            self.text(x, y + 20 + 17 * k, line, **({"font_weight": "bold"} if k == 0 else {}))
+            self.text(x, y + 20 + 17 * k, line, **({"class": "name"} if k == 0 else {}))
         return height
 
     def arrow(self, x0, y0, x1, y1, bend=0, colour="#345", tip=True):
@@ -67,7 +67,7 @@ class Picture:
         return (x0 + 2 * x + x1) / 4, (y0 + 2 * y + y1) / 4
 
     def write(self, file):
-        style = "text { font: 13px monospace; fill: #123; paint-order: stroke; stroke: #fff; stroke-width: 4px }"
+        style = "text { font: 13px monospace; fill: #123; paint-order: stroke; stroke: #fff; stroke-width: 6px; stroke-linejoin: round } .name { font-weight: bold }"
         tip = '<marker id="tip" markerWidth="9" markerHeight="9" refX="8" refY="4" orient="auto"><path d="M0 0 L9 4 L0 8 z" fill="#345"/></marker>'
         head = f'<svg xmlns="http://www.w3.org/2000/svg" viewBox="0 0 {self.width} {self.height}" width="{self.width}" height="{self.height}" role="img">'
         back = f'<rect width="{self.width}" height="{self.height}" fill="#fff"/>'
@@ -85,7 +85,7 @@ def ladder(script, file):
     left, right = 300, 600
     bottom = picture.height - 20
     for x, end in ((left, LEFT), (right, RIGHT)):
-        picture.text(x, 24, end, font_weight="bold")
+        picture.text(x, 24, end, **{"class": "name"})
         picture.add("line", x1=x, y1=34, x2=x, y2=bottom, stroke="#9ab", stroke_width=2)
     ways = {"up": [], "down": []}
     for row, (asked, answer) in enumerate(events):
@@ -135,8 +135,8 @@ def way(file):
     assert octets[8:-4] == f"{int(fields['n']):02X}{header}{fields['data']}" and fields["data"] == PACKETS[0]
     records = dict(it.split("=") for it in shown.split())
     picture = Picture(940, 560, "The way of a packet up, and of the report down")
-    picture.text(235, 26, "the ground (tc_link::Ground)", font_weight="bold")
-    picture.text(705, 26, "the spacecraft (tc_link::Spacecraft)", font_weight="bold")
+    picture.text(235, 26, "the ground (tc_link::Ground)", **{"class": "name"})
+    picture.text(705, 26, "the spacecraft (tc_link::Spacecraft)", **{"class": "name"})
     columns = (
         (235, (
             (f"submit on MAP {fields['map']}", f"packet {PACKETS[0]}", "space_packet"),
@@ -208,7 +208,7 @@ def states(file, title, size, places, moves, notes):
     for state, (x, y, about) in places.items():
         own = drawn.get((state, state), [])
         picture.add("rect", x=x - 86, y=y - 30, width=172, height=60, rx=26, fill="#eef3f8", stroke="#345")
-        picture.text(x, y - 4, state, font_weight="bold")
+        picture.text(x, y - 4, state, **{"class": "name"})
         picture.text(x, y + 14, about)
         if own:
             picture.text(x, y + 50 if y > size[1] / 2 else y - 40, f"stays: {', '.join(own)}")
@@ -316,7 +316,7 @@ def fop(file):
         "S2": (170, 480, "Retransmit"),
         "S3": (750, 480, "Retransmit, wait"),
     }
-    notes = [f"From each of {', '.join(given_up)} to S6 by an alert: {', '.join(names)}", "The words at the arrows from S1 to S5 are the flags of the report that came"]
+    notes = [f"From each of {', '.join(given_up)} to S6 by an alert; seen: {', '.join(names)}", "The words at the arrows from S1 to S5 are the flags of the report that came"]
     states(file, "The states of FOP-1", (920, 600), places, moves, notes)
 
 
