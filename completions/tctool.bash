@@ -1,0 +1,26 @@
+# Completion of tctool for bash.
+_tctool() {
+    local word=${COMP_WORDS[COMP_CWORD]} before=${COMP_WORDS[COMP_CWORD - 1]} words
+    COMPREPLY=()
+    if [ "$COMP_CWORD" -eq 1 ]; then
+        words='farm map tc check tm packets sim help --help --version -h -V'
+    else
+        case $before in
+            --width | --vr | --length) return ;;
+        esac
+        case ${COMP_WORDS[1]} in
+            farm) words='--check --width --vr --help -h' ;;
+            map) words='--check --width --vr --blocking --help -h' ;;
+            tc) words='--check --help -h' ;;
+            tm) words='--length --help -h' ;;
+            check | packets | sim) words='--help -h' ;;
+            help) words='farm map tc check tm packets sim' ;;
+        esac
+    fi
+    if [ "$COMP_CWORD" -eq 1 ] || [ "${COMP_WORDS[1]}" = help ] || [ "${word#-}" != "$word" ]; then
+        mapfile -t COMPREPLY < <(compgen -W "$words" -- "$word")
+    else
+        mapfile -t COMPREPLY < <(compgen -f -- "$word")
+    fi
+}
+complete -o filenames -F _tctool tctool
