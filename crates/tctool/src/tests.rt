@@ -308,6 +308,14 @@ fn dumps_again(rt: &(impl Abort + Eprint), alloc: Global, row: &Row) {
 
 #[test]
 fn refused_growths(rt: HostRuntime) {
+    let [received, ..] = good_farm_rows();
+    dumps_again(&rt, rt.alloc(), &received);
     let [frames, ..] = tc_rows();
     dumps_again(&rt, rt.alloc(), &frames);
+    let [refused, ..] = check_rows();
+    dumps_again(&rt, rt.alloc(), &refused);
+    let [packets, ..] = packets_rows();
+    dumps_again(&rt, rt.alloc(), &packets);
+    let [telemetry, ..] = tm_rows();
+    dumps_again(&rt, rt.alloc(), &telemetry);
 }

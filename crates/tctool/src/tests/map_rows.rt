@@ -5,7 +5,9 @@ use crate::outcome::Outcome;
 use crate::task::{Options, Task};
 use crate::tests::devices::Supply;
 use crate::tests::rows::{Row, faulty, good};
-use crate::tests::{fails_with_each_call, is_in_range, is_written_in_pieces, writes_all};
+use crate::tests::{
+    dumps_again, fails_with_each_call, is_in_range, is_written_in_pieces, writes_all,
+};
 use std::alloc::{AllocError, Global};
 use std::process::Abort;
 use tc_frame::Check;
@@ -329,4 +331,11 @@ fn a_part_that_grows_too_long(rt: HostRuntime) -> Result<(), AllocError> {
         Outcome::Good,
     );
     Ok(())
+}
+
+#[test]
+fn refused_growths_of_packets(rt: HostRuntime) {
+    let [parts, _, packets, ..] = map_rows();
+    dumps_again(&rt, rt.alloc(), &parts);
+    dumps_again(&rt, rt.alloc(), &packets);
 }

@@ -2,7 +2,7 @@
 
 use super::devices::{Store, Supply};
 use super::rows::Row;
-use super::{dumped, fails_with_each_call, is_written, is_written_in_pieces};
+use super::{dumped, dumps_again, fails_with_each_call, is_written, is_written_in_pieces};
 use crate::outcome::Outcome;
 use crate::task::Task;
 use std::alloc::Global;
@@ -28,33 +28,41 @@ fn ends_unplayed(rt: &impl Abort, alloc: Global, script: &'static str, outcome: 
     is_written_in_pieces(rt, alloc, &row);
 }
 
+// A frame is lost and sent again: the script, and what it answers.
+const LOST_FRAME: [&str; 2] = [
+    "init check\nreport\ndown deliver\n\
+     submit 4 1005C0000000AA\nsubmit 4 1005C0010000AB\nsubmit 4 1005C0020000AC\n\
+     send\nsend\nsend\n\
+     up deliver\nup lose\nup deliver\n\
+     report\ndown deliver\n\
+     send\nsend\n\
+     up deliver\nup deliver\n\
+     report\ndown deliver\n\
+     show\n",
+    "ok\nreport 01080000\ngap=- packets=0\n\
+     ok\nok\nok\n\
+     sent 0001080E00C41005C0000000AAE75D\n\
+     sent 0001080E01C41005C0010000AB6AEB\n\
+     sent 0001080E02C41005C0020000ACAC94\n\
+     AD 0 accepted ready\nlost\nAD 2 ahead\n\
+     report 01080801\ngap=0 packets=0\n\
+     sent 0001080E01C41005C0010000AB6AEB\n\
+     sent 0001080E02C41005C0020000ACAC94\n\
+     AD 1 accepted ready\nAD 2 accepted ready\n\
+     report 01080003\ngap=0 packets=0\n\
+     clean=yes state=S1 submitted=3 delivered=3 sent=3 accepted=3 acknowledged=3 outstanding=0\n",
+];
+
 #[test]
 fn a_lost_frame_is_sent_again(rt: HostRuntime) {
-    plays(
-        &rt,
-        rt.alloc(),
-        "init check\nreport\ndown deliver\n\
-         submit 4 1005C0000000AA\nsubmit 4 1005C0010000AB\nsubmit 4 1005C0020000AC\n\
-         send\nsend\nsend\n\
-         up deliver\nup lose\nup deliver\n\
-         report\ndown deliver\n\
-         send\nsend\n\
-         up deliver\nup deliver\n\
-         report\ndown deliver\n\
-         show\n",
-        "ok\nreport 01080000\ngap=- packets=0\n\
-         ok\nok\nok\n\
-         sent 0001080E00C41005C0000000AAE75D\n\
-         sent 0001080E01C41005C0010000AB6AEB\n\
-         sent 0001080E02C41005C0020000ACAC94\n\
-         AD 0 accepted ready\nlost\nAD 2 ahead\n\
-         report 01080801\ngap=0 packets=0\n\
-         sent 0001080E01C41005C0010000AB6AEB\n\
-         sent 0001080E02C41005C0020000ACAC94\n\
-         AD 1 accepted ready\nAD 2 accepted ready\n\
-         report 01080003\ngap=0 packets=0\n\
-         clean=yes state=S1 submitted=3 delivered=3 sent=3 accepted=3 acknowledged=3 outstanding=0\n",
-    );
+    let [script, text] = LOST_FRAME;
+    plays(&rt, rt.alloc(), script, text);
+}
+
+#[test]
+fn refused_growths_of_a_script(rt: HostRuntime) {
+    let [script, text] = LOST_FRAME;
+    dumps_again(&rt, rt.alloc(), &row(script, text, Outcome::Good));
 }
 
 #[test]
