@@ -7,7 +7,8 @@ import subprocess
 import sys
 
 PACKETS = [f"1005C0{k:02X}0000{0xAA + k:02X}" for k in range(4)]
-LEFT, RIGHT = "ground", "spacecraft"
+# Where the ends stand in a ladder.
+GROUND, CRAFT = 300, 600
 
 
 def tool(words, octets):
@@ -76,51 +77,55 @@ class Picture:
             it.write("\n".join(lines) + "\n")
 
 
+def arrives(picture, ways, words, answer, y):
+    """The first frame on its way arrives, or is lost."""
+    is_up = words[0] == "up"
+    begun, label = ways[words[0]].pop(0)
+    start, end = (GROUND, CRAFT) if is_up else (CRAFT, GROUND)
+    told, anchor = (end + 10, "start") if is_up else (end - 10, "end")
+    if words[1] == "lose":
+        x, at = (start + end) / 2, (begun + y) / 2
+        picture.arrow(start, begun, x, at, colour="#a22", tip=False)
+        picture.text(x, at + 5, "\N{MULTIPLICATION X}", style="fill:#a22;font-size:18px")
+        picture.text(told, y + 4, f"{label} is lost", anchor)
+        return
+    x, at = picture.arrow(start, begun, end, y)
+    picture.text(x, at - 4, f"{label} damaged" if words[1] == "damage" else label)
+    picture.text(told, y + 4, answer, anchor)
+
+
+def rung(picture, ways, asked, answer, y):
+    """A line of a script with its answer; `ways` has what is on its way up and down."""
+    words = asked.split()
+    if answer.startswith("sent "):
+        ways["up"].append((y, frame_name(answer.split()[1])))
+        picture.text(GROUND - 10, y + 4, f"send {ways['up'][-1][1]}", "end")
+    elif words[0] == "report":
+        names, value = flags_of(answer.split()[1])
+        ways["down"].append((y, " ".join([f"value {value}", *names])))
+        picture.text(CRAFT + 10, y + 4, answer, "start")
+    elif words[0] in ways and not answer.startswith("refused"):
+        arrives(picture, ways, words, answer, y)
+    elif words[0] in ("take", "takebypass", "telemetry"):
+        picture.text(CRAFT + 10, y + 4, f"{words[0]}: {answer}", "start")
+    elif words[0] == "show":
+        picture.text(picture.width / 2, y + 8, answer)
+    else:
+        shown = asked if len(asked) < 30 else f"{asked[:27]}.."
+        picture.text(GROUND - 10, y + 4, f"{shown}: {answer}", "end")
+
+
 def ladder(script, file):
     """What went up and down in a script, row by row."""
     with open(script, encoding="utf-8") as it:
         events = play(it.read())
-    name = os.path.basename(script)
-    picture = Picture(900, 80 + 26 * len(events), f"The ladder of {name}")
-    left, right = 300, 600
-    bottom = picture.height - 20
-    for x, end in ((left, LEFT), (right, RIGHT)):
+    picture = Picture(900, 80 + 26 * len(events), f"The ladder of {os.path.basename(script)}")
+    for x, end in ((GROUND, "ground"), (CRAFT, "spacecraft")):
         picture.text(x, 24, end, **{"class": "name"})
-        picture.add("line", x1=x, y1=34, x2=x, y2=bottom, stroke="#9ab", stroke_width=2)
+        picture.add("line", x1=x, y1=34, x2=x, y2=picture.height - 20, stroke="#9ab", stroke_width=2)
     ways = {"up": [], "down": []}
     for row, (asked, answer) in enumerate(events):
-        y = 54 + 26 * row
-        words = asked.split()
-        if answer.startswith("sent "):
-            octets = answer.split()[1]
-            ways["up"].append((y, frame_name(octets)))
-            picture.text(left - 10, y + 4, f"send {ways['up'][-1][1]}", "end")
-        elif words[0] == "report":
-            names, value = flags_of(answer.split()[1])
-            ways["down"].append((y, " ".join([f"value {value}", *names])))
-            picture.text(right + 10, y + 4, answer, "start")
-        elif words[0] in ways and not answer.startswith("refused"):
-            is_up = words[0] == "up"
-            begun, label = ways[words[0]].pop(0)
-            start, end = (left, right) if is_up else (right, left)
-            if words[1] == "lose":
-                x, at = (start + end) / 2, (begun + y) / 2
-                picture.arrow(start, begun, x, at, colour="#a22", tip=False)
-                picture.text(x, at + 5, "\N{MULTIPLICATION X}", style="fill:#a22;font-size:18px")
-                picture.text(end + (10 if is_up else -10), y + 4, f"{label} is lost", "start" if is_up else "end")
-                continue
-            x, at = picture.arrow(start, begun, end, y)
-            if words[1] == "damage":
-                label += " damaged"
-            picture.text(x, at - 4, label)
-            picture.text(end + (10 if is_up else -10), y + 4, answer, "start" if is_up else "end")
-        elif words[0] in ("take", "takebypass", "telemetry"):
-            picture.text(right + 10, y + 4, f"{words[0]}: {answer}", "start")
-        elif words[0] == "show":
-            picture.text(picture.width / 2, y + 8, answer)
-        else:
-            shown = asked if len(asked) < 30 else f"{asked[:27]}.."
-            picture.text(left - 10, y + 4, f"{shown}: {answer}", "end")
+        rung(picture, ways, asked, answer, 54 + 26 * row)
     picture.write(file)
 
 
@@ -133,7 +138,6 @@ def way(file):
     fields = dict(it.split("=") for it in told.split() if "=" in it)
     header = f"{64 * int(fields['seg']) + int(fields['map']):02X}"
     assert octets[8:-4] == f"{int(fields['n']):02X}{header}{fields['data']}" and fields["data"] == PACKETS[0]
-    records = dict(it.split("=") for it in shown.split())
     picture = Picture(940, 560, "The way of a packet up, and of the report down")
     picture.text(235, 26, "the ground (tc_link::Ground)", **{"class": "name"})
     picture.text(705, 26, "the spacecraft (tc_link::Spacecraft)", **{"class": "name"})
@@ -160,7 +164,13 @@ def way(file):
                 picture.arrow(x, start, x, end)
     picture.arrow(435, 352, 505, 352)
     picture.text(470, 344, "up")
-    picture.box(705, 452, 400, ("telemetry frame (TmBuilder)", f"control word {report.split()[1]}: value {flags_of(report.split()[1])[1]}", "tm_link, clcw"))
+    way_down(picture, report.split()[1], heard, dict(it.split("=") for it in shown.split()))
+    picture.write(file)
+
+
+def way_down(picture, word, heard, records):
+    """The way of a report down, from FARM-1 to FOP-1."""
+    picture.box(705, 452, 400, ("telemetry frame (TmBuilder)", f"control word {word}: value {flags_of(word)[1]}", "tm_link, clcw"))
     picture.arrow(905, 260, 917, 260, tip=False)
     picture.arrow(917, 260, 917, 484, tip=False)
     picture.arrow(917, 484, 905, 484)
@@ -172,39 +182,37 @@ def way(file):
     picture.arrow(23, 484, 23, 260, tip=False)
     picture.arrow(23, 260, 35, 260)
     picture.text(235, 424, "what is acknowledged leaves the sent queue")
-    picture.write(file)
+
+
+def edge(x, y, ux, uy, sx, sy):
+    """Where the line from a state's middle, moved aside, leaves its box."""
+    across = (86 * (1 if ux > 0 else -1) - sx) / ux if ux else 1e9
+    along = (30 * (1 if uy > 0 else -1) - sy) / uy if uy else 1e9
+    k = min(across, along)
+    return x + sx + ux * k, y + sy + uy * k
+
+
+def move(picture, start, end, labels, bend):
+    """An arrow between two states, with what was said."""
+    (x0, y0, _), (x1, y1, _) = start, end
+    length = ((x1 - x0) ** 2 + (y1 - y0) ** 2) ** 0.5
+    ux, uy = (x1 - x0) / length, (y1 - y0) / length
+    sx, sy = (14 * uy, -14 * ux) if bend else (0, 0)
+    x, y = picture.arrow(*edge(x0, y0, ux, uy, sx, sy), *edge(x1, y1, -ux, -uy, sx, sy), bend)
+    for k, label in enumerate(labels):
+        picture.text(x + 0.2 * sx, y + 4 + 16 * (k - (len(labels) - 1) / 2), label)
 
 
 def states(file, title, size, places, moves, notes):
-    """States, and the moves between them that were seen: from, to, what was said, bend, and where the label stands."""
+    """States, and the moves between them that were seen: from, to, and what was said."""
     picture = Picture(*size, title)
     drawn = {}
     for start, end, label in moves:
-        drawn.setdefault((start, end), [])
-        if label not in drawn[start, end]:
-            drawn[start, end].append(label)
+        seen = drawn.setdefault((start, end), [])
+        seen.extend([label] if label not in seen else [])
     for (start, end), labels in drawn.items():
-        (x0, y0, *_), (x1, y1, *_) = places[start], places[end]
-        if start == end:
-            continue
-        bend = 46 if (end, start) in drawn else 0
-        length = ((x1 - x0) ** 2 + (y1 - y0) ** 2) ** 0.5
-        ux, uy = (x1 - x0) / length, (y1 - y0) / length
-
-        sx, sy = (14 * uy, -14 * ux) if bend else (0, 0)
-
-        def edge(x, y, ux, uy):
-            """Where the line from a state's middle, moved aside, leaves its box."""
-            across = (86 * (1 if ux > 0 else -1) - sx) / ux if ux else 1e9
-            along = (30 * (1 if uy > 0 else -1) - sy) / uy if uy else 1e9
-            k = min(across, along)
-            return x + sx + ux * k, y + sy + uy * k
-
-        xa, ya = edge(x0, y0, ux, uy)
-        xb, yb = edge(x1, y1, -ux, -uy)
-        x, y = picture.arrow(xa, ya, xb, yb, bend)
-        for k, label in enumerate(labels):
-            picture.text(x + 0.2 * sx, y + 4 + 16 * (k - (len(labels) - 1) / 2), label)
+        if start != end:
+            move(picture, places[start], places[end], labels, 46 if (end, start) in drawn else 0)
     for state, (x, y, about) in places.items():
         own = drawn.get((state, state), [])
         picture.add("rect", x=x - 86, y=y - 30, width=172, height=60, rx=26, fill="#eef3f8", stroke="#345")
@@ -236,8 +244,8 @@ def farm_move(setup, event):
     *front, last = event.split("; ")
     whole = play(lines(setup, *front, "report", last, "report"))
     words = whole[-2][1].split()
-    said = {"AD": words[-1], "BC": " ".join(["BC", *words[1:2], *(["x"] if words[-1].isdigit() else [])]), "packet": "a packet taken"}
-    label = words[2] if words[0] == "AD" else said[words[0]]
+    labels = {"AD": words[2:3], "BC": ["BC", *words[1:2], *["x"] * len(words[2:])], "packet": ["a packet taken"]}
+    label = " ".join(labels[words[0]])
     return state(whole[-3][1]), state(whole[-1][1]), label
 
 
@@ -278,6 +286,7 @@ def fop_move(setup, event):
 
 
 def fop(file):
+    """The states of FOP-1: each arrow is taken by a script; so is each alert to S6."""
     asked = f"init none; {SUBMIT}; send; send; up lose; up deliver; report"
     full = f"config ready_slots 1; config timer 1; init none; {SUBMIT}; send; send; up deliver; up deliver; report"
     both = f"config ready_slots 1; init none; {SUBMIT}; send; send; up lose; up deliver; report; down deliver; send; send; up deliver; up deliver; report"
@@ -305,6 +314,10 @@ def fop(file):
         fop_move(f"{asked}; terminate; vs 0; init check", "down deliver"),
         fop_move(f"{LOCKED}; terminate; vs 0; init check; report", "down deliver"),
     ]
+    draw_fop(file, moves, ends)
+
+
+def draw_fop(file, moves, ends):
     assert all(end == "S6" for _, end, _ in ends), ends
     given_up = sorted({start for start, _, _ in ends})
     names = list(dict.fromkeys(label for *_, label in ends))
