@@ -1,6 +1,6 @@
 -- The lines of `tctool map`: the packets out of each frame, by the receiver's table and then by the assembler's, and what
 -- is dropped.
-use Rattle.std.specs.Prelude.{ℕ, is_ok, Bool, true, false, ◌&&◌, List, [], ◌∷◌, ◌++◌, map, replicate, codes, decimal, if◌then◌else◌, Option, Some, None, Result, Ok, Err}
+use Rattle.std.specs.Prelude.{ℕ, is_ok, Bool, true, false, ◌&&◌, List, [], ◌++◌, map, replicate, codes, decimal, if◌then◌else◌, Option, Some, None, Result, Ok, Err}
 use Rattle.std.specs.List.{concat}
 use Rattle.tc_frame.specs.declared.frame.Check.{Check}
 use Rattle.tc_frame.specs.declared.frame.SegmentFlags.{SegmentFlags}
