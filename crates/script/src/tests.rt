@@ -57,27 +57,13 @@ fn refuses(rt: &impl Abort, alloc: Global, script: &str, want: ScriptFault) {
     }
 }
 
-fn goes_up(rt: &(impl Abort + Eprint), alloc: Global) {
+#[test]
+fn a_packet_goes_up(rt: HostRuntime) {
     let script = "init none\nsubmit 4 1005c0000000AA\nsend\nup deliver\ntake\ntake\nshow";
     let want = "ok\nok\nsent 0001080E00C41005C0000000AAE75D\nAD 0 accepted ready\n\
 packet 4 1005C0000000AA\nnothing\nclean=yes state=S1 submitted=1 delivered=1 \
 sent=1 accepted=1 acknowledged=0 outstanding=1\n";
-    tells(rt, alloc, 4096, script, want);
-}
-
-#[test]
-fn a_packet_goes_up(rt: HostRuntime) {
-    goes_up(&rt, rt.alloc());
-}
-
-// The link does without some growths and answers all the same. So the script is played behind allocations too: then
-// each number refuses a growth that is needed, in one of the two.
-#[test]
-fn a_packet_goes_up_behind_allocations(rt: HostRuntime) {
-    for _ in 0..4 {
-        let _ = Vec::<u8>::with_capacity(rt.alloc(), 1);
-    }
-    goes_up(&rt, rt.alloc());
+    tells(&rt, rt.alloc(), 4096, script, want);
 }
 
 #[test]
