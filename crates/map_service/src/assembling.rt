@@ -1,6 +1,7 @@
 // Joining segments to packets.
 
 mod foreseeing;
+mod passing;
 
 ghost use Rattle.std.specs.Prelude.{◌≡◌, List, length, true, IsOk, IfOk, IfErr, OnOk, OnErr};
 ghost use Rattle.map_service.specs.Assembly.{is_open};
