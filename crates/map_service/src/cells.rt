@@ -1,6 +1,7 @@
 // The table of the assembler: a segment of an open MAP against the part that is open there.
 
-ghost use Rattle.std.specs.Prelude.{◌≡◌, [], true, IsOk, IfOk, OnErr};
+ghost use Rattle.std.specs.Prelude.{◌≡◌, [], true, false, IsOk, IfOk, OnErr};
+ghost use Rattle.map_service.specs.Assembly.{is_too_long};
 ghost use Rattle.tc_frame.specs.declared.frame.SegmentFlags.TheVariants as flags;
 ghost use Rattle.map_service.specs.Taking.{drops, cell, is_dropped_at_once};
 ghost use Rattle.map_service.specs.Views.{part_view, packets_view, interrupts, outcome_of};
@@ -60,6 +61,16 @@ fn take_alone(
     Ok(Taken { dropped, packets })
 }
 
+// The part that a first segment opens, with room for three segments more of its size.
+fn begun(alloc: Global, limits: &Limits, octets: &[u8]) -> Result<Vec<u8>, AllocError>
+    requires { is_too_long limits.now octets.now ≡ false }
+    ensures { IfOk result (λ part. part.items ≡ octets.now) }
+{
+    let mut part = Vec::with_capacity(alloc, 4 * octets.len())?;
+    part.extend_from_slice(octets)?;
+    Ok(part)
+}
+
 // The cells of a first segment.
 fn take_first(
     alloc: Global,
@@ -76,7 +87,7 @@ fn take_first(
     if is_too_long(limits, octets.len()) {
         return Ok(dropped_for(alloc, Dropped::TooLong, part));
     }
-    *part = Some(Vec::from_slice(alloc, octets)?);
+    *part = Some(begun(alloc, limits, octets)?);
     Ok(no_packets(alloc, dropped))
 }
 
