@@ -63,8 +63,8 @@ impl MapListing {
         index: u64,
         segment: Segment,
     ) -> Result<(), AllocError>
-        ensures text { OnOk result (string_bytes text.new ≡ string_bytes text.old ++ outcome_text index segment.header.map (step_at self.old.assembler (segment_view segment))) }
-        ensures state { OnOk result (self.new ≡ record self.old { assembler = after_step self.old.assembler (segment_view segment) }) }
+        ensures text { OnOk result (string_bytes text.new ≡ string_bytes text.old ++ outcome_text index segment.entry.header.map (step_at self.old.assembler (segment_view segment.entry))) }
+        ensures state { OnOk result (self.new ≡ record self.old { assembler = after_step self.old.assembler (segment_view segment.entry) }) }
     {
         if let Some(packet) = self.assembler.passing(&segment) {
             return push_packet(text, self.alloc, segment.header.map, packet);
@@ -84,8 +84,8 @@ impl MapListing {
     /// Gives a frame to the receiver, whose buffer is free, and appends its lines.
     #[inline(always)]
     fn push_body(&mut self, text: &mut String, index: u64, body: Body) -> Result<(), AllocError>
-        ensures text { OnOk result (string_bytes text.new ≡ string_bytes text.old ++ body_text self.old index (body_view body)) }
-        ensures state { OnOk result (self.new ≡ after_body self.old (body_view body)) }
+        ensures text { OnOk result (string_bytes text.new ≡ string_bytes text.old ++ body_text self.old index (body_view body.entry)) }
+        ensures state { OnOk result (self.new ≡ after_body self.old (body_view body.entry)) }
     {
         match body {
             Body::Ad { n, segment } => match self.farm.ad(n, true) {
@@ -194,7 +194,7 @@ fn push_packets(
 
 // Whether the segment of a Type-BD frame is one packet, whole.
 fn is_bypass(segment: Segment) -> bool
-    ensures { result ≡ is_bypass (segment_view segment) }
+    ensures { result ≡ is_bypass (segment_view segment.entry) }
 {
     match segment.header.flags {
         SegmentFlags::Alone => are_one_packet(segment.payload),
@@ -208,7 +208,7 @@ fn push_bypass(
     index: u64,
     segment: Segment,
 ) -> Result<(), AllocError>
-    ensures { OnOk result (string_bytes text.new ≡ string_bytes text.old ++ bypass_text index (segment_view segment)) }
+    ensures { OnOk result (string_bytes text.new ≡ string_bytes text.old ++ bypass_text index (segment_view segment.entry)) }
 {
     if is_bypass(segment) {
         push_on_map(text, alloc, "bypass ", segment.header.map, segment.payload)
