@@ -1,4 +1,5 @@
--- What goes on the link next, the first of five rules that applies (this project's profile of CCSDS 232.1-B-2, 5.2.7).
+-- What goes on the link next, the first of five rules that applies (this project's profile of
+-- CCSDS 232.1-B-2, 5.2.7).
 use Rattle.std.specs.Prelude.{ℕ, ◌+◌, ◌%◌, false, nat_lt, if◌then◌else◌, List, [], ◌∷◌, ◌++◌, Option, Some, None}
 use Rattle.tc_frame.specs.declared.frame.Command.{Command}
 use Rattle.cop1.specs.Modulo.{ahead_by}
@@ -46,15 +47,21 @@ module _ {U : Type 0} where
       if nat_lt (ahead_by s.vs s.nn) s.window then pulls (sent_first s u) (SequencePulled s.vs u)
       else pulls s NothingPulled
 
+  abbrev pub next_waiting : FopState U → Outcome U (PulledUnit U)
+  next_waiting s = pulled_waiting s s.waiting
+
   -- the oldest marked unit with its number, and otherwise the wait queue's
   abbrev pub pulled_marked : FopState U → Option (ℕ × U) → Outcome U (PulledUnit U)
   pulled_marked s (Some oldest) =
       pulls (record (restarted s) { sent = without_oldest_mark s.sent }) (SequencePulled ((s.nn + oldest.0) % 256) oldest.1)
-  pulled_marked s None = pulled_waiting s s.waiting
+  pulled_marked s None = next_waiting s
+
+  abbrev pub next_sequence : FopState U → Outcome U (PulledUnit U)
+  next_sequence s = pulled_marked s (oldest_marked 0 s.sent)
 
   abbrev pub pulled_in : FopState U → FopMode → Outcome U (PulledUnit U)
-  pulled_in s S1 = pulled_marked s (oldest_marked 0 s.sent)
-  pulled_in s S2 = pulled_marked s (oldest_marked 0 s.sent)
+  pulled_in s S1 = next_sequence s
+  pulled_in s S2 = next_sequence s
   pulled_in s S3 = pulls s NothingPulled
   pulled_in s S4 = pulls s NothingPulled
   pulled_in s S5 = pulls s NothingPulled

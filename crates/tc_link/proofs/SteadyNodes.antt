@@ -19,7 +19,7 @@ use Rattle.cop1.specs.Farm.{FarmState, FarmEvent, AdArrives, BdArrives, UnlockAr
 use Rattle.cop1.specs.FarmRuns.{FlagsAgree}
 use Rattle.cop1.proofs.Agreeing.{FlagsAgree-step}
 use Rattle.cop1.specs.FopPull.{NothingPulled, SequencePulled, pulls, pulled as pulled_fop, pulled_control, pulled_bypass, pulled_in, pulled_marked, pulled_waiting, oldest_marked, without_oldest_mark, sent_first}
-use Rattle.cop1.specs.FopReport.{locks, waits, asks, reported as heard_by, report_in, report_while_active, report_in_S4, confirms as confirms_by, nothing_new, moved_on, goes_back, repeated_below, goes_back_again, counting_from}
+use Rattle.cop1.specs.FopReport.{locks, waits, asks, reported as heard_by, report_in, report_while_active, report_in_S4, confirms as confirms_by, nothing_new, moved_on, goes_back, retransmits, goes_back_again, counting_from}
 use Rattle.cop1.specs.FopState.{FopState}
 use Rattle.cop1.specs.FopTick.{ticked as ticked_fop, ticked_with, timer_ended, counted, due_again}
 use Rattle.cop1.specs.FopWords.{Outcome, is_outside, acknowledged, repeated, given_up, stopped, restarted, alerts, goes_on, after_gone}
@@ -64,7 +64,7 @@ module _ (c : Config) (s : FopState SegmentView) (k : FopSteady c s) where
   -- ---- a report
 
   module _ (r : Clcw) (idle : s.control ≡ Idle) where
-    again_so : FopSteady c (record (repeated_below s) { state = S2 })
+    again_so : FopSteady c (retransmits s (nat_lt s.count s.limit))
     again_so = cond_both (nat_lt s.count s.limit) (repeated s) s (λ (f : FopState SegmentView). FopSteady c (record f { state = S2 })) (λ t. goes_so (record (repeated s) { state = S2 }) refl refl refl refl refl idle) (λ t. goes_so (record s { state = S2 }) refl refl refl refl refl idle)
 
     back_again_so : (m : FopMode) → FopSteady c (goes_back_again s m)
