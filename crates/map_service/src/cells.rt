@@ -1,12 +1,13 @@
 // The table of the assembler: a segment of an open MAP against the part that is open there.
 
-ghost use Rattle.std.specs.Prelude.{◌≡◌, [], true, IsOk, IfOk, OnErr};
+ghost use Rattle.std.specs.Prelude.{◌≡◌, [], IfOk, OnErr};
 ghost use Rattle.tc_frame.specs.declared.frame.SegmentFlags.TheVariants as flags;
-ghost use Rattle.map_service.specs.Taking.{drops, cell, is_dropped_at_once};
+ghost use Rattle.tc_frame.specs.Layout.{segment_view};
+ghost use Rattle.map_service.specs.Taking.{drops, cell, cell_at, IsSureAtOnce};
 ghost use Rattle.map_service.specs.Views.{part_view, packets_view, interrupts, outcome_of};
 
 use crate::dropped::{Dropped, Taken};
-use crate::judging::{copied_alone, fault_of_alone, fault_of_one, is_too_long};
+use crate::judging::{copied_alone, fault_of_alone, fault_of_one};
 use crate::limits::Limits;
 use std::alloc::{AllocError, Global};
 use tc_frame::{Segment, SegmentFlags};
@@ -49,7 +50,8 @@ fn take_alone(
     ensures ok { IfOk result (λ t. outcome_of t part.new
         ≡ cell limits.now flags.Alone (part_view part.old) octets.now) }
     ensures err { OnErr result (part_view part.new ≡ part_view part.old) }
-    ensures none { is_dropped_at_once (cell limits.now flags.Alone (part_view part.old) octets.now).dropped ≡ true → IsOk result }
+    ensures none { IsSureAtOnce
+        (cell limits.now flags.Alone (part_view part.old) octets.now) result }
 {
     let dropped = interrupted(part);
     if let Some(cause) = fault_of_alone(limits, octets) {
@@ -70,10 +72,11 @@ fn take_first(
     ensures ok { IfOk result (λ t. outcome_of t part.new
         ≡ cell limits.now flags.First (part_view part.old) octets.now) }
     ensures err { OnErr result (part_view part.new ≡ part_view part.old) }
-    ensures none { is_dropped_at_once (cell limits.now flags.First (part_view part.old) octets.now).dropped ≡ true → IsOk result }
+    ensures none { IsSureAtOnce
+        (cell limits.now flags.First (part_view part.old) octets.now) result }
 {
     let dropped = interrupted(part);
-    if is_too_long(limits, octets.len()) {
+    if limits.is_too_long(octets.len()) {
         return Ok(dropped_for(alloc, Dropped::TooLong, part));
     }
     *part = Some(Vec::from_slice(alloc, octets)?);
@@ -90,12 +93,13 @@ fn take_continuing(
     ensures ok { IfOk result (λ t. outcome_of t part.new
         ≡ cell limits.now flags.Continuing (part_view part.old) octets.now) }
     ensures err { OnErr result (part_view part.new ≡ part_view part.old) }
-    ensures none { is_dropped_at_once (cell limits.now flags.Continuing (part_view part.old) octets.now).dropped ≡ true → IsOk result }
+    ensures none { IsSureAtOnce
+        (cell limits.now flags.Continuing (part_view part.old) octets.now) result }
 {
     match part {
         None => Ok(dropped_for(alloc, Dropped::NoBeginning, part)),
         Some(joined) => {
-            if is_too_long(limits, joined.len() + octets.len()) {
+            if limits.is_too_long(joined.len() + octets.len()) {
                 return Ok(dropped_for(alloc, Dropped::TooLong, part));
             }
             joined.extend_from_slice(octets)?;
@@ -114,12 +118,13 @@ fn take_last(
     ensures ok { IfOk result (λ t. outcome_of t part.new
         ≡ cell limits.now flags.Last (part_view part.old) octets.now) }
     ensures err { OnErr result (part_view part.new ≡ part_view part.old) }
-    ensures none { is_dropped_at_once (cell limits.now flags.Last (part_view part.old) octets.now).dropped ≡ true → IsOk result }
+    ensures none { IsSureAtOnce
+        (cell limits.now flags.Last (part_view part.old) octets.now) result }
 {
     match part {
         None => Ok(dropped_for(alloc, Dropped::NoBeginning, part)),
         Some(joined) => {
-            if is_too_long(limits, joined.len() + octets.len()) {
+            if limits.is_too_long(joined.len() + octets.len()) {
                 return Ok(dropped_for(alloc, Dropped::TooLong, part));
             }
             let mut packets = Vec::with_capacity(alloc, 1)?;
@@ -146,9 +151,10 @@ pub(crate) fn take_cell(
     segment: &Segment,
 ) -> Result<Taken, AllocError>
     ensures ok { IfOk result (λ t. outcome_of t part.new
-        ≡ cell limits.now segment.now.header.flags (part_view part.old) segment.now.payload.now) }
+        ≡ cell_at limits.now (part_view part.old) (segment_view segment.now)) }
     ensures err { OnErr result (part_view part.new ≡ part_view part.old) }
-    ensures none { is_dropped_at_once (cell limits.now segment.now.header.flags (part_view part.old) segment.now.payload.now).dropped ≡ true → IsOk result }
+    ensures none { IsSureAtOnce
+        (cell_at limits.now (part_view part.old) (segment_view segment.now)) result }
 {
     let octets = segment.payload;
     match segment.header.flags {

@@ -9,7 +9,7 @@ use Rattle.space_packet.specs.Layout.{PacketView, IsFirstPacket}
 use Rattle.space_packet.specs.Reading.{packet_at}
 use Rattle.space_packet.proofs.Readings.{packet_again}
 use Rattle.map_service.specs.Packets.{first_packet, packets_in, rest_in, are_taken}
-use Rattle.map_service.proofs.Whole.{len_of, first_is, one_more-by_len, no_more}
+use Rattle.space_packet.proofs.WholePackets.{len_of, first_is, one_more-by_len, no_more}
 use Rattle.tc_link.specs.Commands.{commands, finds_command, is_command, are_commands}
 
 -- the packet that octets begin with, as their first record

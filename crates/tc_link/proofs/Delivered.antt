@@ -19,7 +19,8 @@ use Rattle.tc_link.specs.Parameters.{limits_of}
 use Rattle.tc_link.specs.Ground.{outstanding, unsent}
 use Rattle.tc_link.specs.World.{World, submitted, accepted, delivered}
 use Rattle.tc_link.specs.PlainLink.{PlainLink, PlainRun, new_link, none, more, adds}
-use Rattle.tc_link.specs.InOrder.{IsBeginning, IsInOrder, HasPlainHistory}
+use Rattle.octets.specs.Beginning.{IsBeginning}
+use Rattle.tc_link.specs.InOrder.{IsInOrder, HasPlainHistory}
 use Rattle.tc_link.proofs.Beginning.{Clean}
 use Rattle.tc_link.proofs.Early.{Begun, IsEarly}
 use Rattle.tc_link.proofs.Linked.{Late, IsGiven, units_of_all, Holds, Held}

@@ -20,7 +20,8 @@ use Rattle.tc_link.specs.declared.sim.opening.Opening.{Opening}
 use Rattle.tc_link.specs.Ground.{is_closed, unsent}
 use Rattle.tc_link.specs.World.{World, directive_of}
 use Rattle.tc_link.specs.Confirmation.{LeavesVr, IsChecking, IsConfirmedExactly}
-use Rattle.tc_link.specs.InTransit.{number_in, command_in, in_frame, report_in, report_of_frame, report_carried, reports_down, IsInWindow, IsRising, IsActive, KeepsToWindow}
+use Rattle.cop1.specs.FopState.{IsActive}
+use Rattle.tc_link.specs.InTransit.{number_in, command_in, in_frame, report_in, report_of_frame, report_carried, reports_down, IsInWindow, IsRising, KeepsToWindow}
 use Rattle.tc_link.proofs.Beginning.{Clean}
 use Rattle.tc_link.proofs.Early.{Begun, IsEarly}
 use Rattle.tc_link.proofs.Linked.{Late, Carries, Tells, Reporting, Holds, Held}

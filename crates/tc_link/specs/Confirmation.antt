@@ -5,7 +5,8 @@ use Rattle.tc_frame.specs.declared.frame.Command.{Command}
 use Rattle.tc_frame.specs.declared.frame.Command.TheVariants.{Unlock, SetVr}
 use Rattle.cop1.specs.declared.fop.Directive.{Directive}
 use Rattle.cop1.specs.declared.fop.Directive.TheVariants.{InitWithoutCheck, InitWithCheck, InitUnlock, InitSetVr, Terminate, SetVs, SetWindow, SetLimit, SetTimer}
-use Rattle.tc_link.specs.InTransit.{IsActive, commands_up}
+use Rattle.cop1.specs.FopState.{IsActive}
+use Rattle.tc_link.specs.InTransit.{commands_up}
 use Rattle.tc_link.specs.World.{World, accepted, directive_of}
 
 -- a session that this directive begins has to be confirmed: by check, Unlock or Set V(R)

@@ -1,5 +1,6 @@
 -- Delivery in order, and the plain link whose history the records of a session are.
-use Rattle.std.specs.Prelude.{◌≡◌, ◌≤◌, ℕ, List, [], ◌++◌, length, take, map, flat_map}
+use Rattle.std.specs.Prelude.{◌≡◌, ◌≤◌, ℕ, List, [], length, take, map, flat_map}
+use Rattle.octets.specs.Beginning.{IsBeginning}
 use Rattle.tc_frame.specs.Layout.{SegmentView, segment_octets}
 use Rattle.map_service.specs.Cutting.{segments_of}
 use Rattle.cop1.specs.declared.fop.FopMode.TheVariants.{S1}
@@ -7,9 +8,6 @@ use Rattle.tc_link.specs.Packets.{PacketOn}
 use Rattle.tc_link.specs.Ground.{outstanding}
 use Rattle.tc_link.specs.World.{World, submitted, accepted, delivered}
 use Rattle.tc_link.specs.PlainLink.{PlainLink, PlainRun, new_link}
-
-abbrev pub IsBeginning : {A : Type 0} → List A → List A → Type 0
-IsBeginning {A = A} xs ys = (rest : List A) × (ys ≡ xs ++ rest)
 
 -- Packets are delivered in order, each once.
 pub record IsInOrder (w : World) : Type 0 where

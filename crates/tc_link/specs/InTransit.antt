@@ -10,8 +10,7 @@ use Rattle.tc_frame.specs.declared.frame.Command.{Command}
 use Rattle.tc_frame.specs.Layout.{BodyView, Ad, Bd, Bc, FrameView}
 use Rattle.tc_frame.specs.Reading as command
 use Rattle.cop1.specs.Modulo.{ahead_by}
-use Rattle.cop1.specs.declared.fop.FopMode.{FopMode}
-use Rattle.cop1.specs.declared.fop.FopMode.TheVariants.{S1, S2, S3, S4, S5, S6}
+use Rattle.cop1.specs.FopState.{IsActive}
 use Rattle.tm_link.specs.declared.fault.TmFault.{TmFault}
 use Rattle.tm_link.specs.Layout as telemetry
 use Rattle.tm_link.specs.Reading as telemetry_reading
@@ -68,15 +67,6 @@ IsInWindow half vr n = (ahead_by n vr < half) ⊎ (ahead_by vr n ≤ half)
 abbrev pub IsRising : (nn low : ℕ) → List Clcw → ℕ → Type 0
 IsRising nn low [] last = low ≤ ahead_by last nn
 IsRising nn low (report ∷ reports) last = (low ≤ ahead_by report.value nn) × IsRising nn (ahead_by report.value nn) reports last
-
--- S1 to S3
-abbrev pub IsActive : FopMode → Type 0
-IsActive S1 = Unit {0}
-IsActive S2 = Unit {0}
-IsActive S3 = Unit {0}
-IsActive S4 = ⊥
-IsActive S5 = ⊥
-IsActive S6 = ⊥
 
 pub record KeepsToWindow (w : World) : Type 0 where
   -- each Type-AD number on its way lies at most W/2 below and at most W/2 - 1 above V(R)

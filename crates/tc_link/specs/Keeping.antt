@@ -5,7 +5,7 @@ use Rattle.tc_frame.specs.declared.frame.SegmentFlags.TheVariants.{First, Contin
 use Rattle.tc_frame.specs.Layout.{SegmentView}
 use Rattle.map_service.specs.declared.limits.Limits.{Limits}
 use Rattle.map_service.specs.Assembly.{is_open, is_too_long}
-use Rattle.tc_link.specs.Packets.{is_one_packet}
+use Rattle.space_packet.specs.Packets.{is_packet}
 
 abbrev pub is_alone : SegmentFlags → Bool
 is_alone Alone = true
@@ -17,4 +17,4 @@ is_alone Last = false
 abbrev pub is_kept : Limits → SegmentView → Bool
 is_kept limits segment =
     is_open limits segment.header.map && is_alone segment.header.flags
-    && not (is_too_long limits segment.payload) && is_one_packet segment.payload
+    && not (is_too_long limits segment.payload) && is_packet segment.payload

@@ -16,7 +16,7 @@ use Rattle.tm_link.specs.Laying.{held_by, IsCutAt, IsLaidOutBy}
 use Rattle.tm_link.specs.Stream.{IsPointed, slice_of, carried, IsLaidOut}
 use Rattle.tm_link.proofs.Passing.{cut_more}
 use Rattle.tm_link.proofs.Places.{last_or_before, pointed_more, carried-append, length-carried}
-use Rattle.tm_link.proofs.Queueing.{to_send_is}
+use Rattle.tm_link.proofs.Queueing.{to_send_is, not_idle}
 use Rattle.tm_link.proofs.Records.{handed_out-append}
 
 -- ---- a new builder
@@ -135,12 +135,7 @@ to_send_record p octets h = let own = own_extent_of p octets h.packet in record 
 
 -- a packet that is queued is handed out
 to_send_handed : (p : PacketView) (octets : List ℕ) → IsToSend p octets → handed_out (octets ∷ []) ≡ octets ∷ []
-to_send_handed p octets h =
-    let first : number_of (take 2 octets) ≡ 4096 * type_bit p.kind + 2048 * secondary_bit p.secondary + p.apid = h.packet.first in
-    let low : p.apid < 2048 = h.packet.apid in
-    let apid : number_of (take 2 octets) % 2048 ≡ p.apid = omega arith in
-    let idle : is_idle octets ≡ false = ne_eqb _ _ (λ e. h.not_idle (sym apid ∙ e)) in
-    rw idle refl
+to_send_handed p octets h = rw (not_idle p octets h) refl
 
 pub queue_laid : (s : BuilderState) (octets : List ℕ) (packets : List (List ℕ)) (frames : List FrameView) → IsOctets octets → is_to_send octets ≡ true
     → IsLaidOutBy s packets frames → IsLaidOutBy (queued s octets) (packets ++ octets ∷ []) frames

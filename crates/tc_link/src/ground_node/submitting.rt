@@ -3,7 +3,6 @@
 use super::Ground;
 use crate::commands::are_commands;
 use crate::fault::LinkFault;
-use crate::keeping::{is_open, is_too_long};
 use crate::owned_segment::{OwnedSegment, own};
 use cop1::FopMode;
 use map_service::{cut, segment_count};
@@ -46,7 +45,7 @@ impl Ground {
             return Some(LinkFault::NotOpen);
         }
         let limits = self.config.limits();
-        if !is_open(&limits, map) {
+        if !limits.is_open(map) {
             return Some(LinkFault::ClosedMap);
         }
         if !are_commands(octets, limits.blocking) {
@@ -95,13 +94,13 @@ impl Ground {
         ensures { result ≡ bypass_fault self.now map octets.now }
     {
         let limits = self.config.limits();
-        if !is_open(&limits, map) {
+        if !limits.is_open(map) {
             return Some(LinkFault::ClosedMap);
         }
         if !are_commands(octets, false) {
             return Some(LinkFault::NotCommand);
         }
-        if is_too_long(&limits, octets) || octets.len() > limits.part as usize {
+        if limits.is_too_long(octets.len()) || octets.len() > limits.part as usize {
             return Some(LinkFault::TooLong);
         }
         if self.fop.bypassed() >= self.config.queue_slots as usize {

@@ -2,8 +2,8 @@ use Rattle.std.proofs.Common.{List, ℕ, take, Result, ap, ◌∙◌}
 use Rattle.std.specs.Prelude.{option_map}
 use Rattle.space_packet.specs.declared.fault.PacketFault.{PacketFault}
 use Rattle.space_packet.specs.Layout.{PacketView}
-use Rattle.map_service.proofs.Whole.{len_of, first_is}
-use Rattle.map_service.proofs.packets.packet_len.Goals as goal
+use Rattle.space_packet.proofs.WholePackets.{len_of, first_is}
+use Rattle.space_packet.proofs.whole.packet_len.Goals as goal
 
 pub returns-in-Ok-clause-first : goal.returns-in-Ok-clause-first
 returns-in-Ok-clause-first c =
