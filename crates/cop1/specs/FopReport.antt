@@ -10,7 +10,7 @@ use Rattle.cop1.specs.declared.fop.Alert.{Alert}
 use Rattle.cop1.specs.declared.fop.Alert.TheVariants.{Lockout, NnR, Clcw as ClcwAlert, Synch, Limit}
 use Rattle.cop1.specs.declared.fop.Control.TheVariants.{Idle}
 use Rattle.cop1.specs.FopState.{FopState, SentUnit}
-use Rattle.cop1.specs.FopWords.{Outcome, is_outside, acknowledged, repeated, alerts, goes_on, after_gone}
+use Rattle.cop1.specs.FopWords.{FopOutcome, is_outside, after_acknowledge, after_repeat, alerts, goes_on, after_gone}
 
 -- the flags L, w and t of a report
 abbrev pub locks : Clcw → Bool
@@ -28,14 +28,14 @@ module _ {U : Type 0} where
   abbrev pub confirms : FopState U → Clcw → Bool
   confirms s c = not (locks c) && not (waits c) && not (asks c) && (c.value == s.vs)
 
-  abbrev pub report_in_S5 : FopState U → Clcw → Outcome U (Option Alert)
+  abbrev pub report_in_S5 : FopState U → Clcw → FopOutcome U (Option Alert)
   report_in_S5 s c =
       if confirms s c then goes_on (record s { state = S1; ticks = None; control = Idle })
       else goes_on s
 
   -- ---- S4, the first that applies
 
-  abbrev pub report_in_S4 : FopState U → Clcw → Outcome U (Option Alert)
+  abbrev pub report_in_S4 : FopState U → Clcw → FopOutcome U (Option Alert)
   report_in_S4 s c =
       if locks c then alerts s Lockout
       else (if not (c.value == s.vs) then alerts s NnR
@@ -46,7 +46,7 @@ module _ {U : Type 0} where
   -- ---- S1 to S3: eight rules, of which the first that applies decides
 
   -- rule 5: nothing is acknowledged, and nothing asked for
-  abbrev pub nothing_new : FopState U → FopMode → Outcome U (Option Alert)
+  abbrev pub nothing_new : FopState U → FopMode → FopOutcome U (Option Alert)
   nothing_new s S1 = goes_on s
   nothing_new s S2 = alerts s Synch
   nothing_new s S3 = alerts s Synch
@@ -59,20 +59,20 @@ module _ {U : Type 0} where
   ticks_for [] timer = None
   ticks_for (unit ∷ units) timer = Some timer
 
-  abbrev pub moved_on : FopState U → FopState U
-  moved_on s = record s { state = S1; count = 1; ticks = ticks_for s.sent s.timer }
+  abbrev pub after_move_on : FopState U → FopState U
+  after_move_on s = record s { state = S1; count = 1; ticks = ticks_for s.sent s.timer }
 
   -- rule 6: units are acknowledged, and nothing asked for
-  abbrev pub move_on : FopState U → ℕ → Outcome U (Option Alert)
-  move_on s v = after_gone (ahead_by v s.nn) (goes_on (moved_on (acknowledged s v)))
+  abbrev pub move_on : FopState U → ℕ → FopOutcome U (Option Alert)
+  move_on s v = after_gone (ahead_by v s.nn) (goes_on (after_move_on (after_acknowledge s v)))
 
   -- the sender with the units before a number acknowledged, counting anew
-  abbrev pub counting_from : FopState U → ℕ → FopState U
-  counting_from s v = record (acknowledged s v) { count = 1 }
+  abbrev pub after_new_value : FopState U → ℕ → FopState U
+  after_new_value s v = record (after_acknowledge s v) { count = 1 }
 
   -- units are asked for again, which leads to a sender unless they may be sent once alone, or the
   -- receiver waits
-  abbrev pub ask_again : FopState U → Bool → FopState U → Outcome U (Option Alert)
+  abbrev pub ask_again : FopState U → Bool → FopState U → FopOutcome U (Option Alert)
   ask_again s wait next =
       if s.limit == 1 then alerts s Limit
       else (if wait then goes_on (record s { state = S3 })
@@ -80,14 +80,14 @@ module _ {U : Type 0} where
 
   -- S2, with all that was sent repeated or not
   abbrev pub retransmits : FopState U → Bool → FopState U
-  retransmits s repeats = record (if repeats then repeated s else s) { state = S2 }
+  retransmits s repeats = record (if repeats then after_repeat s else s) { state = S2 }
 
-  abbrev pub goes_back : FopState U → Bool → Outcome U (Option Alert)
+  abbrev pub goes_back : FopState U → Bool → FopOutcome U (Option Alert)
   goes_back s wait = ask_again s wait (retransmits s true)
 
   -- rule 7: units are acknowledged, and the others asked for
-  abbrev pub ask_for_others : FopState U → ℕ → Bool → Outcome U (Option Alert)
-  ask_for_others s v wait = after_gone (ahead_by v s.nn) (goes_back (counting_from s v) wait)
+  abbrev pub ask_for_others : FopState U → ℕ → Bool → FopOutcome U (Option Alert)
+  ask_for_others s v wait = after_gone (ahead_by v s.nn) (goes_back (after_new_value s v) wait)
 
   abbrev pub goes_back_again : FopState U → FopMode → FopState U
   goes_back_again s S1 = retransmits s (nat_lt s.count s.limit)
@@ -98,11 +98,11 @@ module _ {U : Type 0} where
   goes_back_again s S6 = s
 
   -- rule 8: nothing is acknowledged, and all that was sent asked for
-  abbrev pub ask_for_all : FopState U → Bool → Outcome U (Option Alert)
+  abbrev pub ask_for_all : FopState U → Bool → FopOutcome U (Option Alert)
   ask_for_all s wait = ask_again s wait (goes_back_again s s.state)
 
   -- rules 1 to 8, a line each
-  abbrev pub report_while_active : FopState U → Clcw → Outcome U (Option Alert)
+  abbrev pub report_while_active : FopState U → Clcw → FopOutcome U (Option Alert)
   report_while_active s c =
       if locks c then alerts s Lockout
       else (if is_outside s c.value then alerts s NnR
@@ -115,7 +115,7 @@ module _ {U : Type 0} where
 
   -- ---- all states
 
-  abbrev pub report_in : FopState U → Clcw → FopMode → Outcome U (Option Alert)
+  abbrev pub report_in : FopState U → Clcw → FopMode → FopOutcome U (Option Alert)
   report_in s c S1 = report_while_active s c
   report_in s c S2 = report_while_active s c
   report_in s c S3 = report_while_active s c
@@ -123,5 +123,5 @@ module _ {U : Type 0} where
   report_in s c S5 = report_in_S5 s c
   report_in s c S6 = goes_on s
 
-  abbrev pub reported : FopState U → Clcw → Outcome U (Option Alert)
-  reported s c = report_in s c s.state
+  abbrev pub clcw_step : FopState U → Clcw → FopOutcome U (Option Alert)
+  clcw_step s c = report_in s c s.state

@@ -106,9 +106,9 @@ impl<U> Model for Fop<U> {
 
     ghost Value = { FopState U };
 
-    ghost use Rattle.cop1.specs.FopFields.{state_of, IsSound};
+    ghost use Rattle.cop1.specs.FopFields.{fop_state_of, IsSound};
 
-    ghost view = { state_of };
+    ghost view = { fop_state_of };
 
     ghost invariant = { IsSound };
 }

@@ -53,8 +53,8 @@ pub fn law_of_passage()
     ensures closed { (limits : Limits) (m : ℕ) (segments : List SegmentView) (octets : List ℕ)
         → 1 ≤ limits.part → is_open limits m ≡ true → cut_fault limits octets ≡ None
         → open_part limits m (segments ++ segments_of limits.part m octets) ≡ None }
-    ensures others { (limits : Limits) (part m k : ℕ) (segments : List SegmentView) (octets : List ℕ)
-        → 1 ≤ part → k ≢ m
+    ensures others { (limits : Limits) (part m k : ℕ) (segments : List SegmentView)
+        (octets : List ℕ) → 1 ≤ part → k ≢ m
         → (assembled limits k (segments ++ segments_of part m octets)
         ≡ assembled limits k segments)
         × (open_part limits k (segments ++ segments_of part m octets)

@@ -17,12 +17,12 @@ use Rattle.cop1.specs.declared.fop.Directive.TheVariants.{InitWithoutCheck, Init
 use Rattle.cop1.specs.declared.fop.FopMode.{FopMode}
 use Rattle.cop1.specs.declared.fop.FopMode.TheVariants.{S1, S2, S3, S4, S5, S6}
 use Rattle.cop1.specs.Farm.{state_of}
-use Rattle.cop1.specs.FopDirective.{obeys, refuses, from_S6, terminated, directed as directed_fop}
-use Rattle.cop1.specs.FopPull.{pulled as pulled_fop}
-use Rattle.cop1.specs.FopReport.{locks, waits, asks, reported as heard_by, report_in as report_in_mode, report_while_active, report_in_S4, confirms as confirms_by}
+use Rattle.cop1.specs.FopDirective.{obeys, refuses, from_S6, terminate_in as terminated, directive_step as directed_fop}
+use Rattle.cop1.specs.FopPull.{pull_step as pulled_fop}
+use Rattle.cop1.specs.FopReport.{locks, waits, asks, clcw_step as heard_by, report_in as report_in_mode, report_while_active, report_in_S4, confirms as confirms_by}
 use Rattle.cop1.specs.FopState.{FopState}
-use Rattle.cop1.specs.FopTick.{ticked as ticked_fop, ticked_with, timer_ended, counted, due_again}
-use Rattle.cop1.specs.FopWords.{Outcome, stopped, repeated, alerts, goes_on}
+use Rattle.cop1.specs.FopTick.{tick_step as ticked_fop, tick_with as ticked_with, timer_ended, after_count as counted, due_again}
+use Rattle.cop1.specs.FopWords.{FopOutcome as Outcome, after_stop as stopped, after_repeat as repeated, alerts, goes_on}
 use Rattle.tm_link.specs.declared.fault.TmFault.{TmFault}
 use Rattle.tm_link.specs.Layout as telemetry
 use Rattle.tm_link.specs.Reading as telemetry_reading

@@ -15,7 +15,7 @@ use Rattle.cop1.specs.declared.farm.Verdict.{Verdict}
 use Rattle.cop1.specs.declared.farm.Verdict.TheVariants.{Accepted, Ahead, NoBuffer, Behind, Outside, Discarded}
 use Rattle.cop1.specs.declared.fop.Directive.{Directive}
 use Rattle.cop1.specs.declared.fop.Directive.TheVariants.{InitWithoutCheck, InitWithCheck, InitUnlock, InitSetVr, Terminate, SetVs, SetWindow, SetLimit, SetTimer}
-use Rattle.cop1.specs.Farm.{FarmState, verdict_of, after_verdict, after_unlock, after_set_vr, counted}
+use Rattle.cop1.specs.Farm.{FarmState, verdict_of, after_verdict, after_unlock, after_set_vr, after_type_b as counted}
 use Rattle.tc_link.specs.declared.config.Config.{Config}
 use Rattle.tc_link.specs.Parameters.{limits_of}
 use Rattle.tc_link.specs.Keeping.{is_kept}

@@ -19,12 +19,12 @@ use Rattle.cop1.specs.declared.fop.Directive.{Directive}
 use Rattle.cop1.specs.declared.fop.Directive.TheVariants.{InitWithoutCheck, InitWithCheck, InitUnlock, InitSetVr, Terminate, SetVs, SetWindow, SetLimit, SetTimer}
 use Rattle.cop1.specs.declared.fop.FopMode.{FopMode}
 use Rattle.cop1.specs.declared.fop.FopMode.TheVariants.{S1, S2, S3, S4, S5, S6}
-use Rattle.cop1.specs.FopDirective.{from_S6, terminated, directed as directed_fop}
-use Rattle.cop1.specs.FopPull.{PulledUnit, SequencePulled, pulls, pulled as pulled_fop, pulled_control, pulled_bypass, pulled_in, pulled_marked, pulled_waiting, oldest_marked, without_oldest_mark, sent_first}
-use Rattle.cop1.specs.FopReport.{locks, waits, asks, reported as heard_by, report_in, report_while_active, report_in_S4, confirms as confirms_by, nothing_new, moved_on, goes_back, goes_back_again, counting_from}
+use Rattle.cop1.specs.FopDirective.{from_S6, terminate_in as terminated, directive_step as directed_fop}
+use Rattle.cop1.specs.FopPull.{PulledUnit, SequencePulled, pulls, pull_step as pulled_fop, pull_control as pulled_control, pull_bypass as pulled_bypass, pull_in as pulled_in, pull_marked as pulled_marked, pull_waiting as pulled_waiting, oldest_marked, without_oldest_mark, sent_first}
+use Rattle.cop1.specs.FopReport.{locks, waits, asks, clcw_step as heard_by, report_in, report_while_active, report_in_S4, confirms as confirms_by, nothing_new, after_move_on as moved_on, goes_back, goes_back_again, after_new_value as counting_from}
 use Rattle.cop1.specs.FopState.{FopState, SentUnit, IsFop}
-use Rattle.cop1.specs.FopTick.{ticked as ticked_fop, ticked_with, timer_ended, counted, due_again}
-use Rattle.cop1.specs.FopWords.{Outcome, is_outside, acknowledged, repeated, given_up, stopped, alerts, goes_on, after_gone, marked, unmarked}
+use Rattle.cop1.specs.FopTick.{tick_step as ticked_fop, tick_with as ticked_with, timer_ended, after_count as counted, due_again}
+use Rattle.cop1.specs.FopWords.{FopOutcome as Outcome, is_outside, after_acknowledge as acknowledged, after_repeat as repeated, after_alert as given_up, after_stop as stopped, alerts, goes_on, after_gone, marked, unmarked}
 use Rattle.tm_link.specs.declared.fault.TmFault.{TmFault}
 use Rattle.tm_link.specs.Extraction.{Extracted, extract_step}
 use Rattle.tm_link.specs.Layout as telemetry

@@ -9,9 +9,9 @@ use Rattle.cop1.specs.declared.fop.Directive.TheVariants.{InitWithoutCheck, Init
 use Rattle.cop1.specs.declared.fop.FopMode.{FopMode}
 use Rattle.cop1.specs.declared.fop.FopMode.TheVariants.{S1, S2, S3, S4, S5, S6}
 use Rattle.cop1.specs.FopState.{FopState}
-use Rattle.cop1.specs.FopDirective.{obeys, refuses, from_S6, terminated}
-use Rattle.cop1.specs.FopTick.{ticked_with, timer_ended, counted}
-use Rattle.cop1.specs.FopWords.{Outcome, given_up, repeated, stopped, goes_on}
+use Rattle.cop1.specs.FopDirective.{obeys, refuses, from_S6, terminate_in as terminated}
+use Rattle.cop1.specs.FopTick.{tick_with as ticked_with, timer_ended, after_count as counted}
+use Rattle.cop1.specs.FopWords.{FopOutcome as Outcome, after_alert as given_up, after_repeat as repeated, after_stop as stopped, goes_on}
 use Rattle.tc_link.specs.declared.config.Config.{Config}
 use Rattle.tc_link.specs.Ground.{is_closed, with_fop, directed_by}
 use Rattle.tc_link.specs.declared.event.Event.TheVariants as events

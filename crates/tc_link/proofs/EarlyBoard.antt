@@ -13,7 +13,7 @@ use Rattle.cop1.specs.declared.farm.FarmMode.{FarmMode}
 use Rattle.cop1.specs.declared.farm.FarmMode.TheVariants.{Open, Wait, Lockout}
 use Rattle.cop1.specs.declared.fop.Directive.{Directive}
 use Rattle.cop1.specs.declared.fop.Directive.TheVariants.{InitWithoutCheck, InitWithCheck, InitUnlock, InitSetVr, Terminate, SetVs, SetWindow, SetLimit, SetTimer}
-use Rattle.cop1.specs.Farm.{FarmState, after_unlock, after_set_vr, after_release, counted, farm_step, BufferReleased}
+use Rattle.cop1.specs.Farm.{FarmState, after_unlock, after_set_vr, after_release, after_type_b as counted, farm_step, BufferReleased}
 use Rattle.cop1.specs.FopReport.{locks, waits, asks}
 use Rattle.cop1.specs.Report.{report_of}
 use Rattle.tm_link.specs.Building.{is_to_send, queued}

@@ -15,11 +15,11 @@ use Rattle.cop1.specs.declared.fop.Directive.{Directive}
 use Rattle.cop1.specs.declared.fop.Directive.TheVariants.{InitWithoutCheck, InitWithCheck, InitUnlock, InitSetVr, Terminate, SetVs, SetWindow, SetLimit, SetTimer}
 use Rattle.cop1.specs.declared.fop.FopMode.{FopMode}
 use Rattle.cop1.specs.declared.fop.FopMode.TheVariants.{S1, S2, S3, S4, S5, S6}
-use Rattle.cop1.specs.FopDirective.{obeys, refuses, from_S6, terminated}
-use Rattle.cop1.specs.FopPull.{PulledUnit, NothingPulled, pulls, pulled, pulled_control, pulled_bypass, pulled_in}
+use Rattle.cop1.specs.FopDirective.{obeys, refuses, from_S6, terminate_in as terminated}
+use Rattle.cop1.specs.FopPull.{PulledUnit, NothingPulled, pulls, pull_step as pulled, pull_control as pulled_control, pull_bypass as pulled_bypass, pull_in as pulled_in}
 use Rattle.cop1.specs.FopState.{FopState}
-use Rattle.cop1.specs.FopTick.{ticked_with, timer_ended, counted as counted_on, due_again}
-use Rattle.cop1.specs.FopWords.{Outcome, given_up, stopped, restarted, goes_on}
+use Rattle.cop1.specs.FopTick.{tick_with as ticked_with, timer_ended, after_count as counted_on, due_again}
+use Rattle.cop1.specs.FopWords.{FopOutcome as Outcome, after_alert as given_up, after_stop as stopped, after_restart as restarted, goes_on}
 use Rattle.tc_link.specs.declared.config.Config.{Config}
 use Rattle.tc_link.specs.declared.event.Event.TheVariants as events
 use Rattle.tc_link.specs.declared.fault.LinkFault.{LinkFault}

@@ -14,7 +14,7 @@ use Rattle.cop1.specs.declared.fop.FopMode.{FopMode}
 use Rattle.cop1.specs.declared.fop.FopMode.TheVariants.{S1, S2, S3, S4, S5, S6}
 use Rattle.cop1.specs.FopReport.{locks, waits, asks, report_in, confirms as confirms_by}
 use Rattle.cop1.specs.FopState.{FopState}
-use Rattle.cop1.specs.FopWords.{Outcome, given_up, alerts, goes_on}
+use Rattle.cop1.specs.FopWords.{FopOutcome as Outcome, after_alert as given_up, alerts, goes_on}
 use Rattle.tm_link.specs.declared.fault.TmFault.{TmFault}
 use Rattle.tm_link.specs.Extraction.{Extracted, extract_step}
 use Rattle.tm_link.specs.Layout as telemetry

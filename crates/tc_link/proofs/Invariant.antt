@@ -13,8 +13,8 @@ use Rattle.cop1.specs.declared.fop.Directive.{Directive}
 use Rattle.cop1.specs.declared.fop.Directive.TheVariants.{InitWithoutCheck, InitWithCheck, InitUnlock, InitSetVr, Terminate, SetVs, SetWindow, SetLimit, SetTimer}
 use Rattle.cop1.specs.declared.fop.FopMode.{FopMode}
 use Rattle.cop1.specs.declared.fop.FopMode.TheVariants.{S1, S2, S3, S4, S5, S6}
-use Rattle.cop1.specs.FopDirective.{from_S6, directed as directed_fop}
-use Rattle.cop1.specs.FopPull.{pulled as pulled_fop}
+use Rattle.cop1.specs.FopDirective.{from_S6, directive_step as directed_fop}
+use Rattle.cop1.specs.FopPull.{pull_step as pulled_fop}
 use Rattle.cop1.specs.FopState.{FopState}
 use Rattle.tm_link.specs.declared.fault.TmFault.{TmFault}
 use Rattle.tm_link.specs.Layout as telemetry

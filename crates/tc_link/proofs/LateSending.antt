@@ -13,8 +13,8 @@ use Rattle.cop1.specs.declared.fop.Directive.{Directive}
 use Rattle.cop1.specs.declared.fop.FopMode.{FopMode}
 use Rattle.cop1.specs.declared.fop.FopMode.TheVariants.{S1, S2, S3, S4, S5, S6}
 use Rattle.cop1.specs.FopNext.{units_of}
-use Rattle.cop1.specs.FopPull.{PulledUnit, NothingPulled, BypassPulled, SequencePulled, pulls, pulled, pulled_control, pulled_bypass, pulled_in, pulled_marked, pulled_waiting, oldest_marked, without_oldest_mark, sent_first}
-use Rattle.cop1.specs.FopWords.{Outcome, restarted, unmarked}
+use Rattle.cop1.specs.FopPull.{PulledUnit, NothingPulled, BypassPulled, SequencePulled, pulls, pull_step as pulled, pull_control as pulled_control, pull_bypass as pulled_bypass, pull_in as pulled_in, pull_marked as pulled_marked, pull_waiting as pulled_waiting, oldest_marked, without_oldest_mark, sent_first}
+use Rattle.cop1.specs.FopWords.{FopOutcome as Outcome, after_restart as restarted, unmarked}
 use Rattle.tc_link.specs.declared.config.Config.{Config}
 use Rattle.tc_link.specs.OwnedFields.{FitsFrame}
 use Rattle.tc_link.specs.Ground.{is_closed, unsent, with_fop, frame_of, frame_pulled}

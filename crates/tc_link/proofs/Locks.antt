@@ -14,8 +14,8 @@ use Rattle.cop1.specs.declared.fop.Alert.{Alert}
 use Rattle.cop1.specs.declared.fop.Directive.{Directive}
 use Rattle.cop1.specs.FarmRuns.{FlagsAgree}
 use Rattle.cop1.specs.Farm.{state_of, FarmState, after_unlock, after_set_vr, after_release, farm_step, BufferReleased}
-use Rattle.cop1.specs.FopDirective.{directed as directed_fop}
-use Rattle.cop1.specs.FopPull.{pulled as pulled_fop}
+use Rattle.cop1.specs.FopDirective.{directive_step as directed_fop}
+use Rattle.cop1.specs.FopPull.{pull_step as pulled_fop}
 use Rattle.tm_link.specs.Building.{is_to_send}
 use Rattle.tm_link.specs.declared.fault.TmFault.{TmFault}
 use Rattle.tm_link.specs.Layout as telemetry

@@ -11,8 +11,8 @@ use Rattle.cop1.specs.declared.fop.Alert.{Alert}
 use Rattle.cop1.specs.declared.fop.Alert.TheVariants.{Lockout, NnR, Clcw as ClcwAlert, Synch, Limit, Timer, Terminated}
 use Rattle.cop1.specs.FopState.{FopState}
 use Rattle.cop1.specs.FopNext.{units_of}
-use Rattle.cop1.specs.FopReport.{locks, waits, asks, report_while_active, nothing_new, moved_on, goes_back, retransmits, ask_for_all, goes_back_again, counting_from}
-use Rattle.cop1.specs.FopWords.{Outcome, is_outside, acknowledged, repeated, alerts, goes_on, after_gone}
+use Rattle.cop1.specs.FopReport.{locks, waits, asks, report_while_active, nothing_new, after_move_on as moved_on, goes_back, retransmits, ask_for_all, goes_back_again, after_new_value as counting_from}
+use Rattle.cop1.specs.FopWords.{FopOutcome as Outcome, is_outside, after_acknowledge as acknowledged, after_repeat as repeated, alerts, goes_on, after_gone}
 use Rattle.tc_link.specs.Ground.{is_closed}
 use Rattle.tc_link.proofs.Queue.{units-marked, units-drop}
 use Rattle.tc_link.proofs.Transit.{bit}

@@ -24,12 +24,12 @@ use Rattle.cop1.specs.declared.fop.Directive.TheVariants.{InitWithoutCheck, Init
 use Rattle.cop1.specs.declared.fop.FopMode.{FopMode}
 use Rattle.cop1.specs.declared.fop.FopMode.TheVariants.{S1, S2, S3, S4, S5, S6}
 use Rattle.cop1.specs.Farm.{FarmState, AdArrives, BdArrives, BufferReleased, farm_step, verdict_of}
-use Rattle.cop1.specs.FopDirective.{obeys, refuses, from_S6, terminated, begun, directed as directed_fop}
-use Rattle.cop1.specs.FopPull.{pulled as pulled_fop}
-use Rattle.cop1.specs.FopReport.{reported as heard_by}
+use Rattle.cop1.specs.FopDirective.{obeys, refuses, from_S6, terminate_in as terminated, after_begin as begun, directive_step as directed_fop}
+use Rattle.cop1.specs.FopPull.{pull_step as pulled_fop}
+use Rattle.cop1.specs.FopReport.{clcw_step as heard_by}
 use Rattle.cop1.specs.FopState.{FopState}
-use Rattle.cop1.specs.FopTick.{ticked as ticked_fop}
-use Rattle.cop1.specs.FopWords.{Outcome, given_up, restarted}
+use Rattle.cop1.specs.FopTick.{tick_step as ticked_fop}
+use Rattle.cop1.specs.FopWords.{FopOutcome as Outcome, after_alert as given_up, after_restart as restarted}
 use Rattle.tm_link.specs.Building.{BuilderState, is_to_send, sent, data_size, is_at_rest, room_left, idle_after}
 use Rattle.tm_link.specs.declared.fault.TmFault.{TmFault}
 use Rattle.tm_link.specs.Extraction.{Extracted, extract_step}

@@ -16,7 +16,7 @@ use Rattle.cop1.specs.declared.fop.Directive.{Directive}
 use Rattle.cop1.specs.FopState.{FopState, initial}
 use Rattle.cop1.specs.FopPull.{PulledUnit, NothingPulled, ControlPulled, BypassPulled, SequencePulled}
 use Rattle.cop1.specs.FopStep as sender
-use Rattle.cop1.specs.FopWords.{Outcome}
+use Rattle.cop1.specs.FopWords.{FopOutcome as Outcome}
 use Rattle.tm_link.specs.declared.fault.TmFault.{TmFault}
 use Rattle.tm_link.specs.Layout as telemetry
 use Rattle.tm_link.specs.Reading.{frame_at}
