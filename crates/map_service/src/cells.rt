@@ -3,6 +3,7 @@
 ghost use Rattle.std.specs.Prelude.{◌≡◌, [], IfOk, OnErr};
 ghost use Rattle.tc_frame.specs.declared.frame.SegmentFlags.TheVariants as flags;
 ghost use Rattle.tc_frame.specs.Layout.{segment_view};
+ghost use Rattle.map_service.specs.Adding.{adding_fault};
 ghost use Rattle.map_service.specs.Taking.{drops, cell, cell_at, IsSureAtOnce};
 ghost use Rattle.map_service.specs.Views.{part_view, packets_view, interrupts, outcome_of};
 
@@ -83,6 +84,21 @@ fn take_first(
     Ok(no_packets(alloc, dropped))
 }
 
+// Why a continuing or a last segment is not added to the part that is open.
+fn fault_of_adding(limits: &Limits, part: &Option<Vec<u8>>, octets: &[u8]) -> Option<Dropped>
+    ensures { result ≡ adding_fault limits.now (part_view part.now) octets.now }
+{
+    match part {
+        None => Some(Dropped::NoBeginning),
+        Some(begun) => {
+            if limits.is_too_long(begun.len() + octets.len()) {
+                return Some(Dropped::TooLong);
+            }
+            None
+        }
+    }
+}
+
 // The cells of a continuing segment.
 fn take_continuing(
     alloc: Global,
@@ -96,16 +112,12 @@ fn take_continuing(
     ensures none { IsSureAtOnce
         (cell limits.now flags.Continuing (part_view part.old) octets.now) result }
 {
-    match part {
-        None => Ok(dropped_for(alloc, Dropped::NoBeginning, part)),
-        Some(joined) => {
-            if limits.is_too_long(joined.len() + octets.len()) {
-                return Ok(dropped_for(alloc, Dropped::TooLong, part));
-            }
-            joined.extend_from_slice(octets)?;
-            Ok(no_packets(alloc, None))
-        }
+    if let Some(cause) = fault_of_adding(limits, part, octets) {
+        return Ok(dropped_for(alloc, cause, part));
     }
+    let Some(joined) = part else { unreachable!() };
+    joined.extend_from_slice(octets)?;
+    Ok(no_packets(alloc, None))
 }
 
 // The cells of a last segment.
@@ -121,26 +133,22 @@ fn take_last(
     ensures none { IsSureAtOnce
         (cell limits.now flags.Last (part_view part.old) octets.now) result }
 {
-    match part {
-        None => Ok(dropped_for(alloc, Dropped::NoBeginning, part)),
-        Some(joined) => {
-            if limits.is_too_long(joined.len() + octets.len()) {
-                return Ok(dropped_for(alloc, Dropped::TooLong, part));
-            }
-            let mut packets = Vec::with_capacity(alloc, 1)?;
-            joined.extend_from_slice(octets)?;
-            let fault = fault_of_one(limits, joined);
-            if let Some(whole) = part.take() {
-                if fault.is_none() {
-                    let _ = packets.push(whole);
-                }
-            }
-            Ok(Taken {
-                dropped: fault,
-                packets,
-            })
+    if let Some(cause) = fault_of_adding(limits, part, octets) {
+        return Ok(dropped_for(alloc, cause, part));
+    }
+    let Some(joined) = part else { unreachable!() };
+    let mut packets = Vec::with_capacity(alloc, 1)?;
+    joined.extend_from_slice(octets)?;
+    let fault = fault_of_one(limits, joined);
+    if let Some(whole) = part.take() {
+        if fault.is_none() {
+            let _ = packets.push(whole);
         }
     }
+    Ok(Taken {
+        dropped: fault,
+        packets,
+    })
 }
 
 // A segment comes on an open MAP.
