@@ -1,16 +1,15 @@
 -- Packets behind the stream, and frames that go on with it.
-use Rattle.std.proofs.Common.{◌≡◌, ◌<◌, ℕ, ◌+◌, ◌*◌, ◌%◌, false, true, List, [], ◌∷◌, ◌++◌, length, take, refl, sym, ap, subst, ◌∙◌, arith, inl, inr, length-append, append_assoc}
+use Rattle.std.proofs.Common.{◌≡◌, ℕ, ◌+◌, ◌%◌, true, List, [], ◌∷◌, ◌++◌, length, refl, sym, ap, subst, ◌∙◌, arith, inl, inr, length-append, append_assoc}
 use Rattle.std.specs.List.{AllByRecursion, concat}
-use Rattle.std.proofs.lemmas.Bool.{ne_eqb}
 use Rattle.std.proofs.lemmas.List.{append-nil}
 use Rattle.std.proofs.lemmas.List.Folds.{concat-append}
-use Rattle.octets.specs.Number.{number_of, IsOctets}
+use Rattle.octets.specs.Number.{IsOctets}
 use Rattle.octets.specs.Records.{IsRecord}
 use Rattle.space_packet.specs.Laws.{own_extent_of}
-use Rattle.space_packet.specs.Layout.{PacketView, type_bit, secondary_bit}
+use Rattle.space_packet.specs.Layout.{PacketView}
 use Rattle.space_packet.specs.Reading.{extent_at}
 use Rattle.tm_link.specs.Building.{BuilderState, IsToSend, is_to_send, new_builder, queued, idle_tail}
-use Rattle.tm_link.specs.Extraction.{is_idle, handed_out}
+use Rattle.tm_link.specs.Extraction.{handed_out}
 use Rattle.tm_link.specs.Layout.{FrameView}
 use Rattle.tm_link.specs.Laying.{held_by, IsCutAt, IsLaidOutBy}
 use Rattle.tm_link.specs.Stream.{IsPointed, slice_of, carried, IsLaidOut}
