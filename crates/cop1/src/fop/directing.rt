@@ -48,7 +48,8 @@ impl<U: Drop> Fop<U> {
     // Leaves S6 with this number for V(S) and NN(R).
     fn begin(&mut self, number: u8, state: FopMode)
         requires { self.old.state ≡ FopMode.S6 }
-        ensures { self.new ≡ record (after_begin self.old) { vs = number; nn = number; state = state } }
+        ensures { self.new
+            ≡ record (after_begin self.old) { vs = number; nn = number; state = state } }
     {
         self.vs = number;
         self.nn = number;
