@@ -119,7 +119,8 @@ impl Farm {
         verdict
     }
 
-    fn verdict(&self, n: u8, buffer_free: bool) -> Verdict
+    /// What `ad` would answer; the receiver stays as it is.
+    pub fn verdict(&self, n: u8, buffer_free: bool) -> Verdict
         ensures { result ≡ verdict_of self.now n buffer_free }
     {
         match (self.state(), self.place(n)) {

@@ -11,7 +11,7 @@ use tc_frame::{Segment, SegmentFlags, SegmentHeader};
 
 impl Ground {
     ghost use Rattle.std.specs.Prelude.{◌≡◌, Err, None, Ok, IfSome, OnOk, OnErr, IsOkUnless};
-    ghost use Rattle.tc_link.specs.Ground.{ground_step, Submit, Bypass, submit_fault, bypass_fault};
+    ghost use Rattle.tc_link.specs.Ground.{ground_step, Submit, Bypass, submit_fault, submitted, bypass_fault};
 
     /// Submits command packets on a MAP, to be sent under sequence control: exactly one packet, or with
     /// blocking one or more, one after another. The first that applies: 1 `NotOpen` (in S6), 2
@@ -27,6 +27,16 @@ impl Ground {
         if let Some(fault) = self.submit_fault(map, octets) {
             return Err(fault);
         }
+        self.enqueue(map, octets)
+    }
+
+    // Submits packets that are not refused. The fault is 6 `Memory`; and then the ground is as it was.
+    pub(crate) fn enqueue(&mut self, map: u8, octets: &[u8]) -> Result<(), LinkFault>
+        requires { submit_fault self.old map octets.now ≡ None }
+        ensures after { OnOk result (self.new ≡ submitted self.old map octets.now) }
+        ensures memory { IsOkUnless result LinkFault.Memory }
+        ensures err { OnErr result (self.new ≡ self.old) }
+    {
         let mut segments = Vec::new(self.alloc);
         if cut(octets, map, &self.config.limits(), &mut segments).is_err() {
             return Err(LinkFault::Memory);

@@ -38,7 +38,7 @@ impl Link {
         };
         if self.submissions.try_reserve(1).is_err()
             || make_room(&mut self.submitted, map, packets.len()).is_err()
-            || self.station.submit(map, octets).is_err()
+            || self.station.enqueue(map, octets).is_err()
         {
             return Err(SimFault::Memory);
         }

@@ -5,7 +5,7 @@ use crate::fault::LinkFault;
 use crate::keeping::is_kept;
 use crate::map_packet::{MapPacket, make_ready};
 use crate::received::Received;
-use cop1::FarmMode;
+use cop1::Verdict;
 use map_service::Dropped;
 use tc_frame::{Body, Check, Command, Segment, TcFrame, decode};
 
@@ -64,9 +64,9 @@ impl Spacecraft {
     pub(super) fn will_accept(&self, n: u8) -> bool
         ensures { result ≡ is_accepted (verdict_of self.now.farm n (is_free self.now)) }
     {
-        match self.farm.state() {
-            FarmMode::Open => self.is_free() && n == self.farm.vr(),
-            FarmMode::Wait | FarmMode::Lockout => false,
+        match self.farm.verdict(n, self.is_free()) {
+            Verdict::Accepted => true,
+            _ => false,
         }
     }
 

@@ -1,4 +1,4 @@
-use Rattle.std.proofs.Common.{◌≡◌, ◌++◌, ◌∷◌, [], ℕ, List, map, filter, length, Bool, true, false, Result, Ok, Err, OnOk, refl, ap, sym, ◌∙◌, arith, append-nil}
+use Rattle.std.proofs.Common.{◌≡◌, ◌++◌, ◌∷◌, [], ℕ, List, map, filter, length, Bool, true, false, None, Result, Ok, Err, OnOk, refl, ap, sym, ◌∙◌, arith, append-nil}
 use Rattle.std.specs.Prelude.{◌==◌, if◌then◌else◌}
 use Rattle.std.specs.List.{flat_map}
 use Rattle.std.specs.Result.{is_err}
@@ -7,7 +7,7 @@ use Rattle.std.proofs.lemmas.List.{map_push}
 use Rattle.std.proofs.lemmas.List.Elements.{filter-append}
 use Rattle.map_service.specs.Packets.{packets_in}
 use Rattle.map_service.specs.Views.{packets_view}
-use Rattle.tc_link.specs.Ground.{GroundState, submit_fault}
+use Rattle.tc_link.specs.Ground.{GroundState}
 use Rattle.tc_link.specs.Packets.{PacketOn, packet_on, packet_view}
 use Rattle.tc_link.proofs.Counted.{submit_same}
 use Rattle.tc_link.proofs.link.Link.submit.Goals as goal
@@ -34,9 +34,9 @@ pub invariant_of-self-2 : goal.invariant_of-self-2
 invariant_of-self-2 c =
     let s : GroundState = c.self.inside.station in
     let octets : List ℕ = c.args.octets.now in
-    let after = where_ok c.submit.result (sym c.is_err-else-is_err-2.ensures.value ∙ c.if-is_err-3.false) c.submit.ensures.after in
-    let same : length c.submit.new.self.fop.sent ≡ length s.fop.sent =
-    ap (λ (t : GroundState). length t.fop.sent) after ∙ ap length (submit_same s c.args.map octets (submit_fault s c.args.map octets)) in
+    let after = where_ok c.enqueue.result (sym c.is_err-else-is_err-2.ensures.value ∙ c.if-is_err-3.false) c.enqueue.ensures.after in
+    let same : length c.enqueue.new.self.fop.sent ≡ length s.fop.sent =
+    ap (λ (t : GroundState). length t.fop.sent) after ∙ ap length (submit_same s c.args.map octets None) in
     let submissions : map packet_view c.push_reserved.new.self.items ≡ map packet_view c.self.inside.submissions.items ++ packet_on c.args.map octets ∷ [] =
     ap (map packet_view) (c.push_reserved.ensures.items ∙ ap (λ xs. xs ++ (c.args.map, c.in-Ok.copy) ∷ []) c.try_reserve.ensures.items)
     ∙ map_push packet_view c.self.inside.submissions.items (c.args.map, c.in-Ok.copy)

@@ -7,7 +7,7 @@ use Rattle.map_service.specs.Cutting.{segment_views, segments_of}
 use Rattle.map_service.specs.declared.limits.Limits.{Limits}
 use Rattle.tc_link.specs.OwnedFields.{FitsFrame}
 use Rattle.tc_link.proofs.Submitting.{submit_map, segments_fit}
-use Rattle.tc_link.proofs.ground_node.Ground.submit.Goals as goal
+use Rattle.tc_link.proofs.ground_node.Ground.enqueue.Goals as goal
 
 where_ok : {A E P : Type 0} (r : Result A E) → is_err r ≡ false → OnOk r P → P
 where_ok (Ok x) ok p = p
@@ -24,4 +24,4 @@ own-requires c =
     ap segment_views c.as_slice.ensures.value ∙ views ∙ ap (λ (ss : List Segment). segment_views ss ++ all) c.new-segments.ensures.items
     ∙ ap (λ (l : Limits). segments_of l.part m octets) c.limits.ensures in
     subst (λ (ss : List SegmentView). AllByRecursion FitsFrame ss) (sym is)
-    (segments_fit c.self.inside.config.part m octets c.self.invariant.part.0 c.self.invariant.part.1 (submit_map c.args.self.now m octets (sym c.submit_fault.ensures ∙ c.in_default.is)))
+    (segments_fit c.self.inside.config.part m octets c.self.invariant.part.0 c.self.invariant.part.1 (submit_map c.args.self.now m octets (c.requires)))
