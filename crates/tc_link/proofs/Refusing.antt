@@ -10,12 +10,12 @@ use Rattle.tm_link.specs.Reading as telemetry_reading
 use Rattle.tc_link.specs.declared.event.Event.{Event}
 use Rattle.tc_link.specs.declared.event.Event.TheVariants as events
 use Rattle.tc_link.specs.Ground.{GroundState, ground_step, Pull}
-use Rattle.tc_link.specs.World.{World, Outcome, world_step, after_pull, up_delivered, up_lost, up_detected, up_damaged, down_delivered, down_lost, down_detected, down_damaged}
+use Rattle.tc_link.specs.World.{World, WorldOutcome, world_step, world_after_pull, up_delivered, up_lost, up_detected, up_damaged, down_delivered, down_lost, down_detected, down_damaged}
 
-abbrev Keeps : World → Outcome → Type 0
+abbrev Keeps : World → WorldOutcome → Type 0
 Keeps w o = IfErr o.answer (λ _. o.after ≡ w)
 
-pull_keeps : (w : World) (after : GroundState) (answer : Option FrameView) → Keeps w (after_pull w after answer)
+pull_keeps : (w : World) (after : GroundState) (answer : Option FrameView) → Keeps w (world_after_pull w after answer)
 pull_keeps w after None = tt
 pull_keeps w after (Some frame) = tt
 
@@ -49,13 +49,13 @@ down_seen_keeps w down (Err fault) = tt
 
 down_damage_keeps : (w : World) (down : List (List ℕ)) (damaged : List ℕ) → Keeps w (down_damaged w down damaged)
 down_damage_keeps w [] damaged = refl
-down_damage_keeps w (octets ∷ down) damaged = down_seen_keeps w down (telemetry_reading.frame_at w.station.config.frame_length damaged)
+down_damage_keeps w (octets ∷ down) damaged = down_seen_keeps w down (telemetry_reading.frame_at w.ground_node.config.frame_length damaged)
 
 pub refused_keeps : (w : World) (event : Event) → IfErr (world_step w event).answer (λ _. (world_step w event).after ≡ w)
 refused_keeps w (events.Submit m octets) = tt
 refused_keeps w (events.Bypass m octets) = tt
 refused_keeps w (events.Directive directive) = tt
-refused_keeps w events.Send = pull_keeps w (ground_step w.station Pull).after (ground_step w.station Pull).answer
+refused_keeps w events.Send = pull_keeps w (ground_step w.ground_node Pull).after (ground_step w.ground_node Pull).answer
 refused_keeps w events.UpDeliver = up_keeps w w.up
 refused_keeps w events.UpLose = up_loss_keeps w w.up
 refused_keeps w (events.UpDamage octets) = up_damage_keeps w w.up octets.now

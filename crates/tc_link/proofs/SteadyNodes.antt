@@ -25,7 +25,7 @@ use Rattle.cop1.specs.FopTick.{ticked as ticked_fop, ticked_with, timer_ended, c
 use Rattle.cop1.specs.FopWords.{Outcome, is_outside, acknowledged, repeated, given_up, stopped, restarted, alerts, goes_on, after_gone}
 use Rattle.tc_link.specs.declared.config.Config.{Config}
 use Rattle.tc_link.specs.OwnedFields.{FitsFrame}
-use Rattle.tc_link.specs.Ground.{GroundState, is_closed, settled}
+use Rattle.tc_link.specs.Ground.{GroundState, is_closed, settle_step}
 use Rattle.tc_link.proofs.Linked.{Commanded}
 use Rattle.tc_link.proofs.Settled.{settled_keeps}
 
@@ -194,13 +194,13 @@ module _ (c : Config) (s : FopState SegmentView) (k : FopSteady c s) where
 
 -- ---- the ground
 
-pub record StationSteady (c : Config) (s : GroundState) : Type 0 where
+pub record GroundNodeSteady (c : Config) (s : GroundState) : Type 0 where
   pub config : s.config ≡ c
   pub fop : FopSteady c s.fop
   pub pending_none : is_closed s.fop.state ≡ true → s.pending ≡ []
 
-pub settled_so : (c : Config) (s : GroundState) → s.config ≡ c → FopSteady c s.fop → StationSteady c (settled s)
-settled_so c s is k = settled_keeps (StationSteady c) s (λ waiting pending on off.
+pub settled_so : (c : Config) (s : GroundState) → s.config ≡ c → FopSteady c s.fop → GroundNodeSteady c (settle_step s)
+settled_so c s is k = settled_keeps (GroundNodeSteady c) s (λ waiting pending on off.
     let waiting_none : is_closed s.fop.state ≡ true → waiting ≡ None = λ e. (off e).0 ∙ k.waiting_none e in
     let fop : FopSteady c (record s.fop { waiting = waiting }) = assumption (waiting_none, k) in
     record { config = is; fop = fop; pending_none = λ e. (off e).1 })

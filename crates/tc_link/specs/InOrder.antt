@@ -16,17 +16,22 @@ pub record IsInOrder (w : World) : Type 0 where
   -- on each MAP what is delivered is a beginning of what was submitted
   pub in_order : (m : ℕ) → IsBeginning (delivered w m) (submitted w m)
   -- what the ground holds acknowledged was accepted on board
-  pub acknowledged : take w.session.acknowledged w.session.sent ≡ take w.session.acknowledged (accepted w)
-  pub counted : (w.session.acknowledged ≤ length w.session.sent) × (w.session.acknowledged ≤ length (accepted w))
+  pub acknowledged : take w.session.acknowledged w.session.sent
+      ≡ take w.session.acknowledged (accepted w)
+  pub counted : (w.session.acknowledged ≤ length w.session.sent)
+      × (w.session.acknowledged ≤ length (accepted w))
   -- while the ground is Active and nothing is outstanding, nothing is missing
-  pub complete : w.station.fop.state ≡ S1 → outstanding w.station ≡ [] → (m : ℕ) → delivered w m ≡ submitted w m
+  pub complete : w.ground_node.fop.state ≡ S1 → outstanding w.ground_node ≡ [] → (m : ℕ)
+      → delivered w m ≡ submitted w m
 
 -- the segments that cutting makes of what was submitted, in its order across all MAPs
 abbrev pub units_submitted : World → List SegmentView
-units_submitted w = flat_map (λ (p : PacketOn). segments_of w.station.config.part p.on_map p.octets) w.session.submissions
+units_submitted w =
+    flat_map (λ (p : PacketOn). segments_of w.ground_node.config.part p.on_map p.octets)
+    w.session.submissions
 
--- The records are those of a run of the plain link over these units: the first n were sent, of them the first r
--- accepted, of them the first a are acknowledged.
+-- The records are those of a run of the plain link over these units: the first n were sent, of them
+-- the first r accepted, of them the first a are acknowledged.
 pub record HasPlainHistory (w : World) : Type 0 where
   pub plain : PlainLink
   pub ran : PlainRun new_link plain

@@ -56,7 +56,7 @@ abbrev pub report_carried : Config → List ℕ → List Clcw
 report_carried c octets = report_of_frame (telemetry_reading.frame_at c.frame_length octets)
 
 abbrev pub reports_down : World → List Clcw
-reports_down w = flat_map (report_carried w.station.config) w.down
+reports_down w = flat_map (report_carried w.ground_node.config) w.down
 
 -- ---- where the numbers lie
 
@@ -67,7 +67,8 @@ IsInWindow half vr n = (ahead_by n vr < half) ⊎ (ahead_by vr n ≤ half)
 -- the values lie within NN(R) to a last one, in rising order
 abbrev pub IsRising : (nn low : ℕ) → List Clcw → ℕ → Type 0
 IsRising nn low [] last = low ≤ ahead_by last nn
-IsRising nn low (report ∷ reports) last = (low ≤ ahead_by report.value nn) × IsRising nn (ahead_by report.value nn) reports last
+IsRising nn low (report ∷ reports) last =
+    (low ≤ ahead_by report.value nn) × IsRising nn (ahead_by report.value nn) reports last
 
 -- S1 to S3
 abbrev pub IsActive : FopMode → Type 0
@@ -80,7 +81,10 @@ IsActive S6 = ⊥
 
 pub record KeepsToWindow (w : World) : Type 0 where
   -- each Type-AD number on its way lies at most W/2 below and at most W/2 - 1 above V(R)
-  pub up : AllByRecursion (IsInWindow (w.craft.farm.width / 2) w.craft.farm.vr) (numbers_up w)
+  pub up : AllByRecursion (IsInWindow (w.spacecraft.farm.width / 2) w.spacecraft.farm.vr)
+      (numbers_up w)
   -- V(R) and the reports' values lie within NN(R) to V(S), the reports in rising order
-  pub down : IsSettled w → IsActive w.station.fop.state
-      → IsRising w.station.fop.nn 0 (reports_down w) w.craft.farm.vr × (ahead_by w.craft.farm.vr w.station.fop.nn ≤ ahead_by w.station.fop.vs w.station.fop.nn)
+  pub down : IsSettled w → IsActive w.ground_node.fop.state
+      → IsRising w.ground_node.fop.nn 0 (reports_down w) w.spacecraft.farm.vr
+      × (ahead_by w.spacecraft.farm.vr w.ground_node.fop.nn
+      ≤ ahead_by w.ground_node.fop.vs w.ground_node.fop.nn)

@@ -17,11 +17,17 @@ abbrev pub new_sim : Config → SimState
 new_sim c = record { world = new_world c; answers = [] }
 
 abbrev pub sim_run : Config → List Event → SimState
-sim_run c events = record { world = world_run (new_world c) events; answers = run_answers (new_world c) events }
+sim_run c events = record {
+  world = world_run (new_world c) events;
+  answers = run_answers (new_world c) events;
+}
 
 -- the step of a run records its answer
 abbrev pub recorded : SimState → Event → SimState
-recorded s event = record { world = (world_step s.world event).after; answers = s.answers ++ (world_step s.world event).answer ∷ [] }
+recorded s event = record {
+  world = (world_step s.world event).after;
+  answers = s.answers ++ (world_step s.world event).answer ∷ [];
+}
 
 abbrev pub run_from : SimState → List Event → SimState
 run_from s [] = s

@@ -2,16 +2,16 @@
 
 mod fault;
 mod opening;
-mod running;
+mod runs;
 
 use crate::config::Config;
 use crate::event::Event;
-use crate::link::Link;
 use crate::reply::Reply;
+use crate::world::World;
 use cop1::{Directive, FopMode};
 pub use fault::SimFault;
 pub(crate) use opening::Opening;
-pub use running::run;
+pub use runs::run;
 use std::alloc::Global;
 use std::marker::Model;
 
@@ -20,7 +20,7 @@ use std::marker::Model;
 /// begins with each initiation directive that the ground accepts.
 #[derive(Drop)]
 pub struct Sim {
-    link: Link,
+    world: World,
     answers: Vec<Result<Reply, SimFault>>,
 }
 
@@ -63,9 +63,9 @@ impl Sim {
         if let Some(field) = config.fault() {
             return Err(SimFault::Config(field));
         }
-        let link = Link::new(alloc, &config)?;
+        let world = World::new(alloc, &config)?;
         Ok(Sim {
-            link,
+            world,
             answers: Vec::new(alloc),
         })
     }
@@ -92,7 +92,7 @@ impl Sim {
         ensures no_false_alarm { IsClean self.old.world → IsChecking (directive_of self.old.world) → HasNoFalseAlarm self.old.world event.entry }
     {
         event.has_octets();
-        self.link.step(event)
+        self.world.step(event)
     }
 
     /// What was answered to each event of `run`.
@@ -104,16 +104,16 @@ impl Sim {
 
     /// The state of the ground's sender.
     pub fn state(&self) -> FopMode
-        ensures { result ≡ self.now.world.station.fop.state }
+        ensures { result ≡ self.now.world.ground_node.fop.state }
     {
-        self.link.station().state()
+        self.world.ground_node().state()
     }
 
     /// How many segments were submitted and are not acknowledged.
     pub fn outstanding(&self) -> usize
-        ensures { result ≡ length (outstanding self.now.world.station) }
+        ensures { result ≡ length (outstanding self.now.world.ground_node) }
     {
-        self.link.station().outstanding()
+        self.world.ground_node().outstanding()
     }
 
     /// Whether the session began clean: with nothing on its way and, for an initiation without a check,
@@ -121,7 +121,7 @@ impl Sim {
     pub fn clean(&self) -> Option<bool>
         ensures { result ≡ option_map (λ o. o.clean) self.now.world.session.opening }
     {
-        match self.link.opening() {
+        match self.world.opening() {
             Some(opening) => Some(opening.clean),
             None => None,
         }
@@ -131,7 +131,7 @@ impl Sim {
     pub fn begun(&self) -> Option<Directive>
         ensures { result ≡ option_map (λ o. o.directive) self.now.world.session.opening }
     {
-        match self.link.opening() {
+        match self.world.opening() {
             Some(opening) => Some(opening.directive),
             None => None,
         }
@@ -141,21 +141,21 @@ impl Sim {
     pub fn confirmed(&self) -> bool
         ensures { result ≡ self.now.world.session.confirmed }
     {
-        self.link.confirmed()
+        self.world.confirmed()
     }
 
     /// The octets of each submission that was accepted in the session, with its MAP.
     pub fn submissions(&self) -> &[(u8, Vec<u8>)]
         ensures { map packet_view result.now ≡ self.now.world.session.submissions }
     {
-        self.link.submissions()
+        self.world.submissions()
     }
 
     /// The packets of these submissions on a MAP, in their order; above MAP 63 there are none.
     pub fn submitted(&self, map: u8) -> &[Vec<u8>]
         ensures { octets_of result.now ≡ submitted self.now.world map }
     {
-        self.link.submitted(map)
+        self.world.submitted(map)
     }
 
     /// The packets that are ready on board on a MAP since the session began, taken or not, in their
@@ -163,27 +163,27 @@ impl Sim {
     pub fn delivered(&self, map: u8) -> &[Vec<u8>]
         ensures { octets_of result.now ≡ delivered self.now.world map }
     {
-        self.link.delivered(map)
+        self.world.delivered(map)
     }
 
     /// The data fields of the session's Type-AD frames, in the order in which they were first sent.
     pub fn sent(&self) -> &[Vec<u8>]
         ensures { octets_of result.now ≡ self.now.world.session.sent }
     {
-        self.link.sent()
+        self.world.sent()
     }
 
     /// The data fields of the Type-AD frames that were accepted on board since the session began.
     pub fn accepted(&self) -> &[Vec<u8>]
         ensures { octets_of result.now ≡ accepted self.now.world }
     {
-        self.link.accepted()
+        self.world.accepted()
     }
 
     /// How many of the first ones of `sent` the ground holds acknowledged.
     pub fn acknowledged(&self) -> usize
         ensures { result ≡ self.now.world.session.acknowledged }
     {
-        self.link.acknowledged()
+        self.world.acknowledged()
     }
 }

@@ -1,9 +1,9 @@
 // Packets to be sent.
 
 use super::Ground;
+use crate::bypass_segments::{is_open, is_too_long};
 use crate::commands::are_commands;
 use crate::fault::LinkFault;
-use crate::keeping::{is_open, is_too_long};
 use crate::owned_segment::{OwnedSegment, own};
 use cop1::FopMode;
 use map_service::{cut, segment_count};
@@ -11,7 +11,7 @@ use tc_frame::{Segment, SegmentFlags, SegmentHeader};
 
 impl Ground {
     ghost use Rattle.std.specs.Prelude.{◌≡◌, Err, None, Ok, IfSome, OnOk, OnErr, IsOkUnless};
-    ghost use Rattle.tc_link.specs.Ground.{ground_step, Submit, Bypass, submit_fault, submitted, bypass_fault};
+    ghost use Rattle.tc_link.specs.Ground.{ground_step, Submit, Bypass, submit_fault, after_submission, bypass_fault};
 
     /// Submits command packets on a MAP, to be sent under sequence control: exactly one packet, or with
     /// blocking one or more, one after another. The first that applies: 1 `NotOpen` (in S6), 2
@@ -33,7 +33,7 @@ impl Ground {
     // Submits packets that are not refused. The fault is 6 `Memory`; and then the ground is as it was.
     pub(crate) fn enqueue(&mut self, map: u8, octets: &[u8]) -> Result<(), LinkFault>
         requires { submit_fault self.old map octets.now ≡ None }
-        ensures after { OnOk result (self.new ≡ submitted self.old map octets.now) }
+        ensures after { OnOk result (self.new ≡ after_submission self.old map octets.now) }
         ensures memory { IsOkUnless result LinkFault.Memory }
         ensures err { OnErr result (self.new ≡ self.old) }
     {
