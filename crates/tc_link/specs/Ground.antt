@@ -203,6 +203,9 @@ own_frame_arrived s x (Ok report) =
       after = after_extraction s x;
     }
 
+abbrev pub receive_frame_step : GroundState → telemetry.FrameView → GroundOutcome Heard
+receive_frame_step s frame = own_frame_arrived s (extract_step s.extractor frame) (clcw_at frame.ocf)
+
 -- a frame of this spacecraft's virtual channel
 abbrev pub is_own_telemetry : Config → telemetry.FrameView → Bool
 is_own_telemetry c frame = (frame.scid == c.scid) && (frame.vcid == c.tm_vcid)
@@ -211,8 +214,7 @@ abbrev pub telemetry_arrived : GroundState → Result telemetry.FrameView TmFaul
     → GroundOutcome Heard
 telemetry_arrived s (Err fault) = record { answer = Invalid fault; after = s }
 telemetry_arrived s (Ok frame) =
-    if is_own_telemetry s.config frame
-    then own_frame_arrived s (extract_step s.extractor frame) (clcw_at frame.ocf)
+    if is_own_telemetry s.config frame then receive_frame_step s frame
     else record { answer = Foreign; after = s }
 
 abbrev pub ground_telemetry : GroundState → List ℕ → GroundOutcome Heard

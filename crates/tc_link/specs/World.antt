@@ -152,16 +152,21 @@ is_initiation (SetWindow k) = false
 is_initiation (SetLimit n) = false
 is_initiation (SetTimer t) = false
 
--- a session begins with an initiation
-abbrev pub session_begun_by : World → Directive → Session
-session_begun_by w directive = record {
-  opening = Some (record { directive = directive; clean = begins_clean w directive });
+-- a session begins
+abbrev pub session_begun : World → Opening → Session
+session_begun w opening = record {
+  opening = Some opening;
   confirmed = false;
   submissions = [];
   sent = [];
   acknowledged = 0;
   before = length w.spacecraft.accepted;
 }
+
+-- it begins with an initiation
+abbrev pub session_begun_by : World → Directive → Session
+session_begun_by w directive =
+    session_begun w (record { directive = directive; clean = begins_clean w directive })
 
 abbrev pub is_initialising : FopMode → Bool
 is_initialising S1 = false

@@ -36,7 +36,8 @@ fn header_octet(header: SegmentHeader) -> u8
 pub(crate) fn first_sent(room: Vec<u8>, vs: u8, octets: &[u8]) -> Option<Vec<u8>>
     requires empty { room.items ≡ [] }
     requires room { length octets.now ≤ vec_capacity room }
-    ensures { (f : FrameView) → IsTcFrame On f octets.now → first_sent vs f.body ≡ option_to_list (option_map (λ v. v.items) result) }
+    ensures { (f : FrameView) → IsTcFrame On f octets.now
+        → first_sent vs f.body ≡ option_to_list (option_map (λ v. v.items) result) }
 {
     let Ok(frame) = decode(octets, Check::On) else {
         return None;

@@ -140,7 +140,8 @@ impl Ground {
 
     /// Takes the oldest packet that telemetry frames carried.
     pub fn take_telemetry(&mut self) -> Option<Vec<u8>>
-        ensures answer { option_map (λ v. v.items) result ≡ (ground_step self.old TakeTelemetry).answer }
+        ensures answer { option_map (λ v. v.items) result
+            ≡ (ground_step self.old TakeTelemetry).answer }
         ensures after { self.new ≡ (ground_step self.old TakeTelemetry).after }
     {
         if self.waiting.is_empty() {

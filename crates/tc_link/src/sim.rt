@@ -44,7 +44,7 @@ impl Sim {
     ghost use Rattle.tc_link.specs.Packets.{packet_view};
     ghost use Rattle.tc_link.specs.Parameters.{config_fault};
     ghost use Rattle.tc_link.specs.Replies.{reply_view};
-    ghost use Rattle.tc_link.specs.Simulation.{new_sim, recorded, refused_field, TakesNone};
+    ghost use Rattle.tc_link.specs.Simulation.{IsReplyTo, new_sim, recorded, refused_field, TakesNone};
     ghost use Rattle.tc_link.specs.Confirmation.{ConfirmsExactly, IsChecking, IsConfirmedExactly};
     ghost use Rattle.tc_link.specs.FalseAlarms.{HasNoFalseAlarm};
     ghost use Rattle.tc_link.specs.InOrder.{IsInOrder, HasPlainHistory};
@@ -78,18 +78,23 @@ impl Sim {
     /// the ground holds acknowledged was accepted on board; and where it was begun by check, Unlock or
     /// Set V(R), no alert is a false one.
     pub fn step(&mut self, event: Event<'_>) -> Result<Reply, SimFault>
-        ensures reply { IfOk result (λ reply. (world_step self.old.world event.entry).answer ≡ Ok (reply_view reply)) }
-        ensures after { OnOk result (self.new ≡ record self.old { world = (world_step self.old.world event.entry).after }) }
+        ensures reply { IfOk result (IsReplyTo self.old.world event.entry) }
+        ensures after { OnOk result
+            (self.new ≡ record self.old { world = (world_step self.old.world event.entry).after }) }
         ensures err { OnErr result (self.new ≡ self.old) }
-        ensures refused { IfErr (world_step self.old.world event.entry).answer (λ e. result ≡ Err e) }
-        ensures memory { IfOk (world_step self.old.world event.entry).answer (λ _. IsOkUnless result SimFault.Memory) }
+        ensures refused { IfErr (world_step self.old.world event.entry).answer
+            (λ e. result ≡ Err e) }
+        ensures memory { IfOk (world_step self.old.world event.entry).answer
+            (λ _. IsOkUnless result SimFault.Memory) }
         ensures none { TakesNone event.entry → result ≢ Err SimFault.Memory }
         ensures in_order { IsClean self.new.world → IsInOrder self.new.world }
         ensures history { IsClean self.new.world → HasPlainHistory self.new.world }
         ensures window { IsClean self.new.world → KeepsToWindow self.new.world }
         ensures confirmed { IsClean self.new.world → IsConfirmedExactly self.new.world }
-        ensures confirms { IsClean self.old.world → IsChecking (directive_of self.old.world) → ConfirmsExactly self.old.world self.new.world }
-        ensures no_false_alarm { IsClean self.old.world → IsChecking (directive_of self.old.world) → HasNoFalseAlarm self.old.world event.entry }
+        ensures confirms { IsClean self.old.world → IsChecking (directive_of self.old.world)
+            → ConfirmsExactly self.old.world self.new.world }
+        ensures no_false_alarm { IsClean self.old.world → IsChecking (directive_of self.old.world)
+            → HasNoFalseAlarm self.old.world event.entry }
     {
         event.has_octets();
         self.world.step(event)

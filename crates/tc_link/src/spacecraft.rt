@@ -101,7 +101,8 @@ impl Spacecraft {
 
     /// Takes the oldest packet that frames past the sequence control carried, with its MAP.
     pub fn take_bypass(&mut self) -> Option<(u8, Vec<u8>)>
-        ensures answer { option_map packet_view result ≡ (spacecraft_step self.old TakeBypass).answer }
+        ensures answer { option_map packet_view result
+            ≡ (spacecraft_step self.old TakeBypass).answer }
         ensures after { self.new ≡ (spacecraft_step self.old TakeBypass).after }
     {
         match self.bypass.pop_front() {
@@ -113,8 +114,10 @@ impl Spacecraft {
     /// Queues a packet to be sent as telemetry. Refuses by 8 `NotAPacket` octets that are not exactly
     /// one packet, or an idle packet, and then by 7 `Memory`; the spacecraft is as it was then.
     pub fn telemetry(&mut self, packet: &[u8]) -> Result<(), TmFault>
-        ensures ok { OnOk result (self.new ≡ (spacecraft_step self.old (Telemetry packet.now)).after) }
-        ensures taken { OnOk result ((spacecraft_step self.old (Telemetry packet.now)).answer ≡ Ok tt) }
+        ensures ok { OnOk result
+            (self.new ≡ (spacecraft_step self.old (Telemetry packet.now)).after) }
+        ensures taken { OnOk result
+            ((spacecraft_step self.old (Telemetry packet.now)).answer ≡ Ok tt) }
         ensures err { OnErr result (self.new ≡ self.old) }
         ensures fault { IfErr result (λ e. e ≡ queue_fault packet.now) }
     {
@@ -125,11 +128,13 @@ impl Spacecraft {
     /// says how many octets it has. Octets past it stay.
     pub fn report(&mut self, out: &mut [u8; 2048]) -> usize
         ensures count { result ≡ self.old.config.frame_length }
-        ensures frame { out.new ≡ spelling (spacecraft_step self.old Report).answer ++ drop result out.old }
+        ensures frame { out.new
+            ≡ spelling (spacecraft_step self.old Report).answer ++ drop result out.old }
         ensures after { self.new ≡ (spacecraft_step self.old Report).after }
 
         // So the octets are this frame, of the spacecraft's own channel.
-        ensures spells { IsTmFrame result (spacecraft_step self.old Report).answer (take result out.new) }
+        ensures spells { IsTmFrame result (spacecraft_step self.old Report).answer
+            (take result out.new) }
         ensures own { IsOwnFrame self.old.config (spacecraft_step self.old Report).answer }
     {
         let Ok(ocf) = encode(&self.farm.report(self.config.vcid as u8)) else {

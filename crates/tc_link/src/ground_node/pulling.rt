@@ -34,9 +34,12 @@ impl Ground {
     fn put(&self, next: &Next<OwnedSegment>, out: &mut [u8]) -> Option<usize>
         requires placed { IsPlaced (units_of self.now.fop.sent) next.now }
         requires room { length out.old ≡ 1024 }
-        ensures count { result ≡ size_of (frame_pulled self.now.config (seen_at (units_of self.now.fop.sent) next.now)) }
-        ensures frame { out.new ≡ written_over out.old (frame_pulled self.now.config (seen_at (units_of self.now.fop.sent) next.now)) }
-        ensures spells { BeginsWith out.new (frame_pulled self.now.config (seen_at (units_of self.now.fop.sent) next.now)) }
+        ensures count { result ≡ size_of
+            (frame_pulled self.now.config (seen_at (units_of self.now.fop.sent) next.now)) }
+        ensures frame { out.new ≡ written_over out.old
+            (frame_pulled self.now.config (seen_at (units_of self.now.fop.sent) next.now)) }
+        ensures spells { BeginsWith out.new
+            (frame_pulled self.now.config (seen_at (units_of self.now.fop.sent) next.now)) }
     {
         match next {
             Next::Nothing => None,
@@ -56,9 +59,12 @@ impl Ground {
         requires fits { body_fits (body_view body) ≡ true }
         requires most { total_of On (frame_of self.now.config (body_view body)) ≤ 1024 }
         requires room { length out.old ≡ 1024 }
-        ensures count { Some result ≡ size_of (Some (frame_of self.now.config (body_view body.entry))) }
-        ensures frame { out.new ≡ written_over out.old (Some (frame_of self.now.config (body_view body.entry))) }
-        ensures spells { BeginsWith out.new (Some (frame_of self.now.config (body_view body.entry))) }
+        ensures count { Some result
+            ≡ size_of (Some (frame_of self.now.config (body_view body.entry))) }
+        ensures frame { out.new
+            ≡ written_over out.old (Some (frame_of self.now.config (body_view body.entry))) }
+        ensures spells { BeginsWith out.new
+            (Some (frame_of self.now.config (body_view body.entry))) }
     {
         let frame = TcFrame {
             scid: self.config.scid as u16,

@@ -7,25 +7,27 @@ use tm_link::{Gap, TmFrame, decode};
 
 impl Ground {
     ghost use Rattle.std.specs.Prelude.{◌≡◌, [], IsErr, IsOk, IfOk, IfErr, OnOk, OnErr, IsTrue, length};
-    ghost use Rattle.clcw.specs.Reading.{clcw_at};
     ghost use Rattle.tm_link.specs.Extraction.{extract_step};
     ghost use Rattle.tm_link.specs.Layout.{frame_view, pointer_fits};
     ghost use Rattle.tm_link.specs.Reading.{frame_at};
-    ghost use Rattle.tc_link.specs.Ground.{ground_step, Telemetry, is_own_telemetry, after_extraction, own_frame_arrived, FinishesNothing};
+    ghost use Rattle.tc_link.specs.Ground.{ground_step, Telemetry, is_own_telemetry, after_extraction, receive_frame_step, FinishesNothing};
 
     /// Takes octets that came from the spacecraft: exactly one telemetry frame (CCSDS 132.0-B-3, 4.1).
     /// The packets that it finishes wait to be taken, and the report that it carries goes to the sender
     /// where it tells of this virtual channel. The fault is 6 `Memory`; all growths are made first, so
     /// that the ground is as it was then.
     pub fn telemetry(&mut self, octets: &[u8]) -> Result<Heard, LinkFault>
-        ensures answer { IfOk result (λ heard. heard ≡ (ground_step self.old (Telemetry octets.now)).answer) }
-        ensures after { OnOk result (self.new ≡ (ground_step self.old (Telemetry octets.now)).after) }
+        ensures answer { IfOk result
+            (λ heard. heard ≡ (ground_step self.old (Telemetry octets.now)).answer) }
+        ensures after { OnOk result
+            (self.new ≡ (ground_step self.old (Telemetry octets.now)).after) }
         ensures err { OnErr result (self.new ≡ self.old) }
         ensures fault { IfErr result (λ e. e ≡ LinkFault.Memory) }
 
         // It takes no memory for octets that are no frame, nor for a frame of another spacecraft or
         // virtual channel, nor for one that finishes no packet.
-        ensures none { FinishesNothing self.old (frame_at self.old.config.frame_length octets.now) → IsOk result }
+        ensures none { FinishesNothing self.old (frame_at self.old.config.frame_length octets.now)
+            → IsOk result }
     {
         let frame = match decode(octets, self.config.frame_length as usize) {
             Ok(frame) => frame,
@@ -45,11 +47,14 @@ impl Ground {
 
     fn receive_frame(&mut self, frame: &TmFrame<'_>) -> Result<Heard, LinkFault>
         requires { IsTrue (pointer_fits frame.now.pointer (length frame.now.payload.now)) }
-        ensures answer { IfOk result (λ heard. heard ≡ (own_frame_arrived self.old (extract_step self.old.extractor (frame_view frame.now)) (clcw_at frame.now.ocf)).answer) }
-        ensures after { OnOk result (self.new ≡ (own_frame_arrived self.old (extract_step self.old.extractor (frame_view frame.now)) (clcw_at frame.now.ocf)).after) }
+        ensures answer { IfOk result
+            (λ heard. heard ≡ (receive_frame_step self.old (frame_view frame.now)).answer) }
+        ensures after { OnOk result
+            (self.new ≡ (receive_frame_step self.old (frame_view frame.now)).after) }
         ensures err { OnErr result (self.new ≡ self.old) }
         ensures fault { IfErr result (λ e. e ≡ LinkFault.Memory) }
-        ensures none { (extract_step self.old.extractor (frame_view frame.now)).packets ≡ [] → IsOk result }
+        ensures none { (extract_step self.old.extractor (frame_view frame.now)).packets ≡ []
+            → IsOk result }
     {
         let (gap, packets) = self.extract(frame)?;
         let (report, alert) = match frame.report() {
@@ -76,12 +81,16 @@ impl Ground {
     // many packets there are.
     fn extract(&mut self, frame: &TmFrame<'_>) -> Result<(Gap, usize), LinkFault>
         requires { IsTrue (pointer_fits frame.now.pointer (length frame.now.payload.now)) }
-        ensures gap { IfOk result (λ r. r.0 ≡ (extract_step self.old.extractor (frame_view frame.now)).gap) }
-        ensures count { IfOk result (λ r. r.1 ≡ length (extract_step self.old.extractor (frame_view frame.now)).packets) }
-        ensures after { OnOk result (self.new ≡ after_extraction self.old (extract_step self.old.extractor (frame_view frame.now))) }
+        ensures gap { IfOk result
+            (λ r. r.0 ≡ (extract_step self.old.extractor (frame_view frame.now)).gap) }
+        ensures count { IfOk result
+            (λ r. r.1 ≡ length (extract_step self.old.extractor (frame_view frame.now)).packets) }
+        ensures after { OnOk result (self.new
+            ≡ after_extraction self.old (extract_step self.old.extractor (frame_view frame.now))) }
         ensures err { OnErr result (self.new ≡ self.old) }
         ensures fault { IfErr result (λ e. e ≡ LinkFault.Memory) }
-        ensures none { (extract_step self.old.extractor (frame_view frame.now)).packets ≡ [] → IsOk result }
+        ensures none { (extract_step self.old.extractor (frame_view frame.now)).packets ≡ []
+            → IsOk result }
     {
         let before = self.finished.len();
         let Ok(gap) = self.extractor.frame(frame, &mut self.finished) else {

@@ -24,8 +24,10 @@ impl Ground {
         requires empty { to.old.items ≡ [] }
         requires room { 1024 ≤ vec_capacity to.old }
         ensures some { result ≡ is_some (ground_step self.old Pull).answer }
-        ensures frame { IfSome (ground_step self.old Pull).answer (λ f. to.new.items ≡ spelling On f) }
-        ensures spells { IfSome (ground_step self.old Pull).answer (λ f. IsTcFrame On f to.new.items) }
+        ensures frame { IfSome (ground_step self.old Pull).answer
+            (λ f. to.new.items ≡ spelling On f) }
+        ensures spells { IfSome (ground_step self.old Pull).answer
+            (λ f. IsTcFrame On f to.new.items) }
         ensures most { length to.new.items ≤ 1024 }
         ensures after { self.new ≡ (ground_step self.old Pull).after }
     {

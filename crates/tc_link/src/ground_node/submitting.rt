@@ -18,10 +18,14 @@ impl Ground {
     /// `ClosedMap`, 3 `NotCommand`, 4 `TooLong`, 5 `QueueFull` (more segments than the queue slots would
     /// wait to be sent), 6 `Memory`; and then the ground is as it was.
     pub fn submit(&mut self, map: u8, octets: &[u8]) -> Result<(), LinkFault>
-        ensures after { OnOk result (self.new ≡ (ground_step self.old (Submit map octets.now)).after) }
-        ensures taken { OnOk result ((ground_step self.old (Submit map octets.now)).answer ≡ Ok tt) }
-        ensures refused { IfSome (submit_fault self.old map octets.now) (λ fault. result ≡ Err fault) }
-        ensures memory { submit_fault self.old map octets.now ≡ None → IsOkUnless result LinkFault.Memory }
+        ensures after { OnOk result
+            (self.new ≡ (ground_step self.old (Submit map octets.now)).after) }
+        ensures taken { OnOk result
+            ((ground_step self.old (Submit map octets.now)).answer ≡ Ok tt) }
+        ensures refused { IfSome (submit_fault self.old map octets.now)
+            (λ fault. result ≡ Err fault) }
+        ensures memory { submit_fault self.old map octets.now ≡ None
+            → IsOkUnless result LinkFault.Memory }
         ensures err { OnErr result (self.new ≡ self.old) }
     {
         if let Some(fault) = self.submit_fault(map, octets) {
@@ -77,10 +81,14 @@ impl Ground {
     /// first that applies: 2 `ClosedMap`, 3 `NotCommand`, 4 `TooLong` (longer than a packet or than a
     /// segment may be), 5 `QueueFull`, 6 `Memory`; and then the ground is as it was.
     pub fn bypass(&mut self, map: u8, octets: &[u8]) -> Result<(), LinkFault>
-        ensures after { OnOk result (self.new ≡ (ground_step self.old (Bypass map octets.now)).after) }
-        ensures taken { OnOk result ((ground_step self.old (Bypass map octets.now)).answer ≡ Ok tt) }
-        ensures refused { IfSome (bypass_fault self.old map octets.now) (λ fault. result ≡ Err fault) }
-        ensures memory { bypass_fault self.old map octets.now ≡ None → IsOkUnless result LinkFault.Memory }
+        ensures after { OnOk result
+            (self.new ≡ (ground_step self.old (Bypass map octets.now)).after) }
+        ensures taken { OnOk result
+            ((ground_step self.old (Bypass map octets.now)).answer ≡ Ok tt) }
+        ensures refused { IfSome (bypass_fault self.old map octets.now)
+            (λ fault. result ≡ Err fault) }
+        ensures memory { bypass_fault self.old map octets.now ≡ None
+            → IsOkUnless result LinkFault.Memory }
         ensures err { OnErr result (self.new ≡ self.old) }
     {
         if let Some(fault) = self.bypass_fault(map, octets) {

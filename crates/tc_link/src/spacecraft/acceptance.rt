@@ -20,7 +20,8 @@ impl Spacecraft {
 
     // What will be accepted when these octets arrive, where a segment will be.
     pub(crate) fn acceptance_of(&self, octets: &[u8]) -> Result<Option<Acceptance>, LinkFault>
-        ensures accepted { IfOk result (λ some. option_map acceptance_view some ≡ option_map (acceptance_with self.now) (segment_to_accept self.now octets.now)) }
+        ensures accepted { IfOk result (λ some. option_map acceptance_view some
+            ≡ option_map (acceptance_with self.now) (segment_to_accept self.now octets.now)) }
         ensures map { IfOk result (λ some. IfSome some (λ f. f.map < 64)) }
         ensures fault { IsOkUnless result LinkFault.Memory }
     {

@@ -23,8 +23,10 @@ impl Spacecraft {
     /// 232.0-B-4, 4.1). The fault is 6 `Memory`; all growths are made first, so that the spacecraft is
     /// as it was then.
     pub fn receive(&mut self, octets: &[u8]) -> Result<Received, LinkFault>
-        ensures answer { IfOk result (λ r. r ≡ (spacecraft_step self.old (Receive octets.now)).answer) }
-        ensures after { OnOk result (self.new ≡ (spacecraft_step self.old (Receive octets.now)).after) }
+        ensures answer { IfOk result
+            (λ r. r ≡ (spacecraft_step self.old (Receive octets.now)).answer) }
+        ensures after { OnOk result
+            (self.new ≡ (spacecraft_step self.old (Receive octets.now)).after) }
         ensures err { OnErr result (self.new ≡ self.old) }
         ensures fault { IfErr result (λ e. e ≡ LinkFault.Memory) }
 
@@ -71,8 +73,10 @@ impl Spacecraft {
     }
 
     fn receive_sequence(&mut self, n: u8, segment: &Segment<'_>) -> Result<Received, LinkFault>
-        ensures answer { IfOk result (λ r. r ≡ (receive_sequence_step self.old n (segment_view segment.now)).answer) }
-        ensures after { OnOk result (self.new ≡ (receive_sequence_step self.old n (segment_view segment.now)).after) }
+        ensures answer { IfOk result
+            (λ r. r ≡ (receive_sequence_step self.old n (segment_view segment.now)).answer) }
+        ensures after { OnOk result
+            (self.new ≡ (receive_sequence_step self.old n (segment_view segment.now)).after) }
         ensures err { OnErr result (self.new ≡ self.old) }
         ensures fault { IfErr result (λ e. e ≡ LinkFault.Memory) }
     {
@@ -99,8 +103,10 @@ impl Spacecraft {
     // Hands on the segment of a frame that is accepted: says how many packets are ready with it, and
     // why octets were dropped. Each packet has more than 6 octets.
     fn assemble(&mut self, segment: &Segment<'_>) -> Result<(usize, Option<Dropped>), LinkFault>
-        ensures ready { IfOk result (λ r. r.0 ≡ length (assemble_step self.old (segment_view segment.now)).packets) }
-        ensures dropped { IfOk result (λ r. r.1 ≡ (assemble_step self.old (segment_view segment.now)).dropped) }
+        ensures ready { IfOk result
+            (λ r. r.0 ≡ length (assemble_step self.old (segment_view segment.now)).packets) }
+        ensures dropped { IfOk result
+            (λ r. r.1 ≡ (assemble_step self.old (segment_view segment.now)).dropped) }
         ensures after { OnOk result (self.new ≡ after_segment self.old (segment_view segment.now)) }
         ensures err { OnErr result (self.new ≡ self.old) }
         ensures fault { IfErr result (λ e. e ≡ LinkFault.Memory) }
@@ -119,8 +125,10 @@ impl Spacecraft {
     }
 
     fn receive_bypass(&mut self, segment: &Segment<'_>) -> Result<Received, LinkFault>
-        ensures answer { IfOk result (λ r. r ≡ (receive_bypass_step self.old (segment_view segment.now)).answer) }
-        ensures after { OnOk result (self.new ≡ (receive_bypass_step self.old (segment_view segment.now)).after) }
+        ensures answer { IfOk result
+            (λ r. r ≡ (receive_bypass_step self.old (segment_view segment.now)).answer) }
+        ensures after { OnOk result
+            (self.new ≡ (receive_bypass_step self.old (segment_view segment.now)).after) }
         ensures err { OnErr result (self.new ≡ self.old) }
         ensures fault { IfErr result (λ e. e ≡ LinkFault.Memory) }
     {

@@ -35,9 +35,11 @@ pub(super) fn record_accepted(
     acceptance: Option<Acceptance>,
 )
     requires { HasRoomFor accepted.old delivered.old acceptance }
-    ensures accepted { octets_of accepted.new.items ≡ octets_of accepted.old.items ++ option_to_list (option_map (λ f. f.field.items) acceptance) }
+    ensures accepted { octets_of accepted.new.items ≡ octets_of accepted.old.items
+        ++ option_to_list (option_map (λ f. f.field.items) acceptance) }
     ensures more { length accepted.old.items ≤ length accepted.new.items }
-    ensures delivered { (m : ℕ) → packets_at delivered.new m ≡ packets_at delivered.old m ++ packets_accepted_on m (option_map acceptance_view acceptance) }
+    ensures delivered { (m : ℕ) → packets_at delivered.new m ≡ packets_at delivered.old m
+        ++ packets_accepted_on m (option_map acceptance_view acceptance) }
 {
     if let Some(acceptance) = acceptance {
         accepted.push_reserved(acceptance.field);

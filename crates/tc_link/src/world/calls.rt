@@ -15,10 +15,11 @@ use tm_link::TmFault;
 
 impl World {
     ghost use Rattle.std.specs.Prelude.{◌≡◌, [], Ok, Some, IfOk, OnOk, OnErr, IsOkUnless};
-    ghost use Rattle.tc_link.specs.World.{world_step, is_quiet, begins_clean, session_begun_by};
+    ghost use Rattle.tc_link.specs.Simulation.{IsReplyTo};
+    ghost use Rattle.tc_link.specs.World.{world_step, is_quiet, begins_clean, session_begun};
 
     pub(crate) fn directive(&mut self, directive: Directive) -> Reply
-        ensures reply { (world_step self.old (Event.Directive directive)).answer ≡ Ok (reply_view result) }
+        ensures reply { IsReplyTo self.old (Event.Directive directive) result }
         ensures after { self.new ≡ (world_step self.old (Event.Directive directive)).after }
     {
         let clean = self.begins_clean(directive);
@@ -34,29 +35,30 @@ impl World {
     }
 
     pub(crate) fn tick(&mut self) -> Reply
-        ensures reply { (world_step self.old Event.Tick).answer ≡ Ok (reply_view result) }
+        ensures reply { IsReplyTo self.old Event.Tick result }
         ensures after { self.new ≡ (world_step self.old Event.Tick).after }
     {
         reply_to_alert(self.ground_node.tick())
     }
 
     pub(crate) fn take(&mut self) -> Reply
-        ensures reply { (world_step self.old Event.Take).answer ≡ Ok (reply_view result) }
+        ensures reply { IsReplyTo self.old Event.Take result }
         ensures after { self.new ≡ (world_step self.old Event.Take).after }
     {
         reply_to_taking(self.spacecraft.take())
     }
 
     pub(crate) fn take_bypass(&mut self) -> Reply
-        ensures reply { (world_step self.old Event.TakeBypass).answer ≡ Ok (reply_view result) }
+        ensures reply { IsReplyTo self.old Event.TakeBypass result }
         ensures after { self.new ≡ (world_step self.old Event.TakeBypass).after }
     {
         reply_to_taking(self.spacecraft.take_bypass())
     }
 
     pub(crate) fn telemetry(&mut self, packet: &[u8]) -> Result<Reply, SimFault>
-        ensures reply { IfOk result (λ reply. (world_step self.old (Event.Telemetry packet.entry)).answer ≡ Ok (reply_view reply)) }
-        ensures after { OnOk result (self.new ≡ (world_step self.old (Event.Telemetry packet.entry)).after) }
+        ensures reply { IfOk result (IsReplyTo self.old (Event.Telemetry packet.entry)) }
+        ensures after { OnOk result
+            (self.new ≡ (world_step self.old (Event.Telemetry packet.entry)).after) }
         ensures err { OnErr result (self.new ≡ self.old) }
         ensures fault { IsOkUnless result SimFault.Memory }
     {
@@ -89,7 +91,9 @@ impl World {
 
     fn begin(&mut self, directive: Directive, clean: bool)
         requires { self.old.ground_node.fop.sent ≡ [] }
-        ensures { self.new ≡ record self.old { session = record (session_begun_by self.old directive) { opening = Some (record { directive = directive; clean = clean }) } } }
+        ensures { self.new ≡ record self.old {
+          session = session_begun self.old (record { directive = directive; clean = clean });
+        } }
     {
         self.session.opening = Some(Opening { directive, clean });
         self.session.confirmed = false;

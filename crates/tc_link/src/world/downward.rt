@@ -11,11 +11,11 @@ use cop1::FopMode;
 
 impl World {
     ghost use Rattle.std.specs.Prelude.{◌≡◌, Ok, Err, IfOk, IfErr, OnOk, OnErr, IsOkUnless};
-    ghost use Rattle.tc_link.specs.Replies.{reply_view};
+    ghost use Rattle.tc_link.specs.Simulation.{IsReplyTo};
     ghost use Rattle.tc_link.specs.World.{world_step};
 
     pub(crate) fn report(&mut self) -> Result<Reply, SimFault>
-        ensures reply { IfOk result (λ reply. (world_step self.old Event.Report).answer ≡ Ok (reply_view reply)) }
+        ensures reply { IfOk result (IsReplyTo self.old Event.Report) }
         ensures after { OnOk result (self.new ≡ (world_step self.old Event.Report).after) }
         ensures err { OnErr result (self.new ≡ self.old) }
         ensures memory { IsOkUnless result SimFault.Memory }
@@ -34,11 +34,13 @@ impl World {
     }
 
     pub(crate) fn down_deliver(&mut self) -> Result<Reply, SimFault>
-        ensures reply { IfOk result (λ reply. (world_step self.old Event.DownDeliver).answer ≡ Ok (reply_view reply)) }
+        ensures reply { IfOk result (IsReplyTo self.old Event.DownDeliver) }
         ensures after { OnOk result (self.new ≡ (world_step self.old Event.DownDeliver).after) }
         ensures err { OnErr result (self.new ≡ self.old) }
-        ensures refused { IfErr (world_step self.old Event.DownDeliver).answer (λ e. result ≡ Err e) }
-        ensures memory { IfOk (world_step self.old Event.DownDeliver).answer (λ _. IsOkUnless result SimFault.Memory) }
+        ensures refused { IfErr (world_step self.old Event.DownDeliver).answer
+            (λ e. result ≡ Err e) }
+        ensures memory { IfOk (world_step self.old Event.DownDeliver).answer
+            (λ _. IsOkUnless result SimFault.Memory) }
     {
         let Some(octets) = self.down.front() else {
             return Err(SimFault::NothingInTransit);

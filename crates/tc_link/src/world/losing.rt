@@ -10,11 +10,11 @@ use tc_frame::Check;
 
 impl World {
     ghost use Rattle.std.specs.Prelude.{◌≡◌, Ok, Err, IfOk, IfErr, OnOk, OnErr};
-    ghost use Rattle.tc_link.specs.Replies.{reply_view};
+    ghost use Rattle.tc_link.specs.Simulation.{IsReplyTo};
     ghost use Rattle.tc_link.specs.World.{world_step};
 
     pub(crate) fn up_lose(&mut self) -> Result<Reply, SimFault>
-        ensures reply { IfOk result (λ reply. (world_step self.old Event.UpLose).answer ≡ Ok (reply_view reply)) }
+        ensures reply { IfOk result (IsReplyTo self.old Event.UpLose) }
         ensures fault { IfErr result (λ e. (world_step self.old Event.UpLose).answer ≡ Err e) }
         ensures after { self.new ≡ (world_step self.old Event.UpLose).after }
     {
@@ -25,7 +25,7 @@ impl World {
     }
 
     pub(crate) fn down_lose(&mut self) -> Result<Reply, SimFault>
-        ensures reply { IfOk result (λ reply. (world_step self.old Event.DownLose).answer ≡ Ok (reply_view reply)) }
+        ensures reply { IfOk result (IsReplyTo self.old Event.DownLose) }
         ensures fault { IfErr result (λ e. (world_step self.old Event.DownLose).answer ≡ Err e) }
         ensures after { self.new ≡ (world_step self.old Event.DownLose).after }
     {
@@ -36,8 +36,9 @@ impl World {
     }
 
     pub(crate) fn up_damage(&mut self, octets: &[u8]) -> Result<Reply, SimFault>
-        ensures reply { IfOk result (λ reply. (world_step self.old (Event.UpDamage octets.entry)).answer ≡ Ok (reply_view reply)) }
-        ensures fault { IfErr result (λ e. (world_step self.old (Event.UpDamage octets.entry)).answer ≡ Err e) }
+        ensures reply { IfOk result (IsReplyTo self.old (Event.UpDamage octets.entry)) }
+        ensures fault { IfErr result
+            (λ e. (world_step self.old (Event.UpDamage octets.entry)).answer ≡ Err e) }
         ensures after { self.new ≡ (world_step self.old (Event.UpDamage octets.entry)).after }
     {
         if self.up.is_empty() {
@@ -51,8 +52,9 @@ impl World {
     }
 
     pub(crate) fn down_damage(&mut self, octets: &[u8]) -> Result<Reply, SimFault>
-        ensures reply { IfOk result (λ reply. (world_step self.old (Event.DownDamage octets.entry)).answer ≡ Ok (reply_view reply)) }
-        ensures fault { IfErr result (λ e. (world_step self.old (Event.DownDamage octets.entry)).answer ≡ Err e) }
+        ensures reply { IfOk result (IsReplyTo self.old (Event.DownDamage octets.entry)) }
+        ensures fault { IfErr result
+            (λ e. (world_step self.old (Event.DownDamage octets.entry)).answer ≡ Err e) }
         ensures after { self.new ≡ (world_step self.old (Event.DownDamage octets.entry)).after }
     {
         if self.down.is_empty() {

@@ -7,16 +7,16 @@ use crate::sim::SimFault;
 
 impl World {
     ghost use Rattle.std.specs.Prelude.{◌≡◌, ◌≢◌, Ok, Err, IfOk, IfErr, OnOk, OnErr, IsOkUnless};
-    ghost use Rattle.tc_link.specs.Replies.{reply_view};
-    ghost use Rattle.tc_link.specs.Simulation.{TakesNone};
+    ghost use Rattle.tc_link.specs.Simulation.{IsReplyTo, TakesNone};
     ghost use Rattle.tc_link.specs.World.{world_step};
 
     pub(crate) fn step(&mut self, event: Event<'_>) -> Result<Reply, SimFault>
-        ensures reply { IfOk result (λ reply. (world_step self.old event.entry).answer ≡ Ok (reply_view reply)) }
+        ensures reply { IfOk result (IsReplyTo self.old event.entry) }
         ensures after { OnOk result (self.new ≡ (world_step self.old event.entry).after) }
         ensures err { OnErr result (self.new ≡ self.old) }
         ensures refused { IfErr (world_step self.old event.entry).answer (λ e. result ≡ Err e) }
-        ensures memory { IfOk (world_step self.old event.entry).answer (λ _. IsOkUnless result SimFault.Memory) }
+        ensures memory { IfOk (world_step self.old event.entry).answer
+            (λ _. IsOkUnless result SimFault.Memory) }
         ensures none { TakesNone event.entry → result ≢ Err SimFault.Memory }
     {
         match event {

@@ -18,12 +18,13 @@ use std::alloc::Global;
 
 impl World {
     ghost use Rattle.std.specs.Prelude.{Ok, Err, IfErr, OnOk, OnErr};
-    ghost use Rattle.tc_link.specs.Replies.{reply_view};
+    ghost use Rattle.tc_link.specs.Simulation.{IsReplyTo};
     ghost use Rattle.tc_link.specs.World.{world_step};
 
     pub(crate) fn submit(&mut self, map: u8, octets: &[u8]) -> Result<Reply, SimFault>
-        ensures reply { IfOk result (λ reply. (world_step self.old (Event.Submit map octets.entry)).answer ≡ Ok (reply_view reply)) }
-        ensures after { OnOk result (self.new ≡ (world_step self.old (Event.Submit map octets.entry)).after) }
+        ensures reply { IfOk result (IsReplyTo self.old (Event.Submit map octets.entry)) }
+        ensures after { OnOk result
+            (self.new ≡ (world_step self.old (Event.Submit map octets.entry)).after) }
         ensures err { OnErr result (self.new ≡ self.old) }
         ensures memory { IsOkUnless result SimFault.Memory }
     {
@@ -48,8 +49,9 @@ impl World {
     }
 
     pub(crate) fn bypass(&mut self, map: u8, octets: &[u8]) -> Result<Reply, SimFault>
-        ensures reply { IfOk result (λ reply. (world_step self.old (Event.Bypass map octets.entry)).answer ≡ Ok (reply_view reply)) }
-        ensures after { OnOk result (self.new ≡ (world_step self.old (Event.Bypass map octets.entry)).after) }
+        ensures reply { IfOk result (IsReplyTo self.old (Event.Bypass map octets.entry)) }
+        ensures after { OnOk result
+            (self.new ≡ (world_step self.old (Event.Bypass map octets.entry)).after) }
         ensures err { OnErr result (self.new ≡ self.old) }
         ensures memory { IsOkUnless result SimFault.Memory }
     {
@@ -61,7 +63,7 @@ impl World {
     }
 
     pub(crate) fn send(&mut self) -> Result<Reply, SimFault>
-        ensures reply { IfOk result (λ reply. (world_step self.old Event.Send).answer ≡ Ok (reply_view reply)) }
+        ensures reply { IfOk result (IsReplyTo self.old Event.Send) }
         ensures after { OnOk result (self.new ≡ (world_step self.old Event.Send).after) }
         ensures err { OnErr result (self.new ≡ self.old) }
         ensures memory { IsOkUnless result SimFault.Memory }
@@ -85,11 +87,12 @@ impl World {
     }
 
     pub(crate) fn up_deliver(&mut self) -> Result<Reply, SimFault>
-        ensures reply { IfOk result (λ reply. (world_step self.old Event.UpDeliver).answer ≡ Ok (reply_view reply)) }
+        ensures reply { IfOk result (IsReplyTo self.old Event.UpDeliver) }
         ensures after { OnOk result (self.new ≡ (world_step self.old Event.UpDeliver).after) }
         ensures err { OnErr result (self.new ≡ self.old) }
         ensures refused { IfErr (world_step self.old Event.UpDeliver).answer (λ e. result ≡ Err e) }
-        ensures memory { IfOk (world_step self.old Event.UpDeliver).answer (λ _. IsOkUnless result SimFault.Memory) }
+        ensures memory { IfOk (world_step self.old Event.UpDeliver).answer
+            (λ _. IsOkUnless result SimFault.Memory) }
     {
         let Some(octets) = self.up.front() else {
             return Err(SimFault::NothingInTransit);
@@ -112,7 +115,8 @@ impl World {
 // Puts a field, where there is one, behind those that there are.
 fn push_some(fields: &mut Vec<Vec<u8>>, field: Option<Vec<u8>>)
     requires { vec_len fields.old < vec_capacity fields.old }
-    ensures items { octets_of fields.new.items ≡ octets_of fields.old.items ++ option_to_list (option_map (λ v. v.items) field) }
+    ensures items { octets_of fields.new.items
+        ≡ octets_of fields.old.items ++ option_to_list (option_map (λ v. v.items) field) }
 {
     if let Some(field) = field {
         fields.push_reserved(field);
