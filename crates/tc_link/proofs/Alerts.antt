@@ -33,9 +33,9 @@ use Rattle.tc_link.specs.declared.fault.LinkFault.{LinkFault}
 use Rattle.tc_link.specs.declared.heard.Heard.{Heard}
 use Rattle.tc_link.specs.Packets.{PacketOn}
 use Rattle.tc_link.specs.Spacecraft.{spacecraft_take, spacecraft_take_bypass, spacecraft_telemetry}
-use Rattle.tc_link.specs.Ground.{GroundState, GroundOutcome, is_closed, unsent_segments, with_fop, frame_pulled, submit_fault, after_submission, bypass_fault, after_bypass, unless_refused}
+use Rattle.tc_link.specs.Ground.{GroundState, GroundOutcome, is_closed, unsent_segments, with_fop, frame_to_send, submit_fault, after_submission, bypass_fault, after_bypass, unless_refused}
 use Rattle.tc_link.specs.Replies.{reply_to_submission, reply_to_directive, reply_to_alert, reply_to_taking, reply_to_telemetry, Down}
-use Rattle.tc_link.specs.World.{World, world_step, world_after_pull, up_delivered, up_lost, up_detected, up_damaged, down_delivered, down_lost, down_detected, down_damaged}
+use Rattle.tc_link.specs.World.{World, world_step, world_after_pull, up_deliver_step, up_lose_step, up_damage_outcome, up_damage_step, down_deliver_step, down_lose_step, down_damage_outcome, down_damage_step}
 use Rattle.tc_link.specs.Confirmation.{IsChecked}
 use Rattle.tc_link.specs.FalseAlarms.{alert_in, replied_alert, IsUnderCheck, AsksAgain, FirstAsks, HasCause}
 use Rattle.tc_link.proofs.Early.{Begun, IsEarly, AllSame}
@@ -71,27 +71,27 @@ module _ (w : World) where
   pull_silent ground_node None = refl
   pull_silent ground_node (Some frame) = refl
 
-  up_silent : (bs : List (List ℕ)) → Silent (alert_in (up_delivered w bs).answer) × Silent (alert_in (up_lost w bs).answer)
+  up_silent : (bs : List (List ℕ)) → Silent (alert_in (up_deliver_step w bs).answer) × Silent (alert_in (up_lose_step w bs).answer)
   up_silent [] = (refl, refl)
   up_silent (b ∷ bs) = (refl, refl)
 
-  detected_silent : (bs : List (List ℕ)) (r : Result FrameView TcFault) → Silent (alert_in (up_detected w bs r).answer)
+  detected_silent : (bs : List (List ℕ)) (r : Result FrameView TcFault) → Silent (alert_in (up_damage_outcome w bs r).answer)
   detected_silent bs (Ok frame) = refl
   detected_silent bs (Err fault) = refl
 
-  damaged_silent : (bs : List (List ℕ)) (octets : List ℕ) → Silent (alert_in (up_damaged w bs octets).answer)
+  damaged_silent : (bs : List (List ℕ)) (octets : List ℕ) → Silent (alert_in (up_damage_step w bs octets).answer)
   damaged_silent [] octets = refl
   damaged_silent (b ∷ bs) octets = detected_silent bs (frame_at On octets)
 
-  down_lost_silent : (bs : List (List ℕ)) → Silent (alert_in (down_lost w bs).answer)
+  down_lost_silent : (bs : List (List ℕ)) → Silent (alert_in (down_lose_step w bs).answer)
   down_lost_silent [] = refl
   down_lost_silent (b ∷ bs) = refl
 
-  down_detected_silent : (bs : List (List ℕ)) (r : Result telemetry.FrameView TmFault) → Silent (alert_in (down_detected w bs r).answer)
+  down_detected_silent : (bs : List (List ℕ)) (r : Result telemetry.FrameView TmFault) → Silent (alert_in (down_damage_outcome w bs r).answer)
   down_detected_silent bs (Ok frame) = refl
   down_detected_silent bs (Err fault) = refl
 
-  down_damaged_silent : (bs : List (List ℕ)) (octets : List ℕ) → Silent (alert_in (down_damaged w bs octets).answer)
+  down_damaged_silent : (bs : List (List ℕ)) (octets : List ℕ) → Silent (alert_in (down_damage_step w bs octets).answer)
   down_damaged_silent [] octets = refl
   down_damaged_silent (b ∷ bs) octets = down_detected_silent bs (telemetry_reading.frame_at w.ground_node.config.frame_length octets)
 
@@ -169,7 +169,7 @@ module _ (c : Config) (d : Directive) (base : ℕ) (w : World) (k : Steady c w) 
   first_asks b bs r is tells asking = rw (is, k.ground_config) (subst AsksAgain (sym (report_told c b r tells)) asking)
 
   -- what is answered to telemetry is what the sender answers to its report
-  heard_alert_is : (b : List ℕ) (bs : List (List ℕ)) (r : Clcw) → Tells c b r → alert_in (down_delivered w (b ∷ bs)).answer ≡ (heard_by w.ground_node.fop r).answer
+  heard_alert_is : (b : List ℕ) (bs : List (List ℕ)) (r : Clcw) → Tells c b r → alert_in (down_deliver_step w (b ∷ bs)).answer ≡ (heard_by w.ground_node.fop r).answer
   heard_alert_is b bs r tells = ap (λ (o : GroundOutcome Heard). replied_alert (Down o.answer)) (used_is c w.ground_node b r k.ground_config tells)
 
   module _ (g : Late c d base w) where
@@ -189,7 +189,7 @@ module _ (c : Config) (d : Directive) (base : ℕ) (w : World) (k : Steady c w) 
     late_cause r v comes first S6 m alert is = absurd cc
 
     late_heard : (bs : List (List ℕ)) (rs : List Clcw) (vs : List ℕ) → w.down ≡ bs → g.reports ≡ rs → g.plain.down ≡ vs → Reporting c bs rs → DownIs base rs vs → Rises g.plain.a vs g.plain.r → (IsChecked d → Ranks (2 * g.plain.a + asked w.ground_node.fop.state) rs vs (2 * g.plain.r + bit w.spacecraft.farm.retransmit))
-        → (alert : Alert) → alert_in (down_delivered w bs).answer ≡ Some alert → HasCause w events.DownDeliver alert
+        → (alert : Alert) → alert_in (down_deliver_step w bs).answer ≡ Some alert → HasCause w events.DownDeliver alert
     late_heard [] rs vs is same also rest down_is up ranks alert e = absurd cc
     late_heard (b ∷ bs) [] vs is same also rest down_is up ranks alert e = elim rest [ ]
     late_heard (b ∷ bs) (r ∷ rs) [] is same also rest down_is up ranks alert e = elim down_is [ ]
@@ -218,12 +218,12 @@ module _ (c : Config) (d : Directive) (base : ℕ) (w : World) (k : Steady c w) 
     early_in r rs same S5 m alert is = none_some (report_in_mode w.ground_node.fop r S5).answer alert (cond_both (confirms_by w.ground_node.fop r) (goes_on (record w.ground_node.fop { state = S1; ticks = None; control = Idle })) (goes_on w.ground_node.fop) (λ o. Silent o.answer) (λ t. refl) (λ t. refl)) is
     early_in r rs same S6 m alert is = absurd cc
 
-    early_heard : (bs : List (List ℕ)) (rs : List Clcw) → Reporting c bs rs → (d ≡ InitWithCheck → AllSame rs w.spacecraft.farm.lockout w.spacecraft.farm.retransmit w.spacecraft.farm.vr) → (alert : Alert) → alert_in (down_delivered w bs).answer ≡ Some alert → HasCause w events.DownDeliver alert
+    early_heard : (bs : List (List ℕ)) (rs : List Clcw) → Reporting c bs rs → (d ≡ InitWithCheck → AllSame rs w.spacecraft.farm.lockout w.spacecraft.farm.retransmit w.spacecraft.farm.vr) → (alert : Alert) → alert_in (down_deliver_step w bs).answer ≡ Some alert → HasCause w events.DownDeliver alert
     early_heard [] rs rest same alert e = absurd cc
     early_heard (b ∷ bs) [] rest same alert e = elim rest [ ]
     early_heard (b ∷ bs) (r ∷ rs) rest same alert e = early_in r rs same w.ground_node.fop.state refl alert (sym (heard_alert_is b bs r rest.0) ∙ e)
 
-  cause_heard : Begun c d base w ⊎ Late c d base w → (alert : Alert) → alert_in (down_delivered w w.down).answer ≡ Some alert → HasCause w events.DownDeliver alert
+  cause_heard : Begun c d base w ⊎ Late c d base w → (alert : Alert) → alert_in (down_deliver_step w w.down).answer ≡ Some alert → HasCause w events.DownDeliver alert
   cause_heard s alert e = elim s [
     | inl g ↦ early_heard g w.down g.reports g.early.reporting g.early.same alert e
     | inr g ↦ late_heard g w.down g.reports g.plain.down refl refl refl g.linked.reporting g.linked.down_is g.linked.rises (λ t. (g.calm t).ranks) alert e
@@ -233,7 +233,7 @@ module _ (c : Config) (d : Directive) (base : ℕ) (w : World) (k : Steady c w) 
   cause s (events.Submit m octets) alert is = none_some _ alert (submission_silent (unless_refused (submit_fault w.ground_node m octets.now) w.ground_node (after_submission w.ground_node m octets.now)).answer) is
   cause s (events.Bypass m octets) alert is = none_some _ alert (submission_silent (unless_refused (bypass_fault w.ground_node m octets.now) w.ground_node (after_bypass w.ground_node m octets.now)).answer) is
   cause s (events.Directive e) alert is = directive_cause w.ground_node.fop w e alert is
-  cause s events.Send alert is = none_some _ alert (pull_silent w (with_fop w.ground_node (pulled_fop w.ground_node.fop).after) (frame_pulled w.ground_node.config (pulled_fop w.ground_node.fop).answer)) is
+  cause s events.Send alert is = none_some _ alert (pull_silent w (with_fop w.ground_node (pulled_fop w.ground_node.fop).after) (frame_to_send w.ground_node.config (pulled_fop w.ground_node.fop).answer)) is
   cause s events.UpDeliver alert is = none_some _ alert (up_silent w w.up).0 is
   cause s events.UpLose alert is = none_some _ alert (up_silent w w.up).1 is
   cause s (events.UpDamage octets) alert is = none_some _ alert (damaged_silent w w.up octets.now) is

@@ -21,7 +21,7 @@ use Rattle.tc_link.specs.Parameters.{limits_of}
 use Rattle.tc_link.specs.BypassSegments.{is_kept}
 use Rattle.tc_link.specs.Spacecraft.{SpacecraftState, frame_arrived, body_arrived, sequence_arrived, bypass_arrived, after_segment, is_free}
 use Rattle.tc_link.specs.Ground.{frame_of}
-use Rattle.tc_link.specs.World.{World, up_delivered, up_lost, up_detected, up_damaged}
+use Rattle.tc_link.specs.World.{World, up_deliver_step, up_lose_step, up_damage_outcome, up_damage_step}
 use Rattle.tc_link.specs.PlainLink.{more, takes, leaves}
 use Rattle.tc_link.specs.Confirmation.{IsChecked}
 use Rattle.tc_link.proofs.Lists.{take_next}
@@ -200,31 +200,31 @@ module _ (c : Config) (d : Directive) (base : ℕ) (w : World) (k : Steady c w) 
 -- ---- the events
 
 module _ (c : Config) (d : Directive) (base : ℕ) (w : World) (k : Steady c w) (g : Late c d base w) where
-  deliver_keeps : (bs : List (List ℕ)) (fs : List BodyView) → g.frames ≡ fs → Carries c bs fs → UpIs d base g.front fs g.plain.up → Late c d base (up_delivered w bs).after
+  deliver_keeps : (bs : List (List ℕ)) (fs : List BodyView) → g.frames ≡ fs → Carries c bs fs → UpIs d base g.front fs g.plain.up → Late c d base (up_deliver_step w bs).after
   deliver_keeps [] fs is carries up = g
   deliver_keeps (b ∷ bs) [] is carries up = elim carries [ ]
   deliver_keeps (b ∷ bs) (f ∷ fs) is carries up =
       subst (λ o. Late c d base (record w { up = bs; spacecraft = o.after })) (sym (own_arrives w.spacecraft c f (frame_at On b) k.spacecraft_config carries.0))
       (body_keeps c d base w k g bs fs carries.1 f g.plain.up refl up g.linked.fits)
 
-  lose_keeps : (bs : List (List ℕ)) (fs : List BodyView) → Carries c bs fs → UpIs d base g.front fs g.plain.up → Late c d base (up_lost w bs).after
+  lose_keeps : (bs : List (List ℕ)) (fs : List BodyView) → Carries c bs fs → UpIs d base g.front fs g.plain.up → Late c d base (up_lose_step w bs).after
   lose_keeps [] fs carries up = g
   lose_keeps (b ∷ bs) [] carries up = elim carries [ ]
   lose_keeps (b ∷ bs) (f ∷ fs) carries up = lost_keeps c d base w k g bs fs carries.1 f g.plain.up refl up g.linked.fits
 
-  detect_keeps : (b : List ℕ) (bs : List (List ℕ)) (r : Result FrameView TcFault) → Late c d base (up_lost w (b ∷ bs)).after → Late c d base (up_detected w bs r).after
+  detect_keeps : (b : List ℕ) (bs : List (List ℕ)) (r : Result FrameView TcFault) → Late c d base (up_lose_step w (b ∷ bs)).after → Late c d base (up_damage_outcome w bs r).after
   detect_keeps b bs (Ok frame) lost = g
   detect_keeps b bs (Err fault) lost = lost
 
-  damage_keeps : (bs : List (List ℕ)) (fs : List BodyView) (damaged : List ℕ) → Carries c bs fs → UpIs d base g.front fs g.plain.up → Late c d base (up_damaged w bs damaged).after
+  damage_keeps : (bs : List (List ℕ)) (fs : List BodyView) (damaged : List ℕ) → Carries c bs fs → UpIs d base g.front fs g.plain.up → Late c d base (up_damage_step w bs damaged).after
   damage_keeps [] fs damaged carries up = g
   damage_keeps (b ∷ bs) fs damaged carries up = detect_keeps b bs (frame_at On damaged) (lose_keeps (b ∷ bs) fs carries up)
 
-  pub up_deliver_keeps : Late c d base (up_delivered w w.up).after
+  pub up_deliver_keeps : Late c d base (up_deliver_step w w.up).after
   up_deliver_keeps = deliver_keeps w.up g.frames refl g.linked.carries g.linked.up_is
 
-  pub up_lose_keeps : Late c d base (up_lost w w.up).after
+  pub up_lose_keeps : Late c d base (up_lose_step w w.up).after
   up_lose_keeps = lose_keeps w.up g.frames g.linked.carries g.linked.up_is
 
-  pub up_damage_keeps : (damaged : List ℕ) → Late c d base (up_damaged w w.up damaged).after
+  pub up_damage_keeps : (damaged : List ℕ) → Late c d base (up_damage_step w w.up damaged).after
   up_damage_keeps damaged = damage_keeps w.up g.frames damaged g.linked.carries g.linked.up_is

@@ -31,7 +31,7 @@ use Rattle.tm_link.specs.Layout as telemetry
 use Rattle.tc_link.specs.declared.config.Config.{Config}
 use Rattle.tc_link.specs.declared.fault.LinkFault.{LinkFault}
 use Rattle.tc_link.specs.declared.heard.Heard.{Heard}
-use Rattle.tc_link.specs.Ground.{GroundState, GroundOutcome, settle_step, with_fop, unless_refused, after_submission, after_bypass, directive_outcome, after_extraction, own_frame_arrived, telemetry_arrived, frame_pulled}
+use Rattle.tc_link.specs.Ground.{GroundState, GroundOutcome, settle_step, with_fop, unless_refused, after_submission, after_bypass, directive_outcome, after_extraction, own_frame_arrived, telemetry_arrived, frame_to_send}
 use Rattle.tc_link.specs.Ground as ground
 use Rattle.tc_link.specs.World.{first_sent, is_initiation}
 use Rattle.tc_link.proofs.Settled.{settled_keeps}
@@ -120,7 +120,7 @@ first_in vs (Some frame) = first_sent vs frame.body
 
 module _ (c : Config) (f : FopState SegmentView) where
   abbrev IsPutFirst : Outcome SegmentView (PulledUnit SegmentView) → Type 0
-  IsPutFirst o = length o.after.sent ≤ length f.sent + length (first_in f.vs (frame_pulled c o.answer))
+  IsPutFirst o = length o.after.sent ≤ length f.sent + length (first_in f.vs (frame_to_send c o.answer))
 
   without_mark : (us : Units) → length (without_oldest_mark us) ≡ length us
   without_mark [] = refl

@@ -23,7 +23,7 @@ use Rattle.tc_link.specs.Spacecraft.{SpacecraftState, spacecraft_step, Report, s
 use Rattle.tc_link.specs.BypassSegments.{is_kept}
 use Rattle.tc_link.specs.Packets.{PacketOn}
 use Rattle.tc_link.specs.Parameters.{limits_of}
-use Rattle.tc_link.specs.World.{World, world_after_take, world_after_queueing, world_after_report, up_delivered, up_lost, up_detected, up_damaged}
+use Rattle.tc_link.specs.World.{World, world_after_take, world_after_queueing, world_after_report, up_deliver_step, up_lose_step, up_damage_outcome, up_damage_step}
 use Rattle.tc_link.proofs.Arriving.{own_arrives}
 use Rattle.tc_link.proofs.Early.{WouldConfirm, Confirming, Lasts, lasts_on, lasts_push, AllSame, same_push, Begun}
 use Rattle.tc_link.proofs.Linked.{Steady, Carries, Reporting, reporting_push}
@@ -93,32 +93,32 @@ module _ (c : Config) (d : Directive) (base : ℕ) (w : World) (k : Steady c w) 
   lost_early (Bc command) bs fs rest up = still bs fs rest up.2 w.spacecraft refl refl refl refl refl
   lost_early (Ad n s) bs fs rest up = elim up [ ]
 
-  deliver_early : (bs : List (List ℕ)) (fs : List BodyView) → Carries c bs fs → UpIs d base true fs [] → Begun c d base (up_delivered w bs).after
+  deliver_early : (bs : List (List ℕ)) (fs : List BodyView) → Carries c bs fs → UpIs d base true fs [] → Begun c d base (up_deliver_step w bs).after
   deliver_early [] fs carries up = g
   deliver_early (b ∷ bs) [] carries up = elim carries [ ]
   deliver_early (b ∷ bs) (f ∷ fs) carries up =
       subst (λ o. Begun c d base (record w { up = bs; spacecraft = o.after })) (sym (own_arrives w.spacecraft c f (frame_at On b) k.spacecraft_config carries.0)) (body_early f bs fs carries.1 up)
 
-  lose_early : (bs : List (List ℕ)) (fs : List BodyView) → Carries c bs fs → UpIs d base true fs [] → Begun c d base (up_lost w bs).after
+  lose_early : (bs : List (List ℕ)) (fs : List BodyView) → Carries c bs fs → UpIs d base true fs [] → Begun c d base (up_lose_step w bs).after
   lose_early [] fs carries up = g
   lose_early (b ∷ bs) [] carries up = elim carries [ ]
   lose_early (b ∷ bs) (f ∷ fs) carries up = lost_early f bs fs carries.1 up
 
-  detect_early : (b : List ℕ) (bs : List (List ℕ)) (r : Result FrameView TcFault) → Begun c d base (up_lost w (b ∷ bs)).after → Begun c d base (up_detected w bs r).after
+  detect_early : (b : List ℕ) (bs : List (List ℕ)) (r : Result FrameView TcFault) → Begun c d base (up_lose_step w (b ∷ bs)).after → Begun c d base (up_damage_outcome w bs r).after
   detect_early b bs (Ok frame) lost = g
   detect_early b bs (Err fault) lost = lost
 
-  damage_early : (bs : List (List ℕ)) (fs : List BodyView) (damaged : List ℕ) → Carries c bs fs → UpIs d base true fs [] → Begun c d base (up_damaged w bs damaged).after
+  damage_early : (bs : List (List ℕ)) (fs : List BodyView) (damaged : List ℕ) → Carries c bs fs → UpIs d base true fs [] → Begun c d base (up_damage_step w bs damaged).after
   damage_early [] fs damaged carries up = g
   damage_early (b ∷ bs) fs damaged carries up = detect_early b bs (frame_at On damaged) (lose_early (b ∷ bs) fs carries up)
 
-  pub early_up_deliver : Begun c d base (up_delivered w w.up).after
+  pub early_up_deliver : Begun c d base (up_deliver_step w w.up).after
   early_up_deliver = deliver_early w.up g.frames g.early.carries g.early.up_is
 
-  pub early_up_lose : Begun c d base (up_lost w w.up).after
+  pub early_up_lose : Begun c d base (up_lose_step w w.up).after
   early_up_lose = lose_early w.up g.frames g.early.carries g.early.up_is
 
-  pub early_up_damage : (damaged : List ℕ) → Begun c d base (up_damaged w w.up damaged).after
+  pub early_up_damage : (damaged : List ℕ) → Begun c d base (up_damage_step w w.up damaged).after
   early_up_damage damaged = damage_early w.up g.frames damaged g.early.carries g.early.up_is
 
   take_early : (packets : List PacketOn) → Begun c d base (world_after_take w (spacecraft_take w.spacecraft packets)).after

@@ -25,7 +25,7 @@ use Rattle.tc_link.specs.declared.event.Event.TheVariants as events
 use Rattle.tc_link.specs.declared.fault.LinkFault.{LinkFault}
 use Rattle.tc_link.specs.OwnedFields.{FitsFrame}
 use Rattle.tc_link.specs.Packets.{PacketOn, packet_on}
-use Rattle.tc_link.specs.Ground.{is_closed, unsent_segments, with_fop, frame_of, frame_pulled, directive_outcome, segments_on, submit_fault, after_submission, bypass_fault, after_bypass, unless_refused}
+use Rattle.tc_link.specs.Ground.{is_closed, unsent_segments, with_fop, frame_of, frame_to_send, directive_outcome, segments_on, submit_fault, after_submission, bypass_fault, after_bypass, unless_refused}
 use Rattle.tc_link.specs.World.{World, is_initiation, world_step, world_after_directive, world_after_pull, world_after_submission, world_after_bypass}
 use Rattle.tc_link.proofs.Submitting.{segments_fit}
 use Rattle.tc_link.specs.Reached.{IsDirective}
@@ -164,7 +164,7 @@ module _ (c : Config) (d : Directive) (base : ℕ) (w : World) (k : Steady c w) 
   -- ---- a frame is sent
 
   abbrev Pulls : Outcome SegmentView (PulledUnit SegmentView) → Type 0
-  Pulls o = Begun c d base (world_after_pull w (with_fop w.ground_node o.after) (frame_pulled w.ground_node.config o.answer)).after
+  Pulls o = Begun c d base (world_after_pull w (with_fop w.ground_node o.after) (frame_to_send w.ground_node.config o.answer)).after
 
   sends : (f : BodyView) (fop : FopState SegmentView) → fop.vs ≡ w.ground_node.fop.vs → fop.nn ≡ w.ground_node.fop.nn → fop.state ≡ w.ground_node.fop.state → fop.sent ≡ w.ground_node.fop.sent → fop.waiting ≡ w.ground_node.fop.waiting → ControlFits d base fop.control → Goes f → UpIs d base true (g.frames ++ f ∷ []) []
       → Begun c d base (record w { ground_node = with_fop w.ground_node fop; up = w.up ++ spelling On (frame_of w.ground_node.config f) ∷ []; session = record w.session { sent = w.session.sent ++ [] } })

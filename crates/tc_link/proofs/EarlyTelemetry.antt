@@ -22,7 +22,7 @@ use Rattle.tm_link.specs.Reading as telemetry_reading
 use Rattle.tc_link.specs.declared.config.Config.{Config}
 use Rattle.tc_link.specs.declared.heard.Heard.{Heard}
 use Rattle.tc_link.specs.Ground.{GroundState, GroundOutcome, is_closed, unsent_segments, with_fop, after_extraction}
-use Rattle.tc_link.specs.World.{World, confirms, is_initialising, down_delivered, down_lost, down_detected, down_damaged, session_after_report}
+use Rattle.tc_link.specs.World.{World, confirms, is_initialising, down_deliver_step, down_lose_step, down_damage_outcome, down_damage_step, session_after_report}
 use Rattle.tc_link.proofs.Early.{WouldConfirm, Good, AllGood, Lasts, IsEarly, ControlFits, HoldsEarly, HeldEarly, AllSame, Begun, held_early_again, last_good, Confirmed, confirmed}
 use Rattle.tc_link.proofs.LateTelemetry.{used_is}
 use Rattle.tc_link.proofs.Linked.{Steady, units_of_all, Reporting}
@@ -107,7 +107,7 @@ module _ (c : Config) (d : Directive) (base : ℕ) (w : World) (k : Steady c w) 
         goes_late (record s { state = S1; ticks = None; control = Idle }) on (rw is refl) refl refl refl refl refl (not-true (locks r) u.0, not-true (waits r) u.1, not-true (asks r) q.1, eqb-true r.value s.vs p.1 ∙ vs_of on))
         (λ t. goes_on_early)
 
-  down_early : (bs : List (List ℕ)) (rs : List Clcw) → Reporting c bs rs → Lasts base rs (WouldConfirm base w.spacecraft) → (d ≡ InitWithCheck → AllSame rs w.spacecraft.farm.lockout w.spacecraft.farm.retransmit w.spacecraft.farm.vr) → Begun c d base (down_delivered w bs).after ⊎ Confirmed c d base (down_delivered w bs).after
+  down_early : (bs : List (List ℕ)) (rs : List Clcw) → Reporting c bs rs → Lasts base rs (WouldConfirm base w.spacecraft) → (d ≡ InitWithCheck → AllSame rs w.spacecraft.farm.lockout w.spacecraft.farm.retransmit w.spacecraft.farm.vr) → Begun c d base (down_deliver_step w bs).after ⊎ Confirmed c d base (down_deliver_step w bs).after
   down_early [] rs rest lasts same = inl g
   down_early (b ∷ bs) [] rest lasts same = elim rest [ ]
   down_early (b ∷ bs) (r ∷ rs) rest lasts same =
@@ -115,7 +115,7 @@ module _ (c : Config) (d : Directive) (base : ℕ) (w : World) (k : Steady c w) 
       subst (λ (o : GroundOutcome Heard). Begun c d base (with_heard o.after bs) ⊎ Confirmed c d base (with_heard o.after bs)) (sym (used_is c w.ground_node b r k.ground_config rest.0))
       (hears_in x r bs rs rest.1 lasts.0 lasts.1 (λ e. (same e).4) w.ground_node.fop.state refl)
 
-  down_lose_early : (bs : List (List ℕ)) (rs : List Clcw) → Reporting c bs rs → Lasts base rs (WouldConfirm base w.spacecraft) → (d ≡ InitWithCheck → AllSame rs w.spacecraft.farm.lockout w.spacecraft.farm.retransmit w.spacecraft.farm.vr) → Begun c d base (down_lost w bs).after
+  down_lose_early : (bs : List (List ℕ)) (rs : List Clcw) → Reporting c bs rs → Lasts base rs (WouldConfirm base w.spacecraft) → (d ≡ InitWithCheck → AllSame rs w.spacecraft.farm.lockout w.spacecraft.farm.retransmit w.spacecraft.farm.vr) → Begun c d base (down_lose_step w bs).after
   down_lose_early [] rs rest lasts same = g
   down_lose_early (b ∷ bs) [] rest lasts same = elim rest [ ]
   down_lose_early (b ∷ bs) (r ∷ rs) rest lasts same =
@@ -124,19 +124,19 @@ module _ (c : Config) (d : Directive) (base : ℕ) (w : World) (k : Steady c w) 
       let same_left : d ≡ InitWithCheck → AllSame rs w.spacecraft.farm.lockout w.spacecraft.farm.retransmit w.spacecraft.farm.vr = λ e. (same e).4 in
       record { frames = g.frames; reports = rs; early = assumption (left, lasts_left, same_left, g.early) }
 
-  down_detect_early : (b : List ℕ) (bs : List (List ℕ)) (r : Result telemetry.FrameView TmFault) → Begun c d base (down_lost w (b ∷ bs)).after → Begun c d base (down_detected w bs r).after
+  down_detect_early : (b : List ℕ) (bs : List (List ℕ)) (r : Result telemetry.FrameView TmFault) → Begun c d base (down_lose_step w (b ∷ bs)).after → Begun c d base (down_damage_outcome w bs r).after
   down_detect_early b bs (Ok frame) lost = g
   down_detect_early b bs (Err fault) lost = lost
 
-  down_damage_early : (bs : List (List ℕ)) (damaged : List ℕ) → Begun c d base (down_lost w bs).after → Begun c d base (down_damaged w bs damaged).after
+  down_damage_early : (bs : List (List ℕ)) (damaged : List ℕ) → Begun c d base (down_lose_step w bs).after → Begun c d base (down_damage_step w bs damaged).after
   down_damage_early [] damaged lost = g
   down_damage_early (b ∷ bs) damaged lost = down_detect_early b bs (telemetry_reading.frame_at w.ground_node.config.frame_length damaged) lost
 
-  pub early_down_deliver : Begun c d base (down_delivered w w.down).after ⊎ Confirmed c d base (down_delivered w w.down).after
+  pub early_down_deliver : Begun c d base (down_deliver_step w w.down).after ⊎ Confirmed c d base (down_deliver_step w w.down).after
   early_down_deliver = down_early w.down g.reports g.early.reporting g.early.lasts g.early.same
 
-  pub early_down_lose : Begun c d base (down_lost w w.down).after
+  pub early_down_lose : Begun c d base (down_lose_step w w.down).after
   early_down_lose = down_lose_early w.down g.reports g.early.reporting g.early.lasts g.early.same
 
-  pub early_down_damage : (damaged : List ℕ) → Begun c d base (down_damaged w w.down damaged).after
+  pub early_down_damage : (damaged : List ℕ) → Begun c d base (down_damage_step w w.down damaged).after
   early_down_damage damaged = down_damage_early w.down damaged early_down_lose

@@ -24,8 +24,8 @@ use Rattle.tc_link.specs.declared.event.Event.{Event}
 use Rattle.tc_link.specs.declared.event.Event.TheVariants as events
 use Rattle.tc_link.specs.declared.sim.opening.Opening.{Opening}
 use Rattle.tc_link.specs.Parameters.{IsConfig}
-use Rattle.tc_link.specs.Ground.{GroundState, is_closed, directive_outcome, with_fop, frame_pulled}
-use Rattle.tc_link.specs.World.{World, new_world, world_step, world_run, IsClean, is_initiation, begins_clean, session_begun_by, session_after_directive, world_after_pull, up_delivered, up_lost, up_detected, up_damaged, down_delivered, down_lost, down_detected, down_damaged}
+use Rattle.tc_link.specs.Ground.{GroundState, is_closed, directive_outcome, with_fop, frame_to_send}
+use Rattle.tc_link.specs.World.{World, new_world, world_step, world_run, IsClean, is_initiation, begins_clean, session_begun_by, session_after_directive, world_after_pull, up_deliver_step, up_lose_step, up_damage_outcome, up_damage_step, down_deliver_step, down_lose_step, down_damage_outcome, down_damage_step}
 use Rattle.tc_link.specs.Reached.{IsDirective, IsEvent, IsReached}
 use Rattle.tc_link.proofs.Arriving.{up_deliver_keeps, up_lose_keeps, up_damage_keeps}
 use Rattle.tc_link.proofs.Beginning.{Clean, begins}
@@ -66,27 +66,27 @@ module _ (w : World) where
   opened_pull ground_node None = refl
   opened_pull ground_node (Some frame) = refl
 
-  opened_up : (bs : List (List ℕ)) → ((up_delivered w bs).after.session.opening ≡ w.session.opening) × ((up_lost w bs).after.session.opening ≡ w.session.opening)
+  opened_up : (bs : List (List ℕ)) → ((up_deliver_step w bs).after.session.opening ≡ w.session.opening) × ((up_lose_step w bs).after.session.opening ≡ w.session.opening)
   opened_up [] = (refl, refl)
   opened_up (b ∷ bs) = (refl, refl)
 
-  opened_detected : (bs : List (List ℕ)) (r : Result FrameView TcFault) → (up_detected w bs r).after.session.opening ≡ w.session.opening
+  opened_detected : (bs : List (List ℕ)) (r : Result FrameView TcFault) → (up_damage_outcome w bs r).after.session.opening ≡ w.session.opening
   opened_detected bs (Ok frame) = refl
   opened_detected bs (Err fault) = refl
 
-  opened_damaged : (bs : List (List ℕ)) (octets : List ℕ) → (up_damaged w bs octets).after.session.opening ≡ w.session.opening
+  opened_damaged : (bs : List (List ℕ)) (octets : List ℕ) → (up_damage_step w bs octets).after.session.opening ≡ w.session.opening
   opened_damaged [] octets = refl
   opened_damaged (b ∷ bs) octets = opened_detected bs (frame_at On octets)
 
-  opened_down : (bs : List (List ℕ)) → ((down_delivered w bs).after.session.opening ≡ w.session.opening) × ((down_lost w bs).after.session.opening ≡ w.session.opening)
+  opened_down : (bs : List (List ℕ)) → ((down_deliver_step w bs).after.session.opening ≡ w.session.opening) × ((down_lose_step w bs).after.session.opening ≡ w.session.opening)
   opened_down [] = (refl, refl)
   opened_down (b ∷ bs) = (refl, refl)
 
-  opened_down_detected : (bs : List (List ℕ)) (r : Result telemetry.FrameView TmFault) → (down_detected w bs r).after.session.opening ≡ w.session.opening
+  opened_down_detected : (bs : List (List ℕ)) (r : Result telemetry.FrameView TmFault) → (down_damage_outcome w bs r).after.session.opening ≡ w.session.opening
   opened_down_detected bs (Ok frame) = refl
   opened_down_detected bs (Err fault) = refl
 
-  opened_down_damaged : (bs : List (List ℕ)) (octets : List ℕ) → (down_damaged w bs octets).after.session.opening ≡ w.session.opening
+  opened_down_damaged : (bs : List (List ℕ)) (octets : List ℕ) → (down_damage_step w bs octets).after.session.opening ≡ w.session.opening
   opened_down_damaged [] octets = refl
   opened_down_damaged (b ∷ bs) octets = opened_down_detected bs (telemetry_reading.frame_at w.ground_node.config.frame_length octets)
 
@@ -123,7 +123,7 @@ module _ (w : World) where
   opening_stays (events.Submit m octets) goes = refl
   opening_stays (events.Bypass m octets) goes = refl
   opening_stays (events.Directive d) goes = opened_directive d goes
-  opening_stays events.Send goes = opened_pull (with_fop w.ground_node (pulled_fop w.ground_node.fop).after) (frame_pulled w.ground_node.config (pulled_fop w.ground_node.fop).answer)
+  opening_stays events.Send goes = opened_pull (with_fop w.ground_node (pulled_fop w.ground_node.fop).after) (frame_to_send w.ground_node.config (pulled_fop w.ground_node.fop).answer)
   opening_stays events.UpDeliver goes = (opened_up w.up).0
   opening_stays events.UpLose goes = (opened_up w.up).1
   opening_stays (events.UpDamage octets) goes = opened_damaged w.up octets.now

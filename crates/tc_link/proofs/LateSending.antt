@@ -17,7 +17,7 @@ use Rattle.cop1.specs.FopPull.{PulledUnit, NothingPulled, BypassPulled, Sequence
 use Rattle.cop1.specs.FopWords.{Outcome, restarted, unmarked}
 use Rattle.tc_link.specs.declared.config.Config.{Config}
 use Rattle.tc_link.specs.OwnedFields.{FitsFrame}
-use Rattle.tc_link.specs.Ground.{is_closed, unsent_segments, with_fop, frame_of, frame_pulled}
+use Rattle.tc_link.specs.Ground.{is_closed, unsent_segments, with_fop, frame_of, frame_to_send}
 use Rattle.tc_link.specs.World.{World, world_after_pull, first_sent}
 use Rattle.tc_link.specs.PlainLink.{more, puts_next, puts_again}
 use Rattle.tc_link.proofs.Lists.{drop_cons_get, drop_cons_rest, take_next, get_within, get_drop, get_take}
@@ -30,7 +30,7 @@ use Rattle.tc_link.proofs.Spelled.{Goes, reads_back, fits_at}
 
 module _ (c : Config) (d : Directive) (base : ℕ) (w : World) (k : Steady c w) (g : Late c d base w) where
   abbrev Leaves : Outcome SegmentView (PulledUnit SegmentView) → Type 0
-  Leaves o = Late c d base (world_after_pull w (with_fop w.ground_node o.after) (frame_pulled w.ground_node.config o.answer)).after
+  Leaves o = Late c d base (world_after_pull w (with_fop w.ground_node o.after) (frame_to_send w.ground_node.config o.answer)).after
 
   none_keeps : Leaves (pulls w.ground_node.fop NothingPulled)
   none_keeps = same_keeps c d base w g w.ground_node.fop refl refl refl refl refl

@@ -25,7 +25,7 @@ use Rattle.tc_link.specs.declared.heard.Heard.TheVariants.{Frame}
 use Rattle.tc_link.specs.declared.heard.HeardReport.TheVariants.{Used}
 use Rattle.tc_link.specs.Spacecraft.{spacecraft_step, Report, spacecraft_report}
 use Rattle.tc_link.specs.Ground.{GroundState, GroundOutcome, is_closed, unsent_segments, with_fop, after_extraction, ground_telemetry, telemetry_arrived, own_frame_arrived}
-use Rattle.tc_link.specs.World.{World, confirms, session_after_report, world_after_report, down_delivered, down_lost, down_detected, down_damaged}
+use Rattle.tc_link.specs.World.{World, confirms, session_after_report, world_after_report, down_deliver_step, down_lose_step, down_damage_outcome, down_damage_step}
 use Rattle.tc_link.specs.PlainLink.{more, reports as tells, loses_down, hears, ignores, PlainRun, new_link}
 use Rattle.tc_link.specs.Confirmation.{IsChecked}
 use Rattle.tc_link.proofs.Reports as rules
@@ -200,7 +200,7 @@ module _ (c : Config) (d : Directive) (base : ℕ) (w : World) (k : Steady c w) 
       }
 
   deliver_keeps : (bs : List (List ℕ)) (rs : List Clcw) (vs : List ℕ) → g.plain.down ≡ vs → Reporting c bs rs → DownIs base rs vs → Rises g.plain.a vs g.plain.r → (IsChecked d → Ranks (2 * g.plain.a + asked w.ground_node.fop.state) rs vs (2 * g.plain.r + bit w.spacecraft.farm.retransmit))
-      → Late c d base (down_delivered w bs).after
+      → Late c d base (down_deliver_step w bs).after
   deliver_keeps [] rs vs also rest down_is up ranks = g
   deliver_keeps (b ∷ bs) [] vs also rest down_is up ranks = elim rest [ ]
   deliver_keeps (b ∷ bs) (r ∷ rs) [] also rest down_is up ranks = elim down_is [ ]
@@ -212,7 +212,7 @@ module _ (c : Config) (d : Directive) (base : ℕ) (w : World) (k : Steady c w) 
       (heard_keeps x bs rs v vs (2 * v + bit (asks r)) (heard_by w.ground_node.fop r).after goes.0 also rest.1 down_is.1 up.0 up.1 (λ t. (ranks t).3) goes.1)
 
   lose_keeps : (bs : List (List ℕ)) (rs : List Clcw) (vs : List ℕ) → g.plain.down ≡ vs → Reporting c bs rs → DownIs base rs vs → Rises g.plain.a vs g.plain.r → (IsChecked d → Ranks (2 * g.plain.a + asked w.ground_node.fop.state) rs vs (2 * g.plain.r + bit w.spacecraft.farm.retransmit))
-      → Late c d base (down_lost w bs).after
+      → Late c d base (down_lose_step w bs).after
   lose_keeps [] rs vs also rest down_is up ranks = g
   lose_keeps (b ∷ bs) [] vs also rest down_is up ranks = elim rest [ ]
   lose_keeps (b ∷ bs) (r ∷ rs) [] also rest down_is up ranks = elim down_is [ ]
@@ -235,21 +235,21 @@ module _ (c : Config) (d : Directive) (base : ℕ) (w : World) (k : Steady c w) 
             assumption (lower, m);
       }
 
-  detect_keeps : (b : List ℕ) (bs : List (List ℕ)) (r : Result telemetry.FrameView TmFault) → Late c d base (down_lost w (b ∷ bs)).after → Late c d base (down_detected w bs r).after
+  detect_keeps : (b : List ℕ) (bs : List (List ℕ)) (r : Result telemetry.FrameView TmFault) → Late c d base (down_lose_step w (b ∷ bs)).after → Late c d base (down_damage_outcome w bs r).after
   detect_keeps b bs (Ok frame) lost = g
   detect_keeps b bs (Err fault) lost = lost
 
-  damage_keeps : (bs : List (List ℕ)) (damaged : List ℕ) → ((b : List ℕ) (more : List (List ℕ)) → bs ≡ b ∷ more → Late c d base (down_lost w bs).after) → Late c d base (down_damaged w bs damaged).after
+  damage_keeps : (bs : List (List ℕ)) (damaged : List ℕ) → ((b : List ℕ) (more : List (List ℕ)) → bs ≡ b ∷ more → Late c d base (down_lose_step w bs).after) → Late c d base (down_damage_step w bs damaged).after
   damage_keeps [] damaged lost = g
   damage_keeps (b ∷ bs) damaged lost = detect_keeps b bs (telemetry_reading.frame_at w.ground_node.config.frame_length damaged) (lost b bs refl)
 
-  pub late_down_deliver : Late c d base (down_delivered w w.down).after
+  pub late_down_deliver : Late c d base (down_deliver_step w w.down).after
   late_down_deliver = deliver_keeps w.down g.reports g.plain.down refl g.linked.reporting g.linked.down_is g.linked.rises (λ t. (g.calm t).ranks)
 
-  pub late_down_lose : Late c d base (down_lost w w.down).after
+  pub late_down_lose : Late c d base (down_lose_step w w.down).after
   late_down_lose = lose_keeps w.down g.reports g.plain.down refl g.linked.reporting g.linked.down_is g.linked.rises (λ t. (g.calm t).ranks)
 
-  pub late_down_damage : (damaged : List ℕ) → Late c d base (down_damaged w w.down damaged).after
+  pub late_down_damage : (damaged : List ℕ) → Late c d base (down_damage_step w w.down damaged).after
   late_down_damage damaged = damage_keeps w.down damaged (λ b bs e. late_down_lose)
 
   -- ---- a telemetry frame is sent

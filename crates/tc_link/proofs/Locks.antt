@@ -27,8 +27,8 @@ use Rattle.tc_link.specs.BypassSegments.{is_kept}
 use Rattle.tc_link.specs.Packets.{PacketOn}
 use Rattle.tc_link.specs.Parameters.{limits_of}
 use Rattle.tc_link.specs.Spacecraft.{SpacecraftState, SpacecraftOutcome, body_arrived, bypass_arrived, spacecraft_take, spacecraft_take_bypass, spacecraft_telemetry}
-use Rattle.tc_link.specs.Ground.{GroundState, with_fop, frame_pulled, directive_outcome}
-use Rattle.tc_link.specs.World.{World, world_step, is_initiation, session_begun_by, session_after_directive, world_after_pull, up_delivered, up_lost, up_detected, up_damaged, down_delivered, down_lost, down_detected, down_damaged, directive_of}
+use Rattle.tc_link.specs.Ground.{GroundState, with_fop, frame_to_send, directive_outcome}
+use Rattle.tc_link.specs.World.{World, world_step, is_initiation, session_begun_by, session_after_directive, world_after_pull, up_deliver_step, up_lose_step, up_damage_outcome, up_damage_step, down_deliver_step, down_lose_step, down_damage_outcome, down_damage_step, directive_of}
 use Rattle.tc_link.specs.Confirmation.{ConfirmsExactly, IsChecked, IsChecking}
 use Rattle.tc_link.specs.FalseAlarms.{HasNoFalseAlarm}
 use Rattle.tc_link.specs.Reached.{IsEvent}
@@ -55,27 +55,27 @@ module _ (w : World) where
   pull_same ground_node None = refl
   pull_same ground_node (Some frame) = refl
 
-  lost_same : (bs : List (List ℕ)) → SameFarm w (up_lost w bs).after
+  lost_same : (bs : List (List ℕ)) → SameFarm w (up_lose_step w bs).after
   lost_same [] = refl
   lost_same (b ∷ bs) = refl
 
-  detected_same : (bs : List (List ℕ)) (r : Result FrameView TcFault) → SameFarm w (up_detected w bs r).after
+  detected_same : (bs : List (List ℕ)) (r : Result FrameView TcFault) → SameFarm w (up_damage_outcome w bs r).after
   detected_same bs (Ok frame) = refl
   detected_same bs (Err fault) = refl
 
-  damaged_same : (bs : List (List ℕ)) (octets : List ℕ) → SameFarm w (up_damaged w bs octets).after
+  damaged_same : (bs : List (List ℕ)) (octets : List ℕ) → SameFarm w (up_damage_step w bs octets).after
   damaged_same [] octets = refl
   damaged_same (b ∷ bs) octets = detected_same bs (frame_at On octets)
 
-  down_same : (bs : List (List ℕ)) → SameFarm w (down_delivered w bs).after × SameFarm w (down_lost w bs).after
+  down_same : (bs : List (List ℕ)) → SameFarm w (down_deliver_step w bs).after × SameFarm w (down_lose_step w bs).after
   down_same [] = (refl, refl)
   down_same (b ∷ bs) = (refl, refl)
 
-  down_detected_same : (bs : List (List ℕ)) (r : Result telemetry.FrameView TmFault) → SameFarm w (down_detected w bs r).after
+  down_detected_same : (bs : List (List ℕ)) (r : Result telemetry.FrameView TmFault) → SameFarm w (down_damage_outcome w bs r).after
   down_detected_same bs (Ok frame) = refl
   down_detected_same bs (Err fault) = refl
 
-  down_damaged_same : (bs : List (List ℕ)) (octets : List ℕ) → SameFarm w (down_damaged w bs octets).after
+  down_damaged_same : (bs : List (List ℕ)) (octets : List ℕ) → SameFarm w (down_damage_step w bs octets).after
   down_damaged_same [] octets = refl
   down_damaged_same (b ∷ bs) octets = down_detected_same bs (telemetry_reading.frame_at w.ground_node.config.frame_length octets)
 
@@ -118,12 +118,12 @@ module _ (c : Config) (d : Directive) (base : ℕ) (w : World) (k : Steady c w) 
   body_by (Bc Unlock) fs up is = unlocked_by w.spacecraft.farm w.spacecraft.farm.state is
   body_by (Bc (SetVr x)) fs up is = set_by w.spacecraft.farm x w.spacecraft.farm.state is
 
-  delivered_by : (bs : List (List ℕ)) (fs : List BodyView) → Carries c bs fs → UpIs d base true fs [] → w.spacecraft.farm.lockout ≡ false → (up_delivered w bs).after.spacecraft.farm.lockout ≡ false
+  delivered_by : (bs : List (List ℕ)) (fs : List BodyView) → Carries c bs fs → UpIs d base true fs [] → w.spacecraft.farm.lockout ≡ false → (up_deliver_step w bs).after.spacecraft.farm.lockout ≡ false
   delivered_by [] fs carries up is = is
   delivered_by (b ∷ bs) [] carries up is = elim carries [ ]
   delivered_by (b ∷ bs) (f ∷ fs) carries up is = subst (λ o. o.after.farm.lockout ≡ false) (sym (own_arrives w.spacecraft c f (frame_at On b) k.spacecraft_config carries.0)) (body_by f fs up is)
 
-  up_unlocked : IsChecked d → Begun c d base w ⊎ Late c d base w → w.spacecraft.farm.lockout ≡ false → (up_delivered w w.up).after.spacecraft.farm.lockout ≡ false
+  up_unlocked : IsChecked d → Begun c d base w ⊎ Late c d base w → w.spacecraft.farm.lockout ≡ false → (up_deliver_step w w.up).after.spacecraft.farm.lockout ≡ false
   up_unlocked checked s is = elim s [
     | inl g ↦ delivered_by w.up g.frames g.early.carries g.early.up_is is
     | inr g ↦ ((late_step c d base w k g events.UpDeliver tt tt).calm checked).unlocked
@@ -133,7 +133,7 @@ module _ (c : Config) (d : Directive) (base : ℕ) (w : World) (k : Steady c w) 
   not_locked checked s (events.Submit m octets) is = is
   not_locked checked s (events.Bypass m octets) is = is
   not_locked checked s (events.Directive e) is = is
-  not_locked checked s events.Send is = ap (λ f. f.lockout) (pull_same w (with_fop w.ground_node (pulled_fop w.ground_node.fop).after) (frame_pulled w.ground_node.config (pulled_fop w.ground_node.fop).answer)) ∙ is
+  not_locked checked s events.Send is = ap (λ f. f.lockout) (pull_same w (with_fop w.ground_node (pulled_fop w.ground_node.fop).after) (frame_to_send w.ground_node.config (pulled_fop w.ground_node.fop).answer)) ∙ is
   not_locked checked s events.UpDeliver is = up_unlocked checked s is
   not_locked checked s events.UpLose is = ap (λ f. f.lockout) (lost_same w w.up) ∙ is
   not_locked checked s (events.UpDamage octets) is = ap (λ f. f.lockout) (damaged_same w w.up octets.now) ∙ is

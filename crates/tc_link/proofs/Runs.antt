@@ -4,12 +4,12 @@ use Rattle.std.proofs.lemmas.List.{append-nil, append_assoc, at_drop_all}
 use Rattle.tc_link.specs.declared.config.Config.{Config}
 use Rattle.tc_link.specs.declared.event.Event.{Event}
 use Rattle.tc_link.specs.World.{world_step, world_run, run_answers}
-use Rattle.tc_link.specs.Simulation.{SimState, recorded, run_from, new_sim, sim_run}
+use Rattle.tc_link.specs.Simulation.{SimState, record_step, run_from, new_sim, sim_run}
 
 from_is : (s : SimState) (events : List Event) → run_from s events ≡ record { world = world_run s.world events; answers = s.answers ++ run_answers s.world events }
 from_is s [] = ap (λ answers. record s { answers = answers }) (sym (append-nil s.answers))
 from_is s (event ∷ more) =
-    from_is (recorded s event) more
+    from_is (record_step s event) more
     ∙ ap (λ answers. record { world = world_run (world_step s.world event).after more; answers = answers })
     (append_assoc s.answers ((world_step s.world event).answer ∷ []) (run_answers (world_step s.world event).after more))
 

@@ -46,9 +46,9 @@ use Rattle.tc_link.specs.OwnedFields.{FitsFrame}
 use Rattle.tc_link.specs.Packets.{PacketOn}
 use Rattle.tc_link.specs.Parameters.{IsConfig, limits_of}
 use Rattle.tc_link.specs.Spacecraft.{SpacecraftState, SpacecraftOutcome, spacecraft_report, frame_arrived, body_arrived, sequence_arrived, bypass_arrived, command_event, is_free, is_own_frame, spacecraft_take, spacecraft_take_bypass, spacecraft_telemetry}
-use Rattle.tc_link.specs.Ground.{GroundState, is_closed, unsent_segments, settle_step, with_fop, frame_pulled, directive_outcome, submit_fault, after_submission, bypass_fault, after_bypass, unless_refused, after_extraction, ground_telemetry, telemetry_arrived, own_frame_arrived}
+use Rattle.tc_link.specs.Ground.{GroundState, is_closed, unsent_segments, settle_step, with_fop, frame_to_send, directive_outcome, submit_fault, after_submission, bypass_fault, after_bypass, unless_refused, after_extraction, ground_telemetry, telemetry_arrived, own_frame_arrived}
 use Rattle.tc_link.specs.Ground as ground
-use Rattle.tc_link.specs.World.{World, new_world, world_step, world_after_pull, up_delivered, up_lost, up_detected, up_damaged, down_delivered, down_lost, down_detected, down_damaged, session_after_directive, is_initiation}
+use Rattle.tc_link.specs.World.{World, new_world, world_step, world_after_pull, up_deliver_step, up_lose_step, up_damage_outcome, up_damage_step, down_deliver_step, down_lose_step, down_damage_outcome, down_damage_step, session_after_directive, is_initiation}
 use Rattle.tc_link.proofs.Submitting.{bypass_fits}
 use Rattle.tc_link.specs.Reached.{IsDirective, IsEvent}
 use Rattle.tc_link.proofs.Linked.{Steady, Commanded}
@@ -226,35 +226,35 @@ module _ (c : Config) (w : World) (k : Sound c w) where
   pulled_so ground_node so None = record { ranges = k.ranges; ground_node = so; spacecraft = k.spacecraft; before = k.before }
   pulled_so ground_node so (Some frame) = record { ranges = k.ranges; ground_node = so; spacecraft = k.spacecraft; before = k.before }
 
-  delivered_so : (bs : List (List ℕ)) → Sound c (up_delivered w bs).after
+  delivered_so : (bs : List (List ℕ)) → Sound c (up_deliver_step w bs).after
   delivered_so [] = k
   delivered_so (b ∷ bs) = let t = arrived_so c w.spacecraft k.spacecraft (frame_at On b) in record { ranges = k.ranges; ground_node = k.ground_node; spacecraft = t.steady; before = omega (arith, k.before, t.accepted) }
 
-  lost_so : (bs : List (List ℕ)) → Sound c (up_lost w bs).after
+  lost_so : (bs : List (List ℕ)) → Sound c (up_lose_step w bs).after
   lost_so [] = k
   lost_so (b ∷ bs) = record { ranges = k.ranges; ground_node = k.ground_node; spacecraft = k.spacecraft; before = k.before }
 
-  detected_so : (bs : List (List ℕ)) (r : Result FrameView TcFault) → Sound c (up_detected w bs r).after
+  detected_so : (bs : List (List ℕ)) (r : Result FrameView TcFault) → Sound c (up_damage_outcome w bs r).after
   detected_so bs (Ok frame) = k
   detected_so bs (Err fault) = record { ranges = k.ranges; ground_node = k.ground_node; spacecraft = k.spacecraft; before = k.before }
 
-  damaged_so : (bs : List (List ℕ)) (octets : List ℕ) → Sound c (up_damaged w bs octets).after
+  damaged_so : (bs : List (List ℕ)) (octets : List ℕ) → Sound c (up_damage_step w bs octets).after
   damaged_so [] octets = k
   damaged_so (b ∷ bs) octets = detected_so bs (frame_at On octets)
 
-  heard_so : (bs : List (List ℕ)) → Sound c (down_delivered w bs).after
+  heard_so : (bs : List (List ℕ)) → Sound c (down_deliver_step w bs).after
   heard_so [] = k
   heard_so (b ∷ bs) = record { ranges = k.ranges; ground_node = telemetry_so c w.ground_node k.ground_node (telemetry_reading.frame_at w.ground_node.config.frame_length b); spacecraft = k.spacecraft; before = k.before }
 
-  down_lost_so : (bs : List (List ℕ)) → Sound c (down_lost w bs).after
+  down_lost_so : (bs : List (List ℕ)) → Sound c (down_lose_step w bs).after
   down_lost_so [] = k
   down_lost_so (b ∷ bs) = record { ranges = k.ranges; ground_node = k.ground_node; spacecraft = k.spacecraft; before = k.before }
 
-  down_detected_so : (bs : List (List ℕ)) (r : Result telemetry.FrameView TmFault) → Sound c (down_detected w bs r).after
+  down_detected_so : (bs : List (List ℕ)) (r : Result telemetry.FrameView TmFault) → Sound c (down_damage_outcome w bs r).after
   down_detected_so bs (Ok frame) = k
   down_detected_so bs (Err fault) = record { ranges = k.ranges; ground_node = k.ground_node; spacecraft = k.spacecraft; before = k.before }
 
-  down_damaged_so : (bs : List (List ℕ)) (octets : List ℕ) → Sound c (down_damaged w bs octets).after
+  down_damaged_so : (bs : List (List ℕ)) (octets : List ℕ) → Sound c (down_damage_step w bs octets).after
   down_damaged_so [] octets = k
   down_damaged_so (b ∷ bs) octets = down_detected_so bs (telemetry_reading.frame_at w.ground_node.config.frame_length octets)
 
@@ -273,7 +273,7 @@ module _ (c : Config) (w : World) (k : Sound c w) where
   step_sound (events.Submit m octets) fits = record { ranges = k.ranges; ground_node = submitted_so c w.ground_node k.ground_node m octets.now (submit_fault w.ground_node m octets.now); spacecraft = k.spacecraft; before = k.before }
   step_sound (events.Bypass m octets) fits = ground_so (unless_refused (bypass_fault w.ground_node m octets.now) w.ground_node (after_bypass w.ground_node m octets.now)).after (bypassed_so c w.ground_node k.ground_node k.ranges m octets.now (bypass_fault w.ground_node m octets.now) refl)
   step_sound (events.Directive d) fits = record { ranges = k.ranges; ground_node = directive_so c w.ground_node k.ground_node d fits; spacecraft = k.spacecraft; before = session_so d (directive_outcome w.ground_node (directed_fop w.ground_node.fop d)).answer }
-  step_sound events.Send fits = pulled_so (with_fop w.ground_node (pulled_fop w.ground_node.fop).after) (with_so c w.ground_node k.ground_node (pulled_fop w.ground_node.fop).after (pull_so c w.ground_node.fop k.ground_node.fop)) (frame_pulled w.ground_node.config (pulled_fop w.ground_node.fop).answer)
+  step_sound events.Send fits = pulled_so (with_fop w.ground_node (pulled_fop w.ground_node.fop).after) (with_so c w.ground_node k.ground_node (pulled_fop w.ground_node.fop).after (pull_so c w.ground_node.fop k.ground_node.fop)) (frame_to_send w.ground_node.config (pulled_fop w.ground_node.fop).answer)
   step_sound events.UpDeliver fits = delivered_so w.up
   step_sound events.UpLose fits = lost_so w.up
   step_sound (events.UpDamage octets) fits = damaged_so w.up octets.now

@@ -101,6 +101,11 @@ is_closed S6 = true
 abbrev pub segments_on : GroundState → ℕ → List ℕ → List SegmentView
 segments_on s m octets = segments_of s.config.part m octets
 
+-- the segments that were not sent, with the new ones, are more than the queue slots
+abbrev pub is_over_slots : GroundState → ℕ → List ℕ → Bool
+is_over_slots s m octets =
+    nat_lt s.config.queue_slots (length (unsent_segments s) + length (segments_on s m octets))
+
 -- the first of the refusals that applies
 abbrev pub submit_fault : GroundState → ℕ → List ℕ → Option LinkFault
 submit_fault s m octets =
@@ -108,8 +113,7 @@ submit_fault s m octets =
     else if not (is_open (limits_of s.config) m) then Some ClosedMap
     else if not (are_commands (s.config.blocking == 1) octets) then Some NotCommand
     else if is_some_over s.config.max_packet (packets_in octets) then Some TooLong
-    else if nat_lt s.config.queue_slots (length (unsent_segments s) + length (segments_on s m octets))
-    then Some QueueFull
+    else if is_over_slots s m octets then Some QueueFull
     else None
 
 abbrev pub after_submission : GroundState → ℕ → List ℕ → GroundState
@@ -140,8 +144,8 @@ after_bypass s m octets =
 -- ---- directives and ticks
 
 -- what the sender answers, and the ground after it
-abbrev pub by_sender : {A : Type 0} → GroundState → Outcome SegmentView A → GroundOutcome A
-by_sender s outcome = record { answer = outcome.answer; after = with_fop s outcome.after }
+abbrev pub sender_outcome : {A : Type 0} → GroundState → Outcome SegmentView A → GroundOutcome A
+sender_outcome s outcome = record { answer = outcome.answer; after = with_fop s outcome.after }
 
 -- a directive that is refused changes nothing
 abbrev pub after_directive : GroundState → Result (Option Alert) CopFault → FopState SegmentView
@@ -161,22 +165,22 @@ abbrev pub ground_directive : GroundState → Directive
 ground_directive s directive = directive_outcome s (sender.fop_step s.fop (sender.Direct directive))
 
 abbrev pub ground_tick : GroundState → GroundOutcome (Option Alert)
-ground_tick s = by_sender s (sender.fop_step s.fop sender.Tick)
+ground_tick s = sender_outcome s (sender.fop_step s.fop sender.Tick)
 
 -- ---- what goes on the link next, as a frame (CCSDS 232.0-B-4, 4.1)
 
 abbrev pub frame_of : Config → BodyView → FrameView
 frame_of c body = record { scid = c.scid; vcid = c.vcid; body = body }
 
-abbrev pub frame_pulled : Config → PulledUnit SegmentView → Option FrameView
-frame_pulled c NothingPulled = None
-frame_pulled c (ControlPulled command) = Some (frame_of c (Bc command))
-frame_pulled c (BypassPulled segment) = Some (frame_of c (Bd segment))
-frame_pulled c (SequencePulled n segment) = Some (frame_of c (Ad n segment))
+abbrev pub frame_to_send : Config → PulledUnit SegmentView → Option FrameView
+frame_to_send c NothingPulled = None
+frame_to_send c (ControlPulled command) = Some (frame_of c (Bc command))
+frame_to_send c (BypassPulled segment) = Some (frame_of c (Bd segment))
+frame_to_send c (SequencePulled n segment) = Some (frame_of c (Ad n segment))
 
 abbrev pub ground_pull : GroundState → GroundOutcome (Option FrameView)
 ground_pull s = record {
-  answer = frame_pulled s.config (sender.fop_step s.fop sender.Pull).answer;
+  answer = frame_to_send s.config (sender.fop_step s.fop sender.Pull).answer;
   after = with_fop s (sender.fop_step s.fop sender.Pull).after;
 }
 
@@ -204,7 +208,8 @@ own_frame_arrived s x (Ok report) =
     }
 
 abbrev pub receive_frame_step : GroundState → telemetry.FrameView → GroundOutcome Heard
-receive_frame_step s frame = own_frame_arrived s (extract_step s.extractor frame) (clcw_at frame.ocf)
+receive_frame_step s frame =
+    own_frame_arrived s (extract_step s.extractor frame) (clcw_at frame.ocf)
 
 -- a frame of this spacecraft's virtual channel
 abbrev pub is_own_telemetry : Config → telemetry.FrameView → Bool

@@ -24,15 +24,15 @@ sim_run c events = record {
 }
 
 -- the step of a run records its answer
-abbrev pub recorded : SimState → Event → SimState
-recorded s event = record {
+abbrev pub record_step : SimState → Event → SimState
+record_step s event = record {
   world = (world_step s.world event).after;
   answers = s.answers ++ (world_step s.world event).answer ∷ [];
 }
 
 abbrev pub run_from : SimState → List Event → SimState
 run_from s [] = s
-run_from s (event ∷ more) = run_from (recorded s event) more
+run_from s (event ∷ more) = run_from (record_step s event) more
 
 -- the field of the configuration for which a call was refused
 abbrev pub field_of : SimFault → Option (List ℕ)

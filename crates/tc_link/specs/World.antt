@@ -250,23 +250,23 @@ world_after_send w o = world_after_pull w o.after o.answer
 abbrev pub world_after_receipt : World → List (List ℕ) → SpacecraftOutcome Received → WorldOutcome
 world_after_receipt w up o = world_reply (Up o.answer) (record w { up = up; spacecraft = o.after })
 
-abbrev pub up_delivered : World → List (List ℕ) → WorldOutcome
-up_delivered w [] = world_refusal w NothingInTransit
-up_delivered w (octets ∷ up) =
+abbrev pub up_deliver_step : World → List (List ℕ) → WorldOutcome
+up_deliver_step w [] = world_refusal w NothingInTransit
+up_deliver_step w (octets ∷ up) =
     world_after_receipt w up (spacecraft_step w.spacecraft (on_board.Receive octets))
 
-abbrev pub up_lost : World → List (List ℕ) → WorldOutcome
-up_lost w [] = world_refusal w NothingInTransit
-up_lost w (octets ∷ up) = world_reply Lost (record w { up = up })
+abbrev pub up_lose_step : World → List (List ℕ) → WorldOutcome
+up_lose_step w [] = world_refusal w NothingInTransit
+up_lose_step w (octets ∷ up) = world_reply Lost (record w { up = up })
 
-abbrev pub up_detected : World → List (List ℕ) → Result FrameView TcFault → WorldOutcome
-up_detected w up (Ok frame) = world_refusal w NotDetectable
-up_detected w up (Err fault) =
+abbrev pub up_damage_outcome : World → List (List ℕ) → Result FrameView TcFault → WorldOutcome
+up_damage_outcome w up (Ok frame) = world_refusal w NotDetectable
+up_damage_outcome w up (Err fault) =
     world_reply (Up (received_cases.Invalid fault)) (record w { up = up })
 
-abbrev pub up_damaged : World → List (List ℕ) → List ℕ → WorldOutcome
-up_damaged w [] damaged = world_refusal w NothingInTransit
-up_damaged w (octets ∷ up) damaged = up_detected w up (command.frame_at On damaged)
+abbrev pub up_damage_step : World → List (List ℕ) → List ℕ → WorldOutcome
+up_damage_step w [] damaged = world_refusal w NothingInTransit
+up_damage_step w (octets ∷ up) damaged = up_damage_outcome w up (command.frame_at On damaged)
 
 -- the spacecraft sends a telemetry frame
 
@@ -293,24 +293,26 @@ world_after_telemetry w down o =
       session = session_after_report w.session w.ground_node o.after;
     })
 
-abbrev pub down_delivered : World → List (List ℕ) → WorldOutcome
-down_delivered w [] = world_refusal w NothingInTransit
-down_delivered w (octets ∷ down) =
+abbrev pub down_deliver_step : World → List (List ℕ) → WorldOutcome
+down_deliver_step w [] = world_refusal w NothingInTransit
+down_deliver_step w (octets ∷ down) =
     world_after_telemetry w down (ground_step w.ground_node (on_ground.Telemetry octets))
 
-abbrev pub down_lost : World → List (List ℕ) → WorldOutcome
-down_lost w [] = world_refusal w NothingInTransit
-down_lost w (octets ∷ down) = world_reply Lost (record w { down = down })
+abbrev pub down_lose_step : World → List (List ℕ) → WorldOutcome
+down_lose_step w [] = world_refusal w NothingInTransit
+down_lose_step w (octets ∷ down) = world_reply Lost (record w { down = down })
 
-abbrev pub down_detected : World → List (List ℕ) → Result telemetry.FrameView TmFault → WorldOutcome
-down_detected w down (Ok frame) = world_refusal w NotDetectable
-down_detected w down (Err fault) =
+abbrev pub down_damage_outcome : World → List (List ℕ) → Result telemetry.FrameView TmFault
+    → WorldOutcome
+down_damage_outcome w down (Ok frame) = world_refusal w NotDetectable
+down_damage_outcome w down (Err fault) =
     world_reply (Down (heard_cases.Invalid fault)) (record w { down = down })
 
-abbrev pub down_damaged : World → List (List ℕ) → List ℕ → WorldOutcome
-down_damaged w [] damaged = world_refusal w NothingInTransit
-down_damaged w (octets ∷ down) damaged =
-    down_detected w down (telemetry_reading.frame_at w.ground_node.config.frame_length damaged)
+abbrev pub down_damage_step : World → List (List ℕ) → List ℕ → WorldOutcome
+down_damage_step w [] damaged = world_refusal w NothingInTransit
+down_damage_step w (octets ∷ down) damaged =
+    down_damage_outcome w down
+    (telemetry_reading.frame_at w.ground_node.config.frame_length damaged)
 
 -- a tick passes, packets are taken on board, and telemetry is queued there
 
@@ -336,13 +338,13 @@ world_step w (events.Bypass m octets) =
 world_step w (events.Directive directive) =
     world_after_directive w directive (ground_step w.ground_node (on_ground.Direct directive))
 world_step w events.Send = world_after_send w (ground_step w.ground_node on_ground.Pull)
-world_step w events.UpDeliver = up_delivered w w.up
-world_step w events.UpLose = up_lost w w.up
-world_step w (events.UpDamage octets) = up_damaged w w.up octets.now
+world_step w events.UpDeliver = up_deliver_step w w.up
+world_step w events.UpLose = up_lose_step w w.up
+world_step w (events.UpDamage octets) = up_damage_step w w.up octets.now
 world_step w events.Report = world_after_report w (spacecraft_step w.spacecraft on_board.Report)
-world_step w events.DownDeliver = down_delivered w w.down
-world_step w events.DownLose = down_lost w w.down
-world_step w (events.DownDamage octets) = down_damaged w w.down octets.now
+world_step w events.DownDeliver = down_deliver_step w w.down
+world_step w events.DownLose = down_lose_step w w.down
+world_step w (events.DownDamage octets) = down_damage_step w w.down octets.now
 world_step w events.Tick = world_after_tick w (ground_step w.ground_node on_ground.Tick)
 world_step w events.Take = world_after_take w (spacecraft_step w.spacecraft on_board.Take)
 world_step w events.TakeBypass =

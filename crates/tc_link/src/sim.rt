@@ -44,7 +44,7 @@ impl Sim {
     ghost use Rattle.tc_link.specs.Packets.{packet_view};
     ghost use Rattle.tc_link.specs.Parameters.{config_fault};
     ghost use Rattle.tc_link.specs.Replies.{reply_view};
-    ghost use Rattle.tc_link.specs.Simulation.{IsReplyTo, new_sim, recorded, refused_field, TakesNone};
+    ghost use Rattle.tc_link.specs.Simulation.{IsReplyTo, new_sim, refused_field, TakesNone};
     ghost use Rattle.tc_link.specs.Confirmation.{ConfirmsExactly, IsChecking, IsConfirmedExactly};
     ghost use Rattle.tc_link.specs.FalseAlarms.{HasNoFalseAlarm};
     ghost use Rattle.tc_link.specs.InOrder.{IsInOrder, HasPlainHistory};

@@ -1,4 +1,4 @@
-// What a simulated link is made of.
+// The world of a simulated link.
 
 mod accepting;
 mod calls;
@@ -43,11 +43,10 @@ impl Model for World {
 }
 
 impl World {
-    ghost use Rattle.std.specs.Prelude.{◌≡◌, map, length, IfOk, IfErr, IsOkUnless};
+    ghost use Rattle.std.specs.Prelude.{◌≡◌, map, IfOk, IsOkUnless};
     ghost use Rattle.tm_link.specs.Extraction.{octets_of};
     ghost use Rattle.tc_link.specs.Packets.{packet_view};
     ghost use Rattle.tc_link.specs.Parameters.{IsConfig};
-    ghost use Rattle.tc_link.specs.Ground.{outstanding};
     ghost use Rattle.tc_link.specs.World.{new_world, submitted, accepted, delivered};
 
     pub(crate) fn new(alloc: Global, config: &Config) -> Result<World, SimFault>

@@ -12,7 +12,7 @@ impl Ground {
     ghost use Rattle.tc_frame.specs.Writing.{total_of};
     ghost use Rattle.cop1.specs.FopNext.{units_of, seen_at, IsPlaced};
     ghost use Rattle.tc_link.specs.Frames.{size_of, written_over, BeginsWith};
-    ghost use Rattle.tc_link.specs.Ground.{ground_step, Pull, frame_of, frame_pulled};
+    ghost use Rattle.tc_link.specs.Ground.{ground_step, Pull, frame_of, frame_to_send};
 
     /// Writes the frame that goes on the link next, with its check, at the beginning of `out`, and says
     /// how many octets it has (CCSDS 232.0-B-4, 4.1): a control command, a segment past the sequence
@@ -35,11 +35,11 @@ impl Ground {
         requires placed { IsPlaced (units_of self.now.fop.sent) next.now }
         requires room { length out.old ≡ 1024 }
         ensures count { result ≡ size_of
-            (frame_pulled self.now.config (seen_at (units_of self.now.fop.sent) next.now)) }
+            (frame_to_send self.now.config (seen_at (units_of self.now.fop.sent) next.now)) }
         ensures frame { out.new ≡ written_over out.old
-            (frame_pulled self.now.config (seen_at (units_of self.now.fop.sent) next.now)) }
+            (frame_to_send self.now.config (seen_at (units_of self.now.fop.sent) next.now)) }
         ensures spells { BeginsWith out.new
-            (frame_pulled self.now.config (seen_at (units_of self.now.fop.sent) next.now)) }
+            (frame_to_send self.now.config (seen_at (units_of self.now.fop.sent) next.now)) }
     {
         match next {
             Next::Nothing => None,

@@ -6,7 +6,7 @@ use crate::heard::{Heard, HeardReport};
 use tm_link::{Gap, TmFrame, decode};
 
 impl Ground {
-    ghost use Rattle.std.specs.Prelude.{◌≡◌, [], IsErr, IsOk, IfOk, IfErr, OnOk, OnErr, IsTrue, length};
+    ghost use Rattle.std.specs.Prelude.{◌≡◌, [], IsOk, IfOk, IfErr, OnOk, OnErr, IsTrue, length};
     ghost use Rattle.tm_link.specs.Extraction.{extract_step};
     ghost use Rattle.tm_link.specs.Layout.{frame_view, pointer_fits};
     ghost use Rattle.tm_link.specs.Reading.{frame_at};

@@ -1,4 +1,4 @@
-// What the ground tells a simulated link, and what it sends there.
+// What a simulated link asks of the ground, and how the ground sends there.
 
 use super::Ground;
 use crate::copying::copy_front;

@@ -32,12 +32,12 @@ pub fn run(alloc: Global, config: Config, events: &[Event<'_>]) -> Result<Sim, S
 impl Sim {
     ghost use Rattle.std.specs.Prelude.{OnOk};
     ghost use Rattle.tc_link.specs.Reached.{IsEvent};
-    ghost use Rattle.tc_link.specs.Simulation.{recorded};
+    ghost use Rattle.tc_link.specs.Simulation.{record_step};
 
     // Lets an event happen, and keeps what was answered.
     #[tactic(auto, using(crate::proofs::Refusing::refused_keeps))]
     fn record_step(&mut self, event: Event<'_>) -> Result<(), SimFault>
-        ensures ok { OnOk result (self.new ≡ recorded self.old event.entry) }
+        ensures ok { OnOk result (self.new ≡ record_step self.old event.entry) }
         ensures fault { IsOkUnless result SimFault.Memory }
         ensures octets { OnOk result (IsEvent event.entry) }
     {

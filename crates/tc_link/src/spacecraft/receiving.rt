@@ -10,12 +10,11 @@ use map_service::Dropped;
 use tc_frame::{Body, Check, Command, Segment, TcFrame, decode};
 
 impl Spacecraft {
-    ghost use Rattle.std.specs.Prelude.{◌≡◌, length, IsErr, IsOk, IsTrue, IfOk, IfErr, OnOk, OnErr};
+    ghost use Rattle.std.specs.Prelude.{◌≡◌, length, IsErr, IsOk, IfOk, IfErr, OnOk, OnErr};
     ghost use Rattle.cop1.specs.Farm.{verdict_of};
     ghost use Rattle.tc_frame.specs.declared.frame.Check.TheVariants.{On};
     ghost use Rattle.tc_frame.specs.Layout.{frame_view, segment_view};
     ghost use Rattle.tc_frame.specs.Reading.{frame_at};
-    ghost use Rattle.tc_link.specs.Parameters.{limits_of};
     ghost use Rattle.tc_link.specs.BypassSegments.{is_kept};
     ghost use Rattle.tc_link.specs.Spacecraft.{spacecraft_step, Receive, is_free, is_own_frame, is_accepted, assemble_step, after_segment, after_farm, command_event, receive_sequence_step, receive_bypass_step};
 

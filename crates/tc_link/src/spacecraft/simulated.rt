@@ -1,4 +1,4 @@
-// What the spacecraft tells a simulated link.
+// What a simulated link asks of the spacecraft, and how the spacecraft sends there.
 
 use super::Spacecraft;
 use crate::copying::copy_front;

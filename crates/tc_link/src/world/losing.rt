@@ -9,7 +9,7 @@ use crate::sim::SimFault;
 use tc_frame::Check;
 
 impl World {
-    ghost use Rattle.std.specs.Prelude.{◌≡◌, Ok, Err, IfOk, IfErr, OnOk, OnErr};
+    ghost use Rattle.std.specs.Prelude.{◌≡◌, Ok, Err, IfOk, IfErr};
     ghost use Rattle.tc_link.specs.Simulation.{IsReplyTo};
     ghost use Rattle.tc_link.specs.World.{world_step};
 

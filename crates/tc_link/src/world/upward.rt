@@ -1,6 +1,6 @@
 // What goes to the spacecraft: telecommand frames.
 
-ghost use Rattle.std.specs.Prelude.{◌≡◌, ◌<◌, ◌≤◌, [], ◌++◌, IfOk, IsOkUnless, length, option_to_list, option_map};
+ghost use Rattle.std.specs.Prelude.{◌≡◌, ◌<◌, ◌≤◌, [], ◌++◌, IfOk, IsOkUnless, option_to_list, option_map};
 ghost use Rattle.std.specs.Vec.{vec_len, vec_capacity};
 ghost use Rattle.tm_link.specs.Extraction.{octets_of};
 
