@@ -10,7 +10,7 @@ use Rattle.cop1.specs.declared.farm.Verdict.TheVariants.{Accepted, Ahead, NoBuff
 use Rattle.cop1.specs.Farm.{verdict_of}
 use Rattle.tc_link.specs.declared.received.Received.{Received}
 use Rattle.tc_link.specs.declared.received.Received.TheVariants.{Foreign}
-use Rattle.tc_link.specs.Spacecraft.{SpacecraftState, SpacecraftOutcome, spacecraft_receive, frame_arrived, body_arrived, sequence_arrived, bypass_arrived, is_free, is_own_frame, is_accepted}
+use Rattle.tc_link.specs.Spacecraft.{SpacecraftState, SpacecraftOutcome, spacecraft_receive, frame_outcome, body_outcome, sequence_outcome, bypass_outcome, is_free, is_own_frame, is_accepted}
 use Rattle.tc_link.specs.BypassSegments.{is_kept}
 use Rattle.tc_link.specs.Parameters.{limits_of}
 use Rattle.tc_link.specs.Acceptance.{segment_in_body, segment_in_frame, segment_to_accept}
@@ -19,7 +19,7 @@ same : {A : Type 0} (xs : List A) → xs ≡ xs ++ []
 same xs = sym (append-nil xs)
 
 in_sequence : (s : SpacecraftState) (n : ℕ) (segment : SegmentView) (verdict : Verdict)
-    → (sequence_arrived s n segment verdict).after.accepted ≡ s.accepted ++ option_to_list (if is_accepted verdict then Some segment else None)
+    → (sequence_outcome s n segment verdict).after.accepted ≡ s.accepted ++ option_to_list (if is_accepted verdict then Some segment else None)
 in_sequence s n segment Accepted = refl
 in_sequence s n segment Ahead = same s.accepted
 in_sequence s n segment NoBuffer = same s.accepted
@@ -27,11 +27,11 @@ in_sequence s n segment Behind = same s.accepted
 in_sequence s n segment Outside = same s.accepted
 in_sequence s n segment Discarded = same s.accepted
 
-in_bypass : (s : SpacecraftState) (segment : SegmentView) (kept : Bool) → (bypass_arrived s segment kept).after.accepted ≡ s.accepted ++ []
+in_bypass : (s : SpacecraftState) (segment : SegmentView) (kept : Bool) → (bypass_outcome s segment kept).after.accepted ≡ s.accepted ++ []
 in_bypass s segment true = same s.accepted
 in_bypass s segment false = same s.accepted
 
-in_own : (s : SpacecraftState) (body : BodyView) → (body_arrived s body).after.accepted ≡ s.accepted ++ option_to_list (segment_in_body s body)
+in_own : (s : SpacecraftState) (body : BodyView) → (body_outcome s body).after.accepted ≡ s.accepted ++ option_to_list (segment_in_body s body)
 in_own s (Ad n segment) = in_sequence s n segment (verdict_of s.farm n (is_free s))
 in_own s (Bd segment) = in_bypass s segment (is_kept (limits_of s.config) segment)
 in_own s (Bc command) = same s.accepted
@@ -40,11 +40,11 @@ abbrev pub foreign : SpacecraftState → SpacecraftOutcome Received
 foreign s = record { answer = Foreign; after = s }
 
 in_any : (s : SpacecraftState) (frame : FrameView) (own : Bool)
-    → (if own then body_arrived s frame.body else foreign s).after.accepted ≡ s.accepted ++ option_to_list (if own then segment_in_body s frame.body else None)
+    → (if own then body_outcome s frame.body else foreign s).after.accepted ≡ s.accepted ++ option_to_list (if own then segment_in_body s frame.body else None)
 in_any s frame true = in_own s frame.body
 in_any s frame false = same s.accepted
 
-in_read : (s : SpacecraftState) (r : Result FrameView TcFault) → (frame_arrived s r).after.accepted ≡ s.accepted ++ option_to_list (segment_in_frame s r)
+in_read : (s : SpacecraftState) (r : Result FrameView TcFault) → (frame_outcome s r).after.accepted ≡ s.accepted ++ option_to_list (segment_in_frame s r)
 in_read s (Err fault) = same s.accepted
 in_read s (Ok frame) = in_any s frame (is_own_frame s.config frame)
 

@@ -19,7 +19,7 @@ use Rattle.cop1.specs.Farm.{FarmState, verdict_of, after_verdict, after_unlock, 
 use Rattle.tc_link.specs.declared.config.Config.{Config}
 use Rattle.tc_link.specs.Parameters.{limits_of}
 use Rattle.tc_link.specs.BypassSegments.{is_kept}
-use Rattle.tc_link.specs.Spacecraft.{SpacecraftState, frame_arrived, body_arrived, sequence_arrived, bypass_arrived, after_segment, is_free}
+use Rattle.tc_link.specs.Spacecraft.{SpacecraftState, frame_outcome, body_outcome, sequence_outcome, bypass_outcome, after_segment, is_free}
 use Rattle.tc_link.specs.Ground.{frame_of}
 use Rattle.tc_link.specs.World.{World, up_deliver_step, up_lose_step, up_damage_outcome, up_damage_step}
 use Rattle.tc_link.specs.PlainLink.{more, takes, leaves}
@@ -34,9 +34,9 @@ bit_most : (b : Bool) → bit b ≤ 1
 bit_most true = omega arith
 bit_most false = omega arith
 
-pub own_arrives : (s : SpacecraftState) (c : Config) (f : BodyView) (r : Result FrameView TcFault) → s.config ≡ c → r ≡ Ok (frame_of c f) → frame_arrived s r ≡ body_arrived s f
+pub own_arrives : (s : SpacecraftState) (c : Config) (f : BodyView) (r : Result FrameView TcFault) → s.config ≡ c → r ≡ Ok (frame_of c f) → frame_outcome s r ≡ body_outcome s f
 own_arrives s c f r is reads =
-    ap (frame_arrived s) reads ∙ rw (is, eq-eqb c.scid c.scid refl, eq-eqb c.vcid c.vcid refl) refl
+    ap (frame_outcome s) reads ∙ rw (is, eq-eqb c.scid c.scid refl, eq-eqb c.vcid c.vcid refl) refl
 
 -- ---- a Type-AD frame
 
@@ -51,7 +51,7 @@ accepted_by s u Discarded = s
 abbrev judged : SpacecraftState → SegmentView → Verdict → SpacecraftState
 judged s u v = record (accepted_by s u v) { farm = after_verdict s.farm v }
 
-judged_is : (s : SpacecraftState) (n : ℕ) (u : SegmentView) (v : Verdict) → verdict_of s.farm n (is_free s) ≡ v → (sequence_arrived s n u v).after ≡ judged s u v
+judged_is : (s : SpacecraftState) (n : ℕ) (u : SegmentView) (v : Verdict) → verdict_of s.farm n (is_free s) ≡ v → (sequence_outcome s n u v).after ≡ judged s u v
 judged_is s n u Accepted e = ap (λ v. record (after_segment s u) { farm = after_verdict s.farm v }) e
 judged_is s n u Ahead e = ap (λ v. record s { farm = after_verdict s.farm v }) e
 judged_is s n u NoBuffer e = ap (λ v. record s { farm = after_verdict s.farm v }) e
@@ -160,7 +160,7 @@ module _ (c : Config) (d : Directive) (base : ℕ) (w : World) (k : Steady c w) 
       other_keeps (record w.spacecraft { farm = after_set_vr w.spacecraft.farm y Wait }) up refl (let none = g.linked.first front in omega (arith, g.linked.vr_is, g.linked.base_octet)) (λ checked. let m = g.calm checked in (m.unlocked, sym (m.clear front)))
   set_keeps y Lockout front y_is up = other_keeps (record w.spacecraft { farm = counted w.spacecraft.farm }) up refl refl (λ checked. let m = g.calm checked in (m.unlocked, refl))
 
-  control_keeps : (command : Command) (e : Directive) → e ≡ d → g.front ≡ true → CommandFits e base command → UpIs d base g.front fs g.plain.up → Late c d base (record w { up = bs; spacecraft = (body_arrived w.spacecraft (Bc command)).after })
+  control_keeps : (command : Command) (e : Directive) → e ≡ d → g.front ≡ true → CommandFits e base command → UpIs d base g.front fs g.plain.up → Late c d base (record w { up = bs; spacecraft = (body_outcome w.spacecraft (Bc command)).after })
   control_keeps Unlock e is front fits up = unlock_keeps w.spacecraft.farm.state front up
   control_keeps (SetVr y) InitUnlock is front fits up = elim fits [ ]
   control_keeps (SetVr y) (InitSetVr x) is front fits up = set_keeps y w.spacecraft.farm.state front fits up
@@ -172,13 +172,13 @@ module _ (c : Config) (d : Directive) (base : ℕ) (w : World) (k : Steady c w) 
   control_keeps (SetVr y) (SetLimit x) is front fits up = elim fits [ ]
   control_keeps (SetVr y) (SetTimer x) is front fits up = elim fits [ ]
 
-  bypass_keeps : (s : SegmentView) (kept : Bool) → UpIs d base g.front fs g.plain.up → Late c d base (record w { up = bs; spacecraft = (bypass_arrived w.spacecraft s kept).after })
-  bypass_keeps s true up = other_keeps (bypass_arrived w.spacecraft s true).after up refl refl (λ checked. ((g.calm checked).unlocked, refl))
-  bypass_keeps s false up = other_keeps (bypass_arrived w.spacecraft s false).after up refl refl (λ checked. ((g.calm checked).unlocked, refl))
+  bypass_keeps : (s : SegmentView) (kept : Bool) → UpIs d base g.front fs g.plain.up → Late c d base (record w { up = bs; spacecraft = (bypass_outcome w.spacecraft s kept).after })
+  bypass_keeps s true up = other_keeps (bypass_outcome w.spacecraft s true).after up refl refl (λ checked. ((g.calm checked).unlocked, refl))
+  bypass_keeps s false up = other_keeps (bypass_outcome w.spacecraft s false).after up refl refl (λ checked. ((g.calm checked).unlocked, refl))
 
   -- ---- each frame
 
-  body_keeps : (f : BodyView) (qs : List (ℕ × SegmentView)) → g.plain.up ≡ qs → UpIs d base g.front (f ∷ fs) qs → Fits (c.width / 2) g.plain.n g.plain.units g.plain.r qs → Late c d base (record w { up = bs; spacecraft = (body_arrived w.spacecraft f).after })
+  body_keeps : (f : BodyView) (qs : List (ℕ × SegmentView)) → g.plain.up ≡ qs → UpIs d base g.front (f ∷ fs) qs → Fits (c.width / 2) g.plain.n g.plain.units g.plain.r qs → Late c d base (record w { up = bs; spacecraft = (body_outcome w.spacecraft f).after })
   body_keeps (Bd s) qs also up fit = bypass_keeps s (is_kept (limits_of w.spacecraft.config) s) (rw also up)
   body_keeps (Bc command) qs also up fit = control_keeps command d refl up.0 up.1 (rw also up.2)
   body_keeps (Ad n u) [] also up fit = elim up [ ]

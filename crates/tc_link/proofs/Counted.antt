@@ -31,7 +31,7 @@ use Rattle.tm_link.specs.Layout as telemetry
 use Rattle.tc_link.specs.declared.config.Config.{Config}
 use Rattle.tc_link.specs.declared.fault.LinkFault.{LinkFault}
 use Rattle.tc_link.specs.declared.heard.Heard.{Heard}
-use Rattle.tc_link.specs.Ground.{GroundState, GroundOutcome, settle_step, with_fop, unless_refused, after_submission, after_bypass, directive_outcome, after_extraction, own_frame_arrived, telemetry_arrived, frame_to_send}
+use Rattle.tc_link.specs.Ground.{GroundState, GroundOutcome, settle_step, with_fop, unless_refused, after_submission, after_bypass, directive_outcome, after_extraction, own_frame_outcome, telemetry_outcome, frame_to_send}
 use Rattle.tc_link.specs.Ground as ground
 use Rattle.tc_link.specs.World.{first_sent, is_initiation}
 use Rattle.tc_link.proofs.Settled.{settled_keeps}
@@ -266,13 +266,13 @@ module _ (s : GroundState) (fop : IsFop s.fop) (octet : s.fop.nn < 256) where
   settled_less : (t : GroundState) → IsLess t → IsLess (settle_step t)
   settled_less t le = let is = settled_sent t in rw (is.0, is.1) le
 
-  word_less : (x : Extracted) (r : Result Clcw ClcwFault) → IsLess (own_frame_arrived s x r).after
+  word_less : (x : Extracted) (r : Result Clcw ClcwFault) → IsLess (own_frame_outcome s x r).after
   word_less x (Err fault) = same_less (after_extraction s x) refl
   word_less x (Ok report) = cond_both (report.vcid == s.config.vcid) _ _ (λ (o : GroundOutcome Heard). IsLess o.after)
       (λ t. settled_less (record (after_extraction s x) { fop = (heard_by s.fop report).after }) (report_gone s.fop fop octet report s.fop.state refl)) (λ t. same_less (after_extraction s x) refl)
 
   -- when octets arrive
-  pub heard_less : (r : Result telemetry.FrameView TmFault) → IsLess (telemetry_arrived s r).after
+  pub heard_less : (r : Result telemetry.FrameView TmFault) → IsLess (telemetry_outcome s r).after
   heard_less (Err fault) = same_less s refl
   heard_less (Ok frame) = cond_both (ground.is_own_telemetry s.config frame) _ _ (λ (o : GroundOutcome Heard). IsLess o.after) (λ t. word_less (extract_step s.extractor frame) (clcw_at frame.ocf)) (λ t. same_less s refl)
 

@@ -14,7 +14,7 @@ use Rattle.tc_link.specs.declared.received.Received.{Received}
 use Rattle.tc_link.specs.Parameters.{limits_of}
 use Rattle.tc_link.specs.BypassSegments.{is_kept}
 use Rattle.tc_link.specs.Packets.{packets_on}
-use Rattle.tc_link.specs.Spacecraft.{SpacecraftState, SpacecraftOutcome, is_free, is_own_frame, is_accepted, assemble_step, sequence_arrived, bypass_arrived, body_arrived, frame_arrived}
+use Rattle.tc_link.specs.Spacecraft.{SpacecraftState, SpacecraftOutcome, is_free, is_own_frame, is_accepted, assemble_step, sequence_outcome, bypass_outcome, body_outcome, frame_outcome}
 use Rattle.tc_link.specs.Delivery.{of_map, delivered_on, HasDelivered, DeliversWhatItReceives}
 
 of_its_map : (m : ℕ) (packets : List (List ℕ)) → of_map m (packets_on m packets) ≡ packets
@@ -49,7 +49,7 @@ module _
               (keeps (limits_of s.config) s.accepted segment m apart ∙ sym (append-nil (delivered_on m s)))
         ]
 
-    sequence_delivers : (s : SpacecraftState) (n : ℕ) (segment : SegmentView) (verdict : Verdict) → HasDelivered s (sequence_arrived s n segment verdict).after
+    sequence_delivers : (s : SpacecraftState) (n : ℕ) (segment : SegmentView) (verdict : Verdict) → HasDelivered s (sequence_outcome s n segment verdict).after
     sequence_delivers s n segment verdict =
         cond_both (is_accepted verdict) _ _ (λ (o : SpacecraftOutcome Received). HasDelivered s o.after)
         (λ _. record {
@@ -59,19 +59,19 @@ module _
         })
         (λ _. same_delivered s _ refl refl refl)
 
-    bypass_delivers : (s : SpacecraftState) (segment : SegmentView) (kept : Bool) → HasDelivered s (bypass_arrived s segment kept).after
+    bypass_delivers : (s : SpacecraftState) (segment : SegmentView) (kept : Bool) → HasDelivered s (bypass_outcome s segment kept).after
     bypass_delivers s segment true = same_delivered s _ refl refl refl
     bypass_delivers s segment false = same_delivered s _ refl refl refl
 
-    body_delivers : (s : SpacecraftState) (body : BodyView) → HasDelivered s (body_arrived s body).after
+    body_delivers : (s : SpacecraftState) (body : BodyView) → HasDelivered s (body_outcome s body).after
     body_delivers s (Ad n segment) = sequence_delivers s n segment (verdict_of s.farm n (is_free s))
     body_delivers s (Bd segment) = bypass_delivers s segment (is_kept (limits_of s.config) segment)
     body_delivers s (Bc command) = same_delivered s _ refl refl refl
 
-    frame_delivers : (s : SpacecraftState) (frame : Result FrameView TcFault) → HasDelivered s (frame_arrived s frame).after
+    frame_delivers : (s : SpacecraftState) (frame : Result FrameView TcFault) → HasDelivered s (frame_outcome s frame).after
     frame_delivers s (Err fault) = same_delivered s s refl refl refl
     frame_delivers s (Ok frame) =
-        cond_both (is_own_frame s.config frame) (body_arrived s frame.body) _ (λ (o : SpacecraftOutcome Received). HasDelivered s o.after)
+        cond_both (is_own_frame s.config frame) (body_outcome s frame.body) _ (λ (o : SpacecraftOutcome Received). HasDelivered s o.after)
         (λ _. body_delivers s frame.body) (λ _. same_delivered s s refl refl refl)
 
     pub delivers : DeliversWhatItReceives

@@ -19,7 +19,7 @@ use Rattle.cop1.specs.Report.{report_of}
 use Rattle.tm_link.specs.Building.{is_to_send, queued}
 use Rattle.tm_link.specs.Writing as telemetry_writing
 use Rattle.tc_link.specs.declared.config.Config.{Config}
-use Rattle.tc_link.specs.Spacecraft.{SpacecraftState, spacecraft_step, Report, spacecraft_report, body_arrived, bypass_arrived, spacecraft_take, spacecraft_take_bypass, spacecraft_telemetry}
+use Rattle.tc_link.specs.Spacecraft.{SpacecraftState, spacecraft_step, Report, spacecraft_report, body_outcome, bypass_outcome, spacecraft_take, spacecraft_take_bypass, spacecraft_telemetry}
 use Rattle.tc_link.specs.BypassSegments.{is_kept}
 use Rattle.tc_link.specs.Packets.{PacketOn}
 use Rattle.tc_link.specs.Parameters.{limits_of}
@@ -61,7 +61,7 @@ module _ (c : Config) (d : Directive) (base : ℕ) (w : World) (k : Steady c w) 
     sets y Wait other is = spacecraft_early bs fs (record w.spacecraft { farm = after_set_vr w.spacecraft.farm y Wait }) rest up refl (λ good. (good.0, refl, refl, is)) (λ e. absurd (other e))
     sets y Lockout other is = still (record w.spacecraft { farm = counted w.spacecraft.farm }) refl refl refl refl refl
 
-    control_early : (command : Command) (e : Directive) → e ≡ d → CommandFits e base command → Begun c d base (record w { up = bs; spacecraft = (body_arrived w.spacecraft (Bc command)).after })
+    control_early : (command : Command) (e : Directive) → e ≡ d → CommandFits e base command → Begun c d base (record w { up = bs; spacecraft = (body_outcome w.spacecraft (Bc command)).after })
     control_early Unlock InitUnlock is fits = unlocks w.spacecraft.farm.state (λ x. absurd (cc (is, x)))
     control_early (SetVr y) (InitSetVr x) is fits = sets y w.spacecraft.farm.state (λ x. absurd (cc (is, x))) fits
     control_early Unlock (InitSetVr x) is fits = elim fits [ ]
@@ -74,16 +74,16 @@ module _ (c : Config) (d : Directive) (base : ℕ) (w : World) (k : Steady c w) 
     control_early command (SetLimit x) is fits = elim fits [ ]
     control_early command (SetTimer x) is fits = elim fits [ ]
 
-    bypass_early : (s : SegmentView) (kept : Bool) → Begun c d base (record w { up = bs; spacecraft = (bypass_arrived w.spacecraft s kept).after })
-    bypass_early s true = still (bypass_arrived w.spacecraft s true).after refl refl refl refl refl
-    bypass_early s false = still (bypass_arrived w.spacecraft s false).after refl refl refl refl refl
+    bypass_early : (s : SegmentView) (kept : Bool) → Begun c d base (record w { up = bs; spacecraft = (bypass_outcome w.spacecraft s kept).after })
+    bypass_early s true = still (bypass_outcome w.spacecraft s true).after refl refl refl refl refl
+    bypass_early s false = still (bypass_outcome w.spacecraft s false).after refl refl refl refl refl
 
     release_early : (left : List PacketOn) (mode : FarmMode) → Begun c d base (record w { up = bs; spacecraft = record w.spacecraft { ready = left; farm = after_release w.spacecraft.farm mode } })
     release_early left Open = still (record w.spacecraft { ready = left }) refl refl refl refl refl
     release_early left Wait = spacecraft_early bs fs (record w.spacecraft { ready = left; farm = after_release w.spacecraft.farm Wait }) rest up refl (λ good. (good.0, refl, good.2, good.3)) (λ e. (refl, refl, refl))
     release_early left Lockout = spacecraft_early bs fs (record w.spacecraft { ready = left; farm = after_release w.spacecraft.farm Lockout }) rest up refl (λ good. (good.0, refl, good.2, good.3)) (λ e. (refl, refl, refl))
 
-  body_early : (f : BodyView) (bs : List (List ℕ)) (fs : List BodyView) → Carries c bs fs → UpIs d base true (f ∷ fs) [] → Begun c d base (record w { up = bs; spacecraft = (body_arrived w.spacecraft f).after })
+  body_early : (f : BodyView) (bs : List (List ℕ)) (fs : List BodyView) → Carries c bs fs → UpIs d base true (f ∷ fs) [] → Begun c d base (record w { up = bs; spacecraft = (body_outcome w.spacecraft f).after })
   body_early (Bd s) bs fs rest up = bypass_early bs fs rest up s (is_kept (limits_of w.spacecraft.config) s)
   body_early (Bc command) bs fs rest up = control_early bs fs rest up.2 command d refl up.1
   body_early (Ad n s) bs fs rest up = elim up [ ]

@@ -14,7 +14,7 @@ use Rattle.cop1.specs.declared.farm.Verdict.{Verdict}
 use Rattle.cop1.specs.declared.farm.Verdict.TheVariants.{Accepted, Ahead, NoBuffer, Behind, Outside, Discarded}
 use Rattle.cop1.specs.Farm.{verdict_of}
 use Rattle.tc_link.specs.declared.config.Config.{Config}
-use Rattle.tc_link.specs.Spacecraft.{SpacecraftState, spacecraft_receive, frame_arrived, body_arrived, sequence_arrived, bypass_arrived, is_free, is_own_frame}
+use Rattle.tc_link.specs.Spacecraft.{SpacecraftState, spacecraft_receive, frame_outcome, body_outcome, sequence_outcome, bypass_outcome, is_free, is_own_frame}
 use Rattle.tc_link.specs.Acceptance.{segment_to_accept, acceptance_with}
 use Rattle.tc_link.specs.BypassSegments.{is_kept}
 use Rattle.tc_link.specs.WorldFields.{packets_accepted_on}
@@ -23,7 +23,7 @@ use Rattle.tc_link.proofs.AcceptedSegments.{accepts_segment, foreign}
 
 -- ---- the configuration stays
 
-in_sequence : (s : SpacecraftState) (n : ℕ) (segment : SegmentView) (verdict : Verdict) → (sequence_arrived s n segment verdict).after.config ≡ s.config
+in_sequence : (s : SpacecraftState) (n : ℕ) (segment : SegmentView) (verdict : Verdict) → (sequence_outcome s n segment verdict).after.config ≡ s.config
 in_sequence s n segment Accepted = refl
 in_sequence s n segment Ahead = refl
 in_sequence s n segment NoBuffer = refl
@@ -31,20 +31,20 @@ in_sequence s n segment Behind = refl
 in_sequence s n segment Outside = refl
 in_sequence s n segment Discarded = refl
 
-in_bypass : (s : SpacecraftState) (segment : SegmentView) (kept : Bool) → (bypass_arrived s segment kept).after.config ≡ s.config
+in_bypass : (s : SpacecraftState) (segment : SegmentView) (kept : Bool) → (bypass_outcome s segment kept).after.config ≡ s.config
 in_bypass s segment true = refl
 in_bypass s segment false = refl
 
-in_own : (s : SpacecraftState) (body : BodyView) → (body_arrived s body).after.config ≡ s.config
+in_own : (s : SpacecraftState) (body : BodyView) → (body_outcome s body).after.config ≡ s.config
 in_own s (Ad n segment) = in_sequence s n segment (verdict_of s.farm n (is_free s))
 in_own s (Bd segment) = in_bypass s segment (is_kept (limits_of s.config) segment)
 in_own s (Bc command) = refl
 
-in_any : (s : SpacecraftState) (frame : FrameView) (own : Bool) → (if own then body_arrived s frame.body else foreign s).after.config ≡ s.config
+in_any : (s : SpacecraftState) (frame : FrameView) (own : Bool) → (if own then body_outcome s frame.body else foreign s).after.config ≡ s.config
 in_any s frame true = in_own s frame.body
 in_any s frame false = refl
 
-in_read : (s : SpacecraftState) (r : Result FrameView TcFault) → (frame_arrived s r).after.config ≡ s.config
+in_read : (s : SpacecraftState) (r : Result FrameView TcFault) → (frame_outcome s r).after.config ≡ s.config
 in_read s (Err fault) = refl
 in_read s (Ok frame) = in_any s frame (is_own_frame s.config frame)
 

@@ -24,7 +24,7 @@ use Rattle.tc_link.specs.declared.heard.Heard.{Heard}
 use Rattle.tc_link.specs.declared.heard.Heard.TheVariants.{Frame}
 use Rattle.tc_link.specs.declared.heard.HeardReport.TheVariants.{Used}
 use Rattle.tc_link.specs.Spacecraft.{spacecraft_step, Report, spacecraft_report}
-use Rattle.tc_link.specs.Ground.{GroundState, GroundOutcome, is_closed, unsent_segments, with_fop, after_extraction, ground_telemetry, telemetry_arrived, own_frame_arrived}
+use Rattle.tc_link.specs.Ground.{GroundState, GroundOutcome, is_closed, unsent_segments, with_fop, after_extraction, ground_telemetry, telemetry_outcome, own_frame_outcome}
 use Rattle.tc_link.specs.World.{World, confirms, session_after_report, world_after_report, down_deliver_step, down_lose_step, down_damage_outcome, down_damage_step}
 use Rattle.tc_link.specs.PlainLink.{more, reports as tells, loses_down, hears, ignores, PlainRun, new_link}
 use Rattle.tc_link.specs.Confirmation.{IsChecked}
@@ -48,9 +48,9 @@ pub used_is : (c : Config) (s : GroundState) (octets : List ℕ) (report : Clcw)
 used_is c s octets report is t =
     let reads : telemetry_reading.frame_at s.config.frame_length octets ≡ Ok t.frame = rw is t.reads in
     let x : Extracted = extract_step s.extractor t.frame in
-    ap (telemetry_arrived s) reads
+    ap (telemetry_outcome s) reads
     ∙ rw (eq-eqb t.frame.scid s.config.scid (rw is t.scid), eq-eqb t.frame.vcid s.config.tm_vcid (rw is t.vcid)) (
-    ap (own_frame_arrived s x) t.word ∙ rw (eq-eqb report.vcid s.config.vcid (rw is t.own)) refl
+    ap (own_frame_outcome s x) t.word ∙ rw (eq-eqb report.vcid s.config.vcid (rw is t.own)) refl
     )
 
 -- ---- what a report leads to

@@ -26,7 +26,7 @@ use Rattle.tc_link.specs.declared.event.Event.TheVariants as events
 use Rattle.tc_link.specs.BypassSegments.{is_kept}
 use Rattle.tc_link.specs.Packets.{PacketOn}
 use Rattle.tc_link.specs.Parameters.{limits_of}
-use Rattle.tc_link.specs.Spacecraft.{SpacecraftState, SpacecraftOutcome, body_arrived, bypass_arrived, spacecraft_take, spacecraft_take_bypass, spacecraft_telemetry}
+use Rattle.tc_link.specs.Spacecraft.{SpacecraftState, SpacecraftOutcome, body_outcome, bypass_outcome, spacecraft_take, spacecraft_take_bypass, spacecraft_telemetry}
 use Rattle.tc_link.specs.Ground.{GroundState, with_fop, frame_to_send, directive_outcome}
 use Rattle.tc_link.specs.World.{World, world_step, is_initiation, session_begun_by, session_after_directive, world_after_pull, up_deliver_step, up_lose_step, up_damage_outcome, up_damage_step, down_deliver_step, down_lose_step, down_damage_outcome, down_damage_step, directive_of}
 use Rattle.tc_link.specs.Confirmation.{ConfirmsExactly, IsChecked, IsChecking}
@@ -107,12 +107,12 @@ set_by s x Open is = is
 set_by s x Wait is = is
 set_by s x Lockout is = is
 
-bypass_by : (s : SpacecraftState) (u : SegmentView) (kept : Bool) → s.farm.lockout ≡ false → (bypass_arrived s u kept).after.farm.lockout ≡ false
+bypass_by : (s : SpacecraftState) (u : SegmentView) (kept : Bool) → s.farm.lockout ≡ false → (bypass_outcome s u kept).after.farm.lockout ≡ false
 bypass_by s u true is = is
 bypass_by s u false is = is
 
 module _ (c : Config) (d : Directive) (base : ℕ) (w : World) (k : Steady c w) where
-  body_by : (f : BodyView) (fs : List BodyView) → UpIs d base true (f ∷ fs) [] → w.spacecraft.farm.lockout ≡ false → (body_arrived w.spacecraft f).after.farm.lockout ≡ false
+  body_by : (f : BodyView) (fs : List BodyView) → UpIs d base true (f ∷ fs) [] → w.spacecraft.farm.lockout ≡ false → (body_outcome w.spacecraft f).after.farm.lockout ≡ false
   body_by (Ad n u) fs up is = elim up [ ]
   body_by (Bd u) fs up is = bypass_by w.spacecraft u (is_kept (limits_of w.spacecraft.config) u) is
   body_by (Bc Unlock) fs up is = unlocked_by w.spacecraft.farm w.spacecraft.farm.state is

@@ -7,7 +7,7 @@ use Rattle.cop1.specs.declared.fop.FopMode.TheVariants.{S1, S2, S3, S4, S5, S6}
 use Rattle.cop1.specs.FopState.{FopState, SentUnit}
 use Rattle.cop1.specs.FopNext.{units_of}
 use Rattle.tc_link.specs.declared.config.Config.{Config}
-use Rattle.tc_link.specs.Ground.{GroundState, is_closed, unsent_segments, moved_up, settle_in, settle_step, with_fop}
+use Rattle.tc_link.specs.Ground.{GroundState, is_closed, unsent_segments, after_moving_up, settle_in, settle_step, with_fop}
 use Rattle.tc_link.specs.World.{World}
 use Rattle.tc_link.proofs.Linked.{Late, Held}
 use Rattle.tc_link.proofs.Reports.{IsLate, asked}
@@ -20,7 +20,7 @@ module _ (P : GroundState → Type 0) (s : GroundState) (each : (waiting : Optio
     → (is_closed s.fop.state ≡ false → option_to_list waiting ++ pending ≡ unsent_segments s)
     → (is_closed s.fop.state ≡ true → (waiting ≡ s.fop.waiting) × (pending ≡ []))
     → P (queued_as s waiting pending)) where
-  moved : (o : Option SegmentView) (ps : List SegmentView) → s.fop.waiting ≡ o → s.pending ≡ ps → is_closed s.fop.state ≡ false → P (moved_up s o ps)
+  moved : (o : Option SegmentView) (ps : List SegmentView) → s.fop.waiting ≡ o → s.pending ≡ ps → is_closed s.fop.state ≡ false → P (after_moving_up s o ps)
   moved (Some u) ps has is on = each s.fop.waiting s.pending (λ e. refl) (λ e. absurd cc)
   moved None [] has is on = each s.fop.waiting s.pending (λ e. refl) (λ e. absurd cc)
   moved None (u ∷ ps) has is on = each (Some u) ps (λ e. rw (has, is) refl) (λ e. absurd cc)

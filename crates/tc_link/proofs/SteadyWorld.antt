@@ -45,8 +45,8 @@ use Rattle.tc_link.specs.BypassSegments.{is_kept}
 use Rattle.tc_link.specs.OwnedFields.{FitsFrame}
 use Rattle.tc_link.specs.Packets.{PacketOn}
 use Rattle.tc_link.specs.Parameters.{IsConfig, limits_of}
-use Rattle.tc_link.specs.Spacecraft.{SpacecraftState, SpacecraftOutcome, spacecraft_report, frame_arrived, body_arrived, sequence_arrived, bypass_arrived, command_event, is_free, is_own_frame, spacecraft_take, spacecraft_take_bypass, spacecraft_telemetry}
-use Rattle.tc_link.specs.Ground.{GroundState, is_closed, unsent_segments, settle_step, with_fop, frame_to_send, directive_outcome, submit_fault, after_submission, bypass_fault, after_bypass, unless_refused, after_extraction, ground_telemetry, telemetry_arrived, own_frame_arrived}
+use Rattle.tc_link.specs.Spacecraft.{SpacecraftState, SpacecraftOutcome, spacecraft_report, frame_outcome, body_outcome, sequence_outcome, bypass_outcome, command_event, is_free, is_own_frame, spacecraft_take, spacecraft_take_bypass, spacecraft_telemetry}
+use Rattle.tc_link.specs.Ground.{GroundState, is_closed, unsent_segments, settle_step, with_fop, frame_to_send, directive_outcome, submit_fault, after_submission, bypass_fault, after_bypass, unless_refused, after_extraction, ground_telemetry, telemetry_outcome, own_frame_outcome}
 use Rattle.tc_link.specs.Ground as ground
 use Rattle.tc_link.specs.World.{World, new_world, world_step, world_after_pull, up_deliver_step, up_lose_step, up_damage_outcome, up_damage_step, down_deliver_step, down_lose_step, down_damage_outcome, down_damage_step, session_after_directive, is_initiation}
 use Rattle.tc_link.proofs.Submitting.{bypass_fits}
@@ -97,7 +97,7 @@ record Grows (c : Config) (s t : SpacecraftState) : Type 0 where
   accepted : length s.accepted ≤ length t.accepted
 
 module _ (c : Config) (s : SpacecraftState) (k : SpacecraftSteady c s) where
-  sequence_so : (n : ℕ) (u : SegmentView) (v : Verdict) → Grows c s (sequence_arrived s n u v).after
+  sequence_so : (n : ℕ) (u : SegmentView) (v : Verdict) → Grows c s (sequence_outcome s n u v).after
   sequence_so n u Accepted = record { steady = record { config = k.config; farm = farm_so c s.farm (AdArrives n (is_free s)) k.farm; builder = k.builder; idle_left = k.idle_left }; accepted = omega (arith, length-append s.accepted (u ∷ [])) }
   sequence_so n u Ahead = record { steady = record { config = k.config; farm = farm_so c s.farm (AdArrives n (is_free s)) k.farm; builder = k.builder; idle_left = k.idle_left }; accepted = omega arith }
   sequence_so n u NoBuffer = record { steady = record { config = k.config; farm = farm_so c s.farm (AdArrives n (is_free s)) k.farm; builder = k.builder; idle_left = k.idle_left }; accepted = omega arith }
@@ -105,18 +105,18 @@ module _ (c : Config) (s : SpacecraftState) (k : SpacecraftSteady c s) where
   sequence_so n u Outside = record { steady = record { config = k.config; farm = farm_so c s.farm (AdArrives n (is_free s)) k.farm; builder = k.builder; idle_left = k.idle_left }; accepted = omega arith }
   sequence_so n u Discarded = record { steady = record { config = k.config; farm = farm_so c s.farm (AdArrives n (is_free s)) k.farm; builder = k.builder; idle_left = k.idle_left }; accepted = omega arith }
 
-  bypass_so : (u : SegmentView) (kept : Bool) → Grows c s (bypass_arrived s u kept).after
+  bypass_so : (u : SegmentView) (kept : Bool) → Grows c s (bypass_outcome s u kept).after
   bypass_so u true = record { steady = record { config = k.config; farm = farm_so c s.farm BdArrives k.farm; builder = k.builder; idle_left = k.idle_left }; accepted = omega arith }
   bypass_so u false = record { steady = record { config = k.config; farm = farm_so c s.farm BdArrives k.farm; builder = k.builder; idle_left = k.idle_left }; accepted = omega arith }
 
-  body_so : (f : BodyView) → Grows c s (body_arrived s f).after
+  body_so : (f : BodyView) → Grows c s (body_outcome s f).after
   body_so (Ad n u) = sequence_so n u (verdict_of s.farm n (is_free s))
   body_so (Bd u) = bypass_so u (is_kept (limits_of s.config) u)
   body_so (Bc command) = record { steady = record { config = k.config; farm = farm_so c s.farm (command_event command) k.farm; builder = k.builder; idle_left = k.idle_left }; accepted = omega arith }
 
-  arrived_so : (r : Result FrameView TcFault) → Grows c s (frame_arrived s r).after
+  arrived_so : (r : Result FrameView TcFault) → Grows c s (frame_outcome s r).after
   arrived_so (Err fault) = record { steady = k; accepted = omega arith }
-  arrived_so (Ok frame) = cond_both (is_own_frame s.config frame) (body_arrived s frame.body) _ (λ o. Grows c s o.after) (λ t. body_so frame.body) (λ t. record { steady = k; accepted = omega arith })
+  arrived_so (Ok frame) = cond_both (is_own_frame s.config frame) (body_outcome s frame.body) _ (λ o. Grows c s o.after) (λ t. body_so frame.body) (λ t. record { steady = k; accepted = omega arith })
 
   taken_so : (ps : List PacketOn) → SpacecraftSteady c (spacecraft_take s ps).after
   taken_so [] = k
@@ -200,12 +200,12 @@ module _ (c : Config) (s : GroundState) (k : GroundNodeSteady c s) where
   extracted_so : (x : Extracted) → GroundNodeSteady c (after_extraction s x)
   extracted_so x = record { config = k.config; fop = k.fop; pending_none = k.pending_none }
 
-  word_so : (x : Extracted) (r : Result Clcw ClcwFault) → GroundNodeSteady c (own_frame_arrived s x r).after
+  word_so : (x : Extracted) (r : Result Clcw ClcwFault) → GroundNodeSteady c (own_frame_outcome s x r).after
   word_so x (Err fault) = extracted_so x
   word_so x (Ok report) = cond_both (report.vcid == s.config.vcid) _ _ (λ (o : ground.GroundOutcome Heard). GroundNodeSteady c o.after)
       (λ t. settled_so c (record (after_extraction s x) { fop = (heard_by s.fop report).after }) k.config (report_so c s.fop k.fop report)) (λ t. extracted_so x)
 
-  telemetry_so : (r : Result telemetry.FrameView TmFault) → GroundNodeSteady c (telemetry_arrived s r).after
+  telemetry_so : (r : Result telemetry.FrameView TmFault) → GroundNodeSteady c (telemetry_outcome s r).after
   telemetry_so (Err fault) = k
   telemetry_so (Ok frame) = cond_both (ground.is_own_telemetry s.config frame) _ _ (λ (o : ground.GroundOutcome Heard). GroundNodeSteady c o.after) (λ t. word_so (extract_step s.extractor frame) (clcw_at frame.ocf)) (λ t. k)
 

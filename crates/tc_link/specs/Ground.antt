@@ -59,19 +59,19 @@ new_ground c = record {
 -- ---- what is pending
 
 -- the oldest pending segment goes into the wait queue where its one place is free
-abbrev pub moved_up : GroundState → Option SegmentView → List SegmentView → GroundState
-moved_up s (Some waiting) pending = s
-moved_up s None [] = s
-moved_up s None (segment ∷ pending) =
+abbrev pub after_moving_up : GroundState → Option SegmentView → List SegmentView → GroundState
+after_moving_up s (Some waiting) pending = s
+after_moving_up s None [] = s
+after_moving_up s None (segment ∷ pending) =
     record s { fop = record s.fop { waiting = Some segment }; pending = pending }
 
 -- nothing is pending in S6, where an alert leads; in the other states the oldest moves up
 abbrev pub settle_in : GroundState → FopMode → GroundState
-settle_in s S1 = moved_up s s.fop.waiting s.pending
-settle_in s S2 = moved_up s s.fop.waiting s.pending
-settle_in s S3 = moved_up s s.fop.waiting s.pending
-settle_in s S4 = moved_up s s.fop.waiting s.pending
-settle_in s S5 = moved_up s s.fop.waiting s.pending
+settle_in s S1 = after_moving_up s s.fop.waiting s.pending
+settle_in s S2 = after_moving_up s s.fop.waiting s.pending
+settle_in s S3 = after_moving_up s s.fop.waiting s.pending
+settle_in s S4 = after_moving_up s s.fop.waiting s.pending
+settle_in s S5 = after_moving_up s s.fop.waiting s.pending
 settle_in s S6 = record s { pending = [] }
 
 abbrev pub settle_step : GroundState → GroundState
@@ -191,12 +191,12 @@ abbrev pub after_extraction : GroundState → Extracted → GroundState
 after_extraction s x = record s { extractor = x.after; telemetry = s.telemetry ++ x.packets }
 
 -- the report reaches the sender where it is one of this ground's virtual channel
-abbrev pub own_frame_arrived : GroundState → Extracted → Result Clcw ClcwFault → GroundOutcome Heard
-own_frame_arrived s x (Err fault) = record {
+abbrev pub own_frame_outcome : GroundState → Extracted → Result Clcw ClcwFault → GroundOutcome Heard
+own_frame_outcome s x (Err fault) = record {
   answer = Frame x.gap (length x.packets) (Refused fault) None;
   after = after_extraction s x;
 }
-own_frame_arrived s x (Ok report) =
+own_frame_outcome s x (Ok report) =
     if report.vcid == s.config.vcid then record {
       answer =
           Frame x.gap (length x.packets) Used (sender.fop_step s.fop (sender.Report report)).answer;
@@ -209,21 +209,21 @@ own_frame_arrived s x (Ok report) =
 
 abbrev pub receive_frame_step : GroundState → telemetry.FrameView → GroundOutcome Heard
 receive_frame_step s frame =
-    own_frame_arrived s (extract_step s.extractor frame) (clcw_at frame.ocf)
+    own_frame_outcome s (extract_step s.extractor frame) (clcw_at frame.ocf)
 
 -- a frame of this spacecraft's virtual channel
 abbrev pub is_own_telemetry : Config → telemetry.FrameView → Bool
 is_own_telemetry c frame = (frame.scid == c.scid) && (frame.vcid == c.tm_vcid)
 
-abbrev pub telemetry_arrived : GroundState → Result telemetry.FrameView TmFault
+abbrev pub telemetry_outcome : GroundState → Result telemetry.FrameView TmFault
     → GroundOutcome Heard
-telemetry_arrived s (Err fault) = record { answer = Invalid fault; after = s }
-telemetry_arrived s (Ok frame) =
+telemetry_outcome s (Err fault) = record { answer = Invalid fault; after = s }
+telemetry_outcome s (Ok frame) =
     if is_own_telemetry s.config frame then receive_frame_step s frame
     else record { answer = Foreign; after = s }
 
 abbrev pub ground_telemetry : GroundState → List ℕ → GroundOutcome Heard
-ground_telemetry s octets = telemetry_arrived s (frame_at s.config.frame_length octets)
+ground_telemetry s octets = telemetry_outcome s (frame_at s.config.frame_length octets)
 
 -- no packet is finished with the octets that arrive: they are no frame, or a frame of another
 -- channel, or one that finishes none

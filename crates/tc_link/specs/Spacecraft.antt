@@ -84,9 +84,9 @@ after_segment s segment = record s {
   ready = s.ready ++ packets_on segment.header.map (assemble_step s segment).packets;
 }
 
-abbrev pub sequence_arrived : SpacecraftState → ℕ → SegmentView → Verdict
+abbrev pub sequence_outcome : SpacecraftState → ℕ → SegmentView → Verdict
     → SpacecraftOutcome Received
-sequence_arrived s n segment verdict =
+sequence_outcome s n segment verdict =
     if is_accepted verdict then record {
       answer =
           Sequence n verdict (length (assemble_step s segment).packets)
@@ -99,7 +99,7 @@ sequence_arrived s n segment verdict =
     }
 
 abbrev pub receive_sequence_step : SpacecraftState → ℕ → SegmentView → SpacecraftOutcome Received
-receive_sequence_step s n segment = sequence_arrived s n segment (verdict_of s.farm n (is_free s))
+receive_sequence_step s n segment = sequence_outcome s n segment (verdict_of s.farm n (is_free s))
 
 -- ---- a Type-BD frame arrives
 
@@ -107,18 +107,18 @@ receive_sequence_step s n segment = sequence_arrived s n segment (verdict_of s.f
 abbrev pub packets_kept : SpacecraftState → PacketOn → List PacketOn
 packets_kept s packet = keep_last s.config.bypass_slots (s.bypass ++ packet ∷ [])
 
-abbrev pub bypass_arrived : SpacecraftState → SegmentView → Bool → SpacecraftOutcome Received
-bypass_arrived s segment true = record {
+abbrev pub bypass_outcome : SpacecraftState → SegmentView → Bool → SpacecraftOutcome Received
+bypass_outcome s segment true = record {
   answer = Bypass true;
   after =
       record (after_farm s BdArrives) {
         bypass = packets_kept s (packet_on segment.header.map segment.payload);
       };
 }
-bypass_arrived s segment false = record { answer = Bypass false; after = after_farm s BdArrives }
+bypass_outcome s segment false = record { answer = Bypass false; after = after_farm s BdArrives }
 
 abbrev pub receive_bypass_step : SpacecraftState → SegmentView → SpacecraftOutcome Received
-receive_bypass_step s segment = bypass_arrived s segment (is_kept (limits_of s.config) segment)
+receive_bypass_step s segment = bypass_outcome s segment (is_kept (limits_of s.config) segment)
 
 -- ---- octets arrive
 
@@ -126,10 +126,10 @@ abbrev pub command_event : Command → FarmEvent
 command_event Unlock = UnlockArrives
 command_event (SetVr x) = SetVrArrives x
 
-abbrev pub body_arrived : SpacecraftState → BodyView → SpacecraftOutcome Received
-body_arrived s (Ad n segment) = receive_sequence_step s n segment
-body_arrived s (Bd segment) = receive_bypass_step s segment
-body_arrived s (Bc command) = record {
+abbrev pub body_outcome : SpacecraftState → BodyView → SpacecraftOutcome Received
+body_outcome s (Ad n segment) = receive_sequence_step s n segment
+body_outcome s (Bd segment) = receive_bypass_step s segment
+body_outcome s (Bc command) = record {
   answer = Control command;
   after = after_farm s (command_event command);
 }
@@ -138,14 +138,14 @@ body_arrived s (Bc command) = record {
 abbrev pub is_own_frame : Config → FrameView → Bool
 is_own_frame c frame = (frame.scid == c.scid) && (frame.vcid == c.vcid)
 
-abbrev pub frame_arrived : SpacecraftState → Result FrameView TcFault → SpacecraftOutcome Received
-frame_arrived s (Err fault) = record { answer = Invalid fault; after = s }
-frame_arrived s (Ok frame) =
-    if is_own_frame s.config frame then body_arrived s frame.body
+abbrev pub frame_outcome : SpacecraftState → Result FrameView TcFault → SpacecraftOutcome Received
+frame_outcome s (Err fault) = record { answer = Invalid fault; after = s }
+frame_outcome s (Ok frame) =
+    if is_own_frame s.config frame then body_outcome s frame.body
     else record { answer = Foreign; after = s }
 
 abbrev pub spacecraft_receive : SpacecraftState → List ℕ → SpacecraftOutcome Received
-spacecraft_receive s octets = frame_arrived s (frame_at On octets)
+spacecraft_receive s octets = frame_outcome s (frame_at On octets)
 
 -- ---- packets are taken
 
