@@ -34,9 +34,9 @@ use Rattle.tc_link.specs.declared.sim.fault.SimFault.TheVariants.{NothingInTrans
 use Rattle.tc_link.specs.Parameters.{limits_of}
 use Rattle.tc_link.specs.Packets.{PacketOn, packet_on}
 use Rattle.tc_link.specs.Ground.{GroundState, GroundOutcome, new_ground, ground_step}
-use Rattle.tc_link.specs.Ground as on_ground
+use Rattle.tc_link.specs.Ground as ground_calls
 use Rattle.tc_link.specs.Spacecraft.{SpacecraftState, SpacecraftOutcome, new_spacecraft, spacecraft_step}
-use Rattle.tc_link.specs.Spacecraft as on_board
+use Rattle.tc_link.specs.Spacecraft as spacecraft_calls
 use Rattle.tc_link.specs.Replies.{ReplyView, Nothing, Lost, Sent, Reported, Up, Down, reply_to_submission, reply_to_directive, reply_to_alert, reply_to_taking, reply_to_telemetry}
 
 -- the records of the session, which lasts until the next one begins; none has begun at first
@@ -253,7 +253,7 @@ world_after_receipt w up o = world_reply (Up o.answer) (record w { up = up; spac
 abbrev pub up_deliver_step : World → List (List ℕ) → WorldOutcome
 up_deliver_step w [] = world_refusal w NothingInTransit
 up_deliver_step w (octets ∷ up) =
-    world_after_receipt w up (spacecraft_step w.spacecraft (on_board.Receive octets))
+    world_after_receipt w up (spacecraft_step w.spacecraft (spacecraft_calls.Receive octets))
 
 abbrev pub up_lose_step : World → List (List ℕ) → WorldOutcome
 up_lose_step w [] = world_refusal w NothingInTransit
@@ -296,7 +296,7 @@ world_after_telemetry w down o =
 abbrev pub down_deliver_step : World → List (List ℕ) → WorldOutcome
 down_deliver_step w [] = world_refusal w NothingInTransit
 down_deliver_step w (octets ∷ down) =
-    world_after_telemetry w down (ground_step w.ground_node (on_ground.Telemetry octets))
+    world_after_telemetry w down (ground_step w.ground_node (ground_calls.Telemetry octets))
 
 abbrev pub down_lose_step : World → List (List ℕ) → WorldOutcome
 down_lose_step w [] = world_refusal w NothingInTransit
@@ -332,25 +332,26 @@ world_after_queueing w o =
 abbrev pub world_step : World → Event → WorldOutcome
 world_step w (events.Submit m octets) =
     world_after_submission w (packet_on m octets.now)
-    (ground_step w.ground_node (on_ground.Submit m octets.now))
+    (ground_step w.ground_node (ground_calls.Submit m octets.now))
 world_step w (events.Bypass m octets) =
-    world_after_bypass w (ground_step w.ground_node (on_ground.Bypass m octets.now))
+    world_after_bypass w (ground_step w.ground_node (ground_calls.Bypass m octets.now))
 world_step w (events.Directive directive) =
-    world_after_directive w directive (ground_step w.ground_node (on_ground.Direct directive))
-world_step w events.Send = world_after_send w (ground_step w.ground_node on_ground.Pull)
+    world_after_directive w directive (ground_step w.ground_node (ground_calls.Direct directive))
+world_step w events.Send = world_after_send w (ground_step w.ground_node ground_calls.Pull)
 world_step w events.UpDeliver = up_deliver_step w w.up
 world_step w events.UpLose = up_lose_step w w.up
 world_step w (events.UpDamage octets) = up_damage_step w w.up octets.now
-world_step w events.Report = world_after_report w (spacecraft_step w.spacecraft on_board.Report)
+world_step w events.Report =
+    world_after_report w (spacecraft_step w.spacecraft spacecraft_calls.Report)
 world_step w events.DownDeliver = down_deliver_step w w.down
 world_step w events.DownLose = down_lose_step w w.down
 world_step w (events.DownDamage octets) = down_damage_step w w.down octets.now
-world_step w events.Tick = world_after_tick w (ground_step w.ground_node on_ground.Tick)
-world_step w events.Take = world_after_take w (spacecraft_step w.spacecraft on_board.Take)
+world_step w events.Tick = world_after_tick w (ground_step w.ground_node ground_calls.Tick)
+world_step w events.Take = world_after_take w (spacecraft_step w.spacecraft spacecraft_calls.Take)
 world_step w events.TakeBypass =
-    world_after_take w (spacecraft_step w.spacecraft on_board.TakeBypass)
+    world_after_take w (spacecraft_step w.spacecraft spacecraft_calls.TakeBypass)
 world_step w (events.Telemetry octets) =
-    world_after_queueing w (spacecraft_step w.spacecraft (on_board.Telemetry octets.now))
+    world_after_queueing w (spacecraft_step w.spacecraft (spacecraft_calls.Telemetry octets.now))
 
 -- ---- a run: where it leads, and what it answers to each event
 
