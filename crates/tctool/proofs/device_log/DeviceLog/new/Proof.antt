@@ -24,11 +24,11 @@ use denote.Triple.Spec.{Meets, triple_of}
 use denote.Triple.Table.{entered}
 use denote.Triple.Walked.{says, Stays, walk_of, ends_at, walk_Meets}
 use Rattle.octets.proofs.Walks.{none, none_made}
-use Rattle.tctool.specs.contracts.told.Told as Told
-use Rattle.tctool.specs.contracts.told.Told.new as F
-use Rattle.tctool.specs.contracts.told.Told.new.Key.{name as #self}
-use Rattle.tctool.proofs.told.Told.new.Statement as stated
-use Rattle.tctool.proofs.told.Told.new.Code as code
+use Rattle.tctool.specs.contracts.device_log.DeviceLog as DeviceLog
+use Rattle.tctool.specs.contracts.device_log.DeviceLog.new as F
+use Rattle.tctool.specs.contracts.device_log.DeviceLog.new.Key.{name as #self}
+use Rattle.tctool.proofs.device_log.DeviceLog.new.Statement as stated
+use Rattle.tctool.proofs.device_log.DeviceLog.new.Code as code
 
 abbrev function : Fn
 function = code.function
@@ -56,7 +56,7 @@ module _ {M : Type 1} {𝓤 : Ura M} (𝓛 : Logic 𝓤) (at_mem : Memory → SP
     walks =
         let a = z.0.3 in
         let vss = z.0.4 in
-        let told : (Told.the_row).Denot = record { octets = []; has_ended = false; failures = 0 } in
+        let told : (DeviceLog.the_row).Denot = record { octets = []; has_ended = false; failures = 0 } in
         qed 𝓛 ((raw toks ⊛ ‵ (owns (types_at ended.signature.params z.0.0) a vss)) ∷ raw ((held z.0.0 a).requires z.1) ∷ []) ∵
         keep ! (0 ∷ []) $ split ! $ move ! (1 ∷ []) $ drop ! $
         enter ! C Λ function [] Post $ alloc_all ! (λ l. pass_all ! refl tt $

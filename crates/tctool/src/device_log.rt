@@ -1,4 +1,5 @@
-// What a device did, told to proofs alone: the octets that went through it, and how many of its calls failed.
+// The log of a device, for proofs alone: the octets that went through it, and how many of its calls
+// failed.
 
 ghost use Rattle.std.specs.Prelude.{ℕ, Bool, List};
 ghost use base.Fml.{ftrue};
@@ -15,32 +16,32 @@ pub enum Call<'a> {
 
 /// What the calls so far did. It takes no memory, and nothing of it is left when the program runs.
 #[derive(Drop)]
-pub struct Told {
+pub struct DeviceLog {
     pub ghost octets: { List ℕ } by { coded_list coded_ℕ },
     pub ghost has_ended: { Bool } by { coded_bool },
     pub ghost failures: { ℕ } by { coded_ℕ },
 }
 
-impl Model for Told {
+impl Model for DeviceLog {
     ghost also_owns = { λ _. ftrue };
 }
 
-impl Told {
+impl DeviceLog {
     ghost use Rattle.std.specs.Prelude.{[], false};
     ghost use Rattle.tctool.specs.Calls.{octets_with, ended_with, failures_with};
-    ghost use Rattle.tctool.specs.Telling.{Tells};
+    ghost use Rattle.tctool.specs.DeviceLog.{IsLogOf};
 
     /// Before the first call.
-    pub fn new() -> Told
-        ensures { Tells result [] false 0 }
+    pub fn new() -> DeviceLog
+        ensures { IsLogOf result [] false 0 }
     {
-        Told {}
+        DeviceLog {}
     }
 
     /// After one call more.
-    pub fn then(&self, _call: &Call<'_>) -> Told
-        ensures { Tells result (octets_with self.now.octets _call.now) (ended_with self.now.has_ended _call.now) (failures_with self.now.failures _call.now) }
+    pub fn then(&self, _call: &Call<'_>) -> DeviceLog
+        ensures { IsLogOf result (octets_with self.now.octets _call.now) (ended_with self.now.has_ended _call.now) (failures_with self.now.failures _call.now) }
     {
-        Told {}
+        DeviceLog {}
     }
 }

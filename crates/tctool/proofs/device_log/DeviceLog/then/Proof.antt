@@ -1,4 +1,4 @@
--- What `then` tells is what was told with one call more. Assumes `Logic`.
+-- What `then` logs is what was logged, with one call more. Assumes `Logic`.
 use Rattle.std.proofs.Common.{List, [], ◌∷◌, ◌++◌, refl}
 use seplogic.Ra.Ura.{Ura}
 use mir.Syntax.{Fn}
@@ -26,13 +26,13 @@ use denote.Triple.Spec.{Meets, triple_of}
 use denote.Triple.Table.{entered}
 use denote.Triple.Walked.{says, Stays, stay_dropped, walk_of, ends_at, walk_Meets, Goes-dropped}
 use Rattle.octets.proofs.Walks.{none, none_made}
-use Rattle.tctool.specs.contracts.told.Told as Told
-use Rattle.tctool.specs.contracts.told.Call as Call
+use Rattle.tctool.specs.contracts.device_log.DeviceLog as DeviceLog
+use Rattle.tctool.specs.contracts.device_log.Call as Call
 use Rattle.tctool.specs.Calls.{octets_with, ended_with, failures_with}
-use Rattle.tctool.specs.contracts.told.Told.then as F
-use Rattle.tctool.specs.contracts.told.Told.then.Key.{name as #self}
-use Rattle.tctool.proofs.told.Told.then.Statement as stated
-use Rattle.tctool.proofs.told.Told.then.Code as code
+use Rattle.tctool.specs.contracts.device_log.DeviceLog.then as F
+use Rattle.tctool.specs.contracts.device_log.DeviceLog.then.Key.{name as #self}
+use Rattle.tctool.proofs.device_log.DeviceLog.then.Statement as stated
+use Rattle.tctool.proofs.device_log.DeviceLog.then.Code as code
 
 abbrev function : Fn
 function = code.function
@@ -62,7 +62,7 @@ module _ {M : Type 1} {𝓤 : Ura M} (𝓛 : Logic 𝓤) (at_mem : Memory → SP
         let vss = z.0.4 in
         let u : Val = vptr a.0.ref_ptr.0 a.0.ref_ptr.1 in
         let v : Val = vptr a.1.0.ref_ptr.0 a.1.0.ref_ptr.1 in
-        let told : (Told.the_row).Denot = record { octets = octets_with a.0.now.octets a.1.0.now; has_ended = ended_with a.0.now.has_ended a.1.0.now; failures = failures_with a.0.now.failures a.1.0.now } in
+        let told : (DeviceLog.the_row).Denot = record { octets = octets_with a.0.now.octets a.1.0.now; has_ended = ended_with a.0.now.has_ended a.1.0.now; failures = failures_with a.0.now.failures a.1.0.now } in
         qed 𝓛 ((raw toks ⊛ ‵ (owns (types_at ended.signature.params z.0.0) a vss)) ∷ raw ((held z.0.0 a).requires z.1) ∷ []) ∵
         keep ! (0 ∷ []) $ split ! $ move ! (1 ∷ []) $ fsplit ! $ fsplit ! $ feq_l ! (λ is₀. drop ! $ fsplit ! $ fsplit ! $ feq_l ! (λ is₁. drop ! $ drop ! $
         regoal ! (λ (us : List Val). prop (WpFn 𝓤 H C Λ function (us ++ (vss.1.0 ++ [])) Post)) is₀ refl $
@@ -76,7 +76,7 @@ module _ {M : Type 1} {𝓤 : Ura M} (𝓛 : Logic 𝓤) (at_mem : Memory → SP
 
   meets : (𝓣 : Tables 𝓤 H) → Meets 𝓛 ended.signature (WpFn 𝓤 H 𝓣.C 𝓣.Λ function) (closing 𝓛 ended held)
   meets 𝓣 =
-      walk_Meets 𝓛 ended stayed (Goes-dropped 𝓛 3 (RefOf (0 ∷ []) tt (plain (λ _. Told.the_row)) (λ _. tt)) yes (λ κs x f. refl), (Goes-dropped 𝓛 3 (RefOf (1 ∷ []) tt (plain (λ κs. Call.the_row (named_lft 3 2 tt κs))) (λ _. tt)) yes (λ κs x f. refl), tt)) held
+      walk_Meets 𝓛 ended stayed (Goes-dropped 𝓛 3 (RefOf (0 ∷ []) tt (plain (λ _. DeviceLog.the_row)) (λ _. tt)) yes (λ κs x f. refl), (Goes-dropped 𝓛 3 (RefOf (1 ∷ []) tt (plain (λ κs. Call.the_row (named_lft 3 2 tt κs))) (λ _. tt)) yes (λ κs x f. refl), tt)) held
       (WpFn 𝓤 H 𝓣.C 𝓣.Λ function) (WpFn-mono 𝓤 H 𝓛.laws 𝓣 function) (walks 𝓣.C 𝓣.Λ)
 
 pub then_spec : {M : Type 1} → stated.statement M
