@@ -11,7 +11,7 @@ use Rattle.cop1.specs.FopState.{FopState, SentUnit}
 use Rattle.cop1.specs.FopWords.{unmarked}
 use Rattle.cop1.specs.FopPull.{sent_first, count_behind}
 use Rattle.cop1.specs.FopNext.{units_of}
-use Rattle.cop1.specs.FopFields.{marked_last, state_of, IsSound}
+use Rattle.cop1.specs.FopFields.{marked_last, fop_state_of, IsSound}
 use Rattle.cop1.proofs.Marks.{marked_last-push, map-unit-marked_last}
 
 module _ {U : Type 0} where
@@ -30,7 +30,7 @@ module _ {U : Type 0} where
       map-append (λ (x : SentUnit U). x.unit) (marked_last due us) (unmarked u ∷ []) ∙ ap (λ us. us ++ u ∷ []) (map-unit-marked_last due us)
 
   -- whether a state is S6 is seen at the fields
-  pub active_of : (f : Inside U) (s : FopState U) → state_of f ≡ s → (s.state ≡ S6 → ⊥) → f.state ≡ S6 → ⊥
+  pub active_of : (f : Inside U) (s : FopState U) → fop_state_of f ≡ s → (s.state ≡ S6 → ⊥) → f.state ≡ S6 → ⊥
   active_of f s e active is = active (sym (ap (λ s. s.state) e) ∙ is)
 
   abbrev pub with_first : Inside U → U → Inside U
@@ -56,7 +56,7 @@ module _ {U : Type 0} where
         ticks = is.ticks;
       }
 
-  pub sent_first-fields : (f : Inside U) (u : U) → f.due ≡ 0 → state_of (record (with_first f u) { ticks = Some f.timer }) ≡ sent_first (state_of f) u
+  pub sent_first-fields : (f : Inside U) (u : U) → f.due ≡ 0 → fop_state_of (record (with_first f u) { ticks = Some f.timer }) ≡ sent_first (fop_state_of f) u
   sent_first-fields f u none =
       let sent : marked_last f.due (f.sent.items ++ u ∷ []) ≡ marked_last f.due f.sent.items ++ unmarked u ∷ [] =
       subst (λ due. marked_last due (f.sent.items ++ u ∷ []) ≡ marked_last due f.sent.items ++ unmarked u ∷ []) (sym none) (marked_last-push f.sent.items u) in

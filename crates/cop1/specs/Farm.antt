@@ -77,18 +77,18 @@ after_verdict s Outside = record s { lockout = true; state = Lockout }
 after_verdict s Discarded = s
 
 -- FARM-B counts every Type-B frame, modulo 4
-abbrev pub counted : FarmState → FarmState
-counted s = record s { farm_b = (s.farm_b + 1) % 4 }
+abbrev pub after_type_b : FarmState → FarmState
+after_type_b s = record s { farm_b = (s.farm_b + 1) % 4 }
 
 abbrev pub after_unlock : FarmState → FarmMode → FarmState
-after_unlock s Open = record (counted s) { retransmit = false }
-after_unlock s Wait = record (counted s) { retransmit = false; wait = false; state = Open }
-after_unlock s Lockout = record (counted s) { retransmit = false; wait = false; lockout = false; state = Open }
+after_unlock s Open = record (after_type_b s) { retransmit = false }
+after_unlock s Wait = record (after_type_b s) { retransmit = false; wait = false; state = Open }
+after_unlock s Lockout = record (after_type_b s) { retransmit = false; wait = false; lockout = false; state = Open }
 
 abbrev pub after_set_vr : FarmState → ℕ → FarmMode → FarmState
-after_set_vr s vr Open = record (counted s) { retransmit = false; vr = vr }
-after_set_vr s vr Wait = record (counted s) { retransmit = false; vr = vr; wait = false; state = Open }
-after_set_vr s vr Lockout = counted s
+after_set_vr s vr Open = record (after_type_b s) { retransmit = false; vr = vr }
+after_set_vr s vr Wait = record (after_type_b s) { retransmit = false; vr = vr; wait = false; state = Open }
+after_set_vr s vr Lockout = after_type_b s
 
 abbrev pub after_release : FarmState → FarmMode → FarmState
 after_release s Open = s
@@ -107,7 +107,7 @@ pub data FarmEvent : Type 0 where
 -- the receiver after an event
 abbrev pub farm_step : FarmState → FarmEvent → FarmState
 farm_step s (AdArrives n free) = after_verdict s (verdict_of s n free)
-farm_step s BdArrives = counted s
+farm_step s BdArrives = after_type_b s
 farm_step s UnlockArrives = after_unlock s s.state
 farm_step s (SetVrArrives vr) = after_set_vr s vr s.state
 farm_step s InvalidArrives = s

@@ -11,24 +11,24 @@ use Rattle.cop1.specs.declared.fop.Control.TheVariants.{Due}
 use Rattle.cop1.specs.declared.fop.Directive.{Directive}
 use Rattle.cop1.specs.declared.fop.Directive.TheVariants.{InitWithoutCheck, InitWithCheck, InitUnlock, InitSetVr, Terminate, SetVs, SetWindow, SetLimit, SetTimer}
 use Rattle.cop1.specs.FopState.{FopState}
-use Rattle.cop1.specs.FopWords.{Outcome, restarted, given_up}
+use Rattle.cop1.specs.FopWords.{FopOutcome, after_restart, after_alert}
 
 module _ {U : Type 0} where
-  abbrev pub obeys : FopState U → Outcome U (Result (Option Alert) CopFault)
+  abbrev pub obeys : FopState U → FopOutcome U (Result (Option Alert) CopFault)
   obeys s = record { after = s; answer = Ok None; gone = 0 }
 
-  abbrev pub refuses : FopState U → CopFault → Outcome U (Result (Option Alert) CopFault)
+  abbrev pub refuses : FopState U → CopFault → FopOutcome U (Result (Option Alert) CopFault)
   refuses s fault = record { after = s; answer = Err fault; gone = 0 }
 
-  abbrev pub terminates : FopState U → Outcome U (Result (Option Alert) CopFault)
-  terminates s = record { after = given_up s; answer = Ok (Some Terminated); gone = 0 }
+  abbrev pub terminates : FopState U → FopOutcome U (Result (Option Alert) CopFault)
+  terminates s = record { after = after_alert s; answer = Ok (Some Terminated); gone = 0 }
 
   -- an initiation begins with nothing queued to be numbered, and with the first transmission
-  abbrev pub begun : FopState U → FopState U
-  begun s = record s { sent = []; waiting = None; count = 1 }
+  abbrev pub after_begin : FopState U → FopState U
+  after_begin s = record s { sent = []; waiting = None; count = 1 }
 
   -- what is obeyed in S6 alone
-  abbrev pub from_S6 : FopState U → FopMode → FopState U → Outcome U (Result (Option Alert) CopFault)
+  abbrev pub from_S6 : FopState U → FopMode → FopState U → FopOutcome U (Result (Option Alert) CopFault)
   from_S6 s S1 next = refuses s WrongState
   from_S6 s S2 next = refuses s WrongState
   from_S6 s S3 next = refuses s WrongState
@@ -36,21 +36,21 @@ module _ {U : Type 0} where
   from_S6 s S5 next = refuses s WrongState
   from_S6 s S6 next = obeys next
 
-  abbrev pub terminated : FopState U → FopMode → Outcome U (Result (Option Alert) CopFault)
-  terminated s S1 = terminates s
-  terminated s S2 = terminates s
-  terminated s S3 = terminates s
-  terminated s S4 = terminates s
-  terminated s S5 = terminates s
-  terminated s S6 = refuses s WrongState
+  abbrev pub terminate_in : FopState U → FopMode → FopOutcome U (Result (Option Alert) CopFault)
+  terminate_in s S1 = terminates s
+  terminate_in s S2 = terminates s
+  terminate_in s S3 = terminates s
+  terminate_in s S4 = terminates s
+  terminate_in s S5 = terminates s
+  terminate_in s S6 = refuses s WrongState
 
-  abbrev pub directed : FopState U → Directive → Outcome U (Result (Option Alert) CopFault)
-  directed s InitWithoutCheck = from_S6 s s.state (record (begun s) { nn = s.vs; state = S1 })
-  directed s InitWithCheck = from_S6 s s.state (record (restarted (begun s)) { nn = s.vs; state = S4 })
-  directed s InitUnlock = from_S6 s s.state (record (begun s) { nn = s.vs; control = Due Unlock; state = S5 })
-  directed s (InitSetVr x) = from_S6 s s.state (record (begun s) { vs = x; nn = x; control = Due (SetVr x); state = S5 })
-  directed s Terminate = terminated s s.state
-  directed s (SetVs x) = from_S6 s s.state (record s { vs = x; nn = x })
-  directed s (SetWindow k) = if (k == 0) || nat_lt s.room k then refuses s Window else obeys (record s { window = k })
-  directed s (SetLimit n) = if n == 0 then refuses s Limit else obeys (record s { limit = n })
-  directed s (SetTimer t) = if t == 0 then refuses s Timer else obeys (record s { timer = t })
+  abbrev pub directive_step : FopState U → Directive → FopOutcome U (Result (Option Alert) CopFault)
+  directive_step s InitWithoutCheck = from_S6 s s.state (record (after_begin s) { nn = s.vs; state = S1 })
+  directive_step s InitWithCheck = from_S6 s s.state (record (after_restart (after_begin s)) { nn = s.vs; state = S4 })
+  directive_step s InitUnlock = from_S6 s s.state (record (after_begin s) { nn = s.vs; control = Due Unlock; state = S5 })
+  directive_step s (InitSetVr x) = from_S6 s s.state (record (after_begin s) { vs = x; nn = x; control = Due (SetVr x); state = S5 })
+  directive_step s Terminate = terminate_in s s.state
+  directive_step s (SetVs x) = from_S6 s s.state (record s { vs = x; nn = x })
+  directive_step s (SetWindow k) = if (k == 0) || nat_lt s.room k then refuses s Window else obeys (record s { window = k })
+  directive_step s (SetLimit n) = if n == 0 then refuses s Limit else obeys (record s { limit = n })
+  directive_step s (SetTimer t) = if t == 0 then refuses s Timer else obeys (record s { timer = t })

@@ -12,8 +12,8 @@ module _ {U : Type 0} where
   marked_last due [] = []
   marked_last due (u ∷ us) = record { unit = u; marked = nat_lt (length us) due } ∷ marked_last due us
 
-  abbrev pub state_of : Inside U → FopState U
-  state_of f =
+  abbrev pub fop_state_of : Inside U → FopState U
+  fop_state_of f =
       record { room = f.sent.capacity; state = f.state; vs = f.vs; nn = f.nn; waiting = f.waiting; sent = marked_last f.due f.sent.items; bypass = f.bypass.items; window = f.window; limit = f.limit; timer = f.timer; ticks = f.ticks; count = f.count; control = f.control }
 
 -- what the fields keep to

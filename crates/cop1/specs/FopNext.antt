@@ -12,16 +12,16 @@ module _ {U : Type 0} where
   abbrev pub units_of : List (SentUnit U) → List U
   units_of sent = map (λ u. u.unit) sent
 
-  abbrev pub numbered : ℕ → Option U → PulledUnit U
-  numbered number None = NothingPulled
-  numbered number (Some u) = SequencePulled number u
+  abbrev pub sequence_at : ℕ → Option U → PulledUnit U
+  sequence_at number None = NothingPulled
+  sequence_at number (Some u) = SequencePulled number u
 
   -- what is pulled, where these are the units of the sent queue
   abbrev pub seen_at : List U → Next U → PulledUnit U
   seen_at units next.Nothing = NothingPulled
   seen_at units (next.Control command) = ControlPulled command
   seen_at units (next.Bypass unit) = BypassPulled unit
-  seen_at units (next.Sequence number place) = numbered number (slice_get units place)
+  seen_at units (next.Sequence number place) = sequence_at number (slice_get units place)
 
   -- a unit that is named by its place is there
   abbrev pub IsPlaced : List U → Next U → Type 0

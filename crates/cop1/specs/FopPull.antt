@@ -1,4 +1,5 @@
--- What goes on the link next, the first of five rules that applies (this project's profile of CCSDS 232.1-B-2, 5.2.7).
+-- What goes on the link next, the first of five rules that applies (this project's profile of
+-- CCSDS 232.1-B-2, 5.2.7).
 use Rattle.std.specs.Prelude.{ℕ, ◌+◌, ◌%◌, false, nat_lt, if◌then◌else◌, List, [], ◌∷◌, ◌++◌, Option, Some, None}
 use Rattle.tc_frame.specs.declared.frame.Command.{Command}
 use Rattle.cop1.specs.Modulo.{ahead_by}
@@ -7,7 +8,7 @@ use Rattle.cop1.specs.declared.fop.FopMode.TheVariants.{S1, S2, S3, S4, S5, S6}
 use Rattle.cop1.specs.declared.fop.Control.{Control}
 use Rattle.cop1.specs.declared.fop.Control.TheVariants.{Idle, Due, Sent}
 use Rattle.cop1.specs.FopState.{FopState, SentUnit}
-use Rattle.cop1.specs.FopWords.{Outcome, unmarked, restarted}
+use Rattle.cop1.specs.FopWords.{FopOutcome, unmarked, after_restart}
 
 -- what is pulled
 pub data PulledUnit (U : Type 0) : Type 0 where
@@ -17,7 +18,7 @@ pub data PulledUnit (U : Type 0) : Type 0 where
   SequencePulled : (number : ℕ) (unit : U) → PulledUnit U
 
 module _ {U : Type 0} where
-  abbrev pub pulls : FopState U → PulledUnit U → Outcome U (PulledUnit U)
+  abbrev pub pulls : FopState U → PulledUnit U → FopOutcome U (PulledUnit U)
   pulls s answer = record { after = s; answer = answer; gone = 0 }
 
   -- the oldest marked unit with its place in the sent queue, which is counted from a number on
@@ -37,39 +38,45 @@ module _ {U : Type 0} where
 
   abbrev pub sent_first : FopState U → U → FopState U
   sent_first s u =
-      record (restarted s) { waiting = None; sent = s.sent ++ unmarked u ∷ []; vs = (s.vs + 1) % 256; count = count_behind s.sent s.count }
+      record (after_restart s) { waiting = None; sent = s.sent ++ unmarked u ∷ []; vs = (s.vs + 1) % 256; count = count_behind s.sent s.count }
 
   -- the wait queue's unit, where the window has room for it
-  abbrev pub pulled_waiting : FopState U → Option U → Outcome U (PulledUnit U)
-  pulled_waiting s None = pulls s NothingPulled
-  pulled_waiting s (Some u) =
+  abbrev pub pull_waiting : FopState U → Option U → FopOutcome U (PulledUnit U)
+  pull_waiting s None = pulls s NothingPulled
+  pull_waiting s (Some u) =
       if nat_lt (ahead_by s.vs s.nn) s.window then pulls (sent_first s u) (SequencePulled s.vs u)
       else pulls s NothingPulled
 
-  -- the oldest marked unit with its number, and otherwise the wait queue's
-  abbrev pub pulled_marked : FopState U → Option (ℕ × U) → Outcome U (PulledUnit U)
-  pulled_marked s (Some oldest) =
-      pulls (record (restarted s) { sent = without_oldest_mark s.sent }) (SequencePulled ((s.nn + oldest.0) % 256) oldest.1)
-  pulled_marked s None = pulled_waiting s s.waiting
+  abbrev pub next_waiting : FopState U → FopOutcome U (PulledUnit U)
+  next_waiting s = pull_waiting s s.waiting
 
-  abbrev pub pulled_in : FopState U → FopMode → Outcome U (PulledUnit U)
-  pulled_in s S1 = pulled_marked s (oldest_marked 0 s.sent)
-  pulled_in s S2 = pulled_marked s (oldest_marked 0 s.sent)
-  pulled_in s S3 = pulls s NothingPulled
-  pulled_in s S4 = pulls s NothingPulled
-  pulled_in s S5 = pulls s NothingPulled
-  pulled_in s S6 = pulls s NothingPulled
+  -- the oldest marked unit with its number, and otherwise the wait queue's
+  abbrev pub pull_marked : FopState U → Option (ℕ × U) → FopOutcome U (PulledUnit U)
+  pull_marked s (Some oldest) =
+      pulls (record (after_restart s) { sent = without_oldest_mark s.sent }) (SequencePulled ((s.nn + oldest.0) % 256) oldest.1)
+  pull_marked s None = next_waiting s
+
+  abbrev pub next_sequence : FopState U → FopOutcome U (PulledUnit U)
+  next_sequence s = pull_marked s (oldest_marked 0 s.sent)
+
+  abbrev pub pull_in : FopState U → FopMode → FopOutcome U (PulledUnit U)
+  pull_in s S1 = next_sequence s
+  pull_in s S2 = next_sequence s
+  pull_in s S3 = pulls s NothingPulled
+  pull_in s S4 = pulls s NothingPulled
+  pull_in s S5 = pulls s NothingPulled
+  pull_in s S6 = pulls s NothingPulled
 
   -- the oldest bypass unit, in any state
-  abbrev pub pulled_bypass : FopState U → List U → Outcome U (PulledUnit U)
-  pulled_bypass s (u ∷ us) = pulls (record s { bypass = us }) (BypassPulled u)
-  pulled_bypass s [] = pulled_in s s.state
+  abbrev pub pull_bypass : FopState U → List U → FopOutcome U (PulledUnit U)
+  pull_bypass s (u ∷ us) = pulls (record s { bypass = us }) (BypassPulled u)
+  pull_bypass s [] = pull_in s s.state
 
   -- the control command of S5, where it is due
-  abbrev pub pulled_control : FopState U → Control → Outcome U (PulledUnit U)
-  pulled_control s (Due command) = pulls (record (restarted s) { control = Sent command }) (ControlPulled command)
-  pulled_control s (Sent command) = pulled_bypass s s.bypass
-  pulled_control s Idle = pulled_bypass s s.bypass
+  abbrev pub pull_control : FopState U → Control → FopOutcome U (PulledUnit U)
+  pull_control s (Due command) = pulls (record (after_restart s) { control = Sent command }) (ControlPulled command)
+  pull_control s (Sent command) = pull_bypass s s.bypass
+  pull_control s Idle = pull_bypass s s.bypass
 
-  abbrev pub pulled : FopState U → Outcome U (PulledUnit U)
-  pulled s = pulled_control s s.control
+  abbrev pub pull_step : FopState U → FopOutcome U (PulledUnit U)
+  pull_step s = pull_control s s.control

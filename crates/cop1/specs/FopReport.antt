@@ -1,5 +1,6 @@
--- What a report does at the sender, state by state and rule by rule (this project's profile of CCSDS 232.1-B-2, table 5-1).
-use Rattle.std.specs.Prelude.{ℕ, Bool, not, ◌&&◌, ◌==◌, nat_lt, if◌then◌else◌, List, [], ◌∷◌, Option, Some, None}
+-- What a report does at the sender, state by state and rule by rule (this project's profile of
+-- CCSDS 232.1-B-2, table 5-1).
+use Rattle.std.specs.Prelude.{ℕ, Bool, true, not, ◌&&◌, ◌==◌, nat_lt, if◌then◌else◌, List, [], ◌∷◌, Option, Some, None}
 use Rattle.clcw.specs.declared.word.Clcw.{Clcw}
 use Rattle.clcw.specs.Flags.{has_lockout, has_wait, has_retransmit}
 use Rattle.cop1.specs.Modulo.{ahead_by}
@@ -9,7 +10,7 @@ use Rattle.cop1.specs.declared.fop.Alert.{Alert}
 use Rattle.cop1.specs.declared.fop.Alert.TheVariants.{Lockout, NnR, Clcw as ClcwAlert, Synch, Limit}
 use Rattle.cop1.specs.declared.fop.Control.TheVariants.{Idle}
 use Rattle.cop1.specs.FopState.{FopState, SentUnit}
-use Rattle.cop1.specs.FopWords.{Outcome, is_outside, acknowledged, repeated, alerts, goes_on, after_gone}
+use Rattle.cop1.specs.FopWords.{FopOutcome, is_outside, after_acknowledge, after_repeat, alerts, goes_on, after_gone}
 
 -- the flags L, w and t of a report
 abbrev pub locks : Clcw → Bool
@@ -22,15 +23,19 @@ abbrev pub asks : Clcw → Bool
 asks c = has_retransmit c.flags
 
 module _ {U : Type 0} where
-  -- S5: a report without flags whose value is V(S) confirms the control command
+  -- ---- S5: a report without flags whose value is V(S) confirms the control command
+
   abbrev pub confirms : FopState U → Clcw → Bool
   confirms s c = not (locks c) && not (waits c) && not (asks c) && (c.value == s.vs)
 
-  abbrev pub report_in_S5 : FopState U → Clcw → Outcome U (Option Alert)
-  report_in_S5 s c = if confirms s c then goes_on (record s { state = S1; ticks = None; control = Idle }) else goes_on s
+  abbrev pub report_in_S5 : FopState U → Clcw → FopOutcome U (Option Alert)
+  report_in_S5 s c =
+      if confirms s c then goes_on (record s { state = S1; ticks = None; control = Idle })
+      else goes_on s
 
-  -- S4, the first that applies
-  abbrev pub report_in_S4 : FopState U → Clcw → Outcome U (Option Alert)
+  -- ---- S4, the first that applies
+
+  abbrev pub report_in_S4 : FopState U → Clcw → FopOutcome U (Option Alert)
   report_in_S4 s c =
       if locks c then alerts s Lockout
       else (if not (c.value == s.vs) then alerts s NnR
@@ -38,8 +43,10 @@ module _ {U : Type 0} where
       else (if waits c then alerts s ClcwAlert
       else goes_on (record s { state = S1; ticks = None }))))
 
-  -- nothing new, and nothing is asked for
-  abbrev pub nothing_new : FopState U → FopMode → Outcome U (Option Alert)
+  -- ---- S1 to S3: eight rules, of which the first that applies decides
+
+  -- rule 5: nothing is acknowledged, and nothing asked for
+  abbrev pub nothing_new : FopState U → FopMode → FopOutcome U (Option Alert)
   nothing_new s S1 = goes_on s
   nothing_new s S2 = alerts s Synch
   nothing_new s S3 = alerts s Synch
@@ -52,52 +59,63 @@ module _ {U : Type 0} where
   ticks_for [] timer = None
   ticks_for (unit ∷ units) timer = Some timer
 
-  -- units are acknowledged, and nothing is asked for
-  abbrev pub moved_on : FopState U → FopState U
-  moved_on s = record s { state = S1; count = 1; ticks = ticks_for s.sent s.timer }
+  abbrev pub after_move_on : FopState U → FopState U
+  after_move_on s = record s { state = S1; count = 1; ticks = ticks_for s.sent s.timer }
 
-  -- units are acknowledged, and the others asked for
-  abbrev pub goes_back : FopState U → Bool → Outcome U (Option Alert)
-  goes_back s wait =
+  -- rule 6: units are acknowledged, and nothing asked for
+  abbrev pub move_on : FopState U → ℕ → FopOutcome U (Option Alert)
+  move_on s v = after_gone (ahead_by v s.nn) (goes_on (after_move_on (after_acknowledge s v)))
+
+  -- the sender with the units before a number acknowledged, counting anew
+  abbrev pub after_new_value : FopState U → ℕ → FopState U
+  after_new_value s v = record (after_acknowledge s v) { count = 1 }
+
+  -- units are asked for again, which leads to a sender unless they may be sent once alone, or the
+  -- receiver waits
+  abbrev pub ask_again : FopState U → Bool → FopState U → FopOutcome U (Option Alert)
+  ask_again s wait next =
       if s.limit == 1 then alerts s Limit
       else (if wait then goes_on (record s { state = S3 })
-      else goes_on (record (repeated s) { state = S2 }))
+      else goes_on next)
 
-  -- all that was sent is asked for again
-  abbrev pub repeated_below : FopState U → FopState U
-  repeated_below s = if nat_lt s.count s.limit then repeated s else s
+  -- S2, with all that was sent repeated or not
+  abbrev pub retransmits : FopState U → Bool → FopState U
+  retransmits s repeats = record (if repeats then after_repeat s else s) { state = S2 }
+
+  abbrev pub goes_back : FopState U → Bool → FopOutcome U (Option Alert)
+  goes_back s wait = ask_again s wait (retransmits s true)
+
+  -- rule 7: units are acknowledged, and the others asked for
+  abbrev pub ask_for_others : FopState U → ℕ → Bool → FopOutcome U (Option Alert)
+  ask_for_others s v wait = after_gone (ahead_by v s.nn) (goes_back (after_new_value s v) wait)
 
   abbrev pub goes_back_again : FopState U → FopMode → FopState U
-  goes_back_again s S1 = record (repeated_below s) { state = S2 }
+  goes_back_again s S1 = retransmits s (nat_lt s.count s.limit)
   goes_back_again s S2 = s
-  goes_back_again s S3 = record (repeated_below s) { state = S2 }
+  goes_back_again s S3 = retransmits s (nat_lt s.count s.limit)
   goes_back_again s S4 = s
   goes_back_again s S5 = s
   goes_back_again s S6 = s
 
-  abbrev pub same_again : FopState U → Bool → Outcome U (Option Alert)
-  same_again s wait =
-      if s.limit == 1 then alerts s Limit
-      else (if wait then goes_on (record s { state = S3 })
-      else goes_on (goes_back_again s s.state))
+  -- rule 8: nothing is acknowledged, and all that was sent asked for
+  abbrev pub ask_for_all : FopState U → Bool → FopOutcome U (Option Alert)
+  ask_for_all s wait = ask_again s wait (goes_back_again s s.state)
 
-  -- the sender with the units before a number acknowledged, counting anew
-  abbrev pub counting_from : FopState U → ℕ → FopState U
-  counting_from s v = record (acknowledged s v) { count = 1 }
-
-  -- S1 to S3, the first of eight rules that applies
-  abbrev pub report_while_active : FopState U → Clcw → Outcome U (Option Alert)
+  -- rules 1 to 8, a line each
+  abbrev pub report_while_active : FopState U → Clcw → FopOutcome U (Option Alert)
   report_while_active s c =
       if locks c then alerts s Lockout
       else (if is_outside s c.value then alerts s NnR
       else (if not (asks c) && waits c then alerts s ClcwAlert
       else (if asks c && (c.value == s.vs) then alerts s Synch
       else (if not (asks c) && (c.value == s.nn) then nothing_new s s.state
-      else (if not (asks c) then after_gone (ahead_by c.value s.nn) (goes_on (moved_on (acknowledged s c.value)))
-      else (if not (c.value == s.nn) then after_gone (ahead_by c.value s.nn) (goes_back (counting_from s c.value) (waits c))
-      else same_again s (waits c)))))))
+      else (if not (asks c) then move_on s c.value
+      else (if not (c.value == s.nn) then ask_for_others s c.value (waits c)
+      else ask_for_all s (waits c)))))))
 
-  abbrev pub report_in : FopState U → Clcw → FopMode → Outcome U (Option Alert)
+  -- ---- all states
+
+  abbrev pub report_in : FopState U → Clcw → FopMode → FopOutcome U (Option Alert)
   report_in s c S1 = report_while_active s c
   report_in s c S2 = report_while_active s c
   report_in s c S3 = report_while_active s c
@@ -105,5 +123,5 @@ module _ {U : Type 0} where
   report_in s c S5 = report_in_S5 s c
   report_in s c S6 = goes_on s
 
-  abbrev pub reported : FopState U → Clcw → Outcome U (Option Alert)
-  reported s c = report_in s c s.state
+  abbrev pub clcw_step : FopState U → Clcw → FopOutcome U (Option Alert)
+  clcw_step s c = report_in s c s.state

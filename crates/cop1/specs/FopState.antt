@@ -1,10 +1,20 @@
--- The sender, FOP-1: its variables (CCSDS 232.1-B-2, 5.1), as this project's profile has them (docs/PROFILE.md).
+-- The sender, FOP-1: its variables (CCSDS 232.1-B-2, 5.1), as this project's profile has them
+-- (docs/PROFILE.md).
 use Rattle.std.specs.Prelude.{◌≡◌, ◌≢◌, ◌≤◌, ℕ, ◌/◌, Bool, List, [], length, Option, None, IfSome}
 use Rattle.cop1.specs.Modulo.{ahead_by}
 use Rattle.cop1.specs.declared.fop.FopMode.{FopMode}
-use Rattle.cop1.specs.declared.fop.FopMode.TheVariants.{S5, S6}
+use Rattle.cop1.specs.declared.fop.FopMode.TheVariants.{S1, S2, S3, S4, S5, S6}
 use Rattle.cop1.specs.declared.fop.Control.{Control}
 use Rattle.cop1.specs.declared.fop.Control.TheVariants.{Idle}
+
+-- S1 to S3, in which units are sent under sequence control
+abbrev pub IsActive : FopMode → Type 0
+IsActive S1 = Unit {0}
+IsActive S2 = Unit {0}
+IsActive S3 = Unit {0}
+IsActive S4 = ⊥
+IsActive S5 = ⊥
+IsActive S6 = ⊥
 
 -- a unit of the sent queue, and whether it is marked to be sent again
 pub record SentUnit (U : Type 0) : Type 0 where

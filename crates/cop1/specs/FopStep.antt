@@ -5,12 +5,12 @@ use Rattle.cop1.specs.declared.fault.CopFault.{CopFault}
 use Rattle.cop1.specs.declared.fop.Alert.{Alert}
 use Rattle.cop1.specs.declared.fop.Directive.{Directive}
 use Rattle.cop1.specs.FopState.{FopState}
-use Rattle.cop1.specs.FopWords.{Outcome}
-use Rattle.cop1.specs.FopUnits.{submitted, bypassed}
-use Rattle.cop1.specs.FopDirective.{directed}
-use Rattle.cop1.specs.FopPull.{PulledUnit, pulled}
-use Rattle.cop1.specs.FopReport.{reported}
-use Rattle.cop1.specs.FopTick.{ticked}
+use Rattle.cop1.specs.FopWords.{FopOutcome}
+use Rattle.cop1.specs.FopUnits.{submit_step, bypass_step}
+use Rattle.cop1.specs.FopDirective.{directive_step}
+use Rattle.cop1.specs.FopPull.{PulledUnit, pull_step}
+use Rattle.cop1.specs.FopReport.{clcw_step}
+use Rattle.cop1.specs.FopTick.{tick_step}
 
 pub data FopInput (U : Type 0) : Type 0 where
   Submit : (unit : U) → FopInput U
@@ -29,10 +29,10 @@ Answer {U = U} Pull = PulledUnit U
 Answer (Report report) = Option Alert
 Answer Tick = Option Alert
 
-abbrev pub fop_step : {U : Type 0} (s : FopState U) (input : FopInput U) → Outcome U (Answer input)
-fop_step s (Submit unit) = submitted s unit
-fop_step s (Bypass unit) = bypassed s unit
-fop_step s (Direct directive) = directed s directive
-fop_step s Pull = pulled s
-fop_step s (Report report) = reported s report
-fop_step s Tick = ticked s
+abbrev pub fop_step : {U : Type 0} (s : FopState U) (input : FopInput U) → FopOutcome U (Answer input)
+fop_step s (Submit unit) = submit_step s unit
+fop_step s (Bypass unit) = bypass_step s unit
+fop_step s (Direct directive) = directive_step s directive
+fop_step s Pull = pull_step s
+fop_step s (Report report) = clcw_step s report
+fop_step s Tick = tick_step s

@@ -7,7 +7,7 @@ use Rattle.cop1.specs.declared.fop.Alert.TheVariants.{Timer}
 use Rattle.cop1.specs.declared.fop.Control.{Control}
 use Rattle.cop1.specs.declared.fop.Control.TheVariants.{Idle, Due, Sent}
 use Rattle.cop1.specs.FopState.{FopState}
-use Rattle.cop1.specs.FopWords.{Outcome, restarted, stopped, repeated, alerts, goes_on}
+use Rattle.cop1.specs.FopWords.{FopOutcome, after_restart, after_stop, after_repeat, alerts, goes_on}
 
 abbrev pub due_again : Control → Control
 due_again Idle = Idle
@@ -15,27 +15,27 @@ due_again (Due command) = Due command
 due_again (Sent command) = Due command
 
 module _ {U : Type 0} where
-  abbrev pub counted : FopState U → FopState U
-  counted s = record (restarted s) { count = s.count + 1 }
+  abbrev pub after_count : FopState U → FopState U
+  after_count s = record (after_restart s) { count = s.count + 1 }
 
   -- the sender while the count is below the limit, and otherwise the alert
-  abbrev pub while_below : FopState U → FopState U → Outcome U (Option Alert)
+  abbrev pub while_below : FopState U → FopState U → FopOutcome U (Option Alert)
   while_below s next = if nat_lt s.count s.limit then goes_on next else alerts s Timer
 
   -- the timer has ended
-  abbrev pub timer_ended : FopState U → FopMode → Outcome U (Option Alert)
-  timer_ended s S1 = while_below s (repeated s)
-  timer_ended s S2 = while_below s (repeated s)
-  timer_ended s S3 = while_below s (counted s)
+  abbrev pub timer_ended : FopState U → FopMode → FopOutcome U (Option Alert)
+  timer_ended s S1 = while_below s (after_repeat s)
+  timer_ended s S2 = while_below s (after_repeat s)
+  timer_ended s S3 = while_below s (after_count s)
   timer_ended s S4 = alerts s Timer
-  timer_ended s S5 = while_below s (record (counted s) { control = due_again s.control })
+  timer_ended s S5 = while_below s (record (after_count s) { control = due_again s.control })
   timer_ended s S6 = goes_on s
 
-  abbrev pub ticked_with : FopState U → Option ℕ → Outcome U (Option Alert)
-  ticked_with s None = goes_on s
-  ticked_with s (Some left) =
-      if left == 1 then timer_ended (stopped s) s.state
+  abbrev pub tick_with : FopState U → Option ℕ → FopOutcome U (Option Alert)
+  tick_with s None = goes_on s
+  tick_with s (Some left) =
+      if left == 1 then timer_ended (after_stop s) s.state
       else goes_on (record s { ticks = Some (left - 1) })
 
-  abbrev pub ticked : FopState U → Outcome U (Option Alert)
-  ticked s = ticked_with s s.ticks
+  abbrev pub tick_step : FopState U → FopOutcome U (Option Alert)
+  tick_step s = tick_with s s.ticks

@@ -5,32 +5,32 @@ use Rattle.cop1.specs.declared.fault.CopFault.TheVariants.{NotOpen, Busy}
 use Rattle.cop1.specs.declared.fop.FopMode.{FopMode}
 use Rattle.cop1.specs.declared.fop.FopMode.TheVariants.{S1, S2, S3, S4, S5, S6}
 use Rattle.cop1.specs.FopState.{FopState}
-use Rattle.cop1.specs.FopWords.{Outcome}
+use Rattle.cop1.specs.FopWords.{FopOutcome}
 
 module _ {U : Type 0} where
   -- the unit comes back with the fault
-  abbrev pub comes_back : FopState U → CopFault → U → Outcome U (Result (Unit {0}) (CopFault × U))
+  abbrev pub comes_back : FopState U → CopFault → U → FopOutcome U (Result (Unit {0}) (CopFault × U))
   comes_back s fault u = record { after = s; answer = Err (fault, u); gone = 0 }
 
-  abbrev pub is_taken : FopState U → Outcome U (Result (Unit {0}) (CopFault × U))
+  abbrev pub is_taken : FopState U → FopOutcome U (Result (Unit {0}) (CopFault × U))
   is_taken s = record { after = s; answer = Ok tt; gone = 0 }
 
   -- the wait queue has one place
-  abbrev pub waits_behind : FopState U → U → Option U → Outcome U (Result (Unit {0}) (CopFault × U))
+  abbrev pub waits_behind : FopState U → U → Option U → FopOutcome U (Result (Unit {0}) (CopFault × U))
   waits_behind s u None = is_taken (record s { waiting = Some u })
   waits_behind s u (Some before) = comes_back s Busy u
 
-  abbrev pub submitted_in : FopState U → U → FopMode → Outcome U (Result (Unit {0}) (CopFault × U))
-  submitted_in s u S1 = waits_behind s u s.waiting
-  submitted_in s u S2 = waits_behind s u s.waiting
-  submitted_in s u S3 = waits_behind s u s.waiting
-  submitted_in s u S4 = waits_behind s u s.waiting
-  submitted_in s u S5 = waits_behind s u s.waiting
-  submitted_in s u S6 = comes_back s NotOpen u
+  abbrev pub submit_in : FopState U → U → FopMode → FopOutcome U (Result (Unit {0}) (CopFault × U))
+  submit_in s u S1 = waits_behind s u s.waiting
+  submit_in s u S2 = waits_behind s u s.waiting
+  submit_in s u S3 = waits_behind s u s.waiting
+  submit_in s u S4 = waits_behind s u s.waiting
+  submit_in s u S5 = waits_behind s u s.waiting
+  submit_in s u S6 = comes_back s NotOpen u
 
-  abbrev pub submitted : FopState U → U → Outcome U (Result (Unit {0}) (CopFault × U))
-  submitted s u = submitted_in s u s.state
+  abbrev pub submit_step : FopState U → U → FopOutcome U (Result (Unit {0}) (CopFault × U))
+  submit_step s u = submit_in s u s.state
 
   -- the bypass queue takes units in any state
-  abbrev pub bypassed : FopState U → U → Outcome U (Result (Unit {0}) (CopFault × U))
-  bypassed s u = is_taken (record s { bypass = s.bypass ++ u ∷ [] })
+  abbrev pub bypass_step : FopState U → U → FopOutcome U (Result (Unit {0}) (CopFault × U))
+  bypass_step s u = is_taken (record s { bypass = s.bypass ++ u ∷ [] })

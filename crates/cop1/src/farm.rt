@@ -64,7 +64,15 @@ impl Model for Farm {
     ghost use Rattle.std.specs.Prelude.{◌≡◌, ◌<◌, true};
     ghost use Rattle.cop1.specs.Farm.{state_of};
 
-    ghost view = { λ f. record { width = f.width; state = state_of f.lockout f.wait; vr = f.vr; lockout = f.lockout; wait = f.wait; retransmit = f.retransmit; farm_b = f.farm_b } };
+    ghost view = { λ f. record {
+      width = f.width;
+      state = state_of f.lockout f.wait;
+      vr = f.vr;
+      lockout = f.lockout;
+      wait = f.wait;
+      retransmit = f.retransmit;
+      farm_b = f.farm_b;
+    } };
 
     ghost invariant = { λ f. (f.farm_b < 4) × (f.wait ≡ true → f.retransmit ≡ true) };
 }
@@ -119,7 +127,8 @@ impl Farm {
         verdict
     }
 
-    fn verdict(&self, n: u8, buffer_free: bool) -> Verdict
+    /// What `ad` would answer; the receiver stays as it is.
+    pub fn verdict(&self, n: u8, buffer_free: bool) -> Verdict
         ensures { result ≡ verdict_of self.now n buffer_free }
     {
         match (self.state(), self.place(n)) {

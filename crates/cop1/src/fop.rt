@@ -106,9 +106,9 @@ impl<U> Model for Fop<U> {
 
     ghost Value = { FopState U };
 
-    ghost use Rattle.cop1.specs.FopFields.{state_of, IsSound};
+    ghost use Rattle.cop1.specs.FopFields.{fop_state_of, IsSound};
 
-    ghost view = { state_of };
+    ghost view = { fop_state_of };
 
     ghost invariant = { IsSound };
 }
@@ -130,8 +130,10 @@ impl<U: Drop> Fop<U> {
         timer: u16,
     ) -> Result<Fop<U>, CopFault>
         ensures made { IfOk result (λ fop. fop ≡ initial width window limit timer) }
-        ensures refused { IfSome (new_fault width window limit timer) (λ fault. result ≡ Err fault) }
-        ensures memory { new_fault width window limit timer ≡ None → IsOkUnless result CopFault.Memory }
+        ensures refused { IfSome (new_fault width window limit timer)
+            (λ fault. result ≡ Err fault) }
+        ensures memory { new_fault width window limit timer ≡ None
+            → IsOkUnless result CopFault.Memory }
     {
         if width == 0 || width % 2 == 1 {
             return Err(CopFault::Width);

@@ -10,7 +10,7 @@ use Rattle.space_packet.specs.Laws.{extent_has_header}
 use Rattle.space_packet.specs.Reading.{extent_at}
 use Rattle.map_service.specs.Cutting.{longest_run, first_group, groups_within, groups_of, parts_of, segments_of}
 use Rattle.map_service.specs.Packets.{first_packet, packets_in, rest_in}
-use Rattle.map_service.proofs.Whole.{one_more-by_len, no_more}
+use Rattle.space_packet.proofs.WholePackets.{one_more-by_len, no_more}
 
 -- ---- the longest run, packet by packet
 

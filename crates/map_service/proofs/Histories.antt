@@ -3,6 +3,7 @@ use Rattle.std.proofs.Common.{◌≡◌, ◌≢◌, ◌≤◌, ℕ, List, [], �
 use Rattle.std.specs.List.{AllByRecursion}
 use Rattle.std.proofs.lemmas.Bool.{eqb-true, eqb-false}
 use Rattle.std.proofs.lemmas.List.{append-nil}
+use Rattle.octets.specs.Beginning.{IsBeginning}
 use Rattle.tc_frame.specs.Layout.{SegmentView}
 use Rattle.map_service.specs.declared.limits.Limits.{Limits}
 use Rattle.map_service.specs.Assembly.{is_open, blocks_packets, ending_part, unless_too_long, assembled, open_part}
@@ -46,11 +47,11 @@ all_assembled limits m submissions one h =
     all_calls limits m [] submissions one h ∙ ap (λ (ps : List (List ℕ)). ps ++ packets_on m submissions) (nothing limits (is_open limits m))
 
 -- what is assembled of a beginning of the segments begins the packets
-pub some_assembled : (limits : Limits) (m : ℕ) (submissions : List Submission) (segments more : List SegmentView) → 1 ≤ limits.part → AllByRecursion (IsSubmitted limits) submissions
-    → segments ++ more ≡ segments_of_all limits.part submissions → (rest : List (List ℕ)) × (packets_on m submissions ≡ assembled limits m segments ++ rest)
-some_assembled limits m submissions segments more one h e =
-    let begins = assembled_begins limits m segments more in
-    (begins.0, sym (all_assembled limits m submissions one h) ∙ ap (assembled limits m) (sym e) ∙ begins.1)
+pub some_assembled : (limits : Limits) (m : ℕ) (submissions : List Submission) (segments : List SegmentView) → 1 ≤ limits.part → AllByRecursion (IsSubmitted limits) submissions
+    → IsBeginning segments (segments_of_all limits.part submissions) → IsBeginning (assembled limits m segments) (packets_on m submissions)
+some_assembled limits m submissions segments one h b =
+    let begins = assembled_begins limits m segments b.0 in
+    (begins.0, sym (all_assembled limits m submissions one h) ∙ ap (assembled limits m) b.1 ∙ begins.1)
 
 -- ---- and nothing is left open
 

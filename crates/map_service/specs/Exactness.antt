@@ -3,7 +3,7 @@ use Rattle.std.specs.Prelude.{◌≡◌, ◌≢◌, ℕ, List, [], ◌∷◌, �
 use Rattle.tc_frame.specs.Layout.{SegmentView}
 use Rattle.map_service.specs.declared.limits.Limits.{Limits}
 use Rattle.map_service.specs.Assembly.{assembled, open_part}
-use Rattle.map_service.specs.Taking.{Outcome, take_step}
+use Rattle.map_service.specs.Taking.{Outcome, take_step, passing_at}
 
 -- the limits, and the open part of each MAP
 pub record AssemblerState : Type 0 where
@@ -20,6 +20,10 @@ step_at a s = take_step a.limits (part_of a s.header.map) s
 -- the part of the segment's MAP is that of the step, and no other changes
 abbrev pub after_step : AssemblerState → SegmentView → AssemblerState
 after_step a s = record a { parts = set a.parts s.header.map (step_at a s).part }
+
+-- the packet that this segment is, where nothing else comes of taking it
+abbrev pub passing : AssemblerState → SegmentView → Option (List ℕ)
+passing a s = passing_at a.limits (part_of a s.header.map) s
 
 -- the assembler keeps, for each MAP, the open part of these segments
 abbrev pub HasPartsOf : AssemblerState → List SegmentView → Type 0

@@ -1,3 +1,4 @@
+pub mod Adding
 pub mod Assembly
 pub mod Causes
 pub mod Cutting

@@ -1,31 +1,15 @@
 -- Octets as whole packets, one after another.
-use Rattle.std.specs.Prelude.{◌≡◌, ◌≤◌, ℕ, List, length, Bool, ◌&&◌, ◌==◌, nat_lt, if◌then◌else◌, Option, None, Some}
+use Rattle.std.specs.Prelude.{◌≡◌, ◌≤◌, ℕ, List, length, Bool, ◌&&◌, ◌==◌, nat_lt, if◌then◌else◌}
 use Rattle.std.specs.List.{AllByRecursion, concat, list_any}
-use Rattle.octets.specs.Records.{first_record, by_record, records_of, rest_of}
 use Rattle.space_packet.specs.Layout.{IsSomePacket}
-use Rattle.space_packet.specs.Reading.{extent_at}
-
--- the packet that octets begin with, where they begin with one
-abbrev pub first_packet : List ℕ → Option (List ℕ)
-first_packet octets = by_record 6 extent_at (first_record 6 extent_at octets) None (λ p. Some p)
-
--- the packets that octets are, one after another, as far as they are whole
-abbrev pub packets_in : List ℕ → List (List ℕ)
-packets_in octets = records_of 6 extent_at octets
-
--- the octets behind these packets
-abbrev pub rest_in : List ℕ → List ℕ
-rest_in octets = rest_of 6 extent_at octets
+pub use Rattle.space_packet.specs.Packets.{first_packet, packets_in, rest_in, is_packet}
 
 -- one or more whole packets, and nothing behind them
 abbrev pub are_packets : List ℕ → Bool
 are_packets octets = nat_lt 0 (length octets) && (length (rest_in octets) == 0)
 
--- exactly one packet
-abbrev pub is_packet : List ℕ → Bool
-is_packet octets = (length (packets_in octets) == 1) && (length (rest_in octets) == 0)
-
--- what a sender hands over in one call, and a segment holds that is no part: exactly one packet, or with blocking one or more
+-- what a sender hands over in one call, and a segment holds that is no part: exactly one packet,
+-- or with blocking one or more
 abbrev pub are_taken : Bool → List ℕ → Bool
 are_taken blocking octets = if blocking then are_packets octets else is_packet octets
 

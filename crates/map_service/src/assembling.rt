@@ -1,9 +1,9 @@
 // Joining segments to packets.
 
 mod foreseeing;
+mod passing;
 
-ghost use Rattle.std.specs.Prelude.{◌≡◌, List, length, true, IsOk, IfOk, IfErr, OnOk, OnErr};
-ghost use Rattle.map_service.specs.Assembly.{is_open};
+ghost use Rattle.std.specs.Prelude.{◌≡◌, List, length, IfOk, IfErr, OnOk, OnErr};
 
 use crate::cells::{no_packets, take_cell};
 use crate::dropped::{Dropped, Taken};
@@ -39,8 +39,9 @@ impl Model for Assembler {
 impl Assembler {
     ghost use Rattle.std.specs.Prelude.{[], None, replicate};
     ghost use Rattle.tc_frame.specs.Layout.{SegmentView, segment_view};
-    ghost use Rattle.map_service.specs.Exactness.{AssemblerState, step_at, after_step, HasPartsOf, IsTakenExactly};
-    ghost use Rattle.map_service.specs.Taking.{is_dropped_at_once};
+    ghost use Rattle.map_service.specs.Exactness.{AssemblerState, step_at, after_step};
+    ghost use Rattle.map_service.specs.Exactness.{HasPartsOf, IsTakenExactly};
+    ghost use Rattle.map_service.specs.Taking.{IsSureAtOnce};
     ghost use Rattle.map_service.specs.Views.{packets_view};
 
     /// An assembler with no part open. It takes no memory.
@@ -72,34 +73,40 @@ impl Assembler {
     /// 3 `Memory` where there was no memory; the assembler is as it was then.
     pub fn take(&mut self, segment: &Segment) -> Result<Taken, MapFault>
         // The table, cell by cell.
-        ensures dropped { IfOk result (λ t. t.dropped ≡ (step_at self.old (segment_view segment.now)).dropped) }
-        ensures packets { IfOk result (λ t. packets_view t.packets ≡ (step_at self.old (segment_view segment.now)).packets) }
+        ensures dropped { IfOk result
+            (λ t. t.dropped ≡ (step_at self.old (segment_view segment.now)).dropped) }
+        ensures packets { IfOk result
+            (λ t. packets_view t.packets ≡ (step_at self.old (segment_view segment.now)).packets) }
         ensures state { OnOk result (self.new ≡ after_step self.old (segment_view segment.now)) }
         ensures memory { OnErr result (self.new ≡ self.old) }
         ensures fault { IfErr result (λ e. e ≡ MapFault.Memory) }
 
         // It takes no memory for a segment that is dropped by `ClosedMap`, `NoBeginning` or `TooLong`.
-        ensures none { is_dropped_at_once (step_at self.old (segment_view segment.now)).dropped ≡ true → IsOk result }
+        ensures none { IsSureAtOnce (step_at self.old (segment_view segment.now)) result }
 
         // Exact assembly, whichever segments led here.
-        ensures exact { IfOk result (λ t. (segments : List SegmentView) → HasPartsOf self.old segments
-            → IsTakenExactly self.new segments (segment_view segment.now) (packets_view t.packets)) }
+        ensures exact { IfOk result (λ t. (segments : List SegmentView)
+            → HasPartsOf self.old segments
+            → IsTakenExactly
+            self.new segments (segment_view segment.now) (packets_view t.packets)) }
     {
         self.step(segment)
     }
 
     // The table alone.
     fn step(&mut self, segment: &Segment) -> Result<Taken, MapFault>
-        ensures dropped { IfOk result (λ t. t.dropped ≡ (step_at self.old (segment_view segment.now)).dropped) }
-        ensures packets { IfOk result (λ t. packets_view t.packets ≡ (step_at self.old (segment_view segment.now)).packets) }
+        ensures dropped { IfOk result
+            (λ t. t.dropped ≡ (step_at self.old (segment_view segment.now)).dropped) }
+        ensures packets { IfOk result
+            (λ t. packets_view t.packets ≡ (step_at self.old (segment_view segment.now)).packets) }
         ensures state { OnOk result (self.new ≡ after_step self.old (segment_view segment.now)) }
         ensures memory { OnErr result (self.new ≡ self.old) }
         ensures fault { IfErr result (λ e. e ≡ MapFault.Memory) }
-        ensures none { is_dropped_at_once (step_at self.old (segment_view segment.now)).dropped ≡ true → IsOk result }
+        ensures none { IsSureAtOnce (step_at self.old (segment_view segment.now)) result }
         ensures maps { length self.old.parts ≡ 64 }
     {
         let map = segment.header.map;
-        if !is_open(&self.limits, map) {
+        if !self.limits.is_open(map) {
             return Ok(no_packets(self.alloc, Some(Dropped::ClosedMap)));
         }
         let part = &mut self.parts[usize::from(map)];
@@ -108,10 +115,4 @@ impl Assembler {
         };
         Ok(taken)
     }
-}
-
-fn is_open(limits: &Limits, map: u8) -> bool
-    ensures { result ≡ is_open limits.now map }
-{
-    map < 64 && (limits.maps >> map) & 1 == 1
 }

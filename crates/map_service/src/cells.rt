@@ -1,12 +1,15 @@
 // The table of the assembler: a segment of an open MAP against the part that is open there.
 
-ghost use Rattle.std.specs.Prelude.{◌≡◌, [], true, IsOk, IfOk, OnErr};
+ghost use Rattle.std.specs.Prelude.{◌≡◌, [], false, IfOk, OnErr};
+ghost use Rattle.map_service.specs.Assembly.{is_too_long};
 ghost use Rattle.tc_frame.specs.declared.frame.SegmentFlags.TheVariants as flags;
-ghost use Rattle.map_service.specs.Taking.{drops, cell, is_dropped_at_once};
+ghost use Rattle.tc_frame.specs.Layout.{segment_view};
+ghost use Rattle.map_service.specs.Adding.{adding_fault};
+ghost use Rattle.map_service.specs.Taking.{drops, cell, cell_at, IsSureAtOnce};
 ghost use Rattle.map_service.specs.Views.{part_view, packets_view, interrupts, outcome_of};
 
 use crate::dropped::{Dropped, Taken};
-use crate::judging::{copied_alone, fault_of_alone, fault_of_one, is_too_long};
+use crate::judging::{copied_alone, fault_of_alone, fault_of_one};
 use crate::limits::Limits;
 use std::alloc::{AllocError, Global};
 use tc_frame::{Segment, SegmentFlags};
@@ -49,7 +52,8 @@ fn take_alone(
     ensures ok { IfOk result (λ t. outcome_of t part.new
         ≡ cell limits.now flags.Alone (part_view part.old) octets.now) }
     ensures err { OnErr result (part_view part.new ≡ part_view part.old) }
-    ensures none { is_dropped_at_once (cell limits.now flags.Alone (part_view part.old) octets.now).dropped ≡ true → IsOk result }
+    ensures none { IsSureAtOnce
+        (cell limits.now flags.Alone (part_view part.old) octets.now) result }
 {
     let dropped = interrupted(part);
     if let Some(cause) = fault_of_alone(limits, octets) {
@@ -58,6 +62,16 @@ fn take_alone(
     let packets = copied_alone(alloc, limits, octets)?;
     *part = None;
     Ok(Taken { dropped, packets })
+}
+
+// The part that a first segment opens, with room for three segments more of its size.
+fn begun(alloc: Global, limits: &Limits, octets: &[u8]) -> Result<Vec<u8>, AllocError>
+    requires { is_too_long limits.now octets.now ≡ false }
+    ensures { IfOk result (λ part. part.items ≡ octets.now) }
+{
+    let mut part = Vec::with_capacity(alloc, 4 * octets.len())?;
+    part.extend_from_slice(octets)?;
+    Ok(part)
 }
 
 // The cells of a first segment.
@@ -70,14 +84,30 @@ fn take_first(
     ensures ok { IfOk result (λ t. outcome_of t part.new
         ≡ cell limits.now flags.First (part_view part.old) octets.now) }
     ensures err { OnErr result (part_view part.new ≡ part_view part.old) }
-    ensures none { is_dropped_at_once (cell limits.now flags.First (part_view part.old) octets.now).dropped ≡ true → IsOk result }
+    ensures none { IsSureAtOnce
+        (cell limits.now flags.First (part_view part.old) octets.now) result }
 {
     let dropped = interrupted(part);
-    if is_too_long(limits, octets.len()) {
+    if limits.is_too_long(octets.len()) {
         return Ok(dropped_for(alloc, Dropped::TooLong, part));
     }
-    *part = Some(Vec::from_slice(alloc, octets)?);
+    *part = Some(begun(alloc, limits, octets)?);
     Ok(no_packets(alloc, dropped))
+}
+
+// Why a continuing or a last segment is not added to the part that is open.
+fn fault_of_adding(limits: &Limits, part: &Option<Vec<u8>>, octets: &[u8]) -> Option<Dropped>
+    ensures { result ≡ adding_fault limits.now (part_view part.now) octets.now }
+{
+    match part {
+        None => Some(Dropped::NoBeginning),
+        Some(begun) => {
+            if limits.is_too_long(begun.len() + octets.len()) {
+                return Some(Dropped::TooLong);
+            }
+            None
+        }
+    }
 }
 
 // The cells of a continuing segment.
@@ -90,18 +120,15 @@ fn take_continuing(
     ensures ok { IfOk result (λ t. outcome_of t part.new
         ≡ cell limits.now flags.Continuing (part_view part.old) octets.now) }
     ensures err { OnErr result (part_view part.new ≡ part_view part.old) }
-    ensures none { is_dropped_at_once (cell limits.now flags.Continuing (part_view part.old) octets.now).dropped ≡ true → IsOk result }
+    ensures none { IsSureAtOnce
+        (cell limits.now flags.Continuing (part_view part.old) octets.now) result }
 {
-    match part {
-        None => Ok(dropped_for(alloc, Dropped::NoBeginning, part)),
-        Some(joined) => {
-            if is_too_long(limits, joined.len() + octets.len()) {
-                return Ok(dropped_for(alloc, Dropped::TooLong, part));
-            }
-            joined.extend_from_slice(octets)?;
-            Ok(no_packets(alloc, None))
-        }
+    if let Some(cause) = fault_of_adding(limits, part, octets) {
+        return Ok(dropped_for(alloc, cause, part));
     }
+    let Some(joined) = part else { unreachable!() };
+    joined.extend_from_slice(octets)?;
+    Ok(no_packets(alloc, None))
 }
 
 // The cells of a last segment.
@@ -114,28 +141,25 @@ fn take_last(
     ensures ok { IfOk result (λ t. outcome_of t part.new
         ≡ cell limits.now flags.Last (part_view part.old) octets.now) }
     ensures err { OnErr result (part_view part.new ≡ part_view part.old) }
-    ensures none { is_dropped_at_once (cell limits.now flags.Last (part_view part.old) octets.now).dropped ≡ true → IsOk result }
+    ensures none { IsSureAtOnce
+        (cell limits.now flags.Last (part_view part.old) octets.now) result }
 {
-    match part {
-        None => Ok(dropped_for(alloc, Dropped::NoBeginning, part)),
-        Some(joined) => {
-            if is_too_long(limits, joined.len() + octets.len()) {
-                return Ok(dropped_for(alloc, Dropped::TooLong, part));
-            }
-            let mut packets = Vec::with_capacity(alloc, 1)?;
-            joined.extend_from_slice(octets)?;
-            let fault = fault_of_one(limits, joined);
-            if let Some(whole) = part.take() {
-                if fault.is_none() {
-                    let _ = packets.push(whole);
-                }
-            }
-            Ok(Taken {
-                dropped: fault,
-                packets,
-            })
+    if let Some(cause) = fault_of_adding(limits, part, octets) {
+        return Ok(dropped_for(alloc, cause, part));
+    }
+    let Some(joined) = part else { unreachable!() };
+    let mut packets = Vec::with_capacity(alloc, 1)?;
+    joined.extend_from_slice(octets)?;
+    let fault = fault_of_one(limits, joined);
+    if let Some(whole) = part.take() {
+        if fault.is_none() {
+            let _ = packets.push(whole);
         }
     }
+    Ok(Taken {
+        dropped: fault,
+        packets,
+    })
 }
 
 // A segment comes on an open MAP.
@@ -146,9 +170,10 @@ pub(crate) fn take_cell(
     segment: &Segment,
 ) -> Result<Taken, AllocError>
     ensures ok { IfOk result (λ t. outcome_of t part.new
-        ≡ cell limits.now segment.now.header.flags (part_view part.old) segment.now.payload.now) }
+        ≡ cell_at limits.now (part_view part.old) (segment_view segment.now)) }
     ensures err { OnErr result (part_view part.new ≡ part_view part.old) }
-    ensures none { is_dropped_at_once (cell limits.now segment.now.header.flags (part_view part.old) segment.now.payload.now).dropped ≡ true → IsOk result }
+    ensures none { IsSureAtOnce
+        (cell_at limits.now (part_view part.old) (segment_view segment.now)) result }
 {
     let octets = segment.payload;
     match segment.header.flags {

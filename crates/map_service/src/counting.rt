@@ -13,7 +13,8 @@ use crate::packets::{has_packet_over, holds_packets};
 /// does: 1 `NotAPacket`, 2 `TooLong`.
 pub fn segment_count(octets: &[u8], limits: &Limits) -> Result<usize, MapFault>
     requires some_part { 1 ≤ limits.now.part }
-    ensures count { IfOk result (λ n. (m : ℕ) → n ≡ length (segments_of limits.now.part m octets.now)) }
+    ensures count { IfOk result (λ n. (m : ℕ)
+        → n ≡ length (segments_of limits.now.part m octets.now)) }
     ensures refused { IfSome (cut_fault limits.now octets.now) (λ fault. result ≡ Err fault) }
     ensures ok { cut_fault limits.now octets.now ≡ None → IsOk result }
 {

@@ -7,7 +7,8 @@ ghost use Rattle.map_service.specs.Packets.{packets_in, rest_in};
 
 use crate::fault::MapFault;
 use crate::limits::Limits;
-use crate::packets::{has_packet_over, holds_packets, packet_len};
+use crate::packets::{has_packet_over, holds_packets};
+use space_packet::packet_len;
 use tc_frame::{Segment, SegmentFlags, SegmentHeader};
 
 /// Adds the segments of one packet, or with blocking of one or more packets one after another, on

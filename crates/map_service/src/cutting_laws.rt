@@ -2,6 +2,7 @@
 
 ghost use Rattle.std.specs.Prelude.{◌≡◌, ◌≢◌, ◌≤◌, ◌<◌, ◌++◌, ◌∷◌, [], ℕ, List, length, true, None};
 ghost use Rattle.std.specs.List.{AllByRecursion, concat};
+ghost use Rattle.octets.specs.Beginning.{IsBeginning};
 ghost use Rattle.tc_frame.specs.declared.frame.SegmentFlags.TheVariants.{Alone};
 ghost use Rattle.tc_frame.specs.Layout.{SegmentView};
 ghost use Rattle.map_service.specs.declared.limits.Limits.{Limits};
@@ -26,7 +27,8 @@ pub fn law_of_parts()
 /// Packets are grouped in the only way in which the groups are these packets in their order, each
 /// fits in a part or is one packet, and the first packet behind it would not have fitted into it.
 pub fn law_of_groups()
-    ensures found { (part : ℕ) (packets : List (List ℕ)) → IsGrouped part packets (groups_of part packets) }
+    ensures found { (part : ℕ) (packets : List (List ℕ))
+        → IsGrouped part packets (groups_of part packets) }
     ensures only { (part : ℕ) (packets : List (List ℕ)) (groups : List (List (List ℕ)))
         → IsGrouped part packets groups → groups ≡ groups_of part packets }
 {}
@@ -34,7 +36,8 @@ pub fn law_of_groups()
 /// The segments of octets that are cut hold these octets, in their order, and each is on their MAP
 /// with 1 to `part` octets.
 pub fn law_of_segments()
-    ensures joined { (limits : Limits) (m : ℕ) (octets : List ℕ) → 1 ≤ limits.part → cut_fault limits octets ≡ None
+    ensures joined { (limits : Limits) (m : ℕ) (octets : List ℕ)
+        → 1 ≤ limits.part → cut_fault limits octets ≡ None
         → concat (payloads (segments_of limits.part m octets)) ≡ octets }
     ensures each { (part m : ℕ) (octets : List ℕ) → 1 ≤ part
         → AllByRecursion (IsPart part m) (segments_of part m octets) }
@@ -45,13 +48,17 @@ pub fn law_of_segments()
 pub fn law_of_passage()
     ensures given { (limits : Limits) (m : ℕ) (segments : List SegmentView) (octets : List ℕ)
         → 1 ≤ limits.part → is_open limits m ≡ true → cut_fault limits octets ≡ None
-        → assembled limits m (segments ++ segments_of limits.part m octets) ≡ assembled limits m segments ++ packets_in octets }
+        → assembled limits m (segments ++ segments_of limits.part m octets)
+        ≡ assembled limits m segments ++ packets_in octets }
     ensures closed { (limits : Limits) (m : ℕ) (segments : List SegmentView) (octets : List ℕ)
         → 1 ≤ limits.part → is_open limits m ≡ true → cut_fault limits octets ≡ None
         → open_part limits m (segments ++ segments_of limits.part m octets) ≡ None }
-    ensures others { (limits : Limits) (part m k : ℕ) (segments : List SegmentView) (octets : List ℕ) → 1 ≤ part → k ≢ m
-        → (assembled limits k (segments ++ segments_of part m octets) ≡ assembled limits k segments)
-        × (open_part limits k (segments ++ segments_of part m octets) ≡ open_part limits k segments) }
+    ensures others { (limits : Limits) (part m k : ℕ) (segments : List SegmentView)
+        (octets : List ℕ) → 1 ≤ part → k ≢ m
+        → (assembled limits k (segments ++ segments_of part m octets)
+        ≡ assembled limits k segments)
+        × (open_part limits k (segments ++ segments_of part m octets)
+        ≡ open_part limits k segments) }
 {}
 
 /// What calls handed over is assembled again, whatever MAPs they were on: of all their segments, on
@@ -64,7 +71,9 @@ pub fn law_of_histories()
     ensures closed { (limits : Limits) (m : ℕ) (submissions : List Submission) → 1 ≤ limits.part
         → AllByRecursion (IsSubmitted limits) submissions
         → open_part limits m (segments_of_all limits.part submissions) ≡ None }
-    ensures beginning { (limits : Limits) (m : ℕ) (submissions : List Submission) (segments more : List SegmentView) → 1 ≤ limits.part
-        → AllByRecursion (IsSubmitted limits) submissions → segments ++ more ≡ segments_of_all limits.part submissions
-        → (packets : List (List ℕ)) × (packets_on m submissions ≡ assembled limits m segments ++ packets) }
+    ensures beginning { (limits : Limits) (m : ℕ) (submissions : List Submission)
+        (segments : List SegmentView) → 1 ≤ limits.part
+        → AllByRecursion (IsSubmitted limits) submissions
+        → IsBeginning segments (segments_of_all limits.part submissions)
+        → IsBeginning (assembled limits m segments) (packets_on m submissions) }
 {}

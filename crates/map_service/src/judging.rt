@@ -1,29 +1,24 @@
 // Octets judged as a whole: whether they are packets that may be handed out.
 
-ghost use Rattle.std.specs.Prelude.{◌≡◌, [], ◌∷◌, nat_lt, IfOk};
+ghost use Rattle.std.specs.Prelude.{◌≡◌, [], ◌∷◌, IfOk};
 ghost use Rattle.map_service.specs.Packets.{packets_in};
 ghost use Rattle.map_service.specs.Taking.{one_fault, several_fault, alone_fault, alone_packets};
 ghost use Rattle.map_service.specs.Views.{packets_view};
 
 use crate::dropped::Dropped;
 use crate::limits::Limits;
-use crate::packets::{are_one_packet, are_whole_packets, has_packet_over, packet_len};
+use crate::packets::{are_whole_packets, has_packet_over};
+use space_packet::{is_packet, packet_len};
 use std::alloc::{AllocError, Global};
-
-pub(crate) fn is_too_long(limits: &Limits, len: usize) -> bool
-    ensures { result ≡ nat_lt limits.now.max_packet len }
-{
-    len > limits.max_packet as usize
-}
 
 // Why octets that should be one packet are dropped.
 pub(crate) fn fault_of_one(limits: &Limits, octets: &[u8]) -> Option<Dropped>
     ensures { result ≡ one_fault limits.now octets.now }
 {
-    if is_too_long(limits, octets.len()) {
+    if limits.is_too_long(octets.len()) {
         return Some(Dropped::TooLong);
     }
-    if !are_one_packet(octets) {
+    if !is_packet(octets) {
         return Some(Dropped::NotAPacket);
     }
     None

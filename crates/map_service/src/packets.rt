@@ -1,30 +1,16 @@
 // Octets as whole packets, one after another.
 
-ghost use Rattle.std.specs.Prelude.{◌≡◌, ◌≤◌, ◌&&◌, length, take, IfSome, option_map};
-ghost use Rattle.map_service.specs.Packets.{first_packet, packets_in, is_packet, are_packets, are_taken, is_some_over};
+ghost use Rattle.std.specs.Prelude.{◌≡◌};
+ghost use Rattle.map_service.specs.Packets.{packets_in, is_packet, are_packets, are_taken, is_some_over};
 
-use space_packet::decode;
-
-// How many octets the packet has that these begin with.
-pub(crate) fn packet_len(octets: &[u8]) -> Option<usize>
-    ensures first { option_map (λ n. take n octets.now) result ≡ first_packet octets.now }
-    ensures within { IfSome result (λ n. (1 ≤ n) × (n ≤ length octets.now)) }
-{
-    match decode(octets) {
-        Ok((_, len)) => Some(len),
-        Err(_) => None,
-    }
-}
+use space_packet::{is_packet, packet_len};
 
 /// Whether the octets are exactly one space packet, of either type, idle too: a whole one, and
 /// nothing behind it (CCSDS 133.0-B-2, 4.1).
 pub fn are_one_packet(octets: &[u8]) -> bool
     ensures { result ≡ is_packet octets.now }
 {
-    match packet_len(octets) {
-        Some(len) => len == octets.len(),
-        None => false,
-    }
+    is_packet(octets)
 }
 
 // Whether the octets are one or more whole packets.
@@ -47,7 +33,7 @@ pub(crate) fn holds_packets(octets: &[u8], blocking: bool) -> bool
     if blocking {
         return are_whole_packets(octets);
     }
-    are_one_packet(octets)
+    is_packet(octets)
 }
 
 // Whether one of the packets has more octets than this.

@@ -1,36 +1,48 @@
 -- The table's rule at each entry, from one test over the whole table.
 use Rattle.std.proofs.Common.{◌≡◌, ℕ, zero, suc, ◌+◌, ◌-◌, ◌*◌, ◌/◌, ◌%◌, ◌^◌, ◌<◌, ◌≤◌, Bool, true, eqb, List, [], ◌∷◌, length, get_or, take, drop, refl, sym, ap, ◌∙◌, arith, inl, inr}
 use Rattle.std.specs.Prelude.{◌&&◌, bit_xor}
-use Rattle.std.specs.Int.Bits.{xor_zero_l, xor_zero_r, xor_assoc, xor_block, xor_shifted}
-use Rattle.std.proofs.lemmas.Nat.{shr_split, xor_comm, xor_lt, xor_shr, xor_mod}
+use Rattle.std.specs.Int.Bits.{xor_zero_r, xor_assoc, xor_block, xor_shifted}
+use Rattle.std.proofs.lemmas.Nat.{shr_split, xor_comm, xor_lt}
 use Rattle.std.proofs.lemmas.List.{drop_more, take_all, length-drop}
 use Rattle.octets.proofs.Outcomes.{both_true}
 use Rattle.octets.proofs.Division.{divided, takes_octet, takes_bit}
 use Rattle.octets.proofs.Register.{register_step, register_after, after-xor, step-fits}
 use Rattle.std.proofs.lemmas.Bool.{eqb-true, cases_lt}
-use Rattle.octets.specs.declared.table.TheConstants.{TABLE}
+use Rattle.octets.specs.declared.table.TheConstants.{TABLE, LATER}
 
--- each entry from place i on is what eight steps make of its place
-abbrev entries_hold : ℕ → List ℕ → Bool
-entries_hold i [] = true
-entries_hold i (x ∷ xs) = eqb x (register_after 8 (i * 256)) && entries_hold (i + 1) xs
+-- each entry from place i on is what the register becomes with nothing but its place in it
+abbrev entries_hold : (ℕ → ℕ) → ℕ → List ℕ → Bool
+entries_hold f i [] = true
+entries_hold f i (x ∷ xs) = eqb x (f (i * 256)) && entries_hold f (i + 1) xs
 
-entry_is : (i : ℕ) (xs : List ℕ) (k : ℕ) → entries_hold i xs ≡ true → k < length xs → get_or xs k 0 ≡ register_after 8 ((i + k) * 256)
-entry_is i [] k e lt = absurd (omega arith)
-entry_is i (x ∷ xs) zero e lt =
+entry_is : (f : ℕ → ℕ) (i : ℕ) (xs : List ℕ) (k : ℕ) → entries_hold f i xs ≡ true → k < length xs → get_or xs k 0 ≡ f ((i + k) * 256)
+entry_is f i [] k e lt = absurd (omega arith)
+entry_is f i (x ∷ xs) zero e lt =
     let place : i ≡ i + 0 = omega arith in
-    eqb-true x (register_after 8 (i * 256)) (both_true _ _ e).0 ∙ ap (λ (n : ℕ). register_after 8 (n * 256)) place
-entry_is i (x ∷ xs) (suc k) e lt =
+    eqb-true x (f (i * 256)) (both_true _ _ e).0 ∙ ap (λ (n : ℕ). f (n * 256)) place
+entry_is f i (x ∷ xs) (suc k) e lt =
     let place : (i + 1) + k ≡ i + suc k = omega arith in
-    entry_is (i + 1) xs k (both_true _ _ e).1 (omega arith) ∙ ap (λ (n : ℕ). register_after 8 (n * 256)) place
+    entry_is f (i + 1) xs k (both_true _ _ e).1 (omega arith) ∙ ap (λ (n : ℕ). f (n * 256)) place
 
-table_holds : entries_hold 0 TABLE ≡ true
+-- the register two octets later
+abbrev after_two_octets : ℕ → ℕ
+after_two_octets r = register_after 8 (register_after 8 r)
+
+table_holds : entries_hold (register_after 8) 0 TABLE ≡ true
 table_holds = refl
+
+later_holds : entries_hold after_two_octets 0 LATER ≡ true
+later_holds = refl
 
 pub TABLE-entry : (k : ℕ) → k < 256 → get_or TABLE k 0 ≡ register_after 8 (k * 256)
 TABLE-entry k lt =
     let place : 0 + k ≡ k = omega arith in
-    entry_is 0 TABLE k table_holds lt ∙ ap (λ (n : ℕ). register_after 8 (n * 256)) place
+    entry_is (register_after 8) 0 TABLE k table_holds lt ∙ ap (λ (n : ℕ). register_after 8 (n * 256)) place
+
+pub LATER-entry : (k : ℕ) → k < 256 → get_or LATER k 0 ≡ register_after 8 (register_after 8 (k * 256))
+LATER-entry k lt =
+    let place : 0 + k ≡ k = omega arith in
+    entry_is after_two_octets 0 LATER k later_holds lt ∙ ap (λ (n : ℕ). after_two_octets (n * 256)) place
 
 -- ---- the loop over octets
 
@@ -66,65 +78,92 @@ parts r x =
     sym (ap (λ (y : ℕ). bit_xor y (x * 2 ^ 8)) whole) ∙ sym (ap (bit_xor (r / 2 ^ 8 * 2 ^ 8 + r % 2 ^ 8)) plain) ∙ block
     ∙ ap (λ (y : ℕ). bit_xor (r / 2 ^ 8) x * 2 ^ 8 + y) (xor_zero_r (r % 2 ^ 8)) ∙ sym (xor_shifted (bit_xor (r / 2 ^ 8) x) 8 (r % 2 ^ 8) (omega arith))
 
-pub takes_octet_by_table : (r x : ℕ) (xs : List ℕ) → r < 2 ^ 16 → x < 256
-    → divided (bit_xor (r * 256 % 65536) (get_or TABLE (bit_xor (r / 256) x) 0)) 0 xs ≡ divided r 0 (x ∷ xs)
-takes_octet_by_table r x xs fits small =
+-- the register after an octet
+abbrev pub after_octet : ℕ → ℕ → ℕ
+after_octet r x = bit_xor (r % 256 * 256) (get_or TABLE (bit_xor (r / 256) x) 0)
+
+-- the register after two octets
+abbrev pub after_pair : ℕ → ℕ → ℕ → ℕ
+after_pair r x y = bit_xor (get_or LATER (bit_xor (r / 256) x) 0) (get_or TABLE (bit_xor (r % 256) y) 0)
+
+-- eight steps over the register with an octet in its first half
+octet_after : (r x : ℕ) → r < 2 ^ 16 → x < 256
+    → register_after 8 (bit_xor r (x * 2 ^ 8)) ≡ bit_xor (register_after 8 (bit_xor (r / 256) x * 256)) (r % 256 * 256)
+octet_after r x fits small =
     let place : ℕ = bit_xor (r / 2 ^ 8) x in
     let in_table : place < 256 = xor_lt 8 (r / 2 ^ 8) x (omega arith) small in
-    let low : ℕ = r % 2 ^ 8 in
-    let moved : low * 256 ≡ r * 256 % 65536 = omega arith in
-    let after : register_after 8 (bit_xor r (x * 2 ^ 8)) ≡ bit_xor (r * 256 % 65536) (get_or TABLE place 0) =
     ap (register_after 8) (parts r x)
-    ∙ after-xor 8 (place * 2 ^ 8) low (omega arith) (omega arith)
-    ∙ ap (bit_xor (register_after 8 (place * 2 ^ 8))) (low_after low (omega arith) ∙ moved)
-    ∙ sym (ap (λ (y : ℕ). bit_xor y (r * 256 % 65536)) (TABLE-entry place in_table))
-    ∙ xor_comm (get_or TABLE place 0) (r * 256 % 65536) in
-    sym (ap (λ (y : ℕ). divided y 0 xs) after)
-    ∙ takes_bits 8 (bit_xor r (x * 2 ^ 8)) xs (xor_lt 16 r (x * 2 ^ 8) fits (omega arith))
-    ∙ takes_octet r x xs
+    ∙ after-xor 8 (place * 2 ^ 8) (r % 2 ^ 8) (omega arith) (omega arith)
+    ∙ ap (bit_xor (register_after 8 (place * 2 ^ 8))) (low_after (r % 2 ^ 8) (omega arith))
 
--- ---- the register as two entries
+steps_fit : (n r : ℕ) → r < 2 ^ 16 → register_after n r < 2 ^ 16
+steps_fit zero r fits = fits
+steps_fit (suc n) r fits = steps_fit n (register_step r) (step-fits r)
 
--- the register is an entry and the low octet of the one before, moved up
-abbrev pub register_of : ℕ → ℕ → ℕ
-register_of before entry = bit_xor (before % 256 * 256) entry
+-- eight steps more
+takes_whole_octet : (r x : ℕ) (xs : List ℕ) → r < 2 ^ 16 → x < 256 → divided (register_after 8 (bit_xor r (x * 2 ^ 8))) 0 xs ≡ divided r 0 (x ∷ xs)
+takes_whole_octet r x xs fits small = takes_bits 8 (bit_xor r (x * 2 ^ 8)) xs (xor_lt 16 r (x * 2 ^ 8) fits (omega arith)) ∙ takes_octet r x xs
 
--- the entry that an octet leads to
-abbrev pub entry_after : ℕ → ℕ → ℕ → ℕ
-entry_after before entry octet = get_or TABLE (bit_xor (entry / 256) (bit_xor (before % 256) octet)) 0
+takes_one : (r x : ℕ) (xs : List ℕ) → r < 2 ^ 16 → x < 256 → divided (after_octet r x) 0 xs ≡ divided r 0 (x ∷ xs)
+takes_one r x xs fits small =
+    let place : ℕ = bit_xor (r / 256) x in
+    let in_table : place < 256 = xor_lt 8 (r / 256) x (omega arith) small in
+    let after : after_octet r x ≡ register_after 8 (bit_xor r (x * 2 ^ 8)) =
+    ap (bit_xor (r % 256 * 256)) (TABLE-entry place in_table)
+    ∙ xor_comm (r % 256 * 256) (register_after 8 (place * 256))
+    ∙ sym (octet_after r x fits small) in
+    ap (λ (y : ℕ). divided y 0 xs) after ∙ takes_whole_octet r x xs fits small
 
-takes_octet_by_entries : (b e x : ℕ) (xs : List ℕ) → e < 2 ^ 16 → x < 256 → divided (register_of e (entry_after b e x)) 0 xs ≡ divided (register_of b e) 0 (x ∷ xs)
-takes_octet_by_entries b e x xs fits small =
-    let high : ℕ = b % 256 * 256 in
-    let r : ℕ = bit_xor high e in
-    let r-fits : r < 2 ^ 16 = xor_lt 16 high e (omega arith) fits in
-    let above : high / 2 ^ 8 ≡ b % 256 = omega arith in
-    let under : high % 2 ^ 8 ≡ 0 = omega arith in
-    let top : r / 256 ≡ bit_xor (b % 256) (e / 256) = xor_shr high e 8 ∙ ap (λ (y : ℕ). bit_xor y (e / 256)) above in
-    let low : r % 256 ≡ e % 256 = xor_mod high e 8 ∙ ap (λ (y : ℕ). bit_xor y (e % 256)) under ∙ xor_zero_l (e % 256) in
-    let moved : e % 256 * 256 ≡ r * 256 % 65536 = omega (arith, low) in
-    let place : bit_xor (e / 256) (bit_xor (b % 256) x) ≡ bit_xor (r / 256) x =
-    sym (xor_assoc (e / 256) (b % 256) x) ∙ ap (λ (y : ℕ). bit_xor y x) (xor_comm (e / 256) (b % 256) ∙ sym top) in
-    ap (λ (k : ℕ). divided (bit_xor (e % 256 * 256) (get_or TABLE k 0)) 0 xs) place
-    ∙ ap (λ (k : ℕ). divided (bit_xor k (get_or TABLE (bit_xor (r / 256) x) 0)) 0 xs) moved
-    ∙ takes_octet_by_table r x xs r-fits small
+-- an octet below an octet
+low_parts : (t low y : ℕ) → bit_xor (bit_xor t (low * 256)) (y * 2 ^ 8) ≡ bit_xor t (bit_xor low y * 256)
+low_parts t low y =
+    let block : bit_xor (low * 2 ^ 8 + 0) (y * 2 ^ 8 + 0) ≡ bit_xor low y * 2 ^ 8 + bit_xor 0 0 = xor_block 8 low y 0 0 (omega arith) (omega arith) in
+    let left : low * 2 ^ 8 + 0 ≡ low * 256 = omega arith in
+    let right : y * 2 ^ 8 + 0 ≡ y * 2 ^ 8 = omega arith in
+    let out : bit_xor low y * 2 ^ 8 + 0 ≡ bit_xor low y * 256 = omega arith in
+    xor_assoc t (low * 256) (y * 2 ^ 8)
+    ∙ ap (bit_xor t) (sym (ap (λ (k : ℕ). bit_xor k (y * 2 ^ 8)) left) ∙ sym (ap (bit_xor (low * 2 ^ 8 + 0)) right) ∙ block ∙ out)
 
-pub takes_octet_at : (b e r i : ℕ) (octets : List ℕ) → e < 2 ^ 16 → i < length octets → get_or octets i 0 < 256 → r ≡ entry_after b e (get_or octets i 0)
-    → divided (register_of e r) 0 (drop (i + 1) octets) ≡ divided (register_of b e) 0 (drop i octets)
-takes_octet_at b e r i octets fits lt small is =
-    ap (λ (y : ℕ). divided (register_of e y) 0 (drop (i + 1) octets)) is
-    ∙ takes_octet_by_entries b e (get_or octets i 0) (drop (i + 1) octets) fits small
-    ∙ sym (ap (λ (xs : List ℕ). divided (register_of b e) 0 xs) (drop_more octets i 0 lt))
+pair_after : (r x y : ℕ) → r < 2 ^ 16 → x < 256 → y < 256
+    → after_pair r x y ≡ register_after 8 (bit_xor (register_after 8 (bit_xor r (x * 2 ^ 8))) (y * 2 ^ 8))
+pair_after r x y fits small next-small =
+    let place : ℕ = bit_xor (r / 256) x in
+    let next : ℕ = bit_xor (r % 256) y in
+    let in_table : place < 256 = xor_lt 8 (r / 256) x (omega arith) small in
+    let next_in_table : next < 256 = xor_lt 8 (r % 256) y (omega arith) next-small in
+    let entry : ℕ = register_after 8 (place * 256) in
+    ap (λ (k : ℕ). bit_xor k (get_or TABLE next 0)) (LATER-entry place in_table)
+    ∙ ap (bit_xor (register_after 8 entry)) (TABLE-entry next next_in_table)
+    ∙ sym (after-xor 8 entry (next * 256) (steps_fit 8 (place * 256) (omega arith)) (omega arith))
+    ∙ sym (ap (register_after 8) (low_parts entry (r % 256) y))
+    ∙ sym (ap (λ (k : ℕ). register_after 8 (bit_xor k (y * 2 ^ 8))) (octet_after r x fits small))
 
--- a turn of the loop over four octets
-pub takes_four : (b e p q r s : ℕ) (octets : List ℕ) → 4 ≤ length octets → e < 2 ^ 16 → p < 2 ^ 16 → q < 2 ^ 16 → r < 2 ^ 16
-    → get_or octets 0 0 < 256 → get_or octets 1 0 < 256 → get_or octets 2 0 < 256 → get_or octets 3 0 < 256
-    → p ≡ entry_after b e (get_or octets 0 0) → q ≡ entry_after e p (get_or octets 1 0) → r ≡ entry_after p q (get_or octets 2 0) → s ≡ entry_after q r (get_or octets 3 0)
-    → divided (register_of r s) 0 (take (length octets - 4) (drop 4 octets)) ≡ divided (register_of b e) 0 octets
-takes_four b e p q r s octets long e-fits p-fits q-fits r-fits x y z w is-p is-q is-r is-s =
-    let rest : take (length octets - 4) (drop 4 octets) ≡ drop 4 octets = take_all (length octets - 4) (drop 4 octets) (omega (arith, length-drop 4 octets)) in
-    ap (λ (xs : List ℕ). divided (register_of r s) 0 xs) rest
-    ∙ takes_octet_at q r s 3 octets r-fits (omega arith) w is-s
-    ∙ takes_octet_at p q r 2 octets q-fits (omega arith) z is-r
-    ∙ takes_octet_at e p q 1 octets p-fits (omega arith) y is-q
-    ∙ takes_octet_at b e p 0 octets e-fits (omega arith) x is-p
+takes_both : (r x y : ℕ) (xs : List ℕ) → r < 2 ^ 16 → x < 256 → y < 256 → divided (after_pair r x y) 0 xs ≡ divided r 0 (x ∷ y ∷ xs)
+takes_both r x y xs fits small next-small =
+    let after : ℕ = register_after 8 (bit_xor r (x * 2 ^ 8)) in
+    let after-fits : after < 2 ^ 16 = steps_fit 8 (bit_xor r (x * 2 ^ 8)) (xor_lt 16 r (x * 2 ^ 8) fits (omega arith)) in
+    ap (λ (k : ℕ). divided k 0 xs) (pair_after r x y fits small next-small)
+    ∙ takes_whole_octet after y xs after-fits next-small
+    ∙ takes_whole_octet r x (y ∷ xs) fits small
+
+-- ---- the octets at a place
+
+pub takes_octet_at : (r s i : ℕ) (octets : List ℕ) → r < 2 ^ 16 → i < length octets → get_or octets i 0 < 256 → s ≡ after_octet r (get_or octets i 0)
+    → divided s 0 (drop (i + 1) octets) ≡ divided r 0 (drop i octets)
+takes_octet_at r s i octets fits lt small is =
+    ap (λ (k : ℕ). divided k 0 (drop (i + 1) octets)) is
+    ∙ takes_one r (get_or octets i 0) (drop (i + 1) octets) fits small
+    ∙ sym (ap (divided r 0) (drop_more octets i 0 lt))
+
+-- a turn of the loop over two octets
+pub takes_two : (r s : ℕ) (octets : List ℕ) → 2 ≤ length octets → r < 2 ^ 16 → get_or octets 0 0 < 256 → get_or octets 1 0 < 256
+    → s ≡ after_pair r (get_or octets 0 0) (get_or octets 1 0)
+    → divided s 0 (take (length octets - 2) (drop 2 octets)) ≡ divided r 0 octets
+takes_two r s octets long fits small next-small is =
+    let rest : take (length octets - 2) (drop 2 octets) ≡ drop 2 octets = take_all (length octets - 2) (drop 2 octets) (omega (arith, length-drop 2 octets)) in
+    let whole : octets ≡ get_or octets 0 0 ∷ get_or octets 1 0 ∷ drop 2 octets =
+    drop_more octets 0 0 (omega arith) ∙ ap (λ (xs : List ℕ). get_or octets 0 0 ∷ xs) (drop_more octets 1 0 (omega arith)) in
+    ap (divided s 0) rest
+    ∙ ap (λ (k : ℕ). divided k 0 (drop 2 octets)) is
+    ∙ takes_both r (get_or octets 0 0) (get_or octets 1 0) (drop 2 octets) fits small next-small
+    ∙ sym (ap (divided r 0) whole)

@@ -1,3 +1,4 @@
+pub mod Beginning
 pub mod Number
 pub mod Check
 pub mod Damage

@@ -1,12 +1,12 @@
 // The check of a frame: its value, its setting and its test.
 
-ghost use Rattle.std.specs.Prelude.{◌≡◌, ◌≤◌, ◌<◌, ◌-◌, ◌^◌, ◌/◌, ◌%◌, ◌++◌, ◌↔◌, IsTrue, length, take, bit_xor, slice_index};
-ghost use Rattle.octets.specs.declared.table.TheConstants.{TABLE};
+ghost use Rattle.std.specs.Prelude.{◌≡◌, ◌≤◌, ◌<◌, ◌-◌, ◌*◌, ◌^◌, ◌/◌, ◌%◌, ◌++◌, ◌↔◌, IsTrue, length, take, bit_xor, slice_index};
+ghost use Rattle.octets.specs.declared.table.TheConstants.{TABLE, LATER};
 ghost use Rattle.byteorder.specs.Endian.{big_bytes};
 ghost use Rattle.octets.specs.Check.{check_of, HoldsCheck};
 
 use crate::number::first_two;
-use crate::table::table_entry;
+use crate::table::{later_entry, table_entry};
 use byteorder::{BigEndian, ByteOrder};
 
 /// The check of the octets: generator `x^16 + x^12 + x^5 + 1`, register preset to ones, no final
@@ -15,34 +15,42 @@ use byteorder::{BigEndian, ByteOrder};
 pub fn check(octets: &[u8]) -> u16
     ensures { result ≡ check_of octets.now }
 {
-    let mut before: u32 = 0;
-    let mut entry: u32 = 0xffff;
+    let mut register: u32 = 0xffff;
     let mut left = octets;
-    while let [first, second, third, fourth, rest @ ..] = left {
-        before = next_entry(before, entry, *first);
-        entry = next_entry(entry, before, *second);
-        before = next_entry(before, entry, *third);
-        entry = next_entry(entry, before, *fourth);
+    while let [first, second, rest @ ..] = left {
+        register = after_two(register, *first, *second);
         left = rest;
     }
     for octet in left {
-        let next = next_entry(before, entry, *octet);
-        before = entry;
-        entry = next;
+        register = after_one(register, *octet);
     }
-    (((before & 0xff) << 8) ^ entry) as u16
+    register as u16
 }
 
-// The register is the sum of an entry of the table and the low octet of the one before, moved up: so the next place
-// waits for one look into the table alone.
+// The register after an octet.
 #[inline(always)]
-fn next_entry(before: u32, entry: u32, octet: u8) -> u32
-    requires { entry < 2 ^ 16 }
-    ensures entry { result ≡ slice_index TABLE (bit_xor (entry / 256) (bit_xor (before % 256) octet)) }
+fn after_one(register: u32, octet: u8) -> u32
+    requires { register < 2 ^ 16 }
+    ensures after { result
+        ≡ bit_xor (register % 256 * 256) (slice_index TABLE (bit_xor (register / 256) octet)) }
     ensures octet { octet < 2 ^ 8 }
     ensures fits { result < 2 ^ 16 }
 {
-    table_entry((entry >> 8) ^ ((before & 0xff) ^ u32::from(octet)))
+    ((register & 0xff) << 8) ^ table_entry((register >> 8) ^ u32::from(octet))
+}
+
+// The register after two octets. What the first adds is looked up as it stands an octet later, so
+// that neither look waits for the other.
+#[inline(always)]
+fn after_two(register: u32, first: u8, second: u8) -> u32
+    requires { register < 2 ^ 16 }
+    ensures after { let later = slice_index LATER (bit_xor (register / 256) first) in
+        result ≡ bit_xor later (slice_index TABLE (bit_xor (register % 256) second)) }
+    ensures octets { (first < 2 ^ 8) × (second < 2 ^ 8) }
+    ensures fits { result < 2 ^ 16 }
+{
+    let later = later_entry((register >> 8) ^ u32::from(first));
+    later ^ table_entry((register & 0xff) ^ u32::from(second))
 }
 
 /// Sets the last two octets to the check of those before them.

@@ -21,29 +21,38 @@ pub fn law_of_damage()
 /// A stream is its records and a rest in exactly one way.
 pub fn law_of_records<W: Wire>()
     ensures found { (stream : List ℕ)
-        → IsSplit W.HEAD W.extent_of stream (records_of W.HEAD W.extent_of stream) (rest_of W.HEAD W.extent_of stream) }
-    ensures only { (stream rest : List ℕ) (records : List (List ℕ)) → IsSplit W.HEAD W.extent_of stream records rest
-        → (records ≡ records_of W.HEAD W.extent_of stream) × (rest ≡ rest_of W.HEAD W.extent_of stream) }
+        → IsSplit W.HEAD W.extent_of stream
+        (records_of W.HEAD W.extent_of stream)
+        (rest_of W.HEAD W.extent_of stream) }
+    ensures only { (stream rest : List ℕ) (records : List (List ℕ))
+        → IsSplit W.HEAD W.extent_of stream records rest
+        → (records ≡ records_of W.HEAD W.extent_of stream)
+        × (rest ≡ rest_of W.HEAD W.extent_of stream) }
 {}
 
 /// Any cutting of a stream gives the same: the records of two pieces are those of the first, and
 /// then those of its rest followed by the second.
 pub fn law_of_cutting<W: Wire>()
     ensures records { (xs ys : List ℕ) → records_of W.HEAD W.extent_of (xs ++ ys)
-        ≡ records_of W.HEAD W.extent_of xs ++ records_of W.HEAD W.extent_of (rest_of W.HEAD W.extent_of xs ++ ys) }
-    ensures rest { (xs ys : List ℕ)
-        → rest_of W.HEAD W.extent_of (xs ++ ys) ≡ rest_of W.HEAD W.extent_of (rest_of W.HEAD W.extent_of xs ++ ys) }
+        ≡ records_of W.HEAD W.extent_of xs
+        ++ records_of W.HEAD W.extent_of (rest_of W.HEAD W.extent_of xs ++ ys) }
+    ensures rest { (xs ys : List ℕ) → rest_of W.HEAD W.extent_of (xs ++ ys)
+        ≡ rest_of W.HEAD W.extent_of (rest_of W.HEAD W.extent_of xs ++ ys) }
 {}
 
 /// A refused extent stays refused, whatever octets follow.
 pub fn law_of_refusal<W: Wire>()
-    ensures { (octets more : List ℕ) (e : W.Fault) → first_record W.HEAD W.extent_of octets ≡ Some (Err e)
+    ensures { (octets more : List ℕ) (e : W.Fault)
+        → first_record W.HEAD W.extent_of octets ≡ Some (Err e)
         → first_record W.HEAD W.extent_of (octets ++ more) ≡ Some (Err e) }
 {}
 
 /// Spellings on a stream are its records, and no spelling begins another.
 pub fn law_of_spellings<W: Wire>()
-    ensures records { (spellings : List (List ℕ)) (more : List ℕ) → AllByRecursion (λ octets. (v : W.Value) × W.IsSpelling v octets) spellings
-        → records_of W.HEAD W.extent_of (concat spellings ++ more) ≡ spellings ++ records_of W.HEAD W.extent_of more }
-    ensures apart { (v w : W.Value) (xs ys more : List ℕ) → W.IsSpelling v xs → W.IsSpelling w ys → ys ≡ xs ++ more → more ≡ [] }
+    ensures records { (spellings : List (List ℕ)) (more : List ℕ)
+        → AllByRecursion (λ octets. (v : W.Value) × W.IsSpelling v octets) spellings
+        → records_of W.HEAD W.extent_of (concat spellings ++ more)
+        ≡ spellings ++ records_of W.HEAD W.extent_of more }
+    ensures apart { (v w : W.Value) (xs ys more : List ℕ)
+        → W.IsSpelling v xs → W.IsSpelling w ys → ys ≡ xs ++ more → more ≡ [] }
 {}

@@ -75,7 +75,8 @@ impl<W: Wire> Splitter<W> {
     /// Whether the stream may end here. The fault is `W::truncated()`: octets are left, and no
     /// extent of theirs was refused.
     pub fn finish(&self) -> Result<(), W::Fault>
-        ensures truncated { IsErr result ↔ ((0 < length (held self.now)) × IsNone (failure self.now)) }
+        ensures truncated { IsErr result
+            ↔ ((0 < length (held self.now)) × IsNone (failure self.now)) }
         ensures fault { IfErr result (λ e. e ≡ W.truncated_fault) }
     {
         if self.start < self.octets.len() && self.failed.is_none() {
@@ -87,10 +88,13 @@ impl<W: Wire> Splitter<W> {
     // Passes the first record that is held, and says between which places it lies.
     fn advance(&mut self) -> Option<Result<(usize, usize), W::Fault>>
         ensures octets { self.new.octets.items ≡ self.old.octets.items }
-        ensures answer { place_view self.old.octets.items result ≡ first_record W.HEAD W.extent_of (held self.old) }
+        ensures answer { place_view self.old.octets.items result
+            ≡ first_record W.HEAD W.extent_of (held self.old) }
         ensures within { IsWithin self.old.octets.items result }
-        ensures held { held self.new ≡ rest_after (place_view self.old.octets.items result) (held self.old) }
-        ensures failure { failure self.new ≡ failure_after (place_view self.old.octets.items result) (failure self.old) }
+        ensures held { held self.new
+            ≡ rest_after (place_view self.old.octets.items result) (held self.old) }
+        ensures failure { failure self.new
+            ≡ failure_after (place_view self.old.octets.items result) (failure self.old) }
     {
         let left = self.octets.len() - self.start;
         if left < W::HEAD {

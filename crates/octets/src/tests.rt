@@ -5,7 +5,7 @@ ghost use Rattle.std.proofs.Common.{rules};
 ghost use Rattle.std.proofs.lemmas.Grind.{common_steps};
 ghost use Rattle.octets.specs.declared.tests.BlockFault.TheVariants.{Empty, Truncated, Memory};
 
-use crate::table::table_entry;
+use crate::table::{later_entry, table_entry};
 use crate::*;
 use std::process::Abort;
 
@@ -97,6 +97,9 @@ fn known_entries(rt: HostRuntime) {
     assert_eq!(rt; table_entry(1), 0x1021);
     assert_eq!(rt; table_entry(2), 0x2042);
     assert_eq!(rt; table_entry(255), 0x1ef0);
+    assert_eq!(rt; later_entry(0), 0);
+    assert_eq!(rt; later_entry(1), 0x3331);
+    assert_eq!(rt; later_entry(255), 0x03ff);
 }
 
 // Every octet, and every length up to 64 of octets that look random.

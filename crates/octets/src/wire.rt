@@ -42,7 +42,8 @@ pub trait Wire {
     // A record has its head.
     ghost extent_has_head: { (head : List ℕ) (n : ℕ) → extent_of head ≡ Ok n → HEAD ≤ n };
 
-    ghost one_spelling: { (v : Value) (xs ys : List ℕ) → IsSpelling v xs → IsSpelling v ys → xs ≡ ys };
+    ghost one_spelling: { (v : Value) (xs ys : List ℕ)
+        → IsSpelling v xs → IsSpelling v ys → xs ≡ ys };
 
     // A spelling has its head, which tells its length.
     ghost own_extent: { (v : Value) (octets : List ℕ) → IsSpelling v octets

@@ -63,7 +63,7 @@ over_maps packets_on = below_map packets_on 64
 -- of the packets
 abbrev pub packets_text : World → List ℕ
 packets_text w = codes "clean=" ++ (clean_word (option_map (λ (o : Opening). o.clean) w.session.opening)
-    ++ (codes " state=" ++ (state_word w.station.fop.state
+    ++ (codes " state=" ++ (state_word w.ground_node.fop.state
     ++ (codes " submitted=" ++ (decimal (over_maps (submitted w))
     ++ (codes " delivered=" ++ decimal (over_maps (delivered w))))))))
 
@@ -75,7 +75,7 @@ frames_text w = codes " sent=" ++ (decimal (length w.session.sent)
 -- of what is acknowledged
 abbrev pub acknowledged_text : World → List ℕ
 acknowledged_text w = codes " acknowledged=" ++ (decimal w.session.acknowledged
-    ++ (codes " outstanding=" ++ decimal (length (outstanding w.station))))
+    ++ (codes " outstanding=" ++ decimal (length (outstanding w.ground_node))))
 
 abbrev pub show_text : World → List ℕ
 show_text w = packets_text w ++ (frames_text w ++ acknowledged_text w)

@@ -2,8 +2,7 @@
 
 ghost use Rattle.std.specs.Prelude.{◌≡◌, ◌++◌, length, drop};
 ghost use Rattle.octets.specs.Outcome.{map_ok};
-ghost use Rattle.tc_frame.specs.Layout.{body_view, frame_view, flags_code, segment_view};
-ghost use Rattle.tc_frame.specs.Reading.{flags_at};
+ghost use Rattle.tc_frame.specs.Layout.{body_view, frame_view, segment_view};
 ghost use Rattle.tc_frame.specs.Writing.{total_of, spelling};
 ghost use Rattle.sedgechisel.specs.Answers.{status_of, left_by};
 ghost use Rattle.sedgechisel.specs.Commands.{check_if, segment_told, command_told, body_told, frame_told, fields_of, part_of, part_with, frame_read, frame_taken, total_declared, TellsFrame};
@@ -153,22 +152,11 @@ fn segment_from<'a>(fields: &CommandFrame, payload: &'a [u8]) -> Result<Segment<
     }
     Ok(Segment {
         header: SegmentHeader {
-            flags: flags_from(fields.flags),
+            flags: SegmentFlags::with_code(fields.flags),
             map: fields.map,
         },
         payload: payload,
     })
-}
-
-fn flags_from(code: u8) -> SegmentFlags
-    ensures { result ≡ flags_at code }
-{
-    match code {
-        0 => SegmentFlags::Continuing,
-        1 => SegmentFlags::First,
-        2 => SegmentFlags::Last,
-        _ => SegmentFlags::Alone,
-    }
 }
 
 fn command_from<'a>(fields: &CommandFrame) -> Result<Body<'a>, u8>
@@ -200,13 +188,13 @@ fn fields_from(frame: &TcFrame) -> CommandFrame
         Body::Ad { n, segment } => CommandFrame {
             kind: 0,
             n: *n,
-            flags: code_of(segment.header.flags),
+            flags: segment.header.flags.code(),
             map: segment.header.map,
             ..bare
         },
         Body::Bd { segment } => CommandFrame {
             kind: 1,
-            flags: code_of(segment.header.flags),
+            flags: segment.header.flags.code(),
             map: segment.header.map,
             ..bare
         },
@@ -216,17 +204,6 @@ fn fields_from(frame: &TcFrame) -> CommandFrame
             vr: *vr,
             ..bare
         },
-    }
-}
-
-fn code_of(flags: SegmentFlags) -> u8
-    ensures { result ≡ flags_code flags }
-{
-    match flags {
-        SegmentFlags::Continuing => 0,
-        SegmentFlags::First => 1,
-        SegmentFlags::Last => 2,
-        SegmentFlags::Alone => 3,
     }
 }
 

@@ -1,2 +1,3 @@
 pub mod Readings
 pub mod Spellings
+pub mod WholePackets

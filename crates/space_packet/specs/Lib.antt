@@ -3,6 +3,7 @@ pub mod Faults
 pub mod Holding
 pub mod Laws
 pub mod Layout
+pub mod Packets
 pub mod Reading
 pub mod Splitting
 pub mod Writing

@@ -18,7 +18,8 @@ pub fn decode(octets: &[u8]) -> Result<(Packet<'_>, usize), PacketFault>
 
     // It is a packet and its length exactly where so many octets spell it.
     ensures found { IfOk result (λ f. IsFirstPacket (packet_view f.0) f.1 octets.now) }
-    ensures only { (p : PacketView) (n : ℕ) → IsFirstPacket p n octets.now → map_ok found_view result ≡ Ok (p, n) }
+    ensures only { (p : PacketView) (n : ℕ) → IsFirstPacket p n octets.now
+        → map_ok found_view result ≡ Ok (p, n) }
 {
     packet_of(octets)
 }

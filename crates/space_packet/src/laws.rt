@@ -27,7 +27,8 @@ pub fn law_of_reading()
 /// The records of a stream are its packets: octets are a record exactly where they spell a packet,
 /// idle or not. So it is for all records that stand one after another.
 pub fn law_of_records()
-    ensures found { (octets : List ℕ) → IsOctets octets → IsRecord 6 extent_at octets → IsSomePacket octets }
+    ensures found { (octets : List ℕ) → IsOctets octets
+        → IsRecord 6 extent_at octets → IsSomePacket octets }
     ensures only { (octets : List ℕ) → IsSomePacket octets → IsRecord 6 extent_at octets }
     ensures all { (records : List (List ℕ)) → IsOctets (concat records)
         → AllByRecursion (IsRecord 6 extent_at) records → AllByRecursion IsSomePacket records }

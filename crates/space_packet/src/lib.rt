@@ -13,6 +13,7 @@ mod laws;
 mod layout;
 mod packet;
 mod splitter;
+mod whole;
 
 pub use counters::SequenceCounters;
 pub use decoding::decode;
@@ -23,6 +24,7 @@ pub use laws::{law_of_reading, law_of_records, law_of_spelling};
 pub use layout::Packets;
 pub use packet::{Packet, PacketKind};
 pub use splitter::PacketSplitter;
+pub use whole::{is_packet, packet_len};
 
 #[cfg(test)]
 mod tests;

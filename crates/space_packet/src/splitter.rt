@@ -63,7 +63,8 @@ impl PacketSplitter {
     /// Whether the stream may end here. The fault is 1 `Truncated`: octets are left, and no header
     /// was refused.
     pub fn finish(&self) -> Result<(), PacketFault>
-        ensures truncated { IsErr result ↔ ((0 < length (octets_held self.now)) × IsNone (refusal self.now)) }
+        ensures truncated { IsErr result
+            ↔ ((0 < length (octets_held self.now)) × IsNone (refusal self.now)) }
         ensures fault { IfErr result (λ e. e ≡ PacketFault.Truncated) }
     {
         self.splitter.finish()

@@ -63,8 +63,11 @@ flags_code First = 1
 flags_code Last = 2
 flags_code Alone = 3
 
+abbrev pub header_octet : SegmentHeader → ℕ
+header_octet h = 64 * flags_code h.flags + h.map
+
 abbrev pub segment_octets : SegmentView → List ℕ
-segment_octets s = (64 * flags_code s.header.flags + s.header.map) ∷ s.payload
+segment_octets s = header_octet s.header ∷ s.payload
 
 abbrev pub command_octets : Command → List ℕ
 command_octets Unlock = 0 ∷ []

@@ -17,7 +17,8 @@ pub fn decode(octets: &[u8], check: Check) -> Result<TcFrame<'_>, TcFault>
 
     // It is a frame exactly where the octets spell one.
     ensures found { IfOk result (λ f. IsTcFrame check (frame_view f) octets.now) }
-    ensures only { (f : FrameView) → IsTcFrame check f octets.now → map_ok frame_view result ≡ Ok f }
+    ensures only { (f : FrameView) → IsTcFrame check f octets.now
+        → map_ok frame_view result ≡ Ok f }
 {
     frame_of(octets, check)
 }
@@ -111,19 +112,8 @@ fn header_of(octet: u8) -> SegmentHeader
     ensures map { result.map ≡ octet % 64 }
 {
     SegmentHeader {
-        flags: flags_of(octet >> 6),
+        flags: SegmentFlags::with_code(octet >> 6),
         map: octet & 0x3f,
-    }
-}
-
-fn flags_of(code: u8) -> SegmentFlags
-    ensures { result ≡ flags_at code }
-{
-    match code {
-        0 => SegmentFlags::Continuing,
-        1 => SegmentFlags::First,
-        2 => SegmentFlags::Last,
-        _ => SegmentFlags::Alone,
     }
 }
 

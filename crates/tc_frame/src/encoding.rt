@@ -2,12 +2,12 @@
 
 ghost use Rattle.std.specs.Prelude.{◌≡◌, ◌<◌, ◌≤◌, ◌+◌, ◌-◌, ◌*◌, ◌^◌, ◌++◌, length, take, drop, true, IfOk, OnErr};
 ghost use Rattle.byteorder.specs.Endian.{big_bytes};
-ghost use Rattle.tc_frame.specs.Layout.{frame_view, body_view, segment_view, bypass_flag, control_flag, flags_code, segment_octets, command_octets, body_octets, body_fits, IsTcFrame};
+ghost use Rattle.tc_frame.specs.Layout.{frame_view, body_view, segment_view, bypass_flag, control_flag, segment_octets, command_octets, body_octets, body_fits, IsTcFrame};
 ghost use Rattle.tc_frame.specs.Writing.{total_of, first_number, second_number, front_octets, spelling, frame_fits, written};
 
 use crate::decoding::len_of_check;
 use crate::fault::TcFault;
-use crate::frame::{Body, Check, Command, Segment, SegmentFlags, TcFrame};
+use crate::frame::{Body, Check, Command, Segment, TcFrame};
 use byteorder::{BigEndian, ByteOrder};
 use octets::append_check;
 
@@ -16,7 +16,8 @@ use octets::append_check;
 /// empty data and a longer frame, and then by 10 `Room` an output that is too short.
 pub fn encode(frame: &TcFrame, check: Check, out: &mut [u8]) -> Result<usize, TcFault>
     ensures answer { result ≡ written check (frame_view frame.now) (length out.old) }
-    ensures ok { IfOk result (λ n. out.new ≡ spelling check (frame_view frame.now) ++ drop n out.old) }
+    ensures ok { IfOk result (λ n. out.new
+        ≡ spelling check (frame_view frame.now) ++ drop n out.old) }
     ensures err { OnErr result (out.new ≡ out.old) }
 
     // So `decode` reads them as this frame.
@@ -143,19 +144,8 @@ fn put_segment(segment: &Segment, out: &mut [u8])
     requires room { length out.old ≡ 1 + length segment.now.payload.now }
     ensures { out.new ≡ segment_octets (segment_view segment.now) }
 {
-    out[0] = 64 * code_of(segment.header.flags) + segment.header.map;
+    out[0] = segment.header.octet();
     out[1..].copy_from_slice(segment.payload);
-}
-
-fn code_of(flags: SegmentFlags) -> u8
-    ensures { result ≡ flags_code flags }
-{
-    match flags {
-        SegmentFlags::Continuing => 0,
-        SegmentFlags::First => 1,
-        SegmentFlags::Last => 2,
-        SegmentFlags::Alone => 3,
-    }
 }
 
 fn put_command(command: Command, out: &mut [u8])

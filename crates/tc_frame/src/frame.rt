@@ -1,5 +1,7 @@
 // The telecommand transfer frame as a value.
 
+ghost use Rattle.std.specs.Prelude.{◌≡◌, ◌<◌};
+
 /// Whether a frame ends with its check, the frame error control field of two octets (CCSDS
 /// 232.0-B-4, 4.1.4).
 #[derive(Clone, Copy, Debug, PartialEq, Eq)]
@@ -17,6 +19,35 @@ pub enum SegmentFlags {
     Alone,
 }
 
+impl SegmentFlags {
+    ghost use Rattle.tc_frame.specs.Layout.{flags_code};
+    ghost use Rattle.tc_frame.specs.Reading.{flags_at};
+
+    /// The two bits in which a segment header has them: 0 continuing, 1 first, 2 last, 3 alone.
+    pub fn code(self) -> u8
+        ensures { result ≡ flags_code self }
+    {
+        match self {
+            SegmentFlags::Continuing => 0,
+            SegmentFlags::First => 1,
+            SegmentFlags::Last => 2,
+            SegmentFlags::Alone => 3,
+        }
+    }
+
+    /// The flags of this code; those of a code over 3 are `Alone`.
+    pub fn with_code(code: u8) -> SegmentFlags
+        ensures { result ≡ flags_at code }
+    {
+        match code {
+            0 => SegmentFlags::Continuing,
+            1 => SegmentFlags::First,
+            2 => SegmentFlags::Last,
+            _ => SegmentFlags::Alone,
+        }
+    }
+}
+
 /// The octet before a segment's data: two bits of flags and six bits of MAP identifier (CCSDS
 /// 232.0-B-4, 4.1.3.2.2).
 #[derive(Clone, Copy, Debug, PartialEq, Eq)]
@@ -24,6 +55,18 @@ pub struct SegmentHeader {
     pub flags: SegmentFlags,
     /// Below 64.
     pub map: u8,
+}
+
+impl SegmentHeader {
+    ghost use Rattle.tc_frame.specs.Layout.{header_octet};
+
+    /// The header as an octet.
+    pub fn octet(self) -> u8
+        requires { self.map < 64 }
+        ensures { result ≡ header_octet self }
+    {
+        64 * self.flags.code() + self.map
+    }
 }
 
 /// The data field of a Type-D frame: a segment header, and at least one octet after it.

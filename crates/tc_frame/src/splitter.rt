@@ -53,7 +53,8 @@ impl<C: Wire<Fault = TcFault>> TcSplitter<C> {
         ensures* rests { sem 𝓛 (Rests (the_row C.row C.Wire) self.entry (λ last.
             (octets_held last ≡ rest_after (answer_view result) (octets_held self.old))
             × (refusal last ≡ failure_after (answer_view result) (refusal self.old)))) }
-        ensures answer { answer_view result ≡ first_record C.HEAD C.extent_of (octets_held self.old) }
+        ensures answer { answer_view result
+            ≡ first_record C.HEAD C.extent_of (octets_held self.old) }
     {
         match self.splitter.next() {
             None => None,
@@ -65,7 +66,8 @@ impl<C: Wire<Fault = TcFault>> TcSplitter<C> {
     /// Whether the stream may end here. The fault is 1 `Short`: octets are left, and no record was
     /// refused.
     pub fn finish(&self) -> Result<(), TcFault>
-        ensures short { IsErr result ↔ ((0 < length (octets_held self.now)) × IsNone (refusal self.now)) }
+        ensures short { IsErr result
+            ↔ ((0 < length (octets_held self.now)) × IsNone (refusal self.now)) }
         ensures fault { IfErr result (λ e. e ≡ TcFault.Short) }
     {
         if self.splitter.finish().is_err() {

@@ -17,12 +17,12 @@ use Rattle.cop1.specs.declared.fop.Directive.TheVariants.{InitWithoutCheck, Init
 use Rattle.cop1.specs.declared.fop.FopMode.{FopMode}
 use Rattle.cop1.specs.declared.fop.FopMode.TheVariants.{S1, S2, S3, S4, S5, S6}
 use Rattle.cop1.specs.Farm.{state_of}
-use Rattle.cop1.specs.FopDirective.{obeys, refuses, from_S6, terminated, directed as directed_fop}
-use Rattle.cop1.specs.FopPull.{pulled as pulled_fop}
-use Rattle.cop1.specs.FopReport.{locks, waits, asks, reported as heard_by, report_in as report_in_mode, report_while_active, report_in_S4, confirms as confirms_by}
+use Rattle.cop1.specs.FopDirective.{obeys, refuses, from_S6, terminate_in as terminated, directive_step as directed_fop}
+use Rattle.cop1.specs.FopPull.{pull_step as pulled_fop}
+use Rattle.cop1.specs.FopReport.{locks, waits, asks, clcw_step as heard_by, report_in as report_in_mode, report_while_active, report_in_S4, confirms as confirms_by}
 use Rattle.cop1.specs.FopState.{FopState}
-use Rattle.cop1.specs.FopTick.{ticked as ticked_fop, ticked_with, timer_ended, counted, due_again}
-use Rattle.cop1.specs.FopWords.{Outcome, stopped, repeated, alerts, goes_on}
+use Rattle.cop1.specs.FopTick.{tick_step as ticked_fop, tick_with as ticked_with, timer_ended, after_count as counted, due_again}
+use Rattle.cop1.specs.FopWords.{FopOutcome as Outcome, after_stop as stopped, after_repeat as repeated, alerts, goes_on}
 use Rattle.tm_link.specs.declared.fault.TmFault.{TmFault}
 use Rattle.tm_link.specs.Layout as telemetry
 use Rattle.tm_link.specs.Reading as telemetry_reading
@@ -32,14 +32,14 @@ use Rattle.tc_link.specs.declared.event.Event.TheVariants as events
 use Rattle.tc_link.specs.declared.fault.LinkFault.{LinkFault}
 use Rattle.tc_link.specs.declared.heard.Heard.{Heard}
 use Rattle.tc_link.specs.Packets.{PacketOn}
-use Rattle.tc_link.specs.Craft.{taken, bypass_taken, telemetry_queued}
-use Rattle.tc_link.specs.Ground.{GroundState, GroundOutcome, is_closed, unsent, with_fop, frame_pulled, submit_fault, submitted, bypass_fault, bypassed, unless}
+use Rattle.tc_link.specs.Spacecraft.{spacecraft_take, spacecraft_take_bypass, spacecraft_telemetry}
+use Rattle.tc_link.specs.Ground.{GroundState, GroundOutcome, is_closed, unsent_segments, with_fop, frame_to_send, submit_fault, after_submission, bypass_fault, after_bypass, unless_refused}
 use Rattle.tc_link.specs.Replies.{reply_to_submission, reply_to_directive, reply_to_alert, reply_to_taking, reply_to_telemetry, Down}
-use Rattle.tc_link.specs.World.{World, world_step, after_pull, up_delivered, up_lost, up_detected, up_damaged, down_delivered, down_lost, down_detected, down_damaged}
+use Rattle.tc_link.specs.World.{World, world_step, world_after_pull, up_deliver_step, up_lose_step, up_damage_outcome, up_damage_step, down_deliver_step, down_lose_step, down_damage_outcome, down_damage_step}
 use Rattle.tc_link.specs.Confirmation.{IsChecked}
 use Rattle.tc_link.specs.FalseAlarms.{alert_in, replied_alert, IsUnderCheck, AsksAgain, FirstAsks, HasCause}
 use Rattle.tc_link.proofs.Early.{Begun, IsEarly, AllSame}
-use Rattle.tc_link.proofs.Hearing.{used_is, Coming, rules_hear, coming}
+use Rattle.tc_link.proofs.LateTelemetry.{used_is, Coming, rules_hear, coming}
 use Rattle.tc_link.proofs.Linked.{Steady, Late, Tells, Reporting}
 use Rattle.tc_link.proofs.Reports.{IsLate, IsRunning, IsAllowed, active_led, asked}
 use Rattle.tc_link.proofs.Transit.{DownIs, Rises, Ranks, bit}
@@ -67,33 +67,33 @@ alert_replied None = refl
 alert_replied (Some alert) = refl
 
 module _ (w : World) where
-  pull_silent : (station : GroundState) (frame : Option FrameView) → Silent (alert_in (after_pull w station frame).answer)
-  pull_silent station None = refl
-  pull_silent station (Some frame) = refl
+  pull_silent : (ground_node : GroundState) (frame : Option FrameView) → Silent (alert_in (world_after_pull w ground_node frame).answer)
+  pull_silent ground_node None = refl
+  pull_silent ground_node (Some frame) = refl
 
-  up_silent : (bs : List (List ℕ)) → Silent (alert_in (up_delivered w bs).answer) × Silent (alert_in (up_lost w bs).answer)
+  up_silent : (bs : List (List ℕ)) → Silent (alert_in (up_deliver_step w bs).answer) × Silent (alert_in (up_lose_step w bs).answer)
   up_silent [] = (refl, refl)
   up_silent (b ∷ bs) = (refl, refl)
 
-  detected_silent : (bs : List (List ℕ)) (r : Result FrameView TcFault) → Silent (alert_in (up_detected w bs r).answer)
+  detected_silent : (bs : List (List ℕ)) (r : Result FrameView TcFault) → Silent (alert_in (up_damage_outcome w bs r).answer)
   detected_silent bs (Ok frame) = refl
   detected_silent bs (Err fault) = refl
 
-  damaged_silent : (bs : List (List ℕ)) (octets : List ℕ) → Silent (alert_in (up_damaged w bs octets).answer)
+  damaged_silent : (bs : List (List ℕ)) (octets : List ℕ) → Silent (alert_in (up_damage_step w bs octets).answer)
   damaged_silent [] octets = refl
   damaged_silent (b ∷ bs) octets = detected_silent bs (frame_at On octets)
 
-  down_lost_silent : (bs : List (List ℕ)) → Silent (alert_in (down_lost w bs).answer)
+  down_lost_silent : (bs : List (List ℕ)) → Silent (alert_in (down_lose_step w bs).answer)
   down_lost_silent [] = refl
   down_lost_silent (b ∷ bs) = refl
 
-  down_detected_silent : (bs : List (List ℕ)) (r : Result telemetry.FrameView TmFault) → Silent (alert_in (down_detected w bs r).answer)
+  down_detected_silent : (bs : List (List ℕ)) (r : Result telemetry.FrameView TmFault) → Silent (alert_in (down_damage_outcome w bs r).answer)
   down_detected_silent bs (Ok frame) = refl
   down_detected_silent bs (Err fault) = refl
 
-  down_damaged_silent : (bs : List (List ℕ)) (octets : List ℕ) → Silent (alert_in (down_damaged w bs octets).answer)
+  down_damaged_silent : (bs : List (List ℕ)) (octets : List ℕ) → Silent (alert_in (down_damage_step w bs octets).answer)
   down_damaged_silent [] octets = refl
-  down_damaged_silent (b ∷ bs) octets = down_detected_silent bs (telemetry_reading.frame_at w.station.config.frame_length octets)
+  down_damaged_silent (b ∷ bs) octets = down_detected_silent bs (telemetry_reading.frame_at w.ground_node.config.frame_length octets)
 
 none_some : {P : Type 0} (o : Option Alert) (alert : Alert) → o ≡ None → o ≡ Some alert → P
 none_some o alert silent is = absurd (cc (silent, is))
@@ -155,7 +155,7 @@ module _ (s : FopState SegmentView) where
 
 -- ---- a report
 
-allowed_cause : (w : World) (r : Clcw) (alert : Alert) → IsAllowed (asks r) w.station.fop.limit (Some alert) → (asks r ≡ true → FirstAsks w.station.config w.down) → HasCause w events.DownDeliver alert
+allowed_cause : (w : World) (r : Clcw) (alert : Alert) → IsAllowed (asks r) w.ground_node.fop.limit (Some alert) → (asks r ≡ true → FirstAsks w.ground_node.config w.down) → HasCause w events.DownDeliver alert
 allowed_cause w r Lockout allowed first = elim allowed [ ]
 allowed_cause w r NnR allowed first = elim allowed [ ]
 allowed_cause w r ClcwAlert allowed first = elim allowed [ ]
@@ -165,22 +165,22 @@ allowed_cause w r Timer allowed first = elim allowed [ ]
 allowed_cause w r Terminated allowed first = elim allowed [ ]
 
 module _ (c : Config) (d : Directive) (base : ℕ) (w : World) (k : Steady c w) (checked : IsChecked d) where
-  first_asks : (b : List ℕ) (bs : List (List ℕ)) (r : Clcw) → w.down ≡ b ∷ bs → Tells c b r → asks r ≡ true → FirstAsks w.station.config w.down
-  first_asks b bs r is tells asking = rw (is, k.station_config) (subst AsksAgain (sym (report_told c b r tells)) asking)
+  first_asks : (b : List ℕ) (bs : List (List ℕ)) (r : Clcw) → w.down ≡ b ∷ bs → Tells c b r → asks r ≡ true → FirstAsks w.ground_node.config w.down
+  first_asks b bs r is tells asking = rw (is, k.ground_config) (subst AsksAgain (sym (report_told c b r tells)) asking)
 
   -- what is answered to telemetry is what the sender answers to its report
-  heard_alert_is : (b : List ℕ) (bs : List (List ℕ)) (r : Clcw) → Tells c b r → alert_in (down_delivered w (b ∷ bs)).answer ≡ (heard_by w.station.fop r).answer
-  heard_alert_is b bs r tells = ap (λ (o : GroundOutcome Heard). replied_alert (Down o.answer)) (used_is c w.station b r k.station_config tells)
+  heard_alert_is : (b : List ℕ) (bs : List (List ℕ)) (r : Clcw) → Tells c b r → alert_in (down_deliver_step w (b ∷ bs)).answer ≡ (heard_by w.ground_node.fop r).answer
+  heard_alert_is b bs r tells = ap (λ (o : GroundOutcome Heard). replied_alert (Down o.answer)) (used_is c w.ground_node b r k.ground_config tells)
 
   module _ (g : Late c d base w) where
-    active_cause : (r : Clcw) (v : ℕ) → Coming base (c.width / 2) (IsChecked d) w.station.fop g.plain.a g.plain.n g.plain.units (unsent w.station) r v → (asks r ≡ true → FirstAsks w.station.config w.down) → is_closed w.station.fop.state ≡ false → IsRunning w.station.fop.state → (alert : Alert) → (report_while_active w.station.fop r).answer ≡ Some alert → HasCause w events.DownDeliver alert
+    active_cause : (r : Clcw) (v : ℕ) → Coming base (c.width / 2) (IsChecked d) w.ground_node.fop g.plain.a g.plain.n g.plain.units (unsent_segments w.ground_node) r v → (asks r ≡ true → FirstAsks w.ground_node.config w.down) → is_closed w.ground_node.fop.state ≡ false → IsRunning w.ground_node.fop.state → (alert : Alert) → (report_while_active w.ground_node.fop r).answer ≡ Some alert → HasCause w events.DownDeliver alert
     active_cause r v comes first on runs alert is =
         let p = g.plain in
-        let led = active_led base (c.width / 2) (IsChecked d) w.station.fop p.a p.n r v (rules_hear base (c.width / 2) (IsChecked d) w.station.fop p.a p.n p.units (unsent w.station) r v comes on) runs in
-        let allowed : IsAllowed (asks r) w.station.fop.limit (Some alert) = subst (IsAllowed (asks r) w.station.fop.limit) is (led.2.allowed checked) in
+        let led = active_led base (c.width / 2) (IsChecked d) w.ground_node.fop p.a p.n r v (rules_hear base (c.width / 2) (IsChecked d) w.ground_node.fop p.a p.n p.units (unsent_segments w.ground_node) r v comes on) runs in
+        let allowed : IsAllowed (asks r) w.ground_node.fop.limit (Some alert) = subst (IsAllowed (asks r) w.ground_node.fop.limit) is (led.2.allowed checked) in
         allowed_cause w r alert allowed first
 
-    late_cause : (r : Clcw) (v : ℕ) → Coming base (c.width / 2) (IsChecked d) w.station.fop g.plain.a g.plain.n g.plain.units (unsent w.station) r v → (asks r ≡ true → FirstAsks w.station.config w.down) → (m : FopMode) → w.station.fop.state ≡ m → (alert : Alert) → (report_in_mode w.station.fop r m).answer ≡ Some alert → HasCause w events.DownDeliver alert
+    late_cause : (r : Clcw) (v : ℕ) → Coming base (c.width / 2) (IsChecked d) w.ground_node.fop g.plain.a g.plain.n g.plain.units (unsent_segments w.ground_node) r v → (asks r ≡ true → FirstAsks w.ground_node.config w.down) → (m : FopMode) → w.ground_node.fop.state ≡ m → (alert : Alert) → (report_in_mode w.ground_node.fop r m).answer ≡ Some alert → HasCause w events.DownDeliver alert
     late_cause r v comes first S1 m alert is = active_cause r v comes first (rw m refl) (rw m tt) alert is
     late_cause r v comes first S2 m alert is = active_cause r v comes first (rw m refl) (rw m tt) alert is
     late_cause r v comes first S3 m alert is = active_cause r v comes first (rw m refl) (rw m tt) alert is
@@ -188,52 +188,52 @@ module _ (c : Config) (d : Directive) (base : ℕ) (w : World) (k : Steady c w) 
     late_cause r v comes first S5 m alert is = absurd (let no : IsLate S5 = rw m at g.linked.late in no)
     late_cause r v comes first S6 m alert is = absurd cc
 
-    late_heard : (bs : List (List ℕ)) (rs : List Clcw) (vs : List ℕ) → w.down ≡ bs → g.reports ≡ rs → g.plain.down ≡ vs → Reporting c bs rs → DownIs base rs vs → Rises g.plain.a vs g.plain.r → (IsChecked d → Ranks (2 * g.plain.a + asked w.station.fop.state) rs vs (2 * g.plain.r + bit w.craft.farm.retransmit))
-        → (alert : Alert) → alert_in (down_delivered w bs).answer ≡ Some alert → HasCause w events.DownDeliver alert
+    late_heard : (bs : List (List ℕ)) (rs : List Clcw) (vs : List ℕ) → w.down ≡ bs → g.reports ≡ rs → g.plain.down ≡ vs → Reporting c bs rs → DownIs base rs vs → Rises g.plain.a vs g.plain.r → (IsChecked d → Ranks (2 * g.plain.a + asked w.ground_node.fop.state) rs vs (2 * g.plain.r + bit w.spacecraft.farm.retransmit))
+        → (alert : Alert) → alert_in (down_deliver_step w bs).answer ≡ Some alert → HasCause w events.DownDeliver alert
     late_heard [] rs vs is same also rest down_is up ranks alert e = absurd cc
     late_heard (b ∷ bs) [] vs is same also rest down_is up ranks alert e = elim rest [ ]
     late_heard (b ∷ bs) (r ∷ rs) [] is same also rest down_is up ranks alert e = elim down_is [ ]
     late_heard (b ∷ bs) (r ∷ rs) (v ∷ vs) is same also rest down_is up ranks alert e =
-        late_cause r v (coming c d base w k g r rs v vs down_is up ranks) (first_asks b bs r is rest.0) w.station.fop.state refl alert (sym (heard_alert_is b bs r rest.0) ∙ e)
+        late_cause r v (coming c d base w k g r rs v vs down_is up ranks) (first_asks b bs r is rest.0) w.ground_node.fop.state refl alert (sym (heard_alert_is b bs r rest.0) ∙ e)
 
   module _ (g : Begun c d base w) where
     under_check : d ≡ InitWithCheck → IsUnderCheck w
     under_check is = (directive_is w d g.early.opened ∙ ap Some is, g.early.confirmed_not)
 
-    early_cause : (r : Clcw) → (locks r ≡ w.craft.farm.lockout) × (asks r ≡ w.craft.farm.retransmit) × (r.value ≡ w.craft.farm.vr) × (waits r ≡ true → asks r ≡ true) → d ≡ InitWithCheck → (alert : Alert) → (report_in_S4 w.station.fop r).answer ≡ Some alert → HasCause w events.DownDeliver alert
+    early_cause : (r : Clcw) → (locks r ≡ w.spacecraft.farm.lockout) × (asks r ≡ w.spacecraft.farm.retransmit) × (r.value ≡ w.spacecraft.farm.vr) × (waits r ≡ true → asks r ≡ true) → d ≡ InitWithCheck → (alert : Alert) → (report_in_S4 w.ground_node.fop r).answer ≡ Some alert → HasCause w events.DownDeliver alert
     early_cause r same by_check alert =
-        let s = w.station.fop in
+        let s = w.ground_node.fop in
         let P : Outcome SegmentView (Option Alert) → Type 0 = λ o. o.answer ≡ Some alert → HasCause w events.DownDeliver alert in
-        cond_both (locks r) (alerts s Lockout) _ P (λ t e. let is : Lockout ≡ alert = cc in subst (HasCause w events.DownDeliver) is (under_check by_check, k.flags.state ∙ ap (λ l. state_of l w.craft.farm.wait) (sym same.0 ∙ t)))
+        cond_both (locks r) (alerts s Lockout) _ P (λ t e. let is : Lockout ≡ alert = cc in subst (HasCause w events.DownDeliver) is (under_check by_check, k.flags.state ∙ ap (λ l. state_of l w.spacecraft.farm.wait) (sym same.0 ∙ t)))
         (λ l. cond_both (not (r.value == s.vs)) (alerts s NnR) _ P (λ t e. let is : NnR ≡ alert = cc in subst (HasCause w events.DownDeliver) is (under_check by_check, λ x. eqb-false r.value s.vs (not-true (r.value == s.vs) t) (same.2 ∙ x)))
         (λ v. cond_both (asks r) (alerts s Synch) _ P (λ t e. let is : Synch ≡ alert = cc in subst (HasCause w events.DownDeliver) is (under_check by_check, sym same.1 ∙ t))
         (λ a. cond_both (waits r) (alerts s ClcwAlert) _ P (λ t e. absurd (let yes : asks r ≡ true = same.3 t in cc (a, yes)))
         (λ t e. absurd cc))))
 
-    early_in : (r : Clcw) (rs : List Clcw) → (d ≡ InitWithCheck → AllSame (r ∷ rs) w.craft.farm.lockout w.craft.farm.retransmit w.craft.farm.vr) → (m : FopMode) → w.station.fop.state ≡ m → (alert : Alert) → (report_in_mode w.station.fop r m).answer ≡ Some alert → HasCause w events.DownDeliver alert
+    early_in : (r : Clcw) (rs : List Clcw) → (d ≡ InitWithCheck → AllSame (r ∷ rs) w.spacecraft.farm.lockout w.spacecraft.farm.retransmit w.spacecraft.farm.vr) → (m : FopMode) → w.ground_node.fop.state ≡ m → (alert : Alert) → (report_in_mode w.ground_node.fop r m).answer ≡ Some alert → HasCause w events.DownDeliver alert
     early_in r rs same S1 m alert is = absurd (let no : IsEarly d S1 = rw m at g.early.early in no)
     early_in r rs same S2 m alert is = absurd (let no : IsEarly d S2 = rw m at g.early.early in no)
     early_in r rs same S3 m alert is = absurd (let no : IsEarly d S3 = rw m at g.early.early in no)
     early_in r rs same S4 m alert is = let by_check : IsEarly d S4 = rw m at g.early.early in let t = same by_check in early_cause r (t.0, t.1, t.2, t.3) by_check alert is
-    early_in r rs same S5 m alert is = none_some (report_in_mode w.station.fop r S5).answer alert (cond_both (confirms_by w.station.fop r) (goes_on (record w.station.fop { state = S1; ticks = None; control = Idle })) (goes_on w.station.fop) (λ o. Silent o.answer) (λ t. refl) (λ t. refl)) is
+    early_in r rs same S5 m alert is = none_some (report_in_mode w.ground_node.fop r S5).answer alert (cond_both (confirms_by w.ground_node.fop r) (goes_on (record w.ground_node.fop { state = S1; ticks = None; control = Idle })) (goes_on w.ground_node.fop) (λ o. Silent o.answer) (λ t. refl) (λ t. refl)) is
     early_in r rs same S6 m alert is = absurd cc
 
-    early_heard : (bs : List (List ℕ)) (rs : List Clcw) → Reporting c bs rs → (d ≡ InitWithCheck → AllSame rs w.craft.farm.lockout w.craft.farm.retransmit w.craft.farm.vr) → (alert : Alert) → alert_in (down_delivered w bs).answer ≡ Some alert → HasCause w events.DownDeliver alert
+    early_heard : (bs : List (List ℕ)) (rs : List Clcw) → Reporting c bs rs → (d ≡ InitWithCheck → AllSame rs w.spacecraft.farm.lockout w.spacecraft.farm.retransmit w.spacecraft.farm.vr) → (alert : Alert) → alert_in (down_deliver_step w bs).answer ≡ Some alert → HasCause w events.DownDeliver alert
     early_heard [] rs rest same alert e = absurd cc
     early_heard (b ∷ bs) [] rest same alert e = elim rest [ ]
-    early_heard (b ∷ bs) (r ∷ rs) rest same alert e = early_in r rs same w.station.fop.state refl alert (sym (heard_alert_is b bs r rest.0) ∙ e)
+    early_heard (b ∷ bs) (r ∷ rs) rest same alert e = early_in r rs same w.ground_node.fop.state refl alert (sym (heard_alert_is b bs r rest.0) ∙ e)
 
-  cause_heard : Begun c d base w ⊎ Late c d base w → (alert : Alert) → alert_in (down_delivered w w.down).answer ≡ Some alert → HasCause w events.DownDeliver alert
+  cause_heard : Begun c d base w ⊎ Late c d base w → (alert : Alert) → alert_in (down_deliver_step w w.down).answer ≡ Some alert → HasCause w events.DownDeliver alert
   cause_heard s alert e = elim s [
     | inl g ↦ early_heard g w.down g.reports g.early.reporting g.early.same alert e
     | inr g ↦ late_heard g w.down g.reports g.plain.down refl refl refl g.linked.reporting g.linked.down_is g.linked.rises (λ t. (g.calm t).ranks) alert e
   ]
 
   pub cause : Begun c d base w ⊎ Late c d base w → (e : Event) → (alert : Alert) → alert_in (world_step w e).answer ≡ Some alert → HasCause w e alert
-  cause s (events.Submit m octets) alert is = none_some _ alert (submission_silent (unless (submit_fault w.station m octets.now) w.station (submitted w.station m octets.now)).answer) is
-  cause s (events.Bypass m octets) alert is = none_some _ alert (submission_silent (unless (bypass_fault w.station m octets.now) w.station (bypassed w.station m octets.now)).answer) is
-  cause s (events.Directive e) alert is = directive_cause w.station.fop w e alert is
-  cause s events.Send alert is = none_some _ alert (pull_silent w (with_fop w.station (pulled_fop w.station.fop).after) (frame_pulled w.station.config (pulled_fop w.station.fop).answer)) is
+  cause s (events.Submit m octets) alert is = none_some _ alert (submission_silent (unless_refused (submit_fault w.ground_node m octets.now) w.ground_node (after_submission w.ground_node m octets.now)).answer) is
+  cause s (events.Bypass m octets) alert is = none_some _ alert (submission_silent (unless_refused (bypass_fault w.ground_node m octets.now) w.ground_node (after_bypass w.ground_node m octets.now)).answer) is
+  cause s (events.Directive e) alert is = directive_cause w.ground_node.fop w e alert is
+  cause s events.Send alert is = none_some _ alert (pull_silent w (with_fop w.ground_node (pulled_fop w.ground_node.fop).after) (frame_to_send w.ground_node.config (pulled_fop w.ground_node.fop).answer)) is
   cause s events.UpDeliver alert is = none_some _ alert (up_silent w w.up).0 is
   cause s events.UpLose alert is = none_some _ alert (up_silent w w.up).1 is
   cause s (events.UpDamage octets) alert is = none_some _ alert (damaged_silent w w.up octets.now) is
@@ -241,7 +241,7 @@ module _ (c : Config) (d : Directive) (base : ℕ) (w : World) (k : Steady c w) 
   cause s events.DownDeliver alert is = cause_heard s alert is
   cause s events.DownLose alert is = none_some _ alert (down_lost_silent w w.down) is
   cause s (events.DownDamage octets) alert is = none_some _ alert (down_damaged_silent w w.down octets.now) is
-  cause s events.Tick alert is = let only : alert ≡ Timer = tick_only w.station.fop w.station.fop.ticks alert (sym (alert_replied (ticked_fop w.station.fop).answer) ∙ is) in rw only refl
-  cause s events.Take alert is = none_some _ alert (taking_silent (taken w.craft w.craft.ready).answer) is
-  cause s events.TakeBypass alert is = none_some _ alert (taking_silent (bypass_taken w.craft w.craft.bypass).answer) is
-  cause s (events.Telemetry octets) alert is = none_some _ alert (queueing_silent (telemetry_queued w.craft octets.now).answer) is
+  cause s events.Tick alert is = let only : alert ≡ Timer = tick_only w.ground_node.fop w.ground_node.fop.ticks alert (sym (alert_replied (ticked_fop w.ground_node.fop).answer) ∙ is) in rw only refl
+  cause s events.Take alert is = none_some _ alert (taking_silent (spacecraft_take w.spacecraft w.spacecraft.ready).answer) is
+  cause s events.TakeBypass alert is = none_some _ alert (taking_silent (spacecraft_take_bypass w.spacecraft w.spacecraft.bypass).answer) is
+  cause s (events.Telemetry octets) alert is = none_some _ alert (queueing_silent (spacecraft_telemetry w.spacecraft octets.now).answer) is

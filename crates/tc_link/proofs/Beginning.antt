@@ -10,13 +10,13 @@ use Rattle.cop1.specs.declared.fop.Directive.{Directive}
 use Rattle.cop1.specs.declared.fop.Directive.TheVariants.{InitWithoutCheck, InitWithCheck, InitUnlock, InitSetVr, Terminate, SetVs, SetWindow, SetLimit, SetTimer}
 use Rattle.cop1.specs.declared.fop.FopMode.{FopMode}
 use Rattle.cop1.specs.declared.fop.FopMode.TheVariants.{S1, S2, S3, S4, S5, S6}
-use Rattle.cop1.specs.FopDirective.{from_S6, begun}
+use Rattle.cop1.specs.FopDirective.{from_S6, after_begin as begun}
 use Rattle.cop1.specs.FopState.{FopState}
-use Rattle.cop1.specs.FopWords.{restarted}
+use Rattle.cop1.specs.FopWords.{after_restart as restarted}
 use Rattle.tc_link.specs.declared.config.Config.{Config}
 use Rattle.tc_link.specs.declared.event.Event.TheVariants as events
-use Rattle.tc_link.specs.Ground.{is_closed, directed_by}
-use Rattle.tc_link.specs.World.{World, world_step, after_directive, begun_by, begins_clean, is_quiet, is_none}
+use Rattle.tc_link.specs.Ground.{is_closed, directive_outcome}
+use Rattle.tc_link.specs.World.{World, world_step, world_after_directive, session_begun_by, begins_clean, is_quiet, is_none}
 use Rattle.tc_link.specs.PlainLink.{new_link, none}
 use Rattle.tc_link.specs.Reached.{IsDirective}
 use Rattle.tc_link.proofs.Early.{Begun, early_settled}
@@ -38,7 +38,7 @@ module _ (c : Config) (w : World) (k : Sound c w) where
   quiet h = let both = and_parts (is_none w.up) (is_none w.down) h in (empty w.up both.0, empty w.down both.1)
 
   abbrev begun_with : Directive → FopState SegmentView → World
-  begun_with d f = record w { station = record w.station { fop = f }; session = begun_by w d }
+  begun_with d f = record w { ground_node = record w.ground_node { fop = f }; session = session_begun_by w d }
 
   carries : is_quiet w ≡ true → Carries c w.up []
   carries h = rw (quiet h).0 tt
@@ -46,19 +46,19 @@ module _ (c : Config) (w : World) (k : Sound c w) where
   reporting : is_quiet w ≡ true → Reporting c w.down []
   reporting h = rw (quiet h).1 tt
 
-  none_after : drop (length w.craft.accepted) w.craft.accepted ≡ []
-  none_after = drop_all (length w.craft.accepted) w.craft.accepted (omega arith)
+  none_after : drop (length w.spacecraft.accepted) w.spacecraft.accepted ≡ []
+  none_after = drop_all (length w.spacecraft.accepted) w.spacecraft.accepted (omega arith)
 
-  module _ (off : w.station.fop.state ≡ S6) where
-    pending : w.station.pending ≡ []
-    pending = k.station.pending_none (rw off refl)
+  module _ (off : w.ground_node.fop.state ≡ S6) where
+    pending : w.ground_node.pending ≡ []
+    pending = k.ground_node.pending_none (rw off refl)
 
-    idle : w.station.fop.control ≡ Idle
-    idle = let it : Commanded S6 w.station.fop.control = rw off at k.station.fop.commanded in it
+    idle : w.ground_node.fop.control ≡ Idle
+    idle = let it : Commanded S6 w.ground_node.fop.control = rw off at k.ground_node.fop.commanded in it
 
-    without_check : begins_clean w InitWithoutCheck ≡ true → Late c InitWithoutCheck w.station.fop.vs (begun_with InitWithoutCheck (record (begun w.station.fop) { nn = w.station.fop.vs; state = S1 }))
+    without_check : begins_clean w InitWithoutCheck ≡ true → Late c InitWithoutCheck w.ground_node.fop.vs (begun_with InitWithoutCheck (record (begun w.ground_node.fop) { nn = w.ground_node.fop.vs; state = S1 }))
     without_check clean =
-        let both = and_parts (is_quiet w) (w.craft.farm.vr == w.station.fop.vs) clean in
+        let both = and_parts (is_quiet w) (w.spacecraft.farm.vr == w.ground_node.fop.vs) clean in
         record {
           plain = new_link;
           ran = none;
@@ -68,11 +68,11 @@ module _ (c : Config) (w : World) (k : Sound c w) where
           linked = record {
             opened = ap (λ b. Some (record { directive = InitWithoutCheck; clean = b })) clean;
             confirmed_is = λ checked. elim checked [ ];
-            base_octet = k.station.fop.vs_octet;
-            vr_is = omega (arith, eqb-true w.craft.farm.vr w.station.fop.vs both.1, k.station.fop.vs_octet);
-            nn_octet = k.station.fop.vs_octet;
+            base_octet = k.ground_node.fop.vs_octet;
+            vr_is = omega (arith, eqb-true w.spacecraft.farm.vr w.ground_node.fop.vs both.1, k.ground_node.fop.vs_octet);
+            nn_octet = k.ground_node.fop.vs_octet;
             late = tt;
-            held = record { vs_is = omega (arith, k.station.fop.vs_octet); nn_is = omega (arith, k.station.fop.vs_octet); sent_is = refl; rest_is = pending };
+            held = record { vs_is = omega (arith, k.ground_node.fop.vs_octet); nn_is = omega (arith, k.ground_node.fop.vs_octet); sent_is = refl; rest_is = pending };
             given = tt;
             units_are = refl;
             units_fit = tt;
@@ -94,15 +94,15 @@ module _ (c : Config) (w : World) (k : Sound c w) where
           calm = λ checked. elim checked [ ];
         }
 
-    with_check : begins_clean w InitWithCheck ≡ true → Begun c InitWithCheck w.station.fop.vs (begun_with InitWithCheck (record (restarted (begun w.station.fop)) { nn = w.station.fop.vs; state = S4 }))
+    with_check : begins_clean w InitWithCheck ≡ true → Begun c InitWithCheck w.ground_node.fop.vs (begun_with InitWithCheck (record (restarted (begun w.ground_node.fop)) { nn = w.ground_node.fop.vs; state = S4 }))
     with_check clean = record {
       frames = [];
       reports = [];
       early = record {
         opened = ap (λ b. Some (record { directive = InitWithCheck; clean = b })) clean;
-        base_octet = k.station.fop.vs_octet;
+        base_octet = k.ground_node.fop.vs_octet;
         checked = tt;
-        nn_octet = k.station.fop.vs_octet;
+        nn_octet = k.ground_node.fop.vs_octet;
         early = refl;
         held = record { vs_is = refl; nn_is = refl; sent_is = refl; rest_is = pending };
         given = tt;
@@ -120,15 +120,15 @@ module _ (c : Config) (w : World) (k : Sound c w) where
       };
     }
 
-    with_unlock : begins_clean w InitUnlock ≡ true → Begun c InitUnlock w.station.fop.vs (begun_with InitUnlock (record (begun w.station.fop) { nn = w.station.fop.vs; control = Due Unlock; state = S5 }))
+    with_unlock : begins_clean w InitUnlock ≡ true → Begun c InitUnlock w.ground_node.fop.vs (begun_with InitUnlock (record (begun w.ground_node.fop) { nn = w.ground_node.fop.vs; control = Due Unlock; state = S5 }))
     with_unlock clean = record {
       frames = [];
       reports = [];
       early = record {
         opened = ap (λ b. Some (record { directive = InitUnlock; clean = b })) clean;
-        base_octet = k.station.fop.vs_octet;
+        base_octet = k.ground_node.fop.vs_octet;
         checked = tt;
-        nn_octet = k.station.fop.vs_octet;
+        nn_octet = k.ground_node.fop.vs_octet;
         early = λ e. absurd cc;
         held = record { vs_is = refl; nn_is = refl; sent_is = refl; rest_is = pending };
         given = tt;
@@ -146,7 +146,7 @@ module _ (c : Config) (w : World) (k : Sound c w) where
       };
     }
 
-    with_set_vr : (x : ℕ) → x < 256 → begins_clean w (InitSetVr x) ≡ true → Begun c (InitSetVr x) x (begun_with (InitSetVr x) (record (begun w.station.fop) { vs = x; nn = x; control = Due (SetVr x); state = S5 }))
+    with_set_vr : (x : ℕ) → x < 256 → begins_clean w (InitSetVr x) ≡ true → Begun c (InitSetVr x) x (begun_with (InitSetVr x) (record (begun w.ground_node.fop) { vs = x; nn = x; control = Due (SetVr x); state = S5 }))
     with_set_vr x lt clean = record {
       frames = [];
       reports = [];
@@ -173,7 +173,7 @@ module _ (c : Config) (w : World) (k : Sound c w) where
     }
 
   -- only in S6 does an initiation begin a session
-  begins_in : (d : Directive) (next : FopState SegmentView) (m : FopMode) → is_closed m ≡ true → w.station.fop.state ≡ m → (w.station.fop.state ≡ S6 → Clean c (after_directive w d (directed_by w.station (from_S6 w.station.fop S6 next))).after) → Clean c (after_directive w d (directed_by w.station (from_S6 w.station.fop m next))).after
+  begins_in : (d : Directive) (next : FopState SegmentView) (m : FopMode) → is_closed m ≡ true → w.ground_node.fop.state ≡ m → (w.ground_node.fop.state ≡ S6 → Clean c (world_after_directive w d (directive_outcome w.ground_node (from_S6 w.ground_node.fop S6 next))).after) → Clean c (world_after_directive w d (directive_outcome w.ground_node (from_S6 w.ground_node.fop m next))).after
   begins_in d next S1 off is so = absurd cc
   begins_in d next S2 off is so = absurd cc
   begins_in d next S3 off is so = absurd cc
@@ -181,19 +181,19 @@ module _ (c : Config) (w : World) (k : Sound c w) where
   begins_in d next S5 off is so = absurd cc
   begins_in d next S6 off is so = so is
 
-  pub begins : (d : Directive) → IsDirective d → is_closed w.station.fop.state ≡ true → begins_clean w d ≡ true → Clean c (world_step w (events.Directive d)).after
+  pub begins : (d : Directive) → IsDirective d → is_closed w.ground_node.fop.state ≡ true → begins_clean w d ≡ true → Clean c (world_step w (events.Directive d)).after
   begins InitWithoutCheck fits off clean =
-      let f : FopState SegmentView = record (begun w.station.fop) { nn = w.station.fop.vs; state = S1 } in
-      begins_in InitWithoutCheck f w.station.fop.state off refl (λ is. record { directive = InitWithoutCheck; base = w.station.fop.vs; session = inr (late_settled c InitWithoutCheck w.station.fop.vs (begun_with InitWithoutCheck f) (without_check is clean)) })
+      let f : FopState SegmentView = record (begun w.ground_node.fop) { nn = w.ground_node.fop.vs; state = S1 } in
+      begins_in InitWithoutCheck f w.ground_node.fop.state off refl (λ is. record { directive = InitWithoutCheck; base = w.ground_node.fop.vs; session = inr (late_settled c InitWithoutCheck w.ground_node.fop.vs (begun_with InitWithoutCheck f) (without_check is clean)) })
   begins InitWithCheck fits off clean =
-      let f : FopState SegmentView = record (restarted (begun w.station.fop)) { nn = w.station.fop.vs; state = S4 } in
-      begins_in InitWithCheck f w.station.fop.state off refl (λ is. record { directive = InitWithCheck; base = w.station.fop.vs; session = inl (early_settled c InitWithCheck w.station.fop.vs (begun_with InitWithCheck f) (with_check is clean)) })
+      let f : FopState SegmentView = record (restarted (begun w.ground_node.fop)) { nn = w.ground_node.fop.vs; state = S4 } in
+      begins_in InitWithCheck f w.ground_node.fop.state off refl (λ is. record { directive = InitWithCheck; base = w.ground_node.fop.vs; session = inl (early_settled c InitWithCheck w.ground_node.fop.vs (begun_with InitWithCheck f) (with_check is clean)) })
   begins InitUnlock fits off clean =
-      let f : FopState SegmentView = record (begun w.station.fop) { nn = w.station.fop.vs; control = Due Unlock; state = S5 } in
-      begins_in InitUnlock f w.station.fop.state off refl (λ is. record { directive = InitUnlock; base = w.station.fop.vs; session = inl (early_settled c InitUnlock w.station.fop.vs (begun_with InitUnlock f) (with_unlock is clean)) })
+      let f : FopState SegmentView = record (begun w.ground_node.fop) { nn = w.ground_node.fop.vs; control = Due Unlock; state = S5 } in
+      begins_in InitUnlock f w.ground_node.fop.state off refl (λ is. record { directive = InitUnlock; base = w.ground_node.fop.vs; session = inl (early_settled c InitUnlock w.ground_node.fop.vs (begun_with InitUnlock f) (with_unlock is clean)) })
   begins (InitSetVr x) fits off clean =
-      let f : FopState SegmentView = record (begun w.station.fop) { vs = x; nn = x; control = Due (SetVr x); state = S5 } in
-      begins_in (InitSetVr x) f w.station.fop.state off refl (λ is. record { directive = InitSetVr x; base = x; session = inl (early_settled c (InitSetVr x) x (begun_with (InitSetVr x) f) (with_set_vr is x fits clean)) })
+      let f : FopState SegmentView = record (begun w.ground_node.fop) { vs = x; nn = x; control = Due (SetVr x); state = S5 } in
+      begins_in (InitSetVr x) f w.ground_node.fop.state off refl (λ is. record { directive = InitSetVr x; base = x; session = inl (early_settled c (InitSetVr x) x (begun_with (InitSetVr x) f) (with_set_vr is x fits clean)) })
   begins Terminate fits off clean = absurd cc
   begins (SetVs x) fits off clean = absurd cc
   begins (SetWindow n) fits off clean = absurd cc

@@ -9,14 +9,14 @@ use Rattle.space_packet.specs.Layout.{PacketView, IsFirstPacket}
 use Rattle.space_packet.specs.Reading.{packet_at}
 use Rattle.space_packet.proofs.Readings.{packet_again}
 use Rattle.map_service.specs.Packets.{first_packet, packets_in, rest_in, are_taken}
-use Rattle.map_service.proofs.Whole.{len_of, first_is, one_more-by_len, no_more}
-use Rattle.tc_link.specs.Commands.{commands, finds_command, is_command, are_commands}
+use Rattle.space_packet.proofs.WholePackets.{len_of, first_is, one_more-by_len, no_more}
+use Rattle.tc_link.specs.Commands.{is_command_packet, finds_command, is_command, are_commands}
 
 -- the packet that octets begin with, as their first record
 first_read : (b : List ℕ) (p : PacketView) (n : ℕ) → IsFirstPacket p n b → Some (take n b) ≡ first_packet b
 first_read b p n h = ap (λ (r : Result (PacketView × ℕ) PacketFault). option_map (λ k. take k b) (len_of r)) (sym (packet_again b p n h)) ∙ first_is b
 
-here : (b : List ℕ) (p : PacketView) (n : ℕ) → IsFirstPacket p n b → is_command (take n b) ≡ commands p
+here : (b : List ℕ) (p : PacketView) (n : ℕ) → IsFirstPacket p n b → is_command (take n b) ≡ is_command_packet p
 here b p n h =
     let again : IsFirstPacket p n (take n b) = record { within = omega (arith, h.within, length-take n b); spells = rw (take-take n n b (omega arith)) h.spells } in
     ap finds_command (packet_again (take n b) p n again)
@@ -25,7 +25,7 @@ here b p n h =
 pub one_more : (b : List ℕ) (p : PacketView) (n : ℕ) → IsFirstPacket p n b → (packets_in b ≡ take n b ∷ packets_in (drop n b)) × (rest_in b ≡ rest_in (drop n b))
 one_more b p n h = one_more-by_len b n (first_read b p n h) h.within
 
-pub all_more : (b : List ℕ) (p : PacketView) (n : ℕ) → IsFirstPacket p n b → list_all is_command (packets_in b) ≡ commands p && list_all is_command (packets_in (drop n b))
+pub all_more : (b : List ℕ) (p : PacketView) (n : ℕ) → IsFirstPacket p n b → list_all is_command (packets_in b) ≡ is_command_packet p && list_all is_command (packets_in (drop n b))
 all_more b p n h = ap (list_all is_command) (one_more b p n h).0 ∙ ap (λ (t : Bool). t && list_all is_command (packets_in (drop n b))) (here b p n h)
 
 none_read : (b : List ℕ) (e : PacketFault) → Err e ≡ packet_at b → first_packet b ≡ None
@@ -42,7 +42,7 @@ not_both true = refl
 not_both false = refl
 
 -- a packet that is no command
-pub refused_here : (blocking : Bool) (octets rest : List ℕ) (p : PacketView) (n : ℕ) → IsFirstPacket p n rest → commands p ≡ false
+pub refused_here : (blocking : Bool) (octets rest : List ℕ) (p : PacketView) (n : ℕ) → IsFirstPacket p n rest → is_command_packet p ≡ false
     → list_all is_command (packets_in rest) ≡ list_all is_command (packets_in octets) → are_commands blocking octets ≡ false
 refused_here blocking octets rest p n first other same =
     let all : list_all is_command (packets_in octets) ≡ false = sym same ∙ all_more rest p n first ∙ ap (λ (t : Bool). t && list_all is_command (packets_in (drop n rest))) other in

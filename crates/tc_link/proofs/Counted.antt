@@ -19,19 +19,19 @@ use Rattle.cop1.specs.declared.fop.Directive.{Directive}
 use Rattle.cop1.specs.declared.fop.Directive.TheVariants.{InitWithoutCheck, InitWithCheck, InitUnlock, InitSetVr, Terminate, SetVs, SetWindow, SetLimit, SetTimer}
 use Rattle.cop1.specs.declared.fop.FopMode.{FopMode}
 use Rattle.cop1.specs.declared.fop.FopMode.TheVariants.{S1, S2, S3, S4, S5, S6}
-use Rattle.cop1.specs.FopDirective.{from_S6, terminated, directed as directed_fop}
-use Rattle.cop1.specs.FopPull.{PulledUnit, SequencePulled, pulls, pulled as pulled_fop, pulled_control, pulled_bypass, pulled_in, pulled_marked, pulled_waiting, oldest_marked, without_oldest_mark, sent_first}
-use Rattle.cop1.specs.FopReport.{locks, waits, asks, reported as heard_by, report_in, report_while_active, report_in_S4, confirms as confirms_by, nothing_new, moved_on, goes_back, goes_back_again, counting_from}
+use Rattle.cop1.specs.FopDirective.{from_S6, terminate_in as terminated, directive_step as directed_fop}
+use Rattle.cop1.specs.FopPull.{PulledUnit, SequencePulled, pulls, pull_step as pulled_fop, pull_control as pulled_control, pull_bypass as pulled_bypass, pull_in as pulled_in, pull_marked as pulled_marked, pull_waiting as pulled_waiting, oldest_marked, without_oldest_mark, sent_first}
+use Rattle.cop1.specs.FopReport.{locks, waits, asks, clcw_step as heard_by, report_in, report_while_active, report_in_S4, confirms as confirms_by, nothing_new, after_move_on as moved_on, goes_back, goes_back_again, after_new_value as counting_from}
 use Rattle.cop1.specs.FopState.{FopState, SentUnit, IsFop}
-use Rattle.cop1.specs.FopTick.{ticked as ticked_fop, ticked_with, timer_ended, counted, due_again}
-use Rattle.cop1.specs.FopWords.{Outcome, is_outside, acknowledged, repeated, given_up, stopped, alerts, goes_on, after_gone, marked, unmarked}
+use Rattle.cop1.specs.FopTick.{tick_step as ticked_fop, tick_with as ticked_with, timer_ended, after_count as counted, due_again}
+use Rattle.cop1.specs.FopWords.{FopOutcome as Outcome, is_outside, after_acknowledge as acknowledged, after_repeat as repeated, after_alert as given_up, after_stop as stopped, alerts, goes_on, after_gone, marked, unmarked}
 use Rattle.tm_link.specs.declared.fault.TmFault.{TmFault}
 use Rattle.tm_link.specs.Extraction.{Extracted, extract_step}
 use Rattle.tm_link.specs.Layout as telemetry
 use Rattle.tc_link.specs.declared.config.Config.{Config}
 use Rattle.tc_link.specs.declared.fault.LinkFault.{LinkFault}
 use Rattle.tc_link.specs.declared.heard.Heard.{Heard}
-use Rattle.tc_link.specs.Ground.{GroundState, GroundOutcome, settled, with_fop, unless, submitted, bypassed, directed_by, after_extraction, frame_heard, telemetry_arrived, frame_pulled}
+use Rattle.tc_link.specs.Ground.{GroundState, GroundOutcome, settle_step, with_fop, unless_refused, after_submission, after_bypass, directive_outcome, after_extraction, own_frame_outcome, telemetry_outcome, frame_to_send}
 use Rattle.tc_link.specs.Ground as ground
 use Rattle.tc_link.specs.World.{first_sent, is_initiation}
 use Rattle.tc_link.proofs.Settled.{settled_keeps}
@@ -120,7 +120,7 @@ first_in vs (Some frame) = first_sent vs frame.body
 
 module _ (c : Config) (f : FopState SegmentView) where
   abbrev IsPutFirst : Outcome SegmentView (PulledUnit SegmentView) → Type 0
-  IsPutFirst o = length o.after.sent ≤ length f.sent + length (first_in f.vs (frame_pulled c o.answer))
+  IsPutFirst o = length o.after.sent ≤ length f.sent + length (first_in f.vs (frame_to_send c o.answer))
 
   without_mark : (us : Units) → length (without_oldest_mark us) ≡ length us
   without_mark [] = refl
@@ -223,37 +223,37 @@ module _ (f : FopState SegmentView) (fop : IsFop f) (octet : f.nn < 256) (r : Cl
 
 -- ---- the ground
 
-settled_sent : (s : GroundState) → ((settled s).fop.sent ≡ s.fop.sent) × ((settled s).fop.nn ≡ s.fop.nn)
+settled_sent : (s : GroundState) → ((settle_step s).fop.sent ≡ s.fop.sent) × ((settle_step s).fop.nn ≡ s.fop.nn)
 settled_sent s = settled_keeps (λ (t : GroundState). (t.fop.sent ≡ s.fop.sent) × (t.fop.nn ≡ s.fop.nn)) s (λ waiting pending on off. (refl, refl))
 
 with_sent : (s : GroundState) (f : FopState SegmentView) → (with_fop s f).fop.sent ≡ f.sent
 with_sent s f = (settled_sent (record s { fop = f })).0
 
-pub submit_same : (s : GroundState) (m : ℕ) (octets : List ℕ) (o : Option LinkFault) → (unless o s (submitted s m octets)).after.fop.sent ≡ s.fop.sent
+pub submit_same : (s : GroundState) (m : ℕ) (octets : List ℕ) (o : Option LinkFault) → (unless_refused o s (after_submission s m octets)).after.fop.sent ≡ s.fop.sent
 submit_same s m octets None = (settled_sent (record s { pending = s.pending ++ ground.segments_on s m octets })).0
 submit_same s m octets (Some fault) = refl
 
-pub bypass_same : (s : GroundState) (m : ℕ) (octets : List ℕ) (o : Option LinkFault) → (unless o s (bypassed s m octets)).after.fop.sent ≡ s.fop.sent
+pub bypass_same : (s : GroundState) (m : ℕ) (octets : List ℕ) (o : Option LinkFault) → (unless_refused o s (after_bypass s m octets)).after.fop.sent ≡ s.fop.sent
 bypass_same s m octets None = refl
 bypass_same s m octets (Some fault) = refl
 
-pub tick_shorter : (s : GroundState) → length (ground.ticked s).after.fop.sent ≤ length s.fop.sent
+pub tick_shorter : (s : GroundState) → length (ground.ground_tick s).after.fop.sent ≤ length s.fop.sent
 tick_shorter s = omega (arith, ap length (with_sent s (ticked_fop s.fop).after), ticking_shorter s.fop s.fop.ticks)
 
-pub pull_first : (s : GroundState) → length (ground.pulled s).after.fop.sent ≤ length s.fop.sent + length (first_in s.fop.vs (ground.pulled s).answer)
+pub pull_first : (s : GroundState) → length (ground.ground_pull s).after.fop.sent ≤ length s.fop.sent + length (first_in s.fop.vs (ground.ground_pull s).answer)
 pull_first s = omega (arith, ap length (with_sent s (pulled_fop s.fop).after), control_first s.config s.fop s.fop.control)
 
-directed_sent : (s : GroundState) (o : Outcome SegmentView (Result (Option Alert) CopFault)) (a : Option Alert) → o.answer ≡ Ok a → (directed_by s o).after.fop.sent ≡ o.after.sent
+directed_sent : (s : GroundState) (o : Outcome SegmentView (Result (Option Alert) CopFault)) (a : Option Alert) → o.answer ≡ Ok a → (directive_outcome s o).after.fop.sent ≡ o.after.sent
 directed_sent s o a is = rw is (with_sent s o.after)
 
 directed_short : (s : GroundState) (f : FopState SegmentView) (r : Result (Option Alert) CopFault) → length f.sent ≤ length s.fop.sent → length (ground.after_directive s r f).fop.sent ≤ length s.fop.sent
 directed_short s f (Ok a) le = omega (arith, ap length (with_sent s f), le)
 directed_short s f (Err fault) le = omega arith
 
-pub directive_shorter : (s : GroundState) (d : Directive) → length (ground.directed s d).after.fop.sent ≤ length s.fop.sent
+pub directive_shorter : (s : GroundState) (d : Directive) → length (ground.ground_directive s d).after.fop.sent ≤ length s.fop.sent
 directive_shorter s d = directed_short s (directed_fop s.fop d).after (directed_fop s.fop d).answer (directed_shorter s.fop d)
 
-pub directive_begins : (s : GroundState) (d : Directive) (a : Option Alert) → is_initiation d ≡ true → (ground.directed s d).answer ≡ Ok a → (ground.directed s d).after.fop.sent ≡ []
+pub directive_begins : (s : GroundState) (d : Directive) (a : Option Alert) → is_initiation d ≡ true → (ground.ground_directive s d).answer ≡ Ok a → (ground.ground_directive s d).after.fop.sent ≡ []
 directive_begins s d a is ok = directed_sent s (directed_fop s.fop d) a ok ∙ begun_empty s.fop d is a ok
 
 module _ (s : GroundState) (fop : IsFop s.fop) (octet : s.fop.nn < 256) where
@@ -263,18 +263,18 @@ module _ (s : GroundState) (fop : IsFop s.fop) (octet : s.fop.nn < 256) where
   same_less : (t : GroundState) → t.fop ≡ s.fop → IsLess t
   same_less t is = rw is (omega (arith, none_ahead s.fop fop octet))
 
-  settled_less : (t : GroundState) → IsLess t → IsLess (settled t)
+  settled_less : (t : GroundState) → IsLess t → IsLess (settle_step t)
   settled_less t le = let is = settled_sent t in rw (is.0, is.1) le
 
-  word_less : (x : Extracted) (r : Result Clcw ClcwFault) → IsLess (frame_heard s x r).after
+  word_less : (x : Extracted) (r : Result Clcw ClcwFault) → IsLess (own_frame_outcome s x r).after
   word_less x (Err fault) = same_less (after_extraction s x) refl
   word_less x (Ok report) = cond_both (report.vcid == s.config.vcid) _ _ (λ (o : GroundOutcome Heard). IsLess o.after)
       (λ t. settled_less (record (after_extraction s x) { fop = (heard_by s.fop report).after }) (report_gone s.fop fop octet report s.fop.state refl)) (λ t. same_less (after_extraction s x) refl)
 
   -- when octets arrive
-  pub heard_less : (r : Result telemetry.FrameView TmFault) → IsLess (telemetry_arrived s r).after
+  pub heard_less : (r : Result telemetry.FrameView TmFault) → IsLess (telemetry_outcome s r).after
   heard_less (Err fault) = same_less s refl
-  heard_less (Ok frame) = cond_both (ground.is_own s.config frame) _ _ (λ (o : GroundOutcome Heard). IsLess o.after) (λ t. word_less (extract_step s.extractor frame) (clcw_at frame.ocf)) (λ t. same_less s refl)
+  heard_less (Ok frame) = cond_both (ground.is_own_telemetry s.config frame) _ _ (λ (o : GroundOutcome Heard). IsLess o.after) (λ t. word_less (extract_step s.extractor frame) (clcw_at frame.ocf)) (λ t. same_less s refl)
 
 -- ---- what is pulled and first sent
 

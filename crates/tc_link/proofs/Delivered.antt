@@ -16,10 +16,11 @@ use Rattle.cop1.specs.FopNext.{units_of}
 use Rattle.tc_link.specs.declared.config.Config.{Config}
 use Rattle.tc_link.specs.Packets.{PacketOn}
 use Rattle.tc_link.specs.Parameters.{limits_of}
-use Rattle.tc_link.specs.Ground.{outstanding, unsent}
+use Rattle.tc_link.specs.Ground.{outstanding, unsent_segments}
 use Rattle.tc_link.specs.World.{World, submitted, accepted, delivered}
 use Rattle.tc_link.specs.PlainLink.{PlainLink, PlainRun, new_link, none, more, adds}
-use Rattle.tc_link.specs.InOrder.{IsBeginning, IsInOrder, HasPlainHistory}
+use Rattle.octets.specs.Beginning.{IsBeginning}
+use Rattle.tc_link.specs.InOrder.{IsInOrder, HasPlainHistory}
 use Rattle.tc_link.proofs.Beginning.{Clean}
 use Rattle.tc_link.proofs.Early.{Begun, IsEarly}
 use Rattle.tc_link.proofs.Linked.{Late, IsGiven, units_of_all, Holds, Held}
@@ -67,21 +68,21 @@ pub record History (c : Config) (w : World) : Type 0 where
   pub given : AllByRecursion (IsGiven c) w.session.submissions
   pub units_are : plain.units ≡ units_of_all c w.session.submissions
   pub sent_is : w.session.sent ≡ map segment_octets (take plain.n plain.units)
-  pub accepted_is : drop w.session.before w.craft.accepted ≡ take plain.r plain.units
+  pub accepted_is : drop w.session.before w.spacecraft.accepted ≡ take plain.r plain.units
   pub acked_is : w.session.acknowledged ≡ plain.a
   pub n_most : plain.n ≤ length plain.units
   pub a_r : plain.a ≤ plain.r
   pub r_n : plain.r ≤ plain.n
-  pub complete : w.station.fop.state ≡ S1 → outstanding w.station ≡ [] → length plain.units ≤ plain.r
+  pub complete : w.ground_node.fop.state ≡ S1 → outstanding w.ground_node ≡ [] → length plain.units ≤ plain.r
 
-late_complete : (c : Config) (d : Directive) (base : ℕ) (w : World) (g : Late c d base w) → w.station.fop.state ≡ S1 → outstanding w.station ≡ [] → length g.plain.units ≤ g.plain.r
+late_complete : (c : Config) (d : Directive) (base : ℕ) (w : World) (g : Late c d base w) → w.ground_node.fop.state ≡ S1 → outstanding w.ground_node ≡ [] → length g.plain.units ≤ g.plain.r
 late_complete c d base w g on nothing =
     let p = g.plain in
     let l = g.linked in
-    let was : Holds base w.station.fop.vs w.station.fop.nn w.station.fop.sent (unsent w.station) p.a p.n p.units = let it : Held false base w.station.fop.vs w.station.fop.nn w.station.fop.sent (unsent w.station) p.a p.n p.units = rw on at l.held in it in
-    let none_left : length (units_of w.station.fop.sent) + length (unsent w.station) ≡ 0 = sym (length-append (units_of w.station.fop.sent) (unsent w.station)) ∙ ap length nothing in
-    let sent : length (drop p.a (take p.n p.units)) ≡ length (units_of w.station.fop.sent) = ap length (sym was.sent_is) in
-    let rest : length (drop p.n p.units) ≡ length (unsent w.station) = ap length (sym was.rest_is) in
+    let was : Holds base w.ground_node.fop.vs w.ground_node.fop.nn w.ground_node.fop.sent (unsent_segments w.ground_node) p.a p.n p.units = let it : Held false base w.ground_node.fop.vs w.ground_node.fop.nn w.ground_node.fop.sent (unsent_segments w.ground_node) p.a p.n p.units = rw on at l.held in it in
+    let none_left : length (units_of w.ground_node.fop.sent) + length (unsent_segments w.ground_node) ≡ 0 = sym (length-append (units_of w.ground_node.fop.sent) (unsent_segments w.ground_node)) ∙ ap length nothing in
+    let sent : length (drop p.a (take p.n p.units)) ≡ length (units_of w.ground_node.fop.sent) = ap length (sym was.sent_is) in
+    let rest : length (drop p.n p.units) ≡ length (unsent_segments w.ground_node) = ap length (sym was.rest_is) in
     omega (arith, none_left, sent, rest, length-drop p.a (take p.n p.units), length-take-le p.n p.units l.n_most, length-drop p.n p.units, l.a_r, l.r_n, l.n_most)
 
 history : (c : Config) (d : Directive) (base : ℕ) (w : World) → Begun c d base w ⊎ Late c d base w → History c w
@@ -127,20 +128,20 @@ module _ (c : Config) (w : World) (k : Sound c w) (h : History c w) (m : ℕ) wh
   lim = limits_of c
 
   abbrev old : List SegmentView
-  old = take w.session.before w.craft.accepted
+  old = take w.session.before w.spacecraft.accepted
 
   abbrev new : List SegmentView
   new = take h.plain.r h.plain.units
 
-  all_is : w.craft.accepted ≡ old ++ new
-  all_is = sym (take-append-drop w.session.before w.craft.accepted) ∙ ap (λ xs. old ++ xs) h.accepted_is
+  all_is : w.spacecraft.accepted ≡ old ++ new
+  all_is = sym (take-append-drop w.session.before w.spacecraft.accepted) ∙ ap (λ xs. old ++ xs) h.accepted_is
 
   begins : (rest : List (List ℕ)) × (assembled lim m (old ++ new) ≡ assembled lim m old ++ rest)
   begins = assembled_begins lim m old new
 
   delivered_is : delivered w m ≡ begins.0
   delivered_is =
-      ap (λ (x : Config). drop (length (assembled (limits_of x) m old)) (assembled (limits_of x) m w.craft.accepted)) k.craft.config
+      ap (λ (x : Config). drop (length (assembled (limits_of x) m old)) (assembled (limits_of x) m w.spacecraft.accepted)) k.spacecraft.config
       ∙ ap (λ xs. drop (length (assembled lim m old)) (assembled lim m xs)) all_is
       ∙ ap (drop (length (assembled lim m old))) begins.1
       ∙ drop_front (assembled lim m old) begins.0
@@ -193,7 +194,7 @@ module _ (c : Config) (w : World) (k : Sound c w) (s : Clean c w) where
       record {
         plain = h.plain;
         ran = h.ran;
-        units = h.units_are ∙ ap (λ (x : Config). units_of_all x w.session.submissions) (sym k.station.config);
+        units = h.units_are ∙ ap (λ (x : Config). units_of_all x w.session.submissions) (sym k.ground_node.config);
         sent = h.sent_is;
         accepted_so = accepted_octets;
         acknowledged = h.acked_is;

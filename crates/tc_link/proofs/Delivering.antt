@@ -12,9 +12,9 @@ use Rattle.cop1.specs.declared.farm.Verdict.{Verdict}
 use Rattle.cop1.specs.Farm.{verdict_of}
 use Rattle.tc_link.specs.declared.received.Received.{Received}
 use Rattle.tc_link.specs.Parameters.{limits_of}
-use Rattle.tc_link.specs.Keeping.{is_kept}
+use Rattle.tc_link.specs.BypassSegments.{is_kept}
 use Rattle.tc_link.specs.Packets.{packets_on}
-use Rattle.tc_link.specs.Craft.{CraftState, CraftOutcome, is_free, is_own, is_accepted, handed_on, sequence_arrived, bypass_arrived, body_arrived, frame_arrived}
+use Rattle.tc_link.specs.Spacecraft.{SpacecraftState, SpacecraftOutcome, is_free, is_own_frame, is_accepted, assemble_step, sequence_outcome, bypass_outcome, body_outcome, frame_outcome}
 use Rattle.tc_link.specs.Delivery.{of_map, delivered_on, HasDelivered, DeliversWhatItReceives}
 
 of_its_map : (m : ℕ) (packets : List (List ℕ)) → of_map m (packets_on m packets) ≡ packets
@@ -26,7 +26,7 @@ of_another_map k m [] apart = refl
 of_another_map k m (p ∷ ps) apart = rw (ne_eqb m k apart) (of_another_map k m ps apart)
 
 -- where nothing is made ready and nothing accepted
-same_delivered : (old new : CraftState) → new.config ≡ old.config → new.accepted ≡ old.accepted → new.ready ≡ old.ready → HasDelivered old new
+same_delivered : (old new : SpacecraftState) → new.config ≡ old.config → new.accepted ≡ old.accepted → new.ready ≡ old.ready → HasDelivered old new
 same_delivered old new config accepted ready = record {
   more = [];
   ready = ready ∙ sym (append-nil old.ready);
@@ -40,38 +40,38 @@ module _
     (keeps : (limits : Limits) (segments : List SegmentView) (s : SegmentView) (m : ℕ) → m ≢ s.header.map
     → assembled limits m (segments ++ s ∷ []) ≡ assembled limits m segments)
   where
-    adds_delivered : (s : CraftState) (segment : SegmentView) (m : ℕ)
-        → assembled (limits_of s.config) m (s.accepted ++ segment ∷ []) ≡ delivered_on m s ++ of_map m (packets_on segment.header.map (handed_on s segment).packets)
+    adds_delivered : (s : SpacecraftState) (segment : SegmentView) (m : ℕ)
+        → assembled (limits_of s.config) m (s.accepted ++ segment ∷ []) ≡ delivered_on m s ++ of_map m (packets_on segment.header.map (assemble_step s segment).packets)
     adds_delivered s segment m =
         elim (cases_eq m segment.header.map) [
-          | inl same ↦ rw (same, of_its_map segment.header.map (handed_on s segment).packets) (adds (limits_of s.config) s.accepted segment)
-          | inr apart ↦ rw (of_another_map m segment.header.map (handed_on s segment).packets (λ e. apart (sym e)))
+          | inl same ↦ rw (same, of_its_map segment.header.map (assemble_step s segment).packets) (adds (limits_of s.config) s.accepted segment)
+          | inr apart ↦ rw (of_another_map m segment.header.map (assemble_step s segment).packets (λ e. apart (sym e)))
               (keeps (limits_of s.config) s.accepted segment m apart ∙ sym (append-nil (delivered_on m s)))
         ]
 
-    sequence_delivers : (s : CraftState) (n : ℕ) (segment : SegmentView) (verdict : Verdict) → HasDelivered s (sequence_arrived s n segment verdict).after
+    sequence_delivers : (s : SpacecraftState) (n : ℕ) (segment : SegmentView) (verdict : Verdict) → HasDelivered s (sequence_outcome s n segment verdict).after
     sequence_delivers s n segment verdict =
-        cond_both (is_accepted verdict) _ _ (λ (o : CraftOutcome Received). HasDelivered s o.after)
+        cond_both (is_accepted verdict) _ _ (λ (o : SpacecraftOutcome Received). HasDelivered s o.after)
         (λ _. record {
-          more = packets_on segment.header.map (handed_on s segment).packets;
+          more = packets_on segment.header.map (assemble_step s segment).packets;
           ready = refl;
           delivered = adds_delivered s segment;
         })
         (λ _. same_delivered s _ refl refl refl)
 
-    bypass_delivers : (s : CraftState) (segment : SegmentView) (kept : Bool) → HasDelivered s (bypass_arrived s segment kept).after
+    bypass_delivers : (s : SpacecraftState) (segment : SegmentView) (kept : Bool) → HasDelivered s (bypass_outcome s segment kept).after
     bypass_delivers s segment true = same_delivered s _ refl refl refl
     bypass_delivers s segment false = same_delivered s _ refl refl refl
 
-    body_delivers : (s : CraftState) (body : BodyView) → HasDelivered s (body_arrived s body).after
+    body_delivers : (s : SpacecraftState) (body : BodyView) → HasDelivered s (body_outcome s body).after
     body_delivers s (Ad n segment) = sequence_delivers s n segment (verdict_of s.farm n (is_free s))
     body_delivers s (Bd segment) = bypass_delivers s segment (is_kept (limits_of s.config) segment)
     body_delivers s (Bc command) = same_delivered s _ refl refl refl
 
-    frame_delivers : (s : CraftState) (frame : Result FrameView TcFault) → HasDelivered s (frame_arrived s frame).after
+    frame_delivers : (s : SpacecraftState) (frame : Result FrameView TcFault) → HasDelivered s (frame_outcome s frame).after
     frame_delivers s (Err fault) = same_delivered s s refl refl refl
     frame_delivers s (Ok frame) =
-        cond_both (is_own s.config frame) (body_arrived s frame.body) _ (λ (o : CraftOutcome Received). HasDelivered s o.after)
+        cond_both (is_own_frame s.config frame) (body_outcome s frame.body) _ (λ (o : SpacecraftOutcome Received). HasDelivered s o.after)
         (λ _. body_delivers s frame.body) (λ _. same_delivered s s refl refl refl)
 
     pub delivers : DeliversWhatItReceives

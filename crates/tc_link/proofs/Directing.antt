@@ -9,13 +9,13 @@ use Rattle.cop1.specs.declared.fop.Directive.TheVariants.{InitWithoutCheck, Init
 use Rattle.cop1.specs.declared.fop.FopMode.{FopMode}
 use Rattle.cop1.specs.declared.fop.FopMode.TheVariants.{S1, S2, S3, S4, S5, S6}
 use Rattle.cop1.specs.FopState.{FopState}
-use Rattle.cop1.specs.FopDirective.{obeys, refuses, from_S6, terminated}
-use Rattle.cop1.specs.FopTick.{ticked_with, timer_ended, counted}
-use Rattle.cop1.specs.FopWords.{Outcome, given_up, repeated, stopped, goes_on}
+use Rattle.cop1.specs.FopDirective.{obeys, refuses, from_S6, terminate_in as terminated}
+use Rattle.cop1.specs.FopTick.{tick_with as ticked_with, timer_ended, after_count as counted}
+use Rattle.cop1.specs.FopWords.{FopOutcome as Outcome, after_alert as given_up, after_repeat as repeated, after_stop as stopped, goes_on}
 use Rattle.tc_link.specs.declared.config.Config.{Config}
-use Rattle.tc_link.specs.Ground.{is_closed, with_fop, directed_by}
+use Rattle.tc_link.specs.Ground.{is_closed, with_fop, directive_outcome}
 use Rattle.tc_link.specs.declared.event.Event.TheVariants as events
-use Rattle.tc_link.specs.World.{World, after_directive, is_initiation, world_step}
+use Rattle.tc_link.specs.World.{World, world_after_directive, is_initiation, world_step}
 use Rattle.tc_link.specs.Reached.{IsDirective}
 use Rattle.tc_link.proofs.Queue.{units-marked}
 use Rattle.tc_link.proofs.Reports.{IsLate}
@@ -26,52 +26,52 @@ module _ (c : Config) (d : Directive) (base : ℕ) (w : World) (g : Late c d bas
   -- ---- a tick
 
   abbrev Leaves : {A : Type 0} → Outcome SegmentView A → Type 0
-  Leaves o = Late c d base (record w { station = with_fop w.station o.after })
+  Leaves o = Late c d base (record w { ground_node = with_fop w.ground_node o.after })
 
-  timer_keeps : (m : FopMode) → w.station.fop.state ≡ m → Leaves (timer_ended (stopped w.station.fop) m)
-  timer_keeps S1 is = cond_both (nat_lt w.station.fop.count w.station.fop.limit) (goes_on (repeated (stopped w.station.fop))) _ (λ o. Leaves o) (λ t. same_keeps c d base w g (repeated (stopped w.station.fop)) refl refl refl (units-marked w.station.fop.sent) refl) (λ t. off_keeps c d base w g (given_up (stopped w.station.fop)) refl g.linked.nn_octet)
-  timer_keeps S2 is = cond_both (nat_lt w.station.fop.count w.station.fop.limit) (goes_on (repeated (stopped w.station.fop))) _ (λ o. Leaves o) (λ t. same_keeps c d base w g (repeated (stopped w.station.fop)) refl refl refl (units-marked w.station.fop.sent) refl) (λ t. off_keeps c d base w g (given_up (stopped w.station.fop)) refl g.linked.nn_octet)
-  timer_keeps S3 is = cond_both (nat_lt w.station.fop.count w.station.fop.limit) (goes_on (counted (stopped w.station.fop))) _ (λ o. Leaves o) (λ t. same_keeps c d base w g (counted (stopped w.station.fop)) refl refl refl refl refl) (λ t. off_keeps c d base w g (given_up (stopped w.station.fop)) refl g.linked.nn_octet)
+  timer_keeps : (m : FopMode) → w.ground_node.fop.state ≡ m → Leaves (timer_ended (stopped w.ground_node.fop) m)
+  timer_keeps S1 is = cond_both (nat_lt w.ground_node.fop.count w.ground_node.fop.limit) (goes_on (repeated (stopped w.ground_node.fop))) _ (λ o. Leaves o) (λ t. same_keeps c d base w g (repeated (stopped w.ground_node.fop)) refl refl refl (units-marked w.ground_node.fop.sent) refl) (λ t. off_keeps c d base w g (given_up (stopped w.ground_node.fop)) refl g.linked.nn_octet)
+  timer_keeps S2 is = cond_both (nat_lt w.ground_node.fop.count w.ground_node.fop.limit) (goes_on (repeated (stopped w.ground_node.fop))) _ (λ o. Leaves o) (λ t. same_keeps c d base w g (repeated (stopped w.ground_node.fop)) refl refl refl (units-marked w.ground_node.fop.sent) refl) (λ t. off_keeps c d base w g (given_up (stopped w.ground_node.fop)) refl g.linked.nn_octet)
+  timer_keeps S3 is = cond_both (nat_lt w.ground_node.fop.count w.ground_node.fop.limit) (goes_on (counted (stopped w.ground_node.fop))) _ (λ o. Leaves o) (λ t. same_keeps c d base w g (counted (stopped w.ground_node.fop)) refl refl refl refl refl) (λ t. off_keeps c d base w g (given_up (stopped w.ground_node.fop)) refl g.linked.nn_octet)
   timer_keeps S4 is = absurd (let no : IsLate S4 = rw is at g.linked.late in no)
   timer_keeps S5 is = absurd (let no : IsLate S5 = rw is at g.linked.late in no)
-  timer_keeps S6 is = same_keeps c d base w g (stopped w.station.fop) refl refl refl refl refl
+  timer_keeps S6 is = same_keeps c d base w g (stopped w.ground_node.fop) refl refl refl refl refl
 
-  tick_keeps : (ticks : Option ℕ) → Leaves (ticked_with w.station.fop ticks)
-  tick_keeps None = same_keeps c d base w g w.station.fop refl refl refl refl refl
-  tick_keeps (Some left) = cond_both (left == 1) (timer_ended (stopped w.station.fop) w.station.fop.state) _ (λ o. Leaves o) (λ t. timer_keeps w.station.fop.state refl) (λ t. same_keeps c d base w g (record w.station.fop { ticks = Some (left - 1) }) refl refl refl refl refl)
+  tick_keeps : (ticks : Option ℕ) → Leaves (ticked_with w.ground_node.fop ticks)
+  tick_keeps None = same_keeps c d base w g w.ground_node.fop refl refl refl refl refl
+  tick_keeps (Some left) = cond_both (left == 1) (timer_ended (stopped w.ground_node.fop) w.ground_node.fop.state) _ (λ o. Leaves o) (λ t. timer_keeps w.ground_node.fop.state refl) (λ t. same_keeps c d base w g (record w.ground_node.fop { ticks = Some (left - 1) }) refl refl refl refl refl)
 
-  pub late_tick : Late c d base (record w { station = with_fop w.station (ticked_with w.station.fop w.station.fop.ticks).after })
-  late_tick = tick_keeps w.station.fop.ticks
+  pub late_tick : Late c d base (record w { ground_node = with_fop w.ground_node (ticked_with w.ground_node.fop w.ground_node.fop.ticks).after })
+  late_tick = tick_keeps w.ground_node.fop.ticks
 
   -- ---- a directive that begins no session
 
-  terminate_keeps : (m : FopMode) → Late c d base (after_directive w Terminate (directed_by w.station (terminated w.station.fop m))).after
-  terminate_keeps S1 = off_keeps c d base w g (given_up w.station.fop) refl g.linked.nn_octet
-  terminate_keeps S2 = off_keeps c d base w g (given_up w.station.fop) refl g.linked.nn_octet
-  terminate_keeps S3 = off_keeps c d base w g (given_up w.station.fop) refl g.linked.nn_octet
-  terminate_keeps S4 = off_keeps c d base w g (given_up w.station.fop) refl g.linked.nn_octet
-  terminate_keeps S5 = off_keeps c d base w g (given_up w.station.fop) refl g.linked.nn_octet
+  terminate_keeps : (m : FopMode) → Late c d base (world_after_directive w Terminate (directive_outcome w.ground_node (terminated w.ground_node.fop m))).after
+  terminate_keeps S1 = off_keeps c d base w g (given_up w.ground_node.fop) refl g.linked.nn_octet
+  terminate_keeps S2 = off_keeps c d base w g (given_up w.ground_node.fop) refl g.linked.nn_octet
+  terminate_keeps S3 = off_keeps c d base w g (given_up w.ground_node.fop) refl g.linked.nn_octet
+  terminate_keeps S4 = off_keeps c d base w g (given_up w.ground_node.fop) refl g.linked.nn_octet
+  terminate_keeps S5 = off_keeps c d base w g (given_up w.ground_node.fop) refl g.linked.nn_octet
   terminate_keeps S6 = g
 
-  set_vs_keeps : (x : ℕ) → x < 256 → (m : FopMode) → w.station.fop.state ≡ m → Late c d base (after_directive w (SetVs x) (directed_by w.station (from_S6 w.station.fop m (record w.station.fop { vs = x; nn = x })))).after
+  set_vs_keeps : (x : ℕ) → x < 256 → (m : FopMode) → w.ground_node.fop.state ≡ m → Late c d base (world_after_directive w (SetVs x) (directive_outcome w.ground_node (from_S6 w.ground_node.fop m (record w.ground_node.fop { vs = x; nn = x })))).after
   set_vs_keeps x lt S1 is = g
   set_vs_keeps x lt S2 is = g
   set_vs_keeps x lt S3 is = g
   set_vs_keeps x lt S4 is = g
   set_vs_keeps x lt S5 is = g
-  set_vs_keeps x lt S6 is = off_keeps c d base w g (record w.station.fop { vs = x; nn = x }) is lt
+  set_vs_keeps x lt S6 is = off_keeps c d base w g (record w.ground_node.fop { vs = x; nn = x }) is lt
 
-  set_window_keeps : (k : ℕ) → Late c d base (after_directive w (SetWindow k) (directed_by w.station (if (k == 0) || nat_lt w.station.fop.room k then refuses w.station.fop Window else obeys (record w.station.fop { window = k })))).after
-  set_window_keeps k = cond_both ((k == 0) || nat_lt w.station.fop.room k) (refuses w.station.fop Window) (obeys (record w.station.fop { window = k })) (λ o. Late c d base (after_directive w (SetWindow k) (directed_by w.station o)).after) (λ t. g) (λ t. same_keeps c d base w g (record w.station.fop { window = k }) refl refl refl refl refl)
+  set_window_keeps : (k : ℕ) → Late c d base (world_after_directive w (SetWindow k) (directive_outcome w.ground_node (if (k == 0) || nat_lt w.ground_node.fop.room k then refuses w.ground_node.fop Window else obeys (record w.ground_node.fop { window = k })))).after
+  set_window_keeps k = cond_both ((k == 0) || nat_lt w.ground_node.fop.room k) (refuses w.ground_node.fop Window) (obeys (record w.ground_node.fop { window = k })) (λ o. Late c d base (world_after_directive w (SetWindow k) (directive_outcome w.ground_node o)).after) (λ t. g) (λ t. same_keeps c d base w g (record w.ground_node.fop { window = k }) refl refl refl refl refl)
 
-  set_limit_keeps : (n : ℕ) → Late c d base (after_directive w (SetLimit n) (directed_by w.station (if n == 0 then refuses w.station.fop Limit else obeys (record w.station.fop { limit = n })))).after
-  set_limit_keeps n = cond_both (n == 0) (refuses w.station.fop Limit) (obeys (record w.station.fop { limit = n })) (λ o. Late c d base (after_directive w (SetLimit n) (directed_by w.station o)).after) (λ t. g) (λ t. same_keeps c d base w g (record w.station.fop { limit = n }) refl refl refl refl refl)
+  set_limit_keeps : (n : ℕ) → Late c d base (world_after_directive w (SetLimit n) (directive_outcome w.ground_node (if n == 0 then refuses w.ground_node.fop Limit else obeys (record w.ground_node.fop { limit = n })))).after
+  set_limit_keeps n = cond_both (n == 0) (refuses w.ground_node.fop Limit) (obeys (record w.ground_node.fop { limit = n })) (λ o. Late c d base (world_after_directive w (SetLimit n) (directive_outcome w.ground_node o)).after) (λ t. g) (λ t. same_keeps c d base w g (record w.ground_node.fop { limit = n }) refl refl refl refl refl)
 
-  set_timer_keeps : (n : ℕ) → Late c d base (after_directive w (SetTimer n) (directed_by w.station (if n == 0 then refuses w.station.fop TimerFault else obeys (record w.station.fop { timer = n })))).after
-  set_timer_keeps n = cond_both (n == 0) (refuses w.station.fop TimerFault) (obeys (record w.station.fop { timer = n })) (λ o. Late c d base (after_directive w (SetTimer n) (directed_by w.station o)).after) (λ t. g) (λ t. same_keeps c d base w g (record w.station.fop { timer = n }) refl refl refl refl refl)
+  set_timer_keeps : (n : ℕ) → Late c d base (world_after_directive w (SetTimer n) (directive_outcome w.ground_node (if n == 0 then refuses w.ground_node.fop TimerFault else obeys (record w.ground_node.fop { timer = n })))).after
+  set_timer_keeps n = cond_both (n == 0) (refuses w.ground_node.fop TimerFault) (obeys (record w.ground_node.fop { timer = n })) (λ o. Late c d base (world_after_directive w (SetTimer n) (directive_outcome w.ground_node o)).after) (λ t. g) (λ t. same_keeps c d base w g (record w.ground_node.fop { timer = n }) refl refl refl refl refl)
 
   -- an initiation is refused where the sender is on
-  refused_keeps : (e : Directive) (next : FopState SegmentView) (m : FopMode) → is_closed m ≡ false → Late c d base (after_directive w e (directed_by w.station (from_S6 w.station.fop m next))).after
+  refused_keeps : (e : Directive) (next : FopState SegmentView) (m : FopMode) → is_closed m ≡ false → Late c d base (world_after_directive w e (directive_outcome w.ground_node (from_S6 w.ground_node.fop m next))).after
   refused_keeps e next S1 on = g
   refused_keeps e next S2 on = g
   refused_keeps e next S3 on = g
@@ -80,8 +80,8 @@ module _ (c : Config) (d : Directive) (base : ℕ) (w : World) (g : Late c d bas
   refused_keeps e next S6 on = absurd cc
 
   pub open_directive : (e : Directive) → IsDirective e → is_initiation e ≡ false → Late c d base (world_step w (events.Directive e)).after
-  open_directive Terminate fits other = terminate_keeps w.station.fop.state
-  open_directive (SetVs x) fits other = set_vs_keeps x fits w.station.fop.state refl
+  open_directive Terminate fits other = terminate_keeps w.ground_node.fop.state
+  open_directive (SetVs x) fits other = set_vs_keeps x fits w.ground_node.fop.state refl
   open_directive (SetWindow k) fits other = set_window_keeps k
   open_directive (SetLimit n) fits other = set_limit_keeps n
   open_directive (SetTimer n) fits other = set_timer_keeps n
@@ -90,11 +90,11 @@ module _ (c : Config) (d : Directive) (base : ℕ) (w : World) (g : Late c d bas
   open_directive InitUnlock fits other = absurd cc
   open_directive (InitSetVr x) fits other = absurd cc
 
-  pub on_directive : (e : Directive) → is_closed w.station.fop.state ≡ false → is_initiation e ≡ true → Late c d base (world_step w (events.Directive e)).after
-  on_directive InitWithoutCheck on is = refused_keeps InitWithoutCheck _ w.station.fop.state on
-  on_directive InitWithCheck on is = refused_keeps InitWithCheck _ w.station.fop.state on
-  on_directive InitUnlock on is = refused_keeps InitUnlock _ w.station.fop.state on
-  on_directive (InitSetVr x) on is = refused_keeps (InitSetVr x) _ w.station.fop.state on
+  pub on_directive : (e : Directive) → is_closed w.ground_node.fop.state ≡ false → is_initiation e ≡ true → Late c d base (world_step w (events.Directive e)).after
+  on_directive InitWithoutCheck on is = refused_keeps InitWithoutCheck _ w.ground_node.fop.state on
+  on_directive InitWithCheck on is = refused_keeps InitWithCheck _ w.ground_node.fop.state on
+  on_directive InitUnlock on is = refused_keeps InitUnlock _ w.ground_node.fop.state on
+  on_directive (InitSetVr x) on is = refused_keeps (InitSetVr x) _ w.ground_node.fop.state on
   on_directive Terminate on is = absurd cc
   on_directive (SetVs x) on is = absurd cc
   on_directive (SetWindow k) on is = absurd cc

@@ -13,8 +13,8 @@ use Rattle.cop1.specs.FopReport.{locks, waits, asks}
 use Rattle.cop1.specs.FopState.{SentUnit}
 use Rattle.tc_link.specs.declared.config.Config.{Config}
 use Rattle.tc_link.specs.OwnedFields.{FitsFrame}
-use Rattle.tc_link.specs.Ground.{GroundState, is_closed, unsent, settled}
-use Rattle.tc_link.specs.Craft.{CraftState}
+use Rattle.tc_link.specs.Ground.{GroundState, is_closed, unsent_segments, settle_step}
+use Rattle.tc_link.specs.Spacecraft.{SpacecraftState}
 use Rattle.tc_link.specs.World.{World}
 use Rattle.tc_link.specs.PlainLink.{PlainLink, PlainRun, new_link, none, more, adds, reports as tells}
 use Rattle.tc_link.specs.Confirmation.{IsChecked}
@@ -32,7 +32,7 @@ Good base c = (locks c ≡ false) × (waits c ≡ false) × (asks c ≡ false) �
 abbrev pub Confirming : (base : ℕ) (lockout wait retransmit : Bool) (vr : ℕ) → Type 0
 Confirming base lockout wait retransmit vr = (lockout ≡ false) × (wait ≡ false) × (retransmit ≡ false) × (vr ≡ base)
 
-abbrev pub WouldConfirm : ℕ → CraftState → Type 0
+abbrev pub WouldConfirm : ℕ → SpacecraftState → Type 0
 WouldConfirm base s = Confirming base s.farm.lockout s.farm.wait s.farm.retransmit s.farm.vr
 
 -- each report confirms, and at their end this is so
@@ -133,20 +133,20 @@ pub record Early (c : Config) (d : Directive) (base : ℕ) (w : World) (frames :
   pub opened : w.session.opening ≡ Some (record { directive = d; clean = true })
   pub base_octet : base < 256
   pub checked : IsChecked d
-  pub nn_octet : w.station.fop.nn < 256
-  pub early : IsEarly d w.station.fop.state
-  pub held : HeldEarly (is_closed w.station.fop.state) base w.station.fop.vs w.station.fop.nn w.station.fop.sent (unsent w.station) (units_of_all c w.session.submissions)
+  pub nn_octet : w.ground_node.fop.nn < 256
+  pub early : IsEarly d w.ground_node.fop.state
+  pub held : HeldEarly (is_closed w.ground_node.fop.state) base w.ground_node.fop.vs w.ground_node.fop.nn w.ground_node.fop.sent (unsent_segments w.ground_node) (units_of_all c w.session.submissions)
   pub given : AllByRecursion (IsGiven c) w.session.submissions
   pub units_fit : AllByRecursion FitsFrame (units_of_all c w.session.submissions)
   pub sent_none : w.session.sent ≡ []
-  pub accepted_none : drop w.session.before w.craft.accepted ≡ []
+  pub accepted_none : drop w.session.before w.spacecraft.accepted ≡ []
   pub acked_none : w.session.acknowledged ≡ 0
-  pub command_is : ControlFits d base w.station.fop.control
+  pub command_is : ControlFits d base w.ground_node.fop.control
   pub carries : Carries c w.up frames
   pub reporting : Reporting c w.down reports
   pub up_is : UpIs d base true frames []
-  pub lasts : Lasts base reports (WouldConfirm base w.craft)
-  pub same : d ≡ InitWithCheck → AllSame reports w.craft.farm.lockout w.craft.farm.retransmit w.craft.farm.vr
+  pub lasts : Lasts base reports (WouldConfirm base w.spacecraft)
+  pub same : d ≡ InitWithCheck → AllSame reports w.spacecraft.farm.lockout w.spacecraft.farm.retransmit w.spacecraft.farm.vr
   pub confirmed_not : w.session.confirmed ≡ false
 
 pub record Begun (c : Config) (d : Directive) (base : ℕ) (w : World) : Type 0 where
@@ -157,30 +157,30 @@ pub record Begun (c : Config) (d : Directive) (base : ℕ) (w : World) : Type 0 
 -- just confirmed
 pub record Confirmed (c : Config) (d : Directive) (base : ℕ) (w : World) : Type 0 where
   pub late : Late c d base w
-  pub exact : (w.craft.farm.vr ≡ w.station.fop.vs) × (w.station.fop.nn ≡ w.station.fop.vs)
+  pub exact : (w.spacecraft.farm.vr ≡ w.ground_node.fop.vs) × (w.ground_node.fop.nn ≡ w.ground_node.fop.vs)
 
 pub held_early_again : (off : Bool) (base vs nn : ℕ) (sent : List (SentUnit SegmentView)) (rest new units : List SegmentView) → (off ≡ false → new ≡ rest) → HeldEarly off base vs nn sent rest units → HeldEarly off base vs nn sent new units
 held_early_again true base vs nn sent rest new units same held = tt
 held_early_again false base vs nn sent rest new units same held = let rest_is : new ≡ units = same refl ∙ held.rest_is in assumption (rest_is, held)
 
 module _ (c : Config) (d : Directive) (base : ℕ) where
-  pub early_settled : (w : World) → Begun c d base w → Begun c d base (record w { station = settled w.station })
-  early_settled w g = settled_keeps (λ s. Begun c d base (record w { station = s })) w.station (λ waiting pending on off.
+  pub early_settled : (w : World) → Begun c d base w → Begun c d base (record w { ground_node = settle_step w.ground_node })
+  early_settled w g = settled_keeps (λ s. Begun c d base (record w { ground_node = s })) w.ground_node (λ waiting pending on off.
       let l = g.early in
-      let held : HeldEarly (is_closed w.station.fop.state) base w.station.fop.vs w.station.fop.nn w.station.fop.sent (option_to_list waiting ++ pending) (units_of_all c w.session.submissions) = held_early_again (is_closed w.station.fop.state) base w.station.fop.vs w.station.fop.nn w.station.fop.sent (unsent w.station) (option_to_list waiting ++ pending) (units_of_all c w.session.submissions) on l.held in
+      let held : HeldEarly (is_closed w.ground_node.fop.state) base w.ground_node.fop.vs w.ground_node.fop.nn w.ground_node.fop.sent (option_to_list waiting ++ pending) (units_of_all c w.session.submissions) = held_early_again (is_closed w.ground_node.fop.state) base w.ground_node.fop.vs w.ground_node.fop.nn w.ground_node.fop.sent (unsent_segments w.ground_node) (option_to_list waiting ++ pending) (units_of_all c w.session.submissions) on l.held in
       record { frames = g.frames; reports = g.reports; early = assumption (held, l) })
 
   -- the report that confirms
-  pub confirmed : (w : World) (g : Begun c d base w) → is_closed w.station.fop.state ≡ false
-      → (bs : List (List ℕ)) (rs : List Clcw) → Reporting c bs rs → AllGood base rs (WouldConfirm base w.craft)
-      → (station : GroundState) → station.fop.state ≡ S1 → station.fop.vs ≡ w.station.fop.vs → station.fop.nn ≡ w.station.fop.nn → station.fop.sent ≡ w.station.fop.sent → unsent station ≡ unsent w.station
-      → (now : Bool) → now ≡ true → (acked : ℕ) → acked ≡ 0 → Late c d base (record w { station = station; down = bs; session = record w.session { confirmed = now; acknowledged = acked } })
-  confirmed w g on bs rs rest all station state_is vs nn sent waiting now now_is acked acked_is =
+  pub confirmed : (w : World) (g : Begun c d base w) → is_closed w.ground_node.fop.state ≡ false
+      → (bs : List (List ℕ)) (rs : List Clcw) → Reporting c bs rs → AllGood base rs (WouldConfirm base w.spacecraft)
+      → (ground_node : GroundState) → ground_node.fop.state ≡ S1 → ground_node.fop.vs ≡ w.ground_node.fop.vs → ground_node.fop.nn ≡ w.ground_node.fop.nn → ground_node.fop.sent ≡ w.ground_node.fop.sent → unsent_segments ground_node ≡ unsent_segments w.ground_node
+      → (now : Bool) → now ≡ true → (acked : ℕ) → acked ≡ 0 → Late c d base (record w { ground_node = ground_node; down = bs; session = record w.session { confirmed = now; acknowledged = acked } })
+  confirmed w g on bs rs rest all ground_node state_is vs nn sent waiting now now_is acked acked_is =
       let l = g.early in
-      let good = last_good base rs (WouldConfirm base w.craft) all in
+      let good = last_good base rs (WouldConfirm base w.spacecraft) all in
       let units : List SegmentView = units_of_all c w.session.submissions in
-      let was : HoldsEarly base w.station.fop.vs w.station.fop.nn w.station.fop.sent (unsent w.station) units = let it : HeldEarly false base w.station.fop.vs w.station.fop.nn w.station.fop.sent (unsent w.station) units = rw on at l.held in it in
-      let held : Held (is_closed station.fop.state) base station.fop.vs station.fop.nn station.fop.sent (unsent station) 0 0 units = rw state_is (record { vs_is = omega (arith, vs, was.vs_is, l.base_octet); nn_is = omega (arith, nn, was.nn_is, l.base_octet); sent_is = rw (sent, was.sent_is) refl; rest_is = waiting ∙ was.rest_is }) in
+      let was : HoldsEarly base w.ground_node.fop.vs w.ground_node.fop.nn w.ground_node.fop.sent (unsent_segments w.ground_node) units = let it : HeldEarly false base w.ground_node.fop.vs w.ground_node.fop.nn w.ground_node.fop.sent (unsent_segments w.ground_node) units = rw on at l.held in it in
+      let held : Held (is_closed ground_node.fop.state) base ground_node.fop.vs ground_node.fop.nn ground_node.fop.sent (unsent_segments ground_node) 0 0 units = rw state_is (record { vs_is = omega (arith, vs, was.vs_is, l.base_octet); nn_is = omega (arith, nn, was.nn_is, l.base_octet); sent_is = rw (sent, was.sent_is) refl; rest_is = waiting ∙ was.rest_is }) in
       record {
         plain = zeros_plain units (zeros rs);
         ran = zeros_run units rs;
@@ -209,14 +209,14 @@ module _ (c : Config) (d : Directive) (base : ℕ) where
           carries = l.carries;
           reporting = rest;
           up_is = l.up_is;
-          down_is = zeros_down base rs (WouldConfirm base w.craft) l.base_octet all;
+          down_is = zeros_down base rs (WouldConfirm base w.spacecraft) l.base_octet all;
           fits = tt;
           rises = zeros_rise rs;
         };
         calm = λ t. record {
           unlocked = good.0;
           clear = λ e. good.2;
-          ranks = let ranks : Ranks 0 rs (zeros rs) 0 = zeros_rank base rs (WouldConfirm base w.craft) all in rw (state_is, good.2) ranks;
+          ranks = let ranks : Ranks 0 rs (zeros rs) 0 = zeros_rank base rs (WouldConfirm base w.spacecraft) all in rw (state_is, good.2) ranks;
           rank_most = rw good.2 (omega arith);
         };
       }

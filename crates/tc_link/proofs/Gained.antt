@@ -14,16 +14,16 @@ use Rattle.cop1.specs.declared.farm.Verdict.{Verdict}
 use Rattle.cop1.specs.declared.farm.Verdict.TheVariants.{Accepted, Ahead, NoBuffer, Behind, Outside, Discarded}
 use Rattle.cop1.specs.Farm.{verdict_of}
 use Rattle.tc_link.specs.declared.config.Config.{Config}
-use Rattle.tc_link.specs.Craft.{CraftState, received, frame_arrived, body_arrived, sequence_arrived, bypass_arrived, is_free, is_own}
-use Rattle.tc_link.specs.Foreseeing.{foreseen, accepting}
-use Rattle.tc_link.specs.Keeping.{is_kept}
-use Rattle.tc_link.specs.LinkFields.{gained_on}
+use Rattle.tc_link.specs.Spacecraft.{SpacecraftState, spacecraft_receive, frame_outcome, body_outcome, sequence_outcome, bypass_outcome, is_free, is_own_frame}
+use Rattle.tc_link.specs.Acceptance.{segment_to_accept, acceptance_with}
+use Rattle.tc_link.specs.BypassSegments.{is_kept}
+use Rattle.tc_link.specs.WorldFields.{packets_accepted_on}
 use Rattle.tc_link.specs.Parameters.{limits_of}
-use Rattle.tc_link.proofs.Foreseen.{is_foreseen, foreign}
+use Rattle.tc_link.proofs.AcceptedSegments.{accepts_segment, foreign}
 
 -- ---- the configuration stays
 
-in_sequence : (s : CraftState) (n : ℕ) (segment : SegmentView) (verdict : Verdict) → (sequence_arrived s n segment verdict).after.config ≡ s.config
+in_sequence : (s : SpacecraftState) (n : ℕ) (segment : SegmentView) (verdict : Verdict) → (sequence_outcome s n segment verdict).after.config ≡ s.config
 in_sequence s n segment Accepted = refl
 in_sequence s n segment Ahead = refl
 in_sequence s n segment NoBuffer = refl
@@ -31,22 +31,22 @@ in_sequence s n segment Behind = refl
 in_sequence s n segment Outside = refl
 in_sequence s n segment Discarded = refl
 
-in_bypass : (s : CraftState) (segment : SegmentView) (kept : Bool) → (bypass_arrived s segment kept).after.config ≡ s.config
+in_bypass : (s : SpacecraftState) (segment : SegmentView) (kept : Bool) → (bypass_outcome s segment kept).after.config ≡ s.config
 in_bypass s segment true = refl
 in_bypass s segment false = refl
 
-in_own : (s : CraftState) (body : BodyView) → (body_arrived s body).after.config ≡ s.config
+in_own : (s : SpacecraftState) (body : BodyView) → (body_outcome s body).after.config ≡ s.config
 in_own s (Ad n segment) = in_sequence s n segment (verdict_of s.farm n (is_free s))
 in_own s (Bd segment) = in_bypass s segment (is_kept (limits_of s.config) segment)
 in_own s (Bc command) = refl
 
-in_any : (s : CraftState) (frame : FrameView) (own : Bool) → (if own then body_arrived s frame.body else foreign s).after.config ≡ s.config
+in_any : (s : SpacecraftState) (frame : FrameView) (own : Bool) → (if own then body_outcome s frame.body else foreign s).after.config ≡ s.config
 in_any s frame true = in_own s frame.body
 in_any s frame false = refl
 
-in_read : (s : CraftState) (r : Result FrameView TcFault) → (frame_arrived s r).after.config ≡ s.config
+in_read : (s : SpacecraftState) (r : Result FrameView TcFault) → (frame_outcome s r).after.config ≡ s.config
 in_read s (Err fault) = refl
-in_read s (Ok frame) = in_any s frame (is_own s.config frame)
+in_read s (Ok frame) = in_any s frame (is_own_frame s.config frame)
 
 -- ---- what is delivered
 
@@ -54,8 +54,8 @@ in_read s (Ok frame) = in_any s frame (is_own s.config frame)
 abbrev pub delivered_by : Config → ℕ → ℕ → List SegmentView → List (List ℕ)
 delivered_by c m before segments = drop (length (assembled (limits_of c) m (take before segments))) (assembled (limits_of c) m segments)
 
-adds : (s : CraftState) (segment : SegmentView) (m : ℕ)
-    → assembled (limits_of s.config) m (s.accepted ++ segment ∷ []) ≡ assembled (limits_of s.config) m s.accepted ++ gained_on m (Some (accepting s segment))
+adds : (s : SpacecraftState) (segment : SegmentView) (m : ℕ)
+    → assembled (limits_of s.config) m (s.accepted ++ segment ∷ []) ≡ assembled (limits_of s.config) m s.accepted ++ packets_accepted_on m (Some (acceptance_with s segment))
 adds s segment m =
     elim (cases_eq m segment.header.map) [
       | inl same ↦ rw (same, eq-eqb segment.header.map segment.header.map refl) (assembled-push (limits_of s.config) s.accepted segment _ refl)
@@ -68,18 +68,18 @@ begins limits m before segments =
     let all : assembled limits m segments ≡ assembled limits m (take before segments) ++ more.0 = ap (assembled limits m) (sym (take-append-drop before segments)) ∙ more.1 in
     omega (arith, ap length all, length-append (assembled limits m (take before segments)) more.0)
 
-with_one : (s : CraftState) (m before : ℕ) (o : Option SegmentView) → before ≤ length s.accepted
-    → delivered_by s.config m before (s.accepted ++ option_to_list o) ≡ delivered_by s.config m before s.accepted ++ gained_on m (option_map (accepting s) o)
+with_one : (s : SpacecraftState) (m before : ℕ) (o : Option SegmentView) → before ≤ length s.accepted
+    → delivered_by s.config m before (s.accepted ++ option_to_list o) ≡ delivered_by s.config m before s.accepted ++ packets_accepted_on m (option_map (acceptance_with s) o)
 with_one s m before None le = ap (delivered_by s.config m before) (append-nil s.accepted) ∙ sym (append-nil (delivered_by s.config m before s.accepted))
 with_one s m before (Some segment) le =
     ap (λ (xs : List SegmentView). drop (length (assembled (limits_of s.config) m xs)) (assembled (limits_of s.config) m (s.accepted ++ segment ∷ []))) (take-append-le before s.accepted (segment ∷ []) le)
     ∙ ap (drop (length (assembled (limits_of s.config) m (take before s.accepted)))) (adds s segment m)
-    ∙ drop-append-le (length (assembled (limits_of s.config) m (take before s.accepted))) (assembled (limits_of s.config) m s.accepted) (gained_on m (Some (accepting s segment))) (begins (limits_of s.config) m before s.accepted)
+    ∙ drop-append-le (length (assembled (limits_of s.config) m (take before s.accepted))) (assembled (limits_of s.config) m s.accepted) (packets_accepted_on m (Some (acceptance_with s segment))) (begins (limits_of s.config) m before s.accepted)
 
 -- when octets arrive
-pub gained : (s : CraftState) (octets : List ℕ) (m before : ℕ) → before ≤ length s.accepted
-    → delivered_by (received s octets).after.config m before (received s octets).after.accepted ≡ delivered_by s.config m before s.accepted ++ gained_on m (option_map (accepting s) (foreseen s octets))
+pub gained : (s : SpacecraftState) (octets : List ℕ) (m before : ℕ) → before ≤ length s.accepted
+    → delivered_by (spacecraft_receive s octets).after.config m before (spacecraft_receive s octets).after.accepted ≡ delivered_by s.config m before s.accepted ++ packets_accepted_on m (option_map (acceptance_with s) (segment_to_accept s octets))
 gained s octets m before le =
-    ap (λ (c : Config). delivered_by c m before (received s octets).after.accepted) (in_read s (frame_at On octets))
-    ∙ ap (delivered_by s.config m before) (is_foreseen s octets)
-    ∙ with_one s m before (foreseen s octets) le
+    ap (λ (c : Config). delivered_by c m before (spacecraft_receive s octets).after.accepted) (in_read s (frame_at On octets))
+    ∙ ap (delivered_by s.config m before) (accepts_segment s octets)
+    ∙ with_one s m before (segment_to_accept s octets) le

@@ -13,8 +13,8 @@ use Rattle.cop1.specs.declared.fop.Directive.{Directive}
 use Rattle.cop1.specs.declared.fop.Directive.TheVariants.{InitWithoutCheck, InitWithCheck, InitUnlock, InitSetVr, Terminate, SetVs, SetWindow, SetLimit, SetTimer}
 use Rattle.cop1.specs.declared.fop.FopMode.{FopMode}
 use Rattle.cop1.specs.declared.fop.FopMode.TheVariants.{S1, S2, S3, S4, S5, S6}
-use Rattle.cop1.specs.FopDirective.{from_S6, directed as directed_fop}
-use Rattle.cop1.specs.FopPull.{pulled as pulled_fop}
+use Rattle.cop1.specs.FopDirective.{from_S6, directive_step as directed_fop}
+use Rattle.cop1.specs.FopPull.{pull_step as pulled_fop}
 use Rattle.cop1.specs.FopState.{FopState}
 use Rattle.tm_link.specs.declared.fault.TmFault.{TmFault}
 use Rattle.tm_link.specs.Layout as telemetry
@@ -24,8 +24,8 @@ use Rattle.tc_link.specs.declared.event.Event.{Event}
 use Rattle.tc_link.specs.declared.event.Event.TheVariants as events
 use Rattle.tc_link.specs.declared.sim.opening.Opening.{Opening}
 use Rattle.tc_link.specs.Parameters.{IsConfig}
-use Rattle.tc_link.specs.Ground.{GroundState, is_closed, directed_by, with_fop, frame_pulled}
-use Rattle.tc_link.specs.World.{World, new_world, world_step, world_run, IsClean, is_initiation, begins_clean, begun_by, session_after, after_pull, up_delivered, up_lost, up_detected, up_damaged, down_delivered, down_lost, down_detected, down_damaged}
+use Rattle.tc_link.specs.Ground.{GroundState, is_closed, directive_outcome, with_fop, frame_to_send}
+use Rattle.tc_link.specs.World.{World, new_world, world_step, world_run, IsClean, is_initiation, begins_clean, session_begun_by, session_after_directive, world_after_pull, up_deliver_step, up_lose_step, up_damage_outcome, up_damage_step, down_deliver_step, down_lose_step, down_damage_outcome, down_damage_step}
 use Rattle.tc_link.specs.Reached.{IsDirective, IsEvent, IsReached}
 use Rattle.tc_link.proofs.Arriving.{up_deliver_keeps, up_lose_keeps, up_damage_keeps}
 use Rattle.tc_link.proofs.Beginning.{Clean, begins}
@@ -34,8 +34,8 @@ use Rattle.tc_link.proofs.Directing.{late_tick, open_directive, on_directive}
 use Rattle.tc_link.proofs.Early.{Begun}
 use Rattle.tc_link.proofs.EarlyBoard.{early_up_deliver, early_up_lose, early_up_damage, early_take, early_take_bypass, early_telemetry, early_report}
 use Rattle.tc_link.proofs.EarlyGround.{early_tick, open_early, on_early, early_submit, early_bypass, early_send}
-use Rattle.tc_link.proofs.EarlyHearing.{early_down_deliver, early_down_lose, early_down_damage}
-use Rattle.tc_link.proofs.Hearing.{late_down_deliver, late_down_lose, late_down_damage, late_report}
+use Rattle.tc_link.proofs.EarlyTelemetry.{early_down_deliver, early_down_lose, early_down_damage}
+use Rattle.tc_link.proofs.LateTelemetry.{late_down_deliver, late_down_lose, late_down_damage, late_report}
 use Rattle.tc_link.proofs.Linked.{Steady, Late}
 use Rattle.tc_link.proofs.LateSending.{late_send}
 use Rattle.tc_link.proofs.SteadyWorld.{Sound, steady_of, step_sound, new_sound}
@@ -45,7 +45,7 @@ use Rattle.tc_link.proofs.LateSubmitting.{late_submit, late_bypass}
 abbrev pub Continues : World → Event → Type 0
 Continues w (events.Submit m octets) = Unit {0}
 Continues w (events.Bypass m octets) = Unit {0}
-Continues w (events.Directive d) = is_initiation d ≡ true → is_closed w.station.fop.state ≡ false
+Continues w (events.Directive d) = is_initiation d ≡ true → is_closed w.ground_node.fop.state ≡ false
 Continues w events.Send = Unit {0}
 Continues w events.UpDeliver = Unit {0}
 Continues w events.UpLose = Unit {0}
@@ -62,39 +62,39 @@ Continues w (events.Telemetry octets) = Unit {0}
 -- ---- such an event leaves the session's opening as it is
 
 module _ (w : World) where
-  opened_pull : (station : GroundState) (frame : Option FrameView) → (after_pull w station frame).after.session.opening ≡ w.session.opening
-  opened_pull station None = refl
-  opened_pull station (Some frame) = refl
+  opened_pull : (ground_node : GroundState) (frame : Option FrameView) → (world_after_pull w ground_node frame).after.session.opening ≡ w.session.opening
+  opened_pull ground_node None = refl
+  opened_pull ground_node (Some frame) = refl
 
-  opened_up : (bs : List (List ℕ)) → ((up_delivered w bs).after.session.opening ≡ w.session.opening) × ((up_lost w bs).after.session.opening ≡ w.session.opening)
+  opened_up : (bs : List (List ℕ)) → ((up_deliver_step w bs).after.session.opening ≡ w.session.opening) × ((up_lose_step w bs).after.session.opening ≡ w.session.opening)
   opened_up [] = (refl, refl)
   opened_up (b ∷ bs) = (refl, refl)
 
-  opened_detected : (bs : List (List ℕ)) (r : Result FrameView TcFault) → (up_detected w bs r).after.session.opening ≡ w.session.opening
+  opened_detected : (bs : List (List ℕ)) (r : Result FrameView TcFault) → (up_damage_outcome w bs r).after.session.opening ≡ w.session.opening
   opened_detected bs (Ok frame) = refl
   opened_detected bs (Err fault) = refl
 
-  opened_damaged : (bs : List (List ℕ)) (octets : List ℕ) → (up_damaged w bs octets).after.session.opening ≡ w.session.opening
+  opened_damaged : (bs : List (List ℕ)) (octets : List ℕ) → (up_damage_step w bs octets).after.session.opening ≡ w.session.opening
   opened_damaged [] octets = refl
   opened_damaged (b ∷ bs) octets = opened_detected bs (frame_at On octets)
 
-  opened_down : (bs : List (List ℕ)) → ((down_delivered w bs).after.session.opening ≡ w.session.opening) × ((down_lost w bs).after.session.opening ≡ w.session.opening)
+  opened_down : (bs : List (List ℕ)) → ((down_deliver_step w bs).after.session.opening ≡ w.session.opening) × ((down_lose_step w bs).after.session.opening ≡ w.session.opening)
   opened_down [] = (refl, refl)
   opened_down (b ∷ bs) = (refl, refl)
 
-  opened_down_detected : (bs : List (List ℕ)) (r : Result telemetry.FrameView TmFault) → (down_detected w bs r).after.session.opening ≡ w.session.opening
+  opened_down_detected : (bs : List (List ℕ)) (r : Result telemetry.FrameView TmFault) → (down_damage_outcome w bs r).after.session.opening ≡ w.session.opening
   opened_down_detected bs (Ok frame) = refl
   opened_down_detected bs (Err fault) = refl
 
-  opened_down_damaged : (bs : List (List ℕ)) (octets : List ℕ) → (down_damaged w bs octets).after.session.opening ≡ w.session.opening
+  opened_down_damaged : (bs : List (List ℕ)) (octets : List ℕ) → (down_damage_step w bs octets).after.session.opening ≡ w.session.opening
   opened_down_damaged [] octets = refl
-  opened_down_damaged (b ∷ bs) octets = opened_down_detected bs (telemetry_reading.frame_at w.station.config.frame_length octets)
+  opened_down_damaged (b ∷ bs) octets = opened_down_detected bs (telemetry_reading.frame_at w.ground_node.config.frame_length octets)
 
-  opened_other : (d : Directive) (r : Result (Option Alert) CopFault) → is_initiation d ≡ false → (session_after w d r).opening ≡ w.session.opening
+  opened_other : (d : Directive) (r : Result (Option Alert) CopFault) → is_initiation d ≡ false → (session_after_directive w d r).opening ≡ w.session.opening
   opened_other d (Err fault) other = refl
-  opened_other d (Ok alert) other = cond_both (is_initiation d) (begun_by w d) w.session (λ s. s.opening ≡ w.session.opening) (λ t. absurd (cc (t, other))) (λ t. refl)
+  opened_other d (Ok alert) other = cond_both (is_initiation d) (session_begun_by w d) w.session (λ s. s.opening ≡ w.session.opening) (λ t. absurd (cc (t, other))) (λ t. refl)
 
-  opened_refused : (d : Directive) (next : FopState SegmentView) (m : FopMode) → is_closed m ≡ false → (session_after w d (directed_by w.station (from_S6 w.station.fop m next)).answer).opening ≡ w.session.opening
+  opened_refused : (d : Directive) (next : FopState SegmentView) (m : FopMode) → is_closed m ≡ false → (session_after_directive w d (directive_outcome w.ground_node (from_S6 w.ground_node.fop m next)).answer).opening ≡ w.session.opening
   opened_refused d next S1 on = refl
   opened_refused d next S2 on = refl
   opened_refused d next S3 on = refl
@@ -102,28 +102,28 @@ module _ (w : World) where
   opened_refused d next S5 on = refl
   opened_refused d next S6 on = absurd cc
 
-  opened_init : (d : Directive) → is_initiation d ≡ true → is_closed w.station.fop.state ≡ false → (session_after w d (directed_by w.station (directed_fop w.station.fop d)).answer).opening ≡ w.session.opening
-  opened_init InitWithoutCheck is on = opened_refused InitWithoutCheck _ w.station.fop.state on
-  opened_init InitWithCheck is on = opened_refused InitWithCheck _ w.station.fop.state on
-  opened_init InitUnlock is on = opened_refused InitUnlock _ w.station.fop.state on
-  opened_init (InitSetVr x) is on = opened_refused (InitSetVr x) _ w.station.fop.state on
+  opened_init : (d : Directive) → is_initiation d ≡ true → is_closed w.ground_node.fop.state ≡ false → (session_after_directive w d (directive_outcome w.ground_node (directed_fop w.ground_node.fop d)).answer).opening ≡ w.session.opening
+  opened_init InitWithoutCheck is on = opened_refused InitWithoutCheck _ w.ground_node.fop.state on
+  opened_init InitWithCheck is on = opened_refused InitWithCheck _ w.ground_node.fop.state on
+  opened_init InitUnlock is on = opened_refused InitUnlock _ w.ground_node.fop.state on
+  opened_init (InitSetVr x) is on = opened_refused (InitSetVr x) _ w.ground_node.fop.state on
   opened_init Terminate is on = absurd cc
   opened_init (SetVs x) is on = absurd cc
   opened_init (SetWindow x) is on = absurd cc
   opened_init (SetLimit x) is on = absurd cc
   opened_init (SetTimer x) is on = absurd cc
 
-  opened_directive : (d : Directive) → (is_initiation d ≡ true → is_closed w.station.fop.state ≡ false) → (session_after w d (directed_by w.station (directed_fop w.station.fop d)).answer).opening ≡ w.session.opening
+  opened_directive : (d : Directive) → (is_initiation d ≡ true → is_closed w.ground_node.fop.state ≡ false) → (session_after_directive w d (directive_outcome w.ground_node (directed_fop w.ground_node.fop d)).answer).opening ≡ w.session.opening
   opened_directive d goes = elim (cases_Bool (is_initiation d)) [
     | inl is ↦ opened_init d is (goes is)
-    | inr other ↦ opened_other d (directed_by w.station (directed_fop w.station.fop d)).answer other
+    | inr other ↦ opened_other d (directive_outcome w.ground_node (directed_fop w.ground_node.fop d)).answer other
   ]
 
   pub opening_stays : (e : Event) → Continues w e → (world_step w e).after.session.opening ≡ w.session.opening
   opening_stays (events.Submit m octets) goes = refl
   opening_stays (events.Bypass m octets) goes = refl
   opening_stays (events.Directive d) goes = opened_directive d goes
-  opening_stays events.Send goes = opened_pull (with_fop w.station (pulled_fop w.station.fop).after) (frame_pulled w.station.config (pulled_fop w.station.fop).answer)
+  opening_stays events.Send goes = opened_pull (with_fop w.ground_node (pulled_fop w.ground_node.fop).after) (frame_to_send w.ground_node.config (pulled_fop w.ground_node.fop).answer)
   opening_stays events.UpDeliver goes = (opened_up w.up).0
   opening_stays events.UpLose goes = (opened_up w.up).1
   opening_stays (events.UpDamage octets) goes = opened_damaged w.up octets.now
@@ -139,13 +139,13 @@ module _ (w : World) where
 -- ---- a clean session stays so
 
 module _ (c : Config) (d : Directive) (base : ℕ) (w : World) (k : Steady c w) where
-  late_directive : (g : Late c d base w) (e : Directive) → IsDirective e → (is_initiation e ≡ true → is_closed w.station.fop.state ≡ false) → Late c d base (world_step w (events.Directive e)).after
+  late_directive : (g : Late c d base w) (e : Directive) → IsDirective e → (is_initiation e ≡ true → is_closed w.ground_node.fop.state ≡ false) → Late c d base (world_step w (events.Directive e)).after
   late_directive g e fits goes = elim (cases_Bool (is_initiation e)) [
     | inl is ↦ on_directive c d base w g e (goes is) is
     | inr other ↦ open_directive c d base w g e fits other
   ]
 
-  early_directive : (g : Begun c d base w) (e : Directive) → IsDirective e → (is_initiation e ≡ true → is_closed w.station.fop.state ≡ false) → Begun c d base (world_step w (events.Directive e)).after
+  early_directive : (g : Begun c d base w) (e : Directive) → IsDirective e → (is_initiation e ≡ true → is_closed w.ground_node.fop.state ≡ false) → Begun c d base (world_step w (events.Directive e)).after
   early_directive g e fits goes = elim (cases_Bool (is_initiation e)) [
     | inl is ↦ on_early c d base w k g e (goes is) is
     | inr other ↦ open_early c d base w k g e fits other
@@ -208,7 +208,7 @@ module _ (c : Config) (w : World) (h : Holding c w) where
   some_true : (b : Bool) → Some b ≡ Some true → b ≡ true
   some_true b e = cc
 
-  opened_by : (d : Directive) (next : FopState SegmentView) (m : FopMode) → is_closed m ≡ true → is_initiation d ≡ true → (session_after w d (directed_by w.station (from_S6 w.station.fop m next)).answer) ≡ begun_by w d
+  opened_by : (d : Directive) (next : FopState SegmentView) (m : FopMode) → is_closed m ≡ true → is_initiation d ≡ true → (session_after_directive w d (directive_outcome w.ground_node (from_S6 w.ground_node.fop m next)).answer) ≡ session_begun_by w d
   opened_by d next S1 off is = absurd cc
   opened_by d next S2 off is = absurd cc
   opened_by d next S3 off is = absurd cc
@@ -216,25 +216,25 @@ module _ (c : Config) (w : World) (h : Holding c w) where
   opened_by d next S5 off is = absurd cc
   opened_by d next S6 off is = rw is refl
 
-  begun_is : (d : Directive) → is_initiation d ≡ true → is_closed w.station.fop.state ≡ true → (world_step w (events.Directive d)).after.session ≡ begun_by w d
-  begun_is InitWithoutCheck is off = opened_by InitWithoutCheck _ w.station.fop.state off is
-  begun_is InitWithCheck is off = opened_by InitWithCheck _ w.station.fop.state off is
-  begun_is InitUnlock is off = opened_by InitUnlock _ w.station.fop.state off is
-  begun_is (InitSetVr x) is off = opened_by (InitSetVr x) _ w.station.fop.state off is
+  begun_is : (d : Directive) → is_initiation d ≡ true → is_closed w.ground_node.fop.state ≡ true → (world_step w (events.Directive d)).after.session ≡ session_begun_by w d
+  begun_is InitWithoutCheck is off = opened_by InitWithoutCheck _ w.ground_node.fop.state off is
+  begun_is InitWithCheck is off = opened_by InitWithCheck _ w.ground_node.fop.state off is
+  begun_is InitUnlock is off = opened_by InitUnlock _ w.ground_node.fop.state off is
+  begun_is (InitSetVr x) is off = opened_by (InitSetVr x) _ w.ground_node.fop.state off is
   begun_is Terminate is off = absurd cc
   begun_is (SetVs x) is off = absurd cc
   begun_is (SetWindow x) is off = absurd cc
   begun_is (SetLimit x) is off = absurd cc
   begun_is (SetTimer x) is off = absurd cc
 
-  begins_so : (d : Directive) → IsDirective d → is_initiation d ≡ true → is_closed w.station.fop.state ≡ true → IsClean (world_step w (events.Directive d)).after → Clean c (world_step w (events.Directive d)).after
+  begins_so : (d : Directive) → IsDirective d → is_initiation d ≡ true → is_closed w.ground_node.fop.state ≡ true → IsClean (world_step w (events.Directive d)).after → Clean c (world_step w (events.Directive d)).after
   begins_so d fits is off clean =
-      let same : option_map (λ (o : Opening). o.clean) (begun_by w d).opening ≡ Some true = sym (ap (λ s. option_map (λ (o : Opening). o.clean) s.opening) (begun_is d is off)) ∙ clean in
+      let same : option_map (λ (o : Opening). o.clean) (session_begun_by w d).opening ≡ Some true = sym (ap (λ s. option_map (λ (o : Opening). o.clean) s.opening) (begun_is d is off)) ∙ clean in
       begins c w h.sound d fits off (some_true (begins_clean w d) same)
 
   directive_so : (d : Directive) → IsDirective d → IsClean (world_step w (events.Directive d)).after → Clean c (world_step w (events.Directive d)).after
   directive_so d fits clean = elim (cases_Bool (is_initiation d)) [
-    | inl is ↦ (elim (cases_Bool (is_closed w.station.fop.state)) [
+    | inl is ↦ (elim (cases_Bool (is_closed w.ground_node.fop.state)) [
       | inl off ↦ begins_so d fits is off clean
       | inr on ↦ goes_on (events.Directive d) fits (λ e. on) clean
     ])

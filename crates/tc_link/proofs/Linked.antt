@@ -20,11 +20,11 @@ use Rattle.tm_link.specs.Layout as telemetry
 use Rattle.tm_link.specs.Reading as telemetry_reading
 use Rattle.tc_link.specs.declared.config.Config.{Config}
 use Rattle.tc_link.specs.Confirmation.{IsChecked}
-use Rattle.tc_link.specs.CraftFields.{IsBuilderOf}
+use Rattle.tc_link.specs.SpacecraftFields.{IsBuilderOf}
 use Rattle.tc_link.specs.Parameters.{IsConfig, limits_of}
 use Rattle.tc_link.specs.OwnedFields.{FitsFrame}
 use Rattle.tc_link.specs.Packets.{PacketOn}
-use Rattle.tc_link.specs.Ground.{frame_of, is_closed, unsent}
+use Rattle.tc_link.specs.Ground.{frame_of, is_closed, unsent_segments}
 use Rattle.tc_link.specs.World.{World}
 use Rattle.tc_link.specs.PlainLink.{PlainLink, PlainRun, new_link}
 use Rattle.tc_link.proofs.Reports.{IsLate, asked}
@@ -66,22 +66,22 @@ Commanded S6 control = control ≡ Idle
 
 pub record Steady (c : Config) (w : World) : Type 0 where
   pub ranges : IsConfig c
-  pub station_config : w.station.config ≡ c
-  pub craft_config : w.craft.config ≡ c
-  pub width : w.craft.farm.width ≡ c.width
-  pub farm_b : w.craft.farm.farm_b < 4
-  pub flags : FlagsAgree w.craft.farm
-  pub room : w.station.fop.room ≡ c.width / 2
-  pub window : w.station.fop.window ≤ c.width / 2
-  pub vs_octet : w.station.fop.vs < 256
+  pub ground_config : w.ground_node.config ≡ c
+  pub spacecraft_config : w.spacecraft.config ≡ c
+  pub width : w.spacecraft.farm.width ≡ c.width
+  pub farm_b : w.spacecraft.farm.farm_b < 4
+  pub flags : FlagsAgree w.spacecraft.farm
+  pub room : w.ground_node.fop.room ≡ c.width / 2
+  pub window : w.ground_node.fop.window ≤ c.width / 2
+  pub vs_octet : w.ground_node.fop.vs < 256
   -- nothing is queued where the sender is off
-  pub unsent_none : is_closed w.station.fop.state ≡ true → unsent w.station ≡ []
-  pub sent_none : is_closed w.station.fop.state ≡ true → w.station.fop.sent ≡ []
-  pub commanded : Commanded w.station.fop.state w.station.fop.control
-  pub bypass_fits : AllByRecursion FitsFrame w.station.fop.bypass
-  pub before : w.session.before ≤ length w.craft.accepted
-  pub builder : IsBuilderOf c w.craft.builder
-  pub idle_left : w.craft.builder.idle_left ≤ 6
+  pub unsent_none : is_closed w.ground_node.fop.state ≡ true → unsent_segments w.ground_node ≡ []
+  pub sent_none : is_closed w.ground_node.fop.state ≡ true → w.ground_node.fop.sent ≡ []
+  pub commanded : Commanded w.ground_node.fop.state w.ground_node.fop.control
+  pub bypass_fits : AllByRecursion FitsFrame w.ground_node.fop.bypass
+  pub before : w.session.before ≤ length w.spacecraft.accepted
+  pub builder : IsBuilderOf c w.spacecraft.builder
+  pub idle_left : w.spacecraft.builder.idle_left ≤ 6
 
 -- ---- a submission that was accepted
 
@@ -110,15 +110,15 @@ pub record Linked (c : Config) (d : Directive) (base : ℕ) (w : World) (p : Pla
   pub opened : w.session.opening ≡ Some (record { directive = d; clean = true })
   pub confirmed_is : IsChecked d → w.session.confirmed ≡ true
   pub base_octet : base < 256
-  pub vr_is : w.craft.farm.vr ≡ (base + p.r) % 256
-  pub nn_octet : w.station.fop.nn < 256
-  pub late : IsLate w.station.fop.state
-  pub held : Held (is_closed w.station.fop.state) base w.station.fop.vs w.station.fop.nn w.station.fop.sent (unsent w.station) p.a p.n p.units
+  pub vr_is : w.spacecraft.farm.vr ≡ (base + p.r) % 256
+  pub nn_octet : w.ground_node.fop.nn < 256
+  pub late : IsLate w.ground_node.fop.state
+  pub held : Held (is_closed w.ground_node.fop.state) base w.ground_node.fop.vs w.ground_node.fop.nn w.ground_node.fop.sent (unsent_segments w.ground_node) p.a p.n p.units
   pub given : AllByRecursion (IsGiven c) w.session.submissions
   pub units_are : p.units ≡ units_of_all c w.session.submissions
   pub units_fit : AllByRecursion FitsFrame p.units
   pub sent_is : w.session.sent ≡ map segment_octets (take p.n p.units)
-  pub accepted_is : drop w.session.before w.craft.accepted ≡ take p.r p.units
+  pub accepted_is : drop w.session.before w.spacecraft.accepted ≡ take p.r p.units
   pub acked_is : w.session.acknowledged ≡ p.a
   pub n_most : p.n ≤ length p.units
   pub a_r : p.a ≤ p.r
@@ -134,10 +134,10 @@ pub record Linked (c : Config) (d : Directive) (base : ℕ) (w : World) (p : Pla
 
 -- no false alarm is on its way
 pub record Calm (w : World) (p : PlainLink) (front : Bool) (reports : List Clcw) : Type 0 where
-  pub unlocked : w.craft.farm.lockout ≡ false
-  pub clear : front ≡ true → w.craft.farm.retransmit ≡ false
-  pub ranks : Ranks (2 * p.a + asked w.station.fop.state) reports p.down (2 * p.r + bit w.craft.farm.retransmit)
-  pub rank_most : 2 * p.r + bit w.craft.farm.retransmit ≤ 2 * p.n
+  pub unlocked : w.spacecraft.farm.lockout ≡ false
+  pub clear : front ≡ true → w.spacecraft.farm.retransmit ≡ false
+  pub ranks : Ranks (2 * p.a + asked w.ground_node.fop.state) reports p.down (2 * p.r + bit w.spacecraft.farm.retransmit)
+  pub rank_most : 2 * p.r + bit w.spacecraft.farm.retransmit ≤ 2 * p.n
 
 pub record Late (c : Config) (d : Directive) (base : ℕ) (w : World) : Type 0 where
   pub plain : PlainLink

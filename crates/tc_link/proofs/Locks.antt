@@ -14,8 +14,8 @@ use Rattle.cop1.specs.declared.fop.Alert.{Alert}
 use Rattle.cop1.specs.declared.fop.Directive.{Directive}
 use Rattle.cop1.specs.FarmRuns.{FlagsAgree}
 use Rattle.cop1.specs.Farm.{state_of, FarmState, after_unlock, after_set_vr, after_release, farm_step, BufferReleased}
-use Rattle.cop1.specs.FopDirective.{directed as directed_fop}
-use Rattle.cop1.specs.FopPull.{pulled as pulled_fop}
+use Rattle.cop1.specs.FopDirective.{directive_step as directed_fop}
+use Rattle.cop1.specs.FopPull.{pull_step as pulled_fop}
 use Rattle.tm_link.specs.Building.{is_to_send}
 use Rattle.tm_link.specs.declared.fault.TmFault.{TmFault}
 use Rattle.tm_link.specs.Layout as telemetry
@@ -23,12 +23,12 @@ use Rattle.tm_link.specs.Reading as telemetry_reading
 use Rattle.tc_link.specs.declared.config.Config.{Config}
 use Rattle.tc_link.specs.declared.event.Event.{Event}
 use Rattle.tc_link.specs.declared.event.Event.TheVariants as events
-use Rattle.tc_link.specs.Keeping.{is_kept}
+use Rattle.tc_link.specs.BypassSegments.{is_kept}
 use Rattle.tc_link.specs.Packets.{PacketOn}
 use Rattle.tc_link.specs.Parameters.{limits_of}
-use Rattle.tc_link.specs.Craft.{CraftState, CraftOutcome, body_arrived, bypass_arrived, taken, bypass_taken, telemetry_queued}
-use Rattle.tc_link.specs.Ground.{GroundState, with_fop, frame_pulled, directed_by}
-use Rattle.tc_link.specs.World.{World, world_step, is_initiation, begun_by, session_after, after_pull, up_delivered, up_lost, up_detected, up_damaged, down_delivered, down_lost, down_detected, down_damaged, directive_of}
+use Rattle.tc_link.specs.Spacecraft.{SpacecraftState, SpacecraftOutcome, body_outcome, bypass_outcome, spacecraft_take, spacecraft_take_bypass, spacecraft_telemetry}
+use Rattle.tc_link.specs.Ground.{GroundState, with_fop, frame_to_send, directive_outcome}
+use Rattle.tc_link.specs.World.{World, world_step, is_initiation, session_begun_by, session_after_directive, world_after_pull, up_deliver_step, up_lose_step, up_damage_outcome, up_damage_step, down_deliver_step, down_lose_step, down_damage_outcome, down_damage_step, directive_of}
 use Rattle.tc_link.specs.Confirmation.{ConfirmsExactly, IsChecked, IsChecking}
 use Rattle.tc_link.specs.FalseAlarms.{HasNoFalseAlarm}
 use Rattle.tc_link.specs.Reached.{IsEvent}
@@ -38,7 +38,7 @@ use Rattle.tc_link.proofs.Beginning.{Clean}
 use Rattle.tc_link.proofs.Early.{Begun}
 use Rattle.tc_link.proofs.EarlyBoard.{early_up_deliver, early_up_lose, early_up_damage}
 use Rattle.tc_link.proofs.EarlyGround.{early_tick, early_send}
-use Rattle.tc_link.proofs.EarlyHearing.{early_down_deliver, early_down_lose, early_down_damage}
+use Rattle.tc_link.proofs.EarlyTelemetry.{early_down_deliver, early_down_lose, early_down_damage}
 use Rattle.tc_link.proofs.Invariant.{late_step}
 use Rattle.tc_link.proofs.Linked.{Steady, Late, Carries}
 use Rattle.tc_link.proofs.SteadyWorld.{Sound, steady_of, step_sound}
@@ -48,50 +48,50 @@ use Rattle.tc_link.proofs.Windows.{directive_is}
 -- ---- what leaves the receiver as it is
 
 abbrev SameFarm : World → World → Type 0
-SameFarm old new = new.craft.farm ≡ old.craft.farm
+SameFarm old new = new.spacecraft.farm ≡ old.spacecraft.farm
 
 module _ (w : World) where
-  pull_same : (station : GroundState) (frame : Option FrameView) → SameFarm w (after_pull w station frame).after
-  pull_same station None = refl
-  pull_same station (Some frame) = refl
+  pull_same : (ground_node : GroundState) (frame : Option FrameView) → SameFarm w (world_after_pull w ground_node frame).after
+  pull_same ground_node None = refl
+  pull_same ground_node (Some frame) = refl
 
-  lost_same : (bs : List (List ℕ)) → SameFarm w (up_lost w bs).after
+  lost_same : (bs : List (List ℕ)) → SameFarm w (up_lose_step w bs).after
   lost_same [] = refl
   lost_same (b ∷ bs) = refl
 
-  detected_same : (bs : List (List ℕ)) (r : Result FrameView TcFault) → SameFarm w (up_detected w bs r).after
+  detected_same : (bs : List (List ℕ)) (r : Result FrameView TcFault) → SameFarm w (up_damage_outcome w bs r).after
   detected_same bs (Ok frame) = refl
   detected_same bs (Err fault) = refl
 
-  damaged_same : (bs : List (List ℕ)) (octets : List ℕ) → SameFarm w (up_damaged w bs octets).after
+  damaged_same : (bs : List (List ℕ)) (octets : List ℕ) → SameFarm w (up_damage_step w bs octets).after
   damaged_same [] octets = refl
   damaged_same (b ∷ bs) octets = detected_same bs (frame_at On octets)
 
-  down_same : (bs : List (List ℕ)) → SameFarm w (down_delivered w bs).after × SameFarm w (down_lost w bs).after
+  down_same : (bs : List (List ℕ)) → SameFarm w (down_deliver_step w bs).after × SameFarm w (down_lose_step w bs).after
   down_same [] = (refl, refl)
   down_same (b ∷ bs) = (refl, refl)
 
-  down_detected_same : (bs : List (List ℕ)) (r : Result telemetry.FrameView TmFault) → SameFarm w (down_detected w bs r).after
+  down_detected_same : (bs : List (List ℕ)) (r : Result telemetry.FrameView TmFault) → SameFarm w (down_damage_outcome w bs r).after
   down_detected_same bs (Ok frame) = refl
   down_detected_same bs (Err fault) = refl
 
-  down_damaged_same : (bs : List (List ℕ)) (octets : List ℕ) → SameFarm w (down_damaged w bs octets).after
+  down_damaged_same : (bs : List (List ℕ)) (octets : List ℕ) → SameFarm w (down_damage_step w bs octets).after
   down_damaged_same [] octets = refl
-  down_damaged_same (b ∷ bs) octets = down_detected_same bs (telemetry_reading.frame_at w.station.config.frame_length octets)
+  down_damaged_same (b ∷ bs) octets = down_detected_same bs (telemetry_reading.frame_at w.ground_node.config.frame_length octets)
 
-bypass_same : (s : CraftState) (ps : List PacketOn) → (bypass_taken s ps).after.farm ≡ s.farm
+bypass_same : (s : SpacecraftState) (ps : List PacketOn) → (spacecraft_take_bypass s ps).after.farm ≡ s.farm
 bypass_same s [] = refl
 bypass_same s (p ∷ ps) = refl
 
-queued_same : (s : CraftState) (octets : List ℕ) → (telemetry_queued s octets).after.farm ≡ s.farm
-queued_same s octets = cond_both (is_to_send octets) _ _ (λ (o : CraftOutcome (Result (Unit {0}) TmFault)). o.after.farm ≡ s.farm) (λ t. refl) (λ t. refl)
+queued_same : (s : SpacecraftState) (octets : List ℕ) → (spacecraft_telemetry s octets).after.farm ≡ s.farm
+queued_same s octets = cond_both (is_to_send octets) _ _ (λ (o : SpacecraftOutcome (Result (Unit {0}) TmFault)). o.after.farm ≡ s.farm) (λ t. refl) (λ t. refl)
 
 released : (s : FarmState) (m : FarmMode) → (after_release s m).lockout ≡ s.lockout
 released s Open = refl
 released s Wait = refl
 released s Lockout = refl
 
-taken_same : (s : CraftState) (ps : List PacketOn) → (taken s ps).after.farm.lockout ≡ s.farm.lockout
+taken_same : (s : SpacecraftState) (ps : List PacketOn) → (spacecraft_take s ps).after.farm.lockout ≡ s.farm.lockout
 taken_same s [] = refl
 taken_same s (p ∷ left) = cond_both (nat_lt (length left) s.config.ready_slots) (farm_step s.farm BufferReleased) s.farm (λ (farm : FarmState). farm.lockout ≡ s.farm.lockout) (λ t. released s.farm s.farm.state) (λ t. refl)
 
@@ -107,33 +107,33 @@ set_by s x Open is = is
 set_by s x Wait is = is
 set_by s x Lockout is = is
 
-bypass_by : (s : CraftState) (u : SegmentView) (kept : Bool) → s.farm.lockout ≡ false → (bypass_arrived s u kept).after.farm.lockout ≡ false
+bypass_by : (s : SpacecraftState) (u : SegmentView) (kept : Bool) → s.farm.lockout ≡ false → (bypass_outcome s u kept).after.farm.lockout ≡ false
 bypass_by s u true is = is
 bypass_by s u false is = is
 
 module _ (c : Config) (d : Directive) (base : ℕ) (w : World) (k : Steady c w) where
-  body_by : (f : BodyView) (fs : List BodyView) → UpIs d base true (f ∷ fs) [] → w.craft.farm.lockout ≡ false → (body_arrived w.craft f).after.farm.lockout ≡ false
+  body_by : (f : BodyView) (fs : List BodyView) → UpIs d base true (f ∷ fs) [] → w.spacecraft.farm.lockout ≡ false → (body_outcome w.spacecraft f).after.farm.lockout ≡ false
   body_by (Ad n u) fs up is = elim up [ ]
-  body_by (Bd u) fs up is = bypass_by w.craft u (is_kept (limits_of w.craft.config) u) is
-  body_by (Bc Unlock) fs up is = unlocked_by w.craft.farm w.craft.farm.state is
-  body_by (Bc (SetVr x)) fs up is = set_by w.craft.farm x w.craft.farm.state is
+  body_by (Bd u) fs up is = bypass_by w.spacecraft u (is_kept (limits_of w.spacecraft.config) u) is
+  body_by (Bc Unlock) fs up is = unlocked_by w.spacecraft.farm w.spacecraft.farm.state is
+  body_by (Bc (SetVr x)) fs up is = set_by w.spacecraft.farm x w.spacecraft.farm.state is
 
-  delivered_by : (bs : List (List ℕ)) (fs : List BodyView) → Carries c bs fs → UpIs d base true fs [] → w.craft.farm.lockout ≡ false → (up_delivered w bs).after.craft.farm.lockout ≡ false
+  delivered_by : (bs : List (List ℕ)) (fs : List BodyView) → Carries c bs fs → UpIs d base true fs [] → w.spacecraft.farm.lockout ≡ false → (up_deliver_step w bs).after.spacecraft.farm.lockout ≡ false
   delivered_by [] fs carries up is = is
   delivered_by (b ∷ bs) [] carries up is = elim carries [ ]
-  delivered_by (b ∷ bs) (f ∷ fs) carries up is = subst (λ o. o.after.farm.lockout ≡ false) (sym (own_arrives w.craft c f (frame_at On b) k.craft_config carries.0)) (body_by f fs up is)
+  delivered_by (b ∷ bs) (f ∷ fs) carries up is = subst (λ o. o.after.farm.lockout ≡ false) (sym (own_arrives w.spacecraft c f (frame_at On b) k.spacecraft_config carries.0)) (body_by f fs up is)
 
-  up_unlocked : IsChecked d → Begun c d base w ⊎ Late c d base w → w.craft.farm.lockout ≡ false → (up_delivered w w.up).after.craft.farm.lockout ≡ false
+  up_unlocked : IsChecked d → Begun c d base w ⊎ Late c d base w → w.spacecraft.farm.lockout ≡ false → (up_deliver_step w w.up).after.spacecraft.farm.lockout ≡ false
   up_unlocked checked s is = elim s [
     | inl g ↦ delivered_by w.up g.frames g.early.carries g.early.up_is is
     | inr g ↦ ((late_step c d base w k g events.UpDeliver tt tt).calm checked).unlocked
   ]
 
-  not_locked : IsChecked d → Begun c d base w ⊎ Late c d base w → (e : Event) → w.craft.farm.lockout ≡ false → (world_step w e).after.craft.farm.lockout ≡ false
+  not_locked : IsChecked d → Begun c d base w ⊎ Late c d base w → (e : Event) → w.spacecraft.farm.lockout ≡ false → (world_step w e).after.spacecraft.farm.lockout ≡ false
   not_locked checked s (events.Submit m octets) is = is
   not_locked checked s (events.Bypass m octets) is = is
   not_locked checked s (events.Directive e) is = is
-  not_locked checked s events.Send is = ap (λ f. f.lockout) (pull_same w (with_fop w.station (pulled_fop w.station.fop).after) (frame_pulled w.station.config (pulled_fop w.station.fop).answer)) ∙ is
+  not_locked checked s events.Send is = ap (λ f. f.lockout) (pull_same w (with_fop w.ground_node (pulled_fop w.ground_node.fop).after) (frame_to_send w.ground_node.config (pulled_fop w.ground_node.fop).answer)) ∙ is
   not_locked checked s events.UpDeliver is = up_unlocked checked s is
   not_locked checked s events.UpLose is = ap (λ f. f.lockout) (lost_same w w.up) ∙ is
   not_locked checked s (events.UpDamage octets) is = ap (λ f. f.lockout) (damaged_same w w.up octets.now) ∙ is
@@ -142,11 +142,11 @@ module _ (c : Config) (d : Directive) (base : ℕ) (w : World) (k : Steady c w) 
   not_locked checked s events.DownLose is = ap (λ f. f.lockout) (down_same w w.down).1 ∙ is
   not_locked checked s (events.DownDamage octets) is = ap (λ f. f.lockout) (down_damaged_same w w.down octets.now) ∙ is
   not_locked checked s events.Tick is = is
-  not_locked checked s events.Take is = taken_same w.craft w.craft.ready ∙ is
-  not_locked checked s events.TakeBypass is = ap (λ f. f.lockout) (bypass_same w.craft w.craft.bypass) ∙ is
-  not_locked checked s (events.Telemetry octets) is = ap (λ f. f.lockout) (queued_same w.craft octets.now) ∙ is
+  not_locked checked s events.Take is = taken_same w.spacecraft w.spacecraft.ready ∙ is
+  not_locked checked s events.TakeBypass is = ap (λ f. f.lockout) (bypass_same w.spacecraft w.spacecraft.bypass) ∙ is
+  not_locked checked s (events.Telemetry octets) is = ap (λ f. f.lockout) (queued_same w.spacecraft octets.now) ∙ is
 
-  unlocked : IsChecked d → Begun c d base w ⊎ Late c d base w → w.session.confirmed ≡ true → w.craft.farm.lockout ≡ false
+  unlocked : IsChecked d → Begun c d base w ⊎ Late c d base w → w.session.confirmed ≡ true → w.spacecraft.farm.lockout ≡ false
   unlocked checked s confirmed = elim s [
     | inl g ↦ (absurd (let no : w.session.confirmed ≡ false = g.early.confirmed_not in cc))
     | inr g ↦ (g.calm checked).unlocked
@@ -154,14 +154,14 @@ module _ (c : Config) (d : Directive) (base : ℕ) (w : World) (k : Steady c w) 
 
   -- ---- the event that confirms
 
-  confirmed_by : (e : Directive) (r : Result (Option Alert) CopFault) → w.session.confirmed ≡ false → (session_after w e r).confirmed ≡ false
+  confirmed_by : (e : Directive) (r : Result (Option Alert) CopFault) → w.session.confirmed ≡ false → (session_after_directive w e r).confirmed ≡ false
   confirmed_by e (Err fault) not_yet = not_yet
-  confirmed_by e (Ok alert) not_yet = cond_both (is_initiation e) (begun_by w e) w.session (λ s. s.confirmed ≡ false) (λ t. refl) (λ t. not_yet)
+  confirmed_by e (Ok alert) not_yet = cond_both (is_initiation e) (session_begun_by w e) w.session (λ s. s.confirmed ≡ false) (λ t. refl) (λ t. not_yet)
 
-  exactly : (g : Begun c d base w) (e : Event) → w.session.confirmed ≡ false → (world_step w e).after.session.confirmed ≡ true → ((world_step w e).after.craft.farm.vr ≡ (world_step w e).after.station.fop.vs) × ((world_step w e).after.station.fop.nn ≡ (world_step w e).after.station.fop.vs)
+  exactly : (g : Begun c d base w) (e : Event) → w.session.confirmed ≡ false → (world_step w e).after.session.confirmed ≡ true → ((world_step w e).after.spacecraft.farm.vr ≡ (world_step w e).after.ground_node.fop.vs) × ((world_step w e).after.ground_node.fop.nn ≡ (world_step w e).after.ground_node.fop.vs)
   exactly g (events.Submit m octets) not_yet now = absurd cc
   exactly g (events.Bypass m octets) not_yet now = absurd cc
-  exactly g (events.Directive e) not_yet now = absurd (cc (confirmed_by e (directed_by w.station (directed_fop w.station.fop e)).answer not_yet, now))
+  exactly g (events.Directive e) not_yet now = absurd (cc (confirmed_by e (directive_outcome w.ground_node (directed_fop w.ground_node.fop e)).answer not_yet, now))
   exactly g events.Send not_yet now = absurd (cc ((early_send c d base w k g).early.confirmed_not, now))
   exactly g events.UpDeliver not_yet now = absurd (cc ((early_up_deliver c d base w k g).early.confirmed_not, now))
   exactly g events.UpLose not_yet now = absurd (cc ((early_up_lose c d base w k g).early.confirmed_not, now))
@@ -209,8 +209,8 @@ module _ (c : Config) (w : World) (k : Sound c w) (s : Clean c w) (checking : Is
 
   pub has_no_false_alarm : (e : Event) → IsEvent e → HasNoFalseAlarm w e
   has_no_false_alarm e fits = record {
-    not_locked = λ other. state_by (world_step w e).after.craft.farm (step_sound c w k e fits).craft.farm.flags (not_locked c s.directive s.base w (steady_of c w k) checked s.session e (flag_of w.craft.farm k.craft.farm.flags other));
-    unlocked = λ confirmed. state_by w.craft.farm k.craft.farm.flags (unlocked c s.directive s.base w (steady_of c w k) checked s.session confirmed);
+    not_locked = λ other. state_by (world_step w e).after.spacecraft.farm (step_sound c w k e fits).spacecraft.farm.flags (not_locked c s.directive s.base w (steady_of c w k) checked s.session e (flag_of w.spacecraft.farm k.spacecraft.farm.flags other));
+    unlocked = λ confirmed. state_by w.spacecraft.farm k.spacecraft.farm.flags (unlocked c s.directive s.base w (steady_of c w k) checked s.session confirmed);
     alerts = λ alert is. cause c s.directive s.base w (steady_of c w k) checked s.session e alert is;
   }
 

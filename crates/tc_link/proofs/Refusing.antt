@@ -10,52 +10,52 @@ use Rattle.tm_link.specs.Reading as telemetry_reading
 use Rattle.tc_link.specs.declared.event.Event.{Event}
 use Rattle.tc_link.specs.declared.event.Event.TheVariants as events
 use Rattle.tc_link.specs.Ground.{GroundState, ground_step, Pull}
-use Rattle.tc_link.specs.World.{World, Outcome, world_step, after_pull, up_delivered, up_lost, up_detected, up_damaged, down_delivered, down_lost, down_detected, down_damaged}
+use Rattle.tc_link.specs.World.{World, WorldOutcome, world_step, world_after_pull, up_deliver_step, up_lose_step, up_damage_outcome, up_damage_step, down_deliver_step, down_lose_step, down_damage_outcome, down_damage_step}
 
-abbrev Keeps : World → Outcome → Type 0
+abbrev Keeps : World → WorldOutcome → Type 0
 Keeps w o = IfErr o.answer (λ _. o.after ≡ w)
 
-pull_keeps : (w : World) (after : GroundState) (answer : Option FrameView) → Keeps w (after_pull w after answer)
+pull_keeps : (w : World) (after : GroundState) (answer : Option FrameView) → Keeps w (world_after_pull w after answer)
 pull_keeps w after None = tt
 pull_keeps w after (Some frame) = tt
 
-up_keeps : (w : World) (up : List (List ℕ)) → Keeps w (up_delivered w up)
+up_keeps : (w : World) (up : List (List ℕ)) → Keeps w (up_deliver_step w up)
 up_keeps w [] = refl
 up_keeps w (octets ∷ up) = tt
 
-up_loss_keeps : (w : World) (up : List (List ℕ)) → Keeps w (up_lost w up)
+up_loss_keeps : (w : World) (up : List (List ℕ)) → Keeps w (up_lose_step w up)
 up_loss_keeps w [] = refl
 up_loss_keeps w (octets ∷ up) = tt
 
-up_seen_keeps : (w : World) (up : List (List ℕ)) (r : Result FrameView TcFault) → Keeps w (up_detected w up r)
+up_seen_keeps : (w : World) (up : List (List ℕ)) (r : Result FrameView TcFault) → Keeps w (up_damage_outcome w up r)
 up_seen_keeps w up (Ok frame) = refl
 up_seen_keeps w up (Err fault) = tt
 
-up_damage_keeps : (w : World) (up : List (List ℕ)) (damaged : List ℕ) → Keeps w (up_damaged w up damaged)
+up_damage_keeps : (w : World) (up : List (List ℕ)) (damaged : List ℕ) → Keeps w (up_damage_step w up damaged)
 up_damage_keeps w [] damaged = refl
 up_damage_keeps w (octets ∷ up) damaged = up_seen_keeps w up (command.frame_at On damaged)
 
-down_keeps : (w : World) (down : List (List ℕ)) → Keeps w (down_delivered w down)
+down_keeps : (w : World) (down : List (List ℕ)) → Keeps w (down_deliver_step w down)
 down_keeps w [] = refl
 down_keeps w (octets ∷ down) = tt
 
-down_loss_keeps : (w : World) (down : List (List ℕ)) → Keeps w (down_lost w down)
+down_loss_keeps : (w : World) (down : List (List ℕ)) → Keeps w (down_lose_step w down)
 down_loss_keeps w [] = refl
 down_loss_keeps w (octets ∷ down) = tt
 
-down_seen_keeps : (w : World) (down : List (List ℕ)) (r : Result telemetry.FrameView TmFault) → Keeps w (down_detected w down r)
+down_seen_keeps : (w : World) (down : List (List ℕ)) (r : Result telemetry.FrameView TmFault) → Keeps w (down_damage_outcome w down r)
 down_seen_keeps w down (Ok frame) = refl
 down_seen_keeps w down (Err fault) = tt
 
-down_damage_keeps : (w : World) (down : List (List ℕ)) (damaged : List ℕ) → Keeps w (down_damaged w down damaged)
+down_damage_keeps : (w : World) (down : List (List ℕ)) (damaged : List ℕ) → Keeps w (down_damage_step w down damaged)
 down_damage_keeps w [] damaged = refl
-down_damage_keeps w (octets ∷ down) damaged = down_seen_keeps w down (telemetry_reading.frame_at w.station.config.frame_length damaged)
+down_damage_keeps w (octets ∷ down) damaged = down_seen_keeps w down (telemetry_reading.frame_at w.ground_node.config.frame_length damaged)
 
 pub refused_keeps : (w : World) (event : Event) → IfErr (world_step w event).answer (λ _. (world_step w event).after ≡ w)
 refused_keeps w (events.Submit m octets) = tt
 refused_keeps w (events.Bypass m octets) = tt
 refused_keeps w (events.Directive directive) = tt
-refused_keeps w events.Send = pull_keeps w (ground_step w.station Pull).after (ground_step w.station Pull).answer
+refused_keeps w events.Send = pull_keeps w (ground_step w.ground_node Pull).after (ground_step w.ground_node Pull).answer
 refused_keeps w events.UpDeliver = up_keeps w w.up
 refused_keeps w events.UpLose = up_loss_keeps w w.up
 refused_keeps w (events.UpDamage octets) = up_damage_keeps w w.up octets.now

@@ -11,8 +11,8 @@ use Rattle.cop1.specs.declared.fop.Alert.{Alert}
 use Rattle.cop1.specs.declared.fop.Alert.TheVariants.{Lockout, NnR, Clcw as ClcwAlert, Synch, Limit, Timer, Terminated}
 use Rattle.cop1.specs.FopState.{FopState}
 use Rattle.cop1.specs.FopNext.{units_of}
-use Rattle.cop1.specs.FopReport.{locks, waits, asks, report_while_active, nothing_new, moved_on, goes_back, repeated_below, same_again, goes_back_again, counting_from}
-use Rattle.cop1.specs.FopWords.{Outcome, is_outside, acknowledged, repeated, alerts, goes_on, after_gone}
+use Rattle.cop1.specs.FopReport.{locks, waits, asks, report_while_active, nothing_new, after_move_on as moved_on, goes_back, retransmits, ask_for_all, goes_back_again, after_new_value as counting_from}
+use Rattle.cop1.specs.FopWords.{FopOutcome as Outcome, is_outside, after_acknowledge as acknowledged, after_repeat as repeated, alerts, goes_on, after_gone}
 use Rattle.tc_link.specs.Ground.{is_closed}
 use Rattle.tc_link.proofs.Queue.{units-marked, units-drop}
 use Rattle.tc_link.proofs.Transit.{bit}
@@ -121,7 +121,7 @@ module _ (base h : ℕ) (checked : Type 0) (s : FopState SegmentView) (a n : ℕ
   nothing_led S5 is runs plain same = elim runs [ ]
   nothing_led S6 is runs plain same = elim runs [ ]
 
-  again_led : asks c ≡ true → Led base checked s a c v (goes_on (record (repeated_below s) { state = S2 }))
+  again_led : asks c ≡ true → Led base checked s a c v (goes_on (retransmits s (nat_lt s.count s.limit)))
   again_led asking =
       let rank_is : checked → 2 * a + 1 ≤ 2 * v + bit (asks c) = λ t. rw asking (omega (arith, k.low)) in
       cond_both (nat_lt s.count s.limit) (repeated s) s (λ (f : FopState SegmentView). Led base checked s a c v (goes_on (record f { state = S2 })))
@@ -176,7 +176,7 @@ module _ (base h : ℕ) (checked : Type 0) (s : FopState SegmentView) (a n : ℕ
       (λ t. gone_led (record (counting_from s c.value) { state = S3 }) refl refl tt refl refl refl (rw asking (omega arith)))
       (λ f. gone_led (record (repeated (counting_from s c.value)) { state = S2 }) refl refl tt refl (units-marked (drop (ahead_by c.value s.nn) s.sent)) refl (rw asking (omega arith))))
 
-  same_again_led : IsRunning s.state → asks c ≡ true → Led base checked s a c v (same_again s (waits c))
+  same_again_led : IsRunning s.state → asks c ≡ true → Led base checked s a c v (ask_for_all s (waits c))
   same_again_led runs asking =
       cond_both (s.limit == 1) (alerts s Limit) _ (Led base checked s a c v)
       (λ t. alert_led Limit (λ is. (asking, eqb-true _ _ t)))

@@ -18,14 +18,14 @@ use Rattle.cop1.specs.declared.fop.FopMode.TheVariants.{S1, S2, S3, S4, S5, S6}
 use Rattle.cop1.specs.Farm.{FarmState, FarmEvent, AdArrives, BdArrives, UnlockArrives, SetVrArrives, InvalidArrives, BufferReleased, farm_step, after_verdict, after_unlock, after_set_vr, after_release, verdict_of}
 use Rattle.cop1.specs.FarmRuns.{FlagsAgree}
 use Rattle.cop1.proofs.Agreeing.{FlagsAgree-step}
-use Rattle.cop1.specs.FopPull.{NothingPulled, SequencePulled, pulls, pulled as pulled_fop, pulled_control, pulled_bypass, pulled_in, pulled_marked, pulled_waiting, oldest_marked, without_oldest_mark, sent_first}
-use Rattle.cop1.specs.FopReport.{locks, waits, asks, reported as heard_by, report_in, report_while_active, report_in_S4, confirms as confirms_by, nothing_new, moved_on, goes_back, repeated_below, goes_back_again, counting_from}
+use Rattle.cop1.specs.FopPull.{NothingPulled, SequencePulled, pulls, pull_step as pulled_fop, pull_control as pulled_control, pull_bypass as pulled_bypass, pull_in as pulled_in, pull_marked as pulled_marked, pull_waiting as pulled_waiting, oldest_marked, without_oldest_mark, sent_first}
+use Rattle.cop1.specs.FopReport.{locks, waits, asks, clcw_step as heard_by, report_in, report_while_active, report_in_S4, confirms as confirms_by, nothing_new, after_move_on as moved_on, goes_back, retransmits, goes_back_again, after_new_value as counting_from}
 use Rattle.cop1.specs.FopState.{FopState}
-use Rattle.cop1.specs.FopTick.{ticked as ticked_fop, ticked_with, timer_ended, counted, due_again}
-use Rattle.cop1.specs.FopWords.{Outcome, is_outside, acknowledged, repeated, given_up, stopped, restarted, alerts, goes_on, after_gone}
+use Rattle.cop1.specs.FopTick.{tick_step as ticked_fop, tick_with as ticked_with, timer_ended, after_count as counted, due_again}
+use Rattle.cop1.specs.FopWords.{FopOutcome as Outcome, is_outside, after_acknowledge as acknowledged, after_repeat as repeated, after_alert as given_up, after_stop as stopped, after_restart as restarted, alerts, goes_on, after_gone}
 use Rattle.tc_link.specs.declared.config.Config.{Config}
 use Rattle.tc_link.specs.OwnedFields.{FitsFrame}
-use Rattle.tc_link.specs.Ground.{GroundState, is_closed, settled}
+use Rattle.tc_link.specs.Ground.{GroundState, is_closed, settle_step}
 use Rattle.tc_link.proofs.Linked.{Commanded}
 use Rattle.tc_link.proofs.Settled.{settled_keeps}
 
@@ -64,7 +64,7 @@ module _ (c : Config) (s : FopState SegmentView) (k : FopSteady c s) where
   -- ---- a report
 
   module _ (r : Clcw) (idle : s.control ≡ Idle) where
-    again_so : FopSteady c (record (repeated_below s) { state = S2 })
+    again_so : FopSteady c (retransmits s (nat_lt s.count s.limit))
     again_so = cond_both (nat_lt s.count s.limit) (repeated s) s (λ (f : FopState SegmentView). FopSteady c (record f { state = S2 })) (λ t. goes_so (record (repeated s) { state = S2 }) refl refl refl refl refl idle) (λ t. goes_so (record s { state = S2 }) refl refl refl refl refl idle)
 
     back_again_so : (m : FopMode) → FopSteady c (goes_back_again s m)
@@ -194,13 +194,13 @@ module _ (c : Config) (s : FopState SegmentView) (k : FopSteady c s) where
 
 -- ---- the ground
 
-pub record StationSteady (c : Config) (s : GroundState) : Type 0 where
+pub record GroundNodeSteady (c : Config) (s : GroundState) : Type 0 where
   pub config : s.config ≡ c
   pub fop : FopSteady c s.fop
   pub pending_none : is_closed s.fop.state ≡ true → s.pending ≡ []
 
-pub settled_so : (c : Config) (s : GroundState) → s.config ≡ c → FopSteady c s.fop → StationSteady c (settled s)
-settled_so c s is k = settled_keeps (StationSteady c) s (λ waiting pending on off.
+pub settled_so : (c : Config) (s : GroundState) → s.config ≡ c → FopSteady c s.fop → GroundNodeSteady c (settle_step s)
+settled_so c s is k = settled_keeps (GroundNodeSteady c) s (λ waiting pending on off.
     let waiting_none : is_closed s.fop.state ≡ true → waiting ≡ None = λ e. (off e).0 ∙ k.waiting_none e in
     let fop : FopSteady c (record s.fop { waiting = waiting }) = assumption (waiting_none, k) in
     record { config = is; fop = fop; pending_none = λ e. (off e).1 })

@@ -24,12 +24,12 @@ use Rattle.cop1.specs.declared.fop.Directive.TheVariants.{InitWithoutCheck, Init
 use Rattle.cop1.specs.declared.fop.FopMode.{FopMode}
 use Rattle.cop1.specs.declared.fop.FopMode.TheVariants.{S1, S2, S3, S4, S5, S6}
 use Rattle.cop1.specs.Farm.{FarmState, AdArrives, BdArrives, BufferReleased, farm_step, verdict_of}
-use Rattle.cop1.specs.FopDirective.{obeys, refuses, from_S6, terminated, begun, directed as directed_fop}
-use Rattle.cop1.specs.FopPull.{pulled as pulled_fop}
-use Rattle.cop1.specs.FopReport.{reported as heard_by}
+use Rattle.cop1.specs.FopDirective.{obeys, refuses, from_S6, terminate_in as terminated, after_begin as begun, directive_step as directed_fop}
+use Rattle.cop1.specs.FopPull.{pull_step as pulled_fop}
+use Rattle.cop1.specs.FopReport.{clcw_step as heard_by}
 use Rattle.cop1.specs.FopState.{FopState}
-use Rattle.cop1.specs.FopTick.{ticked as ticked_fop}
-use Rattle.cop1.specs.FopWords.{Outcome, given_up, restarted}
+use Rattle.cop1.specs.FopTick.{tick_step as ticked_fop}
+use Rattle.cop1.specs.FopWords.{FopOutcome as Outcome, after_alert as given_up, after_restart as restarted}
 use Rattle.tm_link.specs.Building.{BuilderState, is_to_send, sent, data_size, is_at_rest, room_left, idle_after}
 use Rattle.tm_link.specs.declared.fault.TmFault.{TmFault}
 use Rattle.tm_link.specs.Extraction.{Extracted, extract_step}
@@ -40,22 +40,22 @@ use Rattle.tc_link.specs.declared.event.Event.{Event}
 use Rattle.tc_link.specs.declared.event.Event.TheVariants as events
 use Rattle.tc_link.specs.declared.fault.LinkFault.{LinkFault}
 use Rattle.tc_link.specs.declared.heard.Heard.{Heard}
-use Rattle.tc_link.specs.CraftFields.{IsBuilderOf}
-use Rattle.tc_link.specs.Keeping.{is_kept}
+use Rattle.tc_link.specs.SpacecraftFields.{IsBuilderOf}
+use Rattle.tc_link.specs.BypassSegments.{is_kept}
 use Rattle.tc_link.specs.OwnedFields.{FitsFrame}
 use Rattle.tc_link.specs.Packets.{PacketOn}
 use Rattle.tc_link.specs.Parameters.{IsConfig, limits_of}
-use Rattle.tc_link.specs.Craft.{CraftState, CraftOutcome, reported, frame_arrived, body_arrived, sequence_arrived, bypass_arrived, command_event, is_free, is_own, taken, bypass_taken, telemetry_queued}
-use Rattle.tc_link.specs.Ground.{GroundState, is_closed, unsent, settled, with_fop, frame_pulled, directed_by, submit_fault, submitted, bypass_fault, bypassed, unless, after_extraction, heard, telemetry_arrived, frame_heard}
+use Rattle.tc_link.specs.Spacecraft.{SpacecraftState, SpacecraftOutcome, spacecraft_report, frame_outcome, body_outcome, sequence_outcome, bypass_outcome, command_event, is_free, is_own_frame, spacecraft_take, spacecraft_take_bypass, spacecraft_telemetry}
+use Rattle.tc_link.specs.Ground.{GroundState, is_closed, unsent_segments, settle_step, with_fop, frame_to_send, directive_outcome, submit_fault, after_submission, bypass_fault, after_bypass, unless_refused, after_extraction, ground_telemetry, telemetry_outcome, own_frame_outcome}
 use Rattle.tc_link.specs.Ground as ground
-use Rattle.tc_link.specs.World.{World, new_world, world_step, after_pull, up_delivered, up_lost, up_detected, up_damaged, down_delivered, down_lost, down_detected, down_damaged, session_after, is_initiation}
+use Rattle.tc_link.specs.World.{World, new_world, world_step, world_after_pull, up_deliver_step, up_lose_step, up_damage_outcome, up_damage_step, down_deliver_step, down_lose_step, down_damage_outcome, down_damage_step, session_after_directive, is_initiation}
 use Rattle.tc_link.proofs.Submitting.{bypass_fits}
 use Rattle.tc_link.specs.Reached.{IsDirective, IsEvent}
 use Rattle.tc_link.proofs.Linked.{Steady, Commanded}
-use Rattle.tc_link.proofs.SteadyNodes.{FopSteady, StationSteady, FarmSteady, settled_so, farm_so, report_so, tick_so, pull_so, gives_up, goes_same, off_so}
+use Rattle.tc_link.proofs.SteadyNodes.{FopSteady, GroundNodeSteady, FarmSteady, settled_so, farm_so, report_so, tick_so, pull_so, gives_up, goes_same, off_so}
 use Rattle.tc_link.proofs.LateSubmitting.{all_push}
 
-pub record CraftSteady (c : Config) (s : CraftState) : Type 0 where
+pub record SpacecraftSteady (c : Config) (s : SpacecraftState) : Type 0 where
   pub config : s.config ≡ c
   pub farm : FarmSteady c s.farm
   pub builder : IsBuilderOf c s.builder
@@ -63,41 +63,41 @@ pub record CraftSteady (c : Config) (s : CraftState) : Type 0 where
 
 pub record Sound (c : Config) (w : World) : Type 0 where
   pub ranges : IsConfig c
-  pub station : StationSteady c w.station
-  pub craft : CraftSteady c w.craft
-  pub before : w.session.before ≤ length w.craft.accepted
+  pub ground_node : GroundNodeSteady c w.ground_node
+  pub spacecraft : SpacecraftSteady c w.spacecraft
+  pub before : w.session.before ≤ length w.spacecraft.accepted
 
-unsent_so : (c : Config) (s : GroundState) → StationSteady c s → is_closed s.fop.state ≡ true → unsent s ≡ []
+unsent_so : (c : Config) (s : GroundState) → GroundNodeSteady c s → is_closed s.fop.state ≡ true → unsent_segments s ≡ []
 unsent_so c s k off = rw (k.fop.waiting_none off, k.pending_none off) refl
 
 pub steady_of : (c : Config) (w : World) → Sound c w → Steady c w
 steady_of c w k = record {
   ranges = k.ranges;
-  station_config = k.station.config;
-  craft_config = k.craft.config;
-  width = k.craft.farm.width;
-  farm_b = k.craft.farm.farm_b;
-  flags = k.craft.farm.flags;
-  room = k.station.fop.room;
-  window = k.station.fop.window;
-  vs_octet = k.station.fop.vs_octet;
-  unsent_none = unsent_so c w.station k.station;
-  sent_none = k.station.fop.sent_none;
-  commanded = k.station.fop.commanded;
-  bypass_fits = k.station.fop.bypass_fits;
+  ground_config = k.ground_node.config;
+  spacecraft_config = k.spacecraft.config;
+  width = k.spacecraft.farm.width;
+  farm_b = k.spacecraft.farm.farm_b;
+  flags = k.spacecraft.farm.flags;
+  room = k.ground_node.fop.room;
+  window = k.ground_node.fop.window;
+  vs_octet = k.ground_node.fop.vs_octet;
+  unsent_none = unsent_so c w.ground_node k.ground_node;
+  sent_none = k.ground_node.fop.sent_none;
+  commanded = k.ground_node.fop.commanded;
+  bypass_fits = k.ground_node.fop.bypass_fits;
   before = k.before;
-  builder = k.craft.builder;
-  idle_left = k.craft.idle_left;
+  builder = k.spacecraft.builder;
+  idle_left = k.spacecraft.idle_left;
 }
 
 -- ---- the spacecraft
 
-record Grows (c : Config) (s t : CraftState) : Type 0 where
-  steady : CraftSteady c t
+record Grows (c : Config) (s t : SpacecraftState) : Type 0 where
+  steady : SpacecraftSteady c t
   accepted : length s.accepted ≤ length t.accepted
 
-module _ (c : Config) (s : CraftState) (k : CraftSteady c s) where
-  sequence_so : (n : ℕ) (u : SegmentView) (v : Verdict) → Grows c s (sequence_arrived s n u v).after
+module _ (c : Config) (s : SpacecraftState) (k : SpacecraftSteady c s) where
+  sequence_so : (n : ℕ) (u : SegmentView) (v : Verdict) → Grows c s (sequence_outcome s n u v).after
   sequence_so n u Accepted = record { steady = record { config = k.config; farm = farm_so c s.farm (AdArrives n (is_free s)) k.farm; builder = k.builder; idle_left = k.idle_left }; accepted = omega (arith, length-append s.accepted (u ∷ [])) }
   sequence_so n u Ahead = record { steady = record { config = k.config; farm = farm_so c s.farm (AdArrives n (is_free s)) k.farm; builder = k.builder; idle_left = k.idle_left }; accepted = omega arith }
   sequence_so n u NoBuffer = record { steady = record { config = k.config; farm = farm_so c s.farm (AdArrives n (is_free s)) k.farm; builder = k.builder; idle_left = k.idle_left }; accepted = omega arith }
@@ -105,49 +105,49 @@ module _ (c : Config) (s : CraftState) (k : CraftSteady c s) where
   sequence_so n u Outside = record { steady = record { config = k.config; farm = farm_so c s.farm (AdArrives n (is_free s)) k.farm; builder = k.builder; idle_left = k.idle_left }; accepted = omega arith }
   sequence_so n u Discarded = record { steady = record { config = k.config; farm = farm_so c s.farm (AdArrives n (is_free s)) k.farm; builder = k.builder; idle_left = k.idle_left }; accepted = omega arith }
 
-  bypass_so : (u : SegmentView) (kept : Bool) → Grows c s (bypass_arrived s u kept).after
+  bypass_so : (u : SegmentView) (kept : Bool) → Grows c s (bypass_outcome s u kept).after
   bypass_so u true = record { steady = record { config = k.config; farm = farm_so c s.farm BdArrives k.farm; builder = k.builder; idle_left = k.idle_left }; accepted = omega arith }
   bypass_so u false = record { steady = record { config = k.config; farm = farm_so c s.farm BdArrives k.farm; builder = k.builder; idle_left = k.idle_left }; accepted = omega arith }
 
-  body_so : (f : BodyView) → Grows c s (body_arrived s f).after
+  body_so : (f : BodyView) → Grows c s (body_outcome s f).after
   body_so (Ad n u) = sequence_so n u (verdict_of s.farm n (is_free s))
   body_so (Bd u) = bypass_so u (is_kept (limits_of s.config) u)
   body_so (Bc command) = record { steady = record { config = k.config; farm = farm_so c s.farm (command_event command) k.farm; builder = k.builder; idle_left = k.idle_left }; accepted = omega arith }
 
-  arrived_so : (r : Result FrameView TcFault) → Grows c s (frame_arrived s r).after
+  arrived_so : (r : Result FrameView TcFault) → Grows c s (frame_outcome s r).after
   arrived_so (Err fault) = record { steady = k; accepted = omega arith }
-  arrived_so (Ok frame) = cond_both (is_own s.config frame) (body_arrived s frame.body) _ (λ o. Grows c s o.after) (λ t. body_so frame.body) (λ t. record { steady = k; accepted = omega arith })
+  arrived_so (Ok frame) = cond_both (is_own_frame s.config frame) (body_outcome s frame.body) _ (λ o. Grows c s o.after) (λ t. body_so frame.body) (λ t. record { steady = k; accepted = omega arith })
 
-  taken_so : (ps : List PacketOn) → CraftSteady c (taken s ps).after
+  taken_so : (ps : List PacketOn) → SpacecraftSteady c (spacecraft_take s ps).after
   taken_so [] = k
-  taken_so (p ∷ left) = cond_both (nat_lt (length left) s.config.ready_slots) (farm_step s.farm BufferReleased) s.farm (λ (farm : FarmState). CraftSteady c (record s { ready = left; farm = farm }))
+  taken_so (p ∷ left) = cond_both (nat_lt (length left) s.config.ready_slots) (farm_step s.farm BufferReleased) s.farm (λ (farm : FarmState). SpacecraftSteady c (record s { ready = left; farm = farm }))
       (λ t. record { config = k.config; farm = farm_so c s.farm BufferReleased k.farm; builder = k.builder; idle_left = k.idle_left }) (λ t. record { config = k.config; farm = k.farm; builder = k.builder; idle_left = k.idle_left })
 
-  bypass_taken_so : (ps : List PacketOn) → CraftSteady c (bypass_taken s ps).after
+  bypass_taken_so : (ps : List PacketOn) → SpacecraftSteady c (spacecraft_take_bypass s ps).after
   bypass_taken_so [] = k
   bypass_taken_so (p ∷ left) = record { config = k.config; farm = k.farm; builder = k.builder; idle_left = k.idle_left }
 
-  queued_so : (octets : List ℕ) → CraftSteady c (telemetry_queued s octets).after
-  queued_so octets = cond_both (is_to_send octets) _ _ (λ (o : CraftOutcome (Result (Unit {0}) TmFault)). CraftSteady c o.after) (λ t. record { config = k.config; farm = k.farm; builder = record { scid = k.builder.scid; vcid = k.builder.vcid; total = k.builder.total }; idle_left = k.idle_left }) (λ t. k)
+  queued_so : (octets : List ℕ) → SpacecraftSteady c (spacecraft_telemetry s octets).after
+  queued_so octets = cond_both (is_to_send octets) _ _ (λ (o : SpacecraftOutcome (Result (Unit {0}) TmFault)). SpacecraftSteady c o.after) (λ t. record { config = k.config; farm = k.farm; builder = record { scid = k.builder.scid; vcid = k.builder.vcid; total = k.builder.total }; idle_left = k.idle_left }) (λ t. k)
 
   idle_so : (size left count : ℕ) → left ≤ 6 → idle_after size left count ≤ 6
   idle_so size left count least = cond_both (room_left size left count == 0) (left - size) (7 - room_left size left count) (λ (n : ℕ). n ≤ 6) (λ t. omega (arith, least)) (λ t. omega (arith, eqb-false _ _ t))
 
-  reported_so : CraftSteady c (reported s).after
+  reported_so : SpacecraftSteady c (spacecraft_report s).after
   reported_so =
       let b : BuilderState = s.builder in
-      cond_both (is_at_rest b) b (sent b (data_size b)) (λ (t : BuilderState). CraftSteady c (record s { builder = record t { count = (t.count + 1) % 256 } }))
+      cond_both (is_at_rest b) b (sent b (data_size b)) (λ (t : BuilderState). SpacecraftSteady c (record s { builder = record t { count = (t.count + 1) % 256 } }))
       (λ t. record { config = k.config; farm = k.farm; builder = record { scid = k.builder.scid; vcid = k.builder.vcid; total = k.builder.total }; idle_left = k.idle_left })
       (λ t. record { config = k.config; farm = k.farm; builder = record { scid = k.builder.scid; vcid = k.builder.vcid; total = k.builder.total }; idle_left = idle_so (data_size b) b.idle_left (length b.pending) k.idle_left })
 
 -- ---- the ground
 
-module _ (c : Config) (s : GroundState) (k : StationSteady c s) where
-  with_so : (f : FopState SegmentView) → FopSteady c f → StationSteady c (with_fop s f)
+module _ (c : Config) (s : GroundState) (k : GroundNodeSteady c s) where
+  with_so : (f : FopState SegmentView) → FopSteady c f → GroundNodeSteady c (with_fop s f)
   with_so f so = settled_so c (record s { fop = f }) k.config so
 
   abbrev Directed : Outcome SegmentView (Result (Option Alert) CopFault) → Type 0
-  Directed o = StationSteady c (directed_by s o).after
+  Directed o = GroundNodeSteady c (directive_outcome s o).after
 
   from_so : (next : FopState SegmentView) → (s.fop.state ≡ S6 → FopSteady c next) → (m : FopMode) → s.fop.state ≡ m → Directed (from_S6 s.fop m next)
   from_so next so S1 is = k
@@ -185,11 +185,11 @@ module _ (c : Config) (s : GroundState) (k : StationSteady c s) where
   directive_so (SetLimit n) fits = cond_both (n == 0) (refuses s.fop faults.Limit) (obeys (record s.fop { limit = n })) (λ o. Directed o) (λ t. k) (λ t. with_so (record s.fop { limit = n }) (goes_same c s.fop k.fop (record s.fop { limit = n }) refl refl refl refl refl refl (λ e. refl) refl))
   directive_so (SetTimer n) fits = cond_both (n == 0) (refuses s.fop faults.Timer) (obeys (record s.fop { timer = n })) (λ o. Directed o) (λ t. k) (λ t. with_so (record s.fop { timer = n }) (goes_same c s.fop k.fop (record s.fop { timer = n }) refl refl refl refl refl refl (λ e. refl) refl))
 
-  submitted_so : (m : ℕ) (octets : List ℕ) (o : Option LinkFault) → StationSteady c (unless o s (submitted s m octets)).after
+  submitted_so : (m : ℕ) (octets : List ℕ) (o : Option LinkFault) → GroundNodeSteady c (unless_refused o s (after_submission s m octets)).after
   submitted_so m octets (Some fault) = k
   submitted_so m octets None = settled_so c (record s { pending = s.pending ++ ground.segments_on s m octets }) k.config k.fop
 
-  bypassed_so : IsConfig c → (m : ℕ) (octets : List ℕ) (o : Option LinkFault) → bypass_fault s m octets ≡ o → StationSteady c (unless o s (bypassed s m octets)).after
+  bypassed_so : IsConfig c → (m : ℕ) (octets : List ℕ) (o : Option LinkFault) → bypass_fault s m octets ≡ o → GroundNodeSteady c (unless_refused o s (after_bypass s m octets)).after
   bypassed_so ranges m octets (Some fault) is = k
   bypassed_so ranges m octets None is =
       let own : IsConfig s.config = rw k.config ranges in
@@ -197,104 +197,104 @@ module _ (c : Config) (s : GroundState) (k : StationSteady c s) where
       let f = k.fop in
       record { config = k.config; fop = record { room = f.room; window = f.window; vs_octet = f.vs_octet; sent_none = f.sent_none; waiting_none = f.waiting_none; commanded = f.commanded; bypass_fits = fits }; pending_none = k.pending_none }
 
-  extracted_so : (x : Extracted) → StationSteady c (after_extraction s x)
+  extracted_so : (x : Extracted) → GroundNodeSteady c (after_extraction s x)
   extracted_so x = record { config = k.config; fop = k.fop; pending_none = k.pending_none }
 
-  word_so : (x : Extracted) (r : Result Clcw ClcwFault) → StationSteady c (frame_heard s x r).after
+  word_so : (x : Extracted) (r : Result Clcw ClcwFault) → GroundNodeSteady c (own_frame_outcome s x r).after
   word_so x (Err fault) = extracted_so x
-  word_so x (Ok report) = cond_both (report.vcid == s.config.vcid) _ _ (λ (o : ground.GroundOutcome Heard). StationSteady c o.after)
+  word_so x (Ok report) = cond_both (report.vcid == s.config.vcid) _ _ (λ (o : ground.GroundOutcome Heard). GroundNodeSteady c o.after)
       (λ t. settled_so c (record (after_extraction s x) { fop = (heard_by s.fop report).after }) k.config (report_so c s.fop k.fop report)) (λ t. extracted_so x)
 
-  telemetry_so : (r : Result telemetry.FrameView TmFault) → StationSteady c (telemetry_arrived s r).after
+  telemetry_so : (r : Result telemetry.FrameView TmFault) → GroundNodeSteady c (telemetry_outcome s r).after
   telemetry_so (Err fault) = k
-  telemetry_so (Ok frame) = cond_both (ground.is_own s.config frame) _ _ (λ (o : ground.GroundOutcome Heard). StationSteady c o.after) (λ t. word_so (extract_step s.extractor frame) (clcw_at frame.ocf)) (λ t. k)
+  telemetry_so (Ok frame) = cond_both (ground.is_own_telemetry s.config frame) _ _ (λ (o : ground.GroundOutcome Heard). GroundNodeSteady c o.after) (λ t. word_so (extract_step s.extractor frame) (clcw_at frame.ocf)) (λ t. k)
 
 -- ---- the world
 
 module _ (c : Config) (w : World) (k : Sound c w) where
-  ground_so : (station : GroundState) → StationSteady c station → Sound c (record w { station = station })
-  ground_so station so = record { ranges = k.ranges; station = so; craft = k.craft; before = k.before }
+  ground_so : (ground_node : GroundState) → GroundNodeSteady c ground_node → Sound c (record w { ground_node = ground_node })
+  ground_so ground_node so = record { ranges = k.ranges; ground_node = so; spacecraft = k.spacecraft; before = k.before }
 
-  craft_so : (craft : CraftState) → CraftSteady c craft → craft.accepted ≡ w.craft.accepted → Sound c (record w { craft = craft })
-  craft_so craft so same = record { ranges = k.ranges; station = k.station; craft = so; before = rw same k.before }
+  spacecraft_so : (spacecraft : SpacecraftState) → SpacecraftSteady c spacecraft → spacecraft.accepted ≡ w.spacecraft.accepted → Sound c (record w { spacecraft = spacecraft })
+  spacecraft_so spacecraft so same = record { ranges = k.ranges; ground_node = k.ground_node; spacecraft = so; before = rw same k.before }
 
-  session_so : (d : Directive) (r : Result (Option Alert) CopFault) → (session_after w d r).before ≤ length w.craft.accepted
+  session_so : (d : Directive) (r : Result (Option Alert) CopFault) → (session_after_directive w d r).before ≤ length w.spacecraft.accepted
   session_so d (Err fault) = k.before
-  session_so d (Ok alert) = cond_both (is_initiation d) _ w.session (λ x. x.before ≤ length w.craft.accepted) (λ t. omega arith) (λ t. k.before)
+  session_so d (Ok alert) = cond_both (is_initiation d) _ w.session (λ x. x.before ≤ length w.spacecraft.accepted) (λ t. omega arith) (λ t. k.before)
 
-  pulled_so : (station : GroundState) → StationSteady c station → (frame : Option FrameView) → Sound c (after_pull w station frame).after
-  pulled_so station so None = record { ranges = k.ranges; station = so; craft = k.craft; before = k.before }
-  pulled_so station so (Some frame) = record { ranges = k.ranges; station = so; craft = k.craft; before = k.before }
+  pulled_so : (ground_node : GroundState) → GroundNodeSteady c ground_node → (frame : Option FrameView) → Sound c (world_after_pull w ground_node frame).after
+  pulled_so ground_node so None = record { ranges = k.ranges; ground_node = so; spacecraft = k.spacecraft; before = k.before }
+  pulled_so ground_node so (Some frame) = record { ranges = k.ranges; ground_node = so; spacecraft = k.spacecraft; before = k.before }
 
-  delivered_so : (bs : List (List ℕ)) → Sound c (up_delivered w bs).after
+  delivered_so : (bs : List (List ℕ)) → Sound c (up_deliver_step w bs).after
   delivered_so [] = k
-  delivered_so (b ∷ bs) = let t = arrived_so c w.craft k.craft (frame_at On b) in record { ranges = k.ranges; station = k.station; craft = t.steady; before = omega (arith, k.before, t.accepted) }
+  delivered_so (b ∷ bs) = let t = arrived_so c w.spacecraft k.spacecraft (frame_at On b) in record { ranges = k.ranges; ground_node = k.ground_node; spacecraft = t.steady; before = omega (arith, k.before, t.accepted) }
 
-  lost_so : (bs : List (List ℕ)) → Sound c (up_lost w bs).after
+  lost_so : (bs : List (List ℕ)) → Sound c (up_lose_step w bs).after
   lost_so [] = k
-  lost_so (b ∷ bs) = record { ranges = k.ranges; station = k.station; craft = k.craft; before = k.before }
+  lost_so (b ∷ bs) = record { ranges = k.ranges; ground_node = k.ground_node; spacecraft = k.spacecraft; before = k.before }
 
-  detected_so : (bs : List (List ℕ)) (r : Result FrameView TcFault) → Sound c (up_detected w bs r).after
+  detected_so : (bs : List (List ℕ)) (r : Result FrameView TcFault) → Sound c (up_damage_outcome w bs r).after
   detected_so bs (Ok frame) = k
-  detected_so bs (Err fault) = record { ranges = k.ranges; station = k.station; craft = k.craft; before = k.before }
+  detected_so bs (Err fault) = record { ranges = k.ranges; ground_node = k.ground_node; spacecraft = k.spacecraft; before = k.before }
 
-  damaged_so : (bs : List (List ℕ)) (octets : List ℕ) → Sound c (up_damaged w bs octets).after
+  damaged_so : (bs : List (List ℕ)) (octets : List ℕ) → Sound c (up_damage_step w bs octets).after
   damaged_so [] octets = k
   damaged_so (b ∷ bs) octets = detected_so bs (frame_at On octets)
 
-  heard_so : (bs : List (List ℕ)) → Sound c (down_delivered w bs).after
+  heard_so : (bs : List (List ℕ)) → Sound c (down_deliver_step w bs).after
   heard_so [] = k
-  heard_so (b ∷ bs) = record { ranges = k.ranges; station = telemetry_so c w.station k.station (telemetry_reading.frame_at w.station.config.frame_length b); craft = k.craft; before = k.before }
+  heard_so (b ∷ bs) = record { ranges = k.ranges; ground_node = telemetry_so c w.ground_node k.ground_node (telemetry_reading.frame_at w.ground_node.config.frame_length b); spacecraft = k.spacecraft; before = k.before }
 
-  down_lost_so : (bs : List (List ℕ)) → Sound c (down_lost w bs).after
+  down_lost_so : (bs : List (List ℕ)) → Sound c (down_lose_step w bs).after
   down_lost_so [] = k
-  down_lost_so (b ∷ bs) = record { ranges = k.ranges; station = k.station; craft = k.craft; before = k.before }
+  down_lost_so (b ∷ bs) = record { ranges = k.ranges; ground_node = k.ground_node; spacecraft = k.spacecraft; before = k.before }
 
-  down_detected_so : (bs : List (List ℕ)) (r : Result telemetry.FrameView TmFault) → Sound c (down_detected w bs r).after
+  down_detected_so : (bs : List (List ℕ)) (r : Result telemetry.FrameView TmFault) → Sound c (down_damage_outcome w bs r).after
   down_detected_so bs (Ok frame) = k
-  down_detected_so bs (Err fault) = record { ranges = k.ranges; station = k.station; craft = k.craft; before = k.before }
+  down_detected_so bs (Err fault) = record { ranges = k.ranges; ground_node = k.ground_node; spacecraft = k.spacecraft; before = k.before }
 
-  down_damaged_so : (bs : List (List ℕ)) (octets : List ℕ) → Sound c (down_damaged w bs octets).after
+  down_damaged_so : (bs : List (List ℕ)) (octets : List ℕ) → Sound c (down_damage_step w bs octets).after
   down_damaged_so [] octets = k
-  down_damaged_so (b ∷ bs) octets = down_detected_so bs (telemetry_reading.frame_at w.station.config.frame_length octets)
+  down_damaged_so (b ∷ bs) octets = down_detected_so bs (telemetry_reading.frame_at w.ground_node.config.frame_length octets)
 
-  taken_accepted : (ps : List PacketOn) → (taken w.craft ps).after.accepted ≡ w.craft.accepted
+  taken_accepted : (ps : List PacketOn) → (spacecraft_take w.spacecraft ps).after.accepted ≡ w.spacecraft.accepted
   taken_accepted [] = refl
   taken_accepted (p ∷ left) = refl
 
-  bypass_accepted : (ps : List PacketOn) → (bypass_taken w.craft ps).after.accepted ≡ w.craft.accepted
+  bypass_accepted : (ps : List PacketOn) → (spacecraft_take_bypass w.spacecraft ps).after.accepted ≡ w.spacecraft.accepted
   bypass_accepted [] = refl
   bypass_accepted (p ∷ left) = refl
 
-  queued_accepted : (octets : List ℕ) → (telemetry_queued w.craft octets).after.accepted ≡ w.craft.accepted
-  queued_accepted octets = cond_both (is_to_send octets) _ _ (λ (o : CraftOutcome (Result (Unit {0}) TmFault)). o.after.accepted ≡ w.craft.accepted) (λ t. refl) (λ t. refl)
+  queued_accepted : (octets : List ℕ) → (spacecraft_telemetry w.spacecraft octets).after.accepted ≡ w.spacecraft.accepted
+  queued_accepted octets = cond_both (is_to_send octets) _ _ (λ (o : SpacecraftOutcome (Result (Unit {0}) TmFault)). o.after.accepted ≡ w.spacecraft.accepted) (λ t. refl) (λ t. refl)
 
   pub step_sound : (e : Event) → IsEvent e → Sound c (world_step w e).after
-  step_sound (events.Submit m octets) fits = record { ranges = k.ranges; station = submitted_so c w.station k.station m octets.now (submit_fault w.station m octets.now); craft = k.craft; before = k.before }
-  step_sound (events.Bypass m octets) fits = ground_so (unless (bypass_fault w.station m octets.now) w.station (bypassed w.station m octets.now)).after (bypassed_so c w.station k.station k.ranges m octets.now (bypass_fault w.station m octets.now) refl)
-  step_sound (events.Directive d) fits = record { ranges = k.ranges; station = directive_so c w.station k.station d fits; craft = k.craft; before = session_so d (directed_by w.station (directed_fop w.station.fop d)).answer }
-  step_sound events.Send fits = pulled_so (with_fop w.station (pulled_fop w.station.fop).after) (with_so c w.station k.station (pulled_fop w.station.fop).after (pull_so c w.station.fop k.station.fop)) (frame_pulled w.station.config (pulled_fop w.station.fop).answer)
+  step_sound (events.Submit m octets) fits = record { ranges = k.ranges; ground_node = submitted_so c w.ground_node k.ground_node m octets.now (submit_fault w.ground_node m octets.now); spacecraft = k.spacecraft; before = k.before }
+  step_sound (events.Bypass m octets) fits = ground_so (unless_refused (bypass_fault w.ground_node m octets.now) w.ground_node (after_bypass w.ground_node m octets.now)).after (bypassed_so c w.ground_node k.ground_node k.ranges m octets.now (bypass_fault w.ground_node m octets.now) refl)
+  step_sound (events.Directive d) fits = record { ranges = k.ranges; ground_node = directive_so c w.ground_node k.ground_node d fits; spacecraft = k.spacecraft; before = session_so d (directive_outcome w.ground_node (directed_fop w.ground_node.fop d)).answer }
+  step_sound events.Send fits = pulled_so (with_fop w.ground_node (pulled_fop w.ground_node.fop).after) (with_so c w.ground_node k.ground_node (pulled_fop w.ground_node.fop).after (pull_so c w.ground_node.fop k.ground_node.fop)) (frame_to_send w.ground_node.config (pulled_fop w.ground_node.fop).answer)
   step_sound events.UpDeliver fits = delivered_so w.up
   step_sound events.UpLose fits = lost_so w.up
   step_sound (events.UpDamage octets) fits = damaged_so w.up octets.now
-  step_sound events.Report fits = record { ranges = k.ranges; station = k.station; craft = reported_so c w.craft k.craft; before = k.before }
+  step_sound events.Report fits = record { ranges = k.ranges; ground_node = k.ground_node; spacecraft = reported_so c w.spacecraft k.spacecraft; before = k.before }
   step_sound events.DownDeliver fits = heard_so w.down
   step_sound events.DownLose fits = down_lost_so w.down
   step_sound (events.DownDamage octets) fits = down_damaged_so w.down octets.now
-  step_sound events.Tick fits = ground_so (with_fop w.station (ticked_fop w.station.fop).after) (with_so c w.station k.station (ticked_fop w.station.fop).after (tick_so c w.station.fop k.station.fop))
-  step_sound events.Take fits = craft_so (taken w.craft w.craft.ready).after (taken_so c w.craft k.craft w.craft.ready) (taken_accepted w.craft.ready)
-  step_sound events.TakeBypass fits = craft_so (bypass_taken w.craft w.craft.bypass).after (bypass_taken_so c w.craft k.craft w.craft.bypass) (bypass_accepted w.craft.bypass)
-  step_sound (events.Telemetry octets) fits = craft_so (telemetry_queued w.craft octets.now).after (queued_so c w.craft k.craft octets.now) (queued_accepted octets.now)
+  step_sound events.Tick fits = ground_so (with_fop w.ground_node (ticked_fop w.ground_node.fop).after) (with_so c w.ground_node k.ground_node (ticked_fop w.ground_node.fop).after (tick_so c w.ground_node.fop k.ground_node.fop))
+  step_sound events.Take fits = spacecraft_so (spacecraft_take w.spacecraft w.spacecraft.ready).after (taken_so c w.spacecraft k.spacecraft w.spacecraft.ready) (taken_accepted w.spacecraft.ready)
+  step_sound events.TakeBypass fits = spacecraft_so (spacecraft_take_bypass w.spacecraft w.spacecraft.bypass).after (bypass_taken_so c w.spacecraft k.spacecraft w.spacecraft.bypass) (bypass_accepted w.spacecraft.bypass)
+  step_sound (events.Telemetry octets) fits = spacecraft_so (spacecraft_telemetry w.spacecraft octets.now).after (queued_so c w.spacecraft k.spacecraft octets.now) (queued_accepted octets.now)
 
 pub new_sound : (c : Config) → IsConfig c → Sound c (new_world c)
 new_sound c ranges = record {
   ranges = ranges;
-  station = record {
+  ground_node = record {
     config = refl;
     fop = record { room = refl; window = ranges.window.1; vs_octet = omega arith; sent_none = λ e. refl; waiting_none = λ e. refl; commanded = refl; bypass_fits = tt };
     pending_none = λ e. refl;
   };
-  craft = record {
+  spacecraft = record {
     config = refl;
     farm = record { width = refl; farm_b = omega arith; flags = record { asks = λ t. absurd cc; state = refl } };
     builder = record { scid = refl; vcid = refl; total = refl };

@@ -11,7 +11,7 @@ use Rattle.map_service.specs.Packets.{is_packet}
 use Rattle.map_service.specs.declared.limits.Limits.{Limits}
 use Rattle.map_service.proofs.Parts.{segments-parts}
 use Rattle.map_service.proofs.Passage.{one-from}
-use Rattle.map_service.proofs.Whole.{no_more}
+use Rattle.space_packet.proofs.WholePackets.{no_more}
 use Rattle.tc_link.specs.declared.fault.LinkFault.{LinkFault}
 use Rattle.tc_link.specs.Parameters.{IsConfig, limits_of}
 use Rattle.tc_link.specs.Ground.{GroundState, submit_fault, bypass_fault}

@@ -17,10 +17,11 @@ use Rattle.cop1.specs.declared.fop.FopMode.{FopMode}
 use Rattle.cop1.specs.declared.fop.FopMode.TheVariants.{S1, S2, S3, S4, S5, S6}
 use Rattle.tc_link.specs.declared.config.Config.{Config}
 use Rattle.tc_link.specs.declared.sim.opening.Opening.{Opening}
-use Rattle.tc_link.specs.Ground.{is_closed, unsent}
+use Rattle.tc_link.specs.Ground.{is_closed, unsent_segments}
 use Rattle.tc_link.specs.World.{World, directive_of}
 use Rattle.tc_link.specs.Confirmation.{LeavesVr, IsChecking, IsConfirmedExactly}
-use Rattle.tc_link.specs.InTransit.{number_in, command_in, in_frame, report_in, report_of_frame, report_carried, reports_down, IsInWindow, IsRising, IsActive, KeepsToWindow}
+use Rattle.cop1.specs.FopState.{IsActive}
+use Rattle.tc_link.specs.InTransit.{number_in, command_in, in_frame, report_in, report_of_frame, report_carried, reports_down, IsInWindow, IsRising, KeepsToWindow}
 use Rattle.tc_link.proofs.Beginning.{Clean}
 use Rattle.tc_link.proofs.Early.{Begun, IsEarly}
 use Rattle.tc_link.proofs.Linked.{Late, Carries, Tells, Reporting, Holds, Held}
@@ -70,7 +71,7 @@ reports_are c [] (r ∷ rs) h = elim h [ ]
 reports_are c (b ∷ bs) [] h = elim h [ ]
 reports_are c (b ∷ bs) (r ∷ rs) h = ap (λ xs. xs ++ flat_map (report_carried c) bs) (report_told c b r h.0) ∙ ap (λ xs. r ∷ xs) (reports_are c bs rs h.1)
 
-reports_of : (c : Config) (w : World) (rs : List Clcw) → w.station.config ≡ c → Reporting c w.down rs → reports_down w ≡ rs
+reports_of : (c : Config) (w : World) (rs : List Clcw) → w.ground_node.config ≡ c → Reporting c w.down rs → reports_down w ≡ rs
 reports_of c w rs is h = ap (λ (x : Config). flat_map (report_carried x) w.down) is ∙ reports_are c w.down rs h
 
 rising_in : (base nn a low r last most : ℕ) (rs : List Clcw) (vs : List ℕ) → nn ≡ (base + a) % 256 → last ≡ (base + r) % 256 → a ≤ low → r ≤ a + most → most ≤ 127 → DownIs base rs vs → Rises low vs r → IsRising nn (low - a) rs last
@@ -121,29 +122,29 @@ module _ (c : Config) (w : World) (k : Sound c w) (d : Directive) (base : ℕ) w
       let p = g.plain in
       let l = g.linked in
       let h : ℕ = c.width / 2 in
-      let half : w.craft.farm.width / 2 ≡ h = ap (λ x. x / 2) k.craft.farm.width in
-      let each : (i : ℕ) → p.r ≤ i + h → i < p.n → IsInWindow (w.craft.farm.width / 2) w.craft.farm.vr ((base + i) % 256) = λ i low high. rw half (elim (cases_lt i p.r) [
+      let half : w.spacecraft.farm.width / 2 ≡ h = ap (λ x. x / 2) k.spacecraft.farm.width in
+      let each : (i : ℕ) → p.r ≤ i + h → i < p.n → IsInWindow (w.spacecraft.farm.width / 2) w.spacecraft.farm.vr ((base + i) % 256) = λ i low high. rw half (elim (cases_lt i p.r) [
         | inl lt ↦ inr (omega (arith, l.vr_is, lt, low, k.ranges.width))
         | inr ge ↦ inl (omega (arith, l.vr_is, ge, high, l.n_a, l.a_r, k.ranges.width))
       ]) in
       record {
-        up = numbers_in c d base h p.n p.units (IsInWindow (w.craft.farm.width / 2) w.craft.farm.vr) p.r g.front w.up g.frames p.up p.r each (omega arith) l.carries l.up_is l.fits;
+        up = numbers_in c d base h p.n p.units (IsInWindow (w.spacecraft.farm.width / 2) w.spacecraft.farm.vr) p.r g.front w.up g.frames p.up p.r each (omega arith) l.carries l.up_is l.fits;
         down = λ settled active.
-            let on : is_closed w.station.fop.state ≡ false = late_on w.station.fop.state active in
-            let was : Holds base w.station.fop.vs w.station.fop.nn w.station.fop.sent (unsent w.station) p.a p.n p.units = let it : Held false base w.station.fop.vs w.station.fop.nn w.station.fop.sent (unsent w.station) p.a p.n p.units = rw on at l.held in it in
+            let on : is_closed w.ground_node.fop.state ≡ false = late_on w.ground_node.fop.state active in
+            let was : Holds base w.ground_node.fop.vs w.ground_node.fop.nn w.ground_node.fop.sent (unsent_segments w.ground_node) p.a p.n p.units = let it : Held false base w.ground_node.fop.vs w.ground_node.fop.nn w.ground_node.fop.sent (unsent_segments w.ground_node) p.a p.n p.units = rw on at l.held in it in
             let most : h ≤ 127 = omega (arith, k.ranges.width) in
-            let rising : IsRising w.station.fop.nn (p.a - p.a) g.reports w.craft.farm.vr = rising_in base w.station.fop.nn p.a p.a p.r w.craft.farm.vr h g.reports p.down was.nn_is l.vr_is (omega arith) (omega (arith, l.r_n, l.n_a)) most l.down_is l.rises in
+            let rising : IsRising w.ground_node.fop.nn (p.a - p.a) g.reports w.spacecraft.farm.vr = rising_in base w.ground_node.fop.nn p.a p.a p.r w.spacecraft.farm.vr h g.reports p.down was.nn_is l.vr_is (omega arith) (omega (arith, l.r_n, l.n_a)) most l.down_is l.rises in
             let zero : p.a - p.a ≡ 0 = omega arith in
-            let from_zero : IsRising w.station.fop.nn 0 g.reports w.craft.farm.vr = rw zero at rising in
-            (rw (reports_of c w g.reports k.station.config l.reporting) from_zero, omega (arith, was.vs_is, was.nn_is, l.vr_is, l.a_r, l.r_n, l.n_a, most));
+            let from_zero : IsRising w.ground_node.fop.nn 0 g.reports w.spacecraft.farm.vr = rw zero at rising in
+            (rw (reports_of c w g.reports k.ground_node.config l.reporting) from_zero, omega (arith, was.vs_is, was.nn_is, l.vr_is, l.a_r, l.r_n, l.n_a, most));
       }
 
   early_window : Begun c d base w → KeepsToWindow w
   early_window g =
       let l = g.early in
       record {
-        up = numbers_in c d base 0 0 [] (IsInWindow (w.craft.farm.width / 2) w.craft.farm.vr) 0 true w.up g.frames [] 0 (λ i low high. absurd (omega (arith, high))) (omega arith) l.carries l.up_is tt;
-        down = λ settled active. absurd (early_off d w.station.fop.state l.early active);
+        up = numbers_in c d base 0 0 [] (IsInWindow (w.spacecraft.farm.width / 2) w.spacecraft.farm.vr) 0 true w.up g.frames [] 0 (λ i low high. absurd (omega (arith, high))) (omega arith) l.carries l.up_is tt;
+        down = λ settled active. absurd (early_off d w.ground_node.fop.state l.early active);
       }
 
   late_confirmed : Late c d base w → IsConfirmedExactly w
@@ -157,11 +158,11 @@ module _ (c : Config) (w : World) (k : Sound c w) (d : Directive) (base : ℕ) w
             cc
             );
         exact = λ confirmed active nothing.
-            let on : is_closed w.station.fop.state ≡ false = late_on w.station.fop.state active in
-            let was : Holds base w.station.fop.vs w.station.fop.nn w.station.fop.sent (unsent w.station) p.a p.n p.units = let it : Held false base w.station.fop.vs w.station.fop.nn w.station.fop.sent (unsent w.station) p.a p.n p.units = rw on at l.held in it in
+            let on : is_closed w.ground_node.fop.state ≡ false = late_on w.ground_node.fop.state active in
+            let was : Holds base w.ground_node.fop.vs w.ground_node.fop.nn w.ground_node.fop.sent (unsent_segments w.ground_node) p.a p.n p.units = let it : Held false base w.ground_node.fop.vs w.ground_node.fop.nn w.ground_node.fop.sent (unsent_segments w.ground_node) p.a p.n p.units = rw on at l.held in it in
             let none : p.n ≡ 0 = sym (length-take-le p.n p.units l.n_most) ∙ sym (length-map (take p.n p.units) segment_octets) ∙ sym (ap length l.sent_is) ∙ ap length nothing in
             (omega (arith, none, l.vr_is, was.vs_is, l.r_n), omega (arith, none, was.nn_is, was.vs_is, l.a_r, l.r_n));
-        commands = λ confirmed. commands_in c d base 0 0 [] (LeavesVr w.craft.farm.vr) g.front w.up g.frames p.up (λ command front fits. leaves d base w.craft.farm.vr command fits (omega (arith, l.first front, l.vr_is, l.base_octet))) l.carries l.up_is;
+        commands = λ confirmed. commands_in c d base 0 0 [] (LeavesVr w.spacecraft.farm.vr) g.front w.up g.frames p.up (λ command front fits. leaves d base w.spacecraft.farm.vr command fits (omega (arith, l.first front, l.vr_is, l.base_octet))) l.carries l.up_is;
       }
 
   early_confirmed : Begun c d base w → IsConfirmedExactly w

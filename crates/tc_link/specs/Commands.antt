@@ -13,11 +13,11 @@ is_telecommand Telemetry = false
 is_telecommand Telecommand = true
 
 -- a packet to the spacecraft that isn't an idle one
-abbrev pub commands : PacketView → Bool
-commands p = is_telecommand p.kind && not (p.apid == 2047)
+abbrev pub is_command_packet : PacketView → Bool
+is_command_packet p = is_telecommand p.kind && not (p.apid == 2047)
 
 abbrev pub finds_command : Result (PacketView × ℕ) PacketFault → Bool
-finds_command (Ok p) = commands p.0
+finds_command (Ok p) = is_command_packet p.0
 finds_command (Err e) = false
 
 -- the octets begin with a command packet

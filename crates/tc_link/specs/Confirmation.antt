@@ -5,7 +5,8 @@ use Rattle.tc_frame.specs.declared.frame.Command.{Command}
 use Rattle.tc_frame.specs.declared.frame.Command.TheVariants.{Unlock, SetVr}
 use Rattle.cop1.specs.declared.fop.Directive.{Directive}
 use Rattle.cop1.specs.declared.fop.Directive.TheVariants.{InitWithoutCheck, InitWithCheck, InitUnlock, InitSetVr, Terminate, SetVs, SetWindow, SetLimit, SetTimer}
-use Rattle.tc_link.specs.InTransit.{IsActive, commands_up}
+use Rattle.cop1.specs.FopState.{IsActive}
+use Rattle.tc_link.specs.InTransit.{commands_up}
 use Rattle.tc_link.specs.World.{World, accepted, directive_of}
 
 -- a session that this directive begins has to be confirmed: by check, Unlock or Set V(R)
@@ -26,11 +27,13 @@ IsChecking (Some directive) = IsChecked directive
 
 -- V(R) = V(S) = NN(R)
 abbrev pub AllAgree : World → Type 0
-AllAgree w = (w.craft.farm.vr ≡ w.station.fop.vs) × (w.station.fop.nn ≡ w.station.fop.vs)
+AllAgree w =
+    (w.spacecraft.farm.vr ≡ w.ground_node.fop.vs) × (w.ground_node.fop.nn ≡ w.ground_node.fop.vs)
 
 -- where the event brings the confirmation they agree, though nothing was assumed of V(R)
 abbrev pub ConfirmsExactly : World → World → Type 0
-ConfirmsExactly old new = old.session.confirmed ≡ false → new.session.confirmed ≡ true → AllAgree new
+ConfirmsExactly old new =
+    old.session.confirmed ≡ false → new.session.confirmed ≡ true → AllAgree new
 
 abbrev pub LeavesVr : ℕ → Command → Type 0
 LeavesVr vr Unlock = Unit {0}
@@ -38,8 +41,11 @@ LeavesVr vr (SetVr x) = x ≡ vr
 
 pub record IsConfirmedExactly (w : World) : Type 0 where
   -- nothing is sent before the confirmation
-  pub nothing_before : IsChecking (directive_of w) → w.session.confirmed ≡ false → (w.session.sent ≡ []) × (accepted w ≡ [])
+  pub nothing_before : IsChecking (directive_of w) → w.session.confirmed ≡ false
+      → (w.session.sent ≡ []) × (accepted w ≡ [])
   -- from then on they agree until the first Type-AD frame is sent
-  pub exact : w.session.confirmed ≡ true → IsActive w.station.fop.state → w.session.sent ≡ [] → AllAgree w
+  pub exact : w.session.confirmed ≡ true → IsActive w.ground_node.fop.state → w.session.sent ≡ []
+      → AllAgree w
   -- and each control frame that is still on its way leaves V(R) as it is
-  pub commands : w.session.confirmed ≡ true → AllByRecursion (LeavesVr w.craft.farm.vr) (commands_up w)
+  pub commands : w.session.confirmed ≡ true
+      → AllByRecursion (LeavesVr w.spacecraft.farm.vr) (commands_up w)

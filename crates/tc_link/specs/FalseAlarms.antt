@@ -10,7 +10,7 @@ use Rattle.tc_link.specs.declared.config.Config.{Config}
 use Rattle.tc_link.specs.declared.event.Event.{Event}
 use Rattle.tc_link.specs.declared.event.Event.TheVariants as events
 use Rattle.tc_link.specs.declared.heard.Heard.{Heard}
-use Rattle.tc_link.specs.declared.heard.Heard.TheVariants as hearing
+use Rattle.tc_link.specs.declared.heard.Heard.TheVariants as heard_cases
 use Rattle.tc_link.specs.declared.sim.fault.SimFault.{SimFault}
 use Rattle.tc_link.specs.InTransit.{report_carried}
 use Rattle.tc_link.specs.Replies.{ReplyView, Done, Nothing, Lost, Refused, Alerted, Sent, Reported, Up, Down, Packet}
@@ -19,9 +19,9 @@ use Rattle.tc_link.specs.World.{World, world_step, directive_of}
 -- ---- the alert that is answered
 
 abbrev pub heard_alert : Heard → Option Alert
-heard_alert (hearing.Invalid fault) = None
-heard_alert hearing.Foreign = None
-heard_alert (hearing.Frame gap packets report alert) = alert
+heard_alert (heard_cases.Invalid fault) = None
+heard_alert heard_cases.Foreign = None
+heard_alert (heard_cases.Frame gap packets report alert) = alert
 
 abbrev pub replied_alert : ReplyView → Option Alert
 replied_alert Done = None
@@ -57,18 +57,22 @@ FirstAsks c (octets ∷ more) = AsksAgain (report_carried c octets)
 
 -- the one cause of each alert
 abbrev pub HasCause : World → Event → Alert → Type 0
-HasCause w event Lockout = IsUnderCheck w × (w.craft.farm.state ≡ farm.Lockout)
-HasCause w event NnR = IsUnderCheck w × (w.craft.farm.vr ≢ w.station.fop.vs)
+HasCause w event Lockout = IsUnderCheck w × (w.spacecraft.farm.state ≡ farm.Lockout)
+HasCause w event NnR = IsUnderCheck w × (w.spacecraft.farm.vr ≢ w.ground_node.fop.vs)
 HasCause w event ClcwAlert = ⊥
-HasCause w event Synch = IsUnderCheck w × (w.craft.farm.retransmit ≡ true)
-HasCause w event Limit = (event ≡ events.DownDeliver) × FirstAsks w.station.config w.down × (w.station.fop.limit ≡ 1)
+HasCause w event Synch = IsUnderCheck w × (w.spacecraft.farm.retransmit ≡ true)
+HasCause w event Limit =
+    (event ≡ events.DownDeliver) × FirstAsks w.ground_node.config w.down
+    × (w.ground_node.fop.limit ≡ 1)
 HasCause w event Timer = event ≡ events.Tick
 HasCause w event Terminated = event ≡ events.Directive Terminate
 
 pub record HasNoFalseAlarm (w : World) (event : Event) : Type 0 where
   -- the receiver does not enter Lockout
-  pub not_locked : w.craft.farm.state ≢ farm.Lockout → (world_step w event).after.craft.farm.state ≢ farm.Lockout
+  pub not_locked : w.spacecraft.farm.state ≢ farm.Lockout
+      → (world_step w event).after.spacecraft.farm.state ≢ farm.Lockout
   -- and is not there once the session is confirmed
-  pub unlocked : w.session.confirmed ≡ true → w.craft.farm.state ≢ farm.Lockout
+  pub unlocked : w.session.confirmed ≡ true → w.spacecraft.farm.state ≢ farm.Lockout
   -- and each alert that the ground answers has its cause
-  pub alerts : (alert : Alert) → alert_in (world_step w event).answer ≡ Some alert → HasCause w event alert
+  pub alerts : (alert : Alert) → alert_in (world_step w event).answer ≡ Some alert
+      → HasCause w event alert

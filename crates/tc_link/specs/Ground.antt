@@ -16,7 +16,7 @@ use Rattle.cop1.specs.declared.fop.Directive.{Directive}
 use Rattle.cop1.specs.FopState.{FopState, initial}
 use Rattle.cop1.specs.FopPull.{PulledUnit, NothingPulled, ControlPulled, BypassPulled, SequencePulled}
 use Rattle.cop1.specs.FopStep as sender
-use Rattle.cop1.specs.FopWords.{Outcome}
+use Rattle.cop1.specs.FopWords.{FopOutcome as Outcome}
 use Rattle.tm_link.specs.declared.fault.TmFault.{TmFault}
 use Rattle.tm_link.specs.Layout as telemetry
 use Rattle.tm_link.specs.Reading.{frame_at}
@@ -37,7 +37,8 @@ pub record GroundState : Type 0 where
   pub fop : FopState SegmentView
   -- the segments behind its wait queue, the oldest first
   pub pending : List SegmentView
-  -- what takes packets out of the telemetry frames, and those that wait to be taken, the oldest first
+  -- what takes packets out of the telemetry frames, and those that wait to be taken, the oldest
+  -- first
   pub extractor : ExtractorState
   pub telemetry : List (List ℕ)
 
@@ -58,33 +59,34 @@ new_ground c = record {
 -- ---- what is pending
 
 -- the oldest pending segment goes into the wait queue where its one place is free
-abbrev pub moved_up : GroundState → Option SegmentView → List SegmentView → GroundState
-moved_up s (Some waiting) pending = s
-moved_up s None [] = s
-moved_up s None (segment ∷ pending) = record s { fop = record s.fop { waiting = Some segment }; pending = pending }
+abbrev pub after_moving_up : GroundState → Option SegmentView → List SegmentView → GroundState
+after_moving_up s (Some waiting) pending = s
+after_moving_up s None [] = s
+after_moving_up s None (segment ∷ pending) =
+    record s { fop = record s.fop { waiting = Some segment }; pending = pending }
 
 -- nothing is pending in S6, where an alert leads; in the other states the oldest moves up
-abbrev pub settled_in : GroundState → FopMode → GroundState
-settled_in s S1 = moved_up s s.fop.waiting s.pending
-settled_in s S2 = moved_up s s.fop.waiting s.pending
-settled_in s S3 = moved_up s s.fop.waiting s.pending
-settled_in s S4 = moved_up s s.fop.waiting s.pending
-settled_in s S5 = moved_up s s.fop.waiting s.pending
-settled_in s S6 = record s { pending = [] }
+abbrev pub settle_in : GroundState → FopMode → GroundState
+settle_in s S1 = after_moving_up s s.fop.waiting s.pending
+settle_in s S2 = after_moving_up s s.fop.waiting s.pending
+settle_in s S3 = after_moving_up s s.fop.waiting s.pending
+settle_in s S4 = after_moving_up s s.fop.waiting s.pending
+settle_in s S5 = after_moving_up s s.fop.waiting s.pending
+settle_in s S6 = record s { pending = [] }
 
-abbrev pub settled : GroundState → GroundState
-settled s = settled_in s s.fop.state
+abbrev pub settle_step : GroundState → GroundState
+settle_step s = settle_in s s.fop.state
 
 -- the ground, where its sender is so
 abbrev pub with_fop : GroundState → FopState SegmentView → GroundState
-with_fop s fop = settled (record s { fop = fop })
+with_fop s fop = settle_step (record s { fop = fop })
 
 -- the segments that were not sent, and those that were not acknowledged, the oldest first
-abbrev pub unsent : GroundState → List SegmentView
-unsent s = option_to_list s.fop.waiting ++ s.pending
+abbrev pub unsent_segments : GroundState → List SegmentView
+unsent_segments s = option_to_list s.fop.waiting ++ s.pending
 
 abbrev pub outstanding : GroundState → List SegmentView
-outstanding s = map (λ u. u.unit) s.fop.sent ++ unsent s
+outstanding s = map (λ u. u.unit) s.fop.sent ++ unsent_segments s
 
 -- ---- packets are submitted
 
@@ -99,6 +101,11 @@ is_closed S6 = true
 abbrev pub segments_on : GroundState → ℕ → List ℕ → List SegmentView
 segments_on s m octets = segments_of s.config.part m octets
 
+-- the segments that were not sent, with the new ones, are more than the queue slots
+abbrev pub is_over_slots : GroundState → ℕ → List ℕ → Bool
+is_over_slots s m octets =
+    nat_lt s.config.queue_slots (length (unsent_segments s) + length (segments_on s m octets))
+
 -- the first of the refusals that applies
 abbrev pub submit_fault : GroundState → ℕ → List ℕ → Option LinkFault
 submit_fault s m octets =
@@ -106,16 +113,18 @@ submit_fault s m octets =
     else if not (is_open (limits_of s.config) m) then Some ClosedMap
     else if not (are_commands (s.config.blocking == 1) octets) then Some NotCommand
     else if is_some_over s.config.max_packet (packets_in octets) then Some TooLong
-    else if nat_lt s.config.queue_slots (length (unsent s) + length (segments_on s m octets)) then Some QueueFull
+    else if is_over_slots s m octets then Some QueueFull
     else None
 
-abbrev pub submitted : GroundState → ℕ → List ℕ → GroundState
-submitted s m octets = settled (record s { pending = s.pending ++ segments_on s m octets })
+abbrev pub after_submission : GroundState → ℕ → List ℕ → GroundState
+after_submission s m octets =
+    settle_step (record s { pending = s.pending ++ segments_on s m octets })
 
 -- the call is refused, or the ground is the next
-abbrev pub unless : Option LinkFault → GroundState → GroundState → GroundOutcome (Result (Unit {0}) LinkFault)
-unless None s next = record { answer = Ok tt; after = next }
-unless (Some fault) s next = record { answer = Err fault; after = s }
+abbrev pub unless_refused : Option LinkFault → GroundState → GroundState
+    → GroundOutcome (Result (Unit {0}) LinkFault)
+unless_refused None s next = record { answer = Ok tt; after = next }
+unless_refused (Some fault) s next = record { answer = Err fault; after = s }
 
 -- ---- packets are sent past the sequence control, each as one segment that stands alone
 
@@ -128,43 +137,50 @@ bypass_fault s m octets =
     else if nat_lt s.config.queue_slots (length s.fop.bypass + 1) then Some QueueFull
     else None
 
-abbrev pub bypassed : GroundState → ℕ → List ℕ → GroundState
-bypassed s m octets = record s { fop = (sender.fop_step s.fop (sender.Bypass (segment_with Alone m octets))).after }
+abbrev pub after_bypass : GroundState → ℕ → List ℕ → GroundState
+after_bypass s m octets =
+    record s { fop = (sender.fop_step s.fop (sender.Bypass (segment_with Alone m octets))).after }
 
 -- ---- directives and ticks
 
 -- what the sender answers, and the ground after it
-abbrev pub by_sender : {A : Type 0} → GroundState → Outcome SegmentView A → GroundOutcome A
-by_sender s outcome = record { answer = outcome.answer; after = with_fop s outcome.after }
+abbrev pub sender_outcome : {A : Type 0} → GroundState → Outcome SegmentView A → GroundOutcome A
+sender_outcome s outcome = record { answer = outcome.answer; after = with_fop s outcome.after }
 
 -- a directive that is refused changes nothing
-abbrev pub after_directive : GroundState → Result (Option Alert) CopFault → FopState SegmentView → GroundState
+abbrev pub after_directive : GroundState → Result (Option Alert) CopFault → FopState SegmentView
+    → GroundState
 after_directive s (Ok alert) fop = with_fop s fop
 after_directive s (Err fault) fop = s
 
-abbrev pub directed_by : GroundState → Outcome SegmentView (Result (Option Alert) CopFault) → GroundOutcome (Result (Option Alert) CopFault)
-directed_by s outcome = record { answer = outcome.answer; after = after_directive s outcome.answer outcome.after }
+abbrev pub directive_outcome : GroundState → Outcome SegmentView (Result (Option Alert) CopFault)
+    → GroundOutcome (Result (Option Alert) CopFault)
+directive_outcome s outcome = record {
+  answer = outcome.answer;
+  after = after_directive s outcome.answer outcome.after;
+}
 
-abbrev pub directed : GroundState → Directive → GroundOutcome (Result (Option Alert) CopFault)
-directed s directive = directed_by s (sender.fop_step s.fop (sender.Direct directive))
+abbrev pub ground_directive : GroundState → Directive
+    → GroundOutcome (Result (Option Alert) CopFault)
+ground_directive s directive = directive_outcome s (sender.fop_step s.fop (sender.Direct directive))
 
-abbrev pub ticked : GroundState → GroundOutcome (Option Alert)
-ticked s = by_sender s (sender.fop_step s.fop sender.Tick)
+abbrev pub ground_tick : GroundState → GroundOutcome (Option Alert)
+ground_tick s = sender_outcome s (sender.fop_step s.fop sender.Tick)
 
 -- ---- what goes on the link next, as a frame (CCSDS 232.0-B-4, 4.1)
 
 abbrev pub frame_of : Config → BodyView → FrameView
 frame_of c body = record { scid = c.scid; vcid = c.vcid; body = body }
 
-abbrev pub frame_pulled : Config → PulledUnit SegmentView → Option FrameView
-frame_pulled c NothingPulled = None
-frame_pulled c (ControlPulled command) = Some (frame_of c (Bc command))
-frame_pulled c (BypassPulled segment) = Some (frame_of c (Bd segment))
-frame_pulled c (SequencePulled n segment) = Some (frame_of c (Ad n segment))
+abbrev pub frame_to_send : Config → PulledUnit SegmentView → Option FrameView
+frame_to_send c NothingPulled = None
+frame_to_send c (ControlPulled command) = Some (frame_of c (Bc command))
+frame_to_send c (BypassPulled segment) = Some (frame_of c (Bd segment))
+frame_to_send c (SequencePulled n segment) = Some (frame_of c (Ad n segment))
 
-abbrev pub pulled : GroundState → GroundOutcome (Option FrameView)
-pulled s = record {
-  answer = frame_pulled s.config (sender.fop_step s.fop sender.Pull).answer;
+abbrev pub ground_pull : GroundState → GroundOutcome (Option FrameView)
+ground_pull s = record {
+  answer = frame_to_send s.config (sender.fop_step s.fop sender.Pull).answer;
   after = with_fop s (sender.fop_step s.fop sender.Pull).after;
 }
 
@@ -175,41 +191,55 @@ abbrev pub after_extraction : GroundState → Extracted → GroundState
 after_extraction s x = record s { extractor = x.after; telemetry = s.telemetry ++ x.packets }
 
 -- the report reaches the sender where it is one of this ground's virtual channel
-abbrev pub frame_heard : GroundState → Extracted → Result Clcw ClcwFault → GroundOutcome Heard
-frame_heard s x (Err fault) = record {
+abbrev pub own_frame_outcome : GroundState → Extracted → Result Clcw ClcwFault → GroundOutcome Heard
+own_frame_outcome s x (Err fault) = record {
   answer = Frame x.gap (length x.packets) (Refused fault) None;
   after = after_extraction s x;
 }
-frame_heard s x (Ok report) =
+own_frame_outcome s x (Ok report) =
     if report.vcid == s.config.vcid then record {
-      answer = Frame x.gap (length x.packets) Used (sender.fop_step s.fop (sender.Report report)).answer;
+      answer =
+          Frame x.gap (length x.packets) Used (sender.fop_step s.fop (sender.Report report)).answer;
       after = with_fop (after_extraction s x) (sender.fop_step s.fop (sender.Report report)).after;
     }
-    else record { answer = Frame x.gap (length x.packets) OtherChannel None; after = after_extraction s x }
+    else record {
+      answer = Frame x.gap (length x.packets) OtherChannel None;
+      after = after_extraction s x;
+    }
+
+abbrev pub receive_frame_step : GroundState → telemetry.FrameView → GroundOutcome Heard
+receive_frame_step s frame =
+    own_frame_outcome s (extract_step s.extractor frame) (clcw_at frame.ocf)
 
 -- a frame of this spacecraft's virtual channel
-abbrev pub is_own : Config → telemetry.FrameView → Bool
-is_own c frame = (frame.scid == c.scid) && (frame.vcid == c.tm_vcid)
+abbrev pub is_own_telemetry : Config → telemetry.FrameView → Bool
+is_own_telemetry c frame = (frame.scid == c.scid) && (frame.vcid == c.tm_vcid)
 
-abbrev pub telemetry_arrived : GroundState → Result telemetry.FrameView TmFault → GroundOutcome Heard
-telemetry_arrived s (Err fault) = record { answer = Invalid fault; after = s }
-telemetry_arrived s (Ok frame) =
-    if is_own s.config frame then frame_heard s (extract_step s.extractor frame) (clcw_at frame.ocf)
+abbrev pub telemetry_outcome : GroundState → Result telemetry.FrameView TmFault
+    → GroundOutcome Heard
+telemetry_outcome s (Err fault) = record { answer = Invalid fault; after = s }
+telemetry_outcome s (Ok frame) =
+    if is_own_telemetry s.config frame then receive_frame_step s frame
     else record { answer = Foreign; after = s }
 
-abbrev pub heard : GroundState → List ℕ → GroundOutcome Heard
-heard s octets = telemetry_arrived s (frame_at s.config.frame_length octets)
+abbrev pub ground_telemetry : GroundState → List ℕ → GroundOutcome Heard
+ground_telemetry s octets = telemetry_outcome s (frame_at s.config.frame_length octets)
 
--- no packet is finished with the octets that arrive: they are no frame, or a frame of another channel, or one that finishes none
+-- no packet is finished with the octets that arrive: they are no frame, or a frame of another
+-- channel, or one that finishes none
 abbrev pub FinishesNothing : GroundState → Result telemetry.FrameView TmFault → Type 0
 FinishesNothing s (Err fault) = Unit {0}
-FinishesNothing s (Ok frame) = is_own s.config frame ≡ true → (extract_step s.extractor frame).packets ≡ []
+FinishesNothing s (Ok frame) =
+    is_own_telemetry s.config frame ≡ true → (extract_step s.extractor frame).packets ≡ []
 
 -- ---- packets of telemetry are taken
 
-abbrev pub taken : GroundState → List (List ℕ) → GroundOutcome (Option (List ℕ))
-taken s [] = record { answer = None; after = s }
-taken s (packet ∷ left) = record { answer = Some packet; after = record s { telemetry = left } }
+abbrev pub ground_take_telemetry : GroundState → List (List ℕ) → GroundOutcome (Option (List ℕ))
+ground_take_telemetry s [] = record { answer = None; after = s }
+ground_take_telemetry s (packet ∷ left) = record {
+  answer = Some packet;
+  after = record s { telemetry = left };
+}
 
 -- ---- all calls
 
@@ -233,10 +263,12 @@ GroundAnswer (Telemetry octets) = Heard
 GroundAnswer TakeTelemetry = Option (List ℕ)
 
 abbrev pub ground_step : GroundState → (event : GroundEvent) → GroundOutcome (GroundAnswer event)
-ground_step s (Submit m octets) = unless (submit_fault s m octets) s (submitted s m octets)
-ground_step s (Bypass m octets) = unless (bypass_fault s m octets) s (bypassed s m octets)
-ground_step s (Direct directive) = directed s directive
-ground_step s Pull = pulled s
-ground_step s Tick = ticked s
-ground_step s (Telemetry octets) = heard s octets
-ground_step s TakeTelemetry = taken s s.telemetry
+ground_step s (Submit m octets) =
+    unless_refused (submit_fault s m octets) s (after_submission s m octets)
+ground_step s (Bypass m octets) =
+    unless_refused (bypass_fault s m octets) s (after_bypass s m octets)
+ground_step s (Direct directive) = ground_directive s directive
+ground_step s Pull = ground_pull s
+ground_step s Tick = ground_tick s
+ground_step s (Telemetry octets) = ground_telemetry s octets
+ground_step s TakeTelemetry = ground_take_telemetry s s.telemetry

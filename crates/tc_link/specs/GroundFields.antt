@@ -6,7 +6,13 @@ use Rattle.tc_link.specs.Parameters.{IsConfig}
 use Rattle.tc_link.specs.Ground.{GroundState}
 
 abbrev pub state_of : Inside → GroundState
-state_of s = record { config = s.config; fop = s.fop; pending = s.pending.items; extractor = s.extractor; telemetry = octets_of s.waiting.items ++ octets_of s.finished.items }
+state_of s = record {
+  config = s.config;
+  fop = s.fop;
+  pending = s.pending.items;
+  extractor = s.extractor;
+  telemetry = octets_of s.waiting.items ++ octets_of s.finished.items;
+}
 
 -- what the fields keep to
 abbrev pub IsSound : Inside → Type 0

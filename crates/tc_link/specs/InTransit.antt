@@ -10,8 +10,7 @@ use Rattle.tc_frame.specs.declared.frame.Command.{Command}
 use Rattle.tc_frame.specs.Layout.{BodyView, Ad, Bd, Bc, FrameView}
 use Rattle.tc_frame.specs.Reading as command
 use Rattle.cop1.specs.Modulo.{ahead_by}
-use Rattle.cop1.specs.declared.fop.FopMode.{FopMode}
-use Rattle.cop1.specs.declared.fop.FopMode.TheVariants.{S1, S2, S3, S4, S5, S6}
+use Rattle.cop1.specs.FopState.{IsActive}
 use Rattle.tm_link.specs.declared.fault.TmFault.{TmFault}
 use Rattle.tm_link.specs.Layout as telemetry
 use Rattle.tm_link.specs.Reading as telemetry_reading
@@ -56,7 +55,7 @@ abbrev pub report_carried : Config → List ℕ → List Clcw
 report_carried c octets = report_of_frame (telemetry_reading.frame_at c.frame_length octets)
 
 abbrev pub reports_down : World → List Clcw
-reports_down w = flat_map (report_carried w.station.config) w.down
+reports_down w = flat_map (report_carried w.ground_node.config) w.down
 
 -- ---- where the numbers lie
 
@@ -67,20 +66,15 @@ IsInWindow half vr n = (ahead_by n vr < half) ⊎ (ahead_by vr n ≤ half)
 -- the values lie within NN(R) to a last one, in rising order
 abbrev pub IsRising : (nn low : ℕ) → List Clcw → ℕ → Type 0
 IsRising nn low [] last = low ≤ ahead_by last nn
-IsRising nn low (report ∷ reports) last = (low ≤ ahead_by report.value nn) × IsRising nn (ahead_by report.value nn) reports last
-
--- S1 to S3
-abbrev pub IsActive : FopMode → Type 0
-IsActive S1 = Unit {0}
-IsActive S2 = Unit {0}
-IsActive S3 = Unit {0}
-IsActive S4 = ⊥
-IsActive S5 = ⊥
-IsActive S6 = ⊥
+IsRising nn low (report ∷ reports) last =
+    (low ≤ ahead_by report.value nn) × IsRising nn (ahead_by report.value nn) reports last
 
 pub record KeepsToWindow (w : World) : Type 0 where
   -- each Type-AD number on its way lies at most W/2 below and at most W/2 - 1 above V(R)
-  pub up : AllByRecursion (IsInWindow (w.craft.farm.width / 2) w.craft.farm.vr) (numbers_up w)
+  pub up : AllByRecursion (IsInWindow (w.spacecraft.farm.width / 2) w.spacecraft.farm.vr)
+      (numbers_up w)
   -- V(R) and the reports' values lie within NN(R) to V(S), the reports in rising order
-  pub down : IsSettled w → IsActive w.station.fop.state
-      → IsRising w.station.fop.nn 0 (reports_down w) w.craft.farm.vr × (ahead_by w.craft.farm.vr w.station.fop.nn ≤ ahead_by w.station.fop.vs w.station.fop.nn)
+  pub down : IsSettled w → IsActive w.ground_node.fop.state
+      → IsRising w.ground_node.fop.nn 0 (reports_down w) w.spacecraft.farm.vr
+      × (ahead_by w.spacecraft.farm.vr w.ground_node.fop.nn
+      ≤ ahead_by w.ground_node.fop.vs w.ground_node.fop.nn)

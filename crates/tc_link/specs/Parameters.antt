@@ -1,5 +1,5 @@
--- The managed parameters: their ranges in their order, the values that a script begins with, and what the segmentation
--- service keeps to.
+-- The managed parameters: their ranges in their order, the values that a script begins with, and
+-- what the segmentation service keeps to.
 use Rattle.std.specs.Prelude.{◌≡◌, ◌≤◌, ℕ, ◌/◌, ◌%◌, ◌^◌, ◌-◌, List, codes, Bool, not, ◌&&◌, ◌==◌, nat_lt, nat_le, if◌then◌else◌, Option, Some, None}
 use Rattle.map_service.specs.declared.limits.Limits.{Limits}
 use Rattle.tc_link.specs.declared.config.Config.{Config}
@@ -84,4 +84,9 @@ default_config = record {
 -- ---- the limits of cutting and assembly
 
 abbrev pub limits_of : Config → Limits
-limits_of c = record { part = c.part; max_packet = c.max_packet; maps = c.maps; blocking = c.blocking == 1 }
+limits_of c = record {
+  part = c.part;
+  max_packet = c.max_packet;
+  maps = c.maps;
+  blocking = c.blocking == 1;
+}

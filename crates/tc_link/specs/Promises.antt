@@ -22,5 +22,9 @@ pub record IsPromisedOf (w : World) (event : Event) : Type 0 where
 
 -- in the world that each beginning of a run leads to, and of the event that comes then
 abbrev pub HoldsThroughout : Config → List Event → Type 0
-HoldsThroughout c events = (before after : List Event) (event : Event) → events ≡ before ++ event ∷ after → IsClean (world_run (new_world c) before)
-    → IsPromised (world_run (new_world c) before) × (IsChecking (directive_of (world_run (new_world c) before)) → IsPromisedOf (world_run (new_world c) before) event)
+HoldsThroughout c events =
+    (before after : List Event) (event : Event) → events ≡ before ++ event ∷ after
+    → IsClean (world_run (new_world c) before)
+    → IsPromised (world_run (new_world c) before)
+    × (IsChecking (directive_of (world_run (new_world c) before))
+    → IsPromisedOf (world_run (new_world c) before) event)

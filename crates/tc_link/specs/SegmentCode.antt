@@ -12,7 +12,10 @@ abbrev pub segment_parts : SegmentView → ℕ × (ℕ × List ℕ)
 segment_parts s = (flags_code s.header.flags, (s.header.map, s.payload))
 
 abbrev pub segment_of_parts : ℕ × (ℕ × List ℕ) → SegmentView
-segment_of_parts p = record { header = record { flags = flags_at p.0; map = p.1.0 }; payload = p.1.1 }
+segment_of_parts p = record {
+  header = record { flags = flags_at p.0; map = p.1.0 };
+  payload = p.1.1;
+}
 
 pub flags_again : (flags : SegmentFlags) → flags_at (flags_code flags) ≡ flags
 flags_again First = refl
@@ -21,10 +24,15 @@ flags_again Last = refl
 flags_again Alone = refl
 
 abbrev segment_with : SegmentView → SegmentFlags → SegmentView
-segment_with s flags = record { header = record { flags = flags; map = s.header.map }; payload = s.payload }
+segment_with s flags = record {
+  header = record { flags = flags; map = s.header.map };
+  payload = s.payload;
+}
 
 pub segment_again : (s : SegmentView) → segment_of_parts (segment_parts s) ≡ s
 segment_again s = ap (segment_with s) (flags_again s.header.flags)
 
 abbrev pub segment_code : Coded SegmentView
-segment_code = code_by (ℕ × (ℕ × List ℕ)) (coded× coded_ℕ (coded× coded_ℕ (coded_list coded_ℕ))) segment_parts segment_of_parts segment_again
+segment_code =
+    code_by (ℕ × (ℕ × List ℕ)) (coded× coded_ℕ (coded× coded_ℕ (coded_list coded_ℕ))) segment_parts
+    segment_of_parts segment_again

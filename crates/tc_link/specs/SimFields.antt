@@ -7,8 +7,8 @@ use Rattle.tc_link.specs.Reached.{IsReached}
 use Rattle.tc_link.specs.Simulation.{SimState}
 
 abbrev pub state_of : Inside → SimState
-state_of s = record { world = s.link; answers = map (λ a. map_ok reply_view a) s.answers.items }
+state_of s = record { world = s.world; answers = map (λ a. map_ok reply_view a) s.answers.items }
 
 -- the link is as a run of events has left it
 abbrev pub IsSound : Inside → Type 0
-IsSound s = IsReached s.link
+IsSound s = IsReached s.world

@@ -1,11 +1,12 @@
 -- A simulated link with the answers of a run.
-use Rattle.std.specs.Prelude.{ℕ, List, [], ◌∷◌, ◌++◌, Option, Some, None, Result, Ok, Err}
+use Rattle.std.specs.Prelude.{◌≡◌, ℕ, List, [], ◌∷◌, ◌++◌, Option, Some, None, Result, Ok, Err}
 use Rattle.tc_link.specs.declared.config.Config.{Config}
 use Rattle.tc_link.specs.declared.event.Event.{Event}
 use Rattle.tc_link.specs.declared.event.Event.TheVariants as events
+use Rattle.tc_link.specs.declared.reply.Reply.{Reply}
 use Rattle.tc_link.specs.declared.sim.fault.SimFault.{SimFault}
 use Rattle.tc_link.specs.declared.sim.fault.SimFault.TheVariants as faults
-use Rattle.tc_link.specs.Replies.{ReplyView}
+use Rattle.tc_link.specs.Replies.{ReplyView, reply_view}
 use Rattle.tc_link.specs.World.{World, new_world, world_step, world_run, run_answers}
 
 pub record SimState : Type 0 where
@@ -17,15 +18,21 @@ abbrev pub new_sim : Config → SimState
 new_sim c = record { world = new_world c; answers = [] }
 
 abbrev pub sim_run : Config → List Event → SimState
-sim_run c events = record { world = world_run (new_world c) events; answers = run_answers (new_world c) events }
+sim_run c events = record {
+  world = world_run (new_world c) events;
+  answers = run_answers (new_world c) events;
+}
 
 -- the step of a run records its answer
-abbrev pub recorded : SimState → Event → SimState
-recorded s event = record { world = (world_step s.world event).after; answers = s.answers ++ (world_step s.world event).answer ∷ [] }
+abbrev pub record_step : SimState → Event → SimState
+record_step s event = record {
+  world = (world_step s.world event).after;
+  answers = s.answers ++ (world_step s.world event).answer ∷ [];
+}
 
 abbrev pub run_from : SimState → List Event → SimState
 run_from s [] = s
-run_from s (event ∷ more) = run_from (recorded s event) more
+run_from s (event ∷ more) = run_from (record_step s event) more
 
 -- the field of the configuration for which a call was refused
 abbrev pub field_of : SimFault → Option (List ℕ)
@@ -37,6 +44,10 @@ field_of (faults.Config field) = Some field.now
 abbrev pub refused_field : {A : Type 0} → Result A SimFault → Option (List ℕ)
 refused_field (Ok made) = None
 refused_field (Err fault) = field_of fault
+
+-- the reply that the world answers to an event
+abbrev pub IsReplyTo : World → Event → Reply → Type 0
+IsReplyTo w event reply = (world_step w event).answer ≡ Ok (reply_view reply)
 
 -- the events that take no memory
 abbrev pub TakesNone : Event → Type 0

@@ -1,5 +1,5 @@
--- A simulated link: its world, and what each event answers and leaves. Each direction keeps its order, and loses or
--- damages frames only so that the receiver sees it.
+-- A simulated link: its world, and what each event answers and leaves. Each direction keeps its
+-- order, and loses or damages frames only so that the receiver sees it.
 use Rattle.std.specs.Prelude.{◌≡◌, ◌⊎◌, option_map, ℕ, List, [], ◌∷◌, ◌++◌, length, take, drop, map, flat_map, filter, Bool, true, false, ◌&&◌, ◌||◌, ◌==◌, if◌then◌else◌, ◌+◌, Option, Some, None, Result, Ok, Err}
 use Rattle.tc_frame.specs.declared.frame.Check.TheVariants.{On}
 use Rattle.tc_frame.specs.declared.fault.TcFault.{TcFault}
@@ -25,18 +25,18 @@ use Rattle.tc_link.specs.declared.event.Event.{Event}
 use Rattle.tc_link.specs.declared.event.Event.TheVariants as events
 use Rattle.tc_link.specs.declared.fault.LinkFault.{LinkFault}
 use Rattle.tc_link.specs.declared.heard.Heard.{Heard}
-use Rattle.tc_link.specs.declared.heard.Heard.TheVariants as hearing
+use Rattle.tc_link.specs.declared.heard.Heard.TheVariants as heard_cases
 use Rattle.tc_link.specs.declared.received.Received.{Received}
-use Rattle.tc_link.specs.declared.received.Received.TheVariants as receiving
+use Rattle.tc_link.specs.declared.received.Received.TheVariants as received_cases
 use Rattle.tc_link.specs.declared.sim.opening.Opening.{Opening}
 use Rattle.tc_link.specs.declared.sim.fault.SimFault.{SimFault}
 use Rattle.tc_link.specs.declared.sim.fault.SimFault.TheVariants.{NothingInTransit, NotDetectable}
 use Rattle.tc_link.specs.Parameters.{limits_of}
 use Rattle.tc_link.specs.Packets.{PacketOn, packet_on}
 use Rattle.tc_link.specs.Ground.{GroundState, GroundOutcome, new_ground, ground_step}
-use Rattle.tc_link.specs.Ground as on_ground
-use Rattle.tc_link.specs.Craft.{CraftState, CraftOutcome, new_craft, craft_step}
-use Rattle.tc_link.specs.Craft as on_board
+use Rattle.tc_link.specs.Ground as ground_calls
+use Rattle.tc_link.specs.Spacecraft.{SpacecraftState, SpacecraftOutcome, new_spacecraft, spacecraft_step}
+use Rattle.tc_link.specs.Spacecraft as spacecraft_calls
 use Rattle.tc_link.specs.Replies.{ReplyView, Nothing, Lost, Sent, Reported, Up, Down, reply_to_submission, reply_to_directive, reply_to_alert, reply_to_taking, reply_to_telemetry}
 
 -- the records of the session, which lasts until the next one begins; none has begun at first
@@ -46,7 +46,8 @@ pub record Session : Type 0 where
   pub confirmed : Bool
   -- the octets of each submission that was accepted, with its MAP
   pub submissions : List PacketOn
-  -- the data fields of Type-AD frames, in the order in which they were first sent; how many first ones are acknowledged
+  -- the data fields of Type-AD frames, in the order in which they were first sent; how many first
+  -- ones are acknowledged
   pub sent : List (List ℕ)
   pub acknowledged : ℕ
   -- as many segments had been accepted on board when the session began
@@ -54,40 +55,57 @@ pub record Session : Type 0 where
 
 -- the two nodes, what is on its way between them, the oldest first, and the records
 pub record World : Type 0 where
-  pub station : GroundState
-  pub craft : CraftState
+  pub ground_node : GroundState
+  pub spacecraft : SpacecraftState
   pub up : List (List ℕ)
   pub down : List (List ℕ)
   pub session : Session
 
 -- what an event answers, and the world after it
-pub record Outcome : Type 0 where
+pub record WorldOutcome : Type 0 where
   pub answer : Result ReplyView SimFault
   pub after : World
 
 abbrev pub no_session : Session
-no_session = record { opening = None; confirmed = false; submissions = []; sent = []; acknowledged = 0; before = 0 }
+no_session = record {
+  opening = None;
+  confirmed = false;
+  submissions = [];
+  sent = [];
+  acknowledged = 0;
+  before = 0;
+}
 
 abbrev pub new_world : Config → World
-new_world c = record { station = new_ground c; craft = new_craft c; up = []; down = []; session = no_session }
+new_world c = record {
+  ground_node = new_ground c;
+  spacecraft = new_spacecraft c;
+  up = [];
+  down = [];
+  session = no_session;
+}
 
 -- ---- the records
 
 -- the packets that were submitted on a MAP
 abbrev pub submitted : World → ℕ → List (List ℕ)
-submitted w m = flat_map (λ (p : PacketOn). packets_in p.octets) (filter (λ (p : PacketOn). p.on_map == m) w.session.submissions)
+submitted w m =
+    flat_map (λ (p : PacketOn). packets_in p.octets)
+    (filter (λ (p : PacketOn). p.on_map == m) w.session.submissions)
 
 -- the data fields of the frames that were accepted on board since the session began
 abbrev pub accepted : World → List (List ℕ)
-accepted w = map segment_octets (drop w.session.before w.craft.accepted)
+accepted w = map segment_octets (drop w.session.before w.spacecraft.accepted)
 
 -- what the segments accepted in the whole run give on a MAP
 abbrev pub assembled_on : World → ℕ → List SegmentView → List (List ℕ)
-assembled_on w m segments = assembled (limits_of w.craft.config) m segments
+assembled_on w m segments = assembled (limits_of w.spacecraft.config) m segments
 
 -- the packets that are ready on board since the session began, taken or not
 abbrev pub delivered : World → ℕ → List (List ℕ)
-delivered w m = drop (length (assembled_on w m (take w.session.before w.craft.accepted))) (assembled_on w m w.craft.accepted)
+delivered w m =
+    drop (length (assembled_on w m (take w.session.before w.spacecraft.accepted)))
+    (assembled_on w m w.spacecraft.accepted)
 
 -- ---- what a session is
 
@@ -113,7 +131,7 @@ is_quiet w = is_none w.up && is_none w.down
 
 -- an initiation begins a clean session in a quiet world, and without a check only where V(R) = V(S)
 abbrev pub begins_clean : World → Directive → Bool
-begins_clean w InitWithoutCheck = is_quiet w && (w.craft.farm.vr == w.station.fop.vs)
+begins_clean w InitWithoutCheck = is_quiet w && (w.spacecraft.farm.vr == w.ground_node.fop.vs)
 begins_clean w InitWithCheck = is_quiet w
 begins_clean w InitUnlock = is_quiet w
 begins_clean w (InitSetVr x) = is_quiet w
@@ -134,16 +152,21 @@ is_initiation (SetWindow k) = false
 is_initiation (SetLimit n) = false
 is_initiation (SetTimer t) = false
 
--- a session begins with an initiation
-abbrev pub begun_by : World → Directive → Session
-begun_by w directive = record {
-  opening = Some (record { directive = directive; clean = begins_clean w directive });
+-- a session begins
+abbrev pub session_begun : World → Opening → Session
+session_begun w opening = record {
+  opening = Some opening;
   confirmed = false;
   submissions = [];
   sent = [];
   acknowledged = 0;
-  before = length w.craft.accepted;
+  before = length w.spacecraft.accepted;
 }
+
+-- it begins with an initiation
+abbrev pub session_begun_by : World → Directive → Session
+session_begun_by w directive =
+    session_begun w (record { directive = directive; clean = begins_clean w directive })
 
 abbrev pub is_initialising : FopMode → Bool
 is_initialising S1 = false
@@ -164,11 +187,11 @@ confirms old S6 = false
 
 -- ---- events
 
-abbrev pub refused : World → SimFault → Outcome
-refused w fault = record { answer = Err fault; after = w }
+abbrev pub world_refusal : World → SimFault → WorldOutcome
+world_refusal w fault = record { answer = Err fault; after = w }
 
-abbrev pub replied : ReplyView → World → Outcome
-replied reply after = record { answer = Ok reply; after = after }
+abbrev pub world_reply : ReplyView → World → WorldOutcome
+world_reply reply after = record { answer = Ok reply; after = after }
 
 -- packets are submitted
 
@@ -176,23 +199,32 @@ abbrev pub submission_of : PacketOn → Result (Unit {0}) LinkFault → List Pac
 submission_of p (Ok done) = p ∷ []
 submission_of p (Err fault) = []
 
-abbrev pub after_submission : World → PacketOn → GroundOutcome (Result (Unit {0}) LinkFault) → Outcome
-after_submission w p o = replied (reply_to_submission o.answer) (record w {
-  station = o.after;
+abbrev pub world_after_submission : World → PacketOn → GroundOutcome (Result (Unit {0}) LinkFault)
+    → WorldOutcome
+world_after_submission w p o = world_reply (reply_to_submission o.answer) (record w {
+  ground_node = o.after;
   session = record w.session { submissions = w.session.submissions ++ submission_of p o.answer };
 })
 
-abbrev pub after_bypass : World → GroundOutcome (Result (Unit {0}) LinkFault) → Outcome
-after_bypass w o = replied (reply_to_submission o.answer) (record w { station = o.after })
+abbrev pub world_after_bypass : World → GroundOutcome (Result (Unit {0}) LinkFault) → WorldOutcome
+world_after_bypass w o =
+    world_reply (reply_to_submission o.answer) (record w { ground_node = o.after })
 
 -- a directive
 
-abbrev pub session_after : World → Directive → Result (Option Alert) CopFault → Session
-session_after w directive (Ok alert) = if is_initiation directive then begun_by w directive else w.session
-session_after w directive (Err fault) = w.session
+abbrev pub session_after_directive : World → Directive → Result (Option Alert) CopFault → Session
+session_after_directive w directive (Ok alert) =
+    if is_initiation directive then session_begun_by w directive
+    else w.session
+session_after_directive w directive (Err fault) = w.session
 
-abbrev pub after_directive : World → Directive → GroundOutcome (Result (Option Alert) CopFault) → Outcome
-after_directive w directive o = replied (reply_to_directive o.answer) (record w { station = o.after; session = session_after w directive o.answer })
+abbrev pub world_after_directive : World → Directive
+    → GroundOutcome (Result (Option Alert) CopFault) → WorldOutcome
+world_after_directive w directive o =
+    world_reply (reply_to_directive o.answer) (record w {
+      ground_node = o.after;
+      session = session_after_directive w directive o.answer;
+    })
 
 -- the ground sends a frame; a Type-AD frame is first sent where V(S) is its number
 
@@ -201,102 +233,125 @@ first_sent vs (Ad n segment) = if n == vs then segment_octets segment ∷ [] els
 first_sent vs (Bd segment) = []
 first_sent vs (Bc command) = []
 
-abbrev pub after_pull : World → GroundState → Option FrameView → Outcome
-after_pull w after None = replied Nothing (record w { station = after })
-after_pull w after (Some frame) = replied (Sent (spelling On frame)) (record w {
-  station = after;
+abbrev pub world_after_pull : World → GroundState → Option FrameView → WorldOutcome
+world_after_pull w after None = world_reply Nothing (record w { ground_node = after })
+world_after_pull w after (Some frame) = world_reply (Sent (spelling On frame)) (record w {
+  ground_node = after;
   up = w.up ++ spelling On frame ∷ [];
-  session = record w.session { sent = w.session.sent ++ first_sent w.station.fop.vs frame.body };
+  session =
+      record w.session { sent = w.session.sent ++ first_sent w.ground_node.fop.vs frame.body };
 })
 
-abbrev pub after_send : World → GroundOutcome (Option FrameView) → Outcome
-after_send w o = after_pull w o.after o.answer
+abbrev pub world_after_send : World → GroundOutcome (Option FrameView) → WorldOutcome
+world_after_send w o = world_after_pull w o.after o.answer
 
 -- the first frame on its way up arrives, is lost or is damaged
 
-abbrev pub after_receipt : World → List (List ℕ) → CraftOutcome Received → Outcome
-after_receipt w up o = replied (Up o.answer) (record w { up = up; craft = o.after })
+abbrev pub world_after_receipt : World → List (List ℕ) → SpacecraftOutcome Received → WorldOutcome
+world_after_receipt w up o = world_reply (Up o.answer) (record w { up = up; spacecraft = o.after })
 
-abbrev pub up_delivered : World → List (List ℕ) → Outcome
-up_delivered w [] = refused w NothingInTransit
-up_delivered w (octets ∷ up) = after_receipt w up (craft_step w.craft (on_board.Receive octets))
+abbrev pub up_deliver_step : World → List (List ℕ) → WorldOutcome
+up_deliver_step w [] = world_refusal w NothingInTransit
+up_deliver_step w (octets ∷ up) =
+    world_after_receipt w up (spacecraft_step w.spacecraft (spacecraft_calls.Receive octets))
 
-abbrev pub up_lost : World → List (List ℕ) → Outcome
-up_lost w [] = refused w NothingInTransit
-up_lost w (octets ∷ up) = replied Lost (record w { up = up })
+abbrev pub up_lose_step : World → List (List ℕ) → WorldOutcome
+up_lose_step w [] = world_refusal w NothingInTransit
+up_lose_step w (octets ∷ up) = world_reply Lost (record w { up = up })
 
-abbrev pub up_detected : World → List (List ℕ) → Result FrameView TcFault → Outcome
-up_detected w up (Ok frame) = refused w NotDetectable
-up_detected w up (Err fault) = replied (Up (receiving.Invalid fault)) (record w { up = up })
+abbrev pub up_damage_outcome : World → List (List ℕ) → Result FrameView TcFault → WorldOutcome
+up_damage_outcome w up (Ok frame) = world_refusal w NotDetectable
+up_damage_outcome w up (Err fault) =
+    world_reply (Up (received_cases.Invalid fault)) (record w { up = up })
 
-abbrev pub up_damaged : World → List (List ℕ) → List ℕ → Outcome
-up_damaged w [] damaged = refused w NothingInTransit
-up_damaged w (octets ∷ up) damaged = up_detected w up (command.frame_at On damaged)
+abbrev pub up_damage_step : World → List (List ℕ) → List ℕ → WorldOutcome
+up_damage_step w [] damaged = world_refusal w NothingInTransit
+up_damage_step w (octets ∷ up) damaged = up_damage_outcome w up (command.frame_at On damaged)
 
 -- the spacecraft sends a telemetry frame
 
-abbrev pub after_report : World → CraftOutcome telemetry.FrameView → Outcome
-after_report w o = replied (Reported (report_of w.craft.farm w.craft.config.vcid)) (record w {
-  craft = o.after;
-  down = w.down ++ telemetry_writing.spelling o.answer ∷ [];
-})
+abbrev pub world_after_report : World → SpacecraftOutcome telemetry.FrameView → WorldOutcome
+world_after_report w o =
+    world_reply (Reported (report_of w.spacecraft.farm w.spacecraft.config.vcid)) (record w {
+      spacecraft = o.after;
+      down = w.down ++ telemetry_writing.spelling o.answer ∷ [];
+    })
 
 -- the first frame on its way down arrives, is lost or is damaged; NN(R) counts what is acknowledged
 
-abbrev pub session_heard : Session → GroundState → GroundState → Session
-session_heard s old new = record s {
+abbrev pub session_after_report : Session → GroundState → GroundState → Session
+session_after_report s old new = record s {
   confirmed = s.confirmed || confirms old.fop.state new.fop.state;
   acknowledged = s.acknowledged + ahead_by new.fop.nn old.fop.nn;
 }
 
-abbrev pub after_hearing : World → List (List ℕ) → GroundOutcome Heard → Outcome
-after_hearing w down o = replied (Down o.answer) (record w { station = o.after; down = down; session = session_heard w.session w.station o.after })
+abbrev pub world_after_telemetry : World → List (List ℕ) → GroundOutcome Heard → WorldOutcome
+world_after_telemetry w down o =
+    world_reply (Down o.answer) (record w {
+      ground_node = o.after;
+      down = down;
+      session = session_after_report w.session w.ground_node o.after;
+    })
 
-abbrev pub down_delivered : World → List (List ℕ) → Outcome
-down_delivered w [] = refused w NothingInTransit
-down_delivered w (octets ∷ down) = after_hearing w down (ground_step w.station (on_ground.Telemetry octets))
+abbrev pub down_deliver_step : World → List (List ℕ) → WorldOutcome
+down_deliver_step w [] = world_refusal w NothingInTransit
+down_deliver_step w (octets ∷ down) =
+    world_after_telemetry w down (ground_step w.ground_node (ground_calls.Telemetry octets))
 
-abbrev pub down_lost : World → List (List ℕ) → Outcome
-down_lost w [] = refused w NothingInTransit
-down_lost w (octets ∷ down) = replied Lost (record w { down = down })
+abbrev pub down_lose_step : World → List (List ℕ) → WorldOutcome
+down_lose_step w [] = world_refusal w NothingInTransit
+down_lose_step w (octets ∷ down) = world_reply Lost (record w { down = down })
 
-abbrev pub down_detected : World → List (List ℕ) → Result telemetry.FrameView TmFault → Outcome
-down_detected w down (Ok frame) = refused w NotDetectable
-down_detected w down (Err fault) = replied (Down (hearing.Invalid fault)) (record w { down = down })
+abbrev pub down_damage_outcome : World → List (List ℕ) → Result telemetry.FrameView TmFault
+    → WorldOutcome
+down_damage_outcome w down (Ok frame) = world_refusal w NotDetectable
+down_damage_outcome w down (Err fault) =
+    world_reply (Down (heard_cases.Invalid fault)) (record w { down = down })
 
-abbrev pub down_damaged : World → List (List ℕ) → List ℕ → Outcome
-down_damaged w [] damaged = refused w NothingInTransit
-down_damaged w (octets ∷ down) damaged = down_detected w down (telemetry_reading.frame_at w.station.config.frame_length damaged)
+abbrev pub down_damage_step : World → List (List ℕ) → List ℕ → WorldOutcome
+down_damage_step w [] damaged = world_refusal w NothingInTransit
+down_damage_step w (octets ∷ down) damaged =
+    down_damage_outcome w down
+    (telemetry_reading.frame_at w.ground_node.config.frame_length damaged)
 
 -- a tick passes, packets are taken on board, and telemetry is queued there
 
-abbrev pub after_tick : World → GroundOutcome (Option Alert) → Outcome
-after_tick w o = replied (reply_to_alert o.answer) (record w { station = o.after })
+abbrev pub world_after_tick : World → GroundOutcome (Option Alert) → WorldOutcome
+world_after_tick w o = world_reply (reply_to_alert o.answer) (record w { ground_node = o.after })
 
-abbrev pub after_taking : World → CraftOutcome (Option PacketOn) → Outcome
-after_taking w o = replied (reply_to_taking o.answer) (record w { craft = o.after })
+abbrev pub world_after_take : World → SpacecraftOutcome (Option PacketOn) → WorldOutcome
+world_after_take w o = world_reply (reply_to_taking o.answer) (record w { spacecraft = o.after })
 
-abbrev pub after_queueing : World → CraftOutcome (Result (Unit {0}) TmFault) → Outcome
-after_queueing w o = replied (reply_to_telemetry o.answer) (record w { craft = o.after })
+abbrev pub world_after_queueing : World → SpacecraftOutcome (Result (Unit {0}) TmFault)
+    → WorldOutcome
+world_after_queueing w o =
+    world_reply (reply_to_telemetry o.answer) (record w { spacecraft = o.after })
 
 -- ---- all events
 
-abbrev pub world_step : World → Event → Outcome
-world_step w (events.Submit m octets) = after_submission w (packet_on m octets.now) (ground_step w.station (on_ground.Submit m octets.now))
-world_step w (events.Bypass m octets) = after_bypass w (ground_step w.station (on_ground.Bypass m octets.now))
-world_step w (events.Directive directive) = after_directive w directive (ground_step w.station (on_ground.Direct directive))
-world_step w events.Send = after_send w (ground_step w.station on_ground.Pull)
-world_step w events.UpDeliver = up_delivered w w.up
-world_step w events.UpLose = up_lost w w.up
-world_step w (events.UpDamage octets) = up_damaged w w.up octets.now
-world_step w events.Report = after_report w (craft_step w.craft on_board.Report)
-world_step w events.DownDeliver = down_delivered w w.down
-world_step w events.DownLose = down_lost w w.down
-world_step w (events.DownDamage octets) = down_damaged w w.down octets.now
-world_step w events.Tick = after_tick w (ground_step w.station on_ground.Tick)
-world_step w events.Take = after_taking w (craft_step w.craft on_board.Take)
-world_step w events.TakeBypass = after_taking w (craft_step w.craft on_board.TakeBypass)
-world_step w (events.Telemetry octets) = after_queueing w (craft_step w.craft (on_board.Telemetry octets.now))
+abbrev pub world_step : World → Event → WorldOutcome
+world_step w (events.Submit m octets) =
+    world_after_submission w (packet_on m octets.now)
+    (ground_step w.ground_node (ground_calls.Submit m octets.now))
+world_step w (events.Bypass m octets) =
+    world_after_bypass w (ground_step w.ground_node (ground_calls.Bypass m octets.now))
+world_step w (events.Directive directive) =
+    world_after_directive w directive (ground_step w.ground_node (ground_calls.Direct directive))
+world_step w events.Send = world_after_send w (ground_step w.ground_node ground_calls.Pull)
+world_step w events.UpDeliver = up_deliver_step w w.up
+world_step w events.UpLose = up_lose_step w w.up
+world_step w (events.UpDamage octets) = up_damage_step w w.up octets.now
+world_step w events.Report =
+    world_after_report w (spacecraft_step w.spacecraft spacecraft_calls.Report)
+world_step w events.DownDeliver = down_deliver_step w w.down
+world_step w events.DownLose = down_lose_step w w.down
+world_step w (events.DownDamage octets) = down_damage_step w w.down octets.now
+world_step w events.Tick = world_after_tick w (ground_step w.ground_node ground_calls.Tick)
+world_step w events.Take = world_after_take w (spacecraft_step w.spacecraft spacecraft_calls.Take)
+world_step w events.TakeBypass =
+    world_after_take w (spacecraft_step w.spacecraft spacecraft_calls.TakeBypass)
+world_step w (events.Telemetry octets) =
+    world_after_queueing w (spacecraft_step w.spacecraft (spacecraft_calls.Telemetry octets.now))
 
 -- ---- a run: where it leads, and what it answers to each event
 
@@ -306,4 +361,5 @@ world_run w (event ∷ more) = world_run (world_step w event).after more
 
 abbrev pub run_answers : World → List Event → List (Result ReplyView SimFault)
 run_answers w [] = []
-run_answers w (event ∷ more) = (world_step w event).answer ∷ run_answers (world_step w event).after more
+run_answers w (event ∷ more) =
+    (world_step w event).answer ∷ run_answers (world_step w event).after more

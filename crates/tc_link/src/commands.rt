@@ -2,7 +2,7 @@
 
 ghost use Rattle.std.specs.Prelude.{◌≡◌};
 ghost use Rattle.space_packet.specs.Layout.{packet_view};
-ghost use Rattle.tc_link.specs.Commands.{commands, are_commands};
+ghost use Rattle.tc_link.specs.Commands.{is_command_packet, are_commands};
 
 use space_packet::{Packet, PacketKind, decode};
 
@@ -13,7 +13,7 @@ pub(crate) fn are_commands(octets: &[u8], blocking: bool) -> bool
     let mut rest = octets;
     let mut count: usize = 0;
     'packets: while let Ok((packet, size)) = decode(rest) {
-        if !is_command(&packet) {
+        if !is_command_packet(&packet) {
             return false;
         }
         count += 1;
@@ -29,8 +29,8 @@ pub(crate) fn are_commands(octets: &[u8], blocking: bool) -> bool
     }
 }
 
-fn is_command(packet: &Packet<'_>) -> bool
-    ensures { result ≡ commands (packet_view packet.now) }
+fn is_command_packet(packet: &Packet<'_>) -> bool
+    ensures { result ≡ is_command_packet (packet_view packet.now) }
 {
     match packet.kind {
         PacketKind::Telecommand => packet.apid != 2047,

@@ -1,9 +1,9 @@
 // The node on the ground.
 
-mod hearing;
 mod pulling;
+mod receiving;
+mod simulated;
 mod submitting;
-mod telling;
 
 use crate::config::Config;
 use crate::fault::LinkFault;
@@ -45,7 +45,7 @@ impl Ground {
     ghost use Rattle.std.specs.Prelude.{◌≡◌, length, option_map, IfOk, OnErr, IsOkUnless};
     ghost use Rattle.cop1.specs.FopState.{IsFop};
     ghost use Rattle.tc_link.specs.Parameters.{IsConfig};
-    ghost use Rattle.tc_link.specs.Ground.{new_ground, ground_step, Direct, Tick, TakeTelemetry, settled, outstanding};
+    ghost use Rattle.tc_link.specs.Ground.{new_ground, ground_step, Direct, Tick, TakeTelemetry, settle_step, outstanding};
 
     /// A ground that has sent nothing, its sender in S6, with each field of the configuration in its
     /// range. The fault is 6 `Memory`.
@@ -140,7 +140,8 @@ impl Ground {
 
     /// Takes the oldest packet that telemetry frames carried.
     pub fn take_telemetry(&mut self) -> Option<Vec<u8>>
-        ensures answer { option_map (λ v. v.items) result ≡ (ground_step self.old TakeTelemetry).answer }
+        ensures answer { option_map (λ v. v.items) result
+            ≡ (ground_step self.old TakeTelemetry).answer }
         ensures after { self.new ≡ (ground_step self.old TakeTelemetry).after }
     {
         if self.waiting.is_empty() {
@@ -153,7 +154,7 @@ impl Ground {
     // Moves the oldest pending segment into the wait queue where its place is free. Once the sender has
     // given up nothing is pending.
     fn settle(&mut self)
-        ensures { self.new ≡ settled self.old }
+        ensures { self.new ≡ settle_step self.old }
     {
         if self.fop.state() == FopMode::S6 {
             self.pending.clear();

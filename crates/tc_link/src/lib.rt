@@ -7,6 +7,7 @@
 //! `Sim` is both with a link between them, to which events happen, and keeps records of the session.
 #![tactic(auto)]
 
+mod bypass_segments;
 mod commands;
 mod config;
 mod copying;
@@ -15,17 +16,17 @@ mod event;
 mod fault;
 mod ground_node;
 mod heard;
-mod history;
-mod keeping;
 mod laws;
-mod link;
 mod map_lists;
 mod map_packet;
 mod owned_segment;
 mod received;
 mod reply;
+mod segment_log;
+mod session;
 mod sim;
 mod spacecraft;
+mod world;
 
 pub use config::Config;
 pub use event::Event;

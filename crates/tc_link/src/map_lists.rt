@@ -43,7 +43,8 @@ pub(crate) fn make_room(
 pub(crate) fn append_on(lists: &mut [Vec<Vec<u8>>; 64], map: u8, packets: Vec<Vec<u8>>)
     requires map { map < 64 }
     requires room { HasRoom lists.old map (length packets.items) }
-    ensures { (m : ℕ) → packets_at lists.new m ≡ packets_at lists.old m ++ (if map == m then packets_view packets else []) }
+    ensures { (m : ℕ) → packets_at lists.new m
+        ≡ packets_at lists.old m ++ (if map == m then packets_view packets else []) }
 {
     append(&mut lists[usize::from(map)], packets);
 }

@@ -2,16 +2,16 @@
 
 mod fault;
 mod opening;
-mod running;
+mod runs;
 
 use crate::config::Config;
 use crate::event::Event;
-use crate::link::Link;
 use crate::reply::Reply;
+use crate::world::World;
 use cop1::{Directive, FopMode};
 pub use fault::SimFault;
 pub(crate) use opening::Opening;
-pub use running::run;
+pub use runs::run;
 use std::alloc::Global;
 use std::marker::Model;
 
@@ -20,7 +20,7 @@ use std::marker::Model;
 /// begins with each initiation directive that the ground accepts.
 #[derive(Drop)]
 pub struct Sim {
-    link: Link,
+    world: World,
     answers: Vec<Result<Reply, SimFault>>,
 }
 
@@ -44,7 +44,7 @@ impl Sim {
     ghost use Rattle.tc_link.specs.Packets.{packet_view};
     ghost use Rattle.tc_link.specs.Parameters.{config_fault};
     ghost use Rattle.tc_link.specs.Replies.{reply_view};
-    ghost use Rattle.tc_link.specs.Simulation.{new_sim, recorded, refused_field, TakesNone};
+    ghost use Rattle.tc_link.specs.Simulation.{IsReplyTo, new_sim, refused_field, TakesNone};
     ghost use Rattle.tc_link.specs.Confirmation.{ConfirmsExactly, IsChecking, IsConfirmedExactly};
     ghost use Rattle.tc_link.specs.FalseAlarms.{HasNoFalseAlarm};
     ghost use Rattle.tc_link.specs.InOrder.{IsInOrder, HasPlainHistory};
@@ -63,9 +63,9 @@ impl Sim {
         if let Some(field) = config.fault() {
             return Err(SimFault::Config(field));
         }
-        let link = Link::new(alloc, &config)?;
+        let world = World::new(alloc, &config)?;
         Ok(Sim {
-            link,
+            world,
             answers: Vec::new(alloc),
         })
     }
@@ -78,21 +78,26 @@ impl Sim {
     /// the ground holds acknowledged was accepted on board; and where it was begun by check, Unlock or
     /// Set V(R), no alert is a false one.
     pub fn step(&mut self, event: Event<'_>) -> Result<Reply, SimFault>
-        ensures reply { IfOk result (λ reply. (world_step self.old.world event.entry).answer ≡ Ok (reply_view reply)) }
-        ensures after { OnOk result (self.new ≡ record self.old { world = (world_step self.old.world event.entry).after }) }
+        ensures reply { IfOk result (IsReplyTo self.old.world event.entry) }
+        ensures after { OnOk result
+            (self.new ≡ record self.old { world = (world_step self.old.world event.entry).after }) }
         ensures err { OnErr result (self.new ≡ self.old) }
-        ensures refused { IfErr (world_step self.old.world event.entry).answer (λ e. result ≡ Err e) }
-        ensures memory { IfOk (world_step self.old.world event.entry).answer (λ _. IsOkUnless result SimFault.Memory) }
+        ensures refused { IfErr (world_step self.old.world event.entry).answer
+            (λ e. result ≡ Err e) }
+        ensures memory { IfOk (world_step self.old.world event.entry).answer
+            (λ _. IsOkUnless result SimFault.Memory) }
         ensures none { TakesNone event.entry → result ≢ Err SimFault.Memory }
         ensures in_order { IsClean self.new.world → IsInOrder self.new.world }
         ensures history { IsClean self.new.world → HasPlainHistory self.new.world }
         ensures window { IsClean self.new.world → KeepsToWindow self.new.world }
         ensures confirmed { IsClean self.new.world → IsConfirmedExactly self.new.world }
-        ensures confirms { IsClean self.old.world → IsChecking (directive_of self.old.world) → ConfirmsExactly self.old.world self.new.world }
-        ensures no_false_alarm { IsClean self.old.world → IsChecking (directive_of self.old.world) → HasNoFalseAlarm self.old.world event.entry }
+        ensures confirms { IsClean self.old.world → IsChecking (directive_of self.old.world)
+            → ConfirmsExactly self.old.world self.new.world }
+        ensures no_false_alarm { IsClean self.old.world → IsChecking (directive_of self.old.world)
+            → HasNoFalseAlarm self.old.world event.entry }
     {
         event.has_octets();
-        self.link.step(event)
+        self.world.step(event)
     }
 
     /// What was answered to each event of `run`.
@@ -104,16 +109,16 @@ impl Sim {
 
     /// The state of the ground's sender.
     pub fn state(&self) -> FopMode
-        ensures { result ≡ self.now.world.station.fop.state }
+        ensures { result ≡ self.now.world.ground_node.fop.state }
     {
-        self.link.station().state()
+        self.world.ground_node().state()
     }
 
     /// How many segments were submitted and are not acknowledged.
     pub fn outstanding(&self) -> usize
-        ensures { result ≡ length (outstanding self.now.world.station) }
+        ensures { result ≡ length (outstanding self.now.world.ground_node) }
     {
-        self.link.station().outstanding()
+        self.world.ground_node().outstanding()
     }
 
     /// Whether the session began clean: with nothing on its way and, for an initiation without a check,
@@ -121,7 +126,7 @@ impl Sim {
     pub fn clean(&self) -> Option<bool>
         ensures { result ≡ option_map (λ o. o.clean) self.now.world.session.opening }
     {
-        match self.link.opening() {
+        match self.world.opening() {
             Some(opening) => Some(opening.clean),
             None => None,
         }
@@ -131,7 +136,7 @@ impl Sim {
     pub fn begun(&self) -> Option<Directive>
         ensures { result ≡ option_map (λ o. o.directive) self.now.world.session.opening }
     {
-        match self.link.opening() {
+        match self.world.opening() {
             Some(opening) => Some(opening.directive),
             None => None,
         }
@@ -141,21 +146,21 @@ impl Sim {
     pub fn confirmed(&self) -> bool
         ensures { result ≡ self.now.world.session.confirmed }
     {
-        self.link.confirmed()
+        self.world.confirmed()
     }
 
     /// The octets of each submission that was accepted in the session, with its MAP.
     pub fn submissions(&self) -> &[(u8, Vec<u8>)]
         ensures { map packet_view result.now ≡ self.now.world.session.submissions }
     {
-        self.link.submissions()
+        self.world.submissions()
     }
 
     /// The packets of these submissions on a MAP, in their order; above MAP 63 there are none.
     pub fn submitted(&self, map: u8) -> &[Vec<u8>]
         ensures { octets_of result.now ≡ submitted self.now.world map }
     {
-        self.link.submitted(map)
+        self.world.submitted(map)
     }
 
     /// The packets that are ready on board on a MAP since the session began, taken or not, in their
@@ -163,27 +168,27 @@ impl Sim {
     pub fn delivered(&self, map: u8) -> &[Vec<u8>]
         ensures { octets_of result.now ≡ delivered self.now.world map }
     {
-        self.link.delivered(map)
+        self.world.delivered(map)
     }
 
     /// The data fields of the session's Type-AD frames, in the order in which they were first sent.
     pub fn sent(&self) -> &[Vec<u8>]
         ensures { octets_of result.now ≡ self.now.world.session.sent }
     {
-        self.link.sent()
+        self.world.sent()
     }
 
     /// The data fields of the Type-AD frames that were accepted on board since the session began.
     pub fn accepted(&self) -> &[Vec<u8>]
         ensures { octets_of result.now ≡ accepted self.now.world }
     {
-        self.link.accepted()
+        self.world.accepted()
     }
 
     /// How many of the first ones of `sent` the ground holds acknowledged.
     pub fn acknowledged(&self) -> usize
         ensures { result ≡ self.now.world.session.acknowledged }
     {
-        self.link.acknowledged()
+        self.world.acknowledged()
     }
 }

@@ -1,17 +1,17 @@
 // The node on board.
 
-mod foreseeing;
+mod acceptance;
 mod receiving;
-mod telling;
+mod simulated;
 
 use crate::config::Config;
 use crate::fault::LinkFault;
-use crate::history::History;
 use crate::map_packet::MapPacket;
+use crate::segment_log::SegmentLog;
+pub(crate) use acceptance::Acceptance;
 use circular_buffer::HeapCircularBuffer;
 use clcw::encode;
 use cop1::Farm;
-pub(crate) use foreseeing::Foreseen;
 use map_service::Assembler;
 use std::alloc::Global;
 use std::collections::VecDeque;
@@ -26,18 +26,18 @@ pub struct Spacecraft {
     config: Config,
     farm: Farm,
     assembler: Assembler,
-    history: History,
+    accepted: SegmentLog,
     ready: VecDeque<MapPacket>,
     bypass: HeapCircularBuffer<MapPacket>,
     builder: TmBuilder,
 }
 
 impl Model for Spacecraft {
-    ghost use Rattle.tc_link.specs.Craft.{CraftState};
+    ghost use Rattle.tc_link.specs.Spacecraft.{SpacecraftState};
 
-    ghost Value = { CraftState };
+    ghost Value = { SpacecraftState };
 
-    ghost use Rattle.tc_link.specs.CraftFields.{state_of, IsSound};
+    ghost use Rattle.tc_link.specs.SpacecraftFields.{state_of, IsSound};
 
     ghost view = { state_of };
 
@@ -50,14 +50,14 @@ impl Spacecraft {
     ghost use Rattle.tm_link.specs.Layout.{IsTmFrame};
     ghost use Rattle.tm_link.specs.Writing.{spelling};
     ghost use Rattle.tc_link.specs.Parameters.{IsConfig};
-    ghost use Rattle.tc_link.specs.Craft.{new_craft, craft_step, Take, TakeBypass, Telemetry, Report, IsOwnFrame};
+    ghost use Rattle.tc_link.specs.Spacecraft.{new_spacecraft, spacecraft_step, Take, TakeBypass, Telemetry, Report, IsOwnFrame};
     ghost use Rattle.tc_link.specs.Packets.{packet_view};
 
     /// A spacecraft that has received nothing, with each field of the configuration in its range. The
     /// fault is 6 `Memory`.
     pub fn new(alloc: Global, config: &Config) -> Result<Spacecraft, LinkFault>
         requires { IsConfig config.now }
-        ensures made { IfOk result (λ craft. craft ≡ new_craft config.now) }
+        ensures made { IfOk result (λ spacecraft. spacecraft ≡ new_spacecraft config.now) }
         ensures fault { IsOkUnless result LinkFault.Memory }
     {
         let Ok(farm) = Farm::new(config.width as u8, 0) else {
@@ -77,7 +77,7 @@ impl Spacecraft {
             config: *config,
             farm,
             assembler: Assembler::new(alloc, config.limits()),
-            history: History::new(),
+            accepted: SegmentLog::new(),
             ready: VecDeque::new(alloc),
             bypass,
             builder,
@@ -87,8 +87,8 @@ impl Spacecraft {
     /// Takes the oldest packet that sequence-controlled frames carried, with its MAP. There is room
     /// on board again where fewer packets than the ready slots wait then.
     pub fn take(&mut self) -> Option<(u8, Vec<u8>)>
-        ensures answer { option_map packet_view result ≡ (craft_step self.old Take).answer }
-        ensures after { self.new ≡ (craft_step self.old Take).after }
+        ensures answer { option_map packet_view result ≡ (spacecraft_step self.old Take).answer }
+        ensures after { self.new ≡ (spacecraft_step self.old Take).after }
     {
         let Some(packet) = self.ready.pop_front() else {
             return None;
@@ -101,8 +101,9 @@ impl Spacecraft {
 
     /// Takes the oldest packet that frames past the sequence control carried, with its MAP.
     pub fn take_bypass(&mut self) -> Option<(u8, Vec<u8>)>
-        ensures answer { option_map packet_view result ≡ (craft_step self.old TakeBypass).answer }
-        ensures after { self.new ≡ (craft_step self.old TakeBypass).after }
+        ensures answer { option_map packet_view result
+            ≡ (spacecraft_step self.old TakeBypass).answer }
+        ensures after { self.new ≡ (spacecraft_step self.old TakeBypass).after }
     {
         match self.bypass.pop_front() {
             Some(packet) => Some(packet.into_parts()),
@@ -113,8 +114,10 @@ impl Spacecraft {
     /// Queues a packet to be sent as telemetry. Refuses by 8 `NotAPacket` octets that are not exactly
     /// one packet, or an idle packet, and then by 7 `Memory`; the spacecraft is as it was then.
     pub fn telemetry(&mut self, packet: &[u8]) -> Result<(), TmFault>
-        ensures ok { OnOk result (self.new ≡ (craft_step self.old (Telemetry packet.now)).after) }
-        ensures taken { OnOk result ((craft_step self.old (Telemetry packet.now)).answer ≡ Ok tt) }
+        ensures ok { OnOk result
+            (self.new ≡ (spacecraft_step self.old (Telemetry packet.now)).after) }
+        ensures taken { OnOk result
+            ((spacecraft_step self.old (Telemetry packet.now)).answer ≡ Ok tt) }
         ensures err { OnErr result (self.new ≡ self.old) }
         ensures fault { IfErr result (λ e. e ≡ queue_fault packet.now) }
     {
@@ -125,12 +128,14 @@ impl Spacecraft {
     /// says how many octets it has. Octets past it stay.
     pub fn report(&mut self, out: &mut [u8; 2048]) -> usize
         ensures count { result ≡ self.old.config.frame_length }
-        ensures frame { out.new ≡ spelling (craft_step self.old Report).answer ++ drop result out.old }
-        ensures after { self.new ≡ (craft_step self.old Report).after }
+        ensures frame { out.new
+            ≡ spelling (spacecraft_step self.old Report).answer ++ drop result out.old }
+        ensures after { self.new ≡ (spacecraft_step self.old Report).after }
 
         // So the octets are this frame, of the spacecraft's own channel.
-        ensures spells { IsTmFrame result (craft_step self.old Report).answer (take result out.new) }
-        ensures own { IsOwnFrame self.old.config (craft_step self.old Report).answer }
+        ensures spells { IsTmFrame result (spacecraft_step self.old Report).answer
+            (take result out.new) }
+        ensures own { IsOwnFrame self.old.config (spacecraft_step self.old Report).answer }
     {
         let Ok(ocf) = encode(&self.farm.report(self.config.vcid as u8)) else {
             unreachable!()

@@ -1,7 +1,7 @@
 -- What the calls of a device did: reads, which take octets from it, or writes, which hand octets to it.
 use Rattle.std.specs.Prelude.{ℕ, ◌+◌, Bool, ◌==◌, List, ◌++◌, length}
-use Rattle.tctool.specs.declared.told.Call.{Call}
-use Rattle.tctool.specs.declared.told.Call.TheVariants.{Moved, Failed}
+use Rattle.tctool.specs.declared.device_log.Call.{Call}
+use Rattle.tctool.specs.declared.device_log.Call.TheVariants.{Moved, Failed}
 
 -- the octets that went through, with those of one call more
 abbrev pub octets_with : List ℕ → Call → List ℕ

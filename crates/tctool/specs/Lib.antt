@@ -1,5 +1,5 @@
 pub mod Calls
-pub mod Telling
+pub mod DeviceLog
 pub mod Devices
 pub mod Text
 pub mod Cutting

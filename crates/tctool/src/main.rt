@@ -6,6 +6,7 @@
 ghost use Rattle.tctool.specs.Ranges.{IsInRange};
 
 mod cutter;
+mod device_log;
 mod dump;
 mod ending;
 mod farm;
@@ -26,7 +27,6 @@ mod stream;
 mod task;
 mod telemetry;
 mod text;
-mod told;
 mod words;
 
 use clap::Error;

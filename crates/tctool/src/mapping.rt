@@ -61,12 +61,15 @@ impl MapListing {
         &mut self,
         text: &mut String,
         index: u64,
-        segment: &Segment,
+        segment: Segment,
     ) -> Result<(), AllocError>
-        ensures text { OnOk result (string_bytes text.new ≡ string_bytes text.old ++ outcome_text index segment.now.header.map (step_at self.old.assembler (segment_view segment.now))) }
-        ensures state { OnOk result (self.new ≡ record self.old { assembler = after_step self.old.assembler (segment_view segment.now) }) }
+        ensures text { OnOk result (string_bytes text.new ≡ string_bytes text.old ++ outcome_text index segment.entry.header.map (step_at self.old.assembler (segment_view segment.entry))) }
+        ensures state { OnOk result (self.new ≡ record self.old { assembler = after_step self.old.assembler (segment_view segment.entry) }) }
     {
-        let Ok(taken) = self.assembler.take(segment) else {
+        if let Some(packet) = self.assembler.passing(&segment) {
+            return push_packet(text, self.alloc, segment.header.map, packet);
+        }
+        let Ok(taken) = self.assembler.take(&segment) else {
             return Err(AllocError);
         };
         push_cause(text, index, taken.dropped)?;
@@ -79,12 +82,13 @@ impl MapListing {
     }
 
     /// Gives a frame to the receiver, whose buffer is free, and appends its lines.
-    fn push_body(&mut self, text: &mut String, index: u64, body: &Body) -> Result<(), AllocError>
-        ensures text { OnOk result (string_bytes text.new ≡ string_bytes text.old ++ body_text self.old index (body_view body.now)) }
-        ensures state { OnOk result (self.new ≡ after_body self.old (body_view body.now)) }
+    #[inline(always)]
+    fn push_body(&mut self, text: &mut String, index: u64, body: Body) -> Result<(), AllocError>
+        ensures text { OnOk result (string_bytes text.new ≡ string_bytes text.old ++ body_text self.old index (body_view body.entry)) }
+        ensures state { OnOk result (self.new ≡ after_body self.old (body_view body.entry)) }
     {
         match body {
-            Body::Ad { n, segment } => match self.farm.ad(*n, true) {
+            Body::Ad { n, segment } => match self.farm.ad(n, true) {
                 Verdict::Accepted => self.push_segment(text, index, segment),
                 Verdict::Ahead
                 | Verdict::NoBuffer
@@ -101,13 +105,14 @@ impl MapListing {
                 Ok(())
             }
             Body::Bc(Command::SetVr(vr)) => {
-                self.farm.set_vr(*vr);
+                self.farm.set_vr(vr);
                 Ok(())
             }
         }
     }
 
     /// Takes a record, appends its lines, and answers whether it is a frame.
+    #[inline(always)]
     fn push_frame(
         &mut self,
         text: &mut String,
@@ -121,7 +126,7 @@ impl MapListing {
     {
         match decode(octets, check) {
             Ok(frame) => {
-                self.push_body(text, index, &frame.body)?;
+                self.push_body(text, index, frame.body)?;
                 Ok(true)
             }
             Err(fault) => {
@@ -166,6 +171,13 @@ fn push_cause(text: &mut String, index: u64, dropped: Option<Dropped>) -> Result
     }
 }
 
+/// Appends the line of a packet that is handed out.
+fn push_packet(text: &mut String, alloc: Global, map: u8, packet: &[u8]) -> Result<(), AllocError>
+    ensures { OnOk result (string_bytes text.new ≡ string_bytes text.old ++ on_map_line (codes "packet ") map packet.now) }
+{
+    push_on_map(text, alloc, "packet ", map, packet)
+}
+
 /// Appends the line of each packet that is handed out.
 fn push_packets(
     text: &mut String,
@@ -176,14 +188,14 @@ fn push_packets(
     ensures { OnOk result (string_bytes text.new ≡ string_bytes text.old ++ packet_lines map (octets_of packets.now)) }
 {
     for packet in packets {
-        push_on_map(text, alloc, "packet ", map, packet.as_slice())?;
+        push_packet(text, alloc, map, packet.as_slice())?;
     }
     Ok(())
 }
 
 // Whether the segment of a Type-BD frame is one packet, whole.
-fn is_bypass(segment: &Segment) -> bool
-    ensures { result ≡ is_bypass (segment_view segment.now) }
+fn is_bypass(segment: Segment) -> bool
+    ensures { result ≡ is_bypass (segment_view segment.entry) }
 {
     match segment.header.flags {
         SegmentFlags::Alone => are_one_packet(segment.payload),
@@ -195,9 +207,9 @@ fn push_bypass(
     text: &mut String,
     alloc: Global,
     index: u64,
-    segment: &Segment,
+    segment: Segment,
 ) -> Result<(), AllocError>
-    ensures { OnOk result (string_bytes text.new ≡ string_bytes text.old ++ bypass_text index (segment_view segment.now)) }
+    ensures { OnOk result (string_bytes text.new ≡ string_bytes text.old ++ bypass_text index (segment_view segment.entry)) }
 {
     if is_bypass(segment) {
         push_on_map(text, alloc, "bypass ", segment.header.map, segment.payload)

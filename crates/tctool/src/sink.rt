@@ -3,7 +3,7 @@
 ghost use Rattle.std.specs.Prelude.{◌≡◌, ◌≤◌, ◌+◌, ◌++◌, ℕ, List, length, IfOk};
 ghost use Rattle.tctool.specs.Devices.{taken, write_failed};
 
-use crate::told::{Call, Told};
+use crate::device_log::{Call, DeviceLog};
 use std::io;
 use std::io::Write;
 
@@ -26,22 +26,22 @@ pub trait Sink {
 #[derive(Drop)]
 pub struct Writer<W> {
     inner: W,
-    told: Told,
+    log: DeviceLog,
 }
 
 impl<W> Writer<W> {
     pub fn new(inner: W) -> Self {
         Writer {
             inner,
-            told: Told::new(),
+            log: DeviceLog::new(),
         }
     }
 }
 
 impl<W: Write> Sink for Writer<W> {
-    ghost taken_octets = { λ s. s.told.octets };
+    ghost taken_octets = { λ s. s.log.octets };
 
-    ghost failures = { λ s. s.told.failures };
+    ghost failures = { λ s. s.log.failures };
 
     fn write(&mut self, text: &[u8]) -> io::Result<usize> {
         let result = self.inner.write(text);
@@ -50,7 +50,7 @@ impl<W: Write> Sink for Writer<W> {
             Ok(count) => Call::Moved(&text[..*count]),
             Err(_) => Call::Failed,
         };
-        self.told = self.told.then(&call);
+        self.log = self.log.then(&call);
         result
     }
 }

@@ -3,7 +3,7 @@
 ghost use Rattle.std.specs.Prelude.{◌≡◌, ◌≤◌, ◌<◌, ◌+◌, ◌++◌, ℕ, Bool, List, length, IfOk, OnErr};
 ghost use Rattle.tctool.specs.Devices.{taken, read_failed, EndsOrNot};
 
-use crate::told::{Call, Told};
+use crate::device_log::{Call, DeviceLog};
 use std::io;
 use std::io::Read;
 
@@ -31,33 +31,33 @@ pub trait Source {
 #[derive(Drop)]
 pub struct Reader<R> {
     inner: R,
-    told: Told,
+    log: DeviceLog,
 }
 
 impl<R> Reader<R> {
     pub fn new(inner: R) -> Self {
         Reader {
             inner,
-            told: Told::new(),
+            log: DeviceLog::new(),
         }
     }
 }
 
 impl<R: Read> Source for Reader<R> {
-    ghost given = { λ s. s.told.octets };
+    ghost given = { λ s. s.log.octets };
 
-    ghost has_ended = { λ s. s.told.has_ended };
+    ghost has_ended = { λ s. s.log.has_ended };
 
-    ghost failures = { λ s. s.told.failures };
+    ghost failures = { λ s. s.log.failures };
 
     fn read(&mut self, piece: &mut [u8]) -> io::Result<usize> {
         match self.inner.read(piece) {
             Ok(count) => {
-                self.told = self.told.then(&Call::Moved(&piece[..count]));
+                self.log = self.log.then(&Call::Moved(&piece[..count]));
                 Ok(count)
             }
             Err(error) => {
-                self.told = self.told.then(&Call::Failed);
+                self.log = self.log.then(&Call::Failed);
                 Err(error)
             }
         }

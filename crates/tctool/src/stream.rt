@@ -176,7 +176,7 @@ pub fn list_stream<S: Cutter + Drop, C: Listing<S> + Drop, R: Source, W: Sink>(
         all_good: true,
     };
     let mut text = String::new(alloc);
-    let mut piece = [0u8; 4096];
+    let mut piece = [0u8; 16384];
     let mut total: u64 = 0;
     loop {
         let Ok(count) = reader.read(&mut piece) else {

@@ -1,22 +1,21 @@
 -- Packets behind the stream, and frames that go on with it.
-use Rattle.std.proofs.Common.{◌≡◌, ◌<◌, ℕ, ◌+◌, ◌*◌, ◌%◌, false, true, List, [], ◌∷◌, ◌++◌, length, take, refl, sym, ap, subst, ◌∙◌, arith, inl, inr, length-append, append_assoc}
+use Rattle.std.proofs.Common.{◌≡◌, ℕ, ◌+◌, ◌%◌, true, List, [], ◌∷◌, ◌++◌, length, refl, sym, ap, subst, ◌∙◌, arith, inl, inr, length-append, append_assoc}
 use Rattle.std.specs.List.{AllByRecursion, concat}
-use Rattle.std.proofs.lemmas.Bool.{ne_eqb}
 use Rattle.std.proofs.lemmas.List.{append-nil}
 use Rattle.std.proofs.lemmas.List.Folds.{concat-append}
-use Rattle.octets.specs.Number.{number_of, IsOctets}
+use Rattle.octets.specs.Number.{IsOctets}
 use Rattle.octets.specs.Records.{IsRecord}
 use Rattle.space_packet.specs.Laws.{own_extent_of}
-use Rattle.space_packet.specs.Layout.{PacketView, type_bit, secondary_bit}
+use Rattle.space_packet.specs.Layout.{PacketView}
 use Rattle.space_packet.specs.Reading.{extent_at}
 use Rattle.tm_link.specs.Building.{BuilderState, IsToSend, is_to_send, new_builder, queued, idle_tail}
-use Rattle.tm_link.specs.Extraction.{is_idle, handed_out}
+use Rattle.tm_link.specs.Extraction.{handed_out}
 use Rattle.tm_link.specs.Layout.{FrameView}
 use Rattle.tm_link.specs.Laying.{held_by, IsCutAt, IsLaidOutBy}
 use Rattle.tm_link.specs.Stream.{IsPointed, slice_of, carried, IsLaidOut}
 use Rattle.tm_link.proofs.Passing.{cut_more}
 use Rattle.tm_link.proofs.Places.{last_or_before, pointed_more, carried-append, length-carried}
-use Rattle.tm_link.proofs.Queueing.{to_send_is}
+use Rattle.tm_link.proofs.Queueing.{to_send_is, not_idle}
 use Rattle.tm_link.proofs.Records.{handed_out-append}
 
 -- ---- a new builder
@@ -135,12 +134,7 @@ to_send_record p octets h = let own = own_extent_of p octets h.packet in record 
 
 -- a packet that is queued is handed out
 to_send_handed : (p : PacketView) (octets : List ℕ) → IsToSend p octets → handed_out (octets ∷ []) ≡ octets ∷ []
-to_send_handed p octets h =
-    let first : number_of (take 2 octets) ≡ 4096 * type_bit p.kind + 2048 * secondary_bit p.secondary + p.apid = h.packet.first in
-    let low : p.apid < 2048 = h.packet.apid in
-    let apid : number_of (take 2 octets) % 2048 ≡ p.apid = omega arith in
-    let idle : is_idle octets ≡ false = ne_eqb _ _ (λ e. h.not_idle (sym apid ∙ e)) in
-    rw idle refl
+to_send_handed p octets h = rw (not_idle p octets h) refl
 
 pub queue_laid : (s : BuilderState) (octets : List ℕ) (packets : List (List ℕ)) (frames : List FrameView) → IsOctets octets → is_to_send octets ≡ true
     → IsLaidOutBy s packets frames → IsLaidOutBy (queued s octets) (packets ++ octets ∷ []) frames

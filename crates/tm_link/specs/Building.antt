@@ -1,13 +1,13 @@
 -- Building the frames of a stream of packets (this project's rule for CCSDS 132.0-B-3, 4.1.4 and 4.2.2).
-use Rattle.std.specs.Prelude.{◌≢◌, ℕ, ◌+◌, ◌-◌, ◌%◌, max, List, [], ◌∷◌, ◌++◌, length, take, drop, replicate, Bool, false, not, ◌&&◌, ◌==◌, nat_lt, nat_le, if◌then◌else◌, Result, Ok, Err}
+use Rattle.std.specs.Prelude.{◌≢◌, ℕ, ◌+◌, ◌-◌, ◌%◌, max, List, [], ◌∷◌, ◌++◌, length, take, drop, replicate, Bool, not, ◌&&◌, ◌==◌, nat_lt, nat_le, if◌then◌else◌}
 use Rattle.byteorder.specs.Endian.{big_bytes}
-use Rattle.space_packet.specs.declared.fault.PacketFault.{PacketFault}
 use Rattle.space_packet.specs.Layout.{PacketView, IsPacket}
-use Rattle.space_packet.specs.Reading.{packet_at}
+use Rattle.space_packet.specs.Packets.{is_packet}
 use Rattle.tm_link.specs.declared.frame.Pointer.{Pointer}
 use Rattle.tm_link.specs.declared.frame.Pointer.TheVariants.{At, NoStart, OnlyIdle}
 use Rattle.tm_link.specs.declared.fault.TmFault.{TmFault}
 use Rattle.tm_link.specs.declared.fault.TmFault.TheVariants as faults
+use Rattle.tm_link.specs.Extraction.{is_idle}
 use Rattle.tm_link.specs.Layout.{FrameView}
 
 -- What a builder holds. The octets that are still to be sent are those left of an idle packet, and then `pending`: the
@@ -36,13 +36,9 @@ new_builder scid vcid total = record { scid = scid; vcid = vcid; total = total; 
 
 -- ---- queueing
 
-abbrev pub is_whole : Result (PacketView × ℕ) PacketFault → ℕ → Bool
-is_whole (Ok p) size = (p.1 == size) && not (p.0.apid == 2047)
-is_whole (Err e) size = false
-
 -- the octets are exactly one packet, which isn't idle
 abbrev pub is_to_send : List ℕ → Bool
-is_to_send octets = is_whole (packet_at octets) (length octets)
+is_to_send octets = is_packet octets && not (is_idle octets)
 
 -- the octets are this packet, which isn't idle
 pub record IsToSend (p : PacketView) (octets : List ℕ) : Type 0 where

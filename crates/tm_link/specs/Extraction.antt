@@ -1,5 +1,5 @@
 -- Extracting packets from frames (this project's rule for CCSDS 132.0-B-3, 4.3.2).
-use Rattle.std.specs.Prelude.{ℕ, ◌+◌, ◌-◌, ◌%◌, List, [], ◌∷◌, ◌++◌, length, take, drop, map, Bool, false, not, ◌==◌, nat_lt, if◌then◌else◌, Option, Some, None, Result, Ok, Err, Vec}
+use Rattle.std.specs.Prelude.{◌≡◌, ℕ, ◌+◌, ◌-◌, ◌%◌, List, [], ◌∷◌, ◌++◌, length, take, drop, map, Bool, false, not, ◌==◌, nat_lt, if◌then◌else◌, Option, Some, None, Result, Ok, Err, Vec}
 use Rattle.std.specs.List.{filter}
 use Rattle.std.specs.declared.alloc.Global.{Global}
 use Rattle.octets.specs.Number.{number_of}
@@ -113,3 +113,7 @@ extract_step s f =
 -- the octets of each
 abbrev pub octets_of : List (Vec ℕ Global) → List (List ℕ)
 octets_of packets = map (λ packet. packet.items) packets
+
+-- these packets are behind those that were there
+abbrev pub GrowsBy : Vec (Vec ℕ Global) Global → Vec (Vec ℕ Global) Global → List (List ℕ) → Type 0
+GrowsBy before after packets = octets_of after.items ≡ octets_of before.items ++ packets

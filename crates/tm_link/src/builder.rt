@@ -7,10 +7,12 @@ ghost use Rattle.tm_link.specs.Laying.{IsLaidOutBy};
 ghost use Rattle.tm_link.specs.Writing.{spelling};
 
 use crate::encoding::put_frame;
+use crate::ending::is_idle_with;
 use crate::fault::TmFault;
 use crate::filling::{pass, put_data};
 use crate::frame::{Pointer, TmFrame};
 use octets::remove_front;
+use space_packet::is_packet;
 use std::alloc::Global;
 use std::collections::VecDeque;
 use std::marker::Model;
@@ -83,7 +85,9 @@ impl TmBuilder {
         ensures fault { IfErr result (λ e. e ≡ queue_fault packet.now) }
 
         // The packet is the last of the stream, whose end is held.
-        ensures laid { OnOk result ((packets : List (List ℕ)) (frames : List FrameView) → IsLaidOutBy self.old packets frames → IsLaidOutBy self.new (packets ++ packet.now ∷ []) frames) }
+        ensures laid { OnOk result ((packets : List (List ℕ)) (frames : List FrameView)
+            → IsLaidOutBy self.old packets frames
+            → IsLaidOutBy self.new (packets ++ packet.now ∷ []) frames) }
     {
         if !is_whole_packet(packet) {
             return Err(TmFault::NotAPacket);
@@ -110,7 +114,9 @@ impl TmBuilder {
         ensures spells { IsTmFrame result (build_step self.old ocf).0 (take result out.new) }
 
         // The frame goes on with the stream where those before it ended.
-        ensures laid { (packets : List (List ℕ)) (frames : List FrameView) → IsLaidOutBy self.old packets frames → IsLaidOutBy self.new packets (frames ++ (build_step self.old ocf).0 ∷ []) }
+        ensures laid { (packets : List (List ℕ)) (frames : List FrameView)
+            → IsLaidOutBy self.old packets frames
+            → IsLaidOutBy self.new packets (frames ++ (build_step self.old ocf).0 ∷ []) }
     {
         let mut field = [0; 2036];
         let size = self.total - 12;
@@ -185,10 +191,7 @@ fn is_whole_packet(octets: &[u8]) -> bool
     ensures value { result ≡ is_to_send octets.now }
     ensures most { IsTrue result → length octets.now ≤ 65542 }
 {
-    match space_packet::decode(octets) {
-        Ok((packet, size)) => size == octets.len() && packet.apid != 2047,
-        Err(_) => false,
-    }
+    is_packet(octets) && !is_idle_with(octets, &[])
 }
 
 fn start_behind(left: usize, size: usize) -> Pointer

@@ -17,7 +17,8 @@ pub fn decode(octets: &[u8], length: usize) -> Result<TmFrame<'_>, TmFault>
 
     // It is a frame exactly where the octets spell one.
     ensures found { IfOk result (λ f. IsTmFrame length (frame_view f) octets.now) }
-    ensures only { (f : FrameView) → IsTmFrame length f octets.now → map_ok frame_view result ≡ Ok f }
+    ensures only { (f : FrameView) → IsTmFrame length f octets.now
+        → map_ok frame_view result ≡ Ok f }
 {
     frame_of(octets, length)
 }

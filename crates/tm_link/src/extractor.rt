@@ -2,7 +2,7 @@
 
 ghost use Rattle.std.specs.Prelude.{◌≡◌, ◌++◌, [], length, Some, IsTrue, IsOk, IfOk, IfErr, OnOk, OnErr};
 ghost use Rattle.tm_link.specs.Arriving.{HasGained};
-ghost use Rattle.tm_link.specs.Extraction.{new_extractor, part_after, part_behind, extract_step, octets_of};
+ghost use Rattle.tm_link.specs.Extraction.{new_extractor, part_after, part_behind, extract_step, octets_of, GrowsBy};
 ghost use Rattle.tm_link.specs.Layout.{frame_view, pointer_fits};
 
 use crate::fault::TmFault;
@@ -57,13 +57,17 @@ impl Extractor {
     /// and the packets are as they were.
     pub fn frame(&mut self, frame: &TmFrame, packets: &mut Vec<Vec<u8>>) -> Result<Gap, TmFault>
         requires { IsTrue (pointer_fits frame.now.pointer (length frame.now.payload.now)) }
-        ensures gap { IfOk result (λ gap. gap ≡ (extract_step self.old (frame_view frame.now)).gap) }
-        ensures packets { OnOk result (octets_of packets.new.items ≡ octets_of packets.old.items ++ (extract_step self.old (frame_view frame.now)).packets) }
-        ensures after { OnOk result (self.new ≡ (extract_step self.old (frame_view frame.now)).after) }
+        ensures gap { IfOk result (λ gap. gap
+            ≡ (extract_step self.old (frame_view frame.now)).gap) }
+        ensures packets { OnOk result (GrowsBy packets.old packets.new
+            (extract_step self.old (frame_view frame.now)).packets) }
+        ensures after { OnOk result (self.new
+            ≡ (extract_step self.old (frame_view frame.now)).after) }
 
         // For every stream and every choice of its frames that led here, what arrives with this
         // frame is what arrived without it, and then the packets that were appended.
-        ensures exact { OnOk result (HasGained self.old (frame_view frame.now) (octets_of packets.old.items) (octets_of packets.new.items)) }
+        ensures exact { OnOk result (HasGained self.old (frame_view frame.now)
+            (octets_of packets.old.items) (octets_of packets.new.items)) }
 
         // It takes no memory for a frame with which no packet is finished.
         ensures none { (extract_step self.old (frame_view frame.now)).packets ≡ [] → IsOk result }
@@ -91,7 +95,8 @@ impl Extractor {
     fn pass(&mut self, gap: Gap, frame: &TmFrame)
         requires { IsTrue (pointer_fits frame.now.pointer (length frame.now.payload.now)) }
         ensures last { self.new.last ≡ Some frame.now.vc_count }
-        ensures part { self.new.part ≡ part_after (part_behind gap self.old.part) frame.now.pointer frame.now.payload.now }
+        ensures part { self.new.part
+            ≡ part_after (part_behind gap self.old.part) frame.now.pointer frame.now.payload.now }
     {
         if is_lost(gap) {
             self.part.clear();

@@ -14,19 +14,24 @@ ghost use Rattle.tm_link.specs.Writing.{total_of, frame_fits, spelling};
 
 /// A frame whose fields are in range has its spelling, and no other octets spell it.
 pub fn law_of_spelling()
-    ensures spells { (f : FrameView) → length f.ocf ≡ 4 → frame_fits f ≡ true → IsTmFrame (total_of f) f (spelling f) }
-    ensures only { (total : ℕ) (f : FrameView) (octets : List ℕ) → IsSpelling total f octets → octets ≡ spelling f }
+    ensures spells { (f : FrameView) → length f.ocf ≡ 4 → frame_fits f ≡ true
+        → IsTmFrame (total_of f) f (spelling f) }
+    ensures only { (total : ℕ) (f : FrameView) (octets : List ℕ) → IsSpelling total f octets
+        → octets ≡ spelling f }
 {}
 
 /// The octets of a frame are read as that frame.
 pub fn law_of_reading()
-    ensures { (total : ℕ) (f : FrameView) (octets : List ℕ) → IsTmFrame total f octets → frame_at total octets ≡ Ok f }
+    ensures { (total : ℕ) (f : FrameView) (octets : List ℕ) → IsTmFrame total f octets
+        → frame_at total octets ≡ Ok f }
 {}
 
 /// What `TmBuilder::queue` takes is the octets of exactly one packet, of an APID other than 2047.
 pub fn law_of_queueing()
-    ensures only { (octets : List ℕ) → IsOctets octets → is_to_send octets ≡ true → (p : PacketView) × IsToSend p octets }
-    ensures all { (p : PacketView) (octets : List ℕ) → IsToSend p octets → is_to_send octets ≡ true }
+    ensures only { (octets : List ℕ) → IsOctets octets → is_to_send octets ≡ true
+        → (p : PacketView) × IsToSend p octets }
+    ensures all { (p : PacketView) (octets : List ℕ) → IsToSend p octets
+        → is_to_send octets ≡ true }
 {}
 
 /// Of frames that lay out a stream of packets, any may be missing before the first that comes, and
@@ -34,16 +39,19 @@ pub fn law_of_queueing()
 /// octets came, in their order; where all frames of a whole stream come, all packets. Each frame has
 /// an octet as its count and some data, as all that octets spell have.
 pub fn law_of_extraction()
-    ensures some { (packets : List (List ℕ)) (frames : List FrameView) (rest : List ℕ) (laid : IsLaidOut packets frames rest) (chosen : List Bool)
+    ensures some { (packets : List (List ℕ)) (frames : List FrameView) (rest : List ℕ)
+        (laid : IsLaidOut packets frames rest) (chosen : List Bool)
         → AllByRecursion IsInRange frames → IsClose chosen
         → all_extracted new_extractor (choice frames chosen) ≡ arrived laid.all frames chosen }
     ensures all { (packets : List (List ℕ)) (frames : List FrameView) → IsLaidOut packets frames []
         → AllByRecursion IsInRange frames → all_extracted new_extractor frames ≡ packets }
-    ensures range { (total : ℕ) (f : FrameView) (octets : List ℕ) → IsSpelling total f octets → IsInRange f }
+    ensures range { (total : ℕ) (f : FrameView) (octets : List ℕ) → IsSpelling total f octets
+        → IsInRange f }
 {}
 
 /// The stream that frames lay out is packets, idle ones among them: each of its records spells one.
 pub fn law_of_stream()
-    ensures { (packets : List (List ℕ)) (frames : List FrameView) (rest : List ℕ) (laid : IsLaidOut packets frames rest)
+    ensures { (packets : List (List ℕ)) (frames : List FrameView) (rest : List ℕ)
+        (laid : IsLaidOut packets frames rest)
         → IsOctets (carried frames ++ rest) → AllByRecursion IsSomePacket laid.all }
 {}

@@ -8,7 +8,7 @@ impl<U: Drop> Fop<U> {
     ghost use Rattle.std.specs.Prelude.{◌≡◌, ◌≢◌};
     ghost use Rattle.cop1.specs.declared.fop.FopMode.{FopMode};
     ghost use Rattle.cop1.specs.declared.fop.Directive.{Directive};
-    ghost use Rattle.cop1.specs.FopDirective.{begun};
+    ghost use Rattle.cop1.specs.FopDirective.{after_begin};
     ghost use Rattle.cop1.specs.FopStep.{fop_step, Direct};
 
     /// Follows a directive; the alert is that of `Terminate`. 2 Window, 3 Limit, 4 Timer for a value
@@ -48,7 +48,8 @@ impl<U: Drop> Fop<U> {
     // Leaves S6 with this number for V(S) and NN(R).
     fn begin(&mut self, number: u8, state: FopMode)
         requires { self.old.state ≡ FopMode.S6 }
-        ensures { self.new ≡ record (begun self.old) { vs = number; nn = number; state = state } }
+        ensures { self.new
+            ≡ record (after_begin self.old) { vs = number; nn = number; state = state } }
     {
         self.vs = number;
         self.nn = number;

@@ -33,7 +33,7 @@ pub enum Next<U> {
 impl<U: Drop> Fop<U> {
     ghost use Rattle.std.specs.Prelude.{◌≡◌, ◌≢◌, ◌<◌, None, length, slice_get, option_copied};
     ghost use Rattle.cop1.specs.declared.fop.FopMode.{FopMode};
-    ghost use Rattle.cop1.specs.FopPull.{pulled_marked, pulled_waiting, oldest_marked, sent_first, count_behind};
+    ghost use Rattle.cop1.specs.FopPull.{next_sequence, next_waiting, oldest_marked, sent_first, count_behind};
     ghost use Rattle.cop1.specs.FopNext.{units_of, seen_at, shown, IsPlaced};
     ghost use Rattle.std.specs.Borrow.{sem};
     ghost use Rattle.cop1.specs.FopLends.{EndsAs};
@@ -63,8 +63,8 @@ impl<U: Drop> Fop<U> {
 
     fn next_sequence(&mut self) -> Next<U>
         requires { self.old.state ≢ FopMode.S6 }
-        ensures after { self.new ≡ (pulled_marked self.old (oldest_marked 0 self.old.sent)).after }
-        ensures answer { seen_at (units_of self.new.sent) result ≡ (pulled_marked self.old (oldest_marked 0 self.old.sent)).answer }
+        ensures after { self.new ≡ (next_sequence self.old).after }
+        ensures answer { seen_at (units_of self.new.sent) result ≡ (next_sequence self.old).answer }
         ensures placed { IsPlaced (units_of self.new.sent) result }
     {
         if self.due == 0 {
@@ -80,8 +80,8 @@ impl<U: Drop> Fop<U> {
     fn next_waiting(&mut self) -> Next<U>
         requires active { self.old.state ≢ FopMode.S6 }
         requires unmarked { oldest_marked 0 self.old.sent ≡ None }
-        ensures after { self.new ≡ (pulled_waiting self.old self.old.waiting).after }
-        ensures answer { seen_at (units_of self.new.sent) result ≡ (pulled_waiting self.old self.old.waiting).answer }
+        ensures after { self.new ≡ (next_waiting self.old).after }
+        ensures answer { seen_at (units_of self.new.sent) result ≡ (next_waiting self.old).answer }
         ensures placed { IsPlaced (units_of self.new.sent) result }
     {
         if self.vs.wrapping_sub(self.nn) >= self.window {

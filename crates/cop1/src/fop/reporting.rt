@@ -5,9 +5,11 @@ use bitflags::Flags;
 use clcw::{Clcw, ClcwFlags};
 
 impl<U: Drop> Fop<U> {
-    ghost use Rattle.std.specs.Prelude.{◌≡◌, ◌≢◌, true, false};
+    ghost use Rattle.std.specs.Prelude.{◌≡◌, ◌<◌, true, false};
     ghost use Rattle.cop1.specs.declared.fop.FopMode.{FopMode};
-    ghost use Rattle.cop1.specs.FopReport.{locks, waits, asks, reported, report_while_active, report_in_S4, report_in_S5, ticks_for};
+    ghost use Rattle.cop1.specs.FopReport.{report_while_active, report_in_S4, report_in_S5, ticks_for};
+    ghost use Rattle.cop1.specs.FopReport.{nothing_new, move_on, ask_again, retransmits, ask_for_others, ask_for_all};
+    ghost use Rattle.cop1.specs.FopState.{IsActive};
     ghost use Rattle.cop1.specs.FopStep.{fop_step, Report};
     ghost use Rattle.cop1.specs.FopWords.{is_outside};
 
@@ -27,51 +29,61 @@ impl<U: Drop> Fop<U> {
         }
     }
 
+    // S1 to S3: of eight rules, in this order, the first that applies decides.
     fn report_while_active(&mut self, report: &Clcw) -> Option<Alert>
-        requires s6 { self.old.state ≢ FopMode.S6 }
-        requires s5 { self.old.state ≢ FopMode.S5 }
-        requires s4 { self.old.state ≢ FopMode.S4 }
+        requires { IsActive self.old.state }
         ensures after { self.new ≡ (report_while_active self.old report.now).after }
         ensures answer { result ≡ (report_while_active self.old report.now).answer }
     {
+        let asks = report.flags.contains(ClcwFlags::RETRANSMIT);
+        let waits = report.flags.contains(ClcwFlags::WAIT);
         if report.flags.contains(ClcwFlags::LOCKOUT) {
             return self.alert(Alert::Lockout);
         }
         if self.is_outside(report.value) {
             return self.alert(Alert::NnR);
         }
-        if report.flags.contains(ClcwFlags::RETRANSMIT) {
-            self.report_asking(report)
-        } else {
-            self.report_acknowledging(report)
+        if !asks && waits {
+            return self.alert(Alert::Clcw);
+        }
+        if asks && report.value == self.vs {
+            return self.alert(Alert::Synch);
+        }
+        if !asks && report.value == self.nn {
+            return self.nothing_new();
+        }
+        if !asks {
+            self.move_on(report.value);
+            return None;
+        }
+        if report.value != self.nn {
+            return self.ask_for_others(report.value, waits);
+        }
+        self.ask_for_all(waits)
+    }
+
+    // Rule 5: nothing is acknowledged, and nothing asked for.
+    fn nothing_new(&mut self) -> Option<Alert>
+        requires { IsActive self.old.state }
+        ensures after { self.new ≡ (nothing_new self.old self.old.state).after }
+        ensures answer { result ≡ (nothing_new self.old self.old.state).answer }
+    {
+        match self.state {
+            FopMode::S1 => None,
+            _ => self.alert(Alert::Synch),
         }
     }
 
-    // A report without the retransmit flag: rules 3, 5 and 6.
-    fn report_acknowledging(&mut self, report: &Clcw) -> Option<Alert>
-        requires s6 { self.old.state ≢ FopMode.S6 }
-        requires s5 { self.old.state ≢ FopMode.S5 }
-        requires s4 { self.old.state ≢ FopMode.S4 }
-        requires free { locks report.now ≡ false }
-        requires inside { is_outside self.old report.now.value ≡ false }
-        requires asking { asks report.now ≡ false }
-        ensures after { self.new ≡ (report_while_active self.old report.now).after }
-        ensures answer { result ≡ (report_while_active self.old report.now).answer }
+    // Rule 6: units are acknowledged, and nothing asked for.
+    fn move_on(&mut self, value: u8)
+        requires active { IsActive self.old.state }
+        requires inside { is_outside self.old value ≡ false }
+        ensures { self.new ≡ (move_on self.old value).after }
     {
-        if report.flags.contains(ClcwFlags::WAIT) {
-            return self.alert(Alert::Clcw);
-        }
-        if report.value == self.nn {
-            return match self.state {
-                FopMode::S1 => None,
-                _ => self.alert(Alert::Synch),
-            };
-        }
-        self.acknowledge(report.value);
+        self.acknowledge(value);
         self.count = 1;
         self.ticks = self.ticks_for_sent();
         self.state = FopMode::S1;
-        None
     }
 
     // The timer once units have been acknowledged.
@@ -85,33 +97,43 @@ impl<U: Drop> Fop<U> {
         }
     }
 
-    // A report with the retransmit flag: rules 4, 7 and 8.
-    fn report_asking(&mut self, report: &Clcw) -> Option<Alert>
-        requires s6 { self.old.state ≢ FopMode.S6 }
-        requires s5 { self.old.state ≢ FopMode.S5 }
-        requires s4 { self.old.state ≢ FopMode.S4 }
-        requires free { locks report.now ≡ false }
-        requires inside { is_outside self.old report.now.value ≡ false }
-        requires asking { asks report.now ≡ true }
-        ensures after { self.new ≡ (report_while_active self.old report.now).after }
-        ensures answer { result ≡ (report_while_active self.old report.now).answer }
+    // Rule 7: units are acknowledged, and the others asked for.
+    fn ask_for_others(&mut self, value: u8, wait: bool) -> Option<Alert>
+        requires active { IsActive self.old.state }
+        requires inside { is_outside self.old value ≡ false }
+        ensures after { self.new ≡ (ask_for_others self.old value wait).after }
+        ensures answer { result ≡ (ask_for_others self.old value wait).answer }
     {
-        if report.value == self.vs {
-            return self.alert(Alert::Synch);
-        }
-        let is_new = report.value != self.nn;
-        if is_new {
-            self.acknowledge(report.value);
-            self.count = 1;
-        }
+        self.acknowledge(value);
+        self.count = 1;
+        self.ask_again(wait, true)
+    }
+
+    // Rule 8: nothing is acknowledged, and all that was sent asked for.
+    fn ask_for_all(&mut self, wait: bool) -> Option<Alert>
+        requires { IsActive self.old.state }
+        ensures after { self.new ≡ (ask_for_all self.old wait).after }
+        ensures answer { result ≡ (ask_for_all self.old wait).answer }
+    {
+        let repeats = self.state != FopMode::S2 && self.count < self.limit;
+        self.ask_again(wait, repeats)
+    }
+
+    // Units are asked for again, which may be sent once alone, or not while the receiver waits.
+    fn ask_again(&mut self, wait: bool, repeats: bool) -> Option<Alert>
+        requires active { IsActive self.old.state }
+        requires countable { repeats ≡ true → self.old.count < 255 }
+        ensures after { self.new ≡ (ask_again self.old wait (retransmits self.old repeats)).after }
+        ensures answer { result ≡ (ask_again self.old wait (retransmits self.old repeats)).answer }
+    {
         if self.limit == 1 {
             return self.alert(Alert::Limit);
         }
-        if report.flags.contains(ClcwFlags::WAIT) {
+        if wait {
             self.state = FopMode::S3;
             return None;
         }
-        if is_new || (self.state != FopMode::S2 && self.count < self.limit) {
+        if repeats {
             self.repeat();
         }
         self.state = FopMode::S2;

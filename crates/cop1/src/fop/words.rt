@@ -5,7 +5,7 @@ use super::{Alert, Control, Fop, FopMode};
 impl<U: Drop> Fop<U> {
     ghost use Rattle.std.specs.Prelude.{◌≡◌, ◌+◌, ◌-◌, ◌<◌, ◌%◌, ◌≢◌, false};
     ghost use Rattle.cop1.specs.declared.fop.FopMode.{FopMode};
-    ghost use Rattle.cop1.specs.FopWords.{restarted, acknowledged, repeated, alerts, is_outside};
+    ghost use Rattle.cop1.specs.FopWords.{after_restart, after_acknowledge, after_repeat, alerts, is_outside};
 
     pub(super) fn is_outside(&self, value: u8) -> bool
         ensures { result ≡ is_outside self.now value }
@@ -15,7 +15,7 @@ impl<U: Drop> Fop<U> {
 
     pub(super) fn restart(&mut self)
         requires { self.old.state ≢ FopMode.S6 }
-        ensures { self.new ≡ restarted self.old }
+        ensures { self.new ≡ after_restart self.old }
     {
         self.ticks = Some(self.timer);
     }
@@ -24,7 +24,7 @@ impl<U: Drop> Fop<U> {
     pub(super) fn acknowledge(&mut self, value: u8)
         requires active { self.old.state ≢ FopMode.S6 }
         requires inside { is_outside self.old value ≡ false }
-        ensures { self.new ≡ acknowledged self.old value }
+        ensures { self.new ≡ after_acknowledge self.old value }
     {
         let left = self.sent.len() - usize::from(value.wrapping_sub(self.nn));
         self.sent.truncate_front(left);
@@ -36,7 +36,7 @@ impl<U: Drop> Fop<U> {
     pub(super) fn repeat(&mut self)
         requires active { self.old.state ≢ FopMode.S6 }
         requires countable { self.old.count < 255 }
-        ensures { self.new ≡ repeated self.old }
+        ensures { self.new ≡ after_repeat self.old }
     {
         self.due = self.sent.len();
         self.count += 1;

@@ -2,29 +2,30 @@
 
 ghost use Rattle.std.specs.Prelude.{◌≡◌, None, Some, IfOk};
 ghost use Rattle.tc_frame.specs.declared.frame.SegmentFlags.TheVariants as flags;
-ghost use Rattle.map_service.specs.Taking.{gives, alone_packets, alone_fault, cell};
+ghost use Rattle.tc_frame.specs.Layout.{segment_view};
+ghost use Rattle.map_service.specs.Taking.{gives, alone_packets, alone_fault, cell, cell_at};
 ghost use Rattle.map_service.specs.Views.{part_view, packets_view};
 
-use super::{Assembler, is_open};
+use super::Assembler;
 use crate::fault::MapFault;
-use crate::judging::{copied_alone, fault_of_alone, fault_of_one, is_too_long};
+use crate::judging::{copied_alone, fault_of_alone, fault_of_one};
 use crate::limits::Limits;
 use std::alloc::{AllocError, Global};
 use tc_frame::{Segment, SegmentFlags};
 
 impl Assembler {
     ghost use Rattle.std.specs.Prelude.{IsOkUnless};
-    ghost use Rattle.tc_frame.specs.Layout.{segment_view};
     ghost use Rattle.map_service.specs.Exactness.{step_at};
 
     /// The packets that `take` would hand out at this segment, copied; it takes none. The fault is 3
     /// `Memory`.
     pub fn foreseen(&self, segment: &Segment) -> Result<Vec<Vec<u8>>, MapFault>
-        ensures packets { IfOk result (λ packets. packets_view packets ≡ (step_at self.now (segment_view segment.now)).packets) }
+        ensures packets { IfOk result (λ packets. packets_view packets
+            ≡ (step_at self.now (segment_view segment.now)).packets) }
         ensures fault { IsOkUnless result MapFault.Memory }
     {
         let map = segment.header.map;
-        if !is_open(&self.limits, map) {
+        if !self.limits.is_open(map) {
             return Ok(Vec::new(self.alloc));
         }
         let part = &self.parts[usize::from(map)];
@@ -42,7 +43,7 @@ fn foreseen_cell(
     segment: &Segment,
 ) -> Result<Vec<Vec<u8>>, AllocError>
     ensures { IfOk result (λ packets. packets_view packets
-        ≡ (cell limits.now segment.now.header.flags (part_view part.now) segment.now.payload.now).packets) }
+        ≡ (cell_at limits.now (part_view part.now) (segment_view segment.now)).packets) }
 {
     match segment.header.flags {
         SegmentFlags::Alone => foreseen_alone(alloc, limits, segment.payload),
@@ -56,7 +57,9 @@ fn foreseen_cell(
 
 fn foreseen_alone(alloc: Global, limits: &Limits, octets: &[u8]) -> Result<Vec<Vec<u8>>, AllocError>
     ensures { IfOk result (λ packets. packets_view packets
-        ≡ (gives None (alone_packets limits.now octets.now) (alone_fault limits.now octets.now)).packets) }
+        ≡ (gives None
+        (alone_packets limits.now octets.now)
+        (alone_fault limits.now octets.now)).packets) }
 {
     if fault_of_alone(limits, octets).is_some() {
         return Ok(Vec::new(alloc));
@@ -74,7 +77,7 @@ fn foreseen_last(
         ≡ (cell limits.now flags.Last (Some begun.now) octets.now).packets) }
 {
     let size = begun.len() + octets.len();
-    if is_too_long(limits, size) {
+    if limits.is_too_long(size) {
         return Ok(Vec::new(alloc));
     }
     let mut joined = Vec::with_capacity(alloc, size)?;

@@ -12,7 +12,7 @@ impl Ground {
     ghost use Rattle.tc_frame.specs.Writing.{total_of};
     ghost use Rattle.cop1.specs.FopNext.{units_of, seen_at, IsPlaced};
     ghost use Rattle.tc_link.specs.Frames.{size_of, written_over, BeginsWith};
-    ghost use Rattle.tc_link.specs.Ground.{ground_step, Pull, frame_of, frame_pulled};
+    ghost use Rattle.tc_link.specs.Ground.{ground_step, Pull, frame_of, frame_to_send};
 
     /// Writes the frame that goes on the link next, with its check, at the beginning of `out`, and says
     /// how many octets it has (CCSDS 232.0-B-4, 4.1): a control command, a segment past the sequence
@@ -34,9 +34,12 @@ impl Ground {
     fn put(&self, next: &Next<OwnedSegment>, out: &mut [u8]) -> Option<usize>
         requires placed { IsPlaced (units_of self.now.fop.sent) next.now }
         requires room { length out.old ≡ 1024 }
-        ensures count { result ≡ size_of (frame_pulled self.now.config (seen_at (units_of self.now.fop.sent) next.now)) }
-        ensures frame { out.new ≡ written_over out.old (frame_pulled self.now.config (seen_at (units_of self.now.fop.sent) next.now)) }
-        ensures spells { BeginsWith out.new (frame_pulled self.now.config (seen_at (units_of self.now.fop.sent) next.now)) }
+        ensures count { result ≡ size_of
+            (frame_to_send self.now.config (seen_at (units_of self.now.fop.sent) next.now)) }
+        ensures frame { out.new ≡ written_over out.old
+            (frame_to_send self.now.config (seen_at (units_of self.now.fop.sent) next.now)) }
+        ensures spells { BeginsWith out.new
+            (frame_to_send self.now.config (seen_at (units_of self.now.fop.sent) next.now)) }
     {
         match next {
             Next::Nothing => None,
@@ -56,9 +59,12 @@ impl Ground {
         requires fits { body_fits (body_view body) ≡ true }
         requires most { total_of On (frame_of self.now.config (body_view body)) ≤ 1024 }
         requires room { length out.old ≡ 1024 }
-        ensures count { Some result ≡ size_of (Some (frame_of self.now.config (body_view body.entry))) }
-        ensures frame { out.new ≡ written_over out.old (Some (frame_of self.now.config (body_view body.entry))) }
-        ensures spells { BeginsWith out.new (Some (frame_of self.now.config (body_view body.entry))) }
+        ensures count { Some result
+            ≡ size_of (Some (frame_of self.now.config (body_view body.entry))) }
+        ensures frame { out.new
+            ≡ written_over out.old (Some (frame_of self.now.config (body_view body.entry))) }
+        ensures spells { BeginsWith out.new
+            (Some (frame_of self.now.config (body_view body.entry))) }
     {
         let frame = TcFrame {
             scid: self.config.scid as u16,

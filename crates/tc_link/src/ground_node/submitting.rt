@@ -3,7 +3,6 @@
 use super::Ground;
 use crate::commands::are_commands;
 use crate::fault::LinkFault;
-use crate::keeping::{is_open, is_too_long};
 use crate::owned_segment::{OwnedSegment, own};
 use cop1::FopMode;
 use map_service::{cut, segment_count};
@@ -11,22 +10,36 @@ use tc_frame::{Segment, SegmentFlags, SegmentHeader};
 
 impl Ground {
     ghost use Rattle.std.specs.Prelude.{◌≡◌, Err, None, Ok, IfSome, OnOk, OnErr, IsOkUnless};
-    ghost use Rattle.tc_link.specs.Ground.{ground_step, Submit, Bypass, submit_fault, bypass_fault};
+    ghost use Rattle.tc_link.specs.Ground.{ground_step, Submit, Bypass, submit_fault, after_submission, bypass_fault};
 
     /// Submits command packets on a MAP, to be sent under sequence control: exactly one packet, or with
     /// blocking one or more, one after another. The first that applies: 1 `NotOpen` (in S6), 2
     /// `ClosedMap`, 3 `NotCommand`, 4 `TooLong`, 5 `QueueFull` (more segments than the queue slots would
     /// wait to be sent), 6 `Memory`; and then the ground is as it was.
     pub fn submit(&mut self, map: u8, octets: &[u8]) -> Result<(), LinkFault>
-        ensures after { OnOk result (self.new ≡ (ground_step self.old (Submit map octets.now)).after) }
-        ensures taken { OnOk result ((ground_step self.old (Submit map octets.now)).answer ≡ Ok tt) }
-        ensures refused { IfSome (submit_fault self.old map octets.now) (λ fault. result ≡ Err fault) }
-        ensures memory { submit_fault self.old map octets.now ≡ None → IsOkUnless result LinkFault.Memory }
+        ensures after { OnOk result
+            (self.new ≡ (ground_step self.old (Submit map octets.now)).after) }
+        ensures taken { OnOk result
+            ((ground_step self.old (Submit map octets.now)).answer ≡ Ok tt) }
+        ensures refused { IfSome (submit_fault self.old map octets.now)
+            (λ fault. result ≡ Err fault) }
+        ensures memory { submit_fault self.old map octets.now ≡ None
+            → IsOkUnless result LinkFault.Memory }
         ensures err { OnErr result (self.new ≡ self.old) }
     {
         if let Some(fault) = self.submit_fault(map, octets) {
             return Err(fault);
         }
+        self.enqueue(map, octets)
+    }
+
+    // Submits packets that are not refused. The fault is 6 `Memory`; and then the ground is as it was.
+    pub(crate) fn enqueue(&mut self, map: u8, octets: &[u8]) -> Result<(), LinkFault>
+        requires { submit_fault self.old map octets.now ≡ None }
+        ensures after { OnOk result (self.new ≡ after_submission self.old map octets.now) }
+        ensures memory { IsOkUnless result LinkFault.Memory }
+        ensures err { OnErr result (self.new ≡ self.old) }
+    {
         let mut segments = Vec::new(self.alloc);
         if cut(octets, map, &self.config.limits(), &mut segments).is_err() {
             return Err(LinkFault::Memory);
@@ -46,7 +59,7 @@ impl Ground {
             return Some(LinkFault::NotOpen);
         }
         let limits = self.config.limits();
-        if !is_open(&limits, map) {
+        if !limits.is_open(map) {
             return Some(LinkFault::ClosedMap);
         }
         if !are_commands(octets, limits.blocking) {
@@ -67,10 +80,14 @@ impl Ground {
     /// first that applies: 2 `ClosedMap`, 3 `NotCommand`, 4 `TooLong` (longer than a packet or than a
     /// segment may be), 5 `QueueFull`, 6 `Memory`; and then the ground is as it was.
     pub fn bypass(&mut self, map: u8, octets: &[u8]) -> Result<(), LinkFault>
-        ensures after { OnOk result (self.new ≡ (ground_step self.old (Bypass map octets.now)).after) }
-        ensures taken { OnOk result ((ground_step self.old (Bypass map octets.now)).answer ≡ Ok tt) }
-        ensures refused { IfSome (bypass_fault self.old map octets.now) (λ fault. result ≡ Err fault) }
-        ensures memory { bypass_fault self.old map octets.now ≡ None → IsOkUnless result LinkFault.Memory }
+        ensures after { OnOk result
+            (self.new ≡ (ground_step self.old (Bypass map octets.now)).after) }
+        ensures taken { OnOk result
+            ((ground_step self.old (Bypass map octets.now)).answer ≡ Ok tt) }
+        ensures refused { IfSome (bypass_fault self.old map octets.now)
+            (λ fault. result ≡ Err fault) }
+        ensures memory { bypass_fault self.old map octets.now ≡ None
+            → IsOkUnless result LinkFault.Memory }
         ensures err { OnErr result (self.new ≡ self.old) }
     {
         if let Some(fault) = self.bypass_fault(map, octets) {
@@ -95,13 +112,13 @@ impl Ground {
         ensures { result ≡ bypass_fault self.now map octets.now }
     {
         let limits = self.config.limits();
-        if !is_open(&limits, map) {
+        if !limits.is_open(map) {
             return Some(LinkFault::ClosedMap);
         }
         if !are_commands(octets, false) {
             return Some(LinkFault::NotCommand);
         }
-        if is_too_long(&limits, octets) || octets.len() > limits.part as usize {
+        if limits.is_too_long(octets.len()) || octets.len() > limits.part as usize {
             return Some(LinkFault::TooLong);
         }
         if self.fop.bypassed() >= self.config.queue_slots as usize {

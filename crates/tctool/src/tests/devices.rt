@@ -2,9 +2,9 @@
 
 ghost use Rattle.std.specs.Prelude.{◌≤◌, length, take};
 
+use crate::device_log::{Call, DeviceLog};
 use crate::sink::Sink;
 use crate::source::Source;
-use crate::told::{Call, Told};
 use std::alloc::Global;
 use std::io;
 
@@ -17,7 +17,7 @@ pub struct Supply<'a> {
     calls_left: usize,
     has_failed: bool,
     has_ended: bool,
-    told: Told,
+    log: DeviceLog,
     ghost in_range: { given ≤ length octets.now },
 }
 
@@ -31,7 +31,7 @@ impl<'a> Supply<'a> {
             calls_left: calls,
             has_failed: false,
             has_ended: false,
-            told: Told::new(),
+            log: DeviceLog::new(),
         }
     }
 
@@ -50,12 +50,12 @@ impl<'a> Source for Supply<'a> {
 
     ghost has_ended = { λ s. s.has_ended };
 
-    ghost failures = { λ s. s.told.failures };
+    ghost failures = { λ s. s.log.failures };
 
     fn read(&mut self, piece: &mut [u8]) -> io::Result<usize> {
         if self.calls_left == 0 && !self.has_failed {
             self.has_failed = true;
-            self.told = self.told.then(&Call::Failed);
+            self.log = self.log.then(&Call::Failed);
             return Err(io::Error::other("a read that fails"));
         }
         self.calls_left = self.calls_left.saturating_sub(1);
@@ -83,7 +83,7 @@ pub struct Store {
     calls_left: usize,
     fault: WriteFault,
     has_failed: bool,
-    told: Told,
+    log: DeviceLog,
 }
 
 impl Store {
@@ -95,7 +95,7 @@ impl Store {
             calls_left: calls,
             fault,
             has_failed: false,
-            told: Told::new(),
+            log: DeviceLog::new(),
         }
     }
 
@@ -112,7 +112,7 @@ impl Store {
 impl Sink for Store {
     ghost taken_octets = { λ s. s.octets.items };
 
-    ghost failures = { λ s. s.told.failures };
+    ghost failures = { λ s. s.log.failures };
 
     fn write(&mut self, text: &[u8]) -> io::Result<usize> {
         if text.is_empty() {
@@ -120,7 +120,7 @@ impl Sink for Store {
         }
         if self.calls_left == 0 && !self.has_failed {
             self.has_failed = true;
-            self.told = self.told.then(&Call::Failed);
+            self.log = self.log.then(&Call::Failed);
             return match self.fault {
                 WriteFault::Error => Err(io::Error::other("a write that fails")),
                 WriteFault::Nothing => Ok(0),
@@ -131,7 +131,7 @@ impl Sink for Store {
         match self.octets.extend_from_slice(&text[..count]) {
             Ok(()) => Ok(count),
             Err(error) => {
-                self.told = self.told.then(&Call::Failed);
+                self.log = self.log.then(&Call::Failed);
                 Err(io::Error::from(error))
             }
         }

@@ -1,6 +1,6 @@
 use Rattle.std.proofs.Common.{◌≡◌, length, ap, sym, ◌∙◌, arith}
 use Rattle.map_service.specs.Packets.{rest_in}
-use Rattle.map_service.proofs.Whole.{no_more}
+use Rattle.space_packet.proofs.WholePackets.{no_more}
 use Rattle.map_service.proofs.Groups.{group-over, group-run, run-more}
 use Rattle.map_service.proofs.cutting.group_len.Goals as goal
 

@@ -2,7 +2,7 @@ use Rattle.std.proofs.Common.{◌∙◌, ◌++◌, List, ℕ, [], ◌∷◌, tak
 use Rattle.std.proofs.lemmas.List.{append-nil, map_push}
 use Rattle.map_service.specs.Packets.{packets_in}
 use Rattle.map_service.specs.Views.{packets_view}
-use Rattle.map_service.proofs.Whole.{no_more, one_more-by_len}
+use Rattle.space_packet.proofs.WholePackets.{no_more, one_more-by_len}
 use Rattle.map_service.proofs.judging.copied_packets.Goals as goal
 
 pub packets-preserved : goal.packets-preserved

@@ -1,6 +1,7 @@
 use Rattle.std.proofs.Common.{ap, sym, ◌∙◌}
 use Rattle.map_service.specs.Packets.{rest_in}
-use Rattle.map_service.proofs.Whole.{one_more-by_len, are_packets-by_rest}
+use Rattle.space_packet.proofs.WholePackets.{one_more-by_len}
+use Rattle.map_service.proofs.Whole.{are_packets-by_rest}
 use Rattle.map_service.proofs.packets.are_whole_packets.Goals as goal
 
 pub packets-preserved : goal.packets-preserved

@@ -3,14 +3,14 @@ use Rattle.std.specs.Prelude.{◌&&◌}
 use Rattle.std.specs.List.{list_all}
 use Rattle.map_service.specs.Packets.{packets_in, rest_in}
 use Rattle.space_packet.specs.Layout.{PacketView, packet_view, IsFirstPacket}
-use Rattle.tc_link.specs.Commands.{commands, is_command, are_commands}
+use Rattle.tc_link.specs.Commands.{is_command_packet, is_command, are_commands}
 use Rattle.tc_link.proofs.Commanding.{one_more, all_more, refused_here, not_whole, whole_with_blocking, whole_without}
 use Rattle.tc_link.proofs.commands.are_commands.Goals as goal
 
-pub returns-then-not-is_command : goal.returns-then-not-is_command
-returns-then-not-is_command c =
+pub returns-then-not-is_command_packet : goal.returns-then-not-is_command_packet
+returns-then-not-is_command_packet c =
     sym (refused_here c.args.blocking c.args.octets.now c.packets.rest.now (packet_view c.in-Ok.packet) c.in-Ok.size c.in-Ok.ensures.found
-    (sym c.is_command.ensures ∙ c.if-not-is_command.true) c.packets.invariant.commands)
+    (sym c.is_command_packet.ensures ∙ c.if-not-is_command_packet.true) c.packets.invariant.commands)
 
 pub packets-preserved : goal.packets-preserved
 packets-preserved c =
@@ -23,7 +23,7 @@ packets-preserved c =
     let back : behind ≡ drop n rest = c.split_at.ensures.back in
     let counted : length (packets_in rest) ≡ length (take n rest ∷ packets_in (drop n rest)) = ap length more.0 in
     let same : length (packets_in behind) ≡ length (packets_in (drop n rest)) = ap (λ (xs : List ℕ). length (packets_in xs)) back in
-    let is : commands p ≡ true = sym c.is_command.ensures ∙ c.if-not-is_command.false in
+    let is : is_command_packet p ≡ true = sym c.is_command_packet.ensures ∙ c.if-not-is_command_packet.false in
     record {
       rest = ap rest_in back ∙ sym more.1 ∙ c.packets.invariant.rest;
       room = omega (arith, c.packets.invariant.room, c.split_at.ensures.back_len, first.spells.least, length-take n rest);

@@ -23,6 +23,18 @@ const IDLE_1: [u8; 19] = [
     0x01, 0x03, 0x67,
 ];
 
+// Frames of another spacecraft and of another virtual channel, each with counts of its own, a packet
+// and a report that number 1 is expected.
+const OF_SPACECRAFT_2: [u8; 19] = [
+    0x00, 0x21, 0x05, 0x09, 0x18, 0x00, 0x10, 0x05, 0xc0, 0x01, 0x00, 0x00, 0xab, 0x01, 0x08, 0x00,
+    0x01, 0xa8, 0x2c,
+];
+
+const OF_CHANNEL_1: [u8; 19] = [
+    0x00, 0x13, 0x05, 0x09, 0x18, 0x00, 0x10, 0x05, 0xc0, 0x01, 0x00, 0x00, 0xab, 0x01, 0x08, 0x00,
+    0x01, 0x8d, 0x5b,
+];
+
 // In brackets the sender's state, V(S), NN(R), and how many segments are not acknowledged.
 #[test]
 fn both_ways(rt: HostRuntime) -> Result<(), Fail> {
@@ -40,6 +52,8 @@ fn both_ways(rt: HostRuntime) -> Result<(), Fail> {
         Call::Pull,
         Call::Tick,
         Call::Telemetry(&WITH_P0),
+        Call::Telemetry(&OF_SPACECRAFT_2),
+        Call::Telemetry(&OF_CHANNEL_1),
         Call::Telemetry(&IDLE),
         Call::Telemetry(&P0),
         Call::TakeTelemetry,
@@ -59,6 +73,8 @@ fn both_ways(rt: HostRuntime) -> Result<(), Fail> {
         sent 0001080E00C41005C0000000AAE75D (S1 1 0 2)\n\
         ok (S1 1 0 2)\n\
         gap=- packets=1 (S1 1 0 2)\n\
+        foreign (S1 1 0 2)\n\
+        foreign (S1 1 0 2)\n\
         gap=0 packets=0 (S1 1 0 2)\n\
         invalid 1 Length (S1 1 0 2)\n\
         packet 1005C0000000AA (S1 1 0 2)\n\

@@ -43,7 +43,7 @@ pub fn plays(
 // A spacecraft, and the lines that it answered.
 #[derive(Drop)]
 struct Play {
-    craft: Spacecraft,
+    spacecraft: Spacecraft,
     line: String,
 }
 
@@ -51,15 +51,15 @@ impl Play {
     // A new spacecraft. Where memory is refused the call made again answers as ever.
     fn new(rt: &(impl Abort + Eprint), alloc: Global, config: &Config) -> Result<Play, Fail> {
         assert!(rt; config.fault().is_none());
-        let craft = match Spacecraft::new(alloc, config) {
+        let spacecraft = match Spacecraft::new(alloc, config) {
             Err(fault) => {
                 says_refused(rt, fault.number(), 6);
                 Spacecraft::new(alloc, config)?
             }
-            Ok(craft) => craft,
+            Ok(spacecraft) => spacecraft,
         };
         let line = room(rt, alloc)?;
-        Ok(Play { craft, line })
+        Ok(Play { spacecraft, line })
     }
 
     fn write_answer(
@@ -69,8 +69,8 @@ impl Play {
     ) -> Result<(), AllocError> {
         match call {
             Call::Receive(octets) => self.receive(rt, octets),
-            Call::Take => write_packet(&mut self.line, self.craft.take()),
-            Call::TakeBypass => write_packet(&mut self.line, self.craft.take_bypass()),
+            Call::Take => write_packet(&mut self.line, self.spacecraft.take()),
+            Call::TakeBypass => write_packet(&mut self.line, self.spacecraft.take_bypass()),
             Call::Telemetry(packet) => self.telemetry(rt, packet),
             Call::Report => self.report(rt),
         }
@@ -80,11 +80,11 @@ impl Play {
     // Octets that are no frame take none.
     fn receive(&mut self, rt: &(impl Abort + Eprint), octets: &[u8]) -> Result<(), AllocError> {
         let before = self.seen();
-        let answer = match self.craft.receive(octets) {
+        let answer = match self.spacecraft.receive(octets) {
             Err(fault) if tc_frame::decode(octets, Check::On).is_ok() => {
                 says_refused(rt, fault.number(), 6);
                 assert!(rt; self.seen() == before);
-                self.craft.receive(octets)
+                self.spacecraft.receive(octets)
             }
             answer => answer,
         };
@@ -98,11 +98,11 @@ impl Play {
     // ever.
     fn telemetry(&mut self, rt: &(impl Abort + Eprint), packet: &[u8]) -> Result<(), AllocError> {
         let before = self.seen();
-        let answer = match self.craft.telemetry(packet) {
+        let answer = match self.spacecraft.telemetry(packet) {
             Err(TmFault::Memory) => {
                 says_refused(rt, TmFault::Memory.number(), 7);
                 assert!(rt; self.seen() == before);
-                self.craft.telemetry(packet)
+                self.spacecraft.telemetry(packet)
             }
             answer => answer,
         };
@@ -114,14 +114,14 @@ impl Play {
 
     // All that the reading calls show.
     fn seen(&self) -> (u8, Clcw) {
-        (self.craft.vr(), self.craft.word())
+        (self.spacecraft.vr(), self.spacecraft.word())
     }
 
     // Sends a frame: its report, its size, its place on the channel, where a packet starts in it, and the
     // first 7 octets of its data. Octets past it stay.
     fn report(&mut self, rt: &impl Abort) -> Result<(), AllocError> {
         let mut out = [0xee; 2048];
-        let size = self.craft.report(&mut out);
+        let size = self.spacecraft.report(&mut out);
         let (octets, rest) = out.split_at_checked(size).unwrap_or_default();
         assert!(rt; rest.iter().all(|octet| *octet == 0xee));
         match tm_link::decode(octets, size) {

@@ -1,8 +1,8 @@
 use Rattle.std.proofs.Common.{◌≡◌, ◌<◌, ◌+◌, ◌-◌, ◌%◌, None, length, refl, sym, subst, ap, ◌∙◌, arith, zero-add}
-use Rattle.cop1.specs.FopWords.{restarted}
-use Rattle.cop1.specs.FopPull.{SequencePulled, oldest_marked, pulled_marked}
+use Rattle.cop1.specs.FopWords.{after_restart}
+use Rattle.cop1.specs.FopPull.{SequencePulled, oldest_marked, pull_marked}
 use Rattle.cop1.specs.FopNext.{units_of}
-use Rattle.cop1.specs.FopFields.{marked_last, state_of}
+use Rattle.cop1.specs.FopFields.{marked_last, fop_state_of}
 use Rattle.cop1.proofs.Marks.{oldest_marked-none, oldest_marked-last, without_oldest_mark-last, slice_get-within, map-unit-marked_last}
 use Rattle.cop1.proofs.fop.Fop.next_sequence.Goals as goal
 
@@ -31,7 +31,7 @@ returns-clause-after g c =
     let found = slice_get-within f.sent.items (length f.sent.items - f.due) (omega arith) in
     let oldest = oldest_marked-last 0 f.due f.sent.items found.0 some due found.1 in
     rw (c.restart.ensures, ← c.self.view_is, oldest)
-    (ap (λ sent. record (restarted (state_of f)) { sent = sent }) (sym (without_oldest_mark-last f.due f.sent.items some due)))
+    (ap (λ sent. record (after_restart (fop_state_of f)) { sent = sent }) (sym (without_oldest_mark-last f.due f.sent.items some due)))
 
 pub returns-clause-answer : goal.returns-clause-answer
 returns-clause-answer g c =
@@ -42,8 +42,8 @@ returns-clause-answer g c =
     let oldest = oldest_marked-last 0 f.due f.sent.items found.0 some due found.1 in
     let units = ap (λ s. units_of s.sent) c.restart.ensures ∙ map-unit-marked_last (f.due - 1) f.sent.items in
     let place = length f.sent.items - f.due in
-    let answer : SequencePulled ((f.nn + place) % 256) found.0 ≡ (pulled_marked (state_of f) (oldest_marked 0 (marked_last f.due f.sent.items))).answer = rw (oldest, zero-add) refl in
-    rw (c.len.ensures.len, units, found.1) (answer ∙ ap (λ s. (pulled_marked s (oldest_marked 0 s.sent)).answer) c.self.view_is)
+    let answer : SequencePulled ((f.nn + place) % 256) found.0 ≡ (pull_marked (fop_state_of f) (oldest_marked 0 (marked_last f.due f.sent.items))).answer = rw (oldest, zero-add) refl in
+    rw (c.len.ensures.len, units, found.1) (answer ∙ ap (λ s. (pull_marked s (oldest_marked 0 s.sent)).answer) c.self.view_is)
 
 pub returns-clause-placed : goal.returns-clause-placed
 returns-clause-placed g c =

@@ -3,8 +3,8 @@ use Rattle.std.specs.Prelude.{slice_get}
 use Rattle.std.proofs.lemmas.Bool.{lt-ltb}
 use Rattle.cop1.specs.Modulo.{ahead_by}
 use Rattle.cop1.specs.FopNext.{units_of}
-use Rattle.cop1.specs.FopPull.{SequencePulled, pulled_waiting}
-use Rattle.cop1.specs.FopFields.{state_of}
+use Rattle.cop1.specs.FopPull.{SequencePulled, pull_waiting}
+use Rattle.cop1.specs.FopFields.{fop_state_of}
 use Rattle.cop1.proofs.Marks.{length-marked_last}
 use Rattle.cop1.proofs.Sending.{active_of, slice_get-push, units_of-push, length-push}
 use Rattle.cop1.proofs.fop.Fop.next_waiting.Goals as goal
@@ -23,8 +23,8 @@ returns-in-Some-clause-answer g c =
     let found = ap (λ us. slice_get us (length f.sent.items)) units ∙ slice_get-push f.sent.items u in
     let waited : f.waiting ≡ Some u = sym c.take.ensures.value ∙ c.in-Some.is in
     let open_window : ltb (ahead_by f.vs f.nn) f.window ≡ true = lt-ltb _ _ c.if-self.false in
-    let answer : SequencePulled f.vs u ≡ (pulled_waiting (state_of f) f.waiting).answer = rw (waited, open_window) refl in
-    rw (c.len-place.ensures.len, found) (answer ∙ ap (λ s. (pulled_waiting s s.waiting).answer) c.self.view_is)
+    let answer : SequencePulled f.vs u ≡ (pull_waiting (fop_state_of f) f.waiting).answer = rw (waited, open_window) refl in
+    rw (c.len-place.ensures.len, found) (answer ∙ ap (λ s. (pull_waiting s s.waiting).answer) c.self.view_is)
 
 pub returns-in-Some-clause-placed : goal.returns-in-Some-clause-placed
 returns-in-Some-clause-placed g c =

@@ -1,7 +1,7 @@
 use Rattle.std.proofs.Common.{subst}
 use Rattle.cop1.specs.FopState.{IsFop}
-use Rattle.cop1.proofs.Sound.{IsFop-state_of}
+use Rattle.cop1.proofs.Sound.{IsFop-fop_state_of}
 use Rattle.cop1.proofs.fop.Fop.state.Goals as goal
 
 pub returns-clause-holds : goal.returns-clause-holds
-returns-clause-holds g c = subst IsFop c.self.view_is (IsFop-state_of c.self.inside c.self.invariant)
+returns-clause-holds g c = subst IsFop c.self.view_is (IsFop-fop_state_of c.self.inside c.self.invariant)

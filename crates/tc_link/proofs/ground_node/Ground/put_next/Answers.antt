@@ -1,5 +1,5 @@
 use Rattle.tc_link.specs.Ground.{ground_step, Pull}
-use Rattle.tc_link.proofs.Fronts.{next_is}
+use Rattle.tc_link.proofs.FirstOctets.{next_is}
 use Rattle.tc_link.proofs.ground_node.Ground.put_next.Goals as goal
 
 pub returns-clause-frame : goal.returns-clause-frame

@@ -9,7 +9,7 @@ use Rattle.tc_link.proofs.Promised.{promised, promised_of, reached_after, confir
 use Rattle.tc_link.proofs.sim.Sim.step.Goals as goal
 
 reached : (c : goal.After-step) → IsReached c.step.new.self
-reached c = reached_after c.self.inside.link c.step.new.self c.args.event c.step.result c.self.invariant c.has_octets.ensures c.step.ensures.after c.step.ensures.err
+reached c = reached_after c.self.inside.world c.step.new.self c.args.event c.step.result c.self.invariant c.has_octets.ensures c.step.ensures.after c.step.ensures.err
 
 kept : (c : goal.After-step) → IsClean c.step.new.self → IsPromised c.step.new.self
 kept c is = promised c.step.new.self (reached c) is
@@ -31,12 +31,12 @@ returns-clause-confirmed c is = (kept c is).confirmed
 
 pub returns-clause-confirms : goal.returns-clause-confirms
 returns-clause-confirms c =
-    let old = c.self.inside.link in
+    let old = c.self.inside.world in
     let so : IsClean old → IsChecking (directive_of old) → ConfirmsExactly old c.step.new.self = λ is checking. confirmed_after old c.step.new.self c.args.event c.step.result c.step.ensures.after c.step.ensures.err (promised_of old c.args.event c.self.invariant c.has_octets.ensures is checking).confirms in
     subst (λ (s : SimState). IsClean s.world → IsChecking (directive_of s.world) → ConfirmsExactly s.world c.step.new.self) c.self.view_is so
 
 pub returns-clause-no_false_alarm : goal.returns-clause-no_false_alarm
 returns-clause-no_false_alarm c =
-    let old = c.self.inside.link in
+    let old = c.self.inside.world in
     let so : IsClean old → IsChecking (directive_of old) → HasNoFalseAlarm old c.args.event = λ is checking. (promised_of old c.args.event c.self.invariant c.has_octets.ensures is checking).no_false_alarm in
     subst (λ (s : SimState). IsClean s.world → IsChecking (directive_of s.world) → HasNoFalseAlarm s.world c.args.event) c.self.view_is so

@@ -1,0 +1,30 @@
+// Octets as whole packets.
+
+ghost use Rattle.std.specs.Prelude.{◌≡◌, ◌≤◌, length, take, IfSome, IsTrue, option_map};
+ghost use Rattle.space_packet.specs.Packets.{first_packet, is_packet};
+
+use crate::decoding::decode;
+
+/// How many octets the packet has that these begin with; `None` where they begin with none.
+pub fn packet_len(octets: &[u8]) -> Option<usize>
+    ensures first { option_map (λ n. take n octets.now) result ≡ first_packet octets.now }
+    ensures within { IfSome result (λ n. (1 ≤ n) × (n ≤ length octets.now)) }
+    ensures range { IfSome result (λ n. (7 ≤ n) × (n ≤ 65542)) }
+{
+    match decode(octets) {
+        Ok((_, len)) => Some(len),
+        Err(_) => None,
+    }
+}
+
+/// Whether the octets are exactly one packet, of either type, idle too: a whole one, and nothing
+/// behind it (CCSDS 133.0-B-2, 4.1).
+pub fn is_packet(octets: &[u8]) -> bool
+    ensures one { result ≡ is_packet octets.now }
+    ensures range { IsTrue result → (7 ≤ length octets.now) × (length octets.now ≤ 65542) }
+{
+    match packet_len(octets) {
+        Some(len) => len == octets.len(),
+        None => false,
+    }
+}

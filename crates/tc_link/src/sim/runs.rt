@@ -1,0 +1,55 @@
+// Whole runs of a simulated link.
+
+ghost use Rattle.std.specs.Prelude.{◌≡◌, None, IfOk, OnOk, IsOkUnless};
+ghost use Rattle.tc_link.specs.Parameters.{config_fault};
+ghost use Rattle.tc_link.specs.Promises.{IsPromised, HoldsThroughout};
+ghost use Rattle.tc_link.specs.Simulation.{sim_run, refused_field};
+ghost use Rattle.tc_link.specs.World.{IsClean};
+
+use super::{Sim, SimFault};
+use crate::config::Config;
+use crate::event::Event;
+use std::alloc::Global;
+
+/// Lets the events happen one after another, and keeps what was answered to each. The faults are 9
+/// `Config`, with the name of the first field that is out of its range, and then 6 `Memory`; no other
+/// answer ends the run. What `Sim::step` promises holds at each event, and so does what it promises of
+/// the state behind it.
+pub fn run(alloc: Global, config: Config, events: &[Event<'_>]) -> Result<Sim, SimFault>
+    ensures ran { IfOk result (λ sim. sim ≡ sim_run config events.now) }
+    ensures range { refused_field result ≡ config_fault config }
+    ensures memory { config_fault config ≡ None → IsOkUnless result SimFault.Memory }
+    ensures promised { IfOk result (λ sim. IsClean sim.world → IsPromised sim.world) }
+    ensures throughout { OnOk result (HoldsThroughout config events.now) }
+{
+    let mut sim = Sim::new(alloc, config)?;
+    'events: for event in events {
+        sim.record_step(*event)?;
+    }
+    Ok(sim)
+}
+
+impl Sim {
+    ghost use Rattle.std.specs.Prelude.{OnOk};
+    ghost use Rattle.tc_link.specs.Reached.{IsEvent};
+    ghost use Rattle.tc_link.specs.Simulation.{record_step};
+
+    // Lets an event happen, and keeps what was answered.
+    #[tactic(auto, using(crate::proofs::Refusing::refused_keeps))]
+    fn record_step(&mut self, event: Event<'_>) -> Result<(), SimFault>
+        ensures ok { OnOk result (self.new ≡ record_step self.old event.entry) }
+        ensures fault { IsOkUnless result SimFault.Memory }
+        ensures octets { OnOk result (IsEvent event.entry) }
+    {
+        if self.answers.try_reserve(1).is_err() {
+            return Err(SimFault::Memory);
+        }
+        event.has_octets();
+        let answer = self.world.step(event);
+        if let Err(SimFault::Memory) = answer {
+            return Err(SimFault::Memory);
+        }
+        self.answers.push_reserved(answer);
+        Ok(())
+    }
+}

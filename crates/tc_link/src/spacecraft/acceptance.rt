@@ -1,0 +1,50 @@
+// What the spacecraft will accept of octets that are on their way.
+
+use super::Spacecraft;
+use crate::data_field::put_segment;
+use crate::fault::LinkFault;
+use tc_frame::{Body, Check, decode};
+
+/// A segment that will be accepted: the data field of its frame, its MAP, and the packets that are
+/// ready with it.
+#[derive(Drop)]
+pub(crate) struct Acceptance {
+    pub(crate) field: Vec<u8>,
+    pub(crate) map: u8,
+    pub(crate) packets: Vec<Vec<u8>>,
+}
+
+impl Spacecraft {
+    ghost use Rattle.std.specs.Prelude.{◌≡◌, ◌<◌, IfOk, IfSome, IsOkUnless, option_map};
+    ghost use Rattle.tc_link.specs.Acceptance.{segment_to_accept, acceptance_view, acceptance_with};
+
+    // What will be accepted when these octets arrive, where a segment will be.
+    pub(crate) fn acceptance_of(&self, octets: &[u8]) -> Result<Option<Acceptance>, LinkFault>
+        ensures accepted { IfOk result (λ some. option_map acceptance_view some
+            ≡ option_map (acceptance_with self.now) (segment_to_accept self.now octets.now)) }
+        ensures map { IfOk result (λ some. IfSome some (λ f. f.map < 64)) }
+        ensures fault { IsOkUnless result LinkFault.Memory }
+    {
+        let Ok(frame) = decode(octets, Check::On) else {
+            return Ok(None);
+        };
+        let Body::Ad { n, segment } = frame.body else {
+            return Ok(None);
+        };
+        if !self.is_own_frame(&frame) || !self.will_accept(n) {
+            return Ok(None);
+        }
+        let Ok(mut field) = Vec::with_capacity(self.alloc, segment.payload.len() + 1) else {
+            return Err(LinkFault::Memory);
+        };
+        put_segment(&mut field, &segment);
+        let Ok(packets) = self.assembler.foreseen(&segment) else {
+            return Err(LinkFault::Memory);
+        };
+        Ok(Some(Acceptance {
+            field,
+            map: segment.header.map,
+            packets,
+        }))
+    }
+}

@@ -1,0 +1,136 @@
+// The world of a simulated link.
+
+mod accepting;
+mod calls;
+mod downward;
+mod losing;
+mod stepping;
+mod upward;
+
+use crate::config::Config;
+use crate::ground_node::Ground;
+use crate::map_lists::{no_packets, packets_of};
+use crate::session::Session;
+use crate::sim::{Opening, SimFault};
+use crate::spacecraft::Spacecraft;
+use std::alloc::Global;
+use std::collections::VecDeque;
+use std::marker::Model;
+
+/// Two nodes, what is on its way between them, and the records of the session.
+#[derive(Drop)]
+pub(crate) struct World {
+    alloc: Global,
+    ground_node: Ground,
+    spacecraft: Spacecraft,
+    up: VecDeque<Vec<u8>>,
+    down: VecDeque<Vec<u8>>,
+    session: Session,
+    // The data fields that were accepted in the whole run.
+    accepted: Vec<Vec<u8>>,
+}
+
+impl Model for World {
+    ghost use Rattle.tc_link.specs.World.{World};
+
+    ghost Value = { World };
+
+    ghost use Rattle.tc_link.specs.WorldFields.{world_of, IsSound};
+
+    ghost view = { world_of };
+
+    ghost invariant = { IsSound };
+}
+
+impl World {
+    ghost use Rattle.std.specs.Prelude.{◌≡◌, map, IfOk, IsOkUnless};
+    ghost use Rattle.tm_link.specs.Extraction.{octets_of};
+    ghost use Rattle.tc_link.specs.Packets.{packet_view};
+    ghost use Rattle.tc_link.specs.Parameters.{IsConfig};
+    ghost use Rattle.tc_link.specs.World.{new_world, submitted, accepted, delivered};
+
+    pub(crate) fn new(alloc: Global, config: &Config) -> Result<World, SimFault>
+        requires { IsConfig config.now }
+        ensures made { IfOk result (λ world. world ≡ new_world config.now) }
+        ensures fault { IsOkUnless result SimFault.Memory }
+    {
+        let Ok(ground_node) = Ground::new(alloc, config) else {
+            return Err(SimFault::Memory);
+        };
+        let Ok(spacecraft) = Spacecraft::new(alloc, config) else {
+            return Err(SimFault::Memory);
+        };
+        Ok(World {
+            alloc,
+            ground_node,
+            spacecraft,
+            up: VecDeque::new(alloc),
+            down: VecDeque::new(alloc),
+            session: Session {
+                opening: None,
+                confirmed: false,
+                submissions: Vec::new(alloc),
+                submitted: no_packets(alloc),
+                delivered: no_packets(alloc),
+                sent: Vec::new(alloc),
+                acknowledged: 0,
+                before: 0,
+            },
+            accepted: Vec::new(alloc),
+        })
+    }
+
+    pub(crate) fn ground_node(&self) -> &Ground
+        ensures { result.now ≡ self.now.ground_node }
+    {
+        &self.ground_node
+    }
+
+    pub(crate) fn opening(&self) -> Option<Opening>
+        ensures { result ≡ self.now.session.opening }
+    {
+        self.session.opening
+    }
+
+    pub(crate) fn confirmed(&self) -> bool
+        ensures { result ≡ self.now.session.confirmed }
+    {
+        self.session.confirmed
+    }
+
+    pub(crate) fn submissions(&self) -> &[(u8, Vec<u8>)]
+        ensures { map packet_view result.now ≡ self.now.session.submissions }
+    {
+        self.session.submissions.as_slice()
+    }
+
+    pub(crate) fn submitted(&self, map: u8) -> &[Vec<u8>]
+        ensures { octets_of result.now ≡ submitted self.now map }
+    {
+        packets_of(&self.session.submitted, map)
+    }
+
+    pub(crate) fn delivered(&self, map: u8) -> &[Vec<u8>]
+        ensures { octets_of result.now ≡ delivered self.now map }
+    {
+        packets_of(&self.session.delivered, map)
+    }
+
+    pub(crate) fn sent(&self) -> &[Vec<u8>]
+        ensures { octets_of result.now ≡ self.now.session.sent }
+    {
+        self.session.sent.as_slice()
+    }
+
+    pub(crate) fn acknowledged(&self) -> usize
+        ensures { result ≡ self.now.session.acknowledged }
+    {
+        self.session.acknowledged
+    }
+
+    pub(crate) fn accepted(&self) -> &[Vec<u8>]
+        ensures { octets_of result.now ≡ accepted self.now }
+    {
+        self.accepted.split_at(self.session.before).1
+    }
+}

@@ -1,0 +1,140 @@
+// Calls of the nodes that put nothing on its way.
+
+ghost use Rattle.std.specs.Prelude.{◌≡◌, option_map};
+ghost use Rattle.tc_link.specs.Packets.{packet_view};
+ghost use Rattle.tc_link.specs.Replies.{reply_view, reply_to_alert, reply_to_taking};
+ghost use Rattle.tc_link.specs.World.{is_initiation};
+
+use super::World;
+use crate::event::Event;
+use crate::map_lists::no_packets;
+use crate::reply::{NodeFault, Reply};
+use crate::sim::{Opening, SimFault};
+use cop1::{Alert, Directive};
+use tm_link::TmFault;
+
+impl World {
+    ghost use Rattle.std.specs.Prelude.{◌≡◌, [], Ok, Some, IfOk, OnOk, OnErr, IsOkUnless};
+    ghost use Rattle.tc_link.specs.Simulation.{IsReplyTo};
+    ghost use Rattle.tc_link.specs.World.{world_step, is_quiet, begins_clean, session_begun};
+
+    pub(crate) fn directive(&mut self, directive: Directive) -> Reply
+        ensures reply { IsReplyTo self.old (Event.Directive directive) result }
+        ensures after { self.new ≡ (world_step self.old (Event.Directive directive)).after }
+    {
+        let clean = self.begins_clean(directive);
+        match self.ground_node.directive(directive) {
+            Ok(alert) => {
+                if is_initiation(directive) {
+                    self.begin(directive, clean);
+                }
+                reply_to_alert(alert)
+            }
+            Err(fault) => Reply::Refused(NodeFault::Cop(fault)),
+        }
+    }
+
+    pub(crate) fn tick(&mut self) -> Reply
+        ensures reply { IsReplyTo self.old Event.Tick result }
+        ensures after { self.new ≡ (world_step self.old Event.Tick).after }
+    {
+        reply_to_alert(self.ground_node.tick())
+    }
+
+    pub(crate) fn take(&mut self) -> Reply
+        ensures reply { IsReplyTo self.old Event.Take result }
+        ensures after { self.new ≡ (world_step self.old Event.Take).after }
+    {
+        reply_to_taking(self.spacecraft.take())
+    }
+
+    pub(crate) fn take_bypass(&mut self) -> Reply
+        ensures reply { IsReplyTo self.old Event.TakeBypass result }
+        ensures after { self.new ≡ (world_step self.old Event.TakeBypass).after }
+    {
+        reply_to_taking(self.spacecraft.take_bypass())
+    }
+
+    pub(crate) fn telemetry(&mut self, packet: &[u8]) -> Result<Reply, SimFault>
+        ensures reply { IfOk result (IsReplyTo self.old (Event.Telemetry packet.entry)) }
+        ensures after { OnOk result
+            (self.new ≡ (world_step self.old (Event.Telemetry packet.entry)).after) }
+        ensures err { OnErr result (self.new ≡ self.old) }
+        ensures fault { IsOkUnless result SimFault.Memory }
+    {
+        match self.spacecraft.telemetry(packet) {
+            Ok(()) => Ok(Reply::Done),
+            Err(TmFault::Memory) => Err(SimFault::Memory),
+            Err(fault) => Ok(Reply::Refused(NodeFault::Tm(fault))),
+        }
+    }
+
+    fn is_quiet(&self) -> bool
+        ensures { result ≡ is_quiet self.now }
+    {
+        self.up.is_empty() && self.down.is_empty()
+    }
+
+    fn begins_clean(&self, directive: Directive) -> bool
+        ensures { result ≡ begins_clean self.now directive }
+    {
+        match directive {
+            Directive::InitWithoutCheck => {
+                self.is_quiet() && self.spacecraft.vr() == self.ground_node.vs()
+            }
+            Directive::InitWithCheck | Directive::InitUnlock | Directive::InitSetVr(_) => {
+                self.is_quiet()
+            }
+            _ => false,
+        }
+    }
+
+    fn begin(&mut self, directive: Directive, clean: bool)
+        requires { self.old.ground_node.fop.sent ≡ [] }
+        ensures { self.new ≡ record self.old {
+          session = session_begun self.old (record { directive = directive; clean = clean });
+        } }
+    {
+        self.session.opening = Some(Opening { directive, clean });
+        self.session.confirmed = false;
+        self.session.submissions.clear();
+        self.session.submitted = no_packets(self.alloc);
+        self.session.delivered = no_packets(self.alloc);
+        self.session.sent.clear();
+        self.session.acknowledged = 0;
+        self.session.before = self.accepted.len();
+    }
+}
+
+fn is_initiation(directive: Directive) -> bool
+    ensures { result ≡ is_initiation directive }
+{
+    match directive {
+        Directive::InitWithoutCheck
+        | Directive::InitWithCheck
+        | Directive::InitUnlock
+        | Directive::InitSetVr(_) => true,
+        _ => false,
+    }
+}
+
+fn reply_to_alert(alert: Option<Alert>) -> Reply
+    ensures { reply_view result ≡ reply_to_alert alert }
+{
+    match alert {
+        None => Reply::Done,
+        Some(alert) => Reply::Alert(alert),
+    }
+}
+
+fn reply_to_taking(packet: Option<(u8, Vec<u8>)>) -> Reply
+    ensures { reply_view result ≡ reply_to_taking (option_map packet_view packet) }
+{
+    match packet {
+        None => Reply::Nothing,
+        Some((map, mut octets)) => {
+            octets.shrink_to_fit();
+            Reply::Packet(map, octets)
+        }
+    }
+}

@@ -1,0 +1,136 @@
+// What goes to the spacecraft: telecommand frames.
+
+ghost use Rattle.std.specs.Prelude.{◌≡◌, ◌<◌, ◌≤◌, [], ◌++◌, IfOk, IsOkUnless, option_to_list, option_map};
+ghost use Rattle.std.specs.Vec.{vec_len, vec_capacity};
+ghost use Rattle.tm_link.specs.Extraction.{octets_of};
+
+use super::World;
+use super::accepting::{make_room_for, record_accepted};
+use crate::copying::copy_front;
+use crate::data_field::first_sent;
+use crate::event::Event;
+use crate::fault::LinkFault;
+use crate::map_lists::{append_on, make_room};
+use crate::reply::{NodeFault, Reply};
+use crate::sim::SimFault;
+use map_service::copied_packets;
+use std::alloc::Global;
+
+impl World {
+    ghost use Rattle.std.specs.Prelude.{Ok, Err, IfErr, OnOk, OnErr};
+    ghost use Rattle.tc_link.specs.Simulation.{IsReplyTo};
+    ghost use Rattle.tc_link.specs.World.{world_step};
+
+    pub(crate) fn submit(&mut self, map: u8, octets: &[u8]) -> Result<Reply, SimFault>
+        ensures reply { IfOk result (IsReplyTo self.old (Event.Submit map octets.entry)) }
+        ensures after { OnOk result
+            (self.new ≡ (world_step self.old (Event.Submit map octets.entry)).after) }
+        ensures err { OnErr result (self.new ≡ self.old) }
+        ensures memory { IsOkUnless result SimFault.Memory }
+    {
+        if let Some(fault) = self.ground_node.submit_fault(map, octets) {
+            return Ok(Reply::Refused(NodeFault::Link(fault)));
+        }
+        let Ok(copy) = Vec::from_slice(self.alloc, octets) else {
+            return Err(SimFault::Memory);
+        };
+        let Ok(packets) = copied_packets(self.alloc, octets) else {
+            return Err(SimFault::Memory);
+        };
+        if self.session.submissions.try_reserve(1).is_err()
+            || make_room(&mut self.session.submitted, map, packets.len()).is_err()
+            || self.ground_node.enqueue(map, octets).is_err()
+        {
+            return Err(SimFault::Memory);
+        }
+        self.session.submissions.push_reserved((map, copy));
+        append_on(&mut self.session.submitted, map, packets);
+        Ok(Reply::Done)
+    }
+
+    pub(crate) fn bypass(&mut self, map: u8, octets: &[u8]) -> Result<Reply, SimFault>
+        ensures reply { IfOk result (IsReplyTo self.old (Event.Bypass map octets.entry)) }
+        ensures after { OnOk result
+            (self.new ≡ (world_step self.old (Event.Bypass map octets.entry)).after) }
+        ensures err { OnErr result (self.new ≡ self.old) }
+        ensures memory { IsOkUnless result SimFault.Memory }
+    {
+        match self.ground_node.bypass(map, octets) {
+            Ok(()) => Ok(Reply::Done),
+            Err(LinkFault::Memory) => Err(SimFault::Memory),
+            Err(fault) => Ok(Reply::Refused(NodeFault::Link(fault))),
+        }
+    }
+
+    pub(crate) fn send(&mut self) -> Result<Reply, SimFault>
+        ensures reply { IfOk result (IsReplyTo self.old Event.Send) }
+        ensures after { OnOk result (self.new ≡ (world_step self.old Event.Send).after) }
+        ensures err { OnErr result (self.new ≡ self.old) }
+        ensures memory { IsOkUnless result SimFault.Memory }
+    {
+        let mut frame = room(self.alloc)?;
+        let mut copy = room(self.alloc)?;
+        let field = room(self.alloc)?;
+        if self.up.try_reserve(1).is_err() || self.session.sent.try_reserve(1).is_err() {
+            return Err(SimFault::Memory);
+        }
+        let vs = self.ground_node.vs();
+        if !self.ground_node.put_next(&mut frame) {
+            return Ok(Reply::Nothing);
+        }
+        copy_front(&mut copy, &frame, frame.len());
+        push_some(&mut self.session.sent, first_sent(field, vs, &frame));
+        frame.shrink_to_fit();
+        self.up.push_back_reserved(frame);
+        copy.shrink_to_fit();
+        Ok(Reply::Sent(copy))
+    }
+
+    pub(crate) fn up_deliver(&mut self) -> Result<Reply, SimFault>
+        ensures reply { IfOk result (IsReplyTo self.old Event.UpDeliver) }
+        ensures after { OnOk result (self.new ≡ (world_step self.old Event.UpDeliver).after) }
+        ensures err { OnErr result (self.new ≡ self.old) }
+        ensures refused { IfErr (world_step self.old Event.UpDeliver).answer (λ e. result ≡ Err e) }
+        ensures memory { IfOk (world_step self.old Event.UpDeliver).answer
+            (λ _. IsOkUnless result SimFault.Memory) }
+    {
+        let Some(octets) = self.up.front() else {
+            return Err(SimFault::NothingInTransit);
+        };
+        let Ok(acceptance) = self.spacecraft.acceptance_of(octets) else {
+            return Err(SimFault::Memory);
+        };
+        if make_room_for(&mut self.accepted, &mut self.session.delivered, &acceptance).is_err() {
+            return Err(SimFault::Memory);
+        }
+        let Ok(received) = self.spacecraft.receive(octets) else {
+            return Err(SimFault::Memory);
+        };
+        let _ = self.up.pop_front();
+        record_accepted(&mut self.accepted, &mut self.session.delivered, acceptance);
+        Ok(Reply::Up(received))
+    }
+}
+
+// Puts a field, where there is one, behind those that there are.
+fn push_some(fields: &mut Vec<Vec<u8>>, field: Option<Vec<u8>>)
+    requires { vec_len fields.old < vec_capacity fields.old }
+    ensures items { octets_of fields.new.items
+        ≡ octets_of fields.old.items ++ option_to_list (option_map (λ v. v.items) field) }
+{
+    if let Some(field) = field {
+        fields.push_reserved(field);
+    }
+}
+
+// Octets, with room for a frame.
+fn room(alloc: Global) -> Result<Vec<u8>, SimFault>
+    ensures empty { IfOk result (λ v. v.items ≡ []) }
+    ensures room { IfOk result (λ v. vec_capacity v ≡ 1024) }
+    ensures fault { IsOkUnless result SimFault.Memory }
+{
+    let Ok(octets) = Vec::with_capacity(alloc, 1024) else {
+        return Err(SimFault::Memory);
+    };
+    Ok(octets)
+}
