@@ -13,5 +13,5 @@ abbrev pub spelling : Clcw → List ℕ
 spelling word = (4 * word.status + 1) ∷ (4 * word.vcid) ∷ (bits_of word.flags + 2 * word.farm_b) ∷ word.value ∷ []
 
 -- what writing a word answers
-abbrev pub written : Clcw → Result (List ℕ) ClcwFault
-written word = if fits word then Ok (spelling word) else Err Range
+abbrev pub encode_answer : Clcw → Result (List ℕ) ClcwFault
+encode_answer word = if fits word then Ok (spelling word) else Err Range

@@ -3,7 +3,7 @@
 ghost use Rattle.std.specs.Prelude.{◌≡◌, Ok, IfOk};
 ghost use Rattle.clcw.specs.Layout.{IsClcw};
 ghost use Rattle.clcw.specs.Reading.{clcw_at};
-ghost use Rattle.clcw.specs.Writing.{written};
+ghost use Rattle.clcw.specs.Writing.{encode_answer};
 
 use crate::fault::ClcwFault;
 use crate::word::Clcw;
@@ -12,7 +12,7 @@ use bitflags::Flags;
 /// The four octets that spell a control word (CCSDS 232.0-B-4, 4.2.1); 5 Range where a field is too
 /// large for its bits or a flag bit has no name.
 pub fn encode(word: &Clcw) -> Result<[u8; 4], ClcwFault>
-    ensures answer { result ≡ written word.now }
+    ensures answer { result ≡ encode_answer word.now }
     ensures spells { IfOk result (λ octets. IsClcw word.now octets) }
     ensures back { IfOk result (λ octets. clcw_at octets ≡ Ok word.now) }
 {

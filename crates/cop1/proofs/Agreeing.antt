@@ -4,7 +4,7 @@ use Rattle.cop1.specs.declared.farm.FarmMode.{FarmMode}
 use Rattle.cop1.specs.declared.farm.FarmMode.TheVariants.{Open, Wait, Lockout}
 use Rattle.cop1.specs.declared.farm.Place.{Place}
 use Rattle.cop1.specs.declared.farm.Place.TheVariants.{Expected, InPositiveWindow, InNegativeWindow, OutsideWindows}
-use Rattle.cop1.specs.Farm.{FarmState, FarmEvent, AdArrives, BdArrives, UnlockArrives, SetVrArrives, InvalidArrives, BufferReleased, farm_step, opened, state_of, place_of, ad_verdict, after_verdict, after_unlock, after_set_vr, after_release}
+use Rattle.cop1.specs.Farm.{FarmState, FarmEvent, AdArrives, BdArrives, UnlockArrives, SetVrArrives, InvalidArrives, BufferReleased, farm_step, new_farm, state_of, place_of, ad_verdict, after_verdict, after_unlock, after_set_vr, after_release}
 use Rattle.cop1.specs.FarmRuns.{FlagsAgree, FlagsAlwaysAgree, farm_run}
 
 in_open : (lockout wait : Bool) → Open ≡ state_of lockout wait → (lockout ≡ false) × (wait ≡ false)
@@ -81,4 +81,4 @@ FlagsAgree-run s [] is = is
 FlagsAgree-run s (event ∷ events) is = FlagsAgree-run (farm_step s event) events (FlagsAgree-step s event is)
 
 pub always : FlagsAlwaysAgree
-always width vr events = FlagsAgree-run (opened width vr) events (record { asks = λ w. absurd cc; state = refl })
+always width vr events = FlagsAgree-run (new_farm width vr) events (record { asks = λ w. absurd cc; state = refl })

@@ -2,7 +2,7 @@
 use Rattle.std.proofs.Common.{◌≡◌, ◌≤◌, ◌<◌, ℕ, zero, suc, ◌+◌, ◌-◌, true, false, List, [], ◌∷◌, ◌++◌, length, drop, map, min, Option, Some, None, inl, inr, refl, ap, arith, ltb, add-zero, length-drop}
 use Rattle.std.specs.Prelude.{slice_get, option_map}
 use Rattle.std.proofs.lemmas.Bool.{cases_lt, lt-ltb, le-ltb}
-use Rattle.cop1.specs.FopWords.{marked, unmarked}
+use Rattle.cop1.specs.FopWords.{marked_unit, unmarked_unit}
 use Rattle.cop1.specs.FopReport.{ticks_for}
 use Rattle.cop1.specs.FopPull.{oldest_marked, without_oldest_mark, count_behind}
 use Rattle.cop1.specs.FopFields.{marked_last}
@@ -26,14 +26,14 @@ module _ {U : Type 0} where
       let here' : ltb (length us) more ≡ true = lt-ltb _ _ (omega arith) in
       rw (here, here', marked_last-all due more us (omega arith) (omega arith)) refl
 
-  pub map-marked-marked_last : (due : ℕ) (us : List U) → map marked (marked_last due us) ≡ marked_last (length us) us
-  map-marked-marked_last due [] = refl
-  map-marked-marked_last due (u ∷ us) =
+  pub map-marked_unit-marked_last : (due : ℕ) (us : List U) → map marked_unit (marked_last due us) ≡ marked_last (length us) us
+  map-marked_unit-marked_last due [] = refl
+  map-marked_unit-marked_last due (u ∷ us) =
       let here : ltb (length us) (suc (length us)) ≡ true = lt-ltb _ _ (omega arith) in
-      rw (here, map-marked-marked_last due us, marked_last-all (length us) (suc (length us)) us (omega arith) (omega arith)) refl
+      rw (here, map-marked_unit-marked_last due us, marked_last-all (length us) (suc (length us)) us (omega arith) (omega arith)) refl
 
   -- where none is marked, a unit comes behind
-  pub marked_last-push : (us : List U) (u : U) → marked_last 0 (us ++ u ∷ []) ≡ marked_last 0 us ++ unmarked u ∷ []
+  pub marked_last-push : (us : List U) (u : U) → marked_last 0 (us ++ u ∷ []) ≡ marked_last 0 us ++ unmarked_unit u ∷ []
   marked_last-push [] u = refl
   marked_last-push (x ∷ us) u =
       let here : ltb (length us) 0 ≡ false = le-ltb _ _ (omega arith) in
@@ -120,4 +120,4 @@ module _ {U : Type 0} where
         | inr le ↦ omega arith
       ]
 
-pub ruleset marks = (length-marked_last, drop-marked_last, map-marked-marked_last, marked_last-push, map-unit-marked_last)
+pub ruleset marks = (length-marked_last, drop-marked_last, map-marked_unit-marked_last, marked_last-push, map-unit-marked_last)

@@ -8,8 +8,8 @@ use denote.Bor.{Bor}
 use Rattle.cop1.specs.declared.fop.FopMode.TheVariants.{S6}
 use Rattle.cop1.specs.declared.fop.Fop.TheInside.{Inside}
 use Rattle.cop1.specs.FopState.{FopState, SentUnit}
-use Rattle.cop1.specs.FopWords.{unmarked}
-use Rattle.cop1.specs.FopPull.{sent_first, count_behind}
+use Rattle.cop1.specs.FopWords.{unmarked_unit}
+use Rattle.cop1.specs.FopPull.{after_send_first, count_behind}
 use Rattle.cop1.specs.FopNext.{units_of}
 use Rattle.cop1.specs.FopFields.{marked_last, fop_state_of, IsSound}
 use Rattle.cop1.proofs.Marks.{marked_last-push, map-unit-marked_last}
@@ -25,9 +25,9 @@ module _ {U : Type 0} where
   slice_get-push [] u = refl
   slice_get-push (x ∷ us) u = slice_get-push us u
 
-  pub units_of-push : (due : ℕ) (us : List U) (u : U) → units_of (marked_last due us ++ unmarked u ∷ []) ≡ us ++ u ∷ []
+  pub units_of-push : (due : ℕ) (us : List U) (u : U) → units_of (marked_last due us ++ unmarked_unit u ∷ []) ≡ us ++ u ∷ []
   units_of-push due us u =
-      map-append (λ (x : SentUnit U). x.unit) (marked_last due us) (unmarked u ∷ []) ∙ ap (λ us. us ++ u ∷ []) (map-unit-marked_last due us)
+      map-append (λ (x : SentUnit U). x.unit) (marked_last due us) (unmarked_unit u ∷ []) ∙ ap (λ us. us ++ u ∷ []) (map-unit-marked_last due us)
 
   -- whether a state is S6 is seen at the fields
   pub active_of : (f : Inside U) (s : FopState U) → fop_state_of f ≡ s → (s.state ≡ S6 → ⊥) → f.state ≡ S6 → ⊥
@@ -56,10 +56,10 @@ module _ {U : Type 0} where
         ticks = is.ticks;
       }
 
-  pub sent_first-fields : (f : Inside U) (u : U) → f.due ≡ 0 → fop_state_of (record (with_first f u) { ticks = Some f.timer }) ≡ sent_first (fop_state_of f) u
-  sent_first-fields f u none =
-      let sent : marked_last f.due (f.sent.items ++ u ∷ []) ≡ marked_last f.due f.sent.items ++ unmarked u ∷ [] =
-      subst (λ due. marked_last due (f.sent.items ++ u ∷ []) ≡ marked_last due f.sent.items ++ unmarked u ∷ []) (sym none) (marked_last-push f.sent.items u) in
+  pub after_send_first-fields : (f : Inside U) (u : U) → f.due ≡ 0 → fop_state_of (record (with_first f u) { ticks = Some f.timer }) ≡ after_send_first (fop_state_of f) u
+  after_send_first-fields f u none =
+      let sent : marked_last f.due (f.sent.items ++ u ∷ []) ≡ marked_last f.due f.sent.items ++ unmarked_unit u ∷ [] =
+      subst (λ due. marked_last due (f.sent.items ++ u ∷ []) ≡ marked_last due f.sent.items ++ unmarked_unit u ∷ []) (sym none) (marked_last-push f.sent.items u) in
       rw sent refl
 
   pub is_some_copied : (o : Option (Bor U)) (u : U) → option_copied o ≡ Some u → is_some o ≡ true

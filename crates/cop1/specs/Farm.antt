@@ -30,8 +30,8 @@ abbrev pub IsWidth : ℕ → Type 0
 IsWidth width = (width % 2 ≡ 0) × (2 ≤ width) × (width ≤ 254)
 
 -- a new receiver
-abbrev pub opened : ℕ → ℕ → FarmState
-opened width vr =
+abbrev pub new_farm : ℕ → ℕ → FarmState
+new_farm width vr =
     record { width = width; state = Open; vr = vr; lockout = false; wait = false; retransmit = false; farm_b = 0 }
 
 -- where a number that is so far ahead of V(R) lies: the positive and the negative window are half the width each

@@ -1,6 +1,6 @@
 -- What holds of a receiver after any events.
 use Rattle.std.specs.Prelude.{◌≡◌, ℕ, List, [], ◌∷◌, true}
-use Rattle.cop1.specs.Farm.{FarmState, FarmEvent, farm_step, opened, state_of}
+use Rattle.cop1.specs.Farm.{FarmState, FarmEvent, farm_step, new_farm, state_of}
 
 -- a receiver after one event after another
 abbrev pub farm_run : FarmState → List FarmEvent → FarmState
@@ -15,4 +15,4 @@ pub record FlagsAgree (s : FarmState) : Type 0 where
 
 -- so it is after any events at a new receiver
 abbrev pub FlagsAlwaysAgree : Type 0
-FlagsAlwaysAgree = (width vr : ℕ) (events : List FarmEvent) → FlagsAgree (farm_run (opened width vr) events)
+FlagsAlwaysAgree = (width vr : ℕ) (events : List FarmEvent) → FlagsAgree (farm_run (new_farm width vr) events)

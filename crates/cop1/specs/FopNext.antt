@@ -31,8 +31,8 @@ module _ {U : Type 0} where
   IsPlaced units (next.Sequence number place) = place < length units
 
   -- what is pulled, with the unit in place of the reference to it
-  abbrev pub shown : Pulled U → PulledUnit U
-  shown pulled.Nothing = NothingPulled
-  shown (pulled.Control command) = ControlPulled command
-  shown (pulled.Bypass unit) = BypassPulled unit
-  shown (pulled.Sequence number unit) = SequencePulled number unit.now
+  abbrev pub pulled_view : Pulled U → PulledUnit U
+  pulled_view pulled.Nothing = NothingPulled
+  pulled_view (pulled.Control command) = ControlPulled command
+  pulled_view (pulled.Bypass unit) = BypassPulled unit
+  pulled_view (pulled.Sequence number unit) = SequencePulled number unit.now

@@ -8,7 +8,7 @@ use Rattle.cop1.specs.declared.fop.FopMode.TheVariants.{S1, S2, S3, S4, S5, S6}
 use Rattle.cop1.specs.declared.fop.Control.{Control}
 use Rattle.cop1.specs.declared.fop.Control.TheVariants.{Idle, Due, Sent}
 use Rattle.cop1.specs.FopState.{FopState, SentUnit}
-use Rattle.cop1.specs.FopWords.{FopOutcome, unmarked, after_restart}
+use Rattle.cop1.specs.FopWords.{FopOutcome, unmarked_unit, after_restart}
 
 -- what is pulled
 pub data PulledUnit (U : Type 0) : Type 0 where
@@ -36,15 +36,15 @@ module _ {U : Type 0} where
   count_behind [] count = 1
   count_behind (u ∷ us) count = count
 
-  abbrev pub sent_first : FopState U → U → FopState U
-  sent_first s u =
-      record (after_restart s) { waiting = None; sent = s.sent ++ unmarked u ∷ []; vs = (s.vs + 1) % 256; count = count_behind s.sent s.count }
+  abbrev pub after_send_first : FopState U → U → FopState U
+  after_send_first s u =
+      record (after_restart s) { waiting = None; sent = s.sent ++ unmarked_unit u ∷ []; vs = (s.vs + 1) % 256; count = count_behind s.sent s.count }
 
   -- the wait queue's unit, where the window has room for it
   abbrev pub pull_waiting : FopState U → Option U → FopOutcome U (PulledUnit U)
   pull_waiting s None = pulls s NothingPulled
   pull_waiting s (Some u) =
-      if nat_lt (ahead_by s.vs s.nn) s.window then pulls (sent_first s u) (SequencePulled s.vs u)
+      if nat_lt (ahead_by s.vs s.nn) s.window then pulls (after_send_first s u) (SequencePulled s.vs u)
       else pulls s NothingPulled
 
   abbrev pub next_waiting : FopState U → FopOutcome U (PulledUnit U)

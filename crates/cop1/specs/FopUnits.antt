@@ -12,12 +12,12 @@ module _ {U : Type 0} where
   abbrev pub comes_back : FopState U → CopFault → U → FopOutcome U (Result (Unit {0}) (CopFault × U))
   comes_back s fault u = record { after = s; answer = Err (fault, u); gone = 0 }
 
-  abbrev pub is_taken : FopState U → FopOutcome U (Result (Unit {0}) (CopFault × U))
-  is_taken s = record { after = s; answer = Ok tt; gone = 0 }
+  abbrev pub taking_outcome : FopState U → FopOutcome U (Result (Unit {0}) (CopFault × U))
+  taking_outcome s = record { after = s; answer = Ok tt; gone = 0 }
 
   -- the wait queue has one place
   abbrev pub waits_behind : FopState U → U → Option U → FopOutcome U (Result (Unit {0}) (CopFault × U))
-  waits_behind s u None = is_taken (record s { waiting = Some u })
+  waits_behind s u None = taking_outcome (record s { waiting = Some u })
   waits_behind s u (Some before) = comes_back s Busy u
 
   abbrev pub submit_in : FopState U → U → FopMode → FopOutcome U (Result (Unit {0}) (CopFault × U))
@@ -33,4 +33,4 @@ module _ {U : Type 0} where
 
   -- the bypass queue takes units in any state
   abbrev pub bypass_step : FopState U → U → FopOutcome U (Result (Unit {0}) (CopFault × U))
-  bypass_step s u = is_taken (record s { bypass = s.bypass ++ u ∷ [] })
+  bypass_step s u = taking_outcome (record s { bypass = s.bypass ++ u ∷ [] })

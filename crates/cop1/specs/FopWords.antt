@@ -13,11 +13,11 @@ pub record FopOutcome (U A : Type 0) : Type 0 where
   pub gone : ℕ
 
 module _ {U : Type 0} where
-  abbrev pub unmarked : U → SentUnit U
-  unmarked u = record { unit = u; marked = false }
+  abbrev pub unmarked_unit : U → SentUnit U
+  unmarked_unit u = record { unit = u; marked = false }
 
-  abbrev pub marked : SentUnit U → SentUnit U
-  marked u = record u { marked = true }
+  abbrev pub marked_unit : SentUnit U → SentUnit U
+  marked_unit u = record u { marked = true }
 
   -- a value is outside where it is further above NN(R) than V(S) is
   abbrev pub is_outside : FopState U → ℕ → Bool
@@ -36,7 +36,7 @@ module _ {U : Type 0} where
 
   -- Repeat: the whole sent queue is marked and counted, and the timer starts again
   abbrev pub after_repeat : FopState U → FopState U
-  after_repeat s = record s { sent = map marked s.sent; count = s.count + 1; ticks = Some s.timer }
+  after_repeat s = record s { sent = map marked_unit s.sent; count = s.count + 1; ticks = Some s.timer }
 
   -- Alert: nothing is kept but the bypass queue and the numbers
   abbrev pub after_alert : FopState U → FopState U

@@ -82,12 +82,12 @@ impl Farm {
     ghost use Rattle.clcw.specs.Writing.{fits};
     ghost use Rattle.cop1.specs.Report.{report_of};
     ghost use Rattle.cop1.specs.FarmRuns.{FlagsAgree};
-    ghost use Rattle.cop1.specs.Farm.{IsWidth, opened, place_of, verdict_of, farm_step, AdArrives, BdArrives, UnlockArrives, SetVrArrives, BufferReleased};
+    ghost use Rattle.cop1.specs.Farm.{IsWidth, new_farm, place_of, verdict_of, farm_step, AdArrives, BdArrives, UnlockArrives, SetVrArrives, BufferReleased};
 
     /// An open receiver with all flags 0 and FARM-B 0, which expects the number `vr`. The width is
     /// even, 2 to 254; 1 Width where it is not.
     pub fn new(width: u8, vr: u8) -> Result<Farm, CopFault>
-        ensures opened { IfOk result (λ f. f ≡ opened width vr) }
+        ensures new_farm { IfOk result (λ f. f ≡ new_farm width vr) }
         ensures width { IsOk result ↔ IsWidth width }
         ensures fault { IfErr result (λ e. e ≡ CopFault.Width) }
     {

@@ -114,7 +114,7 @@ impl<U> Model for Fop<U> {
 }
 
 impl<U: Drop> Fop<U> {
-    ghost use Rattle.std.specs.Prelude.{◌≡◌, ◌/◌, ◌-◌, ◌*◌, None, IfOk, IfErr, IfSome, IsOkUnless, Err, length, is_some};
+    ghost use Rattle.std.specs.Prelude.{◌≡◌, ◌≤◌, ◌/◌, ◌-◌, ◌*◌, None, IfOk, IfErr, IfSome, IsOkUnless, Err, length, is_some};
     ghost use Rattle.cop1.specs.FopState.{initial, IsFop};
     ghost use Rattle.cop1.specs.FopNew.{new_fault};
 
@@ -190,9 +190,10 @@ impl<U: Drop> Fop<U> {
     }
 
     #[tactic(auto, using(crate::proofs::Marks::marks))]
-    /// How many units are sent and not acknowledged.
+    /// How many units are sent and not acknowledged: half the largest window width at most.
     pub fn sent(&self) -> usize
-        ensures { result ≡ length self.now.sent }
+        ensures count { result ≡ length self.now.sent }
+        ensures most { result ≤ 127 }
     {
         self.sent.len()
     }

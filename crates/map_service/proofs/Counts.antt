@@ -2,7 +2,7 @@
 use Rattle.std.proofs.Common.{◌≡◌, ◌≤◌, ℕ, zero, suc, ◌+◌, ◌-◌, ◌/◌, List, [], ◌∷◌, length, drop, refl, ap, ◌∙◌, arith, inl, inr, length-drop}
 use Rattle.std.proofs.lemmas.Bool.{cases_lt, le-leb, lt-leb}
 use Rattle.std.proofs.Math.Nat.{add-div_right, div-eq_of_lt}
-use Rattle.map_service.specs.Cutting.{pieces_within, pieces_of, following, flagged, parts_of}
+use Rattle.map_service.specs.Cutting.{pieces_within, pieces_of, later_segments, segments_of_pieces, parts_of}
 
 count_within : (n part : ℕ) (xs : List ℕ) → 1 ≤ part → 1 ≤ length xs → length xs ≤ n → length (pieces_within n part xs) ≡ (length xs - 1) / part + 1
 count_within zero part xs one some le = absurd (omega arith)
@@ -20,17 +20,17 @@ count_within (suc n) part xs one some le =
           rw (le-leb (length xs) part ge) (omega arith)
     ]
 
-following-count : (m : ℕ) (pieces : List (List ℕ)) → length (following m pieces) ≡ length pieces
-following-count m [] = refl
-following-count m (x ∷ []) = refl
-following-count m (x ∷ y ∷ ys) = ap suc (following-count m (y ∷ ys))
+later_segments-count : (m : ℕ) (pieces : List (List ℕ)) → length (later_segments m pieces) ≡ length pieces
+later_segments-count m [] = refl
+later_segments-count m (x ∷ []) = refl
+later_segments-count m (x ∷ y ∷ ys) = ap suc (later_segments-count m (y ∷ ys))
 
-flagged-count : (m : ℕ) (pieces : List (List ℕ)) → length (flagged m pieces) ≡ length pieces
-flagged-count m [] = refl
-flagged-count m (x ∷ []) = refl
-flagged-count m (x ∷ y ∷ ys) = ap suc (following-count m (y ∷ ys))
+segments_of_pieces-count : (m : ℕ) (pieces : List (List ℕ)) → length (segments_of_pieces m pieces) ≡ length pieces
+segments_of_pieces-count m [] = refl
+segments_of_pieces-count m (x ∷ []) = refl
+segments_of_pieces-count m (x ∷ y ∷ ys) = ap suc (later_segments-count m (y ∷ ys))
 
 -- the parts of octets that aren't none
 pub parts-count : (part m : ℕ) (xs : List ℕ) → 1 ≤ part → 1 ≤ length xs → length (parts_of part m xs) ≡ (length xs - 1) / part + 1
 unfolding pieces_of
-parts-count part m xs one some = flagged-count m (pieces_of part xs) ∙ count_within (length xs) part xs one some (omega arith)
+parts-count part m xs one some = segments_of_pieces-count m (pieces_of part xs) ∙ count_within (length xs) part xs one some (omega arith)

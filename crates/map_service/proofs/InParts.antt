@@ -6,8 +6,8 @@ use Rattle.std.proofs.lemmas.List.{append-nil, take_at, drop_at}
 use Rattle.tc_frame.specs.declared.frame.SegmentFlags.{SegmentFlags}
 use Rattle.tc_frame.specs.declared.frame.SegmentFlags.TheVariants.{First, Continuing, Last}
 use Rattle.tc_frame.specs.Layout.{SegmentView}
-use Rattle.map_service.specs.Cutting.{pieces_of, segment_with, following, parts_of, payloads, flags_of, IsPart, IsInParts}
-use Rattle.map_service.proofs.Pieces.{following-last, following-cut, parts-cut}
+use Rattle.map_service.specs.Cutting.{pieces_of, segment_with, later_segments, parts_of, payloads, flags_of, IsPart, IsInParts}
+use Rattle.map_service.proofs.Pieces.{later_segments-last, later_segments-cut, parts-cut}
 use Rattle.map_service.proofs.Parts.{parts-joined, parts-each}
 
 -- ---- the segments behind a first
@@ -21,26 +21,26 @@ record IsFollowing (part m : ℕ) (octets : List ℕ) (segments : List SegmentVi
   full : AllByRecursion (IsFull part) (take between segments)
 
 -- a number of octets goes down with each part
-following_is : (n part m : ℕ) (octets : List ℕ) → 1 ≤ part → 1 ≤ length octets → length octets ≤ n → IsFollowing part m octets (following m (pieces_of part octets))
+following_is : (n part m : ℕ) (octets : List ℕ) → 1 ≤ part → 1 ≤ length octets → length octets ≤ n → IsFollowing part m octets (later_segments m (pieces_of part octets))
 following_is zero part m octets one some le = absurd (omega arith)
 following_is (suc n) part m octets one some le =
     elim (cases_lt part (length octets)) [
       | inl lt ↦
           let rest = following_is n part m (drop part octets) one (omega (arith, length-drop part octets)) (omega (arith, length-drop part octets)) in
-          let cut = following-cut m part octets (take part octets) (drop part octets) one lt refl refl in
+          let cut = later_segments-cut m part octets (take part octets) (drop part octets) one lt refl refl in
           subst (λ (xs : List SegmentView). IsFollowing part m octets xs) (sym cut) (record {
             between = suc rest.between;
             flags = ap (λ (fs : List SegmentFlags). Continuing ∷ fs) rest.flags;
             full = (omega (arith, length-take part octets), rest.full);
           })
-      | inr ge ↦ subst (λ (xs : List SegmentView). IsFollowing part m octets xs) (sym (following-last m part octets some ge)) (record { between = zero; flags = refl; full = tt })
+      | inr ge ↦ subst (λ (xs : List SegmentView). IsFollowing part m octets xs) (sym (later_segments-last m part octets some ge)) (record { between = zero; flags = refl; full = tt })
     ]
 
 pub in_parts : (part m : ℕ) (octets : List ℕ) → 1 ≤ part → part < length octets → IsInParts part m octets (parts_of part m octets)
 in_parts part m octets one lt =
     let rest = following_is (length octets) part m (drop part octets) one (omega (arith, length-drop part octets)) (omega (arith, length-drop part octets)) in
-    let cut : parts_of part m octets ≡ segment_with First m (take part octets) ∷ following m (pieces_of part (drop part octets)) = parts-cut m part octets (take part octets) (drop part octets) one lt refl refl in
-    let full : AllByRecursion (IsFull part) (take (suc rest.between) (segment_with First m (take part octets) ∷ following m (pieces_of part (drop part octets)))) = (omega (arith, length-take part octets), rest.full) in
+    let cut : parts_of part m octets ≡ segment_with First m (take part octets) ∷ later_segments m (pieces_of part (drop part octets)) = parts-cut m part octets (take part octets) (drop part octets) one lt refl refl in
+    let full : AllByRecursion (IsFull part) (take (suc rest.between) (segment_with First m (take part octets) ∷ later_segments m (pieces_of part (drop part octets)))) = (omega (arith, length-take part octets), rest.full) in
     record {
       between = rest.between;
       flags = ap flags_of cut ∙ ap (λ (fs : List SegmentFlags). First ∷ fs) rest.flags;
@@ -76,7 +76,7 @@ some_behind part m (suc n) [] f each = absurd cc
 some_behind part m n (s ∷ segments) f each = omega (arith, each.0.least, length-append s.payload (concat (payloads segments)))
 
 only_following : (part m n : ℕ) (octets : List ℕ) (segments : List SegmentView) → 1 ≤ part → flags_of segments ≡ replicate n Continuing ++ Last ∷ []
-    → concat (payloads segments) ≡ octets → AllByRecursion (IsPart part m) segments → AllByRecursion (IsFull part) (take n segments) → segments ≡ following m (pieces_of part octets)
+    → concat (payloads segments) ≡ octets → AllByRecursion (IsPart part m) segments → AllByRecursion (IsFull part) (take n segments) → segments ≡ later_segments m (pieces_of part octets)
 only_following part m zero octets [] one f joined each full = absurd cc
 only_following part m (suc n) octets [] one f joined each full = absurd cc
 only_following part m zero octets (s ∷ t ∷ ts) one f joined each full = absurd cc
@@ -84,7 +84,7 @@ only_following part m zero octets (s ∷ []) one f joined each full =
     let is : s.payload ≡ octets = sym (append-nil s.payload) ∙ joined in
     let last : s.header.flags ≡ Last = cc in
     ap (λ (x : SegmentView). x ∷ []) (segment_is s Last m octets last each.0.on_map is)
-    ∙ sym (following-last m part octets (omega (arith, each.0.least, ap length is)) (omega (arith, each.0.most, ap length is)))
+    ∙ sym (later_segments-last m part octets (omega (arith, each.0.least, ap length is)) (omega (arith, each.0.most, ap length is)))
 only_following part m (suc n) octets (s ∷ segments) one f joined each full =
     let behind : List ℕ = concat (payloads segments) in
     let here : s.header.flags ≡ Continuing = cc in
@@ -92,7 +92,7 @@ only_following part m (suc n) octets (s ∷ segments) one f joined each full =
     let split = split_at_part part octets s.payload behind joined full.0 (some_behind part m n segments flags each.1) in
     ap (λ (x : SegmentView). x ∷ segments) (segment_is s Continuing m s.payload here each.0.on_map refl)
     ∙ ap (λ (xs : List SegmentView). segment_with Continuing m s.payload ∷ xs) (only_following part m n behind segments one flags refl each.1 full.1)
-    ∙ sym (following-cut m part octets s.payload behind one split.more split.front split.back)
+    ∙ sym (later_segments-cut m part octets s.payload behind one split.more split.front split.back)
 
 only_at : (part m n : ℕ) (octets : List ℕ) (segments : List SegmentView) → 1 ≤ part → flags_of segments ≡ First ∷ (replicate n Continuing ++ Last ∷ [])
     → concat (payloads segments) ≡ octets → AllByRecursion (IsPart part m) segments → AllByRecursion (IsFull part) (take (suc n) segments) → segments ≡ parts_of part m octets

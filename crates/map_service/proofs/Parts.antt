@@ -5,7 +5,7 @@ use Rattle.std.proofs.lemmas.Bool.{cases_lt, le-leb, lt-leb}
 use Rattle.std.proofs.lemmas.List.{append-nil, map-append, take-append-drop}
 use Rattle.std.proofs.lemmas.List.Folds.{concat-append}
 use Rattle.tc_frame.specs.Layout.{SegmentView}
-use Rattle.map_service.specs.Cutting.{pieces_within, pieces_of, following, flagged, parts_of, first_group, groups_within, groups_of, segments_of, payloads, IsPart}
+use Rattle.map_service.specs.Cutting.{pieces_within, pieces_of, later_segments, segments_of_pieces, parts_of, first_group, groups_within, groups_of, segments_of, payloads, IsPart}
 use Rattle.map_service.specs.Packets.{packets_in, rest_in}
 use Rattle.map_service.proofs.Groups.{group-front, group-some, all_of}
 
@@ -47,28 +47,28 @@ pieces-sizes part (x ∷ xs) one = sizes_within (length (x ∷ xs)) part (x ∷ 
 
 -- ---- their segments
 
-following-payloads : (m : ℕ) (pieces : List (List ℕ)) → payloads (following m pieces) ≡ pieces
-following-payloads m [] = refl
-following-payloads m (x ∷ []) = refl
-following-payloads m (x ∷ y ∷ ys) = ap (λ (ps : List (List ℕ)). x ∷ ps) (following-payloads m (y ∷ ys))
+later_segments-payloads : (m : ℕ) (pieces : List (List ℕ)) → payloads (later_segments m pieces) ≡ pieces
+later_segments-payloads m [] = refl
+later_segments-payloads m (x ∷ []) = refl
+later_segments-payloads m (x ∷ y ∷ ys) = ap (λ (ps : List (List ℕ)). x ∷ ps) (later_segments-payloads m (y ∷ ys))
 
-flagged-payloads : (m : ℕ) (pieces : List (List ℕ)) → payloads (flagged m pieces) ≡ pieces
-flagged-payloads m [] = refl
-flagged-payloads m (x ∷ []) = refl
-flagged-payloads m (x ∷ y ∷ ys) = ap (λ (ps : List (List ℕ)). x ∷ ps) (following-payloads m (y ∷ ys))
+segments_of_pieces-payloads : (m : ℕ) (pieces : List (List ℕ)) → payloads (segments_of_pieces m pieces) ≡ pieces
+segments_of_pieces-payloads m [] = refl
+segments_of_pieces-payloads m (x ∷ []) = refl
+segments_of_pieces-payloads m (x ∷ y ∷ ys) = ap (λ (ps : List (List ℕ)). x ∷ ps) (later_segments-payloads m (y ∷ ys))
 
-following-parts : (part m : ℕ) (pieces : List (List ℕ)) → AllByRecursion (IsPiece part) pieces → AllByRecursion (IsPart part m) (following m pieces)
-following-parts part m [] h = tt
-following-parts part m (x ∷ []) h = (record { on_map = refl; least = h.0.0; most = h.0.1 }, tt)
-following-parts part m (x ∷ y ∷ ys) h = (record { on_map = refl; least = h.0.0; most = h.0.1 }, following-parts part m (y ∷ ys) h.1)
+later_segments-parts : (part m : ℕ) (pieces : List (List ℕ)) → AllByRecursion (IsPiece part) pieces → AllByRecursion (IsPart part m) (later_segments m pieces)
+later_segments-parts part m [] h = tt
+later_segments-parts part m (x ∷ []) h = (record { on_map = refl; least = h.0.0; most = h.0.1 }, tt)
+later_segments-parts part m (x ∷ y ∷ ys) h = (record { on_map = refl; least = h.0.0; most = h.0.1 }, later_segments-parts part m (y ∷ ys) h.1)
 
-flagged-parts : (part m : ℕ) (pieces : List (List ℕ)) → AllByRecursion (IsPiece part) pieces → AllByRecursion (IsPart part m) (flagged m pieces)
-flagged-parts part m [] h = tt
-flagged-parts part m (x ∷ []) h = (record { on_map = refl; least = h.0.0; most = h.0.1 }, tt)
-flagged-parts part m (x ∷ y ∷ ys) h = (record { on_map = refl; least = h.0.0; most = h.0.1 }, following-parts part m (y ∷ ys) h.1)
+segments_of_pieces-parts : (part m : ℕ) (pieces : List (List ℕ)) → AllByRecursion (IsPiece part) pieces → AllByRecursion (IsPart part m) (segments_of_pieces m pieces)
+segments_of_pieces-parts part m [] h = tt
+segments_of_pieces-parts part m (x ∷ []) h = (record { on_map = refl; least = h.0.0; most = h.0.1 }, tt)
+segments_of_pieces-parts part m (x ∷ y ∷ ys) h = (record { on_map = refl; least = h.0.0; most = h.0.1 }, later_segments-parts part m (y ∷ ys) h.1)
 
 pub parts-joined : (part m : ℕ) (xs : List ℕ) → 1 ≤ part → concat (payloads (parts_of part m xs)) ≡ xs
-parts-joined part m xs one = ap concat (flagged-payloads m (pieces_of part xs)) ∙ pieces-joined part xs one
+parts-joined part m xs one = ap concat (segments_of_pieces-payloads m (pieces_of part xs)) ∙ pieces-joined part xs one
 
 -- ---- groups
 
@@ -107,10 +107,10 @@ groups-parts : (part m : ℕ) (groups : List (List (List ℕ))) → 1 ≤ part �
 groups-parts part m [] one = tt
 groups-parts part m (g ∷ gs) one =
     all-append (IsPart part m) (parts_of part m (concat g)) (flat_map (λ (h : List (List ℕ)). parts_of part m (concat h)) gs)
-    (flagged-parts part m (pieces_of part (concat g)) (pieces-sizes part (concat g) one)) (groups-parts part m gs one)
+    (segments_of_pieces-parts part m (pieces_of part (concat g)) (pieces-sizes part (concat g) one)) (groups-parts part m gs one)
 
 pub segments-parts : (part m : ℕ) (octets : List ℕ) → 1 ≤ part → AllByRecursion (IsPart part m) (segments_of part m octets)
 segments-parts part m octets one = groups-parts part m (groups_of part (packets_in octets)) one
 
 pub parts-each : (part m : ℕ) (octets : List ℕ) → 1 ≤ part → AllByRecursion (IsPart part m) (parts_of part m octets)
-parts-each part m octets one = flagged-parts part m (pieces_of part octets) (pieces-sizes part octets one)
+parts-each part m octets one = segments_of_pieces-parts part m (pieces_of part octets) (pieces-sizes part octets one)

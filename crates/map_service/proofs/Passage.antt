@@ -13,7 +13,7 @@ use Rattle.tc_frame.specs.Layout.{SegmentView}
 use Rattle.map_service.specs.declared.fault.MapFault.TheVariants.{NotAPacket, TooLong}
 use Rattle.map_service.specs.declared.limits.Limits.{Limits}
 use Rattle.map_service.specs.Assembly.{is_open, of_map, packet_of, packets_of, joined_data, up_to_last_from, up_to_last, up_to_end_from, up_to_end, block_packets, blocks_packets, assembled, part_from, ending_part, unless_too_long, open_part}
-use Rattle.map_service.specs.Cutting.{pieces_of, following, flagged, parts_of, longest_run, first_group, groups_within, groups_of, segments_of, cut_fault, payloads, IsPart}
+use Rattle.map_service.specs.Cutting.{pieces_of, later_segments, segments_of_pieces, parts_of, longest_run, first_group, groups_within, groups_of, segments_of, cut_fault, payloads, IsPart}
 use Rattle.map_service.specs.Packets.{packets_in, rest_in, are_packets, is_packet, is_some_over}
 use Rattle.map_service.proofs.Groups.{IsWhole, again, none_from, all_of, packets-split, behind-each, group-front, group-some}
 use Rattle.map_service.proofs.Pieces.{pieces-some, pieces-more, parts-fit}
@@ -58,46 +58,46 @@ ending-append (s ∷ xs) ys e =
 
 -- ---- the segments of a group
 
-following-last_data : (m : ℕ) (x : List ℕ) (xs : List (List ℕ)) → up_to_last (following m (x ∷ xs)) ≡ Some (concat (x ∷ xs))
-following-last_data m x [] = ap (λ (ys : List ℕ). Some ys) (sym (append-nil x))
-following-last_data m x (y ∷ ys) = ap (joined_data x) (following-last_data m y ys)
+later_segments-last_data : (m : ℕ) (x : List ℕ) (xs : List (List ℕ)) → up_to_last (later_segments m (x ∷ xs)) ≡ Some (concat (x ∷ xs))
+later_segments-last_data m x [] = ap (λ (ys : List ℕ). Some ys) (sym (append-nil x))
+later_segments-last_data m x (y ∷ ys) = ap (joined_data x) (later_segments-last_data m y ys)
 
-following-gives : (limits : Limits) (m : ℕ) (xs : List (List ℕ)) → blocks_packets limits (following m xs) ≡ []
-following-gives limits m [] = refl
-following-gives limits m (x ∷ []) = refl
-following-gives limits m (x ∷ y ∷ ys) = following-gives limits m (y ∷ ys)
+later_segments-gives : (limits : Limits) (m : ℕ) (xs : List (List ℕ)) → blocks_packets limits (later_segments m xs) ≡ []
+later_segments-gives limits m [] = refl
+later_segments-gives limits m (x ∷ []) = refl
+later_segments-gives limits m (x ∷ y ∷ ys) = later_segments-gives limits m (y ∷ ys)
 
-following-ends : (m : ℕ) (x : List ℕ) (xs : List (List ℕ)) → up_to_end (following m (x ∷ xs)) ≡ None
-following-ends m x [] = refl
-following-ends m x (y ∷ ys) = ap (joined_data x) (following-ends m y ys)
+later_segments-ends : (m : ℕ) (x : List ℕ) (xs : List (List ℕ)) → up_to_end (later_segments m (x ∷ xs)) ≡ None
+later_segments-ends m x [] = refl
+later_segments-ends m x (y ∷ ys) = ap (joined_data x) (later_segments-ends m y ys)
 
-following-part_from : (m : ℕ) (xs : List (List ℕ)) → ending_part (following m xs) ≡ None
-following-part_from m [] = refl
-following-part_from m (x ∷ []) = refl
-following-part_from m (x ∷ y ∷ ys) = following-part_from m (y ∷ ys)
+later_segments-part_from : (m : ℕ) (xs : List (List ℕ)) → ending_part (later_segments m xs) ≡ None
+later_segments-part_from m [] = refl
+later_segments-part_from m (x ∷ []) = refl
+later_segments-part_from m (x ∷ y ∷ ys) = later_segments-part_from m (y ∷ ys)
 
 -- several parts give what their joined data are
-flagged-gives : (limits : Limits) (m : ℕ) (x y : List ℕ) (ys : List (List ℕ)) → blocks_packets limits (flagged m (x ∷ y ∷ ys)) ≡ packet_of limits (concat (x ∷ y ∷ ys))
-flagged-gives limits m x y ys =
+segments_of_pieces-gives : (limits : Limits) (m : ℕ) (x y : List ℕ) (ys : List (List ℕ)) → blocks_packets limits (segments_of_pieces m (x ∷ y ∷ ys)) ≡ packet_of limits (concat (x ∷ y ∷ ys))
+segments_of_pieces-gives limits m x y ys =
     let all : List (List ℕ) = packet_of limits (concat (x ∷ y ∷ ys)) in
-    ap (λ (u : Option (List ℕ)). block_packets limits First x u ++ blocks_packets limits (following m (y ∷ ys))) (following-last_data m y ys)
-    ∙ ap (λ (ps : List (List ℕ)). all ++ ps) (following-gives limits m (y ∷ ys)) ∙ append-nil all
+    ap (λ (u : Option (List ℕ)). block_packets limits First x u ++ blocks_packets limits (later_segments m (y ∷ ys))) (later_segments-last_data m y ys)
+    ∙ ap (λ (ps : List (List ℕ)). all ++ ps) (later_segments-gives limits m (y ∷ ys)) ∙ append-nil all
 
-flagged-starts : (m : ℕ) (xs : List (List ℕ)) (rest : List SegmentView) → up_to_last rest ≡ None → up_to_last (flagged m xs ++ rest) ≡ None
-flagged-starts m [] rest e = e
-flagged-starts m (x ∷ []) rest e = refl
-flagged-starts m (x ∷ y ∷ ys) rest e = refl
+segments_of_pieces-starts : (m : ℕ) (xs : List (List ℕ)) (rest : List SegmentView) → up_to_last rest ≡ None → up_to_last (segments_of_pieces m xs ++ rest) ≡ None
+segments_of_pieces-starts m [] rest e = e
+segments_of_pieces-starts m (x ∷ []) rest e = refl
+segments_of_pieces-starts m (x ∷ y ∷ ys) rest e = refl
 
-flagged-ends : (m : ℕ) (xs : List (List ℕ)) (rest : List SegmentView) → (rest ≡ []) ⊎ (up_to_end rest ≡ None) → (flagged m xs ++ rest ≡ []) ⊎ (up_to_end (flagged m xs ++ rest) ≡ None)
-flagged-ends m [] rest e = e
-flagged-ends m (x ∷ []) rest e = inr refl
-flagged-ends m (x ∷ y ∷ ys) rest e = inr refl
+segments_of_pieces-ends : (m : ℕ) (xs : List (List ℕ)) (rest : List SegmentView) → (rest ≡ []) ⊎ (up_to_end rest ≡ None) → (segments_of_pieces m xs ++ rest ≡ []) ⊎ (up_to_end (segments_of_pieces m xs ++ rest) ≡ None)
+segments_of_pieces-ends m [] rest e = e
+segments_of_pieces-ends m (x ∷ []) rest e = inr refl
+segments_of_pieces-ends m (x ∷ y ∷ ys) rest e = inr refl
 
-flagged-part_from : (m : ℕ) (xs : List (List ℕ)) → ending_part (flagged m xs) ≡ None
-flagged-part_from m [] = refl
-flagged-part_from m (x ∷ []) = refl
-flagged-part_from m (x ∷ y ∷ ys) =
-    ap (λ (u : Option (List ℕ)). part_from First x u (ending_part (following m (y ∷ ys)))) (following-ends m y ys) ∙ following-part_from m (y ∷ ys)
+segments_of_pieces-part_from : (m : ℕ) (xs : List (List ℕ)) → ending_part (segments_of_pieces m xs) ≡ None
+segments_of_pieces-part_from m [] = refl
+segments_of_pieces-part_from m (x ∷ []) = refl
+segments_of_pieces-part_from m (x ∷ y ∷ ys) =
+    ap (λ (u : Option (List ℕ)). part_from First x u (ending_part (later_segments m (y ∷ ys)))) (later_segments-ends m y ys) ∙ later_segments-part_from m (y ∷ ys)
 
 -- ---- the segments of groups
 
@@ -106,11 +106,11 @@ all_parts part m groups = flat_map (λ (g : List (List ℕ)). parts_of part m (c
 
 groups-start : (part m : ℕ) (groups : List (List (List ℕ))) → up_to_last (all_parts part m groups) ≡ None
 groups-start part m [] = refl
-groups-start part m (g ∷ gs) = flagged-starts m (pieces_of part (concat g)) (all_parts part m gs) (groups-start part m gs)
+groups-start part m (g ∷ gs) = segments_of_pieces-starts m (pieces_of part (concat g)) (all_parts part m gs) (groups-start part m gs)
 
 groups-end : (part m : ℕ) (groups : List (List (List ℕ))) → (all_parts part m groups ≡ []) ⊎ (up_to_end (all_parts part m groups) ≡ None)
 groups-end part m [] = inl refl
-groups-end part m (g ∷ gs) = flagged-ends m (pieces_of part (concat g)) (all_parts part m gs) (groups-end part m gs)
+groups-end part m (g ∷ gs) = segments_of_pieces-ends m (pieces_of part (concat g)) (all_parts part m gs) (groups-end part m gs)
 
 open_behind : (xs ys : List SegmentView) → (ys ≡ []) ⊎ (up_to_end ys ≡ None) → ending_part xs ≡ None → ending_part ys ≡ None → ending_part (xs ++ ys) ≡ None
 open_behind xs ys (inl e) p q = ap (λ (zs : List SegmentView). ending_part (xs ++ zs)) e ∙ ap ending_part (append-nil xs) ∙ p
@@ -119,7 +119,7 @@ open_behind xs ys (inr e) p q = ending-append xs ys e ∙ q
 groups-open : (part m : ℕ) (groups : List (List (List ℕ))) → ending_part (all_parts part m groups) ≡ None
 groups-open part m [] = refl
 groups-open part m (g ∷ gs) =
-    open_behind (parts_of part m (concat g)) (all_parts part m gs) (groups-end part m gs) (flagged-part_from m (pieces_of part (concat g))) (groups-open part m gs)
+    open_behind (parts_of part m (concat g)) (all_parts part m gs) (groups-end part m gs) (segments_of_pieces-part_from m (pieces_of part (concat g))) (groups-open part m gs)
 
 abbrev GivesGroup : Limits → ℕ → ℕ → List (List ℕ) → Type 0
 GivesGroup limits part m g = blocks_packets limits (parts_of part m (concat g)) ≡ g
@@ -217,7 +217,7 @@ long-gives : (limits : Limits) (part m : ℕ) (p : List ℕ) → 1 ≤ part → 
 long-gives limits part m p one lt =
     let behind = pieces-some part (drop part p) one (omega (arith, length-drop part p)) in
     let cut : pieces_of part p ≡ take part p ∷ behind.0 ∷ behind.1 = pieces-more part p one lt ∙ ap (λ (ps : List (List ℕ)). take part p ∷ ps) behind.2 in
-    ap (λ (ps : List (List ℕ)). blocks_packets limits (flagged m ps)) cut ∙ flagged-gives limits m (take part p) behind.0 behind.1
+    ap (λ (ps : List (List ℕ)). blocks_packets limits (segments_of_pieces m ps)) cut ∙ segments_of_pieces-gives limits m (take part p) behind.0 behind.1
     ∙ ap (packet_of limits) (ap concat (sym cut) ∙ pieces-joined part p one)
 
 short-gives : (limits : Limits) (part m : ℕ) (xs : List ℕ) → 1 ≤ length xs → length xs ≤ part → blocks_packets limits (parts_of part m xs) ≡ packets_of limits xs

@@ -5,7 +5,7 @@ use Rattle.std.proofs.lemmas.Bool.{cases_lt, le-leb, lt-leb}
 use Rattle.std.proofs.lemmas.List.{take-take}
 use Rattle.tc_frame.specs.declared.frame.SegmentFlags.TheVariants.{First, Continuing, Last, Alone}
 use Rattle.tc_frame.specs.Layout.{SegmentView}
-use Rattle.map_service.specs.Cutting.{pieces_within, pieces_of, segment_with, following, flagged, parts_of}
+use Rattle.map_service.specs.Cutting.{pieces_within, pieces_of, segment_with, later_segments, segments_of_pieces, parts_of}
 
 -- what stands in front of a list that grew twice
 pub still_before : {A : Type 0} (xs ys zs : List A) → take (length xs) ys ≡ xs → take (length ys) zs ≡ ys → take (length xs) zs ≡ xs
@@ -46,22 +46,22 @@ pieces-some part xs one some =
     ]
 
 -- the last part, and a part before it
-pub following-last : (m part : ℕ) (xs : List ℕ) → 1 ≤ length xs → length xs ≤ part → following m (pieces_of part xs) ≡ segment_with Last m xs ∷ []
-following-last m part xs some le = ap (following m) (pieces-fit part xs some le)
+pub later_segments-last : (m part : ℕ) (xs : List ℕ) → 1 ≤ length xs → length xs ≤ part → later_segments m (pieces_of part xs) ≡ segment_with Last m xs ∷ []
+later_segments-last m part xs some le = ap (later_segments m) (pieces-fit part xs some le)
 
-pub following-more : (m part : ℕ) (xs : List ℕ) → 1 ≤ part → part < length xs
-    → following m (pieces_of part xs) ≡ segment_with Continuing m (take part xs) ∷ following m (pieces_of part (drop part xs))
-following-more m part xs one lt =
+pub later_segments-more : (m part : ℕ) (xs : List ℕ) → 1 ≤ part → part < length xs
+    → later_segments m (pieces_of part xs) ≡ segment_with Continuing m (take part xs) ∷ later_segments m (pieces_of part (drop part xs))
+later_segments-more m part xs one lt =
     let rest = pieces-some part (drop part xs) one (omega (arith, length-drop part xs)) in
     let is : pieces_of part (drop part xs) ≡ rest.0 ∷ rest.1 = rest.2 in
     rw (pieces-more part xs one lt, is) refl
 
 -- octets in one segment, and in several
 pub parts-fit : (m part : ℕ) (xs : List ℕ) → 1 ≤ length xs → length xs ≤ part → parts_of part m xs ≡ segment_with Alone m xs ∷ []
-parts-fit m part xs some le = ap (flagged m) (pieces-fit part xs some le)
+parts-fit m part xs some le = ap (segments_of_pieces m) (pieces-fit part xs some le)
 
 pub parts-more : (m part : ℕ) (xs : List ℕ) → 1 ≤ part → part < length xs
-    → parts_of part m xs ≡ segment_with First m (take part xs) ∷ following m (pieces_of part (drop part xs))
+    → parts_of part m xs ≡ segment_with First m (take part xs) ∷ later_segments m (pieces_of part (drop part xs))
 parts-more m part xs one lt =
     let rest = pieces-some part (drop part xs) one (omega (arith, length-drop part xs)) in
     let is : pieces_of part (drop part xs) ≡ rest.0 ∷ rest.1 = rest.2 in
@@ -82,10 +82,10 @@ pub and_others : (old new some others all : List SegmentView) → new ≡ old ++
 and_others old new some others all e is = ap (λ (vs : List SegmentView). vs ++ others) e ∙ append_assoc old some others ∙ ap (λ (vs : List SegmentView). old ++ vs) (sym is)
 
 -- the same lemmas, where the front and what is behind it have names of their own
-pub following-cut : (m part : ℕ) (xs piece behind : List ℕ) → 1 ≤ part → part < length xs → piece ≡ take part xs → behind ≡ drop part xs
-    → following m (pieces_of part xs) ≡ segment_with Continuing m piece ∷ following m (pieces_of part behind)
-following-cut m part xs piece behind one lt front back = rw (front, back) (following-more m part xs one lt)
+pub later_segments-cut : (m part : ℕ) (xs piece behind : List ℕ) → 1 ≤ part → part < length xs → piece ≡ take part xs → behind ≡ drop part xs
+    → later_segments m (pieces_of part xs) ≡ segment_with Continuing m piece ∷ later_segments m (pieces_of part behind)
+later_segments-cut m part xs piece behind one lt front back = rw (front, back) (later_segments-more m part xs one lt)
 
 pub parts-cut : (m part : ℕ) (xs piece behind : List ℕ) → 1 ≤ part → part < length xs → piece ≡ take part xs → behind ≡ drop part xs
-    → parts_of part m xs ≡ segment_with First m piece ∷ following m (pieces_of part behind)
+    → parts_of part m xs ≡ segment_with First m piece ∷ later_segments m (pieces_of part behind)
 parts-cut m part xs piece behind one lt front back = rw (front, back) (parts-more m part xs one lt)

@@ -12,28 +12,28 @@ use Rattle.map_service.specs.declared.dropped.Dropped.{Dropped}
 use Rattle.map_service.specs.declared.dropped.Dropped.TheVariants.{Interrupted, NotAPacket, TooLong}
 use Rattle.map_service.specs.Packets.{packets_in, are_packets, is_packet, is_some_over}
 use Rattle.map_service.specs.Assembly.{is_open, of_map, is_too_long, packet_of, packets_of, ending_part, blocks_packets, unless_too_long, assembled, open_part}
-use Rattle.map_service.specs.Taking.{Outcome, one_fault, several_fault, alone_fault, alone_packets, gives, opens, cell, take_step}
+use Rattle.map_service.specs.Taking.{TakeOutcome, one_fault, several_fault, alone_fault, alone_packets, packets_outcome, part_outcome, cell, take_step}
 use Rattle.map_service.specs.Exactness.{AssemblerState, part_of, step_at, after_step, HasPartsOf, IsTakenExactly}
 use Rattle.map_service.proofs.Joining.{part_behind, ending_part-push, packets_behind, blocks_packets-push}
 
 -- ---- octets judged as a whole
 
-gives-part : (earlier : Option Dropped) (packets : List (List ℕ)) (fault : Option Dropped) → (gives earlier packets fault).part ≡ None
-gives-part earlier packets None = refl
-gives-part earlier packets (Some cause) = refl
+packets_outcome-part : (earlier : Option Dropped) (packets : List (List ℕ)) (fault : Option Dropped) → (packets_outcome earlier packets fault).part ≡ None
+packets_outcome-part earlier packets None = refl
+packets_outcome-part earlier packets (Some cause) = refl
 
 one_by : (earlier : Option Dropped) (octets : List ℕ) (long whole : Bool)
-    → cond (whole && not long) (octets ∷ []) [] ≡ (gives earlier (octets ∷ []) (cond long (Some TooLong) (cond (not whole) (Some NotAPacket) None))).packets
+    → cond (whole && not long) (octets ∷ []) [] ≡ (packets_outcome earlier (octets ∷ []) (cond long (Some TooLong) (cond (not whole) (Some NotAPacket) None))).packets
 one_by earlier octets true true = refl
 one_by earlier octets true false = refl
 one_by earlier octets false true = refl
 one_by earlier octets false false = refl
 
-one_given : (limits : Limits) (earlier : Option Dropped) (octets : List ℕ) → packet_of limits octets ≡ (gives earlier (octets ∷ []) (one_fault limits octets)).packets
+one_given : (limits : Limits) (earlier : Option Dropped) (octets : List ℕ) → packet_of limits octets ≡ (packets_outcome earlier (octets ∷ []) (one_fault limits octets)).packets
 one_given limits earlier octets = one_by earlier octets (is_too_long limits octets) (is_packet octets)
 
 several_by : (earlier : Option Dropped) (packets : List (List ℕ)) (over whole : Bool)
-    → cond (whole && not over) packets [] ≡ (gives earlier packets (cond (not whole) (Some NotAPacket) (cond over (Some TooLong) None))).packets
+    → cond (whole && not over) packets [] ≡ (packets_outcome earlier packets (cond (not whole) (Some NotAPacket) (cond over (Some TooLong) None))).packets
 several_by earlier packets true true = refl
 several_by earlier packets true false = refl
 several_by earlier packets false true = refl
@@ -41,30 +41,30 @@ several_by earlier packets false false = refl
 
 alone_by : (limits : Limits) (earlier : Option Dropped) (octets : List ℕ) (blocking : Bool)
     → cond blocking (cond (are_packets octets && not (is_some_over limits.max_packet (packets_in octets))) (packets_in octets) []) (packet_of limits octets)
-    ≡ (gives earlier (cond blocking (packets_in octets) (octets ∷ [])) (cond blocking (several_fault limits octets) (one_fault limits octets))).packets
+    ≡ (packets_outcome earlier (cond blocking (packets_in octets) (octets ∷ [])) (cond blocking (several_fault limits octets) (one_fault limits octets))).packets
 alone_by limits earlier octets true = several_by earlier (packets_in octets) (is_some_over limits.max_packet (packets_in octets)) (are_packets octets)
 alone_by limits earlier octets false = one_given limits earlier octets
 
-alone_given : (limits : Limits) (earlier : Option Dropped) (octets : List ℕ) → packets_of limits octets ≡ (gives earlier (alone_packets limits octets) (alone_fault limits octets)).packets
+alone_given : (limits : Limits) (earlier : Option Dropped) (octets : List ℕ) → packets_of limits octets ≡ (packets_outcome earlier (alone_packets limits octets) (alone_fault limits octets)).packets
 alone_given limits earlier octets = alone_by limits earlier octets limits.blocking
 
 -- ---- octets that are opened
 
 opened_by : (earlier : Option Dropped) (octets : List ℕ) (long : Bool)
-    → (cond long None (Some octets)) ≡ (let o : Outcome = cond long (record { dropped = Some TooLong; packets = []; part = None }) (record { dropped = earlier; packets = []; part = Some octets }) in o).part
+    → (cond long None (Some octets)) ≡ (let o : TakeOutcome = cond long (record { dropped = Some TooLong; packets = []; part = None }) (record { dropped = earlier; packets = []; part = Some octets }) in o).part
 opened_by earlier octets true = refl
 opened_by earlier octets false = refl
 
-opens-part : (limits : Limits) (earlier : Option Dropped) (octets : List ℕ) → unless_too_long limits (Some octets) ≡ (opens limits earlier octets).part
-opens-part limits earlier octets = opened_by earlier octets (is_too_long limits octets)
+part_outcome-part : (limits : Limits) (earlier : Option Dropped) (octets : List ℕ) → unless_too_long limits (Some octets) ≡ (part_outcome limits earlier octets).part
+part_outcome-part limits earlier octets = opened_by earlier octets (is_too_long limits octets)
 
 opened_none : (earlier : Option Dropped) (octets : List ℕ) (long : Bool)
-    → (let o : Outcome = cond long (record { dropped = Some TooLong; packets = []; part = None }) (record { dropped = earlier; packets = []; part = Some octets }) in o).packets ≡ []
+    → (let o : TakeOutcome = cond long (record { dropped = Some TooLong; packets = []; part = None }) (record { dropped = earlier; packets = []; part = Some octets }) in o).packets ≡ []
 opened_none earlier octets true = refl
 opened_none earlier octets false = refl
 
-opens-packets : (limits : Limits) (earlier : Option Dropped) (octets : List ℕ) → (opens limits earlier octets).packets ≡ []
-opens-packets limits earlier octets = opened_none earlier octets (is_too_long limits octets)
+part_outcome-packets : (limits : Limits) (earlier : Option Dropped) (octets : List ℕ) → (part_outcome limits earlier octets).packets ≡ []
+part_outcome-packets limits earlier octets = opened_none earlier octets (is_too_long limits octets)
 
 -- ---- octets that are too long stay so
 
@@ -84,20 +84,20 @@ packet_of-long limits octets h = let by : (whole : Bool) → (let xs : List (Lis
 
 cell-part_joined : (limits : Limits) (flags : SegmentFlags) (octets part : List ℕ) (long : Bool) → is_too_long limits part ≡ long
     → unless_too_long limits (part_behind flags octets (Some part)) ≡ (cell limits flags (unless_too_long limits (Some part)) octets).part
-cell-part_joined limits Alone octets part true h = rw (unless_long limits part h) (sym (gives-part None (alone_packets limits octets) (alone_fault limits octets)))
-cell-part_joined limits Alone octets part false h = rw (unless_fits limits part h) (sym (gives-part (Some Interrupted) (alone_packets limits octets) (alone_fault limits octets)))
-cell-part_joined limits First octets part true h = rw (unless_long limits part h) (opens-part limits None octets)
-cell-part_joined limits First octets part false h = rw (unless_fits limits part h) (opens-part limits (Some Interrupted) octets)
+cell-part_joined limits Alone octets part true h = rw (unless_long limits part h) (sym (packets_outcome-part None (alone_packets limits octets) (alone_fault limits octets)))
+cell-part_joined limits Alone octets part false h = rw (unless_fits limits part h) (sym (packets_outcome-part (Some Interrupted) (alone_packets limits octets) (alone_fault limits octets)))
+cell-part_joined limits First octets part true h = rw (unless_long limits part h) (part_outcome-part limits None octets)
+cell-part_joined limits First octets part false h = rw (unless_fits limits part h) (part_outcome-part limits (Some Interrupted) octets)
 cell-part_joined limits Continuing octets part true h = rw (unless_long limits part h) (unless_long limits (part ++ octets) (too_long_more limits part octets h))
-cell-part_joined limits Continuing octets part false h = rw (unless_fits limits part h) (opens-part limits None (part ++ octets))
+cell-part_joined limits Continuing octets part false h = rw (unless_fits limits part h) (part_outcome-part limits None (part ++ octets))
 cell-part_joined limits Last octets part true h = rw (unless_long limits part h) refl
-cell-part_joined limits Last octets part false h = rw (unless_fits limits part h) (sym (gives-part None ((part ++ octets) ∷ []) (one_fault limits (part ++ octets))))
+cell-part_joined limits Last octets part false h = rw (unless_fits limits part h) (sym (packets_outcome-part None ((part ++ octets) ∷ []) (one_fault limits (part ++ octets))))
 
 cell-part : (limits : Limits) (flags : SegmentFlags) (octets : List ℕ) (part : Option (List ℕ))
     → unless_too_long limits (part_behind flags octets part) ≡ (cell limits flags (unless_too_long limits part) octets).part
 cell-part limits flags octets (Some part) = cell-part_joined limits flags octets part (is_too_long limits part) refl
-cell-part limits Alone octets None = sym (gives-part None (alone_packets limits octets) (alone_fault limits octets))
-cell-part limits First octets None = opens-part limits None octets
+cell-part limits Alone octets None = sym (packets_outcome-part None (alone_packets limits octets) (alone_fault limits octets))
+cell-part limits First octets None = part_outcome-part limits None octets
 cell-part limits Continuing octets None = refl
 cell-part limits Last octets None = refl
 
@@ -105,10 +105,10 @@ cell-packets_joined : (limits : Limits) (flags : SegmentFlags) (octets part : Li
     → packets_behind limits flags octets (Some part) ≡ (cell limits flags (unless_too_long limits (Some part)) octets).packets
 cell-packets_joined limits Alone octets part true h = rw (unless_long limits part h) (alone_given limits None octets)
 cell-packets_joined limits Alone octets part false h = rw (unless_fits limits part h) (alone_given limits (Some Interrupted) octets)
-cell-packets_joined limits First octets part true h = rw (unless_long limits part h) (sym (opens-packets limits None octets))
-cell-packets_joined limits First octets part false h = rw (unless_fits limits part h) (sym (opens-packets limits (Some Interrupted) octets))
+cell-packets_joined limits First octets part true h = rw (unless_long limits part h) (sym (part_outcome-packets limits None octets))
+cell-packets_joined limits First octets part false h = rw (unless_fits limits part h) (sym (part_outcome-packets limits (Some Interrupted) octets))
 cell-packets_joined limits Continuing octets part true h = rw (unless_long limits part h) refl
-cell-packets_joined limits Continuing octets part false h = rw (unless_fits limits part h) (sym (opens-packets limits None (part ++ octets)))
+cell-packets_joined limits Continuing octets part false h = rw (unless_fits limits part h) (sym (part_outcome-packets limits None (part ++ octets)))
 cell-packets_joined limits Last octets part true h = rw (unless_long limits part h) (packet_of-long limits (part ++ octets) (too_long_more limits part octets h))
 cell-packets_joined limits Last octets part false h = rw (unless_fits limits part h) (one_given limits None (part ++ octets))
 
@@ -116,7 +116,7 @@ cell-packets : (limits : Limits) (flags : SegmentFlags) (octets : List ℕ) (par
     → packets_behind limits flags octets part ≡ (cell limits flags (unless_too_long limits part) octets).packets
 cell-packets limits flags octets (Some part) = cell-packets_joined limits flags octets part (is_too_long limits part) refl
 cell-packets limits Alone octets None = alone_given limits None octets
-cell-packets limits First octets None = sym (opens-packets limits None octets)
+cell-packets limits First octets None = sym (part_outcome-packets limits None octets)
 cell-packets limits Continuing octets None = refl
 cell-packets limits Last octets None = refl
 

@@ -29,20 +29,20 @@ abbrev pub segment_with : SegmentFlags → ℕ → List ℕ → SegmentView
 segment_with flags m octets = record { header = record { flags = flags; map = m }; payload = octets }
 
 -- the pieces behind a first: continuing as often as needed, and a last
-abbrev pub following : ℕ → List (List ℕ) → List SegmentView
-following m [] = []
-following m (x ∷ []) = segment_with Last m x ∷ []
-following m (x ∷ y ∷ ys) = segment_with Continuing m x ∷ following m (y ∷ ys)
+abbrev pub later_segments : ℕ → List (List ℕ) → List SegmentView
+later_segments m [] = []
+later_segments m (x ∷ []) = segment_with Last m x ∷ []
+later_segments m (x ∷ y ∷ ys) = segment_with Continuing m x ∷ later_segments m (y ∷ ys)
 
 -- one piece stands alone, and the first of several is followed by the others
-abbrev pub flagged : ℕ → List (List ℕ) → List SegmentView
-flagged m [] = []
-flagged m (x ∷ []) = segment_with Alone m x ∷ []
-flagged m (x ∷ y ∷ ys) = segment_with First m x ∷ following m (y ∷ ys)
+abbrev pub segments_of_pieces : ℕ → List (List ℕ) → List SegmentView
+segments_of_pieces m [] = []
+segments_of_pieces m (x ∷ []) = segment_with Alone m x ∷ []
+segments_of_pieces m (x ∷ y ∷ ys) = segment_with First m x ∷ later_segments m (y ∷ ys)
 
 -- the segments of a packet, or of packets that go into one segment, on MAP m
 abbrev pub parts_of : ℕ → ℕ → List ℕ → List SegmentView
-parts_of part m octets = flagged m (pieces_of part octets)
+parts_of part m octets = segments_of_pieces m (pieces_of part octets)
 
 -- ---- packets joined into groups
 

@@ -3,7 +3,7 @@ use Rattle.std.specs.Prelude.{◌≡◌, ◌≢◌, ℕ, List, [], ◌∷◌, �
 use Rattle.tc_frame.specs.Layout.{SegmentView}
 use Rattle.map_service.specs.declared.limits.Limits.{Limits}
 use Rattle.map_service.specs.Assembly.{assembled, open_part}
-use Rattle.map_service.specs.Taking.{Outcome, take_step, passing_at}
+use Rattle.map_service.specs.Taking.{TakeOutcome, take_step, passing_at}
 
 -- the limits, and the open part of each MAP
 pub record AssemblerState : Type 0 where
@@ -14,7 +14,7 @@ abbrev pub part_of : AssemblerState → ℕ → Option (List ℕ)
 part_of a m = get_or a.parts m None
 
 -- the step at a segment
-abbrev pub step_at : AssemblerState → SegmentView → Outcome
+abbrev pub step_at : AssemblerState → SegmentView → TakeOutcome
 step_at a s = take_step a.limits (part_of a s.header.map) s
 
 -- the part of the segment's MAP is that of the step, and no other changes

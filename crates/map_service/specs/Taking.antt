@@ -10,7 +10,7 @@ use Rattle.map_service.specs.Packets.{packets_in, are_packets, is_packet, is_som
 use Rattle.map_service.specs.Assembly.{is_open, is_too_long}
 
 -- what is dropped, which packets are handed out, and the part that is open then on the segment's MAP
-pub record Outcome : Type 0 where
+pub record TakeOutcome : Type 0 where
   pub dropped : Option Dropped
   pub packets : List (List ℕ)
   pub part : Option (List ℕ)
@@ -37,42 +37,42 @@ alone_packets limits octets = if limits.blocking then packets_in octets else oct
 
 -- ---- what follows; where something was dropped before, the later cause is told
 
-abbrev pub drops : Dropped → Outcome
-drops cause = record { dropped = Some cause; packets = []; part = None }
+abbrev pub drop_outcome : Dropped → TakeOutcome
+drop_outcome cause = record { dropped = Some cause; packets = []; part = None }
 
-abbrev pub gives : Option Dropped → List (List ℕ) → Option Dropped → Outcome
-gives earlier packets None = record { dropped = earlier; packets = packets; part = None }
-gives earlier packets (Some cause) = drops cause
+abbrev pub packets_outcome : Option Dropped → List (List ℕ) → Option Dropped → TakeOutcome
+packets_outcome earlier packets None = record { dropped = earlier; packets = packets; part = None }
+packets_outcome earlier packets (Some cause) = drop_outcome cause
 
-abbrev pub opens : Limits → Option Dropped → List ℕ → Outcome
-opens limits earlier octets =
-    if is_too_long limits octets then drops TooLong else record { dropped = earlier; packets = []; part = Some octets }
+abbrev pub part_outcome : Limits → Option Dropped → List ℕ → TakeOutcome
+part_outcome limits earlier octets =
+    if is_too_long limits octets then drop_outcome TooLong else record { dropped = earlier; packets = []; part = Some octets }
 
 -- ---- the table: the segment's flags, the part that is open, the segment's data
 
-abbrev pub cell : Limits → SegmentFlags → Option (List ℕ) → List ℕ → Outcome
-cell limits Alone None octets = gives None (alone_packets limits octets) (alone_fault limits octets)
-cell limits Alone (Some part) octets = gives (Some Interrupted) (alone_packets limits octets) (alone_fault limits octets)
-cell limits First None octets = opens limits None octets
-cell limits First (Some part) octets = opens limits (Some Interrupted) octets
-cell limits Continuing None octets = drops NoBeginning
-cell limits Continuing (Some part) octets = opens limits None (part ++ octets)
-cell limits Last None octets = drops NoBeginning
-cell limits Last (Some part) octets = gives None ((part ++ octets) ∷ []) (one_fault limits (part ++ octets))
+abbrev pub cell : Limits → SegmentFlags → Option (List ℕ) → List ℕ → TakeOutcome
+cell limits Alone None octets = packets_outcome None (alone_packets limits octets) (alone_fault limits octets)
+cell limits Alone (Some part) octets = packets_outcome (Some Interrupted) (alone_packets limits octets) (alone_fault limits octets)
+cell limits First None octets = part_outcome limits None octets
+cell limits First (Some part) octets = part_outcome limits (Some Interrupted) octets
+cell limits Continuing None octets = drop_outcome NoBeginning
+cell limits Continuing (Some part) octets = part_outcome limits None (part ++ octets)
+cell limits Last None octets = drop_outcome NoBeginning
+cell limits Last (Some part) octets = packets_outcome None ((part ++ octets) ∷ []) (one_fault limits (part ++ octets))
 
 -- the cell of a segment, by the part that is open
-abbrev pub cell_at : Limits → Option (List ℕ) → SegmentView → Outcome
+abbrev pub cell_at : Limits → Option (List ℕ) → SegmentView → TakeOutcome
 cell_at limits part s = cell limits s.header.flags part s.payload
 
 -- a segment of a closed MAP is dropped, and nothing else changes
-abbrev pub take_step : Limits → Option (List ℕ) → SegmentView → Outcome
+abbrev pub take_step : Limits → Option (List ℕ) → SegmentView → TakeOutcome
 take_step limits part s =
     if is_open limits s.header.map then cell_at limits part s
     else record { dropped = Some ClosedMap; packets = []; part = part }
 
 -- the outcome where one packet is handed out, and there is nothing else
-abbrev pub passes : List ℕ → Outcome
-passes packet = record { dropped = None; packets = packet ∷ []; part = None }
+abbrev pub packet_outcome : List ℕ → TakeOutcome
+packet_outcome packet = record { dropped = None; packets = packet ∷ []; part = None }
 
 abbrev pub unless_fault : Option Dropped → List ℕ → Option (List ℕ)
 unless_fault None octets = Some octets
@@ -100,5 +100,5 @@ is_dropped_at_once (Some NotAPacket) = false
 is_dropped_at_once (Some TooLong) = true
 
 -- there is an answer, memory or not, where what is dropped takes none
-abbrev pub IsSureAtOnce : {A E : Type 0} → Outcome → Result A E → Type 0
+abbrev pub IsSureAtOnce : {A E : Type 0} → TakeOutcome → Result A E → Type 0
 IsSureAtOnce o result = is_dropped_at_once o.dropped ≡ true → IsOk result

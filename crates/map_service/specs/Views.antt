@@ -4,7 +4,7 @@ use Rattle.std.specs.declared.vec.Vec.{Vec}
 use Rattle.map_service.specs.declared.dropped.Dropped.{Dropped}
 use Rattle.map_service.specs.declared.dropped.Dropped.TheVariants.{Interrupted}
 use Rattle.map_service.specs.declared.dropped.Taken.{Taken}
-use Rattle.map_service.specs.Taking.{Outcome}
+use Rattle.map_service.specs.Taking.{TakeOutcome}
 
 abbrev pub part_view : {Z : Type 0} → Option (Vec ℕ Z) → Option (List ℕ)
 part_view part = option_map (λ v. v.items) part
@@ -13,10 +13,10 @@ abbrev pub packets_view : {Y Z : Type 0} → Vec (Vec ℕ Y) Z → List (List �
 packets_view packets = map (λ v. v.items) packets.items
 
 -- what is dropped where a first or an alone segment comes
-abbrev pub interrupts : Option (List ℕ) → Option Dropped
-interrupts None = None
-interrupts (Some part) = Some Interrupted
+abbrev pub interruption : Option (List ℕ) → Option Dropped
+interruption None = None
+interruption (Some part) = Some Interrupted
 
 -- an answer, and the part that is open then, as an outcome of the table
-abbrev pub outcome_of : {Z : Type 0} → Taken → Option (Vec ℕ Z) → Outcome
+abbrev pub outcome_of : {Z : Type 0} → Taken → Option (Vec ℕ Z) → TakeOutcome
 outcome_of taken part = record { dropped = taken.dropped; packets = packets_view taken.packets; part = part_view part }

@@ -5,8 +5,8 @@ ghost use Rattle.map_service.specs.Assembly.{is_too_long};
 ghost use Rattle.tc_frame.specs.declared.frame.SegmentFlags.TheVariants as flags;
 ghost use Rattle.tc_frame.specs.Layout.{segment_view};
 ghost use Rattle.map_service.specs.Adding.{adding_fault};
-ghost use Rattle.map_service.specs.Taking.{drops, cell, cell_at, IsSureAtOnce};
-ghost use Rattle.map_service.specs.Views.{part_view, packets_view, interrupts, outcome_of};
+ghost use Rattle.map_service.specs.Taking.{drop_outcome, cell, cell_at, IsSureAtOnce};
+ghost use Rattle.map_service.specs.Views.{part_view, packets_view, interruption, outcome_of};
 
 use crate::dropped::{Dropped, Taken};
 use crate::judging::{copied_alone, fault_of_alone, fault_of_one};
@@ -26,15 +26,15 @@ pub(crate) fn no_packets(alloc: Global, dropped: Option<Dropped>) -> Taken
 
 // Nothing is open then, and nothing handed out.
 fn dropped_for(alloc: Global, cause: Dropped, part: &mut Option<Vec<u8>>) -> Taken
-    ensures { outcome_of result part.new ≡ drops cause }
+    ensures { outcome_of result part.new ≡ drop_outcome cause }
 {
     *part = None;
     no_packets(alloc, Some(cause))
 }
 
 // What a first or an alone segment drops: the part that is open.
-fn interrupted(part: &Option<Vec<u8>>) -> Option<Dropped>
-    ensures { result ≡ interrupts (part_view part.now) }
+fn interruption(part: &Option<Vec<u8>>) -> Option<Dropped>
+    ensures { result ≡ interruption (part_view part.now) }
 {
     match part {
         Some(_) => Some(Dropped::Interrupted),
@@ -55,7 +55,7 @@ fn take_alone(
     ensures none { IsSureAtOnce
         (cell limits.now flags.Alone (part_view part.old) octets.now) result }
 {
-    let dropped = interrupted(part);
+    let dropped = interruption(part);
     if let Some(cause) = fault_of_alone(limits, octets) {
         return Ok(dropped_for(alloc, cause, part));
     }
@@ -87,7 +87,7 @@ fn take_first(
     ensures none { IsSureAtOnce
         (cell limits.now flags.First (part_view part.old) octets.now) result }
 {
-    let dropped = interrupted(part);
+    let dropped = interruption(part);
     if limits.is_too_long(octets.len()) {
         return Ok(dropped_for(alloc, Dropped::TooLong, part));
     }

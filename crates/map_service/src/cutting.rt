@@ -2,7 +2,7 @@
 
 ghost use Rattle.std.specs.Prelude.{◌≡◌, ◌≤◌, ◌<◌, ◌++◌, [], ◌∷◌, length, take, Err, None, IfSome, IsOkUnless, OnOk, OnErr};
 ghost use Rattle.std.specs.List.{concat};
-ghost use Rattle.map_service.specs.Cutting.{segment_views, pieces_of, segment_with, following, parts_of, longest_run, first_group, segments_of, cut_fault};
+ghost use Rattle.map_service.specs.Cutting.{segment_views, pieces_of, segment_with, later_segments, parts_of, longest_run, first_group, segments_of, cut_fault};
 ghost use Rattle.map_service.specs.Packets.{packets_in, rest_in};
 
 use crate::fault::MapFault;
@@ -72,7 +72,7 @@ fn append_following<'a>(
     requires some_octet { 1 ≤ length octets.now }
     requires some_part { 1 ≤ part }
     ensures ok { OnOk result (segment_views segments.new.items
-        ≡ segment_views segments.old.items ++ following map (pieces_of part octets.now)) }
+        ≡ segment_views segments.old.items ++ later_segments map (pieces_of part octets.now)) }
     ensures before { take (length segments.old.items) segments.new.items ≡ segments.old.items }
 {
     let mut rest = octets;

@@ -13,8 +13,8 @@ use Rattle.tc_link.specs.declared.event.Event.{Event}
 use Rattle.tc_link.specs.declared.event.Event.TheVariants as events
 use Rattle.script.specs.declared.field.Field.{Field}
 use Rattle.script.specs.declared.field.Field.TheVariants as fields
-use Rattle.script.specs.Lines.{ScriptLine, Skipped, Setting, Happening, Showing, Unreadable, lent, field_named, most_for, is_maps, single, initiation, up_event, down_event, numbered, double, submission, setting, triple, said, line_in}
-use Rattle.script.specs.Words.{words_in, number_in, octets_in}
+use Rattle.script.specs.Lines.{ScriptLine, Skipped, Setting, Happening, Showing, Unreadable, borrow_of, field_named, most_for, is_maps, line_of_one_word, initiation, up_event, down_event, numbered_directive, line_of_two_words, submission_line, setting_line, line_of_three_words, line_of_words, line_in}
+use Rattle.script.specs.Words.{words_in, number_in_word, octets_in_word}
 use Rattle.script.specs.Spelling as spelling
 use Rattle.script.specs.Spelling.{Spells, IsHex, field_name}
 use Rattle.script.proofs.HexWords.{read_octets}
@@ -67,7 +67,7 @@ one_more {name = name} {text = text} {word = word} {spelled = spelled} is same =
 at : {what other : ScriptLine} {text name : List ℕ} → Spells what text → name ≡ text → Some what ≡ Some other → Spells other name
 at {what = what} {other = other} spells is same = moved spells (some_is what other same) is
 
-one_word : (name : List ℕ) (what : ScriptLine) → single name ≡ Some what → Spells what name
+one_word : (name : List ℕ) (what : ScriptLine) → line_of_one_word name ≡ Some what → Spells what name
 one_word name what e =
     let P = λ (other : ScriptLine). Spells other name in
     tested P e (at spelling.terminate) (λ f.
@@ -85,16 +85,16 @@ module _ (name word : List ℕ) where
   Pair what = Spells what (name ++ 32 ∷ word)
 
   with_number : (text : List ℕ) (most : ℕ) (event : ℕ → Event) (a : Event) → most < 2 ^ 64 → ((x : ℕ) → x ≤ most → Spells (Happening (event x)) (text ++ 32 ∷ decimal x)) → name ≡ text
-      → option_map event (number_in most word) ≡ Some a → Pair (Happening a)
+      → option_map event (number_in_word most word) ≡ Some a → Pair (Happening a)
   with_number text most event a small spells is e =
-      let n = mapped event (number_in most word) a e in
+      let n = mapped event (number_in_word most word) a e in
       let number = read most n.0 word small n.1 in
       moved (spells n.0 number.1) (ap Happening n.2) (one_more is number.0)
 
   with_octets : (text : List ℕ) (event : List ℕ → Event) (a : ScriptLine) → ((octets hex : List ℕ) → IsHex octets hex → Spells (Happening (event octets)) (text ++ 32 ∷ hex)) → name ≡ text
-      → option_map (λ octets. Happening (event octets)) (octets_in word) ≡ Some a → Pair a
+      → option_map (λ octets. Happening (event octets)) (octets_in_word word) ≡ Some a → Pair a
   with_octets text event a spells is e =
-      let o = mapped (λ octets. Happening (event octets)) (octets_in word) a e in
+      let o = mapped (λ octets. Happening (event octets)) (octets_in_word word) a e in
       moved (spells o.0 word (read_octets o.0 word o.1)) o.2 (one_more is refl)
 
   of_kind : {event : Event} {text kind : List ℕ} → Spells (Happening event) (text ++ 32 ∷ kind) → name ≡ text → (a : Event) → word ≡ kind → Some event ≡ Some a → Pair (Happening a)
@@ -122,7 +122,7 @@ module _ (name word : List ℕ) where
       let P = λ (event : Event). Pair (Happening event) in
       tested P e (of_kind spelling.down_deliver is a) (λ f. tested P f (of_kind spelling.down_lose is a) (λ g. cc g))
 
-  directive : (a : Event) → numbered name word ≡ Some a → Pair (Happening a)
+  directive : (a : Event) → numbered_directive name word ≡ Some a → Pair (Happening a)
   directive a e =
       let P = λ (event : Event). Pair (Happening event) in
       tested P e (with_number (codes "vs") 255 (λ x. events.Directive (directives.SetVs x)) a (omega arith) spelling.vs) (λ f.
@@ -130,12 +130,12 @@ module _ (name word : List ℕ) where
       tested P g (with_number (codes "limit") 255 (λ x. events.Directive (directives.SetLimit x)) a (omega arith) spelling.limit) (λ h.
       tested P h (with_number (codes "timer") 65535 (λ x. events.Directive (directives.SetTimer x)) a (omega arith) spelling.timer) (λ k. cc k))))
 
-  two_words : (what : ScriptLine) → double name word ≡ Some what → Pair what
+  two_words : (what : ScriptLine) → line_of_two_words name word ≡ Some what → Pair what
   two_words what e =
-      tested Pair e (with_octets (codes "telemetry") (λ octets. events.Telemetry (lent octets)) what spelling.telemetry) (λ f.
+      tested Pair e (with_octets (codes "telemetry") (λ octets. events.Telemetry (borrow_of octets)) what spelling.telemetry) (λ f.
       tested Pair f (λ is. happens (initiation word) what (initiated is)) (λ g.
       tested Pair g (λ is. happens (up_event word) what (goes_up is)) (λ h.
-      tested Pair h (λ is. happens (down_event word) what (goes_down is)) (happens (numbered name word) what directive))))
+      tested Pair h (λ is. happens (down_event word) what (goes_down is)) (happens (numbered_directive name word) what directive))))
 
 -- ---- lines of three words
 
@@ -182,60 +182,60 @@ module _ (name first second : List ℕ) where
   abbrev Three : ScriptLine → Type 0
   Three what = Spells what (name ++ 32 ∷ (first ++ 32 ∷ second))
 
-  set : (what : ScriptLine) → name ≡ codes "config" → setting first second ≡ Some what → Three what
+  set : (what : ScriptLine) → name ≡ codes "config" → setting_line first second ≡ Some what → Three what
   set what is e =
-      let f = chained (λ field. option_map (λ n. Setting field n) (number_in (most_for field) second)) (field_named first) what e in
-      let n = mapped (λ x. Setting f.0 x) (number_in (most_for f.0) second) what f.2 in
+      let f = chained (λ field. option_map (λ n. Setting field n) (number_in_word (most_for field) second)) (field_named first) what e in
+      let n = mapped (λ x. Setting f.0 x) (number_in_word (most_for f.0) second) what f.2 in
       let number = read (most_for f.0) n.0 second (most_small (is_maps f.0)) n.1 in
       moved (spells_setting f.0 n.0 number.1) n.2 (one_more is (one_more (named first f.0 f.1) number.0))
 
   submitted : (text : List ℕ) (event : ℕ → Bor (List ℕ) → Event) (what : ScriptLine)
-      → ((map : ℕ) (octets hex : List ℕ) → map ≤ 255 → IsHex octets hex → Spells (Happening (event map (lent octets))) (text ++ 32 ∷ (decimal map ++ 32 ∷ hex)))
-      → name ≡ text → submission event first second ≡ Some what → Three what
+      → ((map : ℕ) (octets hex : List ℕ) → map ≤ 255 → IsHex octets hex → Spells (Happening (event map (borrow_of octets))) (text ++ 32 ∷ (decimal map ++ 32 ∷ hex)))
+      → name ≡ text → submission_line event first second ≡ Some what → Three what
   submitted text event what spells is e =
-      let m = chained (λ x. option_map (λ octets. Happening (event x (lent octets))) (octets_in second)) (number_in 255 first) what e in
-      let o = mapped (λ octets. Happening (event m.0 (lent octets))) (octets_in second) what m.2 in
+      let m = chained (λ x. option_map (λ octets. Happening (event x (borrow_of octets))) (octets_in_word second)) (number_in_word 255 first) what e in
+      let o = mapped (λ octets. Happening (event m.0 (borrow_of octets))) (octets_in_word second) what m.2 in
       let number = read 255 m.0 first (omega arith) m.1 in
       moved (spells m.0 o.0 second number.1 (read_octets o.0 second o.1)) o.2 (one_more is (one_more number.0 refl))
 
-  set_vr : (what : ScriptLine) → name ≡ codes "init" → first ≡ codes "set" → option_map (λ x. Happening (events.Directive (directives.InitSetVr x))) (number_in 255 second) ≡ Some what → Three what
+  set_vr : (what : ScriptLine) → name ≡ codes "init" → first ≡ codes "set" → option_map (λ x. Happening (events.Directive (directives.InitSetVr x))) (number_in_word 255 second) ≡ Some what → Three what
   set_vr what is kind e =
-      let n = mapped (λ x. Happening (events.Directive (directives.InitSetVr x))) (number_in 255 second) what e in
+      let n = mapped (λ x. Happening (events.Directive (directives.InitSetVr x))) (number_in_word 255 second) what e in
       let number = read 255 n.0 second (omega arith) n.1 in
       moved (spelling.init_set n.0 number.1) n.2 (one_more is (one_more kind number.0))
 
   damaged : (text : List ℕ) (event : List ℕ → Event) (what : ScriptLine) → ((octets hex : List ℕ) → IsHex octets hex → Spells (Happening (event octets)) (text ++ 32 ∷ (codes "damage" ++ 32 ∷ hex)))
-      → name ≡ text → first ≡ codes "damage" → option_map (λ octets. Happening (event octets)) (octets_in second) ≡ Some what → Three what
+      → name ≡ text → first ≡ codes "damage" → option_map (λ octets. Happening (event octets)) (octets_in_word second) ≡ Some what → Three what
   damaged text event what spells is kind e =
-      let o = mapped (λ octets. Happening (event octets)) (octets_in second) what e in
+      let o = mapped (λ octets. Happening (event octets)) (octets_in_word second) what e in
       moved (spells o.0 second (read_octets o.0 second o.1)) o.2 (one_more is (one_more kind refl))
 
-  three_words : (what : ScriptLine) → triple name first second ≡ Some what → Three what
+  three_words : (what : ScriptLine) → line_of_three_words name first second ≡ Some what → Three what
   three_words what e =
       tested Three e (set what) (λ f.
       tested Three f (submitted (codes "submit") events.Submit what spelling.submit) (λ g.
       tested Three g (submitted (codes "bypass") events.Bypass what spelling.bypass) (λ h.
       tested_both Three h (set_vr what) (λ i.
-      tested_both Three i (damaged (codes "up") (λ octets. events.UpDamage (lent octets)) what spelling.up_damage) (λ j.
-      tested_both Three j (damaged (codes "down") (λ octets. events.DownDamage (lent octets)) what spelling.down_damage) (λ k. cc k))))))
+      tested_both Three i (damaged (codes "up") (λ octets. events.UpDamage (borrow_of octets)) what spelling.up_damage) (λ j.
+      tested_both Three j (damaged (codes "down") (λ octets. events.DownDamage (borrow_of octets)) what spelling.down_damage) (λ k. cc k))))))
 
 -- ---- lines
 
-spelled_words : (words : List (List ℕ)) (what : ScriptLine) → said words ≡ Some what → Spells what (join_with_byte 32 words)
+spelled_words : (words : List (List ℕ)) (what : ScriptLine) → line_of_words words ≡ Some what → Spells what (join_with_byte 32 words)
 spelled_words [] what e = cc e
 spelled_words (name ∷ []) what e = one_word name what e
 spelled_words (name ∷ word ∷ []) what e = two_words name word what e
 spelled_words (name ∷ first ∷ second ∷ []) what e = three_words name first second what e
 spelled_words (name ∷ first ∷ second ∷ third ∷ more) what e = cc e
 
-by_words : (line : List ℕ) (what : ScriptLine) (o : Option ScriptLine) → said (words_in line) ≡ o → unwrap_or o Unreadable ≡ what → (what ≡ Unreadable → ⊥) → Spells what line
+by_words : (line : List ℕ) (what : ScriptLine) (o : Option ScriptLine) → line_of_words (words_in line) ≡ o → unwrap_or o Unreadable ≡ what → (what ≡ Unreadable → ⊥) → Spells what line
 by_words line what (Some other) is e readable = moved (spelled_words (words_in line) other is) e (sym (join_with_byte-slice_split 32 line))
 by_words line what None is e readable = absurd (readable (sym e))
 
-by_first : (octet : ℕ) (more : List ℕ) (what : ScriptLine) (note : Bool) → (octet == 35) ≡ note → cond note Skipped (unwrap_or (said (words_in (octet ∷ more))) Unreadable) ≡ what
+by_first : (octet : ℕ) (more : List ℕ) (what : ScriptLine) (note : Bool) → (octet == 35) ≡ note → cond note Skipped (unwrap_or (line_of_words (words_in (octet ∷ more))) Unreadable) ≡ what
     → (what ≡ Unreadable → ⊥) → Spells what (octet ∷ more)
 by_first octet more what true is e readable = moved (spelling.note more) e (ap (λ (x : ℕ). x ∷ more) (eqb-true octet 35 is))
-by_first octet more what false is e readable = by_words (octet ∷ more) what (said (words_in (octet ∷ more))) refl e readable
+by_first octet more what false is e readable = by_words (octet ∷ more) what (line_of_words (words_in (octet ∷ more))) refl e readable
 
 spells : (line : List ℕ) (what : ScriptLine) → line_in line ≡ what → (what ≡ Unreadable → ⊥) → Spells what line
 spells [] what e readable = moved spelling.empty e refl

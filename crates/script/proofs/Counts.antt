@@ -2,12 +2,12 @@
 use Rattle.std.proofs.Common.{◌≡◌, ◌∙◌, ◌++◌, ap, ℕ, List, Result, Ok, Err, OnOk}
 use Rattle.std.specs.Prelude.{decimal}
 use Rattle.std.proofs.lemmas.List.{append_assoc}
-use Rattle.script.specs.Playing.{below_map, over_maps}
+use Rattle.script.specs.Playing.{count_below_map, count_over_maps}
 
 -- a count of those below MAP 64 is one of all
-pub all_maps : (packets_on : ℕ → List (List ℕ)) (count map : ℕ) → count ≡ below_map packets_on map → map ≡ 64 → count ≡ over_maps packets_on
-unfolding over_maps
-all_maps packets_on count map counted end = counted ∙ ap (below_map packets_on) end
+pub all_maps : (packets_on : ℕ → List (List ℕ)) (count map : ℕ) → count ≡ count_below_map packets_on map → map ≡ 64 → count ≡ count_over_maps packets_on
+unfolding count_over_maps
+all_maps packets_on count map counted end = counted ∙ ap (count_below_map packets_on) end
 
 -- two counts that are told one after the other
 pub two_counts : {E : Type 0} (r : Result (Unit {0}) E) (before middle new first second : List ℕ) (m n k l : ℕ) → middle ≡ before ++ (first ++ decimal m) → m ≡ k → n ≡ l → OnOk r (new ≡ middle ++ (second ++ decimal n))

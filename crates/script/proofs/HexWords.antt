@@ -10,7 +10,7 @@ use Rattle.hex.specs.Hex.{decode_of, decode_pairs, digit_or_error, hex_digit_val
 use Rattle.hex.specs.declared.error.FromHexError.{FromHexError}
 use Rattle.hex.proofs.HexLemmas.{decode_of-even, decode_of-ok, IsDigits-lower_digits, IsDigits-upper_digits}
 use Rattle.hex.proofs.Pairs.{cons_byte, decode_pairs-ok_pair}
-use Rattle.script.specs.Words.{octets_in}
+use Rattle.script.specs.Words.{octets_in_word}
 use Rattle.script.specs.Spelling.{IsHexDigit, IsPairs, no_pair, pair, IsHex, no_octets, some_octets}
 
 -- ---- digits
@@ -109,8 +109,8 @@ not_dash a b more true e =
     let len : length (a ∷ b ∷ more) ≡ 1 = ap (λ (l : List ℕ). length l) same in
     absurd (omega (arith, len))
 
-spelled_some : (octet : ℕ) (octets digits : List ℕ) → IsPairs (octet ∷ octets) digits → octets_in digits ≡ Some (octet ∷ octets)
-unfolding octets_in
+spelled_some : (octet : ℕ) (octets digits : List ℕ) → IsPairs (octet ∷ octets) digits → octets_in_word digits ≡ Some (octet ∷ octets)
+unfolding octets_in_word
 spelled_some octet octets digits (pair {high = high} {low = low} {digits = rest} fits is_high is_low more) =
     let even = even_pairs more in
     let decoded : decode_of (high ∷ low ∷ rest) ≡ Ok (octet ∷ octets) = decode_of-even (high ∷ low ∷ rest) (omega (arith, even)) ∙ spelled_pairs 0 (pair fits is_high is_low more) in
@@ -118,8 +118,8 @@ spelled_some octet octets digits (pair {high = high} {low = low} {digits = rest}
     let long : (length (high ∷ low ∷ rest) == 0) ≡ false = grind (arith) in
     rw (other, decoded, long) refl
 
-pub spelled_octets : (octets digits : List ℕ) → IsHex octets digits → octets_in digits ≡ Some octets
-unfolding octets_in
+pub spelled_octets : (octets digits : List ℕ) → IsHex octets digits → octets_in_word digits ≡ Some octets
+unfolding octets_in_word
 spelled_octets octets digits no_octets = refl
 spelled_octets octets digits (some_octets pairs) = spelled_some _ _ digits pairs
 
@@ -146,10 +146,10 @@ read_word digits octets true is e =
     subst (λ (ds : List ℕ). IsHex octets ds) (sym same) (subst (λ (os : List ℕ). IsHex os (codes "-")) none no_octets)
 read_word digits octets false is e = read_behind digits octets (length digits == 0) refl e
 
-pub read_octets : (octets digits : List ℕ) → octets_in digits ≡ Some octets → IsHex octets digits
-unfolding octets_in
+pub read_octets : (octets digits : List ℕ) → octets_in_word digits ≡ Some octets → IsHex octets digits
+unfolding octets_in_word
 read_octets octets digits e = read_word digits octets (bytes_eq digits (codes "-")) refl e
 
 -- a word is these octets exactly where it spells them
-pub octets_as_words : (octets digits : List ℕ) → (octets_in digits ≡ Some octets) ↔ IsHex octets digits
+pub octets_as_words : (octets digits : List ℕ) → (octets_in_word digits ≡ Some octets) ↔ IsHex octets digits
 octets_as_words octets digits = (read_octets octets digits, spelled_octets octets digits)

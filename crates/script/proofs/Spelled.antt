@@ -4,7 +4,7 @@ use Rattle.std.specs.Prelude.{codes, decimal}
 use Rattle.std.specs.Option.{unwrap_or}
 use Rattle.script.specs.declared.field.Field.{Field}
 use Rattle.script.specs.declared.field.Field.TheVariants as fields
-use Rattle.script.specs.Lines.{ScriptLine, Setting, Unreadable, field_named, is_maps, most_for, setting, said, line_in}
+use Rattle.script.specs.Lines.{ScriptLine, Setting, Unreadable, field_named, is_maps, most_for, setting_line, line_of_words, line_in}
 use Rattle.script.specs.Spelling as spelling
 use Rattle.script.specs.Spelling.{Spells, field_name}
 use Rattle.script.proofs.HexWords.{spelled_octets}
@@ -12,7 +12,7 @@ use Rattle.script.proofs.Numerals.{printed}
 use Rattle.script.proofs.Spaces.{is_word, number_word, hex_word, two_words, three_words}
 
 abbrev meant : List (List ℕ) → ScriptLine
-meant words = unwrap_or (said words) Unreadable
+meant words = unwrap_or (line_of_words words) Unreadable
 
 -- ---- settings
 
@@ -58,7 +58,7 @@ least_most : (b : Bool) (n : ℕ) → n ≤ 65542 → n ≤ cond b (2 ^ 64 - 1) 
 least_most true n le = omega arith
 least_most false n le = le
 
-set : (field : Field) (n : ℕ) → n ≤ most_for field → setting (field_name field) (decimal n) ≡ Some (Setting field n)
+set : (field : Field) (n : ℕ) → n ≤ most_for field → setting_line (field_name field) (decimal n) ≡ Some (Setting field n)
 set field n le =
     let number = printed (most_for field) n (most_small (is_maps field)) le in
     rw (named field, number) refl

@@ -16,13 +16,13 @@ pub data Ending : Type 0 where
   OutOfRange : List ℕ → Ending
 
 -- a line that is unreadable comes before a field that is out of its range
-abbrev pub ending_by : Option ℕ → Option (List ℕ) → Ending
-ending_by (Some line) field = Unreadable line
-ending_by None (Some field) = OutOfRange field
-ending_by None None = Good
+abbrev pub ending_by_faults : Option ℕ → Option (List ℕ) → Ending
+ending_by_faults (Some line) field = Unreadable line
+ending_by_faults None (Some field) = OutOfRange field
+ending_by_faults None None = Good
 
 abbrev pub script_ending : List ℕ → Ending
-script_ending script = ending_by (unreadable_line script) (config_fault (config_in script))
+script_ending script = ending_by_faults (unreadable_line script) (config_fault (config_in script))
 
 -- a fault is what the ending says; want of memory comes last
 abbrev pub Explains : ScriptFault → Ending → Type 0
@@ -31,16 +31,16 @@ Explains (faults.Unreadable line) ending = ending ≡ Unreadable line
 Explains (faults.OutOfRange field) ending = ending ≡ OutOfRange field.now
 
 -- a script is played where all its lines are readable and its configuration is in range
-abbrev pub told_if_good : Ending → List ℕ → List ℕ
-told_if_good Good script = answers_from (new_world (config_in script)) (script_in script)
-told_if_good (Unreadable line) script = []
-told_if_good (OutOfRange field) script = []
+abbrev pub text_if_good : Ending → List ℕ → List ℕ
+text_if_good Good script = answers_from (new_world (config_in script)) (script_in script)
+text_if_good (Unreadable line) script = []
+text_if_good (OutOfRange field) script = []
 
 -- all lines that are written of a script
 abbrev pub script_text : List ℕ → List ℕ
-script_text script = told_if_good (script_ending script) script
+script_text script = text_if_good (script_ending script) script
 
--- what is still to be told, where lines are left
-abbrev pub told_behind : World → Option (List ℕ) → List ℕ
-told_behind w None = []
-told_behind w (Some rest) = answers_from w (script_in rest)
+-- the answers to the lines that are left, where there are any
+abbrev pub remaining_answers : World → Option (List ℕ) → List ℕ
+remaining_answers w None = []
+remaining_answers w (Some rest) = answers_from w (script_in rest)

@@ -4,7 +4,7 @@ use Rattle.cop1.specs.declared.fop.Directive.TheVariants as directives
 use Rattle.tc_link.specs.declared.event.Event.TheVariants as events
 use Rattle.script.specs.declared.field.Field.{Field}
 use Rattle.script.specs.declared.field.Field.TheVariants as fields
-use Rattle.script.specs.Lines.{ScriptLine, Skipped, Setting, Happening, Showing, lent}
+use Rattle.script.specs.Lines.{ScriptLine, Skipped, Setting, Happening, Showing, borrow_of}
 
 -- ---- HEX
 
@@ -50,11 +50,11 @@ pub data Spells : ScriptLine → List ℕ → Type 0 where
       → Spells (Setting field n) (codes "config " ++ (field_name field ++ (codes " " ++ decimal n)))
   maps : (n : ℕ) → n < 2 ^ 64 → Spells (Setting fields.Maps n) (codes "config maps " ++ decimal n)
   submit : (map : ℕ) (octets hex : List ℕ) → map ≤ 255 → IsHex octets hex
-      → Spells (Happening (events.Submit map (lent octets))) (codes "submit " ++ (decimal map ++ (codes " " ++ hex)))
+      → Spells (Happening (events.Submit map (borrow_of octets))) (codes "submit " ++ (decimal map ++ (codes " " ++ hex)))
   bypass : (map : ℕ) (octets hex : List ℕ) → map ≤ 255 → IsHex octets hex
-      → Spells (Happening (events.Bypass map (lent octets))) (codes "bypass " ++ (decimal map ++ (codes " " ++ hex)))
+      → Spells (Happening (events.Bypass map (borrow_of octets))) (codes "bypass " ++ (decimal map ++ (codes " " ++ hex)))
   telemetry : (octets hex : List ℕ) → IsHex octets hex
-      → Spells (Happening (events.Telemetry (lent octets))) (codes "telemetry " ++ hex)
+      → Spells (Happening (events.Telemetry (borrow_of octets))) (codes "telemetry " ++ hex)
   init_none : Spells (Happening (events.Directive directives.InitWithoutCheck)) (codes "init none")
   init_check : Spells (Happening (events.Directive directives.InitWithCheck)) (codes "init check")
   init_unlock : Spells (Happening (events.Directive directives.InitUnlock)) (codes "init unlock")
@@ -73,11 +73,11 @@ pub data Spells : ScriptLine → List ℕ → Type 0 where
   up_deliver : Spells (Happening events.UpDeliver) (codes "up deliver")
   up_lose : Spells (Happening events.UpLose) (codes "up lose")
   up_damage : (octets hex : List ℕ) → IsHex octets hex
-      → Spells (Happening (events.UpDamage (lent octets))) (codes "up damage " ++ hex)
+      → Spells (Happening (events.UpDamage (borrow_of octets))) (codes "up damage " ++ hex)
   down_deliver : Spells (Happening events.DownDeliver) (codes "down deliver")
   down_lose : Spells (Happening events.DownLose) (codes "down lose")
   down_damage : (octets hex : List ℕ) → IsHex octets hex
-      → Spells (Happening (events.DownDamage (lent octets))) (codes "down damage " ++ hex)
+      → Spells (Happening (events.DownDamage (borrow_of octets))) (codes "down damage " ++ hex)
   tick : Spells (Happening events.Tick) (codes "tick")
   take : Spells (Happening events.Take) (codes "take")
   takebypass : Spells (Happening events.TakeBypass) (codes "takebypass")

@@ -5,11 +5,12 @@ ghost use Rattle.std.specs.List.{flat_map};
 ghost use Rattle.octets.specs.Outcome.{map_ok};
 ghost use Rattle.tc_link.specs.Replies.{reply_view};
 ghost use Rattle.tc_link.specs.World.{World, world_step};
-ghost use Rattle.script.specs.Lines.{carried, octets_of, line_view, IsWellRead};
-ghost use Rattle.script.specs.Words.{octets_in};
-ghost use Rattle.script.specs.Playing.{Answered, told_by, told_line, world_behind, answers_from};
+ghost use Rattle.script.specs.Lines.{event_with, octets_of_digits, line_view, IsWellRead};
+ghost use Rattle.script.specs.Words.{octets_in_word};
+ghost use Rattle.script.specs.Appending.{Appends};
+ghost use Rattle.script.specs.Playing.{ToEvent, line_responses, response_line, after_line, answers_from};
 ghost use Rattle.script.specs.Scripts.{script_in};
-ghost use Rattle.script.specs.Ending.{told_behind};
+ghost use Rattle.script.specs.Ending.{remaining_answers};
 
 use crate::answer::push_answer;
 use crate::cutting::cut;
@@ -21,10 +22,10 @@ use std::alloc::{AllocError, Global};
 use tc_link::{Event, Reply, Sim, SimFault};
 
 // The octets of a word of digits.
-#[tactic(auto, unfolding(crate::specs::Words::octets_in))]
-fn octets_of(alloc: Global, digits: &[u8]) -> Result<Vec<u8>, AllocError>
-    requires { is_some (octets_in digits.now) ≡ true }
-    ensures { IfOk result (λ octets. octets.items ≡ octets_of digits.now) }
+#[tactic(auto, unfolding(crate::specs::Words::octets_in_word))]
+fn octets_of_digits(alloc: Global, digits: &[u8]) -> Result<Vec<u8>, AllocError>
+    requires { is_some (octets_in_word digits.now) ≡ true }
+    ensures { IfOk result (λ octets. octets.items ≡ octets_of_digits digits.now) }
 {
     if is(digits, "-") {
         return Ok(Vec::new(alloc));
@@ -37,7 +38,7 @@ fn octets_of(alloc: Global, digits: &[u8]) -> Result<Vec<u8>, AllocError>
 
 // The event that carries these octets.
 fn event_with(carrier: Carrier, octets: &[u8]) -> Event<'_>
-    ensures { (w : World) → world_step w result ≡ world_step w (carried carrier octets.now) }
+    ensures { (w : World) → world_step w result ≡ world_step w (event_with carrier octets.now) }
 {
     match carrier {
         Carrier::Submit(map) => Event::Submit(map, octets),
@@ -50,7 +51,8 @@ fn event_with(carrier: Carrier, octets: &[u8]) -> Event<'_>
 
 // Lets an event happen. Its only fault is want of memory.
 fn step(sim: &mut Sim, event: Event<'_>) -> Result<Result<Reply, SimFault>, AllocError>
-    ensures answer { IfOk result (λ answer. map_ok reply_view answer ≡ (world_step sim.old.world event.entry).answer) }
+    ensures answer { IfOk result (λ answer.
+        map_ok reply_view answer ≡ (world_step sim.old.world event.entry).answer) }
     ensures world { OnOk result (sim.new.world ≡ (world_step sim.old.world event.entry).after) }
 {
     match sim.step(event) {
@@ -68,14 +70,15 @@ fn play_event(
     text: &mut String,
     event: Event<'_>,
 ) -> Result<(), AllocError>
-    ensures text { OnOk result (string_bytes text.new ≡ string_bytes text.old ++ told_line (Answered (world_step sim.old.world event.entry).answer)) }
+    ensures text { Appends result text.old text.new
+        (response_line (ToEvent (world_step sim.old.world event.entry).answer)) }
     ensures world { OnOk result (sim.new.world ≡ (world_step sim.old.world event.entry).after) }
 {
     let answer = step(sim, event)?;
     push_answer(text, alloc, &answer)
 }
 
-// Lets happen what a line asks for, and appends the line that tells of it.
+// Lets happen what a line asks for, and appends the line of the response.
 fn play_line(
     alloc: Global,
     sim: &mut Sim,
@@ -83,13 +86,14 @@ fn play_line(
     line: &Line<'_>,
 ) -> Result<(), AllocError>
     requires { IsWellRead line.now }
-    ensures text { OnOk result (string_bytes text.new ≡ string_bytes text.old ++ flat_map told_line (told_by sim.old.world (line_view line.now))) }
-    ensures world { OnOk result (sim.new.world ≡ world_behind sim.old.world (line_view line.now)) }
+    ensures text { Appends result text.old text.new
+        (flat_map response_line (line_responses sim.old.world (line_view line.now))) }
+    ensures world { OnOk result (sim.new.world ≡ after_line sim.old.world (line_view line.now)) }
 {
     match line {
         Line::Plain(event) => play_event(alloc, sim, text, *event),
         Line::Carrying(carrier, digits) => {
-            let octets = octets_of(alloc, digits)?;
+            let octets = octets_of_digits(alloc, digits)?;
             play_event(alloc, sim, text, event_with(*carrier, octets.as_slice()))
         }
         Line::Show => push_show(text, sim),
@@ -105,7 +109,9 @@ pub fn play_some<'a>(
     text: &mut String,
     lines: &'a [u8],
 ) -> Result<Option<&'a [u8]>, AllocError>
-    ensures told { IfOk result (λ rest. string_bytes text.new ++ told_behind sim.new.world (option_copied rest) ≡ string_bytes text.old ++ answers_from sim.old.world (script_in lines.now)) }
+    ensures answers { IfOk result (λ rest.
+        string_bytes text.new ++ remaining_answers sim.new.world (option_copied rest)
+        ≡ string_bytes text.old ++ answers_from sim.old.world (script_in lines.now)) }
     ensures shorter { IfOk result (λ rest. IfSome rest (λ r. length r.now < length lines.now)) }
 {
     let mut rest = lines;

@@ -1,7 +1,8 @@
 // The line of the records.
 
-ghost use Rattle.std.specs.Prelude.{◌≡◌, ◌++◌, ◌∷◌, [], decimal, length, OnOk, string_bytes};
-ghost use Rattle.script.specs.Playing.{clean_word, state_word, over_maps, packets_text, frames_text, acknowledged_text, show_text};
+ghost use Rattle.std.specs.Prelude.{◌≡◌, ◌++◌, ◌∷◌, [], decimal, length};
+ghost use Rattle.script.specs.Appending.{Appends};
+ghost use Rattle.script.specs.Playing.{clean_word, fop_state_word, count_over_maps, packets_text, frames_text, acknowledged_text, show_text};
 ghost use Rattle.tc_link.specs.World.{submitted, delivered, accepted};
 
 use cop1::FopMode;
@@ -9,7 +10,7 @@ use std::alloc::AllocError;
 use std::fmt::Write;
 use tc_link::Sim;
 
-fn word_of_clean(clean: Option<bool>) -> &'static str
+fn clean_word(clean: Option<bool>) -> &'static str
     ensures { result.now ≡ clean_word clean }
 {
     match clean {
@@ -19,8 +20,8 @@ fn word_of_clean(clean: Option<bool>) -> &'static str
     }
 }
 
-fn word_of_state(state: FopMode) -> &'static str
-    ensures { result.now ≡ state_word state }
+fn fop_state_word(state: FopMode) -> &'static str
+    ensures { result.now ≡ fop_state_word state }
 {
     match state {
         FopMode::S1 => "S1",
@@ -34,7 +35,7 @@ fn word_of_state(state: FopMode) -> &'static str
 
 // How many packets were submitted, over all MAPs.
 fn count_submitted(sim: &Sim) -> u128
-    ensures { result ≡ over_maps (submitted sim.now.world) }
+    ensures { result ≡ count_over_maps (submitted sim.now.world) }
 {
     let mut count = 0u128;
     let mut map = 0u8;
@@ -47,7 +48,7 @@ fn count_submitted(sim: &Sim) -> u128
 
 // How many packets are ready on board, over all MAPs.
 fn count_delivered(sim: &Sim) -> u128
-    ensures { result ≡ over_maps (delivered sim.now.world) }
+    ensures { result ≡ count_over_maps (delivered sim.now.world) }
 {
     let mut count = 0u128;
     let mut map = 0u8;
@@ -71,17 +72,17 @@ fn count_accepted(sim: &Sim) -> usize
 }
 
 fn push_count(text: &mut String, name: &str, count: usize) -> Result<(), AllocError>
-    ensures { OnOk result (string_bytes text.new ≡ string_bytes text.old ++ (name.now ++ decimal count)) }
+    ensures { Appends result text.old text.new (name.now ++ decimal count) }
 {
     write!(text, "{name}{count}")
 }
 
 // What the records tell of the packets.
 fn push_packets(text: &mut String, sim: &Sim) -> Result<(), AllocError>
-    ensures { OnOk result (string_bytes text.new ≡ string_bytes text.old ++ packets_text sim.now.world) }
+    ensures { Appends result text.old text.new (packets_text sim.now.world) }
 {
-    let clean = word_of_clean(sim.clean());
-    let state = word_of_state(sim.state());
+    let clean = clean_word(sim.clean());
+    let state = fop_state_word(sim.state());
     let submitted = count_submitted(sim);
     let delivered = count_delivered(sim);
     write!(
@@ -92,7 +93,7 @@ fn push_packets(text: &mut String, sim: &Sim) -> Result<(), AllocError>
 
 // What the records tell of the frames.
 fn push_frames(text: &mut String, sim: &Sim) -> Result<(), AllocError>
-    ensures { OnOk result (string_bytes text.new ≡ string_bytes text.old ++ frames_text sim.now.world) }
+    ensures { Appends result text.old text.new (frames_text sim.now.world) }
 {
     let sent = count_sent(sim);
     let accepted = count_accepted(sim);
@@ -101,7 +102,7 @@ fn push_frames(text: &mut String, sim: &Sim) -> Result<(), AllocError>
 
 // What the records tell of what is acknowledged.
 fn push_acknowledged(text: &mut String, sim: &Sim) -> Result<(), AllocError>
-    ensures { OnOk result (string_bytes text.new ≡ string_bytes text.old ++ acknowledged_text sim.now.world) }
+    ensures { Appends result text.old text.new (acknowledged_text sim.now.world) }
 {
     push_count(text, " acknowledged=", sim.acknowledged())?;
     push_count(text, " outstanding=", sim.outstanding())
@@ -109,7 +110,7 @@ fn push_acknowledged(text: &mut String, sim: &Sim) -> Result<(), AllocError>
 
 /// Appends the line of the records.
 pub fn push_show(text: &mut String, sim: &Sim) -> Result<(), AllocError>
-    ensures { OnOk result (string_bytes text.new ≡ string_bytes text.old ++ (show_text sim.now.world ++ 10 ∷ [])) }
+    ensures { Appends result text.old text.new (show_text sim.now.world ++ 10 ∷ []) }
 {
     push_packets(text, sim)?;
     push_frames(text, sim)?;

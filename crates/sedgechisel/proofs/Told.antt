@@ -11,6 +11,7 @@ use Rattle.tc_frame.specs.Layout as tc
 use Rattle.tc_frame.specs.Layout.{BodyView, Ad, Bd, Bc, body_octets, check_length, flags_code}
 use Rattle.tc_frame.specs.Reading.{frame_with}
 use Rattle.tc_frame.specs.Reading as tc_reading
+use Rattle.tc_frame.specs.Splitting.{check_if}
 use Rattle.tc_frame.specs.Faults as tc_faults
 use Rattle.tc_frame.specs.declared.frame.Check.{Check}
 use Rattle.tc_frame.specs.declared.frame.TcFrame.{TcFrame}
@@ -29,7 +30,7 @@ use Rattle.sedgechisel.specs.declared.report_frame.ReportFrame.{ReportFrame}
 use Rattle.sedgechisel.specs.declared.part.Part.{Part}
 use Rattle.sedgechisel.specs.Answers.{numbered}
 use Rattle.sedgechisel.specs.Commands as commands
-use Rattle.sedgechisel.specs.Commands.{check_if, fields_with, part_with}
+use Rattle.sedgechisel.specs.Commands.{fields_with, part_with}
 use Rattle.sedgechisel.specs.Telemetry as telemetry
 
 -- a crate's answer Ok

@@ -1,21 +1,15 @@
 -- Telecommand frames as C has them.
-use Rattle.std.specs.Prelude.{◌≡◌, ℕ, List, length, take, drop, Bool, true, false, ◌==◌, nat_lt, if◌then◌else◌, Result, Ok, Err}
+use Rattle.std.specs.Prelude.{◌≡◌, ℕ, List, length, take, drop, Bool, ◌==◌, nat_lt, if◌then◌else◌, Result, Ok, Err}
 use Rattle.octets.specs.Outcome.{map_ok}
-use Rattle.tc_frame.specs.declared.frame.Check.{Check}
-use Rattle.tc_frame.specs.declared.frame.Check.TheVariants.{On, Off}
 use Rattle.tc_frame.specs.declared.frame.Command.TheVariants.{Unlock, SetVr}
 use Rattle.tc_frame.specs.Faults.{fault_number}
 use Rattle.tc_frame.specs.Layout.{SegmentView, BodyView, Ad, Bd, Bc, FrameView, flags_code}
 use Rattle.tc_frame.specs.Reading.{flags_at, frame_with, frame_at}
-use Rattle.tc_frame.specs.Splitting.{total_at}
-use Rattle.tc_frame.specs.Writing.{written}
+use Rattle.tc_frame.specs.Splitting.{check_if, total_at}
+use Rattle.tc_frame.specs.Writing.{encode_answer}
 use Rattle.sedgechisel.specs.declared.command_frame.CommandFrame.{CommandFrame}
 use Rattle.sedgechisel.specs.declared.part.Part.{Part}
 use Rattle.sedgechisel.specs.Answers.{damaged, numbered, and_then, if_ok}
-
-abbrev pub check_if : Bool → Check
-check_if true = On
-check_if false = Off
 
 -- ---- from fields and data to a frame
 
@@ -87,7 +81,7 @@ frame_read checked octets = numbered fault_number (frame_at (check_if checked) o
 -- the frame that is written where there is so much room
 abbrev pub frame_taken : Bool → CommandFrame → List ℕ → ℕ → Result FrameView ℕ
 frame_taken checked f payload room =
-    and_then (frame_told f payload) (λ view. if_ok (numbered fault_number (written (check_if checked) view room)) view)
+    and_then (frame_told f payload) (λ view. if_ok (numbered fault_number (encode_answer (check_if checked) view room)) view)
 
 -- the declared length of the record that octets begin; 1 Short for fewer than 5
 abbrev pub total_declared : Bool → List ℕ → Result ℕ ℕ

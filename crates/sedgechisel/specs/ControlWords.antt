@@ -22,4 +22,4 @@ word_read octets = if length octets == 4 then numbered fault_number (clcw_at oct
 
 -- the octets that spell the word of the fields, where there is room for exactly four
 abbrev pub word_written : ControlWord → ℕ → Result (List ℕ) ℕ
-word_written w room = if room == 4 then numbered fault_number (writing.written (word_of w)) else Err wrong_count
+word_written w room = if room == 4 then numbered fault_number (writing.encode_answer (word_of w)) else Err wrong_count

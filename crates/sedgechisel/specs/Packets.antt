@@ -3,7 +3,7 @@ use Rattle.std.specs.Prelude.{◌≡◌, ℕ, List, length, take, drop, ◌&&◌
 use Rattle.space_packet.specs.Faults.{fault_number}
 use Rattle.space_packet.specs.Layout.{PacketView, type_bit, secondary_bit}
 use Rattle.space_packet.specs.Reading.{kind_at, extent_at, packet_at}
-use Rattle.space_packet.specs.Writing.{written}
+use Rattle.space_packet.specs.Writing.{encode_answer}
 use Rattle.sedgechisel.specs.declared.packet.PacketFields.{PacketFields}
 use Rattle.sedgechisel.specs.declared.part.Part.{Part}
 use Rattle.sedgechisel.specs.Answers.{damaged, numbered, and_then, if_ok}
@@ -44,7 +44,7 @@ packet_read octets = numbered fault_number (packet_at octets)
 -- the packet that is written where there is so much room
 abbrev pub packet_taken : PacketFields → List ℕ → ℕ → Result PacketView ℕ
 packet_taken p payload room =
-    and_then (packet_told p payload) (λ view. if_ok (numbered fault_number (written view room)) view)
+    and_then (packet_told p payload) (λ view. if_ok (numbered fault_number (encode_answer view room)) view)
 
 -- the declared length of the packet that octets begin; 1 Truncated for fewer than 6
 abbrev pub total_declared : List ℕ → Result ℕ ℕ

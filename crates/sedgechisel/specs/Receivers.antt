@@ -5,7 +5,7 @@ use Rattle.cop1.specs.declared.farm.FarmMode.{FarmMode}
 use Rattle.cop1.specs.declared.farm.FarmMode.TheVariants.{Open, Wait, Lockout}
 use Rattle.cop1.specs.declared.farm.Verdict.{Verdict}
 use Rattle.cop1.specs.declared.farm.Verdict.TheVariants.{Accepted, Ahead, NoBuffer, Behind, Outside, Discarded}
-use Rattle.cop1.specs.Farm.{FarmState, FarmEvent, state_of, farm_step, opened}
+use Rattle.cop1.specs.Farm.{FarmState, FarmEvent, state_of, farm_step, new_farm}
 use Rattle.cop1.specs.Report.{report_of}
 use Rattle.octets.specs.Outcome.{map_ok}
 use Rattle.sedgechisel.specs.declared.receiver.Receiver.{Receiver}
@@ -56,7 +56,7 @@ farm_told r = if is_whole r then Ok (farm_of r) else Err damaged
 
 -- a new receiver, where the width is one; 1 Width
 abbrev pub farm_opened : ℕ → ℕ → Result FarmState ℕ
-farm_opened width vr = if is_width width then Ok (opened width vr) else Err 1
+farm_opened width vr = if is_width width then Ok (new_farm width vr) else Err 1
 
 -- the receiver that the fields tell, behind an event
 abbrev pub farm_stepped : Receiver → FarmEvent → Result FarmState ℕ

@@ -3,7 +3,7 @@ use Rattle.std.specs.Prelude.{◌≡◌, ℕ, List, length, take, drop, Result, 
 use Rattle.tm_link.specs.Faults.{fault_number}
 use Rattle.tm_link.specs.Layout.{FrameView, pointer_number}
 use Rattle.tm_link.specs.Reading.{pointer_at, frame_at}
-use Rattle.tm_link.specs.Writing.{written}
+use Rattle.tm_link.specs.Writing.{encode_answer}
 use Rattle.sedgechisel.specs.declared.report_frame.ReportFrame.{ReportFrame}
 use Rattle.sedgechisel.specs.declared.part.Part.{Part}
 use Rattle.sedgechisel.specs.Answers.{numbered, if_ok}
@@ -42,7 +42,7 @@ frame_read total octets = numbered fault_number (frame_at total octets)
 
 -- the frame that is written where there is so much room
 abbrev pub frame_taken : ReportFrame → List ℕ → ℕ → Result FrameView ℕ
-frame_taken f payload room = if_ok (numbered fault_number (written (frame_told f payload) room)) (frame_told f payload)
+frame_taken f payload room = if_ok (numbered fault_number (encode_answer (frame_told f payload) room)) (frame_told f payload)
 
 -- what the fields and the octets at the place tell is the frame that was read
 abbrev pub TellsFrame : ℕ → List ℕ → ReportFrame → Part → Type 0

@@ -18,7 +18,8 @@ pub extern "C" fn sedge_check(octets: &[u8]) -> u16
 pub extern "C" fn sedge_check_append(octets: &mut [u8]) -> bool
     ensures done { IsTrue result ↔ (2 ≤ length octets.old) }
     ensures octets { let front = take (length octets.old - 2) octets.old in
-        octets.new ≡ (if nat_le 2 (length octets.old) then front ++ big_bytes 2 (check_of front) else octets.old) }
+        octets.new ≡ (if nat_le 2 (length octets.old)
+        then front ++ big_bytes 2 (check_of front) else octets.old) }
 {
     if octets.len() < 2 {
         return false;

@@ -3,9 +3,10 @@
 ghost use Rattle.std.specs.Prelude.{◌≡◌, ◌++◌, length, drop};
 ghost use Rattle.octets.specs.Outcome.{map_ok};
 ghost use Rattle.tc_frame.specs.Layout.{body_view, frame_view, segment_view};
+ghost use Rattle.tc_frame.specs.Splitting.{check_if};
 ghost use Rattle.tc_frame.specs.Writing.{total_of, spelling};
 ghost use Rattle.sedgechisel.specs.Answers.{status_of, left_by};
-ghost use Rattle.sedgechisel.specs.Commands.{check_if, segment_told, command_told, body_told, frame_told, fields_of, part_of, part_with, frame_read, frame_taken, total_declared, TellsFrame};
+ghost use Rattle.sedgechisel.specs.Commands.{segment_told, command_told, body_told, frame_told, fields_of, part_of, part_with, frame_read, frame_taken, total_declared, TellsFrame};
 
 use crate::numbers::DAMAGED;
 use crate::part::Part;
@@ -66,7 +67,8 @@ pub extern "C" fn sedge_tc_encode(
     out: &mut [u8],
     total: &mut usize,
 ) -> u8
-    ensures answer { result ≡ status_of (frame_taken checked frame.now payload.now (length out.old)) }
+    ensures answer { result
+        ≡ status_of (frame_taken checked frame.now payload.now (length out.old)) }
     ensures total { total.new ≡ left_by (total_of (check_if checked))
         (frame_taken checked frame.now payload.now (length out.old)) total.old }
     ensures out { let check = check_if checked in

@@ -45,7 +45,8 @@ pub extern "C" fn sedge_clcw_decode(octets: &[u8], word: &mut ControlWord) -> u8
 #[unsafe(no_mangle)]
 pub extern "C" fn sedge_clcw_encode(word: &ControlWord, out: &mut [u8]) -> u8
     ensures answer { result ≡ status_of (word_written word.now (length out.old)) }
-    ensures out { out.new ≡ left_by (λ octets. octets) (word_written word.now (length out.old)) out.old }
+    ensures out { out.new
+        ≡ left_by (λ octets. octets) (word_written word.now (length out.old)) out.old }
 {
     if out.len() != 4 {
         return WRONG_COUNT;

@@ -33,8 +33,10 @@ pub extern "C" fn sedge_packet_decode(
     payload: &mut Part,
 ) -> u8
     ensures answer { result ≡ status_of (packet_read octets.now) }
-    ensures packet { packet.new ≡ left_by (λ found. fields_of found.0) (packet_read octets.now) packet.old }
-    ensures payload { payload.new ≡ left_by (λ found. part_of found.0) (packet_read octets.now) payload.old }
+    ensures packet { packet.new
+        ≡ left_by (λ found. fields_of found.0) (packet_read octets.now) packet.old }
+    ensures payload { payload.new
+        ≡ left_by (λ found. part_of found.0) (packet_read octets.now) payload.old }
 
     // So `sedge_packet_encode` writes this packet from the fields and the data there.
     ensures tells { TellsPacket octets.now packet.new payload.new }
@@ -62,7 +64,8 @@ pub extern "C" fn sedge_packet_encode(
     total: &mut usize,
 ) -> u8
     ensures answer { result ≡ status_of (packet_taken packet.now payload.now (length out.old)) }
-    ensures total { total.new ≡ left_by total_of (packet_taken packet.now payload.now (length out.old)) total.old }
+    ensures total { total.new
+        ≡ left_by total_of (packet_taken packet.now payload.now (length out.old)) total.old }
     ensures out { out.new ≡ left_by (λ view. spelling view ++ drop (total_of view) out.old)
         (packet_taken packet.now payload.now (length out.old)) out.old }
 {

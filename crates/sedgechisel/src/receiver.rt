@@ -1,7 +1,7 @@
 // The receiver, FARM-1, whose state the caller keeps.
 
 ghost use Rattle.std.specs.Prelude.{◌≡◌, ◌<◌, ◌↔◌, IsTrue, IfSome, IsSome};
-ghost use Rattle.cop1.specs.Farm.{AdArrives, BdArrives, UnlockArrives, SetVrArrives, BufferReleased, verdict_of, opened};
+ghost use Rattle.cop1.specs.Farm.{AdArrives, BdArrives, UnlockArrives, SetVrArrives, BufferReleased, verdict_of, new_farm};
 ghost use Rattle.octets.specs.Outcome.{map_ok};
 ghost use Rattle.sedgechisel.specs.Answers.{status_of, left_by};
 ghost use Rattle.sedgechisel.specs.ControlWords.{fields_of};
@@ -43,8 +43,8 @@ pub extern "C" fn sedge_farm_open(receiver: &mut Receiver, width: u8, vr: u8) ->
 /// or 255 where the receiver is damaged.
 #[unsafe(no_mangle)]
 pub extern "C" fn sedge_farm_ad(receiver: &mut Receiver, n: u8, buffer_free: bool) -> u8
-    ensures answer { result
-        ≡ answer_of verdict_number (map_ok (λ s. verdict_of s n buffer_free) (farm_told receiver.old)) }
+    ensures answer { result ≡ answer_of verdict_number
+        (map_ok (λ s. verdict_of s n buffer_free) (farm_told receiver.old)) }
     ensures receiver { receiver.new
         ≡ left_by receiver_of (farm_stepped receiver.old (AdArrives n buffer_free)) receiver.old }
 {
@@ -62,7 +62,8 @@ pub extern "C" fn sedge_farm_ad(receiver: &mut Receiver, n: u8, buffer_free: boo
 #[unsafe(no_mangle)]
 pub extern "C" fn sedge_farm_bd(receiver: &mut Receiver) -> u8
     ensures answer { result ≡ status_of (farm_told receiver.old) }
-    ensures receiver { receiver.new ≡ left_by receiver_of (farm_stepped receiver.old BdArrives) receiver.old }
+    ensures receiver { receiver.new
+        ≡ left_by receiver_of (farm_stepped receiver.old BdArrives) receiver.old }
 {
     match told(receiver) {
         Some(mut farm) => {
@@ -78,7 +79,8 @@ pub extern "C" fn sedge_farm_bd(receiver: &mut Receiver) -> u8
 #[unsafe(no_mangle)]
 pub extern "C" fn sedge_farm_unlock(receiver: &mut Receiver) -> u8
     ensures answer { result ≡ status_of (farm_told receiver.old) }
-    ensures receiver { receiver.new ≡ left_by receiver_of (farm_stepped receiver.old UnlockArrives) receiver.old }
+    ensures receiver { receiver.new
+        ≡ left_by receiver_of (farm_stepped receiver.old UnlockArrives) receiver.old }
 {
     match told(receiver) {
         Some(mut farm) => {
@@ -94,7 +96,8 @@ pub extern "C" fn sedge_farm_unlock(receiver: &mut Receiver) -> u8
 #[unsafe(no_mangle)]
 pub extern "C" fn sedge_farm_set_vr(receiver: &mut Receiver, vr: u8) -> u8
     ensures answer { result ≡ status_of (farm_told receiver.old) }
-    ensures receiver { receiver.new ≡ left_by receiver_of (farm_stepped receiver.old (SetVrArrives vr)) receiver.old }
+    ensures receiver { receiver.new
+        ≡ left_by receiver_of (farm_stepped receiver.old (SetVrArrives vr)) receiver.old }
 {
     match told(receiver) {
         Some(mut farm) => {
@@ -110,7 +113,8 @@ pub extern "C" fn sedge_farm_set_vr(receiver: &mut Receiver, vr: u8) -> u8
 #[unsafe(no_mangle)]
 pub extern "C" fn sedge_farm_released(receiver: &mut Receiver) -> u8
     ensures answer { result ≡ status_of (farm_told receiver.old) }
-    ensures receiver { receiver.new ≡ left_by receiver_of (farm_stepped receiver.old BufferReleased) receiver.old }
+    ensures receiver { receiver.new
+        ≡ left_by receiver_of (farm_stepped receiver.old BufferReleased) receiver.old }
 {
     match told(receiver) {
         Some(mut farm) => {
@@ -232,7 +236,8 @@ fn count_type_b(farm: &mut Farm, count: u8)
 
 // The flags are brought about by what sets them: a frame without room, and a frame outside both windows.
 fn set_flags(begun: &mut Farm, fields: &Receiver)
-    requires start { begun.old ≡ record (opened fields.now.width fields.now.vr) { farm_b = fields.now.farm_b } }
+    requires start { begun.old
+        ≡ record (new_farm fields.now.width fields.now.vr) { farm_b = fields.now.farm_b } }
     requires whole { IsTrue (is_whole fields.now) }
     ensures { begun.new ≡ farm_of fields.now }
 {

@@ -62,7 +62,8 @@ pub extern "C" fn sedge_tm_encode(
     total: &mut usize,
 ) -> u8
     ensures answer { result ≡ status_of (frame_taken frame.now payload.now (length out.old)) }
-    ensures total { total.new ≡ left_by total_of (frame_taken frame.now payload.now (length out.old)) total.old }
+    ensures total { total.new
+        ≡ left_by total_of (frame_taken frame.now payload.now (length out.old)) total.old }
     ensures out { out.new ≡ left_by (λ view. spelling view ++ drop (total_of view) out.old)
         (frame_taken frame.now payload.now (length out.old)) out.old }
 {

@@ -32,8 +32,8 @@ packet_fits p =
     && not (is_idle_with_secondary p.apid p.secondary)
 
 -- how many octets are written where there is room for so many, or why none are
-abbrev pub written : PacketView → ℕ → Result ℕ PacketFault
-written p room =
+abbrev pub encode_answer : PacketView → ℕ → Result ℕ PacketFault
+encode_answer p room =
     if not (packet_fits p) then Err faults.FieldRange
     else if nat_lt room (total_of p) then Err faults.Room
     else Ok (total_of p)

@@ -2,7 +2,7 @@
 
 ghost use Rattle.std.specs.Prelude.{◌≡◌, ◌+◌, ◌*◌, ◌++◌, length, drop, true, IfOk, OnErr};
 ghost use Rattle.space_packet.specs.Layout.{packet_view, type_bit, secondary_bit, IsFirstPacket};
-ghost use Rattle.space_packet.specs.Writing.{total_of, header_octets, spelling, packet_fits, written};
+ghost use Rattle.space_packet.specs.Writing.{total_of, header_octets, spelling, packet_fits, encode_answer};
 
 use crate::decoding::is_idle_with;
 use crate::fault::PacketFault;
@@ -14,7 +14,7 @@ use byteorder::{BigEndian, ByteOrder};
 /// a payload of no octets or of more than 65,536 and an idle packet with a secondary header, and
 /// then by 4 `Room` an output that is too short.
 pub fn encode(packet: &Packet, out: &mut [u8]) -> Result<usize, PacketFault>
-    ensures answer { result ≡ written (packet_view packet.now) (length out.old) }
+    ensures answer { result ≡ encode_answer (packet_view packet.now) (length out.old) }
     ensures ok { IfOk result (λ n. out.new ≡ spelling (packet_view packet.now) ++ drop n out.old) }
     ensures err { OnErr result (out.new ≡ out.old) }
 

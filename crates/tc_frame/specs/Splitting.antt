@@ -1,11 +1,17 @@
 -- Frames on a stream: a frame is as long as its head declares (CCSDS 232.0-B-4, 4.1.2.7).
-use Rattle.std.specs.Prelude.{◌<◌, ℕ, ◌+◌, ◌%◌, List, take, drop, slice_index, nat_lt, if◌then◌else◌, Result, Ok, Err}
+use Rattle.std.specs.Prelude.{◌<◌, ℕ, ◌+◌, ◌%◌, List, take, drop, slice_index, Bool, true, false, nat_lt, if◌then◌else◌, Result, Ok, Err}
 use Rattle.octets.specs.Number.{number_of}
 use Rattle.tc_frame.specs.declared.frame.Check.{Check}
+use Rattle.tc_frame.specs.declared.frame.Check.TheVariants.{On, Off}
 use Rattle.tc_frame.specs.declared.fault.TcFault.{TcFault}
 use Rattle.tc_frame.specs.declared.fault.TcFault.TheVariants as faults
 use Rattle.tc_frame.specs.Layout.{FrameView, IsTcFrame}
 use Rattle.tc_frame.specs.Reading.{least_total}
+
+-- whether frames end with their check
+abbrev pub check_if : Bool → Check
+check_if true = On
+check_if false = Off
 
 -- the declared total of the frame that begins so, where it is enough for a frame
 abbrev pub total_at : Check → List ℕ → Result ℕ TcFault

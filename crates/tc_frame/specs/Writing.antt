@@ -36,8 +36,8 @@ abbrev pub frame_fits : Check → FrameView → Bool
 frame_fits check f = nat_lt f.scid 1024 && nat_lt f.vcid 64 && body_fits f.body && nat_le (total_of check f) 1024
 
 -- how many octets are written where there is room for so many, or why none are
-abbrev pub written : Check → FrameView → ℕ → Result ℕ TcFault
-written check f room =
+abbrev pub encode_answer : Check → FrameView → ℕ → Result ℕ TcFault
+encode_answer check f room =
     if not (frame_fits check f) then Err faults.FieldRange
     else if nat_lt room (total_of check f) then Err faults.Room
     else Ok (total_of check f)

@@ -3,7 +3,7 @@
 ghost use Rattle.std.specs.Prelude.{◌≡◌, ◌<◌, ◌≤◌, ◌+◌, ◌-◌, ◌*◌, ◌^◌, ◌++◌, length, take, drop, true, IfOk, OnErr};
 ghost use Rattle.byteorder.specs.Endian.{big_bytes};
 ghost use Rattle.tc_frame.specs.Layout.{frame_view, body_view, segment_view, bypass_flag, control_flag, segment_octets, command_octets, body_octets, body_fits, IsTcFrame};
-ghost use Rattle.tc_frame.specs.Writing.{total_of, first_number, second_number, front_octets, spelling, frame_fits, written};
+ghost use Rattle.tc_frame.specs.Writing.{total_of, first_number, second_number, front_octets, spelling, frame_fits, encode_answer};
 
 use crate::decoding::len_of_check;
 use crate::fault::TcFault;
@@ -15,7 +15,7 @@ use octets::append_check;
 /// it has: at most 1,024 (CCSDS 232.0-B-4, 4.1). Refuses by 11 `FieldRange` a field out of its range,
 /// empty data and a longer frame, and then by 10 `Room` an output that is too short.
 pub fn encode(frame: &TcFrame, check: Check, out: &mut [u8]) -> Result<usize, TcFault>
-    ensures answer { result ≡ written check (frame_view frame.now) (length out.old) }
+    ensures answer { result ≡ encode_answer check (frame_view frame.now) (length out.old) }
     ensures ok { IfOk result (λ n. out.new
         ≡ spelling check (frame_view frame.now) ++ drop n out.old) }
     ensures err { OnErr result (out.new ≡ out.old) }

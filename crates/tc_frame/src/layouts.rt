@@ -3,10 +3,9 @@
 ghost use Rattle.std.specs.Prelude.{◌≡◌, ◌≤◌, ◌%◌, ◌+◌, length, take, drop};
 ghost use Rattle.std.proofs.Common.{arith};
 ghost use Rattle.octets.specs.Number.{number_of};
-ghost use Rattle.tc_frame.specs.declared.frame.Check.TheVariants as checks;
 ghost use Rattle.tc_frame.specs.declared.fault.TcFault.TheVariants as faults;
 ghost use Rattle.tc_frame.specs.Layout.{FrameView};
-ghost use Rattle.tc_frame.specs.Splitting.{IsSpelling, total_at};
+ghost use Rattle.tc_frame.specs.Splitting.{IsSpelling, check_if, total_at};
 ghost use Rattle.tc_frame.specs.Laws.{total_has_head, one_spelling_of, own_total};
 
 use crate::decoding::{len_of_check, low_ten};
@@ -14,13 +13,15 @@ use crate::fault::TcFault;
 use crate::frame::Check;
 use octets::{Wire, first_two};
 
-/// Frames that end with their check, as records of a stream.
+/// Frames as records of a stream, with or without their check.
 #[derive(Clone, Copy, Debug, PartialEq, Eq)]
-pub struct Checked;
+pub struct FrameLayout<const CHECKED: bool>;
+
+/// Frames that end with their check, as records of a stream.
+pub type Checked = FrameLayout<true>;
 
 /// Frames without a check, as records of a stream.
-#[derive(Clone, Copy, Debug, PartialEq, Eq)]
-pub struct Unchecked;
+pub type Unchecked = FrameLayout<false>;
 
 fn declared_total(head: &[u8], check: Check) -> Result<usize, TcFault>
     requires { 5 ≤ length head.now }
@@ -33,63 +34,32 @@ fn declared_total(head: &[u8], check: Check) -> Result<usize, TcFault>
     Ok(total)
 }
 
-impl Wire for Checked {
-    type Fault = TcFault;
-
-    const HEAD: usize = 5;
-
-    ghost HEAD = { 5 };
-
-    ghost extent_of = { λ head. total_at checks.On head };
-
-    ghost Value = { FrameView };
-
-    ghost IsSpelling = { λ f octets. IsSpelling checks.On f octets };
-
-    ghost truncated_fault = { faults.Short };
-
-    ghost memory_fault = { faults.Memory };
-
-    fn extent(head: &[u8]) -> Result<usize, TcFault> {
-        declared_total(head, Check::On)
-    }
-
-    fn truncated() -> TcFault {
-        TcFault::Short
-    }
-
-    fn memory() -> TcFault {
-        TcFault::Memory
-    }
-
-    ghost some_head = { Prim.omega arith };
-
-    ghost extent_has_head = { λ head n e. total_has_head checks.On head n e };
-
-    ghost one_spelling = { λ f xs ys p q. one_spelling_of checks.On f xs ys p q };
-
-    ghost own_extent = { λ f octets p. own_total checks.On f octets p.spells };
+// Whether frames end with their check.
+fn check_if(checked: bool) -> Check
+    ensures { result ≡ check_if checked }
+{
+    if checked { Check::On } else { Check::Off }
 }
 
-impl Wire for Unchecked {
+impl<const CHECKED: bool> Wire for FrameLayout<CHECKED> {
     type Fault = TcFault;
 
     const HEAD: usize = 5;
 
     ghost HEAD = { 5 };
 
-    ghost extent_of = { λ head. total_at checks.Off head };
+    ghost extent_of = { λ head. total_at (check_if CHECKED) head };
 
     ghost Value = { FrameView };
 
-    ghost IsSpelling = { λ f octets. IsSpelling checks.Off f octets };
+    ghost IsSpelling = { λ f octets. IsSpelling (check_if CHECKED) f octets };
 
     ghost truncated_fault = { faults.Short };
 
     ghost memory_fault = { faults.Memory };
 
     fn extent(head: &[u8]) -> Result<usize, TcFault> {
-        declared_total(head, Check::Off)
+        declared_total(head, check_if(CHECKED))
     }
 
     fn truncated() -> TcFault {
@@ -102,9 +72,9 @@ impl Wire for Unchecked {
 
     ghost some_head = { Prim.omega arith };
 
-    ghost extent_has_head = { λ head n e. total_has_head checks.Off head n e };
+    ghost extent_has_head = { λ head n e. total_has_head (check_if CHECKED) head n e };
 
-    ghost one_spelling = { λ f xs ys p q. one_spelling_of checks.Off f xs ys p q };
+    ghost one_spelling = { λ f xs ys p q. one_spelling_of (check_if CHECKED) f xs ys p q };
 
-    ghost own_extent = { λ f octets p. own_total checks.Off f octets p.spells };
+    ghost own_extent = { λ f octets p. own_total (check_if CHECKED) f octets p.spells };
 }

@@ -17,12 +17,12 @@ use Rattle.cop1.specs.declared.fop.Directive.TheVariants.{InitWithoutCheck, Init
 use Rattle.cop1.specs.declared.fop.FopMode.{FopMode}
 use Rattle.cop1.specs.declared.fop.FopMode.TheVariants.{S1, S2, S3, S4, S5, S6}
 use Rattle.cop1.specs.Farm.{state_of}
-use Rattle.cop1.specs.FopDirective.{obeys, refuses, from_S6, terminate_in as terminated, directive_step as directed_fop}
-use Rattle.cop1.specs.FopPull.{pull_step as pulled_fop}
-use Rattle.cop1.specs.FopReport.{locks, waits, asks, clcw_step as heard_by, report_in as report_in_mode, report_while_active, report_in_S4, confirms as confirms_by}
+use Rattle.cop1.specs.FopDirective.{obeys, refuses, from_S6, terminate_in, directive_step}
+use Rattle.cop1.specs.FopPull.{pull_step}
+use Rattle.cop1.specs.FopReport.{locks, waits, asks, clcw_step, report_in, report_while_active, report_in_S4, confirms}
 use Rattle.cop1.specs.FopState.{FopState}
-use Rattle.cop1.specs.FopTick.{tick_step as ticked_fop, tick_with as ticked_with, timer_ended, after_count as counted, due_again}
-use Rattle.cop1.specs.FopWords.{FopOutcome as Outcome, after_stop as stopped, after_repeat as repeated, alerts, goes_on}
+use Rattle.cop1.specs.FopTick.{tick_step, tick_with, timer_ended, after_count, due_again}
+use Rattle.cop1.specs.FopWords.{FopOutcome, after_stop, after_repeat, alerts, goes_on}
 use Rattle.tm_link.specs.declared.fault.TmFault.{TmFault}
 use Rattle.tm_link.specs.Layout as telemetry
 use Rattle.tm_link.specs.Reading as telemetry_reading
@@ -111,19 +111,19 @@ only_some : (x : Alert) → Only x (Some x)
 only_some x alert is = cc
 
 module _ (s : FopState SegmentView) where
-  timer_only : (m : FopMode) → Only Timer (timer_ended (stopped s) m).answer
-  timer_only S1 = cond_both (nat_lt s.count s.limit) (goes_on (repeated (stopped s))) _ (λ o. Only Timer o.answer) (λ t. only_none Timer) (λ t. only_some Timer)
-  timer_only S2 = cond_both (nat_lt s.count s.limit) (goes_on (repeated (stopped s))) _ (λ o. Only Timer o.answer) (λ t. only_none Timer) (λ t. only_some Timer)
-  timer_only S3 = cond_both (nat_lt s.count s.limit) (goes_on (counted (stopped s))) _ (λ o. Only Timer o.answer) (λ t. only_none Timer) (λ t. only_some Timer)
+  timer_only : (m : FopMode) → Only Timer (timer_ended (after_stop s) m).answer
+  timer_only S1 = cond_both (nat_lt s.count s.limit) (goes_on (after_repeat (after_stop s))) _ (λ o. Only Timer o.answer) (λ t. only_none Timer) (λ t. only_some Timer)
+  timer_only S2 = cond_both (nat_lt s.count s.limit) (goes_on (after_repeat (after_stop s))) _ (λ o. Only Timer o.answer) (λ t. only_none Timer) (λ t. only_some Timer)
+  timer_only S3 = cond_both (nat_lt s.count s.limit) (goes_on (after_count (after_stop s))) _ (λ o. Only Timer o.answer) (λ t. only_none Timer) (λ t. only_some Timer)
   timer_only S4 = only_some Timer
-  timer_only S5 = cond_both (nat_lt s.count s.limit) (goes_on (record (counted (stopped s)) { control = due_again s.control })) _ (λ o. Only Timer o.answer) (λ t. only_none Timer) (λ t. only_some Timer)
+  timer_only S5 = cond_both (nat_lt s.count s.limit) (goes_on (record (after_count (after_stop s)) { control = due_again s.control })) _ (λ o. Only Timer o.answer) (λ t. only_none Timer) (λ t. only_some Timer)
   timer_only S6 = only_none Timer
 
-  tick_only : (ticks : Option ℕ) → Only Timer (ticked_with s ticks).answer
+  tick_only : (ticks : Option ℕ) → Only Timer (tick_with s ticks).answer
   tick_only None = only_none Timer
-  tick_only (Some left) = cond_both (left == 1) (timer_ended (stopped s) s.state) _ (λ o. Only Timer o.answer) (λ t. timer_only s.state) (λ t. only_none Timer)
+  tick_only (Some left) = cond_both (left == 1) (timer_ended (after_stop s) s.state) _ (λ o. Only Timer o.answer) (λ t. timer_only s.state) (λ t. only_none Timer)
 
-  abbrev answered : Outcome SegmentView (Result (Option Alert) CopFault) → Option Alert
+  abbrev answered : FopOutcome SegmentView (Result (Option Alert) CopFault) → Option Alert
   answered o = replied_alert (reply_to_directive o.answer)
 
   from_silent : (next : FopState SegmentView) (m : FopMode) → Silent (answered (from_S6 s m next))
@@ -134,7 +134,7 @@ module _ (s : FopState SegmentView) where
   from_silent next S5 = refl
   from_silent next S6 = refl
 
-  terminated_only : (m : FopMode) → Only Terminated (answered (terminated s m))
+  terminated_only : (m : FopMode) → Only Terminated (answered (terminate_in s m))
   terminated_only S1 = only_some Terminated
   terminated_only S2 = only_some Terminated
   terminated_only S3 = only_some Terminated
@@ -142,7 +142,7 @@ module _ (s : FopState SegmentView) where
   terminated_only S5 = only_some Terminated
   terminated_only S6 = only_none Terminated
 
-  directive_cause : (w : World) (d : Directive) (alert : Alert) → answered (directed_fop s d) ≡ Some alert → HasCause w (events.Directive d) alert
+  directive_cause : (w : World) (d : Directive) (alert : Alert) → answered (directive_step s d) ≡ Some alert → HasCause w (events.Directive d) alert
   directive_cause w Terminate alert is = let only : alert ≡ Terminated = terminated_only s.state alert is in rw only refl
   directive_cause w InitWithoutCheck alert is = none_some _ alert (from_silent _ s.state) is
   directive_cause w InitWithCheck alert is = none_some _ alert (from_silent _ s.state) is
@@ -169,7 +169,7 @@ module _ (c : Config) (d : Directive) (base : ℕ) (w : World) (k : Steady c w) 
   first_asks b bs r is tells asking = rw (is, k.ground_config) (subst AsksAgain (sym (report_told c b r tells)) asking)
 
   -- what is answered to telemetry is what the sender answers to its report
-  heard_alert_is : (b : List ℕ) (bs : List (List ℕ)) (r : Clcw) → Tells c b r → alert_in (down_deliver_step w (b ∷ bs)).answer ≡ (heard_by w.ground_node.fop r).answer
+  heard_alert_is : (b : List ℕ) (bs : List (List ℕ)) (r : Clcw) → Tells c b r → alert_in (down_deliver_step w (b ∷ bs)).answer ≡ (clcw_step w.ground_node.fop r).answer
   heard_alert_is b bs r tells = ap (λ (o : GroundOutcome Heard). replied_alert (Down o.answer)) (used_is c w.ground_node b r k.ground_config tells)
 
   module _ (g : Late c d base w) where
@@ -180,7 +180,7 @@ module _ (c : Config) (d : Directive) (base : ℕ) (w : World) (k : Steady c w) 
         let allowed : IsAllowed (asks r) w.ground_node.fop.limit (Some alert) = subst (IsAllowed (asks r) w.ground_node.fop.limit) is (led.2.allowed checked) in
         allowed_cause w r alert allowed first
 
-    late_cause : (r : Clcw) (v : ℕ) → Coming base (c.width / 2) (IsChecked d) w.ground_node.fop g.plain.a g.plain.n g.plain.units (unsent_segments w.ground_node) r v → (asks r ≡ true → FirstAsks w.ground_node.config w.down) → (m : FopMode) → w.ground_node.fop.state ≡ m → (alert : Alert) → (report_in_mode w.ground_node.fop r m).answer ≡ Some alert → HasCause w events.DownDeliver alert
+    late_cause : (r : Clcw) (v : ℕ) → Coming base (c.width / 2) (IsChecked d) w.ground_node.fop g.plain.a g.plain.n g.plain.units (unsent_segments w.ground_node) r v → (asks r ≡ true → FirstAsks w.ground_node.config w.down) → (m : FopMode) → w.ground_node.fop.state ≡ m → (alert : Alert) → (report_in w.ground_node.fop r m).answer ≡ Some alert → HasCause w events.DownDeliver alert
     late_cause r v comes first S1 m alert is = active_cause r v comes first (rw m refl) (rw m tt) alert is
     late_cause r v comes first S2 m alert is = active_cause r v comes first (rw m refl) (rw m tt) alert is
     late_cause r v comes first S3 m alert is = active_cause r v comes first (rw m refl) (rw m tt) alert is
@@ -203,19 +203,19 @@ module _ (c : Config) (d : Directive) (base : ℕ) (w : World) (k : Steady c w) 
     early_cause : (r : Clcw) → (locks r ≡ w.spacecraft.farm.lockout) × (asks r ≡ w.spacecraft.farm.retransmit) × (r.value ≡ w.spacecraft.farm.vr) × (waits r ≡ true → asks r ≡ true) → d ≡ InitWithCheck → (alert : Alert) → (report_in_S4 w.ground_node.fop r).answer ≡ Some alert → HasCause w events.DownDeliver alert
     early_cause r same by_check alert =
         let s = w.ground_node.fop in
-        let P : Outcome SegmentView (Option Alert) → Type 0 = λ o. o.answer ≡ Some alert → HasCause w events.DownDeliver alert in
+        let P : FopOutcome SegmentView (Option Alert) → Type 0 = λ o. o.answer ≡ Some alert → HasCause w events.DownDeliver alert in
         cond_both (locks r) (alerts s Lockout) _ P (λ t e. let is : Lockout ≡ alert = cc in subst (HasCause w events.DownDeliver) is (under_check by_check, k.flags.state ∙ ap (λ l. state_of l w.spacecraft.farm.wait) (sym same.0 ∙ t)))
         (λ l. cond_both (not (r.value == s.vs)) (alerts s NnR) _ P (λ t e. let is : NnR ≡ alert = cc in subst (HasCause w events.DownDeliver) is (under_check by_check, λ x. eqb-false r.value s.vs (not-true (r.value == s.vs) t) (same.2 ∙ x)))
         (λ v. cond_both (asks r) (alerts s Synch) _ P (λ t e. let is : Synch ≡ alert = cc in subst (HasCause w events.DownDeliver) is (under_check by_check, sym same.1 ∙ t))
         (λ a. cond_both (waits r) (alerts s ClcwAlert) _ P (λ t e. absurd (let yes : asks r ≡ true = same.3 t in cc (a, yes)))
         (λ t e. absurd cc))))
 
-    early_in : (r : Clcw) (rs : List Clcw) → (d ≡ InitWithCheck → AllSame (r ∷ rs) w.spacecraft.farm.lockout w.spacecraft.farm.retransmit w.spacecraft.farm.vr) → (m : FopMode) → w.ground_node.fop.state ≡ m → (alert : Alert) → (report_in_mode w.ground_node.fop r m).answer ≡ Some alert → HasCause w events.DownDeliver alert
+    early_in : (r : Clcw) (rs : List Clcw) → (d ≡ InitWithCheck → AllSame (r ∷ rs) w.spacecraft.farm.lockout w.spacecraft.farm.retransmit w.spacecraft.farm.vr) → (m : FopMode) → w.ground_node.fop.state ≡ m → (alert : Alert) → (report_in w.ground_node.fop r m).answer ≡ Some alert → HasCause w events.DownDeliver alert
     early_in r rs same S1 m alert is = absurd (let no : IsEarly d S1 = rw m at g.early.early in no)
     early_in r rs same S2 m alert is = absurd (let no : IsEarly d S2 = rw m at g.early.early in no)
     early_in r rs same S3 m alert is = absurd (let no : IsEarly d S3 = rw m at g.early.early in no)
     early_in r rs same S4 m alert is = let by_check : IsEarly d S4 = rw m at g.early.early in let t = same by_check in early_cause r (t.0, t.1, t.2, t.3) by_check alert is
-    early_in r rs same S5 m alert is = none_some (report_in_mode w.ground_node.fop r S5).answer alert (cond_both (confirms_by w.ground_node.fop r) (goes_on (record w.ground_node.fop { state = S1; ticks = None; control = Idle })) (goes_on w.ground_node.fop) (λ o. Silent o.answer) (λ t. refl) (λ t. refl)) is
+    early_in r rs same S5 m alert is = none_some (report_in w.ground_node.fop r S5).answer alert (cond_both (confirms w.ground_node.fop r) (goes_on (record w.ground_node.fop { state = S1; ticks = None; control = Idle })) (goes_on w.ground_node.fop) (λ o. Silent o.answer) (λ t. refl) (λ t. refl)) is
     early_in r rs same S6 m alert is = absurd cc
 
     early_heard : (bs : List (List ℕ)) (rs : List Clcw) → Reporting c bs rs → (d ≡ InitWithCheck → AllSame rs w.spacecraft.farm.lockout w.spacecraft.farm.retransmit w.spacecraft.farm.vr) → (alert : Alert) → alert_in (down_deliver_step w bs).answer ≡ Some alert → HasCause w events.DownDeliver alert
@@ -233,7 +233,7 @@ module _ (c : Config) (d : Directive) (base : ℕ) (w : World) (k : Steady c w) 
   cause s (events.Submit m octets) alert is = none_some _ alert (submission_silent (unless_refused (submit_fault w.ground_node m octets.now) w.ground_node (after_submission w.ground_node m octets.now)).answer) is
   cause s (events.Bypass m octets) alert is = none_some _ alert (submission_silent (unless_refused (bypass_fault w.ground_node m octets.now) w.ground_node (after_bypass w.ground_node m octets.now)).answer) is
   cause s (events.Directive e) alert is = directive_cause w.ground_node.fop w e alert is
-  cause s events.Send alert is = none_some _ alert (pull_silent w (with_fop w.ground_node (pulled_fop w.ground_node.fop).after) (frame_to_send w.ground_node.config (pulled_fop w.ground_node.fop).answer)) is
+  cause s events.Send alert is = none_some _ alert (pull_silent w (with_fop w.ground_node (pull_step w.ground_node.fop).after) (frame_to_send w.ground_node.config (pull_step w.ground_node.fop).answer)) is
   cause s events.UpDeliver alert is = none_some _ alert (up_silent w w.up).0 is
   cause s events.UpLose alert is = none_some _ alert (up_silent w w.up).1 is
   cause s (events.UpDamage octets) alert is = none_some _ alert (damaged_silent w w.up octets.now) is
@@ -241,7 +241,7 @@ module _ (c : Config) (d : Directive) (base : ℕ) (w : World) (k : Steady c w) 
   cause s events.DownDeliver alert is = cause_heard s alert is
   cause s events.DownLose alert is = none_some _ alert (down_lost_silent w w.down) is
   cause s (events.DownDamage octets) alert is = none_some _ alert (down_damaged_silent w w.down octets.now) is
-  cause s events.Tick alert is = let only : alert ≡ Timer = tick_only w.ground_node.fop w.ground_node.fop.ticks alert (sym (alert_replied (ticked_fop w.ground_node.fop).answer) ∙ is) in rw only refl
+  cause s events.Tick alert is = let only : alert ≡ Timer = tick_only w.ground_node.fop w.ground_node.fop.ticks alert (sym (alert_replied (tick_step w.ground_node.fop).answer) ∙ is) in rw only refl
   cause s events.Take alert is = none_some _ alert (taking_silent (spacecraft_take w.spacecraft w.spacecraft.ready).answer) is
   cause s events.TakeBypass alert is = none_some _ alert (taking_silent (spacecraft_take_bypass w.spacecraft w.spacecraft.bypass).answer) is
   cause s (events.Telemetry octets) alert is = none_some _ alert (queueing_silent (spacecraft_telemetry w.spacecraft octets.now).answer) is

@@ -15,7 +15,7 @@ use Rattle.cop1.specs.declared.farm.Verdict.{Verdict}
 use Rattle.cop1.specs.declared.farm.Verdict.TheVariants.{Accepted, Ahead, NoBuffer, Behind, Outside, Discarded}
 use Rattle.cop1.specs.declared.fop.Directive.{Directive}
 use Rattle.cop1.specs.declared.fop.Directive.TheVariants.{InitWithoutCheck, InitWithCheck, InitUnlock, InitSetVr, Terminate, SetVs, SetWindow, SetLimit, SetTimer}
-use Rattle.cop1.specs.Farm.{FarmState, verdict_of, after_verdict, after_unlock, after_set_vr, after_type_b as counted}
+use Rattle.cop1.specs.Farm.{FarmState, verdict_of, after_verdict, after_unlock, after_set_vr, after_type_b}
 use Rattle.tc_link.specs.declared.config.Config.{Config}
 use Rattle.tc_link.specs.Parameters.{limits_of}
 use Rattle.tc_link.specs.BypassSegments.{is_kept}
@@ -158,7 +158,7 @@ module _ (c : Config) (d : Directive) (base : ℕ) (w : World) (k : Steady c w) 
       other_keeps (record w.spacecraft { farm = after_set_vr w.spacecraft.farm y Open }) up refl (let none = g.linked.first front in omega (arith, g.linked.vr_is, g.linked.base_octet)) (λ checked. let m = g.calm checked in (m.unlocked, sym (m.clear front)))
   set_keeps y Wait front y_is up =
       other_keeps (record w.spacecraft { farm = after_set_vr w.spacecraft.farm y Wait }) up refl (let none = g.linked.first front in omega (arith, g.linked.vr_is, g.linked.base_octet)) (λ checked. let m = g.calm checked in (m.unlocked, sym (m.clear front)))
-  set_keeps y Lockout front y_is up = other_keeps (record w.spacecraft { farm = counted w.spacecraft.farm }) up refl refl (λ checked. let m = g.calm checked in (m.unlocked, refl))
+  set_keeps y Lockout front y_is up = other_keeps (record w.spacecraft { farm = after_type_b w.spacecraft.farm }) up refl refl (λ checked. let m = g.calm checked in (m.unlocked, refl))
 
   control_keeps : (command : Command) (e : Directive) → e ≡ d → g.front ≡ true → CommandFits e base command → UpIs d base g.front fs g.plain.up → Late c d base (record w { up = bs; spacecraft = (body_outcome w.spacecraft (Bc command)).after })
   control_keeps Unlock e is front fits up = unlock_keeps w.spacecraft.farm.state front up

@@ -10,9 +10,9 @@ use Rattle.cop1.specs.declared.fop.Directive.{Directive}
 use Rattle.cop1.specs.declared.fop.Directive.TheVariants.{InitWithoutCheck, InitWithCheck, InitUnlock, InitSetVr, Terminate, SetVs, SetWindow, SetLimit, SetTimer}
 use Rattle.cop1.specs.declared.fop.FopMode.{FopMode}
 use Rattle.cop1.specs.declared.fop.FopMode.TheVariants.{S1, S2, S3, S4, S5, S6}
-use Rattle.cop1.specs.FopDirective.{from_S6, after_begin as begun}
+use Rattle.cop1.specs.FopDirective.{from_S6, after_begin}
 use Rattle.cop1.specs.FopState.{FopState}
-use Rattle.cop1.specs.FopWords.{after_restart as restarted}
+use Rattle.cop1.specs.FopWords.{after_restart}
 use Rattle.tc_link.specs.declared.config.Config.{Config}
 use Rattle.tc_link.specs.declared.event.Event.TheVariants as events
 use Rattle.tc_link.specs.Ground.{is_closed, directive_outcome}
@@ -56,7 +56,7 @@ module _ (c : Config) (w : World) (k : Sound c w) where
     idle : w.ground_node.fop.control ≡ Idle
     idle = let it : Commanded S6 w.ground_node.fop.control = rw off at k.ground_node.fop.commanded in it
 
-    without_check : begins_clean w InitWithoutCheck ≡ true → Late c InitWithoutCheck w.ground_node.fop.vs (begun_with InitWithoutCheck (record (begun w.ground_node.fop) { nn = w.ground_node.fop.vs; state = S1 }))
+    without_check : begins_clean w InitWithoutCheck ≡ true → Late c InitWithoutCheck w.ground_node.fop.vs (begun_with InitWithoutCheck (record (after_begin w.ground_node.fop) { nn = w.ground_node.fop.vs; state = S1 }))
     without_check clean =
         let both = and_parts (is_quiet w) (w.spacecraft.farm.vr == w.ground_node.fop.vs) clean in
         record {
@@ -94,7 +94,7 @@ module _ (c : Config) (w : World) (k : Sound c w) where
           calm = λ checked. elim checked [ ];
         }
 
-    with_check : begins_clean w InitWithCheck ≡ true → Begun c InitWithCheck w.ground_node.fop.vs (begun_with InitWithCheck (record (restarted (begun w.ground_node.fop)) { nn = w.ground_node.fop.vs; state = S4 }))
+    with_check : begins_clean w InitWithCheck ≡ true → Begun c InitWithCheck w.ground_node.fop.vs (begun_with InitWithCheck (record (after_restart (after_begin w.ground_node.fop)) { nn = w.ground_node.fop.vs; state = S4 }))
     with_check clean = record {
       frames = [];
       reports = [];
@@ -120,7 +120,7 @@ module _ (c : Config) (w : World) (k : Sound c w) where
       };
     }
 
-    with_unlock : begins_clean w InitUnlock ≡ true → Begun c InitUnlock w.ground_node.fop.vs (begun_with InitUnlock (record (begun w.ground_node.fop) { nn = w.ground_node.fop.vs; control = Due Unlock; state = S5 }))
+    with_unlock : begins_clean w InitUnlock ≡ true → Begun c InitUnlock w.ground_node.fop.vs (begun_with InitUnlock (record (after_begin w.ground_node.fop) { nn = w.ground_node.fop.vs; control = Due Unlock; state = S5 }))
     with_unlock clean = record {
       frames = [];
       reports = [];
@@ -146,7 +146,7 @@ module _ (c : Config) (w : World) (k : Sound c w) where
       };
     }
 
-    with_set_vr : (x : ℕ) → x < 256 → begins_clean w (InitSetVr x) ≡ true → Begun c (InitSetVr x) x (begun_with (InitSetVr x) (record (begun w.ground_node.fop) { vs = x; nn = x; control = Due (SetVr x); state = S5 }))
+    with_set_vr : (x : ℕ) → x < 256 → begins_clean w (InitSetVr x) ≡ true → Begun c (InitSetVr x) x (begun_with (InitSetVr x) (record (after_begin w.ground_node.fop) { vs = x; nn = x; control = Due (SetVr x); state = S5 }))
     with_set_vr x lt clean = record {
       frames = [];
       reports = [];
@@ -183,16 +183,16 @@ module _ (c : Config) (w : World) (k : Sound c w) where
 
   pub begins : (d : Directive) → IsDirective d → is_closed w.ground_node.fop.state ≡ true → begins_clean w d ≡ true → Clean c (world_step w (events.Directive d)).after
   begins InitWithoutCheck fits off clean =
-      let f : FopState SegmentView = record (begun w.ground_node.fop) { nn = w.ground_node.fop.vs; state = S1 } in
+      let f : FopState SegmentView = record (after_begin w.ground_node.fop) { nn = w.ground_node.fop.vs; state = S1 } in
       begins_in InitWithoutCheck f w.ground_node.fop.state off refl (λ is. record { directive = InitWithoutCheck; base = w.ground_node.fop.vs; session = inr (late_settled c InitWithoutCheck w.ground_node.fop.vs (begun_with InitWithoutCheck f) (without_check is clean)) })
   begins InitWithCheck fits off clean =
-      let f : FopState SegmentView = record (restarted (begun w.ground_node.fop)) { nn = w.ground_node.fop.vs; state = S4 } in
+      let f : FopState SegmentView = record (after_restart (after_begin w.ground_node.fop)) { nn = w.ground_node.fop.vs; state = S4 } in
       begins_in InitWithCheck f w.ground_node.fop.state off refl (λ is. record { directive = InitWithCheck; base = w.ground_node.fop.vs; session = inl (early_settled c InitWithCheck w.ground_node.fop.vs (begun_with InitWithCheck f) (with_check is clean)) })
   begins InitUnlock fits off clean =
-      let f : FopState SegmentView = record (begun w.ground_node.fop) { nn = w.ground_node.fop.vs; control = Due Unlock; state = S5 } in
+      let f : FopState SegmentView = record (after_begin w.ground_node.fop) { nn = w.ground_node.fop.vs; control = Due Unlock; state = S5 } in
       begins_in InitUnlock f w.ground_node.fop.state off refl (λ is. record { directive = InitUnlock; base = w.ground_node.fop.vs; session = inl (early_settled c InitUnlock w.ground_node.fop.vs (begun_with InitUnlock f) (with_unlock is clean)) })
   begins (InitSetVr x) fits off clean =
-      let f : FopState SegmentView = record (begun w.ground_node.fop) { vs = x; nn = x; control = Due (SetVr x); state = S5 } in
+      let f : FopState SegmentView = record (after_begin w.ground_node.fop) { vs = x; nn = x; control = Due (SetVr x); state = S5 } in
       begins_in (InitSetVr x) f w.ground_node.fop.state off refl (λ is. record { directive = InitSetVr x; base = x; session = inl (early_settled c (InitSetVr x) x (begun_with (InitSetVr x) f) (with_set_vr is x fits clean)) })
   begins Terminate fits off clean = absurd cc
   begins (SetVs x) fits off clean = absurd cc

@@ -6,7 +6,7 @@ use Rattle.cop1.specs.declared.farm.FarmMode.{FarmMode}
 use Rattle.cop1.specs.declared.farm.FarmMode.TheVariants.{Open, Wait, Lockout}
 use Rattle.cop1.specs.declared.fop.Directive.{Directive}
 use Rattle.cop1.specs.Farm.{FarmState, after_release, farm_step, BufferReleased}
-use Rattle.tm_link.specs.Building.{is_to_send, queued}
+use Rattle.tm_link.specs.Building.{is_to_send, after_queue}
 use Rattle.tc_link.specs.declared.config.Config.{Config}
 use Rattle.tc_link.specs.Packets.{PacketOn}
 use Rattle.tc_link.specs.Spacecraft.{SpacecraftState, spacecraft_take, spacecraft_take_bypass, spacecraft_telemetry}
@@ -39,4 +39,4 @@ module _ (c : Config) (d : Directive) (base : ℕ) (w : World) (k : Steady c w) 
   late_take_bypass = bypass_keeps w.spacecraft.bypass
 
   pub late_telemetry : (octets : List ℕ) → Late c d base (world_after_queueing w (spacecraft_telemetry w.spacecraft octets)).after
-  late_telemetry octets = cond_both (is_to_send octets) _ _ (λ o. Late c d base (world_after_queueing w o).after) (λ t. spacecraft_keeps (record w.spacecraft { builder = queued w.spacecraft.builder octets }) refl refl refl refl) (λ t. g)
+  late_telemetry octets = cond_both (is_to_send octets) _ _ (λ o. Late c d base (world_after_queueing w o).after) (λ t. spacecraft_keeps (record w.spacecraft { builder = after_queue w.spacecraft.builder octets }) refl refl refl refl) (λ t. g)

@@ -19,12 +19,12 @@ use Rattle.cop1.specs.declared.fop.Directive.{Directive}
 use Rattle.cop1.specs.declared.fop.Directive.TheVariants.{InitWithoutCheck, InitWithCheck, InitUnlock, InitSetVr, Terminate, SetVs, SetWindow, SetLimit, SetTimer}
 use Rattle.cop1.specs.declared.fop.FopMode.{FopMode}
 use Rattle.cop1.specs.declared.fop.FopMode.TheVariants.{S1, S2, S3, S4, S5, S6}
-use Rattle.cop1.specs.FopDirective.{from_S6, terminate_in as terminated, directive_step as directed_fop}
-use Rattle.cop1.specs.FopPull.{PulledUnit, SequencePulled, pulls, pull_step as pulled_fop, pull_control as pulled_control, pull_bypass as pulled_bypass, pull_in as pulled_in, pull_marked as pulled_marked, pull_waiting as pulled_waiting, oldest_marked, without_oldest_mark, sent_first}
-use Rattle.cop1.specs.FopReport.{locks, waits, asks, clcw_step as heard_by, report_in, report_while_active, report_in_S4, confirms as confirms_by, nothing_new, after_move_on as moved_on, goes_back, goes_back_again, after_new_value as counting_from}
+use Rattle.cop1.specs.FopDirective.{from_S6, terminate_in, directive_step}
+use Rattle.cop1.specs.FopPull.{PulledUnit, SequencePulled, pulls, pull_step, pull_control, pull_bypass, pull_in, pull_marked, pull_waiting, oldest_marked, without_oldest_mark, after_send_first}
+use Rattle.cop1.specs.FopReport.{locks, waits, asks, clcw_step, report_in, report_while_active, report_in_S4, confirms, nothing_new, after_move_on, goes_back, goes_back_again, after_new_value}
 use Rattle.cop1.specs.FopState.{FopState, SentUnit, IsFop}
-use Rattle.cop1.specs.FopTick.{tick_step as ticked_fop, tick_with as ticked_with, timer_ended, after_count as counted, due_again}
-use Rattle.cop1.specs.FopWords.{FopOutcome as Outcome, is_outside, after_acknowledge as acknowledged, after_repeat as repeated, after_alert as given_up, after_stop as stopped, alerts, goes_on, after_gone, marked, unmarked}
+use Rattle.cop1.specs.FopTick.{tick_step, tick_with, timer_ended, after_count, due_again}
+use Rattle.cop1.specs.FopWords.{FopOutcome, is_outside, after_acknowledge, after_repeat, after_alert, after_stop, alerts, goes_on, after_gone, marked_unit, unmarked_unit}
 use Rattle.tm_link.specs.declared.fault.TmFault.{TmFault}
 use Rattle.tm_link.specs.Extraction.{Extracted, extract_step}
 use Rattle.tm_link.specs.Layout as telemetry
@@ -42,24 +42,24 @@ abbrev Units : Type 0
 Units = List (SentUnit SegmentView)
 
 -- the queue is no longer than it was
-abbrev IsShorter : {A : Type 0} → FopState SegmentView → Outcome SegmentView A → Type 0
+abbrev IsShorter : {A : Type 0} → FopState SegmentView → FopOutcome SegmentView A → Type 0
 IsShorter f o = length o.after.sent ≤ length f.sent
 
 module _ (f : FopState SegmentView) where
-  no_longer : (g : FopState SegmentView) → g.sent ≡ map marked f.sent → length g.sent ≤ length f.sent
-  no_longer g is = omega (arith, ap length is, length-map f.sent marked)
+  no_longer : (g : FopState SegmentView) → g.sent ≡ map marked_unit f.sent → length g.sent ≤ length f.sent
+  no_longer g is = omega (arith, ap length is, length-map f.sent marked_unit)
 
-  timer_shorter : (m : FopMode) → IsShorter f (timer_ended (stopped f) m)
-  timer_shorter S1 = cond_both (nat_lt f.count f.limit) (goes_on (repeated (stopped f))) _ (λ o. IsShorter f o) (λ t. no_longer (repeated (stopped f)) refl) (λ t. omega arith)
-  timer_shorter S2 = cond_both (nat_lt f.count f.limit) (goes_on (repeated (stopped f))) _ (λ o. IsShorter f o) (λ t. no_longer (repeated (stopped f)) refl) (λ t. omega arith)
-  timer_shorter S3 = cond_both (nat_lt f.count f.limit) (goes_on (counted (stopped f))) _ (λ o. IsShorter f o) (λ t. omega arith) (λ t. omega arith)
+  timer_shorter : (m : FopMode) → IsShorter f (timer_ended (after_stop f) m)
+  timer_shorter S1 = cond_both (nat_lt f.count f.limit) (goes_on (after_repeat (after_stop f))) _ (λ o. IsShorter f o) (λ t. no_longer (after_repeat (after_stop f)) refl) (λ t. omega arith)
+  timer_shorter S2 = cond_both (nat_lt f.count f.limit) (goes_on (after_repeat (after_stop f))) _ (λ o. IsShorter f o) (λ t. no_longer (after_repeat (after_stop f)) refl) (λ t. omega arith)
+  timer_shorter S3 = cond_both (nat_lt f.count f.limit) (goes_on (after_count (after_stop f))) _ (λ o. IsShorter f o) (λ t. omega arith) (λ t. omega arith)
   timer_shorter S4 = omega arith
-  timer_shorter S5 = cond_both (nat_lt f.count f.limit) (goes_on (record (counted (stopped f)) { control = due_again f.control })) _ (λ o. IsShorter f o) (λ t. omega arith) (λ t. omega arith)
+  timer_shorter S5 = cond_both (nat_lt f.count f.limit) (goes_on (record (after_count (after_stop f)) { control = due_again f.control })) _ (λ o. IsShorter f o) (λ t. omega arith) (λ t. omega arith)
   timer_shorter S6 = omega arith
 
-  ticking_shorter : (ticks : Option ℕ) → IsShorter f (ticked_with f ticks)
+  ticking_shorter : (ticks : Option ℕ) → IsShorter f (tick_with f ticks)
   ticking_shorter None = omega arith
-  ticking_shorter (Some left) = cond_both (left == 1) (timer_ended (stopped f) f.state) _ (λ o. IsShorter f o) (λ t. timer_shorter f.state) (λ t. omega arith)
+  ticking_shorter (Some left) = cond_both (left == 1) (timer_ended (after_stop f) f.state) _ (λ o. IsShorter f o) (λ t. timer_shorter f.state) (λ t. omega arith)
 
   from_shorter : (m : FopMode) (next : FopState SegmentView) → length next.sent ≤ length f.sent → IsShorter f (from_S6 f m next)
   from_shorter S1 next le = omega arith
@@ -69,7 +69,7 @@ module _ (f : FopState SegmentView) where
   from_shorter S5 next le = omega arith
   from_shorter S6 next le = le
 
-  terminated_shorter : (m : FopMode) → IsShorter f (terminated f m)
+  terminated_shorter : (m : FopMode) → IsShorter f (terminate_in f m)
   terminated_shorter S1 = omega arith
   terminated_shorter S2 = omega arith
   terminated_shorter S3 = omega arith
@@ -77,19 +77,19 @@ module _ (f : FopState SegmentView) where
   terminated_shorter S5 = omega arith
   terminated_shorter S6 = omega arith
 
-  directed_shorter : (d : Directive) → IsShorter f (directed_fop f d)
+  directed_shorter : (d : Directive) → IsShorter f (directive_step f d)
   directed_shorter InitWithoutCheck = from_shorter f.state _ (omega arith)
   directed_shorter InitWithCheck = from_shorter f.state _ (omega arith)
   directed_shorter InitUnlock = from_shorter f.state _ (omega arith)
   directed_shorter (InitSetVr x) = from_shorter f.state _ (omega arith)
   directed_shorter Terminate = terminated_shorter f.state
   directed_shorter (SetVs x) = from_shorter f.state _ (omega arith)
-  directed_shorter (SetWindow k) = cond_both ((k == 0) || nat_lt f.room k) _ _ (λ (o : Outcome SegmentView (Result (Option Alert) CopFault)). IsShorter f o) (λ t. omega arith) (λ t. omega arith)
-  directed_shorter (SetLimit n) = cond_both (n == 0) _ _ (λ (o : Outcome SegmentView (Result (Option Alert) CopFault)). IsShorter f o) (λ t. omega arith) (λ t. omega arith)
-  directed_shorter (SetTimer t) = cond_both (t == 0) _ _ (λ (o : Outcome SegmentView (Result (Option Alert) CopFault)). IsShorter f o) (λ t. omega arith) (λ t. omega arith)
+  directed_shorter (SetWindow k) = cond_both ((k == 0) || nat_lt f.room k) _ _ (λ (o : FopOutcome SegmentView (Result (Option Alert) CopFault)). IsShorter f o) (λ t. omega arith) (λ t. omega arith)
+  directed_shorter (SetLimit n) = cond_both (n == 0) _ _ (λ (o : FopOutcome SegmentView (Result (Option Alert) CopFault)). IsShorter f o) (λ t. omega arith) (λ t. omega arith)
+  directed_shorter (SetTimer t) = cond_both (t == 0) _ _ (λ (o : FopOutcome SegmentView (Result (Option Alert) CopFault)). IsShorter f o) (λ t. omega arith) (λ t. omega arith)
 
   -- an initiation that is obeyed leaves the queue empty
-  abbrev IsBegun : Outcome SegmentView (Result (Option Alert) CopFault) → Type 0
+  abbrev IsBegun : FopOutcome SegmentView (Result (Option Alert) CopFault) → Type 0
   IsBegun o = (a : Option Alert) → o.answer ≡ Ok a → o.after.sent ≡ []
 
   begun_from : (m : FopMode) (next : FopState SegmentView) → next.sent ≡ [] → IsBegun (from_S6 f m next)
@@ -100,7 +100,7 @@ module _ (f : FopState SegmentView) where
   begun_from S5 next none a is = absurd cc
   begun_from S6 next none a is = none
 
-  begun_empty : (d : Directive) → is_initiation d ≡ true → IsBegun (directed_fop f d)
+  begun_empty : (d : Directive) → is_initiation d ≡ true → IsBegun (directive_step f d)
   begun_empty InitWithoutCheck is = begun_from f.state _ refl
   begun_empty InitWithCheck is = begun_from f.state _ refl
   begun_empty InitUnlock is = begun_from f.state _ refl
@@ -119,23 +119,23 @@ first_in vs None = []
 first_in vs (Some frame) = first_sent vs frame.body
 
 module _ (c : Config) (f : FopState SegmentView) where
-  abbrev IsPutFirst : Outcome SegmentView (PulledUnit SegmentView) → Type 0
+  abbrev IsPutFirst : FopOutcome SegmentView (PulledUnit SegmentView) → Type 0
   IsPutFirst o = length o.after.sent ≤ length f.sent + length (first_in f.vs (frame_to_send c o.answer))
 
   without_mark : (us : Units) → length (without_oldest_mark us) ≡ length us
   without_mark [] = refl
   without_mark (u ∷ us) = cond_both u.marked _ _ (λ (xs : Units). length xs ≡ suc (length us)) (λ t. refl) (λ t. ap suc (without_mark us))
 
-  waiting_first : (o : Option SegmentView) → IsPutFirst (pulled_waiting f o)
+  waiting_first : (o : Option SegmentView) → IsPutFirst (pull_waiting f o)
   waiting_first None = omega arith
-  waiting_first (Some u) = cond_both (nat_lt (ahead_by f.vs f.nn) f.window) (pulls (sent_first f u) (SequencePulled f.vs u)) _ (λ o. IsPutFirst o)
-      (λ t. rw (eq-eqb f.vs f.vs refl) (omega (arith, length-append f.sent (unmarked u ∷ [])))) (λ t. omega arith)
+  waiting_first (Some u) = cond_both (nat_lt (ahead_by f.vs f.nn) f.window) (pulls (after_send_first f u) (SequencePulled f.vs u)) _ (λ o. IsPutFirst o)
+      (λ t. rw (eq-eqb f.vs f.vs refl) (omega (arith, length-append f.sent (unmarked_unit u ∷ [])))) (λ t. omega arith)
 
-  marked_first : (o : Option (ℕ × SegmentView)) → IsPutFirst (pulled_marked f o)
+  marked_first : (o : Option (ℕ × SegmentView)) → IsPutFirst (pull_marked f o)
   marked_first None = waiting_first f.waiting
   marked_first (Some x) = omega (arith, without_mark f.sent)
 
-  in_first : (m : FopMode) → IsPutFirst (pulled_in f m)
+  in_first : (m : FopMode) → IsPutFirst (pull_in f m)
   in_first S1 = marked_first (oldest_marked 0 f.sent)
   in_first S2 = marked_first (oldest_marked 0 f.sent)
   in_first S3 = omega arith
@@ -143,11 +143,11 @@ module _ (c : Config) (f : FopState SegmentView) where
   in_first S5 = omega arith
   in_first S6 = omega arith
 
-  bypass_first : (us : List SegmentView) → IsPutFirst (pulled_bypass f us)
+  bypass_first : (us : List SegmentView) → IsPutFirst (pull_bypass f us)
   bypass_first [] = in_first f.state
   bypass_first (u ∷ us) = omega arith
 
-  control_first : (control : Control) → IsPutFirst (pulled_control f control)
+  control_first : (control : Control) → IsPutFirst (pull_control f control)
   control_first Idle = bypass_first f.bypass
   control_first (Sent command) = bypass_first f.bypass
   control_first (Due command) = omega arith
@@ -155,7 +155,7 @@ module _ (c : Config) (f : FopState SegmentView) where
 -- ---- a report: as many units leave the queue at least as NN(R) moves
 
 module _ (f : FopState SegmentView) (fop : IsFop f) (octet : f.nn < 256) (r : Clcw) where
-  abbrev IsGone : Outcome SegmentView (Option Alert) → Type 0
+  abbrev IsGone : FopOutcome SegmentView (Option Alert) → Type 0
   IsGone o = ahead_by o.after.nn f.nn + length o.after.sent ≤ length f.sent
 
   none_ahead : ahead_by f.nn f.nn ≡ 0
@@ -170,17 +170,17 @@ module _ (f : FopState SegmentView) (fop : IsFop f) (octet : f.nn < 256) (r : Cl
       rw nn (omega (arith, fop.numbered active, ltb-false (ahead_by f.vs f.nn) (ahead_by r.value f.nn) inside, le, length-drop (ahead_by r.value f.nn) f.sent))
 
   back_shorter : (m : FopMode) → (length (goes_back_again f m).sent ≤ length f.sent) × ((goes_back_again f m).nn ≡ f.nn)
-  back_shorter S1 = cond_both (nat_lt f.count f.limit) (repeated f) f (λ (g : FopState SegmentView). (length g.sent ≤ length f.sent) × (g.nn ≡ f.nn)) (λ t. (no_longer f (repeated f) refl, refl)) (λ t. (omega arith, refl))
+  back_shorter S1 = cond_both (nat_lt f.count f.limit) (after_repeat f) f (λ (g : FopState SegmentView). (length g.sent ≤ length f.sent) × (g.nn ≡ f.nn)) (λ t. (no_longer f (after_repeat f) refl, refl)) (λ t. (omega arith, refl))
   back_shorter S2 = (omega arith, refl)
-  back_shorter S3 = cond_both (nat_lt f.count f.limit) (repeated f) f (λ (g : FopState SegmentView). (length g.sent ≤ length f.sent) × (g.nn ≡ f.nn)) (λ t. (no_longer f (repeated f) refl, refl)) (λ t. (omega arith, refl))
+  back_shorter S3 = cond_both (nat_lt f.count f.limit) (after_repeat f) f (λ (g : FopState SegmentView). (length g.sent ≤ length f.sent) × (g.nn ≡ f.nn)) (λ t. (no_longer f (after_repeat f) refl, refl)) (λ t. (omega arith, refl))
   back_shorter S4 = (omega arith, refl)
   back_shorter S5 = (omega arith, refl)
   back_shorter S6 = (omega arith, refl)
 
   nothing_gone : (m : FopMode) → IsGone (nothing_new f m)
   nothing_gone S1 = stays f refl (omega arith)
-  nothing_gone S2 = stays (given_up f) refl (omega arith)
-  nothing_gone S3 = stays (given_up f) refl (omega arith)
+  nothing_gone S2 = stays (after_alert f) refl (omega arith)
+  nothing_gone S3 = stays (after_alert f) refl (omega arith)
   nothing_gone S4 = stays f refl (omega arith)
   nothing_gone S5 = stays f refl (omega arith)
   nothing_gone S6 = stays f refl (omega arith)
@@ -188,29 +188,29 @@ module _ (f : FopState SegmentView) (fop : IsFop f) (octet : f.nn < 256) (r : Cl
   active_gone : f.state ≢ S6 → IsGone (report_while_active f r)
   active_gone active =
       let left : Units = drop (ahead_by r.value f.nn) f.sent in
-      cond_both (locks r) (alerts f alert.Lockout) _ (λ o. IsGone o) (λ t. stays (given_up f) refl (omega arith))
-      (λ l. cond_both (is_outside f r.value) (alerts f alert.NnR) _ (λ o. IsGone o) (λ t. stays (given_up f) refl (omega arith))
-      (λ inside. cond_both (not (asks r) && waits r) (alerts f alert.Clcw) _ (λ o. IsGone o) (λ t. stays (given_up f) refl (omega arith))
-      (λ w. cond_both (asks r && (r.value == f.vs)) (alerts f alert.Synch) _ (λ o. IsGone o) (λ t. stays (given_up f) refl (omega arith))
+      cond_both (locks r) (alerts f alert.Lockout) _ (λ o. IsGone o) (λ t. stays (after_alert f) refl (omega arith))
+      (λ l. cond_both (is_outside f r.value) (alerts f alert.NnR) _ (λ o. IsGone o) (λ t. stays (after_alert f) refl (omega arith))
+      (λ inside. cond_both (not (asks r) && waits r) (alerts f alert.Clcw) _ (λ o. IsGone o) (λ t. stays (after_alert f) refl (omega arith))
+      (λ w. cond_both (asks r && (r.value == f.vs)) (alerts f alert.Synch) _ (λ o. IsGone o) (λ t. stays (after_alert f) refl (omega arith))
       (λ y. cond_both (not (asks r) && (r.value == f.nn)) (nothing_new f f.state) _ (λ o. IsGone o) (λ t. nothing_gone f.state)
-      (λ n. cond_both (not (asks r)) (after_gone (ahead_by r.value f.nn) (goes_on (moved_on (acknowledged f r.value)))) _ (λ o. IsGone o)
-      (λ t. goes (moved_on (acknowledged f r.value)) active inside refl (omega arith))
-      (λ t. cond_both (not (r.value == f.nn)) (after_gone (ahead_by r.value f.nn) (goes_back (counting_from f r.value) (waits r))) _ (λ o. IsGone o)
-      (λ t. cond_both (f.limit == 1) (alerts (counting_from f r.value) alert.Limit) _ (λ o. IsGone (after_gone (ahead_by r.value f.nn) o)) (λ t. goes (given_up (counting_from f r.value)) active inside refl (omega arith))
-      (λ t. cond_both (waits r) (goes_on (record (counting_from f r.value) { state = S3 })) _ (λ o. IsGone (after_gone (ahead_by r.value f.nn) o))
-      (λ t. goes (record (counting_from f r.value) { state = S3 }) active inside refl (omega arith))
-      (λ t. goes (record (repeated (counting_from f r.value)) { state = S2 }) active inside refl (omega (arith, length-map left marked)))))
-      (λ t. cond_both (f.limit == 1) (alerts f alert.Limit) _ (λ o. IsGone o) (λ t. stays (given_up f) refl (omega arith))
+      (λ n. cond_both (not (asks r)) (after_gone (ahead_by r.value f.nn) (goes_on (after_move_on (after_acknowledge f r.value)))) _ (λ o. IsGone o)
+      (λ t. goes (after_move_on (after_acknowledge f r.value)) active inside refl (omega arith))
+      (λ t. cond_both (not (r.value == f.nn)) (after_gone (ahead_by r.value f.nn) (goes_back (after_new_value f r.value) (waits r))) _ (λ o. IsGone o)
+      (λ t. cond_both (f.limit == 1) (alerts (after_new_value f r.value) alert.Limit) _ (λ o. IsGone (after_gone (ahead_by r.value f.nn) o)) (λ t. goes (after_alert (after_new_value f r.value)) active inside refl (omega arith))
+      (λ t. cond_both (waits r) (goes_on (record (after_new_value f r.value) { state = S3 })) _ (λ o. IsGone (after_gone (ahead_by r.value f.nn) o))
+      (λ t. goes (record (after_new_value f r.value) { state = S3 }) active inside refl (omega arith))
+      (λ t. goes (record (after_repeat (after_new_value f r.value)) { state = S2 }) active inside refl (omega (arith, length-map left marked_unit)))))
+      (λ t. cond_both (f.limit == 1) (alerts f alert.Limit) _ (λ o. IsGone o) (λ t. stays (after_alert f) refl (omega arith))
       (λ t. cond_both (waits r) (goes_on (record f { state = S3 })) _ (λ o. IsGone o)
       (λ t. stays (record f { state = S3 }) refl (omega arith))
       (λ t. let back = back_shorter f.state in stays (goes_back_again f f.state) back.1 back.0)))))))))
 
   in_S4_gone : IsGone (report_in_S4 f r)
   in_S4_gone =
-      cond_both (locks r) (alerts f alert.Lockout) _ (λ o. IsGone o) (λ t. stays (given_up f) refl (omega arith))
-      (λ t. cond_both (not (r.value == f.vs)) (alerts f alert.NnR) _ (λ o. IsGone o) (λ t. stays (given_up f) refl (omega arith))
-      (λ t. cond_both (asks r) (alerts f alert.Synch) _ (λ o. IsGone o) (λ t. stays (given_up f) refl (omega arith))
-      (λ t. cond_both (waits r) (alerts f alert.Clcw) _ (λ o. IsGone o) (λ t. stays (given_up f) refl (omega arith))
+      cond_both (locks r) (alerts f alert.Lockout) _ (λ o. IsGone o) (λ t. stays (after_alert f) refl (omega arith))
+      (λ t. cond_both (not (r.value == f.vs)) (alerts f alert.NnR) _ (λ o. IsGone o) (λ t. stays (after_alert f) refl (omega arith))
+      (λ t. cond_both (asks r) (alerts f alert.Synch) _ (λ o. IsGone o) (λ t. stays (after_alert f) refl (omega arith))
+      (λ t. cond_both (waits r) (alerts f alert.Clcw) _ (λ o. IsGone o) (λ t. stays (after_alert f) refl (omega arith))
       (λ t. stays (record f { state = S1; ticks = None }) refl (omega arith)))))
 
   report_gone : (m : FopMode) → f.state ≡ m → IsGone (report_in f r m)
@@ -218,7 +218,7 @@ module _ (f : FopState SegmentView) (fop : IsFop f) (octet : f.nn < 256) (r : Cl
   report_gone S2 is = active_gone (λ e. absurd cc)
   report_gone S3 is = active_gone (λ e. absurd cc)
   report_gone S4 is = in_S4_gone
-  report_gone S5 is = cond_both (confirms_by f r) (goes_on (record f { state = S1; ticks = None; control = Idle })) (goes_on f) (λ o. IsGone o) (λ t. stays (record f { state = S1; ticks = None; control = Idle }) refl (omega arith)) (λ t. stays f refl (omega arith))
+  report_gone S5 is = cond_both (confirms f r) (goes_on (record f { state = S1; ticks = None; control = Idle })) (goes_on f) (λ o. IsGone o) (λ t. stays (record f { state = S1; ticks = None; control = Idle }) refl (omega arith)) (λ t. stays f refl (omega arith))
   report_gone S6 is = stays f refl (omega arith)
 
 -- ---- the ground
@@ -238,12 +238,12 @@ bypass_same s m octets None = refl
 bypass_same s m octets (Some fault) = refl
 
 pub tick_shorter : (s : GroundState) → length (ground.ground_tick s).after.fop.sent ≤ length s.fop.sent
-tick_shorter s = omega (arith, ap length (with_sent s (ticked_fop s.fop).after), ticking_shorter s.fop s.fop.ticks)
+tick_shorter s = omega (arith, ap length (with_sent s (tick_step s.fop).after), ticking_shorter s.fop s.fop.ticks)
 
 pub pull_first : (s : GroundState) → length (ground.ground_pull s).after.fop.sent ≤ length s.fop.sent + length (first_in s.fop.vs (ground.ground_pull s).answer)
-pull_first s = omega (arith, ap length (with_sent s (pulled_fop s.fop).after), control_first s.config s.fop s.fop.control)
+pull_first s = omega (arith, ap length (with_sent s (pull_step s.fop).after), control_first s.config s.fop s.fop.control)
 
-directed_sent : (s : GroundState) (o : Outcome SegmentView (Result (Option Alert) CopFault)) (a : Option Alert) → o.answer ≡ Ok a → (directive_outcome s o).after.fop.sent ≡ o.after.sent
+directed_sent : (s : GroundState) (o : FopOutcome SegmentView (Result (Option Alert) CopFault)) (a : Option Alert) → o.answer ≡ Ok a → (directive_outcome s o).after.fop.sent ≡ o.after.sent
 directed_sent s o a is = rw is (with_sent s o.after)
 
 directed_short : (s : GroundState) (f : FopState SegmentView) (r : Result (Option Alert) CopFault) → length f.sent ≤ length s.fop.sent → length (ground.after_directive s r f).fop.sent ≤ length s.fop.sent
@@ -251,10 +251,10 @@ directed_short s f (Ok a) le = omega (arith, ap length (with_sent s f), le)
 directed_short s f (Err fault) le = omega arith
 
 pub directive_shorter : (s : GroundState) (d : Directive) → length (ground.ground_directive s d).after.fop.sent ≤ length s.fop.sent
-directive_shorter s d = directed_short s (directed_fop s.fop d).after (directed_fop s.fop d).answer (directed_shorter s.fop d)
+directive_shorter s d = directed_short s (directive_step s.fop d).after (directive_step s.fop d).answer (directed_shorter s.fop d)
 
 pub directive_begins : (s : GroundState) (d : Directive) (a : Option Alert) → is_initiation d ≡ true → (ground.ground_directive s d).answer ≡ Ok a → (ground.ground_directive s d).after.fop.sent ≡ []
-directive_begins s d a is ok = directed_sent s (directed_fop s.fop d) a ok ∙ begun_empty s.fop d is a ok
+directive_begins s d a is ok = directed_sent s (directive_step s.fop d) a ok ∙ begun_empty s.fop d is a ok
 
 module _ (s : GroundState) (fop : IsFop s.fop) (octet : s.fop.nn < 256) where
   abbrev IsLess : GroundState → Type 0
@@ -269,7 +269,7 @@ module _ (s : GroundState) (fop : IsFop s.fop) (octet : s.fop.nn < 256) where
   word_less : (x : Extracted) (r : Result Clcw ClcwFault) → IsLess (own_frame_outcome s x r).after
   word_less x (Err fault) = same_less (after_extraction s x) refl
   word_less x (Ok report) = cond_both (report.vcid == s.config.vcid) _ _ (λ (o : GroundOutcome Heard). IsLess o.after)
-      (λ t. settled_less (record (after_extraction s x) { fop = (heard_by s.fop report).after }) (report_gone s.fop fop octet report s.fop.state refl)) (λ t. same_less (after_extraction s x) refl)
+      (λ t. settled_less (record (after_extraction s x) { fop = (clcw_step s.fop report).after }) (report_gone s.fop fop octet report s.fop.state refl)) (λ t. same_less (after_extraction s x) refl)
 
   -- when octets arrive
   pub heard_less : (r : Result telemetry.FrameView TmFault) → IsLess (telemetry_outcome s r).after

@@ -14,7 +14,7 @@ use Rattle.map_service.specs.declared.dropped.Dropped.{Dropped}
 use Rattle.map_service.specs.declared.dropped.Dropped.TheVariants.{Interrupted, TooLong}
 use Rattle.map_service.specs.Assembly.{is_open, is_too_long}
 use Rattle.map_service.specs.Packets.{packets_in}
-use Rattle.map_service.specs.Taking.{one_fault, alone_fault, alone_packets, drops, gives, opens, cell, take_step}
+use Rattle.map_service.specs.Taking.{one_fault, alone_fault, alone_packets, drop_outcome, packets_outcome, part_outcome, cell, take_step}
 
 sixes : (records : List (List ℕ)) → AllByRecursion (IsRecord 6 extent_at) records → 6 * length records ≤ length (concat records)
 sixes [] h = omega arith
@@ -34,15 +34,15 @@ alone_few limits octets =
     cond_both limits.blocking (packets_in octets) (octets ∷ []) (λ packets. length packets ≤ length octets / 6 + 1)
     (λ _. omega (arith, packets_few octets)) (λ _. omega arith)
 
-given_few : (octets : List ℕ) (earlier : Option Dropped) (packets : List (List ℕ)) (fault : Option Dropped) → AreFew octets packets → AreFew octets (gives earlier packets fault).packets
+given_few : (octets : List ℕ) (earlier : Option Dropped) (packets : List (List ℕ)) (fault : Option Dropped) → AreFew octets packets → AreFew octets (packets_outcome earlier packets fault).packets
 unfolding AreFew
 given_few octets earlier packets None few = few
 given_few octets earlier packets (Some cause) few = omega arith
 
-opened_few : (limits : Limits) (earlier : Option Dropped) (octets joined : List ℕ) → AreFew octets (opens limits earlier joined).packets
+opened_few : (limits : Limits) (earlier : Option Dropped) (octets joined : List ℕ) → AreFew octets (part_outcome limits earlier joined).packets
 unfolding AreFew
 opened_few limits earlier octets joined =
-    cond_both (is_too_long limits joined) (drops TooLong) _ (λ o. length o.packets ≤ length octets / 6 + 1) (λ _. omega arith) (λ _. omega arith)
+    cond_both (is_too_long limits joined) (drop_outcome TooLong) _ (λ o. length o.packets ≤ length octets / 6 + 1) (λ _. omega arith) (λ _. omega arith)
 
 one_few : (octets packet : List ℕ) → AreFew octets (packet ∷ [])
 unfolding AreFew

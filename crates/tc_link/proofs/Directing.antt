@@ -9,9 +9,9 @@ use Rattle.cop1.specs.declared.fop.Directive.TheVariants.{InitWithoutCheck, Init
 use Rattle.cop1.specs.declared.fop.FopMode.{FopMode}
 use Rattle.cop1.specs.declared.fop.FopMode.TheVariants.{S1, S2, S3, S4, S5, S6}
 use Rattle.cop1.specs.FopState.{FopState}
-use Rattle.cop1.specs.FopDirective.{obeys, refuses, from_S6, terminate_in as terminated}
-use Rattle.cop1.specs.FopTick.{tick_with as ticked_with, timer_ended, after_count as counted}
-use Rattle.cop1.specs.FopWords.{FopOutcome as Outcome, after_alert as given_up, after_repeat as repeated, after_stop as stopped, goes_on}
+use Rattle.cop1.specs.FopDirective.{obeys, refuses, from_S6, terminate_in}
+use Rattle.cop1.specs.FopTick.{tick_with, timer_ended, after_count}
+use Rattle.cop1.specs.FopWords.{FopOutcome, after_alert, after_repeat, after_stop, goes_on}
 use Rattle.tc_link.specs.declared.config.Config.{Config}
 use Rattle.tc_link.specs.Ground.{is_closed, with_fop, directive_outcome}
 use Rattle.tc_link.specs.declared.event.Event.TheVariants as events
@@ -25,32 +25,32 @@ use Rattle.tc_link.proofs.Settled.{same_keeps, off_keeps}
 module _ (c : Config) (d : Directive) (base : ℕ) (w : World) (g : Late c d base w) where
   -- ---- a tick
 
-  abbrev Leaves : {A : Type 0} → Outcome SegmentView A → Type 0
+  abbrev Leaves : {A : Type 0} → FopOutcome SegmentView A → Type 0
   Leaves o = Late c d base (record w { ground_node = with_fop w.ground_node o.after })
 
-  timer_keeps : (m : FopMode) → w.ground_node.fop.state ≡ m → Leaves (timer_ended (stopped w.ground_node.fop) m)
-  timer_keeps S1 is = cond_both (nat_lt w.ground_node.fop.count w.ground_node.fop.limit) (goes_on (repeated (stopped w.ground_node.fop))) _ (λ o. Leaves o) (λ t. same_keeps c d base w g (repeated (stopped w.ground_node.fop)) refl refl refl (units-marked w.ground_node.fop.sent) refl) (λ t. off_keeps c d base w g (given_up (stopped w.ground_node.fop)) refl g.linked.nn_octet)
-  timer_keeps S2 is = cond_both (nat_lt w.ground_node.fop.count w.ground_node.fop.limit) (goes_on (repeated (stopped w.ground_node.fop))) _ (λ o. Leaves o) (λ t. same_keeps c d base w g (repeated (stopped w.ground_node.fop)) refl refl refl (units-marked w.ground_node.fop.sent) refl) (λ t. off_keeps c d base w g (given_up (stopped w.ground_node.fop)) refl g.linked.nn_octet)
-  timer_keeps S3 is = cond_both (nat_lt w.ground_node.fop.count w.ground_node.fop.limit) (goes_on (counted (stopped w.ground_node.fop))) _ (λ o. Leaves o) (λ t. same_keeps c d base w g (counted (stopped w.ground_node.fop)) refl refl refl refl refl) (λ t. off_keeps c d base w g (given_up (stopped w.ground_node.fop)) refl g.linked.nn_octet)
+  timer_keeps : (m : FopMode) → w.ground_node.fop.state ≡ m → Leaves (timer_ended (after_stop w.ground_node.fop) m)
+  timer_keeps S1 is = cond_both (nat_lt w.ground_node.fop.count w.ground_node.fop.limit) (goes_on (after_repeat (after_stop w.ground_node.fop))) _ (λ o. Leaves o) (λ t. same_keeps c d base w g (after_repeat (after_stop w.ground_node.fop)) refl refl refl (units-marked w.ground_node.fop.sent) refl) (λ t. off_keeps c d base w g (after_alert (after_stop w.ground_node.fop)) refl g.linked.nn_octet)
+  timer_keeps S2 is = cond_both (nat_lt w.ground_node.fop.count w.ground_node.fop.limit) (goes_on (after_repeat (after_stop w.ground_node.fop))) _ (λ o. Leaves o) (λ t. same_keeps c d base w g (after_repeat (after_stop w.ground_node.fop)) refl refl refl (units-marked w.ground_node.fop.sent) refl) (λ t. off_keeps c d base w g (after_alert (after_stop w.ground_node.fop)) refl g.linked.nn_octet)
+  timer_keeps S3 is = cond_both (nat_lt w.ground_node.fop.count w.ground_node.fop.limit) (goes_on (after_count (after_stop w.ground_node.fop))) _ (λ o. Leaves o) (λ t. same_keeps c d base w g (after_count (after_stop w.ground_node.fop)) refl refl refl refl refl) (λ t. off_keeps c d base w g (after_alert (after_stop w.ground_node.fop)) refl g.linked.nn_octet)
   timer_keeps S4 is = absurd (let no : IsLate S4 = rw is at g.linked.late in no)
   timer_keeps S5 is = absurd (let no : IsLate S5 = rw is at g.linked.late in no)
-  timer_keeps S6 is = same_keeps c d base w g (stopped w.ground_node.fop) refl refl refl refl refl
+  timer_keeps S6 is = same_keeps c d base w g (after_stop w.ground_node.fop) refl refl refl refl refl
 
-  tick_keeps : (ticks : Option ℕ) → Leaves (ticked_with w.ground_node.fop ticks)
+  tick_keeps : (ticks : Option ℕ) → Leaves (tick_with w.ground_node.fop ticks)
   tick_keeps None = same_keeps c d base w g w.ground_node.fop refl refl refl refl refl
-  tick_keeps (Some left) = cond_both (left == 1) (timer_ended (stopped w.ground_node.fop) w.ground_node.fop.state) _ (λ o. Leaves o) (λ t. timer_keeps w.ground_node.fop.state refl) (λ t. same_keeps c d base w g (record w.ground_node.fop { ticks = Some (left - 1) }) refl refl refl refl refl)
+  tick_keeps (Some left) = cond_both (left == 1) (timer_ended (after_stop w.ground_node.fop) w.ground_node.fop.state) _ (λ o. Leaves o) (λ t. timer_keeps w.ground_node.fop.state refl) (λ t. same_keeps c d base w g (record w.ground_node.fop { ticks = Some (left - 1) }) refl refl refl refl refl)
 
-  pub late_tick : Late c d base (record w { ground_node = with_fop w.ground_node (ticked_with w.ground_node.fop w.ground_node.fop.ticks).after })
+  pub late_tick : Late c d base (record w { ground_node = with_fop w.ground_node (tick_with w.ground_node.fop w.ground_node.fop.ticks).after })
   late_tick = tick_keeps w.ground_node.fop.ticks
 
   -- ---- a directive that begins no session
 
-  terminate_keeps : (m : FopMode) → Late c d base (world_after_directive w Terminate (directive_outcome w.ground_node (terminated w.ground_node.fop m))).after
-  terminate_keeps S1 = off_keeps c d base w g (given_up w.ground_node.fop) refl g.linked.nn_octet
-  terminate_keeps S2 = off_keeps c d base w g (given_up w.ground_node.fop) refl g.linked.nn_octet
-  terminate_keeps S3 = off_keeps c d base w g (given_up w.ground_node.fop) refl g.linked.nn_octet
-  terminate_keeps S4 = off_keeps c d base w g (given_up w.ground_node.fop) refl g.linked.nn_octet
-  terminate_keeps S5 = off_keeps c d base w g (given_up w.ground_node.fop) refl g.linked.nn_octet
+  terminate_keeps : (m : FopMode) → Late c d base (world_after_directive w Terminate (directive_outcome w.ground_node (terminate_in w.ground_node.fop m))).after
+  terminate_keeps S1 = off_keeps c d base w g (after_alert w.ground_node.fop) refl g.linked.nn_octet
+  terminate_keeps S2 = off_keeps c d base w g (after_alert w.ground_node.fop) refl g.linked.nn_octet
+  terminate_keeps S3 = off_keeps c d base w g (after_alert w.ground_node.fop) refl g.linked.nn_octet
+  terminate_keeps S4 = off_keeps c d base w g (after_alert w.ground_node.fop) refl g.linked.nn_octet
+  terminate_keeps S5 = off_keeps c d base w g (after_alert w.ground_node.fop) refl g.linked.nn_octet
   terminate_keeps S6 = g
 
   set_vs_keeps : (x : ℕ) → x < 256 → (m : FopMode) → w.ground_node.fop.state ≡ m → Late c d base (world_after_directive w (SetVs x) (directive_outcome w.ground_node (from_S6 w.ground_node.fop m (record w.ground_node.fop { vs = x; nn = x })))).after

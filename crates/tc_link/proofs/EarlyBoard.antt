@@ -13,10 +13,10 @@ use Rattle.cop1.specs.declared.farm.FarmMode.{FarmMode}
 use Rattle.cop1.specs.declared.farm.FarmMode.TheVariants.{Open, Wait, Lockout}
 use Rattle.cop1.specs.declared.fop.Directive.{Directive}
 use Rattle.cop1.specs.declared.fop.Directive.TheVariants.{InitWithoutCheck, InitWithCheck, InitUnlock, InitSetVr, Terminate, SetVs, SetWindow, SetLimit, SetTimer}
-use Rattle.cop1.specs.Farm.{FarmState, after_unlock, after_set_vr, after_release, after_type_b as counted, farm_step, BufferReleased}
+use Rattle.cop1.specs.Farm.{FarmState, after_unlock, after_set_vr, after_release, after_type_b, farm_step, BufferReleased}
 use Rattle.cop1.specs.FopReport.{locks, waits, asks}
 use Rattle.cop1.specs.Report.{report_of}
-use Rattle.tm_link.specs.Building.{is_to_send, queued}
+use Rattle.tm_link.specs.Building.{is_to_send, after_queue}
 use Rattle.tm_link.specs.Writing as telemetry_writing
 use Rattle.tc_link.specs.declared.config.Config.{Config}
 use Rattle.tc_link.specs.Spacecraft.{SpacecraftState, spacecraft_step, Report, spacecraft_report, body_outcome, bypass_outcome, spacecraft_take, spacecraft_take_bypass, spacecraft_telemetry}
@@ -59,7 +59,7 @@ module _ (c : Config) (d : Directive) (base : ℕ) (w : World) (k : Steady c w) 
     sets : (y : ℕ) (mode : FarmMode) → (d ≡ InitWithCheck → ⊥) → y ≡ base → Begun c d base (record w { up = bs; spacecraft = record w.spacecraft { farm = after_set_vr w.spacecraft.farm y mode } })
     sets y Open other is = spacecraft_early bs fs (record w.spacecraft { farm = after_set_vr w.spacecraft.farm y Open }) rest up refl (λ good. (good.0, good.1, refl, is)) (λ e. absurd (other e))
     sets y Wait other is = spacecraft_early bs fs (record w.spacecraft { farm = after_set_vr w.spacecraft.farm y Wait }) rest up refl (λ good. (good.0, refl, refl, is)) (λ e. absurd (other e))
-    sets y Lockout other is = still (record w.spacecraft { farm = counted w.spacecraft.farm }) refl refl refl refl refl
+    sets y Lockout other is = still (record w.spacecraft { farm = after_type_b w.spacecraft.farm }) refl refl refl refl refl
 
     control_early : (command : Command) (e : Directive) → e ≡ d → CommandFits e base command → Begun c d base (record w { up = bs; spacecraft = (body_outcome w.spacecraft (Bc command)).after })
     control_early Unlock InitUnlock is fits = unlocks w.spacecraft.farm.state (λ x. absurd (cc (is, x)))
@@ -137,7 +137,7 @@ module _ (c : Config) (d : Directive) (base : ℕ) (w : World) (k : Steady c w) 
   early_take_bypass = take_bypass_early w.spacecraft.bypass
 
   pub early_telemetry : (octets : List ℕ) → Begun c d base (world_after_queueing w (spacecraft_telemetry w.spacecraft octets)).after
-  early_telemetry octets = cond_both (is_to_send octets) _ _ (λ o. Begun c d base (world_after_queueing w o).after) (λ t. still w.up g.frames g.early.carries g.early.up_is (record w.spacecraft { builder = queued w.spacecraft.builder octets }) refl refl refl refl refl) (λ t. g)
+  early_telemetry octets = cond_both (is_to_send octets) _ _ (λ o. Begun c d base (world_after_queueing w o).after) (λ t. still w.up g.frames g.early.carries g.early.up_is (record w.spacecraft { builder = after_queue w.spacecraft.builder octets }) refl refl refl refl refl) (λ t. g)
 
   pub early_report : Begun c d base (world_after_report w (spacecraft_step w.spacecraft Report)).after
   early_report =

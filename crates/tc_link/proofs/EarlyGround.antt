@@ -15,11 +15,11 @@ use Rattle.cop1.specs.declared.fop.Directive.{Directive}
 use Rattle.cop1.specs.declared.fop.Directive.TheVariants.{InitWithoutCheck, InitWithCheck, InitUnlock, InitSetVr, Terminate, SetVs, SetWindow, SetLimit, SetTimer}
 use Rattle.cop1.specs.declared.fop.FopMode.{FopMode}
 use Rattle.cop1.specs.declared.fop.FopMode.TheVariants.{S1, S2, S3, S4, S5, S6}
-use Rattle.cop1.specs.FopDirective.{obeys, refuses, from_S6, terminate_in as terminated}
-use Rattle.cop1.specs.FopPull.{PulledUnit, NothingPulled, pulls, pull_step as pulled, pull_control as pulled_control, pull_bypass as pulled_bypass, pull_in as pulled_in}
+use Rattle.cop1.specs.FopDirective.{obeys, refuses, from_S6, terminate_in}
+use Rattle.cop1.specs.FopPull.{PulledUnit, NothingPulled, pulls, pull_step, pull_control, pull_bypass, pull_in}
 use Rattle.cop1.specs.FopState.{FopState}
-use Rattle.cop1.specs.FopTick.{tick_with as ticked_with, timer_ended, after_count as counted_on, due_again}
-use Rattle.cop1.specs.FopWords.{FopOutcome as Outcome, after_alert as given_up, after_stop as stopped, after_restart as restarted, goes_on}
+use Rattle.cop1.specs.FopTick.{tick_with, timer_ended, after_count, due_again}
+use Rattle.cop1.specs.FopWords.{FopOutcome, after_alert, after_stop, after_restart, goes_on}
 use Rattle.tc_link.specs.declared.config.Config.{Config}
 use Rattle.tc_link.specs.declared.event.Event.TheVariants as events
 use Rattle.tc_link.specs.declared.fault.LinkFault.{LinkFault}
@@ -63,33 +63,33 @@ module _ (c : Config) (d : Directive) (base : ℕ) (w : World) (k : Steady c w) 
   due_fits (Due command) fits = fits
   due_fits (Sent command) fits = fits
 
-  abbrev Leaves : {A : Type 0} → Outcome SegmentView A → Type 0
+  abbrev Leaves : {A : Type 0} → FopOutcome SegmentView A → Type 0
   Leaves o = Begun c d base (record w { ground_node = with_fop w.ground_node o.after })
 
-  timer_early : (m : FopMode) → w.ground_node.fop.state ≡ m → Leaves (timer_ended (stopped w.ground_node.fop) m)
+  timer_early : (m : FopMode) → w.ground_node.fop.state ≡ m → Leaves (timer_ended (after_stop w.ground_node.fop) m)
   timer_early S1 is = absurd (let no : IsEarly d S1 = rw is at g.early.early in no)
   timer_early S2 is = absurd (let no : IsEarly d S2 = rw is at g.early.early in no)
   timer_early S3 is = absurd (let no : IsEarly d S3 = rw is at g.early.early in no)
-  timer_early S4 is = off_early (given_up (stopped w.ground_node.fop)) refl g.early.nn_octet tt
-  timer_early S5 is = cond_both (nat_lt w.ground_node.fop.count w.ground_node.fop.limit) (goes_on (record (counted_on (stopped w.ground_node.fop)) { control = due_again w.ground_node.fop.control })) _ (λ o. Leaves o)
-      (λ t. same_early (record (counted_on (stopped w.ground_node.fop)) { control = due_again w.ground_node.fop.control }) refl refl refl refl refl (due_fits w.ground_node.fop.control g.early.command_is)) (λ t. off_early (given_up (stopped w.ground_node.fop)) refl g.early.nn_octet tt)
-  timer_early S6 is = same_early (stopped w.ground_node.fop) refl refl refl refl refl g.early.command_is
+  timer_early S4 is = off_early (after_alert (after_stop w.ground_node.fop)) refl g.early.nn_octet tt
+  timer_early S5 is = cond_both (nat_lt w.ground_node.fop.count w.ground_node.fop.limit) (goes_on (record (after_count (after_stop w.ground_node.fop)) { control = due_again w.ground_node.fop.control })) _ (λ o. Leaves o)
+      (λ t. same_early (record (after_count (after_stop w.ground_node.fop)) { control = due_again w.ground_node.fop.control }) refl refl refl refl refl (due_fits w.ground_node.fop.control g.early.command_is)) (λ t. off_early (after_alert (after_stop w.ground_node.fop)) refl g.early.nn_octet tt)
+  timer_early S6 is = same_early (after_stop w.ground_node.fop) refl refl refl refl refl g.early.command_is
 
-  tick_early : (ticks : Option ℕ) → Leaves (ticked_with w.ground_node.fop ticks)
+  tick_early : (ticks : Option ℕ) → Leaves (tick_with w.ground_node.fop ticks)
   tick_early None = same_early w.ground_node.fop refl refl refl refl refl g.early.command_is
-  tick_early (Some left) = cond_both (left == 1) (timer_ended (stopped w.ground_node.fop) w.ground_node.fop.state) _ (λ o. Leaves o) (λ t. timer_early w.ground_node.fop.state refl) (λ t. same_early (record w.ground_node.fop { ticks = Some (left - 1) }) refl refl refl refl refl g.early.command_is)
+  tick_early (Some left) = cond_both (left == 1) (timer_ended (after_stop w.ground_node.fop) w.ground_node.fop.state) _ (λ o. Leaves o) (λ t. timer_early w.ground_node.fop.state refl) (λ t. same_early (record w.ground_node.fop { ticks = Some (left - 1) }) refl refl refl refl refl g.early.command_is)
 
-  pub early_tick : Begun c d base (record w { ground_node = with_fop w.ground_node (ticked_with w.ground_node.fop w.ground_node.fop.ticks).after })
+  pub early_tick : Begun c d base (record w { ground_node = with_fop w.ground_node (tick_with w.ground_node.fop w.ground_node.fop.ticks).after })
   early_tick = tick_early w.ground_node.fop.ticks
 
   -- ---- a directive that begins no session
 
-  terminate_early : (m : FopMode) → Begun c d base (world_after_directive w Terminate (directive_outcome w.ground_node (terminated w.ground_node.fop m))).after
-  terminate_early S1 = off_early (given_up w.ground_node.fop) refl g.early.nn_octet tt
-  terminate_early S2 = off_early (given_up w.ground_node.fop) refl g.early.nn_octet tt
-  terminate_early S3 = off_early (given_up w.ground_node.fop) refl g.early.nn_octet tt
-  terminate_early S4 = off_early (given_up w.ground_node.fop) refl g.early.nn_octet tt
-  terminate_early S5 = off_early (given_up w.ground_node.fop) refl g.early.nn_octet tt
+  terminate_early : (m : FopMode) → Begun c d base (world_after_directive w Terminate (directive_outcome w.ground_node (terminate_in w.ground_node.fop m))).after
+  terminate_early S1 = off_early (after_alert w.ground_node.fop) refl g.early.nn_octet tt
+  terminate_early S2 = off_early (after_alert w.ground_node.fop) refl g.early.nn_octet tt
+  terminate_early S3 = off_early (after_alert w.ground_node.fop) refl g.early.nn_octet tt
+  terminate_early S4 = off_early (after_alert w.ground_node.fop) refl g.early.nn_octet tt
+  terminate_early S5 = off_early (after_alert w.ground_node.fop) refl g.early.nn_octet tt
   terminate_early S6 = g
 
   set_vs_early : (x : ℕ) → x < 256 → (m : FopMode) → w.ground_node.fop.state ≡ m → Begun c d base (world_after_directive w (SetVs x) (directive_outcome w.ground_node (from_S6 w.ground_node.fop m (record w.ground_node.fop { vs = x; nn = x })))).after
@@ -163,7 +163,7 @@ module _ (c : Config) (d : Directive) (base : ℕ) (w : World) (k : Steady c w) 
 
   -- ---- a frame is sent
 
-  abbrev Pulls : Outcome SegmentView (PulledUnit SegmentView) → Type 0
+  abbrev Pulls : FopOutcome SegmentView (PulledUnit SegmentView) → Type 0
   Pulls o = Begun c d base (world_after_pull w (with_fop w.ground_node o.after) (frame_to_send w.ground_node.config o.answer)).after
 
   sends : (f : BodyView) (fop : FopState SegmentView) → fop.vs ≡ w.ground_node.fop.vs → fop.nn ≡ w.ground_node.fop.nn → fop.state ≡ w.ground_node.fop.state → fop.sent ≡ w.ground_node.fop.sent → fop.waiting ≡ w.ground_node.fop.waiting → ControlFits d base fop.control → Goes f → UpIs d base true (g.frames ++ f ∷ []) []
@@ -181,24 +181,24 @@ module _ (c : Config) (d : Directive) (base : ℕ) (w : World) (k : Steady c w) 
   pull_none : Pulls (pulls w.ground_node.fop NothingPulled)
   pull_none = same_early w.ground_node.fop refl refl refl refl refl g.early.command_is
 
-  pull_state : (m : FopMode) → w.ground_node.fop.state ≡ m → Pulls (pulled_in w.ground_node.fop m)
-  pull_state S1 is = absurd (let no : IsEarly d S1 = rw is at g.early.early in no)
-  pull_state S2 is = absurd (let no : IsEarly d S2 = rw is at g.early.early in no)
-  pull_state S3 is = pull_none
-  pull_state S4 is = pull_none
-  pull_state S5 is = pull_none
-  pull_state S6 is = pull_none
+  state_pulls : (m : FopMode) → w.ground_node.fop.state ≡ m → Pulls (pull_in w.ground_node.fop m)
+  state_pulls S1 is = absurd (let no : IsEarly d S1 = rw is at g.early.early in no)
+  state_pulls S2 is = absurd (let no : IsEarly d S2 = rw is at g.early.early in no)
+  state_pulls S3 is = pull_none
+  state_pulls S4 is = pull_none
+  state_pulls S5 is = pull_none
+  state_pulls S6 is = pull_none
 
-  pull_bypass : (us : List SegmentView) → w.ground_node.fop.bypass ≡ us → Pulls (pulled_bypass w.ground_node.fop us)
-  pull_bypass [] is = pull_state w.ground_node.fop.state refl
-  pull_bypass (u ∷ us) is =
+  bypass_pulls : (us : List SegmentView) → w.ground_node.fop.bypass ≡ us → Pulls (pull_bypass w.ground_node.fop us)
+  bypass_pulls [] is = state_pulls w.ground_node.fop.state refl
+  bypass_pulls (u ∷ us) is =
       let fit : AllByRecursion FitsFrame (u ∷ us) = rw is at k.bypass_fits in
       sends (Bd u) (record w.ground_node.fop { bypass = us }) refl refl refl refl refl g.early.command_is fit.0 (up_push_bypass d base u true g.frames [] g.early.up_is)
 
-  pull_control : (control : Control) → ControlFits d base control → Pulls (pulled_control w.ground_node.fop control)
-  pull_control Idle fits = pull_bypass w.ground_node.fop.bypass refl
-  pull_control (Sent command) fits = pull_bypass w.ground_node.fop.bypass refl
-  pull_control (Due command) fits = sends (Bc command) (record (restarted w.ground_node.fop) { control = Sent command }) refl refl refl refl refl fits tt (up_push_control d base command g.frames fits g.early.up_is)
+  control_pulls : (control : Control) → ControlFits d base control → Pulls (pull_control w.ground_node.fop control)
+  control_pulls Idle fits = bypass_pulls w.ground_node.fop.bypass refl
+  control_pulls (Sent command) fits = bypass_pulls w.ground_node.fop.bypass refl
+  control_pulls (Due command) fits = sends (Bc command) (record (after_restart w.ground_node.fop) { control = Sent command }) refl refl refl refl refl fits tt (up_push_control d base command g.frames fits g.early.up_is)
 
-  pub early_send : Pulls (pulled w.ground_node.fop)
-  early_send = pull_control w.ground_node.fop.control g.early.command_is
+  pub early_send : Pulls (pull_step w.ground_node.fop)
+  early_send = control_pulls w.ground_node.fop.control g.early.command_is

@@ -12,9 +12,9 @@ use Rattle.cop1.specs.declared.fop.Directive.{Directive}
 use Rattle.cop1.specs.declared.fop.Directive.TheVariants.{InitWithCheck}
 use Rattle.cop1.specs.declared.fop.FopMode.{FopMode}
 use Rattle.cop1.specs.declared.fop.FopMode.TheVariants.{S1, S2, S3, S4, S5, S6}
-use Rattle.cop1.specs.FopReport.{locks, waits, asks, report_in, confirms as confirms_by}
+use Rattle.cop1.specs.FopReport.{locks, waits, asks, report_in, confirms}
 use Rattle.cop1.specs.FopState.{FopState}
-use Rattle.cop1.specs.FopWords.{FopOutcome as Outcome, after_alert as given_up, alerts, goes_on}
+use Rattle.cop1.specs.FopWords.{FopOutcome, after_alert, alerts, goes_on}
 use Rattle.tm_link.specs.declared.fault.TmFault.{TmFault}
 use Rattle.tm_link.specs.Extraction.{Extracted, extract_step}
 use Rattle.tm_link.specs.Layout as telemetry
@@ -22,13 +22,13 @@ use Rattle.tm_link.specs.Reading as telemetry_reading
 use Rattle.tc_link.specs.declared.config.Config.{Config}
 use Rattle.tc_link.specs.declared.heard.Heard.{Heard}
 use Rattle.tc_link.specs.Ground.{GroundState, GroundOutcome, is_closed, unsent_segments, with_fop, after_extraction}
-use Rattle.tc_link.specs.World.{World, confirms, is_initialising, down_deliver_step, down_lose_step, down_damage_outcome, down_damage_step, session_after_report}
+use Rattle.tc_link.specs.World.{World, is_confirmation, is_initialising, down_deliver_step, down_lose_step, down_damage_outcome, down_damage_step, session_after_report}
 use Rattle.tc_link.proofs.Early.{WouldConfirm, Good, AllGood, Lasts, IsEarly, ControlFits, HoldsEarly, HeldEarly, AllSame, Begun, held_early_again, last_good, Confirmed, confirmed}
 use Rattle.tc_link.proofs.LateTelemetry.{used_is}
 use Rattle.tc_link.proofs.Linked.{Steady, units_of_all, Reporting}
 use Rattle.tc_link.proofs.Settled.{settled_keeps, queued_as}
 
-confirms_not : (d : Directive) (old new : FopMode) → IsEarly d new → confirms old new ≡ false
+confirms_not : (d : Directive) (old new : FopMode) → IsEarly d new → is_confirmation old new ≡ false
 confirms_not d old S1 early = elim early [ ]
 confirms_not d old S2 early = elim early [ ]
 confirms_not d old S3 early = elim early [ ]
@@ -36,7 +36,7 @@ confirms_not d old S4 early = refl
 confirms_not d old S5 early = refl
 confirms_not d old S6 early = refl
 
-confirms_now : (was : Bool) (old new : FopMode) → new ≡ S1 → is_initialising old ≡ true → was || confirms old new ≡ true
+confirms_now : (was : Bool) (old new : FopMode) → new ≡ S1 → is_initialising old ≡ true → was || is_confirmation old new ≡ true
 confirms_now true old new is waits_for = refl
 confirms_now false old new is waits_for = rw is waits_for
 
@@ -50,7 +50,7 @@ module _ (c : Config) (d : Directive) (base : ℕ) (w : World) (k : Steady c w) 
   acked_same = omega (arith, g.early.nn_octet, g.early.acked_none)
 
   module _ (x : Extracted) (r : Clcw) (bs : List (List ℕ)) (rs : List Clcw) (rest : Reporting c bs rs) (on_good : Good base r → AllGood base rs (WouldConfirm base w.spacecraft)) (lasts_rest : Lasts base rs (WouldConfirm base w.spacecraft)) (same_rest : d ≡ InitWithCheck → AllSame rs w.spacecraft.farm.lockout w.spacecraft.farm.retransmit w.spacecraft.farm.vr) where
-    abbrev Hears : Outcome SegmentView (Option Alert) → Type 0
+    abbrev Hears : FopOutcome SegmentView (Option Alert) → Type 0
     Hears o = Begun c d base (with_heard (with_fop (after_extraction w.ground_node x) o.after) bs) ⊎ Confirmed c d base (with_heard (with_fop (after_extraction w.ground_node x) o.after) bs)
 
     -- the sender stays early
@@ -61,11 +61,11 @@ module _ (c : Config) (d : Directive) (base : ℕ) (w : World) (k : Steady c w) 
         let held : HeldEarly (is_closed f.state) base f.vs f.nn f.sent (option_to_list waiting ++ pending) units = held_early_again (is_closed f.state) base f.vs f.nn f.sent (option_to_list f.waiting ++ w.ground_node.pending) (option_to_list waiting ++ pending) units on held_f in
         let nn_octet : f.nn < 256 = omega (arith, nn, l.nn_octet) in
         let acked_none : w.session.acknowledged + ahead_by f.nn w.ground_node.fop.nn ≡ 0 = rw nn acked_same in
-        let confirmed_not : w.session.confirmed || confirms w.ground_node.fop.state f.state ≡ false = rw (l.confirmed_not, confirms_not d w.ground_node.fop.state f.state early) refl in
+        let confirmed_not : w.session.confirmed || is_confirmation w.ground_node.fop.state f.state ≡ false = rw (l.confirmed_not, confirms_not d w.ground_node.fop.state f.state early) refl in
         record { frames = g.frames; reports = rs; early = assumption (rest, lasts_rest, same_rest, held, early, nn_octet, command_is, acked_none, confirmed_not, l) })
 
     goes_off : (alert : Alert) → Hears (alerts w.ground_node.fop alert)
-    goes_off alert = inl (stays (given_up w.ground_node.fop) tt refl tt tt)
+    goes_off alert = inl (stays (after_alert w.ground_node.fop) tt refl tt tt)
 
     goes_on_early : Hears (goes_on w.ground_node.fop)
     goes_on_early = inl (stays w.ground_node.fop g.early.early refl g.early.command_is g.early.held)
@@ -81,7 +81,7 @@ module _ (c : Config) (d : Directive) (base : ℕ) (w : World) (k : Steady c w) 
     goes_late f on waits_for state vs nn sent waiting good = inr (settled_keeps (λ t. Confirmed c d base (with_heard t bs)) (record (after_extraction w.ground_node x) { fop = f }) (λ wait pending so off.
         let was = held_on on in
         let all = last_good base rs (WouldConfirm base w.spacecraft) (on_good good) in
-        record { exact = (all.3 ∙ sym was.vs_is ∙ sym vs, nn ∙ was.nn_is ∙ sym was.vs_is ∙ sym vs); late = confirmed c d base w g on bs rs rest (on_good good) (queued_as (record (after_extraction w.ground_node x) { fop = f }) wait pending) state vs nn sent (so (rw state refl) ∙ ap (λ o. option_to_list o ++ w.ground_node.pending) waiting) (w.session.confirmed || confirms w.ground_node.fop.state f.state) (confirms_now w.session.confirmed w.ground_node.fop.state f.state state waits_for) (w.session.acknowledged + ahead_by f.nn w.ground_node.fop.nn) (rw nn acked_same) }))
+        record { exact = (all.3 ∙ sym was.vs_is ∙ sym vs, nn ∙ was.nn_is ∙ sym was.vs_is ∙ sym vs); late = confirmed c d base w g on bs rs rest (on_good good) (queued_as (record (after_extraction w.ground_node x) { fop = f }) wait pending) state vs nn sent (so (rw state refl) ∙ ap (λ o. option_to_list o ++ w.ground_node.pending) waiting) (w.session.confirmed || is_confirmation w.ground_node.fop.state f.state) (confirms_now w.session.confirmed w.ground_node.fop.state f.state state waits_for) (w.session.acknowledged + ahead_by f.nn w.ground_node.fop.nn) (rw nn acked_same) }))
 
     hears_in : (m : FopMode) → w.ground_node.fop.state ≡ m → Hears (report_in w.ground_node.fop r m)
     hears_in S1 is = absurd (let no : IsEarly d S1 = rw is at g.early.early in no)
@@ -99,7 +99,7 @@ module _ (c : Config) (d : Directive) (base : ℕ) (w : World) (k : Steady c w) 
     hears_in S5 is =
         let s = w.ground_node.fop in
         let on : is_closed s.state ≡ false = rw is refl in
-        cond_both (confirms_by s r) (goes_on (record s { state = S1; ticks = None; control = Idle })) (goes_on s) (λ o. Hears o)
+        cond_both (confirms s r) (goes_on (record s { state = S1; ticks = None; control = Idle })) (goes_on s) (λ o. Hears o)
         (λ t.
         let p = and_parts (not (locks r) && not (waits r) && not (asks r)) (r.value == s.vs) t in
         let q = and_parts (not (locks r) && not (waits r)) (not (asks r)) p.0 in

@@ -13,8 +13,8 @@ use Rattle.cop1.specs.declared.fop.Directive.{Directive}
 use Rattle.cop1.specs.declared.fop.Directive.TheVariants.{InitWithoutCheck, InitWithCheck, InitUnlock, InitSetVr, Terminate, SetVs, SetWindow, SetLimit, SetTimer}
 use Rattle.cop1.specs.declared.fop.FopMode.{FopMode}
 use Rattle.cop1.specs.declared.fop.FopMode.TheVariants.{S1, S2, S3, S4, S5, S6}
-use Rattle.cop1.specs.FopDirective.{from_S6, directive_step as directed_fop}
-use Rattle.cop1.specs.FopPull.{pull_step as pulled_fop}
+use Rattle.cop1.specs.FopDirective.{from_S6, directive_step}
+use Rattle.cop1.specs.FopPull.{pull_step}
 use Rattle.cop1.specs.FopState.{FopState}
 use Rattle.tm_link.specs.declared.fault.TmFault.{TmFault}
 use Rattle.tm_link.specs.Layout as telemetry
@@ -102,7 +102,7 @@ module _ (w : World) where
   opened_refused d next S5 on = refl
   opened_refused d next S6 on = absurd cc
 
-  opened_init : (d : Directive) → is_initiation d ≡ true → is_closed w.ground_node.fop.state ≡ false → (session_after_directive w d (directive_outcome w.ground_node (directed_fop w.ground_node.fop d)).answer).opening ≡ w.session.opening
+  opened_init : (d : Directive) → is_initiation d ≡ true → is_closed w.ground_node.fop.state ≡ false → (session_after_directive w d (directive_outcome w.ground_node (directive_step w.ground_node.fop d)).answer).opening ≡ w.session.opening
   opened_init InitWithoutCheck is on = opened_refused InitWithoutCheck _ w.ground_node.fop.state on
   opened_init InitWithCheck is on = opened_refused InitWithCheck _ w.ground_node.fop.state on
   opened_init InitUnlock is on = opened_refused InitUnlock _ w.ground_node.fop.state on
@@ -113,17 +113,17 @@ module _ (w : World) where
   opened_init (SetLimit x) is on = absurd cc
   opened_init (SetTimer x) is on = absurd cc
 
-  opened_directive : (d : Directive) → (is_initiation d ≡ true → is_closed w.ground_node.fop.state ≡ false) → (session_after_directive w d (directive_outcome w.ground_node (directed_fop w.ground_node.fop d)).answer).opening ≡ w.session.opening
+  opened_directive : (d : Directive) → (is_initiation d ≡ true → is_closed w.ground_node.fop.state ≡ false) → (session_after_directive w d (directive_outcome w.ground_node (directive_step w.ground_node.fop d)).answer).opening ≡ w.session.opening
   opened_directive d goes = elim (cases_Bool (is_initiation d)) [
     | inl is ↦ opened_init d is (goes is)
-    | inr other ↦ opened_other d (directive_outcome w.ground_node (directed_fop w.ground_node.fop d)).answer other
+    | inr other ↦ opened_other d (directive_outcome w.ground_node (directive_step w.ground_node.fop d)).answer other
   ]
 
   pub opening_stays : (e : Event) → Continues w e → (world_step w e).after.session.opening ≡ w.session.opening
   opening_stays (events.Submit m octets) goes = refl
   opening_stays (events.Bypass m octets) goes = refl
   opening_stays (events.Directive d) goes = opened_directive d goes
-  opening_stays events.Send goes = opened_pull (with_fop w.ground_node (pulled_fop w.ground_node.fop).after) (frame_to_send w.ground_node.config (pulled_fop w.ground_node.fop).answer)
+  opening_stays events.Send goes = opened_pull (with_fop w.ground_node (pull_step w.ground_node.fop).after) (frame_to_send w.ground_node.config (pull_step w.ground_node.fop).answer)
   opening_stays events.UpDeliver goes = (opened_up w.up).0
   opening_stays events.UpLose goes = (opened_up w.up).1
   opening_stays (events.UpDamage octets) goes = opened_damaged w.up octets.now

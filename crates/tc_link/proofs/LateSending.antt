@@ -13,8 +13,8 @@ use Rattle.cop1.specs.declared.fop.Directive.{Directive}
 use Rattle.cop1.specs.declared.fop.FopMode.{FopMode}
 use Rattle.cop1.specs.declared.fop.FopMode.TheVariants.{S1, S2, S3, S4, S5, S6}
 use Rattle.cop1.specs.FopNext.{units_of}
-use Rattle.cop1.specs.FopPull.{PulledUnit, NothingPulled, BypassPulled, SequencePulled, pulls, pull_step as pulled, pull_control as pulled_control, pull_bypass as pulled_bypass, pull_in as pulled_in, pull_marked as pulled_marked, pull_waiting as pulled_waiting, oldest_marked, without_oldest_mark, sent_first}
-use Rattle.cop1.specs.FopWords.{FopOutcome as Outcome, after_restart as restarted, unmarked}
+use Rattle.cop1.specs.FopPull.{PulledUnit, NothingPulled, BypassPulled, SequencePulled, pulls, pull_step, pull_control, pull_bypass, pull_in, pull_marked, pull_waiting, oldest_marked, without_oldest_mark, after_send_first}
+use Rattle.cop1.specs.FopWords.{FopOutcome, after_restart, unmarked_unit}
 use Rattle.tc_link.specs.declared.config.Config.{Config}
 use Rattle.tc_link.specs.OwnedFields.{FitsFrame}
 use Rattle.tc_link.specs.Ground.{is_closed, unsent_segments, with_fop, frame_of, frame_to_send}
@@ -29,7 +29,7 @@ use Rattle.tc_link.proofs.Settled.{same_keeps, late_settled}
 use Rattle.tc_link.proofs.Spelled.{Goes, reads_back, fits_at}
 
 module _ (c : Config) (d : Directive) (base : ℕ) (w : World) (k : Steady c w) (g : Late c d base w) where
-  abbrev Leaves : Outcome SegmentView (PulledUnit SegmentView) → Type 0
+  abbrev Leaves : FopOutcome SegmentView (PulledUnit SegmentView) → Type 0
   Leaves o = Late c d base (world_after_pull w (with_fop w.ground_node o.after) (frame_to_send w.ground_node.config o.answer)).after
 
   none_keeps : Leaves (pulls w.ground_node.fop NothingPulled)
@@ -62,7 +62,7 @@ module _ (c : Config) (d : Directive) (base : ℕ) (w : World) (k : Steady c w) 
     holds = let held : Held false base w.ground_node.fop.vs w.ground_node.fop.nn w.ground_node.fop.sent (unsent_segments w.ground_node) g.plain.a g.plain.n g.plain.units = rw on at g.linked.held in held
 
     -- a unit is sent for the first time
-    first_keeps : (u : SegmentView) → w.ground_node.fop.waiting ≡ Some u → nat_lt (ahead_by w.ground_node.fop.vs w.ground_node.fop.nn) w.ground_node.fop.window ≡ true → Leaves (pulls (sent_first w.ground_node.fop u) (SequencePulled w.ground_node.fop.vs u))
+    first_keeps : (u : SegmentView) → w.ground_node.fop.waiting ≡ Some u → nat_lt (ahead_by w.ground_node.fop.vs w.ground_node.fop.nn) w.ground_node.fop.window ≡ true → Leaves (pulls (after_send_first w.ground_node.fop u) (SequencePulled w.ground_node.fop.vs u))
     first_keeps u is room =
         let p = g.plain in
         let l = g.linked in
@@ -76,16 +76,16 @@ module _ (c : Config) (d : Directive) (base : ℕ) (w : World) (k : Steady c w) 
         let r_n : p.r ≤ p.n + 1 = omega arith in
         let vs_is : (s.vs + 1) % 256 ≡ (base + (p.n + 1)) % 256 = omega (arith, was.vs_is) in
         let a_most : p.a ≤ length (take p.n p.units) = omega (arith, length-take-le p.n p.units l.n_most) in
-        let queue : units_of (s.sent ++ unmarked u ∷ []) ≡ drop p.a (take (p.n + 1) p.units) = units-push s.sent u ∙ ap (λ xs. xs ++ u ∷ []) was.sent_is ∙ sym (ap (drop p.a) (take_next p.units p.n u unit_is) ∙ drop-append-le p.a (take p.n p.units) (u ∷ []) a_most) in
+        let queue : units_of (s.sent ++ unmarked_unit u ∷ []) ≡ drop p.a (take (p.n + 1) p.units) = units-push s.sent u ∙ ap (λ xs. xs ++ u ∷ []) was.sent_is ∙ sym (ap (drop p.a) (take_next p.units p.n u unit_is) ∙ drop-append-le p.a (take p.n p.units) (u ∷ []) a_most) in
         let left : w.ground_node.pending ≡ drop (p.n + 1) p.units = sym (drop_cons_rest p.units p.n u w.ground_node.pending (sym rest)) in
-        let held : Held (is_closed s.state) base ((s.vs + 1) % 256) s.nn (s.sent ++ unmarked u ∷ []) w.ground_node.pending p.a (p.n + 1) p.units = rw on (record { vs_is = vs_is; nn_is = was.nn_is; sent_is = queue; rest_is = left }) in
+        let held : Held (is_closed s.state) base ((s.vs + 1) % 256) s.nn (s.sent ++ unmarked_unit u ∷ []) w.ground_node.pending p.a (p.n + 1) p.units = rw on (record { vs_is = vs_is; nn_is = was.nn_is; sent_is = queue; rest_is = left }) in
         let frame : BodyView = Ad s.vs u in
         let up : Carries c (w.up ++ spelling On (frame_of w.ground_node.config frame) ∷ []) (g.frames ++ frame ∷ []) = carries frame (fits_at p.units p.n u l.units_fit unit_is) in
         let up_is : UpIs d base g.front (g.frames ++ frame ∷ []) (p.up ++ (p.n, u) ∷ []) = up_push d base s.vs p.n u g.front g.frames p.up was.vs_is l.up_is in
         let fits : Fits (c.width / 2) (p.n + 1) p.units p.r (p.up ++ (p.n, u) ∷ []) = fits_push (c.width / 2) (p.n + 1) p.n u p.units p.r p.up (omega arith) (omega (arith, k.ranges.width)) (omega arith) unit_is (fits_further (c.width / 2) p.n (p.n + 1) p.units p.r p.up (omega arith) l.fits) in
         let field : first_sent s.vs frame ≡ segment_octets u ∷ [] = rw (eq-eqb s.vs s.vs refl) refl in
         let sent_is : w.session.sent ++ first_sent s.vs frame ≡ map segment_octets (take (p.n + 1) p.units) = ap (λ xs. w.session.sent ++ xs) field ∙ ap (λ xs. xs ++ segment_octets u ∷ []) l.sent_is ∙ sym (ap (map segment_octets) (take_next p.units p.n u unit_is) ∙ map-append segment_octets (take p.n p.units) (u ∷ [])) in
-        late_settled c d base (record w { ground_node = record w.ground_node { fop = sent_first s u }; up = w.up ++ spelling On (frame_of w.ground_node.config frame) ∷ []; session = record w.session { sent = w.session.sent ++ first_sent s.vs frame } }) (record {
+        late_settled c d base (record w { ground_node = record w.ground_node { fop = after_send_first s u }; up = w.up ++ spelling On (frame_of w.ground_node.config frame) ∷ []; session = record w.session { sent = w.session.sent ++ first_sent s.vs frame } }) (record {
           plain = record p { n = p.n + 1; up = p.up ++ (p.n, u) ∷ [] };
           ran = more g.ran (puts_next unit_is);
           front = g.front;
@@ -95,12 +95,12 @@ module _ (c : Config) (d : Directive) (base : ℕ) (w : World) (k : Steady c w) 
           calm = λ checked. let m = g.calm checked in let rank_most : 2 * p.r + bit w.spacecraft.farm.retransmit ≤ 2 * (p.n + 1) = omega (arith, m.rank_most) in assumption (rank_most, m);
         })
 
-    waiting_keeps : (o : Option SegmentView) → w.ground_node.fop.waiting ≡ o → Leaves (pulled_waiting w.ground_node.fop o)
+    waiting_keeps : (o : Option SegmentView) → w.ground_node.fop.waiting ≡ o → Leaves (pull_waiting w.ground_node.fop o)
     waiting_keeps None is = none_keeps
     waiting_keeps (Some u) is =
-        cond_both (nat_lt (ahead_by w.ground_node.fop.vs w.ground_node.fop.nn) w.ground_node.fop.window) (pulls (sent_first w.ground_node.fop u) (SequencePulled w.ground_node.fop.vs u)) (pulls w.ground_node.fop NothingPulled) (λ o. Leaves o) (λ t. first_keeps u is t) (λ t. none_keeps)
+        cond_both (nat_lt (ahead_by w.ground_node.fop.vs w.ground_node.fop.nn) w.ground_node.fop.window) (pulls (after_send_first w.ground_node.fop u) (SequencePulled w.ground_node.fop.vs u)) (pulls w.ground_node.fop NothingPulled) (λ o. Leaves o) (λ t. first_keeps u is t) (λ t. none_keeps)
 
-    marked_keeps : (o : Option (ℕ × SegmentView)) → oldest_marked 0 w.ground_node.fop.sent ≡ o → Leaves (pulled_marked w.ground_node.fop o)
+    marked_keeps : (o : Option (ℕ × SegmentView)) → oldest_marked 0 w.ground_node.fop.sent ≡ o → Leaves (pull_marked w.ground_node.fop o)
     marked_keeps None is = waiting_keeps w.ground_node.fop.waiting refl
     marked_keeps (Some x) is =
         let p = g.plain in
@@ -121,7 +121,7 @@ module _ (c : Config) (d : Directive) (base : ℕ) (w : World) (k : Steady c w) 
         let other : ((s.nn + x.0) % 256 == s.vs) ≡ false = ne_eqb ((s.nn + x.0) % 256) s.vs (λ e. omega (arith, number_is, was.vs_is, below, l.n_a, k.ranges.width)) in
         let field : first_sent s.vs frame ≡ [] = rw other refl in
         let sent_is : w.session.sent ++ first_sent s.vs frame ≡ map segment_octets (take p.n p.units) = ap (λ xs. w.session.sent ++ xs) field ∙ append-nil w.session.sent ∙ l.sent_is in
-        late_settled c d base (record w { ground_node = record w.ground_node { fop = record (restarted s) { sent = without_oldest_mark s.sent } }; up = w.up ++ spelling On (frame_of w.ground_node.config frame) ∷ []; session = record w.session { sent = w.session.sent ++ first_sent s.vs frame } }) (record {
+        late_settled c d base (record w { ground_node = record w.ground_node { fop = record (after_restart s) { sent = without_oldest_mark s.sent } }; up = w.up ++ spelling On (frame_of w.ground_node.config frame) ∷ []; session = record w.session { sent = w.session.sent ++ first_sent s.vs frame } }) (record {
           plain = record p { up = p.up ++ (p.a + x.0, x.1) ∷ [] };
           ran = more g.ran (puts_again (omega arith) below unit_is);
           front = g.front;
@@ -131,7 +131,7 @@ module _ (c : Config) (d : Directive) (base : ℕ) (w : World) (k : Steady c w) 
           calm = λ checked. let m = g.calm checked in assumption m;
         })
 
-  state_keeps : (m : FopMode) → w.ground_node.fop.state ≡ m → Leaves (pulled_in w.ground_node.fop m)
+  state_keeps : (m : FopMode) → w.ground_node.fop.state ≡ m → Leaves (pull_in w.ground_node.fop m)
   state_keeps S1 is = marked_keeps (rw is refl) (oldest_marked 0 w.ground_node.fop.sent) refl
   state_keeps S2 is = marked_keeps (rw is refl) (oldest_marked 0 w.ground_node.fop.sent) refl
   state_keeps S3 is = none_keeps
@@ -139,7 +139,7 @@ module _ (c : Config) (d : Directive) (base : ℕ) (w : World) (k : Steady c w) 
   state_keeps S5 is = none_keeps
   state_keeps S6 is = none_keeps
 
-  queue_keeps : (us : List SegmentView) → w.ground_node.fop.bypass ≡ us → Leaves (pulled_bypass w.ground_node.fop us)
+  queue_keeps : (us : List SegmentView) → w.ground_node.fop.bypass ≡ us → Leaves (pull_bypass w.ground_node.fop us)
   queue_keeps [] is = state_keeps w.ground_node.fop.state refl
   queue_keeps (u ∷ us) is = bypass_keeps u us is
 
@@ -151,5 +151,5 @@ module _ (c : Config) (d : Directive) (base : ℕ) (w : World) (k : Steady c w) 
   idle S5 late is = elim late [ ]
   idle S6 late is = is
 
-  pub late_send : Leaves (pulled w.ground_node.fop)
-  late_send = subst (λ control. Leaves (pulled_control w.ground_node.fop control)) (sym (idle w.ground_node.fop.state g.linked.late k.commanded)) (queue_keeps w.ground_node.fop.bypass refl)
+  pub late_send : Leaves (pull_step w.ground_node.fop)
+  late_send = subst (λ control. Leaves (pull_control w.ground_node.fop control)) (sym (idle w.ground_node.fop.state g.linked.late k.commanded)) (queue_keeps w.ground_node.fop.bypass refl)

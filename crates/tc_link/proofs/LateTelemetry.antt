@@ -10,9 +10,9 @@ use Rattle.cop1.specs.declared.fop.Alert.{Alert}
 use Rattle.cop1.specs.declared.fop.Directive.{Directive}
 use Rattle.cop1.specs.declared.fop.FopMode.{FopMode}
 use Rattle.cop1.specs.declared.fop.FopMode.TheVariants.{S1, S2, S3, S4, S5, S6}
-use Rattle.cop1.specs.FopReport.{locks, waits, asks, clcw_step as heard_by, report_in}
+use Rattle.cop1.specs.FopReport.{locks, waits, asks, clcw_step, report_in}
 use Rattle.cop1.specs.FopState.{FopState}
-use Rattle.cop1.specs.FopWords.{FopOutcome as Outcome}
+use Rattle.cop1.specs.FopWords.{FopOutcome}
 use Rattle.cop1.specs.Report.{report_of}
 use Rattle.tm_link.specs.declared.fault.TmFault.{TmFault}
 use Rattle.tm_link.specs.Extraction.{Extracted, extract_step}
@@ -25,7 +25,7 @@ use Rattle.tc_link.specs.declared.heard.Heard.TheVariants.{Frame}
 use Rattle.tc_link.specs.declared.heard.HeardReport.TheVariants.{Used}
 use Rattle.tc_link.specs.Spacecraft.{spacecraft_step, Report, spacecraft_report}
 use Rattle.tc_link.specs.Ground.{GroundState, GroundOutcome, is_closed, unsent_segments, with_fop, after_extraction, ground_telemetry, telemetry_outcome, own_frame_outcome}
-use Rattle.tc_link.specs.World.{World, confirms, session_after_report, world_after_report, down_deliver_step, down_lose_step, down_damage_outcome, down_damage_step}
+use Rattle.tc_link.specs.World.{World, is_confirmation, session_after_report, world_after_report, down_deliver_step, down_lose_step, down_damage_outcome, down_damage_step}
 use Rattle.tc_link.specs.PlainLink.{more, reports as tells, loses_down, hears, ignores, PlainRun, new_link}
 use Rattle.tc_link.specs.Confirmation.{IsChecked}
 use Rattle.tc_link.proofs.Reports as rules
@@ -40,8 +40,8 @@ use Rattle.tc_link.proofs.Words.{locks_is, waits_is, asks_is}
 
 abbrev pub used : GroundState → Extracted → Clcw → GroundOutcome Heard
 used s x report = record {
-  answer = Frame x.gap (length x.packets) Used (heard_by s.fop report).answer;
-  after = with_fop (after_extraction s x) (heard_by s.fop report).after;
+  answer = Frame x.gap (length x.packets) Used (clcw_step s.fop report).answer;
+  after = with_fop (after_extraction s x) (clcw_step s.fop report).after;
 }
 
 pub used_is : (c : Config) (s : GroundState) (octets : List ℕ) (report : Clcw) → s.config ≡ c → (t : Tells c octets report) → ground_telemetry s octets ≡ used s (extract_step s.extractor t.frame) report
@@ -93,7 +93,7 @@ module _ (base h : ℕ) (checked : Type 0) (s : FopState SegmentView) (a n : ℕ
       let nn_is = was.nn_is in
       assumption (vs_is, nn_is, k)
 
-  held_after : (off : Bool) (gone : ℕ) (o : Outcome SegmentView (Option Alert)) (pending : List SegmentView) (m : ℕ) (us : List SegmentView) → o.after.vs ≡ s.vs → o.after.nn ≡ (base + (a + gone)) % 256 → HeldBy off s gone o
+  held_after : (off : Bool) (gone : ℕ) (o : FopOutcome SegmentView (Option Alert)) (pending : List SegmentView) (m : ℕ) (us : List SegmentView) → o.after.vs ≡ s.vs → o.after.nn ≡ (base + (a + gone)) % 256 → HeldBy off s gone o
       → Held false base s.vs s.nn s.sent (option_to_list s.waiting ++ pending) a m us → Held off base o.after.vs o.after.nn o.after.sent (option_to_list o.after.waiting ++ pending) (a + gone) m us
   held_after true gone o pending m us vs nn by was = tt
   held_after false gone o pending m us vs nn by was = record {
@@ -103,7 +103,7 @@ module _ (base h : ℕ) (checked : Type 0) (s : FopState SegmentView) (a n : ℕ
     rest_is = rw by.1 was.rest_is;
   }
 
-  running : (o : Outcome SegmentView (Option Alert)) → is_closed s.state ≡ false → Led base checked s a c v o → Going base checked s a c v o.after
+  running : (o : FopOutcome SegmentView (Option Alert)) → is_closed s.state ≡ false → Led base checked s a c v o → Going base checked s a c v o.after
   running o on led =
       let to = led.2 in
       let most : led.0 ≤ 127 = elim led.1 [ inl e ↦ omega (arith, e) | inr e ↦ omega (arith, e, k.high, k.n_a, k.half_most) ] in (
@@ -156,7 +156,7 @@ module _ (c : Config) (d : Directive) (base : ℕ) (w : World) (k : Steady c w) 
       let held_new : Held (is_closed f.state) base f.vs f.nn f.sent (option_to_list f.waiting ++ w.ground_node.pending) a p.n p.units = to.held w.ground_node.pending p.n p.units l.held in
       let held : Held (is_closed f.state) base f.vs f.nn f.sent (option_to_list waiting ++ pending) a p.n p.units = held_again (is_closed f.state) base f.vs f.nn f.sent (option_to_list f.waiting ++ w.ground_node.pending) (option_to_list waiting ++ pending) a p.n p.units on held_new in
       let acked_is : w.session.acknowledged + ahead_by f.nn w.ground_node.fop.nn ≡ a = omega (arith, to.nn_is, l.acked_is) in
-      let confirmed_is : IsChecked d → w.session.confirmed || confirms w.ground_node.fop.state f.state ≡ true = λ t. rw (l.confirmed_is t) refl in
+      let confirmed_is : IsChecked d → w.session.confirmed || is_confirmation w.ground_node.fop.state f.state ≡ true = λ t. rw (l.confirmed_is t) refl in
       let a_r : a ≤ p.r = omega arith in
       let n_a : p.n ≤ a + c.width / 2 = omega (arith, l.n_a) in
       let rises : Rises a vs p.r = rises_lower v a p.r vs most rises_on in
@@ -209,7 +209,7 @@ module _ (c : Config) (d : Directive) (base : ℕ) (w : World) (k : Steady c w) 
       let x : Extracted = extract_step w.ground_node.extractor rest.0.frame in
       let goes = goes_in base (c.width / 2) (IsChecked d) w.ground_node.fop p.a p.n p.units (unsent_segments w.ground_node) r v (coming r rs v vs down_is up ranks) w.ground_node.fop.state refl in
       subst (λ (o : GroundOutcome Heard). Late c d base (with_heard o.after bs)) (sym (used_is c w.ground_node b r k.ground_config rest.0))
-      (heard_keeps x bs rs v vs (2 * v + bit (asks r)) (heard_by w.ground_node.fop r).after goes.0 also rest.1 down_is.1 up.0 up.1 (λ t. (ranks t).3) goes.1)
+      (heard_keeps x bs rs v vs (2 * v + bit (asks r)) (clcw_step w.ground_node.fop r).after goes.0 also rest.1 down_is.1 up.0 up.1 (λ t. (ranks t).3) goes.1)
 
   lose_keeps : (bs : List (List ℕ)) (rs : List Clcw) (vs : List ℕ) → g.plain.down ≡ vs → Reporting c bs rs → DownIs base rs vs → Rises g.plain.a vs g.plain.r → (IsChecked d → Ranks (2 * g.plain.a + asked w.ground_node.fop.state) rs vs (2 * g.plain.r + bit w.spacecraft.farm.retransmit))
       → Late c d base (down_lose_step w bs).after

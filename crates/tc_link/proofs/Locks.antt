@@ -14,8 +14,8 @@ use Rattle.cop1.specs.declared.fop.Alert.{Alert}
 use Rattle.cop1.specs.declared.fop.Directive.{Directive}
 use Rattle.cop1.specs.FarmRuns.{FlagsAgree}
 use Rattle.cop1.specs.Farm.{state_of, FarmState, after_unlock, after_set_vr, after_release, farm_step, BufferReleased}
-use Rattle.cop1.specs.FopDirective.{directive_step as directed_fop}
-use Rattle.cop1.specs.FopPull.{pull_step as pulled_fop}
+use Rattle.cop1.specs.FopDirective.{directive_step}
+use Rattle.cop1.specs.FopPull.{pull_step}
 use Rattle.tm_link.specs.Building.{is_to_send}
 use Rattle.tm_link.specs.declared.fault.TmFault.{TmFault}
 use Rattle.tm_link.specs.Layout as telemetry
@@ -133,7 +133,7 @@ module _ (c : Config) (d : Directive) (base : ℕ) (w : World) (k : Steady c w) 
   not_locked checked s (events.Submit m octets) is = is
   not_locked checked s (events.Bypass m octets) is = is
   not_locked checked s (events.Directive e) is = is
-  not_locked checked s events.Send is = ap (λ f. f.lockout) (pull_same w (with_fop w.ground_node (pulled_fop w.ground_node.fop).after) (frame_to_send w.ground_node.config (pulled_fop w.ground_node.fop).answer)) ∙ is
+  not_locked checked s events.Send is = ap (λ f. f.lockout) (pull_same w (with_fop w.ground_node (pull_step w.ground_node.fop).after) (frame_to_send w.ground_node.config (pull_step w.ground_node.fop).answer)) ∙ is
   not_locked checked s events.UpDeliver is = up_unlocked checked s is
   not_locked checked s events.UpLose is = ap (λ f. f.lockout) (lost_same w w.up) ∙ is
   not_locked checked s (events.UpDamage octets) is = ap (λ f. f.lockout) (damaged_same w w.up octets.now) ∙ is
@@ -161,7 +161,7 @@ module _ (c : Config) (d : Directive) (base : ℕ) (w : World) (k : Steady c w) 
   exactly : (g : Begun c d base w) (e : Event) → w.session.confirmed ≡ false → (world_step w e).after.session.confirmed ≡ true → ((world_step w e).after.spacecraft.farm.vr ≡ (world_step w e).after.ground_node.fop.vs) × ((world_step w e).after.ground_node.fop.nn ≡ (world_step w e).after.ground_node.fop.vs)
   exactly g (events.Submit m octets) not_yet now = absurd cc
   exactly g (events.Bypass m octets) not_yet now = absurd cc
-  exactly g (events.Directive e) not_yet now = absurd (cc (confirmed_by e (directive_outcome w.ground_node (directed_fop w.ground_node.fop e)).answer not_yet, now))
+  exactly g (events.Directive e) not_yet now = absurd (cc (confirmed_by e (directive_outcome w.ground_node (directive_step w.ground_node.fop e)).answer not_yet, now))
   exactly g events.Send not_yet now = absurd (cc ((early_send c d base w k g).early.confirmed_not, now))
   exactly g events.UpDeliver not_yet now = absurd (cc ((early_up_deliver c d base w k g).early.confirmed_not, now))
   exactly g events.UpLose not_yet now = absurd (cc ((early_up_lose c d base w k g).early.confirmed_not, now))

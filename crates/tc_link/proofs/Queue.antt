@@ -4,10 +4,10 @@ use Rattle.std.specs.Prelude.{slice_get}
 use Rattle.cop1.specs.FopState.{SentUnit}
 use Rattle.cop1.specs.FopNext.{units_of}
 use Rattle.cop1.specs.FopPull.{oldest_marked, without_oldest_mark}
-use Rattle.cop1.specs.FopWords.{marked, unmarked}
+use Rattle.cop1.specs.FopWords.{marked_unit, unmarked_unit}
 
 module _ {U : Type 0} where
-  pub units-marked : (xs : List (SentUnit U)) → units_of (map marked xs) ≡ units_of xs
+  pub units-marked : (xs : List (SentUnit U)) → units_of (map marked_unit xs) ≡ units_of xs
   units-marked [] = refl
   units-marked (x ∷ xs) = ap (λ l. x.unit ∷ l) (units-marked xs)
 
@@ -16,7 +16,7 @@ module _ {U : Type 0} where
   units-drop (suc k) [] = refl
   units-drop (suc k) (x ∷ xs) = units-drop k xs
 
-  pub units-push : (xs : List (SentUnit U)) (u : U) → units_of (xs ++ unmarked u ∷ []) ≡ units_of xs ++ u ∷ []
+  pub units-push : (xs : List (SentUnit U)) (u : U) → units_of (xs ++ unmarked_unit u ∷ []) ≡ units_of xs ++ u ∷ []
   units-push [] u = refl
   units-push (x ∷ xs) u = ap (λ l. x.unit ∷ l) (units-push xs u)
 

@@ -11,8 +11,8 @@ use Rattle.cop1.specs.declared.fop.Alert.{Alert}
 use Rattle.cop1.specs.declared.fop.Alert.TheVariants.{Lockout, NnR, Clcw as ClcwAlert, Synch, Limit, Timer, Terminated}
 use Rattle.cop1.specs.FopState.{FopState}
 use Rattle.cop1.specs.FopNext.{units_of}
-use Rattle.cop1.specs.FopReport.{locks, waits, asks, report_while_active, nothing_new, after_move_on as moved_on, goes_back, retransmits, ask_for_all, goes_back_again, after_new_value as counting_from}
-use Rattle.cop1.specs.FopWords.{FopOutcome as Outcome, is_outside, after_acknowledge as acknowledged, after_repeat as repeated, alerts, goes_on, after_gone}
+use Rattle.cop1.specs.FopReport.{locks, waits, asks, report_while_active, nothing_new, after_move_on, goes_back, retransmits, ask_for_all, goes_back_again, after_new_value}
+use Rattle.cop1.specs.FopWords.{FopOutcome, is_outside, after_acknowledge, after_repeat, alerts, goes_on, after_gone}
 use Rattle.tc_link.specs.Ground.{is_closed}
 use Rattle.tc_link.proofs.Queue.{units-marked, units-drop}
 use Rattle.tc_link.proofs.Transit.{bit}
@@ -54,12 +54,12 @@ IsAllowed asking limit (Some Timer) = ⊥
 IsAllowed asking limit (Some Terminated) = ⊥
 
 -- what is kept of the queues, where the sender is off and where it is on
-abbrev pub HeldBy : {A : Type 0} → Bool → FopState SegmentView → ℕ → Outcome SegmentView A → Type 0
+abbrev pub HeldBy : {A : Type 0} → Bool → FopState SegmentView → ℕ → FopOutcome SegmentView A → Type 0
 HeldBy true s gone o = (o.after.sent ≡ []) × (o.after.waiting ≡ None)
 HeldBy false s gone o = (units_of o.after.sent ≡ drop gone (units_of s.sent)) × (o.after.waiting ≡ s.waiting)
 
 -- where an outcome leads, which acknowledges `gone` units
-pub record Leads (base : ℕ) (checked : Type 0) (s : FopState SegmentView) (asking : Bool) (rank a gone : ℕ) (o : Outcome SegmentView (Option Alert)) : Type 0 where
+pub record Leads (base : ℕ) (checked : Type 0) (s : FopState SegmentView) (asking : Bool) (rank a gone : ℕ) (o : FopOutcome SegmentView (Option Alert)) : Type 0 where
   pub vs_is : o.after.vs ≡ s.vs
   pub nn_is : o.after.nn ≡ (base + (a + gone)) % 256
   pub late : IsLate o.after.state
@@ -81,7 +81,7 @@ pub record Heard (base h : ℕ) (checked : Type 0) (s : FopState SegmentView) (a
   pub rank_low : checked → 2 * a + asked s.state ≤ 2 * v + bit (asks c)
   pub rank_high : checked → 2 * v + bit (asks c) ≤ 2 * n
 
-abbrev pub Led : ℕ → Type 0 → FopState SegmentView → ℕ → Clcw → ℕ → Outcome SegmentView (Option Alert) → Type 0
+abbrev pub Led : ℕ → Type 0 → FopState SegmentView → ℕ → Clcw → ℕ → FopOutcome SegmentView (Option Alert) → Type 0
 Led base checked s a c v o = (gone : ℕ) × ((gone ≡ 0) ⊎ (a + gone ≡ v)) × Leads base checked s (asks c) (2 * v + bit (asks c)) a gone o
 
 module _ (base h : ℕ) (checked : Type 0) (s : FopState SegmentView) (a n : ℕ) (c : Clcw) (v : ℕ) (k : Heard base h checked s a n c v) where
@@ -124,8 +124,8 @@ module _ (base h : ℕ) (checked : Type 0) (s : FopState SegmentView) (a n : ℕ
   again_led : asks c ≡ true → Led base checked s a c v (goes_on (retransmits s (nat_lt s.count s.limit)))
   again_led asking =
       let rank_is : checked → 2 * a + 1 ≤ 2 * v + bit (asks c) = λ t. rw asking (omega (arith, k.low)) in
-      cond_both (nat_lt s.count s.limit) (repeated s) s (λ (f : FopState SegmentView). Led base checked s a c v (goes_on (record f { state = S2 })))
-      (λ t. same_led (record (repeated s) { state = S2 }) refl refl tt refl (units-marked s.sent) refl rank_is)
+      cond_both (nat_lt s.count s.limit) (after_repeat s) s (λ (f : FopState SegmentView). Led base checked s a c v (goes_on (record f { state = S2 })))
+      (λ t. same_led (record (after_repeat s) { state = S2 }) refl refl tt refl (units-marked s.sent) refl rank_is)
       (λ t. same_led (record s { state = S2 }) refl refl tt refl refl refl rank_is)
 
   back_again_led : (m : FopMode) → s.state ≡ m → IsRunning m → asks c ≡ true → Led base checked s a c v (goes_on (goes_back_again s m))
@@ -154,7 +154,7 @@ module _ (base h : ℕ) (checked : Type 0) (s : FopState SegmentView) (a n : ℕ
     },
   )
 
-  gone_alert_led : asks c ≡ true → s.limit ≡ 1 → Led base checked s a c v (after_gone (ahead_by c.value s.nn) (alerts (counting_from s c.value) Limit))
+  gone_alert_led : asks c ≡ true → s.limit ≡ 1 → Led base checked s a c v (after_gone (ahead_by c.value s.nn) (alerts (after_new_value s c.value) Limit))
   gone_alert_led asking one = (
     ahead_by c.value s.nn,
     inr gone_is,
@@ -168,13 +168,13 @@ module _ (base h : ℕ) (checked : Type 0) (s : FopState SegmentView) (a n : ℕ
     },
   )
 
-  back_led : asks c ≡ true → Led base checked s a c v (after_gone (ahead_by c.value s.nn) (goes_back (counting_from s c.value) (waits c)))
+  back_led : asks c ≡ true → Led base checked s a c v (after_gone (ahead_by c.value s.nn) (goes_back (after_new_value s c.value) (waits c)))
   back_led asking =
-      cond_both (s.limit == 1) (alerts (counting_from s c.value) Limit) _ (λ o. Led base checked s a c v (after_gone (ahead_by c.value s.nn) o))
+      cond_both (s.limit == 1) (alerts (after_new_value s c.value) Limit) _ (λ o. Led base checked s a c v (after_gone (ahead_by c.value s.nn) o))
       (λ t. gone_alert_led asking (eqb-true _ _ t))
-      (λ f. cond_both (waits c) (goes_on (record (counting_from s c.value) { state = S3 })) _ (λ o. Led base checked s a c v (after_gone (ahead_by c.value s.nn) o))
-      (λ t. gone_led (record (counting_from s c.value) { state = S3 }) refl refl tt refl refl refl (rw asking (omega arith)))
-      (λ f. gone_led (record (repeated (counting_from s c.value)) { state = S2 }) refl refl tt refl (units-marked (drop (ahead_by c.value s.nn) s.sent)) refl (rw asking (omega arith))))
+      (λ f. cond_both (waits c) (goes_on (record (after_new_value s c.value) { state = S3 })) _ (λ o. Led base checked s a c v (after_gone (ahead_by c.value s.nn) o))
+      (λ t. gone_led (record (after_new_value s c.value) { state = S3 }) refl refl tt refl refl refl (rw asking (omega arith)))
+      (λ f. gone_led (record (after_repeat (after_new_value s c.value)) { state = S2 }) refl refl tt refl (units-marked (drop (ahead_by c.value s.nn) s.sent)) refl (rw asking (omega arith))))
 
   same_again_led : IsRunning s.state → asks c ≡ true → Led base checked s a c v (ask_for_all s (waits c))
   same_again_led runs asking =
@@ -186,7 +186,7 @@ module _ (base h : ℕ) (checked : Type 0) (s : FopState SegmentView) (a n : ℕ
 
   pub active_led : IsRunning s.state → Led base checked s a c v (report_while_active s c)
   active_led runs =
-      let P : Outcome SegmentView (Option Alert) → Type 0 = Led base checked s a c v in
+      let P : FopOutcome SegmentView (Option Alert) → Type 0 = Led base checked s a c v in
       cond_both (locks c) (alerts s Lockout) _ P
       (λ t. alert_led Lockout (λ is. absurd (let no : locks c ≡ false = k.unlocked is in cc)))
       (λ l. cond_both (is_outside s c.value) (alerts s NnR) _ P
@@ -197,8 +197,8 @@ module _ (base h : ℕ) (checked : Type 0) (s : FopState SegmentView) (a n : ℕ
       (λ t. let both = and_parts (asks c) (c.value == s.vs) t in alert_led Synch (λ is. absurd (let most : 2 * v + 1 ≤ 2 * n = rw both.0 at (k.rank_high is) in omega (arith, eqb-true c.value s.vs both.1, k.value_is, k.vs_is, k.low, k.n_a, k.half_most))))
       (λ y. cond_both (not (asks c) && (c.value == s.nn)) (nothing_new s s.state) _ P
       (λ t. let both = and_parts _ _ t in nothing_led s.state refl runs (not-true _ both.0) (eqb-true _ _ both.1))
-      (λ n. cond_both (not (asks c)) (after_gone (ahead_by c.value s.nn) (goes_on (moved_on (acknowledged s c.value)))) _ P
-      (λ t. gone_led (moved_on (acknowledged s c.value)) refl refl tt refl refl refl (omega arith))
+      (λ n. cond_both (not (asks c)) (after_gone (ahead_by c.value s.nn) (goes_on (after_move_on (after_acknowledge s c.value)))) _ P
+      (λ t. gone_led (after_move_on (after_acknowledge s c.value)) refl refl tt refl refl refl (omega arith))
       (λ t. let asking = not-false _ t in
-      cond_both (not (c.value == s.nn)) (after_gone (ahead_by c.value s.nn) (goes_back (counting_from s c.value) (waits c))) _ P
+      cond_both (not (c.value == s.nn)) (after_gone (ahead_by c.value s.nn) (goes_back (after_new_value s c.value) (waits c))) _ P
       (λ t. back_led asking) (λ t. same_again_led runs asking)))))))

@@ -18,11 +18,11 @@ use Rattle.cop1.specs.declared.fop.FopMode.TheVariants.{S1, S2, S3, S4, S5, S6}
 use Rattle.cop1.specs.Farm.{FarmState, FarmEvent, AdArrives, BdArrives, UnlockArrives, SetVrArrives, InvalidArrives, BufferReleased, farm_step, after_verdict, after_unlock, after_set_vr, after_release, verdict_of}
 use Rattle.cop1.specs.FarmRuns.{FlagsAgree}
 use Rattle.cop1.proofs.Agreeing.{FlagsAgree-step}
-use Rattle.cop1.specs.FopPull.{NothingPulled, SequencePulled, pulls, pull_step as pulled_fop, pull_control as pulled_control, pull_bypass as pulled_bypass, pull_in as pulled_in, pull_marked as pulled_marked, pull_waiting as pulled_waiting, oldest_marked, without_oldest_mark, sent_first}
-use Rattle.cop1.specs.FopReport.{locks, waits, asks, clcw_step as heard_by, report_in, report_while_active, report_in_S4, confirms as confirms_by, nothing_new, after_move_on as moved_on, goes_back, retransmits, goes_back_again, after_new_value as counting_from}
+use Rattle.cop1.specs.FopPull.{NothingPulled, SequencePulled, pulls, pull_step, pull_control, pull_bypass, pull_in, pull_marked, pull_waiting, oldest_marked, without_oldest_mark, after_send_first}
+use Rattle.cop1.specs.FopReport.{locks, waits, asks, clcw_step, report_in, report_while_active, report_in_S4, confirms, nothing_new, after_move_on, goes_back, retransmits, goes_back_again, after_new_value}
 use Rattle.cop1.specs.FopState.{FopState}
-use Rattle.cop1.specs.FopTick.{tick_step as ticked_fop, tick_with as ticked_with, timer_ended, after_count as counted, due_again}
-use Rattle.cop1.specs.FopWords.{FopOutcome as Outcome, is_outside, after_acknowledge as acknowledged, after_repeat as repeated, after_alert as given_up, after_stop as stopped, after_restart as restarted, alerts, goes_on, after_gone}
+use Rattle.cop1.specs.FopTick.{tick_step, tick_with, timer_ended, after_count, due_again}
+use Rattle.cop1.specs.FopWords.{FopOutcome, is_outside, after_acknowledge, after_repeat, after_alert, after_stop, after_restart, alerts, goes_on, after_gone}
 use Rattle.tc_link.specs.declared.config.Config.{Config}
 use Rattle.tc_link.specs.OwnedFields.{FitsFrame}
 use Rattle.tc_link.specs.Ground.{GroundState, is_closed, settle_step}
@@ -41,10 +41,10 @@ pub record FopSteady (c : Config) (f : FopState SegmentView) : Type 0 where
   pub bypass_fits : AllByRecursion FitsFrame f.bypass
 
 module _ (c : Config) (s : FopState SegmentView) (k : FopSteady c s) where
-  abbrev Steadily : {A : Type 0} → Outcome SegmentView A → Type 0
+  abbrev Steadily : {A : Type 0} → FopOutcome SegmentView A → Type 0
   Steadily o = FopSteady c o.after
 
-  pub gives_up : (f : FopState SegmentView) → f.room ≡ s.room → f.window ≡ s.window → f.vs ≡ s.vs → f.bypass ≡ s.bypass → FopSteady c (given_up f)
+  pub gives_up : (f : FopState SegmentView) → f.room ≡ s.room → f.window ≡ s.window → f.vs ≡ s.vs → f.bypass ≡ s.bypass → FopSteady c (after_alert f)
   gives_up f room window vs bypass =
       let bypass_fits : AllByRecursion FitsFrame f.bypass = rw bypass k.bypass_fits in
       record { room = room ∙ k.room; window = omega (arith, window, k.window); vs_octet = omega (arith, vs, k.vs_octet); sent_none = λ e. refl; waiting_none = λ e. refl; commanded = refl; bypass_fits = bypass_fits }
@@ -65,7 +65,7 @@ module _ (c : Config) (s : FopState SegmentView) (k : FopSteady c s) where
 
   module _ (r : Clcw) (idle : s.control ≡ Idle) where
     again_so : FopSteady c (retransmits s (nat_lt s.count s.limit))
-    again_so = cond_both (nat_lt s.count s.limit) (repeated s) s (λ (f : FopState SegmentView). FopSteady c (record f { state = S2 })) (λ t. goes_so (record (repeated s) { state = S2 }) refl refl refl refl refl idle) (λ t. goes_so (record s { state = S2 }) refl refl refl refl refl idle)
+    again_so = cond_both (nat_lt s.count s.limit) (after_repeat s) s (λ (f : FopState SegmentView). FopSteady c (record f { state = S2 })) (λ t. goes_so (record (after_repeat s) { state = S2 }) refl refl refl refl refl idle) (λ t. goes_so (record s { state = S2 }) refl refl refl refl refl idle)
 
     back_again_so : (m : FopMode) → FopSteady c (goes_back_again s m)
     back_again_so S1 = again_so
@@ -90,13 +90,13 @@ module _ (c : Config) (s : FopState SegmentView) (k : FopSteady c s) where
         (λ o. cond_both (not (asks r) && waits r) (alerts s alert.Clcw) _ (λ o. Steadily o) (λ t. gives_up s refl refl refl refl)
         (λ w. cond_both (asks r && (r.value == s.vs)) (alerts s alert.Synch) _ (λ o. Steadily o) (λ t. gives_up s refl refl refl refl)
         (λ y. cond_both (not (asks r) && (r.value == s.nn)) (nothing_new s s.state) _ (λ o. Steadily o) (λ t. nothing_so s.state)
-        (λ n. cond_both (not (asks r)) (after_gone (ahead_by r.value s.nn) (goes_on (moved_on (acknowledged s r.value)))) _ (λ o. Steadily o)
-        (λ t. goes_so (moved_on (acknowledged s r.value)) refl refl refl refl refl idle)
-        (λ t. cond_both (not (r.value == s.nn)) (after_gone (ahead_by r.value s.nn) (goes_back (counting_from s r.value) (waits r))) _ (λ o. Steadily o)
-        (λ t. cond_both (s.limit == 1) (alerts (counting_from s r.value) alert.Limit) _ (λ o. Steadily (after_gone (ahead_by r.value s.nn) o)) (λ t. gives_up (counting_from s r.value) refl refl refl refl)
-        (λ f. cond_both (waits r) (goes_on (record (counting_from s r.value) { state = S3 })) _ (λ o. Steadily (after_gone (ahead_by r.value s.nn) o))
-        (λ t. goes_so (record (counting_from s r.value) { state = S3 }) refl refl refl refl refl idle)
-        (λ t. goes_so (record (repeated (counting_from s r.value)) { state = S2 }) refl refl refl refl refl idle)))
+        (λ n. cond_both (not (asks r)) (after_gone (ahead_by r.value s.nn) (goes_on (after_move_on (after_acknowledge s r.value)))) _ (λ o. Steadily o)
+        (λ t. goes_so (after_move_on (after_acknowledge s r.value)) refl refl refl refl refl idle)
+        (λ t. cond_both (not (r.value == s.nn)) (after_gone (ahead_by r.value s.nn) (goes_back (after_new_value s r.value) (waits r))) _ (λ o. Steadily o)
+        (λ t. cond_both (s.limit == 1) (alerts (after_new_value s r.value) alert.Limit) _ (λ o. Steadily (after_gone (ahead_by r.value s.nn) o)) (λ t. gives_up (after_new_value s r.value) refl refl refl refl)
+        (λ f. cond_both (waits r) (goes_on (record (after_new_value s r.value) { state = S3 })) _ (λ o. Steadily (after_gone (ahead_by r.value s.nn) o))
+        (λ t. goes_so (record (after_new_value s r.value) { state = S3 }) refl refl refl refl refl idle)
+        (λ t. goes_so (record (after_repeat (after_new_value s r.value)) { state = S2 }) refl refl refl refl refl idle)))
         (λ t. cond_both (s.limit == 1) (alerts s alert.Limit) _ (λ o. Steadily o) (λ t. gives_up s refl refl refl refl)
         (λ f. cond_both (waits r) (goes_on (record s { state = S3 })) _ (λ o. Steadily o)
         (λ t. goes_so (record s { state = S3 }) refl refl refl refl refl idle)
@@ -115,10 +115,10 @@ module _ (c : Config) (s : FopState SegmentView) (k : FopSteady c s) where
   report_in_so r S2 is idle = active_so r idle
   report_in_so r S3 is idle = active_so r idle
   report_in_so r S4 is idle = in_S4_so r idle
-  report_in_so r S5 is idle = cond_both (confirms_by s r) (goes_on (record s { state = S1; ticks = None; control = Idle })) (goes_on s) (λ o. Steadily o) (λ t. goes_so (record s { state = S1; ticks = None; control = Idle }) refl refl refl refl refl refl) (λ t. k)
+  report_in_so r S5 is idle = cond_both (confirms s r) (goes_on (record s { state = S1; ticks = None; control = Idle })) (goes_on s) (λ o. Steadily o) (λ t. goes_so (record s { state = S1; ticks = None; control = Idle }) refl refl refl refl refl refl) (λ t. k)
   report_in_so r S6 is idle = k
 
-  pub report_so : (r : Clcw) → FopSteady c (heard_by s r).after
+  pub report_so : (r : Clcw) → FopSteady c (clcw_step s r).after
   report_so r = report_in_so r s.state refl k.commanded
 
   -- ---- a tick
@@ -126,19 +126,19 @@ module _ (c : Config) (s : FopState SegmentView) (k : FopSteady c s) where
   due_so : (m : FopMode) → s.state ≡ m → m ≡ S5 → Commanded s.state (due_again s.control)
   due_so m is five = rw (is, five) tt
 
-  timer_so : (m : FopMode) → s.state ≡ m → Steadily (timer_ended (stopped s) m)
-  timer_so S1 is = cond_both (nat_lt s.count s.limit) (goes_on (repeated (stopped s))) _ (λ o. Steadily o) (λ t. goes_same (repeated (stopped s)) refl refl refl refl refl refl (λ e. absurd (let no : false ≡ true = rw is at e in cc)) refl) (λ t. gives_up (stopped s) refl refl refl refl)
-  timer_so S2 is = cond_both (nat_lt s.count s.limit) (goes_on (repeated (stopped s))) _ (λ o. Steadily o) (λ t. goes_same (repeated (stopped s)) refl refl refl refl refl refl (λ e. absurd (let no : false ≡ true = rw is at e in cc)) refl) (λ t. gives_up (stopped s) refl refl refl refl)
-  timer_so S3 is = cond_both (nat_lt s.count s.limit) (goes_on (counted (stopped s))) _ (λ o. Steadily o) (λ t. goes_same (counted (stopped s)) refl refl refl refl refl refl (λ e. refl) refl) (λ t. gives_up (stopped s) refl refl refl refl)
-  timer_so S4 is = gives_up (stopped s) refl refl refl refl
-  timer_so S5 is = cond_both (nat_lt s.count s.limit) (goes_on (record (counted (stopped s)) { control = due_again s.control })) _ (λ o. Steadily o) (λ t. goes_so (record (counted (stopped s)) { control = due_again s.control }) refl refl refl refl (rw is refl) (due_so S5 is refl)) (λ t. gives_up (stopped s) refl refl refl refl)
-  timer_so S6 is = goes_same (stopped s) refl refl refl refl refl refl (λ e. refl) refl
+  timer_so : (m : FopMode) → s.state ≡ m → Steadily (timer_ended (after_stop s) m)
+  timer_so S1 is = cond_both (nat_lt s.count s.limit) (goes_on (after_repeat (after_stop s))) _ (λ o. Steadily o) (λ t. goes_same (after_repeat (after_stop s)) refl refl refl refl refl refl (λ e. absurd (let no : false ≡ true = rw is at e in cc)) refl) (λ t. gives_up (after_stop s) refl refl refl refl)
+  timer_so S2 is = cond_both (nat_lt s.count s.limit) (goes_on (after_repeat (after_stop s))) _ (λ o. Steadily o) (λ t. goes_same (after_repeat (after_stop s)) refl refl refl refl refl refl (λ e. absurd (let no : false ≡ true = rw is at e in cc)) refl) (λ t. gives_up (after_stop s) refl refl refl refl)
+  timer_so S3 is = cond_both (nat_lt s.count s.limit) (goes_on (after_count (after_stop s))) _ (λ o. Steadily o) (λ t. goes_same (after_count (after_stop s)) refl refl refl refl refl refl (λ e. refl) refl) (λ t. gives_up (after_stop s) refl refl refl refl)
+  timer_so S4 is = gives_up (after_stop s) refl refl refl refl
+  timer_so S5 is = cond_both (nat_lt s.count s.limit) (goes_on (record (after_count (after_stop s)) { control = due_again s.control })) _ (λ o. Steadily o) (λ t. goes_so (record (after_count (after_stop s)) { control = due_again s.control }) refl refl refl refl (rw is refl) (due_so S5 is refl)) (λ t. gives_up (after_stop s) refl refl refl refl)
+  timer_so S6 is = goes_same (after_stop s) refl refl refl refl refl refl (λ e. refl) refl
 
-  ticking_so : (ticks : Option ℕ) → Steadily (ticked_with s ticks)
+  ticking_so : (ticks : Option ℕ) → Steadily (tick_with s ticks)
   ticking_so None = k
-  ticking_so (Some left) = cond_both (left == 1) (timer_ended (stopped s) s.state) _ (λ o. Steadily o) (λ t. timer_so s.state refl) (λ t. goes_same (record s { ticks = Some (left - 1) }) refl refl refl refl refl refl (λ e. refl) refl)
+  ticking_so (Some left) = cond_both (left == 1) (timer_ended (after_stop s) s.state) _ (λ o. Steadily o) (λ t. timer_so s.state refl) (λ t. goes_same (record s { ticks = Some (left - 1) }) refl refl refl refl refl refl (λ e. refl) refl)
 
-  pub tick_so : FopSteady c (ticked_fop s).after
+  pub tick_so : FopSteady c (tick_step s).after
   tick_so = ticking_so s.ticks
 
   -- ---- a directive
@@ -150,16 +150,16 @@ module _ (c : Config) (s : FopState SegmentView) (k : FopSteady c s) where
 
   -- ---- a pull
 
-  pull_waiting_so : (m : FopMode) → s.state ≡ m → is_closed m ≡ false → Commanded m s.control → (o : Option SegmentView) → Steadily (pulled_waiting s o)
+  pull_waiting_so : (m : FopMode) → s.state ≡ m → is_closed m ≡ false → Commanded m s.control → (o : Option SegmentView) → Steadily (pull_waiting s o)
   pull_waiting_so m is on commanded None = k
-  pull_waiting_so m is on commanded (Some u) = cond_both (nat_lt (ahead_by s.vs s.nn) s.window) (pulls (sent_first s u) (SequencePulled s.vs u)) (pulls s NothingPulled) (λ o. Steadily o)
+  pull_waiting_so m is on commanded (Some u) = cond_both (nat_lt (ahead_by s.vs s.nn) s.window) (pulls (after_send_first s u) (SequencePulled s.vs u)) (pulls s NothingPulled) (λ o. Steadily o)
       (λ t. record { room = k.room; window = k.window; vs_octet = omega arith; sent_none = λ e. absurd (let no : is_closed m ≡ true = rw is at e in cc (no, on)); waiting_none = λ e. refl; commanded = k.commanded; bypass_fits = k.bypass_fits }) (λ t. k)
 
-  pull_marked_so : (m : FopMode) → s.state ≡ m → is_closed m ≡ false → Commanded m s.control → (o : Option (ℕ × SegmentView)) → Steadily (pulled_marked s o)
+  pull_marked_so : (m : FopMode) → s.state ≡ m → is_closed m ≡ false → Commanded m s.control → (o : Option (ℕ × SegmentView)) → Steadily (pull_marked s o)
   pull_marked_so m is on commanded None = pull_waiting_so m is on commanded s.waiting
-  pull_marked_so m is on commanded (Some x) = goes_same (record (restarted s) { sent = without_oldest_mark s.sent }) refl refl refl refl refl refl (λ e. absurd (let no : is_closed m ≡ true = rw is at e in cc (no, on))) refl
+  pull_marked_so m is on commanded (Some x) = goes_same (record (after_restart s) { sent = without_oldest_mark s.sent }) refl refl refl refl refl refl (λ e. absurd (let no : is_closed m ≡ true = rw is at e in cc (no, on))) refl
 
-  pull_in_so : (m : FopMode) → s.state ≡ m → Commanded m s.control → Steadily (pulled_in s m)
+  pull_in_so : (m : FopMode) → s.state ≡ m → Commanded m s.control → Steadily (pull_in s m)
   pull_in_so S1 is commanded = pull_marked_so S1 is refl commanded (oldest_marked 0 s.sent)
   pull_in_so S2 is commanded = pull_marked_so S2 is refl commanded (oldest_marked 0 s.sent)
   pull_in_so S3 is commanded = k
@@ -167,7 +167,7 @@ module _ (c : Config) (s : FopState SegmentView) (k : FopSteady c s) where
   pull_in_so S5 is commanded = k
   pull_in_so S6 is commanded = k
 
-  pull_bypass_so : (us : List SegmentView) → s.bypass ≡ us → Steadily (pulled_bypass s us)
+  pull_bypass_so : (us : List SegmentView) → s.bypass ≡ us → Steadily (pull_bypass s us)
   pull_bypass_so [] is = pull_in_so s.state refl k.commanded
   pull_bypass_so (u ∷ us) is =
       let fit : AllByRecursion FitsFrame (u ∷ us) = rw is at k.bypass_fits in
@@ -182,14 +182,14 @@ module _ (c : Config) (s : FopState SegmentView) (k : FopSteady c s) where
   sent_so command S5 new is not_idle = tt
   sent_so command S6 new is not_idle = absurd (not_idle is)
 
-  pull_control_so : (control : Control) → s.control ≡ control → Steadily (pulled_control s control)
+  pull_control_so : (control : Control) → s.control ≡ control → Steadily (pull_control s control)
   pull_control_so Idle is = pull_bypass_so s.bypass refl
   pull_control_so (Sent command) is = pull_bypass_so s.bypass refl
   pull_control_so (Due command) is =
       let commanded : Commanded s.state (Sent command) = sent_so s.control s.state (Sent command) k.commanded (λ e. absurd (cc (e, is))) in
       record { room = k.room; window = k.window; vs_octet = k.vs_octet; sent_none = k.sent_none; waiting_none = k.waiting_none; commanded = commanded; bypass_fits = k.bypass_fits }
 
-  pub pull_so : FopSteady c (pulled_fop s).after
+  pub pull_so : FopSteady c (pull_step s).after
   pull_so = pull_control_so s.control refl
 
 -- ---- the ground

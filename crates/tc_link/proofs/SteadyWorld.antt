@@ -24,13 +24,13 @@ use Rattle.cop1.specs.declared.fop.Directive.TheVariants.{InitWithoutCheck, Init
 use Rattle.cop1.specs.declared.fop.FopMode.{FopMode}
 use Rattle.cop1.specs.declared.fop.FopMode.TheVariants.{S1, S2, S3, S4, S5, S6}
 use Rattle.cop1.specs.Farm.{FarmState, AdArrives, BdArrives, BufferReleased, farm_step, verdict_of}
-use Rattle.cop1.specs.FopDirective.{obeys, refuses, from_S6, terminate_in as terminated, after_begin as begun, directive_step as directed_fop}
-use Rattle.cop1.specs.FopPull.{pull_step as pulled_fop}
-use Rattle.cop1.specs.FopReport.{clcw_step as heard_by}
+use Rattle.cop1.specs.FopDirective.{obeys, refuses, from_S6, terminate_in, after_begin, directive_step}
+use Rattle.cop1.specs.FopPull.{pull_step}
+use Rattle.cop1.specs.FopReport.{clcw_step}
 use Rattle.cop1.specs.FopState.{FopState}
-use Rattle.cop1.specs.FopTick.{tick_step as ticked_fop}
-use Rattle.cop1.specs.FopWords.{FopOutcome as Outcome, after_alert as given_up, after_restart as restarted}
-use Rattle.tm_link.specs.Building.{BuilderState, is_to_send, sent, data_size, is_at_rest, room_left, idle_after}
+use Rattle.cop1.specs.FopTick.{tick_step}
+use Rattle.cop1.specs.FopWords.{FopOutcome, after_alert, after_restart}
+use Rattle.tm_link.specs.Building.{BuilderState, is_to_send, after_send, data_size, is_at_rest, room_left, idle_after}
 use Rattle.tm_link.specs.declared.fault.TmFault.{TmFault}
 use Rattle.tm_link.specs.Extraction.{Extracted, extract_step}
 use Rattle.tm_link.specs.Layout as telemetry
@@ -136,7 +136,7 @@ module _ (c : Config) (s : SpacecraftState) (k : SpacecraftSteady c s) where
   reported_so : SpacecraftSteady c (spacecraft_report s).after
   reported_so =
       let b : BuilderState = s.builder in
-      cond_both (is_at_rest b) b (sent b (data_size b)) (λ (t : BuilderState). SpacecraftSteady c (record s { builder = record t { count = (t.count + 1) % 256 } }))
+      cond_both (is_at_rest b) b (after_send b (data_size b)) (λ (t : BuilderState). SpacecraftSteady c (record s { builder = record t { count = (t.count + 1) % 256 } }))
       (λ t. record { config = k.config; farm = k.farm; builder = record { scid = k.builder.scid; vcid = k.builder.vcid; total = k.builder.total }; idle_left = k.idle_left })
       (λ t. record { config = k.config; farm = k.farm; builder = record { scid = k.builder.scid; vcid = k.builder.vcid; total = k.builder.total }; idle_left = idle_so (data_size b) b.idle_left (length b.pending) k.idle_left })
 
@@ -146,7 +146,7 @@ module _ (c : Config) (s : GroundState) (k : GroundNodeSteady c s) where
   with_so : (f : FopState SegmentView) → FopSteady c f → GroundNodeSteady c (with_fop s f)
   with_so f so = settled_so c (record s { fop = f }) k.config so
 
-  abbrev Directed : Outcome SegmentView (Result (Option Alert) CopFault) → Type 0
+  abbrev Directed : FopOutcome SegmentView (Result (Option Alert) CopFault) → Type 0
   Directed o = GroundNodeSteady c (directive_outcome s o).after
 
   from_so : (next : FopState SegmentView) → (s.fop.state ≡ S6 → FopSteady c next) → (m : FopMode) → s.fop.state ≡ m → Directed (from_S6 s.fop m next)
@@ -157,12 +157,12 @@ module _ (c : Config) (s : GroundState) (k : GroundNodeSteady c s) where
   from_so next so S5 is = k
   from_so next so S6 is = with_so next (so is)
 
-  terminated_so : (m : FopMode) → Directed (terminated s.fop m)
-  terminated_so S1 = with_so (given_up s.fop) (gives_up c s.fop k.fop s.fop refl refl refl refl)
-  terminated_so S2 = with_so (given_up s.fop) (gives_up c s.fop k.fop s.fop refl refl refl refl)
-  terminated_so S3 = with_so (given_up s.fop) (gives_up c s.fop k.fop s.fop refl refl refl refl)
-  terminated_so S4 = with_so (given_up s.fop) (gives_up c s.fop k.fop s.fop refl refl refl refl)
-  terminated_so S5 = with_so (given_up s.fop) (gives_up c s.fop k.fop s.fop refl refl refl refl)
+  terminated_so : (m : FopMode) → Directed (terminate_in s.fop m)
+  terminated_so S1 = with_so (after_alert s.fop) (gives_up c s.fop k.fop s.fop refl refl refl refl)
+  terminated_so S2 = with_so (after_alert s.fop) (gives_up c s.fop k.fop s.fop refl refl refl refl)
+  terminated_so S3 = with_so (after_alert s.fop) (gives_up c s.fop k.fop s.fop refl refl refl refl)
+  terminated_so S4 = with_so (after_alert s.fop) (gives_up c s.fop k.fop s.fop refl refl refl refl)
+  terminated_so S5 = with_so (after_alert s.fop) (gives_up c s.fop k.fop s.fop refl refl refl refl)
   terminated_so S6 = k
 
   idle_off : s.fop.state ≡ S6 → s.fop.control ≡ Idle
@@ -174,11 +174,11 @@ module _ (c : Config) (s : GroundState) (k : GroundNodeSteady c s) where
   set_window_so : (n : ℕ) → ((n == 0) || nat_lt s.fop.room n) ≡ false → FopSteady c (record s.fop { window = n })
   set_window_so n small = let f = k.fop in let most : n ≤ s.fop.room = ltb-false s.fop.room n (or_parts (n == 0) (nat_lt s.fop.room n) small).1 in record { room = f.room; window = omega (arith, most, f.room); vs_octet = f.vs_octet; sent_none = f.sent_none; waiting_none = f.waiting_none; commanded = f.commanded; bypass_fits = f.bypass_fits }
 
-  directive_so : (d : Directive) → IsDirective d → Directed (directed_fop s.fop d)
-  directive_so InitWithoutCheck fits = from_so (record (begun s.fop) { nn = s.fop.vs; state = S1 }) (λ is. off_so c s.fop k.fop (record (begun s.fop) { nn = s.fop.vs; state = S1 }) is refl refl k.fop.vs_octet refl refl (idle_off is)) s.fop.state refl
-  directive_so InitWithCheck fits = from_so (record (restarted (begun s.fop)) { nn = s.fop.vs; state = S4 }) (λ is. off_so c s.fop k.fop (record (restarted (begun s.fop)) { nn = s.fop.vs; state = S4 }) is refl refl k.fop.vs_octet refl refl (idle_off is)) s.fop.state refl
-  directive_so InitUnlock fits = from_so (record (begun s.fop) { nn = s.fop.vs; control = Due Unlock; state = S5 }) (λ is. off_so c s.fop k.fop (record (begun s.fop) { nn = s.fop.vs; control = Due Unlock; state = S5 }) is refl refl k.fop.vs_octet refl refl tt) s.fop.state refl
-  directive_so (InitSetVr x) fits = from_so (record (begun s.fop) { vs = x; nn = x; control = Due (SetVr x); state = S5 }) (λ is. off_so c s.fop k.fop (record (begun s.fop) { vs = x; nn = x; control = Due (SetVr x); state = S5 }) is refl refl fits refl refl tt) s.fop.state refl
+  directive_so : (d : Directive) → IsDirective d → Directed (directive_step s.fop d)
+  directive_so InitWithoutCheck fits = from_so (record (after_begin s.fop) { nn = s.fop.vs; state = S1 }) (λ is. off_so c s.fop k.fop (record (after_begin s.fop) { nn = s.fop.vs; state = S1 }) is refl refl k.fop.vs_octet refl refl (idle_off is)) s.fop.state refl
+  directive_so InitWithCheck fits = from_so (record (after_restart (after_begin s.fop)) { nn = s.fop.vs; state = S4 }) (λ is. off_so c s.fop k.fop (record (after_restart (after_begin s.fop)) { nn = s.fop.vs; state = S4 }) is refl refl k.fop.vs_octet refl refl (idle_off is)) s.fop.state refl
+  directive_so InitUnlock fits = from_so (record (after_begin s.fop) { nn = s.fop.vs; control = Due Unlock; state = S5 }) (λ is. off_so c s.fop k.fop (record (after_begin s.fop) { nn = s.fop.vs; control = Due Unlock; state = S5 }) is refl refl k.fop.vs_octet refl refl tt) s.fop.state refl
+  directive_so (InitSetVr x) fits = from_so (record (after_begin s.fop) { vs = x; nn = x; control = Due (SetVr x); state = S5 }) (λ is. off_so c s.fop k.fop (record (after_begin s.fop) { vs = x; nn = x; control = Due (SetVr x); state = S5 }) is refl refl fits refl refl tt) s.fop.state refl
   directive_so Terminate fits = terminated_so s.fop.state
   directive_so (SetVs x) fits = from_so (record s.fop { vs = x; nn = x }) (λ is. set_vs_so x fits) s.fop.state refl
   directive_so (SetWindow n) fits = cond_both ((n == 0) || nat_lt s.fop.room n) (refuses s.fop faults.Window) (obeys (record s.fop { window = n })) (λ o. Directed o) (λ t. k) (λ t. with_so (record s.fop { window = n }) (set_window_so n t))
@@ -203,7 +203,7 @@ module _ (c : Config) (s : GroundState) (k : GroundNodeSteady c s) where
   word_so : (x : Extracted) (r : Result Clcw ClcwFault) → GroundNodeSteady c (own_frame_outcome s x r).after
   word_so x (Err fault) = extracted_so x
   word_so x (Ok report) = cond_both (report.vcid == s.config.vcid) _ _ (λ (o : ground.GroundOutcome Heard). GroundNodeSteady c o.after)
-      (λ t. settled_so c (record (after_extraction s x) { fop = (heard_by s.fop report).after }) k.config (report_so c s.fop k.fop report)) (λ t. extracted_so x)
+      (λ t. settled_so c (record (after_extraction s x) { fop = (clcw_step s.fop report).after }) k.config (report_so c s.fop k.fop report)) (λ t. extracted_so x)
 
   telemetry_so : (r : Result telemetry.FrameView TmFault) → GroundNodeSteady c (telemetry_outcome s r).after
   telemetry_so (Err fault) = k
@@ -272,8 +272,8 @@ module _ (c : Config) (w : World) (k : Sound c w) where
   pub step_sound : (e : Event) → IsEvent e → Sound c (world_step w e).after
   step_sound (events.Submit m octets) fits = record { ranges = k.ranges; ground_node = submitted_so c w.ground_node k.ground_node m octets.now (submit_fault w.ground_node m octets.now); spacecraft = k.spacecraft; before = k.before }
   step_sound (events.Bypass m octets) fits = ground_so (unless_refused (bypass_fault w.ground_node m octets.now) w.ground_node (after_bypass w.ground_node m octets.now)).after (bypassed_so c w.ground_node k.ground_node k.ranges m octets.now (bypass_fault w.ground_node m octets.now) refl)
-  step_sound (events.Directive d) fits = record { ranges = k.ranges; ground_node = directive_so c w.ground_node k.ground_node d fits; spacecraft = k.spacecraft; before = session_so d (directive_outcome w.ground_node (directed_fop w.ground_node.fop d)).answer }
-  step_sound events.Send fits = pulled_so (with_fop w.ground_node (pulled_fop w.ground_node.fop).after) (with_so c w.ground_node k.ground_node (pulled_fop w.ground_node.fop).after (pull_so c w.ground_node.fop k.ground_node.fop)) (frame_to_send w.ground_node.config (pulled_fop w.ground_node.fop).answer)
+  step_sound (events.Directive d) fits = record { ranges = k.ranges; ground_node = directive_so c w.ground_node k.ground_node d fits; spacecraft = k.spacecraft; before = session_so d (directive_outcome w.ground_node (directive_step w.ground_node.fop d)).answer }
+  step_sound events.Send fits = pulled_so (with_fop w.ground_node (pull_step w.ground_node.fop).after) (with_so c w.ground_node k.ground_node (pull_step w.ground_node.fop).after (pull_so c w.ground_node.fop k.ground_node.fop)) (frame_to_send w.ground_node.config (pull_step w.ground_node.fop).answer)
   step_sound events.UpDeliver fits = delivered_so w.up
   step_sound events.UpLose fits = lost_so w.up
   step_sound (events.UpDamage octets) fits = damaged_so w.up octets.now
@@ -281,7 +281,7 @@ module _ (c : Config) (w : World) (k : Sound c w) where
   step_sound events.DownDeliver fits = heard_so w.down
   step_sound events.DownLose fits = down_lost_so w.down
   step_sound (events.DownDamage octets) fits = down_damaged_so w.down octets.now
-  step_sound events.Tick fits = ground_so (with_fop w.ground_node (ticked_fop w.ground_node.fop).after) (with_so c w.ground_node k.ground_node (ticked_fop w.ground_node.fop).after (tick_so c w.ground_node.fop k.ground_node.fop))
+  step_sound events.Tick fits = ground_so (with_fop w.ground_node (tick_step w.ground_node.fop).after) (with_so c w.ground_node k.ground_node (tick_step w.ground_node.fop).after (tick_so c w.ground_node.fop k.ground_node.fop))
   step_sound events.Take fits = spacecraft_so (spacecraft_take w.spacecraft w.spacecraft.ready).after (taken_so c w.spacecraft k.spacecraft w.spacecraft.ready) (taken_accepted w.spacecraft.ready)
   step_sound events.TakeBypass fits = spacecraft_so (spacecraft_take_bypass w.spacecraft w.spacecraft.bypass).after (bypass_taken_so c w.spacecraft k.spacecraft w.spacecraft.bypass) (bypass_accepted w.spacecraft.bypass)
   step_sound (events.Telemetry octets) fits = spacecraft_so (spacecraft_telemetry w.spacecraft octets.now).after (queued_so c w.spacecraft k.spacecraft octets.now) (queued_accepted octets.now)

@@ -16,7 +16,7 @@ use Rattle.cop1.specs.declared.fop.Directive.{Directive}
 use Rattle.cop1.specs.FopState.{FopState, initial}
 use Rattle.cop1.specs.FopPull.{PulledUnit, NothingPulled, ControlPulled, BypassPulled, SequencePulled}
 use Rattle.cop1.specs.FopStep as sender
-use Rattle.cop1.specs.FopWords.{FopOutcome as Outcome}
+use Rattle.cop1.specs.FopWords.{FopOutcome}
 use Rattle.tm_link.specs.declared.fault.TmFault.{TmFault}
 use Rattle.tm_link.specs.Layout as telemetry
 use Rattle.tm_link.specs.Reading.{frame_at}
@@ -144,7 +144,7 @@ after_bypass s m octets =
 -- ---- directives and ticks
 
 -- what the sender answers, and the ground after it
-abbrev pub sender_outcome : {A : Type 0} → GroundState → Outcome SegmentView A → GroundOutcome A
+abbrev pub sender_outcome : {A : Type 0} → GroundState → FopOutcome SegmentView A → GroundOutcome A
 sender_outcome s outcome = record { answer = outcome.answer; after = with_fop s outcome.after }
 
 -- a directive that is refused changes nothing
@@ -153,7 +153,7 @@ abbrev pub after_directive : GroundState → Result (Option Alert) CopFault → 
 after_directive s (Ok alert) fop = with_fop s fop
 after_directive s (Err fault) fop = s
 
-abbrev pub directive_outcome : GroundState → Outcome SegmentView (Result (Option Alert) CopFault)
+abbrev pub directive_outcome : GroundState → FopOutcome SegmentView (Result (Option Alert) CopFault)
     → GroundOutcome (Result (Option Alert) CopFault)
 directive_outcome s outcome = record {
   answer = outcome.answer;

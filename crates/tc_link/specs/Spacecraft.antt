@@ -9,15 +9,15 @@ use Rattle.tc_frame.specs.declared.fault.TcFault.{TcFault}
 use Rattle.tc_frame.specs.Layout.{SegmentView, BodyView, Ad, Bd, Bc, FrameView}
 use Rattle.tc_frame.specs.Reading.{frame_at}
 use Rattle.map_service.specs.Assembly.{open_part}
-use Rattle.map_service.specs.Taking.{Outcome, take_step}
+use Rattle.map_service.specs.Taking.{TakeOutcome, take_step}
 use Rattle.cop1.specs.declared.farm.Verdict.{Verdict}
 use Rattle.cop1.specs.declared.farm.Verdict.TheVariants.{Accepted, Ahead, NoBuffer, Behind, Outside, Discarded}
-use Rattle.cop1.specs.Farm.{FarmState, FarmEvent, AdArrives, BdArrives, UnlockArrives, SetVrArrives, BufferReleased, farm_step, opened, verdict_of}
+use Rattle.cop1.specs.Farm.{FarmState, FarmEvent, AdArrives, BdArrives, UnlockArrives, SetVrArrives, BufferReleased, farm_step, new_farm, verdict_of}
 use Rattle.cop1.specs.Report.{report_of}
 use Rattle.tm_link.specs.declared.fault.TmFault.{TmFault}
 use Rattle.tm_link.specs.declared.fault.TmFault.TheVariants.{NotAPacket}
 use Rattle.tm_link.specs.Layout as telemetry
-use Rattle.tm_link.specs.Building.{BuilderState, new_builder, is_to_send, queued, build_step}
+use Rattle.tm_link.specs.Building.{BuilderState, new_builder, is_to_send, after_queue, build_step}
 use Rattle.tc_link.specs.declared.config.Config.{Config}
 use Rattle.tc_link.specs.declared.received.Received.{Received}
 use Rattle.tc_link.specs.declared.received.Received.TheVariants.{Invalid, Foreign, Sequence, Bypass, Control}
@@ -47,7 +47,7 @@ pub record SpacecraftOutcome (A : Type 0) : Type 0 where
 abbrev pub new_spacecraft : Config → SpacecraftState
 new_spacecraft c = record {
   config = c;
-  farm = opened c.width 0;
+  farm = new_farm c.width 0;
   accepted = [];
   ready = [];
   bypass = [];
@@ -73,7 +73,7 @@ is_accepted Outside = false
 is_accepted Discarded = false
 
 -- what a segment more does behind those that were accepted (CCSDS 232.0-B-4, 4.1.3.2)
-abbrev pub assemble_step : SpacecraftState → SegmentView → Outcome
+abbrev pub assemble_step : SpacecraftState → SegmentView → TakeOutcome
 assemble_step s segment =
     take_step (limits_of s.config) (open_part (limits_of s.config) segment.header.map s.accepted)
     segment
@@ -177,7 +177,7 @@ abbrev pub spacecraft_telemetry : SpacecraftState → List ℕ
 spacecraft_telemetry s packet =
     if is_to_send packet then record {
       answer = Ok tt;
-      after = record s { builder = queued s.builder packet };
+      after = record s { builder = after_queue s.builder packet };
     }
     else record { answer = Err NotAPacket; after = s }
 

@@ -177,13 +177,13 @@ is_initialising S5 = true
 is_initialising S6 = false
 
 -- a report takes the ground from S4 or S5 to S1
-abbrev pub confirms : FopMode → FopMode → Bool
-confirms old S1 = is_initialising old
-confirms old S2 = false
-confirms old S3 = false
-confirms old S4 = false
-confirms old S5 = false
-confirms old S6 = false
+abbrev pub is_confirmation : FopMode → FopMode → Bool
+is_confirmation old S1 = is_initialising old
+is_confirmation old S2 = false
+is_confirmation old S3 = false
+is_confirmation old S4 = false
+is_confirmation old S5 = false
+is_confirmation old S6 = false
 
 -- ---- events
 
@@ -281,7 +281,7 @@ world_after_report w o =
 
 abbrev pub session_after_report : Session → GroundState → GroundState → Session
 session_after_report s old new = record s {
-  confirmed = s.confirmed || confirms old.fop.state new.fop.state;
+  confirmed = s.confirmed || is_confirmation old.fop.state new.fop.state;
   acknowledged = s.acknowledged + ahead_by new.fop.nn old.fop.nn;
 }
 

@@ -103,17 +103,7 @@ impl Ground {
     pub fn outstanding(&self) -> usize
         ensures { result ≡ length (outstanding self.now) }
     {
-        usize::from(self.unacknowledged()) + usize::from(self.fop.waiting()) + self.pending.len()
-    }
-
-    // How many segments are sent and not acknowledged: those numbered from NN(R) to V(S) - 1.
-    fn unacknowledged(&self) -> u8
-        ensures { result ≡ length self.now.fop.sent }
-    {
-        match self.fop.state() {
-            FopMode::S6 => 0,
-            _ => self.fop.vs().wrapping_sub(self.fop.nn()),
-        }
+        self.fop.sent() + usize::from(self.fop.waiting()) + self.pending.len()
     }
 
     /// Follows a directive; the alert is that of `Terminate`. The faults are those of the sender: 2

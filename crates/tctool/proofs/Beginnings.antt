@@ -14,21 +14,6 @@ begins_more a b t u whole e h = (
 pub begins_same : (a b t whole : List ℕ) → whole ≡ t → IsBeginning a (b ++ t) → IsBeginning a (b ++ whole)
 begins_same a b t whole e h = (h.0, ap (λ (x : List ℕ). b ++ x) e ∙ h.1)
 
--- a text that is written so far, of a whole
-pub begun : (before now t u whole : List ℕ) → now ≡ before ++ t → whole ≡ t ++ u → IsBeginning now (before ++ whole)
-begun before now t u whole e h = (u, ap (λ (x : List ℕ). before ++ x) h ∙ sym (append_assoc before t u) ∙ ap (λ (x : List ℕ). x ++ u) (sym e))
-
--- what begins the end of a text begins it with what is written before
-pub begins_behind : (before now new t u whole : List ℕ) → now ≡ before ++ t → whole ≡ t ++ u → IsBeginning new (now ++ u) → IsBeginning new (before ++ whole)
-begins_behind before now new t u whole e h b = (
-  b.0,
-  ap (λ (x : List ℕ). before ++ x) h ∙ sym (append_assoc before t u) ∙ ap (λ (x : List ℕ). x ++ u) (sym e) ∙ b.1,
-)
-
--- a text that is written to its end
-pub ended_behind : (before now new t u whole : List ℕ) → now ≡ before ++ t → whole ≡ t ++ u → new ≡ now ++ u → new ≡ before ++ whole
-ended_behind before now new t u whole e h b = b ∙ ap (λ (x : List ℕ). x ++ u) e ∙ append_assoc before t u ∙ ap (λ (x : List ℕ). before ++ x) (sym h)
-
 -- what a device has given, with what one more read gave
 pub gained_more : (a b c t : List ℕ) → b ≡ a ++ gained a b → c ≡ b ++ t → gained a c ≡ gained a b ++ t
 gained_more a b c t e h =

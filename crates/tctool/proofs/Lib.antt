@@ -1,4 +1,5 @@
 pub mod GivenWords
 pub mod Listed
+pub mod Pieces
 pub mod Beginnings
 pub mod ToldPackets

@@ -6,7 +6,7 @@ use Rattle.tc_frame.specs.declared.frame.Check.{Check}
 use Rattle.tc_frame.specs.declared.fault.TcFault.{TcFault}
 use Rattle.tc_frame.specs.Layout.{SegmentView, FrameView}
 use Rattle.tc_frame.specs.Reading.{frame_at}
-use Rattle.cop1.specs.Farm.{FarmState, opened}
+use Rattle.cop1.specs.Farm.{FarmState, new_farm}
 use Rattle.map_service.specs.Assembly.{assembled, is_open}
 use Rattle.map_service.specs.Exactness.{AssemblerState, step_at, after_step, HasPartsOf, IsTakenExactly}
 use Rattle.map_service.proofs.Places.{no_parts}
@@ -67,7 +67,7 @@ module _ (check : Check) (m : ℕ) where
 
   -- and so from the first frame on
   pub told_of_all : (width vr : ℕ) (blocking : Bool) (records : List (List ℕ))
-      → told_on check m (map_opened width vr blocking) records ≡ assembled (map_limits blocking) m (accepted_in check (opened width vr) records)
+      → told_on check m (map_opened width vr blocking) records ≡ assembled (map_limits blocking) m (accepted_in check (new_farm width vr) records)
   told_of_all width vr blocking records =
       let nothing : Option (List ℕ) = None in
       let x : MapState = map_opened width vr blocking in

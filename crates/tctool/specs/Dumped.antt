@@ -1,53 +1,57 @@
--- The lines that each command writes for the octets of a file.
-use Rattle.std.specs.Prelude.{ℕ, List}
-use Rattle.octets.specs.Records.{rest_of}
+-- What the commands write of the octets of a file: the table of commands, and what it says of lines, outcome and end.
+use Rattle.std.specs.Prelude.{List, ℕ}
 use Rattle.tc_frame.specs.declared.frame.Check.TheVariants.{On}
-use Rattle.tc_frame.specs.declared.fault.TcFault.TheVariants.{Short}
-use Rattle.tc_frame.specs.Splitting.{total_at}
-use Rattle.space_packet.specs.declared.fault.PacketFault.TheVariants.{Truncated}
-use Rattle.space_packet.specs.Reading.{extent_at}
-use Rattle.cop1.specs.Farm.{opened}
-use Rattle.tm_link.specs.declared.fault.TmFault.TheVariants.{Length}
+use Rattle.cop1.specs.Farm.{new_farm}
 use Rattle.tm_link.specs.Extraction.{new_extractor}
+use Rattle.script.specs.Ending.{script_ending, script_text}
 use Rattle.tctool.specs.declared.task.Task.{Task}
 use Rattle.tctool.specs.declared.task.Task.TheVariants as tasks
-use Rattle.script.specs.Ending.{script_ending, script_text}
 use Rattle.tctool.specs.FarmLines.{farm_lines}
 use Rattle.tctool.specs.FrameLines.{frame_lines}
 use Rattle.tctool.specs.MapLines.{map_lines, map_opened}
 use Rattle.tctool.specs.RefusalLines.{refusal_lines}
 use Rattle.tctool.specs.PacketLines.{none_seen, packet_lines}
 use Rattle.tctool.specs.TelemetryLines.{telemetry_lines}
-use Rattle.tctool.specs.Cutting.{frame_extent}
-use Rattle.tctool.specs.Listing.{fresh, text_of, is_all_good, IsRefused}
+use Rattle.tctool.specs.Layouts.{Layout, frame_layout, telemetry_layout, packet_layout, rest_in, IsRefused}
+use Rattle.tctool.specs.Listing.{Lines, fresh, text_of, is_all_good}
 use Rattle.tctool.specs.Outcome.{OutcomeView, outcome_of, outcome_view, as_outcome}
+
+-- What is done with a file: its records are listed, cut by this layout, with these lines and this kept before the first;
+-- or it is played as a script, which is no stream of records.
+pub data Work : Type 1 where
+  Lists : {S F : Type 0} → Layout F → Lines S F → S → Work
+  Plays : Work
+
+-- the table of commands
+abbrev pub work_of : Task → Work
+work_of (tasks.Farm check width vr) = Lists (frame_layout check) (farm_lines check) (new_farm width vr)
+work_of (tasks.Map check width vr blocking) = Lists (frame_layout check) (map_lines check) (map_opened width vr blocking)
+work_of (tasks.Tc check) = Lists (frame_layout check) (frame_lines check) tt
+work_of (tasks.Tm size) = Lists (telemetry_layout size) (telemetry_lines size) new_extractor
+work_of tasks.Check = Lists (frame_layout On) refusal_lines tt
+work_of tasks.Packets = Lists packet_layout packet_lines none_seen
+work_of tasks.Sim = Plays
+
+abbrev pub lines_in : Work → List ℕ → List ℕ
+lines_in (Lists layout lines start) octets = text_of lines layout (fresh start octets)
+lines_in Plays octets = script_text octets
+
+abbrev pub outcome_in : Work → List ℕ → OutcomeView
+outcome_in (Lists layout lines start) octets = outcome_view (outcome_of (is_all_good lines layout (fresh start octets)))
+outcome_in Plays octets = as_outcome (script_ending octets)
+
+abbrev pub StopsIn : Work → List ℕ → Type 0
+StopsIn (Lists layout lines start) octets = IsRefused layout (rest_in layout octets)
+StopsIn Plays octets = ⊥
 
 -- the lines for all octets of a file, its rest included
 abbrev pub lines_of : Task → List ℕ → List ℕ
-lines_of (tasks.Farm check width vr) octets = text_of (farm_lines check) 5 (total_at check) Short (fresh (opened width vr) octets)
-lines_of (tasks.Map check width vr blocking) octets = text_of (map_lines check) 5 (total_at check) Short (fresh (map_opened width vr blocking) octets)
-lines_of (tasks.Tc check) octets = text_of (frame_lines check) 5 (total_at check) Short (fresh tt octets)
-lines_of (tasks.Tm size) octets = text_of (telemetry_lines size) size (frame_extent size) Length (fresh new_extractor octets)
-lines_of tasks.Check octets = text_of refusal_lines 5 (total_at On) Short (fresh tt octets)
-lines_of tasks.Packets octets = text_of packet_lines 6 extent_at Truncated (fresh none_seen octets)
-lines_of tasks.Sim octets = script_text octets
+lines_of task octets = lines_in (work_of task) octets
 
 -- Good exactly where every record is good and nothing is left; a script is judged whole
 abbrev pub outcome_for : Task → List ℕ → OutcomeView
-outcome_for (tasks.Farm check width vr) octets = outcome_view (outcome_of (is_all_good (farm_lines check) 5 (total_at check) Short (fresh (opened width vr) octets)))
-outcome_for (tasks.Map check width vr blocking) octets = outcome_view (outcome_of (is_all_good (map_lines check) 5 (total_at check) Short (fresh (map_opened width vr blocking) octets)))
-outcome_for (tasks.Tc check) octets = outcome_view (outcome_of (is_all_good (frame_lines check) 5 (total_at check) Short (fresh tt octets)))
-outcome_for (tasks.Tm size) octets = outcome_view (outcome_of (is_all_good (telemetry_lines size) size (frame_extent size) Length (fresh new_extractor octets)))
-outcome_for tasks.Check octets = outcome_view (outcome_of (is_all_good refusal_lines 5 (total_at On) Short (fresh tt octets)))
-outcome_for tasks.Packets octets = outcome_view (outcome_of (is_all_good packet_lines 6 extent_at Truncated (fresh none_seen octets)))
-outcome_for tasks.Sim octets = as_outcome (script_ending octets)
+outcome_for task octets = outcome_in (work_of task) octets
 
 -- a record's length is refused, so that nothing more is read; of a script all is read
 abbrev pub StopsAt : Task → List ℕ → Type 0
-StopsAt (tasks.Farm check width vr) octets = IsRefused (farm_lines check) 5 (total_at check) Short (rest_of 5 (total_at check) octets)
-StopsAt (tasks.Map check width vr blocking) octets = IsRefused (map_lines check) 5 (total_at check) Short (rest_of 5 (total_at check) octets)
-StopsAt (tasks.Tc check) octets = IsRefused (frame_lines check) 5 (total_at check) Short (rest_of 5 (total_at check) octets)
-StopsAt (tasks.Tm size) octets = IsRefused (telemetry_lines size) size (frame_extent size) Length (rest_of size (frame_extent size) octets)
-StopsAt tasks.Check octets = IsRefused refusal_lines 5 (total_at On) Short (rest_of 5 (total_at On) octets)
-StopsAt tasks.Packets octets = IsRefused packet_lines 6 extent_at Truncated (rest_of 6 extent_at octets)
-StopsAt tasks.Sim octets = ⊥
+StopsAt task octets = StopsIn (work_of task) octets

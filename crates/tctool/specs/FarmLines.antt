@@ -3,7 +3,6 @@ use Rattle.std.specs.Prelude.{ℕ, is_ok, Bool, true, false, List, ◌++◌, cod
 use Rattle.tc_frame.specs.declared.frame.Check.{Check}
 use Rattle.tc_frame.specs.declared.frame.Command.TheVariants.{Unlock, SetVr}
 use Rattle.tc_frame.specs.declared.fault.TcFault.{TcFault}
-use Rattle.tc_frame.specs.Faults.{fault_number, fault_name}
 use Rattle.tc_frame.specs.Layout.{BodyView, Ad, Bd, Bc, FrameView}
 use Rattle.tc_frame.specs.Reading.{frame_at}
 use Rattle.cop1.specs.Farm.{FarmState, farm_step, verdict_of, AdArrives, BdArrives, UnlockArrives, SetVrArrives}
@@ -11,8 +10,9 @@ use Rattle.cop1.specs.declared.farm.FarmMode.{FarmMode}
 use Rattle.cop1.specs.declared.farm.FarmMode.TheVariants.{Open, Wait, Lockout}
 use Rattle.cop1.specs.declared.farm.Verdict.{Verdict}
 use Rattle.cop1.specs.declared.farm.Verdict.TheVariants.{Accepted, Ahead, NoBuffer, Behind, Outside, Discarded}
+use Rattle.tctool.specs.FaultLines.{frame_fault_line}
 use Rattle.tctool.specs.Listing.{Lines}
-use Rattle.tctool.specs.Text.{invalid_line, line_end}
+use Rattle.tctool.specs.Text.{line_end}
 
 abbrev pub verdict_word : Verdict → List ℕ
 verdict_word Accepted = codes "accepted"
@@ -59,7 +59,7 @@ body_text s (Bc (SetVr x)) = codes "BC set " ++ (decimal x ++ codes " ")
 
 abbrev pub frame_line : FarmState → ℕ → Result FrameView TcFault → List ℕ
 frame_line s i (Ok f) = decimal i ++ (codes " " ++ (body_text s f.body ++ state_text (after_body s f.body)))
-frame_line s i (Err e) = invalid_line i (fault_number e) (fault_name e)
+frame_line s i (Err e) = frame_fault_line i e
 
 abbrev pub after_frame : FarmState → Result FrameView TcFault → FarmState
 after_frame s (Ok f) = after_body s f.body
@@ -78,5 +78,5 @@ farm_lines check = record {
   line_of = farm_line check;
   after = after_record check;
   is_good = λ octets. is_ok (frame_at check octets);
-  fault_line = λ i e. invalid_line i (fault_number e) (fault_name e);
+  fault_line = frame_fault_line;
 }

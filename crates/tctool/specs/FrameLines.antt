@@ -3,11 +3,11 @@ use Rattle.std.specs.Prelude.{ℕ, is_ok, List, ◌++◌, codes, decimal, Result
 use Rattle.tc_frame.specs.declared.frame.Check.{Check}
 use Rattle.tc_frame.specs.declared.frame.Command.TheVariants.{Unlock, SetVr}
 use Rattle.tc_frame.specs.declared.fault.TcFault.{TcFault}
-use Rattle.tc_frame.specs.Faults.{fault_number, fault_name}
 use Rattle.tc_frame.specs.Layout.{SegmentView, BodyView, Ad, Bd, Bc, FrameView, flags_code}
 use Rattle.tc_frame.specs.Reading.{frame_at}
+use Rattle.tctool.specs.FaultLines.{frame_fault_line}
 use Rattle.tctool.specs.Listing.{Lines}
-use Rattle.tctool.specs.Text.{invalid_line, octets_line, line_end}
+use Rattle.tctool.specs.Text.{octets_line, line_end}
 
 abbrev pub type_word : BodyView → List ℕ
 type_word (Ad n segment) = codes "AD"
@@ -31,7 +31,7 @@ body_line (Bc (SetVr x)) = codes " set " ++ (decimal x ++ line_end)
 
 abbrev pub frame_line : ℕ → Result FrameView TcFault → List ℕ
 frame_line i (Ok f) = decimal i ++ (codes " " ++ (channel_text f ++ body_line f.body))
-frame_line i (Err e) = invalid_line i (fault_number e) (fault_name e)
+frame_line i (Err e) = frame_fault_line i e
 
 -- what `tctool tc` writes of frames
 abbrev pub frame_lines : Check → Lines (Unit {0}) TcFault
@@ -39,5 +39,5 @@ frame_lines check = record {
   line_of = λ s i octets. frame_line i (frame_at check octets);
   after = λ s octets. s;
   is_good = λ octets. is_ok (frame_at check octets);
-  fault_line = λ i e. invalid_line i (fault_number e) (fault_name e);
+  fault_line = frame_fault_line;
 }

@@ -2,6 +2,8 @@ pub mod Calls
 pub mod DeviceLog
 pub mod Devices
 pub mod Text
+pub mod FaultLines
+pub mod Layouts
 pub mod Cutting
 pub mod FarmLines
 pub mod FrameLines
@@ -15,6 +17,7 @@ pub mod Commands
 pub mod Listing
 pub mod Progress
 pub mod Beginning
+pub mod Writing
 pub mod Outcome
 pub mod Failures
 pub mod Gained

@@ -1,7 +1,7 @@
 -- What a command writes of a stream of records: the lines of each record in turn, and a line for a rest.
-use Rattle.std.specs.Prelude.{◌≡◌, Some, None, ℕ, ◌+◌, Bool, true, false, ◌&&◌, List, [], ◌∷◌, ◌++◌, length, take, nat_lt, if◌then◌else◌, Result, Ok, Err}
+use Rattle.std.specs.Prelude.{◌≡◌, None, ℕ, ◌+◌, Bool, true, false, ◌&&◌, List, [], ◌∷◌, ◌++◌, length}
 use Rattle.std.specs.List.{list_all}
-use Rattle.octets.specs.Records.{records_of, rest_of, first_record}
+use Rattle.tctool.specs.Layouts.{Layout, first_in, records_in, rest_in, rest_fault, IsRefused}
 
 -- What a command writes. S is what it keeps between two records, F is why octets are refused as no record.
 pub record Lines (S F : Type 0) : Type 0 where
@@ -56,25 +56,15 @@ module _ {S F : Type 0} (lines : Lines S F) where
     octets = rest;
   }
 
-  -- the layout of the records
-  module _ (head : ℕ) (extent : List ℕ → Result ℕ F) (truncated : F) where
+  module _ (layout : Layout F) where
     -- a listing once all whole records are listed
     abbrev pub listed : Standing S → Standing S
-    listed st = behind st (records_of head extent st.octets) (rest_of head extent st.octets)
-
-    -- why an extent was refused, or else that the octets end too early
-    abbrev pub extent_fault : Result ℕ F → F
-    extent_fault (Ok n) = truncated
-    extent_fault (Err e) = e
-
-    -- why octets that begin with no whole record are refused
-    abbrev pub rest_fault : List ℕ → F
-    rest_fault rest = if nat_lt (length rest) head then truncated else extent_fault (extent (take head rest))
+    listed st = behind st (records_in layout st.octets) (rest_in layout st.octets)
 
     -- the line of a rest, where there is one
     abbrev pub rest_line : ℕ → List ℕ → List ℕ
     rest_line i [] = []
-    rest_line i (octet ∷ octets) = lines.fault_line i (rest_fault (octet ∷ octets))
+    rest_line i (octet ∷ octets) = lines.fault_line i (rest_fault layout (octet ∷ octets))
 
     -- all that is written where the octets end here
     abbrev pub text_of : Standing S → List ℕ
@@ -88,13 +78,9 @@ module _ {S F : Type 0} (lines : Lines S F) where
     pub record HasListed (st next : Standing S) (before now : List ℕ) : Type 0 where
       pub written : now ≡ before ++ (listed st).text
       pub next_is : next ≡ record (listed st) { text = [] }
-      pub is_open : first_record head extent (listed st).octets ≡ None
-
-    -- octets at which no record can begin
-    abbrev pub IsRefused : List ℕ → Type 0
-    IsRefused octets = (e : F) × (first_record head extent octets ≡ Some (Err e))
+      pub is_open : first_in layout (listed st).octets ≡ None
 
     -- Octets were listed up to such that are refused: all is written, whatever octets may come.
     pub record HasRefused (st : Standing S) (before now : List ℕ) : Type 0 where
       pub written_all : now ≡ before ++ text_of st
-      pub refused : IsRefused (listed st).octets
+      pub refused : IsRefused layout (listed st).octets

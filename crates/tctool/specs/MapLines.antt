@@ -6,10 +6,9 @@ use Rattle.tc_frame.specs.declared.frame.Check.{Check}
 use Rattle.tc_frame.specs.declared.frame.SegmentFlags.{SegmentFlags}
 use Rattle.tc_frame.specs.declared.frame.SegmentFlags.TheVariants.{First, Continuing, Last, Alone}
 use Rattle.tc_frame.specs.declared.fault.TcFault.{TcFault}
-use Rattle.tc_frame.specs.Faults.{fault_number, fault_name}
 use Rattle.tc_frame.specs.Layout.{SegmentView, BodyView, Ad, Bd, Bc, FrameView}
 use Rattle.tc_frame.specs.Reading.{frame_at}
-use Rattle.cop1.specs.Farm.{FarmState, opened, verdict_of}
+use Rattle.cop1.specs.Farm.{FarmState, new_farm, verdict_of}
 use Rattle.cop1.specs.declared.farm.Verdict.{Verdict}
 use Rattle.cop1.specs.declared.farm.Verdict.TheVariants.{Accepted, Ahead, NoBuffer, Behind, Outside, Discarded}
 use Rattle.map_service.specs.declared.dropped.Dropped.{Dropped}
@@ -17,10 +16,11 @@ use Rattle.map_service.specs.declared.limits.Limits.{Limits}
 use Rattle.map_service.specs.Causes.{cause_name}
 use Rattle.map_service.specs.Exactness.{AssemblerState, step_at, after_step}
 use Rattle.map_service.specs.Packets.{is_packet}
-use Rattle.map_service.specs.Taking.{Outcome}
+use Rattle.map_service.specs.Taking.{TakeOutcome}
 use Rattle.tctool.specs.FarmLines as farms
+use Rattle.tctool.specs.FaultLines.{frame_fault_line}
 use Rattle.tctool.specs.Listing.{Lines}
-use Rattle.tctool.specs.Text.{invalid_line, octets_line, line_end}
+use Rattle.tctool.specs.Text.{octets_line, line_end}
 
 -- the receiver, and the one assembler that takes what it accepts
 pub record MapState : Type 0 where
@@ -37,7 +37,7 @@ none_open blocking = record { limits = map_limits blocking; parts = replicate 64
 
 -- before the first frame
 abbrev pub map_opened : ℕ → ℕ → Bool → MapState
-map_opened width vr blocking = record { receiver = opened width vr; assembler = none_open blocking }
+map_opened width vr blocking = record { receiver = new_farm width vr; assembler = none_open blocking }
 
 -- ---- what the assembler is given
 
@@ -92,7 +92,7 @@ abbrev pub packet_lines : ℕ → List (List ℕ) → List ℕ
 packet_lines m packets = concat (map (on_map_line (codes "packet ") m) packets)
 
 -- what the assembler drops at a segment of MAP m, and then what it hands out
-abbrev pub outcome_text : ℕ → ℕ → Outcome → List ℕ
+abbrev pub outcome_text : ℕ → ℕ → TakeOutcome → List ℕ
 outcome_text i m o = cause_text i o.dropped ++ packet_lines m o.packets
 
 abbrev pub segment_text : ℕ → AssemblerState → Option SegmentView → List ℕ
@@ -121,7 +121,7 @@ body_text x i (Bc command) = []
 
 abbrev pub record_text : MapState → ℕ → Result FrameView TcFault → List ℕ
 record_text x i (Ok f) = body_text x i f.body
-record_text x i (Err e) = invalid_line i (fault_number e) (fault_name e)
+record_text x i (Err e) = frame_fault_line i e
 
 -- what `tctool map` writes of frames; what is dropped makes no frame bad
 abbrev pub map_lines : Check → Lines MapState TcFault
@@ -129,5 +129,5 @@ map_lines check = record {
   line_of = λ x i octets. record_text x i (frame_at check octets);
   after = after_record check;
   is_good = λ octets. is_ok (frame_at check octets);
-  fault_line = λ i e. invalid_line i (fault_number e) (fault_name e);
+  fault_line = frame_fault_line;
 }

@@ -4,11 +4,11 @@ use Rattle.space_packet.specs.declared.packet.PacketKind.{PacketKind}
 use Rattle.space_packet.specs.declared.packet.PacketKind.TheVariants.{Telemetry, Telecommand}
 use Rattle.space_packet.specs.declared.fault.PacketFault.{PacketFault}
 use Rattle.space_packet.specs.Counters.{gap_after, counts_seen}
-use Rattle.space_packet.specs.Faults.{fault_number, fault_name}
 use Rattle.space_packet.specs.Layout.{PacketView, secondary_bit}
 use Rattle.space_packet.specs.Reading.{packet_at}
+use Rattle.tctool.specs.FaultLines.{packet_fault_line}
 use Rattle.tctool.specs.Listing.{Lines}
-use Rattle.tctool.specs.Text.{invalid_line, octets_line}
+use Rattle.tctool.specs.Text.{octets_line}
 
 unfoldable pub kind_word : PacketKind → List ℕ
 kind_word Telemetry = codes "TM"
@@ -37,7 +37,7 @@ gap_before seen p = gap_after (get_or seen p.apid None) p.count
 
 abbrev pub packet_line : List (Option ℕ) → ℕ → Result (PacketView × ℕ) PacketFault → List ℕ
 packet_line seen i (Ok (p, n)) = decimal i ++ (codes " " ++ (process_text (kind_word p.kind) (secondary_bit p.secondary) p.apid ++ (sequence_text p ++ (gap_text (gap_before seen p) ++ octets_line p.payload))))
-packet_line seen i (Err e) = invalid_line i (fault_number e) (fault_name e)
+packet_line seen i (Err e) = packet_fault_line i e
 
 -- the last counts behind a packet
 abbrev pub after_packet : List (Option ℕ) → Result (PacketView × ℕ) PacketFault → List (Option ℕ)
@@ -50,5 +50,5 @@ packet_lines = record {
   line_of = λ seen i octets. packet_line seen i (packet_at octets);
   after = λ seen octets. after_packet seen (packet_at octets);
   is_good = λ octets. is_ok (packet_at octets);
-  fault_line = λ i e. invalid_line i (fault_number e) (fault_name e);
+  fault_line = packet_fault_line;
 }

@@ -8,11 +8,11 @@ use Rattle.tm_link.specs.declared.frame.Pointer.TheVariants.{At, NoStart, OnlyId
 use Rattle.tm_link.specs.declared.gap.Gap.{Gap}
 use Rattle.tm_link.specs.declared.gap.Gap.TheVariants.{First, Lost}
 use Rattle.tm_link.specs.Extraction.{ExtractorState, extract_step}
-use Rattle.tm_link.specs.Faults.{fault_number, fault_name}
 use Rattle.tm_link.specs.Layout.{FrameView}
 use Rattle.tm_link.specs.Reading.{frame_at}
+use Rattle.tctool.specs.FaultLines.{telemetry_fault_line}
 use Rattle.tctool.specs.Listing.{Lines}
-use Rattle.tctool.specs.Text.{invalid_line, octets_line, line_end}
+use Rattle.tctool.specs.Text.{octets_line, line_end}
 
 -- a frame's number, the channel that it came on, and its counts
 abbrev pub counts_text : ℕ → FrameView → List ℕ
@@ -42,7 +42,7 @@ finished_lines packets = concat (map finished_line packets)
 -- the lines of a record, from the extractor before it
 abbrev pub record_text : ExtractorState → ℕ → Result FrameView TmFault → List ℕ
 record_text x i (Ok f) = frame_line i f (extract_step x f).gap ++ finished_lines (extract_step x f).packets
-record_text x i (Err e) = invalid_line i (fault_number e) (fault_name e)
+record_text x i (Err e) = telemetry_fault_line i e
 
 -- the extractor behind a record; it is not given one that is refused
 abbrev pub after_record : ExtractorState → Result FrameView TmFault → ExtractorState
@@ -55,5 +55,5 @@ telemetry_lines size = record {
   line_of = λ x i octets. record_text x i (frame_at size octets);
   after = λ x octets. after_record x (frame_at size octets);
   is_good = λ octets. is_ok (frame_at size octets);
-  fault_line = λ i e. invalid_line i (fault_number e) (fault_name e);
+  fault_line = telemetry_fault_line;
 }

@@ -1,10 +1,10 @@
 // What cuts a stream that comes in pieces into its records.
 
-ghost use Rattle.std.specs.Prelude.{◌≡◌, ◌≤◌, ◌<◌, ◌++◌, ◌↔◌, ℕ, List, Option, Result, Ok, length, IsNone, IsErr, IfErr, OnOk};
+ghost use Rattle.std.specs.Prelude.{◌≡◌, ◌<◌, ◌++◌, ◌↔◌, ℕ, List, Option, length, IsNone, IsErr, IfErr, OnOk};
 ghost use Rattle.std.specs.Borrow.{sem};
 ghost use Rattle.std.specs.Io.BufRead.{Rests};
 ghost use Rattle.octets.specs.Holding.{held as octets_held, failure as failure_met, rest_after, failure_after, lent_view};
-ghost use Rattle.octets.specs.Records.{first_record};
+ghost use Rattle.tctool.specs.Layouts.{Layout, HasHeads, first_in};
 
 use octets::{Splitter, Wire};
 
@@ -13,12 +13,8 @@ pub trait Cutter {
     /// Why octets are refused.
     type Fault: Copy;
 
-    // How many octets tell a record's length, and the length that they tell.
-    ghost head: { ℕ };
-
-    ghost extent_of: { List ℕ → Result ℕ Self.Fault };
-
-    ghost truncated_fault: { Self.Fault };
+    // How the stream is cut into records.
+    ghost layout: { Layout Self.Fault };
 
     // The octets that were fed and not handed out, and the fault of a refused extent.
     ghost held: { Self → List ℕ };
@@ -35,26 +31,21 @@ pub trait Cutter {
         ensures* rests { sem 𝓛 (Rests Self.row self.entry (λ last.
             (held last ≡ rest_after (lent_view result) (held self.old))
             × (failure last ≡ failure_after (lent_view result) (failure self.old)))) }
-        ensures answer { lent_view result ≡ first_record head extent_of (held self.old) };
+        ensures answer { lent_view result ≡ first_in layout (held self.old) };
 
     /// Whether the stream may end here.
     fn finish(&self) -> Result<(), Self::Fault>
-        ensures truncated { IsErr result ↔ ((0 < length (held self.now)) × IsNone (failure self.now)) }
-        ensures fault { IfErr result (λ e. e ≡ truncated_fault) };
+        ensures truncated { IsErr result
+            ↔ ((0 < length (held self.now)) × IsNone (failure self.now)) }
+        ensures fault { IfErr result (λ e. e ≡ layout.truncated) };
 
-    ghost some_head: { 1 ≤ head };
-
-    ghost extent_has_head: { (octets : List ℕ) (n : ℕ) → extent_of octets ≡ Ok n → head ≤ n };
+    ghost heads: { HasHeads layout };
 }
 
 impl<L: Wire> Cutter for Splitter<L> {
     type Fault = L::Fault;
 
-    ghost head = { L.HEAD };
-
-    ghost extent_of = { L.extent_of };
-
-    ghost truncated_fault = { L.truncated_fault };
+    ghost layout = { record { head = L.HEAD; extent = L.extent_of; truncated = L.truncated_fault } };
 
     ghost held = { octets_held };
 
@@ -72,7 +63,5 @@ impl<L: Wire> Cutter for Splitter<L> {
         self.finish()
     }
 
-    ghost some_head = { L.some_head };
-
-    ghost extent_has_head = { L.extent_has_head };
+    ghost heads = { record { some_head = L.some_head; has_head = L.extent_has_head } };
 }

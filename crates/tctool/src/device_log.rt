@@ -40,7 +40,8 @@ impl DeviceLog {
 
     /// After one call more.
     pub fn then(&self, _call: &Call<'_>) -> DeviceLog
-        ensures { IsLogOf result (octets_with self.now.octets _call.now) (ended_with self.now.has_ended _call.now) (failures_with self.now.failures _call.now) }
+        ensures { IsLogOf result (octets_with self.now.octets _call.now)
+            (ended_with self.now.has_ended _call.now) (failures_with self.now.failures _call.now) }
     {
         DeviceLog {}
     }

@@ -1,12 +1,13 @@
 // Reads a file, and writes what the words ask for of it.
 
-ghost use Rattle.std.specs.Prelude.{◌≡◌, ◌⊎◌, ◌+◌, ◌<◌, ◌++◌, length, true, Err, OnOk, OnErr, IfOk};
+ghost use Rattle.std.specs.Prelude.{◌≡◌, ◌⊎◌, ◌+◌, ◌<◌, length, true, Err, OnOk, IfOk};
 ghost use Rattle.tctool.specs.Beginning.{IsBeginning};
 ghost use Rattle.tctool.specs.Dumped.{lines_of, outcome_for, StopsAt};
 ghost use Rattle.tctool.specs.Failures.{reads_failed_in, writes_failed_in};
 ghost use Rattle.tctool.specs.Gained.{gained};
 ghost use Rattle.tctool.specs.Outcome.{outcome_view};
 ghost use Rattle.tctool.specs.Ranges.{IsInRange};
+ghost use Rattle.tctool.specs.Writing.{BeginsToWrite, Writes};
 ghost use Rattle.tctool.specs.declared.task.Task.TheVariants as tasks;
 
 use crate::fault::DumpFault;
@@ -46,13 +47,18 @@ pub fn dump<R: Source, W: Sink>(
 ) -> Result<Outcome, DumpFault>
     requires { IsInRange options.now.task }
     ensures given { IsBeginning (R.given reader.old) (R.given reader.new) }
-    ensures text { OnOk result (W.taken_octets writer.new ≡ W.taken_octets writer.old ++ lines_of options.now.task (gained (R.given reader.old) (R.given reader.new))) }
-    ensures outcome { IfOk result (λ outcome. outcome_view outcome ≡ outcome_for options.now.task (gained (R.given reader.old) (R.given reader.new))) }
-    ensures end { OnOk result ((R.has_ended reader.new ≡ true) ⊎ StopsAt options.now.task (gained (R.given reader.old) (R.given reader.new))) }
-    ensures beginning { OnErr result (IsBeginning (W.taken_octets writer.new) (W.taken_octets writer.old ++ lines_of options.now.task (gained (R.given reader.old) (R.given reader.new)))) }
+    ensures text { Writes result (W.taken_octets writer.old) (W.taken_octets writer.new)
+        (lines_of options.now.task (gained (R.given reader.old) (R.given reader.new))) }
+    ensures outcome { IfOk result (λ outcome. outcome_view outcome
+        ≡ outcome_for options.now.task (gained (R.given reader.old) (R.given reader.new))) }
+    ensures end { OnOk result ((R.has_ended reader.new ≡ true)
+        ⊎ StopsAt options.now.task (gained (R.given reader.old) (R.given reader.new))) }
+    ensures beginning { BeginsToWrite result (W.taken_octets writer.old) (W.taken_octets writer.new)
+        (lines_of options.now.task (gained (R.given reader.old) (R.given reader.new))) }
     ensures read { R.failures reader.new ≡ R.failures reader.old + reads_failed_in result }
     ensures write { W.failures writer.new ≡ W.failures writer.old + writes_failed_in result }
-    ensures too_long { result ≡ Err DumpFault.TooLong → 9223372036854775807 < length (gained (R.given reader.old) (R.given reader.new)) }
+    ensures too_long { result ≡ Err DumpFault.TooLong
+        → 9223372036854775807 < length (gained (R.given reader.old) (R.given reader.new)) }
 {
     let checked = Splitter::<Checked>::new(alloc);
     let unchecked = Splitter::<Unchecked>::new(alloc);
@@ -103,13 +109,18 @@ fn list_frames<K: FrameLength, R: Source, W: Sink>(
 ) -> Result<Outcome, DumpFault>
     requires { size ≡ K.payload + 12 }
     ensures given { IsBeginning (R.given reader.old) (R.given reader.new) }
-    ensures text { OnOk result (W.taken_octets writer.new ≡ W.taken_octets writer.old ++ lines_of (tasks.Tm size) (gained (R.given reader.old) (R.given reader.new))) }
-    ensures outcome { IfOk result (λ outcome. outcome_view outcome ≡ outcome_for (tasks.Tm size) (gained (R.given reader.old) (R.given reader.new))) }
-    ensures end { OnOk result ((R.has_ended reader.new ≡ true) ⊎ StopsAt (tasks.Tm size) (gained (R.given reader.old) (R.given reader.new))) }
-    ensures beginning { OnErr result (IsBeginning (W.taken_octets writer.new) (W.taken_octets writer.old ++ lines_of (tasks.Tm size) (gained (R.given reader.old) (R.given reader.new)))) }
+    ensures text { Writes result (W.taken_octets writer.old) (W.taken_octets writer.new)
+        (lines_of (tasks.Tm size) (gained (R.given reader.old) (R.given reader.new))) }
+    ensures outcome { IfOk result (λ outcome. outcome_view outcome
+        ≡ outcome_for (tasks.Tm size) (gained (R.given reader.old) (R.given reader.new))) }
+    ensures end { OnOk result ((R.has_ended reader.new ≡ true)
+        ⊎ StopsAt (tasks.Tm size) (gained (R.given reader.old) (R.given reader.new))) }
+    ensures beginning { BeginsToWrite result (W.taken_octets writer.old) (W.taken_octets writer.new)
+        (lines_of (tasks.Tm size) (gained (R.given reader.old) (R.given reader.new))) }
     ensures read { R.failures reader.new ≡ R.failures reader.old + reads_failed_in result }
     ensures write { W.failures writer.new ≡ W.failures writer.old + writes_failed_in result }
-    ensures too_long { result ≡ Err DumpFault.TooLong → 9223372036854775807 < length (gained (R.given reader.old) (R.given reader.new)) }
+    ensures too_long { result ≡ Err DumpFault.TooLong
+        → 9223372036854775807 < length (gained (R.given reader.old) (R.given reader.new)) }
 {
     let Ok(frames) = TelemetryListing::<K>::new(alloc, size) else {
         return Err(DumpFault::Memory);

@@ -1,9 +1,10 @@
 // The lines of `tctool farm`.
 
-ghost use Rattle.std.specs.Prelude.{◌≡◌, ◌++◌, OnOk, IfOk, is_ok, string_bytes};
+ghost use Rattle.std.specs.Prelude.{◌≡◌, OnOk, IfOk, is_ok};
 ghost use Rattle.tc_frame.specs.Layout.{body_view, frame_view};
 ghost use Rattle.tc_frame.specs.Reading.{frame_at};
 ghost use Rattle.tc_frame.specs.declared.frame.Check.TheVariants as checks;
+ghost use Rattle.script.specs.Appending.{Appends};
 ghost use Rattle.tctool.specs.FarmLines.{verdict_word, state_word, flag_number, flags_text, state_text, body_text, after_body, farm_line, after_record, farm_lines};
 
 use crate::listing::Listing;
@@ -43,7 +44,7 @@ fn number_of_flag(flag: bool) -> u64
 }
 
 fn push_state(text: &mut String, farm: &Farm) -> Result<(), AllocError>
-    ensures { OnOk result (string_bytes text.new ≡ string_bytes text.old ++ state_text farm.now) }
+    ensures { Appends result text.old text.new (state_text farm.now) }
 {
     text.push_str(word_of_state(farm.state()))?;
     push_field(text, " vr=", u64::from(farm.vr()))?;
@@ -51,7 +52,7 @@ fn push_state(text: &mut String, farm: &Farm) -> Result<(), AllocError>
 }
 
 fn push_flags(text: &mut String, farm: &Farm) -> Result<(), AllocError>
-    ensures { OnOk result (string_bytes text.new ≡ string_bytes text.old ++ flags_text farm.now) }
+    ensures { Appends result text.old text.new (flags_text farm.now) }
 {
     push_field(text, " l=", number_of_flag(farm.lockout()))?;
     push_field(text, " w=", number_of_flag(farm.wait()))?;
@@ -62,7 +63,7 @@ fn push_flags(text: &mut String, farm: &Farm) -> Result<(), AllocError>
 
 /// Gives a frame to the receiver, whose buffer is free, and appends what it made of it.
 fn push_body(text: &mut String, farm: &mut Farm, body: &Body) -> Result<(), AllocError>
-    ensures text { OnOk result (string_bytes text.new ≡ string_bytes text.old ++ body_text farm.old (body_view body.now)) }
+    ensures text { Appends result text.old text.new (body_text farm.old (body_view body.now)) }
     ensures farm { farm.new ≡ after_body farm.old (body_view body.now) }
 {
     match body {
@@ -97,7 +98,7 @@ fn push_frame(
     index: u64,
     octets: &[u8],
 ) -> Result<bool, AllocError>
-    ensures text { OnOk result (string_bytes text.new ≡ string_bytes text.old ++ farm_line check farm.old index octets.now) }
+    ensures text { Appends result text.old text.new (farm_line check farm.old index octets.now) }
     ensures farm { OnOk result (farm.new ≡ after_record check farm.old octets.now) }
     ensures good { IfOk result (λ good. good ≡ is_ok (frame_at check octets.now)) }
 {

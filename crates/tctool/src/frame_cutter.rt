@@ -47,8 +47,11 @@ impl<K: FrameLength> FrameCutter<K> {
     // Passes the next whole frame, and says where it begins.
     fn pass(&mut self) -> Option<usize>
         ensures octets { self.new.octets.items ≡ self.old.octets.items }
-        ensures none { IsNone result → (self.new.start ≡ self.old.start) × (length (frames_held self.old) < K.payload + 12) }
-        ensures some { IfSome result (λ start. (start ≡ self.old.start) × (self.new.start ≡ start + (K.payload + 12)) × (K.payload + 12 ≤ length (frames_held self.old))) }
+        ensures none { IsNone result → (self.new.start ≡ self.old.start)
+            × (length (frames_held self.old) < K.payload + 12) }
+        ensures some { IfSome result (λ start. (start ≡ self.old.start)
+            × (self.new.start ≡ start + (K.payload + 12))
+            × (K.payload + 12 ≤ length (frames_held self.old))) }
     {
         let start = self.start;
         if self.octets.len() - start < self.length {
@@ -67,18 +70,14 @@ impl<K: FrameLength> FrameCutter<K> {
 }
 
 impl<K: FrameLength> Cutter for FrameCutter<K> {
-    ghost use Rattle.tctool.specs.Cutting.{frames_held, frame_extent};
-    ghost use Rattle.tm_link.specs.declared.fault.TmFault.TheVariants as faults;
+    ghost use Rattle.tctool.specs.Cutting.{frames_held};
+    ghost use Rattle.tctool.specs.Layouts.{telemetry_layout};
     ghost use Rattle.std.proofs.Common.{arith, rules};
     ghost use Rattle.std.proofs.lemmas.Grind.{common_steps};
 
     type Fault = TmFault;
 
-    ghost head = { K.payload + 12 };
-
-    ghost extent_of = { frame_extent (K.payload + 12) };
-
-    ghost truncated_fault = { faults.Length };
+    ghost layout = { telemetry_layout (K.payload + 12) };
 
     ghost held = { frames_held };
 
@@ -109,9 +108,7 @@ impl<K: FrameLength> Cutter for FrameCutter<K> {
         Ok(())
     }
 
-    ghost some_head = { Prim.omega arith };
-
-    ghost extent_has_head = { Prim.search (rules, common_steps) };
+    ghost heads = { record { some_head = Prim.omega arith; has_head = Prim.search (rules, common_steps) } };
 }
 
 // It stands for each length in turn: a caller picks the length.

@@ -1,9 +1,10 @@
 // The lines of `tctool tc`.
 
-ghost use Rattle.std.specs.Prelude.{◌≡◌, ◌++◌, OnOk, IfOk, is_ok, string_bytes};
-ghost use Rattle.tc_frame.specs.Layout.{flags_code, frame_view, body_view, segment_view};
+ghost use Rattle.std.specs.Prelude.{◌≡◌, IfOk, is_ok};
+ghost use Rattle.tc_frame.specs.Layout.{frame_view, body_view, segment_view};
 ghost use Rattle.tc_frame.specs.Reading.{frame_at};
 ghost use Rattle.tc_frame.specs.declared.frame.Check.TheVariants as checks;
+ghost use Rattle.script.specs.Appending.{Appends};
 ghost use Rattle.tctool.specs.FrameLines.{type_word, channel_text, segment_text, body_line, frame_line, frame_lines};
 
 use crate::listing::Listing;
@@ -11,9 +12,7 @@ use crate::text::{push_field, push_index, push_invalid, push_octets};
 use octets::Splitter;
 use std::alloc::{AllocError, Global};
 use std::marker::Model;
-use tc_frame::{
-    Body, Check, Checked, Command, Segment, SegmentFlags, TcFault, TcFrame, Unchecked, decode,
-};
+use tc_frame::{Body, Check, Checked, Command, Segment, TcFault, TcFrame, Unchecked, decode};
 
 /// Tells what each frame says. Nothing is kept between two frames.
 #[derive(Drop)]
@@ -40,7 +39,8 @@ impl FrameListing {
         index: u64,
         octets: &[u8],
     ) -> Result<bool, AllocError>
-        ensures text { OnOk result (string_bytes text.new ≡ string_bytes text.old ++ frame_line index (frame_at check octets.now)) }
+        ensures text { Appends result text.old text.new
+            (frame_line index (frame_at check octets.now)) }
         ensures good { IfOk result (λ good. good ≡ is_ok (frame_at check octets.now)) }
     {
         match decode(octets, check) {
@@ -68,19 +68,8 @@ fn word_of_type(body: &Body) -> &'static str
     }
 }
 
-fn code_of_flags(flags: SegmentFlags) -> u8
-    ensures { result ≡ flags_code flags }
-{
-    match flags {
-        SegmentFlags::Continuing => 0,
-        SegmentFlags::First => 1,
-        SegmentFlags::Last => 2,
-        SegmentFlags::Alone => 3,
-    }
-}
-
 fn push_channel(text: &mut String, frame: &TcFrame) -> Result<(), AllocError>
-    ensures { OnOk result (string_bytes text.new ≡ string_bytes text.old ++ channel_text (frame_view frame.now)) }
+    ensures { Appends result text.old text.new (channel_text (frame_view frame.now)) }
 {
     text.push_str(word_of_type(&frame.body))?;
     push_field(text, " scid=", u64::from(frame.scid))?;
@@ -88,9 +77,9 @@ fn push_channel(text: &mut String, frame: &TcFrame) -> Result<(), AllocError>
 }
 
 fn push_segment(text: &mut String, alloc: Global, segment: &Segment) -> Result<(), AllocError>
-    ensures { OnOk result (string_bytes text.new ≡ string_bytes text.old ++ segment_text (segment_view segment.now)) }
+    ensures { Appends result text.old text.new (segment_text (segment_view segment.now)) }
 {
-    let flags = code_of_flags(segment.header.flags);
+    let flags = segment.header.flags.code();
     push_field(text, " seg=", u64::from(flags))?;
     push_field(text, " map=", u64::from(segment.header.map))?;
     text.push_str(" data=")?;
@@ -98,7 +87,7 @@ fn push_segment(text: &mut String, alloc: Global, segment: &Segment) -> Result<(
 }
 
 fn push_body(text: &mut String, alloc: Global, body: &Body) -> Result<(), AllocError>
-    ensures { OnOk result (string_bytes text.new ≡ string_bytes text.old ++ body_line (body_view body.now)) }
+    ensures { Appends result text.old text.new (body_line (body_view body.now)) }
 {
     match body {
         Body::Ad { n, segment } => {

@@ -1,6 +1,7 @@
 // What the commands write of a stream of records.
 
-ghost use Rattle.std.specs.Prelude.{◌≡◌, ◌++◌, OnOk, IfOk, string_bytes};
+ghost use Rattle.std.specs.Prelude.{◌≡◌, OnOk, IfOk};
+ghost use Rattle.script.specs.Appending.{Appends};
 ghost use Rattle.tctool.specs.Listing.{Lines};
 
 use crate::cutter::Cutter;
@@ -12,11 +13,11 @@ pub trait Listing<S: Cutter> {
 
     /// Takes a record, appends its lines, and answers whether it is good.
     fn take(&mut self, text: &mut String, index: u64, octets: &[u8]) -> Result<bool, AllocError>
-        ensures text { OnOk result (string_bytes text.new ≡ string_bytes text.old ++ lines.line_of self.old index octets.now) }
+        ensures text { Appends result text.old text.new (lines.line_of self.old index octets.now) }
         ensures state { OnOk result (self.new ≡ lines.after self.old octets.now) }
         ensures good { IfOk result (λ good. good ≡ lines.is_good octets.now) };
 
     /// Appends the line of octets that are refused as no record.
     fn refuse(text: &mut String, index: u64, fault: S::Fault) -> Result<(), AllocError>
-        ensures { OnOk result (string_bytes text.new ≡ string_bytes text.old ++ lines.fault_line index fault) };
+        ensures { Appends result text.old text.new (lines.fault_line index fault) };
 }

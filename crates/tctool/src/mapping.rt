@@ -1,14 +1,15 @@
 // The lines of `tctool map`.
 
-ghost use Rattle.std.specs.Prelude.{◌≡◌, ◌++◌, ℕ, Bool, List, OnOk, IfOk, is_ok, codes, string_bytes};
+ghost use Rattle.std.specs.Prelude.{◌≡◌, ℕ, Bool, List, OnOk, IfOk, is_ok, codes};
 ghost use Rattle.tc_frame.specs.Layout.{body_view, frame_view, segment_view};
 ghost use Rattle.tc_frame.specs.Reading.{frame_at};
 ghost use Rattle.tc_frame.specs.declared.frame.Check.{Check as Checking};
 ghost use Rattle.tc_frame.specs.declared.frame.Check.TheVariants as checks;
-ghost use Rattle.cop1.specs.Farm.{IsWidth, opened};
+ghost use Rattle.cop1.specs.Farm.{IsWidth, new_farm};
 ghost use Rattle.map_service.specs.Assembly.{assembled};
 ghost use Rattle.map_service.specs.Exactness.{step_at, after_step};
 ghost use Rattle.tm_link.specs.Extraction.{octets_of};
+ghost use Rattle.script.specs.Appending.{Appends};
 ghost use Rattle.tctool.specs.MapLines.{MapState, map_limits, map_opened, is_bypass, dropped_line, on_map_line, cause_text, packet_lines, outcome_text, bypass_text, body_text, after_body, record_text, after_record, map_lines};
 ghost use Rattle.tctool.specs.ToldPackets.{accepted_in, told_on};
 
@@ -63,8 +64,12 @@ impl MapListing {
         index: u64,
         segment: Segment,
     ) -> Result<(), AllocError>
-        ensures text { OnOk result (string_bytes text.new ≡ string_bytes text.old ++ outcome_text index segment.entry.header.map (step_at self.old.assembler (segment_view segment.entry))) }
-        ensures state { OnOk result (self.new ≡ record self.old { assembler = after_step self.old.assembler (segment_view segment.entry) }) }
+        ensures text { Appends result text.old text.new (outcome_text index segment.entry.header.map
+            (step_at self.old.assembler (segment_view segment.entry))) }
+        ensures state { OnOk result (self.new
+            ≡ record self.old {
+              assembler = after_step self.old.assembler (segment_view segment.entry);
+            }) }
     {
         if let Some(packet) = self.assembler.passing(&segment) {
             return push_packet(text, self.alloc, segment.header.map, packet);
@@ -84,7 +89,8 @@ impl MapListing {
     /// Gives a frame to the receiver, whose buffer is free, and appends its lines.
     #[inline(always)]
     fn push_body(&mut self, text: &mut String, index: u64, body: Body) -> Result<(), AllocError>
-        ensures text { OnOk result (string_bytes text.new ≡ string_bytes text.old ++ body_text self.old index (body_view body.entry)) }
+        ensures text { Appends result text.old text.new
+            (body_text self.old index (body_view body.entry)) }
         ensures state { OnOk result (self.new ≡ after_body self.old (body_view body.entry)) }
     {
         match body {
@@ -120,7 +126,8 @@ impl MapListing {
         index: u64,
         octets: &[u8],
     ) -> Result<bool, AllocError>
-        ensures text { OnOk result (string_bytes text.new ≡ string_bytes text.old ++ record_text self.old index (frame_at check octets.now)) }
+        ensures text { Appends result text.old text.new
+            (record_text self.old index (frame_at check octets.now)) }
         ensures state { OnOk result (self.new ≡ after_record check self.old octets.now) }
         ensures good { IfOk result (λ good. good ≡ is_ok (frame_at check octets.now)) }
     {
@@ -139,7 +146,7 @@ impl MapListing {
 
 /// Appends the line of what is dropped.
 fn push_dropped(text: &mut String, index: u64, cause: &str) -> Result<(), AllocError>
-    ensures { OnOk result (string_bytes text.new ≡ string_bytes text.old ++ dropped_line index cause.now) }
+    ensures { Appends result text.old text.new (dropped_line index cause.now) }
 {
     push_number(text, index)?;
     text.push_str(" dropped ")?;
@@ -155,7 +162,7 @@ fn push_on_map(
     map: u8,
     octets: &[u8],
 ) -> Result<(), AllocError>
-    ensures { OnOk result (string_bytes text.new ≡ string_bytes text.old ++ on_map_line word.now map octets.now) }
+    ensures { Appends result text.old text.new (on_map_line word.now map octets.now) }
 {
     push_field(text, word, u64::from(map))?;
     text.push(' ')?;
@@ -163,7 +170,7 @@ fn push_on_map(
 }
 
 fn push_cause(text: &mut String, index: u64, dropped: Option<Dropped>) -> Result<(), AllocError>
-    ensures { OnOk result (string_bytes text.new ≡ string_bytes text.old ++ cause_text index dropped) }
+    ensures { Appends result text.old text.new (cause_text index dropped) }
 {
     match dropped {
         Some(cause) => push_dropped(text, index, cause.name()),
@@ -173,7 +180,7 @@ fn push_cause(text: &mut String, index: u64, dropped: Option<Dropped>) -> Result
 
 /// Appends the line of a packet that is handed out.
 fn push_packet(text: &mut String, alloc: Global, map: u8, packet: &[u8]) -> Result<(), AllocError>
-    ensures { OnOk result (string_bytes text.new ≡ string_bytes text.old ++ on_map_line (codes "packet ") map packet.now) }
+    ensures { Appends result text.old text.new (on_map_line (codes "packet ") map packet.now) }
 {
     push_on_map(text, alloc, "packet ", map, packet)
 }
@@ -185,7 +192,7 @@ fn push_packets(
     map: u8,
     packets: &[Vec<u8>],
 ) -> Result<(), AllocError>
-    ensures { OnOk result (string_bytes text.new ≡ string_bytes text.old ++ packet_lines map (octets_of packets.now)) }
+    ensures { Appends result text.old text.new (packet_lines map (octets_of packets.now)) }
 {
     for packet in packets {
         push_packet(text, alloc, map, packet.as_slice())?;
@@ -209,7 +216,7 @@ fn push_bypass(
     index: u64,
     segment: Segment,
 ) -> Result<(), AllocError>
-    ensures { OnOk result (string_bytes text.new ≡ string_bytes text.old ++ bypass_text index (segment_view segment.entry)) }
+    ensures { Appends result text.old text.new (bypass_text index (segment_view segment.entry)) }
 {
     if is_bypass(segment) {
         push_on_map(text, alloc, "bypass ", segment.header.map, segment.payload)
@@ -222,7 +229,8 @@ fn push_bypass(
 /// of all of them give on it, in their order.
 pub fn law_of_told_packets()
     ensures { (check : Checking) (width vr : ℕ) (blocking : Bool) (m : ℕ) (records : List (List ℕ))
-        → told_on check m (map_opened width vr blocking) records ≡ assembled (map_limits blocking) m (accepted_in check (opened width vr) records) }
+        → told_on check m (map_opened width vr blocking) records
+        ≡ assembled (map_limits blocking) m (accepted_in check (new_farm width vr) records) }
 {}
 
 impl Listing<Splitter<Unchecked>> for MapListing {

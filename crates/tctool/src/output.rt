@@ -14,7 +14,8 @@ pub struct WriteFailed;
 /// beginning of the text.
 pub fn write_all<W: Sink>(writer: &mut W, text: &[u8]) -> Result<(), WriteFailed>
     ensures ok { OnOk result (W.taken_octets writer.new ≡ W.taken_octets writer.old ++ text.now) }
-    ensures beginning { IsBeginning (W.taken_octets writer.new) (W.taken_octets writer.old ++ text.now) }
+    ensures beginning { IsBeginning (W.taken_octets writer.new)
+        (W.taken_octets writer.old ++ text.now) }
     ensures failures { W.failures writer.new ≡ W.failures writer.old + failed_in result }
 {
     let mut done = 0;

@@ -1,9 +1,10 @@
 // The lines of `tctool packets`.
 
-ghost use Rattle.std.specs.Prelude.{◌≡◌, ◌++◌, OnOk, IfOk, is_ok, string_bytes, get_or, ℕ, List, Option};
+ghost use Rattle.std.specs.Prelude.{◌≡◌, IfOk, is_ok, get_or, ℕ, List, Option};
 ghost use Rattle.space_packet.specs.Counters.{gap_after};
 ghost use Rattle.space_packet.specs.Layout.{packet_view, secondary_bit};
 ghost use Rattle.space_packet.specs.Reading.{packet_at};
+ghost use Rattle.script.specs.Appending.{Appends};
 ghost use Rattle.tctool.specs.PacketLines.{kind_word, none_seen, process_text, sequence_text, gap_text, packet_line, after_packet, packet_lines};
 
 use crate::listing::Listing;
@@ -55,7 +56,7 @@ fn number_of_flag(flag: bool) -> u8
 }
 
 fn push_process(text: &mut String, kind: &str, secondary: u8, apid: u16) -> Result<(), AllocError>
-    ensures { OnOk result (string_bytes text.new ≡ string_bytes text.old ++ process_text kind.now secondary apid) }
+    ensures { Appends result text.old text.new (process_text kind.now secondary apid) }
 {
     text.push_str(kind)?;
     push_field(text, " secondary=", u64::from(secondary))?;
@@ -63,14 +64,14 @@ fn push_process(text: &mut String, kind: &str, secondary: u8, apid: u16) -> Resu
 }
 
 fn push_sequence(text: &mut String, packet: &Packet) -> Result<(), AllocError>
-    ensures { OnOk result (string_bytes text.new ≡ string_bytes text.old ++ sequence_text (packet_view packet.now)) }
+    ensures { Appends result text.old text.new (sequence_text (packet_view packet.now)) }
 {
     push_field(text, " flags=", u64::from(packet.flags))?;
     push_field(text, " count=", u64::from(packet.count))
 }
 
 fn push_gap(text: &mut String, gap: Option<u16>) -> Result<(), AllocError>
-    ensures { OnOk result (string_bytes text.new ≡ string_bytes text.old ++ gap_text gap) }
+    ensures { Appends result text.old text.new (gap_text gap) }
 {
     match gap {
         None => text.push_str(" gap=- data="),

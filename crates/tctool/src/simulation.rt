@@ -1,6 +1,6 @@
 // `tctool sim`: plays a script of the simulated link.
 
-ghost use Rattle.std.specs.Prelude.{◌≡◌, ◌⊎◌, ◌+◌, ◌<◌, ◌≤◌, ◌^◌, ◌-◌, ◌++◌, length, true, Err, OnOk, OnErr, IfOk, IfErr};
+ghost use Rattle.std.specs.Prelude.{◌≡◌, ◌⊎◌, ◌+◌, ◌<◌, ◌≤◌, ◌^◌, ◌-◌, length, true, Err, OnOk, IfOk, IfErr};
 ghost use Rattle.script.specs.Ending.{script_ending, script_text};
 ghost use Rattle.script.specs.Playing.{answers_from};
 ghost use Rattle.script.specs.Scripts.{script_in};
@@ -8,6 +8,7 @@ ghost use Rattle.tctool.specs.Beginning.{IsBeginning};
 ghost use Rattle.tctool.specs.Failures.{writes_failed, reads_failed_in, writes_failed_in};
 ghost use Rattle.tctool.specs.Gained.{gained};
 ghost use Rattle.tctool.specs.Outcome.{outcome_view, as_outcome};
+ghost use Rattle.tctool.specs.Writing.{BeginsToWrite, Writes};
 
 use crate::fault::DumpFault;
 use crate::outcome::Outcome;
@@ -26,8 +27,10 @@ fn write_answers<W: Sink>(
     sim: &mut Sim,
     script: &[u8],
 ) -> Result<(), DumpFault>
-    ensures ok { OnOk result (W.taken_octets writer.new ≡ W.taken_octets writer.old ++ answers_from sim.old.world (script_in script.now)) }
-    ensures beginning { OnErr result (IsBeginning (W.taken_octets writer.new) (W.taken_octets writer.old ++ answers_from sim.old.world (script_in script.now))) }
+    ensures ok { Writes result (W.taken_octets writer.old) (W.taken_octets writer.new)
+        (answers_from sim.old.world (script_in script.now)) }
+    ensures beginning { BeginsToWrite result (W.taken_octets writer.old) (W.taken_octets writer.new)
+        (answers_from sim.old.world (script_in script.now)) }
     ensures failures { W.failures writer.new ≡ W.failures writer.old + writes_failed_in result }
     ensures faults { IfErr result (λ e. (e ≡ DumpFault.Write) ⊎ (e ≡ DumpFault.Memory)) }
 {
@@ -52,9 +55,12 @@ fn write_answers<W: Sink>(
 /// range.
 fn run_script<W: Sink>(alloc: Global, writer: &mut W, script: &[u8]) -> Result<Outcome, DumpFault>
     requires { length script.now < 2 ^ 64 - 1 }
-    ensures text { OnOk result (W.taken_octets writer.new ≡ W.taken_octets writer.old ++ script_text script.now) }
-    ensures outcome { IfOk result (λ outcome. outcome_view outcome ≡ as_outcome (script_ending script.now)) }
-    ensures beginning { OnErr result (IsBeginning (W.taken_octets writer.new) (W.taken_octets writer.old ++ script_text script.now)) }
+    ensures text { Writes result (W.taken_octets writer.old) (W.taken_octets writer.new)
+        (script_text script.now) }
+    ensures outcome { IfOk result (λ outcome. outcome_view outcome
+        ≡ as_outcome (script_ending script.now)) }
+    ensures beginning { BeginsToWrite result (W.taken_octets writer.old) (W.taken_octets writer.new)
+        (script_text script.now) }
     ensures failures { W.failures writer.new ≡ W.failures writer.old + writes_failed_in result }
     ensures faults { IfErr result (λ e. (e ≡ DumpFault.Write) ⊎ (e ≡ DumpFault.Memory)) }
 {
@@ -75,12 +81,14 @@ fn run_script<W: Sink>(alloc: Global, writer: &mut W, script: &[u8]) -> Result<O
 /// Reads the input to its end, in pieces, and keeps it.
 fn read_all<R: Source>(alloc: Global, reader: &mut R) -> Result<Vec<u8>, DumpFault>
     ensures given { IsBeginning (R.given reader.old) (R.given reader.new) }
-    ensures all { IfOk result (λ text. text.items ≡ gained (R.given reader.old) (R.given reader.new)) }
+    ensures all { IfOk result (λ text. text.items
+        ≡ gained (R.given reader.old) (R.given reader.new)) }
     ensures short { IfOk result (λ text. length text.items ≤ MOST_OCTETS) }
     ensures end { OnOk result (R.has_ended reader.new ≡ true) }
     ensures failures { R.failures reader.new ≡ R.failures reader.old + reads_failed_in result }
     ensures faults { IfErr result (λ e. writes_failed e ≡ 0) }
-    ensures too_long { result ≡ Err DumpFault.TooLong → MOST_OCTETS < length (gained (R.given reader.old) (R.given reader.new)) }
+    ensures too_long { result ≡ Err DumpFault.TooLong
+        → MOST_OCTETS < length (gained (R.given reader.old) (R.given reader.new)) }
 {
     let mut text = Vec::new(alloc);
     let mut piece = [0; 4096];
@@ -107,13 +115,17 @@ pub fn simulate<R: Source, W: Sink>(
     writer: &mut W,
 ) -> Result<Outcome, DumpFault>
     ensures given { IsBeginning (R.given reader.old) (R.given reader.new) }
-    ensures text { OnOk result (W.taken_octets writer.new ≡ W.taken_octets writer.old ++ script_text (gained (R.given reader.old) (R.given reader.new))) }
-    ensures outcome { IfOk result (λ outcome. outcome_view outcome ≡ as_outcome (script_ending (gained (R.given reader.old) (R.given reader.new)))) }
+    ensures text { Writes result (W.taken_octets writer.old) (W.taken_octets writer.new)
+        (script_text (gained (R.given reader.old) (R.given reader.new))) }
+    ensures outcome { IfOk result (λ outcome. outcome_view outcome
+        ≡ as_outcome (script_ending (gained (R.given reader.old) (R.given reader.new)))) }
     ensures end { OnOk result (R.has_ended reader.new ≡ true) }
-    ensures beginning { OnErr result (IsBeginning (W.taken_octets writer.new) (W.taken_octets writer.old ++ script_text (gained (R.given reader.old) (R.given reader.new)))) }
+    ensures beginning { BeginsToWrite result (W.taken_octets writer.old) (W.taken_octets writer.new)
+        (script_text (gained (R.given reader.old) (R.given reader.new))) }
     ensures read { R.failures reader.new ≡ R.failures reader.old + reads_failed_in result }
     ensures write { W.failures writer.new ≡ W.failures writer.old + writes_failed_in result }
-    ensures too_long { result ≡ Err DumpFault.TooLong → MOST_OCTETS < length (gained (R.given reader.old) (R.given reader.new)) }
+    ensures too_long { result ≡ Err DumpFault.TooLong
+        → MOST_OCTETS < length (gained (R.given reader.old) (R.given reader.new)) }
 {
     match read_all(alloc, reader) {
         Ok(script) => run_script::<W>(alloc, writer, script.as_slice()),

@@ -1,13 +1,14 @@
 // Reads a stream in pieces, and writes what a command makes of its records.
 
-ghost use Rattle.std.specs.Prelude.{◌≡◌, ◌⊎◌, None, false, true, ◌+◌, ◌-◌, ◌^◌, ◌<◌, ◌≤◌, ◌&&◌, ◌++◌, [], length, Ok, Err, OnOk, OnErr, IfOk, IfErr, string_bytes};
-ghost use Rattle.octets.specs.Records.{first_record, rest_of};
-ghost use Rattle.tctool.specs.Listing.{fresh, listed, text_of, is_all_good, rest_line, is_empty, HasListed, HasRefused, IsRefused};
+ghost use Rattle.std.specs.Prelude.{◌≡◌, ◌⊎◌, None, false, true, ◌+◌, ◌-◌, ◌^◌, ◌<◌, ◌≤◌, ◌&&◌, ◌++◌, [], length, Ok, Err, OnOk, IfOk, IfErr, string_bytes};
+ghost use Rattle.tctool.specs.Layouts.{first_in, rest_in, IsRefused};
+ghost use Rattle.tctool.specs.Listing.{fresh, listed, text_of, is_all_good, rest_line, is_empty, HasListed, HasRefused};
 ghost use Rattle.tctool.specs.Beginning.{IsBeginning};
 ghost use Rattle.tctool.specs.Failures.{reads_failed_in, writes_failed_in};
 ghost use Rattle.tctool.specs.Gained.{gained};
 ghost use Rattle.tctool.specs.Outcome.{outcome_of};
 ghost use Rattle.tctool.specs.Progress.{refusal, standing};
+ghost use Rattle.tctool.specs.Writing.{BeginsToWrite, Writes};
 
 use crate::cutter::Cutter;
 use crate::fault::DumpFault;
@@ -45,10 +46,13 @@ fn list_records<S: Cutter, C: Listing<S>>(
     text: &mut String,
 ) -> Result<Option<S::Fault>, AllocError>
     requires { progress.old.count + length (S.held cutter.old) < 2 ^ 64 }
-    ensures count { OnOk result (progress.new.count + length (S.held cutter.new) ≤ progress.old.count + length (S.held cutter.old)) }
-    ensures listed { OnOk result (standing (string_bytes text.new) command.new progress.new (S.held cutter.new)
-        ≡ listed C.lines S.head S.extent_of S.truncated_fault (standing (string_bytes text.old) command.old progress.old (S.held cutter.old))) }
-    ensures fault { IfOk result (λ fault. first_record S.head S.extent_of (S.held cutter.new) ≡ refusal fault) }
+    ensures count { OnOk result (progress.new.count + length (S.held cutter.new)
+        ≤ progress.old.count + length (S.held cutter.old)) }
+    ensures listed { OnOk result (
+        standing (string_bytes text.new) command.new progress.new (S.held cutter.new)
+        ≡ listed C.lines S.layout
+        (standing (string_bytes text.old) command.old progress.old (S.held cutter.old))) }
+    ensures fault { IfOk result (λ fault. first_in S.layout (S.held cutter.new) ≡ refusal fault) }
     ensures failed { result ≡ Ok None → S.failure cutter.new ≡ S.failure cutter.old }
 {
     while let Some(answer) = cutter.next() {
@@ -73,8 +77,10 @@ enum Course {
 
 /// Writes a text whole, and answers this.
 fn put<W: Sink, T: Copy>(writer: &mut W, text: &String, answer: T) -> Result<T, DumpFault>
-    ensures ok { IfOk result (λ answered. (answered ≡ answer) × (W.taken_octets writer.new ≡ W.taken_octets writer.old ++ string_bytes text.now)) }
-    ensures beginning { OnErr result (IsBeginning (W.taken_octets writer.new) (W.taken_octets writer.old ++ string_bytes text.now)) }
+    ensures ok { IfOk result (λ answered. (answered ≡ answer)
+        × (W.taken_octets writer.new ≡ W.taken_octets writer.old ++ string_bytes text.now)) }
+    ensures beginning { BeginsToWrite result (W.taken_octets writer.old) (W.taken_octets writer.new)
+        (string_bytes text.now) }
     ensures fault { IfErr result (λ e. e ≡ DumpFault.Write) }
     ensures failures { W.failures writer.new ≡ W.failures writer.old + writes_failed_in result }
 {
@@ -95,13 +101,19 @@ fn list_piece<S: Cutter, C: Listing<S>, W: Sink>(
     piece: &[u8],
 ) -> Result<Course, DumpFault>
     requires { progress.old.count + length (S.held cutter.old ++ piece.now) < 2 ^ 64 - 1 }
-    ensures open { result ≡ Ok Course.Open → HasListed C.lines S.head S.extent_of S.truncated_fault (standing [] command.old progress.old (S.held cutter.old ++ piece.now)) (standing [] command.new progress.new (S.held cutter.new))
+    ensures open { result ≡ Ok Course.Open → HasListed C.lines S.layout
+        (standing [] command.old progress.old (S.held cutter.old ++ piece.now))
+        (standing [] command.new progress.new (S.held cutter.new))
         (W.taken_octets writer.old) (W.taken_octets writer.new) }
     ensures going { result ≡ Ok Course.Open → S.failure cutter.new ≡ S.failure cutter.old }
-    ensures count { result ≡ Ok Course.Open → progress.new.count + length (S.held cutter.new) ≤ progress.old.count + length (S.held cutter.old ++ piece.now) }
-    ensures refused { result ≡ Ok Course.Refused → HasRefused C.lines S.head S.extent_of S.truncated_fault (standing [] command.old progress.old (S.held cutter.old ++ piece.now))
+    ensures count { result ≡ Ok Course.Open → progress.new.count + length (S.held cutter.new)
+        ≤ progress.old.count + length (S.held cutter.old ++ piece.now) }
+    ensures refused { result ≡ Ok Course.Refused → HasRefused C.lines S.layout
+        (standing [] command.old progress.old (S.held cutter.old ++ piece.now))
         (W.taken_octets writer.old) (W.taken_octets writer.new) }
-    ensures beginning { OnErr result (IsBeginning (W.taken_octets writer.new) (W.taken_octets writer.old ++ text_of C.lines S.head S.extent_of S.truncated_fault (standing [] command.old progress.old (S.held cutter.old ++ piece.now)))) }
+    ensures beginning { BeginsToWrite result (W.taken_octets writer.old) (W.taken_octets writer.new)
+        (text_of C.lines S.layout
+        (standing [] command.old progress.old (S.held cutter.old ++ piece.now))) }
     ensures failures { W.failures writer.new ≡ W.failures writer.old + writes_failed_in result }
     ensures faults { IfErr result (λ e. (e ≡ DumpFault.Write) ⊎ (e ≡ DumpFault.Memory)) }
 {
@@ -128,12 +140,15 @@ fn list_rest<S: Cutter, C: Listing<S>, W: Sink>(
     text: &mut String,
     writer: &mut W,
 ) -> Result<Outcome, DumpFault>
-    requires open { first_record S.head S.extent_of (S.held cutter.now) ≡ None }
+    requires open { first_in S.layout (S.held cutter.now) ≡ None }
     requires going { S.failure cutter.now ≡ None }
     requires count { progress.count < 2 ^ 64 - 1 }
-    ensures ok { IfOk result (λ outcome. (outcome ≡ outcome_of (progress.all_good && is_empty (S.held cutter.now)))
-        × (W.taken_octets writer.new ≡ W.taken_octets writer.old ++ rest_line C.lines S.head S.extent_of S.truncated_fault (progress.count + 1) (S.held cutter.now))) }
-    ensures beginning { OnErr result (IsBeginning (W.taken_octets writer.new) (W.taken_octets writer.old ++ rest_line C.lines S.head S.extent_of S.truncated_fault (progress.count + 1) (S.held cutter.now))) }
+    ensures ok { IfOk result (λ outcome.
+        (outcome ≡ outcome_of (progress.all_good && is_empty (S.held cutter.now)))
+        × (W.taken_octets writer.new ≡ W.taken_octets writer.old
+        ++ rest_line C.lines S.layout (progress.count + 1) (S.held cutter.now))) }
+    ensures beginning { BeginsToWrite result (W.taken_octets writer.old) (W.taken_octets writer.new)
+        (rest_line C.lines S.layout (progress.count + 1) (S.held cutter.now)) }
     ensures failures { W.failures writer.new ≡ W.failures writer.old + writes_failed_in result }
     ensures faults { IfErr result (λ e. (e ≡ DumpFault.Write) ⊎ (e ≡ DumpFault.Memory)) }
 {
@@ -161,15 +176,21 @@ pub fn list_stream<S: Cutter + Drop, C: Listing<S> + Drop, R: Source, W: Sink>(
     requires held { S.held cutter ≡ [] }
     requires going { S.failure cutter ≡ None }
     ensures given { IsBeginning (R.given reader.old) (R.given reader.new) }
-    ensures text { OnOk result (W.taken_octets writer.new ≡ W.taken_octets writer.old
-        ++ text_of C.lines S.head S.extent_of S.truncated_fault (fresh command (gained (R.given reader.old) (R.given reader.new)))) }
-    ensures outcome { IfOk result (λ outcome. outcome ≡ outcome_of (is_all_good C.lines S.head S.extent_of S.truncated_fault (fresh command (gained (R.given reader.old) (R.given reader.new))))) }
-    ensures end { OnOk result ((R.has_ended reader.new ≡ true) ⊎ IsRefused C.lines S.head S.extent_of S.truncated_fault (rest_of S.head S.extent_of (gained (R.given reader.old) (R.given reader.new)))) }
-    ensures beginning { OnErr result (IsBeginning (W.taken_octets writer.new) (W.taken_octets writer.old
-        ++ text_of C.lines S.head S.extent_of S.truncated_fault (fresh command (gained (R.given reader.old) (R.given reader.new))))) }
+    ensures text { Writes result (W.taken_octets writer.old) (W.taken_octets writer.new)
+        (text_of C.lines S.layout
+        (fresh command (gained (R.given reader.old) (R.given reader.new)))) }
+    ensures outcome { IfOk result (λ outcome. outcome ≡ outcome_of (is_all_good C.lines S.layout
+        (fresh command (gained (R.given reader.old) (R.given reader.new))))) }
+    ensures end { OnOk result ((R.has_ended reader.new ≡ true)
+        ⊎ IsRefused S.layout
+        (rest_in S.layout (gained (R.given reader.old) (R.given reader.new)))) }
+    ensures beginning { BeginsToWrite result (W.taken_octets writer.old) (W.taken_octets writer.new)
+        (text_of C.lines S.layout
+        (fresh command (gained (R.given reader.old) (R.given reader.new)))) }
     ensures read { R.failures reader.new ≡ R.failures reader.old + reads_failed_in result }
     ensures write { W.failures writer.new ≡ W.failures writer.old + writes_failed_in result }
-    ensures too_long { result ≡ Err DumpFault.TooLong → MOST_OCTETS < length (gained (R.given reader.old) (R.given reader.new)) }
+    ensures too_long { result ≡ Err DumpFault.TooLong
+        → MOST_OCTETS < length (gained (R.given reader.old) (R.given reader.new)) }
 {
     let mut progress = Progress {
         count: 0,

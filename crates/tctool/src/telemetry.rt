@@ -1,6 +1,7 @@
 // The lines of `tctool tm`.
 
-ghost use Rattle.std.specs.Prelude.{◌≡◌, ◌+◌, ◌++◌, OnOk, IfOk, codes, string_bytes};
+ghost use Rattle.std.specs.Prelude.{◌≡◌, ◌+◌, ◌++◌, IfOk, codes};
+ghost use Rattle.script.specs.Appending.{Appends};
 ghost use Rattle.tctool.specs.Text.{line_end};
 ghost use Rattle.tm_link.specs.Extraction.{ExtractorState, new_extractor, octets_of};
 ghost use Rattle.tm_link.specs.Layout.{frame_view};
@@ -78,7 +79,7 @@ impl<K: FrameLength> Listing<FrameCutter<K>> for TelemetryListing<K> {
 }
 
 fn push_counts(text: &mut String, index: u64, frame: &TmFrame) -> Result<(), AllocError>
-    ensures { OnOk result (string_bytes text.new ≡ string_bytes text.old ++ counts_text index (frame_view frame.now)) }
+    ensures { Appends result text.old text.new (counts_text index (frame_view frame.now)) }
 {
     push_number(text, index)?;
     push_field(text, " scid=", u64::from(frame.scid))?;
@@ -88,7 +89,8 @@ fn push_counts(text: &mut String, index: u64, frame: &TmFrame) -> Result<(), All
 }
 
 fn push_pointer(text: &mut String, pointer: Pointer) -> Result<(), AllocError>
-    ensures { OnOk result (string_bytes text.new ≡ string_bytes text.old ++ (codes " pointer=" ++ (pointer_text pointer ++ codes " ocf="))) }
+    ensures { Appends result text.old text.new
+        (codes " pointer=" ++ (pointer_text pointer ++ codes " ocf=")) }
 {
     match pointer {
         Pointer::At(place) => {
@@ -101,7 +103,7 @@ fn push_pointer(text: &mut String, pointer: Pointer) -> Result<(), AllocError>
 }
 
 fn push_gap(text: &mut String, gap: Gap) -> Result<(), AllocError>
-    ensures { OnOk result (string_bytes text.new ≡ string_bytes text.old ++ (codes " gap=" ++ (lost_text gap ++ line_end))) }
+    ensures { Appends result text.old text.new (codes " gap=" ++ (lost_text gap ++ line_end)) }
 {
     match gap {
         Gap::First => text.push_str(" gap=-\n"),
@@ -119,7 +121,7 @@ fn push_frame(
     frame: &TmFrame,
     gap: Gap,
 ) -> Result<(), AllocError>
-    ensures { OnOk result (string_bytes text.new ≡ string_bytes text.old ++ frame_line index (frame_view frame.now) gap) }
+    ensures { Appends result text.old text.new (frame_line index (frame_view frame.now) gap) }
 {
     push_counts(text, index, frame)?;
     push_pointer(text, frame.pointer)?;
@@ -129,7 +131,7 @@ fn push_frame(
 
 /// Appends the line of each packet that is finished.
 fn push_finished(text: &mut String, alloc: Global, packets: &[Vec<u8>]) -> Result<(), AllocError>
-    ensures { OnOk result (string_bytes text.new ≡ string_bytes text.old ++ finished_lines (octets_of packets.now)) }
+    ensures { Appends result text.old text.new (finished_lines (octets_of packets.now)) }
 {
     for packet in packets {
         push_packet(text, alloc, packet.as_slice())?;
@@ -138,7 +140,7 @@ fn push_finished(text: &mut String, alloc: Global, packets: &[Vec<u8>]) -> Resul
 }
 
 fn push_packet(text: &mut String, alloc: Global, packet: &[u8]) -> Result<(), AllocError>
-    ensures { OnOk result (string_bytes text.new ≡ string_bytes text.old ++ finished_line packet.now) }
+    ensures { Appends result text.old text.new (finished_line packet.now) }
 {
     text.push_str("packet ")?;
     push_octets(text, alloc, packet)

@@ -1,7 +1,8 @@
 // Pieces of lines.
 
-ghost use Rattle.std.specs.Prelude.{◌≡◌, ◌++◌, OnOk, codes, decimal, string_bytes};
+ghost use Rattle.std.specs.Prelude.{◌++◌, codes, decimal};
 ghost use Rattle.hex.specs.Hex.{encode_upper};
+ghost use Rattle.script.specs.Appending.{Appends};
 ghost use Rattle.tctool.specs.Text.{invalid_line, octets_line};
 
 use itoa::Buffer;
@@ -9,7 +10,7 @@ use std::alloc::{AllocError, Global};
 
 /// Appends the line of a record that was refused, or of a rest.
 pub fn push_invalid(text: &mut String, index: u64, number: u8, name: &str) -> Result<(), AllocError>
-    ensures { OnOk result (string_bytes text.new ≡ string_bytes text.old ++ invalid_line index number name.now) }
+    ensures { Appends result text.old text.new (invalid_line index number name.now) }
 {
     push_number(text, index)?;
     push_field(text, " invalid ", u64::from(number))?;
@@ -22,7 +23,7 @@ pub fn push_invalid(text: &mut String, index: u64, number: u8, name: &str) -> Re
 #[inline(always)]
 #[tactic(auto, using(std::proofs::lemmas::Fmt::decimal_digit))]
 pub fn push_number(text: &mut String, number: u64) -> Result<(), AllocError>
-    ensures { OnOk result (string_bytes text.new ≡ string_bytes text.old ++ decimal number) }
+    ensures { Appends result text.old text.new (decimal number) }
 {
     if number < 10 {
         text.push((b'0' + number as u8) as char)
@@ -33,7 +34,7 @@ pub fn push_number(text: &mut String, number: u64) -> Result<(), AllocError>
 
 #[inline(never)]
 fn push_digits_of(text: &mut String, number: u64) -> Result<(), AllocError>
-    ensures { OnOk result (string_bytes text.new ≡ string_bytes text.old ++ decimal number) }
+    ensures { Appends result text.old text.new (decimal number) }
 {
     let mut buffer = Buffer::new();
     text.push_str(buffer.format(number))
@@ -41,7 +42,7 @@ fn push_digits_of(text: &mut String, number: u64) -> Result<(), AllocError>
 
 /// Appends the number of a record, and a blank.
 pub fn push_index(text: &mut String, index: u64) -> Result<(), AllocError>
-    ensures { OnOk result (string_bytes text.new ≡ string_bytes text.old ++ (decimal index ++ codes " ")) }
+    ensures { Appends result text.old text.new (decimal index ++ codes " ") }
 {
     push_number(text, index)?;
     text.push(' ')
@@ -50,7 +51,7 @@ pub fn push_index(text: &mut String, index: u64) -> Result<(), AllocError>
 /// Appends a word, and a number's decimal digits behind it.
 #[inline(always)]
 pub fn push_field(text: &mut String, name: &str, number: u64) -> Result<(), AllocError>
-    ensures { OnOk result (string_bytes text.new ≡ string_bytes text.old ++ (name.now ++ decimal number)) }
+    ensures { Appends result text.old text.new (name.now ++ decimal number) }
 {
     text.push_str(name)?;
     push_number(text, number)
@@ -58,7 +59,7 @@ pub fn push_field(text: &mut String, name: &str, number: u64) -> Result<(), Allo
 
 /// Appends octets as upper-case hexadecimal digits, and ends the line.
 pub fn push_octets(text: &mut String, alloc: Global, octets: &[u8]) -> Result<(), AllocError>
-    ensures { OnOk result (string_bytes text.new ≡ string_bytes text.old ++ octets_line octets.now) }
+    ensures { Appends result text.old text.new (octets_line octets.now) }
 {
     push_digits(text, alloc, octets)?;
     text.push('\n')
@@ -66,7 +67,7 @@ pub fn push_octets(text: &mut String, alloc: Global, octets: &[u8]) -> Result<()
 
 /// Appends octets as upper-case hexadecimal digits.
 pub fn push_digits(text: &mut String, alloc: Global, octets: &[u8]) -> Result<(), AllocError>
-    ensures { OnOk result (string_bytes text.new ≡ string_bytes text.old ++ encode_upper octets.now) }
+    ensures { Appends result text.old text.new (encode_upper octets.now) }
 {
     let digits = hex::encode_upper(alloc, octets)?;
     text.push_str(digits.as_str())

@@ -5,10 +5,10 @@ use Rattle.std.proofs.lemmas.Bool.{cases_lt, eq-eqb, eqb-true, ne_eqb}
 use Rattle.std.proofs.lemmas.List.{append-nil, drop_all, take-append-le, take-append-drop, length-take}
 use Rattle.octets.proofs.Outcomes.{both_true}
 use Rattle.tm_link.specs.declared.frame.Pointer.TheVariants.{OnlyIdle}
-use Rattle.tm_link.specs.Building.{BuilderState, idle_packet, idle_tail, data_size, is_at_rest, room_left, data_from, first_start, idle_after, passed, sent, counted, build_step}
+use Rattle.tm_link.specs.Building.{BuilderState, idle_packet, idle_tail, data_size, is_at_rest, room_left, data_from, first_start, idle_after, left_after, after_send, with_next_count, build_step}
 use Rattle.tm_link.specs.Layout.{FrameView}
 use Rattle.tm_link.specs.Laying.{held_by, IsCutAt, IsLaidOutBy}
-use Rattle.tm_link.specs.Stream.{IsEnd, IsPointed, slice_of, carried, IsLaidOut}
+use Rattle.tm_link.specs.Stream.{IsEnd, IsPointed, slice_of, carried_octets, IsLaidOut}
 use Rattle.tm_link.proofs.IdlePackets.{drop_both, length-idle, idle_is, not_handed, length-tail, drop_tail, drop_idle}
 use Rattle.tm_link.proofs.Laying.{carried_within, packet_behind, IsNext, next_again, frame_behind, laid_again}
 use Rattle.tm_link.proofs.Passing.{length-more, cut_most, cut_more, pointed_first, slice_is, cut_again, cut_behind, cut_last, passed_held}
@@ -39,7 +39,7 @@ frame_when rest s ocf = record {
 }
 
 abbrev state_when : Bool → BuilderState → BuilderState
-state_when rest s = counted (cond rest s (sent s (data_size s)))
+state_when rest s = with_next_count (cond rest s (after_send s (data_size s)))
 
 abbrev IsKeptWhen : Bool → BuilderState → List ℕ → List (List ℕ) → List FrameView → Type 0
 IsKeptWhen rest s ocf packets frames = IsLaidOutBy (state_when rest s) packets (frames ++ frame_when rest s ocf ∷ [])
@@ -51,13 +51,13 @@ idle_laid s ocf packets frames rest h =
     let both = both_true (eqb s.idle_left 0) (eqb (length s.pending) 0) rest in
     let idle : s.idle_left ≡ 0 = eqb-true _ _ both.0 in
     let none : length s.pending ≡ 0 = eqb-true _ _ both.1 in
-    let place : ℕ = length (carried frames) in
+    let place : ℕ = length (carried_octets frames) in
     let size : place + length (held_by s) ≡ length (concat h.laid.all) = carried_within packets frames (held_by s) h.laid in
     let held : length (held_by s) ≡ s.idle_left + length s.pending = length-held s (omega arith) in
     let here : IsEnd h.laid.all place = (h.laid.all, [], sym (append-nil h.laid.all), omega arith) in
     let x = frame_behind packets frames (held_by s) (held_by s) g h.laid refl here h.next in
-    let next : length (carried (frames ++ g ∷ [])) ≡ place = length-carried frames [] g ∙ omega arith in
-    let cut = cut_again h.laid.all place (s.idle_left + s.begun) (length (carried (frames ++ g ∷ []))) (s.idle_left + s.begun) s.sizes (sym next) refl h.cut in
+    let next : length (carried_octets (frames ++ g ∷ [])) ≡ place = length-carried frames [] g ∙ omega arith in
+    let cut = cut_again h.laid.all place (s.idle_left + s.begun) (length (carried_octets (frames ++ g ∷ []))) (s.idle_left + s.begun) s.sizes (sym next) refl h.cut in
     laid_again (state_when true s) packets (frames ++ g ∷ []) (held_by s) h.laid.all x.0 x.1 refl (next_again frames g) cut
 
 -- what is left of an idle packet, and of the packet that was begun
@@ -67,22 +67,22 @@ left_when rest s = (state_when rest s).idle_left + (state_when rest s).begun
 -- a field that a stream fills which goes on at least so far
 filled_laid : (s : BuilderState) (ocf : List ℕ) (packets : List (List ℕ)) (frames : List FrameView) (stream : List ℕ) (h : IsLaidOut packets frames stream) (all : List (List ℕ)) → h.all ≡ all
     → data_size s ≤ length stream → data_from s.idle_left s.pending (data_size s) ≡ take (data_size s) stream
-    → IsPointed all (length (carried frames)) (first_start (s.idle_left + s.begun) (data_size s)) (data_size s) → IsNext frames s.count
-    → drop (data_size s) stream ≡ held_by (state_when false s) → IsCutAt all (length (carried frames) + data_size s) (left_when false s) (state_when false s).sizes
+    → IsPointed all (length (carried_octets frames)) (first_start (s.idle_left + s.begun) (data_size s)) (data_size s) → IsNext frames s.count
+    → drop (data_size s) stream ≡ held_by (state_when false s) → IsCutAt all (length (carried_octets frames) + data_size s) (left_when false s) (state_when false s).sizes
     → IsKeptWhen false s ocf packets frames
 filled_laid s ocf packets frames stream h all same long payload pointed next held cut =
     let g : FrameView = frame_when false s ocf in
     let size : ℕ = data_size s in
-    let place : ℕ = length (carried frames) in
+    let place : ℕ = length (carried_octets frames) in
     let left : ℕ = s.idle_left + s.begun in
     let count : length (take size stream) ≡ size = length-take size stream ∙ omega arith in
     let slice : slice_of g ≡ take size stream = slice_is left size g.payload ∙ payload in
     let parts : slice_of g ++ drop size stream ≡ stream = ap (λ (xs : List ℕ). xs ++ drop size stream) slice ∙ take-append-drop size stream in
-    let counted-is : IsPointed all place g.pointer (length g.payload) = subst (λ (n : ℕ). IsPointed all place g.pointer n) (sym (ap length payload ∙ count)) pointed in
-    let here : IsPointed h.all place g.pointer (length g.payload) = subst (λ (ps : List (List ℕ)). IsPointed ps place g.pointer (length g.payload)) (sym same) counted-is in
+    let with_next_count-is : IsPointed all place g.pointer (length g.payload) = subst (λ (n : ℕ). IsPointed all place g.pointer n) (sym (ap length payload ∙ count)) pointed in
+    let here : IsPointed h.all place g.pointer (length g.payload) = subst (λ (ps : List (List ℕ)). IsPointed ps place g.pointer (length g.payload)) (sym same) with_next_count-is in
     let x = frame_behind packets frames stream (drop size stream) g h parts here next in
-    let behind : place + size ≡ length (carried (frames ++ g ∷ [])) = sym (length-carried frames [] g ∙ omega (arith, ap length slice)) in
-    laid_again (state_when false s) packets (frames ++ g ∷ []) (drop size stream) all x.0 (x.1 ∙ same) held (next_again frames g) (cut_again all (place + size) (left_when false s) (length (carried (frames ++ g ∷ []))) (left_when false s) (state_when false s).sizes behind refl cut)
+    let behind : place + size ≡ length (carried_octets (frames ++ g ∷ [])) = sym (length-carried frames [] g ∙ omega (arith, ap length slice)) in
+    laid_again (state_when false s) packets (frames ++ g ∷ []) (drop size stream) all x.0 (x.1 ∙ same) held (next_again frames g) (cut_again all (place + size) (left_when false s) (length (carried_octets (frames ++ g ∷ []))) (left_when false s) (state_when false s).sizes behind refl cut)
 
 -- ---- a field that what is held fills
 
@@ -99,7 +99,7 @@ full_laid : (s : BuilderState) (ocf : List ℕ) (packets : List (List ℕ)) (fra
 full_laid s ocf packets frames small full h =
     let all : List (List ℕ) = h.laid.all in
     let size : ℕ = data_size s in
-    let place : ℕ = length (carried frames) in
+    let place : ℕ = length (carried_octets frames) in
     let left : ℕ = s.idle_left + s.begun in
     let held : List ℕ = held_by s in
     let idle : List ℕ = idle_packet (max (room_left size s.idle_left (length s.pending)) 7) in
@@ -140,7 +140,7 @@ cut_short s all place h total short =
     let size : ℕ = data_size s in
     let most : length (concat all) ≡ place + (s.idle_left + s.begun) + length (concat h.whole) = cut_most all place (s.idle_left + s.begun) s.sizes h in
     let count : length (idle_of s) ≡ max (room_of s) 7 = length-idle (max (room_of s) 7) (omega arith) in
-    let gone : passed (size - s.idle_left) s.begun s.sizes ≡ (0, []) = passed_held all place (s.idle_left + s.begun) (size - s.idle_left) s.begun s.sizes h (omega arith) in
+    let gone : left_after (size - s.idle_left) s.begun s.sizes ≡ (0, []) = passed_held all place (s.idle_left + s.begun) (size - s.idle_left) s.begun s.sizes h (omega arith) in
     let after : idle_after size s.idle_left (length s.pending) ≡ 7 - room_of s = after_some size s.idle_left (length s.pending) short in
     rw gone (cut_last all (idle_of s) (place + size) (idle_after size s.idle_left (length s.pending) + 0) (omega arith) (omega arith))
 
@@ -148,7 +148,7 @@ short_laid : (s : BuilderState) (ocf : List ℕ) (packets : List (List ℕ)) (fr
     → IsKeptWhen false s ocf packets frames
 short_laid s ocf packets frames small few short h =
     let size : ℕ = data_size s in
-    let place : ℕ = length (carried frames) in
+    let place : ℕ = length (carried_octets frames) in
     let left : ℕ = s.idle_left + s.begun in
     let held : List ℕ = held_by s in
     let idle : List ℕ = idle_of s in

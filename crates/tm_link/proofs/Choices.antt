@@ -6,11 +6,11 @@ use Rattle.std.proofs.lemmas.List.{append-nil, map-append}
 use Rattle.std.proofs.lemmas.List.Folds.{concat-append}
 use Rattle.tm_link.specs.declared.gap.Gap.TheVariants.{Lost}
 use Rattle.tm_link.specs.Arriving.{IsInRange, all_extracted}
-use Rattle.tm_link.specs.Extraction.{ExtractorState, new_extractor, gap_of, part_behind, packets_in, part_after, handed_out, extract_step}
+use Rattle.tm_link.specs.Extraction.{ExtractorState, new_extractor, gap_of, part_behind, packets_in, part_after, without_idle, extract_step}
 use Rattle.tm_link.specs.Layout.{FrameView}
-use Rattle.tm_link.specs.Stream.{IsPointed, IsLaidOut, IsClose, slice_of, carried, marks_of, come, choice, arrived}
-use Rattle.tm_link.proofs.Marking.{come-short}
-use Rattle.tm_link.proofs.Records.{handed_out-append}
+use Rattle.tm_link.specs.Stream.{IsPointed, IsLaidOut, IsClose, slice_of, carried_octets, marks_of, complete_packets, choice, arrived_packets}
+use Rattle.tm_link.proofs.Marking.{complete_packets-short}
+use Rattle.tm_link.proofs.Records.{without_idle-append}
 use Rattle.tm_link.proofs.Standing.{Packets, Stood, none_opens, moved_on}
 use Rattle.tm_link.proofs.Stepping.{kept, Stepped, step_of}
 
@@ -27,29 +27,29 @@ FirstIs count [] = Unit {0}
 FirstIs count (f ∷ frames) = f.vc_count ≡ count
 
 abbrev HasPointers : Packets → List FrameView → Type 0
-HasPointers all whole = (before after : List FrameView) (f : FrameView) → whole ≡ before ++ f ∷ after → IsPointed all (length (carried before)) f.pointer (length f.payload)
+HasPointers all whole = (before after : List FrameView) (f : FrameView) → whole ≡ before ++ f ∷ after → IsPointed all (length (carried_octets before)) f.pointer (length f.payload)
 
 abbrev HasCounts : List FrameView → Type 0
 HasCounts whole = (before after : List FrameView) (f g : FrameView) → whole ≡ before ++ f ∷ g ∷ after → g.vc_count ≡ (f.vc_count + 1) % 256
 
-carried-push : (before : List FrameView) (f : FrameView) → length (carried (before ++ f ∷ [])) ≡ length (carried before) + length (slice_of f)
-carried-push before f =
+carried_octets-push : (before : List FrameView) (f : FrameView) → length (carried_octets (before ++ f ∷ [])) ≡ length (carried_octets before) + length (slice_of f)
+carried_octets-push before f =
     ap (λ (xs : Packets). length (concat xs)) (map-append slice_of before (f ∷ []))
     ∙ ap length (concat-append (map slice_of before) (slice_of f ∷ []))
-    ∙ length-append (carried before) (slice_of f ++ [])
-    ∙ ap (λ (xs : List ℕ). length (carried before) + length xs) (append-nil (slice_of f))
+    ∙ length-append (carried_octets before) (slice_of f ++ [])
+    ∙ ap (λ (xs : List ℕ). length (carried_octets before) + length xs) (append-nil (slice_of f))
 
 next_first : (whole before frames : List FrameView) (f : FrameView) (count : ℕ) → HasCounts whole → whole ≡ before ++ f ∷ frames → f.vc_count ≡ count → FirstIs ((count + 1) % 256) frames
 next_first whole before [] f count counts e is = tt
 next_first whole before (g ∷ frames) f count counts e is = counts before frames f g e ∙ ap (λ n. (n + 1) % 256) is
 
 follow_of : (all : Packets) (whole before frames : List FrameView) (count : ℕ) → HasPointers all whole → HasCounts whole → whole ≡ before ++ frames → AllByRecursion IsInRange frames → FirstIs count frames
-    → Follow all (length (carried before)) count frames
+    → Follow all (length (carried_octets before)) count frames
 follow_of all whole before [] count pointers counts e each first = tt
 follow_of all whole before (f ∷ frames) count pointers counts e each first =
     let regrouped : whole ≡ (before ++ f ∷ []) ++ frames = e ∙ sym (append_assoc before (f ∷ []) frames) in
     let rest = follow_of all whole (before ++ f ∷ []) frames ((count + 1) % 256) pointers counts regrouped each.1 (next_first whole before frames f count counts e first) in
-    (first, each.0, pointers before frames f e, subst (λ (n : ℕ). Follow all n ((count + 1) % 256) frames) (carried-push before f) rest)
+    (first, each.0, pointers before frames f e, subst (λ (n : ℕ). Follow all n ((count + 1) % 256) frames) (carried_octets-push before f) rest)
 
 abbrev first_count : List FrameView → ℕ
 first_count [] = 0
@@ -127,46 +127,46 @@ tied_part (Some last) part n count keeps chosen t near =
 -- ---- where no more frames come, no more packets do
 
 no_more : (all : Packets) (place : ℕ) (tail : List ℕ) (ps : Packets) (others : List ℕ) (marks : List Bool) → Stood all place tail ps others → length marks ≡ length tail
-    → handed_out (come ps (marks ++ [])) ≡ []
+    → without_idle (complete_packets ps (marks ++ [])) ≡ []
 no_more all place tail [] others marks s sized = refl
 no_more all place tail (p ∷ ps) others marks s sized =
     let short : length tail < length p = s.opens in
-    ap handed_out (come-short p ps (marks ++ []) s.each.1 (omega (arith, length-append marks [])))
+    ap without_idle (complete_packets-short p ps (marks ++ []) s.each.1 (omega (arith, length-append marks [])))
 
 -- ---- any choice
 
 -- one frame that did not come
-came_not : (ps added left : Packets) (marks flags more : List Bool) (n : ℕ) → come ps (marks ++ (replicate n false ++ more)) ≡ added ++ come left (flags ++ more) → added ≡ []
-    → handed_out (come left (flags ++ more)) ≡ handed_out (come ps (marks ++ (replicate n false ++ more)))
-came_not ps added left marks flags more n e none = ap handed_out (sym (e ∙ ap (λ (xs : Packets). xs ++ come left (flags ++ more)) none))
+came_not : (ps added left : Packets) (marks flags more : List Bool) (n : ℕ) → complete_packets ps (marks ++ (replicate n false ++ more)) ≡ added ++ complete_packets left (flags ++ more) → added ≡ []
+    → without_idle (complete_packets left (flags ++ more)) ≡ without_idle (complete_packets ps (marks ++ (replicate n false ++ more)))
+came_not ps added left marks flags more n e none = ap without_idle (sym (e ∙ ap (λ (xs : Packets). xs ++ complete_packets left (flags ++ more)) none))
 
 -- one that came
-came_one : (ps added left given : Packets) (marks flags more : List Bool) (n : ℕ) → come ps (marks ++ (replicate n true ++ more)) ≡ added ++ come left (flags ++ more) → given ≡ handed_out added
-    → given ++ handed_out (come left (flags ++ more)) ≡ handed_out (come ps (marks ++ (replicate n true ++ more)))
+came_one : (ps added left given : Packets) (marks flags more : List Bool) (n : ℕ) → complete_packets ps (marks ++ (replicate n true ++ more)) ≡ added ++ complete_packets left (flags ++ more) → given ≡ without_idle added
+    → given ++ without_idle (complete_packets left (flags ++ more)) ≡ without_idle (complete_packets ps (marks ++ (replicate n true ++ more)))
 came_one ps added left given marks flags more n e is =
-    ap (λ (xs : Packets). xs ++ handed_out (come left (flags ++ more))) is ∙ sym (handed_out-append added (come left (flags ++ more))) ∙ ap handed_out (sym e)
+    ap (λ (xs : Packets). xs ++ without_idle (complete_packets left (flags ++ more))) is ∙ sym (without_idle-append added (complete_packets left (flags ++ more))) ∙ ap without_idle (sym e)
 
 extracted : (frames : List FrameView) (chosen : List Bool) (all : Packets) (place : ℕ) (tail : List ℕ) (ps : Packets) (others : List ℕ) (marks : List Bool) (s : ExtractorState) (n count : ℕ)
-    → Stood all place tail ps (carried frames ++ others) → length marks ≡ length tail → Follow all place count frames → Near s.last n chosen → Tied s.last s.part n count (kept tail marks)
-    → all_extracted s (choice frames chosen) ≡ handed_out (come ps (marks ++ marks_of frames chosen))
+    → Stood all place tail ps (carried_octets frames ++ others) → length marks ≡ length tail → Follow all place count frames → Near s.last n chosen → Tied s.last s.part n count (kept tail marks)
+    → all_extracted s (choice frames chosen) ≡ without_idle (complete_packets ps (marks ++ marks_of frames chosen))
 extracted [] chosen all place tail ps others marks s n count stood sized follow near tied = sym (no_more all place tail ps others marks stood sized)
-extracted (f ∷ frames) [] all place tail ps others marks s n count stood sized follow near tied = sym (no_more all place tail ps (carried (f ∷ frames) ++ others) marks stood sized)
+extracted (f ∷ frames) [] all place tail ps others marks s n count stood sized follow near tied = sym (no_more all place tail ps (carried_octets (f ∷ frames) ++ others) marks stood sized)
 extracted (f ∷ frames) (false ∷ chosen) all place tail ps others marks s n count stood sized follow near tied =
-    let behind : List ℕ = carried frames ++ others in
-    let here : Stood all place tail ps (slice_of f ++ behind) = subst (Stood all place tail ps) (append_assoc (slice_of f) (carried frames) others) stood in
+    let behind : List ℕ = carried_octets frames ++ others in
+    let here : Stood all place tail ps (slice_of f ++ behind) = subst (Stood all place tail ps) (append_assoc (slice_of f) (carried_octets frames) others) stood in
     let step : Stepped false ps tail marks f.pointer f.payload = step_of false all place tail f.payload behind ps marks f.pointer here sized follow.1.some follow.2 in
     let m = step.0 in
     extracted frames chosen all (place + length (slice_of f)) m.begun m.left others m.flags s (suc n) ((count + 1) % 256)
     (moved_on all place tail ps (slice_of f) behind false marks here m) m.sized follow.3 (near_lost s.last n chosen near) (tied_lost s.last s.part n count (kept tail marks) (kept m.begun m.flags) tied step.1.1)
     ∙ came_not ps m.added m.left marks m.flags (marks_of frames chosen) (length (slice_of f)) (m.comes (marks_of frames chosen)) step.1.0
 extracted (f ∷ frames) (true ∷ chosen) all place tail ps others marks s n count stood sized follow near tied =
-    let behind : List ℕ = carried frames ++ others in
-    let here : Stood all place tail ps (slice_of f ++ behind) = subst (Stood all place tail ps) (append_assoc (slice_of f) (carried frames) others) stood in
+    let behind : List ℕ = carried_octets frames ++ others in
+    let here : Stood all place tail ps (slice_of f ++ behind) = subst (Stood all place tail ps) (append_assoc (slice_of f) (carried_octets frames) others) stood in
     let step : Stepped true ps tail marks f.pointer f.payload = step_of true all place tail f.payload behind ps marks f.pointer here sized follow.1.some follow.2 in
     let m = step.0 in
     let part : part_behind (gap_of s.last f.vc_count) s.part ≡ kept tail marks =
     ap (λ (k : ℕ). part_behind (gap_of s.last k) s.part) follow.0 ∙ tied_part s.last s.part n count (kept tail marks) chosen tied near in
-    let given : (extract_step s f).packets ≡ handed_out m.added = ap (λ (xs : List ℕ). handed_out (packets_in xs f.pointer f.payload)) part ∙ ap handed_out step.1.0 in
+    let given : (extract_step s f).packets ≡ without_idle m.added = ap (λ (xs : List ℕ). without_idle (packets_in xs f.pointer f.payload)) part ∙ ap without_idle step.1.0 in
     let after : (extract_step s f).after.part ≡ kept m.begun m.flags = ap (λ (xs : List ℕ). part_after xs f.pointer f.payload) part ∙ step.1.1 in
     let next : (count + 1) % 256 ≡ (f.vc_count + 1 + 0) % 256 = omega (arith, follow.0) in
     ap (λ (xs : Packets). (extract_step s f).packets ++ xs)
@@ -177,9 +177,9 @@ extracted (f ∷ frames) (true ∷ chosen) all place tail ps others marks s n co
 
 -- a new extractor hands out what arrives
 pub extraction_exact : (packets : Packets) (frames : List FrameView) (rest : List ℕ) (laid : IsLaidOut packets frames rest) (chosen : List Bool) → AllByRecursion IsInRange frames → IsClose chosen
-    → all_extracted new_extractor (choice frames chosen) ≡ arrived laid.all frames chosen
+    → all_extracted new_extractor (choice frames chosen) ≡ arrived_packets laid.all frames chosen
 extraction_exact packets frames rest laid chosen each close =
-    let start : Stood laid.all 0 [] laid.all (carried frames ++ rest) =
+    let start : Stood laid.all 0 [] laid.all (carried_octets frames ++ rest) =
     record { passed = []; parts = refl; each = laid.each; place_is = refl; opens = none_opens laid.all laid.each; ahead = laid.stream } in
     extracted frames chosen laid.all 0 [] laid.all rest [] new_extractor 0 (first_count frames) start refl
     (follow_of laid.all frames [] frames (first_count frames) laid.pointers laid.counts refl each (first_is frames)) (begins_from chosen close) (refl, refl)

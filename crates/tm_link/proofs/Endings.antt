@@ -10,7 +10,7 @@ use Rattle.space_packet.specs.Laws.{extent_has_header}
 use Rattle.space_packet.specs.Reading.{extent_at}
 use Rattle.tm_link.specs.declared.ending.Ending.{Ending}
 use Rattle.tm_link.specs.declared.ending.Ending.TheVariants.{Whole, Short}
-use Rattle.tm_link.specs.Extraction.{ending_of, finished_by, part_by, closed, continued, opened}
+use Rattle.tm_link.specs.Extraction.{ending_of, finished_by, part_by, completed_packet, continued_part, opened_part}
 use Rattle.tm_link.proofs.Standing.{Packets, AreRecords, Opens}
 
 pub ending-whole : (p : List ℕ) → IsRecord 6 extent_at p → ending_of p ≡ Whole
@@ -36,28 +36,28 @@ ending-short x y p is parts short = ending_by_length x y p is parts short (cases
 
 -- ---- the part, and octets behind it
 
-closed_by : (part x : List ℕ) (e : Ending) → 0 < length part → ending_of (part ++ x) ≡ e → closed part x ≡ finished_by (part ++ x) e
+closed_by : (part x : List ℕ) (e : Ending) → 0 < length part → ending_of (part ++ x) ≡ e → completed_packet part x ≡ finished_by (part ++ x) e
 closed_by part x e some is = let t : eqb (length part) 0 ≡ false = ne_eqb _ _ (λ (h : length part ≡ 0). omega arith) in rw (t, is) refl
 
-continued_by : (part x : List ℕ) (e : Ending) → 0 < length part → ending_of (part ++ x) ≡ e → continued part x ≡ part_by (part ++ x) e
+continued_by : (part x : List ℕ) (e : Ending) → 0 < length part → ending_of (part ++ x) ≡ e → continued_part part x ≡ part_by (part ++ x) e
 continued_by part x e some is = let t : eqb (length part) 0 ≡ false = ne_eqb _ _ (λ (h : length part ≡ 0). omega arith) in rw (t, is) refl
 
-pub closed-whole : (b : Bool) (tail x p : List ℕ) → 0 < length tail → IsRecord 6 extent_at p → tail ++ x ≡ p → closed (cond b tail []) x ≡ cond b (p ∷ []) []
-closed-whole true tail x p some is whole =
+pub completed_packet-whole : (b : Bool) (tail x p : List ℕ) → 0 < length tail → IsRecord 6 extent_at p → tail ++ x ≡ p → completed_packet (cond b tail []) x ≡ cond b (p ∷ []) []
+completed_packet-whole true tail x p some is whole =
     closed_by tail x Whole some (ap ending_of whole ∙ ending-whole p is) ∙ ap (λ (xs : List ℕ). xs ∷ []) whole
-closed-whole false tail x p some is whole = refl
+completed_packet-whole false tail x p some is whole = refl
 
-pub continued-whole : (b : Bool) (tail x p : List ℕ) → 0 < length tail → IsRecord 6 extent_at p → tail ++ x ≡ p → continued (cond b tail []) x ≡ []
-continued-whole true tail x p some is whole = continued_by tail x Whole some (ap ending_of whole ∙ ending-whole p is)
-continued-whole false tail x p some is whole = refl
+pub continued_part-whole : (b : Bool) (tail x p : List ℕ) → 0 < length tail → IsRecord 6 extent_at p → tail ++ x ≡ p → continued_part (cond b tail []) x ≡ []
+continued_part-whole true tail x p some is whole = continued_by tail x Whole some (ap ending_of whole ∙ ending-whole p is)
+continued_part-whole false tail x p some is whole = refl
 
-pub closed-short : (b : Bool) (tail x : List ℕ) → 0 < length tail → ending_of (tail ++ x) ≡ Short → closed (cond b tail []) x ≡ []
-closed-short true tail x some is = closed_by tail x Short some is
-closed-short false tail x some is = refl
+pub completed_packet-short : (b : Bool) (tail x : List ℕ) → 0 < length tail → ending_of (tail ++ x) ≡ Short → completed_packet (cond b tail []) x ≡ []
+completed_packet-short true tail x some is = closed_by tail x Short some is
+completed_packet-short false tail x some is = refl
 
-pub continued-short : (b : Bool) (tail x : List ℕ) → 0 < length tail → ending_of (tail ++ x) ≡ Short → continued (cond b tail []) x ≡ cond b (tail ++ x) []
-continued-short true tail x some is = continued_by tail x Short some is
-continued-short false tail x some is = refl
+pub continued_part-short : (b : Bool) (tail x : List ℕ) → 0 < length tail → ending_of (tail ++ x) ≡ Short → continued_part (cond b tail []) x ≡ cond b (tail ++ x) []
+continued_part-short true tail x some is = continued_by tail x Short some is
+continued_part-short false tail x some is = refl
 
 -- ---- whole packets and the beginning of the next
 
@@ -89,10 +89,10 @@ records-cut octets begun others whole left each ahead cut opens e =
     let only = only_split 6 extent_at (omega arith) extent_has_header octets begun whole (split_in octets begun others whole left each ahead cut opens e) in
     (sym only.0, sym only.1)
 
-opened_by : (begun : List ℕ) → ending_of begun ≡ Short → opened begun ≡ begun
+opened_by : (begun : List ℕ) → ending_of begun ≡ Short → opened_part begun ≡ begun
 opened_by begun is = ap (part_by begun) is
 
-pub opened-cut : (begun others : List ℕ) (left : Packets) → AreRecords left → Opens begun left → begun ++ others ≡ concat left → opened begun ≡ begun
-opened-cut begun others [] each opens e = ap opened opens ∙ sym opens
-opened-cut begun others (p ∷ ps) each opens e =
+pub opened_part-cut : (begun others : List ℕ) (left : Packets) → AreRecords left → Opens begun left → begun ++ others ≡ concat left → opened_part begun ≡ begun
+opened_part-cut begun others [] each opens e = ap opened_part opens ∙ sym opens
+opened_part-cut begun others (p ∷ ps) each opens e =
     opened_by begun (ending-short begun (drop (length begun) p) p each.0 (begins begun others p (concat ps) e opens) opens)

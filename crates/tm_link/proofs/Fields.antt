@@ -5,7 +5,7 @@ use Rattle.std.proofs.lemmas.Bool.{cond_both, le-leb, lt-leb, lt-ltb, cases_lt}
 use Rattle.std.proofs.lemmas.List.{take_all, length-drop}
 use Rattle.tm_link.specs.declared.frame.Pointer.{Pointer}
 use Rattle.tm_link.specs.declared.frame.Pointer.TheVariants.{At, NoStart, OnlyIdle}
-use Rattle.tm_link.specs.Building.{BuilderState, idle_packet, idle_tail, data_size, is_at_rest, data_from, room_left, data_built, first_start, pointer_built, frame_built, passed}
+use Rattle.tm_link.specs.Building.{BuilderState, idle_packet, idle_tail, data_size, is_at_rest, data_from, room_left, data_built, first_start, pointer_built, frame_built, left_after}
 use Rattle.tm_link.specs.Layout.{FrameView, pointer_fits, IsTmFrame}
 use Rattle.tm_link.specs.Writing.{total_of, spelling, frame_fits}
 use Rattle.tm_link.proofs.Spellings.{spelling_is}
@@ -52,12 +52,12 @@ data_parts left pending size tail count fresh small t c f =
 -- ---- packets passed
 
 -- no more than the packet that was begun
-pub passed_within : (room begun : ℕ) (sizes : List ℕ) → room ≤ begun → passed room begun sizes ≡ (begun - room, sizes)
+pub passed_within : (room begun : ℕ) (sizes : List ℕ) → room ≤ begun → left_after room begun sizes ≡ (begun - room, sizes)
 passed_within room begun [] le = refl
 passed_within room begun (size ∷ sizes) le = rw (le-leb room begun le) refl
 
 -- more than it
-pub passed_beyond : (room begun size : ℕ) (sizes : List ℕ) → begun < room → passed room begun (size ∷ sizes) ≡ passed (room - begun) size sizes
+pub passed_beyond : (room begun size : ℕ) (sizes : List ℕ) → begun < room → left_after room begun (size ∷ sizes) ≡ left_after (room - begun) size sizes
 passed_beyond room begun size sizes lt = rw (lt-leb room begun lt) refl
 
 -- ---- the frame that is built

@@ -9,7 +9,7 @@ use Rattle.octets.proofs.Outcomes.{done}
 use Rattle.space_packet.specs.declared.fault.PacketFault.{PacketFault}
 use Rattle.space_packet.specs.Reading.{extent_at}
 use Rattle.tm_link.specs.Building.{idle_packet, idle_tail}
-use Rattle.tm_link.specs.Extraction.{handed_out}
+use Rattle.tm_link.specs.Extraction.{without_idle}
 
 pub drop_both : (n : ℕ) (xs ys : List ℕ) → drop n (xs ++ ys) ≡ drop n xs ++ drop (n - length xs) ys
 drop_both zero [] ys = refl
@@ -33,7 +33,7 @@ idle_is n least most =
     record { has_head = omega arith; extent_is = ap (done {F = PacketFault}) total }
 
 -- it isn't handed out
-pub not_handed : (packets : List (List ℕ)) (n : ℕ) → packets ++ handed_out (idle_packet n ∷ []) ≡ packets
+pub not_handed : (packets : List (List ℕ)) (n : ℕ) → packets ++ without_idle (idle_packet n ∷ []) ≡ packets
 not_handed packets n = append-nil packets
 
 -- ---- what is left of one

@@ -8,15 +8,15 @@ use Rattle.octets.specs.Records.{IsRecord}
 use Rattle.space_packet.specs.Laws.{own_extent_of}
 use Rattle.space_packet.specs.Layout.{PacketView}
 use Rattle.space_packet.specs.Reading.{extent_at}
-use Rattle.tm_link.specs.Building.{BuilderState, IsToSend, is_to_send, new_builder, queued, idle_tail}
-use Rattle.tm_link.specs.Extraction.{handed_out}
+use Rattle.tm_link.specs.Building.{BuilderState, IsToSend, is_to_send, new_builder, after_queue, idle_tail}
+use Rattle.tm_link.specs.Extraction.{without_idle}
 use Rattle.tm_link.specs.Layout.{FrameView}
 use Rattle.tm_link.specs.Laying.{held_by, IsCutAt, IsLaidOutBy}
-use Rattle.tm_link.specs.Stream.{IsPointed, slice_of, carried, IsLaidOut}
+use Rattle.tm_link.specs.Stream.{IsPointed, slice_of, carried_octets, IsLaidOut}
 use Rattle.tm_link.proofs.Passing.{cut_more}
-use Rattle.tm_link.proofs.Places.{last_or_before, pointed_more, carried-append, length-carried}
+use Rattle.tm_link.proofs.Places.{last_or_before, pointed_more, carried_octets-append, length-carried}
 use Rattle.tm_link.proofs.Queueing.{to_send_is, not_idle}
-use Rattle.tm_link.proofs.Records.{handed_out-append}
+use Rattle.tm_link.proofs.Records.{without_idle-append}
 
 -- ---- a new builder
 
@@ -48,26 +48,26 @@ each_more P [] p each here = (here, tt)
 each_more P (x ∷ xs) p each here = (each.0, each_more P xs p each.1 here)
 
 -- the stream has no fewer octets than the frames carry
-pub carried_within : (packets : List (List ℕ)) (frames : List FrameView) (rest : List ℕ) (h : IsLaidOut packets frames rest) → length (carried frames) + length rest ≡ length (concat h.all)
-carried_within packets frames rest h = sym (length-append (carried frames) rest) ∙ ap length h.stream
+pub carried_within : (packets : List (List ℕ)) (frames : List FrameView) (rest : List ℕ) (h : IsLaidOut packets frames rest) → length (carried_octets frames) + length rest ≡ length (concat h.all)
+carried_within packets frames rest h = sym (length-append (carried_octets frames) rest) ∙ ap length h.stream
 
 -- the frames stay where they are
 pointers_more : (packets : List (List ℕ)) (frames : List FrameView) (rest : List ℕ) (h : IsLaidOut packets frames rest) (more : List (List ℕ)) (before after : List FrameView) (f : FrameView)
-    → frames ≡ before ++ f ∷ after → IsPointed (h.all ++ more) (length (carried before)) f.pointer (length f.payload)
+    → frames ≡ before ++ f ∷ after → IsPointed (h.all ++ more) (length (carried_octets before)) f.pointer (length f.payload)
 pointers_more packets frames rest h more before after f e =
-    let size : length (carried frames) ≡ length (carried before) + (length (slice_of f) + length (carried after)) = ap (λ (fs : List FrameView). length (carried fs)) e ∙ length-carried before after f in
-    let within : length (carried frames) + length rest ≡ length (concat h.all) = carried_within packets frames rest h in
-    pointed_more h.all more (length (carried before)) f.pointer f.payload (omega arith) (h.pointers before after f e)
+    let size : length (carried_octets frames) ≡ length (carried_octets before) + (length (slice_of f) + length (carried_octets after)) = ap (λ (fs : List FrameView). length (carried_octets fs)) e ∙ length-carried before after f in
+    let within : length (carried_octets frames) + length rest ≡ length (concat h.all) = carried_within packets frames rest h in
+    pointed_more h.all more (length (carried_octets before)) f.pointer f.payload (omega arith) (h.pointers before after f e)
 
 -- one more packet, of which the builder holds all octets
-pub packet_behind : (packets more : List (List ℕ)) (frames : List FrameView) (rest p : List ℕ) (h : IsLaidOut packets frames rest) → IsRecord 6 extent_at p → packets ++ handed_out (p ∷ []) ≡ more
+pub packet_behind : (packets more : List (List ℕ)) (frames : List FrameView) (rest p : List ℕ) (h : IsLaidOut packets frames rest) → IsRecord 6 extent_at p → packets ++ without_idle (p ∷ []) ≡ more
     → (l : IsLaidOut more frames (rest ++ p)) × (l.all ≡ h.all ++ p ∷ [])
 packet_behind packets more frames rest p h is e = (
   record {
     all = h.all ++ p ∷ [];
     each = each_more (IsRecord 6 extent_at) h.all p h.each is;
-    sent = handed_out-append h.all (p ∷ []) ∙ ap (λ (ps : List (List ℕ)). ps ++ handed_out (p ∷ [])) h.sent ∙ e;
-    stream = sym (append_assoc (carried frames) rest p) ∙ ap (λ (xs : List ℕ). xs ++ p) h.stream ∙ ap (λ (xs : List ℕ). concat h.all ++ xs) (sym (append-nil p)) ∙ sym (concat-append h.all (p ∷ []));
+    sent = without_idle-append h.all (p ∷ []) ∙ ap (λ (ps : List (List ℕ)). ps ++ without_idle (p ∷ [])) h.sent ∙ e;
+    stream = sym (append_assoc (carried_octets frames) rest p) ∙ ap (λ (xs : List ℕ). xs ++ p) h.stream ∙ ap (λ (xs : List ℕ). concat h.all ++ xs) (sym (append-nil p)) ∙ sym (concat-append h.all (p ∷ []));
     pointers = λ before after f d. pointers_more packets frames rest h (p ∷ []) before after f d;
     counts = h.counts;
   },
@@ -77,12 +77,12 @@ packet_behind packets more frames rest p h is e = (
 -- ---- one more frame
 
 pointers_next : (packets : List (List ℕ)) (frames : List FrameView) (rest : List ℕ) (g : FrameView) (h : IsLaidOut packets frames rest)
-    → IsPointed h.all (length (carried frames)) g.pointer (length g.payload)
-    → (before after : List FrameView) (f : FrameView) → frames ++ g ∷ [] ≡ before ++ f ∷ after → IsPointed h.all (length (carried before)) f.pointer (length f.payload)
+    → IsPointed h.all (length (carried_octets frames)) g.pointer (length g.payload)
+    → (before after : List FrameView) (f : FrameView) → frames ++ g ∷ [] ≡ before ++ f ∷ after → IsPointed h.all (length (carried_octets before)) f.pointer (length f.payload)
 pointers_next packets frames rest g h here before after f e =
     elim (last_or_before frames before after g f e) [
       | inl w ↦ h.pointers before w.0 f w.1
-      | inr w ↦ subst (λ (x : FrameView). IsPointed h.all (length (carried before)) x.pointer (length x.payload)) (sym w.1) (subst (λ (xs : List FrameView). IsPointed h.all (length (carried xs)) g.pointer (length g.payload)) (sym w.0) here)
+      | inr w ↦ subst (λ (x : FrameView). IsPointed h.all (length (carried_octets before)) x.pointer (length x.payload)) (sym w.1) (subst (λ (xs : List FrameView). IsPointed h.all (length (carried_octets xs)) g.pointer (length g.payload)) (sym w.0) here)
     ]
 
 -- the next frame has the count that is next
@@ -105,13 +105,13 @@ next_again frames g before f e =
     ]
 
 pub frame_behind : (packets : List (List ℕ)) (frames : List FrameView) (rest left : List ℕ) (g : FrameView) (h : IsLaidOut packets frames rest) → slice_of g ++ left ≡ rest
-    → IsPointed h.all (length (carried frames)) g.pointer (length g.payload) → IsNext frames g.vc_count → (l : IsLaidOut packets (frames ++ g ∷ []) left) × (l.all ≡ h.all)
+    → IsPointed h.all (length (carried_octets frames)) g.pointer (length g.payload) → IsNext frames g.vc_count → (l : IsLaidOut packets (frames ++ g ∷ []) left) × (l.all ≡ h.all)
 frame_behind packets frames rest left g h parts here next = (
   record {
     all = h.all;
     each = h.each;
     sent = h.sent;
-    stream = ap (λ (xs : List ℕ). xs ++ left) (carried-append frames (g ∷ [])) ∙ append_assoc (carried frames) (slice_of g ++ []) left ∙ ap (λ (xs : List ℕ). carried frames ++ (xs ++ left)) (append-nil (slice_of g)) ∙ ap (λ (xs : List ℕ). carried frames ++ xs) parts ∙ h.stream;
+    stream = ap (λ (xs : List ℕ). xs ++ left) (carried_octets-append frames (g ∷ [])) ∙ append_assoc (carried_octets frames) (slice_of g ++ []) left ∙ ap (λ (xs : List ℕ). carried_octets frames ++ (xs ++ left)) (append-nil (slice_of g)) ∙ ap (λ (xs : List ℕ). carried_octets frames ++ xs) parts ∙ h.stream;
     pointers = pointers_next packets frames rest g h here;
     counts = counts_next packets frames rest g h next;
   },
@@ -120,11 +120,11 @@ frame_behind packets frames rest left g h parts here next = (
 
 -- what the frames lay out, as what a builder does
 pub laid_again : (s : BuilderState) (packets : List (List ℕ)) (frames : List FrameView) (rest : List ℕ) (all : List (List ℕ)) (l : IsLaidOut packets frames rest) → l.all ≡ all → rest ≡ held_by s → IsNext frames s.count
-    → IsCutAt all (length (carried frames)) (s.idle_left + s.begun) s.sizes → IsLaidOutBy s packets frames
+    → IsCutAt all (length (carried_octets frames)) (s.idle_left + s.begun) s.sizes → IsLaidOutBy s packets frames
 laid_again s packets frames rest all l e held next cut = record {
-  laid = record { all = l.all; each = l.each; sent = l.sent; stream = ap (λ (xs : List ℕ). carried frames ++ xs) (sym held) ∙ l.stream; pointers = l.pointers; counts = l.counts };
+  laid = record { all = l.all; each = l.each; sent = l.sent; stream = ap (λ (xs : List ℕ). carried_octets frames ++ xs) (sym held) ∙ l.stream; pointers = l.pointers; counts = l.counts };
   next = next;
-  cut = subst (λ (ps : List (List ℕ)). IsCutAt ps (length (carried frames)) (s.idle_left + s.begun) s.sizes) (sym e) cut;
+  cut = subst (λ (ps : List (List ℕ)). IsCutAt ps (length (carried_octets frames)) (s.idle_left + s.begun) s.sizes) (sym e) cut;
 }
 
 -- ---- queueing
@@ -133,14 +133,14 @@ to_send_record : (p : PacketView) (octets : List ℕ) → IsToSend p octets → 
 to_send_record p octets h = let own = own_extent_of p octets h.packet in record { has_head = own.0; extent_is = own.1 }
 
 -- a packet that is queued is handed out
-to_send_handed : (p : PacketView) (octets : List ℕ) → IsToSend p octets → handed_out (octets ∷ []) ≡ octets ∷ []
+to_send_handed : (p : PacketView) (octets : List ℕ) → IsToSend p octets → without_idle (octets ∷ []) ≡ octets ∷ []
 to_send_handed p octets h = rw (not_idle p octets h) refl
 
 pub queue_laid : (s : BuilderState) (octets : List ℕ) (packets : List (List ℕ)) (frames : List FrameView) → IsOctets octets → is_to_send octets ≡ true
-    → IsLaidOutBy s packets frames → IsLaidOutBy (queued s octets) (packets ++ octets ∷ []) frames
+    → IsLaidOutBy s packets frames → IsLaidOutBy (after_queue s octets) (packets ++ octets ∷ []) frames
 queue_laid s octets packets frames fits sends h =
     let packet = to_send_is octets fits sends in
     let x = packet_behind packets (packets ++ octets ∷ []) frames (held_by s) octets h.laid (to_send_record packet.0 octets packet.1) (ap (λ (ps : List (List ℕ)). packets ++ ps) (to_send_handed packet.0 octets packet.1)) in
-    let held : held_by s ++ octets ≡ held_by (queued s octets) = append_assoc (idle_tail s.idle_left) s.pending octets in
-    let cut = cut_more h.laid.all (length (carried frames)) (s.idle_left + s.begun) s.sizes octets h.cut in
-    laid_again (queued s octets) (packets ++ octets ∷ []) frames (held_by s ++ octets) (h.laid.all ++ octets ∷ []) x.0 x.1 held h.next cut
+    let held : held_by s ++ octets ≡ held_by (after_queue s octets) = append_assoc (idle_tail s.idle_left) s.pending octets in
+    let cut = cut_more h.laid.all (length (carried_octets frames)) (s.idle_left + s.begun) s.sizes octets h.cut in
+    laid_again (after_queue s octets) (packets ++ octets ∷ []) frames (held_by s ++ octets) (h.laid.all ++ octets ∷ []) x.0 x.1 held h.next cut

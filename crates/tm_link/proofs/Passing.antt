@@ -6,7 +6,7 @@ use Rattle.std.proofs.lemmas.List.{append-nil, map-append}
 use Rattle.std.proofs.lemmas.List.Folds.{concat-append}
 use Rattle.tm_link.specs.declared.frame.Pointer.{Pointer}
 use Rattle.tm_link.specs.declared.frame.Pointer.TheVariants.{At, NoStart}
-use Rattle.tm_link.specs.Building.{first_start, passed}
+use Rattle.tm_link.specs.Building.{first_start, left_after}
 use Rattle.tm_link.specs.Laying.{IsCutAt}
 use Rattle.tm_link.specs.Stream.{IsStart, IsPointed, carried_by}
 use Rattle.tm_link.proofs.Fields.{passed_within, passed_beyond}
@@ -69,7 +69,7 @@ cut_within all before whole place begun room e at none some le = record {
 
 -- no more than there are
 pass_on : (all before whole : List (List ℕ)) (place begun room : ℕ) → all ≡ before ++ whole → length (concat before) ≡ place + begun → NoneInside all place begun → 0 < room
-    → room ≤ begun + length (concat whole) → IsCutAt all (place + room) (passed room begun (map length whole)).0 (passed room begun (map length whole)).1
+    → room ≤ begun + length (concat whole) → IsCutAt all (place + room) (left_after room begun (map length whole)).0 (left_after room begun (map length whole)).1
 pass_on all before [] place begun room e at none some le = cut_within all before [] place begun room e at none some (omega arith)
 pass_on all before (p ∷ ps) place begun room e at none some le =
     elim (cases_lt begun room) [
@@ -82,7 +82,7 @@ pass_on all before (p ∷ ps) place begun room e at none some le =
     ]
 
 -- all of them, and more
-pass_all : (whole : List (List ℕ)) (room begun : ℕ) → begun + length (concat whole) < room → passed room begun (map length whole) ≡ (0, [])
+pass_all : (whole : List (List ℕ)) (room begun : ℕ) → begun + length (concat whole) < room → left_after room begun (map length whole) ≡ (0, [])
 pass_all [] room begun lt = let left : begun - room ≡ 0 = omega arith in rw left refl
 pass_all (p ∷ ps) room begun lt =
     let both : length (concat (p ∷ ps)) ≡ length p + length (concat ps) = length-append p (concat ps) in
@@ -90,18 +90,18 @@ pass_all (p ∷ ps) room begun lt =
 
 -- behind so many octets of those that are held
 pub cut_behind : (all : List (List ℕ)) (place idle begun size : ℕ) (sizes : List ℕ) (h : IsCutAt all place (idle + begun) sizes) → size ≤ idle + begun + length (concat h.whole)
-    → IsCutAt all (place + size) (idle - size + (passed (size - idle) begun sizes).0) (passed (size - idle) begun sizes).1
+    → IsCutAt all (place + size) (idle - size + (left_after (size - idle) begun sizes).0) (left_after (size - idle) begun sizes).1
 cut_behind all place idle begun size sizes h le =
     let ends : length (concat h.before) ≡ place + (idle + begun) = h.ends in
     elim (cases_lt idle size) [
       | inl lt ↦
           let none : NoneInside all (place + idle) begun = λ q some below t. let same : place + idle + q ≡ place + (idle + q) = omega arith in h.none (idle + q) (omega arith) (subst (IsStart all) same t) in
           let on = pass_on all h.before h.whole (place + idle) begun (size - idle) h.parts (omega arith) none (omega arith) (omega arith) in
-          let known : IsCutAt all (place + idle + (size - idle)) (passed (size - idle) begun sizes).0 (passed (size - idle) begun sizes).1 =
-          subst (λ (ns : List ℕ). IsCutAt all (place + idle + (size - idle)) (passed (size - idle) begun ns).0 (passed (size - idle) begun ns).1) h.lengths on in
+          let known : IsCutAt all (place + idle + (size - idle)) (left_after (size - idle) begun sizes).0 (left_after (size - idle) begun sizes).1 =
+          subst (λ (ns : List ℕ). IsCutAt all (place + idle + (size - idle)) (left_after (size - idle) begun ns).0 (left_after (size - idle) begun ns).1) h.lengths on in
           cut_again all _ _ (place + size) _ _ (omega arith) (omega arith) known
       | inr ge ↦
-          let kept : passed (size - idle) begun sizes ≡ (begun - (size - idle), sizes) = passed_within (size - idle) begun sizes (omega arith) in
+          let kept : left_after (size - idle) begun sizes ≡ (begun - (size - idle), sizes) = passed_within (size - idle) begun sizes (omega arith) in
           rw kept (record {
             before = h.before;
             whole = h.whole;
@@ -130,5 +130,5 @@ cut_last packets p place left e lt =
     }
 
 -- all of them are passed
-pub passed_held : (all : List (List ℕ)) (place left room begun : ℕ) (sizes : List ℕ) (h : IsCutAt all place left sizes) → begun + length (concat h.whole) < room → passed room begun sizes ≡ (0, [])
-passed_held all place left room begun sizes h lt = ap (λ (ns : List ℕ). passed room begun ns) (sym h.lengths) ∙ pass_all h.whole room begun lt
+pub passed_held : (all : List (List ℕ)) (place left room begun : ℕ) (sizes : List ℕ) (h : IsCutAt all place left sizes) → begun + length (concat h.whole) < room → left_after room begun sizes ≡ (0, [])
+passed_held all place left room begun sizes h lt = ap (λ (ns : List ℕ). left_after room begun ns) (sym h.lengths) ∙ pass_all h.whole room begun lt

@@ -6,7 +6,7 @@ use Rattle.std.proofs.lemmas.List.Folds.{concat-append}
 use Rattle.tm_link.specs.declared.frame.Pointer.{Pointer}
 use Rattle.tm_link.specs.declared.frame.Pointer.TheVariants.{At, NoStart, OnlyIdle}
 use Rattle.tm_link.specs.Layout.{FrameView}
-use Rattle.tm_link.specs.Stream.{IsStart, IsEnd, HasNoStart, IsPointed, carried_by, slice_of, carried}
+use Rattle.tm_link.specs.Stream.{IsStart, IsEnd, HasNoStart, IsPointed, carried_by, slice_of, carried_octets}
 
 -- an element of two lists joined is one of the first, or one of the second
 pub element_of : {X : Type 0} (xs ys before after : List X) (p : X) → xs ++ ys ≡ before ++ p ∷ after
@@ -96,10 +96,10 @@ none_inside all before after p place e at = λ q some lt s.
 
 -- ---- what frames carry
 
-pub carried-append : (xs ys : List FrameView) → carried (xs ++ ys) ≡ carried xs ++ carried ys
-carried-append [] ys = refl
-carried-append (x ∷ xs) ys = ap (λ (zs : List ℕ). slice_of x ++ zs) (carried-append xs ys) ∙ sym (append_assoc (slice_of x) (carried xs) (carried ys))
+pub carried_octets-append : (xs ys : List FrameView) → carried_octets (xs ++ ys) ≡ carried_octets xs ++ carried_octets ys
+carried_octets-append [] ys = refl
+carried_octets-append (x ∷ xs) ys = ap (λ (zs : List ℕ). slice_of x ++ zs) (carried_octets-append xs ys) ∙ sym (append_assoc (slice_of x) (carried_octets xs) (carried_octets ys))
 
-pub length-carried : (before after : List FrameView) (f : FrameView) → length (carried (before ++ f ∷ after)) ≡ length (carried before) + (length (slice_of f) + length (carried after))
+pub length-carried : (before after : List FrameView) (f : FrameView) → length (carried_octets (before ++ f ∷ after)) ≡ length (carried_octets before) + (length (slice_of f) + length (carried_octets after))
 length-carried before after f =
-    ap length (carried-append before (f ∷ after)) ∙ length-append (carried before) (carried (f ∷ after)) ∙ ap (λ (n : ℕ). length (carried before) + n) (length-append (slice_of f) (carried after))
+    ap length (carried_octets-append before (f ∷ after)) ∙ length-append (carried_octets before) (carried_octets (f ∷ after)) ∙ ap (λ (n : ℕ). length (carried_octets before) + n) (length-append (slice_of f) (carried_octets after))

@@ -12,7 +12,7 @@ use Rattle.octets.proofs.Streams.{IsNoRecord, record_is, records_of-record, reco
 use Rattle.space_packet.specs.declared.fault.PacketFault.{PacketFault}
 use Rattle.space_packet.specs.Laws.{extent_is, extent_has_header}
 use Rattle.space_packet.specs.Reading.{extent_at}
-use Rattle.tm_link.specs.Extraction.{is_idle, handed_out, octets_of}
+use Rattle.tm_link.specs.Extraction.{is_idle, without_idle, octets_of}
 use Rattle.tm_link.specs.Splitting.{length_view}
 
 -- ---- whole packets that stand first
@@ -72,14 +72,14 @@ extent_most head n octets h = let has = extent_is head n h in omega (arith, two_
 
 -- ---- packets handed out
 
-pub handed_out-append : (xs ys : List (List ℕ)) → handed_out (xs ++ ys) ≡ handed_out xs ++ handed_out ys
-handed_out-append xs ys = filter-append (λ (packet : List ℕ). not (is_idle packet)) xs ys
+pub without_idle-append : (xs ys : List (List ℕ)) → without_idle (xs ++ ys) ≡ without_idle xs ++ without_idle ys
+without_idle-append xs ys = filter-append (λ (packet : List ℕ). not (is_idle packet)) xs ys
 
 -- a packet, and then more, behind those that were handed out
-pub handed_on : (before now : List (List ℕ)) (packet : List ℕ) (more : List (List ℕ)) → now ≡ before ++ handed_out (packet ∷ []) → now ++ handed_out more ≡ before ++ handed_out (packet ∷ more)
+pub handed_on : (before now : List (List ℕ)) (packet : List ℕ) (more : List (List ℕ)) → now ≡ before ++ without_idle (packet ∷ []) → now ++ without_idle more ≡ before ++ without_idle (packet ∷ more)
 handed_on before now packet more h =
-    ap (λ (xs : List (List ℕ)). xs ++ handed_out more) h ∙ append_assoc before (handed_out (packet ∷ [])) (handed_out more)
-    ∙ ap (λ (xs : List (List ℕ)). before ++ xs) (sym (handed_out-append (packet ∷ []) more))
+    ap (λ (xs : List (List ℕ)). xs ++ without_idle more) h ∙ append_assoc before (without_idle (packet ∷ [])) (without_idle more)
+    ∙ ap (λ (xs : List (List ℕ)). before ++ xs) (sym (without_idle-append (packet ∷ []) more))
 
 pub octets_of-append : (xs ys : List (Vec ℕ Global)) → octets_of (xs ++ ys) ≡ octets_of xs ++ octets_of ys
 octets_of-append [] ys = refl
@@ -91,10 +91,10 @@ none_parts : (xs ys : List (List ℕ)) → xs ++ ys ≡ [] → (xs ≡ []) × (y
 none_parts [] ys h = (refl, h)
 none_parts (x ∷ xs) ys h = absurd cc
 
-pub none_handed : (xs ys : List (List ℕ)) → handed_out (xs ++ ys) ≡ [] → (handed_out xs ≡ []) × (handed_out ys ≡ [])
-none_handed xs ys h = none_parts (handed_out xs) (handed_out ys) (sym (handed_out-append xs ys) ∙ h)
+pub none_handed : (xs ys : List (List ℕ)) → without_idle (xs ++ ys) ≡ [] → (without_idle xs ≡ []) × (without_idle ys ≡ [])
+none_handed xs ys h = none_parts (without_idle xs) (without_idle ys) (sym (without_idle-append xs ys) ∙ h)
 
-pub none_handed-first : (x : List ℕ) (ys : List (List ℕ)) → handed_out (x ∷ ys) ≡ [] → (handed_out (x ∷ []) ≡ []) × (handed_out ys ≡ [])
+pub none_handed-first : (x : List ℕ) (ys : List (List ℕ)) → without_idle (x ∷ ys) ≡ [] → (without_idle (x ∷ []) ≡ []) × (without_idle ys ≡ [])
 none_handed-first x ys h = none_handed (x ∷ []) ys h
 
 pub none_held : (packets : List (Vec ℕ Global)) → octets_of packets ≡ [] → length packets ≡ 0

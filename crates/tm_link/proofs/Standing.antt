@@ -7,8 +7,8 @@ use Rattle.std.proofs.lemmas.List.{append-nil, append_cancel_left, length-replic
 use Rattle.std.proofs.lemmas.List.Folds.{concat-append, list_all-append}
 use Rattle.octets.specs.Records.{IsRecord}
 use Rattle.space_packet.specs.Reading.{extent_at}
-use Rattle.tm_link.specs.Stream.{come}
-use Rattle.tm_link.proofs.Marking.{are_set, set_alike, come-front, come-alike}
+use Rattle.tm_link.specs.Stream.{complete_packets}
+use Rattle.tm_link.proofs.Marking.{are_set, set_alike, complete_packets-front, complete_packets-alike}
 
 abbrev pub Packets : Type 0
 Packets = List (List ℕ)
@@ -55,7 +55,7 @@ pub record Moved (c : Bool) (ps : Packets) (tail : List ℕ) (marks : List Bool)
   pub cut : tail ++ octets ≡ concat through ++ begun
   pub opens : Opens begun left
   pub sized : length flags ≡ length begun
-  pub comes : (more : List Bool) → come ps (marks ++ (replicate (length octets) c ++ more)) ≡ added ++ come left (flags ++ more)
+  pub comes : (more : List Bool) → complete_packets ps (marks ++ (replicate (length octets) c ++ more)) ≡ added ++ complete_packets left (flags ++ more)
 
 pub moved_on : (all : Packets) (place : ℕ) (tail : List ℕ) (ps : Packets) (octets others : List ℕ) (c : Bool) (marks : List Bool)
     → Stood all place tail ps (octets ++ others) → (m : Moved c ps tail marks octets) → Stood all (place + length octets) m.begun m.left others
@@ -89,7 +89,7 @@ moved_within c ps tail octets marks opens sized = record {
   cut = refl;
   opens = opens;
   sized = omega (arith, length-append marks (replicate (length octets) c), length-replicate (length octets) c, length-append tail octets);
-  comes = λ more. ap (come ps) (sym (append_assoc marks (replicate (length octets) c) more));
+  comes = λ more. ap (complete_packets ps) (sym (append_assoc marks (replicate (length octets) c) more));
 }
 
 and_swap : (a b : Bool) → (a && b) ≡ (b && a)
@@ -117,8 +117,8 @@ moved_to_end c p ps tail octets marks each whole short sized =
       cut = whole ∙ sym (append-nil p) ∙ sym (append-nil (p ++ []));
       opens = none_opens ps each;
       sized = refl;
-      comes = λ more. ap (come (p ∷ ps)) (sym (append_assoc marks (replicate (length octets) c) more)) ∙ come-front p ps front more size
-          ∙ ap (λ (b : Bool). cond b (p ∷ []) [] ++ come ps more) (both_set c marks (length octets) (omega arith));
+      comes = λ more. ap (complete_packets (p ∷ ps)) (sym (append_assoc marks (replicate (length octets) c) more)) ∙ complete_packets-front p ps front more size
+          ∙ ap (λ (b : Bool). cond b (p ∷ []) [] ++ complete_packets ps more) (both_set c marks (length octets) (omega arith));
     }
 
 unfoldable pub moved_from_end : (c : Bool) (ps ws left : Packets) (octets begun : List ℕ) → AreRecords ws → ps ≡ ws ++ left → octets ≡ concat ws ++ begun → Opens begun left → Moved c ps [] [] octets
@@ -137,8 +137,8 @@ moved_from_end c ps ws left octets begun each parts cut opens =
       cut = cut;
       opens = opens;
       sized = length-replicate (length begun) c;
-      comes = λ more. ap (λ (xs : Packets). come xs (replicate (length octets) c ++ more)) parts ∙ ap (λ (ms : List Bool). come (ws ++ left) (ms ++ more)) marks
-          ∙ ap (come (ws ++ left)) (append_assoc front behind more) ∙ come-alike c ws left (behind ++ more) each;
+      comes = λ more. ap (λ (xs : Packets). complete_packets xs (replicate (length octets) c ++ more)) parts ∙ ap (λ (ms : List Bool). complete_packets (ws ++ left) (ms ++ more)) marks
+          ∙ ap (complete_packets (ws ++ left)) (append_assoc front behind more) ∙ complete_packets-alike c ws left (behind ++ more) each;
     }
 
 -- one move and then another
@@ -161,8 +161,8 @@ moved_both c ps tail octets xs ys marks both m n =
           ∙ ap (λ (zs : List ℕ). zs ++ n.begun) (sym (concat-append m.through n.through));
       opens = n.opens;
       sized = n.sized;
-      comes = λ more. ap (λ (ms : List Bool). come ps (marks ++ (ms ++ more))) split ∙ ap (λ (ms : List Bool). come ps (marks ++ ms)) (append_assoc front behind more)
-          ∙ m.comes (behind ++ more) ∙ ap (λ (zs : Packets). m.added ++ zs) (n.comes more) ∙ sym (append_assoc m.added n.added (come n.left (n.flags ++ more)));
+      comes = λ more. ap (λ (ms : List Bool). complete_packets ps (marks ++ (ms ++ more))) split ∙ ap (λ (ms : List Bool). complete_packets ps (marks ++ ms)) (append_assoc front behind more)
+          ∙ m.comes (behind ++ more) ∙ ap (λ (zs : Packets). m.added ++ zs) (n.comes more) ∙ sym (append_assoc m.added n.added (complete_packets n.left (n.flags ++ more)));
     }
 
 -- ---- whole packets behind a packet's end

@@ -9,9 +9,9 @@ use Rattle.octets.specs.Records.{IsRecord, records_of, rest_of}
 use Rattle.space_packet.specs.Reading.{extent_at}
 use Rattle.tm_link.specs.declared.frame.Pointer.{Pointer}
 use Rattle.tm_link.specs.declared.frame.Pointer.TheVariants.{At, NoStart, OnlyIdle}
-use Rattle.tm_link.specs.Extraction.{opened, packets_in, part_after}
+use Rattle.tm_link.specs.Extraction.{opened_part, packets_in, part_after}
 use Rattle.tm_link.specs.Stream.{HasNoStart, IsStart, IsPointed, carried_by}
-use Rattle.tm_link.proofs.Endings.{closed-whole, continued-whole, closed-short, continued-short, ending-short, begins, records-cut, opened-cut}
+use Rattle.tm_link.proofs.Endings.{completed_packet-whole, continued_part-whole, completed_packet-short, continued_part-short, ending-short, begins, records-cut, opened_part-cut}
 use Rattle.tm_link.proofs.Marking.{are_set, all_set}
 use Rattle.tm_link.proofs.Pointing.{none_open, none_ahead, some_open, goes_on, ends_there, starts_first}
 use Rattle.tm_link.proofs.Standing.{Packets, AreRecords, Opens, Stood, Moved, moved_within, moved_to_end, moved_from_end, moved_both, cut_of, both_set, records-before, records-behind}
@@ -61,12 +61,12 @@ told_within : (c : Bool) (tail payload y p : List ℕ) (marks : List Bool) → I
     → Told c (kept tail marks) NoStart payload [] (kept (tail ++ payload) (marks ++ replicate (length payload) c))
 told_within true tail payload y p marks is parts short some more =
     let end = ending-short (tail ++ payload) y p is parts short in
-    (closed-short (are_set marks) tail payload some end, continued-short (are_set marks) tail payload some end ∙ sym (kept-more tail payload marks true more))
+    (completed_packet-short (are_set marks) tail payload some end, continued_part-short (are_set marks) tail payload some end ∙ sym (kept-more tail payload marks true more))
 told_within false tail payload y p marks is parts short some more = (refl, kept-more tail payload marks false more)
 
 told_end : (c : Bool) (tail payload p : List ℕ) (marks : List Bool) → IsRecord 6 extent_at p → tail ++ payload ≡ p → 0 < length tail
     → Told c (kept tail marks) NoStart payload (cond (c && are_set marks) (p ∷ []) []) []
-told_end true tail payload p marks is whole some = (closed-whole (are_set marks) tail payload p some is whole, continued-whole (are_set marks) tail payload p some is whole)
+told_end true tail payload p marks is whole some = (completed_packet-whole (are_set marks) tail payload p some is whole, continued_part-whole (are_set marks) tail payload p some is whole)
 told_end false tail payload p marks is whole some = (refl, refl)
 
 -- octets up to the end of the open packet
@@ -106,19 +106,19 @@ step_on c all place tail payload others (p ∷ ps) marks s sized more h =
 
 -- ---- a packet starts
 
-told_start : (c : Bool) (payload ys begun : List ℕ) (ws : Packets) (q : ℕ) → drop q payload ≡ ys → records_of 6 extent_at ys ≡ ws → rest_of 6 extent_at ys ≡ begun → opened begun ≡ begun
+told_start : (c : Bool) (payload ys begun : List ℕ) (ws : Packets) (q : ℕ) → drop q payload ≡ ys → records_of 6 extent_at ys ≡ ws → rest_of 6 extent_at ys ≡ begun → opened_part begun ≡ begun
     → Told c [] (At q) payload (cond c ws []) (kept begun (replicate (length begun) c))
 told_start true payload ys begun ws q behind records rest is =
-    (ap (records_of 6 extent_at) behind ∙ records, ap (λ (xs : List ℕ). opened (rest_of 6 extent_at xs)) behind ∙ ap opened rest ∙ is ∙ sym (kept-set begun (length begun)))
+    (ap (records_of 6 extent_at) behind ∙ records, ap (λ (xs : List ℕ). opened_part (rest_of 6 extent_at xs)) behind ∙ ap opened_part rest ∙ is ∙ sym (kept-set begun (length begun)))
 told_start false payload ys begun ws q behind records rest is = (refl, kept-lost begun)
 
 told_both : (c : Bool) (tail payload p begun : List ℕ) (marks : List Bool) (ws : Packets) (q : ℕ) → 0 < length tail → IsRecord 6 extent_at p → tail ++ take q payload ≡ p
-    → records_of 6 extent_at (drop q payload) ≡ ws → rest_of 6 extent_at (drop q payload) ≡ begun → opened begun ≡ begun
+    → records_of 6 extent_at (drop q payload) ≡ ws → rest_of 6 extent_at (drop q payload) ≡ begun → opened_part begun ≡ begun
     → Told c (kept tail marks) (At q) payload (cond (c && are_set marks) (p ∷ []) [] ++ cond c ws []) (kept begun (replicate (length begun) c))
 told_both true tail payload p begun marks ws q some each whole records rest is = (
-  ap (λ (xs : Packets). xs ++ records_of 6 extent_at (drop q payload)) (closed-whole (are_set marks) tail (take q payload) p some each whole)
+  ap (λ (xs : Packets). xs ++ records_of 6 extent_at (drop q payload)) (completed_packet-whole (are_set marks) tail (take q payload) p some each whole)
       ∙ ap (λ (xs : Packets). cond (are_set marks) (p ∷ []) [] ++ xs) records,
-  ap opened rest ∙ is ∙ sym (kept-set begun (length begun)),
+  ap opened_part rest ∙ is ∙ sym (kept-set begun (length begun)),
 )
 told_both false tail payload p begun marks ws q some each whole records rest is = (refl, kept-lost begun)
 
@@ -137,7 +137,7 @@ step_start c ps payload others each e =
     let ahead : k.begun ++ others ≡ concat k.left = begun_ahead ps k.whole k.left payload others k.begun e k.parts k.cut in
     let records = records-cut payload k.begun others k.whole k.left whole left k.cut k.opens ahead in (
       moved_from_end c ps k.whole k.left payload k.begun whole k.parts k.cut k.opens,
-      told_start c payload payload k.begun k.whole 0 refl records.0 records.1 (opened-cut k.begun others k.left left k.opens ahead),
+      told_start c payload payload k.begun k.whole 0 refl records.0 records.1 (opened_part-cut k.begun others k.left left k.opens ahead),
     )
 
 step_end : (c : Bool) (ps : Packets) (tail payload others p : List ℕ) (marks : List Bool) (q : ℕ) → AreRecords (p ∷ ps) → tail ++ (payload ++ others) ≡ p ++ concat ps → length tail < length p → length marks ≡ length tail
@@ -155,7 +155,7 @@ step_end c ps tail payload others p marks q each e short sized some size le =
       moved_both c (p ∷ ps) tail payload (take q payload) ys marks (sym (take-append-drop q payload))
           (moved_to_end c p ps tail (take q payload) marks each.1 cut.0 short sized)
           (moved_from_end c ps k.whole k.left ys k.begun whole k.parts k.cut k.opens),
-      told_both c tail payload p k.begun marks k.whole q some each.0 cut.0 records.0 records.1 (opened-cut k.begun others k.left left k.opens ahead),
+      told_both c tail payload p k.begun marks k.whole q some each.0 cut.0 records.0 records.1 (opened_part-cut k.begun others k.left left k.opens ahead),
     )
 
 step_at : (c : Bool) (all : Packets) (place : ℕ) (tail payload others : List ℕ) (ps : Packets) (marks : List Bool) (q : ℕ) → Stood all place tail ps (payload ++ others) → length marks ≡ length tail

@@ -3,7 +3,7 @@ use Rattle.std.specs.Prelude.{◌≡◌, ◌<◌, ℕ, List, [], ◌∷◌, ◌+
 use Rattle.std.specs.List.{AllByRecursion}
 use Rattle.tm_link.specs.Extraction.{ExtractorState, new_extractor, extract_step}
 use Rattle.tm_link.specs.Layout.{FrameView}
-use Rattle.tm_link.specs.Stream.{IsLaidOut, IsClose, choice, arrived}
+use Rattle.tm_link.specs.Stream.{IsLaidOut, IsClose, choice, arrived_packets}
 
 -- a frame's count is an octet, and its data field isn't empty
 pub record IsInRange (f : FrameView) : Type 0 where
@@ -33,7 +33,7 @@ pub record LeadsTo (s : ExtractorState) (f : FrameView) (frames : List FrameView
 -- With this frame what arrives is what arrived without it, and then these packets, whatever the stream and the choice.
 abbrev pub IsGain : ExtractorState → FrameView → List (List ℕ) → Type 0
 IsGain s f given = (packets : List (List ℕ)) (frames : List FrameView) (rest : List ℕ) (laid : IsLaidOut packets frames rest) (chosen : List Bool)
-    → AllByRecursion IsInRange frames → LeadsTo s f frames chosen → arrived laid.all frames (chosen ++ true ∷ []) ≡ arrived laid.all frames chosen ++ given
+    → AllByRecursion IsInRange frames → LeadsTo s f frames chosen → arrived_packets laid.all frames (chosen ++ true ∷ []) ≡ arrived_packets laid.all frames chosen ++ given
 
 -- the list of packets has grown by just what the frame gains
 abbrev pub HasGained : ExtractorState → FrameView → List (List ℕ) → List (List ℕ) → Type 0

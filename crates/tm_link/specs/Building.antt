@@ -48,8 +48,8 @@ pub record IsToSend (p : PacketView) (octets : List ℕ) : Type 0 where
 abbrev pub queue_fault : List ℕ → TmFault
 queue_fault octets = if is_to_send octets then faults.Memory else faults.NotAPacket
 
-abbrev pub queued : BuilderState → List ℕ → BuilderState
-queued s octets = record s { pending = s.pending ++ octets; sizes = s.sizes ++ length octets ∷ [] }
+abbrev pub after_queue : BuilderState → List ℕ → BuilderState
+after_queue s octets = record s { pending = s.pending ++ octets; sizes = s.sizes ++ length octets ∷ [] }
 
 -- ---- building
 
@@ -95,27 +95,27 @@ abbrev pub idle_after : ℕ → ℕ → ℕ → ℕ
 idle_after size idle_left count = if room_left size idle_left count == 0 then idle_left - size else 7 - room_left size idle_left count
 
 -- what is left of the packet that was begun, and the packets behind it, once so many of their octets were sent
-abbrev pub passed : ℕ → ℕ → List ℕ → ℕ × List ℕ
-passed room begun [] = (begun - room, [])
-passed room begun (size ∷ sizes) = if nat_le room begun then (begun - room, size ∷ sizes) else passed (room - begun) size sizes
+abbrev pub left_after : ℕ → ℕ → List ℕ → ℕ × List ℕ
+left_after room begun [] = (begun - room, [])
+left_after room begun (size ∷ sizes) = if nat_le room begun then (begun - room, size ∷ sizes) else left_after (room - begun) size sizes
 
 -- behind a field of so many octets
-abbrev pub sent : BuilderState → ℕ → BuilderState
-sent s size =
+abbrev pub after_send : BuilderState → ℕ → BuilderState
+after_send s size =
     let room : ℕ = size - s.idle_left in
     record s {
       idle_left = idle_after size s.idle_left (length s.pending);
       pending = drop room s.pending;
-      begun = (passed room s.begun s.sizes).0;
-      sizes = (passed room s.begun s.sizes).1;
+      begun = (left_after room s.begun s.sizes).0;
+      sizes = (left_after room s.begun s.sizes).1;
     }
 
-abbrev pub filled : BuilderState → BuilderState
-filled s = if is_at_rest s then s else sent s (data_size s)
+abbrev pub after_fill : BuilderState → BuilderState
+after_fill s = if is_at_rest s then s else after_send s (data_size s)
 
-abbrev pub counted : BuilderState → BuilderState
-counted s = record s { count = (s.count + 1) % 256 }
+abbrev pub with_next_count : BuilderState → BuilderState
+with_next_count s = record s { count = (s.count + 1) % 256 }
 
 -- the next frame, with this operational control field, and what the builder holds then
 abbrev pub build_step : BuilderState → List ℕ → FrameView × BuilderState
-build_step s ocf = (frame_built s ocf, counted (filled s))
+build_step s ocf = (frame_built s ocf, with_next_count (after_fill s))

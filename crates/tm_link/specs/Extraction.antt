@@ -65,25 +65,25 @@ part_by octets Wrong = []
 -- ---- a frame's data, in step with a part or with none
 
 -- the packet that the part and these octets behind it are
-abbrev pub closed : List ℕ → List ℕ → List (List ℕ)
-closed part octets = if length part == 0 then [] else finished_by (part ++ octets) (ending_of (part ++ octets))
+abbrev pub completed_packet : List ℕ → List ℕ → List (List ℕ)
+completed_packet part octets = if length part == 0 then [] else finished_by (part ++ octets) (ending_of (part ++ octets))
 
-abbrev pub continued : List ℕ → List ℕ → List ℕ
-continued part octets = if length part == 0 then [] else part_by (part ++ octets) (ending_of (part ++ octets))
+abbrev pub continued_part : List ℕ → List ℕ → List ℕ
+continued_part part octets = if length part == 0 then [] else part_by (part ++ octets) (ending_of (part ++ octets))
 
 -- what stands behind whole packets, unless it is refused
-abbrev pub opened : List ℕ → List ℕ
-opened rest = part_by rest (ending_of rest)
+abbrev pub opened_part : List ℕ → List ℕ
+opened_part rest = part_by rest (ending_of rest)
 
 abbrev pub packets_in : List ℕ → Pointer → List ℕ → List (List ℕ)
 packets_in part OnlyIdle payload = []
-packets_in part NoStart payload = closed part payload
-packets_in part (At p) payload = closed part (take p payload) ++ records_of 6 extent_at (drop p payload)
+packets_in part NoStart payload = completed_packet part payload
+packets_in part (At p) payload = completed_packet part (take p payload) ++ records_of 6 extent_at (drop p payload)
 
 abbrev pub part_after : List ℕ → Pointer → List ℕ → List ℕ
 part_after part OnlyIdle payload = []
-part_after part NoStart payload = continued part payload
-part_after part (At p) payload = opened (rest_of 6 extent_at (drop p payload))
+part_after part NoStart payload = continued_part part payload
+part_after part (At p) payload = opened_part (rest_of 6 extent_at (drop p payload))
 
 -- ---- a frame
 
@@ -92,8 +92,8 @@ abbrev pub is_idle : List ℕ → Bool
 is_idle packet = number_of (take 2 packet) % 2048 == 2047
 
 -- all packets but idle ones
-abbrev pub handed_out : List (List ℕ) → List (List ℕ)
-handed_out packets = filter (λ packet. not (is_idle packet)) packets
+abbrev pub without_idle : List (List ℕ) → List (List ℕ)
+without_idle packets = filter (λ packet. not (is_idle packet)) packets
 
 pub record Extracted : Type 0 where
   pub gap : Gap
@@ -106,7 +106,7 @@ extract_step s f =
     let part : List ℕ = part_behind gap s.part in
     record {
       gap = gap;
-      packets = handed_out (packets_in part f.pointer f.payload);
+      packets = without_idle (packets_in part f.pointer f.payload);
       after = record { last = Some f.vc_count; part = part_after part f.pointer f.payload };
     }
 

@@ -3,7 +3,7 @@ use Rattle.std.specs.Prelude.{◌≡◌, ℕ, ◌+◌, ◌%◌, List, [], ◌∷
 use Rattle.std.specs.List.{concat}
 use Rattle.tm_link.specs.Building.{BuilderState, idle_tail}
 use Rattle.tm_link.specs.Layout.{FrameView}
-use Rattle.tm_link.specs.Stream.{HasNoStart, carried, IsLaidOut}
+use Rattle.tm_link.specs.Stream.{HasNoStart, carried_octets, IsLaidOut}
 
 -- the octets that are still to be sent: those left of an idle packet, and then those of the packets
 abbrev pub held_by : BuilderState → List ℕ
@@ -24,4 +24,4 @@ pub record IsLaidOutBy (s : BuilderState) (packets : List (List ℕ)) (frames : 
   -- the next frame's count follows the last one's
   pub next : (before : List FrameView) (f : FrameView) → frames ≡ before ++ f ∷ [] → s.count ≡ (f.vc_count + 1) % 256
   -- where packets start in what is held
-  pub cut : IsCutAt laid.all (length (carried frames)) (s.idle_left + s.begun) s.sizes
+  pub cut : IsCutAt laid.all (length (carried_octets frames)) (s.idle_left + s.begun) s.sizes

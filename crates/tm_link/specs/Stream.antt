@@ -3,7 +3,7 @@ use Rattle.std.specs.Prelude.{◌≡◌, ◌<◌, ℕ, ◌+◌, ◌%◌, List, [
 use Rattle.std.specs.List.{AllByRecursion, concat, list_all}
 use Rattle.octets.specs.Records.{IsRecord}
 use Rattle.space_packet.specs.Reading.{extent_at}
-use Rattle.tm_link.specs.Extraction.{handed_out}
+use Rattle.tm_link.specs.Extraction.{without_idle}
 use Rattle.tm_link.specs.Layout.{FrameView}
 use Rattle.tm_link.specs.declared.frame.Pointer.{Pointer}
 use Rattle.tm_link.specs.declared.frame.Pointer.TheVariants.{At, NoStart, OnlyIdle}
@@ -29,8 +29,8 @@ carried_by (At p) payload = payload
 abbrev pub slice_of : FrameView → List ℕ
 slice_of f = carried_by f.pointer f.payload
 
-abbrev pub carried : List FrameView → List ℕ
-carried frames = concat (map slice_of frames)
+abbrev pub carried_octets : List FrameView → List ℕ
+carried_octets frames = concat (map slice_of frames)
 
 -- no packet starts within the first n octets from this place on
 abbrev pub HasNoStart : List (List ℕ) → ℕ → ℕ → Type 0
@@ -47,10 +47,10 @@ pub record IsLaidOut (packets : List (List ℕ)) (frames : List FrameView) (rest
   -- the packets of the stream, with idle ones before, between and behind
   pub all : List (List ℕ)
   pub each : AllByRecursion (IsRecord 6 extent_at) all
-  pub sent : handed_out all ≡ packets
-  pub stream : carried frames ++ rest ≡ concat all
+  pub sent : without_idle all ≡ packets
+  pub stream : carried_octets frames ++ rest ≡ concat all
   pub pointers : (before after : List FrameView) (f : FrameView) → frames ≡ before ++ f ∷ after
-      → IsPointed all (length (carried before)) f.pointer (length f.payload)
+      → IsPointed all (length (carried_octets before)) f.pointer (length f.payload)
   pub counts : (before after : List FrameView) (f g : FrameView) → frames ≡ before ++ f ∷ g ∷ after → g.vc_count ≡ (f.vc_count + 1) % 256
 
 -- ---- the packets that arrive
@@ -62,17 +62,17 @@ marks_of (f ∷ frames) [] = []
 marks_of (f ∷ frames) (c ∷ chosen) = replicate (length (slice_of f)) c ++ marks_of frames chosen
 
 -- all of the next n octets came
-abbrev pub have_come : ℕ → List Bool → Bool
-have_come n marks = (length (take n marks) == n) && list_all (λ m. m) (take n marks)
+abbrev pub are_received : ℕ → List Bool → Bool
+are_received n marks = (length (take n marks) == n) && list_all (λ m. m) (take n marks)
 
 -- the packets all of whose octets came, idle ones among them
-abbrev pub come : List (List ℕ) → List Bool → List (List ℕ)
-come [] marks = []
-come (p ∷ ps) marks = if have_come (length p) marks then p ∷ come ps (drop (length p) marks) else come ps (drop (length p) marks)
+abbrev pub complete_packets : List (List ℕ) → List Bool → List (List ℕ)
+complete_packets [] marks = []
+complete_packets (p ∷ ps) marks = if are_received (length p) marks then p ∷ complete_packets ps (drop (length p) marks) else complete_packets ps (drop (length p) marks)
 
 -- in order, the packets all of whose octets lie in the slices of the frames that came
-abbrev pub arrived : List (List ℕ) → List FrameView → List Bool → List (List ℕ)
-arrived all frames chosen = handed_out (come all (marks_of frames chosen))
+abbrev pub arrived_packets : List (List ℕ) → List FrameView → List Bool → List (List ℕ)
+arrived_packets all frames chosen = without_idle (complete_packets all (marks_of frames chosen))
 
 -- the frames that came
 abbrev pub choice : List FrameView → List Bool → List FrameView

@@ -34,8 +34,8 @@ frame_fits f =
     && pointer_fits f.pointer (length f.payload)
 
 -- how many octets are written where there is room for so many, or why none are
-abbrev pub written : FrameView → ℕ → Result ℕ TmFault
-written f room =
+abbrev pub encode_answer : FrameView → ℕ → Result ℕ TmFault
+encode_answer f room =
     if not (frame_fits f) then Err faults.FieldRange
     else if nat_lt room (total_of f) then Err faults.Room
     else Ok (total_of f)

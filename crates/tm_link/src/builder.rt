@@ -1,7 +1,7 @@
 // Building frames of a stream of packets.
 
 ghost use Rattle.std.specs.Prelude.{◌≡◌, ◌≤◌, ◌++◌, ◌↔◌, ℕ, List, [], ◌∷◌, length, take, drop, IsTrue, IsOk, IfOk, IfErr, OnOk, OnErr};
-ghost use Rattle.tm_link.specs.Building.{new_builder, builder_fits, queued, queue_fault, is_to_send, data_size, is_at_rest, first_start, data_built, pointer_built, idle_after, sent, filled, build_step};
+ghost use Rattle.tm_link.specs.Building.{new_builder, builder_fits, after_queue, queue_fault, is_to_send, data_size, is_at_rest, first_start, data_built, pointer_built, idle_after, after_send, after_fill, build_step};
 ghost use Rattle.tm_link.specs.Layout.{FrameView, IsTmFrame};
 ghost use Rattle.tm_link.specs.Laying.{IsLaidOutBy};
 ghost use Rattle.tm_link.specs.Writing.{spelling};
@@ -79,7 +79,7 @@ impl TmBuilder {
     /// not exactly one packet, or an idle packet, and then by 7 `Memory`; the builder is as it was
     /// then.
     pub fn queue(&mut self, packet: &[u8]) -> Result<(), TmFault>
-        ensures ok { OnOk result (self.new ≡ queued self.old packet.now) }
+        ensures ok { OnOk result (self.new ≡ after_queue self.old packet.now) }
         ensures taken { OnOk result (IsTrue (is_to_send packet.now)) }
         ensures err { OnErr result (self.new ≡ self.old) }
         ensures fault { IfErr result (λ e. e ≡ queue_fault packet.now) }
@@ -140,7 +140,7 @@ impl TmBuilder {
         ensures field { field.new ≡ data_built self.old }
         ensures size { length field.new ≡ data_size self.old }
         ensures pointer { result ≡ pointer_built self.old }
-        ensures after { self.new ≡ filled self.old }
+        ensures after { self.new ≡ after_fill self.old }
     {
         if self.is_at_rest() {
             field.fill(0x55);
@@ -161,7 +161,7 @@ impl TmBuilder {
     // Passes a data field of so many octets.
     fn send(&mut self, size: usize)
         requires { size ≤ 2036 }
-        ensures { self.new ≡ sent self.old size }
+        ensures { self.new ≡ after_send self.old size }
     {
         let room = size - self.idle_left.min(size);
         let count = room.min(self.octets.len() - self.start);

@@ -2,7 +2,7 @@
 
 ghost use Rattle.std.specs.Prelude.{◌≡◌, ◌≤◌, ◌<◌, ◌+◌, ◌++◌, length, take, drop, true, IfOk, OnErr};
 ghost use Rattle.tm_link.specs.Layout.{frame_view, pointer_number, pointer_fits, IsTmFrame};
-ghost use Rattle.tm_link.specs.Writing.{total_of, header_octets, front_octets, spelling, frame_fits, written};
+ghost use Rattle.tm_link.specs.Writing.{total_of, header_octets, front_octets, spelling, frame_fits, encode_answer};
 
 use crate::fault::TmFault;
 use crate::frame::{Pointer, TmFrame};
@@ -14,7 +14,7 @@ use octets::append_check;
 /// field out of its range, a pointer to a place past the data, and data of fewer than 4 or more than
 /// 2,036 octets, and then by 9 `Room` an output that is too short.
 pub fn encode(frame: &TmFrame, out: &mut [u8]) -> Result<usize, TmFault>
-    ensures answer { result ≡ written (frame_view frame.now) (length out.old) }
+    ensures answer { result ≡ encode_answer (frame_view frame.now) (length out.old) }
     ensures ok { IfOk result (λ n. out.new ≡ spelling (frame_view frame.now) ++ drop n out.old) }
     ensures err { OnErr result (out.new ≡ out.old) }
 

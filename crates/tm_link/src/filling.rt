@@ -1,7 +1,7 @@
 // Filling a data field from the stream.
 
 ghost use Rattle.std.specs.Prelude.{◌≡◌, ◌≤◌, max, length, take};
-ghost use Rattle.tm_link.specs.Building.{idle_packet, idle_tail, data_from, passed};
+ghost use Rattle.tm_link.specs.Building.{idle_packet, idle_tail, data_from, left_after};
 
 use byteorder::{BigEndian, ByteOrder};
 use std::collections::VecDeque;
@@ -62,8 +62,8 @@ fn put_whole_idle(out: &mut [u8])
 // left of the one that is begun then.
 #[tactic(auto, using(crate::proofs::Fields::passed_within, crate::proofs::Fields::passed_beyond))]
 pub(crate) fn pass(begun: u32, sizes: &mut VecDeque<u32>, count: usize) -> u32
-    ensures begun { result ≡ (passed count begun sizes.old.items).0 }
-    ensures sizes { sizes.new.items ≡ (passed count begun sizes.old.items).1 }
+    ensures begun { result ≡ (left_after count begun sizes.old.items).0 }
+    ensures sizes { sizes.new.items ≡ (left_after count begun sizes.old.items).1 }
 {
     let mut left = begun;
     let mut room = count;

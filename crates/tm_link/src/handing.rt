@@ -3,7 +3,7 @@
 ghost use Rattle.std.specs.Prelude.{◌≡◌, ◌≤◌, ◌+◌, ◌++◌, [], ◌∷◌, length, IsTrue, IsOk, OnOk, IfOk, IfErr};
 ghost use Rattle.octets.specs.Records.{records_of};
 ghost use Rattle.space_packet.specs.Reading.{extent_at};
-ghost use Rattle.tm_link.specs.Extraction.{closed, packets_in, handed_out, GrowsBy};
+ghost use Rattle.tm_link.specs.Extraction.{completed_packet, packets_in, without_idle, GrowsBy};
 ghost use Rattle.tm_link.specs.Layout.{pointer_fits};
 
 use crate::ending::{Ending, ending_with, first_len, is_idle_with};
@@ -21,8 +21,8 @@ pub(crate) fn find(
 ) -> Result<(), TmFault>
     requires { IsTrue (pointer_fits pointer (length payload.now)) }
     ensures ok { OnOk result (GrowsBy found.old found.new
-        (handed_out (packets_in part.now pointer payload.now))) }
-    ensures none { handed_out (packets_in part.now pointer payload.now) ≡ [] → IsOk result }
+        (without_idle (packets_in part.now pointer payload.now))) }
+    ensures none { without_idle (packets_in part.now pointer payload.now) ≡ [] → IsOk result }
     ensures fault { IfErr result (λ e. e ≡ TmFault.Memory) }
 {
     match pointer {
@@ -39,8 +39,8 @@ pub(crate) fn find(
 // Appends the packet that the part, and these octets behind it, are.
 fn close(alloc: Global, part: &[u8], octets: &[u8], found: &mut Vec<Vec<u8>>) -> Result<(), TmFault>
     ensures ok { OnOk result (GrowsBy found.old found.new
-        (handed_out (closed part.now octets.now))) }
-    ensures none { handed_out (closed part.now octets.now) ≡ [] → IsOk result }
+        (without_idle (completed_packet part.now octets.now))) }
+    ensures none { without_idle (completed_packet part.now octets.now) ≡ [] → IsOk result }
     ensures fault { IfErr result (λ e. e ≡ TmFault.Memory) }
 {
     if part.is_empty() {
@@ -55,8 +55,8 @@ fn close(alloc: Global, part: &[u8], octets: &[u8], found: &mut Vec<Vec<u8>>) ->
 // Appends the whole packets that stand first.
 fn split(alloc: Global, octets: &[u8], found: &mut Vec<Vec<u8>>) -> Result<(), TmFault>
     ensures ok { OnOk result (GrowsBy found.old found.new
-        (handed_out (records_of 6 extent_at octets.now))) }
-    ensures none { handed_out (records_of 6 extent_at octets.now) ≡ [] → IsOk result }
+        (without_idle (records_of 6 extent_at octets.now))) }
+    ensures none { without_idle (records_of 6 extent_at octets.now) ≡ [] → IsOk result }
     ensures fault { IfErr result (λ e. e ≡ TmFault.Memory) }
 {
     let mut rest = octets;
@@ -76,8 +76,8 @@ fn hand_out(
 ) -> Result<(), TmFault>
     requires { 2 ≤ length first.now + length second.now }
     ensures ok { OnOk result (GrowsBy found.old found.new
-        (handed_out ((first.now ++ second.now) ∷ []))) }
-    ensures none { handed_out ((first.now ++ second.now) ∷ []) ≡ [] → IsOk result }
+        (without_idle ((first.now ++ second.now) ∷ []))) }
+    ensures none { without_idle ((first.now ++ second.now) ∷ []) ≡ [] → IsOk result }
     ensures fault { IfErr result (λ e. e ≡ TmFault.Memory) }
 {
     if is_idle_with(first, second) {

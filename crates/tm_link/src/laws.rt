@@ -9,7 +9,7 @@ ghost use Rattle.tm_link.specs.Building.{is_to_send, IsToSend};
 ghost use Rattle.tm_link.specs.Extraction.{new_extractor};
 ghost use Rattle.tm_link.specs.Layout.{FrameView, IsTmFrame, IsSpelling};
 ghost use Rattle.tm_link.specs.Reading.{frame_at};
-ghost use Rattle.tm_link.specs.Stream.{carried, IsLaidOut, IsClose, choice, arrived};
+ghost use Rattle.tm_link.specs.Stream.{carried_octets, IsLaidOut, IsClose, choice, arrived_packets};
 ghost use Rattle.tm_link.specs.Writing.{total_of, frame_fits, spelling};
 
 /// A frame whose fields are in range has its spelling, and no other octets spell it.
@@ -42,7 +42,8 @@ pub fn law_of_extraction()
     ensures some { (packets : List (List ℕ)) (frames : List FrameView) (rest : List ℕ)
         (laid : IsLaidOut packets frames rest) (chosen : List Bool)
         → AllByRecursion IsInRange frames → IsClose chosen
-        → all_extracted new_extractor (choice frames chosen) ≡ arrived laid.all frames chosen }
+        → all_extracted new_extractor (choice frames chosen)
+        ≡ arrived_packets laid.all frames chosen }
     ensures all { (packets : List (List ℕ)) (frames : List FrameView) → IsLaidOut packets frames []
         → AllByRecursion IsInRange frames → all_extracted new_extractor frames ≡ packets }
     ensures range { (total : ℕ) (f : FrameView) (octets : List ℕ) → IsSpelling total f octets
@@ -53,5 +54,5 @@ pub fn law_of_extraction()
 pub fn law_of_stream()
     ensures { (packets : List (List ℕ)) (frames : List FrameView) (rest : List ℕ)
         (laid : IsLaidOut packets frames rest)
-        → IsOctets (carried frames ++ rest) → AllByRecursion IsSomePacket laid.all }
+        → IsOctets (carried_octets frames ++ rest) → AllByRecursion IsSomePacket laid.all }
 {}

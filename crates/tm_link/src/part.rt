@@ -3,14 +3,14 @@
 ghost use Rattle.std.specs.Prelude.{◌≡◌, ◌≤◌, vec_capacity};
 ghost use Rattle.octets.specs.Records.{rest_of};
 ghost use Rattle.space_packet.specs.Reading.{extent_at};
-ghost use Rattle.tm_link.specs.Extraction.{continued, opened};
+ghost use Rattle.tm_link.specs.Extraction.{continued_part, opened_part};
 
 use crate::ending::{Ending, ending_with, rest_behind};
 
 // Goes on with the part.
 pub(crate) fn go_on(part: &mut Vec<u8>, octets: &[u8])
     requires { 65542 ≤ vec_capacity part.old }
-    ensures part { part.new.items ≡ continued part.old.items octets.now }
+    ensures part { part.new.items ≡ continued_part part.old.items octets.now }
     ensures room { 65542 ≤ vec_capacity part.new }
 {
     if part.is_empty() {
@@ -26,7 +26,7 @@ pub(crate) fn go_on(part: &mut Vec<u8>, octets: &[u8])
 // Begins a part with what stands behind whole packets.
 pub(crate) fn open(part: &mut Vec<u8>, octets: &[u8])
     requires { 65542 ≤ vec_capacity part.old }
-    ensures part { part.new.items ≡ opened (rest_of 6 extent_at octets.now) }
+    ensures part { part.new.items ≡ opened_part (rest_of 6 extent_at octets.now) }
     ensures room { 65542 ≤ vec_capacity part.new }
 {
     part.clear();

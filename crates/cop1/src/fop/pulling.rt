@@ -33,8 +33,8 @@ pub enum Next<U> {
 impl<U: Drop> Fop<U> {
     ghost use Rattle.std.specs.Prelude.{◌≡◌, ◌≢◌, ◌<◌, None, length, slice_get, option_copied};
     ghost use Rattle.cop1.specs.declared.fop.FopMode.{FopMode};
-    ghost use Rattle.cop1.specs.FopPull.{next_sequence, next_waiting, oldest_marked, sent_first, count_behind};
-    ghost use Rattle.cop1.specs.FopNext.{units_of, seen_at, shown, IsPlaced};
+    ghost use Rattle.cop1.specs.FopPull.{next_sequence, next_waiting, oldest_marked, after_send_first, count_behind};
+    ghost use Rattle.cop1.specs.FopNext.{units_of, seen_at, pulled_view, IsPlaced};
     ghost use Rattle.std.specs.Borrow.{sem};
     ghost use Rattle.cop1.specs.FopLends.{EndsAs};
     ghost use Rattle.cop1.specs.FopStep.{fop_step, Pull};
@@ -103,7 +103,7 @@ impl<U: Drop> Fop<U> {
         requires active { self.old.state ≢ FopMode.S6 }
         requires unmarked { oldest_marked 0 self.old.sent ≡ None }
         requires room { length self.old.sent < self.old.room }
-        ensures { self.new ≡ sent_first self.old unit }
+        ensures { self.new ≡ after_send_first self.old unit }
     {
         self.count = self.count_behind();
         let _ = self.sent.push_back(unit);
@@ -130,7 +130,7 @@ impl<U: Drop> Fop<U> {
     /// lent.
     pub fn pull(&mut self) -> Pulled<'_, U>
         ensures* after { sem 𝓛 (EndsAs U.row self.entry (fop_step self.old Pull).after) }
-        ensures answer { shown result ≡ (fop_step self.old Pull).answer }
+        ensures answer { pulled_view result ≡ (fop_step self.old Pull).answer }
     {
         let next = self.next();
         self.show(next)
@@ -139,7 +139,7 @@ impl<U: Drop> Fop<U> {
     #[tactic(auto, using(crate::proofs::Marks::marks))]
     fn show(&self, next: Next<U>) -> Pulled<'_, U>
         requires { IsPlaced (units_of self.now.sent) next }
-        ensures { shown result ≡ seen_at (units_of self.now.sent) next }
+        ensures { pulled_view result ≡ seen_at (units_of self.now.sent) next }
     {
         match next {
             Next::Nothing => Pulled::Nothing,

@@ -3,7 +3,7 @@
 ghost use Rattle.std.specs.Prelude.{◌≡◌, None, Some, IfOk};
 ghost use Rattle.tc_frame.specs.declared.frame.SegmentFlags.TheVariants as flags;
 ghost use Rattle.tc_frame.specs.Layout.{segment_view};
-ghost use Rattle.map_service.specs.Taking.{gives, alone_packets, alone_fault, cell, cell_at};
+ghost use Rattle.map_service.specs.Taking.{packets_outcome, alone_packets, alone_fault, cell, cell_at};
 ghost use Rattle.map_service.specs.Views.{part_view, packets_view};
 
 use super::Assembler;
@@ -57,7 +57,7 @@ fn foreseen_cell(
 
 fn foreseen_alone(alloc: Global, limits: &Limits, octets: &[u8]) -> Result<Vec<Vec<u8>>, AllocError>
     ensures { IfOk result (λ packets. packets_view packets
-        ≡ (gives None
+        ≡ (packets_outcome None
         (alone_packets limits.now octets.now)
         (alone_fault limits.now octets.now)).packets) }
 {

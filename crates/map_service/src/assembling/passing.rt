@@ -13,7 +13,7 @@ impl Assembler {
     ghost use Rattle.std.specs.Prelude.{IfSome, IsSome};
     ghost use Rattle.tc_frame.specs.Layout.{segment_view};
     ghost use Rattle.map_service.specs.Exactness.{passing, step_at, after_step};
-    ghost use Rattle.map_service.specs.Taking.{passes};
+    ghost use Rattle.map_service.specs.Taking.{packet_outcome};
 
     /// The packet that an alone segment is, in the segment's own octets, where `take` would hand out
     /// just this, drop nothing and change nothing, so that the segment need not be taken: its MAP is
@@ -23,7 +23,7 @@ impl Assembler {
         ensures packet { option_map (λ octets. octets.now) result
             ≡ passing self.now (segment_view segment.now) }
         ensures outcome { IfSome result
-            (λ octets. step_at self.now (segment_view segment.now) ≡ passes octets.now) }
+            (λ octets. step_at self.now (segment_view segment.now) ≡ packet_outcome octets.now) }
         ensures state { IsSome result → after_step self.now (segment_view segment.now) ≡ self.now }
     {
         let map = segment.header.map;

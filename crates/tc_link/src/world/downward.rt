@@ -1,7 +1,7 @@
 // What comes from the spacecraft: telemetry frames, which report.
 
 ghost use Rattle.std.specs.Prelude.{◌≡◌};
-ghost use Rattle.tc_link.specs.World.{confirms};
+ghost use Rattle.tc_link.specs.World.{is_confirmation};
 
 use super::World;
 use crate::event::Event;
@@ -51,14 +51,15 @@ impl World {
         };
         let _ = self.down.pop_front();
         self.session.acknowledged += usize::from(self.ground_node.nn().wrapping_sub(nn));
-        self.session.confirmed = self.session.confirmed || confirms(mode, self.ground_node.state());
+        self.session.confirmed = self.session.confirmed
+            || is_confirmation(mode, self.ground_node.state());
         Ok(Reply::Down(heard))
     }
 }
 
 // Whether a report that takes the ground from one state to another confirms the session.
-fn confirms(old: FopMode, new: FopMode) -> bool
-    ensures { result ≡ confirms old new }
+fn is_confirmation(old: FopMode, new: FopMode) -> bool
+    ensures { result ≡ is_confirmation old new }
 {
     match new {
         FopMode::S1 => matches!(&old, FopMode::S4 | FopMode::S5),

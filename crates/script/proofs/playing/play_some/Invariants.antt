@@ -3,7 +3,7 @@ use Rattle.script.specs.Scripts.{script_in}
 use Rattle.script.specs.Playing.{answers_from}
 use Rattle.script.proofs.playing.play_some.Given as goal
 
--- what is told and what the lines from here on tell is what all lines tell
+-- the text so far and the answers to the lines from here on are the answers to all lines
 abbrev pub invariant-lines : goal.invariant-lines
 invariant-lines l = record {
   same : string_bytes l.text ++ answers_from l.sim.world (script_in l.rest) ≡ string_bytes l.fn.text ++ answers_from l.fn.sim.world (script_in l.fn.lines);

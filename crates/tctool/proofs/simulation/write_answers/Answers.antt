@@ -1,5 +1,5 @@
 use Rattle.std.proofs.Common.{◌≡◌, ◌++◌, ◌∙◌, List, ℕ, sym, ap, subst, option_copied}
-use Rattle.script.specs.Ending.{told_behind}
+use Rattle.script.specs.Ending.{remaining_answers}
 use Rattle.script.specs.Playing.{answers_from}
 use Rattle.script.specs.Scripts.{script_in}
 use Rattle.tctool.specs.Beginning.{IsBeginning}
@@ -9,8 +9,8 @@ use Rattle.tctool.proofs.simulation.write_answers.Goals as goal
 pub returns-in-Err-clause-beginning : goal.returns-in-Err-clause-beginning
 returns-in-Err-clause-beginning g c =
     let taken = g.W.Sink.taken_octets in
-    let more = told_behind c.play_some.new.sim.world (option_copied c.in-Ok.behind) in
+    let more = remaining_answers c.play_some.new.sim.world (option_copied c.in-Ok.behind) in
     let whole = answers_from c.pieces.sim.world (script_in c.pieces.rest.now) in
-    let told : whole ≡ c.as_bytes.result.now ++ more = sym (ap (λ (t : List ℕ). t ++ more) c.as_bytes.ensures.value ∙ c.in-Ok.ensures.told ∙ ap (λ (t : List ℕ). t ++ whole) c.clear.ensures.bytes) in
+    let told : whole ≡ c.as_bytes.result.now ++ more = sym (ap (λ (t : List ℕ). t ++ more) c.as_bytes.ensures.value ∙ c.in-Ok.ensures.answers ∙ ap (λ (t : List ℕ). t ++ whole) c.clear.ensures.bytes) in
     subst (IsBeginning (taken c.write_all.new.writer)) c.pieces.invariant.same
     (begins_more (taken c.write_all.new.writer) (taken c.pieces.writer) c.as_bytes.result.now more whole told c.in-Err.ensures.beginning)

@@ -1,7 +1,7 @@
 use Rattle.std.proofs.Common.{◌≡◌, ◌∙◌, ◌++◌, ◌+◌, [], Err, sym, ap}
 use Rattle.std.specs.Prelude.{string_bytes, Some}
 use Rattle.std.proofs.lemmas.Result.{on_err_weaker}
-use Rattle.octets.specs.Records.{first_record}
+use Rattle.tctool.specs.Layouts.{first_in}
 use Rattle.tctool.specs.Listing.{listed, rest_line}
 use Rattle.tctool.specs.Progress.{standing, refusal}
 use Rattle.tctool.proofs.Beginnings.{begins_more, begins_same}
@@ -10,8 +10,8 @@ use Rattle.tctool.proofs.stream.list_piece.Goals as goal
 
 pub returns-in_default-fault-clause-beginning : goal.returns-in_default-fault-clause-beginning
 returns-in_default-fault-clause-beginning g c =
-    let all = listed g.C.Listing.lines g.S.Cutter.head g.S.Cutter.extent_of g.S.Cutter.truncated_fault in
-    let line = rest_line g.C.Listing.lines g.S.Cutter.head g.S.Cutter.extent_of g.S.Cutter.truncated_fault in
+    let all = listed g.C.Listing.lines g.S.Cutter.layout in
+    let line = rest_line g.C.Listing.lines g.S.Cutter.layout in
     let st = standing [] c.args.command.now c.args.progress.now (g.S.Cutter.held c.args.cutter.now ++ c.args.piece.now) in
     let begun : standing (string_bytes c.clear.new.self) c.args.command.now c.args.progress.now (g.S.Cutter.held c.feed.new.self) ≡ st =
     ap (λ t. standing t c.args.command.now c.args.progress.now (g.S.Cutter.held c.feed.new.self)) c.clear.ensures.bytes ∙ ap (standing [] c.args.command.now c.args.progress.now) c.in-Ok.ensures.ok in
@@ -22,14 +22,14 @@ returns-in_default-fault-clause-beginning g c =
 
 pub returns-clause-beginning : goal.returns-clause-beginning
 returns-clause-beginning g c =
-    let all = listed g.C.Listing.lines g.S.Cutter.head g.S.Cutter.extent_of g.S.Cutter.truncated_fault in
-    let line = rest_line g.C.Listing.lines g.S.Cutter.head g.S.Cutter.extent_of g.S.Cutter.truncated_fault in
+    let all = listed g.C.Listing.lines g.S.Cutter.layout in
+    let line = rest_line g.C.Listing.lines g.S.Cutter.layout in
     let st = standing [] c.args.command.now c.args.progress.now (g.S.Cutter.held c.args.cutter.now ++ c.args.piece.now) in
     let begun : standing (string_bytes c.clear.new.self) c.args.command.now c.args.progress.now (g.S.Cutter.held c.feed.new.self) ≡ st =
     ap (λ t. standing t c.args.command.now c.args.progress.now (g.S.Cutter.held c.feed.new.self)) c.clear.ensures.bytes ∙ ap (standing [] c.args.command.now c.args.progress.now) c.in-Ok.ensures.ok in
     let same = c.in-Ok-list_records.ensures.listed ∙ ap all begun in
-    let first : first_record g.S.Cutter.head g.S.Cutter.extent_of (g.S.Cutter.held c.list_records.new.cutter) ≡ Some (Err c.in-Some.fault) = c.in-Ok-list_records.ensures.fault ∙ ap refusal c.in-Some.is in
-    let refused = rest_line-refused g.C.Listing.lines g.S.Cutter.head g.S.Cutter.extent_of g.S.Cutter.truncated_fault g.met.S.Cutter.some_head g.met.S.Cutter.extent_has_head
+    let first : first_in g.S.Cutter.layout (g.S.Cutter.held c.list_records.new.cutter) ≡ Some (Err c.in-Some.fault) = c.in-Ok-list_records.ensures.fault ∙ ap refusal c.in-Some.is in
+    let refused = rest_line-refused g.C.Listing.lines g.S.Cutter.layout g.met.S.Cutter.heads
     (c.list_records.new.progress.count + 1) (g.S.Cutter.held c.list_records.new.cutter) c.in-Some.fault first in
     on_err_weaker c.put-2.result
     (begins_same _ _ (string_bytes c.refuse.new.text) _

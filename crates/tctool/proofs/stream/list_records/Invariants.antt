@@ -7,7 +7,7 @@ use Rattle.tctool.proofs.stream.list_records.Given as goal
 -- the listing goes to where it goes from the start
 abbrev pub invariant-loop-answer : goal.invariant-loop-answer
 invariant-loop-answer g l =
-    let all = listed g.C.Listing.lines g.S.Cutter.head g.S.Cutter.extent_of g.S.Cutter.truncated_fault in
+    let all = listed g.C.Listing.lines g.S.Cutter.layout in
     record {
       same : all (standing (string_bytes l.text) l.command l.progress (g.S.Cutter.held l.cutter)) ≡ all (standing (string_bytes l.fn.text) l.fn.command l.fn.progress (g.S.Cutter.held l.fn.cutter));
       failed : g.S.Cutter.failure l.cutter ≡ g.S.Cutter.failure l.fn.cutter;

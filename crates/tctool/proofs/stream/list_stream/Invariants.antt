@@ -1,26 +1,25 @@
-use Rattle.std.proofs.Common.{◌≡◌, ◌+◌, ◌-◌, ◌≤◌, ◌++◌, [], length}
+use Rattle.std.proofs.Common.{◌≡◌, ◌+◌, ◌-◌, ◌≤◌, [], length}
 use Rattle.std.specs.Prelude.{None}
-use Rattle.octets.specs.Records.{first_record}
 use Rattle.tctool.specs.Gained.{gained}
-use Rattle.tctool.specs.Listing.{fresh, listed}
+use Rattle.tctool.specs.Layouts.{first_in}
 use Rattle.tctool.specs.Progress.{standing}
 use Rattle.tctool.specs.declared.stream.TheConstants.{MOST_OCTETS}
+use Rattle.tctool.proofs.Pieces.{IsUpTo}
 use Rattle.tctool.proofs.stream.list_stream.Given as goal
 
 -- the octets so far are listed and written, and what is left of them is held
 abbrev pub invariant-loop-count : goal.invariant-loop-count
 invariant-loop-count g l =
-    let octets = gained (g.R.Source.given l.fn.reader) (g.R.Source.given l.reader) in
-    let all = listed g.C.Listing.lines g.S.Cutter.head g.S.Cutter.extent_of g.S.Cutter.truncated_fault in
+    let given = g.R.Source.given in
+    let taken = g.W.Sink.taken_octets in
+    let held = g.S.Cutter.held l.cutter in
     record {
-      gave : g.R.Source.given l.reader ≡ g.R.Source.given l.fn.reader ++ octets;
-      wrote : g.W.Sink.taken_octets l.writer ≡ g.W.Sink.taken_octets l.fn.writer ++ (all (fresh l.fn.command octets)).text;
-      stands : standing [] l.command l.progress (g.S.Cutter.held l.cutter) ≡ record (all (fresh l.fn.command octets)) { text = [] };
-      is_open : first_record g.S.Cutter.head g.S.Cutter.extent_of (g.S.Cutter.held l.cutter) ≡ None;
+      up_to : IsUpTo g.C.Listing.lines g.S.Cutter.layout l.fn.command (given l.fn.reader) (given l.reader) (taken l.fn.writer) (taken l.writer) (standing [] l.command l.progress held);
+      is_open : first_in g.S.Cutter.layout held ≡ None;
       going : g.S.Cutter.failure l.cutter ≡ None;
-      counted : l.total ≡ length octets;
+      counted : l.total ≡ length (gained (given l.fn.reader) (given l.reader));
       short : l.total ≤ MOST_OCTETS;
-      bound : l.progress.count + length (g.S.Cutter.held l.cutter) ≤ l.total;
+      bound : l.progress.count + length held ≤ l.total;
       read_failures : g.R.Source.failures l.reader ≡ g.R.Source.failures l.fn.reader;
       write_failures : g.W.Sink.failures l.writer ≡ g.W.Sink.failures l.fn.writer;
     }

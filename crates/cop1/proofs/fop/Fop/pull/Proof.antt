@@ -49,7 +49,7 @@ use denote.Triple.Walked.{says, Stays, stay_dropped, walk_of, ends_at, walked, G
 use borrow.Rule.Reshare.{ref_Share}
 use borrow.Table.Owned as owned
 use Rattle.cop1.specs.FopState.{FopState}
-use Rattle.cop1.specs.FopNext.{units_of, seen_at, shown, IsPlaced}
+use Rattle.cop1.specs.FopNext.{units_of, seen_at, pulled_view, IsPlaced}
 use Rattle.cop1.specs.FopStep.{fop_step, Pull}
 use Rattle.cop1.specs.FopLends.{EndsAs}
 use Rattle.cop1.specs.declared.fop.pulling.Next.{Next}
@@ -191,13 +191,13 @@ module _ (X : RattleType) (LX : Laws X) (d : Dict) {M : Type 1} {𝓤 : Ura M} (
         nothing ! $ move ! (4 ∷ 0 ∷ []) $ join ! $ move ! (3 ∷ 0 ∷ []) $ join ! $ join ! $ join ! $ done !
 
     abbrev Shown : Val → Out.Denot → SProp 𝓤
-    Shown w y = guard 𝓤 (shown y ≡ seen_at (units_of s.sent) x) (sep 𝓤 (A.lft κ q) (sep 𝓤 (A.lft κT qT) (sem 𝓛 (Out.own_val y (w ∷ [])))))
+    Shown w y = guard 𝓤 (pulled_view y ≡ seen_at (units_of s.sent) x) (sep 𝓤 (A.lft κ q) (sep 𝓤 (A.lft κT qT) (sem 𝓛 (Out.own_val y (w ∷ [])))))
 
     show_gives : (w : Val) → ent 𝓤 (AtShow.post at_show w) (H.⇛ (ex 𝓤 (Shown w)))
     show_gives w =
         qed 𝓛 (raw (AtShow.post at_show w) ∷ []) ∵ updating ! $
         use1 𝓛 (later (some (λ (y : Out.Denot). ((‵ (flft κ q) ⊛ ‵ (flft κT qT) ⊛ ‵ ftrue) ⊛ ‵ (Out.own_val y (w ∷ [])))
-        ⊛ some (λ (ws : Lasts (S.ended X d) at_show.0.0 at_show.0.3). ‵ (lasts (S.ended X d) at_show.0.0 at_show.0.3 ws) ⊛ given (shown y ≡ seen_at (units_of s.sent) x) (‵ ftrue))))) (id⊢ 𝓤 _) $ await ! tt $ pick ! (λ y.
+        ⊛ some (λ (ws : Lasts (S.ended X d) at_show.0.0 at_show.0.3). ‵ (lasts (S.ended X d) at_show.0.0 at_show.0.3 ws) ⊛ given (pulled_view y ≡ seen_at (units_of s.sent) x) (‵ ftrue))))) (id⊢ 𝓤 _) $ await ! tt $ pick ! (λ y.
         split ! $ move ! (1 ∷ []) $ pick ! (λ ws. split ! $ drop ! $ learn ! (λ is. drop ! $ split ! $ split3 ! $
         at_once ! $ shows_it ! (Shown w) y $ check ! is $ keep ! (0 ∷ 1 ∷ 3 ∷ []) $ done !)))
 
@@ -250,7 +250,7 @@ module _ (X : RattleType) (LX : Laws X) (d : Dict) {M : Type 1} {𝓤 : Ura M} (
         move ! (2 ∷ 3 ∷ 0 ∷ 4 ∷ []) $ group ! 4 $ use1 𝓛 (raw (AtShow.pre (at_show κ κT q qT bd rb ro s' r.0 v))) (show_goes κ κT q qT bd rb ro s' r.0 v le told.2) $
         calls_at ! (fm_of 𝓤 H 𝓛.laws 𝓣) AtShow show_met (at_show κ κT q qT bd rb ro s' r.0 v) (and_then ! (get ! refl) (and_then ! (get ! refl) (no_more !))) (λ w.
         let Given : RattleType = Out κ κT q qT bd rb ro s' r.0 v in
-        use1 𝓛 (later (some (λ (y : Given.Denot). given (shown y ≡ seen_at (units_of s'.sent) r.0) (‵ (flft κ q) ⊛ ‵ (flft κT qT) ⊛ ‵ (Given.own_val y (w ∷ [])))))) (show_gives κ κT q qT bd rb ro s' r.0 v w) $ await ! tt $ pick ! (λ y. learn ! (λ seen.
+        use1 𝓛 (later (some (λ (y : Given.Denot). given (pulled_view y ≡ seen_at (units_of s'.sent) r.0) (‵ (flft κ q) ⊛ ‵ (flft κT qT) ⊛ ‵ (Given.own_val y (w ∷ [])))))) (show_gives κ κT q qT bd rb ro s' r.0 v w) $ await ! tt $ pick ! (λ y. learn ! (λ seen.
         split3 ! $ move ! (2 ∷ []) $ peeks ! Given (Is Given) (shows 𝓛 Given) y (w ∷ []) (λ so.
         let fits = (((pulled-laws.the_row_laws (named_lft 2 0 tt (κ, (κT, tt))) (U X LX d) (param_laws 0 X LX)).lawful 𝓛).typed y (w ∷ []) so).0 in
         lands_as ! refl refl fits $ returns ! (look_at ! 0 refl) $ free_all ! refl $

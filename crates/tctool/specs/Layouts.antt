@@ -1,0 +1,70 @@
+-- How a stream of octets is cut into records, and the three ways in which the files of the commands are.
+use Rattle.std.specs.Prelude.{◌≡◌, ◌≤◌, ℕ, List, take, length, nat_lt, if◌then◌else◌, Option, Some, Result, Ok, Err}
+use Rattle.octets.specs.Records.{first_record, records_of, rest_of}
+use Rattle.tc_frame.specs.declared.frame.Check.{Check}
+use Rattle.tc_frame.specs.declared.fault.TcFault.{TcFault}
+use Rattle.tc_frame.specs.declared.fault.TcFault.TheVariants.{Short}
+use Rattle.tc_frame.specs.Splitting.{total_at}
+use Rattle.space_packet.specs.declared.fault.PacketFault.{PacketFault}
+use Rattle.space_packet.specs.declared.fault.PacketFault.TheVariants.{Truncated}
+use Rattle.space_packet.specs.Reading.{extent_at}
+use Rattle.tm_link.specs.declared.fault.TmFault.{TmFault}
+use Rattle.tm_link.specs.declared.fault.TmFault.TheVariants.{Length}
+
+-- How a stream is cut into records. F is why octets are refused as no record.
+pub record Layout (F : Type 0) : Type 0 where
+  -- how many octets tell a record's length
+  pub head : ℕ
+  -- the length that they tell
+  pub extent : List ℕ → Result ℕ F
+  -- why octets are refused that end before their record does
+  pub truncated : F
+
+-- A record has the octets that tell its length, and they are some.
+pub record HasHeads {F : Type 0} (layout : Layout F) : Type 0 where
+  pub some_head : 1 ≤ layout.head
+  pub has_head : (octets : List ℕ) (n : ℕ) → layout.extent octets ≡ Ok n → layout.head ≤ n
+
+module _ {F : Type 0} (layout : Layout F) where
+  -- the record that octets begin with, or why they are refused; none where some are missing
+  abbrev pub first_in : List ℕ → Option (Result (List ℕ) F)
+  first_in octets = first_record layout.head layout.extent octets
+
+  -- all whole records
+  abbrev pub records_in : List ℕ → List (List ℕ)
+  records_in octets = records_of layout.head layout.extent octets
+
+  -- the octets behind them
+  abbrev pub rest_in : List ℕ → List ℕ
+  rest_in octets = rest_of layout.head layout.extent octets
+
+  -- octets at which no record can begin
+  abbrev pub IsRefused : List ℕ → Type 0
+  IsRefused octets = (e : F) × (first_in octets ≡ Some (Err e))
+
+  -- why an extent was refused, or else that the octets end too early
+  abbrev pub extent_fault : Result ℕ F → F
+  extent_fault (Ok n) = layout.truncated
+  extent_fault (Err e) = e
+
+  -- why octets that begin with no whole record are refused
+  abbrev pub rest_fault : List ℕ → F
+  rest_fault rest =
+      if nat_lt (length rest) layout.head then layout.truncated else extent_fault (layout.extent (take layout.head rest))
+
+-- ---- the layouts of the commands
+
+-- telecommand frames, with or without their check: the first five octets tell the length (CCSDS 232.0-B-4, 4.1.2)
+abbrev pub frame_layout : Check → Layout TcFault
+frame_layout check = record { head = 5; extent = total_at check; truncated = Short }
+
+-- every so many octets are a telemetry frame, whatever they are
+abbrev pub frame_extent : ℕ → List ℕ → Result ℕ TmFault
+frame_extent size head = Ok size
+
+abbrev pub telemetry_layout : ℕ → Layout TmFault
+telemetry_layout size = record { head = size; extent = frame_extent size; truncated = Length }
+
+-- space packets: the first six octets tell the length (CCSDS 133.0-B-2, 4.1.3)
+abbrev pub packet_layout : Layout PacketFault
+packet_layout = record { head = 6; extent = extent_at; truncated = Truncated }
