@@ -2,7 +2,7 @@
 use Rattle.std.proofs.Common.{◌≡◌, ℕ, ◌+◌, ◌*◌, ◌/◌, ◌%◌, true, eqb, List, Ok, refl, arith}
 use Rattle.std.proofs.lemmas.Bool.{eq-eqb}
 use Rattle.clcw.specs.declared.word.Clcw.{Clcw}
-use Rattle.clcw.specs.Flags.{bits_of}
+use Rattle.clcw.specs.Flags.{flags_number}
 use Rattle.clcw.specs.Layout.{IsClcw}
 use Rattle.clcw.specs.Reading.{clcw_at}
 
@@ -13,9 +13,9 @@ read_again word octets is =
     let version : eqb ((4 * word.status + 1) / 32 % 4) 0 ≡ true = eq-eqb _ _ (omega (arith, is.status)) in
     let cop : eqb ((4 * word.status + 1) % 4) 1 ≡ true = eq-eqb _ _ (omega arith) in
     let spare : eqb (4 * word.vcid % 4) 0 ≡ true = eq-eqb _ _ (omega arith) in
-    let last : eqb ((bits_of word.flags + 2 * word.farm_b) % 2) 0 ≡ true = eq-eqb _ _ (omega (arith, is.flags)) in
+    let last : eqb ((flags_number word.flags + 2 * word.farm_b) % 2) 0 ≡ true = eq-eqb _ _ (omega (arith, is.flags)) in
     let status : (4 * word.status + 1) / 4 % 8 ≡ word.status = omega (arith, is.status) in
     let vcid : 4 * word.vcid / 4 ≡ word.vcid = omega arith in
-    let flags : (bits_of word.flags + 2 * word.farm_b) / 8 * 8 ≡ bits_of word.flags = omega (arith, is.flags, is.farm_b) in
-    let farm_b : (bits_of word.flags + 2 * word.farm_b) / 2 % 4 ≡ word.farm_b = omega (arith, is.flags, is.farm_b) in
+    let flags : (flags_number word.flags + 2 * word.farm_b) / 8 * 8 ≡ flags_number word.flags = omega (arith, is.flags, is.farm_b) in
+    let farm_b : (flags_number word.flags + 2 * word.farm_b) / 2 % 4 ≡ word.farm_b = omega (arith, is.flags, is.farm_b) in
     rw (is.spelled, kind, version, cop, spare, last, status, vcid, flags, farm_b) refl

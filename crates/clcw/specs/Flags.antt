@@ -9,16 +9,16 @@ flag_table =
     (codes "NO_RF_AVAILABLE", 128) ∷ (codes "NO_BIT_LOCK", 64) ∷ (codes "LOCKOUT", 32) ∷ (codes "WAIT", 16) ∷ (codes "RETRANSMIT", 8) ∷ []
 
 -- the flags as a number, the sum of the values of those that are set
-abbrev pub bits_of : ClcwFlags → ℕ
-bits_of flags = flags.0
+abbrev pub flags_number : ClcwFlags → ℕ
+flags_number flags = flags.0
 
 -- the flags of this number
-abbrev pub flags_of : ℕ → ClcwFlags
-flags_of bits = record { 0 = bits }
+abbrev pub flags_from : ℕ → ClcwFlags
+flags_from bits = record { 0 = bits }
 
 -- whether the flag of this value is among the flags
 abbrev pub has_flag : ClcwFlags → ℕ → Bool
-has_flag flags value = bit_and (bits_of flags) value == value
+has_flag flags value = bit_and (flags_number flags) value == value
 
 abbrev pub has_lockout : ClcwFlags → Bool
 has_lockout flags = has_flag flags 32

@@ -3,12 +3,12 @@ use Rattle.std.specs.Prelude.{ℕ, ◌*◌, ◌/◌, ◌%◌, List, not, ◌==�
 use Rattle.clcw.specs.declared.word.Clcw.{Clcw}
 use Rattle.clcw.specs.declared.fault.ClcwFault.{ClcwFault}
 use Rattle.clcw.specs.declared.fault.ClcwFault.TheVariants.{Kind, Version, Cop, Spare}
-use Rattle.clcw.specs.Flags.{flags_of}
+use Rattle.clcw.specs.Flags.{flags_from}
 
 -- the fields, where nothing is wrong
 abbrev pub fields_at : ℕ → ℕ → ℕ → ℕ → Clcw
 fields_at first second third fourth =
-    record { status = first / 4 % 8; vcid = second / 4; flags = flags_of (third / 8 * 8); farm_b = third / 2 % 4; value = fourth }
+    record { status = first / 4 % 8; vcid = second / 4; flags = flags_from (third / 8 * 8); farm_b = third / 2 % 4; value = fourth }
 
 abbrev pub word_at : ℕ → ℕ → ℕ → ℕ → Result Clcw ClcwFault
 word_at first second third fourth =

@@ -3,14 +3,14 @@ use Rattle.std.specs.Prelude.{ℕ, ◌+◌, ◌*◌, ◌%◌, List, [], ◌∷�
 use Rattle.clcw.specs.declared.word.Clcw.{Clcw}
 use Rattle.clcw.specs.declared.fault.ClcwFault.{ClcwFault}
 use Rattle.clcw.specs.declared.fault.ClcwFault.TheVariants.{Range}
-use Rattle.clcw.specs.Flags.{bits_of}
+use Rattle.clcw.specs.Flags.{flags_number}
 
 -- each field is in its range, and each flag bit has a name
 abbrev pub fits : Clcw → Bool
-fits word = nat_lt word.status 8 && nat_lt word.vcid 64 && nat_lt word.farm_b 4 && (bits_of word.flags % 8 == 0)
+fits word = nat_lt word.status 8 && nat_lt word.vcid 64 && nat_lt word.farm_b 4 && (flags_number word.flags % 8 == 0)
 
 abbrev pub spelling : Clcw → List ℕ
-spelling word = (4 * word.status + 1) ∷ (4 * word.vcid) ∷ (bits_of word.flags + 2 * word.farm_b) ∷ word.value ∷ []
+spelling word = (4 * word.status + 1) ∷ (4 * word.vcid) ∷ (flags_number word.flags + 2 * word.farm_b) ∷ word.value ∷ []
 
 -- what writing a word answers
 abbrev pub encode_answer : Clcw → Result (List ℕ) ClcwFault

@@ -1,12 +1,12 @@
 // The flags of a control word.
 
 ghost use Rattle.std.specs.Prelude.{◌≡◌, ◌*◌, ◌/◌, ◌%◌, ◌↔◌, IsTrue, ⊤};
-ghost use Rattle.clcw.specs.Flags.{flag_table, bits_of};
+ghost use Rattle.clcw.specs.Flags.{flag_table, flags_number};
 
 use bitflags::{Flag, Flags};
 
 /// The flags of a control word, as the bits of its third octet (CCSDS 232.0-B-4, 4.2.1.8). A
-/// contract sees them as the sum of their values, `bits_of`.
+/// contract sees them as the sum of their values, `flags_number`.
 #[derive(Clone, Copy, Debug, PartialEq, Eq)]
 pub struct ClcwFlags(u8);
 
@@ -52,14 +52,14 @@ impl ClcwFlags {
 
     // The flags among an octet's bits.
     pub(crate) fn among(octet: u8) -> ClcwFlags
-        ensures { bits_of result ≡ octet / 8 * 8 }
+        ensures { flags_number result ≡ octet / 8 * 8 }
     {
         ClcwFlags::from_bits_truncate(octet)
     }
 
     // Whether each bit that is set is a flag.
     pub(crate) fn are_named(self) -> bool
-        ensures { IsTrue result ↔ (bits_of self % 8 ≡ 0) }
+        ensures { IsTrue result ↔ (flags_number self % 8 ≡ 0) }
     {
         ClcwFlags::from_bits(self.bits()).is_some()
     }
@@ -72,7 +72,7 @@ impl Flags for ClcwFlags {
 
     ghost table = { flag_table };
 
-    ghost set_of = { bits_of };
+    ghost set_of = { flags_number };
 
     fn flags<'a>() -> &'a [Flag<ClcwFlags>] {
         ClcwFlags::FLAGS

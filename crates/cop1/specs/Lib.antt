@@ -14,4 +14,5 @@ pub mod FopTick
 pub mod FopUnits
 pub mod FopWords
 pub mod Modulo
+pub mod Names
 pub mod Report

@@ -35,6 +35,24 @@ pub enum Verdict {
     Discarded,
 }
 
+impl Verdict {
+    ghost use Rattle.cop1.specs.Names.{verdict_name};
+
+    /// The verdict in a word, as lines tell it.
+    pub fn name(self) -> &'static str
+        ensures { result.now ≡ verdict_name self }
+    {
+        match self {
+            Verdict::Accepted => "accepted",
+            Verdict::Ahead => "ahead",
+            Verdict::NoBuffer => "nobuffer",
+            Verdict::Behind => "behind",
+            Verdict::Outside => "outside",
+            Verdict::Discarded => "discarded",
+        }
+    }
+}
+
 /// Where N(S) lies, seen from V(R) (CCSDS 232.1-B-2, 6.1.8).
 #[derive(Clone, Copy)]
 pub(crate) enum Place {

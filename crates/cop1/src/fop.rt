@@ -115,7 +115,7 @@ impl<U> Model for Fop<U> {
 
 impl<U: Drop> Fop<U> {
     ghost use Rattle.std.specs.Prelude.{◌≡◌, ◌≤◌, ◌/◌, ◌-◌, ◌*◌, None, IfOk, IfErr, IfSome, IsOkUnless, Err, length, is_some};
-    ghost use Rattle.cop1.specs.FopState.{initial, IsFop};
+    ghost use Rattle.cop1.specs.FopState.{new_fop, IsFop};
     ghost use Rattle.cop1.specs.FopNew.{new_fault};
 
     /// A sender in its state S6 with V(S) and NN(R) 0, to a receiver of this window width, with the
@@ -129,7 +129,7 @@ impl<U: Drop> Fop<U> {
         limit: u8,
         timer: u16,
     ) -> Result<Fop<U>, CopFault>
-        ensures made { IfOk result (λ fop. fop ≡ initial width window limit timer) }
+        ensures made { IfOk result (λ fop. fop ≡ new_fop width window limit timer) }
         ensures refused { IfSome (new_fault width window limit timer)
             (λ fault. result ≡ Err fault) }
         ensures memory { new_fault width window limit timer ≡ None

@@ -5,7 +5,7 @@ use Rattle.tc_frame.specs.declared.frame.SegmentFlags.{SegmentFlags}
 use Rattle.tc_frame.specs.declared.frame.SegmentFlags.TheVariants.{First, Continuing, Last, Alone}
 use Rattle.tc_frame.specs.Layout.{SegmentView}
 use Rattle.map_service.specs.declared.limits.Limits.{Limits}
-use Rattle.map_service.specs.Assembly.{packet_of, packets_of, joined_data, up_to_last_from, up_to_last, up_to_end_from, up_to_end, block_packets, blocks_packets, part_from, ending_part}
+use Rattle.map_service.specs.Assembly.{one_packet, packets_of, joined_data, up_to_last_from, up_to_last, up_to_end_from, up_to_end, block_packets, blocks_packets, part_from, ending_part}
 
 -- ---- segments that are all continuing end no block, give no packet and begin no part
 
@@ -163,14 +163,14 @@ abbrev pub packets_behind : Limits → SegmentFlags → List ℕ → Option (Lis
 packets_behind limits Alone octets part = packets_of limits octets
 packets_behind limits First octets part = []
 packets_behind limits Continuing octets part = []
-packets_behind limits Last octets (Some part) = packet_of limits (part ++ octets)
+packets_behind limits Last octets (Some part) = one_packet limits (part ++ octets)
 packets_behind limits Last octets None = []
 
 first_gives : (limits : Limits) (flags : SegmentFlags) (octets o : List ℕ) (last all later : Option (List ℕ)) (given : List (List ℕ))
     → ((j : List ℕ) → all ≡ Some j → (last ≡ None) × (given ≡ []) × (later ≡ None))
     → block_packets limits First o (ended flags octets last all) ++ (given ++ packets_behind limits flags octets later)
     ≡ (block_packets limits First o last ++ given) ++ packets_behind limits flags octets (part_from First o all later)
-first_gives limits flags octets o (Some joined) None later given h = sym (append_assoc (packet_of limits (o ++ joined)) given (packets_behind limits flags octets later))
+first_gives limits flags octets o (Some joined) None later given h = sym (append_assoc (one_packet limits (o ++ joined)) given (packets_behind limits flags octets later))
 first_gives limits flags octets o (Some joined) (Some j) later given h = let impossible = (h j refl).0 in absurd cc
 first_gives limits Alone octets o None all later given h = refl
 first_gives limits First octets o None all later given h = refl

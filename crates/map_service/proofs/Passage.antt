@@ -12,7 +12,7 @@ use Rattle.tc_frame.specs.declared.frame.SegmentFlags.TheVariants.{First, Contin
 use Rattle.tc_frame.specs.Layout.{SegmentView}
 use Rattle.map_service.specs.declared.fault.MapFault.TheVariants.{NotAPacket, TooLong}
 use Rattle.map_service.specs.declared.limits.Limits.{Limits}
-use Rattle.map_service.specs.Assembly.{is_open, of_map, packet_of, packets_of, joined_data, up_to_last_from, up_to_last, up_to_end_from, up_to_end, block_packets, blocks_packets, assembled, part_from, ending_part, unless_too_long, open_part}
+use Rattle.map_service.specs.Assembly.{is_open, of_map, one_packet, packets_of, joined_data, up_to_last_from, up_to_last, up_to_end_from, up_to_end, block_packets, blocks_packets, assembled, part_from, ending_part, unless_too_long, open_part}
 use Rattle.map_service.specs.Cutting.{pieces_of, later_segments, segments_of_pieces, parts_of, longest_run, first_group, groups_within, groups_of, segments_of, cut_fault, payloads, IsPart}
 use Rattle.map_service.specs.Packets.{packets_in, rest_in, are_packets, is_packet, is_some_over}
 use Rattle.map_service.proofs.Groups.{IsWhole, again, none_from, all_of, packets-split, behind-each, group-front, group-some}
@@ -77,9 +77,9 @@ later_segments-part_from m (x ∷ []) = refl
 later_segments-part_from m (x ∷ y ∷ ys) = later_segments-part_from m (y ∷ ys)
 
 -- several parts give what their joined data are
-segments_of_pieces-gives : (limits : Limits) (m : ℕ) (x y : List ℕ) (ys : List (List ℕ)) → blocks_packets limits (segments_of_pieces m (x ∷ y ∷ ys)) ≡ packet_of limits (concat (x ∷ y ∷ ys))
+segments_of_pieces-gives : (limits : Limits) (m : ℕ) (x y : List ℕ) (ys : List (List ℕ)) → blocks_packets limits (segments_of_pieces m (x ∷ y ∷ ys)) ≡ one_packet limits (concat (x ∷ y ∷ ys))
 segments_of_pieces-gives limits m x y ys =
-    let all : List (List ℕ) = packet_of limits (concat (x ∷ y ∷ ys)) in
+    let all : List (List ℕ) = one_packet limits (concat (x ∷ y ∷ ys)) in
     ap (λ (u : Option (List ℕ)). block_packets limits First x u ++ blocks_packets limits (later_segments m (y ∷ ys))) (later_segments-last_data m y ys)
     ∙ ap (λ (ps : List (List ℕ)). all ++ ps) (later_segments-gives limits m (y ∷ ys)) ∙ append-nil all
 
@@ -196,7 +196,7 @@ one-packet p h =
     let left : rest_in p ≡ [] = ap rest_in (sym joined) ∙ sym same.1 in
     rw (packets, left) refl
 
-packet-gives : (limits : Limits) (p : List ℕ) → IsTaken limits.max_packet p → packet_of limits p ≡ p ∷ []
+packet-gives : (limits : Limits) (p : List ℕ) → IsTaken limits.max_packet p → one_packet limits p ≡ p ∷ []
 packet-gives limits p h = rw (one-packet p h.0, le-ltb limits.max_packet (length p) h.1) refl
 
 -- packets that were joined
@@ -213,12 +213,12 @@ concat-some most [] each some = absurd (omega arith)
 concat-some most (p ∷ ps) each some = omega (arith, length-append p (concat ps), each.0.0.has_head)
 
 -- the parts of one packet
-long-gives : (limits : Limits) (part m : ℕ) (p : List ℕ) → 1 ≤ part → part < length p → blocks_packets limits (parts_of part m p) ≡ packet_of limits p
+long-gives : (limits : Limits) (part m : ℕ) (p : List ℕ) → 1 ≤ part → part < length p → blocks_packets limits (parts_of part m p) ≡ one_packet limits p
 long-gives limits part m p one lt =
     let behind = pieces-some part (drop part p) one (omega (arith, length-drop part p)) in
     let cut : pieces_of part p ≡ take part p ∷ behind.0 ∷ behind.1 = pieces-more part p one lt ∙ ap (λ (ps : List (List ℕ)). take part p ∷ ps) behind.2 in
     ap (λ (ps : List (List ℕ)). blocks_packets limits (segments_of_pieces m ps)) cut ∙ segments_of_pieces-gives limits m (take part p) behind.0 behind.1
-    ∙ ap (packet_of limits) (ap concat (sym cut) ∙ pieces-joined part p one)
+    ∙ ap (one_packet limits) (ap concat (sym cut) ∙ pieces-joined part p one)
 
 short-gives : (limits : Limits) (part m : ℕ) (xs : List ℕ) → 1 ≤ length xs → length xs ≤ part → blocks_packets limits (parts_of part m xs) ≡ packets_of limits xs
 short-gives limits part m xs some le = ap (blocks_packets limits) (parts-fit m part xs some le) ∙ append-nil (packets_of limits xs)

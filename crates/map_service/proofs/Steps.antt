@@ -11,9 +11,9 @@ use Rattle.map_service.specs.declared.limits.Limits.{Limits}
 use Rattle.map_service.specs.declared.dropped.Dropped.{Dropped}
 use Rattle.map_service.specs.declared.dropped.Dropped.TheVariants.{Interrupted, NotAPacket, TooLong}
 use Rattle.map_service.specs.Packets.{packets_in, are_packets, is_packet, is_some_over}
-use Rattle.map_service.specs.Assembly.{is_open, of_map, is_too_long, packet_of, packets_of, ending_part, blocks_packets, unless_too_long, assembled, open_part}
+use Rattle.map_service.specs.Assembly.{is_open, of_map, is_too_long, one_packet, packets_of, ending_part, blocks_packets, unless_too_long, assembled, open_part}
 use Rattle.map_service.specs.Taking.{TakeOutcome, one_fault, several_fault, alone_fault, alone_packets, packets_outcome, part_outcome, cell, take_step}
-use Rattle.map_service.specs.Exactness.{AssemblerState, part_of, step_at, after_step, HasPartsOf, IsTakenExactly}
+use Rattle.map_service.specs.Exactness.{AssemblerState, part_on_map, step_at, after_step, HasPartsOf, IsTakenExactly}
 use Rattle.map_service.proofs.Joining.{part_behind, ending_part-push, packets_behind, blocks_packets-push}
 
 -- ---- octets judged as a whole
@@ -29,7 +29,7 @@ one_by earlier octets true false = refl
 one_by earlier octets false true = refl
 one_by earlier octets false false = refl
 
-one_given : (limits : Limits) (earlier : Option Dropped) (octets : List ℕ) → packet_of limits octets ≡ (packets_outcome earlier (octets ∷ []) (one_fault limits octets)).packets
+one_given : (limits : Limits) (earlier : Option Dropped) (octets : List ℕ) → one_packet limits octets ≡ (packets_outcome earlier (octets ∷ []) (one_fault limits octets)).packets
 one_given limits earlier octets = one_by earlier octets (is_too_long limits octets) (is_packet octets)
 
 several_by : (earlier : Option Dropped) (packets : List (List ℕ)) (over whole : Bool)
@@ -40,7 +40,7 @@ several_by earlier packets false true = refl
 several_by earlier packets false false = refl
 
 alone_by : (limits : Limits) (earlier : Option Dropped) (octets : List ℕ) (blocking : Bool)
-    → cond blocking (cond (are_packets octets && not (is_some_over limits.max_packet (packets_in octets))) (packets_in octets) []) (packet_of limits octets)
+    → cond blocking (cond (are_packets octets && not (is_some_over limits.max_packet (packets_in octets))) (packets_in octets) []) (one_packet limits octets)
     ≡ (packets_outcome earlier (cond blocking (packets_in octets) (octets ∷ [])) (cond blocking (several_fault limits octets) (one_fault limits octets))).packets
 alone_by limits earlier octets true = several_by earlier (packets_in octets) (is_some_over limits.max_packet (packets_in octets)) (are_packets octets)
 alone_by limits earlier octets false = one_given limits earlier octets
@@ -79,8 +79,8 @@ unless_long limits part h = rw h refl
 unless_fits : (limits : Limits) (part : List ℕ) → is_too_long limits part ≡ false → unless_too_long limits (Some part) ≡ Some part
 unless_fits limits part h = rw h refl
 
-packet_of-long : (limits : Limits) (octets : List ℕ) → is_too_long limits octets ≡ true → packet_of limits octets ≡ []
-packet_of-long limits octets h = let by : (whole : Bool) → (let xs : List (List ℕ) = cond (whole && not true) (octets ∷ []) [] in xs) ≡ [] = λ (whole : Bool). elim whole as (λ w. (let xs : List (List ℕ) = cond (w && not true) (octets ∷ []) [] in xs) ≡ []) [ true ↦ refl | false ↦ refl ] in rw h (by (is_packet octets))
+one_packet-long : (limits : Limits) (octets : List ℕ) → is_too_long limits octets ≡ true → one_packet limits octets ≡ []
+one_packet-long limits octets h = let by : (whole : Bool) → (let xs : List (List ℕ) = cond (whole && not true) (octets ∷ []) [] in xs) ≡ [] = λ (whole : Bool). elim whole as (λ w. (let xs : List (List ℕ) = cond (w && not true) (octets ∷ []) [] in xs) ≡ []) [ true ↦ refl | false ↦ refl ] in rw h (by (is_packet octets))
 
 cell-part_joined : (limits : Limits) (flags : SegmentFlags) (octets part : List ℕ) (long : Bool) → is_too_long limits part ≡ long
     → unless_too_long limits (part_behind flags octets (Some part)) ≡ (cell limits flags (unless_too_long limits (Some part)) octets).part
@@ -109,7 +109,7 @@ cell-packets_joined limits First octets part true h = rw (unless_long limits par
 cell-packets_joined limits First octets part false h = rw (unless_fits limits part h) (sym (part_outcome-packets limits (Some Interrupted) octets))
 cell-packets_joined limits Continuing octets part true h = rw (unless_long limits part h) refl
 cell-packets_joined limits Continuing octets part false h = rw (unless_fits limits part h) (sym (part_outcome-packets limits None (part ++ octets)))
-cell-packets_joined limits Last octets part true h = rw (unless_long limits part h) (packet_of-long limits (part ++ octets) (too_long_more limits part octets h))
+cell-packets_joined limits Last octets part true h = rw (unless_long limits part h) (one_packet-long limits (part ++ octets) (too_long_more limits part octets h))
 cell-packets_joined limits Last octets part false h = rw (unless_fits limits part h) (one_given limits None (part ++ octets))
 
 cell-packets : (limits : Limits) (flags : SegmentFlags) (octets : List ℕ) (part : Option (List ℕ))
@@ -171,7 +171,7 @@ none_open : (limits : Limits) (segments : List SegmentView) (m : ℕ) → 64 ≤
 none_open limits segments m le = rw (no_such_map limits m le) refl
 
 same_part : (a : AssemblerState) (segments : List SegmentView) (s : SegmentView) → length a.parts ≡ 64 → HasPartsOf a segments
-    → part_of (after_step a s) s.header.map ≡ open_part a.limits s.header.map (segments ++ s ∷ [])
+    → part_on_map (after_step a s) s.header.map ≡ open_part a.limits s.header.map (segments ++ s ∷ [])
 same_part a segments s count has =
     elim (cases_lt s.header.map 64) [
       | inl lt ↦ get_or-set_same a.parts s.header.map (step_at a s).part None (omega arith)

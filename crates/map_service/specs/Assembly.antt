@@ -20,14 +20,14 @@ abbrev pub is_too_long : Limits → List ℕ → Bool
 is_too_long limits octets = nat_lt limits.max_packet (length octets)
 
 -- the octets, where they are exactly one packet
-abbrev pub packet_of : Limits → List ℕ → List (List ℕ)
-packet_of limits octets = if is_packet octets && not (is_too_long limits octets) then octets ∷ [] else []
+abbrev pub one_packet : Limits → List ℕ → List (List ℕ)
+one_packet limits octets = if is_packet octets && not (is_too_long limits octets) then octets ∷ [] else []
 
 -- the packets of an alone segment, which with blocking are one or more
 abbrev pub packets_of : Limits → List ℕ → List (List ℕ)
 packets_of limits octets =
     if limits.blocking then (if are_packets octets && not (is_some_over limits.max_packet (packets_in octets)) then packets_in octets else [])
-    else packet_of limits octets
+    else one_packet limits octets
 
 -- ---- what follows a place, in a list of segments of one MAP
 
@@ -63,7 +63,7 @@ up_to_end (s ∷ segments) = up_to_end_from s.header.flags s.payload (up_to_end 
 -- the packets of the block that begins with a segment of these flags and data, before this joined data up to a last one
 abbrev pub block_packets : Limits → SegmentFlags → List ℕ → Option (List ℕ) → List (List ℕ)
 block_packets limits Alone octets more = packets_of limits octets
-block_packets limits First octets (Some more) = packet_of limits (octets ++ more)
+block_packets limits First octets (Some more) = one_packet limits (octets ++ more)
 block_packets limits First octets None = []
 block_packets limits Continuing octets more = []
 block_packets limits Last octets more = []

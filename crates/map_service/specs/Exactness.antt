@@ -3,31 +3,31 @@ use Rattle.std.specs.Prelude.{◌≡◌, ◌≢◌, ℕ, List, [], ◌∷◌, �
 use Rattle.tc_frame.specs.Layout.{SegmentView}
 use Rattle.map_service.specs.declared.limits.Limits.{Limits}
 use Rattle.map_service.specs.Assembly.{assembled, open_part}
-use Rattle.map_service.specs.Taking.{TakeOutcome, take_step, passing_at}
+use Rattle.map_service.specs.Taking.{TakeOutcome, take_step, lone_packet_at}
 
 -- the limits, and the open part of each MAP
 pub record AssemblerState : Type 0 where
   pub limits : Limits
   pub parts : List (Option (List ℕ))
 
-abbrev pub part_of : AssemblerState → ℕ → Option (List ℕ)
-part_of a m = get_or a.parts m None
+abbrev pub part_on_map : AssemblerState → ℕ → Option (List ℕ)
+part_on_map a m = get_or a.parts m None
 
 -- the step at a segment
 abbrev pub step_at : AssemblerState → SegmentView → TakeOutcome
-step_at a s = take_step a.limits (part_of a s.header.map) s
+step_at a s = take_step a.limits (part_on_map a s.header.map) s
 
 -- the part of the segment's MAP is that of the step, and no other changes
 abbrev pub after_step : AssemblerState → SegmentView → AssemblerState
 after_step a s = record a { parts = set a.parts s.header.map (step_at a s).part }
 
 -- the packet that this segment is, where nothing else comes of taking it
-abbrev pub passing : AssemblerState → SegmentView → Option (List ℕ)
-passing a s = passing_at a.limits (part_of a s.header.map) s
+abbrev pub lone_packet : AssemblerState → SegmentView → Option (List ℕ)
+lone_packet a s = lone_packet_at a.limits (part_on_map a s.header.map) s
 
 -- the assembler keeps, for each MAP, the open part of these segments
 abbrev pub HasPartsOf : AssemblerState → List SegmentView → Type 0
-HasPartsOf a segments = (m : ℕ) → part_of a m ≡ open_part a.limits m segments
+HasPartsOf a segments = (m : ℕ) → part_on_map a m ≡ open_part a.limits m segments
 
 -- Behind these segments comes one more, which hands out these packets and leaves the assembler so.
 pub record IsTakenExactly (a : AssemblerState) (segments : List SegmentView) (s : SegmentView) (packets : List (List ℕ)) : Type 0 where

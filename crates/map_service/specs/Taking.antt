@@ -78,17 +78,17 @@ abbrev pub unless_fault : Option Dropped → List ℕ → Option (List ℕ)
 unless_fault None octets = Some octets
 unless_fault (Some cause) octets = None
 
-abbrev pub passing_cell : Limits → SegmentFlags → Option (List ℕ) → List ℕ → Option (List ℕ)
-passing_cell limits Alone None octets = unless_fault (one_fault limits octets) octets
-passing_cell limits Alone (Some part) octets = None
-passing_cell limits First part octets = None
-passing_cell limits Continuing part octets = None
-passing_cell limits Last part octets = None
+abbrev pub lone_packet_cell : Limits → SegmentFlags → Option (List ℕ) → List ℕ → Option (List ℕ)
+lone_packet_cell limits Alone None octets = unless_fault (one_fault limits octets) octets
+lone_packet_cell limits Alone (Some part) octets = None
+lone_packet_cell limits First part octets = None
+lone_packet_cell limits Continuing part octets = None
+lone_packet_cell limits Last part octets = None
 
 -- the packet that an alone segment of an open MAP is, where no part is open there and nothing is blocked
-abbrev pub passing_at : Limits → Option (List ℕ) → SegmentView → Option (List ℕ)
-passing_at limits part s =
-    if is_open limits s.header.map && not limits.blocking then passing_cell limits s.header.flags part s.payload else None
+abbrev pub lone_packet_at : Limits → Option (List ℕ) → SegmentView → Option (List ℕ)
+lone_packet_at limits part s =
+    if is_open limits s.header.map && not limits.blocking then lone_packet_cell limits s.header.flags part s.payload else None
 
 -- what is dropped with no memory taken first
 abbrev pub is_dropped_at_once : Option Dropped → Bool

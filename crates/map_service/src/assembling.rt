@@ -1,7 +1,7 @@
 // Joining segments to packets.
 
-mod foreseeing;
-mod passing;
+mod lone_packet;
+mod packets_at;
 
 ghost use Rattle.std.specs.Prelude.{◌≡◌, List, length, IfOk, IfErr, OnOk, OnErr};
 

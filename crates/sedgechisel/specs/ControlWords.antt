@@ -2,7 +2,7 @@
 use Rattle.std.specs.Prelude.{ℕ, List, length, ◌==◌, if◌then◌else◌, Result, Err}
 use Rattle.clcw.specs.declared.word.Clcw.{Clcw}
 use Rattle.clcw.specs.Faults.{fault_number}
-use Rattle.clcw.specs.Flags.{bits_of, flags_of}
+use Rattle.clcw.specs.Flags.{flags_number, flags_from}
 use Rattle.clcw.specs.Reading.{clcw_at}
 use Rattle.clcw.specs.Writing as writing
 use Rattle.sedgechisel.specs.declared.control_word.ControlWord.{ControlWord}
@@ -10,11 +10,11 @@ use Rattle.sedgechisel.specs.Answers.{wrong_count, numbered}
 
 -- the word that the fields tell
 abbrev pub word_of : ControlWord → Clcw
-word_of w = record { status = w.status; vcid = w.vcid; flags = flags_of w.flags; farm_b = w.farm_b; value = w.value }
+word_of w = record { status = w.status; vcid = w.vcid; flags = flags_from w.flags; farm_b = w.farm_b; value = w.value }
 
 -- the fields that tell the word
 abbrev pub fields_of : Clcw → ControlWord
-fields_of w = record { status = w.status; vcid = w.vcid; flags = bits_of w.flags; farm_b = w.farm_b; value = w.value }
+fields_of w = record { status = w.status; vcid = w.vcid; flags = flags_number w.flags; farm_b = w.farm_b; value = w.value }
 
 -- the word that octets spell, which are to be four
 abbrev pub word_read : List ℕ → Result Clcw ℕ

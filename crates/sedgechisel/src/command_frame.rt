@@ -12,8 +12,8 @@ use crate::numbers::DAMAGED;
 use crate::part::Part;
 use octets::Wire;
 use tc_frame::{
-    Body, Check, Checked, Command, Segment, SegmentFlags, SegmentHeader, TcFault, TcFrame,
-    Unchecked,
+    Body, Checked, Command, Segment, SegmentFlags, SegmentHeader, TcFault, TcFrame, Unchecked,
+    check_if,
 };
 
 /// A telecommand frame's fields (CCSDS 232.0-B-4, 4.1) without its data. The kind is 0 for Type-AD, 1 for Type-BD and 2
@@ -47,7 +47,7 @@ pub extern "C" fn sedge_tc_decode(
     // So `sedge_tc_encode` writes this frame from the fields and the data there.
     ensures tells { TellsFrame checked octets.now frame.new payload.new }
 {
-    match tc_frame::decode(octets, check_for(checked)) {
+    match tc_frame::decode(octets, check_if(checked)) {
         Ok(found) => {
             *frame = fields_from(&found);
             *payload = part_from(&found.body);
@@ -76,7 +76,7 @@ pub extern "C" fn sedge_tc_encode(
         (frame_taken checked frame.now payload.now (length out.old)) out.old }
 {
     match frame_from(frame, payload) {
-        Ok(told) => match tc_frame::encode(&told, check_for(checked), out) {
+        Ok(told) => match tc_frame::encode(&told, check_if(checked), out) {
             Ok(count) => {
                 *total = count;
                 0
@@ -109,12 +109,6 @@ pub extern "C" fn sedge_tc_declared(octets: &[u8], checked: bool, total: &mut us
         }
         Err(fault) => fault.number(),
     }
-}
-
-fn check_for(checked: bool) -> Check
-    ensures { result ≡ check_if checked }
-{
-    if checked { Check::On } else { Check::Off }
 }
 
 // ---- from fields and data to a frame

@@ -34,8 +34,8 @@ fn declared_total(head: &[u8], check: Check) -> Result<usize, TcFault>
     Ok(total)
 }
 
-// Whether frames end with their check.
-fn check_if(checked: bool) -> Check
+/// The check of frames that end with it, where this is so, and of frames without one.
+pub fn check_if(checked: bool) -> Check
     ensures { result ≡ check_if checked }
 {
     if checked { Check::On } else { Check::Off }

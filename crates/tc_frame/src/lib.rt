@@ -18,7 +18,7 @@ pub use encoding::encode;
 pub use fault::TcFault;
 pub use frame::{Body, Check, Command, Segment, SegmentFlags, SegmentHeader, TcFrame};
 pub use laws::{law_of_reading, law_of_spelling};
-pub use layouts::{Checked, Unchecked};
+pub use layouts::{Checked, FrameLayout, Unchecked, check_if};
 pub use splitter::TcSplitter;
 
 #[cfg(test)]

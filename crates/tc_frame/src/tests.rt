@@ -52,6 +52,12 @@ fn data_frames(rt: HostRuntime) -> Result<(), Fail> {
 }
 
 #[test]
+fn frames_with_a_check_or_without(rt: HostRuntime) {
+    assert_eq!(rt; check_if(true), Check::On);
+    assert_eq!(rt; check_if(false), Check::Off);
+}
+
+#[test]
 fn control_frames(rt: HostRuntime) -> Result<(), Fail> {
     let set_seven = Body::Bc(Command::SetVr(7));
     is_spelled(&rt, set_seven, Check::Off, &SET_SEVEN)?;

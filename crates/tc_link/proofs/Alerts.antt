@@ -39,7 +39,7 @@ use Rattle.tc_link.specs.World.{World, world_step, world_after_pull, up_deliver_
 use Rattle.tc_link.specs.Confirmation.{IsChecked}
 use Rattle.tc_link.specs.FalseAlarms.{alert_in, replied_alert, IsUnderCheck, AsksAgain, FirstAsks, HasCause}
 use Rattle.tc_link.proofs.Early.{Begun, IsEarly, AllSame}
-use Rattle.tc_link.proofs.LateTelemetry.{used_is, Coming, rules_hear, coming}
+use Rattle.tc_link.proofs.LateTelemetry.{used_is, Coming, report_comes, coming}
 use Rattle.tc_link.proofs.Linked.{Steady, Late, Tells, Reporting}
 use Rattle.tc_link.proofs.Reports.{IsLate, IsRunning, IsAllowed, active_led, asked}
 use Rattle.tc_link.proofs.Transit.{DownIs, Rises, Ranks, bit}
@@ -176,7 +176,7 @@ module _ (c : Config) (d : Directive) (base : ℕ) (w : World) (k : Steady c w) 
     active_cause : (r : Clcw) (v : ℕ) → Coming base (c.width / 2) (IsChecked d) w.ground_node.fop g.plain.a g.plain.n g.plain.units (unsent_segments w.ground_node) r v → (asks r ≡ true → FirstAsks w.ground_node.config w.down) → is_closed w.ground_node.fop.state ≡ false → IsRunning w.ground_node.fop.state → (alert : Alert) → (report_while_active w.ground_node.fop r).answer ≡ Some alert → HasCause w events.DownDeliver alert
     active_cause r v comes first on runs alert is =
         let p = g.plain in
-        let led = active_led base (c.width / 2) (IsChecked d) w.ground_node.fop p.a p.n r v (rules_hear base (c.width / 2) (IsChecked d) w.ground_node.fop p.a p.n p.units (unsent_segments w.ground_node) r v comes on) runs in
+        let led = active_led base (c.width / 2) (IsChecked d) w.ground_node.fop p.a p.n r v (report_comes base (c.width / 2) (IsChecked d) w.ground_node.fop p.a p.n p.units (unsent_segments w.ground_node) r v comes on) runs in
         let allowed : IsAllowed (asks r) w.ground_node.fop.limit (Some alert) = subst (IsAllowed (asks r) w.ground_node.fop.limit) is (led.2.allowed checked) in
         allowed_cause w r alert allowed first
 

@@ -13,15 +13,15 @@ use Rattle.cop1.specs.Farm.{verdict_of}
 use Rattle.tc_link.specs.declared.received.Received.{Received}
 use Rattle.tc_link.specs.Parameters.{limits_of}
 use Rattle.tc_link.specs.BypassSegments.{is_kept}
-use Rattle.tc_link.specs.Packets.{packets_on}
+use Rattle.tc_link.specs.Packets.{put_on_map}
 use Rattle.tc_link.specs.Spacecraft.{SpacecraftState, SpacecraftOutcome, is_free, is_own_frame, is_accepted, assemble_step, sequence_outcome, bypass_outcome, body_outcome, frame_outcome}
-use Rattle.tc_link.specs.Delivery.{of_map, delivered_on, HasDelivered, DeliversWhatItReceives}
+use Rattle.tc_link.specs.Delivery.{packets_of_map, delivered_on, HasDelivered, DeliversWhatItReceives}
 
-of_its_map : (m : ℕ) (packets : List (List ℕ)) → of_map m (packets_on m packets) ≡ packets
+of_its_map : (m : ℕ) (packets : List (List ℕ)) → packets_of_map m (put_on_map m packets) ≡ packets
 of_its_map m [] = refl
 of_its_map m (p ∷ ps) = rw (eq-eqb m m refl) (ap (λ (qs : List (List ℕ)). p ∷ qs) (of_its_map m ps))
 
-of_another_map : (k m : ℕ) (packets : List (List ℕ)) → (m ≡ k → ⊥) → of_map k (packets_on m packets) ≡ []
+of_another_map : (k m : ℕ) (packets : List (List ℕ)) → (m ≡ k → ⊥) → packets_of_map k (put_on_map m packets) ≡ []
 of_another_map k m [] apart = refl
 of_another_map k m (p ∷ ps) apart = rw (ne_eqb m k apart) (of_another_map k m ps apart)
 
@@ -41,7 +41,7 @@ module _
     → assembled limits m (segments ++ s ∷ []) ≡ assembled limits m segments)
   where
     adds_delivered : (s : SpacecraftState) (segment : SegmentView) (m : ℕ)
-        → assembled (limits_of s.config) m (s.accepted ++ segment ∷ []) ≡ delivered_on m s ++ of_map m (packets_on segment.header.map (assemble_step s segment).packets)
+        → assembled (limits_of s.config) m (s.accepted ++ segment ∷ []) ≡ delivered_on m s ++ packets_of_map m (put_on_map segment.header.map (assemble_step s segment).packets)
     adds_delivered s segment m =
         elim (cases_eq m segment.header.map) [
           | inl same ↦ rw (same, of_its_map segment.header.map (assemble_step s segment).packets) (adds (limits_of s.config) s.accepted segment)
@@ -53,7 +53,7 @@ module _
     sequence_delivers s n segment verdict =
         cond_both (is_accepted verdict) _ _ (λ (o : SpacecraftOutcome Received). HasDelivered s o.after)
         (λ _. record {
-          more = packets_on segment.header.map (assemble_step s segment).packets;
+          more = put_on_map segment.header.map (assemble_step s segment).packets;
           ready = refl;
           delivered = adds_delivered s segment;
         })

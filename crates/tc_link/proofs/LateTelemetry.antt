@@ -86,8 +86,8 @@ module _ (base h : ℕ) (checked : Type 0) (s : FopState SegmentView) (a n : ℕ
   held_on : is_closed s.state ≡ false → Holds base s.vs s.nn s.sent rest a n units
   held_on on = let it : Held false base s.vs s.nn s.sent rest a n units = rw on at k.held in it
 
-  pub rules_hear : is_closed s.state ≡ false → rules.Heard base h checked s a n c v
-  rules_hear on =
+  pub report_comes : is_closed s.state ≡ false → rules.ReportComes base h checked s a n c v
+  report_comes on =
       let was = held_on on in
       let vs_is = was.vs_is in
       let nn_is = was.nn_is in
@@ -119,9 +119,9 @@ module _ (base h : ℕ) (checked : Type 0) (s : FopState SegmentView) (a n : ℕ
       )
 
   pub goes_in : (m : FopMode) → s.state ≡ m → Going base checked s a c v (report_in s c m).after
-  goes_in S1 is = let on : is_closed s.state ≡ false = rw is refl in running (report_in s c S1) on (active_led base h checked s a n c v (rules_hear on) (rw is tt))
-  goes_in S2 is = let on : is_closed s.state ≡ false = rw is refl in running (report_in s c S2) on (active_led base h checked s a n c v (rules_hear on) (rw is tt))
-  goes_in S3 is = let on : is_closed s.state ≡ false = rw is refl in running (report_in s c S3) on (active_led base h checked s a n c v (rules_hear on) (rw is tt))
+  goes_in S1 is = let on : is_closed s.state ≡ false = rw is refl in running (report_in s c S1) on (active_led base h checked s a n c v (report_comes on) (rw is tt))
+  goes_in S2 is = let on : is_closed s.state ≡ false = rw is refl in running (report_in s c S2) on (active_led base h checked s a n c v (report_comes on) (rw is tt))
+  goes_in S3 is = let on : is_closed s.state ≡ false = rw is refl in running (report_in s c S3) on (active_led base h checked s a n c v (report_comes on) (rw is tt))
   goes_in S4 is = absurd (let no : IsLate S4 = rw is at k.late in no)
   goes_in S5 is = absurd (let no : IsLate S5 = rw is at k.late in no)
   goes_in S6 is = (

@@ -68,7 +68,7 @@ pub record Leads (base : ℕ) (checked : Type 0) (s : FopState SegmentView) (ask
   pub allowed : checked → IsAllowed asking s.limit o.answer
 
 -- what is known as a report comes
-pub record Heard (base h : ℕ) (checked : Type 0) (s : FopState SegmentView) (a n : ℕ) (c : Clcw) (v : ℕ) : Type 0 where
+pub record ReportComes (base h : ℕ) (checked : Type 0) (s : FopState SegmentView) (a n : ℕ) (c : Clcw) (v : ℕ) : Type 0 where
   pub value_is : c.value ≡ (base + v) % 256
   pub low : a ≤ v
   pub high : v ≤ n
@@ -84,7 +84,7 @@ pub record Heard (base h : ℕ) (checked : Type 0) (s : FopState SegmentView) (a
 abbrev pub Led : ℕ → Type 0 → FopState SegmentView → ℕ → Clcw → ℕ → FopOutcome SegmentView (Option Alert) → Type 0
 Led base checked s a c v o = (gone : ℕ) × ((gone ≡ 0) ⊎ (a + gone ≡ v)) × Leads base checked s (asks c) (2 * v + bit (asks c)) a gone o
 
-module _ (base h : ℕ) (checked : Type 0) (s : FopState SegmentView) (a n : ℕ) (c : Clcw) (v : ℕ) (k : Heard base h checked s a n c v) where
+module _ (base h : ℕ) (checked : Type 0) (s : FopState SegmentView) (a n : ℕ) (c : Clcw) (v : ℕ) (k : ReportComes base h checked s a n c v) where
   alert_led : (x : Alert) → (checked → IsAllowed (asks c) s.limit (Some x)) → Led base checked s a c v (alerts s x)
   alert_led x allowed = (
     0,

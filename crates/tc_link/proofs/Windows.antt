@@ -21,7 +21,7 @@ use Rattle.tc_link.specs.Ground.{is_closed, unsent_segments}
 use Rattle.tc_link.specs.World.{World, directive_of}
 use Rattle.tc_link.specs.Confirmation.{LeavesVr, IsChecking, IsConfirmedExactly}
 use Rattle.cop1.specs.FopState.{IsActive}
-use Rattle.tc_link.specs.InTransit.{number_in, command_in, in_frame, report_in, report_of_frame, report_carried, reports_down, IsInWindow, IsRising, KeepsToWindow}
+use Rattle.tc_link.specs.InTransit.{number_in, command_in, in_frame, report_read, report_of_frame, report_carried, reports_down, IsInWindow, IsRising, KeepsToWindow}
 use Rattle.tc_link.proofs.Beginning.{Clean}
 use Rattle.tc_link.proofs.Early.{Begun, IsEarly}
 use Rattle.tc_link.proofs.Linked.{Late, Carries, Tells, Reporting, Holds, Held}
@@ -63,7 +63,7 @@ module _ (c : Config) (d : Directive) (base h n : ℕ) (units : List SegmentView
       subst (λ x. AllByRecursion P (in_frame command_in x ++ commands bs)) (sym carries.0) (commands_in P false bs fs qs (λ command e. absurd cc) carries.1 up.2)
 
 pub report_told : (c : Config) (b : List ℕ) (r : Clcw) → Tells c b r → report_carried c b ≡ r ∷ []
-report_told c b r tells = ap report_of_frame tells.reads ∙ ap report_in tells.word
+report_told c b r tells = ap report_of_frame tells.reads ∙ ap report_read tells.word
 
 reports_are : (c : Config) (bs : List (List ℕ)) (rs : List Clcw) → Reporting c bs rs → flat_map (report_carried c) bs ≡ rs
 reports_are c [] [] h = refl

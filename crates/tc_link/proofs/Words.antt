@@ -2,7 +2,7 @@
 use Rattle.std.proofs.Common.{◌≡◌, ℕ, ◌+◌, ◌*◌, ◌/◌, ◌%◌, ◌<◌, Bool, true, false, eqb, Ok, refl, arith}
 use Rattle.std.proofs.lemmas.Bool.{eq-eqb}
 use Rattle.clcw.specs.declared.word.Clcw.{Clcw}
-use Rattle.clcw.specs.Flags.{bits_of}
+use Rattle.clcw.specs.Flags.{flags_number}
 use Rattle.clcw.specs.Reading.{clcw_at}
 use Rattle.clcw.specs.Writing.{spelling}
 use Rattle.cop1.specs.Farm.{FarmState}
@@ -49,18 +49,18 @@ asks_is s false true false e f g vcid = rw (e, f, g) refl
 asks_is s false false true e f g vcid = rw (e, f, g) refl
 asks_is s false false false e f g vcid = rw (e, f, g) refl
 
-read_again : (word : Clcw) → word.status ≡ 0 → bits_of word.flags % 8 ≡ 0 → word.farm_b < 4 → clcw_at (spelling word) ≡ Ok word
+read_again : (word : Clcw) → word.status ≡ 0 → flags_number word.flags % 8 ≡ 0 → word.farm_b < 4 → clcw_at (spelling word) ≡ Ok word
 unfolding clcw_at
 read_again word status flags farm_b =
     let kind : eqb ((4 * word.status + 1) / 128) 0 ≡ true = eq-eqb _ _ (omega (arith, status)) in
     let version : eqb ((4 * word.status + 1) / 32 % 4) 0 ≡ true = eq-eqb _ _ (omega (arith, status)) in
     let cop : eqb ((4 * word.status + 1) % 4) 1 ≡ true = eq-eqb _ _ (omega arith) in
     let spare : eqb (4 * word.vcid % 4) 0 ≡ true = eq-eqb _ _ (omega arith) in
-    let last : eqb ((bits_of word.flags + 2 * word.farm_b) % 2) 0 ≡ true = eq-eqb _ _ (omega (arith, flags)) in
+    let last : eqb ((flags_number word.flags + 2 * word.farm_b) % 2) 0 ≡ true = eq-eqb _ _ (omega (arith, flags)) in
     let status_is : (4 * word.status + 1) / 4 % 8 ≡ word.status = omega (arith, status) in
     let vcid_is : 4 * word.vcid / 4 ≡ word.vcid = omega arith in
-    let flags_is : (bits_of word.flags + 2 * word.farm_b) / 8 * 8 ≡ bits_of word.flags = omega (arith, flags, farm_b) in
-    let farm_b_is : (bits_of word.flags + 2 * word.farm_b) / 2 % 4 ≡ word.farm_b = omega (arith, flags, farm_b) in
+    let flags_is : (flags_number word.flags + 2 * word.farm_b) / 8 * 8 ≡ flags_number word.flags = omega (arith, flags, farm_b) in
+    let farm_b_is : (flags_number word.flags + 2 * word.farm_b) / 2 % 4 ≡ word.farm_b = omega (arith, flags, farm_b) in
     rw (kind, version, cop, spare, last, status_is, vcid_is, flags_is, farm_b_is) refl
 
 pub report_reads : (s : FarmState) (vcid : ℕ) → s.farm_b < 4 → clcw_at (spelling (report_of s vcid)) ≡ Ok (report_of s vcid)

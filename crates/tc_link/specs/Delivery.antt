@@ -11,15 +11,15 @@ abbrev pub delivered_on : ℕ → SpacecraftState → List (List ℕ)
 delivered_on m s = assembled (limits_of s.config) m s.accepted
 
 -- those of these packets that are on MAP m
-abbrev pub of_map : ℕ → List PacketOn → List (List ℕ)
-of_map m packets =
+abbrev pub packets_of_map : ℕ → List PacketOn → List (List ℕ)
+packets_of_map m packets =
     map (λ (p : PacketOn). p.octets) (filter (λ (p : PacketOn). p.on_map == m) packets)
 
 -- Some packets more are ready, and on each MAP just these were delivered.
 pub record HasDelivered (old new : SpacecraftState) : Type 0 where
   pub more : List PacketOn
   pub ready : new.ready ≡ old.ready ++ more
-  pub delivered : (m : ℕ) → delivered_on m new ≡ delivered_on m old ++ of_map m more
+  pub delivered : (m : ℕ) → delivered_on m new ≡ delivered_on m old ++ packets_of_map m more
 
 -- so it is with whatever octets that are received
 abbrev pub DeliversWhatItReceives : Type 0

@@ -13,7 +13,7 @@ use Rattle.cop1.specs.declared.fop.FopMode.{FopMode}
 use Rattle.cop1.specs.declared.fop.FopMode.TheVariants.{S1, S2, S3, S4, S5, S6}
 use Rattle.cop1.specs.declared.fop.Alert.{Alert}
 use Rattle.cop1.specs.declared.fop.Directive.{Directive}
-use Rattle.cop1.specs.FopState.{FopState, initial}
+use Rattle.cop1.specs.FopState.{FopState, new_fop}
 use Rattle.cop1.specs.FopPull.{PulledUnit, NothingPulled, ControlPulled, BypassPulled, SequencePulled}
 use Rattle.cop1.specs.FopStep as sender
 use Rattle.cop1.specs.FopWords.{FopOutcome}
@@ -50,7 +50,7 @@ pub record GroundOutcome (A : Type 0) : Type 0 where
 abbrev pub new_ground : Config → GroundState
 new_ground c = record {
   config = c;
-  fop = initial c.width c.window c.limit c.timer;
+  fop = new_fop c.width c.window c.limit c.timer;
   pending = [];
   extractor = new_extractor;
   telemetry = [];

@@ -42,12 +42,12 @@ commands_up w = flat_map (λ octets. in_frame command_in (command.frame_at On oc
 
 -- ---- reports on their way down
 
-abbrev pub report_in : Result Clcw ClcwFault → List Clcw
-report_in (Ok report) = report ∷ []
-report_in (Err fault) = []
+abbrev pub report_read : Result Clcw ClcwFault → List Clcw
+report_read (Ok report) = report ∷ []
+report_read (Err fault) = []
 
 abbrev pub report_of_frame : Result telemetry.FrameView TmFault → List Clcw
-report_of_frame (Ok frame) = report_in (clcw_at frame.ocf)
+report_of_frame (Ok frame) = report_read (clcw_at frame.ocf)
 report_of_frame (Err fault) = []
 
 -- the report that the octets of a telemetry frame carry

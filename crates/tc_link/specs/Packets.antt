@@ -10,8 +10,8 @@ pub record PacketOn : Type 0 where
 abbrev pub packet_on : ℕ → List ℕ → PacketOn
 packet_on m octets = record { on_map = m; octets = octets }
 
-abbrev pub packets_on : ℕ → List (List ℕ) → List PacketOn
-packets_on m packets = map (packet_on m) packets
+abbrev pub put_on_map : ℕ → List (List ℕ) → List PacketOn
+put_on_map m packets = map (packet_on m) packets
 
 -- as it is handed out, without where it lies in memory
 abbrev pub packet_view : {Z : Type 0} → ℕ × Vec ℕ Z → PacketOn

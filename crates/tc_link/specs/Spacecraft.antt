@@ -23,7 +23,7 @@ use Rattle.tc_link.specs.declared.received.Received.{Received}
 use Rattle.tc_link.specs.declared.received.Received.TheVariants.{Invalid, Foreign, Sequence, Bypass, Control}
 use Rattle.tc_link.specs.Parameters.{limits_of}
 use Rattle.tc_link.specs.BypassSegments.{is_kept}
-use Rattle.tc_link.specs.Packets.{PacketOn, packet_on, packets_on}
+use Rattle.tc_link.specs.Packets.{PacketOn, packet_on, put_on_map}
 
 -- a spacecraft
 pub record SpacecraftState : Type 0 where
@@ -81,7 +81,7 @@ assemble_step s segment =
 abbrev pub after_segment : SpacecraftState → SegmentView → SpacecraftState
 after_segment s segment = record s {
   accepted = s.accepted ++ segment ∷ [];
-  ready = s.ready ++ packets_on segment.header.map (assemble_step s segment).packets;
+  ready = s.ready ++ put_on_map segment.header.map (assemble_step s segment).packets;
 }
 
 abbrev pub sequence_outcome : SpacecraftState → ℕ → SegmentView → Verdict

@@ -3,7 +3,7 @@
 ghost use Rattle.std.specs.Prelude.{◌≡◌, ◌≤◌, ◌+◌, ◌++◌, length};
 ghost use Rattle.std.specs.VecDeque.{deque_len, deque_capacity};
 ghost use Rattle.map_service.specs.Views.{packets_view};
-ghost use Rattle.tc_link.specs.Packets.{packets_on};
+ghost use Rattle.tc_link.specs.Packets.{put_on_map};
 
 use std::collections::VecDeque;
 use std::marker::Model;
@@ -43,7 +43,7 @@ impl MapPacket {
 // Puts the packets of a MAP, for which there is room, behind those that are ready.
 pub(crate) fn make_ready(ready: &mut VecDeque<MapPacket>, on_map: u8, packets: Vec<Vec<u8>>)
     requires { deque_len ready.old + length (packets_view packets) ≤ deque_capacity ready.old }
-    ensures { ready.new.items ≡ ready.old.items ++ packets_on on_map (packets_view packets) }
+    ensures { ready.new.items ≡ ready.old.items ++ put_on_map on_map (packets_view packets) }
 {
     for octets in packets {
         ready.push_back_reserved(MapPacket::new(on_map, octets));

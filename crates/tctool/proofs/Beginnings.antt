@@ -1,7 +1,7 @@
 -- What begins a text begins each longer one.
 use Rattle.std.proofs.Common.{◌≡◌, ◌∙◌, ◌++◌, List, [], ℕ, length, drop, refl, sym, ap, arith}
 use Rattle.std.proofs.lemmas.List.{append_assoc, append-nil, drop_at, drop_all}
-use Rattle.tctool.specs.Beginning.{IsBeginning}
+use Rattle.octets.specs.Beginning.{IsBeginning}
 use Rattle.tctool.specs.Gained.{gained}
 use Rattle.std.specs.Prelude.{Result, Ok, Err, IfOk, OnOk}
 

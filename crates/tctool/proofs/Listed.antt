@@ -7,7 +7,7 @@ use Rattle.std.proofs.Common.{cond, ltb, take, subst}
 use Rattle.std.proofs.lemmas.Bool.{lt-ltb}
 use Rattle.octets.specs.Records.{record_of}
 use Rattle.octets.proofs.Streams.{IsNoRecord, record_is, records_of-record, records_of-none, records_of-append, rest_of-append}
-use Rattle.tctool.specs.Layouts.{Layout, HasHeads, first_in, records_in, rest_in, extent_fault}
+use Rattle.tctool.specs.Layouts.{Layout, HasHeads, first_by, records_by, rest_by, extent_fault}
 use Rattle.tctool.specs.Listing.{Lines, Standing, fresh, fed, record_lines, kept_behind, behind, listed, rest_line, text_of, is_empty}
 
 -- a listing of all octets so far, without its text
@@ -52,16 +52,16 @@ module _ {S F : Type 0} (lines : Lines S F) (layout : Layout F) (heads : HasHead
       refl
 
   -- where there is a record, the listing goes on behind it
-  pub listed-record : (st : Standing S) (r : List ℕ) → first_in layout st.octets ≡ Some (Ok r) → listed lines layout (one_more st r) ≡ listed lines layout st
+  pub listed-record : (st : Standing S) (r : List ℕ) → first_by layout st.octets ≡ Some (Ok r) → listed lines layout (one_more st r) ≡ listed lines layout st
   listed-record st r first =
       let split = records_of-record layout.head layout.extent heads.some_head heads.has_head st.octets r first in
       sym (
-      ap (λ (x : List (List ℕ)). behind lines st x (rest_in layout st.octets)) split.0
-      ∙ ap (behind lines st (r ∷ records_in layout (drop (length r) st.octets))) split.1
-      ∙ behind-cons st r (records_in layout (drop (length r) st.octets)) (rest_in layout (drop (length r) st.octets)))
+      ap (λ (x : List (List ℕ)). behind lines st x (rest_by layout st.octets)) split.0
+      ∙ ap (behind lines st (r ∷ records_by layout (drop (length r) st.octets))) split.1
+      ∙ behind-cons st r (records_by layout (drop (length r) st.octets)) (rest_by layout (drop (length r) st.octets)))
 
   -- how a listing stands behind the record that is first
-  pub goes_on : (st next : Standing S) (r : List ℕ) → first_in layout st.octets ≡ Some (Ok r) → next.text ≡ st.text ++ lines.line_of st.kept (st.count + 1) r → next.kept ≡ lines.after st.kept r
+  pub goes_on : (st next : Standing S) (r : List ℕ) → first_by layout st.octets ≡ Some (Ok r) → next.text ≡ st.text ++ lines.line_of st.kept (st.count + 1) r → next.kept ≡ lines.after st.kept r
       → next.count ≡ st.count + 1 → next.all_good ≡ st.all_good && lines.is_good r → next.octets ≡ drop (length r) st.octets
       → listed lines layout next ≡ listed lines layout st
   goes_on st next r first text kept count good octets =
@@ -70,16 +70,16 @@ module _ {S F : Type 0} (lines : Lines S F) (layout : Layout F) (heads : HasHead
       ap (listed lines layout) whole ∙ listed-record st r first
 
   -- fewer octets are left behind a record
-  pub shorter : (octets r : List ℕ) → first_in layout octets ≡ Some (Ok r) → length (drop (length r) octets) + 1 ≤ length octets
+  pub shorter : (octets r : List ℕ) → first_by layout octets ≡ Some (Ok r) → length (drop (length r) octets) + 1 ≤ length octets
   shorter octets r first =
       let is = record_is layout.head layout.extent heads.some_head heads.has_head octets r first in
       omega (arith, length-drop (length r) octets, is.0.has_head, ap length is.1, length-append r (drop (length r) octets))
 
   -- where there is none, it is as it was
-  pub listed-none : (st : Standing S) → IsNoRecord layout.head layout.extent (first_in layout st.octets) → listed lines layout st ≡ st
+  pub listed-none : (st : Standing S) → IsNoRecord layout.head layout.extent (first_by layout st.octets) → listed lines layout st ≡ st
   listed-none st none =
       let split = records_of-none layout.head layout.extent heads.some_head heads.has_head st.octets none in
-      ap (λ (x : List (List ℕ)). behind lines st x (rest_in layout st.octets)) split.0
+      ap (λ (x : List (List ℕ)). behind lines st x (rest_by layout st.octets)) split.0
       ∙ same_parts _ _ st.kept _ _ _ _ _ _ (append-nil st.text) (omega arith) (and-true st.all_good) split.1
 
   behind-append : (st : Standing S) (rs rs' : List (List ℕ)) (rest rest' : List ℕ) → behind lines st (rs ++ rs') rest' ≡ behind lines (behind lines st rs rest) rs' rest'
@@ -103,9 +103,9 @@ module _ {S F : Type 0} (lines : Lines S F) (layout : Layout F) (heads : HasHead
       let records = records_of-append layout.head layout.extent heads.some_head heads.has_head st.octets more in
       let rest = rest_of-append layout.head layout.extent heads.some_head heads.has_head st.octets more in
       sym (
-      ap (λ (x : List (List ℕ)). behind lines (fed st more) x (rest_in layout (st.octets ++ more))) records
-      ∙ ap (behind lines (fed st more) (records_in layout st.octets ++ records_in layout (rest_in layout st.octets ++ more))) rest
-      ∙ behind-append st (records_in layout st.octets) (records_in layout (rest_in layout st.octets ++ more)) (rest_in layout st.octets) (rest_in layout (rest_in layout st.octets ++ more)))
+      ap (λ (x : List (List ℕ)). behind lines (fed st more) x (rest_by layout (st.octets ++ more))) records
+      ∙ ap (behind lines (fed st more) (records_by layout st.octets ++ records_by layout (rest_by layout st.octets ++ more))) rest
+      ∙ behind-append st (records_by layout st.octets) (records_by layout (rest_by layout st.octets ++ more)) (rest_by layout st.octets) (rest_by layout (rest_by layout st.octets ++ more)))
 
   -- ---- the line of a rest
 
@@ -124,7 +124,7 @@ module _ {S F : Type 0} (lines : Lines S F) (layout : Layout F) (heads : HasHead
   fault_of octets e false h = refused_fault octets (layout.extent (take layout.head octets)) e h
 
   -- octets that are refused have the line of their fault
-  pub rest_line-refused : (i : ℕ) (octets : List ℕ) (e : F) → first_in layout octets ≡ Some (Err e) → rest_line lines layout i octets ≡ lines.fault_line i e
+  pub rest_line-refused : (i : ℕ) (octets : List ℕ) (e : F) → first_by layout octets ≡ Some (Err e) → rest_line lines layout i octets ≡ lines.fault_line i e
   rest_line-refused i [] e h =
       let short : ltb 0 layout.head ≡ true = lt-ltb 0 layout.head (omega (arith, heads.some_head)) in
       absurd (none_is (ltb 0 layout.head) short h)
@@ -162,7 +162,7 @@ module _ {S F : Type 0} (lines : Lines S F) (layout : Layout F) (heads : HasHead
       none_in true t = tt
       none_in false t = absurd cc
 
-  pub first_record-nothing : first_in layout [] ≡ None
+  pub first_record-nothing : first_by layout [] ≡ None
   first_record-nothing = none_of (ltb 0 layout.head) (lt-ltb 0 layout.head (omega (arith, heads.some_head)))
     where
       none_of : (b : Bool) → b ≡ true → cond b None (record_of layout.head layout.extent [] (layout.extent (take layout.head []))) ≡ None
@@ -170,6 +170,6 @@ module _ {S F : Type 0} (lines : Lines S F) (layout : Layout F) (heads : HasHead
       none_of false t = absurd cc
 
   -- octets that are refused are some
-  pub refused_some : (octets : List ℕ) (e : F) → first_in layout octets ≡ Some (Err e) → is_empty octets ≡ false
+  pub refused_some : (octets : List ℕ) (e : F) → first_by layout octets ≡ Some (Err e) → is_empty octets ≡ false
   refused_some [] e h = let none = first_record-nothing in absurd cc
   refused_some (x ∷ xs) e h = refl

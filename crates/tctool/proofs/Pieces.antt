@@ -3,7 +3,7 @@ use Rattle.std.proofs.Common.{◌≡◌, ◌∙◌, ℕ, ◌+◌, Bool, true, fa
 use Rattle.std.proofs.lemmas.List.{append-nil, length-append}
 use Rattle.std.specs.Prelude.{◌&&◌}
 use Rattle.tctool.specs.Gained.{gained}
-use Rattle.tctool.specs.Layouts.{Layout, HasHeads, rest_in, IsRefused}
+use Rattle.tctool.specs.Layouts.{Layout, HasHeads, rest_by, IsRefused}
 use Rattle.tctool.specs.Listing.{Lines, Standing, fresh, fed, listed, rest_line, text_of, is_all_good, is_empty}
 use Rattle.tctool.proofs.Beginnings.{gained_more, gained_whole, gained_none}
 use Rattle.tctool.proofs.Listed.{bare, is_fed, refused_some}
@@ -35,7 +35,7 @@ module _ {S F : Type 0} (lines : Lines S F) (layout : Layout F) where
 
   -- where octets behind a piece are refused, those of the whole stream are
   pub stops : {s : S} {old given new before taken piece : List ℕ} {code : Standing S} → AddsPiece s old given new before taken piece code
-      → IsRefused layout (listed lines layout (fed code piece)).octets → IsRefused layout (rest_in layout (gained old new))
+      → IsRefused layout (listed lines layout (fed code piece)).octets → IsRefused layout (rest_by layout (gained old new))
   stops adds refused = subst (IsRefused layout) (ap (λ (x : Standing S). x.octets) adds.stands) refused
 
   module _ (heads : HasHeads layout) where
@@ -62,7 +62,7 @@ module _ {S F : Type 0} (lines : Lines S F) (layout : Layout F) where
         ∙ ap (λ (x : Standing S). now.text ++ rest_line lines layout (x.count + 1) x.octets) (sym is.stands))
 
     -- where octets are refused, not all is good
-    pub is_bad : (s : S) (whole : List ℕ) → IsRefused layout (rest_in layout whole) → is_all_good lines layout (fresh s whole) ≡ false
+    pub is_bad : (s : S) (whole : List ℕ) → IsRefused layout (rest_by layout whole) → is_all_good lines layout (fresh s whole) ≡ false
     is_bad s whole refused =
         let now = listed lines layout (fresh s whole) in
         ap (λ (b : Bool). now.all_good && b) (refused_some lines layout heads _ refused.0 refused.1) ∙ and-false now.all_good

@@ -12,7 +12,7 @@ use Rattle.map_service.specs.Exactness.{AssemblerState, step_at, after_step, Has
 use Rattle.map_service.proofs.Places.{no_parts}
 use Rattle.map_service.proofs.Steps.{taken_exactly}
 use Rattle.tctool.specs.FarmLines as farms
-use Rattle.tctool.specs.MapLines.{MapState, map_limits, map_opened, segment_of, after_segment, after_frame}
+use Rattle.tctool.specs.MapLines.{MapState, map_limits, map_opened, segment_of, assembler_after, after_frame}
 use Rattle.tctool.specs.ToldPackets.{segment_in, as_list, accepted_in, told_at, told_on}
 
 -- one segment more gives what is told at it
@@ -37,7 +37,7 @@ module _ (check : Check) (m : ℕ) where
   behind_segment : (records : List (List ℕ)) → IsTold records → (r : FarmState) (a : AssemblerState) (segments : List SegmentView) → length a.parts ≡ 64 → HasPartsOf a segments
       → (o : Option SegmentView)
       → assembled a.limits m (segments ++ (as_list o ++ accepted_in check r records))
-      ≡ assembled a.limits m segments ++ (told_at m a o ++ told_on check m (record { receiver = r; assembler = after_segment a o }) records)
+      ≡ assembled a.limits m segments ++ (told_at m a o ++ told_on check m (record { receiver = r; assembler = assembler_after a o }) records)
   behind_segment records told r a segments count has None = told (record { receiver = r; assembler = a }) segments count has
   behind_segment records told r a segments count has (Some s) =
       let x : MapState = record { receiver = r; assembler = after_step a s } in

@@ -12,9 +12,9 @@ use Rattle.tctool.specs.MapLines.{map_lines, map_opened}
 use Rattle.tctool.specs.RefusalLines.{refusal_lines}
 use Rattle.tctool.specs.PacketLines.{none_seen, packet_lines}
 use Rattle.tctool.specs.TelemetryLines.{telemetry_lines}
-use Rattle.tctool.specs.Layouts.{Layout, frame_layout, telemetry_layout, packet_layout, rest_in, IsRefused}
+use Rattle.tctool.specs.Layouts.{Layout, frame_layout, telemetry_layout, packet_layout, rest_by, IsRefused}
 use Rattle.tctool.specs.Listing.{Lines, fresh, text_of, is_all_good}
-use Rattle.tctool.specs.Outcome.{OutcomeView, outcome_of, outcome_view, as_outcome}
+use Rattle.tctool.specs.Outcome.{OutcomeView, outcome_if, outcome_view, as_outcome}
 
 -- What is done with a file: its records are listed, cut by this layout, with these lines and this kept before the first;
 -- or it is played as a script, which is no stream of records.
@@ -32,26 +32,26 @@ work_of tasks.Check = Lists (frame_layout On) refusal_lines tt
 work_of tasks.Packets = Lists packet_layout packet_lines none_seen
 work_of tasks.Sim = Plays
 
-abbrev pub lines_in : Work → List ℕ → List ℕ
-lines_in (Lists layout lines start) octets = text_of lines layout (fresh start octets)
-lines_in Plays octets = script_text octets
+abbrev pub work_lines : Work → List ℕ → List ℕ
+work_lines (Lists layout lines start) octets = text_of lines layout (fresh start octets)
+work_lines Plays octets = script_text octets
 
-abbrev pub outcome_in : Work → List ℕ → OutcomeView
-outcome_in (Lists layout lines start) octets = outcome_view (outcome_of (is_all_good lines layout (fresh start octets)))
-outcome_in Plays octets = as_outcome (script_ending octets)
+abbrev pub work_outcome : Work → List ℕ → OutcomeView
+work_outcome (Lists layout lines start) octets = outcome_view (outcome_if (is_all_good lines layout (fresh start octets)))
+work_outcome Plays octets = as_outcome (script_ending octets)
 
-abbrev pub StopsIn : Work → List ℕ → Type 0
-StopsIn (Lists layout lines start) octets = IsRefused layout (rest_in layout octets)
-StopsIn Plays octets = ⊥
+abbrev pub WorkStops : Work → List ℕ → Type 0
+WorkStops (Lists layout lines start) octets = IsRefused layout (rest_by layout octets)
+WorkStops Plays octets = ⊥
 
 -- the lines for all octets of a file, its rest included
 abbrev pub lines_of : Task → List ℕ → List ℕ
-lines_of task octets = lines_in (work_of task) octets
+lines_of task octets = work_lines (work_of task) octets
 
 -- Good exactly where every record is good and nothing is left; a script is judged whole
 abbrev pub outcome_for : Task → List ℕ → OutcomeView
-outcome_for task octets = outcome_in (work_of task) octets
+outcome_for task octets = work_outcome (work_of task) octets
 
 -- a record's length is refused, so that nothing more is read; of a script all is read
 abbrev pub StopsAt : Task → List ℕ → Type 0
-StopsAt task octets = StopsIn (work_of task) octets
+StopsAt task octets = WorkStops (work_of task) octets

@@ -8,19 +8,10 @@ use Rattle.tc_frame.specs.Reading.{frame_at}
 use Rattle.cop1.specs.Farm.{FarmState, farm_step, verdict_of, AdArrives, BdArrives, UnlockArrives, SetVrArrives}
 use Rattle.cop1.specs.declared.farm.FarmMode.{FarmMode}
 use Rattle.cop1.specs.declared.farm.FarmMode.TheVariants.{Open, Wait, Lockout}
-use Rattle.cop1.specs.declared.farm.Verdict.{Verdict}
-use Rattle.cop1.specs.declared.farm.Verdict.TheVariants.{Accepted, Ahead, NoBuffer, Behind, Outside, Discarded}
+use Rattle.cop1.specs.Names.{verdict_name}
 use Rattle.tctool.specs.FaultLines.{frame_fault_line}
 use Rattle.tctool.specs.Listing.{Lines}
 use Rattle.tctool.specs.Text.{line_end}
-
-abbrev pub verdict_word : Verdict → List ℕ
-verdict_word Accepted = codes "accepted"
-verdict_word Ahead = codes "ahead"
-verdict_word NoBuffer = codes "nobuffer"
-verdict_word Behind = codes "behind"
-verdict_word Outside = codes "outside"
-verdict_word Discarded = codes "discarded"
 
 abbrev pub state_word : FarmMode → List ℕ
 state_word Open = codes "Open"
@@ -52,7 +43,7 @@ after_body s (Bc (SetVr x)) = farm_step s (SetVrArrives x)
 
 -- what came, and what the receiver made of it
 abbrev pub body_text : FarmState → BodyView → List ℕ
-body_text s (Ad n segment) = codes "AD " ++ (decimal n ++ (codes " " ++ (verdict_word (verdict_of s n true) ++ codes " ")))
+body_text s (Ad n segment) = codes "AD " ++ (decimal n ++ (codes " " ++ (verdict_name (verdict_of s n true) ++ codes " ")))
 body_text s (Bd segment) = codes "BD "
 body_text s (Bc Unlock) = codes "BC unlock "
 body_text s (Bc (SetVr x)) = codes "BC set " ++ (decimal x ++ codes " ")

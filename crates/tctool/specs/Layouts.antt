@@ -27,20 +27,20 @@ pub record HasHeads {F : Type 0} (layout : Layout F) : Type 0 where
 
 module _ {F : Type 0} (layout : Layout F) where
   -- the record that octets begin with, or why they are refused; none where some are missing
-  abbrev pub first_in : List ℕ → Option (Result (List ℕ) F)
-  first_in octets = first_record layout.head layout.extent octets
+  abbrev pub first_by : List ℕ → Option (Result (List ℕ) F)
+  first_by octets = first_record layout.head layout.extent octets
 
   -- all whole records
-  abbrev pub records_in : List ℕ → List (List ℕ)
-  records_in octets = records_of layout.head layout.extent octets
+  abbrev pub records_by : List ℕ → List (List ℕ)
+  records_by octets = records_of layout.head layout.extent octets
 
   -- the octets behind them
-  abbrev pub rest_in : List ℕ → List ℕ
-  rest_in octets = rest_of layout.head layout.extent octets
+  abbrev pub rest_by : List ℕ → List ℕ
+  rest_by octets = rest_of layout.head layout.extent octets
 
   -- octets at which no record can begin
   abbrev pub IsRefused : List ℕ → Type 0
-  IsRefused octets = (e : F) × (first_in octets ≡ Some (Err e))
+  IsRefused octets = (e : F) × (first_by octets ≡ Some (Err e))
 
   -- why an extent was refused, or else that the octets end too early
   abbrev pub extent_fault : Result ℕ F → F

@@ -16,7 +16,6 @@ pub mod Ranges
 pub mod Commands
 pub mod Listing
 pub mod Progress
-pub mod Beginning
 pub mod Writing
 pub mod Outcome
 pub mod Failures

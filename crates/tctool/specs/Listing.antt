@@ -1,7 +1,7 @@
 -- What a command writes of a stream of records: the lines of each record in turn, and a line for a rest.
 use Rattle.std.specs.Prelude.{◌≡◌, None, ℕ, ◌+◌, Bool, true, false, ◌&&◌, List, [], ◌∷◌, ◌++◌, length}
 use Rattle.std.specs.List.{list_all}
-use Rattle.tctool.specs.Layouts.{Layout, first_in, records_in, rest_in, rest_fault, IsRefused}
+use Rattle.tctool.specs.Layouts.{Layout, first_by, records_by, rest_by, rest_fault, IsRefused}
 
 -- What a command writes. S is what it keeps between two records, F is why octets are refused as no record.
 pub record Lines (S F : Type 0) : Type 0 where
@@ -59,7 +59,7 @@ module _ {S F : Type 0} (lines : Lines S F) where
   module _ (layout : Layout F) where
     -- a listing once all whole records are listed
     abbrev pub listed : Standing S → Standing S
-    listed st = behind st (records_in layout st.octets) (rest_in layout st.octets)
+    listed st = behind st (records_by layout st.octets) (rest_by layout st.octets)
 
     -- the line of a rest, where there is one
     abbrev pub rest_line : ℕ → List ℕ → List ℕ
@@ -78,7 +78,7 @@ module _ {S F : Type 0} (lines : Lines S F) where
     pub record HasListed (st next : Standing S) (before now : List ℕ) : Type 0 where
       pub written : now ≡ before ++ (listed st).text
       pub next_is : next ≡ record (listed st) { text = [] }
-      pub is_open : first_in layout (listed st).octets ≡ None
+      pub is_open : first_by layout (listed st).octets ≡ None
 
     -- Octets were listed up to such that are refused: all is written, whatever octets may come.
     pub record HasRefused (st : Standing S) (before now : List ℕ) : Type 0 where

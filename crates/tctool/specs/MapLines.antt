@@ -56,15 +56,15 @@ segment_of r (Ad n s) = if_accepted (verdict_of r n true) s
 segment_of r (Bd s) = None
 segment_of r (Bc command) = None
 
-abbrev pub after_segment : AssemblerState → Option SegmentView → AssemblerState
-after_segment a None = a
-after_segment a (Some s) = after_step a s
+abbrev pub assembler_after : AssemblerState → Option SegmentView → AssemblerState
+assembler_after a None = a
+assembler_after a (Some s) = after_step a s
 
 -- the receiver and the assembler behind a frame
 abbrev pub after_body : MapState → BodyView → MapState
 after_body x body = record {
   receiver = farms.after_body x.receiver body;
-  assembler = after_segment x.assembler (segment_of x.receiver body);
+  assembler = assembler_after x.assembler (segment_of x.receiver body);
 }
 
 abbrev pub after_frame : MapState → Result FrameView TcFault → MapState
@@ -88,12 +88,12 @@ abbrev pub cause_text : ℕ → Option Dropped → List ℕ
 cause_text i None = []
 cause_text i (Some cause) = dropped_line i (cause_name cause)
 
-abbrev pub packet_lines : ℕ → List (List ℕ) → List ℕ
-packet_lines m packets = concat (map (on_map_line (codes "packet ") m) packets)
+abbrev pub map_packets_text : ℕ → List (List ℕ) → List ℕ
+map_packets_text m packets = concat (map (on_map_line (codes "packet ") m) packets)
 
 -- what the assembler drops at a segment of MAP m, and then what it hands out
 abbrev pub outcome_text : ℕ → ℕ → TakeOutcome → List ℕ
-outcome_text i m o = cause_text i o.dropped ++ packet_lines m o.packets
+outcome_text i m o = cause_text i o.dropped ++ map_packets_text m o.packets
 
 abbrev pub segment_text : ℕ → AssemblerState → Option SegmentView → List ℕ
 segment_text i a None = []

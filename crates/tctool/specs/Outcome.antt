@@ -18,9 +18,9 @@ outcome_view (outcomes.Unreadable line) = Unreadable line
 outcome_view (outcomes.OutOfRange field) = OutOfRange field.now
 
 -- Good exactly where all is good
-abbrev pub outcome_of : Bool → Outcome
-outcome_of true = outcomes.Good
-outcome_of false = outcomes.Faulty
+abbrev pub outcome_if : Bool → Outcome
+outcome_if true = outcomes.Good
+outcome_if false = outcomes.Faulty
 
 -- how a script ends
 abbrev pub as_outcome : ends.Ending → OutcomeView

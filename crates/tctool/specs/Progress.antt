@@ -6,7 +6,7 @@ use Rattle.tctool.specs.Listing.{Standing}
 abbrev pub standing : {S : Type 0} → List ℕ → S → Progress → List ℕ → Standing S
 standing text kept progress octets = record { text = text; kept = kept; count = progress.count; all_good = progress.all_good; octets = octets }
 
--- a refusal, or that octets are missing
-abbrev pub refusal : {F : Type 0} → Option F → Option (Result (List ℕ) F)
-refusal None = None
-refusal (Some fault) = Some (Err fault)
+-- a where_refused, or that octets are missing
+abbrev pub where_refused : {F : Type 0} → Option F → Option (Result (List ℕ) F)
+where_refused None = None
+where_refused (Some fault) = Some (Err fault)

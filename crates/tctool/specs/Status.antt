@@ -4,9 +4,9 @@ use Rattle.tctool.specs.declared.fault.DumpFault.{DumpFault}
 use Rattle.tctool.specs.declared.outcome.Outcome.{Outcome}
 use Rattle.tctool.specs.declared.outcome.Outcome.TheVariants.{Good, Faulty, Unreadable, OutOfRange}
 
-abbrev pub status_of : Result Outcome DumpFault → ℕ
-status_of (Ok Good) = 0
-status_of (Ok Faulty) = 1
-status_of (Ok (Unreadable line)) = 1
-status_of (Ok (OutOfRange field)) = 1
-status_of (Err fault) = 3
+abbrev pub exit_status : Result Outcome DumpFault → ℕ
+exit_status (Ok Good) = 0
+exit_status (Ok Faulty) = 1
+exit_status (Ok (Unreadable line)) = 1
+exit_status (Ok (OutOfRange field)) = 1
+exit_status (Err fault) = 3

@@ -1,6 +1,6 @@
 -- What a call writes to a device.
 use Rattle.std.specs.Prelude.{◌≡◌, ℕ, List, ◌++◌, Result, OnOk, OnErr}
-use Rattle.tctool.specs.Beginning.{IsBeginning}
+use Rattle.octets.specs.Beginning.{IsBeginning}
 
 -- where the call goes well, the device has taken these octets behind those that it had
 abbrev pub Writes : {T E : Type 0} → Result T E → List ℕ → List ℕ → List ℕ → Type 0

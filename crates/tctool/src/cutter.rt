@@ -4,7 +4,7 @@ ghost use Rattle.std.specs.Prelude.{◌≡◌, ◌<◌, ◌++◌, ◌↔◌, ℕ
 ghost use Rattle.std.specs.Borrow.{sem};
 ghost use Rattle.std.specs.Io.BufRead.{Rests};
 ghost use Rattle.octets.specs.Holding.{held as octets_held, failure as failure_met, rest_after, failure_after, lent_view};
-ghost use Rattle.tctool.specs.Layouts.{Layout, HasHeads, first_in};
+ghost use Rattle.tctool.specs.Layouts.{Layout, HasHeads, first_by};
 
 use octets::{Splitter, Wire};
 
@@ -31,7 +31,7 @@ pub trait Cutter {
         ensures* rests { sem 𝓛 (Rests Self.row self.entry (λ last.
             (held last ≡ rest_after (lent_view result) (held self.old))
             × (failure last ≡ failure_after (lent_view result) (failure self.old)))) }
-        ensures answer { lent_view result ≡ first_in layout (held self.old) };
+        ensures answer { lent_view result ≡ first_by layout (held self.old) };
 
     /// Whether the stream may end here.
     fn finish(&self) -> Result<(), Self::Fault>

@@ -1,7 +1,7 @@
 // Reads a file, and writes what the words ask for of it.
 
 ghost use Rattle.std.specs.Prelude.{◌≡◌, ◌⊎◌, ◌+◌, ◌<◌, length, true, Err, OnOk, IfOk};
-ghost use Rattle.tctool.specs.Beginning.{IsBeginning};
+ghost use Rattle.octets.specs.Beginning.{IsBeginning};
 ghost use Rattle.tctool.specs.Dumped.{lines_of, outcome_for, StopsAt};
 ghost use Rattle.tctool.specs.Failures.{reads_failed_in, writes_failed_in};
 ghost use Rattle.tctool.specs.Gained.{gained};

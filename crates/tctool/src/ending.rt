@@ -1,7 +1,7 @@
 // How the program ends.
 
 ghost use Rattle.std.specs.Prelude.{◌≡◌};
-ghost use Rattle.tctool.specs.Status.{status_of};
+ghost use Rattle.tctool.specs.Status.{exit_status};
 
 use crate::fault::DumpFault;
 use crate::outcome::Outcome;
@@ -13,7 +13,7 @@ use itoa::Buffer;
 /// good, 1 for a fault in the data or the script, 3 where a device or memory failed or the input was too long. A
 /// fault of the sink is passed over.
 pub fn ending<W: Sink>(dumped: &Result<Outcome, DumpFault>, errors: &mut W) -> u8
-    ensures { result ≡ status_of dumped.now }
+    ensures { result ≡ exit_status dumped.now }
 {
     match dumped {
         Ok(Outcome::Good) => 0,

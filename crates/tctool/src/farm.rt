@@ -3,29 +3,16 @@
 ghost use Rattle.std.specs.Prelude.{◌≡◌, OnOk, IfOk, is_ok};
 ghost use Rattle.tc_frame.specs.Layout.{body_view, frame_view};
 ghost use Rattle.tc_frame.specs.Reading.{frame_at};
-ghost use Rattle.tc_frame.specs.declared.frame.Check.TheVariants as checks;
+ghost use Rattle.tc_frame.specs.Splitting.{check_if};
 ghost use Rattle.script.specs.Appending.{Appends};
-ghost use Rattle.tctool.specs.FarmLines.{verdict_word, state_word, flag_number, flags_text, state_text, body_text, after_body, farm_line, after_record, farm_lines};
+ghost use Rattle.tctool.specs.FarmLines.{state_word, flag_number, flags_text, state_text, body_text, after_body, farm_line, after_record, farm_lines};
 
 use crate::listing::Listing;
 use crate::text::{push_field, push_index, push_invalid};
-use cop1::{Farm, FarmMode, Verdict};
+use cop1::{Farm, FarmMode};
 use octets::Splitter;
 use std::alloc::AllocError;
-use tc_frame::{Body, Check, Checked, Command, TcFault, Unchecked, decode};
-
-fn word_of_verdict(verdict: Verdict) -> &'static str
-    ensures { result.now ≡ verdict_word verdict }
-{
-    match verdict {
-        Verdict::Accepted => "accepted",
-        Verdict::Ahead => "ahead",
-        Verdict::NoBuffer => "nobuffer",
-        Verdict::Behind => "behind",
-        Verdict::Outside => "outside",
-        Verdict::Discarded => "discarded",
-    }
-}
+use tc_frame::{Body, Check, Command, FrameLayout, TcFault, check_if, decode};
 
 fn word_of_state(state: FarmMode) -> &'static str
     ensures { result.now ≡ state_word state }
@@ -68,7 +55,7 @@ fn push_body(text: &mut String, farm: &mut Farm, body: &Body) -> Result<(), Allo
 {
     match body {
         Body::Ad { n, .. } => {
-            let verdict = word_of_verdict(farm.ad(*n, true));
+            let verdict = farm.ad(*n, true).name();
             push_field(text, "AD ", u64::from(*n))?;
             text.push(' ')?;
             text.push_str(verdict)?;
@@ -116,23 +103,11 @@ fn push_frame(
     }
 }
 
-impl Listing<Splitter<Unchecked>> for Farm {
-    ghost lines = { farm_lines checks.Off };
+impl<const CHECKED: bool> Listing<Splitter<FrameLayout<CHECKED>>> for Farm {
+    ghost lines = { farm_lines (check_if CHECKED) };
 
     fn take(&mut self, text: &mut String, index: u64, octets: &[u8]) -> Result<bool, AllocError> {
-        push_frame(text, self, Check::Off, index, octets)
-    }
-
-    fn refuse(text: &mut String, index: u64, fault: TcFault) -> Result<(), AllocError> {
-        push_invalid(text, index, fault.number(), fault.name())
-    }
-}
-
-impl Listing<Splitter<Checked>> for Farm {
-    ghost lines = { farm_lines checks.On };
-
-    fn take(&mut self, text: &mut String, index: u64, octets: &[u8]) -> Result<bool, AllocError> {
-        push_frame(text, self, Check::On, index, octets)
+        push_frame(text, self, check_if(CHECKED), index, octets)
     }
 
     fn refuse(text: &mut String, index: u64, fault: TcFault) -> Result<(), AllocError> {

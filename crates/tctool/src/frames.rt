@@ -3,7 +3,7 @@
 ghost use Rattle.std.specs.Prelude.{◌≡◌, IfOk, is_ok};
 ghost use Rattle.tc_frame.specs.Layout.{frame_view, body_view, segment_view};
 ghost use Rattle.tc_frame.specs.Reading.{frame_at};
-ghost use Rattle.tc_frame.specs.declared.frame.Check.TheVariants as checks;
+ghost use Rattle.tc_frame.specs.Splitting.{check_if};
 ghost use Rattle.script.specs.Appending.{Appends};
 ghost use Rattle.tctool.specs.FrameLines.{type_word, channel_text, segment_text, body_line, frame_line, frame_lines};
 
@@ -12,7 +12,7 @@ use crate::text::{push_field, push_index, push_invalid, push_octets};
 use octets::Splitter;
 use std::alloc::{AllocError, Global};
 use std::marker::Model;
-use tc_frame::{Body, Check, Checked, Command, Segment, TcFault, TcFrame, Unchecked, decode};
+use tc_frame::{Body, Check, Command, FrameLayout, Segment, TcFault, TcFrame, check_if, decode};
 
 /// Tells what each frame says. Nothing is kept between two frames.
 #[derive(Drop)]
@@ -103,23 +103,11 @@ fn push_body(text: &mut String, alloc: Global, body: &Body) -> Result<(), AllocE
     }
 }
 
-impl Listing<Splitter<Unchecked>> for FrameListing {
-    ghost lines = { frame_lines checks.Off };
+impl<const CHECKED: bool> Listing<Splitter<FrameLayout<CHECKED>>> for FrameListing {
+    ghost lines = { frame_lines (check_if CHECKED) };
 
     fn take(&mut self, text: &mut String, index: u64, octets: &[u8]) -> Result<bool, AllocError> {
-        self.push_frame(text, Check::Off, index, octets)
-    }
-
-    fn refuse(text: &mut String, index: u64, fault: TcFault) -> Result<(), AllocError> {
-        push_invalid(text, index, fault.number(), fault.name())
-    }
-}
-
-impl Listing<Splitter<Checked>> for FrameListing {
-    ghost lines = { frame_lines checks.On };
-
-    fn take(&mut self, text: &mut String, index: u64, octets: &[u8]) -> Result<bool, AllocError> {
-        self.push_frame(text, Check::On, index, octets)
+        self.push_frame(text, check_if(CHECKED), index, octets)
     }
 
     fn refuse(text: &mut String, index: u64, fault: TcFault) -> Result<(), AllocError> {

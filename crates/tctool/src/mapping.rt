@@ -4,13 +4,13 @@ ghost use Rattle.std.specs.Prelude.{◌≡◌, ℕ, Bool, List, OnOk, IfOk, is_o
 ghost use Rattle.tc_frame.specs.Layout.{body_view, frame_view, segment_view};
 ghost use Rattle.tc_frame.specs.Reading.{frame_at};
 ghost use Rattle.tc_frame.specs.declared.frame.Check.{Check as Checking};
-ghost use Rattle.tc_frame.specs.declared.frame.Check.TheVariants as checks;
+ghost use Rattle.tc_frame.specs.Splitting.{check_if};
 ghost use Rattle.cop1.specs.Farm.{IsWidth, new_farm};
 ghost use Rattle.map_service.specs.Assembly.{assembled};
 ghost use Rattle.map_service.specs.Exactness.{step_at, after_step};
 ghost use Rattle.tm_link.specs.Extraction.{octets_of};
 ghost use Rattle.script.specs.Appending.{Appends};
-ghost use Rattle.tctool.specs.MapLines.{MapState, map_limits, map_opened, is_bypass, dropped_line, on_map_line, cause_text, packet_lines, outcome_text, bypass_text, body_text, after_body, record_text, after_record, map_lines};
+ghost use Rattle.tctool.specs.MapLines.{MapState, map_limits, map_opened, is_bypass, dropped_line, on_map_line, cause_text, map_packets_text, outcome_text, bypass_text, body_text, after_body, record_text, after_record, map_lines};
 ghost use Rattle.tctool.specs.ToldPackets.{accepted_in, told_on};
 
 use crate::listing::Listing;
@@ -20,7 +20,7 @@ use map_service::{Assembler, Dropped, Limits, Taken, are_one_packet};
 use octets::Splitter;
 use std::alloc::{AllocError, Global};
 use std::marker::Model;
-use tc_frame::{Body, Check, Checked, Command, Segment, SegmentFlags, TcFault, Unchecked, decode};
+use tc_frame::{Body, Check, Command, FrameLayout, Segment, SegmentFlags, TcFault, check_if, decode};
 
 /// Tells the packets out of frames: a receiver takes each frame, and one assembler, with all MAPs
 /// open, each segment that came in a Type-AD frame and was accepted.
@@ -71,7 +71,7 @@ impl MapListing {
               assembler = after_step self.old.assembler (segment_view segment.entry);
             }) }
     {
-        if let Some(packet) = self.assembler.passing(&segment) {
+        if let Some(packet) = self.assembler.lone_packet(&segment) {
             return push_packet(text, self.alloc, segment.header.map, packet);
         }
         let Ok(taken) = self.assembler.take(&segment) else {
@@ -192,7 +192,7 @@ fn push_packets(
     map: u8,
     packets: &[Vec<u8>],
 ) -> Result<(), AllocError>
-    ensures { Appends result text.old text.new (packet_lines map (octets_of packets.now)) }
+    ensures { Appends result text.old text.new (map_packets_text map (octets_of packets.now)) }
 {
     for packet in packets {
         push_packet(text, alloc, map, packet.as_slice())?;
@@ -233,23 +233,11 @@ pub fn law_of_told_packets()
         ≡ assembled (map_limits blocking) m (accepted_in check (new_farm width vr) records) }
 {}
 
-impl Listing<Splitter<Unchecked>> for MapListing {
-    ghost lines = { map_lines checks.Off };
+impl<const CHECKED: bool> Listing<Splitter<FrameLayout<CHECKED>>> for MapListing {
+    ghost lines = { map_lines (check_if CHECKED) };
 
     fn take(&mut self, text: &mut String, index: u64, octets: &[u8]) -> Result<bool, AllocError> {
-        self.push_frame(text, Check::Off, index, octets)
-    }
-
-    fn refuse(text: &mut String, index: u64, fault: TcFault) -> Result<(), AllocError> {
-        push_invalid(text, index, fault.number(), fault.name())
-    }
-}
-
-impl Listing<Splitter<Checked>> for MapListing {
-    ghost lines = { map_lines checks.On };
-
-    fn take(&mut self, text: &mut String, index: u64, octets: &[u8]) -> Result<bool, AllocError> {
-        self.push_frame(text, Check::On, index, octets)
+        self.push_frame(text, check_if(CHECKED), index, octets)
     }
 
     fn refuse(text: &mut String, index: u64, fault: TcFault) -> Result<(), AllocError> {

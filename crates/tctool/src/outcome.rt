@@ -16,11 +16,11 @@ pub enum Outcome {
 }
 
 impl Outcome {
-    ghost use Rattle.tctool.specs.Outcome.{outcome_of};
+    ghost use Rattle.tctool.specs.Outcome.{outcome_if};
 
     /// Good, or not.
     pub fn of(all_good: bool) -> Outcome
-        ensures { result ≡ outcome_of all_good }
+        ensures { result ≡ outcome_if all_good }
     {
         if all_good {
             Outcome::Good

@@ -1,7 +1,7 @@
 // Writes a text whole.
 
 ghost use Rattle.std.specs.Prelude.{◌≡◌, ◌+◌, ◌++◌, OnOk};
-ghost use Rattle.tctool.specs.Beginning.{IsBeginning};
+ghost use Rattle.octets.specs.Beginning.{IsBeginning};
 ghost use Rattle.tctool.specs.Failures.{failed_in};
 
 use crate::sink::Sink;

@@ -4,7 +4,7 @@ ghost use Rattle.std.specs.Prelude.{◌≡◌, ◌⊎◌, ◌+◌, ◌<◌, ◌�
 ghost use Rattle.script.specs.Ending.{script_ending, script_text};
 ghost use Rattle.script.specs.Playing.{answers_from};
 ghost use Rattle.script.specs.Scripts.{script_in};
-ghost use Rattle.tctool.specs.Beginning.{IsBeginning};
+ghost use Rattle.octets.specs.Beginning.{IsBeginning};
 ghost use Rattle.tctool.specs.Failures.{writes_failed, reads_failed_in, writes_failed_in};
 ghost use Rattle.tctool.specs.Gained.{gained};
 ghost use Rattle.tctool.specs.Outcome.{outcome_view, as_outcome};

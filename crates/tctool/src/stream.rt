@@ -1,13 +1,13 @@
 // Reads a stream in pieces, and writes what a command makes of its records.
 
 ghost use Rattle.std.specs.Prelude.{◌≡◌, ◌⊎◌, None, false, true, ◌+◌, ◌-◌, ◌^◌, ◌<◌, ◌≤◌, ◌&&◌, ◌++◌, [], length, Ok, Err, OnOk, IfOk, IfErr, string_bytes};
-ghost use Rattle.tctool.specs.Layouts.{first_in, rest_in, IsRefused};
+ghost use Rattle.tctool.specs.Layouts.{first_by, rest_by, IsRefused};
 ghost use Rattle.tctool.specs.Listing.{fresh, listed, text_of, is_all_good, rest_line, is_empty, HasListed, HasRefused};
-ghost use Rattle.tctool.specs.Beginning.{IsBeginning};
+ghost use Rattle.octets.specs.Beginning.{IsBeginning};
 ghost use Rattle.tctool.specs.Failures.{reads_failed_in, writes_failed_in};
 ghost use Rattle.tctool.specs.Gained.{gained};
-ghost use Rattle.tctool.specs.Outcome.{outcome_of};
-ghost use Rattle.tctool.specs.Progress.{refusal, standing};
+ghost use Rattle.tctool.specs.Outcome.{outcome_if};
+ghost use Rattle.tctool.specs.Progress.{where_refused, standing};
 ghost use Rattle.tctool.specs.Writing.{BeginsToWrite, Writes};
 
 use crate::cutter::Cutter;
@@ -52,7 +52,7 @@ fn list_records<S: Cutter, C: Listing<S>>(
         standing (string_bytes text.new) command.new progress.new (S.held cutter.new)
         ≡ listed C.lines S.layout
         (standing (string_bytes text.old) command.old progress.old (S.held cutter.old))) }
-    ensures fault { IfOk result (λ fault. first_in S.layout (S.held cutter.new) ≡ refusal fault) }
+    ensures fault { IfOk result (λ fault. first_by S.layout (S.held cutter.new) ≡ where_refused fault) }
     ensures failed { result ≡ Ok None → S.failure cutter.new ≡ S.failure cutter.old }
 {
     while let Some(answer) = cutter.next() {
@@ -140,11 +140,11 @@ fn list_rest<S: Cutter, C: Listing<S>, W: Sink>(
     text: &mut String,
     writer: &mut W,
 ) -> Result<Outcome, DumpFault>
-    requires open { first_in S.layout (S.held cutter.now) ≡ None }
+    requires open { first_by S.layout (S.held cutter.now) ≡ None }
     requires going { S.failure cutter.now ≡ None }
     requires count { progress.count < 2 ^ 64 - 1 }
     ensures ok { IfOk result (λ outcome.
-        (outcome ≡ outcome_of (progress.all_good && is_empty (S.held cutter.now)))
+        (outcome ≡ outcome_if (progress.all_good && is_empty (S.held cutter.now)))
         × (W.taken_octets writer.new ≡ W.taken_octets writer.old
         ++ rest_line C.lines S.layout (progress.count + 1) (S.held cutter.now))) }
     ensures beginning { BeginsToWrite result (W.taken_octets writer.old) (W.taken_octets writer.new)
@@ -179,11 +179,11 @@ pub fn list_stream<S: Cutter + Drop, C: Listing<S> + Drop, R: Source, W: Sink>(
     ensures text { Writes result (W.taken_octets writer.old) (W.taken_octets writer.new)
         (text_of C.lines S.layout
         (fresh command (gained (R.given reader.old) (R.given reader.new)))) }
-    ensures outcome { IfOk result (λ outcome. outcome ≡ outcome_of (is_all_good C.lines S.layout
+    ensures outcome { IfOk result (λ outcome. outcome ≡ outcome_if (is_all_good C.lines S.layout
         (fresh command (gained (R.given reader.old) (R.given reader.new))))) }
     ensures end { OnOk result ((R.has_ended reader.new ≡ true)
         ⊎ IsRefused S.layout
-        (rest_in S.layout (gained (R.given reader.old) (R.given reader.new)))) }
+        (rest_by S.layout (gained (R.given reader.old) (R.given reader.new)))) }
     ensures beginning { BeginsToWrite result (W.taken_octets writer.old) (W.taken_octets writer.new)
         (text_of C.lines S.layout
         (fresh command (gained (R.given reader.old) (R.given reader.new)))) }

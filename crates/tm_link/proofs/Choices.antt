@@ -6,7 +6,7 @@ use Rattle.std.proofs.lemmas.List.{append-nil, map-append}
 use Rattle.std.proofs.lemmas.List.Folds.{concat-append}
 use Rattle.tm_link.specs.declared.gap.Gap.TheVariants.{Lost}
 use Rattle.tm_link.specs.Arriving.{IsInRange, all_extracted}
-use Rattle.tm_link.specs.Extraction.{ExtractorState, new_extractor, gap_of, part_behind, packets_in, part_after, without_idle, extract_step}
+use Rattle.tm_link.specs.Extraction.{ExtractorState, new_extractor, gap_of, part_behind, finished_packets, part_after, without_idle, extract_step}
 use Rattle.tm_link.specs.Layout.{FrameView}
 use Rattle.tm_link.specs.Stream.{IsPointed, IsLaidOut, IsClose, slice_of, carried_octets, marks_of, complete_packets, choice, arrived_packets}
 use Rattle.tm_link.proofs.Marking.{complete_packets-short}
@@ -166,7 +166,7 @@ extracted (f ∷ frames) (true ∷ chosen) all place tail ps others marks s n co
     let m = step.0 in
     let part : part_behind (gap_of s.last f.vc_count) s.part ≡ kept tail marks =
     ap (λ (k : ℕ). part_behind (gap_of s.last k) s.part) follow.0 ∙ tied_part s.last s.part n count (kept tail marks) chosen tied near in
-    let given : (extract_step s f).packets ≡ without_idle m.added = ap (λ (xs : List ℕ). without_idle (packets_in xs f.pointer f.payload)) part ∙ ap without_idle step.1.0 in
+    let given : (extract_step s f).packets ≡ without_idle m.added = ap (λ (xs : List ℕ). without_idle (finished_packets xs f.pointer f.payload)) part ∙ ap without_idle step.1.0 in
     let after : (extract_step s f).after.part ≡ kept m.begun m.flags = ap (λ (xs : List ℕ). part_after xs f.pointer f.payload) part ∙ step.1.1 in
     let next : (count + 1) % 256 ≡ (f.vc_count + 1 + 0) % 256 = omega (arith, follow.0) in
     ap (λ (xs : Packets). (extract_step s f).packets ++ xs)

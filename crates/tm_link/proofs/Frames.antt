@@ -15,7 +15,7 @@ use Rattle.tm_link.specs.declared.frame.TmFrame.{TmFrame}
 use Rattle.tm_link.specs.declared.fault.TmFault.{TmFault}
 use Rattle.tm_link.specs.declared.fault.TmFault.TheVariants as faults
 use Rattle.tm_link.specs.Layout.{FrameView, frame_view, pointer_number, pointer_fits, IsTmFrame}
-use Rattle.tm_link.specs.Reading.{is_length_wrong, is_check_wrong, is_outside, pointer_at, four_at, frame_with, frame_at}
+use Rattle.tm_link.specs.Reading.{is_length_wrong, is_check_wrong, is_pointer_outside, pointer_at, four_at, frame_with, frame_at}
 
 -- ---- parts of octets
 
@@ -45,10 +45,10 @@ rest_is total b count least =
 -- ---- the pointer
 
 -- a number of 11 bits that isn't outside is that of its pointer, which is in the data
-below_from : (number size : ℕ) → number < 2048 → is_outside number size ≡ false → eqb number 2046 ≡ false → eqb number 2047 ≡ false → number < size
+below_from : (number size : ℕ) → number < 2048 → is_pointer_outside number size ≡ false → eqb number 2046 ≡ false → eqb number 2047 ≡ false → number < size
 below_from number size low inside idle none = grind (arith, nat_tests)
 
-pointer_is : (number size : ℕ) → number < 2048 → is_outside number size ≡ false → (pointer_number (pointer_at number) ≡ number) × IsTrue (pointer_fits (pointer_at number) size)
+pointer_is : (number size : ℕ) → number < 2048 → is_pointer_outside number size ≡ false → (pointer_number (pointer_at number) ≡ number) × IsTrue (pointer_fits (pointer_at number) size)
 pointer_is number size low inside =
     cond_both (eqb number 2046) OnlyIdle (cond (eqb number 2047) NoStart (At number)) (λ (p : Pointer). (pointer_number p ≡ number) × IsTrue (pointer_fits p size))
     (λ idle. (sym (eqb-true _ _ idle), refl))
@@ -59,7 +59,7 @@ pointer_is number size low inside =
 -- what the number of a pointer in the data is read as
 pub record IsReadAgain (pointer : Pointer) (size : ℕ) : Type 0 where
   pub again : pointer_at (pointer_number pointer) ≡ pointer
-  pub inside : is_outside (pointer_number pointer) size ≡ false
+  pub inside : is_pointer_outside (pointer_number pointer) size ≡ false
   pub low : pointer_number pointer < 2048
 
 pub pointer_again : (pointer : Pointer) (size : ℕ) → size ≤ 2036 → IsTrue (pointer_fits pointer size) → IsReadAgain pointer size
@@ -86,7 +86,7 @@ frame_is total b f octets h =
     let status : ℕ = number_of (take 2 (drop 4 b)) in
     let made : FrameView = frame_with total first status b in
     let after_pointer : Result FrameView TmFault = cond (first % 2 == 0) (Err faults.NoOcf) (Ok made) in
-    let after_status : Result FrameView TmFault = cond (is_outside (status % 2048) (total - 12)) (Err faults.Pointer) after_pointer in
+    let after_status : Result FrameView TmFault = cond (is_pointer_outside (status % 2048) (total - 12)) (Err faults.Pointer) after_pointer in
     let after_check : Result FrameView TmFault = cond (not (status / 2048 == 3)) (Err faults.Status) after_status in
     let after_version : Result FrameView TmFault = cond (is_check_wrong b) (Err faults.Check) after_check in
     let after_length : Result FrameView TmFault = cond (not (first / 16384 == 0)) (Err faults.Version) after_version in
@@ -94,7 +94,7 @@ frame_is total b f octets h =
     let version = passed (not (first / 16384 == 0)) faults.Version after_version f sizes.1 in
     let checked = passed (is_check_wrong b) faults.Check after_check f version.1 in
     let fields = passed (not (status / 2048 == 3)) faults.Status after_status f checked.1 in
-    let inside = passed (is_outside (status % 2048) (total - 12)) faults.Pointer after_pointer f fields.1 in
+    let inside = passed (is_pointer_outside (status % 2048) (total - 12)) faults.Pointer after_pointer f fields.1 in
     let declared = passed (first % 2 == 0) faults.NoOcf (Ok made) f inside.1 in
     let most = both_false _ _ sizes.0 in
     let count = both_false _ _ most.0 in

@@ -9,7 +9,7 @@ use Rattle.octets.specs.Records.{IsRecord, records_of, rest_of}
 use Rattle.space_packet.specs.Reading.{extent_at}
 use Rattle.tm_link.specs.declared.frame.Pointer.{Pointer}
 use Rattle.tm_link.specs.declared.frame.Pointer.TheVariants.{At, NoStart, OnlyIdle}
-use Rattle.tm_link.specs.Extraction.{opened_part, packets_in, part_after}
+use Rattle.tm_link.specs.Extraction.{opened_part, finished_packets, part_after}
 use Rattle.tm_link.specs.Stream.{HasNoStart, IsStart, IsPointed, carried_by}
 use Rattle.tm_link.proofs.Endings.{completed_packet-whole, continued_part-whole, completed_packet-short, continued_part-short, ending-short, begins, records-cut, opened_part-cut}
 use Rattle.tm_link.proofs.Marking.{are_set, all_set}
@@ -22,7 +22,7 @@ kept tail marks = cond (are_set marks) tail []
 
 -- With a frame that came these packets are handed out, and this part is kept; without it, none.
 abbrev pub Told : Bool → List ℕ → Pointer → List ℕ → Packets → List ℕ → Type 0
-Told true part pointer payload added after = (packets_in part pointer payload ≡ added) × (part_after part pointer payload ≡ after)
+Told true part pointer payload added after = (finished_packets part pointer payload ≡ added) × (part_after part pointer payload ≡ after)
 Told false part pointer payload added after = (added ≡ []) × (after ≡ [])
 
 abbrev pub Stepped : Bool → Packets → List ℕ → List Bool → Pointer → List ℕ → Type 0

@@ -75,10 +75,10 @@ continued_part part octets = if length part == 0 then [] else part_by (part ++ o
 abbrev pub opened_part : List ℕ → List ℕ
 opened_part rest = part_by rest (ending_of rest)
 
-abbrev pub packets_in : List ℕ → Pointer → List ℕ → List (List ℕ)
-packets_in part OnlyIdle payload = []
-packets_in part NoStart payload = completed_packet part payload
-packets_in part (At p) payload = completed_packet part (take p payload) ++ records_of 6 extent_at (drop p payload)
+abbrev pub finished_packets : List ℕ → Pointer → List ℕ → List (List ℕ)
+finished_packets part OnlyIdle payload = []
+finished_packets part NoStart payload = completed_packet part payload
+finished_packets part (At p) payload = completed_packet part (take p payload) ++ records_of 6 extent_at (drop p payload)
 
 abbrev pub part_after : List ℕ → Pointer → List ℕ → List ℕ
 part_after part OnlyIdle payload = []
@@ -106,7 +106,7 @@ extract_step s f =
     let part : List ℕ = part_behind gap s.part in
     record {
       gap = gap;
-      packets = without_idle (packets_in part f.pointer f.payload);
+      packets = without_idle (finished_packets part f.pointer f.payload);
       after = record { last = Some f.vc_count; part = part_after part f.pointer f.payload };
     }
 

@@ -17,8 +17,8 @@ abbrev pub is_check_wrong : List ℕ → Bool
 is_check_wrong b = not (number_of (drop (length b - 2) b) == check_of (take (length b - 2) b))
 
 -- a pointer of this number is neither a place in a data field of so many octets nor 2046 nor 2047 (4.1.2.7.6)
-abbrev pub is_outside : ℕ → ℕ → Bool
-is_outside number size = nat_lt number 2046 && nat_le size number
+abbrev pub is_pointer_outside : ℕ → ℕ → Bool
+is_pointer_outside number size = nat_lt number 2046 && nat_le size number
 
 abbrev pub pointer_at : ℕ → Pointer
 pointer_at number = if number == 2046 then OnlyIdle else if number == 2047 then NoStart else At number
@@ -48,6 +48,6 @@ frame_at total b =
     else if not (first / 16384 == 0) then Err faults.Version
     else if is_check_wrong b then Err faults.Check
     else if not (status / 2048 == 3) then Err faults.Status
-    else if is_outside (status % 2048) (total - 12) then Err faults.Pointer
+    else if is_pointer_outside (status % 2048) (total - 12) then Err faults.Pointer
     else if first % 2 == 0 then Err faults.NoOcf
     else Ok (frame_with total first status b)

@@ -3,7 +3,7 @@
 ghost use Rattle.std.specs.Prelude.{◌≡◌, ◌≤◌, ◌+◌, ◌-◌, ◌%◌, length, IfOk, Ok};
 ghost use Rattle.octets.specs.Outcome.{map_ok};
 ghost use Rattle.tm_link.specs.Layout.{FrameView, frame_view, IsTmFrame};
-ghost use Rattle.tm_link.specs.Reading.{is_length_wrong, is_check_wrong, is_outside, pointer_at, four_at, frame_with, frame_at};
+ghost use Rattle.tm_link.specs.Reading.{is_length_wrong, is_check_wrong, is_pointer_outside, pointer_at, four_at, frame_with, frame_at};
 
 use crate::fault::TmFault;
 use crate::frame::{Pointer, TmFrame};
@@ -82,7 +82,7 @@ fn has_wrong_check(octets: &[u8]) -> bool
 }
 
 fn is_out_of_data(number: u16, size: usize) -> bool
-    ensures { result ≡ is_outside number size }
+    ensures { result ≡ is_pointer_outside number size }
 {
     number < 2046 && size <= usize::from(number)
 }

@@ -3,7 +3,7 @@
 ghost use Rattle.std.specs.Prelude.{◌≡◌, ◌≤◌, ◌+◌, ◌++◌, [], ◌∷◌, length, IsTrue, IsOk, OnOk, IfOk, IfErr};
 ghost use Rattle.octets.specs.Records.{records_of};
 ghost use Rattle.space_packet.specs.Reading.{extent_at};
-ghost use Rattle.tm_link.specs.Extraction.{completed_packet, packets_in, without_idle, GrowsBy};
+ghost use Rattle.tm_link.specs.Extraction.{completed_packet, finished_packets, without_idle, GrowsBy};
 ghost use Rattle.tm_link.specs.Layout.{pointer_fits};
 
 use crate::ending::{Ending, ending_with, first_len, is_idle_with};
@@ -21,8 +21,8 @@ pub(crate) fn find(
 ) -> Result<(), TmFault>
     requires { IsTrue (pointer_fits pointer (length payload.now)) }
     ensures ok { OnOk result (GrowsBy found.old found.new
-        (without_idle (packets_in part.now pointer payload.now))) }
-    ensures none { without_idle (packets_in part.now pointer payload.now) ≡ [] → IsOk result }
+        (without_idle (finished_packets part.now pointer payload.now))) }
+    ensures none { without_idle (finished_packets part.now pointer payload.now) ≡ [] → IsOk result }
     ensures fault { IfErr result (λ e. e ≡ TmFault.Memory) }
 {
     match pointer {

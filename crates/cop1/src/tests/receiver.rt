@@ -4,6 +4,13 @@ use crate::{CopFault, Farm, FarmMode, Verdict};
 use clcw::encode;
 use std::test::Fail;
 
+#[test]
+fn verdicts_in_words(rt: HostRuntime) {
+    assert_eq!(rt; Verdict::Accepted.name(), "accepted");
+    assert_eq!(rt; Verdict::NoBuffer.name(), "nobuffer");
+    assert_eq!(rt; Verdict::Discarded.name(), "discarded");
+}
+
 // A width of 10 has a positive and a negative window of 5 each.
 #[test]
 fn a_receiver_locks_and_opens(rt: HostRuntime) -> Result<(), Fail> {

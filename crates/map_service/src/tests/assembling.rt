@@ -73,22 +73,22 @@ fn segments_that_pass(rt: HostRuntime) {
     let mut assembler = Assembler::new(rt.alloc(), limits(7, false));
     let alone = segment(SegmentFlags::Alone, 4, &P0);
     let first = segment(SegmentFlags::First, 4, &P0[..3]);
-    assert!(rt; assembler.passing(&alone) == Some(P0.as_slice()));
-    assert!(rt; assembler.passing(&first).is_none());
+    assert!(rt; assembler.lone_packet(&alone) == Some(P0.as_slice()));
+    assert!(rt; assembler.lone_packet(&first).is_none());
     assert!(rt;
         assembler
-            .passing(&segment(SegmentFlags::Alone, 4, &P0[..6]))
+            .lone_packet(&segment(SegmentFlags::Alone, 4, &P0[..6]))
             .is_none()
     );
     assert!(rt;
         assembler
-            .passing(&segment(SegmentFlags::Alone, 64, &P0))
+            .lone_packet(&segment(SegmentFlags::Alone, 64, &P0))
             .is_none()
     );
     takes(&rt, &mut assembler, &first, None, &[]);
-    assert!(rt; assembler.passing(&alone).is_none());
+    assert!(rt; assembler.lone_packet(&alone).is_none());
     let blocking = Assembler::new(rt.alloc(), limits(7, true));
-    assert!(rt; blocking.passing(&alone).is_none());
+    assert!(rt; blocking.lone_packet(&alone).is_none());
 }
 
 // Several growths of the part.

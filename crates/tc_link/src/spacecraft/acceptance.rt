@@ -38,7 +38,7 @@ impl Spacecraft {
             return Err(LinkFault::Memory);
         };
         put_segment(&mut field, &segment);
-        let Ok(packets) = self.assembler.foreseen(&segment) else {
+        let Ok(packets) = self.assembler.packets_at(&segment) else {
             return Err(LinkFault::Memory);
         };
         Ok(Some(Acceptance {

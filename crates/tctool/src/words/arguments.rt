@@ -6,7 +6,6 @@ ghost use Rattle.tctool.specs.Commands.{IsBare};
 
 use clap::{Arg, ArgAction, Command};
 use std::alloc::{AllocError, Global};
-use tc_frame::Check;
 
 /// A command as its help tells of it.
 #[derive(Clone, Copy, Debug)]
@@ -62,8 +61,4 @@ pub fn file_argument<'a>(alloc: Global, help: &'a str) -> Arg<'a>
         .required(true)
         .help(help)
         .action(ArgAction::Set)
-}
-
-pub fn check_of_flag(given: bool) -> Check {
-    if given { Check::On } else { Check::Off }
 }

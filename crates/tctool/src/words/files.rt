@@ -5,11 +5,11 @@ ghost use Rattle.tctool.specs.Ranges.{IsInRange, IsOddIfWidth};
 
 use crate::task::{Options, Task, UsageFault};
 use crate::words::arguments::{
-    Described, bare_command, check_flag, check_of_flag, ending_of_help, file_argument,
+    Described, bare_command, check_flag, ending_of_help, file_argument,
 };
 use clap::Error;
 use std::alloc::Global;
-use tc_frame::Check;
+use tc_frame::{Check, check_if};
 
 pub const TC: Described<'static> = Described {
     name: "tc",
@@ -104,7 +104,7 @@ fn checked_file<'a>(
     let with_check = start.arg(check)?;
     let command = with_check.arg(file)?;
     let matches = command.try_get_matches_from(words)?;
-    let check = check_of_flag(matches.get_flag("check"));
+    let check = check_if(matches.get_flag("check"));
     Ok((check, matches.get_str("FILE").unwrap()))
 }
 

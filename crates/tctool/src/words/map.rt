@@ -6,11 +6,12 @@ ghost use Rattle.clap.specs.Built.{IsPlainArg};
 
 use crate::task::{Options, Task, UsageFault};
 use crate::words::arguments::{
-    Described, bare_command, check_flag, check_of_flag, ending_of_help, file_argument,
+    Described, bare_command, check_flag, ending_of_help, file_argument,
 };
 use crate::words::farm::{even_width, vr_option, width_option};
 use clap::{Arg, ArgAction, Error};
 use std::alloc::Global;
+use tc_frame::check_if;
 
 pub const MAP: Described<'static> = Described {
     name: "map",
@@ -18,6 +19,7 @@ pub const MAP: Described<'static> = Described {
     about: "Tells the packets out of the frames that a receiver accepts",
     ending: ending_of_help!("packet 4 1005C0000000AA"),
 };
+use tc_frame::check_if;
 
 /// The words of `tctool map`, the command's name first.
 pub fn map_options<'a>(alloc: Global, words: &'a [&'a str]) -> Result<Options<'a>, UsageFault>
@@ -28,7 +30,7 @@ pub fn map_options<'a>(alloc: Global, words: &'a [&'a str]) -> Result<Options<'a
     let width = even_width(given.width)?;
     Ok(Options {
         task: Task::Map {
-            check: check_of_flag(given.check),
+            check: check_if(given.check),
             width,
             vr: given.vr.unwrap_or(0),
             blocking: given.blocking,

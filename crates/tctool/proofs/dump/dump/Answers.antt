@@ -1,6 +1,6 @@
 use Rattle.std.proofs.Common.{◌≡◌, ◌∙◌, ◌++◌, ℕ, Bool, List, OnErr, sym, ap, subst}
 use Rattle.tc_frame.specs.declared.frame.Check.{Check}
-use Rattle.tctool.specs.Beginning.{IsBeginning}
+use Rattle.octets.specs.Beginning.{IsBeginning}
 use Rattle.tctool.specs.Dumped.{lines_of}
 use Rattle.tctool.specs.Layouts.{frame_layout}
 use Rattle.tctool.specs.Listing.{fresh, text_of}

@@ -1,6 +1,6 @@
 use Rattle.std.proofs.Common.{◌++◌, ◌∙◌, List, ℕ, subst, OnErr}
 use Rattle.script.specs.Ending.{script_text}
-use Rattle.tctool.specs.Beginning.{IsBeginning}
+use Rattle.octets.specs.Beginning.{IsBeginning}
 use Rattle.tctool.proofs.simulation.simulate.Goals as goal
 
 pub returns-in-Ok-clause-beginning : goal.returns-in-Ok-clause-beginning

@@ -2,7 +2,7 @@ use Rattle.std.proofs.Common.{◌≡◌, ◌++◌, ◌∙◌, List, ℕ, sym, ap
 use Rattle.script.specs.Ending.{remaining_answers}
 use Rattle.script.specs.Playing.{answers_from}
 use Rattle.script.specs.Scripts.{script_in}
-use Rattle.tctool.specs.Beginning.{IsBeginning}
+use Rattle.octets.specs.Beginning.{IsBeginning}
 use Rattle.tctool.proofs.Beginnings.{begins_more}
 use Rattle.tctool.proofs.simulation.write_answers.Goals as goal
 

@@ -1,9 +1,9 @@
 use Rattle.std.proofs.Common.{◌≡◌, ◌∙◌, ◌++◌, ◌+◌, [], Err, sym, ap}
 use Rattle.std.specs.Prelude.{string_bytes, Some}
 use Rattle.std.proofs.lemmas.Result.{on_err_weaker}
-use Rattle.tctool.specs.Layouts.{first_in}
+use Rattle.tctool.specs.Layouts.{first_by}
 use Rattle.tctool.specs.Listing.{listed, rest_line}
-use Rattle.tctool.specs.Progress.{standing, refusal}
+use Rattle.tctool.specs.Progress.{standing, where_refused}
 use Rattle.tctool.proofs.Beginnings.{begins_more, begins_same}
 use Rattle.tctool.proofs.Listed.{rest_line-refused}
 use Rattle.tctool.proofs.stream.list_piece.Goals as goal
@@ -28,7 +28,7 @@ returns-clause-beginning g c =
     let begun : standing (string_bytes c.clear.new.self) c.args.command.now c.args.progress.now (g.S.Cutter.held c.feed.new.self) ≡ st =
     ap (λ t. standing t c.args.command.now c.args.progress.now (g.S.Cutter.held c.feed.new.self)) c.clear.ensures.bytes ∙ ap (standing [] c.args.command.now c.args.progress.now) c.in-Ok.ensures.ok in
     let same = c.in-Ok-list_records.ensures.listed ∙ ap all begun in
-    let first : first_in g.S.Cutter.layout (g.S.Cutter.held c.list_records.new.cutter) ≡ Some (Err c.in-Some.fault) = c.in-Ok-list_records.ensures.fault ∙ ap refusal c.in-Some.is in
+    let first : first_by g.S.Cutter.layout (g.S.Cutter.held c.list_records.new.cutter) ≡ Some (Err c.in-Some.fault) = c.in-Ok-list_records.ensures.fault ∙ ap where_refused c.in-Some.is in
     let refused = rest_line-refused g.C.Listing.lines g.S.Cutter.layout g.met.S.Cutter.heads
     (c.list_records.new.progress.count + 1) (g.S.Cutter.held c.list_records.new.cutter) c.in-Some.fault first in
     on_err_weaker c.put-2.result

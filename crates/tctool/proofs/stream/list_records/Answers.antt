@@ -2,7 +2,7 @@ use Rattle.std.proofs.Common.{◌≡◌, ◌∙◌, Ok, Err, sym, ap, subst, dro
 use Rattle.std.specs.Prelude.{Some, None, ◌&&◌, string_bytes}
 use Rattle.octets.specs.Holding.{rest_after, failure_after}
 use Rattle.octets.proofs.Streams.{IsNoRecord}
-use Rattle.tctool.specs.Layouts.{first_in}
+use Rattle.tctool.specs.Layouts.{first_by}
 use Rattle.tctool.specs.Progress.{standing}
 use Rattle.tctool.proofs.Listed.{goes_on, shorter, listed-none}
 use Rattle.tctool.proofs.stream.list_records.Goals as goal
@@ -12,7 +12,7 @@ pub loop-answer-preserved : goal.loop-answer-preserved
 loop-answer-preserved g c =
     let told = c.next.follows.holds-at-none in
     let got = rw c.in-Ok.is at c.in-Some.ensures.answer in
-    let first : first_in g.S.Cutter.layout (g.S.Cutter.held c.loop-answer.cutter) ≡ Some (Ok c.in-Ok.octets.now) = sym got in
+    let first : first_by g.S.Cutter.layout (g.S.Cutter.held c.loop-answer.cutter) ≡ Some (Ok c.in-Ok.octets.now) = sym got in
     let left : g.S.Cutter.held c.next.follows.lender-at-none ≡ drop (length c.in-Ok.octets.now) (g.S.Cutter.held c.loop-answer.cutter) =
     told.0 ∙ ap (λ o. rest_after o (g.S.Cutter.held c.loop-answer.cutter)) (c.next.ensures.answer ∙ first) in
     let less = shorter g.C.Listing.lines g.S.Cutter.layout g.met.S.Cutter.heads _ _ first in
@@ -29,7 +29,7 @@ loop-answer-preserved g c =
 pub returns-clause-listed : goal.returns-clause-listed
 returns-clause-listed g c =
     let told = c.next.follows.holds-at-none in
-    let first : first_in g.S.Cutter.layout (g.S.Cutter.held c.loop-answer.cutter) ≡ None = sym c.in_default.ensures.answer in
+    let first : first_by g.S.Cutter.layout (g.S.Cutter.held c.loop-answer.cutter) ≡ None = sym c.in_default.ensures.answer in
     let none = subst (IsNoRecord g.S.Cutter.layout.head g.S.Cutter.layout.extent) (sym first) tt in
     let left : g.S.Cutter.held c.next.follows.lender-at-none ≡ g.S.Cutter.held c.loop-answer.cutter = told.0 ∙ ap (λ o. rest_after o (g.S.Cutter.held c.loop-answer.cutter)) (c.next.ensures.answer ∙ first) in
     ap (standing (string_bytes c.loop-answer.text) c.loop-answer.command c.loop-answer.progress) left
@@ -41,7 +41,7 @@ pub returns-in-Err-clause-listed : goal.returns-in-Err-clause-listed
 returns-in-Err-clause-listed g c =
     let told = c.next.follows.holds-at-none in
     let got = rw c.in-Err.is at c.in-Some.ensures.answer in
-    let first : first_in g.S.Cutter.layout (g.S.Cutter.held c.loop-answer.cutter) ≡ Some (Err c.in-Err.fault.now) = sym got in
+    let first : first_by g.S.Cutter.layout (g.S.Cutter.held c.loop-answer.cutter) ≡ Some (Err c.in-Err.fault.now) = sym got in
     let none = subst (IsNoRecord g.S.Cutter.layout.head g.S.Cutter.layout.extent) (sym first) tt in
     let left : g.S.Cutter.held c.next.follows.lender-at-none ≡ g.S.Cutter.held c.loop-answer.cutter = told.0 ∙ ap (λ o. rest_after o (g.S.Cutter.held c.loop-answer.cutter)) (c.next.ensures.answer ∙ first) in
     ap (standing (string_bytes c.loop-answer.text) c.loop-answer.command c.loop-answer.progress) left

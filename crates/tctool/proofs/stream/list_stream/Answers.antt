@@ -1,12 +1,12 @@
 use Rattle.std.proofs.Common.{◌≡◌, ◌∙◌, ◌++◌, ◌+◌, [], ℕ, true, Result, Ok, length, take, refl, sym, ap, subst, inr, arith}
 use Rattle.std.proofs.lemmas.List.{append-nil, length-append, length-take-le}
 use Rattle.std.proofs.lemmas.Result.{on_err_weaker}
-use Rattle.tctool.specs.Beginning.{IsBeginning}
+use Rattle.octets.specs.Beginning.{IsBeginning}
 use Rattle.tctool.specs.Failures.{writes_failed_in}
 use Rattle.tctool.specs.Gained.{gained}
-use Rattle.tctool.specs.Layouts.{first_in}
+use Rattle.tctool.specs.Layouts.{first_by}
 use Rattle.tctool.specs.Listing.{Standing, fresh, listed}
-use Rattle.tctool.specs.Outcome.{outcome_of}
+use Rattle.tctool.specs.Outcome.{outcome_if}
 use Rattle.tctool.specs.Progress.{standing}
 use Rattle.tctool.specs.declared.fault.DumpFault.{DumpFault}
 use Rattle.tctool.specs.declared.stream.Course.{Course}
@@ -35,7 +35,7 @@ loop-count-init g c =
         wrote = sym (append-nil taken) ∙ ap (λ x. taken ++ x.text) (sym nothing);
         stands = ap (standing [] c.args.command (record { count = 0; all_good = true })) held_nothing ∙ sym bare_nothing;
       };
-      is_open = ap (first_in g.S.Cutter.layout) held_nothing ∙ first_record-nothing g.C.Listing.lines g.S.Cutter.layout g.met.S.Cutter.heads;
+      is_open = ap (first_by g.S.Cutter.layout) held_nothing ∙ first_record-nothing g.C.Listing.lines g.S.Cutter.layout g.met.S.Cutter.heads;
       going = c.requires.going;
       counted = ap length (sym none);
       short = omega arith;
@@ -53,7 +53,7 @@ loop-count-preserved g c =
     let short : length piece ≡ c.in-Ok.count = length-take-le c.in-Ok.count c.read.new.piece (omega (arith, c.in-Ok.ensures.count)) in
     record {
       up_to = record { gave = adds.gave; wrote = has.written ∙ adds.text; stands = has.next_is ∙ adds.stands };
-      is_open = ap (λ (x : Standing g.row.C.Denot). first_in g.S.Cutter.layout x.octets) has.next_is ∙ has.is_open;
+      is_open = ap (λ (x : Standing g.row.C.Denot). first_by g.S.Cutter.layout x.octets) has.next_is ∙ has.is_open;
       going = c.list_piece.ensures.going went ∙ c.loop-count.invariant.going;
       counted = omega (arith, adds.counted);
       short = omega (arith, c.if-count-total.false);
@@ -88,7 +88,7 @@ returns-in-Refused-clause-outcome g c =
     let went : c.list_piece.result ≡ done Refused = c.in-Ok-list_piece.is ∙ ap done c.in-Refused.is in
     let has = c.list_piece.ensures.refused went in
     let refused = stops g.C.Listing.lines g.S.Cutter.layout adds has.refused in
-    sym (ap outcome_of (is_bad g.C.Listing.lines g.S.Cutter.layout g.met.S.Cutter.heads c.args.command _ refused))
+    sym (ap outcome_if (is_bad g.C.Listing.lines g.S.Cutter.layout g.met.S.Cutter.heads c.args.command _ refused))
 
 pub returns-in-Refused-clause-end : goal.returns-in-Refused-clause-end
 returns-in-Refused-clause-end g c =

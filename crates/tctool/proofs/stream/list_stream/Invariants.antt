@@ -1,7 +1,7 @@
 use Rattle.std.proofs.Common.{◌≡◌, ◌+◌, ◌-◌, ◌≤◌, [], length}
 use Rattle.std.specs.Prelude.{None}
 use Rattle.tctool.specs.Gained.{gained}
-use Rattle.tctool.specs.Layouts.{first_in}
+use Rattle.tctool.specs.Layouts.{first_by}
 use Rattle.tctool.specs.Progress.{standing}
 use Rattle.tctool.specs.declared.stream.TheConstants.{MOST_OCTETS}
 use Rattle.tctool.proofs.Pieces.{IsUpTo}
@@ -15,7 +15,7 @@ invariant-loop-count g l =
     let held = g.S.Cutter.held l.cutter in
     record {
       up_to : IsUpTo g.C.Listing.lines g.S.Cutter.layout l.fn.command (given l.fn.reader) (given l.reader) (taken l.fn.writer) (taken l.writer) (standing [] l.command l.progress held);
-      is_open : first_in g.S.Cutter.layout held ≡ None;
+      is_open : first_by g.S.Cutter.layout held ≡ None;
       going : g.S.Cutter.failure l.cutter ≡ None;
       counted : l.total ≡ length (gained (given l.fn.reader) (given l.reader));
       short : l.total ≤ MOST_OCTETS;

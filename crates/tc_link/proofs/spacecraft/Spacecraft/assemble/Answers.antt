@@ -2,7 +2,7 @@ use Rattle.std.proofs.Common.{◌≡◌, ◌≤◌, ◌+◌, ◌/◌, false, Lis
 use Rattle.std.specs.Result.{is_err}
 use Rattle.std.specs.VecDeque.{deque_len, deque_capacity}
 use Rattle.tc_frame.specs.Layout.{SegmentView, segment_view}
-use Rattle.map_service.specs.Exactness.{AssemblerState, HasPartsOf, part_of, step_at}
+use Rattle.map_service.specs.Exactness.{AssemblerState, HasPartsOf, part_on_map, step_at}
 use Rattle.map_service.specs.Views.{packets_view}
 use Rattle.tc_link.proofs.Counting.{taken_few}
 use Rattle.tc_link.proofs.spacecraft.Spacecraft.assemble.Goals as goal
@@ -17,7 +17,7 @@ make_ready-requires c =
     let a : AssemblerState = c.self.inside.assembler in
     let room : deque_len c.try_reserve.new.self + (length s.payload / 6 + 1) ≤ deque_capacity c.try_reserve.new.self =
     where_ok c.try_reserve.result (sym c.is_err.ensures.value ∙ c.if-is_err.false) c.try_reserve.ensures.ok in
-    let few : length (step_at a s).packets ≤ length s.payload / 6 + 1 = taken_few a.limits (part_of a s.header.map) s in
+    let few : length (step_at a s).packets ≤ length s.payload / 6 + 1 = taken_few a.limits (part_on_map a s.header.map) s in
     let count : length (packets_view c.in-Ok.taken.packets) ≡ length (step_at a s).packets = ap length c.in-Ok.ensures.packets in
     omega arith
 

@@ -19,7 +19,7 @@ impl Assembler {
 
     /// The packets that `take` would hand out at this segment, copied; it takes none. The fault is 3
     /// `Memory`.
-    pub fn foreseen(&self, segment: &Segment) -> Result<Vec<Vec<u8>>, MapFault>
+    pub fn packets_at(&self, segment: &Segment) -> Result<Vec<Vec<u8>>, MapFault>
         ensures packets { IfOk result (λ packets. packets_view packets
             ≡ (step_at self.now (segment_view segment.now)).packets) }
         ensures fault { IsOkUnless result MapFault.Memory }
@@ -29,14 +29,14 @@ impl Assembler {
             return Ok(Vec::new(self.alloc));
         }
         let part = &self.parts[usize::from(map)];
-        match foreseen_cell(self.alloc, &self.limits, part, segment) {
+        match packets_of_cell(self.alloc, &self.limits, part, segment) {
             Ok(packets) => Ok(packets),
             Err(_) => Err(MapFault::Memory),
         }
     }
 }
 
-fn foreseen_cell(
+fn packets_of_cell(
     alloc: Global,
     limits: &Limits,
     part: &Option<Vec<u8>>,
@@ -46,16 +46,16 @@ fn foreseen_cell(
         ≡ (cell_at limits.now (part_view part.now) (segment_view segment.now)).packets) }
 {
     match segment.header.flags {
-        SegmentFlags::Alone => foreseen_alone(alloc, limits, segment.payload),
+        SegmentFlags::Alone => packets_of_alone(alloc, limits, segment.payload),
         SegmentFlags::First | SegmentFlags::Continuing => Ok(Vec::new(alloc)),
         SegmentFlags::Last => match part {
-            Some(begun) => foreseen_last(alloc, limits, begun, segment.payload),
+            Some(begun) => packets_of_last(alloc, limits, begun, segment.payload),
             None => Ok(Vec::new(alloc)),
         },
     }
 }
 
-fn foreseen_alone(alloc: Global, limits: &Limits, octets: &[u8]) -> Result<Vec<Vec<u8>>, AllocError>
+fn packets_of_alone(alloc: Global, limits: &Limits, octets: &[u8]) -> Result<Vec<Vec<u8>>, AllocError>
     ensures { IfOk result (λ packets. packets_view packets
         ≡ (packets_outcome None
         (alone_packets limits.now octets.now)
@@ -67,7 +67,7 @@ fn foreseen_alone(alloc: Global, limits: &Limits, octets: &[u8]) -> Result<Vec<V
     copied_alone(alloc, limits, octets)
 }
 
-fn foreseen_last(
+fn packets_of_last(
     alloc: Global,
     limits: &Limits,
     begun: &[u8],
