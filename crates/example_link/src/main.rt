@@ -9,6 +9,10 @@ fn main(rt: HostRuntime) -> Result<()> {
     let config = Config::default();
     let mut ground = Ground::new(rt.alloc(), &config).ok().context("memory")?;
     let mut spacecraft = Spacecraft::new(rt.alloc(), &config).ok().context("memory")?;
+    exchange(&rt, &mut ground, &mut spacecraft)
+}
+
+fn exchange(rt: &HostRuntime, ground: &mut Ground, spacecraft: &mut Spacecraft) -> Result<()> {
     let begun = ground.directive(Directive::InitWithoutCheck);
     let taken = ground.submit(4, &[0x10, 0x05, 0xc0, 0x00, 0x00, 0x00, 0xaa]);
     println!(rt; "{begun:?} {taken:?}")?;

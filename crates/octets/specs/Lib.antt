@@ -5,3 +5,4 @@ pub mod Damage
 pub mod Outcome
 pub mod Records
 pub mod Holding
+pub mod Appending

@@ -7,7 +7,7 @@ ghost use Rattle.tc_link.specs.Replies.{reply_view};
 ghost use Rattle.tc_link.specs.World.{World, world_step};
 ghost use Rattle.script.specs.Lines.{event_with, octets_of_digits, line_view, IsWellRead};
 ghost use Rattle.script.specs.Words.{octets_in_word};
-ghost use Rattle.script.specs.Appending.{Appends};
+ghost use Rattle.octets.specs.Appending.{Appends};
 ghost use Rattle.script.specs.Playing.{ToEvent, line_responses, response_line, after_line, answers_from};
 ghost use Rattle.script.specs.Scripts.{script_in};
 ghost use Rattle.script.specs.Ending.{remaining_answers};

@@ -1,7 +1,7 @@
 // The line of the records.
 
 ghost use Rattle.std.specs.Prelude.{◌≡◌, ◌++◌, ◌∷◌, [], decimal, length};
-ghost use Rattle.script.specs.Appending.{Appends};
+ghost use Rattle.octets.specs.Appending.{Appends};
 ghost use Rattle.script.specs.Playing.{clean_word, fop_state_word, count_over_maps, packets_text, frames_text, acknowledged_text, show_text};
 ghost use Rattle.tc_link.specs.World.{submitted, delivered, accepted};
 

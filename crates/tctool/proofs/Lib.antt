@@ -1,5 +1,1 @@
 pub mod GivenWords
-pub mod Listed
-pub mod Pieces
-pub mod Beginnings
-pub mod ToldPackets

@@ -6,14 +6,14 @@ use Rattle.tm_link.specs.Extraction.{new_extractor}
 use Rattle.script.specs.Ending.{script_ending, script_text}
 use Rattle.tctool.specs.declared.task.Task.{Task}
 use Rattle.tctool.specs.declared.task.Task.TheVariants as tasks
-use Rattle.tctool.specs.FarmLines.{farm_lines}
-use Rattle.tctool.specs.FrameLines.{frame_lines}
-use Rattle.tctool.specs.MapLines.{map_lines, map_opened}
-use Rattle.tctool.specs.RefusalLines.{refusal_lines}
-use Rattle.tctool.specs.PacketLines.{none_seen, packet_lines}
-use Rattle.tctool.specs.TelemetryLines.{telemetry_lines}
-use Rattle.tctool.specs.Layouts.{Layout, frame_layout, telemetry_layout, packet_layout, rest_by, IsRefused}
-use Rattle.tctool.specs.Listing.{Lines, fresh, text_of, is_all_good}
+use Rattle.listings.specs.FarmLines.{farm_lines}
+use Rattle.listings.specs.FrameLines.{frame_lines}
+use Rattle.listings.specs.MapLines.{map_lines, map_opened}
+use Rattle.listings.specs.RefusalLines.{refusal_lines}
+use Rattle.listings.specs.PacketLines.{none_seen, packet_lines}
+use Rattle.listings.specs.TelemetryLines.{telemetry_lines}
+use Rattle.listings.specs.Layouts.{Layout, frame_layout, telemetry_layout, packet_layout, rest_by, IsRefused}
+use Rattle.listings.specs.Listing.{Lines, fresh, text_of, is_all_good}
 use Rattle.tctool.specs.Outcome.{OutcomeView, outcome_if, outcome_view, as_outcome}
 
 -- What is done with a file: its records are listed, cut by this layout, with these lines and this kept before the first;

@@ -1,6 +1,6 @@
 -- The exit status of the program.
 use Rattle.std.specs.Prelude.{ℕ, Result, Ok, Err}
-use Rattle.tctool.specs.declared.fault.DumpFault.{DumpFault}
+use Rattle.listings.specs.declared.fault.DumpFault.{DumpFault}
 use Rattle.tctool.specs.declared.outcome.Outcome.{Outcome}
 use Rattle.tctool.specs.declared.outcome.Outcome.TheVariants.{Good, Faulty, Unreadable, OutOfRange}
 

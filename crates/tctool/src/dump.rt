@@ -1,29 +1,25 @@
 // Reads a file, and writes what the words ask for of it.
 
-ghost use Rattle.std.specs.Prelude.{◌≡◌, ◌⊎◌, ◌+◌, ◌<◌, length, true, Err, OnOk, IfOk};
+ghost use Rattle.std.specs.Prelude.{◌≡◌, ◌⊎◌, ◌+◌, ◌<◌, [], None, length, true, Err, OnOk, IfOk};
 ghost use Rattle.octets.specs.Beginning.{IsBeginning};
 ghost use Rattle.tctool.specs.Dumped.{lines_of, outcome_for, StopsAt};
-ghost use Rattle.tctool.specs.Failures.{reads_failed_in, writes_failed_in};
-ghost use Rattle.tctool.specs.Gained.{gained};
-ghost use Rattle.tctool.specs.Outcome.{outcome_view};
+ghost use Rattle.listings.specs.Failures.{reads_failed_in, writes_failed_in};
+ghost use Rattle.listings.specs.Gained.{gained};
+ghost use Rattle.tctool.specs.Outcome.{outcome_if, outcome_view};
 ghost use Rattle.tctool.specs.Ranges.{IsInRange};
-ghost use Rattle.tctool.specs.Writing.{BeginsToWrite, Writes};
+ghost use Rattle.listings.specs.Layouts.{rest_by, IsRefused};
+ghost use Rattle.listings.specs.Listing.{fresh, text_of, is_all_good};
+ghost use Rattle.listings.specs.Writing.{BeginsToWrite, Writes};
 ghost use Rattle.tctool.specs.declared.task.Task.TheVariants as tasks;
 
-use crate::fault::DumpFault;
-use crate::frame_cutter::{FrameCutter, FrameLength};
-use crate::frames::FrameListing;
-use crate::mapping::MapListing;
 use crate::outcome::Outcome;
-use crate::packets::PacketListing;
-use crate::refusals::RefusalListing;
 use crate::simulation::simulate;
-use crate::sink::Sink;
-use crate::source::Source;
-use crate::stream::list_stream;
 use crate::task::{Options, Task};
-use crate::telemetry::TelemetryListing;
 use cop1::Farm;
+use listings::{
+    Cutter, DumpFault, FrameCutter, FrameLength, FrameListing, Listing, MOST_OCTETS, MapListing,
+    PacketListing, RefusalListing, Sink, Source, TelemetryListing, list_stream,
+};
 use octets::Splitter;
 use space_packet::Packets;
 use std::alloc::Global;
@@ -66,8 +62,8 @@ pub fn dump<R: Source, W: Sink>(
         Task::Farm { check, width, vr } => {
             let farm = Farm::new(width, vr).unwrap();
             match check {
-                Check::On => list_stream(alloc, reader, writer, checked, farm),
-                Check::Off => list_stream(alloc, reader, writer, unchecked, farm),
+                Check::On => list_file(alloc, reader, writer, checked, farm),
+                Check::Off => list_file(alloc, reader, writer, unchecked, farm),
             }
         }
         Task::Map {
@@ -78,25 +74,58 @@ pub fn dump<R: Source, W: Sink>(
         } => {
             let packets = MapListing::new(alloc, width, vr, blocking);
             match check {
-                Check::On => list_stream(alloc, reader, writer, checked, packets),
-                Check::Off => list_stream(alloc, reader, writer, unchecked, packets),
+                Check::On => list_file(alloc, reader, writer, checked, packets),
+                Check::Off => list_file(alloc, reader, writer, unchecked, packets),
             }
         }
         Task::Tc { check } => {
             let frames = FrameListing::new(alloc);
             match check {
-                Check::On => list_stream(alloc, reader, writer, checked, frames),
-                Check::Off => list_stream(alloc, reader, writer, unchecked, frames),
+                Check::On => list_file(alloc, reader, writer, checked, frames),
+                Check::Off => list_file(alloc, reader, writer, unchecked, frames),
             }
         }
         Task::Tm { length } => list_frames::<Brand, R, W>(alloc, reader, writer, length),
-        Task::Check => list_stream(alloc, reader, writer, checked, RefusalListing),
+        Task::Check => list_file(alloc, reader, writer, checked, RefusalListing),
         Task::Packets => {
             let splitter = Splitter::<Packets>::new(alloc);
             let packets = PacketListing::new(alloc);
-            list_stream(alloc, reader, writer, splitter, packets)
+            list_file(alloc, reader, writer, splitter, packets)
         }
         Task::Sim => simulate(alloc, reader, writer),
+    }
+}
+
+// Lists the records of a stream, and tells how it ends.
+fn list_file<S: Cutter + Drop, C: Listing<S> + Drop, R: Source, W: Sink>(
+    alloc: Global,
+    reader: &mut R,
+    writer: &mut W,
+    cutter: S,
+    listing: C,
+) -> Result<Outcome, DumpFault>
+    requires held { S.held cutter ≡ [] }
+    requires going { S.failure cutter ≡ None }
+    ensures given { IsBeginning (R.given reader.old) (R.given reader.new) }
+    ensures text { Writes result (W.taken_octets writer.old) (W.taken_octets writer.new)
+        (text_of C.lines S.layout
+        (fresh listing (gained (R.given reader.old) (R.given reader.new)))) }
+    ensures outcome { IfOk result (λ outcome. outcome ≡ outcome_if (is_all_good C.lines S.layout
+        (fresh listing (gained (R.given reader.old) (R.given reader.new))))) }
+    ensures end { OnOk result ((R.has_ended reader.new ≡ true)
+        ⊎ IsRefused S.layout
+        (rest_by S.layout (gained (R.given reader.old) (R.given reader.new)))) }
+    ensures beginning { BeginsToWrite result (W.taken_octets writer.old) (W.taken_octets writer.new)
+        (text_of C.lines S.layout
+        (fresh listing (gained (R.given reader.old) (R.given reader.new)))) }
+    ensures read { R.failures reader.new ≡ R.failures reader.old + reads_failed_in result }
+    ensures write { W.failures writer.new ≡ W.failures writer.old + writes_failed_in result }
+    ensures too_long { result ≡ Err DumpFault.TooLong
+        → MOST_OCTETS < length (gained (R.given reader.old) (R.given reader.new)) }
+{
+    match list_stream(alloc, reader, writer, cutter, listing) {
+        Ok(good) => Ok(Outcome::of(good)),
+        Err(fault) => Err(fault),
     }
 }
 
@@ -126,5 +155,5 @@ fn list_frames<K: FrameLength, R: Source, W: Sink>(
         return Err(DumpFault::Memory);
     };
     let cutter = FrameCutter::<K>::new(alloc, usize::from(size));
-    list_stream(alloc, reader, writer, cutter, frames)
+    list_file(alloc, reader, writer, cutter, frames)
 }

@@ -3,11 +3,9 @@
 ghost use Rattle.std.specs.Prelude.{◌≡◌};
 ghost use Rattle.tctool.specs.Status.{exit_status};
 
-use crate::fault::DumpFault;
 use crate::outcome::Outcome;
-use crate::output::{WriteFailed, write_all};
-use crate::sink::Sink;
 use itoa::Buffer;
+use listings::{DumpFault, Sink, WriteFailed, write_all};
 
 /// Writes the line for standard error, where there is one, and answers the status: 0 where all was
 /// good, 1 for a fault in the data or the script, 3 where a device or memory failed or the input was too long. A

@@ -5,37 +5,19 @@
 
 ghost use Rattle.tctool.specs.Ranges.{IsInRange};
 
-mod cutter;
-mod device_log;
 mod dump;
 mod ending;
-mod farm;
-mod fault;
-mod frame_cutter;
-mod frames;
 mod given;
-mod listing;
-mod mapping;
 mod outcome;
-mod output;
-mod packets;
-mod refusals;
 mod simulation;
-mod sink;
-mod source;
-mod stream;
 mod task;
-mod telemetry;
-mod text;
 mod words;
 
 use clap::Error;
 use clap::error::ErrorKind;
 use ending::ending;
-use fault::DumpFault;
 use given::GivenWords;
-use sink::Writer;
-use source::Reader;
+use listings::{DumpFault, Reader, Writer};
 use std::fs::File;
 use std::io;
 use std::io::Read;

@@ -13,12 +13,10 @@ mod usage;
 
 use crate::dump::dump;
 use crate::ending::ending;
-use crate::fault::DumpFault;
 use crate::outcome::Outcome;
-use crate::sink::Writer;
-use crate::source::Reader;
 use crate::task::{Options, Task};
 use devices::{Store, Supply, WriteFault};
+use listings::{DumpFault, Reader, Writer};
 use rows::{
     Row, check_rows, faulty, faulty_farm_rows, good_farm_rows, packets_rows, tc_rows, tm_rows,
 };

@@ -55,7 +55,11 @@ fn packets_of_cell(
     }
 }
 
-fn packets_of_alone(alloc: Global, limits: &Limits, octets: &[u8]) -> Result<Vec<Vec<u8>>, AllocError>
+fn packets_of_alone(
+    alloc: Global,
+    limits: &Limits,
+    octets: &[u8],
+) -> Result<Vec<Vec<u8>>, AllocError>
     ensures { IfOk result (λ packets. packets_view packets
         ≡ (packets_outcome None
         (alone_packets limits.now octets.now)

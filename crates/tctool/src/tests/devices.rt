@@ -2,9 +2,7 @@
 
 ghost use Rattle.std.specs.Prelude.{◌≤◌, length, take};
 
-use crate::device_log::{Call, DeviceLog};
-use crate::sink::Sink;
-use crate::source::Source;
+use listings::{Call, DeviceLog, Sink, Source};
 use std::alloc::Global;
 use std::io;
 

@@ -7,9 +7,7 @@ ghost use Rattle.clap.specs.Built.{IsPlainArg};
 ghost use Rattle.clap.specs.declared.builder.value_parser.ValueParser.TheVariants as parsers;
 
 use crate::task::{Options, Task, UsageFault};
-use crate::words::arguments::{
-    Described, bare_command, check_flag, ending_of_help, file_argument,
-};
+use crate::words::arguments::{Described, bare_command, check_flag, ending_of_help, file_argument};
 use clap::{Arg, ArgAction, Error, value_parser};
 use std::alloc::Global;
 use tc_frame::check_if;
@@ -20,7 +18,6 @@ pub const FARM: Described<'static> = Described {
     about: "Tells what a receiver (FARM-1) makes of each frame",
     ending: ending_of_help!("3 BC unlock Open vr=0 l=0 w=0 t=0 b=1"),
 };
-use tc_frame::check_if;
 
 /// The words of `tctool farm`, the command's name first.
 pub fn farm_options<'a>(alloc: Global, words: &'a [&'a str]) -> Result<Options<'a>, UsageFault>

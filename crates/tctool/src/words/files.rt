@@ -4,9 +4,7 @@ ghost use Rattle.std.specs.Prelude.{IfOk, IfErr};
 ghost use Rattle.tctool.specs.Ranges.{IsInRange, IsOddIfWidth};
 
 use crate::task::{Options, Task, UsageFault};
-use crate::words::arguments::{
-    Described, bare_command, check_flag, ending_of_help, file_argument,
-};
+use crate::words::arguments::{Described, bare_command, check_flag, ending_of_help, file_argument};
 use clap::Error;
 use std::alloc::Global;
 use tc_frame::{Check, check_if};

@@ -5,9 +5,7 @@ ghost use Rattle.tctool.specs.Ranges.{IsInRange, IsOddIfWidth};
 ghost use Rattle.clap.specs.Built.{IsPlainArg};
 
 use crate::task::{Options, Task, UsageFault};
-use crate::words::arguments::{
-    Described, bare_command, check_flag, ending_of_help, file_argument,
-};
+use crate::words::arguments::{Described, bare_command, check_flag, ending_of_help, file_argument};
 use crate::words::farm::{even_width, vr_option, width_option};
 use clap::{Arg, ArgAction, Error};
 use std::alloc::Global;
@@ -19,7 +17,6 @@ pub const MAP: Described<'static> = Described {
     about: "Tells the packets out of the frames that a receiver accepts",
     ending: ending_of_help!("packet 4 1005C0000000AA"),
 };
-use tc_frame::check_if;
 
 /// The words of `tctool map`, the command's name first.
 pub fn map_options<'a>(alloc: Global, words: &'a [&'a str]) -> Result<Options<'a>, UsageFault>

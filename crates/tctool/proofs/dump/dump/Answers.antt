@@ -2,9 +2,9 @@ use Rattle.std.proofs.Common.{◌≡◌, ◌∙◌, ◌++◌, ℕ, Bool, List, O
 use Rattle.tc_frame.specs.declared.frame.Check.{Check}
 use Rattle.octets.specs.Beginning.{IsBeginning}
 use Rattle.tctool.specs.Dumped.{lines_of}
-use Rattle.tctool.specs.Layouts.{frame_layout}
-use Rattle.tctool.specs.Listing.{fresh, text_of}
-use Rattle.tctool.specs.MapLines.{MapState, map_lines, map_opened}
+use Rattle.listings.specs.Layouts.{frame_layout}
+use Rattle.listings.specs.Listing.{fresh, text_of}
+use Rattle.listings.specs.MapLines.{MapState, map_lines, map_opened}
 use Rattle.tctool.specs.declared.task.Task.{Task}
 use Rattle.tctool.specs.declared.task.Task.TheVariants as tasks
 use Rattle.tctool.proofs.dump.dump.Goals as goal
@@ -20,14 +20,14 @@ map_text task given check width vr blocking start octets is is_check is_start =
 
 pub returns-in-On-check-clause-beginning : goal.returns-in-On-check-clause-beginning
 returns-in-On-check-clause-beginning g c =
-    let listed = c.list_stream-in-On-check in
+    let listed = c.list_file-in-On-check in
     let written = g.W.Sink.taken_octets in
     subst (λ (lines : List ℕ). OnErr listed.result (IsBeginning (written listed.new.writer) (written c.args.writer.now ++ lines)))
     (map_text _ _ _ _ _ _ _ _ c.in-Map.is c.in-On-check.is c.new-packets.ensures) listed.ensures.beginning
 
 pub returns-in-Off-check-clause-beginning : goal.returns-in-Off-check-clause-beginning
 returns-in-Off-check-clause-beginning g c =
-    let listed = c.list_stream-in-Off-check in
+    let listed = c.list_file-in-Off-check in
     let written = g.W.Sink.taken_octets in
     subst (λ (lines : List ℕ). OnErr listed.result (IsBeginning (written listed.new.writer) (written c.args.writer.now ++ lines)))
     (map_text _ _ _ _ _ _ _ _ c.in-Map.is c.in-Off-check.is c.new-packets.ensures) listed.ensures.beginning

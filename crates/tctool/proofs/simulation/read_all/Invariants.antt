@@ -1,6 +1,6 @@
 use Rattle.std.proofs.Common.{◌≡◌, ◌≤◌, ◌++◌, ◌-◌, length}
-use Rattle.tctool.specs.Gained.{gained}
-use Rattle.tctool.specs.declared.stream.TheConstants.{MOST_OCTETS}
+use Rattle.listings.specs.Gained.{gained}
+use Rattle.listings.specs.declared.stream.TheConstants.{MOST_OCTETS}
 use Rattle.tctool.proofs.simulation.read_all.Given as goal
 
 -- what was given is kept

@@ -3,7 +3,7 @@ use Rattle.script.specs.Ending.{remaining_answers}
 use Rattle.script.specs.Playing.{answers_from}
 use Rattle.script.specs.Scripts.{script_in}
 use Rattle.octets.specs.Beginning.{IsBeginning}
-use Rattle.tctool.proofs.Beginnings.{begins_more}
+use Rattle.listings.proofs.Beginnings.{begins_more}
 use Rattle.tctool.proofs.simulation.write_answers.Goals as goal
 
 pub returns-in-Err-clause-beginning : goal.returns-in-Err-clause-beginning

@@ -1,0 +1,86 @@
+-- What a command writes of a stream of records: the lines of each record in turn, and a line for a rest.
+use Rattle.std.specs.Prelude.{◌≡◌, None, ℕ, ◌+◌, Bool, true, false, ◌&&◌, List, [], ◌∷◌, ◌++◌, length}
+use Rattle.std.specs.List.{list_all}
+use Rattle.listings.specs.Layouts.{Layout, first_by, records_by, rest_by, rest_fault, IsRefused}
+
+-- What a command writes. S is what it keeps between two records, F is why octets are refused as no record.
+pub record Lines (S F : Type 0) : Type 0 where
+  -- the lines of a record with this number
+  pub line_of : S → ℕ → List ℕ → List ℕ
+  -- what is kept behind a record
+  pub after : S → List ℕ → S
+  -- whether a record is good
+  pub is_good : List ℕ → Bool
+  -- the line of octets with this number that are no record
+  pub fault_line : ℕ → F → List ℕ
+
+-- How a listing stands: the text so far, what is kept, how many records there were and whether all were good, and the
+-- octets that are not listed yet.
+pub record Standing (S : Type 0) : Type 0 where
+  pub text : List ℕ
+  pub kept : S
+  pub count : ℕ
+  pub all_good : Bool
+  pub octets : List ℕ
+
+-- a listing of octets that has not begun
+abbrev pub fresh : {S : Type 0} → S → List ℕ → Standing S
+fresh s octets = record { text = []; kept = s; count = 0; all_good = true; octets = octets }
+
+-- a listing with octets that come later
+abbrev pub fed : {S : Type 0} → Standing S → List ℕ → Standing S
+fed st more = record st { octets = st.octets ++ more }
+
+abbrev pub is_empty : List ℕ → Bool
+is_empty [] = true
+is_empty (octet ∷ octets) = false
+
+module _ {S F : Type 0} (lines : Lines S F) where
+  -- the lines of records, the first of which has this number
+  abbrev pub record_lines : S → ℕ → List (List ℕ) → List ℕ
+  record_lines s i [] = []
+  record_lines s i (r ∷ rs) = lines.line_of s i r ++ record_lines (lines.after s r) (i + 1) rs
+
+  -- what is kept behind records
+  abbrev pub kept_behind : S → List (List ℕ) → S
+  kept_behind s [] = s
+  kept_behind s (r ∷ rs) = kept_behind (lines.after s r) rs
+
+  -- a listing behind these records, with these octets left
+  abbrev pub behind : Standing S → List (List ℕ) → List ℕ → Standing S
+  behind st records rest = record {
+    text = st.text ++ record_lines st.kept (st.count + 1) records;
+    kept = kept_behind st.kept records;
+    count = st.count + length records;
+    all_good = st.all_good && list_all lines.is_good records;
+    octets = rest;
+  }
+
+  module _ (layout : Layout F) where
+    -- a listing once all whole records are listed
+    abbrev pub listed : Standing S → Standing S
+    listed st = behind st (records_by layout st.octets) (rest_by layout st.octets)
+
+    -- the line of a rest, where there is one
+    abbrev pub rest_line : ℕ → List ℕ → List ℕ
+    rest_line i [] = []
+    rest_line i (octet ∷ octets) = lines.fault_line i (rest_fault layout (octet ∷ octets))
+
+    -- all that is written where the octets end here
+    abbrev pub text_of : Standing S → List ℕ
+    text_of st = (listed st).text ++ rest_line ((listed st).count + 1) (listed st).octets
+
+    -- whether all records are good and nothing is left behind them
+    abbrev pub is_all_good : Standing S → Bool
+    is_all_good st = (listed st).all_good && is_empty (listed st).octets
+
+    -- Octets were listed: the text is written, and more octets may come behind those that are left.
+    pub record HasListed (st next : Standing S) (before now : List ℕ) : Type 0 where
+      pub written : now ≡ before ++ (listed st).text
+      pub next_is : next ≡ record (listed st) { text = [] }
+      pub is_open : first_by layout (listed st).octets ≡ None
+
+    -- Octets were listed up to such that are refused: all is written, whatever octets may come.
+    pub record HasRefused (st : Standing S) (before now : List ℕ) : Type 0 where
+      pub written_all : now ≡ before ++ text_of st
+      pub refused : IsRefused layout (listed st).octets

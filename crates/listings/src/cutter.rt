@@ -1,0 +1,67 @@
+// What cuts a stream that comes in pieces into its records.
+
+ghost use Rattle.std.specs.Prelude.{◌≡◌, ◌<◌, ◌++◌, ◌↔◌, ℕ, List, Option, length, IsNone, IsErr, IfErr, OnOk};
+ghost use Rattle.std.specs.Borrow.{sem};
+ghost use Rattle.std.specs.Io.BufRead.{Rests};
+ghost use Rattle.octets.specs.Holding.{held as octets_held, failure as failure_met, rest_after, failure_after, lent_view};
+ghost use Rattle.listings.specs.Layouts.{Layout, HasHeads, first_by};
+
+use octets::{Splitter, Wire};
+
+/// Cuts a stream that comes in pieces into its records, however it was cut into pieces.
+pub trait Cutter {
+    /// Why octets are refused.
+    type Fault: Copy;
+
+    // How the stream is cut into records.
+    ghost layout: { Layout Self.Fault };
+
+    // The octets that were fed and not handed out, and the fault of a refused extent.
+    ghost held: { Self → List ℕ };
+
+    ghost failure: { Self → Option Self.Fault };
+
+    /// Takes more octets of the stream. Its fault is want of memory.
+    fn feed(&mut self, octets: &[u8]) -> Result<(), Self::Fault>
+        ensures ok { OnOk result (held self.new ≡ held self.old ++ octets.now) }
+        ensures failure { failure self.new ≡ failure self.old };
+
+    /// The next whole record, or the fault of its extent; `None` while octets are missing.
+    fn next(&mut self) -> Option<Result<&[u8], &Self::Fault>>
+        ensures* rests { sem 𝓛 (Rests Self.row self.entry (λ last.
+            (held last ≡ rest_after (lent_view result) (held self.old))
+            × (failure last ≡ failure_after (lent_view result) (failure self.old)))) }
+        ensures answer { lent_view result ≡ first_by layout (held self.old) };
+
+    /// Whether the stream may end here.
+    fn finish(&self) -> Result<(), Self::Fault>
+        ensures truncated { IsErr result
+            ↔ ((0 < length (held self.now)) × IsNone (failure self.now)) }
+        ensures fault { IfErr result (λ e. e ≡ layout.truncated) };
+
+    ghost heads: { HasHeads layout };
+}
+
+impl<L: Wire> Cutter for Splitter<L> {
+    type Fault = L::Fault;
+
+    ghost layout = { record { head = L.HEAD; extent = L.extent_of; truncated = L.truncated_fault } };
+
+    ghost held = { octets_held };
+
+    ghost failure = { failure_met };
+
+    fn feed(&mut self, octets: &[u8]) -> Result<(), L::Fault> {
+        self.feed(octets)
+    }
+
+    fn next(&mut self) -> Option<Result<&[u8], &L::Fault>> {
+        self.next()
+    }
+
+    fn finish(&self) -> Result<(), L::Fault> {
+        self.finish()
+    }
+
+    ghost heads = { record { some_head = L.some_head; has_head = L.extent_has_head } };
+}

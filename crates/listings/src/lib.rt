@@ -1,0 +1,41 @@
+//! The lines that are written of streams of telecommand frames, telemetry frames and space packets,
+//! and of what a receiver and an assembler make of telecommand frames.
+//!
+//! `list_stream` reads a `Source` in pieces, cuts what it reads into records by a `Cutter`, has a
+//! `Listing` append the lines of each, and writes them to a `Sink` before it reads the next piece.
+#![tactic(auto)]
+
+mod cutter;
+mod device_log;
+mod farm;
+mod fault;
+mod frame_cutter;
+mod frames;
+mod listing;
+mod mapping;
+mod output;
+mod packets;
+mod refusals;
+mod sink;
+mod source;
+mod stream;
+mod telemetry;
+mod text;
+
+pub use cutter::Cutter;
+pub use device_log::{Call, DeviceLog};
+pub use fault::DumpFault;
+pub use frame_cutter::{FrameCutter, FrameLength};
+pub use frames::FrameListing;
+pub use listing::Listing;
+pub use mapping::{MapListing, law_of_told_packets};
+pub use output::{WriteFailed, write_all};
+pub use packets::PacketListing;
+pub use refusals::RefusalListing;
+pub use sink::{Sink, Writer};
+pub use source::{Reader, Source};
+pub use stream::{MOST_OCTETS, list_stream};
+pub use telemetry::TelemetryListing;
+
+#[cfg(test)]
+mod tests;

@@ -1,0 +1,248 @@
+// The lines of `tctool map`.
+
+ghost use Rattle.std.specs.Prelude.{◌≡◌, ℕ, Bool, List, OnOk, IfOk, is_ok, codes};
+ghost use Rattle.tc_frame.specs.Layout.{body_view, frame_view, segment_view};
+ghost use Rattle.tc_frame.specs.Reading.{frame_at};
+ghost use Rattle.tc_frame.specs.declared.frame.Check.{Check as Checking};
+ghost use Rattle.tc_frame.specs.Splitting.{check_if};
+ghost use Rattle.cop1.specs.Farm.{IsWidth, new_farm};
+ghost use Rattle.map_service.specs.Assembly.{assembled};
+ghost use Rattle.map_service.specs.Exactness.{step_at, after_step};
+ghost use Rattle.tm_link.specs.Extraction.{octets_of};
+ghost use Rattle.octets.specs.Appending.{Appends};
+ghost use Rattle.listings.specs.MapLines.{MapState, map_limits, map_opened, is_bypass, dropped_line, on_map_line, cause_text, map_packets_text, outcome_text, bypass_text, body_text, after_body, record_text, after_record, map_lines};
+ghost use Rattle.listings.specs.ToldPackets.{accepted_in, told_on};
+
+use crate::listing::Listing;
+use crate::text::{push_field, push_invalid, push_number, push_octets};
+use cop1::{Farm, Verdict};
+use map_service::{Assembler, Dropped, Limits, Taken, are_one_packet};
+use octets::Splitter;
+use std::alloc::{AllocError, Global};
+use std::marker::Model;
+use tc_frame::{
+    Body, Check, Command, FrameLayout, Segment, SegmentFlags, TcFault, check_if, decode,
+};
+
+/// Tells the packets out of frames: a receiver takes each frame, and one assembler, with all MAPs
+/// open, each segment that came in a Type-AD frame and was accepted.
+#[derive(Drop)]
+pub struct MapListing {
+    farm: Farm,
+    assembler: Assembler,
+    alloc: Global,
+}
+
+impl Model for MapListing {
+    ghost Value = { MapState };
+
+    ghost view = { λ l. record { receiver = l.farm; assembler = l.assembler } };
+}
+
+impl MapListing {
+    /// A listing that has seen no frame: its receiver has this window width and expects the number
+    /// `vr` first. It takes no memory.
+    pub fn new(alloc: Global, width: u8, vr: u8, blocking: bool) -> Self
+        requires { IsWidth width }
+        ensures { result ≡ map_opened width vr blocking }
+    {
+        let limits = Limits {
+            part: 1016,
+            max_packet: 65542,
+            maps: u64::MAX,
+            blocking,
+        };
+        MapListing {
+            farm: Farm::new(width, vr).unwrap(),
+            assembler: Assembler::new(alloc, limits),
+            alloc,
+        }
+    }
+
+    /// Gives a segment to the assembler, and appends what it drops and hands out.
+    fn push_segment(
+        &mut self,
+        text: &mut String,
+        index: u64,
+        segment: Segment,
+    ) -> Result<(), AllocError>
+        ensures text { Appends result text.old text.new (outcome_text index segment.entry.header.map
+            (step_at self.old.assembler (segment_view segment.entry))) }
+        ensures state { OnOk result (self.new
+            ≡ record self.old {
+              assembler = after_step self.old.assembler (segment_view segment.entry);
+            }) }
+    {
+        if let Some(packet) = self.assembler.lone_packet(&segment) {
+            return push_packet(text, self.alloc, segment.header.map, packet);
+        }
+        let Ok(taken) = self.assembler.take(&segment) else {
+            return Err(AllocError);
+        };
+        push_cause(text, index, taken.dropped)?;
+        push_packets(
+            text,
+            self.alloc,
+            segment.header.map,
+            taken.packets.as_slice(),
+        )
+    }
+
+    /// Gives a frame to the receiver, whose buffer is free, and appends its lines.
+    #[inline(always)]
+    fn push_body(&mut self, text: &mut String, index: u64, body: Body) -> Result<(), AllocError>
+        ensures text { Appends result text.old text.new
+            (body_text self.old index (body_view body.entry)) }
+        ensures state { OnOk result (self.new ≡ after_body self.old (body_view body.entry)) }
+    {
+        match body {
+            Body::Ad { n, segment } => match self.farm.ad(n, true) {
+                Verdict::Accepted => self.push_segment(text, index, segment),
+                Verdict::Ahead
+                | Verdict::NoBuffer
+                | Verdict::Behind
+                | Verdict::Outside
+                | Verdict::Discarded => Ok(()),
+            },
+            Body::Bd { segment } => {
+                self.farm.bd();
+                push_bypass(text, self.alloc, index, segment)
+            }
+            Body::Bc(Command::Unlock) => {
+                self.farm.unlock();
+                Ok(())
+            }
+            Body::Bc(Command::SetVr(vr)) => {
+                self.farm.set_vr(vr);
+                Ok(())
+            }
+        }
+    }
+
+    /// Takes a record, appends its lines, and answers whether it is a frame.
+    #[inline(always)]
+    fn push_frame(
+        &mut self,
+        text: &mut String,
+        check: Check,
+        index: u64,
+        octets: &[u8],
+    ) -> Result<bool, AllocError>
+        ensures text { Appends result text.old text.new
+            (record_text self.old index (frame_at check octets.now)) }
+        ensures state { OnOk result (self.new ≡ after_record check self.old octets.now) }
+        ensures good { IfOk result (λ good. good ≡ is_ok (frame_at check octets.now)) }
+    {
+        match decode(octets, check) {
+            Ok(frame) => {
+                self.push_body(text, index, frame.body)?;
+                Ok(true)
+            }
+            Err(fault) => {
+                push_invalid(text, index, fault.number(), fault.name())?;
+                Ok(false)
+            }
+        }
+    }
+}
+
+/// Appends the line of what is dropped.
+fn push_dropped(text: &mut String, index: u64, cause: &str) -> Result<(), AllocError>
+    ensures { Appends result text.old text.new (dropped_line index cause.now) }
+{
+    push_number(text, index)?;
+    text.push_str(" dropped ")?;
+    text.push_str(cause)?;
+    text.push('\n')
+}
+
+/// Appends a word, a MAP, and octets that came on it.
+fn push_on_map(
+    text: &mut String,
+    alloc: Global,
+    word: &str,
+    map: u8,
+    octets: &[u8],
+) -> Result<(), AllocError>
+    ensures { Appends result text.old text.new (on_map_line word.now map octets.now) }
+{
+    push_field(text, word, u64::from(map))?;
+    text.push(' ')?;
+    push_octets(text, alloc, octets)
+}
+
+fn push_cause(text: &mut String, index: u64, dropped: Option<Dropped>) -> Result<(), AllocError>
+    ensures { Appends result text.old text.new (cause_text index dropped) }
+{
+    match dropped {
+        Some(cause) => push_dropped(text, index, cause.name()),
+        None => Ok(()),
+    }
+}
+
+/// Appends the line of a packet that is handed out.
+fn push_packet(text: &mut String, alloc: Global, map: u8, packet: &[u8]) -> Result<(), AllocError>
+    ensures { Appends result text.old text.new (on_map_line (codes "packet ") map packet.now) }
+{
+    push_on_map(text, alloc, "packet ", map, packet)
+}
+
+/// Appends the line of each packet that is handed out.
+fn push_packets(
+    text: &mut String,
+    alloc: Global,
+    map: u8,
+    packets: &[Vec<u8>],
+) -> Result<(), AllocError>
+    ensures { Appends result text.old text.new (map_packets_text map (octets_of packets.now)) }
+{
+    for packet in packets {
+        push_packet(text, alloc, map, packet.as_slice())?;
+    }
+    Ok(())
+}
+
+// Whether the segment of a Type-BD frame is one packet, whole.
+fn is_bypass(segment: Segment) -> bool
+    ensures { result ≡ is_bypass (segment_view segment.entry) }
+{
+    match segment.header.flags {
+        SegmentFlags::Alone => are_one_packet(segment.payload),
+        SegmentFlags::First | SegmentFlags::Continuing | SegmentFlags::Last => false,
+    }
+}
+
+fn push_bypass(
+    text: &mut String,
+    alloc: Global,
+    index: u64,
+    segment: Segment,
+) -> Result<(), AllocError>
+    ensures { Appends result text.old text.new (bypass_text index (segment_view segment.entry)) }
+{
+    if is_bypass(segment) {
+        push_on_map(text, alloc, "bypass ", segment.header.map, segment.payload)
+    } else {
+        push_dropped(text, index, "Bypass")
+    }
+}
+
+/// Whatever the records are, the packets that are told on a MAP are those that the accepted segments
+/// of all of them give on it, in their order.
+pub fn law_of_told_packets()
+    ensures { (check : Checking) (width vr : ℕ) (blocking : Bool) (m : ℕ) (records : List (List ℕ))
+        → told_on check m (map_opened width vr blocking) records
+        ≡ assembled (map_limits blocking) m (accepted_in check (new_farm width vr) records) }
+{}
+
+impl<const CHECKED: bool> Listing<Splitter<FrameLayout<CHECKED>>> for MapListing {
+    ghost lines = { map_lines (check_if CHECKED) };
+
+    fn take(&mut self, text: &mut String, index: u64, octets: &[u8]) -> Result<bool, AllocError> {
+        self.push_frame(text, check_if(CHECKED), index, octets)
+    }
+
+    fn refuse(text: &mut String, index: u64, fault: TcFault) -> Result<(), AllocError> {
+        push_invalid(text, index, fault.number(), fault.name())
+    }
+}

@@ -1,0 +1,39 @@
+// The lines of `tctool check`.
+
+ghost use Rattle.std.specs.Prelude.{◌≡◌, ◌++◌, OnOk, IfOk, is_ok, string_bytes};
+ghost use Rattle.listings.specs.RefusalLines.{refusal_lines};
+
+use crate::listing::Listing;
+use crate::text::push_invalid;
+use octets::Splitter;
+use std::alloc::AllocError;
+use std::marker::Model;
+use tc_frame::{Check, Checked, TcFault, decode};
+
+/// Tells the frames that are refused, of frames that end with their check. Nothing is kept between two.
+#[derive(Drop)]
+pub struct RefusalListing;
+
+impl Model for RefusalListing {
+    ghost Value = { Unit {0} };
+
+    ghost view = { λ l. tt };
+}
+
+impl Listing<Splitter<Checked>> for RefusalListing {
+    ghost lines = { refusal_lines };
+
+    fn take(&mut self, text: &mut String, index: u64, octets: &[u8]) -> Result<bool, AllocError> {
+        match decode(octets, Check::On) {
+            Ok(_) => Ok(true),
+            Err(fault) => {
+                push_invalid(text, index, fault.number(), fault.name())?;
+                Ok(false)
+            }
+        }
+    }
+
+    fn refuse(text: &mut String, index: u64, fault: TcFault) -> Result<(), AllocError> {
+        push_invalid(text, index, fault.number(), fault.name())
+    }
+}

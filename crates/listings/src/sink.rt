@@ -1,0 +1,62 @@
+// Where text goes.
+
+ghost use Rattle.std.specs.Prelude.{◌≡◌, ◌≤◌, ◌+◌, ◌++◌, ℕ, List, length, IfOk};
+ghost use Rattle.listings.specs.Devices.{taken, write_failed};
+
+use crate::device_log::{Call, DeviceLog};
+use std::io;
+use std::io::Write;
+
+/// A device that text is written to. It tells contracts what it took and how often it failed.
+pub trait Sink {
+    // The octets that its writes have taken.
+    ghost taken_octets: { Self → List ℕ };
+
+    // How many of its writes have failed: answered an error, or took none of a text that is not empty.
+    ghost failures: { Self → ℕ };
+
+    /// Writes a beginning of the text, and answers how many octets of it.
+    fn write(&mut self, text: &[u8]) -> io::Result<usize>
+        ensures count { IfOk result (λ n. n ≤ length text.now) }
+        ensures taken { taken_octets self.new ≡ taken_octets self.old ++ taken result text.now }
+        ensures failures { failures self.new ≡ failures self.old + write_failed result text.now };
+}
+
+/// A writer of the standard library as a sink.
+#[derive(Drop)]
+pub struct Writer<W> {
+    inner: W,
+    log: DeviceLog,
+}
+
+impl<W> Writer<W> {
+    ghost use Rattle.std.specs.Prelude.{[], false};
+    ghost use Rattle.listings.specs.DeviceLog.{IsLogOf};
+
+    /// A sink that has taken nothing yet.
+    pub fn new(inner: W) -> Self
+        ensures { IsLogOf result.log [] false 0 }
+    {
+        Writer {
+            inner,
+            log: DeviceLog::new(),
+        }
+    }
+}
+
+impl<W: Write> Sink for Writer<W> {
+    ghost taken_octets = { λ s. s.log.octets };
+
+    ghost failures = { λ s. s.log.failures };
+
+    fn write(&mut self, text: &[u8]) -> io::Result<usize> {
+        let result = self.inner.write(text);
+        let call = match &result {
+            Ok(0) if !text.is_empty() => Call::Failed,
+            Ok(count) => Call::Moved(&text[..*count]),
+            Err(_) => Call::Failed,
+        };
+        self.log = self.log.then(&call);
+        result
+    }
+}

@@ -1,0 +1,71 @@
+// Where octets come from.
+
+ghost use Rattle.std.specs.Prelude.{◌≡◌, ◌≤◌, ◌<◌, ◌+◌, ◌++◌, ℕ, Bool, List, length, IfOk, OnErr};
+ghost use Rattle.listings.specs.Devices.{taken, read_failed, EndsOrNot};
+
+use crate::device_log::{Call, DeviceLog};
+use std::io;
+use std::io::Read;
+
+/// A device that octets are read from. It tells contracts what it gave and how often it failed.
+pub trait Source {
+    // The octets that its reads have given.
+    ghost given: { Self → List ℕ };
+
+    // Whether the last read that did not fail found the end.
+    ghost has_ended: { Self → Bool };
+
+    // How many of its reads have failed.
+    ghost failures: { Self → ℕ };
+
+    /// Reads octets into the front of a piece that is not empty, and answers how many; 0 at the end.
+    fn read(&mut self, piece: &mut [u8]) -> io::Result<usize>
+        requires { 0 < length piece.old }
+        ensures count { IfOk result (λ n. n ≤ length piece.new) }
+        ensures given { given self.new ≡ given self.old ++ taken result piece.new }
+        ensures ended { EndsOrNot result (has_ended self.new) }
+        ensures failures { failures self.new ≡ failures self.old + read_failed result };
+}
+
+/// A reader of the standard library as a source.
+#[derive(Drop)]
+pub struct Reader<R> {
+    inner: R,
+    log: DeviceLog,
+}
+
+impl<R> Reader<R> {
+    ghost use Rattle.std.specs.Prelude.{[], false};
+    ghost use Rattle.listings.specs.DeviceLog.{IsLogOf};
+
+    /// A source that has given nothing yet.
+    pub fn new(inner: R) -> Self
+        ensures { IsLogOf result.log [] false 0 }
+    {
+        Reader {
+            inner,
+            log: DeviceLog::new(),
+        }
+    }
+}
+
+impl<R: Read> Source for Reader<R> {
+    ghost given = { λ s. s.log.octets };
+
+    ghost has_ended = { λ s. s.log.has_ended };
+
+    ghost failures = { λ s. s.log.failures };
+
+    fn read(&mut self, piece: &mut [u8]) -> io::Result<usize> {
+        match self.inner.read(piece) {
+            Ok(count) => {
+                self.log = self.log.then(&Call::Moved(&piece[..count]));
+                Ok(count)
+            }
+            Err(error) => {
+                self.log = self.log.then(&Call::Failed);
+                Err(error)
+            }
+        }
+    }
+}

@@ -1,0 +1,232 @@
+// Reads a stream in pieces, and writes what a command makes of its records.
+
+ghost use Rattle.std.specs.Prelude.{◌≡◌, ◌⊎◌, None, false, true, ◌+◌, ◌-◌, ◌^◌, ◌<◌, ◌≤◌, ◌&&◌, ◌++◌, [], length, Ok, Err, OnOk, IfOk, IfErr, string_bytes};
+ghost use Rattle.listings.specs.Layouts.{first_by, rest_by, IsRefused};
+ghost use Rattle.listings.specs.Listing.{fresh, listed, text_of, is_all_good, rest_line, is_empty, HasListed, HasRefused};
+ghost use Rattle.octets.specs.Beginning.{IsBeginning};
+ghost use Rattle.listings.specs.Failures.{reads_failed_in, writes_failed_in};
+ghost use Rattle.listings.specs.Gained.{gained};
+ghost use Rattle.listings.specs.Progress.{where_refused, standing};
+ghost use Rattle.listings.specs.Writing.{BeginsToWrite, Writes};
+
+use crate::cutter::Cutter;
+use crate::fault::DumpFault;
+use crate::listing::Listing;
+use crate::output::{WriteFailed, write_all};
+use crate::sink::Sink;
+use crate::source::Source;
+use std::alloc::{AllocError, Global};
+
+/// How many records there were, and whether all of them were good.
+#[derive(Clone, Copy, Drop)]
+pub struct Progress {
+    count: u64,
+    all_good: bool,
+}
+
+impl Progress {
+    fn and(self, good: bool) -> Progress
+        ensures { result ≡ record { count = self.count; all_good = self.all_good && good } }
+    {
+        Progress {
+            count: self.count,
+            all_good: self.all_good && good,
+        }
+    }
+}
+
+/// Takes all whole records that the cutter holds, and answers the fault of the octets behind them
+/// where they are refused.
+fn list_records<S: Cutter, C: Listing<S>>(
+    cutter: &mut S,
+    command: &mut C,
+    progress: &mut Progress,
+    text: &mut String,
+) -> Result<Option<S::Fault>, AllocError>
+    requires { progress.old.count + length (S.held cutter.old) < 2 ^ 64 }
+    ensures count { OnOk result (progress.new.count + length (S.held cutter.new)
+        ≤ progress.old.count + length (S.held cutter.old)) }
+    ensures listed { OnOk result (
+        standing (string_bytes text.new) command.new progress.new (S.held cutter.new)
+        ≡ listed C.lines S.layout
+        (standing (string_bytes text.old) command.old progress.old (S.held cutter.old))) }
+    ensures fault { IfOk result (λ fault. first_by S.layout (S.held cutter.new) ≡ where_refused fault) }
+    ensures failed { result ≡ Ok None → S.failure cutter.new ≡ S.failure cutter.old }
+{
+    while let Some(answer) = cutter.next() {
+        match answer {
+            Ok(octets) => {
+                progress.count += 1;
+                let good = command.take(text, progress.count, octets)?;
+                *progress = progress.and(good);
+            }
+            Err(fault) => return Ok(Some(*fault)),
+        }
+    }
+    Ok(None)
+}
+
+/// How a stream goes on: more octets may come, or they are refused.
+#[derive(Clone, Copy, Drop, PartialEq, Eq)]
+enum Course {
+    Open,
+    Refused,
+}
+
+/// Writes a text whole, and answers this.
+fn put<W: Sink, T: Copy>(writer: &mut W, text: &String, answer: T) -> Result<T, DumpFault>
+    ensures ok { IfOk result (λ answered. (answered ≡ answer)
+        × (W.taken_octets writer.new ≡ W.taken_octets writer.old ++ string_bytes text.now)) }
+    ensures beginning { BeginsToWrite result (W.taken_octets writer.old) (W.taken_octets writer.new)
+        (string_bytes text.now) }
+    ensures fault { IfErr result (λ e. e ≡ DumpFault.Write) }
+    ensures failures { W.failures writer.new ≡ W.failures writer.old + writes_failed_in result }
+{
+    match write_all(writer, text.as_bytes()) {
+        Ok(()) => Ok(answer),
+        Err(WriteFailed) => Err(DumpFault::Write),
+    }
+}
+
+/// Takes a piece of the stream, and writes the lines of all records that are whole now, and the line
+/// of octets that are refused behind them.
+fn list_piece<S: Cutter, C: Listing<S>, W: Sink>(
+    cutter: &mut S,
+    command: &mut C,
+    progress: &mut Progress,
+    text: &mut String,
+    writer: &mut W,
+    piece: &[u8],
+) -> Result<Course, DumpFault>
+    requires { progress.old.count + length (S.held cutter.old ++ piece.now) < 2 ^ 64 - 1 }
+    ensures open { result ≡ Ok Course.Open → HasListed C.lines S.layout
+        (standing [] command.old progress.old (S.held cutter.old ++ piece.now))
+        (standing [] command.new progress.new (S.held cutter.new))
+        (W.taken_octets writer.old) (W.taken_octets writer.new) }
+    ensures going { result ≡ Ok Course.Open → S.failure cutter.new ≡ S.failure cutter.old }
+    ensures count { result ≡ Ok Course.Open → progress.new.count + length (S.held cutter.new)
+        ≤ progress.old.count + length (S.held cutter.old ++ piece.now) }
+    ensures refused { result ≡ Ok Course.Refused → HasRefused C.lines S.layout
+        (standing [] command.old progress.old (S.held cutter.old ++ piece.now))
+        (W.taken_octets writer.old) (W.taken_octets writer.new) }
+    ensures beginning { BeginsToWrite result (W.taken_octets writer.old) (W.taken_octets writer.new)
+        (text_of C.lines S.layout
+        (standing [] command.old progress.old (S.held cutter.old ++ piece.now))) }
+    ensures failures { W.failures writer.new ≡ W.failures writer.old + writes_failed_in result }
+    ensures faults { IfErr result (λ e. (e ≡ DumpFault.Write) ⊎ (e ≡ DumpFault.Memory)) }
+{
+    text.clear();
+    let Ok(()) = cutter.feed(piece) else {
+        return Err(DumpFault::Memory);
+    };
+    let Ok(fault) = list_records(cutter, command, progress, text) else {
+        return Err(DumpFault::Memory);
+    };
+    let Some(fault) = fault else {
+        return put(writer, text, Course::Open);
+    };
+    let Ok(()) = C::refuse(text, progress.count + 1, fault) else {
+        return Err(DumpFault::Memory);
+    };
+    put(writer, text, Course::Refused)
+}
+
+/// Writes the line of what is left when the input has ended, where anything is, and answers whether
+/// all was good.
+fn list_rest<S: Cutter, C: Listing<S>, W: Sink>(
+    cutter: &S,
+    progress: Progress,
+    text: &mut String,
+    writer: &mut W,
+) -> Result<bool, DumpFault>
+    requires open { first_by S.layout (S.held cutter.now) ≡ None }
+    requires going { S.failure cutter.now ≡ None }
+    requires count { progress.count < 2 ^ 64 - 1 }
+    ensures ok { IfOk result (λ good. (good ≡ (progress.all_good && is_empty (S.held cutter.now)))
+        × (W.taken_octets writer.new ≡ W.taken_octets writer.old
+        ++ rest_line C.lines S.layout (progress.count + 1) (S.held cutter.now))) }
+    ensures beginning { BeginsToWrite result (W.taken_octets writer.old) (W.taken_octets writer.new)
+        (rest_line C.lines S.layout (progress.count + 1) (S.held cutter.now)) }
+    ensures failures { W.failures writer.new ≡ W.failures writer.old + writes_failed_in result }
+    ensures faults { IfErr result (λ e. (e ≡ DumpFault.Write) ⊎ (e ≡ DumpFault.Memory)) }
+{
+    let Err(fault) = cutter.finish() else {
+        return Ok(progress.all_good);
+    };
+    text.clear();
+    let Ok(()) = C::refuse(text, progress.count + 1, fault) else {
+        return Err(DumpFault::Memory);
+    };
+    put(writer, text, false)
+}
+
+/// The most octets that a dump reads.
+pub const MOST_OCTETS: u64 = 9_223_372_036_854_775_807;
+
+/// Reads a stream in pieces, and writes the lines of each piece before it reads the next. It answers
+/// whether every record was good and nothing was left behind them.
+///
+/// Where a record declares a length that none can have, its line is the last and nothing more is
+/// read. The fault is `Read` or `Write` where that device failed, `Memory` where none was left, and
+/// `TooLong` past `MOST_OCTETS` octets; what is written by then is a beginning of the lines.
+pub fn list_stream<S: Cutter + Drop, C: Listing<S> + Drop, R: Source, W: Sink>(
+    alloc: Global,
+    reader: &mut R,
+    writer: &mut W,
+    mut cutter: S,
+    mut command: C,
+) -> Result<bool, DumpFault>
+    requires held { S.held cutter ≡ [] }
+    requires going { S.failure cutter ≡ None }
+    ensures given { IsBeginning (R.given reader.old) (R.given reader.new) }
+    ensures text { Writes result (W.taken_octets writer.old) (W.taken_octets writer.new)
+        (text_of C.lines S.layout
+        (fresh command (gained (R.given reader.old) (R.given reader.new)))) }
+    ensures good { IfOk result (λ good. good ≡ is_all_good C.lines S.layout
+        (fresh command (gained (R.given reader.old) (R.given reader.new)))) }
+    ensures end { OnOk result ((R.has_ended reader.new ≡ true)
+        ⊎ IsRefused S.layout
+        (rest_by S.layout (gained (R.given reader.old) (R.given reader.new)))) }
+    ensures beginning { BeginsToWrite result (W.taken_octets writer.old) (W.taken_octets writer.new)
+        (text_of C.lines S.layout
+        (fresh command (gained (R.given reader.old) (R.given reader.new)))) }
+    ensures read { R.failures reader.new ≡ R.failures reader.old + reads_failed_in result }
+    ensures write { W.failures writer.new ≡ W.failures writer.old + writes_failed_in result }
+    ensures too_long { result ≡ Err DumpFault.TooLong
+        → MOST_OCTETS < length (gained (R.given reader.old) (R.given reader.new)) }
+{
+    let mut progress = Progress {
+        count: 0,
+        all_good: true,
+    };
+    let mut text = String::new(alloc);
+    let mut piece = [0u8; 16384];
+    let mut total: u64 = 0;
+    loop {
+        let Ok(count) = reader.read(&mut piece) else {
+            return Err(DumpFault::Read);
+        };
+        if count == 0 {
+            return list_rest::<S, C, W>(&cutter, progress, &mut text, writer);
+        }
+        if count as u64 > MOST_OCTETS - total {
+            return Err(DumpFault::TooLong);
+        }
+        total += count as u64;
+        let course = match list_piece(
+            &mut cutter,
+            &mut command,
+            &mut progress,
+            &mut text,
+            writer,
+            &piece[..count],
+        ) {
+            Ok(course) => course,
+            Err(fault) => return Err(fault),
+        };
+        match course {
+            Course::Open => {}
+            Course::Refused => return Ok(false),
+        }
+    }
+}
