@@ -36,6 +36,3 @@ pub use sink::{Sink, Writer};
 pub use source::{Reader, Source};
 pub use stream::{MOST_OCTETS, list_stream};
 pub use telemetry::TelemetryListing;
-
-#[cfg(test)]
-mod tests;

@@ -24,6 +24,3 @@ pub use line::{Carrier, Line};
 pub use opening::{ScriptFault, open};
 pub use playing::play_some;
 pub use reading::read_line;
-
-#[cfg(test)]
-mod tests;

@@ -38,6 +38,3 @@ pub use received::Received;
 pub use reply::{NodeFault, Reply};
 pub use sim::{Sim, SimFault, run};
 pub use spacecraft::Spacecraft;
-
-#[cfg(test)]
-mod tests;

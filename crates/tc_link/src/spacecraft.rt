@@ -10,7 +10,7 @@ use crate::map_packet::MapPacket;
 use crate::segment_log::SegmentLog;
 pub(crate) use acceptance::Acceptance;
 use circular_buffer::HeapCircularBuffer;
-use clcw::encode;
+use clcw::{Clcw, encode};
 use cop1::Farm;
 use map_service::Assembler;
 use std::alloc::Global;
@@ -45,7 +45,9 @@ impl Model for Spacecraft {
 }
 
 impl Spacecraft {
-    ghost use Rattle.std.specs.Prelude.{◌≡◌, ◌++◌, drop, take, Ok, option_map, IfOk, IfErr, OnOk, OnErr, IsOkUnless};
+    ghost use Rattle.std.specs.Prelude.{◌≡◌, ◌++◌, drop, take, Ok, option_map, IfOk, IfErr, OnOk, OnErr, IsOkUnless, IsTrue};
+    ghost use Rattle.clcw.specs.Writing.{fits};
+    ghost use Rattle.cop1.specs.Report.{report_of};
     ghost use Rattle.tm_link.specs.Building.{queue_fault};
     ghost use Rattle.tm_link.specs.Layout.{IsTmFrame};
     ghost use Rattle.tm_link.specs.Writing.{spelling};
@@ -124,6 +126,14 @@ impl Spacecraft {
         self.builder.queue(packet)
     }
 
+    /// The report on the receiver that the next telemetry frame carries (CCSDS 232.0-B-4, 4.2).
+    pub fn clcw(&self) -> Clcw
+        ensures report { result ≡ report_of self.now.farm self.now.config.vcid }
+        ensures fits { IsTrue (fits result) }
+    {
+        self.farm.report(self.config.vcid as u8)
+    }
+
     /// Writes the next telemetry frame, which reports on the receiver, at the beginning of `out`, and
     /// says how many octets it has. Octets past it stay.
     pub fn report(&mut self, out: &mut [u8; 2048]) -> usize
@@ -137,7 +147,7 @@ impl Spacecraft {
             (take result out.new) }
         ensures own { IsOwnFrame self.old.config (spacecraft_step self.old Report).answer }
     {
-        let Ok(ocf) = encode(&self.farm.report(self.config.vcid as u8)) else {
+        let Ok(ocf) = encode(&self.clcw()) else {
             unreachable!()
         };
         self.builder.build(ocf, out)

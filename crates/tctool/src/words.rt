@@ -15,6 +15,17 @@ use clap::error::ErrorKind;
 use clap::{Command, Error};
 use std::alloc::{AllocError, Global};
 
+// The commands, as the help lists them.
+const COMMANDS: [Described<'static>; 7] = [
+    farm::FARM,
+    map::MAP,
+    files::TC,
+    tm::TM,
+    files::CHECK,
+    files::PACKETS,
+    files::SIM,
+];
+
 /// Reads the words of a command line, the program's name first.
 ///
 /// The fault `Words` is what the parser answers to words that it refuses, or to a request for help or
@@ -68,27 +79,15 @@ fn other_words(alloc: Global, words: &[&str]) -> Error {
     }
 }
 
-fn listed<'a>(
-    alloc: Global,
-    command: Command<'a>,
-    named: Described<'a>,
-) -> Result<Command<'a>, AllocError> {
-    command.subcommand(Command::new(alloc, named.name).about(named.about))
-}
-
 fn no_command<'a>(alloc: Global, words: &'a [&'a str]) -> Result<Error, AllocError> {
-    let start = Command::new(alloc, "tctool")
+    let mut command = Command::new(alloc, "tctool")
         .about("Tools for the telecommand link")
         .version("0.1.0")
         .after_help(ending_of_help!("3 BC unlock Open vr=0 l=0 w=0 t=0 b=1"))
         .subcommand_required(true);
-    let with_farm = listed(alloc, start, farm::FARM)?;
-    let with_map = listed(alloc, with_farm, map::MAP)?;
-    let with_tc = listed(alloc, with_map, files::TC)?;
-    let with_tm = listed(alloc, with_tc, tm::TM)?;
-    let with_check = listed(alloc, with_tm, files::CHECK)?;
-    let with_packets = listed(alloc, with_check, files::PACKETS)?;
-    let mut command = listed(alloc, with_packets, files::SIM)?;
+    for named in COMMANDS {
+        command = command.subcommand(Command::new(alloc, named.name).about(named.about))?;
+    }
     match command.try_get_matches_from_mut(words) {
         Err(error) => Ok(error),
         Ok(_) => command.error(ErrorKind::MissingSubcommand, "a command is wanted"),

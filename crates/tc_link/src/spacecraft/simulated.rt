@@ -2,12 +2,10 @@
 
 use super::Spacecraft;
 use crate::copying::copy_front;
-use clcw::Clcw;
 
 impl Spacecraft {
     ghost use Rattle.std.specs.Prelude.{◌≡◌, ◌≤◌, []};
     ghost use Rattle.std.specs.Vec.{vec_capacity};
-    ghost use Rattle.cop1.specs.Report.{report_of};
     ghost use Rattle.tm_link.specs.Writing.{spelling};
     ghost use Rattle.tc_link.specs.Spacecraft.{spacecraft_step, Report};
 
@@ -15,13 +13,6 @@ impl Spacecraft {
         ensures { result ≡ self.now.farm.vr }
     {
         self.farm.vr()
-    }
-
-    // The report that the next telemetry frame carries.
-    pub(crate) fn word(&self) -> Clcw
-        ensures { result ≡ report_of self.now.farm self.now.config.vcid }
-    {
-        self.farm.report(self.config.vcid as u8)
     }
 
     // Writes the next telemetry frame where there is room for it.

@@ -26,11 +26,11 @@ impl World {
         if self.down.try_reserve(1).is_err() {
             return Err(SimFault::Memory);
         }
-        let word = self.spacecraft.word();
+        let clcw = self.spacecraft.clcw();
         self.spacecraft.put_report(&mut octets);
         octets.shrink_to_fit();
         self.down.push_back_reserved(octets);
-        Ok(Reply::Reported(word))
+        Ok(Reply::Reported(clcw))
     }
 
     pub(crate) fn down_deliver(&mut self) -> Result<Reply, SimFault>

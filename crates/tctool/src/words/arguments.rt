@@ -32,6 +32,9 @@ macro_rules! ending_of_help {
 
 pub(crate) use ending_of_help;
 
+/// What `FILE` is for the commands that take telecommand frames.
+pub const FRAMES: &str = "Telecommand frames, one after another";
+
 /// The command as its help tells of it, with no argument yet.
 pub fn bare_command<'a>(alloc: Global, described: Described<'a>) -> Result<Command<'a>, AllocError>
     ensures { IfOk result IsBare }

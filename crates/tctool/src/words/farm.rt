@@ -7,7 +7,9 @@ ghost use Rattle.clap.specs.Built.{IsPlainArg};
 ghost use Rattle.clap.specs.declared.builder.value_parser.ValueParser.TheVariants as parsers;
 
 use crate::task::{Options, Task, UsageFault};
-use crate::words::arguments::{Described, bare_command, check_flag, ending_of_help, file_argument};
+use crate::words::arguments::{
+    Described, FRAMES, bare_command, check_flag, ending_of_help, file_argument,
+};
 use clap::{Arg, ArgAction, Error, value_parser};
 use std::alloc::Global;
 use tc_frame::check_if;
@@ -92,15 +94,11 @@ fn farm_words<'a>(
 ) -> Result<FarmWords<'a>, Error>
     ensures { IfOk result (λ given. IfSome given.width (λ n. (2 ≤ n) × (n ≤ 254))) }
 {
-    let width = width_option(alloc);
-    let vr = vr_option(alloc);
-    let check = check_flag(alloc);
-    let file = file_argument(alloc, "Telecommand frames, one after another");
     let start = bare_command(alloc, described)?;
-    let with_width = start.arg(width)?;
-    let with_vr = with_width.arg(vr)?;
-    let with_check = with_vr.arg(check)?;
-    let command = with_check.arg(file)?;
+    let with_width = start.arg(width_option(alloc))?;
+    let with_vr = with_width.arg(vr_option(alloc))?;
+    let with_check = with_vr.arg(check_flag(alloc))?;
+    let command = with_check.arg(file_argument(alloc, FRAMES))?;
     let matches = command.try_get_matches_from(words)?;
     Ok(FarmWords {
         width: matches.get_one::<u8>("width"),

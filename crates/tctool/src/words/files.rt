@@ -4,7 +4,9 @@ ghost use Rattle.std.specs.Prelude.{IfOk, IfErr};
 ghost use Rattle.tctool.specs.Ranges.{IsInRange, IsOddIfWidth};
 
 use crate::task::{Options, Task, UsageFault};
-use crate::words::arguments::{Described, bare_command, check_flag, ending_of_help, file_argument};
+use crate::words::arguments::{
+    Described, FRAMES, bare_command, check_flag, ending_of_help, file_argument,
+};
 use clap::Error;
 use std::alloc::Global;
 use tc_frame::{Check, check_if};
@@ -96,11 +98,9 @@ fn checked_file<'a>(
     described: Described<'a>,
     words: &'a [&'a str],
 ) -> Result<(Check, &'a str), Error> {
-    let check = check_flag(alloc);
-    let file = file_argument(alloc, "Telecommand frames, one after another");
     let start = bare_command(alloc, described)?;
-    let with_check = start.arg(check)?;
-    let command = with_check.arg(file)?;
+    let with_check = start.arg(check_flag(alloc))?;
+    let command = with_check.arg(file_argument(alloc, FRAMES))?;
     let matches = command.try_get_matches_from(words)?;
     let check = check_if(matches.get_flag("check"));
     Ok((check, matches.get_str("FILE").unwrap()))
@@ -113,9 +113,8 @@ fn plain_file<'a>(
     help: &'a str,
     words: &'a [&'a str],
 ) -> Result<&'a str, Error> {
-    let file = file_argument(alloc, help);
     let start = bare_command(alloc, described)?;
-    let command = start.arg(file)?;
+    let command = start.arg(file_argument(alloc, help))?;
     let matches = command.try_get_matches_from(words)?;
     Ok(matches.get_str("FILE").unwrap())
 }

@@ -5,7 +5,9 @@ ghost use Rattle.tctool.specs.Ranges.{IsInRange, IsOddIfWidth};
 ghost use Rattle.clap.specs.Built.{IsPlainArg};
 
 use crate::task::{Options, Task, UsageFault};
-use crate::words::arguments::{Described, bare_command, check_flag, ending_of_help, file_argument};
+use crate::words::arguments::{
+    Described, FRAMES, bare_command, check_flag, ending_of_help, file_argument,
+};
 use crate::words::farm::{even_width, vr_option, width_option};
 use clap::{Arg, ArgAction, Error};
 use std::alloc::Global;
@@ -64,17 +66,12 @@ fn map_words<'a>(
 ) -> Result<MapWords<'a>, Error>
     ensures { IfOk result (λ given. IfSome given.width (λ n. (2 ≤ n) × (n ≤ 254))) }
 {
-    let width = width_option(alloc);
-    let vr = vr_option(alloc);
-    let check = check_flag(alloc);
-    let blocking = blocking_flag(alloc);
-    let file = file_argument(alloc, "Telecommand frames, one after another");
     let start = bare_command(alloc, described)?;
-    let with_width = start.arg(width)?;
-    let with_vr = with_width.arg(vr)?;
-    let with_check = with_vr.arg(check)?;
-    let with_blocking = with_check.arg(blocking)?;
-    let command = with_blocking.arg(file)?;
+    let with_width = start.arg(width_option(alloc))?;
+    let with_vr = with_width.arg(vr_option(alloc))?;
+    let with_check = with_vr.arg(check_flag(alloc))?;
+    let with_blocking = with_check.arg(blocking_flag(alloc))?;
+    let command = with_blocking.arg(file_argument(alloc, FRAMES))?;
     let matches = command.try_get_matches_from(words)?;
     Ok(MapWords {
         width: matches.get_one::<u8>("width"),

@@ -61,11 +61,9 @@ fn tm_words<'a>(
 ) -> Result<TmWords<'a>, Error>
     ensures { IfOk result (λ given. (16 ≤ given.length) × (given.length ≤ 2048)) }
 {
-    let length = length_option(alloc);
-    let file = file_argument(alloc, "Telemetry frames, one after another");
     let start = bare_command(alloc, described)?;
-    let with_length = start.arg(length)?;
-    let command = with_length.arg(file)?;
+    let with_length = start.arg(length_option(alloc))?;
+    let command = with_length.arg(file_argument(alloc, "Telemetry frames, one after another"))?;
     let matches = command.try_get_matches_from(words)?;
     Ok(TmWords {
         length: matches.get_one::<u16>("length").unwrap(),

@@ -6,10 +6,10 @@ use Rattle.tctool.proofs.words.farm.farm_words.Goals as goal
 
 pub returns : goal.returns
 returns c =
-    let w = c.width_option-width in
-    let v = c.vr_option-vr in
-    let k = c.check_flag-check in
-    let f = c.file_argument-file in
+    let w = c.width_option in
+    let v = c.vr_option in
+    let k = c.check_flag in
+    let f = c.file_argument in
     let made = made_of (w.result ∷ v.result ∷ k.result ∷ f.result ∷ []) (119 ∷ 118 ∷ 99 ∷ 70 ∷ []) (
       width_named w.result w.ensures.id w.ensures.plain,
       (
@@ -42,10 +42,10 @@ returns c =
 
 pub unwrap-requires : goal.unwrap-requires
 unwrap-requires c =
-    let w = c.width_option-width in
-    let v = c.vr_option-vr in
-    let k = c.check_flag-check in
-    let f = c.file_argument-file in
+    let w = c.width_option in
+    let v = c.vr_option in
+    let k = c.check_flag in
+    let f = c.file_argument in
     let made = made_of (w.result ∷ v.result ∷ k.result ∷ f.result ∷ []) (119 ∷ 118 ∷ 99 ∷ 70 ∷ []) (
       width_named w.result w.ensures.id w.ensures.plain,
       (

@@ -4,8 +4,8 @@ use Rattle.tctool.proofs.words.files.checked_file.Goals as goal
 
 pub unwrap-requires : goal.unwrap-requires
 unwrap-requires c =
-    let k = c.check_flag-check in
-    let f = c.file_argument-file in
+    let k = c.check_flag in
+    let f = c.file_argument in
     let made = made_of (k.result ∷ f.result ∷ []) (99 ∷ 70 ∷ []) (check_named k.result k.ensures.id k.ensures.plain, (file_named f.result f.ensures.id f.ensures.plain, tt)) refl
     c.in_ok-start.start c.in_ok-command.command (
       c.in_ok-with_check.with_check,

@@ -6,11 +6,11 @@ use Rattle.tctool.proofs.words.map.map_words.Goals as goal
 
 pub returns : goal.returns
 returns c =
-    let w = c.width_option-width in
-    let v = c.vr_option-vr in
-    let k = c.check_flag-check in
-    let b = c.blocking_flag-blocking in
-    let f = c.file_argument-file in
+    let w = c.width_option in
+    let v = c.vr_option in
+    let k = c.check_flag in
+    let b = c.blocking_flag in
+    let f = c.file_argument in
     let made = made_of (w.result ∷ v.result ∷ k.result ∷ b.result ∷ f.result ∷ []) (119 ∷ 118 ∷ 99 ∷ 98 ∷ 70 ∷ []) (
       width_named w.result w.ensures.id w.ensures.plain,
       (
@@ -50,11 +50,11 @@ returns c =
 
 pub unwrap-requires : goal.unwrap-requires
 unwrap-requires c =
-    let w = c.width_option-width in
-    let v = c.vr_option-vr in
-    let k = c.check_flag-check in
-    let b = c.blocking_flag-blocking in
-    let f = c.file_argument-file in
+    let w = c.width_option in
+    let v = c.vr_option in
+    let k = c.check_flag in
+    let b = c.blocking_flag in
+    let f = c.file_argument in
     let made = made_of (w.result ∷ v.result ∷ k.result ∷ b.result ∷ f.result ∷ []) (119 ∷ 118 ∷ 99 ∷ 98 ∷ 70 ∷ []) (
       width_named w.result w.ensures.id w.ensures.plain,
       (

@@ -7,8 +7,8 @@ use Rattle.tctool.proofs.words.tm.tm_words.Goals as goal
 
 pub unwrap-requires : goal.unwrap-requires
 unwrap-requires c =
-    let l = c.length_option-length in
-    let f = c.file_argument-file in
+    let l = c.length_option in
+    let f = c.file_argument in
     let made = made_of (l.result ∷ f.result ∷ []) (108 ∷ 70 ∷ []) (length_named l.result l.ensures.id l.ensures.plain, (file_named f.result f.ensures.id f.ensures.plain, tt)) refl
     c.in_ok-start.start c.in_ok-command.command (
       c.in_ok-with_length.with_length,
@@ -23,8 +23,8 @@ unwrap-requires c =
 
 pub unwrap-requires-2 : goal.unwrap-requires-2
 unwrap-requires-2 c =
-    let l = c.length_option-length in
-    let f = c.file_argument-file in
+    let l = c.length_option in
+    let f = c.file_argument in
     let made = made_of (l.result ∷ f.result ∷ []) (108 ∷ 70 ∷ []) (length_named l.result l.ensures.id l.ensures.plain, (file_named f.result f.ensures.id f.ensures.plain, tt)) refl
     c.in_ok-start.start c.in_ok-command.command (
       c.in_ok-with_length.with_length,
@@ -35,8 +35,8 @@ unwrap-requires-2 c =
 
 pub returns : goal.returns
 returns c =
-    let l = c.length_option-length in
-    let f = c.file_argument-file in
+    let l = c.length_option in
+    let f = c.file_argument in
     let made = made_of (l.result ∷ f.result ∷ []) (108 ∷ 70 ∷ []) (length_named l.result l.ensures.id l.ensures.plain, (file_named f.result f.ensures.id f.ensures.plain, tt)) refl
     c.in_ok-start.start c.in_ok-command.command (
       c.in_ok-with_length.with_length,

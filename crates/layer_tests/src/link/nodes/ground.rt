@@ -2,9 +2,9 @@
 
 use super::super::{P0, P1};
 use super::play_ground::{Call, plays};
-use crate::Config;
 use cop1::Directive;
 use std::test::Fail;
+use tc_link::Config;
 
 // Telemetry frames with a data field of 7 octets: one with P0, and two of only idle data, of which the
 // second reports that number 1 is expected.

@@ -3,12 +3,12 @@
 
 use super::super::lines::{write_heard, write_octets, write_refusal};
 use super::super::refusing::{ends_growths, room, says_refused};
-use crate::{Config, Ground, LinkFault};
 use cop1::{Alert, CopFault, Directive, FopMode};
 use std::alloc::{AllocError, Global};
 use std::fmt::Write;
 use std::process::Abort;
 use std::test::Fail;
+use tc_link::{Config, Ground, LinkFault};
 use tm_link::{Pointer, decode};
 
 /// A call of a ground.

@@ -2,12 +2,12 @@
 
 ghost use Rattle.std.specs.Prelude.{◌≡◌, [], None};
 
-use crate::{
+use cop1::Farm;
+use listings::{
     Call, Cutter, DeviceLog, DumpFault, FrameCutter, FrameLength, FrameListing, Listing,
     MapListing, PacketListing, Reader, RefusalListing, TelemetryListing, Writer, list_stream,
     write_all,
 };
-use cop1::Farm;
 use octets::Splitter;
 use space_packet::Packets;
 use std::alloc::{AllocError, Global};

@@ -1,11 +1,11 @@
 // Many packets over a link that loses frames.
 
 use super::play::Play;
-use crate::{Config, Event, Reply};
 use cop1::Directive;
 use std::alloc::{AllocError, Global};
 use std::process::Abort;
 use std::test::Fail;
+use tc_link::{Config, Event, Reply};
 
 const COUNT: usize = 600;
 

@@ -2,8 +2,8 @@
 
 use super::super::{P0, P1, UNLOCK};
 use super::play_spacecraft::{Call, plays};
-use crate::Config;
 use std::test::Fail;
+use tc_link::Config;
 
 // Type-AD frames with numbers 0 and 1, which carry P0 and P1 on MAP 4.
 const AD_0: [u8; 15] = [

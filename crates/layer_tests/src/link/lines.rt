@@ -1,11 +1,11 @@
 // What the link and its nodes answer, as lines.
 
-use crate::{Heard, NodeFault, Received, Reply, Sim, SimFault};
 use clcw::encode;
 use cop1::{FopMode, Verdict};
 use std::alloc::AllocError;
 use std::fmt::Write;
 use tc_frame::Command;
+use tc_link::{Heard, NodeFault, Received, Reply, Sim, SimFault};
 use tm_link::Gap;
 
 /// Writes an answer of a simulated link.

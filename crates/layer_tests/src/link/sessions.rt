@@ -2,11 +2,11 @@
 
 use super::play::{plays, plays_with_states, runs};
 use super::{P0, P1, UNLOCK};
-use crate::{Config, Event};
 use cop1::Directive;
 use std::alloc::Global;
 use std::process::Abort;
 use std::test::Fail;
+use tc_link::{Config, Event};
 
 const P2: [u8; 7] = [0x10, 0x05, 0xc0, 0x02, 0x00, 0x00, 0xac];
 

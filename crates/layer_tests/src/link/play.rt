@@ -3,10 +3,10 @@
 
 use super::lines::{write_answer, write_records, write_state, write_world};
 use super::refusing::{room, says_refused};
-use crate::{Config, Event, Reply, Sim, SimFault, run};
 use std::alloc::{AllocError, Global};
 use std::process::Abort;
 use std::test::Fail;
+use tc_link::{Config, Event, Reply, Sim, SimFault, run};
 
 /// A simulated link, the lines that it answered, and room for what its records show.
 #[derive(Drop)]

@@ -1,6 +1,8 @@
 // Scripts played by hand, and each of their growths refused in turn.
 
-use super::*;
+use script::{
+    Carrier, Field, Line, ScriptFault, config_in, open, play_some, read_line, unreadable_line,
+};
 use std::alloc::Global;
 use std::process::Abort;
 use tc_link::Sim;

@@ -8,7 +8,7 @@ mod refused;
 mod refusing;
 mod sessions;
 
-use super::*;
+use tc_link::{Config, LinkFault};
 
 const P0: [u8; 7] = [0x10, 0x05, 0xc0, 0x00, 0x00, 0x00, 0xaa];
 

@@ -3,13 +3,12 @@
 
 use super::super::lines::{write_octets, write_received, write_refusal};
 use super::super::refusing::{ends_growths, room, says_refused};
-use crate::{Config, Spacecraft};
-use clcw::Clcw;
 use std::alloc::{AllocError, Global};
 use std::fmt::Write;
 use std::process::Abort;
 use std::test::Fail;
 use tc_frame::Check;
+use tc_link::{Config, Spacecraft};
 use tm_link::TmFault;
 
 /// A call of a spacecraft.
@@ -79,11 +78,11 @@ impl Play {
     // Receives. Where memory is refused nothing has changed, and the call made again answers as ever.
     // Octets that are no frame take none.
     fn receive(&mut self, rt: &(impl Abort + Eprint), octets: &[u8]) -> Result<(), AllocError> {
-        let before = self.seen();
+        let before = self.spacecraft.clcw();
         let answer = match self.spacecraft.receive(octets) {
             Err(fault) if tc_frame::decode(octets, Check::On).is_ok() => {
                 says_refused(rt, fault.number(), 6);
-                assert!(rt; self.seen() == before);
+                assert!(rt; self.spacecraft.clcw() == before);
                 self.spacecraft.receive(octets)
             }
             answer => answer,
@@ -97,11 +96,11 @@ impl Play {
     // Queues a packet. Where memory is refused nothing has changed, and the call made again answers as
     // ever.
     fn telemetry(&mut self, rt: &(impl Abort + Eprint), packet: &[u8]) -> Result<(), AllocError> {
-        let before = self.seen();
+        let before = self.spacecraft.clcw();
         let answer = match self.spacecraft.telemetry(packet) {
             Err(TmFault::Memory) => {
                 says_refused(rt, TmFault::Memory.number(), 7);
-                assert!(rt; self.seen() == before);
+                assert!(rt; self.spacecraft.clcw() == before);
                 self.spacecraft.telemetry(packet)
             }
             answer => answer,
@@ -110,11 +109,6 @@ impl Play {
             Ok(()) => self.line.push_str("ok"),
             Err(fault) => write_refusal(&mut self.line, fault.number(), fault.name()),
         }
-    }
-
-    // All that the reading calls show.
-    fn seen(&self) -> (u8, Clcw) {
-        (self.spacecraft.vr(), self.spacecraft.word())
     }
 
     // Sends a frame: its report, its size, its place on the channel, where a packet starts in it, and the
