@@ -4,5 +4,6 @@ pub mod Check
 pub mod Damage
 pub mod Outcome
 pub mod Records
+pub mod Table
 pub mod Holding
 pub mod Appending

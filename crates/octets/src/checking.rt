@@ -1,12 +1,13 @@
 // The check of a frame: its value, its setting and its test.
 
 ghost use Rattle.std.specs.Prelude.{◌≡◌, ◌≤◌, ◌<◌, ◌-◌, ◌*◌, ◌^◌, ◌/◌, ◌%◌, ◌++◌, ◌↔◌, IsTrue, length, take, bit_xor, slice_index};
-ghost use Rattle.octets.specs.declared.table.TheConstants.{TABLE, LATER};
 ghost use Rattle.byteorder.specs.Endian.{big_bytes};
 ghost use Rattle.octets.specs.Check.{check_of, HoldsCheck};
+ghost use Rattle.octets.specs.Number.{IsOctets};
+ghost use Rattle.octets.specs.Table.{entry_at, two_entries, eight_entries};
 
 use crate::number::first_two;
-use crate::table::{later_entry, table_entry};
+use crate::table::entry;
 use byteorder::{BigEndian, ByteOrder};
 
 /// The check of the octets: generator `x^16 + x^12 + x^5 + 1`, register preset to ones, no final
@@ -17,8 +18,8 @@ pub fn check(octets: &[u8]) -> u16
 {
     let mut register: u32 = 0xffff;
     let mut left = octets;
-    while let [first, second, rest @ ..] = left {
-        register = after_two(register, *first, *second);
+    while let Some((eight, rest)) = left.split_first_chunk::<8>() {
+        register = after_eight(register, eight);
         left = rest;
     }
     for octet in left {
@@ -32,25 +33,40 @@ pub fn check(octets: &[u8]) -> u16
 fn after_one(register: u32, octet: u8) -> u32
     requires { register < 2 ^ 16 }
     ensures after { result
-        ≡ bit_xor (register % 256 * 256) (slice_index TABLE (bit_xor (register / 256) octet)) }
+        ≡ bit_xor (register % 256 * 256) (entry_at 0 (bit_xor (register / 256) octet)) }
     ensures octet { octet < 2 ^ 8 }
     ensures fits { result < 2 ^ 16 }
 {
-    ((register & 0xff) << 8) ^ table_entry((register >> 8) ^ u32::from(octet))
+    ((register & 0xff) << 8) ^ entry(0, (register >> 8) ^ u32::from(octet))
 }
 
-// The register after two octets. What the first adds is looked up as it stands an octet later, so
-// that neither look waits for the other.
+// The register after eight octets. What each adds is looked up as it stands after the last, so that
+// no look waits for another.
 #[inline(always)]
-fn after_two(register: u32, first: u8, second: u8) -> u32
+fn after_eight(register: u32, octets: &[u8; 8]) -> u32
     requires { register < 2 ^ 16 }
-    ensures after { let later = slice_index LATER (bit_xor (register / 256) first) in
-        result ≡ bit_xor later (slice_index TABLE (bit_xor (register % 256) second)) }
-    ensures octets { (first < 2 ^ 8) × (second < 2 ^ 8) }
+    ensures after { result ≡ eight_entries register octets.now }
+    ensures octets { IsOctets octets.now }
     ensures fits { result < 2 ^ 16 }
 {
-    let later = later_entry((register >> 8) ^ u32::from(first));
-    later ^ table_entry((register & 0xff) ^ u32::from(second))
+    let [a, b, c, d, e, f, g, h] = *octets;
+    let first = (register / 256) ^ u32::from(a);
+    let second = (register % 256) ^ u32::from(b);
+    two_entries(6, first, second)
+        ^ two_entries(4, u32::from(c), u32::from(d))
+        ^ two_entries(2, u32::from(e), u32::from(f))
+        ^ two_entries(0, u32::from(g), u32::from(h))
+}
+
+// What two octets add, `later` octets after the second.
+#[inline(always)]
+fn two_entries(later: usize, first: u32, second: u32) -> u32
+    requires later { later < 7 }
+    requires places { (first < 256) × (second < 256) }
+    ensures entries { result ≡ two_entries later first second }
+    ensures fits { result < 2 ^ 16 }
+{
+    entry(later + 1, first) ^ entry(later, second)
 }
 
 /// Sets the last two octets to the check of those before them.

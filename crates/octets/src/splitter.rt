@@ -1,6 +1,6 @@
 // The records of a stream that comes in pieces.
 
-ghost use Rattle.std.specs.Prelude.{◌≡◌, ◌≤◌, ◌<◌, ◌-◌, ◌++◌, ◌↔◌, [], length, take, drop, vec_len, None, Some, IsNone, IsSome, IsErr, IfErr, OnOk, OnErr};
+ghost use Rattle.std.specs.Prelude.{◌≡◌, ◌≤◌, ◌<◌, ◌-◌, ◌++◌, ◌↔◌, [], length, take, drop, vec_len, None, Some, IsNone, IsSome, IsErr, IsOk, IfErr, OnOk, OnErr};
 
 use crate::front::remove_front;
 use crate::wire::Wire;
@@ -38,13 +38,14 @@ impl<W: Wire> Splitter<W> {
         }
     }
 
-    /// Takes more octets of the stream. The fault is `W::memory()`, and after it the splitter is as
-    /// it was.
+    /// Takes more octets of the stream. The fault is `W::memory()`, never where there are no octets;
+    /// after it the splitter is as it was.
     pub fn feed(&mut self, octets: &[u8]) -> Result<(), W::Fault>
         ensures ok { OnOk result (held self.new ≡ held self.old ++ octets.now) }
         ensures err { OnErr result (held self.new ≡ held self.old) }
         ensures fault { IfErr result (λ e. e ≡ W.memory_fault) }
         ensures failure { failure self.new ≡ failure self.old }
+        ensures none { octets.now ≡ [] → IsOk result }
     {
         if self.start > 0 {
             remove_front(&mut self.octets, self.start);

@@ -1,6 +1,6 @@
 // Packets taken from a stream that comes in pieces.
 
-ghost use Rattle.std.specs.Prelude.{◌≡◌, ◌<◌, ◌++◌, ◌↔◌, [], None, length, IsNone, IsErr, IfErr, OnOk, OnErr};
+ghost use Rattle.std.specs.Prelude.{◌≡◌, ◌<◌, ◌++◌, ◌↔◌, [], None, length, IsNone, IsErr, IsOk, IfErr, OnOk, OnErr};
 
 use crate::fault::PacketFault;
 use crate::layout::Packets;
@@ -33,13 +33,14 @@ impl PacketSplitter {
         }
     }
 
-    /// Takes more octets of the stream. The fault is 6 `Memory`, and after it the splitter is as it
-    /// was.
+    /// Takes more octets of the stream. The fault is 6 `Memory`, never where there are no octets;
+    /// after it the splitter is as it was.
     pub fn feed(&mut self, octets: &[u8]) -> Result<(), PacketFault>
         ensures ok { OnOk result (octets_held self.new ≡ octets_held self.old ++ octets.now) }
         ensures err { OnErr result (octets_held self.new ≡ octets_held self.old) }
         ensures fault { IfErr result (λ e. e ≡ PacketFault.Memory) }
         ensures refusal { refusal self.new ≡ refusal self.old }
+        ensures none { octets.now ≡ [] → IsOk result }
     {
         self.splitter.feed(octets)
     }

@@ -32,23 +32,24 @@ fn a_packet(rt: HostRuntime) -> Result<(), Fail> {
 }
 
 // So many octets. Where memory is refused, it asks again.
-fn octets_55(alloc: Global, len: usize) -> Result<Vec<u8>, AllocError>
+fn octets_55(rt: &(impl Abort + Eprint), alloc: Global, len: usize) -> Result<Vec<u8>, AllocError>
     ensures { IfOk result (λ octets. vec_len octets ≡ len) }
 {
     if let Ok(octets) = vec![in alloc; 0x55; len] {
         return Ok(octets);
     }
+    let _ = eprintln!(rt; "refused a growth");
     vec![in alloc; 0x55; len]
 }
 
 #[test]
 fn the_longest_packet(rt: HostRuntime) -> Result<(), Fail> {
-    let mut octets = octets_55(rt.alloc(), 65542)?;
+    let mut octets = octets_55(&rt, rt.alloc(), 65542)?;
     octets.as_mut_slice()[..6].copy_from_slice(&[0x10, 0x05, 0xc0, 0x00, 0xff, 0xff]);
     let (packet, len) = decode(&octets)?;
     assert_eq!(rt; len, 65542);
     assert_eq!(rt; packet.payload.len(), 65536);
-    let mut out = octets_55(rt.alloc(), 65542)?;
+    let mut out = octets_55(&rt, rt.alloc(), 65542)?;
     out.as_mut_slice()[..6].copy_from_slice(&[0; 6]);
     assert_eq!(rt; encode(&packet, &mut out)?, 65542);
     assert!(rt; out == octets);

@@ -1,6 +1,6 @@
 // Frames taken from a stream that comes in pieces.
 
-ghost use Rattle.std.specs.Prelude.{◌≡◌, ◌<◌, ◌++◌, ◌↔◌, [], None, length, IsNone, IsErr, IfErr, OnOk, OnErr};
+ghost use Rattle.std.specs.Prelude.{◌≡◌, ◌<◌, ◌++◌, ◌↔◌, [], None, length, IsNone, IsErr, IsOk, IfErr, OnOk, OnErr};
 
 use crate::fault::TcFault;
 use octets::{Splitter, Wire};
@@ -32,13 +32,14 @@ impl<C: Wire<Fault = TcFault>> TcSplitter<C> {
         }
     }
 
-    /// Takes more octets of the stream. The fault is 12 `Memory`, and after it the splitter is as it
-    /// was.
+    /// Takes more octets of the stream. The fault is 12 `Memory`, never where there are no octets;
+    /// after it the splitter is as it was.
     pub fn feed(&mut self, octets: &[u8]) -> Result<(), TcFault>
         ensures ok { OnOk result (octets_held self.new ≡ octets_held self.old ++ octets.now) }
         ensures err { OnErr result (octets_held self.new ≡ octets_held self.old) }
         ensures fault { IfErr result (λ e. e ≡ TcFault.Memory) }
         ensures refusal { refusal self.new ≡ refusal self.old }
+        ensures none { octets.now ≡ [] → IsOk result }
     {
         if self.splitter.feed(octets).is_err() {
             return Err(TcFault::Memory);

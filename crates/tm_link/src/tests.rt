@@ -374,16 +374,17 @@ fn a_frame_of_only_idle_data_between_halves(rt: HostRuntime) -> Result<(), Fail>
 }
 
 // The longest packet. Where memory is refused, it asks again.
-fn longest_packet(alloc: Global) -> Result<Vec<u8>, AllocError> {
+fn longest_packet(rt: &(impl Abort + Eprint), alloc: Global) -> Result<Vec<u8>, AllocError> {
     if let Ok(octets) = vec![in alloc; 0x5a; 65542] {
         return Ok(octets);
     }
+    let _ = eprintln!(rt; "refused a growth");
     vec![in alloc; 0x5a; 65542]
 }
 
 #[test]
 fn a_packet_across_many_frames(rt: HostRuntime) -> Result<(), Fail> {
-    let mut packet = longest_packet(rt.alloc())?;
+    let mut packet = longest_packet(&rt, rt.alloc())?;
     for (octet, is) in packet.iter_mut().zip([0x00, 0x05, 0xc0, 0x00, 0xff, 0xff]) {
         *octet = is;
     }
@@ -409,17 +410,17 @@ fn building_and_waiting_takes_no_memory(rt: HostRuntime) -> Result<(), Fail> {
     let packet = [0x00, 0x05, 0xc0, 0x00, 0x00, 0x02, 0xaa, 0xab, 0xac];
     let mut builder = TmBuilder::new(rt.alloc(), 1, 0, 20)?;
     let mut found = Vec::new(rt.alloc());
-    if builder.queue(&packet).is_err() {
+    let queued = builder.queue(&packet);
+    let (Ok(()), Ok(mut extractor)) = (queued, Extractor::new(rt.alloc())) else {
+        let _ = eprintln!(rt; "refused a growth");
         return Ok(());
-    }
-    if let Ok(mut extractor) = Extractor::new(rt.alloc()) {
-        let _ = eprintln!(rt; "set up");
-        let mut out = [0; 2048];
-        assert_eq!(rt; builder.build([0x01, 0x08, 0x00, 0x00], &mut out), 20);
-        let frame = decode(&out[..20], 20)?;
-        assert_eq!(rt; frame.pointer, Pointer::At(0));
-        assert_eq!(rt; extractor.frame(&frame, &mut found), Ok(Gap::First));
-        assert_eq!(rt; found.len(), 0);
-    }
+    };
+    let _ = eprintln!(rt; "set up");
+    let mut out = [0; 2048];
+    assert_eq!(rt; builder.build([0x01, 0x08, 0x00, 0x00], &mut out), 20);
+    let frame = decode(&out[..20], 20)?;
+    assert_eq!(rt; frame.pointer, Pointer::At(0));
+    assert_eq!(rt; extractor.frame(&frame, &mut found), Ok(Gap::First));
+    assert_eq!(rt; found.len(), 0);
     Ok(())
 }

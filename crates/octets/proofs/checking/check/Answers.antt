@@ -1,23 +1,25 @@
-use Rattle.std.proofs.Common.{◌∙◌}
+use Rattle.std.proofs.Common.{◌∙◌, arith}
 use Rattle.octets.proofs.Division.{check_from}
-use Rattle.octets.proofs.TableEntries.{takes_octet_at, takes_two}
+use Rattle.octets.proofs.TableEntries.{takes_octet_at, takes_eight}
 use Rattle.octets.proofs.checking.check.Goals as goal
 
-pub loop-left-preserved : goal.loop-left-preserved
-loop-left-preserved c =
-    let next = c.after_two-register.ensures in (
+pub loop-eight-preserved : goal.loop-eight-preserved
+loop-eight-preserved c =
+    let cut = c.in-Some.ensures.cases in
+    let next = c.after_eight-register.ensures in (
       next.fits,
-      takes_two c.loop-left.register c.after_two-register.result c.loop-left.left.now
-          c.in-len2-up.len_at_least c.loop-left.invariant.0 next.octets.0 next.octets.1 next.after ∙ c.loop-left.invariant.1,
+      takes_eight c.loop-eight.register c.after_eight-register.result c.loop-eight.left.now c.in-Some.eight.now c.in-Some.rest.now
+          (omega (arith, cut.2)) c.loop-eight.invariant.0 cut.0 cut.1 next.octets next.after
+          ∙ c.loop-eight.invariant.1,
     )
 
 pub loop-octet-preserved : goal.loop-octet-preserved
 loop-octet-preserved c =
     let next = c.after_one-register.ensures in (
       next.fits,
-      takes_octet_at c.loop-octet.register c.after_one-register.result c.loop-octet.octet-index c.loop-left.left.now
+      takes_octet_at c.loop-octet.register c.after_one-register.result c.loop-octet.octet-index c.loop-eight.left.now
           c.loop-octet.invariant.0 c.loop-octet-test.true next.octet next.after ∙ c.loop-octet.invariant.1,
     )
 
 pub returns : goal.returns
-returns c = check_from c.loop-octet.register c.loop-octet.octet-index c.loop-left.left.now c.args.octets.now c.loop-octet.invariant.0 c.loop-octet-test.false c.loop-octet.invariant.1
+returns c = check_from c.loop-octet.register c.loop-octet.octet-index c.loop-eight.left.now c.args.octets.now c.loop-octet.invariant.0 c.loop-octet-test.false c.loop-octet.invariant.1
