@@ -1,4 +1,4 @@
 pub mod Agreeing
+mod Following
 pub mod Marks
-mod Sending
-mod Sound
+mod Queued

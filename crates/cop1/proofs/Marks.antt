@@ -1,11 +1,11 @@
 -- The sent queue as bare units, of which the last are marked.
 use Rattle.std.proofs.Common.{◌≡◌, ◌≤◌, ◌<◌, ℕ, zero, suc, ◌+◌, ◌-◌, true, false, List, [], ◌∷◌, ◌++◌, length, drop, map, min, Option, Some, None, inl, inr, refl, ap, arith, ltb, add-zero, length-drop}
-use Rattle.std.specs.Prelude.{slice_get, option_map}
+use Rattle.std.specs.Prelude.{slice_get, option_map, option_copied, is_some}
 use Rattle.std.proofs.lemmas.Bool.{cases_lt, lt-ltb, le-ltb}
+use denote.Bor.{Bor}
 use Rattle.cop1.specs.FopWords.{marked_unit, unmarked_unit}
-use Rattle.cop1.specs.FopReport.{ticks_for}
-use Rattle.cop1.specs.FopPull.{oldest_marked, without_oldest_mark, count_behind}
-use Rattle.cop1.specs.FopFields.{marked_last}
+use Rattle.cop1.specs.FopPull.{oldest_marked, without_oldest_mark}
+use Rattle.cop1.specs.FopQueues.{marked_last}
 
 module _ {U : Type 0} where
   pub length-marked_last : (due : ℕ) (us : List U) → length (marked_last due us) ≡ length us
@@ -91,14 +91,6 @@ module _ {U : Type 0} where
         | inr le ↦ let same : min due left ≡ due = omega arith in ap (λ k. marked_last k (drop gone us)) same
       ])
 
-  pub ticks_for-some : (due : ℕ) (us : List U) (timer : ℕ) → (length us ≡ 0 → ⊥) → Some timer ≡ ticks_for (marked_last due us) timer
-  ticks_for-some due [] timer some = absurd (some refl)
-  ticks_for-some due (u ∷ us) timer some = refl
-
-  pub count_behind-some : (due : ℕ) (us : List U) (count : ℕ) → (length us ≡ 0 → ⊥) → count ≡ count_behind (marked_last due us) count
-  count_behind-some due [] count some = absurd (some refl)
-  count_behind-some due (u ∷ us) count some = refl
-
   pub map-unit-marked_last : (due : ℕ) (us : List U) → map (λ u. u.unit) (marked_last due us) ≡ us
   map-unit-marked_last due [] = refl
   map-unit-marked_last due (u ∷ us) = ap (λ us. u ∷ us) (map-unit-marked_last due us)
@@ -109,15 +101,12 @@ module _ {U : Type 0} where
   slice_get-within (u ∷ us) zero lt = (u, refl)
   slice_get-within (u ∷ us) (suc place) lt = slice_get-within us place (omega arith)
 
-  -- where no marked unit is found, none is due
-  pub none_due : (due : ℕ) (us : List U) → due ≤ length us → oldest_marked 0 (marked_last due us) ≡ None → due ≡ 0
-  none_due due us within none =
-      elim (cases_lt 0 due) [
-        | inl some ↦
-            let found = slice_get-within us (length us - due) (omega arith) in
-            let oldest = oldest_marked-last 0 due us found.0 some within found.1 in
-            absurd (cc (oldest, none))
-        | inr le ↦ omega arith
-      ]
+  pub is_some_copied : (o : Option (Bor U)) (u : U) → option_copied o ≡ Some u → is_some o ≡ true
+  is_some_copied None u e = absurd cc
+  is_some_copied (Some r) u e = refl
+
+  pub slice_get-push : (us : List U) (u : U) → slice_get (us ++ u ∷ []) (length us) ≡ Some u
+  slice_get-push [] u = refl
+  slice_get-push (x ∷ us) u = slice_get-push us u
 
 pub ruleset marks = (length-marked_last, drop-marked_last, map-marked_unit-marked_last, marked_last-push, map-unit-marked_last)

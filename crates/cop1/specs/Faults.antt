@@ -1,7 +1,7 @@
 -- The numbers and names of the refusals.
 use Rattle.std.specs.Prelude.{ℕ, List, codes}
 use Rattle.cop1.specs.declared.fault.CopFault.{CopFault}
-use Rattle.cop1.specs.declared.fault.CopFault.TheVariants.{Width, Window, Limit, Timer, Memory, NotOpen, Busy, WrongState}
+use Rattle.cop1.specs.declared.fault.CopFault.TheVariants.{Width, Window, Limit, Timer, Memory, NotOpen, Busy, WrongState, State}
 
 abbrev pub fault_number : CopFault → ℕ
 fault_number Width = 1
@@ -12,6 +12,7 @@ fault_number Memory = 5
 fault_number NotOpen = 6
 fault_number Busy = 7
 fault_number WrongState = 8
+fault_number State = 9
 
 -- the name, in ASCII
 abbrev pub fault_name : CopFault → List ℕ
@@ -23,3 +24,4 @@ fault_name Memory = codes "Memory"
 fault_name NotOpen = codes "NotOpen"
 fault_name Busy = codes "Busy"
 fault_name WrongState = codes "WrongState"
+fault_name State = codes "State"

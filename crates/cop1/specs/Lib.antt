@@ -1,4 +1,5 @@
 pub mod Farm
+pub mod FarmFields
 pub mod FarmRuns
 pub mod Faults
 pub mod FopDirective
@@ -7,6 +8,7 @@ pub mod FopLends
 pub mod FopNew
 pub mod FopNext
 pub mod FopPull
+pub mod FopQueues
 pub mod FopReport
 pub mod FopState
 pub mod FopStep
@@ -16,3 +18,11 @@ pub mod FopWords
 pub mod Modulo
 pub mod Names
 pub mod Report
+pub mod SenderDirective
+pub mod SenderNext
+pub mod SenderReport
+pub mod SenderState
+pub mod SenderStep
+pub mod SenderTick
+pub mod SenderUnits
+pub mod SenderWords

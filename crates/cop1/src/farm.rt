@@ -62,9 +62,26 @@ pub(crate) enum Place {
     OutsideWindows,
 }
 
+/// What a receiver is told by (CCSDS 232.1-B-2, 6.1), which a node may keep and go on from.
+#[derive(Clone, Copy, Debug, PartialEq, Eq)]
+pub struct FarmFields {
+    /// The window width, even, 2 to 254.
+    pub width: u8,
+    /// V(R), the number of the next frame to be accepted.
+    pub vr: u8,
+    /// The lockout flag.
+    pub lockout: bool,
+    /// The wait flag, which comes with the retransmit flag.
+    pub wait: bool,
+    /// The retransmit flag.
+    pub retransmit: bool,
+    /// FARM-B, 0 to 3.
+    pub farm_b: u8,
+}
+
 /// The receiver of one virtual channel, FARM-1 (CCSDS 232.1-B-2, section 6). Its positive and
 /// negative window are half its width each.
-#[derive(Drop)]
+#[derive(Clone, Copy)]
 pub struct Farm {
     width: u8,
     vr: u8,
@@ -80,7 +97,7 @@ impl Model for Farm {
     ghost Value = { FarmState };
 
     ghost use Rattle.std.specs.Prelude.{◌≡◌, ◌<◌, true};
-    ghost use Rattle.cop1.specs.Farm.{state_of};
+    ghost use Rattle.cop1.specs.Farm.{state_of, IsWidth};
 
     ghost view = { λ f. record {
       width = f.width;
@@ -92,13 +109,23 @@ impl Model for Farm {
       farm_b = f.farm_b;
     } };
 
-    ghost invariant = { λ f. (f.farm_b < 4) × (f.wait ≡ true → f.retransmit ≡ true) };
+    ghost invariant = { λ f. (f.farm_b < 4) × (f.wait ≡ true → f.retransmit ≡ true) × IsWidth f.width };
+
+    ghost inverse = { λ s. record {
+      width = s.width;
+      vr = s.vr;
+      lockout = s.lockout;
+      wait = s.wait;
+      retransmit = s.retransmit;
+      farm_b = s.farm_b;
+    } };
 }
 
 impl Farm {
     ghost use Rattle.std.specs.Prelude.{◌<◌, IsTrue};
     ghost use Rattle.clcw.specs.Writing.{fits};
     ghost use Rattle.cop1.specs.Report.{report_of};
+    ghost use Rattle.cop1.specs.FarmFields.{IsFarm, farm_with};
     ghost use Rattle.cop1.specs.FarmRuns.{FlagsAgree};
     ghost use Rattle.cop1.specs.Farm.{IsWidth, new_farm, place_of, verdict_of, farm_step, AdArrives, BdArrives, UnlockArrives, SetVrArrives, BufferReleased};
 
@@ -122,44 +149,93 @@ impl Farm {
         })
     }
 
+    /// The receiver with these fields, which `fields` gave; 9 State where no receiver has them.
+    #[inline(always)]
+    pub fn restore(fields: FarmFields) -> Result<Farm, CopFault>
+        ensures farm { IfOk result (λ f. f ≡ farm_with fields) }
+        ensures kept { IsOk result ↔ IsFarm (farm_with fields) }
+        ensures fault { IfErr result (λ e. e ≡ CopFault.State) }
+    {
+        if fields.width == 0
+            || fields.width % 2 == 1
+            || fields.farm_b > 3
+            || (fields.wait && !fields.retransmit)
+        {
+            return Err(CopFault::State);
+        }
+        Ok(Farm {
+            width: fields.width,
+            vr: fields.vr,
+            lockout: fields.lockout,
+            wait: fields.wait,
+            retransmit: fields.retransmit,
+            farm_b: fields.farm_b,
+        })
+    }
+
+    /// The fields as they are.
+    #[inline(always)]
+    pub fn fields(&self) -> FarmFields
+        ensures fields { farm_with result ≡ self.now }
+        ensures holds { IsFarm self.now }
+    {
+        FarmFields {
+            width: self.width,
+            vr: self.vr,
+            lockout: self.lockout,
+            wait: self.wait,
+            retransmit: self.retransmit,
+            farm_b: self.farm_b,
+        }
+    }
+
     /// A Type-AD frame with the number `n` has come, and there is room on board for its data or not.
     /// Where the verdict is `Accepted` its data is handed on.
+    #[inline(always)]
     pub fn ad(&mut self, n: u8, buffer_free: bool) -> Verdict
         ensures verdict { result ≡ verdict_of self.old n buffer_free }
         ensures state { self.new ≡ farm_step self.old (AdArrives n buffer_free) }
+        ensures width { self.new.width ≡ self.old.width }
+        ensures farm_b { self.new.farm_b ≡ self.old.farm_b }
     {
-        let verdict = self.verdict(n, buffer_free);
-        match verdict {
-            Verdict::Accepted => {
-                self.vr = self.vr.wrapping_add(1);
-                self.retransmit = false;
-            }
-            Verdict::NoBuffer => {
+        if self.lockout {
+            return Verdict::Discarded;
+        }
+        match self.place(n) {
+            Place::Expected if self.wait => Verdict::Discarded,
+            Place::Expected if !buffer_free => {
                 self.retransmit = true;
                 self.wait = true;
+                Verdict::NoBuffer
             }
-            Verdict::Ahead => self.retransmit = true,
-            Verdict::Outside => self.lockout = true,
-            Verdict::Behind | Verdict::Discarded => {}
+            Place::Expected => {
+                self.vr = self.vr.wrapping_add(1);
+                self.retransmit = false;
+                Verdict::Accepted
+            }
+            Place::InPositiveWindow if self.wait => Verdict::Discarded,
+            Place::InPositiveWindow => {
+                self.retransmit = true;
+                Verdict::Ahead
+            }
+            Place::InNegativeWindow if self.wait => Verdict::Discarded,
+            Place::InNegativeWindow => Verdict::Behind,
+            Place::OutsideWindows => {
+                self.lockout = true;
+                Verdict::Outside
+            }
         }
-        verdict
     }
 
     /// What `ad` would answer; the receiver stays as it is.
     pub fn verdict(&self, n: u8, buffer_free: bool) -> Verdict
         ensures { result ≡ verdict_of self.now n buffer_free }
     {
-        match (self.state(), self.place(n)) {
-            (FarmMode::Lockout, _) => Verdict::Discarded,
-            (_, Place::OutsideWindows) => Verdict::Outside,
-            (FarmMode::Wait, _) => Verdict::Discarded,
-            (FarmMode::Open, Place::Expected) if buffer_free => Verdict::Accepted,
-            (FarmMode::Open, Place::Expected) => Verdict::NoBuffer,
-            (FarmMode::Open, Place::InPositiveWindow) => Verdict::Ahead,
-            (FarmMode::Open, Place::InNegativeWindow) => Verdict::Behind,
-        }
+        let mut farm = *self;
+        farm.ad(n, buffer_free)
     }
 
+    #[inline(always)]
     fn place(&self, n: u8) -> Place
         ensures { result ≡ place_of self.now n }
     {
@@ -242,6 +318,7 @@ impl Farm {
 
     /// The state, which the lockout flag and the wait flag tell. The wait flag comes with the
     /// retransmit flag.
+    #[inline(always)]
     pub fn state(&self) -> FarmMode
         ensures state { result ≡ self.now.state }
         ensures flags { FlagsAgree self.now }

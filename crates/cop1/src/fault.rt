@@ -2,7 +2,7 @@
 
 ghost use Rattle.std.specs.Prelude.{◌≡◌};
 
-/// Why a call of `Farm` or `Fop` was refused.
+/// Why a call of `Farm`, `Sender` or `Fop` was refused.
 #[derive(Clone, Copy, Debug, PartialEq, Eq)]
 pub enum CopFault {
     /// The receiver's window width is not an even number from 2 to 254.
@@ -21,12 +21,14 @@ pub enum CopFault {
     Busy = 7,
     /// The directive is not allowed in the sender's state.
     WrongState = 8,
+    /// No receiver or sender has the fields that were kept.
+    State = 9,
 }
 
 impl CopFault {
     ghost use Rattle.cop1.specs.Faults.{fault_number, fault_name};
 
-    /// The fault's number, 1 to 8.
+    /// The fault's number, 1 to 9.
     pub fn number(self) -> u8
         ensures { result ≡ fault_number self }
     {
@@ -46,6 +48,7 @@ impl CopFault {
             CopFault::NotOpen => "NotOpen",
             CopFault::Busy => "Busy",
             CopFault::WrongState => "WrongState",
+            CopFault::State => "State",
         }
     }
 }

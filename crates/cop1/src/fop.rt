@@ -3,11 +3,12 @@
 mod directing;
 mod pulling;
 mod reporting;
+mod settling;
 mod taking;
 mod ticking;
-mod words;
 
 use crate::fault::CopFault;
+use crate::sender::Sender;
 use circular_buffer::HeapCircularBuffer;
 pub use pulling::{Next, Pulled};
 use std::alloc::Global;
@@ -83,22 +84,14 @@ pub enum Control {
 }
 
 /// The sender of one virtual channel, FOP-1 (CCSDS 232.1-B-2, section 5, in this project's
-/// profile), over units of any type. Nothing but `new` and `bypass` takes memory.
+/// profile), over units of any type: the rules over numbers, and the queues. Nothing but `new` and
+/// `bypass` takes memory.
 #[derive(Drop)]
 pub struct Fop<U> {
-    state: FopMode,
-    vs: u8,
-    nn: u8,
+    sender: Sender,
     waiting: Option<U>,
     sent: HeapCircularBuffer<U>,
-    due: usize,
     bypass: VecDeque<U>,
-    window: u8,
-    limit: u8,
-    timer: u16,
-    ticks: Option<u16>,
-    count: u8,
-    control: Control,
 }
 
 impl<U> Model for Fop<U> {
@@ -135,35 +128,15 @@ impl<U: Drop> Fop<U> {
         ensures memory { new_fault width window limit timer ≡ None
             → IsOkUnless result CopFault.Memory }
     {
-        if width == 0 || width % 2 == 1 {
-            return Err(CopFault::Width);
-        }
-        if window == 0 || window > width / 2 {
-            return Err(CopFault::Window);
-        }
-        if limit == 0 {
-            return Err(CopFault::Limit);
-        }
-        if timer == 0 {
-            return Err(CopFault::Timer);
-        }
+        let sender = Sender::new(width, window, limit, timer)?;
         let Ok(sent) = HeapCircularBuffer::with_capacity(alloc, usize::from(width / 2)) else {
             return Err(CopFault::Memory);
         };
         Ok(Fop {
-            state: FopMode::S6,
-            vs: 0,
-            nn: 0,
+            sender,
             waiting: None,
             sent,
-            due: 0,
             bypass: VecDeque::new(alloc),
-            window,
-            limit,
-            timer,
-            ticks: None,
-            count: 1,
-            control: Control::Idle,
         })
     }
 
@@ -172,21 +145,21 @@ impl<U: Drop> Fop<U> {
         ensures state { result ≡ self.now.state }
         ensures holds { IsFop self.now }
     {
-        self.state
+        self.sender.fields().state
     }
 
     /// V(S), the number of the next unit to be sent for the first time.
     pub fn vs(&self) -> u8
         ensures { result ≡ self.now.vs }
     {
-        self.vs
+        self.sender.fields().vs
     }
 
     /// NN(R), the number that the receiver was last known to expect.
     pub fn nn(&self) -> u8
         ensures { result ≡ self.now.nn }
     {
-        self.nn
+        self.sender.fields().nn
     }
 
     #[tactic(auto, using(crate::proofs::Marks::marks))]

@@ -6,10 +6,12 @@ mod farm;
 mod fault;
 mod fop;
 mod laws;
+mod sender;
 #[cfg(test)]
 mod tests;
 
-pub use farm::{Farm, FarmMode, Verdict};
+pub use farm::{Farm, FarmFields, FarmMode, Verdict};
 pub use fault::CopFault;
 pub use fop::{Alert, Control, Directive, Fop, FopMode, Next, Pulled};
-pub use laws::flags_always_agree;
+pub use laws::{flags_always_agree, law_of_senders};
+pub use sender::{ReportAnswer, Sender, SenderFields, SenderNext};

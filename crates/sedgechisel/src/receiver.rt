@@ -1,16 +1,16 @@
 // The receiver, FARM-1, whose state the caller keeps.
 
-ghost use Rattle.std.specs.Prelude.{◌≡◌, ◌<◌, ◌↔◌, IsTrue, IfSome, IsSome};
+ghost use Rattle.std.specs.Prelude.{◌≡◌, ◌↔◌, IsTrue, IfSome, IsSome};
 ghost use Rattle.cop1.specs.Farm.{AdArrives, BdArrives, UnlockArrives, SetVrArrives, BufferReleased, verdict_of, new_farm};
 ghost use Rattle.octets.specs.Outcome.{map_ok};
 ghost use Rattle.sedgechisel.specs.Answers.{status_of, left_by};
 ghost use Rattle.sedgechisel.specs.ControlWords.{fields_of};
-ghost use Rattle.sedgechisel.specs.Receivers.{is_whole, farm_of, receiver_of, farm_told, farm_opened, farm_stepped, farm_report, answer_of, verdict_number, mode_number, flag_number, are_flags_whole};
+ghost use Rattle.sedgechisel.specs.Receivers.{is_whole, farm_of, receiver_of, farm_told, farm_opened, farm_stepped, farm_report, answer_of, verdict_number, mode_number, flag_number};
 
 use crate::control_word::{ControlWord, fields_from};
 use crate::numbers::DAMAGED;
 use clcw::ClcwFault;
-use cop1::{Farm, FarmMode, Verdict};
+use cop1::{Farm, FarmFields, FarmMode, Verdict};
 
 /// A receiver (CCSDS 232.1-B-2, 6.1): its window width, V(R), the flags, each 0 or 1, and FARM-B.
 #[repr(C)]
@@ -32,7 +32,7 @@ pub extern "C" fn sedge_farm_open(receiver: &mut Receiver, width: u8, vr: u8) ->
 {
     match Farm::new(width, vr) {
         Ok(farm) => {
-            *receiver = kept(&farm, width);
+            *receiver = kept(&farm);
             0
         }
         Err(fault) => fault.number(),
@@ -51,7 +51,19 @@ pub extern "C" fn sedge_farm_ad(receiver: &mut Receiver, n: u8, buffer_free: boo
     match told(receiver) {
         Some(mut farm) => {
             let verdict = farm.ad(n, buffer_free);
-            *receiver = kept(&farm, receiver.width);
+            match verdict {
+                Verdict::Accepted => {
+                    receiver.vr = farm.vr();
+                    receiver.retransmit = 0;
+                }
+                Verdict::Ahead => receiver.retransmit = 1,
+                Verdict::NoBuffer => {
+                    receiver.retransmit = 1;
+                    receiver.wait = 1;
+                }
+                Verdict::Outside => receiver.lockout = 1,
+                Verdict::Behind | Verdict::Discarded => {}
+            }
             number_of_verdict(verdict)
         }
         None => DAMAGED,
@@ -68,7 +80,7 @@ pub extern "C" fn sedge_farm_bd(receiver: &mut Receiver) -> u8
     match told(receiver) {
         Some(mut farm) => {
             farm.bd();
-            *receiver = kept(&farm, receiver.width);
+            *receiver = kept(&farm);
             0
         }
         None => DAMAGED,
@@ -85,7 +97,7 @@ pub extern "C" fn sedge_farm_unlock(receiver: &mut Receiver) -> u8
     match told(receiver) {
         Some(mut farm) => {
             farm.unlock();
-            *receiver = kept(&farm, receiver.width);
+            *receiver = kept(&farm);
             0
         }
         None => DAMAGED,
@@ -102,7 +114,7 @@ pub extern "C" fn sedge_farm_set_vr(receiver: &mut Receiver, vr: u8) -> u8
     match told(receiver) {
         Some(mut farm) => {
             farm.set_vr(vr);
-            *receiver = kept(&farm, receiver.width);
+            *receiver = kept(&farm);
             0
         }
         None => DAMAGED,
@@ -119,7 +131,7 @@ pub extern "C" fn sedge_farm_released(receiver: &mut Receiver) -> u8
     match told(receiver) {
         Some(mut farm) => {
             farm.released();
-            *receiver = kept(&farm, receiver.width);
+            *receiver = kept(&farm);
             0
         }
         None => DAMAGED,
@@ -156,6 +168,7 @@ pub extern "C" fn sedge_farm_state(receiver: &Receiver) -> u8
     }
 }
 
+#[inline(always)]
 fn number_of_verdict(verdict: Verdict) -> u8
     ensures { result ≡ verdict_number verdict }
 {
@@ -168,86 +181,48 @@ fn number_of_mode(mode: FarmMode) -> u8
     mode as u8
 }
 
+#[inline(always)]
 fn number_of_flag(flag: bool) -> u8
     ensures { result ≡ flag_number flag }
 {
     u8::from(flag)
 }
 
-// What C keeps of a receiver with this width.
-fn kept(farm: &Farm, width: u8) -> Receiver
-    requires { width ≡ farm.now.width }
+// What C keeps of a receiver.
+#[inline(always)]
+fn kept(farm: &Farm) -> Receiver
     ensures { result ≡ receiver_of farm.now }
 {
+    let state = farm.fields();
     Receiver {
-        width,
-        vr: farm.vr(),
-        lockout: number_of_flag(farm.lockout()),
-        wait: number_of_flag(farm.wait()),
-        retransmit: number_of_flag(farm.retransmit()),
-        farm_b: farm.farm_b(),
+        width: state.width,
+        vr: state.vr,
+        lockout: number_of_flag(state.lockout),
+        wait: number_of_flag(state.wait),
+        retransmit: number_of_flag(state.retransmit),
+        farm_b: state.farm_b,
     }
 }
 
 // The receiver that the fields tell, unless they are damaged.
+#[inline(always)]
 fn told(fields: &Receiver) -> Option<Farm>
     ensures whole { IsSome result ↔ IsTrue (is_whole fields.now) }
     ensures farm { IfSome result (λ f. f ≡ farm_of fields.now) }
 {
-    if !has_whole_flags(fields) {
+    if fields.lockout > 1 || fields.wait > 1 || fields.retransmit > 1 {
         return None;
     }
-    match Farm::new(fields.width, fields.vr) {
-        Ok(mut farm) => {
-            count_type_b(&mut farm, fields.farm_b);
-            set_flags(&mut farm, fields);
-            Some(farm)
-        }
+    let restored = Farm::restore(FarmFields {
+        width: fields.width,
+        vr: fields.vr,
+        lockout: fields.lockout == 1,
+        wait: fields.wait == 1,
+        retransmit: fields.retransmit == 1,
+        farm_b: fields.farm_b,
+    });
+    match restored {
+        Ok(farm) => Some(farm),
         Err(_) => None,
-    }
-}
-
-fn has_whole_flags(fields: &Receiver) -> bool
-    ensures { result ≡ are_flags_whole fields.now }
-{
-    fields.lockout < 2
-        && fields.wait < 2
-        && fields.retransmit < 2
-        && fields.farm_b < 4
-        && fields.wait <= fields.retransmit
-}
-
-// So many Type-B frames come to a new receiver.
-fn count_type_b(farm: &mut Farm, count: u8)
-    requires none { farm.old.farm_b ≡ 0 }
-    requires count { count < 4 }
-    ensures { farm.new ≡ record farm.old { farm_b = count } }
-{
-    if count > 0 {
-        farm.bd();
-    }
-    if count > 1 {
-        farm.bd();
-    }
-    if count > 2 {
-        farm.bd();
-    }
-}
-
-// The flags are brought about by what sets them: a frame without room, and a frame outside both windows.
-fn set_flags(begun: &mut Farm, fields: &Receiver)
-    requires start { begun.old
-        ≡ record (new_farm fields.now.width fields.now.vr) { farm_b = fields.now.farm_b } }
-    requires whole { IsTrue (is_whole fields.now) }
-    ensures { begun.new ≡ farm_of fields.now }
-{
-    if fields.retransmit == 1 {
-        begun.ad(fields.vr, false);
-        if fields.wait == 0 {
-            begun.released();
-        }
-    }
-    if fields.lockout == 1 {
-        begun.ad(fields.vr.wrapping_add(128), false);
     }
 }

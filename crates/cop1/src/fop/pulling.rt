@@ -1,6 +1,14 @@
 // What goes on the link next.
 
-use super::{Control, Fop, FopMode};
+ghost use Rattle.std.specs.Prelude.{◌≡◌, ◌≤◌, if◌then◌else◌, is_some, length, drop};
+ghost use Rattle.circular_buffer.specs.Buffer.{buffer};
+ghost use Rattle.cop1.specs.FopQueues.{first_bypass, units_after, waiting_after, next_at};
+ghost use Rattle.cop1.specs.SenderNext.{is_due};
+
+use super::{Control, Fop};
+use crate::sender::{Sender, SenderNext};
+use circular_buffer::HeapCircularBuffer;
+use std::collections::VecDeque;
 use tc_frame::Command;
 
 /// What goes on the link next.
@@ -31,9 +39,7 @@ pub enum Next<U> {
 }
 
 impl<U: Drop> Fop<U> {
-    ghost use Rattle.std.specs.Prelude.{◌≡◌, ◌≢◌, ◌<◌, None, length, slice_get, option_copied};
-    ghost use Rattle.cop1.specs.declared.fop.FopMode.{FopMode};
-    ghost use Rattle.cop1.specs.FopPull.{next_sequence, next_waiting, oldest_marked, after_send_first, count_behind};
+    ghost use Rattle.std.specs.Prelude.{◌≡◌, slice_get, option_copied};
     ghost use Rattle.cop1.specs.FopNext.{units_of, seen_at, pulled_view, IsPlaced};
     ghost use Rattle.std.specs.Borrow.{sem};
     ghost use Rattle.cop1.specs.FopLends.{EndsAs};
@@ -47,75 +53,13 @@ impl<U: Drop> Fop<U> {
         ensures answer { seen_at (units_of self.new.sent) result ≡ (fop_step self.old Pull).answer }
         ensures placed { IsPlaced (units_of self.new.sent) result }
     {
-        if let Control::Due(command) = self.control {
-            self.control = Control::Sent(command);
-            self.restart();
-            return Next::Control(command);
-        }
-        if let Some(unit) = self.bypass.pop_front() {
+        if let Some(unit) = first_bypass(&self.sender, &mut self.bypass) {
             return Next::Bypass(unit);
         }
-        match self.state {
-            FopMode::S1 | FopMode::S2 => self.next_sequence(),
-            _ => Next::Nothing,
-        }
-    }
-
-    fn next_sequence(&mut self) -> Next<U>
-        requires { self.old.state ≢ FopMode.S6 }
-        ensures after { self.new ≡ (next_sequence self.old).after }
-        ensures answer { seen_at (units_of self.new.sent) result ≡ (next_sequence self.old).answer }
-        ensures placed { IsPlaced (units_of self.new.sent) result }
-    {
-        if self.due == 0 {
-            return self.next_waiting();
-        }
-        let place = self.sent.len() - self.due;
-        let number = self.nn.wrapping_add(place as u8);
-        self.due -= 1;
-        self.restart();
-        Next::Sequence(number, place)
-    }
-
-    fn next_waiting(&mut self) -> Next<U>
-        requires active { self.old.state ≢ FopMode.S6 }
-        requires unmarked { oldest_marked 0 self.old.sent ≡ None }
-        ensures after { self.new ≡ (next_waiting self.old).after }
-        ensures answer { seen_at (units_of self.new.sent) result ≡ (next_waiting self.old).answer }
-        ensures placed { IsPlaced (units_of self.new.sent) result }
-    {
-        if self.vs.wrapping_sub(self.nn) >= self.window {
-            return Next::Nothing;
-        }
-        match self.waiting.take() {
-            Some(unit) => {
-                let place = self.sent.len();
-                let number = self.vs;
-                self.send_first(unit);
-                Next::Sequence(number, place)
-            }
-            None => Next::Nothing,
-        }
-    }
-
-    // Puts a unit at the end of the sent queue, which has room for it.
-    fn send_first(&mut self, unit: U)
-        requires active { self.old.state ≢ FopMode.S6 }
-        requires unmarked { oldest_marked 0 self.old.sent ≡ None }
-        requires room { length self.old.sent < self.old.room }
-        ensures { self.new ≡ after_send_first self.old unit }
-    {
-        self.count = self.count_behind();
-        let _ = self.sent.push_back(unit);
-        self.waiting = None;
-        self.vs = self.vs.wrapping_add(1);
-        self.restart();
-    }
-
-    fn count_behind(&self) -> u8
-        ensures { result ≡ count_behind self.now.sent self.now.count }
-    {
-        if self.sent.is_empty() { 1 } else { self.count }
+        let next = self.sender.next();
+        let nn = self.sender.fields().nn;
+        take_first(next, &mut self.waiting, &mut self.sent);
+        next_at(nn, next)
     }
 
     #[tactic(auto, using(crate::proofs::Marks::marks))]
@@ -149,6 +93,45 @@ impl<U: Drop> Fop<U> {
                 number,
                 self.sent.get(place).unwrap(),
             ),
+        }
+    }
+}
+
+// The oldest bypass unit, unless a control command is due.
+fn first_bypass<U: Drop>(sender: &Sender, bypass: &mut VecDeque<U>) -> Option<U>
+    ensures unit { result ≡ first_bypass (is_due sender.now.control) bypass.old.items }
+    ensures bypass { bypass.new.items
+        ≡ drop (if is_some result then 1 else 0) bypass.old.items }
+{
+    match sender.fields().control {
+        Control::Due(_) => None,
+        _ => bypass.pop_front(),
+    }
+}
+
+// The unit that waits goes to the sent queue, where it goes on the link.
+fn take_first<U: Drop>(next: SenderNext, waiting: &mut Option<U>, sent: &mut HeapCircularBuffer<U>)
+    requires { length (units_after next waiting.old sent.old.items) ≤ sent.old.capacity }
+    ensures waiting { waiting.new ≡ waiting_after next waiting.old }
+    ensures sent { sent.new
+        ≡ buffer (units_after next waiting.old sent.old.items) sent.old.capacity }
+{
+    if let SenderNext::First(_) = next {
+        if let Some(unit) = waiting.take() {
+            let _ = sent.push_back(unit);
+        }
+    }
+}
+
+// What goes on the link, a unit by its place in the sent queue.
+fn next_at<U>(nn: u8, next: SenderNext) -> Next<U>
+    ensures { result ≡ next_at nn next }
+{
+    match next {
+        SenderNext::Nothing => Next::Nothing,
+        SenderNext::Control(command) => Next::Control(command),
+        SenderNext::First(number) | SenderNext::Again(number) => {
+            Next::Sequence(number, usize::from(number.wrapping_sub(nn)))
         }
     }
 }

@@ -1,6 +1,6 @@
 // How units come to the sender.
 
-use super::{Fop, FopMode};
+use super::Fop;
 use crate::fault::CopFault;
 
 impl<U: Drop> Fop<U> {
@@ -13,14 +13,13 @@ impl<U: Drop> Fop<U> {
         ensures after { self.new ≡ (fop_step self.old (Submit unit)).after }
         ensures answer { result ≡ (fop_step self.old (Submit unit)).answer }
     {
-        if self.state == FopMode::S6 {
-            return Err((CopFault::NotOpen, unit));
+        match self.sender.submit() {
+            Ok(()) => {
+                self.waiting = Some(unit);
+                Ok(())
+            }
+            Err(fault) => Err((fault, unit)),
         }
-        if self.waiting.is_some() {
-            return Err((CopFault::Busy, unit));
-        }
-        self.waiting = Some(unit);
-        Ok(())
     }
 
     /// A unit to be sent past the sequence control, in any state. It comes back with the fault:

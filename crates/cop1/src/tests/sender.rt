@@ -1,11 +1,14 @@
 // Runs of the sender.
 
-use crate::{Alert, CopFault, Directive, Fop, FopMode, Pulled};
+use crate::{
+    Alert, Control, CopFault, Directive, Fop, FopMode, Pulled, Sender, SenderFields, SenderNext,
+};
 use bitflags::Flags;
 use clcw::{Clcw, ClcwFlags};
 use std::alloc::Global;
 use std::process::Abort;
 use std::test::Fail;
+use tc_frame::Command;
 
 const LOCKOUT: u8 = 0x20;
 
@@ -35,6 +38,20 @@ fn report(flags: u8, value: u8) -> Clcw {
     }
 }
 
+// A sender of units, and beside it the rules alone, restored after each call.
+#[derive(Drop)]
+struct Both {
+    fop: Fop<u8>,
+    sender: Sender,
+}
+
+fn new_both(alloc: Global, limit: u8, timer: u16) -> Result<Both, CopFault> {
+    Ok(Both {
+        sender: Sender::new(254, 127, limit, timer)?,
+        fop: Fop::new(alloc, 254, 127, limit, timer)?,
+    })
+}
+
 fn pulled(fop: &mut Fop<u8>) -> Option<(u8, u8)> {
     match fop.pull() {
         Pulled::Sequence(number, unit) => Some((number, *unit)),
@@ -42,17 +59,69 @@ fn pulled(fop: &mut Fop<u8>) -> Option<(u8, u8)> {
     }
 }
 
-fn run(rt: &impl Abort, fop: &mut Fop<u8>, calls: &[Call]) {
-    for call in calls {
-        match call {
-            Call::Submit(unit, answer) => assert_eq!(rt; fop.submit(*unit), *answer),
-            Call::Direct(directive, answer) => assert_eq!(rt; fop.directive(*directive), *answer),
-            Call::Report(flags, value, alert) => {
-                assert_eq!(rt; fop.clcw(&report(*flags, *value)), *alert)
-            }
-            Call::Tick(alert) => assert_eq!(rt; fop.tick(), *alert),
-            Call::Pull(answer) => assert_eq!(rt; pulled(fop), *answer),
+fn number_of(next: SenderNext) -> Option<u8> {
+    match next {
+        SenderNext::First(number) | SenderNext::Again(number) => Some(number),
+        _ => None,
+    }
+}
+
+fn answer_of_fop(rt: &impl Abort, fop: &mut Fop<u8>, call: Call) {
+    match call {
+        Call::Submit(unit, answer) => assert_eq!(rt; fop.submit(unit), answer),
+        Call::Direct(directive, answer) => assert_eq!(rt; fop.directive(directive), answer),
+        Call::Report(flags, value, alert) => {
+            assert_eq!(rt; fop.clcw(&report(flags, value)), alert)
         }
+        Call::Tick(alert) => assert_eq!(rt; fop.tick(), alert),
+        Call::Pull(answer) => assert_eq!(rt; pulled(fop), answer),
+    }
+}
+
+fn answer_of_sender(rt: &impl Abort, sender: &mut Sender, call: Call) {
+    match call {
+        Call::Submit(_, answer) => match answer {
+            Ok(()) => assert_eq!(rt; sender.submit(), Ok(())),
+            Err((fault, _)) => assert_eq!(rt; sender.submit(), Err(fault)),
+        },
+        Call::Direct(directive, answer) => assert_eq!(rt; sender.directive(directive), answer),
+        Call::Report(flags, value, alert) => {
+            assert_eq!(rt; sender.report(&report(flags, value)).alert, alert)
+        }
+        Call::Tick(alert) => assert_eq!(rt; sender.tick(), alert),
+        Call::Pull(answer) => match answer {
+            Some((number, _)) => assert_eq!(rt; number_of(sender.next()), Some(number)),
+            None => assert_eq!(rt; number_of(sender.next()), None),
+        },
+    }
+}
+
+fn run(rt: &impl Abort, both: &mut Both, calls: &[Call]) {
+    for call in calls {
+        answer_of_fop(rt, &mut both.fop, *call);
+        answer_of_sender(rt, &mut both.sender, *call);
+        let kept = both.sender.fields();
+        if let Ok(sender) = Sender::restore(kept) {
+            both.sender = sender;
+        }
+        assert_eq!(rt; Sender::restore(kept).err(), None);
+        assert_eq!(rt; both.sender.fields(), kept);
+        assert_eq!(rt;
+            (
+                kept.state,
+                kept.vs,
+                kept.nn,
+                kept.waiting,
+                usize::from(kept.sent)
+            ),
+            (
+                both.fop.state(),
+                both.fop.vs(),
+                both.fop.nn(),
+                both.fop.waiting(),
+                both.fop.sent()
+            )
+        );
     }
 }
 
@@ -78,20 +147,49 @@ fn a_window_is_at_most_half_the_width(rt: HostRuntime) {
     }
 }
 
-// As many ticks as a timer of 10, started three times, does not outlast.
-fn has_no_timer(rt: &impl Abort, fop: &mut Fop<u8>) {
-    for _ in 0..40 {
-        assert_eq!(rt; fop.tick(), None);
+// A sender that has sent a unit keeps to these numbers; none has those that differ.
+#[test]
+fn no_sender_has_other_numbers(rt: HostRuntime) -> Result<(), Fail> {
+    let both = in_state(&rt, rt.alloc(), FopMode::S1)?;
+    let kept = both.sender.fields();
+    assert_eq!(rt; (kept.room, kept.sent, kept.ticks), (127, 1, Some(10)));
+    for fields in [
+        SenderFields { sent: 2, ..kept },
+        SenderFields { due: 2, ..kept },
+        SenderFields { room: 128, ..kept },
+        SenderFields { window: 0, ..kept },
+        SenderFields {
+            ticks: Some(0),
+            ..kept
+        },
+        SenderFields {
+            state: FopMode::S6,
+            ..kept
+        },
+        SenderFields {
+            control: Control::Due(Command::Unlock),
+            ..kept
+        },
+    ] {
+        assert_eq!(rt; Sender::restore(fields).err(), Some(CopFault::State));
     }
-    assert_eq!(rt; fop.state(), FopMode::S1);
+    Ok(())
+}
+
+// As many ticks as a timer of 10, started three times, does not outlast.
+fn has_no_timer(rt: &impl Abort, both: &mut Both) {
+    for _ in 0..40 {
+        run(rt, both, &[Call::Tick(None)]);
+    }
+    assert_eq!(rt; both.fop.state(), FopMode::S1);
 }
 
 #[test]
 fn a_sender_counts_past_255(rt: HostRuntime) -> Result<(), Fail> {
-    let mut fop = Fop::new(rt.alloc(), 254, 127, 3, 10)?;
+    let mut both = new_both(rt.alloc(), 3, 10)?;
     run(
         &rt,
-        &mut fop,
+        &mut both,
         &[
             Call::Submit(10, Err((CopFault::NotOpen, 10))),
             Call::Direct(Directive::SetVs(255), Ok(None)),
@@ -109,10 +207,15 @@ fn a_sender_counts_past_255(rt: HostRuntime) -> Result<(), Fail> {
         ],
     );
     assert_eq!(rt;
-        (fop.state(), fop.sent(), fop.nn(), fop.vs()),
+        (
+            both.fop.state(),
+            both.fop.sent(),
+            both.fop.nn(),
+            both.fop.vs()
+        ),
         (FopMode::S1, 0, 0, 0)
     );
-    has_no_timer(&rt, &mut fop);
+    has_no_timer(&rt, &mut both);
     Ok(())
 }
 
@@ -124,28 +227,28 @@ fn a_report_alerts(rt: HostRuntime) -> Result<(), Fail> {
         (WAIT, 1, Alert::Clcw),
         (RETRANSMIT, 1, Alert::Synch),
     ] {
-        let mut fop = Fop::new(rt.alloc(), 254, 127, 3, 10)?;
-        run(&rt, &mut fop, &ONE_SENT);
-        run(&rt, &mut fop, &[Call::Report(flags, value, Some(alert))]);
-        assert_eq!(rt; fop.state(), FopMode::S6);
+        let mut both = new_both(rt.alloc(), 3, 10)?;
+        run(&rt, &mut both, &ONE_SENT);
+        run(&rt, &mut both, &[Call::Report(flags, value, Some(alert))]);
+        assert_eq!(rt; both.fop.state(), FopMode::S6);
     }
     Ok(())
 }
 
 #[test]
 fn a_timer_ends(rt: HostRuntime) -> Result<(), Fail> {
-    let mut fop = Fop::new(rt.alloc(), 254, 127, 1, 2)?;
-    run(&rt, &mut fop, &ONE_SENT);
+    let mut both = new_both(rt.alloc(), 1, 2)?;
+    run(&rt, &mut both, &ONE_SENT);
     run(
         &rt,
-        &mut fop,
+        &mut both,
         &[Call::Tick(None), Call::Tick(Some(Alert::Timer))],
     );
-    let mut fop = Fop::new(rt.alloc(), 254, 127, 2, 2)?;
-    run(&rt, &mut fop, &ONE_SENT);
+    let mut both = new_both(rt.alloc(), 2, 2)?;
+    run(&rt, &mut both, &ONE_SENT);
     run(
         &rt,
-        &mut fop,
+        &mut both,
         &[
             Call::Tick(None),
             Call::Tick(None),
@@ -154,7 +257,7 @@ fn a_timer_ends(rt: HostRuntime) -> Result<(), Fail> {
             Call::Tick(Some(Alert::Timer)),
         ],
     );
-    assert_eq!(rt; fop.state(), FopMode::S6);
+    assert_eq!(rt; both.fop.state(), FopMode::S6);
     Ok(())
 }
 
@@ -175,18 +278,18 @@ const TO_S5: [Call; 2] = [
     Call::Direct(Directive::InitUnlock, Ok(None)),
 ];
 
-fn in_state(rt: &impl Abort, alloc: Global, state: FopMode) -> Result<Fop<u8>, CopFault> {
-    let mut fop = Fop::new(alloc, 254, 127, 3, 10)?;
-    run(rt, &mut fop, &ONE_SENT);
+fn in_state(rt: &impl Abort, alloc: Global, state: FopMode) -> Result<Both, CopFault> {
+    let mut both = new_both(alloc, 3, 10)?;
+    run(rt, &mut both, &ONE_SENT);
     match state {
         FopMode::S1 => {}
-        FopMode::S2 => run(rt, &mut fop, &TO_S2),
-        FopMode::S3 => run(rt, &mut fop, &TO_S3),
-        FopMode::S4 => run(rt, &mut fop, &TO_S4),
-        FopMode::S5 => run(rt, &mut fop, &TO_S5),
-        FopMode::S6 => run(rt, &mut fop, &TO_S6),
+        FopMode::S2 => run(rt, &mut both, &TO_S2),
+        FopMode::S3 => run(rt, &mut both, &TO_S3),
+        FopMode::S4 => run(rt, &mut both, &TO_S4),
+        FopMode::S5 => run(rt, &mut both, &TO_S5),
+        FopMode::S6 => run(rt, &mut both, &TO_S6),
     }
-    Ok(fop)
+    Ok(both)
 }
 
 fn expected(directive: Directive, initial: bool) -> Result<Option<Alert>, CopFault> {
@@ -220,10 +323,10 @@ fn a_directive_has_its_states(rt: HostRuntime) -> Result<(), Fail> {
             Directive::SetLimit(1),
             Directive::SetTimer(1),
         ] {
-            let mut fop = in_state(&rt, rt.alloc(), state)?;
-            assert_eq!(rt; fop.state(), state);
+            let mut both = in_state(&rt, rt.alloc(), state)?;
+            assert_eq!(rt; both.fop.state(), state);
             let answer = expected(directive, state == FopMode::S6);
-            assert_eq!(rt; fop.directive(directive), answer);
+            run(&rt, &mut both, &[Call::Direct(directive, answer)]);
         }
     }
     Ok(())
@@ -258,13 +361,13 @@ fn a_sender_does_without_memory(rt: HostRuntime) -> Result<(), Fail> {
 
 #[test]
 fn a_sender_that_is_made_takes_no_memory(rt: HostRuntime) {
-    if let Ok(mut fop) = Fop::new(rt.alloc(), 254, 127, 3, 10) {
+    if let Ok(mut both) = new_both(rt.alloc(), 3, 10) {
         let _ = eprintln!(rt; "set up");
-        run(&rt, &mut fop, &ONE_SENT);
-        run(&rt, &mut fop, &TO_S2);
+        run(&rt, &mut both, &ONE_SENT);
+        run(&rt, &mut both, &TO_S2);
         run(
             &rt,
-            &mut fop,
+            &mut both,
             &[
                 Call::Pull(Some((0, 10))),
                 Call::Report(0, 1, None),
@@ -272,6 +375,6 @@ fn a_sender_that_is_made_takes_no_memory(rt: HostRuntime) {
                 Call::Submit(20, Ok(())),
             ],
         );
-        run(&rt, &mut fop, &TO_S4);
+        run(&rt, &mut both, &TO_S4);
     }
 }

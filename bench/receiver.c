@@ -1,0 +1,89 @@
+/* Measures sedge_farm_ad beside the same state table in plain C, each in turn: 10^7 calls with numbers in sequence, and
+ * 10^7 with random ones, after which a locked receiver is unlocked. Prints a row for each, and fails where the two do not
+ * answer the same, or where the library takes more than 1.3 times as long. */
+#define _POSIX_C_SOURCE 199309L
+#include "receiver.h"
+#include <stdint.h>
+#include <stdio.h>
+#include <stdlib.h>
+#include <string.h>
+#include <time.h>
+
+enum { CALLS = 10000000, TURNS = 15 };
+
+#define MOST 1.3
+
+static uint8_t numbers[CALLS];
+
+/* What a run answered, and the processor's seconds. */
+struct run {
+    uint64_t sum;
+    double seconds;
+};
+
+static double seconds_now(void)
+{
+    struct timespec now;
+    clock_gettime(CLOCK_PROCESS_CPUTIME_ID, &now);
+    return (double)now.tv_sec + (double)now.tv_nsec * 1e-9;
+}
+
+typedef uint8_t ad_call(struct sedge_farm *, uint8_t, bool);
+
+typedef uint8_t unlock_call(struct sedge_farm *);
+
+/* The calls of both are made through pointers, so that neither is inlined. */
+static struct run run_of(ad_call *volatile ad, unlock_call *volatile unlock)
+{
+    struct sedge_farm farm;
+    struct run run = {0, 0};
+    uint64_t sum = 0;
+    ad_call *call = ad;
+    sedge_farm_open(&farm, 254, 0);
+    double start = seconds_now();
+    for (int i = 0; i < CALLS; i++) {
+        uint8_t verdict = call(&farm, numbers[i], true);
+        sum = sum * 31 + verdict;
+        if (verdict == SEDGE_OUTSIDE)
+            unlock(&farm);
+    }
+    run.seconds = seconds_now() - start;
+    run.sum = sum * 31 + farm.vr + farm.farm_b;
+    return run;
+}
+
+/* The least seconds of each over the turns; 1 where their answers differ, or where the ratio is too high. */
+static int row(const char *what)
+{
+    double library = 1e9, plain = 1e9;
+    for (int turn = 0; turn < TURNS; turn++) {
+        struct run one = run_of(sedge_farm_ad, sedge_farm_unlock);
+        struct run other = run_of(plain_farm_ad, plain_farm_unlock);
+        if (one.sum != other.sum) {
+            fprintf(stderr, "%s: the answers differ\n", what);
+            return 1;
+        }
+        library = one.seconds < library ? one.seconds : library;
+        plain = other.seconds < plain ? other.seconds : plain;
+    }
+    printf("| %s | %.1f | %.1f | %.2f |\n", what, plain * 1e9 / CALLS, library * 1e9 / CALLS, library / plain);
+    return library > MOST * plain;
+}
+
+int main(void)
+{
+    int failed;
+    uint32_t state = 1;
+    puts("| 10^7 calls | plain C, ns a call | sedge_farm_ad, ns a call | ratio |\n|---|---|---|---|");
+    for (int i = 0; i < CALLS; i++)
+        numbers[i] = (uint8_t)i;
+    failed = row("numbers in sequence");
+    for (int i = 0; i < CALLS; i++) {
+        state ^= state << 13;
+        state ^= state >> 17;
+        state ^= state << 5;
+        numbers[i] = (uint8_t)(state >> 24);
+    }
+    failed |= row("random numbers");
+    return failed;
+}

@@ -1,0 +1,120 @@
+-- What a report does at the sender, state by state and rule by rule (this project's profile of
+-- CCSDS 232.1-B-2, table 5-1).
+use Rattle.std.specs.Prelude.{ℕ, Bool, true, not, ◌&&◌, ◌==◌, nat_lt, if◌then◌else◌, Option, Some, None}
+use Rattle.clcw.specs.declared.word.Clcw.{Clcw}
+use Rattle.cop1.specs.Modulo.{ahead_by}
+use Rattle.cop1.specs.declared.fop.FopMode.{FopMode}
+use Rattle.cop1.specs.declared.fop.FopMode.TheVariants.{S1, S2, S3, S4, S5, S6}
+use Rattle.cop1.specs.declared.fop.Alert.{Alert}
+use Rattle.cop1.specs.declared.fop.Alert.TheVariants.{Lockout, NnR, Clcw as ClcwAlert, Synch, Limit}
+use Rattle.cop1.specs.declared.fop.Control.TheVariants.{Idle}
+use Rattle.cop1.specs.declared.sender.SenderFields.{SenderFields}
+use Rattle.cop1.specs.declared.sender.reporting.ReportAnswer.{ReportAnswer}
+use Rattle.cop1.specs.FopReport.{locks, waits, asks}
+use Rattle.cop1.specs.SenderWords.{SenderOutcome, is_outside, after_acknowledge, after_repeat, alerts, goes_on, after_gone}
+
+-- the answer to a report
+abbrev pub report_answer : SenderOutcome (Option Alert) → ReportAnswer
+report_answer o = record { released = o.gone; alert = o.answer }
+
+-- ---- S5: a report without flags whose value is V(S) confirms the control command
+
+abbrev pub confirms : SenderFields → Clcw → Bool
+confirms s c = not (locks c) && not (waits c) && not (asks c) && (c.value == s.vs)
+
+abbrev pub report_in_S5 : SenderFields → Clcw → SenderOutcome (Option Alert)
+report_in_S5 s c =
+    if confirms s c then goes_on (record s { state = S1; ticks = None; control = Idle })
+    else goes_on s
+
+-- ---- S4, the first that applies
+
+abbrev pub report_in_S4 : SenderFields → Clcw → SenderOutcome (Option Alert)
+report_in_S4 s c =
+    if locks c then alerts s Lockout
+    else (if not (c.value == s.vs) then alerts s NnR
+    else (if asks c then alerts s Synch
+    else (if waits c then alerts s ClcwAlert
+    else goes_on (record s { state = S1; ticks = None }))))
+
+-- ---- S1 to S3: eight rules, of which the first that applies decides
+
+-- rule 5: nothing is acknowledged, and nothing asked for
+abbrev pub nothing_new : SenderFields → FopMode → SenderOutcome (Option Alert)
+nothing_new s S1 = goes_on s
+nothing_new s S2 = alerts s Synch
+nothing_new s S3 = alerts s Synch
+nothing_new s S4 = goes_on s
+nothing_new s S5 = goes_on s
+nothing_new s S6 = goes_on s
+
+-- the timer once units are acknowledged
+abbrev pub ticks_for : SenderFields → Option ℕ
+ticks_for s = if s.sent == 0 then None else Some s.timer
+
+abbrev pub after_move_on : SenderFields → SenderFields
+after_move_on s = record s { state = S1; count = 1; ticks = ticks_for s }
+
+-- rule 6: units are acknowledged, and nothing asked for
+abbrev pub move_on : SenderFields → ℕ → SenderOutcome (Option Alert)
+move_on s v = after_gone (ahead_by v s.nn) (goes_on (after_move_on (after_acknowledge s v)))
+
+-- the sender with the units before a number acknowledged, counting anew
+abbrev pub after_new_value : SenderFields → ℕ → SenderFields
+after_new_value s v = record (after_acknowledge s v) { count = 1 }
+
+-- units are asked for again, which leads to a sender unless they may be sent once alone, or the
+-- receiver waits
+abbrev pub ask_again : SenderFields → Bool → SenderFields → SenderOutcome (Option Alert)
+ask_again s wait next =
+    if s.limit == 1 then alerts s Limit
+    else (if wait then goes_on (record s { state = S3 })
+    else goes_on next)
+
+-- S2, with all that was sent repeated or not
+abbrev pub retransmits : SenderFields → Bool → SenderFields
+retransmits s repeats = record (if repeats then after_repeat s else s) { state = S2 }
+
+abbrev pub goes_back : SenderFields → Bool → SenderOutcome (Option Alert)
+goes_back s wait = ask_again s wait (retransmits s true)
+
+-- rule 7: units are acknowledged, and the others asked for
+abbrev pub ask_for_others : SenderFields → ℕ → Bool → SenderOutcome (Option Alert)
+ask_for_others s v wait = after_gone (ahead_by v s.nn) (goes_back (after_new_value s v) wait)
+
+abbrev pub goes_back_again : SenderFields → FopMode → SenderFields
+goes_back_again s S1 = retransmits s (nat_lt s.count s.limit)
+goes_back_again s S2 = s
+goes_back_again s S3 = retransmits s (nat_lt s.count s.limit)
+goes_back_again s S4 = s
+goes_back_again s S5 = s
+goes_back_again s S6 = s
+
+-- rule 8: nothing is acknowledged, and all that was sent asked for
+abbrev pub ask_for_all : SenderFields → Bool → SenderOutcome (Option Alert)
+ask_for_all s wait = ask_again s wait (goes_back_again s s.state)
+
+-- rules 1 to 8, a line each
+abbrev pub report_while_active : SenderFields → Clcw → SenderOutcome (Option Alert)
+report_while_active s c =
+    if locks c then alerts s Lockout
+    else (if is_outside s c.value then alerts s NnR
+    else (if not (asks c) && waits c then alerts s ClcwAlert
+    else (if asks c && (c.value == s.vs) then alerts s Synch
+    else (if not (asks c) && (c.value == s.nn) then nothing_new s s.state
+    else (if not (asks c) then move_on s c.value
+    else (if not (c.value == s.nn) then ask_for_others s c.value (waits c)
+    else ask_for_all s (waits c)))))))
+
+-- ---- all states
+
+abbrev pub report_in : SenderFields → Clcw → FopMode → SenderOutcome (Option Alert)
+report_in s c S1 = report_while_active s c
+report_in s c S2 = report_while_active s c
+report_in s c S3 = report_while_active s c
+report_in s c S4 = report_in_S4 s c
+report_in s c S5 = report_in_S5 s c
+report_in s c S6 = goes_on s
+
+abbrev pub report_step : SenderFields → Clcw → SenderOutcome (Option Alert)
+report_step s c = report_in s c s.state

@@ -1,0 +1,115 @@
+// The sender's rules, FOP-1, over numbers alone.
+
+mod directing;
+mod reporting;
+mod restoring;
+mod sending;
+mod taking;
+mod ticking;
+mod words;
+
+use crate::fault::CopFault;
+use crate::fop::{Control, FopMode};
+pub use reporting::ReportAnswer;
+pub use sending::SenderNext;
+use std::marker::Model;
+
+/// The numbers of a sender (CCSDS 232.1-B-2, 5.1), which a node may keep and go on from.
+#[derive(Clone, Copy, Debug, PartialEq, Eq)]
+pub struct SenderFields {
+    /// Half the receiver's window width, 1 to 127: the most units that are sent and not acknowledged.
+    pub room: u8,
+    /// The state.
+    pub state: FopMode,
+    /// V(S), the number of the next unit to be sent for the first time.
+    pub vs: u8,
+    /// NN(R), the number that the receiver was last known to expect.
+    pub nn: u8,
+    /// Whether a unit waits to be sent for the first time.
+    pub waiting: bool,
+    /// How many units are sent and not acknowledged: in S1 to S5 those from NN(R) to V(S) - 1.
+    pub sent: u8,
+    /// How many of the last of these are due to be sent again.
+    pub due: u8,
+    /// The window K, 1 to half the receiver's window width.
+    pub window: u8,
+    /// The transmission limit, 1 to 255.
+    pub limit: u8,
+    /// The timer's value, 1 to 65,535 ticks.
+    pub timer: u16,
+    /// The ticks that are left, at least 1, where the timer runs.
+    pub ticks: Option<u16>,
+    /// The transmission count, 1 to 255.
+    pub count: u8,
+    /// The control command of S5.
+    pub control: Control,
+}
+
+/// The rules of the sender of one virtual channel, FOP-1 (CCSDS 232.1-B-2, section 5, in this
+/// project's profile), for units that its caller keeps: one that waits, and those that are sent, under
+/// their numbers. No call takes memory.
+#[derive(Clone, Copy)]
+pub struct Sender {
+    fields: SenderFields,
+}
+
+impl Model for Sender {
+    ghost use Rattle.cop1.specs.declared.sender.SenderFields.{SenderFields};
+
+    ghost Value = { SenderFields };
+
+    ghost use Rattle.cop1.specs.SenderState.{IsSender};
+
+    ghost view = { λ s. s.fields };
+
+    ghost invariant = { λ s. IsSender s.fields };
+
+    ghost inverse = { λ fields. record { fields = fields } };
+}
+
+impl Sender {
+    ghost use Rattle.std.specs.Prelude.{◌≡◌, IfSome, Ok, Err, None};
+    ghost use Rattle.cop1.specs.SenderState.{new_sender};
+    ghost use Rattle.cop1.specs.FopNew.{new_fault};
+
+    /// A sender in its state S6 with V(S) and NN(R) 0, to a receiver of this window width, with the
+    /// window `window` (K), the transmission limit and the timer's value in ticks. The first that
+    /// applies: 1 Width (not even, 2 to 254), 2 Window (not 1 to half the width), 3 Limit (0),
+    /// 4 Timer (0).
+    pub fn new(width: u8, window: u8, limit: u8, timer: u16) -> Result<Sender, CopFault>
+        ensures made { new_fault width window limit timer ≡ None
+            → result ≡ Ok (new_sender width window limit timer) }
+        ensures refused { IfSome (new_fault width window limit timer)
+            (λ fault. result ≡ Err fault) }
+    {
+        if width == 0 || width % 2 == 1 {
+            return Err(CopFault::Width);
+        }
+        if window == 0 || window > width / 2 {
+            return Err(CopFault::Window);
+        }
+        if limit == 0 {
+            return Err(CopFault::Limit);
+        }
+        if timer == 0 {
+            return Err(CopFault::Timer);
+        }
+        Ok(Sender {
+            fields: SenderFields {
+                room: width / 2,
+                state: FopMode::S6,
+                vs: 0,
+                nn: 0,
+                waiting: false,
+                sent: 0,
+                due: 0,
+                window,
+                limit,
+                timer,
+                ticks: None,
+                count: 1,
+                control: Control::Idle,
+            },
+        })
+    }
+}

@@ -1,0 +1,107 @@
+// What a directive does at the sender.
+
+use super::Sender;
+use crate::fault::CopFault;
+use crate::fop::{Alert, Control, Directive, FopMode};
+use tc_frame::Command;
+
+impl Sender {
+    ghost use Rattle.std.specs.Prelude.{◌≡◌, ◌≢◌};
+    ghost use Rattle.cop1.specs.declared.fop.FopMode.{FopMode};
+    ghost use Rattle.cop1.specs.declared.fop.Control.{Control};
+    ghost use Rattle.cop1.specs.declared.fop.Directive.{Directive};
+    ghost use Rattle.cop1.specs.SenderDirective.{after_begin};
+    ghost use Rattle.cop1.specs.SenderStep.{sender_step, Direct};
+
+    /// Follows a directive; the alert is that of `Terminate`, and all units are let go of. 2 Window,
+    /// 3 Limit, 4 Timer for a value out of its range, and 8 WrongState: an initiation and `SetVs` are
+    /// followed in S6 alone, `Terminate` in S1 to S5.
+    pub fn directive(&mut self, directive: Directive) -> Result<Option<Alert>, CopFault>
+        ensures after { self.new ≡ (sender_step self.old (Direct directive)).after }
+        ensures answer { result ≡ (sender_step self.old (Direct directive)).answer }
+    {
+        match directive {
+            Directive::SetWindow(window) => return self.set_window(window),
+            Directive::SetLimit(limit) => return self.set_limit(limit),
+            Directive::SetTimer(timer) => return self.set_timer(timer),
+            Directive::Terminate => return self.terminate(),
+            _ if self.fields.state != FopMode::S6 => return Err(CopFault::WrongState),
+            Directive::InitWithoutCheck => self.begin(self.fields.vs, FopMode::S1, Control::Idle),
+            Directive::InitWithCheck => {
+                self.begin(self.fields.vs, FopMode::S4, Control::Idle);
+                self.restart();
+            }
+            Directive::InitUnlock => {
+                self.begin(self.fields.vs, FopMode::S5, Control::Due(Command::Unlock));
+            }
+            Directive::InitSetVr(number) => {
+                self.begin(number, FopMode::S5, Control::Due(Command::SetVr(number)));
+            }
+            Directive::SetVs(number) => {
+                self.fields.vs = number;
+                self.fields.nn = number;
+            }
+        }
+        Ok(None)
+    }
+
+    // Leaves S6 with this number for V(S) and NN(R).
+    fn begin(&mut self, number: u8, state: FopMode, control: Control)
+        requires initial { self.old.state ≡ FopMode.S6 }
+        requires commanded { state ≢ FopMode.S5 → control ≡ Control.Idle }
+        ensures { self.new ≡ after_begin self.old number state control }
+    {
+        self.fields.vs = number;
+        self.fields.nn = number;
+        self.fields.count = 1;
+        self.fields.state = state;
+        self.fields.control = control;
+    }
+
+    fn terminate(&mut self) -> Result<Option<Alert>, CopFault>
+        ensures after { self.new ≡ (sender_step self.old (Direct Directive.Terminate)).after }
+        ensures answer { result ≡ (sender_step self.old (Direct Directive.Terminate)).answer }
+    {
+        if self.fields.state == FopMode::S6 {
+            return Err(CopFault::WrongState);
+        }
+        Ok(self.alert(Alert::Terminated))
+    }
+
+    fn set_window(&mut self, window: u8) -> Result<Option<Alert>, CopFault>
+        ensures after { self.new
+            ≡ (sender_step self.old (Direct (Directive.SetWindow window))).after }
+        ensures answer { result
+            ≡ (sender_step self.old (Direct (Directive.SetWindow window))).answer }
+    {
+        if window == 0 || window > self.fields.room {
+            return Err(CopFault::Window);
+        }
+        self.fields.window = window;
+        Ok(None)
+    }
+
+    fn set_limit(&mut self, limit: u8) -> Result<Option<Alert>, CopFault>
+        ensures after { self.new ≡ (sender_step self.old (Direct (Directive.SetLimit limit))).after }
+        ensures answer { result
+            ≡ (sender_step self.old (Direct (Directive.SetLimit limit))).answer }
+    {
+        if limit == 0 {
+            return Err(CopFault::Limit);
+        }
+        self.fields.limit = limit;
+        Ok(None)
+    }
+
+    fn set_timer(&mut self, timer: u16) -> Result<Option<Alert>, CopFault>
+        ensures after { self.new ≡ (sender_step self.old (Direct (Directive.SetTimer timer))).after }
+        ensures answer { result
+            ≡ (sender_step self.old (Direct (Directive.SetTimer timer))).answer }
+    {
+        if timer == 0 {
+            return Err(CopFault::Timer);
+        }
+        self.fields.timer = timer;
+        Ok(None)
+    }
+}

@@ -1,0 +1,199 @@
+// What a report does at the sender.
+
+ghost use Rattle.std.specs.Prelude.{◌≡◌};
+
+use super::Sender;
+use crate::fop::{Alert, Control, FopMode};
+use bitflags::Flags;
+use clcw::{Clcw, ClcwFlags};
+
+/// What a report leads to: which units are let go of.
+#[derive(Clone, Copy, Debug, PartialEq, Eq)]
+pub struct ReportAnswer {
+    /// How many units are acknowledged, the oldest of those sent; they are let go of.
+    pub released: u8,
+    /// Why the sender gives up, where it does: all units are let go of.
+    pub alert: Option<Alert>,
+}
+
+impl Sender {
+    ghost use Rattle.std.specs.Prelude.{◌≡◌, ◌<◌, true, false};
+    ghost use Rattle.cop1.specs.declared.fop.FopMode.{FopMode};
+    ghost use Rattle.cop1.specs.SenderReport.{report_answer, report_while_active, report_in_S4, report_in_S5, ticks_for};
+    ghost use Rattle.cop1.specs.SenderReport.{nothing_new, move_on, ask_again, retransmits, ask_for_others, ask_for_all};
+    ghost use Rattle.cop1.specs.FopState.{IsActive};
+    ghost use Rattle.cop1.specs.SenderStep.{sender_step, Report};
+    ghost use Rattle.cop1.specs.SenderWords.{is_outside, alerts};
+
+    /// The control word of a report has come.
+    pub fn report(&mut self, report: &Clcw) -> ReportAnswer
+        ensures after { self.new ≡ (sender_step self.old (Report report.now)).after }
+        ensures answer { result ≡ report_answer (sender_step self.old (Report report.now)) }
+    {
+        match self.fields.state {
+            FopMode::S1 | FopMode::S2 | FopMode::S3 => self.report_while_active(report),
+            FopMode::S4 => unreleased(self.report_in_s4(report)),
+            FopMode::S5 => {
+                self.report_in_s5(report);
+                unreleased(None)
+            }
+            FopMode::S6 => unreleased(None),
+        }
+    }
+
+    // S1 to S3: of eight rules, in this order, the first that applies decides.
+    fn report_while_active(&mut self, report: &Clcw) -> ReportAnswer
+        requires { IsActive self.old.state }
+        ensures after { self.new ≡ (report_while_active self.old report.now).after }
+        ensures answer { result ≡ report_answer (report_while_active self.old report.now) }
+    {
+        let asks = report.flags.contains(ClcwFlags::RETRANSMIT);
+        let waits = report.flags.contains(ClcwFlags::WAIT);
+        if report.flags.contains(ClcwFlags::LOCKOUT) {
+            return unreleased(self.alert(Alert::Lockout));
+        }
+        if self.is_outside(report.value) {
+            return unreleased(self.alert(Alert::NnR));
+        }
+        if !asks && waits {
+            return unreleased(self.alert(Alert::Clcw));
+        }
+        if asks && report.value == self.fields.vs {
+            return unreleased(self.alert(Alert::Synch));
+        }
+        if !asks && report.value == self.fields.nn {
+            return unreleased(self.nothing_new());
+        }
+        if !asks {
+            return self.move_on(report.value);
+        }
+        if report.value != self.fields.nn {
+            return self.ask_for_others(report.value, waits);
+        }
+        unreleased(self.ask_for_all(waits))
+    }
+
+    // Rule 5: nothing is acknowledged, and nothing asked for.
+    fn nothing_new(&mut self) -> Option<Alert>
+        requires { IsActive self.old.state }
+        ensures after { self.new ≡ (nothing_new self.old self.old.state).after }
+        ensures answer { result ≡ (nothing_new self.old self.old.state).answer }
+    {
+        match self.fields.state {
+            FopMode::S1 => None,
+            _ => self.alert(Alert::Synch),
+        }
+    }
+
+    // Rule 6: units are acknowledged, and nothing asked for.
+    fn move_on(&mut self, value: u8) -> ReportAnswer
+        requires active { IsActive self.old.state }
+        requires inside { is_outside self.old value ≡ false }
+        ensures after { self.new ≡ (move_on self.old value).after }
+        ensures answer { result ≡ report_answer (move_on self.old value) }
+    {
+        let released = value.wrapping_sub(self.fields.nn);
+        self.acknowledge(value);
+        self.fields.count = 1;
+        self.fields.ticks = if self.fields.sent == 0 {
+            None
+        } else {
+            Some(self.fields.timer)
+        };
+        self.fields.state = FopMode::S1;
+        ReportAnswer {
+            released,
+            alert: None,
+        }
+    }
+
+    // Rule 7: units are acknowledged, and the others asked for.
+    fn ask_for_others(&mut self, value: u8, wait: bool) -> ReportAnswer
+        requires active { IsActive self.old.state }
+        requires inside { is_outside self.old value ≡ false }
+        ensures after { self.new ≡ (ask_for_others self.old value wait).after }
+        ensures answer { result ≡ report_answer (ask_for_others self.old value wait) }
+    {
+        let released = value.wrapping_sub(self.fields.nn);
+        self.acknowledge(value);
+        self.fields.count = 1;
+        let alert = self.ask_again(wait, true);
+        ReportAnswer { released, alert }
+    }
+
+    // Rule 8: nothing is acknowledged, and all that was sent asked for.
+    fn ask_for_all(&mut self, wait: bool) -> Option<Alert>
+        requires { IsActive self.old.state }
+        ensures after { self.new ≡ (ask_for_all self.old wait).after }
+        ensures answer { result ≡ (ask_for_all self.old wait).answer }
+    {
+        let repeats = self.fields.state != FopMode::S2 && self.fields.count < self.fields.limit;
+        self.ask_again(wait, repeats)
+    }
+
+    // Units are asked for again, which may be sent once alone, or not while the receiver waits.
+    fn ask_again(&mut self, wait: bool, repeats: bool) -> Option<Alert>
+        requires active { IsActive self.old.state }
+        requires countable { repeats ≡ true → self.old.count < 255 }
+        ensures after { self.new ≡ (ask_again self.old wait (retransmits self.old repeats)).after }
+        ensures answer { result ≡ (ask_again self.old wait (retransmits self.old repeats)).answer }
+    {
+        if self.fields.limit == 1 {
+            return self.alert(Alert::Limit);
+        }
+        if wait {
+            self.fields.state = FopMode::S3;
+            return None;
+        }
+        if repeats {
+            self.repeat();
+        }
+        self.fields.state = FopMode::S2;
+        None
+    }
+
+    fn report_in_s4(&mut self, report: &Clcw) -> Option<Alert>
+        requires { self.old.state ≡ FopMode.S4 }
+        ensures after { self.new ≡ (report_in_S4 self.old report.now).after }
+        ensures answer { result ≡ (report_in_S4 self.old report.now).answer }
+    {
+        if report.flags.contains(ClcwFlags::LOCKOUT) {
+            return self.alert(Alert::Lockout);
+        }
+        if report.value != self.fields.vs {
+            return self.alert(Alert::NnR);
+        }
+        if report.flags.contains(ClcwFlags::RETRANSMIT) {
+            return self.alert(Alert::Synch);
+        }
+        if report.flags.contains(ClcwFlags::WAIT) {
+            return self.alert(Alert::Clcw);
+        }
+        self.fields.state = FopMode::S1;
+        self.fields.ticks = None;
+        None
+    }
+
+    fn report_in_s5(&mut self, report: &Clcw)
+        requires { self.old.state ≡ FopMode.S5 }
+        ensures { self.new ≡ (report_in_S5 self.old report.now).after }
+    {
+        if report.flags.contains(ClcwFlags::LOCKOUT)
+            || report.flags.contains(ClcwFlags::WAIT)
+            || report.flags.contains(ClcwFlags::RETRANSMIT)
+            || report.value != self.fields.vs
+        {
+            return;
+        }
+        self.fields.state = FopMode::S1;
+        self.fields.ticks = None;
+        self.fields.control = Control::Idle;
+    }
+}
+
+// Nothing is acknowledged.
+fn unreleased(alert: Option<Alert>) -> ReportAnswer
+    ensures { result ≡ record { released = 0; alert = alert } }
+{
+    ReportAnswer { released: 0, alert }
+}

@@ -1,0 +1,87 @@
+// What goes on the link next.
+
+use super::Sender;
+use crate::fop::{Control, FopMode};
+use tc_frame::Command;
+
+/// What goes on the link next, a unit by its number.
+#[derive(Clone, Copy, Debug, PartialEq, Eq)]
+pub enum SenderNext {
+    /// Nothing.
+    Nothing,
+    /// A control command, in a Type-BC frame.
+    Control(Command),
+    /// The unit that waits, in a Type-AD frame with this number. It is kept under that number until it
+    /// is acknowledged.
+    First(u8),
+    /// The unit that is kept under this number, in a Type-AD frame with it.
+    Again(u8),
+}
+
+impl Sender {
+    ghost use Rattle.std.specs.Prelude.{◌≡◌, ◌≢◌, ◌<◌};
+    ghost use Rattle.cop1.specs.declared.fop.FopMode.{FopMode};
+    ghost use Rattle.cop1.specs.SenderNext.{next_sequence, next_waiting, count_behind, after_send_first};
+    ghost use Rattle.cop1.specs.SenderStep.{sender_step, Next};
+
+    /// Takes what goes on the link next, by the first rule that applies: the control command of S5,
+    /// where it is due; in S1 and S2 the oldest unit that is due to be sent again; in S1 and S2 the
+    /// unit that waits, where the window has room for it.
+    pub fn next(&mut self) -> SenderNext
+        ensures after { self.new ≡ (sender_step self.old Next).after }
+        ensures answer { result ≡ (sender_step self.old Next).answer }
+    {
+        if let Control::Due(command) = self.fields.control {
+            self.fields.control = Control::Sent(command);
+            self.restart();
+            return SenderNext::Control(command);
+        }
+        match self.fields.state {
+            FopMode::S1 | FopMode::S2 => self.next_sequence(),
+            _ => SenderNext::Nothing,
+        }
+    }
+
+    fn next_sequence(&mut self) -> SenderNext
+        requires { self.old.state ≢ FopMode.S6 }
+        ensures after { self.new ≡ (next_sequence self.old).after }
+        ensures answer { result ≡ (next_sequence self.old).answer }
+    {
+        if self.fields.due == 0 {
+            return self.next_waiting();
+        }
+        let place = self.fields.sent - self.fields.due;
+        let number = self.fields.nn.wrapping_add(place);
+        self.fields.due -= 1;
+        self.restart();
+        SenderNext::Again(number)
+    }
+
+    fn next_waiting(&mut self) -> SenderNext
+        requires { self.old.state ≢ FopMode.S6 }
+        ensures after { self.new ≡ (next_waiting self.old self.old.waiting).after }
+        ensures answer { result ≡ (next_waiting self.old self.old.waiting).answer }
+    {
+        if !self.fields.waiting || self.fields.sent >= self.fields.window {
+            return SenderNext::Nothing;
+        }
+        let number = self.fields.vs;
+        self.send_first();
+        SenderNext::First(number)
+    }
+
+    // The unit that waits is sent, and there is room for it.
+    fn send_first(&mut self)
+        requires active { self.old.state ≢ FopMode.S6 }
+        requires room { self.old.sent < self.old.room }
+        ensures { self.new ≡ after_send_first self.old }
+    {
+        if self.fields.sent == 0 {
+            self.fields.count = 1;
+        }
+        self.fields.waiting = false;
+        self.fields.sent += 1;
+        self.fields.vs = self.fields.vs.wrapping_add(1);
+        self.restart();
+    }
+}

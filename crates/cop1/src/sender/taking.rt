@@ -1,0 +1,28 @@
+// How units come to the sender.
+
+use super::Sender;
+use crate::fault::CopFault;
+use crate::fop::FopMode;
+
+impl Sender {
+    ghost use Rattle.std.specs.Prelude.{◌≡◌};
+    ghost use Rattle.cop1.specs.SenderState.{IsSender};
+    ghost use Rattle.cop1.specs.SenderStep.{sender_step, Submit};
+
+    /// A unit has come to be sent under sequence control, and waits: the caller keeps it. It is refused
+    /// with 6 NotOpen in S6, and with 7 Busy where one waits already.
+    pub fn submit(&mut self) -> Result<(), CopFault>
+        ensures after { self.new ≡ (sender_step self.old Submit).after }
+        ensures answer { result ≡ (sender_step self.old Submit).answer }
+        ensures holds { IsSender self.new }
+    {
+        if self.fields.state == FopMode::S6 {
+            return Err(CopFault::NotOpen);
+        }
+        if self.fields.waiting {
+            return Err(CopFault::Busy);
+        }
+        self.fields.waiting = true;
+        Ok(())
+    }
+}

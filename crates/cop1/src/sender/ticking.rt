@@ -1,0 +1,50 @@
+// What a tick of the clock does at the sender.
+
+use super::Sender;
+use crate::fop::{Alert, Control, FopMode};
+
+impl Sender {
+    ghost use Rattle.std.specs.Prelude.{◌≡◌, ◌≢◌};
+    ghost use Rattle.cop1.specs.declared.fop.FopMode.{FopMode};
+    ghost use Rattle.cop1.specs.SenderTick.{timer_ended};
+    ghost use Rattle.cop1.specs.SenderStep.{sender_step, Tick};
+
+    /// A tick of the clock has passed; an alert where the sender gives up, and all units are let go of.
+    pub fn tick(&mut self) -> Option<Alert>
+        ensures after { self.new ≡ (sender_step self.old Tick).after }
+        ensures alert { result ≡ (sender_step self.old Tick).answer }
+    {
+        let left = self.fields.ticks?;
+        if left > 1 {
+            self.fields.ticks = Some(left - 1);
+            return None;
+        }
+        self.fields.ticks = None;
+        self.timer_ended()
+    }
+
+    fn timer_ended(&mut self) -> Option<Alert>
+        requires { self.old.state ≢ FopMode.S6 }
+        ensures after { self.new ≡ (timer_ended self.old self.old.state).after }
+        ensures alert { result ≡ (timer_ended self.old self.old.state).answer }
+    {
+        if self.fields.state == FopMode::S4 || self.fields.count >= self.fields.limit {
+            return self.alert(Alert::Timer);
+        }
+        match self.fields.state {
+            FopMode::S1 | FopMode::S2 => self.repeat(),
+            FopMode::S3 => {
+                self.fields.count += 1;
+                self.restart();
+            }
+            _ => {
+                if let Control::Sent(command) = self.fields.control {
+                    self.fields.control = Control::Due(command);
+                }
+                self.fields.count += 1;
+                self.restart();
+            }
+        }
+        None
+    }
+}
