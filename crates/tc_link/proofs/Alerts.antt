@@ -42,7 +42,8 @@ use Rattle.tc_link.proofs.Early.{Begun, IsEarly, AllSame}
 use Rattle.tc_link.proofs.LateTelemetry.{used_is, Coming, report_comes, coming}
 use Rattle.tc_link.proofs.Linked.{Steady, Late, Tells, Reporting}
 use Rattle.tc_link.proofs.Reports.{IsLate, IsRunning, IsAllowed, active_led, asked}
-use Rattle.tc_link.proofs.Transit.{DownIs, Rises, Ranks, bit}
+use Rattle.tc_link.specs.History.{Rises}
+use Rattle.tc_link.proofs.Transit.{DownIs, Ranks, bit}
 use Rattle.tc_link.proofs.Windows.{report_told, directive_is}
 
 -- ---- answers without an alert

@@ -22,13 +22,14 @@ use Rattle.tc_link.specs.BypassSegments.{is_kept}
 use Rattle.tc_link.specs.Spacecraft.{SpacecraftState, frame_outcome, body_outcome, sequence_outcome, bypass_outcome, after_segment, is_free}
 use Rattle.tc_link.specs.Ground.{frame_of}
 use Rattle.tc_link.specs.World.{World, up_deliver_step, up_lose_step, up_damage_outcome, up_damage_step}
-use Rattle.tc_link.specs.PlainLink.{more, takes, leaves}
+use Rattle.tc_link.specs.PlainLink.{takes, leaves}
 use Rattle.tc_link.specs.Confirmation.{IsChecked}
 use Rattle.tc_link.proofs.Lists.{take_next}
 use Rattle.tc_link.proofs.Verdicts.{VerdictFits, verdict_in_window}
 use Rattle.tc_link.proofs.Reports.{asked}
-use Rattle.tc_link.proofs.Transit.{CommandFits, UpIs, Fits, Rises, Ranks, bit, fits_less, rises_higher, ranks_higher}
-use Rattle.tc_link.proofs.Linked.{Steady, Late, Carries}
+use Rattle.tc_link.specs.History.{Rises}
+use Rattle.tc_link.proofs.Transit.{CommandFits, UpIs, Fits, Ranks, bit, fits_less, rises_higher, ranks_higher}
+use Rattle.tc_link.proofs.Linked.{Steady, Late, Carries, Next, stays}
 
 bit_most : (b : Bool) → bit b ≤ 1
 bit_most true = omega arith
@@ -63,7 +64,7 @@ module _ (c : Config) (d : Directive) (base : ℕ) (w : World) (k : Steady c w) 
   -- the first pair is no longer on its way, and the receiver may ask for repetition
   left_keeps : (i : ℕ) (x : SegmentView) (qs : List (ℕ × SegmentView)) (farm : FarmState) → g.plain.up ≡ (i, x) ∷ qs → UpIs d base false fs qs → Fits (c.width / 2) g.plain.n g.plain.units g.plain.r ((i, x) ∷ qs)
       → farm.vr ≡ w.spacecraft.farm.vr → farm.lockout ≡ w.spacecraft.farm.lockout → (farm.retransmit ≡ w.spacecraft.farm.retransmit) ⊎ ((farm.retransmit ≡ true) × (g.plain.r < g.plain.n))
-      → Late c d base (record w { up = bs; spacecraft = record w.spacecraft { farm = farm } })
+      → Next c d base g.plain (record w { up = bs; spacecraft = record w.spacecraft { farm = farm } })
   left_keeps i x qs farm also up fit vr lockout asks =
       let p = g.plain in
       let l = g.linked in
@@ -72,7 +73,7 @@ module _ (c : Config) (d : Directive) (base : ℕ) (w : World) (k : Steady c w) 
       let vr_is : farm.vr ≡ (base + p.r) % 256 = vr ∙ l.vr_is in
       record {
         plain = record p { up = qs };
-        ran = more g.ran (leaves also);
+        ran = inr (leaves also);
         front = false;
         frames = fs;
         reports = g.reports;
@@ -88,7 +89,7 @@ module _ (c : Config) (d : Directive) (base : ℕ) (w : World) (k : Steady c w) 
       }
 
   judged_keeps : (i : ℕ) (x u : SegmentView) (qs : List (ℕ × SegmentView)) (v : Verdict) → g.plain.up ≡ (i, x) ∷ qs → u ≡ x → UpIs d base false fs qs → Fits (c.width / 2) g.plain.n g.plain.units g.plain.r ((i, x) ∷ qs) → VerdictFits g.plain.r i v
-      → Late c d base (record w { up = bs; spacecraft = judged w.spacecraft u v })
+      → Next c d base g.plain (record w { up = bs; spacecraft = judged w.spacecraft u v })
   judged_keeps i x u qs Accepted also same up fit at_r =
       let p = g.plain in
       let l = g.linked in
@@ -103,7 +104,7 @@ module _ (c : Config) (d : Directive) (base : ℕ) (w : World) (k : Steady c w) 
       let first : false ≡ true → p.r + 1 ≡ 0 = λ e. cc in
       record {
         plain = record p { r = p.r + 1; up = qs };
-        ran = more g.ran (takes arrives);
+        ran = inr (takes arrives);
         front = false;
         frames = fs;
         reports = g.reports;
@@ -125,7 +126,7 @@ module _ (c : Config) (d : Directive) (base : ℕ) (w : World) (k : Steady c w) 
 
   pub other_keeps : (spacecraft : SpacecraftState) → UpIs d base g.front fs g.plain.up → spacecraft.accepted ≡ w.spacecraft.accepted → spacecraft.farm.vr ≡ w.spacecraft.farm.vr
       → (IsChecked d → (spacecraft.farm.lockout ≡ false) × (spacecraft.farm.retransmit ≡ w.spacecraft.farm.retransmit))
-      → Late c d base (record w { up = bs; spacecraft = spacecraft })
+      → Next c d base g.plain (record w { up = bs; spacecraft = spacecraft })
   other_keeps spacecraft up accepted vr calm =
       let p = g.plain in
       let l = g.linked in
@@ -133,7 +134,7 @@ module _ (c : Config) (d : Directive) (base : ℕ) (w : World) (k : Steady c w) 
       let vr_is : spacecraft.farm.vr ≡ (base + p.r) % 256 = vr ∙ l.vr_is in
       record {
         plain = p;
-        ran = g.ran;
+        ran = inl refl;
         front = g.front;
         frames = fs;
         reports = g.reports;
@@ -148,19 +149,19 @@ module _ (c : Config) (d : Directive) (base : ℕ) (w : World) (k : Steady c w) 
             assumption (unlocked, clear, ranks, rank_most, m);
       }
 
-  unlock_keeps : (mode : FarmMode) → g.front ≡ true → UpIs d base g.front fs g.plain.up → Late c d base (record w { up = bs; spacecraft = record w.spacecraft { farm = after_unlock w.spacecraft.farm mode } })
+  unlock_keeps : (mode : FarmMode) → g.front ≡ true → UpIs d base g.front fs g.plain.up → Next c d base g.plain (record w { up = bs; spacecraft = record w.spacecraft { farm = after_unlock w.spacecraft.farm mode } })
   unlock_keeps Open front up = other_keeps (record w.spacecraft { farm = after_unlock w.spacecraft.farm Open }) up refl refl (λ checked. let m = g.calm checked in (m.unlocked, sym (m.clear front)))
   unlock_keeps Wait front up = other_keeps (record w.spacecraft { farm = after_unlock w.spacecraft.farm Wait }) up refl refl (λ checked. let m = g.calm checked in (m.unlocked, sym (m.clear front)))
   unlock_keeps Lockout front up = other_keeps (record w.spacecraft { farm = after_unlock w.spacecraft.farm Lockout }) up refl refl (λ checked. let m = g.calm checked in (refl, sym (m.clear front)))
 
-  set_keeps : (y : ℕ) (mode : FarmMode) → g.front ≡ true → y ≡ base → UpIs d base g.front fs g.plain.up → Late c d base (record w { up = bs; spacecraft = record w.spacecraft { farm = after_set_vr w.spacecraft.farm y mode } })
+  set_keeps : (y : ℕ) (mode : FarmMode) → g.front ≡ true → y ≡ base → UpIs d base g.front fs g.plain.up → Next c d base g.plain (record w { up = bs; spacecraft = record w.spacecraft { farm = after_set_vr w.spacecraft.farm y mode } })
   set_keeps y Open front y_is up =
       other_keeps (record w.spacecraft { farm = after_set_vr w.spacecraft.farm y Open }) up refl (let none = g.linked.first front in omega (arith, g.linked.vr_is, g.linked.base_octet)) (λ checked. let m = g.calm checked in (m.unlocked, sym (m.clear front)))
   set_keeps y Wait front y_is up =
       other_keeps (record w.spacecraft { farm = after_set_vr w.spacecraft.farm y Wait }) up refl (let none = g.linked.first front in omega (arith, g.linked.vr_is, g.linked.base_octet)) (λ checked. let m = g.calm checked in (m.unlocked, sym (m.clear front)))
   set_keeps y Lockout front y_is up = other_keeps (record w.spacecraft { farm = after_type_b w.spacecraft.farm }) up refl refl (λ checked. let m = g.calm checked in (m.unlocked, refl))
 
-  control_keeps : (command : Command) (e : Directive) → e ≡ d → g.front ≡ true → CommandFits e base command → UpIs d base g.front fs g.plain.up → Late c d base (record w { up = bs; spacecraft = (body_outcome w.spacecraft (Bc command)).after })
+  control_keeps : (command : Command) (e : Directive) → e ≡ d → g.front ≡ true → CommandFits e base command → UpIs d base g.front fs g.plain.up → Next c d base g.plain (record w { up = bs; spacecraft = (body_outcome w.spacecraft (Bc command)).after })
   control_keeps Unlock e is front fits up = unlock_keeps w.spacecraft.farm.state front up
   control_keeps (SetVr y) InitUnlock is front fits up = elim fits [ ]
   control_keeps (SetVr y) (InitSetVr x) is front fits up = set_keeps y w.spacecraft.farm.state front fits up
@@ -172,13 +173,13 @@ module _ (c : Config) (d : Directive) (base : ℕ) (w : World) (k : Steady c w) 
   control_keeps (SetVr y) (SetLimit x) is front fits up = elim fits [ ]
   control_keeps (SetVr y) (SetTimer x) is front fits up = elim fits [ ]
 
-  bypass_keeps : (s : SegmentView) (kept : Bool) → UpIs d base g.front fs g.plain.up → Late c d base (record w { up = bs; spacecraft = (bypass_outcome w.spacecraft s kept).after })
+  bypass_keeps : (s : SegmentView) (kept : Bool) → UpIs d base g.front fs g.plain.up → Next c d base g.plain (record w { up = bs; spacecraft = (bypass_outcome w.spacecraft s kept).after })
   bypass_keeps s true up = other_keeps (bypass_outcome w.spacecraft s true).after up refl refl (λ checked. ((g.calm checked).unlocked, refl))
   bypass_keeps s false up = other_keeps (bypass_outcome w.spacecraft s false).after up refl refl (λ checked. ((g.calm checked).unlocked, refl))
 
   -- ---- each frame
 
-  body_keeps : (f : BodyView) (qs : List (ℕ × SegmentView)) → g.plain.up ≡ qs → UpIs d base g.front (f ∷ fs) qs → Fits (c.width / 2) g.plain.n g.plain.units g.plain.r qs → Late c d base (record w { up = bs; spacecraft = (body_outcome w.spacecraft f).after })
+  body_keeps : (f : BodyView) (qs : List (ℕ × SegmentView)) → g.plain.up ≡ qs → UpIs d base g.front (f ∷ fs) qs → Fits (c.width / 2) g.plain.n g.plain.units g.plain.r qs → Next c d base g.plain (record w { up = bs; spacecraft = (body_outcome w.spacecraft f).after })
   body_keeps (Bd s) qs also up fit = bypass_keeps s (is_kept (limits_of w.spacecraft.config) s) (rw also up)
   body_keeps (Bc command) qs also up fit = control_keeps command d refl up.0 up.1 (rw also up.2)
   body_keeps (Ad n u) [] also up fit = elim up [ ]
@@ -187,11 +188,11 @@ module _ (c : Config) (d : Directive) (base : ℕ) (w : World) (k : Steady c w) 
       let l = g.linked in
       let v : Verdict = verdict_of w.spacecraft.farm n (is_free w.spacecraft) in
       let fits : VerdictFits p.r i v = verdict_in_window w.spacecraft.farm base (c.width / 2) p.r i n (is_free w.spacecraft) (ap (λ x. x / 2) k.width) (omega (arith, k.ranges.width)) l.vr_is up.0 fit.2 (omega (arith, fit.1)) in
-      subst (λ (s : SpacecraftState). Late c d base (record w { up = bs; spacecraft = s })) (sym (judged_is w.spacecraft n u v refl)) (judged_keeps i x u qs v also up.1 up.2 fit fits)
+      subst (λ (s : SpacecraftState). Next c d base g.plain (record w { up = bs; spacecraft = s })) (sym (judged_is w.spacecraft n u v refl)) (judged_keeps i x u qs v also up.1 up.2 fit fits)
 
   -- ---- the first frame is lost
 
-  lost_keeps : (f : BodyView) (qs : List (ℕ × SegmentView)) → g.plain.up ≡ qs → UpIs d base g.front (f ∷ fs) qs → Fits (c.width / 2) g.plain.n g.plain.units g.plain.r qs → Late c d base (record w { up = bs })
+  lost_keeps : (f : BodyView) (qs : List (ℕ × SegmentView)) → g.plain.up ≡ qs → UpIs d base g.front (f ∷ fs) qs → Fits (c.width / 2) g.plain.n g.plain.units g.plain.r qs → Next c d base g.plain (record w { up = bs })
   lost_keeps (Bd s) qs also up fit = other_keeps w.spacecraft (rw also up) refl refl (λ checked. ((g.calm checked).unlocked, refl))
   lost_keeps (Bc command) qs also up fit = other_keeps w.spacecraft (rw also up.2) refl refl (λ checked. ((g.calm checked).unlocked, refl))
   lost_keeps (Ad n u) [] also up fit = elim up [ ]
@@ -200,31 +201,31 @@ module _ (c : Config) (d : Directive) (base : ℕ) (w : World) (k : Steady c w) 
 -- ---- the events
 
 module _ (c : Config) (d : Directive) (base : ℕ) (w : World) (k : Steady c w) (g : Late c d base w) where
-  deliver_keeps : (bs : List (List ℕ)) (fs : List BodyView) → g.frames ≡ fs → Carries c bs fs → UpIs d base g.front fs g.plain.up → Late c d base (up_deliver_step w bs).after
-  deliver_keeps [] fs is carries up = g
+  deliver_keeps : (bs : List (List ℕ)) (fs : List BodyView) → g.frames ≡ fs → Carries c bs fs → UpIs d base g.front fs g.plain.up → Next c d base g.plain (up_deliver_step w bs).after
+  deliver_keeps [] fs is carries up = stays g
   deliver_keeps (b ∷ bs) [] is carries up = elim carries [ ]
   deliver_keeps (b ∷ bs) (f ∷ fs) is carries up =
-      subst (λ o. Late c d base (record w { up = bs; spacecraft = o.after })) (sym (own_arrives w.spacecraft c f (frame_at On b) k.spacecraft_config carries.0))
+      subst (λ o. Next c d base g.plain (record w { up = bs; spacecraft = o.after })) (sym (own_arrives w.spacecraft c f (frame_at On b) k.spacecraft_config carries.0))
       (body_keeps c d base w k g bs fs carries.1 f g.plain.up refl up g.linked.fits)
 
-  lose_keeps : (bs : List (List ℕ)) (fs : List BodyView) → Carries c bs fs → UpIs d base g.front fs g.plain.up → Late c d base (up_lose_step w bs).after
-  lose_keeps [] fs carries up = g
+  lose_keeps : (bs : List (List ℕ)) (fs : List BodyView) → Carries c bs fs → UpIs d base g.front fs g.plain.up → Next c d base g.plain (up_lose_step w bs).after
+  lose_keeps [] fs carries up = stays g
   lose_keeps (b ∷ bs) [] carries up = elim carries [ ]
   lose_keeps (b ∷ bs) (f ∷ fs) carries up = lost_keeps c d base w k g bs fs carries.1 f g.plain.up refl up g.linked.fits
 
-  detect_keeps : (b : List ℕ) (bs : List (List ℕ)) (r : Result FrameView TcFault) → Late c d base (up_lose_step w (b ∷ bs)).after → Late c d base (up_damage_outcome w bs r).after
-  detect_keeps b bs (Ok frame) lost = g
+  detect_keeps : (b : List ℕ) (bs : List (List ℕ)) (r : Result FrameView TcFault) → Next c d base g.plain (up_lose_step w (b ∷ bs)).after → Next c d base g.plain (up_damage_outcome w bs r).after
+  detect_keeps b bs (Ok frame) lost = stays g
   detect_keeps b bs (Err fault) lost = lost
 
-  damage_keeps : (bs : List (List ℕ)) (fs : List BodyView) (damaged : List ℕ) → Carries c bs fs → UpIs d base g.front fs g.plain.up → Late c d base (up_damage_step w bs damaged).after
-  damage_keeps [] fs damaged carries up = g
+  damage_keeps : (bs : List (List ℕ)) (fs : List BodyView) (damaged : List ℕ) → Carries c bs fs → UpIs d base g.front fs g.plain.up → Next c d base g.plain (up_damage_step w bs damaged).after
+  damage_keeps [] fs damaged carries up = stays g
   damage_keeps (b ∷ bs) fs damaged carries up = detect_keeps b bs (frame_at On damaged) (lose_keeps (b ∷ bs) fs carries up)
 
-  pub up_deliver_keeps : Late c d base (up_deliver_step w w.up).after
+  pub up_deliver_keeps : Next c d base g.plain (up_deliver_step w w.up).after
   up_deliver_keeps = deliver_keeps w.up g.frames refl g.linked.carries g.linked.up_is
 
-  pub up_lose_keeps : Late c d base (up_lose_step w w.up).after
+  pub up_lose_keeps : Next c d base g.plain (up_lose_step w w.up).after
   up_lose_keeps = lose_keeps w.up g.frames g.linked.carries g.linked.up_is
 
-  pub up_damage_keeps : (damaged : List ℕ) → Late c d base (up_damage_step w w.up damaged).after
+  pub up_damage_keeps : (damaged : List ℕ) → Next c d base g.plain (up_damage_step w w.up damaged).after
   up_damage_keeps damaged = damage_keeps w.up g.frames damaged g.linked.carries g.linked.up_is

@@ -68,6 +68,7 @@ module _ (c : Config) (w : World) (k : Sound c w) where
           linked = record {
             opened = ap (λ b. Some (record { directive = InitWithoutCheck; clean = b })) clean;
             confirmed_is = λ checked. elim checked [ ];
+            confirmed_so = λ is. absurd cc;
             base_octet = k.ground_node.fop.vs_octet;
             vr_is = omega (arith, eqb-true w.spacecraft.farm.vr w.ground_node.fop.vs both.1, k.ground_node.fop.vs_octet);
             nn_octet = k.ground_node.fop.vs_octet;

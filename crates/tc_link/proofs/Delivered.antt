@@ -1,5 +1,5 @@
 -- In a clean session packets are delivered in order.
-use Rattle.std.proofs.Common.{◌≡◌, ◌≢◌, ℕ, ◌+◌, ◌≤◌, ◌⊎◌, inl, inr, Bool, true, false, cond, eqb, List, [], ◌∷◌, ◌++◌, length, take, drop, map, filter, None, refl, ap, sym, subst, ◌∙◌, append_assoc, arith, length-append, length-drop}
+use Rattle.std.proofs.Common.{◌≡◌, ◌≢◌, ℕ, ◌+◌, ◌/◌, ◌≤◌, max, ◌⊎◌, inl, inr, Bool, true, false, cond, eqb, List, [], ◌∷◌, ◌++◌, length, take, drop, map, filter, Some, None, refl, ap, sym, subst, ◌∙◌, append_assoc, arith, length-append, length-drop}
 use Rattle.std.specs.List.{AllByRecursion, flat_map}
 use Rattle.std.proofs.lemmas.Bool.{eqb-true, eqb-false}
 use Rattle.std.proofs.lemmas.List.{append-nil, take-append-drop, take_all, take-take, append_cancel_left, length-take-le, take-map, length-map}
@@ -10,21 +10,30 @@ use Rattle.map_service.specs.Cutting.{segments_of, cut_fault}
 use Rattle.map_service.specs.Packets.{packets_in}
 use Rattle.map_service.proofs.Beginnings.{assembled_begins}
 use Rattle.map_service.proofs.Passage.{given-passed, other-append}
+use Rattle.clcw.specs.declared.word.Clcw.{Clcw}
 use Rattle.cop1.specs.declared.fop.Directive.{Directive}
+use Rattle.cop1.specs.declared.fop.Directive.TheVariants.{InitWithoutCheck}
 use Rattle.cop1.specs.declared.fop.FopMode.TheVariants.{S1}
 use Rattle.cop1.specs.FopNext.{units_of}
+use Rattle.cop1.specs.FopState.{IsActive}
 use Rattle.tc_link.specs.declared.config.Config.{Config}
 use Rattle.tc_link.specs.Packets.{PacketOn}
 use Rattle.tc_link.specs.Parameters.{limits_of}
 use Rattle.tc_link.specs.Ground.{outstanding, unsent_segments}
-use Rattle.tc_link.specs.World.{World, submitted, accepted, delivered}
+use Rattle.tc_link.specs.World.{World, IsSettled, submitted, accepted, delivered}
 use Rattle.tc_link.specs.PlainLink.{PlainLink, PlainRun, new_link, none, more, adds}
 use Rattle.octets.specs.Beginning.{IsBeginning}
-use Rattle.tc_link.specs.InOrder.{IsInOrder, HasPlainHistory}
+use Rattle.tc_link.specs.History.{IsHistory, HasPlainHistory, IsNear, Rises, number_of, numbered}
+use Rattle.tc_link.specs.InOrder.{IsInOrder}
+use Rattle.tc_link.specs.InTransit.{units_up, report_carried}
 use Rattle.tc_link.proofs.Beginning.{Clean}
 use Rattle.tc_link.proofs.Early.{Begun, IsEarly}
-use Rattle.tc_link.proofs.Linked.{Late, IsGiven, units_of_all, Holds, Held}
+use Rattle.tc_link.proofs.Linked.{LateBy, IsGiven, units_of_all, Holds, Held}
 use Rattle.tc_link.proofs.SteadyWorld.{Sound}
+use Rattle.tc_link.proofs.Transit.{Fits}
+use Rattle.tc_link.proofs.Windows.{units_in, values_in, reports_are, late_on, directive_is}
+use Rattle.tc_link.specs.Confirmation.{IsChecking}
+use Rattle.tc_link.specs.Ground.{is_closed}
 
 -- ---- packets that were given are assembled, whatever came before
 
@@ -60,59 +69,161 @@ module _ (limits : Limits) (m : ℕ) (one : 1 ≤ limits.part) where
       ∙ append_assoc (assembled limits m before) (cond (eqb p.on_map m) (packets_in p.octets) []) (packets ps)
       ∙ ap (λ (xs : List (List ℕ)). assembled limits m before ++ xs) (cond_first (eqb p.on_map m) p ps)
 
--- ---- what the records tell
+-- ---- what the records say
 
-pub record History (c : Config) (w : World) : Type 0 where
+-- the records, what is on its way and the nodes' numbers are those of a plain link
+pub record History (c : Config) (w : World) (base : ℕ) (p : PlainLink) : Type 0 where
+  pub given : AllByRecursion (IsGiven c) w.session.submissions
+  pub units_are : p.units ≡ units_of_all c w.session.submissions
+  pub sent_is : w.session.sent ≡ map segment_octets (take p.n p.units)
+  pub accepted_is : drop w.session.before w.spacecraft.accepted ≡ take p.r p.units
+  pub acked_is : w.session.acknowledged ≡ p.a
+  pub n_most : p.n ≤ length p.units
+  pub a_r : p.a ≤ p.r
+  pub r_n : p.r ≤ p.n
+  pub complete : w.ground_node.fop.state ≡ S1 → outstanding w.ground_node ≡ [] → length p.units ≤ p.r
+  pub window : p.n ≤ p.a + c.width / 2
+  pub up_is : units_up w ≡ map (numbered base) p.up
+  pub near : AllByRecursion (IsNear p (c.width / 2)) p.up
+  pub down_is : IsSettled w
+      → map (λ (r : Clcw). r.value) (flat_map (report_carried c) w.down) ≡ map (number_of base) p.down
+  pub rises : Rises p.a p.down p.r
+  pub vr_is : IsSettled w → w.spacecraft.farm.vr ≡ number_of base p.r
+  pub ends : IsSettled w → IsActive w.ground_node.fop.state
+      → (w.ground_node.fop.vs ≡ number_of base p.n) × (w.ground_node.fop.nn ≡ number_of base p.a)
+
+-- not before the confirmation
+pub unsettled : (c : Config) (d : Directive) (base : ℕ) (w : World) → Begun c d base w → IsSettled w → ⊥
+unsettled c d base w g settled = elim settled [
+  | inl confirmed ↦ (let no : w.session.confirmed ≡ false = g.early.confirmed_not in cc)
+  | inr without ↦ (
+      let is : Some d ≡ Some InitWithoutCheck = sym (directive_is w d g.early.opened) ∙ without in
+      let it : IsChecking (Some InitWithoutCheck) = subst IsChecking is g.early.checked in
+      it)
+]
+
+all_near : (h : ℕ) (p : PlainLink) (r : ℕ) (qs : List (ℕ × SegmentView)) → p.r ≤ r
+    → Fits h p.n p.units r qs → AllByRecursion (IsNear p h) qs
+all_near h p r [] below fit = tt
+all_near h p r (q ∷ qs) below fit =
+    ((fit.1, omega (arith, below, fit.2)), all_near h p (max r (q.0 + 1)) qs (omega (arith, below)) fit.3)
+
+module _ {Reached : PlainLink → Type 0} (c : Config) (d : Directive) (base : ℕ) (w : World)
+    (g : LateBy Reached c d base w) where
+  abbrev p : PlainLink
+  p = g.plain
+
+  was : is_closed w.ground_node.fop.state ≡ false
+      → Holds base w.ground_node.fop.vs w.ground_node.fop.nn w.ground_node.fop.sent
+      (unsent_segments w.ground_node) p.a p.n p.units
+  was on =
+      let it : Held false base w.ground_node.fop.vs w.ground_node.fop.nn w.ground_node.fop.sent
+      (unsent_segments w.ground_node) p.a p.n p.units = rw on at g.linked.held in
+      it
+
+  late_complete : w.ground_node.fop.state ≡ S1 → outstanding w.ground_node ≡ []
+      → length p.units ≤ p.r
+  late_complete on nothing =
+      let l = g.linked in
+      let held = was (rw on refl) in
+      let none_left : length (units_of w.ground_node.fop.sent) + length (unsent_segments w.ground_node) ≡ 0 =
+      sym (length-append (units_of w.ground_node.fop.sent) (unsent_segments w.ground_node))
+      ∙ ap length nothing in
+      let sent : length (drop p.a (take p.n p.units)) ≡ length (units_of w.ground_node.fop.sent) =
+      ap length (sym held.sent_is) in
+      let rest : length (drop p.n p.units) ≡ length (unsent_segments w.ground_node) =
+      ap length (sym held.rest_is) in
+      omega (
+        arith,
+        none_left,
+        sent,
+        rest,
+        length-drop p.a (take p.n p.units),
+        length-take-le p.n p.units l.n_most,
+        length-drop p.n p.units,
+        l.a_r,
+        l.r_n,
+        l.n_most,
+      )
+
+  late_ends : IsActive w.ground_node.fop.state
+      → (w.ground_node.fop.vs ≡ number_of base p.n) × (w.ground_node.fop.nn ≡ number_of base p.a)
+  late_ends active =
+      let held = was (late_on w.ground_node.fop.state active) in
+      (held.vs_is, held.nn_is)
+
+  pub late_history : History c w base g.plain
+  late_history =
+      let l = g.linked in
+      record {
+        given = l.given;
+        units_are = l.units_are;
+        sent_is = l.sent_is;
+        accepted_is = l.accepted_is;
+        acked_is = l.acked_is;
+        n_most = l.n_most;
+        a_r = l.a_r;
+        r_n = l.r_n;
+        complete = late_complete;
+        window = l.n_a;
+        up_is = units_in c d base g.front w.up g.frames p.up l.carries l.up_is;
+        near = all_near (c.width / 2) p p.r p.up (omega arith) l.fits;
+        down_is = λ settled.
+            ap (map (λ (r : Clcw). r.value)) (reports_are c w.down g.reports l.reporting)
+            ∙ values_in base g.reports p.down l.down_is;
+        rises = l.rises;
+        vr_is = λ settled. l.vr_is;
+        ends = λ settled active. late_ends active;
+      }
+
+-- before the confirmation nothing was sent
+abbrev unsent_link : Config → World → PlainLink
+unsent_link c w = record new_link { units = units_of_all c w.session.submissions }
+
+begun_history : (c : Config) (d : Directive) (base : ℕ) (w : World) → Begun c d base w
+    → History c w base (unsent_link c w)
+begun_history c d base w g =
+    let l = g.early in
+    record {
+      given = l.given;
+      units_are = refl;
+      sent_is = l.sent_none;
+      accepted_is = l.accepted_none;
+      acked_is = l.acked_none;
+      n_most = omega arith;
+      a_r = omega arith;
+      r_n = omega arith;
+      complete = λ on nothing. absurd (let no : IsEarly d S1 = rw on at l.early in no);
+      window = omega arith;
+      up_is = units_in c d base true w.up g.frames [] l.carries l.up_is;
+      near = tt;
+      down_is = λ settled. absurd (unsettled c d base w g settled);
+      rises = omega arith;
+      vr_is = λ settled. absurd (unsettled c d base w g settled);
+      ends = λ settled. absurd (unsettled c d base w g settled);
+    }
+
+-- of a plain link that a run leads to
+pub record IsTold (c : Config) (w : World) : Type 0 where
+  pub base : ℕ
   pub plain : PlainLink
   pub ran : PlainRun new_link plain
-  pub given : AllByRecursion (IsGiven c) w.session.submissions
-  pub units_are : plain.units ≡ units_of_all c w.session.submissions
-  pub sent_is : w.session.sent ≡ map segment_octets (take plain.n plain.units)
-  pub accepted_is : drop w.session.before w.spacecraft.accepted ≡ take plain.r plain.units
-  pub acked_is : w.session.acknowledged ≡ plain.a
-  pub n_most : plain.n ≤ length plain.units
-  pub a_r : plain.a ≤ plain.r
-  pub r_n : plain.r ≤ plain.n
-  pub complete : w.ground_node.fop.state ≡ S1 → outstanding w.ground_node ≡ [] → length plain.units ≤ plain.r
+  pub history : History c w base plain
 
-late_complete : (c : Config) (d : Directive) (base : ℕ) (w : World) (g : Late c d base w) → w.ground_node.fop.state ≡ S1 → outstanding w.ground_node ≡ [] → length g.plain.units ≤ g.plain.r
-late_complete c d base w g on nothing =
-    let p = g.plain in
-    let l = g.linked in
-    let was : Holds base w.ground_node.fop.vs w.ground_node.fop.nn w.ground_node.fop.sent (unsent_segments w.ground_node) p.a p.n p.units = let it : Held false base w.ground_node.fop.vs w.ground_node.fop.nn w.ground_node.fop.sent (unsent_segments w.ground_node) p.a p.n p.units = rw on at l.held in it in
-    let none_left : length (units_of w.ground_node.fop.sent) + length (unsent_segments w.ground_node) ≡ 0 = sym (length-append (units_of w.ground_node.fop.sent) (unsent_segments w.ground_node)) ∙ ap length nothing in
-    let sent : length (drop p.a (take p.n p.units)) ≡ length (units_of w.ground_node.fop.sent) = ap length (sym was.sent_is) in
-    let rest : length (drop p.n p.units) ≡ length (unsent_segments w.ground_node) = ap length (sym was.rest_is) in
-    omega (arith, none_left, sent, rest, length-drop p.a (take p.n p.units), length-take-le p.n p.units l.n_most, length-drop p.n p.units, l.a_r, l.r_n, l.n_most)
-
-history : (c : Config) (d : Directive) (base : ℕ) (w : World) → Begun c d base w ⊎ Late c d base w → History c w
-history c d base w s = elim s [
-  | inl g ↦ (let l = g.early in record {
-    plain = record new_link { units = units_of_all c w.session.submissions };
+pub told : (c : Config) (w : World) → Clean c w → IsTold c w
+told c w s = elim s.session [
+  | inl g ↦ record {
+    base = s.base;
+    plain = unsent_link c w;
     ran = more none (adds (units_of_all c w.session.submissions));
-    given = l.given;
-    units_are = refl;
-    sent_is = l.sent_none;
-    accepted_is = l.accepted_none;
-    acked_is = l.acked_none;
-    n_most = omega arith;
-    a_r = omega arith;
-    r_n = omega arith;
-    complete = λ on nothing. absurd (let no : IsEarly d S1 = rw on at l.early in no);
-  })
-  | inr g ↦ (let l = g.linked in record {
+    history = begun_history c s.directive s.base w g;
+  }
+  | inr g ↦ record {
+    base = s.base;
     plain = g.plain;
     ran = g.ran;
-    given = l.given;
-    units_are = l.units_are;
-    sent_is = l.sent_is;
-    accepted_is = l.accepted_is;
-    acked_is = l.acked_is;
-    n_most = l.n_most;
-    a_r = l.a_r;
-    r_n = l.r_n;
-    complete = late_complete c d base w g;
-  })
+    history = late_history c s.directive s.base w g;
+  }
 ]
 
 given_go : (c : Config) (ps : List PacketOn) → AllByRecursion (IsGiven c) ps → AllByRecursion (Goes (limits_of c)) ps
@@ -123,7 +234,7 @@ drop_front : {A : Type 0} (xs ys : List A) → drop (length xs) (xs ++ ys) ≡ y
 drop_front [] ys = refl
 drop_front (x ∷ xs) ys = drop_front xs ys
 
-module _ (c : Config) (w : World) (k : Sound c w) (h : History c w) (m : ℕ) where
+module _ (c : Config) (w : World) (k : Sound c w) (base : ℕ) (p : PlainLink) (h : History c w base p) (m : ℕ) where
   abbrev lim : Limits
   lim = limits_of c
 
@@ -131,7 +242,7 @@ module _ (c : Config) (w : World) (k : Sound c w) (h : History c w) (m : ℕ) wh
   old = take w.session.before w.spacecraft.accepted
 
   abbrev new : List SegmentView
-  new = take h.plain.r h.plain.units
+  new = take p.r p.units
 
   all_is : w.spacecraft.accepted ≡ old ++ new
   all_is = sym (take-append-drop w.session.before w.spacecraft.accepted) ∙ ap (λ xs. old ++ xs) h.accepted_is
@@ -146,57 +257,84 @@ module _ (c : Config) (w : World) (k : Sound c w) (h : History c w) (m : ℕ) wh
       ∙ ap (drop (length (assembled lim m old))) begins.1
       ∙ drop_front (assembled lim m old) begins.0
 
-  whole : assembled lim m (old ++ h.plain.units) ≡ assembled lim m old ++ submitted w m
+  whole : assembled lim m (old ++ p.units) ≡ assembled lim m old ++ submitted w m
   whole = ap (λ us. assembled lim m (old ++ us)) h.units_are ∙ all_given lim m k.ranges.part.0 old w.session.submissions (given_go c w.session.submissions h.given)
 
   pub in_order : IsBeginning (delivered w m) (submitted w m)
   in_order =
-      let left : List SegmentView = drop h.plain.r h.plain.units in
+      let left : List SegmentView = drop p.r p.units in
       let further = assembled_begins lim m (old ++ new) left in
-      let joined : old ++ h.plain.units ≡ (old ++ new) ++ left = ap (λ us. old ++ us) (sym (take-append-drop h.plain.r h.plain.units)) ∙ sym (append_assoc old new left) in
+      let joined : old ++ p.units ≡ (old ++ new) ++ left = ap (λ us. old ++ us) (sym (take-append-drop p.r p.units)) ∙ sym (append_assoc old new left) in
       let both : assembled lim m old ++ submitted w m ≡ assembled lim m old ++ (begins.0 ++ further.0) = sym whole ∙ ap (assembled lim m) joined ∙ further.1 ∙ ap (λ ps. ps ++ further.0) begins.1 ∙ append_assoc (assembled lim m old) begins.0 further.0 in
       (further.0, append_cancel_left (assembled lim m old) (submitted w m) (begins.0 ++ further.0) both ∙ ap (λ ps. ps ++ further.0) (sym delivered_is))
 
-  pub all_delivered : length h.plain.units ≤ h.plain.r → delivered w m ≡ submitted w m
+  pub all_delivered : length p.units ≤ p.r → delivered w m ≡ submitted w m
   all_delivered most =
-      let same : new ≡ h.plain.units = take_all h.plain.r h.plain.units most in
+      let same : new ≡ p.units = take_all p.r p.units most in
       let both : assembled lim m old ++ begins.0 ≡ assembled lim m old ++ submitted w m = sym begins.1 ∙ ap (λ us. assembled lim m (old ++ us)) same ∙ whole in
       delivered_is ∙ append_cancel_left (assembled lim m old) begins.0 (submitted w m) both
 
 -- ---- the promises
 
-pub history_of : (c : Config) (w : World) → Clean c w → History c w
-history_of c w s = history c s.directive s.base w s.session
+module _ (c : Config) (w : World) (k : Sound c w) where
+  module _ (base : ℕ) (p : PlainLink) (h : History c w base p) where
+    accepted_octets : accepted w ≡ map segment_octets (take p.r p.units)
+    accepted_octets = ap (map segment_octets) h.accepted_is
 
-module _ (c : Config) (w : World) (k : Sound c w) (s : Clean c w) where
-  accepted_octets : accepted w ≡ map segment_octets (take (history_of c w s).plain.r (history_of c w s).plain.units)
-  accepted_octets = ap (map segment_octets) (history_of c w s).accepted_is
+    order_of_history : IsInOrder w
+    order_of_history =
+        let sent_a : take p.a w.session.sent ≡ map segment_octets (take p.a p.units) =
+        ap (take p.a) h.sent_is
+        ∙ take-map segment_octets p.a (take p.n p.units)
+        ∙ ap (map segment_octets) (take-take p.a p.n p.units (omega (arith, h.a_r, h.r_n))) in
+        let accepted_a : take p.a (accepted w) ≡ map segment_octets (take p.a p.units) =
+        ap (take p.a) accepted_octets
+        ∙ take-map segment_octets p.a (take p.r p.units)
+        ∙ ap (map segment_octets) (take-take p.a p.r p.units h.a_r) in
+        let sent_count : length w.session.sent ≡ p.n =
+        ap length h.sent_is
+        ∙ length-map (take p.n p.units) segment_octets
+        ∙ length-take-le p.n p.units h.n_most in
+        let r_most : p.r ≤ length p.units = omega (arith, h.r_n, h.n_most) in
+        let accepted_count : length (accepted w) ≡ p.r =
+        ap length accepted_octets
+        ∙ length-map (take p.r p.units) segment_octets
+        ∙ length-take-le p.r p.units r_most in
+        record {
+          in_order = λ m. in_order c w k base p h m;
+          acknowledged = rw h.acked_is (sent_a ∙ sym accepted_a);
+          counted = (
+            omega (arith, h.acked_is, sent_count, h.a_r, h.r_n),
+            omega (arith, h.acked_is, accepted_count, h.a_r),
+          );
+          complete = λ on nothing m. all_delivered c w k base p h m (h.complete on nothing);
+        }
 
-  pub is_in_order : IsInOrder w
-  is_in_order =
-      let h = history_of c w s in
-      let p = h.plain in
-      let sent_a : take p.a w.session.sent ≡ map segment_octets (take p.a p.units) = ap (take p.a) h.sent_is ∙ take-map segment_octets p.a (take p.n p.units) ∙ ap (map segment_octets) (take-take p.a p.n p.units (omega (arith, h.a_r, h.r_n))) in
-      let accepted_a : take p.a (accepted w) ≡ map segment_octets (take p.a p.units) = ap (take p.a) accepted_octets ∙ take-map segment_octets p.a (take p.r p.units) ∙ ap (map segment_octets) (take-take p.a p.r p.units h.a_r) in
-      let sent_count : length w.session.sent ≡ p.n = ap length h.sent_is ∙ length-map (take p.n p.units) segment_octets ∙ length-take-le p.n p.units h.n_most in
-      let r_most : p.r ≤ length p.units = omega (arith, h.r_n, h.n_most) in
-      let accepted_count : length (accepted w) ≡ p.r = ap length accepted_octets ∙ length-map (take p.r p.units) segment_octets ∙ length-take-le p.r p.units r_most in
-      record {
-        in_order = λ m. in_order c w k h m;
-        acknowledged = rw h.acked_is (sent_a ∙ sym accepted_a);
-        counted = (omega (arith, h.acked_is, sent_count, h.a_r, h.r_n), omega (arith, h.acked_is, accepted_count, h.a_r));
-        complete = λ on nothing m. all_delivered c w k h m (h.complete on nothing);
-      }
+    pub is_history : IsHistory w base p
+    is_history =
+        let own = sym k.ground_node.config in
+        record {
+          units = h.units_are ∙ ap (λ (x : Config). units_of_all x w.session.submissions) own;
+          sent = h.sent_is;
+          accepted_so = accepted_octets;
+          acknowledged = h.acked_is;
+          order = (h.a_r, h.r_n, h.n_most);
+          window = subst (λ (x : Config). p.n ≤ p.a + x.width / 2) own h.window;
+          up = h.up_is;
+          near = subst (λ (x : Config). AllByRecursion (IsNear p (x.width / 2)) p.up) own h.near;
+          down = λ settled.
+              ap (λ (x : Config). map (λ (r : Clcw). r.value) (flat_map (report_carried x) w.down))
+              k.ground_node.config
+              ∙ h.down_is settled;
+          rises = h.rises;
+          vr = h.vr_is;
+          ends = h.ends;
+        }
 
-  pub has_plain_history : HasPlainHistory w
-  has_plain_history =
-      let h = history_of c w s in
-      record {
-        plain = h.plain;
-        ran = h.ran;
-        units = h.units_are ∙ ap (λ (x : Config). units_of_all x w.session.submissions) (sym k.ground_node.config);
-        sent = h.sent_is;
-        accepted_so = accepted_octets;
-        acknowledged = h.acked_is;
-        order = (h.a_r, h.r_n, h.n_most);
-      }
+  pub is_in_order : Clean c w → IsInOrder w
+  is_in_order s = let t = told c w s in order_of_history t.base t.plain t.history
+
+  pub has_plain_history : Clean c w → HasPlainHistory w
+  has_plain_history s =
+      let t = told c w s in
+      record { base = t.base; plain = t.plain; ran = t.ran; is = is_history t.base t.plain t.history }

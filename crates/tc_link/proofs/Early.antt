@@ -18,7 +18,8 @@ use Rattle.tc_link.specs.Spacecraft.{SpacecraftState}
 use Rattle.tc_link.specs.World.{World}
 use Rattle.tc_link.specs.PlainLink.{PlainLink, PlainRun, new_link, none, more, adds, reports as tells}
 use Rattle.tc_link.specs.Confirmation.{IsChecked}
-use Rattle.tc_link.proofs.Transit.{CommandFits, UpIs, DownIs, Rises, Ranks}
+use Rattle.tc_link.specs.History.{Rises}
+use Rattle.tc_link.proofs.Transit.{CommandFits, UpIs, DownIs, Ranks}
 use Rattle.tc_link.proofs.Linked.{Late, IsGiven, units_of_all, Carries, Reporting, Held}
 use Rattle.tc_link.proofs.Settled.{settled_keeps}
 
@@ -190,6 +191,7 @@ module _ (c : Config) (d : Directive) (base : ℕ) where
         linked = record {
           opened = l.opened;
           confirmed_is = λ t. now_is;
+          confirmed_so = λ t. l.checked;
           base_octet = l.base_octet;
           vr_is = omega (arith, good.3, l.base_octet);
           nn_octet = omega (arith, nn, l.nn_octet);

@@ -25,7 +25,7 @@ use Rattle.tc_link.specs.declared.event.Event.TheVariants as events
 use Rattle.tc_link.specs.declared.sim.opening.Opening.{Opening}
 use Rattle.tc_link.specs.Parameters.{IsConfig}
 use Rattle.tc_link.specs.Ground.{GroundState, is_closed, directive_outcome, with_fop, frame_to_send}
-use Rattle.tc_link.specs.World.{World, new_world, world_step, world_run, IsClean, is_initiation, begins_clean, session_begun_by, session_after_directive, world_after_pull, up_deliver_step, up_lose_step, up_damage_outcome, up_damage_step, down_deliver_step, down_lose_step, down_damage_outcome, down_damage_step}
+use Rattle.tc_link.specs.World.{World, new_world, world_step, world_run, IsClean, BeginsNoSession, is_initiation, begins_clean, session_begun_by, session_after_directive, world_after_pull, up_deliver_step, up_lose_step, up_damage_outcome, up_damage_step, down_deliver_step, down_lose_step, down_damage_outcome, down_damage_step}
 use Rattle.tc_link.specs.Reached.{IsDirective, IsEvent, IsReached}
 use Rattle.tc_link.proofs.Arriving.{up_deliver_keeps, up_lose_keeps, up_damage_keeps}
 use Rattle.tc_link.proofs.Beginning.{Clean, begins}
@@ -36,28 +36,10 @@ use Rattle.tc_link.proofs.EarlyBoard.{early_up_deliver, early_up_lose, early_up_
 use Rattle.tc_link.proofs.EarlyGround.{early_tick, open_early, on_early, early_submit, early_bypass, early_send}
 use Rattle.tc_link.proofs.EarlyTelemetry.{early_down_deliver, early_down_lose, early_down_damage}
 use Rattle.tc_link.proofs.LateTelemetry.{late_down_deliver, late_down_lose, late_down_damage, late_report}
-use Rattle.tc_link.proofs.Linked.{Steady, Late}
+use Rattle.tc_link.proofs.Linked.{Steady, Late, Next, late_of}
 use Rattle.tc_link.proofs.LateSending.{late_send}
 use Rattle.tc_link.proofs.SteadyWorld.{Sound, steady_of, step_sound, new_sound}
 use Rattle.tc_link.proofs.LateSubmitting.{late_submit, late_bypass}
-
--- no session begins with this event
-abbrev pub Continues : World → Event → Type 0
-Continues w (events.Submit m octets) = Unit {0}
-Continues w (events.Bypass m octets) = Unit {0}
-Continues w (events.Directive d) = is_initiation d ≡ true → is_closed w.ground_node.fop.state ≡ false
-Continues w events.Send = Unit {0}
-Continues w events.UpDeliver = Unit {0}
-Continues w events.UpLose = Unit {0}
-Continues w (events.UpDamage octets) = Unit {0}
-Continues w events.Report = Unit {0}
-Continues w events.DownDeliver = Unit {0}
-Continues w events.DownLose = Unit {0}
-Continues w (events.DownDamage octets) = Unit {0}
-Continues w events.Tick = Unit {0}
-Continues w events.Take = Unit {0}
-Continues w events.TakeBypass = Unit {0}
-Continues w (events.Telemetry octets) = Unit {0}
 
 -- ---- such an event leaves the session's opening as it is
 
@@ -119,10 +101,10 @@ module _ (w : World) where
     | inr other ↦ opened_other d (directive_outcome w.ground_node (directive_step w.ground_node.fop d)).answer other
   ]
 
-  pub opening_stays : (e : Event) → Continues w e → (world_step w e).after.session.opening ≡ w.session.opening
+  pub opening_stays : (e : Event) → BeginsNoSession w e → (world_step w e).after.session.opening ≡ w.session.opening
   opening_stays (events.Submit m octets) goes = refl
   opening_stays (events.Bypass m octets) goes = refl
-  opening_stays (events.Directive d) goes = opened_directive d goes
+  opening_stays (events.Directive d) goes = opened_directive d (goes d refl)
   opening_stays events.Send goes = opened_pull (with_fop w.ground_node (pull_step w.ground_node.fop).after) (frame_to_send w.ground_node.config (pull_step w.ground_node.fop).answer)
   opening_stays events.UpDeliver goes = (opened_up w.up).0
   opening_stays events.UpLose goes = (opened_up w.up).1
@@ -139,7 +121,7 @@ module _ (w : World) where
 -- ---- a clean session stays so
 
 module _ (c : Config) (d : Directive) (base : ℕ) (w : World) (k : Steady c w) where
-  late_directive : (g : Late c d base w) (e : Directive) → IsDirective e → (is_initiation e ≡ true → is_closed w.ground_node.fop.state ≡ false) → Late c d base (world_step w (events.Directive e)).after
+  late_directive : (g : Late c d base w) (e : Directive) → IsDirective e → (is_initiation e ≡ true → is_closed w.ground_node.fop.state ≡ false) → Next c d base g.plain (world_step w (events.Directive e)).after
   late_directive g e fits goes = elim (cases_Bool (is_initiation e)) [
     | inl is ↦ on_directive c d base w g e (goes is) is
     | inr other ↦ open_directive c d base w g e fits other
@@ -151,10 +133,10 @@ module _ (c : Config) (d : Directive) (base : ℕ) (w : World) (k : Steady c w) 
     | inr other ↦ open_early c d base w k g e fits other
   ]
 
-  pub late_step : (g : Late c d base w) (e : Event) → IsEvent e → Continues w e → Late c d base (world_step w e).after
+  pub late_step : (g : Late c d base w) (e : Event) → IsEvent e → BeginsNoSession w e → Next c d base g.plain (world_step w e).after
   late_step g (events.Submit m octets) fits goes = late_submit c d base w k g m octets.now
   late_step g (events.Bypass m octets) fits goes = late_bypass c d base w k g m octets.now
-  late_step g (events.Directive e) fits goes = late_directive g e fits goes
+  late_step g (events.Directive e) fits goes = late_directive g e fits (goes e refl)
   late_step g events.Send fits goes = late_send c d base w k g
   late_step g events.UpDeliver fits goes = up_deliver_keeps c d base w k g
   late_step g events.UpLose fits goes = up_lose_keeps c d base w k g
@@ -168,10 +150,10 @@ module _ (c : Config) (d : Directive) (base : ℕ) (w : World) (k : Steady c w) 
   late_step g events.TakeBypass fits goes = late_take_bypass c d base w k g
   late_step g (events.Telemetry octets) fits goes = late_telemetry c d base w k g octets.now
 
-  pub early_step : (g : Begun c d base w) (e : Event) → IsEvent e → Continues w e → Begun c d base (world_step w e).after ⊎ Late c d base (world_step w e).after
+  pub early_step : (g : Begun c d base w) (e : Event) → IsEvent e → BeginsNoSession w e → Begun c d base (world_step w e).after ⊎ Late c d base (world_step w e).after
   early_step g (events.Submit m octets) fits goes = inl (early_submit c d base w k g m octets.now)
   early_step g (events.Bypass m octets) fits goes = inl (early_bypass c d base w k g m octets.now)
-  early_step g (events.Directive e) fits goes = inl (early_directive g e fits goes)
+  early_step g (events.Directive e) fits goes = inl (early_directive g e fits (goes e refl))
   early_step g events.Send fits goes = inl (early_send c d base w k g)
   early_step g events.UpDeliver fits goes = inl (early_up_deliver c d base w k g)
   early_step g events.UpLose fits goes = inl (early_up_lose c d base w k g)
@@ -192,7 +174,7 @@ pub record Holding (c : Config) (w : World) : Type 0 where
   pub clean : IsClean w → Clean c w
 
 module _ (c : Config) (w : World) (h : Holding c w) where
-  goes_on : (e : Event) → IsEvent e → Continues w e → IsClean (world_step w e).after → Clean c (world_step w e).after
+  goes_on : (e : Event) → IsEvent e → BeginsNoSession w e → IsClean (world_step w e).after → Clean c (world_step w e).after
   goes_on e fits goes is =
       let was : IsClean w = sym (ap (option_map (λ (o : Opening). o.clean)) (opening_stays w e goes)) ∙ is in
       let s = h.clean was in
@@ -201,7 +183,7 @@ module _ (c : Config) (w : World) (h : Holding c w) where
         base = s.base;
         session = elim s.session [
           | inl g ↦ early_step c s.directive s.base w (steady_of c w h.sound) g e fits goes
-          | inr g ↦ inr (late_step c s.directive s.base w (steady_of c w h.sound) g e fits goes)
+          | inr g ↦ inr (late_of g (late_step c s.directive s.base w (steady_of c w h.sound) g e fits goes))
         ];
       }
 
@@ -236,27 +218,27 @@ module _ (c : Config) (w : World) (h : Holding c w) where
   directive_so d fits clean = elim (cases_Bool (is_initiation d)) [
     | inl is ↦ (elim (cases_Bool (is_closed w.ground_node.fop.state)) [
       | inl off ↦ begins_so d fits is off clean
-      | inr on ↦ goes_on (events.Directive d) fits (λ e. on) clean
+      | inr on ↦ goes_on (events.Directive d) fits (λ x same is. on) clean
     ])
-    | inr other ↦ goes_on (events.Directive d) fits (λ e. absurd (cc (e, other))) clean
+    | inr other ↦ goes_on (events.Directive d) fits (λ x same is. absurd (cc (same, is, other))) clean
   ]
 
   clean_so : (e : Event) → IsEvent e → IsClean (world_step w e).after → Clean c (world_step w e).after
   clean_so (events.Directive d) fits is = directive_so d fits is
-  clean_so (events.Submit m octets) fits is = goes_on (events.Submit m octets) fits tt is
-  clean_so (events.Bypass m octets) fits is = goes_on (events.Bypass m octets) fits tt is
-  clean_so events.Send fits is = goes_on events.Send fits tt is
-  clean_so events.UpDeliver fits is = goes_on events.UpDeliver fits tt is
-  clean_so events.UpLose fits is = goes_on events.UpLose fits tt is
-  clean_so (events.UpDamage octets) fits is = goes_on (events.UpDamage octets) fits tt is
-  clean_so events.Report fits is = goes_on events.Report fits tt is
-  clean_so events.DownDeliver fits is = goes_on events.DownDeliver fits tt is
-  clean_so events.DownLose fits is = goes_on events.DownLose fits tt is
-  clean_so (events.DownDamage octets) fits is = goes_on (events.DownDamage octets) fits tt is
-  clean_so events.Tick fits is = goes_on events.Tick fits tt is
-  clean_so events.Take fits is = goes_on events.Take fits tt is
-  clean_so events.TakeBypass fits is = goes_on events.TakeBypass fits tt is
-  clean_so (events.Telemetry octets) fits is = goes_on (events.Telemetry octets) fits tt is
+  clean_so (events.Submit m octets) fits is = goes_on (events.Submit m octets) fits (λ x same begins. absurd (cc same)) is
+  clean_so (events.Bypass m octets) fits is = goes_on (events.Bypass m octets) fits (λ x same begins. absurd (cc same)) is
+  clean_so events.Send fits is = goes_on events.Send fits (λ x same begins. absurd (cc same)) is
+  clean_so events.UpDeliver fits is = goes_on events.UpDeliver fits (λ x same begins. absurd (cc same)) is
+  clean_so events.UpLose fits is = goes_on events.UpLose fits (λ x same begins. absurd (cc same)) is
+  clean_so (events.UpDamage octets) fits is = goes_on (events.UpDamage octets) fits (λ x same begins. absurd (cc same)) is
+  clean_so events.Report fits is = goes_on events.Report fits (λ x same begins. absurd (cc same)) is
+  clean_so events.DownDeliver fits is = goes_on events.DownDeliver fits (λ x same begins. absurd (cc same)) is
+  clean_so events.DownLose fits is = goes_on events.DownLose fits (λ x same begins. absurd (cc same)) is
+  clean_so (events.DownDamage octets) fits is = goes_on (events.DownDamage octets) fits (λ x same begins. absurd (cc same)) is
+  clean_so events.Tick fits is = goes_on events.Tick fits (λ x same begins. absurd (cc same)) is
+  clean_so events.Take fits is = goes_on events.Take fits (λ x same begins. absurd (cc same)) is
+  clean_so events.TakeBypass fits is = goes_on events.TakeBypass fits (λ x same begins. absurd (cc same)) is
+  clean_so (events.Telemetry octets) fits is = goes_on (events.Telemetry octets) fits (λ x same begins. absurd (cc same)) is
 
   pub step_holds : (e : Event) → IsEvent e → Holding c (world_step w e).after
   step_holds e fits = record { sound = step_sound c w h.sound e fits; clean = clean_so e fits }

@@ -1,5 +1,5 @@
 -- The ground sends a frame late in a session.
-use Rattle.std.proofs.Common.{◌≡◌, ℕ, ◌+◌, ◌*◌, ◌/◌, ◌%◌, ◌<◌, ◌≤◌, true, false, List, [], ◌∷◌, ◌++◌, length, take, drop, map, Option, Some, None, option_to_list, refl, ap, sym, subst, ◌∙◌, arith}
+use Rattle.std.proofs.Common.{◌≡◌, ℕ, ◌+◌, ◌*◌, ◌/◌, ◌%◌, ◌<◌, ◌≤◌, true, false, List, [], ◌∷◌, ◌++◌, length, take, drop, map, Option, Some, None, option_to_list, refl, ap, sym, subst, ◌∙◌, arith, inl, inr}
 use Rattle.std.specs.Prelude.{slice_get, nat_lt, ◌==◌}
 use Rattle.std.specs.List.{AllByRecursion}
 use Rattle.std.proofs.lemmas.Bool.{cond_both, ltb-true, eq-eqb, ne_eqb}
@@ -19,18 +19,18 @@ use Rattle.tc_link.specs.declared.config.Config.{Config}
 use Rattle.tc_link.specs.OwnedFields.{FitsFrame}
 use Rattle.tc_link.specs.Ground.{is_closed, unsent_segments, with_fop, frame_of, frame_to_send}
 use Rattle.tc_link.specs.World.{World, world_after_pull, first_sent}
-use Rattle.tc_link.specs.PlainLink.{more, puts_next, puts_again}
+use Rattle.tc_link.specs.PlainLink.{puts_next, puts_again}
 use Rattle.tc_link.proofs.Lists.{drop_cons_get, drop_cons_rest, take_next, get_within, get_drop, get_take}
 use Rattle.tc_link.proofs.Queue.{units-push, units-without, oldest_stands}
 use Rattle.tc_link.proofs.Reports.{IsLate}
 use Rattle.tc_link.proofs.Transit.{UpIs, Fits, bit, up_push, up_push_bypass, fits_push, fits_further}
-use Rattle.tc_link.proofs.Linked.{Steady, Late, Carries, Commanded, Holds, Held, carries_push}
+use Rattle.tc_link.proofs.Linked.{Steady, Late, Carries, Commanded, Holds, Held, carries_push, Next}
 use Rattle.tc_link.proofs.Settled.{same_keeps, late_settled}
 use Rattle.tc_link.proofs.Spelled.{Goes, reads_back, fits_at}
 
 module _ (c : Config) (d : Directive) (base : ℕ) (w : World) (k : Steady c w) (g : Late c d base w) where
   abbrev Leaves : FopOutcome SegmentView (PulledUnit SegmentView) → Type 0
-  Leaves o = Late c d base (world_after_pull w (with_fop w.ground_node o.after) (frame_to_send w.ground_node.config o.answer)).after
+  Leaves o = Next c d base g.plain (world_after_pull w (with_fop w.ground_node o.after) (frame_to_send w.ground_node.config o.answer)).after
 
   none_keeps : Leaves (pulls w.ground_node.fop NothingPulled)
   none_keeps = same_keeps c d base w g w.ground_node.fop refl refl refl refl refl
@@ -49,7 +49,7 @@ module _ (c : Config) (d : Directive) (base : ℕ) (w : World) (k : Steady c w) 
       let sent_is : w.session.sent ++ [] ≡ map segment_octets (take p.n p.units) = append-nil w.session.sent ∙ l.sent_is in
       late_settled c d base (record w { ground_node = record w.ground_node { fop = record w.ground_node.fop { bypass = us } }; up = w.up ++ spelling On (frame_of w.ground_node.config frame) ∷ []; session = record w.session { sent = w.session.sent ++ [] } }) (record {
         plain = p;
-        ran = g.ran;
+        ran = inl refl;
         front = g.front;
         frames = g.frames ++ frame ∷ [];
         reports = g.reports;
@@ -87,7 +87,7 @@ module _ (c : Config) (d : Directive) (base : ℕ) (w : World) (k : Steady c w) 
         let sent_is : w.session.sent ++ first_sent s.vs frame ≡ map segment_octets (take (p.n + 1) p.units) = ap (λ xs. w.session.sent ++ xs) field ∙ ap (λ xs. xs ++ segment_octets u ∷ []) l.sent_is ∙ sym (ap (map segment_octets) (take_next p.units p.n u unit_is) ∙ map-append segment_octets (take p.n p.units) (u ∷ [])) in
         late_settled c d base (record w { ground_node = record w.ground_node { fop = after_send_first s u }; up = w.up ++ spelling On (frame_of w.ground_node.config frame) ∷ []; session = record w.session { sent = w.session.sent ++ first_sent s.vs frame } }) (record {
           plain = record p { n = p.n + 1; up = p.up ++ (p.n, u) ∷ [] };
-          ran = more g.ran (puts_next unit_is);
+          ran = inr (puts_next unit_is);
           front = g.front;
           frames = g.frames ++ frame ∷ [];
           reports = g.reports;
@@ -123,7 +123,7 @@ module _ (c : Config) (d : Directive) (base : ℕ) (w : World) (k : Steady c w) 
         let sent_is : w.session.sent ++ first_sent s.vs frame ≡ map segment_octets (take p.n p.units) = ap (λ xs. w.session.sent ++ xs) field ∙ append-nil w.session.sent ∙ l.sent_is in
         late_settled c d base (record w { ground_node = record w.ground_node { fop = record (after_restart s) { sent = without_oldest_mark s.sent } }; up = w.up ++ spelling On (frame_of w.ground_node.config frame) ∷ []; session = record w.session { sent = w.session.sent ++ first_sent s.vs frame } }) (record {
           plain = record p { up = p.up ++ (p.a + x.0, x.1) ∷ [] };
-          ran = more g.ran (puts_again (omega arith) below unit_is);
+          ran = inr (puts_again (omega arith) below unit_is);
           front = g.front;
           frames = g.frames ++ frame ∷ [];
           reports = g.reports;

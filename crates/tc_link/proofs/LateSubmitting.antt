@@ -1,5 +1,5 @@
 -- Packets that are submitted keep what holds late in a session.
-use Rattle.std.proofs.Common.{◌≡◌, ℕ, ◌/◌, ◌≤◌, ◌<◌, Bool, true, false, cond, List, [], ◌∷◌, ◌++◌, length, take, drop, map, Option, Some, None, option_to_list, refl, ap, sym, subst, ◌∙◌, append_assoc, arith, length-append}
+use Rattle.std.proofs.Common.{◌≡◌, ℕ, ◌/◌, ◌≤◌, ◌<◌, Bool, true, false, cond, List, [], ◌∷◌, ◌++◌, length, take, drop, map, Option, Some, None, option_to_list, refl, ap, sym, subst, ◌∙◌, append_assoc, arith, length-append, inl, inr}
 use Rattle.std.specs.Prelude.{◌==◌}
 use Rattle.std.specs.List.{AllByRecursion}
 use Rattle.std.proofs.lemmas.Bool.{and_parts, not-false}
@@ -15,9 +15,9 @@ use Rattle.tc_link.specs.Packets.{PacketOn, packet_on}
 use Rattle.tc_link.specs.Ground.{GroundState, is_closed, unsent_segments, segments_on, submit_fault, after_submission, bypass_fault, after_bypass, unless_refused}
 use Rattle.tc_link.specs.World.{World, world_after_submission, world_after_bypass}
 use Rattle.tc_link.proofs.Submitting.{segments_fit, submit_map}
-use Rattle.tc_link.specs.PlainLink.{more, adds}
+use Rattle.tc_link.specs.PlainLink.{adds}
 use Rattle.tc_link.proofs.Transit.{Fits, fits_longer}
-use Rattle.tc_link.proofs.Linked.{Steady, Late, IsGiven, units_of_all, Holds, Held}
+use Rattle.tc_link.proofs.Linked.{Steady, Late, IsGiven, units_of_all, Holds, Held, Next, stays}
 use Rattle.tc_link.proofs.Settled.{late_settled}
 
 passed : (b : Bool) (fault : LinkFault) (rest : Option LinkFault) → cond b (Some fault) rest ≡ None → (b ≡ false) × (rest ≡ None)
@@ -60,7 +60,7 @@ units-push c [] p = append-nil (segments_of c.part p.on_map p.octets)
 units-push c (x ∷ xs) p = ap (λ l. segments_of c.part x.on_map x.octets ++ l) (units-push c xs p) ∙ sym (append_assoc (segments_of c.part x.on_map x.octets) (units_of_all c xs) (segments_of c.part p.on_map p.octets))
 
 module _ (c : Config) (d : Directive) (base : ℕ) (w : World) (k : Steady c w) (g : Late c d base w) (m : ℕ) (octets : List ℕ) where
-  given_keeps : submit_fault w.ground_node m octets ≡ None → Late c d base (record w { ground_node = after_submission w.ground_node m octets; session = record w.session { submissions = w.session.submissions ++ packet_on m octets ∷ [] } })
+  given_keeps : submit_fault w.ground_node m octets ≡ None → Next c d base g.plain (record w { ground_node = after_submission w.ground_node m octets; session = record w.session { submissions = w.session.submissions ++ packet_on m octets ∷ [] } })
   given_keeps none =
       let p = g.plain in
       let l = g.linked in
@@ -81,7 +81,7 @@ module _ (c : Config) (d : Directive) (base : ℕ) (w : World) (k : Steady c w) 
       let fits : Fits (c.width / 2) p.n (p.units ++ new) p.r p.up = fits_longer (c.width / 2) p.n p.units new p.r p.up l.fits in
       late_settled c d base (record w { ground_node = record w.ground_node { pending = w.ground_node.pending ++ segments_on w.ground_node m octets }; session = record w.session { submissions = w.session.submissions ++ packet_on m octets ∷ [] } }) (record {
         plain = record p { units = p.units ++ new };
-        ran = more g.ran (adds new);
+        ran = inr (adds new);
         front = g.front;
         frames = g.frames;
         reports = g.reports;
@@ -90,19 +90,19 @@ module _ (c : Config) (d : Directive) (base : ℕ) (w : World) (k : Steady c w) 
       })
 
   -- an empty list behind the submissions
-  refused_keeps : (fault : LinkFault) → Late c d base (world_after_submission w (packet_on m octets) (unless_refused (Some fault) w.ground_node (after_submission w.ground_node m octets))).after
-  refused_keeps fault = subst (λ (ps : List PacketOn). Late c d base (record w { session = record w.session { submissions = ps } })) (sym (append-nil w.session.submissions)) g
+  refused_keeps : (fault : LinkFault) → Next c d base g.plain (world_after_submission w (packet_on m octets) (unless_refused (Some fault) w.ground_node (after_submission w.ground_node m octets))).after
+  refused_keeps fault = subst (λ (ps : List PacketOn). Next c d base g.plain (record w { session = record w.session { submissions = ps } })) (sym (append-nil w.session.submissions)) (stays g)
 
-  submit_keeps : (o : Option LinkFault) → submit_fault w.ground_node m octets ≡ o → Late c d base (world_after_submission w (packet_on m octets) (unless_refused o w.ground_node (after_submission w.ground_node m octets))).after
+  submit_keeps : (o : Option LinkFault) → submit_fault w.ground_node m octets ≡ o → Next c d base g.plain (world_after_submission w (packet_on m octets) (unless_refused o w.ground_node (after_submission w.ground_node m octets))).after
   submit_keeps None none = given_keeps none
   submit_keeps (Some fault) is = refused_keeps fault
 
-  pub late_submit : Late c d base (world_after_submission w (packet_on m octets) (unless_refused (submit_fault w.ground_node m octets) w.ground_node (after_submission w.ground_node m octets))).after
+  pub late_submit : Next c d base g.plain (world_after_submission w (packet_on m octets) (unless_refused (submit_fault w.ground_node m octets) w.ground_node (after_submission w.ground_node m octets))).after
   late_submit = submit_keeps (submit_fault w.ground_node m octets) refl
 
-  bypass_keeps : (o : Option LinkFault) → Late c d base (world_after_bypass w (unless_refused o w.ground_node (after_bypass w.ground_node m octets))).after
-  bypass_keeps (Some fault) = g
-  bypass_keeps None = record { plain = g.plain; ran = g.ran; front = g.front; frames = g.frames; reports = g.reports; linked = assumption g.linked; calm = λ checked. let i = g.calm checked in assumption i }
+  bypass_keeps : (o : Option LinkFault) → Next c d base g.plain (world_after_bypass w (unless_refused o w.ground_node (after_bypass w.ground_node m octets))).after
+  bypass_keeps (Some fault) = stays g
+  bypass_keeps None = record { plain = g.plain; ran = inl refl; front = g.front; frames = g.frames; reports = g.reports; linked = assumption g.linked; calm = λ checked. let i = g.calm checked in assumption i }
 
-  pub late_bypass : Late c d base (world_after_bypass w (unless_refused (bypass_fault w.ground_node m octets) w.ground_node (after_bypass w.ground_node m octets))).after
+  pub late_bypass : Next c d base g.plain (world_after_bypass w (unless_refused (bypass_fault w.ground_node m octets) w.ground_node (after_bypass w.ground_node m octets))).after
   late_bypass = bypass_keeps (bypass_fault w.ground_node m octets)

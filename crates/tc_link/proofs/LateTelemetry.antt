@@ -25,13 +25,14 @@ use Rattle.tc_link.specs.declared.heard.Heard.TheVariants.{Frame}
 use Rattle.tc_link.specs.declared.heard.HeardReport.TheVariants.{Used}
 use Rattle.tc_link.specs.Spacecraft.{spacecraft_step, Report, spacecraft_report}
 use Rattle.tc_link.specs.Ground.{GroundState, GroundOutcome, is_closed, unsent_segments, with_fop, after_extraction, ground_telemetry, telemetry_outcome, own_frame_outcome}
-use Rattle.tc_link.specs.World.{World, is_confirmation, session_after_report, world_after_report, down_deliver_step, down_lose_step, down_damage_outcome, down_damage_step}
-use Rattle.tc_link.specs.PlainLink.{more, reports as tells, loses_down, hears, ignores, PlainRun, new_link}
+use Rattle.tc_link.specs.World.{World, is_confirmation, is_initialising, session_after_report, world_after_report, down_deliver_step, down_lose_step, down_damage_outcome, down_damage_step}
+use Rattle.tc_link.specs.PlainLink.{PlainLink, AtMostOneStep, reports as tells, loses_down, hears, ignores}
 use Rattle.tc_link.specs.Confirmation.{IsChecked}
 use Rattle.tc_link.proofs.Reports as rules
 use Rattle.tc_link.proofs.Reports.{IsLate, IsRunning, asked, HeldBy, Leads, Led, active_led}
-use Rattle.tc_link.proofs.Transit.{DownIs, Rises, Ranks, bit, down_push, rises_push, rises_lower, rises_to, ranks_push, ranks_lower, ranks_to}
-use Rattle.tc_link.proofs.Linked.{Steady, Late, Tells, Reporting, Holds, Held, reporting_push}
+use Rattle.tc_link.specs.History.{Rises}
+use Rattle.tc_link.proofs.Transit.{DownIs, Ranks, bit, down_push, rises_push, rises_lower, rises_to, ranks_push, ranks_lower, ranks_to}
+use Rattle.tc_link.proofs.Linked.{Steady, Late, Tells, Reporting, Holds, Held, reporting_push, Next, stays}
 use Rattle.tc_link.proofs.Settled.{settled_keeps, held_again}
 use Rattle.tc_link.proofs.ReportFrames.{tells_now}
 use Rattle.tc_link.proofs.Words.{locks_is, waits_is, asks_is}
@@ -138,6 +139,26 @@ module _ (base h : ℕ) (checked : Type 0) (s : FopState SegmentView) (a n : ℕ
 
 -- ---- the world
 
+not_waiting : (m : FopMode) → IsLate m → is_initialising m ≡ false
+not_waiting S1 late = refl
+not_waiting S2 late = refl
+not_waiting S3 late = refl
+not_waiting S4 late = elim late [ ]
+not_waiting S5 late = elim late [ ]
+not_waiting S6 late = refl
+
+confirms_no_more : (old new : FopMode) → IsLate old → is_confirmation old new ≡ false
+confirms_no_more old S1 late = not_waiting old late
+confirms_no_more old S2 late = refl
+confirms_no_more old S3 late = refl
+confirms_no_more old S4 late = refl
+confirms_no_more old S5 late = refl
+confirms_no_more old S6 late = refl
+
+was_confirmed : (was : Bool) (old new : FopMode) → IsLate old → was || is_confirmation old new ≡ true → was ≡ true
+was_confirmed true old new late is = refl
+was_confirmed false old new late is = sym (confirms_no_more old new late) ∙ is
+
 module _ (c : Config) (d : Directive) (base : ℕ) (w : World) (k : Steady c w) (g : Late c d base w) where
   abbrev with_heard : GroundState → List (List ℕ) → World
   with_heard t down = record w { ground_node = t; down = down; session = session_after_report w.session w.ground_node t }
@@ -145,9 +166,9 @@ module _ (c : Config) (d : Directive) (base : ℕ) (w : World) (k : Steady c w) 
   -- the first report is no longer on its way, and the sender is another
   heard_keeps : (x : Extracted) (bs : List (List ℕ)) (rs : List Clcw) (v : ℕ) (vs : List ℕ) (rank : ℕ) (f : FopState SegmentView) (gone : ℕ) → g.plain.down ≡ v ∷ vs → Reporting c bs rs → DownIs base rs vs → g.plain.a ≤ v → Rises v vs g.plain.r
       → (IsChecked d → Ranks rank rs vs (2 * g.plain.r + bit w.spacecraft.farm.retransmit)) → Goes base (IsChecked d) w.ground_node.fop rank g.plain.a v gone f
-      → Late c d base (with_heard (with_fop (after_extraction w.ground_node x) f) bs)
+      → Next c d base g.plain (with_heard (with_fop (after_extraction w.ground_node x) f) bs)
   heard_keeps x bs rs v vs rank f gone also rest down_is low rises_on ranks_on to =
-      settled_keeps (λ t. Late c d base (with_heard t bs)) (record (after_extraction w.ground_node x) { fop = f }) (λ waiting pending on off.
+      settled_keeps (λ t. Next c d base g.plain (with_heard t bs)) (record (after_extraction w.ground_node x) { fop = f }) (λ waiting pending on off.
       let p = g.plain in
       let l = g.linked in
       let a : ℕ = p.a + gone in
@@ -157,12 +178,14 @@ module _ (c : Config) (d : Directive) (base : ℕ) (w : World) (k : Steady c w) 
       let held : Held (is_closed f.state) base f.vs f.nn f.sent (option_to_list waiting ++ pending) a p.n p.units = held_again (is_closed f.state) base f.vs f.nn f.sent (option_to_list f.waiting ++ w.ground_node.pending) (option_to_list waiting ++ pending) a p.n p.units on held_new in
       let acked_is : w.session.acknowledged + ahead_by f.nn w.ground_node.fop.nn ≡ a = omega (arith, to.nn_is, l.acked_is) in
       let confirmed_is : IsChecked d → w.session.confirmed || is_confirmation w.ground_node.fop.state f.state ≡ true = λ t. rw (l.confirmed_is t) refl in
+      let confirmed_so : w.session.confirmed || is_confirmation w.ground_node.fop.state f.state ≡ true → IsChecked d = λ t. l.confirmed_so (was_confirmed w.session.confirmed w.ground_node.fop.state f.state l.late t) in
       let a_r : a ≤ p.r = omega arith in
       let n_a : p.n ≤ a + c.width / 2 = omega (arith, l.n_a) in
       let rises : Rises a vs p.r = rises_lower v a p.r vs most rises_on in
-      let ran : PlainRun new_link (record p { a = a; down = vs }) = elim to.gone_is [
-        | inl e ↦ (let same : p.a ≡ a = omega (arith, e) in subst (λ i. PlainRun new_link (record p { a = i; down = vs })) same (more g.ran (ignores also)))
-        | inr e ↦ (subst (λ i. PlainRun new_link (record p { a = i; down = vs })) (sym e) (more g.ran (hears also)))
+      let next : PlainLink = record p { a = a; down = vs } in
+      let ran : AtMostOneStep p next = elim to.gone_is [
+        | inl e ↦ (let same : p.a ≡ a = omega (arith, e) in subst (λ i. AtMostOneStep p (record p { a = i; down = vs })) same (inr (ignores also)))
+        | inr e ↦ (subst (λ i. AtMostOneStep p (record p { a = i; down = vs })) (sym e) (inr (hears also)))
       ] in
       record {
         plain = record p { a = a; down = vs };
@@ -170,7 +193,7 @@ module _ (c : Config) (d : Directive) (base : ℕ) (w : World) (k : Steady c w) 
         front = g.front;
         frames = g.frames;
         reports = rs;
-        linked = assumption (rest, down_is, held, to.late, to.nn_octet, confirmed_is, acked_is, a_r, n_a, rises, l);
+        linked = assumption (rest, down_is, held, to.late, to.nn_octet, confirmed_is, confirmed_so, acked_is, a_r, n_a, rises, l);
         calm = λ checked.
             let m = g.calm checked in
             let ranks : Ranks (2 * a + asked f.state) rs vs (2 * p.r + bit w.spacecraft.farm.retransmit) = ranks_lower rank (2 * a + asked f.state) (2 * p.r + bit w.spacecraft.farm.retransmit) rs vs (to.rank_is checked) (ranks_on checked) in
@@ -200,20 +223,20 @@ module _ (c : Config) (d : Directive) (base : ℕ) (w : World) (k : Steady c w) 
       }
 
   deliver_keeps : (bs : List (List ℕ)) (rs : List Clcw) (vs : List ℕ) → g.plain.down ≡ vs → Reporting c bs rs → DownIs base rs vs → Rises g.plain.a vs g.plain.r → (IsChecked d → Ranks (2 * g.plain.a + asked w.ground_node.fop.state) rs vs (2 * g.plain.r + bit w.spacecraft.farm.retransmit))
-      → Late c d base (down_deliver_step w bs).after
-  deliver_keeps [] rs vs also rest down_is up ranks = g
+      → Next c d base g.plain (down_deliver_step w bs).after
+  deliver_keeps [] rs vs also rest down_is up ranks = stays g
   deliver_keeps (b ∷ bs) [] vs also rest down_is up ranks = elim rest [ ]
   deliver_keeps (b ∷ bs) (r ∷ rs) [] also rest down_is up ranks = elim down_is [ ]
   deliver_keeps (b ∷ bs) (r ∷ rs) (v ∷ vs) also rest down_is up ranks =
       let p = g.plain in
       let x : Extracted = extract_step w.ground_node.extractor rest.0.frame in
       let goes = goes_in base (c.width / 2) (IsChecked d) w.ground_node.fop p.a p.n p.units (unsent_segments w.ground_node) r v (coming r rs v vs down_is up ranks) w.ground_node.fop.state refl in
-      subst (λ (o : GroundOutcome Heard). Late c d base (with_heard o.after bs)) (sym (used_is c w.ground_node b r k.ground_config rest.0))
+      subst (λ (o : GroundOutcome Heard). Next c d base g.plain (with_heard o.after bs)) (sym (used_is c w.ground_node b r k.ground_config rest.0))
       (heard_keeps x bs rs v vs (2 * v + bit (asks r)) (clcw_step w.ground_node.fop r).after goes.0 also rest.1 down_is.1 up.0 up.1 (λ t. (ranks t).3) goes.1)
 
   lose_keeps : (bs : List (List ℕ)) (rs : List Clcw) (vs : List ℕ) → g.plain.down ≡ vs → Reporting c bs rs → DownIs base rs vs → Rises g.plain.a vs g.plain.r → (IsChecked d → Ranks (2 * g.plain.a + asked w.ground_node.fop.state) rs vs (2 * g.plain.r + bit w.spacecraft.farm.retransmit))
-      → Late c d base (down_lose_step w bs).after
-  lose_keeps [] rs vs also rest down_is up ranks = g
+      → Next c d base g.plain (down_lose_step w bs).after
+  lose_keeps [] rs vs also rest down_is up ranks = stays g
   lose_keeps (b ∷ bs) [] vs also rest down_is up ranks = elim rest [ ]
   lose_keeps (b ∷ bs) (r ∷ rs) [] also rest down_is up ranks = elim down_is [ ]
   lose_keeps (b ∷ bs) (r ∷ rs) (v ∷ vs) also rest down_is up ranks =
@@ -223,7 +246,7 @@ module _ (c : Config) (d : Directive) (base : ℕ) (w : World) (k : Steady c w) 
       let left_is = down_is.1 in
       record {
         plain = record p { down = vs };
-        ran = more g.ran (loses_down also);
+        ran = inr (loses_down also);
         front = g.front;
         frames = g.frames;
         reports = rs;
@@ -235,26 +258,26 @@ module _ (c : Config) (d : Directive) (base : ℕ) (w : World) (k : Steady c w) 
             assumption (lower, m);
       }
 
-  detect_keeps : (b : List ℕ) (bs : List (List ℕ)) (r : Result telemetry.FrameView TmFault) → Late c d base (down_lose_step w (b ∷ bs)).after → Late c d base (down_damage_outcome w bs r).after
-  detect_keeps b bs (Ok frame) lost = g
+  detect_keeps : (b : List ℕ) (bs : List (List ℕ)) (r : Result telemetry.FrameView TmFault) → Next c d base g.plain (down_lose_step w (b ∷ bs)).after → Next c d base g.plain (down_damage_outcome w bs r).after
+  detect_keeps b bs (Ok frame) lost = stays g
   detect_keeps b bs (Err fault) lost = lost
 
-  damage_keeps : (bs : List (List ℕ)) (damaged : List ℕ) → ((b : List ℕ) (more : List (List ℕ)) → bs ≡ b ∷ more → Late c d base (down_lose_step w bs).after) → Late c d base (down_damage_step w bs damaged).after
-  damage_keeps [] damaged lost = g
+  damage_keeps : (bs : List (List ℕ)) (damaged : List ℕ) → ((b : List ℕ) (more : List (List ℕ)) → bs ≡ b ∷ more → Next c d base g.plain (down_lose_step w bs).after) → Next c d base g.plain (down_damage_step w bs damaged).after
+  damage_keeps [] damaged lost = stays g
   damage_keeps (b ∷ bs) damaged lost = detect_keeps b bs (telemetry_reading.frame_at w.ground_node.config.frame_length damaged) (lost b bs refl)
 
-  pub late_down_deliver : Late c d base (down_deliver_step w w.down).after
+  pub late_down_deliver : Next c d base g.plain (down_deliver_step w w.down).after
   late_down_deliver = deliver_keeps w.down g.reports g.plain.down refl g.linked.reporting g.linked.down_is g.linked.rises (λ t. (g.calm t).ranks)
 
-  pub late_down_lose : Late c d base (down_lose_step w w.down).after
+  pub late_down_lose : Next c d base g.plain (down_lose_step w w.down).after
   late_down_lose = lose_keeps w.down g.reports g.plain.down refl g.linked.reporting g.linked.down_is g.linked.rises (λ t. (g.calm t).ranks)
 
-  pub late_down_damage : (damaged : List ℕ) → Late c d base (down_damage_step w w.down damaged).after
+  pub late_down_damage : (damaged : List ℕ) → Next c d base g.plain (down_damage_step w w.down damaged).after
   late_down_damage damaged = damage_keeps w.down damaged (λ b bs e. late_down_lose)
 
   -- ---- a telemetry frame is sent
 
-  pub late_report : Late c d base (world_after_report w (spacecraft_step w.spacecraft Report)).after
+  pub late_report : Next c d base g.plain (world_after_report w (spacecraft_step w.spacecraft Report)).after
   late_report =
       let p = g.plain in
       let l = g.linked in
@@ -268,7 +291,7 @@ module _ (c : Config) (d : Directive) (base : ℕ) (w : World) (k : Steady c w) 
       let rises : Rises p.a (p.down ++ p.r ∷ []) p.r = rises_push p.a p.r p.down l.rises in
       record {
         plain = record p { down = p.down ++ p.r ∷ [] };
-        ran = more g.ran tells;
+        ran = inr tells;
         front = g.front;
         frames = g.frames;
         reports = g.reports ++ r ∷ [];

@@ -35,6 +35,7 @@ pub mod Settled
 pub mod Spelled
 pub mod SteadyNodes
 pub mod SteadyWorld
+pub mod Steps
 pub mod Submitting
 pub mod Transit
 pub mod Verdicts

@@ -1,5 +1,5 @@
 -- How the nodes, what is on its way, the records and a plain link hold together in a clean session.
-use Rattle.std.proofs.Common.{◌≡◌, ℕ, ◌+◌, ◌*◌, ◌/◌, ◌%◌, ◌<◌, ◌≤◌, Bool, true, false, List, [], ◌∷◌, ◌++◌, length, take, drop, map, Some, None, Ok}
+use Rattle.std.proofs.Common.{◌≡◌, ℕ, ◌+◌, ◌*◌, ◌/◌, ◌%◌, ◌<◌, ◌≤◌, Bool, true, false, List, [], ◌∷◌, ◌++◌, length, take, drop, map, Some, None, Ok, inl, inr, refl, sym, subst}
 use Rattle.std.specs.List.{AllByRecursion, flat_map}
 use Rattle.clcw.specs.declared.word.Clcw.{Clcw}
 use Rattle.clcw.specs.Reading.{clcw_at}
@@ -26,9 +26,10 @@ use Rattle.tc_link.specs.OwnedFields.{FitsFrame}
 use Rattle.tc_link.specs.Packets.{PacketOn}
 use Rattle.tc_link.specs.Ground.{frame_of, is_closed, unsent_segments}
 use Rattle.tc_link.specs.World.{World}
-use Rattle.tc_link.specs.PlainLink.{PlainLink, PlainRun, new_link}
+use Rattle.tc_link.specs.PlainLink.{PlainLink, PlainRun, AtMostOneStep, new_link, more}
 use Rattle.tc_link.proofs.Reports.{IsLate, asked}
-use Rattle.tc_link.proofs.Transit.{UpIs, DownIs, Fits, Rises, Ranks, bit}
+use Rattle.tc_link.specs.History.{Rises}
+use Rattle.tc_link.proofs.Transit.{UpIs, DownIs, Fits, Ranks, bit}
 
 -- ---- octets on their way
 
@@ -109,6 +110,7 @@ Held false base vs nn sent rest a n units = Holds base vs nn sent rest a n units
 pub record Linked (c : Config) (d : Directive) (base : ℕ) (w : World) (p : PlainLink) (front : Bool) (frames : List BodyView) (reports : List Clcw) : Type 0 where
   pub opened : w.session.opening ≡ Some (record { directive = d; clean = true })
   pub confirmed_is : IsChecked d → w.session.confirmed ≡ true
+  pub confirmed_so : w.session.confirmed ≡ true → IsChecked d
   pub base_octet : base < 256
   pub vr_is : w.spacecraft.farm.vr ≡ (base + p.r) % 256
   pub nn_octet : w.ground_node.fop.nn < 256
@@ -139,14 +141,49 @@ pub record Calm (w : World) (p : PlainLink) (front : Bool) (reports : List Clcw)
   pub ranks : Ranks (2 * p.a + asked w.ground_node.fop.state) reports p.down (2 * p.r + bit w.spacecraft.farm.retransmit)
   pub rank_most : 2 * p.r + bit w.spacecraft.farm.retransmit ≤ 2 * p.n
 
-pub record Late (c : Config) (d : Directive) (base : ℕ) (w : World) : Type 0 where
+-- a plain link that is reached so stands beside the world
+pub record LateBy (Reached : PlainLink → Type 0) (c : Config) (d : Directive) (base : ℕ) (w : World) : Type 0 where
   pub plain : PlainLink
-  pub ran : PlainRun new_link plain
+  pub ran : Reached plain
   pub front : Bool
   pub frames : List BodyView
   pub reports : List Clcw
   pub linked : Linked c d base w plain front frames reports
   pub calm : IsChecked d → Calm w plain front reports
+
+-- one that a run leads to
+abbrev pub Late : Config → Directive → ℕ → World → Type 0
+Late c d base w = LateBy (PlainRun new_link) c d base w
+
+-- one that is a step from this one, or is this one
+abbrev pub Next : Config → Directive → ℕ → PlainLink → World → Type 0
+Next c d base p w = LateBy (AtMostOneStep p) c d base w
+
+pub stays : {c : Config} {d : Directive} {base : ℕ} {w : World} (g : Late c d base w) → Next c d base g.plain w
+stays g = record {
+  plain = g.plain;
+  ran = inl refl;
+  front = g.front;
+  frames = g.frames;
+  reports = g.reports;
+  linked = g.linked;
+  calm = g.calm;
+}
+
+pub run_on : (p q : PlainLink) → PlainRun new_link p → AtMostOneStep p q → PlainRun new_link q
+run_on p q ran (inl same) = subst (PlainRun new_link) (sym same) ran
+run_on p q ran (inr step) = more ran step
+
+pub late_of : {c : Config} {d : Directive} {base : ℕ} {w new : World} (g : Late c d base w) → Next c d base g.plain new → Late c d base new
+late_of g s = record {
+  plain = s.plain;
+  ran = run_on g.plain s.plain g.ran s.ran;
+  front = s.front;
+  frames = s.frames;
+  reports = s.reports;
+  linked = s.linked;
+  calm = s.calm;
+}
 
 -- ---- what keeps the octets
 

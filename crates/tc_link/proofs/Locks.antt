@@ -43,7 +43,7 @@ use Rattle.tc_link.proofs.Invariant.{late_step}
 use Rattle.tc_link.proofs.Linked.{Steady, Late, Carries}
 use Rattle.tc_link.proofs.SteadyWorld.{Sound, steady_of, step_sound}
 use Rattle.tc_link.proofs.Transit.{UpIs}
-use Rattle.tc_link.proofs.Windows.{directive_is}
+use Rattle.tc_link.proofs.Windows.{directive_is, state_by}
 
 -- ---- what leaves the receiver as it is
 
@@ -126,7 +126,7 @@ module _ (c : Config) (d : Directive) (base : ℕ) (w : World) (k : Steady c w) 
   up_unlocked : IsChecked d → Begun c d base w ⊎ Late c d base w → w.spacecraft.farm.lockout ≡ false → (up_deliver_step w w.up).after.spacecraft.farm.lockout ≡ false
   up_unlocked checked s is = elim s [
     | inl g ↦ delivered_by w.up g.frames g.early.carries g.early.up_is is
-    | inr g ↦ ((late_step c d base w k g events.UpDeliver tt tt).calm checked).unlocked
+    | inr g ↦ ((late_step c d base w k g events.UpDeliver tt (λ x same begins. absurd (cc same))).calm checked).unlocked
   ]
 
   not_locked : IsChecked d → Begun c d base w ⊎ Late c d base w → (e : Event) → w.spacecraft.farm.lockout ≡ false → (world_step w e).after.spacecraft.farm.lockout ≡ false
@@ -187,16 +187,8 @@ locked_flag : (lockout wait : Bool) → state_of lockout wait ≢ Lockout → lo
 locked_flag true wait other = absurd (other refl)
 locked_flag false wait other = refl
 
-flag_locked : (lockout wait : Bool) → lockout ≡ false → state_of lockout wait ≢ Lockout
-flag_locked true wait is e = absurd cc
-flag_locked false true is e = absurd cc
-flag_locked false false is e = absurd cc
-
 flag_of : (s : FarmState) → FlagsAgree s → s.state ≢ Lockout → s.lockout ≡ false
 flag_of s agree other = locked_flag s.lockout s.wait (λ e. other (agree.state ∙ e))
-
-state_by : (s : FarmState) → FlagsAgree s → s.lockout ≡ false → s.state ≢ Lockout
-state_by s agree is e = flag_locked s.lockout s.wait is (sym agree.state ∙ e)
 
 -- ---- the promises
 

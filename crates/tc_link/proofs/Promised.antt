@@ -1,20 +1,22 @@
 -- What a world that a run leads to promises.
-use Rattle.std.proofs.Common.{◌≡◌, ◌<◌, ℕ, ◌+◌, get_or, length, take, List, [], ◌∷◌, ◌++◌, Result, Ok, Err, OnOk, OnErr, refl, ap, sym, subst, ◌∙◌}
+use Rattle.std.proofs.Common.{◌≡◌, ◌<◌, ℕ, ◌+◌, get_or, length, take, List, [], ◌∷◌, ◌++◌, Result, Ok, Err, OnOk, OnErr, inl, refl, ap, sym, subst, ◌∙◌}
 use Rattle.std.specs.List.{AllByRecursion}
 use Rattle.std.proofs.lemmas.List.{take_more}
 use Rattle.tc_link.specs.declared.config.Config.{Config}
 use Rattle.tc_link.specs.declared.event.Event.{Event}
 use Rattle.tc_link.specs.declared.sim.fault.SimFault.{SimFault}
-use Rattle.tc_link.specs.Confirmation.{ConfirmsExactly, IsChecking}
+use Rattle.tc_link.specs.Confirmation.{ConfirmsExactly}
+use Rattle.tc_link.specs.History.{IsHistory, HasPlainHistory, GoesOnByAStep}
 use Rattle.tc_link.specs.Parameters.{IsConfig}
 use Rattle.tc_link.specs.Promises.{IsPromised, IsPromisedOf, HoldsThroughout}
 use Rattle.tc_link.specs.Reached.{IsEvent, IsReached}
 use Rattle.tc_link.specs.Simulation.{SimState, sim_run}
-use Rattle.tc_link.specs.World.{World, new_world, world_step, world_run, IsClean, directive_of}
+use Rattle.tc_link.specs.World.{World, new_world, world_step, world_run, IsClean}
 use Rattle.tc_link.proofs.Delivered.{is_in_order, has_plain_history}
 use Rattle.tc_link.proofs.Invariant.{reached_holds}
 use Rattle.tc_link.proofs.LateSubmitting.{all_push}
 use Rattle.tc_link.proofs.Locks.{has_no_false_alarm, confirms_exactly}
+use Rattle.tc_link.proofs.Steps.{goes_on_by_a_step}
 use Rattle.tc_link.proofs.Windows.{keeps_to_window, is_confirmed_exactly}
 
 pub promised : (w : World) → IsReached w → IsClean w → IsPromised w
@@ -28,13 +30,14 @@ promised w r is =
       confirmed = is_confirmed_exactly r.config w h.sound s;
     }
 
-pub promised_of : (w : World) (e : Event) → IsReached w → IsEvent e → IsClean w → IsChecking (directive_of w) → IsPromisedOf w e
-promised_of w e r fits is checking =
+pub promised_of : (w : World) (e : Event) → IsReached w → IsEvent e → IsClean w → IsPromisedOf w e
+promised_of w e r fits is =
     let h = reached_holds w r in
     let s = h.clean is in
     record {
-      confirms = confirms_exactly r.config w h.sound s checking e;
-      no_false_alarm = has_no_false_alarm r.config w h.sound s checking e fits;
+      history = goes_on_by_a_step r.config w h.sound s e fits;
+      confirms = λ checking. confirms_exactly r.config w h.sound s checking e;
+      no_false_alarm = λ checking. has_no_false_alarm r.config w h.sound s checking e fits;
     }
 
 -- ---- how worlds are reached
@@ -68,6 +71,19 @@ module _ {A : Type 0} (w new : World) (e : Event) where
   pub confirmed_after : (r : Result A SimFault) → OnOk r (new ≡ (world_step w e).after) → OnErr r (new ≡ w) → ConfirmsExactly w (world_step w e).after → ConfirmsExactly w new
   confirmed_after (Ok x) ok err confirms = subst (ConfirmsExactly w) (sym ok) confirms
   confirmed_after (Err fault) ok err confirms = λ not_yet now. absurd (let same : new.session.confirmed ≡ w.session.confirmed = ap (λ (x : World). x.session.confirmed) err in cc)
+
+  -- a refused event leaves the plain link where it is
+  pub stepped_after : (r : Result A SimFault) → OnOk r (new ≡ (world_step w e).after) → OnErr r (new ≡ w) → HasPlainHistory w → GoesOnByAStep w (world_step w e).after → GoesOnByAStep w new
+  stepped_after (Ok x) ok err now step = subst (GoesOnByAStep w) (sym ok) step
+  stepped_after (Err fault) ok err now step = record {
+    base = now.base;
+    before = now.plain;
+    ran = now.ran;
+    was = now.is;
+    after = now.plain;
+    step = inl refl;
+    is = subst (λ (x : World). IsHistory x now.base now.plain) (sym err) now.is;
+  }
 
 -- ---- at each event of a run
 

@@ -1,5 +1,5 @@
 -- What is pending moves up, and what is known of the ground is still so.
-use Rattle.std.proofs.Common.{◌≡◌, ℕ, ◌+◌, ◌*◌, ◌<◌, Bool, true, false, List, [], ◌∷◌, ◌++◌, drop, Option, Some, None, option_to_list, refl, ◌∙◌, arith}
+use Rattle.std.proofs.Common.{◌≡◌, ℕ, ◌+◌, ◌*◌, ◌<◌, Bool, true, false, List, [], ◌∷◌, ◌++◌, drop, Option, Some, None, option_to_list, refl, ◌∙◌, arith, inl}
 use Rattle.tc_frame.specs.Layout.{SegmentView}
 use Rattle.cop1.specs.declared.fop.Directive.{Directive}
 use Rattle.cop1.specs.declared.fop.FopMode.{FopMode}
@@ -8,8 +8,9 @@ use Rattle.cop1.specs.FopState.{FopState, SentUnit}
 use Rattle.cop1.specs.FopNext.{units_of}
 use Rattle.tc_link.specs.declared.config.Config.{Config}
 use Rattle.tc_link.specs.Ground.{GroundState, is_closed, unsent_segments, after_moving_up, settle_in, settle_step, with_fop}
+use Rattle.tc_link.specs.PlainLink.{PlainLink}
 use Rattle.tc_link.specs.World.{World}
-use Rattle.tc_link.proofs.Linked.{Late, Held}
+use Rattle.tc_link.proofs.Linked.{Late, Held, Next, LateBy}
 use Rattle.tc_link.proofs.Reports.{IsLate, asked}
 use Rattle.tc_link.proofs.Transit.{Ranks, bit, ranks_lower}
 
@@ -42,8 +43,8 @@ held_again false base vs nn sent rest new a n units same held = let rest_is : ne
 
 module _ (c : Config) (d : Directive) (base : ℕ) where
   -- the ground may be settled
-  pub late_settled : (w : World) → Late c d base w → Late c d base (record w { ground_node = settle_step w.ground_node })
-  late_settled w g = settled_keeps (λ s. Late c d base (record w { ground_node = s })) w.ground_node (λ waiting pending on off.
+  pub late_settled : {Reached : PlainLink → Type 0} (w : World) → LateBy Reached c d base w → LateBy Reached c d base (record w { ground_node = settle_step w.ground_node })
+  late_settled {Reached} w g = settled_keeps (λ s. LateBy Reached c d base (record w { ground_node = s })) w.ground_node (λ waiting pending on off.
       let l = g.linked in
       let held : Held (is_closed w.ground_node.fop.state) base w.ground_node.fop.vs w.ground_node.fop.nn w.ground_node.fop.sent (option_to_list waiting ++ pending) g.plain.a g.plain.n g.plain.units = held_again (is_closed w.ground_node.fop.state) base w.ground_node.fop.vs w.ground_node.fop.nn w.ground_node.fop.sent (unsent_segments w.ground_node) (option_to_list waiting ++ pending) g.plain.a g.plain.n g.plain.units on l.held in
       record { plain = g.plain; ran = g.ran; front = g.front; frames = g.frames; reports = g.reports; linked = assumption (held, l); calm = λ checked. let m = g.calm checked in assumption m })
@@ -57,7 +58,7 @@ module _ (c : Config) (d : Directive) (base : ℕ) where
 
     -- the sender holds the same
     pub same_keeps : (f : FopState SegmentView) → f.vs ≡ w.ground_node.fop.vs → f.nn ≡ w.ground_node.fop.nn → f.state ≡ w.ground_node.fop.state → units_of f.sent ≡ units_of w.ground_node.fop.sent → f.waiting ≡ w.ground_node.fop.waiting
-        → Late c d base (record w { ground_node = with_fop w.ground_node f })
+        → Next c d base g.plain (record w { ground_node = with_fop w.ground_node f })
     same_keeps f vs nn state sent waiting =
         let p = g.plain in
         let l = g.linked in
@@ -66,7 +67,7 @@ module _ (c : Config) (d : Directive) (base : ℕ) where
         let nn_octet : f.nn < 256 = omega (arith, nn, l.nn_octet) in
         late_settled (record w { ground_node = record w.ground_node { fop = f } }) (record {
           plain = p;
-          ran = g.ran;
+          ran = inl refl;
           front = g.front;
           frames = g.frames;
           reports = g.reports;
@@ -78,7 +79,7 @@ module _ (c : Config) (d : Directive) (base : ℕ) where
         })
 
     -- the sender is off
-    pub off_keeps : (f : FopState SegmentView) → f.state ≡ S6 → f.nn < 256 → Late c d base (record w { ground_node = with_fop w.ground_node f })
+    pub off_keeps : (f : FopState SegmentView) → f.state ≡ S6 → f.nn < 256 → Next c d base g.plain (record w { ground_node = with_fop w.ground_node f })
     off_keeps f state nn_octet =
         let p = g.plain in
         let l = g.linked in
@@ -86,7 +87,7 @@ module _ (c : Config) (d : Directive) (base : ℕ) where
         let late : IsLate f.state = rw state tt in
         late_settled (record w { ground_node = record w.ground_node { fop = f } }) (record {
           plain = p;
-          ran = g.ran;
+          ran = inl refl;
           front = g.front;
           frames = g.frames;
           reports = g.reports;

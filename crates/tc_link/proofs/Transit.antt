@@ -8,6 +8,7 @@ use Rattle.tc_frame.specs.Layout.{SegmentView, BodyView, Ad, Bd, Bc}
 use Rattle.cop1.specs.declared.fop.Directive.{Directive}
 use Rattle.cop1.specs.declared.fop.Directive.TheVariants.{InitWithoutCheck, InitWithCheck, InitUnlock, InitSetVr, Terminate, SetVs, SetWindow, SetLimit, SetTimer}
 use Rattle.cop1.specs.FopReport.{locks, waits, asks}
+use Rattle.tc_link.specs.History.{Rises}
 use Rattle.tc_link.proofs.Lists.{get_append}
 
 -- the control command of a session that a directive begins and that counts from `base` on
@@ -43,10 +44,6 @@ DownIs base (c ∷ cs) (v ∷ vs) = (c.value ≡ (base + v) % 256) × DownIs bas
 abbrev pub Fits : (h n : ℕ) → List SegmentView → ℕ → List (ℕ × SegmentView) → Type 0
 Fits h n units r [] = Unit {0}
 Fits h n units r (q ∷ qs) = (slice_get units q.0 ≡ Some q.1) × (q.0 < n) × (r ≤ q.0 + h) × Fits h n units (max r (q.0 + 1)) qs
-
-abbrev pub Rises : ℕ → List ℕ → ℕ → Type 0
-Rises low [] high = low ≤ high
-Rises low (v ∷ vs) high = (low ≤ v) × Rises v vs high
 
 abbrev pub bit : Bool → ℕ
 bit true = 1

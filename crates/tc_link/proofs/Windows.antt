@@ -1,5 +1,5 @@
 -- Where the numbers on their way lie in a clean session.
-use Rattle.std.proofs.Common.{◌≡◌, ℕ, ◌+◌, ◌-◌, ◌/◌, ◌%◌, ◌<◌, ◌≤◌, inl, inr, max, Bool, true, false, List, [], ◌∷◌, ◌++◌, length, take, map, Some, refl, ap, sym, subst, ◌∙◌, arith}
+use Rattle.std.proofs.Common.{◌≡◌, ◌≢◌, ℕ, ◌+◌, ◌-◌, ◌/◌, ◌%◌, ◌<◌, ◌≤◌, inl, inr, max, Bool, true, false, List, [], ◌∷◌, ◌++◌, length, take, map, Some, refl, ap, sym, subst, ◌∙◌, arith}
 use Rattle.std.specs.Prelude.{option_map, flat_map}
 use Rattle.std.specs.List.{AllByRecursion}
 use Rattle.std.proofs.lemmas.Bool.{cases_lt}
@@ -11,6 +11,9 @@ use Rattle.tc_frame.specs.declared.frame.Command.TheVariants.{Unlock, SetVr}
 use Rattle.tc_frame.specs.Layout.{SegmentView, BodyView, Ad, Bd, Bc, segment_octets}
 use Rattle.tc_frame.specs.Reading.{frame_at}
 use Rattle.cop1.specs.Modulo.{ahead_by}
+use Rattle.cop1.specs.Farm.{state_of, FarmState}
+use Rattle.cop1.specs.FarmRuns.{FlagsAgree}
+use Rattle.cop1.specs.declared.farm.FarmMode.TheVariants.{Lockout}
 use Rattle.cop1.specs.declared.fop.Directive.{Directive}
 use Rattle.cop1.specs.declared.fop.Directive.TheVariants.{InitWithoutCheck, InitWithCheck, InitUnlock, InitSetVr, Terminate, SetVs, SetWindow, SetLimit, SetTimer}
 use Rattle.cop1.specs.declared.fop.FopMode.{FopMode}
@@ -19,14 +22,16 @@ use Rattle.tc_link.specs.declared.config.Config.{Config}
 use Rattle.tc_link.specs.declared.sim.opening.Opening.{Opening}
 use Rattle.tc_link.specs.Ground.{is_closed, unsent_segments}
 use Rattle.tc_link.specs.World.{World, directive_of}
+use Rattle.tc_link.specs.History.{number_of, numbered}
 use Rattle.tc_link.specs.Confirmation.{LeavesVr, IsChecking, IsConfirmedExactly}
 use Rattle.cop1.specs.FopState.{IsActive}
-use Rattle.tc_link.specs.InTransit.{number_in, command_in, in_frame, report_read, report_of_frame, report_carried, reports_down, IsInWindow, IsRising, KeepsToWindow}
+use Rattle.tc_link.specs.InTransit.{number_in, command_in, unit_in, in_frame, report_read, report_of_frame, report_carried, reports_down, IsInWindow, IsRising, KeepsToWindow}
 use Rattle.tc_link.proofs.Beginning.{Clean}
 use Rattle.tc_link.proofs.Early.{Begun, IsEarly}
 use Rattle.tc_link.proofs.Linked.{Late, Carries, Tells, Reporting, Holds, Held}
 use Rattle.tc_link.proofs.SteadyWorld.{Sound}
-use Rattle.tc_link.proofs.Transit.{CommandFits, UpIs, DownIs, Fits, Rises, rises_to}
+use Rattle.tc_link.specs.History.{Rises}
+use Rattle.tc_link.proofs.Transit.{CommandFits, UpIs, DownIs, Fits, rises_to}
 
 -- ---- what octets on their way tell
 
@@ -65,7 +70,7 @@ module _ (c : Config) (d : Directive) (base h n : ℕ) (units : List SegmentView
 pub report_told : (c : Config) (b : List ℕ) (r : Clcw) → Tells c b r → report_carried c b ≡ r ∷ []
 report_told c b r tells = ap report_of_frame tells.reads ∙ ap report_read tells.word
 
-reports_are : (c : Config) (bs : List (List ℕ)) (rs : List Clcw) → Reporting c bs rs → flat_map (report_carried c) bs ≡ rs
+pub reports_are : (c : Config) (bs : List (List ℕ)) (rs : List Clcw) → Reporting c bs rs → flat_map (report_carried c) bs ≡ rs
 reports_are c [] [] h = refl
 reports_are c [] (r ∷ rs) h = elim h [ ]
 reports_are c (b ∷ bs) [] h = elim h [ ]
@@ -83,12 +88,37 @@ rising_in base nn a low r last most (c ∷ cs) (v ∷ vs) nn_is last_is le near 
     let value : ahead_by c.value nn ≡ v - a = omega (arith, down.0, nn_is, le, near, small, up.0, high) in
     (omega (arith, value, le, up.0), rw value (rising_in base nn a v r last most cs vs nn_is last_is (omega (arith, le, up.0)) near small down.1 up.1))
 
+-- ---- what is on its way, as the plain link has it
+
+same_units : (m n : ℕ) (s u : SegmentView) (xs ys : List (ℕ × SegmentView)) → m ≡ n → s ≡ u → xs ≡ ys → (m, s) ∷ xs ≡ (n, u) ∷ ys
+same_units m n s u xs ys number unit more = rw (number, unit, more) refl
+
+abbrev units : List (List ℕ) → List (ℕ × SegmentView)
+units bs = flat_map (λ octets. in_frame unit_in (frame_at On octets)) bs
+
+module _ (c : Config) (d : Directive) (base : ℕ) where
+  pub units_in : (front : Bool) (bs : List (List ℕ)) (fs : List BodyView) (qs : List (ℕ × SegmentView)) → Carries c bs fs → UpIs d base front fs qs → units bs ≡ map (numbered base) qs
+  units_in front [] [] [] carries up = refl
+  units_in front [] [] (q ∷ qs) carries up = elim up [ ]
+  units_in front [] (f ∷ fs) qs carries up = elim carries [ ]
+  units_in front (b ∷ bs) [] qs carries up = elim carries [ ]
+  units_in front (b ∷ bs) (Bd s ∷ fs) qs carries up = ap (λ x. in_frame unit_in x ++ units bs) carries.0 ∙ units_in front bs fs qs carries.1 up
+  units_in front (b ∷ bs) (Bc command ∷ fs) qs carries up = ap (λ x. in_frame unit_in x ++ units bs) carries.0 ∙ units_in front bs fs qs carries.1 up.2
+  units_in front (b ∷ bs) (Ad m s ∷ fs) [] carries up = elim up [ ]
+  units_in front (b ∷ bs) (Ad m s ∷ fs) (q ∷ qs) carries up = ap (λ x. in_frame unit_in x ++ units bs) carries.0 ∙ same_units m (number_of base q.0) s q.1 (units bs) (map (numbered base) qs) up.0 up.1 (units_in false bs fs qs carries.1 up.2)
+
+pub values_in : (base : ℕ) (rs : List Clcw) (vs : List ℕ) → DownIs base rs vs → map (λ (r : Clcw). r.value) rs ≡ map (number_of base) vs
+values_in base [] [] down = refl
+values_in base [] (v ∷ vs) down = elim down [ ]
+values_in base (r ∷ rs) [] down = elim down [ ]
+values_in base (r ∷ rs) (v ∷ vs) down = ap (λ (x : ℕ). x ∷ map (λ (r : Clcw). r.value) rs) down.0 ∙ ap (λ (xs : List ℕ). number_of base v ∷ xs) (values_in base rs vs down.1)
+
 -- ---- the promises
 
 pub directive_is : (w : World) (d : Directive) → w.session.opening ≡ Some (record { directive = d; clean = true }) → directive_of w ≡ Some d
 directive_is w d is = ap (option_map (λ (o : Opening). o.directive)) is
 
-late_on : (m : FopMode) → IsActive m → is_closed m ≡ false
+pub late_on : (m : FopMode) → IsActive m → is_closed m ≡ false
 late_on S1 active = refl
 late_on S2 active = refl
 late_on S3 active = refl
@@ -115,6 +145,15 @@ leaves (SetVs x) base vr (SetVr y) fits is = elim fits [ ]
 leaves (SetWindow x) base vr (SetVr y) fits is = elim fits [ ]
 leaves (SetLimit x) base vr (SetVr y) fits is = elim fits [ ]
 leaves (SetTimer x) base vr (SetVr y) fits is = elim fits [ ]
+
+flag_locked : (lockout wait : Bool) → lockout ≡ false → state_of lockout wait ≢ Lockout
+flag_locked true wait is e = absurd cc
+flag_locked false true is e = absurd cc
+flag_locked false false is e = absurd cc
+
+-- the state and the flag
+pub state_by : (s : FarmState) → FlagsAgree s → s.lockout ≡ false → s.state ≢ Lockout
+state_by s agree is e = flag_locked s.lockout s.wait is (sym agree.state ∙ e)
 
 module _ (c : Config) (w : World) (k : Sound c w) (d : Directive) (base : ℕ) where
   late_window : Late c d base w → KeepsToWindow w
@@ -163,6 +202,7 @@ module _ (c : Config) (w : World) (k : Sound c w) (d : Directive) (base : ℕ) w
             let none : p.n ≡ 0 = sym (length-take-le p.n p.units l.n_most) ∙ sym (length-map (take p.n p.units) segment_octets) ∙ sym (ap length l.sent_is) ∙ ap length nothing in
             (omega (arith, none, l.vr_is, was.vs_is, l.r_n), omega (arith, none, was.nn_is, was.vs_is, l.a_r, l.r_n));
         commands = λ confirmed. commands_in c d base 0 0 [] (LeavesVr w.spacecraft.farm.vr) g.front w.up g.frames p.up (λ command front fits. leaves d base w.spacecraft.farm.vr command fits (omega (arith, l.first front, l.vr_is, l.base_octet))) l.carries l.up_is;
+        unlocked = λ confirmed. state_by w.spacecraft.farm k.spacecraft.farm.flags (g.calm (l.confirmed_so confirmed)).unlocked;
       }
 
   early_confirmed : Begun c d base w → IsConfirmedExactly w
@@ -172,6 +212,7 @@ module _ (c : Config) (w : World) (k : Sound c w) (d : Directive) (base : ℕ) w
         nothing_before = λ checking not_yet. (l.sent_none, ap (map segment_octets) l.accepted_none);
         exact = λ confirmed. absurd (let no : w.session.confirmed ≡ false = l.confirmed_not in cc);
         commands = λ confirmed. absurd (let no : w.session.confirmed ≡ false = l.confirmed_not in cc);
+        unlocked = λ confirmed. absurd (let no : w.session.confirmed ≡ false = l.confirmed_not in cc);
       }
 
 pub keeps_to_window : (c : Config) (w : World) → Sound c w → Clean c w → KeepsToWindow w

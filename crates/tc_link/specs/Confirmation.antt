@@ -1,8 +1,9 @@
 -- The confirmation of a session, by the report that takes the ground from S4 or S5 to S1.
-use Rattle.std.specs.Prelude.{◌≡◌, ℕ, [], true, false, Option, Some, None}
+use Rattle.std.specs.Prelude.{◌≡◌, ◌≢◌, ℕ, [], true, false, Option, Some, None}
 use Rattle.std.specs.List.{AllByRecursion}
 use Rattle.tc_frame.specs.declared.frame.Command.{Command}
 use Rattle.tc_frame.specs.declared.frame.Command.TheVariants.{Unlock, SetVr}
+use Rattle.cop1.specs.declared.farm.FarmMode.TheVariants.{Lockout}
 use Rattle.cop1.specs.declared.fop.Directive.{Directive}
 use Rattle.cop1.specs.declared.fop.Directive.TheVariants.{InitWithoutCheck, InitWithCheck, InitUnlock, InitSetVr, Terminate, SetVs, SetWindow, SetLimit, SetTimer}
 use Rattle.cop1.specs.FopState.{IsActive}
@@ -49,3 +50,5 @@ pub record IsConfirmedExactly (w : World) : Type 0 where
   -- and each control frame that is still on its way leaves V(R) as it is
   pub commands : w.session.confirmed ≡ true
       → AllByRecursion (LeavesVr w.spacecraft.farm.vr) (commands_up w)
+  -- and the receiver is not in Lockout
+  pub unlocked : w.session.confirmed ≡ true → w.spacecraft.farm.state ≢ Lockout

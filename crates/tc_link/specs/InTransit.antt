@@ -1,5 +1,5 @@
 -- What is on its way between the nodes, and where its numbers lie.
-use Rattle.std.specs.Prelude.{◌<◌, ◌≤◌, ◌⊎◌, ℕ, ◌/◌, List, [], ◌∷◌, flat_map, Result, Ok, Err}
+use Rattle.std.specs.Prelude.{◌<◌, ◌≤◌, ◌⊎◌, ℕ, ◌/◌, List, [], ◌∷◌, map, flat_map, Result, Ok, Err}
 use Rattle.std.specs.List.{AllByRecursion}
 use Rattle.clcw.specs.declared.word.Clcw.{Clcw}
 use Rattle.clcw.specs.declared.fault.ClcwFault.{ClcwFault}
@@ -7,7 +7,7 @@ use Rattle.clcw.specs.Reading.{clcw_at}
 use Rattle.tc_frame.specs.declared.fault.TcFault.{TcFault}
 use Rattle.tc_frame.specs.declared.frame.Check.TheVariants.{On}
 use Rattle.tc_frame.specs.declared.frame.Command.{Command}
-use Rattle.tc_frame.specs.Layout.{BodyView, Ad, Bd, Bc, FrameView}
+use Rattle.tc_frame.specs.Layout.{SegmentView, BodyView, Ad, Bd, Bc, FrameView}
 use Rattle.tc_frame.specs.Reading as command
 use Rattle.cop1.specs.Modulo.{ahead_by}
 use Rattle.cop1.specs.FopState.{IsActive}
@@ -25,6 +25,12 @@ number_in (Ad n s) = n ∷ []
 number_in (Bd s) = []
 number_in (Bc command) = []
 
+-- and with it the unit
+abbrev pub unit_in : BodyView → List (ℕ × SegmentView)
+unit_in (Ad n s) = (n, s) ∷ []
+unit_in (Bd s) = []
+unit_in (Bc command) = []
+
 abbrev pub command_in : BodyView → List Command
 command_in (Ad n s) = []
 command_in (Bd s) = []
@@ -36,6 +42,9 @@ in_frame found (Err fault) = []
 
 abbrev pub numbers_up : World → List ℕ
 numbers_up w = flat_map (λ octets. in_frame number_in (command.frame_at On octets)) w.up
+
+abbrev pub units_up : World → List (ℕ × SegmentView)
+units_up w = flat_map (λ octets. in_frame unit_in (command.frame_at On octets)) w.up
 
 abbrev pub commands_up : World → List Command
 commands_up w = flat_map (λ octets. in_frame command_in (command.frame_at On octets)) w.up
@@ -56,6 +65,9 @@ report_carried c octets = report_of_frame (telemetry_reading.frame_at c.frame_le
 
 abbrev pub reports_down : World → List Clcw
 reports_down w = flat_map (report_carried w.ground_node.config) w.down
+
+abbrev pub values_down : World → List ℕ
+values_down w = map (λ (report : Clcw). report.value) (reports_down w)
 
 -- ---- where the numbers lie
 

@@ -8,6 +8,7 @@ pub mod Faults
 pub mod Frames
 pub mod Ground
 pub mod GroundFields
+pub mod History
 pub mod InOrder
 pub mod InTransit
 pub mod MapLists

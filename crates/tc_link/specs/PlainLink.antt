@@ -1,6 +1,6 @@
 -- The same link with whole numbers that have no bound. There is no window, modulus, flag, timer or
 -- state.
-use Rattle.std.specs.Prelude.{◌≡◌, ◌<◌, ◌≤◌, ℕ, ◌+◌, List, [], ◌∷◌, ◌++◌, slice_get, Some}
+use Rattle.std.specs.Prelude.{◌≡◌, ◌⊎◌, ◌<◌, ◌≤◌, ℕ, ◌+◌, List, [], ◌∷◌, ◌++◌, slice_get, Some}
 use Rattle.tc_frame.specs.Layout.{SegmentView}
 
 -- The units to be sent; how many first ones are held acknowledged, were accepted and were sent; the
@@ -44,6 +44,10 @@ pub data PlainStep : PlainLink → PlainLink → Type 0 where
   -- a number arrives, and nothing changes
   ignores : {p : PlainLink} {v : ℕ} {down : List ℕ} → p.down ≡ v ∷ down
       → PlainStep p (record p { down = down })
+
+-- one step, or none
+abbrev pub AtMostOneStep : PlainLink → PlainLink → Type 0
+AtMostOneStep p q = (q ≡ p) ⊎ PlainStep p q
 
 -- some steps, one after another
 pub data PlainRun : PlainLink → PlainLink → Type 0 where

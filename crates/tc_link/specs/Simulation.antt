@@ -1,5 +1,9 @@
 -- A simulated link with the answers of a run.
-use Rattle.std.specs.Prelude.{◌≡◌, ℕ, List, [], ◌∷◌, ◌++◌, Option, Some, None, Result, Ok, Err}
+use Rattle.std.specs.Prelude.{◌≡◌, ℕ, List, [], ◌∷◌, ◌++◌, false, Option, Some, None, IsSome, Result, Ok, Err}
+use Rattle.tc_frame.specs.declared.frame.Check.TheVariants.{On}
+use Rattle.tc_frame.specs.Reading as command
+use Rattle.tm_link.specs.Building.{is_to_send}
+use Rattle.tm_link.specs.Reading as telemetry
 use Rattle.tc_link.specs.declared.config.Config.{Config}
 use Rattle.tc_link.specs.declared.event.Event.{Event}
 use Rattle.tc_link.specs.declared.event.Event.TheVariants as events
@@ -7,6 +11,8 @@ use Rattle.tc_link.specs.declared.reply.Reply.{Reply}
 use Rattle.tc_link.specs.declared.sim.fault.SimFault.{SimFault}
 use Rattle.tc_link.specs.declared.sim.fault.SimFault.TheVariants as faults
 use Rattle.tc_link.specs.Replies.{ReplyView, reply_view}
+use Rattle.tc_link.specs.Ground.{submit_fault, bypass_fault, FinishesNothing}
+use Rattle.tc_link.specs.Spacecraft.{HandsNothingOn}
 use Rattle.tc_link.specs.World.{World, new_world, world_step, world_run, run_answers}
 
 pub record SimState : Type 0 where
@@ -49,20 +55,29 @@ refused_field (Err fault) = field_of fault
 abbrev pub IsReplyTo : World → Event → Reply → Type 0
 IsReplyTo w event reply = (world_step w event).answer ≡ Ok (reply_view reply)
 
--- the events that take no memory
-abbrev pub TakesNone : Event → Type 0
-TakesNone (events.Submit m octets) = ⊥
-TakesNone (events.Bypass m octets) = ⊥
-TakesNone (events.Directive directive) = Unit {0}
-TakesNone events.Send = ⊥
-TakesNone events.UpDeliver = ⊥
-TakesNone events.UpLose = Unit {0}
-TakesNone (events.UpDamage octets) = Unit {0}
-TakesNone events.Report = ⊥
-TakesNone events.DownDeliver = ⊥
-TakesNone events.DownLose = Unit {0}
-TakesNone (events.DownDamage octets) = Unit {0}
-TakesNone events.Tick = Unit {0}
-TakesNone events.Take = Unit {0}
-TakesNone events.TakeBypass = Unit {0}
-TakesNone (events.Telemetry octets) = ⊥
+-- the first octets on their way, where there are any
+abbrev pub IfFirst : List (List ℕ) → (List ℕ → Type 0) → Type 0
+IfFirst [] P = Unit {0}
+IfFirst (octets ∷ more) P = P octets
+
+-- an event takes no memory: packets are refused, a frame's data are not handed on, a telemetry frame
+-- finishes no packet, or nothing is to be kept
+abbrev pub TakesNone : World → Event → Type 0
+TakesNone w (events.Submit m octets) = IsSome (submit_fault w.ground_node m octets.now)
+TakesNone w (events.Bypass m octets) = IsSome (bypass_fault w.ground_node m octets.now)
+TakesNone w (events.Directive directive) = Unit {0}
+TakesNone w events.Send = ⊥
+TakesNone w events.UpDeliver =
+    IfFirst w.up (λ octets. HandsNothingOn w.spacecraft (command.frame_at On octets))
+TakesNone w events.UpLose = Unit {0}
+TakesNone w (events.UpDamage octets) = Unit {0}
+TakesNone w events.Report = ⊥
+TakesNone w events.DownDeliver =
+    IfFirst w.down (λ octets. FinishesNothing w.ground_node
+    (telemetry.frame_at w.ground_node.config.frame_length octets))
+TakesNone w events.DownLose = Unit {0}
+TakesNone w (events.DownDamage octets) = Unit {0}
+TakesNone w events.Tick = Unit {0}
+TakesNone w events.Take = Unit {0}
+TakesNone w events.TakeBypass = Unit {0}
+TakesNone w (events.Telemetry octets) = is_to_send octets.now ≡ false

@@ -147,6 +147,18 @@ frame_outcome s (Ok frame) =
 abbrev pub spacecraft_receive : SpacecraftState → List ℕ → SpacecraftOutcome Received
 spacecraft_receive s octets = frame_outcome s (frame_at On octets)
 
+-- a frame's data are handed on: it is of Type-AD and accepted, or of Type-BD and kept
+abbrev pub hands_on : SpacecraftState → BodyView → Bool
+hands_on s (Ad n segment) = is_accepted (verdict_of s.farm n (is_free s))
+hands_on s (Bd segment) = is_kept (limits_of s.config) segment
+hands_on s (Bc command) = false
+
+-- nothing is handed on of octets that arrive: they are no frame, or one of another spacecraft or
+-- virtual channel, or one whose data are not handed on
+abbrev pub HandsNothingOn : SpacecraftState → Result FrameView TcFault → Type 0
+HandsNothingOn s (Err fault) = Unit {0}
+HandsNothingOn s (Ok frame) = is_own_frame s.config frame ≡ true → hands_on s frame.body ≡ false
+
 -- ---- packets are taken
 
 -- taking a packet is the release where fewer packets than the ready slots wait then

@@ -33,7 +33,7 @@ use Rattle.tc_link.specs.declared.sim.fault.SimFault.{SimFault}
 use Rattle.tc_link.specs.declared.sim.fault.SimFault.TheVariants.{NothingInTransit, NotDetectable}
 use Rattle.tc_link.specs.Parameters.{limits_of}
 use Rattle.tc_link.specs.Packets.{PacketOn, packet_on}
-use Rattle.tc_link.specs.Ground.{GroundState, GroundOutcome, new_ground, ground_step}
+use Rattle.tc_link.specs.Ground.{GroundState, GroundOutcome, is_closed, new_ground, ground_step}
 use Rattle.tc_link.specs.Ground as ground_calls
 use Rattle.tc_link.specs.Spacecraft.{SpacecraftState, SpacecraftOutcome, new_spacecraft, spacecraft_step}
 use Rattle.tc_link.specs.Spacecraft as spacecraft_calls
@@ -151,6 +151,12 @@ is_initiation (SetVs x) = false
 is_initiation (SetWindow k) = false
 is_initiation (SetLimit n) = false
 is_initiation (SetTimer t) = false
+
+-- no session begins with an event: it is no initiation, or it comes while the sender is not in S6
+abbrev pub BeginsNoSession : World → Event → Type 0
+BeginsNoSession w event =
+    (directive : Directive) → event ≡ events.Directive directive → is_initiation directive ≡ true
+    → is_closed w.ground_node.fop.state ≡ false
 
 -- a session begins
 abbrev pub session_begun : World → Opening → Session

@@ -47,10 +47,11 @@ impl Sim {
     ghost use Rattle.tc_link.specs.Simulation.{IsReplyTo, new_sim, refused_field, TakesNone};
     ghost use Rattle.tc_link.specs.Confirmation.{ConfirmsExactly, IsChecking, IsConfirmedExactly};
     ghost use Rattle.tc_link.specs.FalseAlarms.{HasNoFalseAlarm};
-    ghost use Rattle.tc_link.specs.InOrder.{IsInOrder, HasPlainHistory};
+    ghost use Rattle.tc_link.specs.History.{HasPlainHistory, GoesOnByAStep};
+    ghost use Rattle.tc_link.specs.InOrder.{IsInOrder};
     ghost use Rattle.tc_link.specs.InTransit.{KeepsToWindow};
     ghost use Rattle.tc_link.specs.Promises.{IsPromised};
-    ghost use Rattle.tc_link.specs.World.{world_step, submitted, accepted, delivered, directive_of, IsClean};
+    ghost use Rattle.tc_link.specs.World.{world_step, submitted, accepted, delivered, directive_of, BeginsNoSession, IsClean, IsSettled};
 
     /// Two new nodes, and nothing between them. The faults are 9 `Config`, with the name of the first
     /// field that is out of its range, and then 6 `Memory`.
@@ -86,9 +87,12 @@ impl Sim {
             (λ e. result ≡ Err e) }
         ensures memory { IfOk (world_step self.old.world event.entry).answer
             (λ _. IsOkUnless result SimFault.Memory) }
-        ensures none { TakesNone event.entry → result ≢ Err SimFault.Memory }
+        ensures none { TakesNone self.old.world event.entry → result ≢ Err SimFault.Memory }
         ensures in_order { IsClean self.new.world → IsInOrder self.new.world }
         ensures history { IsClean self.new.world → HasPlainHistory self.new.world }
+        ensures one_step { IsClean self.old.world → IsSettled self.old.world
+            → BeginsNoSession self.old.world event.entry
+            → GoesOnByAStep self.old.world self.new.world }
         ensures window { IsClean self.new.world → KeepsToWindow self.new.world }
         ensures confirmed { IsClean self.new.world → IsConfirmedExactly self.new.world }
         ensures confirms { IsClean self.old.world → IsChecking (directive_of self.old.world)

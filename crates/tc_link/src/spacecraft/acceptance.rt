@@ -15,8 +15,11 @@ pub(crate) struct Acceptance {
 }
 
 impl Spacecraft {
-    ghost use Rattle.std.specs.Prelude.{◌≡◌, ◌<◌, IfOk, IfSome, IsOkUnless, option_map};
+    ghost use Rattle.std.specs.Prelude.{◌≡◌, ◌<◌, None, Ok, IfOk, IfSome, IsOkUnless, option_map};
+    ghost use Rattle.tc_frame.specs.declared.frame.Check.TheVariants.{On};
+    ghost use Rattle.tc_frame.specs.Reading.{frame_at};
     ghost use Rattle.tc_link.specs.Acceptance.{segment_to_accept, acceptance_view, acceptance_with};
+    ghost use Rattle.tc_link.specs.Spacecraft.{HandsNothingOn};
 
     // What will be accepted when these octets arrive, where a segment will be.
     pub(crate) fn acceptance_of(&self, octets: &[u8]) -> Result<Option<Acceptance>, LinkFault>
@@ -24,6 +27,7 @@ impl Spacecraft {
             ≡ option_map (acceptance_with self.now) (segment_to_accept self.now octets.now)) }
         ensures map { IfOk result (λ some. IfSome some (λ f. f.map < 64)) }
         ensures fault { IsOkUnless result LinkFault.Memory }
+        ensures nothing { HandsNothingOn self.now (frame_at On octets.now) → result ≡ Ok None }
     {
         let Ok(frame) = decode(octets, Check::On) else {
             return Ok(None);

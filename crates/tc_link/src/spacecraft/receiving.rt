@@ -10,13 +10,14 @@ use map_service::Dropped;
 use tc_frame::{Body, Check, Command, Segment, TcFrame, decode};
 
 impl Spacecraft {
-    ghost use Rattle.std.specs.Prelude.{◌≡◌, length, IsErr, IsOk, IfOk, IfErr, OnOk, OnErr};
+    ghost use Rattle.std.specs.Prelude.{◌≡◌, length, false, IsOk, IfOk, IfErr, OnOk, OnErr};
     ghost use Rattle.cop1.specs.Farm.{verdict_of};
     ghost use Rattle.tc_frame.specs.declared.frame.Check.TheVariants.{On};
     ghost use Rattle.tc_frame.specs.Layout.{frame_view, segment_view};
     ghost use Rattle.tc_frame.specs.Reading.{frame_at};
     ghost use Rattle.tc_link.specs.BypassSegments.{is_kept};
-    ghost use Rattle.tc_link.specs.Spacecraft.{spacecraft_step, Receive, is_free, is_own_frame, is_accepted, assemble_step, after_segment, after_farm, command_event, receive_sequence_step, receive_bypass_step};
+    ghost use Rattle.tc_link.specs.Parameters.{limits_of};
+    ghost use Rattle.tc_link.specs.Spacecraft.{spacecraft_step, Receive, is_free, is_own_frame, is_accepted, HandsNothingOn, assemble_step, after_segment, after_farm, command_event, receive_sequence_step, receive_bypass_step};
 
     /// Takes octets that came from the ground: exactly one telecommand frame, with its check (CCSDS
     /// 232.0-B-4, 4.1). The fault is 6 `Memory`; all growths are made first, so that the spacecraft is
@@ -29,8 +30,8 @@ impl Spacecraft {
         ensures err { OnErr result (self.new ≡ self.old) }
         ensures fault { IfErr result (λ e. e ≡ LinkFault.Memory) }
 
-        // It takes no memory for octets that are no frame.
-        ensures none { IsErr (frame_at On octets.now) → IsOk result }
+        // It takes no memory for octets of which nothing is handed on.
+        ensures none { HandsNothingOn self.old (frame_at On octets.now) → IsOk result }
     {
         let frame = match decode(octets, Check::On) {
             Ok(frame) => frame,
@@ -78,6 +79,8 @@ impl Spacecraft {
             (self.new ≡ (receive_sequence_step self.old n (segment_view segment.now)).after) }
         ensures err { OnErr result (self.new ≡ self.old) }
         ensures fault { IfErr result (λ e. e ≡ LinkFault.Memory) }
+        ensures none { is_accepted (verdict_of self.old.farm n (is_free self.old)) ≡ false
+            → IsOk result }
     {
         let free = self.is_free();
         if !self.will_accept(n) {
@@ -130,6 +133,8 @@ impl Spacecraft {
             (self.new ≡ (receive_bypass_step self.old (segment_view segment.now)).after) }
         ensures err { OnErr result (self.new ≡ self.old) }
         ensures fault { IfErr result (λ e. e ≡ LinkFault.Memory) }
+        ensures none { is_kept (limits_of self.old.config) (segment_view segment.now) ≡ false
+            → IsOk result }
     {
         if !is_kept(&self.config.limits(), segment) {
             self.farm.bd();

@@ -1,6 +1,6 @@
 // The records of what is accepted on board.
 
-ghost use Rattle.std.specs.Prelude.{◌≡◌, ◌≤◌, ◌<◌, ◌++◌, ℕ, length, option_map, option_to_list, OnOk, IfSome};
+ghost use Rattle.std.specs.Prelude.{◌≡◌, ◌≤◌, ◌<◌, ◌++◌, ℕ, length, option_map, option_to_list, None, IsOk, OnOk, IfSome};
 ghost use Rattle.tm_link.specs.Extraction.{octets_of};
 ghost use Rattle.tc_link.specs.Acceptance.{acceptance_view};
 ghost use Rattle.tc_link.specs.WorldFields.{HasRoomFor, packets_accepted_on};
@@ -20,6 +20,7 @@ pub(super) fn make_room_for(
     ensures accepted { accepted.new.items ≡ accepted.old.items }
     ensures delivered { (m : ℕ) → packets_at delivered.new m ≡ packets_at delivered.old m }
     ensures room { OnOk result (HasRoomFor accepted.new delivered.new acceptance.now) }
+    ensures none { acceptance.now ≡ None → IsOk result }
 {
     if let Some(acceptance) = acceptance {
         accepted.try_reserve(1)?;

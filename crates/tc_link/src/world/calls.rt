@@ -14,8 +14,8 @@ use cop1::{Alert, Directive};
 use tm_link::TmFault;
 
 impl World {
-    ghost use Rattle.std.specs.Prelude.{◌≡◌, [], Ok, Some, IfOk, OnOk, OnErr, IsOkUnless};
-    ghost use Rattle.tc_link.specs.Simulation.{IsReplyTo};
+    ghost use Rattle.std.specs.Prelude.{◌≡◌, ◌≢◌, [], Ok, Err, Some, IfOk, OnOk, OnErr, IsOkUnless};
+    ghost use Rattle.tc_link.specs.Simulation.{IsReplyTo, TakesNone};
     ghost use Rattle.tc_link.specs.World.{world_step, is_quiet, begins_clean, session_begun};
 
     pub(crate) fn directive(&mut self, directive: Directive) -> Reply
@@ -61,6 +61,7 @@ impl World {
             (self.new ≡ (world_step self.old (Event.Telemetry packet.entry)).after) }
         ensures err { OnErr result (self.new ≡ self.old) }
         ensures fault { IsOkUnless result SimFault.Memory }
+        ensures none { TakesNone self.old (Event.Telemetry packet.entry) → result ≢ Err SimFault.Memory }
     {
         match self.spacecraft.telemetry(packet) {
             Ok(()) => Ok(Reply::Done),

@@ -10,8 +10,8 @@ use crate::sim::SimFault;
 use cop1::FopMode;
 
 impl World {
-    ghost use Rattle.std.specs.Prelude.{◌≡◌, Ok, Err, IfOk, IfErr, OnOk, OnErr, IsOkUnless};
-    ghost use Rattle.tc_link.specs.Simulation.{IsReplyTo};
+    ghost use Rattle.std.specs.Prelude.{◌≡◌, ◌≢◌, Ok, Err, IfOk, IfErr, OnOk, OnErr, IsOkUnless};
+    ghost use Rattle.tc_link.specs.Simulation.{IsReplyTo, TakesNone};
     ghost use Rattle.tc_link.specs.World.{world_step};
 
     pub(crate) fn report(&mut self) -> Result<Reply, SimFault>
@@ -41,6 +41,7 @@ impl World {
             (λ e. result ≡ Err e) }
         ensures memory { IfOk (world_step self.old Event.DownDeliver).answer
             (λ _. IsOkUnless result SimFault.Memory) }
+        ensures none { TakesNone self.old Event.DownDeliver → result ≢ Err SimFault.Memory }
     {
         let Some(octets) = self.down.front() else {
             return Err(SimFault::NothingInTransit);

@@ -17,7 +17,7 @@ impl World {
         ensures refused { IfErr (world_step self.old event.entry).answer (λ e. result ≡ Err e) }
         ensures memory { IfOk (world_step self.old event.entry).answer
             (λ _. IsOkUnless result SimFault.Memory) }
-        ensures none { TakesNone event.entry → result ≢ Err SimFault.Memory }
+        ensures none { TakesNone self.old event.entry → result ≢ Err SimFault.Memory }
     {
         match event {
             Event::Submit(map, octets) => self.submit(map, octets),

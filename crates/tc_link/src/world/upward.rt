@@ -1,6 +1,6 @@
 // What goes to the spacecraft: telecommand frames.
 
-ghost use Rattle.std.specs.Prelude.{◌≡◌, ◌<◌, ◌≤◌, [], ◌++◌, IfOk, IsOkUnless, option_to_list, option_map};
+ghost use Rattle.std.specs.Prelude.{◌≡◌, ◌≢◌, ◌<◌, ◌≤◌, [], ◌++◌, IfOk, IsOkUnless, option_to_list, option_map};
 ghost use Rattle.std.specs.Vec.{vec_len, vec_capacity};
 ghost use Rattle.tm_link.specs.Extraction.{octets_of};
 
@@ -18,7 +18,7 @@ use std::alloc::Global;
 
 impl World {
     ghost use Rattle.std.specs.Prelude.{Ok, Err, IfErr, OnOk, OnErr};
-    ghost use Rattle.tc_link.specs.Simulation.{IsReplyTo};
+    ghost use Rattle.tc_link.specs.Simulation.{IsReplyTo, TakesNone};
     ghost use Rattle.tc_link.specs.World.{world_step};
 
     pub(crate) fn submit(&mut self, map: u8, octets: &[u8]) -> Result<Reply, SimFault>
@@ -27,6 +27,7 @@ impl World {
             (self.new ≡ (world_step self.old (Event.Submit map octets.entry)).after) }
         ensures err { OnErr result (self.new ≡ self.old) }
         ensures memory { IsOkUnless result SimFault.Memory }
+        ensures none { TakesNone self.old (Event.Submit map octets.entry) → result ≢ Err SimFault.Memory }
     {
         if let Some(fault) = self.ground_node.submit_fault(map, octets) {
             return Ok(Reply::Refused(NodeFault::Link(fault)));
@@ -54,6 +55,7 @@ impl World {
             (self.new ≡ (world_step self.old (Event.Bypass map octets.entry)).after) }
         ensures err { OnErr result (self.new ≡ self.old) }
         ensures memory { IsOkUnless result SimFault.Memory }
+        ensures none { TakesNone self.old (Event.Bypass map octets.entry) → result ≢ Err SimFault.Memory }
     {
         match self.ground_node.bypass(map, octets) {
             Ok(()) => Ok(Reply::Done),
@@ -93,6 +95,7 @@ impl World {
         ensures refused { IfErr (world_step self.old Event.UpDeliver).answer (λ e. result ≡ Err e) }
         ensures memory { IfOk (world_step self.old Event.UpDeliver).answer
             (λ _. IsOkUnless result SimFault.Memory) }
+        ensures none { TakesNone self.old Event.UpDeliver → result ≢ Err SimFault.Memory }
     {
         let Some(octets) = self.up.front() else {
             return Err(SimFault::NothingInTransit);
