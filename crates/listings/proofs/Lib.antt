@@ -2,3 +2,4 @@ pub mod Listed
 pub mod Pieces
 pub mod Beginnings
 pub mod ToldPackets
+pub mod Remaining

@@ -1,6 +1,7 @@
 // Where text goes.
 
-ghost use Rattle.std.specs.Prelude.{◌≡◌, ◌≤◌, ◌+◌, ◌++◌, ℕ, List, length, IfOk};
+ghost use Rattle.std.specs.Prelude.{◌≡◌, ◌≤◌, ◌+◌, ◌++◌, ℕ, List, Option, None, length, IfOk};
+ghost use Rattle.std.specs.Io.KnownBytes.{WriteAppends};
 ghost use Rattle.listings.specs.Devices.{taken, write_failed};
 
 use crate::device_log::{Call, DeviceLog};
@@ -15,11 +16,15 @@ pub trait Sink {
     // How many of its writes have failed: answered an error, or took none of a text that is not empty.
     ghost failures: { Self → ℕ };
 
+    // The octets that it holds, where they are known.
+    ghost contents: { Self → Option (List ℕ) } = { λ _. None };
+
     /// Writes a beginning of the text, and answers how many octets of it.
     fn write(&mut self, text: &[u8]) -> io::Result<usize>
         ensures count { IfOk result (λ n. n ≤ length text.now) }
         ensures taken { taken_octets self.new ≡ taken_octets self.old ++ taken result text.now }
-        ensures failures { failures self.new ≡ failures self.old + write_failed result text.now };
+        ensures failures { failures self.new ≡ failures self.old + write_failed result text.now }
+        ensures appends { WriteAppends (contents self.old) (contents self.new) result text.now };
 }
 
 /// A writer of the standard library as a sink.
@@ -33,14 +38,22 @@ impl<W> Writer<W> {
     ghost use Rattle.std.specs.Prelude.{[], false};
     ghost use Rattle.listings.specs.DeviceLog.{IsLogOf};
 
-    /// A sink that has taken nothing yet.
+    /// A sink that writes to this writer, and has taken nothing yet.
     pub fn new(inner: W) -> Self
-        ensures { IsLogOf result.log [] false 0 }
+        ensures inner { result.inner ≡ inner }
+        ensures log { IsLogOf result.log [] false 0 }
     {
         Writer {
             inner,
             log: DeviceLog::new(),
         }
+    }
+
+    /// The writer inside.
+    pub fn get_ref(&self) -> &W
+        ensures { result.now ≡ self.now.inner }
+    {
+        &self.inner
     }
 }
 
@@ -48,6 +61,8 @@ impl<W: Write> Sink for Writer<W> {
     ghost taken_octets = { λ s. s.log.octets };
 
     ghost failures = { λ s. s.log.failures };
+
+    ghost contents = { λ s. W.contents s.inner };
 
     fn write(&mut self, text: &[u8]) -> io::Result<usize> {
         let result = self.inner.write(text);

@@ -1,6 +1,8 @@
 // Where octets come from.
 
-ghost use Rattle.std.specs.Prelude.{◌≡◌, ◌≤◌, ◌<◌, ◌+◌, ◌++◌, ℕ, Bool, List, length, IfOk, OnErr};
+ghost use Rattle.std.specs.Prelude.{◌≡◌, ◌≤◌, ◌<◌, ◌+◌, ◌++◌, ℕ, Bool, List, length};
+ghost use Rattle.std.specs.Prelude.{Option, None, IfOk};
+ghost use Rattle.std.specs.Io.KnownBytes.{ReadConsumes};
 ghost use Rattle.listings.specs.Devices.{taken, read_failed, EndsOrNot};
 
 use crate::device_log::{Call, DeviceLog};
@@ -18,13 +20,18 @@ pub trait Source {
     // How many of its reads have failed.
     ghost failures: { Self → ℕ };
 
+    // The octets that its reads will give from here on, where they are known.
+    ghost remaining: { Self → Option (List ℕ) } = { λ _. None };
+
     /// Reads octets into the front of a piece that is not empty, and answers how many; 0 at the end.
     fn read(&mut self, piece: &mut [u8]) -> io::Result<usize>
         requires { 0 < length piece.old }
         ensures count { IfOk result (λ n. n ≤ length piece.new) }
         ensures given { given self.new ≡ given self.old ++ taken result piece.new }
         ensures ended { EndsOrNot result (has_ended self.new) }
-        ensures failures { failures self.new ≡ failures self.old + read_failed result };
+        ensures failures { failures self.new ≡ failures self.old + read_failed result }
+        ensures consumes { ReadConsumes (remaining self.old) (remaining self.new)
+            result piece.new };
 }
 
 /// A reader of the standard library as a source.
@@ -38,14 +45,22 @@ impl<R> Reader<R> {
     ghost use Rattle.std.specs.Prelude.{[], false};
     ghost use Rattle.listings.specs.DeviceLog.{IsLogOf};
 
-    /// A source that has given nothing yet.
+    /// A source that reads from this reader, and has given nothing yet.
     pub fn new(inner: R) -> Self
-        ensures { IsLogOf result.log [] false 0 }
+        ensures inner { result.inner ≡ inner }
+        ensures log { IsLogOf result.log [] false 0 }
     {
         Reader {
             inner,
             log: DeviceLog::new(),
         }
+    }
+
+    /// The reader inside.
+    pub fn get_ref(&self) -> &R
+        ensures { result.now ≡ self.now.inner }
+    {
+        &self.inner
     }
 }
 
@@ -55,6 +70,8 @@ impl<R: Read> Source for Reader<R> {
     ghost has_ended = { λ s. s.log.has_ended };
 
     ghost failures = { λ s. s.log.failures };
+
+    ghost remaining = { λ s. R.remaining s.inner };
 
     fn read(&mut self, piece: &mut [u8]) -> io::Result<usize> {
         match self.inner.read(piece) {

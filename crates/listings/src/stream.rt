@@ -1,9 +1,11 @@
 // Reads a stream in pieces, and writes what a command makes of its records.
 
-ghost use Rattle.std.specs.Prelude.{◌≡◌, ◌⊎◌, None, false, true, ◌+◌, ◌-◌, ◌^◌, ◌<◌, ◌≤◌, ◌&&◌, ◌++◌, [], length, Ok, Err, OnOk, IfOk, IfErr, string_bytes};
+ghost use Rattle.std.specs.Prelude.{◌≡◌, ◌⊎◌, None, false, ◌+◌, ◌-◌, ◌^◌, ◌<◌, ◌≤◌, ◌&&◌, ◌++◌, [], length, Ok, Err, OnOk, IfOk, IfErr, string_bytes};
 ghost use Rattle.listings.specs.Layouts.{first_by, rest_by, IsRefused};
 ghost use Rattle.listings.specs.Listing.{fresh, listed, text_of, is_all_good, rest_line, is_empty, HasListed, HasRefused};
 ghost use Rattle.octets.specs.Beginning.{IsBeginning};
+ghost use Rattle.std.specs.Io.KnownBytes.{Consumes};
+ghost use Rattle.listings.specs.Devices.{HasEnded};
 ghost use Rattle.listings.specs.Failures.{reads_failed_in, writes_failed_in};
 ghost use Rattle.listings.specs.Gained.{gained};
 ghost use Rattle.listings.specs.Progress.{where_refused, standing};
@@ -184,7 +186,9 @@ pub fn list_stream<S: Cutter + Drop, C: Listing<S> + Drop, R: Source, W: Sink>(
         (fresh command (gained (R.given reader.old) (R.given reader.new)))) }
     ensures good { IfOk result (λ good. good ≡ is_all_good C.lines S.layout
         (fresh command (gained (R.given reader.old) (R.given reader.new)))) }
-    ensures end { OnOk result ((R.has_ended reader.new ≡ true)
+    ensures consumes { Consumes (R.remaining reader.old) (R.remaining reader.new)
+        (gained (R.given reader.old) (R.given reader.new)) }
+    ensures end { OnOk result (HasEnded (R.has_ended reader.new) (R.remaining reader.new)
         ⊎ IsRefused S.layout
         (rest_by S.layout (gained (R.given reader.old) (R.given reader.new)))) }
     ensures beginning { BeginsToWrite result (W.taken_octets writer.old) (W.taken_octets writer.new)
@@ -200,7 +204,7 @@ pub fn list_stream<S: Cutter + Drop, C: Listing<S> + Drop, R: Source, W: Sink>(
         all_good: true,
     };
     let mut text = String::new(alloc);
-    let mut piece = [0u8; 16384];
+    let mut piece = [0u8; 4096];
     let mut total: u64 = 0;
     loop {
         let Ok(count) = reader.read(&mut piece) else {

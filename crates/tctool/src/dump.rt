@@ -1,8 +1,10 @@
 // Reads a file, and writes what the words ask for of it.
 
-ghost use Rattle.std.specs.Prelude.{◌≡◌, ◌⊎◌, ◌+◌, ◌<◌, [], None, length, true, Err, OnOk, IfOk};
+ghost use Rattle.std.specs.Prelude.{◌≡◌, ◌⊎◌, ◌+◌, ◌<◌, [], None, length, Err, OnOk, IfOk};
+ghost use Rattle.std.specs.Io.KnownBytes.{Consumes};
 ghost use Rattle.octets.specs.Beginning.{IsBeginning};
 ghost use Rattle.tctool.specs.Dumped.{lines_of, outcome_for, StopsAt};
+ghost use Rattle.listings.specs.Devices.{HasEnded};
 ghost use Rattle.listings.specs.Failures.{reads_failed_in, writes_failed_in};
 ghost use Rattle.listings.specs.Gained.{gained};
 ghost use Rattle.tctool.specs.Outcome.{outcome_if, outcome_view};
@@ -47,7 +49,9 @@ pub fn dump<R: Source, W: Sink>(
         (lines_of options.now.task (gained (R.given reader.old) (R.given reader.new))) }
     ensures outcome { IfOk result (λ outcome. outcome_view outcome
         ≡ outcome_for options.now.task (gained (R.given reader.old) (R.given reader.new))) }
-    ensures end { OnOk result ((R.has_ended reader.new ≡ true)
+    ensures consumes { Consumes (R.remaining reader.old) (R.remaining reader.new)
+        (gained (R.given reader.old) (R.given reader.new)) }
+    ensures end { OnOk result (HasEnded (R.has_ended reader.new) (R.remaining reader.new)
         ⊎ StopsAt options.now.task (gained (R.given reader.old) (R.given reader.new))) }
     ensures beginning { BeginsToWrite result (W.taken_octets writer.old) (W.taken_octets writer.new)
         (lines_of options.now.task (gained (R.given reader.old) (R.given reader.new))) }
@@ -112,7 +116,9 @@ fn list_file<S: Cutter + Drop, C: Listing<S> + Drop, R: Source, W: Sink>(
         (fresh listing (gained (R.given reader.old) (R.given reader.new)))) }
     ensures outcome { IfOk result (λ outcome. outcome ≡ outcome_if (is_all_good C.lines S.layout
         (fresh listing (gained (R.given reader.old) (R.given reader.new))))) }
-    ensures end { OnOk result ((R.has_ended reader.new ≡ true)
+    ensures consumes { Consumes (R.remaining reader.old) (R.remaining reader.new)
+        (gained (R.given reader.old) (R.given reader.new)) }
+    ensures end { OnOk result (HasEnded (R.has_ended reader.new) (R.remaining reader.new)
         ⊎ IsRefused S.layout
         (rest_by S.layout (gained (R.given reader.old) (R.given reader.new)))) }
     ensures beginning { BeginsToWrite result (W.taken_octets writer.old) (W.taken_octets writer.new)
@@ -142,7 +148,9 @@ fn list_frames<K: FrameLength, R: Source, W: Sink>(
         (lines_of (tasks.Tm size) (gained (R.given reader.old) (R.given reader.new))) }
     ensures outcome { IfOk result (λ outcome. outcome_view outcome
         ≡ outcome_for (tasks.Tm size) (gained (R.given reader.old) (R.given reader.new))) }
-    ensures end { OnOk result ((R.has_ended reader.new ≡ true)
+    ensures consumes { Consumes (R.remaining reader.old) (R.remaining reader.new)
+        (gained (R.given reader.old) (R.given reader.new)) }
+    ensures end { OnOk result (HasEnded (R.has_ended reader.new) (R.remaining reader.new)
         ⊎ StopsAt (tasks.Tm size) (gained (R.given reader.old) (R.given reader.new))) }
     ensures beginning { BeginsToWrite result (W.taken_octets writer.old) (W.taken_octets writer.new)
         (lines_of (tasks.Tm size) (gained (R.given reader.old) (R.given reader.new))) }

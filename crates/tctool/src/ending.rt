@@ -1,7 +1,9 @@
 // How the program ends.
 
-ghost use Rattle.std.specs.Prelude.{◌≡◌};
-ghost use Rattle.tctool.specs.Status.{exit_status};
+ghost use Rattle.std.specs.Prelude.{◌≡◌, ◌+◌, ◌++◌, OnOk};
+ghost use Rattle.octets.specs.Beginning.{IsBeginning};
+ghost use Rattle.listings.specs.Failures.{failed_in};
+ghost use Rattle.tctool.specs.Status.{ending_line, exit_status, fault_line};
 
 use crate::outcome::Outcome;
 use itoa::Buffer;
@@ -9,35 +11,59 @@ use listings::{DumpFault, Sink, WriteFailed, write_all};
 
 /// Writes the line for standard error, where there is one, and answers the status: 0 where all was
 /// good, 1 for a fault in the data or the script, 3 where a device or memory failed or the input was too long. A
-/// fault of the sink is passed over.
+/// fault of the sink is passed over; it has taken a beginning of the line then.
 pub fn ending<W: Sink>(dumped: &Result<Outcome, DumpFault>, errors: &mut W) -> u8
+    ensures status { result ≡ exit_status dumped.now }
+    ensures line { IsBeginning (W.taken_octets errors.new)
+        (W.taken_octets errors.old ++ ending_line dumped.now) }
+    ensures whole { W.failures errors.new ≡ W.failures errors.old
+        → W.taken_octets errors.new ≡ W.taken_octets errors.old ++ ending_line dumped.now }
+{
+    let _ = write_ending(dumped, errors);
+    status_of(dumped)
+}
+
+fn status_of(dumped: &Result<Outcome, DumpFault>) -> u8
     ensures { result ≡ exit_status dumped.now }
 {
     match dumped {
         Ok(Outcome::Good) => 0,
         Ok(Outcome::Faulty) => 1,
-        Ok(Outcome::Unreadable(line)) => {
-            let mut digits = Buffer::new();
-            let _ = write_parts(
-                errors,
-                "tctool: line ",
-                digits.format(*line),
-                ": unreadable\n",
-            );
-            1
-        }
-        Ok(Outcome::OutOfRange(field)) => {
-            let _ = write_parts(errors, "tctool: config out of range: ", field, "\n");
-            1
-        }
-        Err(fault) => {
-            let _ = write_all(errors, line_of(*fault).as_bytes());
-            3
-        }
+        Ok(Outcome::Unreadable(_)) => 1,
+        Ok(Outcome::OutOfRange(_)) => 1,
+        Err(_) => 3,
     }
 }
 
-fn line_of(fault: DumpFault) -> &'static str {
+fn write_ending<W: Sink>(
+    dumped: &Result<Outcome, DumpFault>,
+    errors: &mut W,
+) -> Result<(), WriteFailed>
+    ensures ok { OnOk result (W.taken_octets errors.new
+        ≡ W.taken_octets errors.old ++ ending_line dumped.now) }
+    ensures beginning { IsBeginning (W.taken_octets errors.new)
+        (W.taken_octets errors.old ++ ending_line dumped.now) }
+    ensures failures { W.failures errors.new ≡ W.failures errors.old + failed_in result }
+{
+    match dumped {
+        Ok(Outcome::Good) => Ok(()),
+        Ok(Outcome::Faulty) => Ok(()),
+        Ok(Outcome::Unreadable(line)) => {
+            let mut digits = Buffer::new();
+            let number = digits.format(*line);
+            write_parts(errors, "tctool: line ", number, ": unreadable\n")
+        }
+        Ok(Outcome::OutOfRange(field)) => {
+            write_parts(errors, "tctool: config out of range: ", field, "\n")
+        }
+        Err(fault) => write_all(errors, line_of(*fault).as_bytes()),
+    }
+}
+
+// The line of a fault.
+fn line_of(fault: DumpFault) -> &'static str
+    ensures { result.now ≡ fault_line fault }
+{
     match fault {
         DumpFault::Read => "tctool: read failed\n",
         DumpFault::Write => "tctool: write failed\n",
@@ -52,7 +78,13 @@ fn write_parts<W: Sink>(
     start: &str,
     word: &str,
     end: &str,
-) -> Result<(), WriteFailed> {
+) -> Result<(), WriteFailed>
+    ensures ok { OnOk result (W.taken_octets errors.new
+        ≡ W.taken_octets errors.old ++ (start.now ++ (word.now ++ end.now))) }
+    ensures beginning { IsBeginning (W.taken_octets errors.new)
+        (W.taken_octets errors.old ++ (start.now ++ (word.now ++ end.now))) }
+    ensures failures { W.failures errors.new ≡ W.failures errors.old + failed_in result }
+{
     write_all(errors, start.as_bytes())?;
     write_all(errors, word.as_bytes())?;
     write_all(errors, end.as_bytes())

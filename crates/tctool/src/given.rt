@@ -1,5 +1,7 @@
 // The words that the program was given.
 
+ghost use Rattle.std.specs.Prelude.{◌≡◌, IfOk, map, string_bytes};
+
 use std::alloc::{AllocError, Global};
 use std::env::{Env, FillError};
 use std::str::from_utf8;
@@ -35,7 +37,11 @@ impl GivenWords {
         self.is_unicode
     }
 
-    pub fn texts(&self, alloc: Global) -> Result<Vec<&str>, AllocError> {
+    /// The words as texts, in their order.
+    pub fn texts(&self, alloc: Global) -> Result<Vec<&str>, AllocError>
+        ensures { IfOk result (λ texts. map (λ text. text.now) texts.items
+            ≡ map string_bytes self.now.words.items) }
+    {
         self.words.iter().map(|word| word.as_str()).collect(alloc)
     }
 }

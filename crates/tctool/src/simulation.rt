@@ -1,10 +1,13 @@
 // `tctool sim`: plays a script of the simulated link.
 
-ghost use Rattle.std.specs.Prelude.{◌≡◌, ◌⊎◌, ◌+◌, ◌<◌, ◌≤◌, ◌^◌, ◌-◌, length, true, Err, OnOk, IfOk, IfErr};
+ghost use Rattle.std.specs.Prelude.{◌≡◌, ◌⊎◌, ◌+◌, ◌<◌, ◌≤◌, ◌^◌, ◌-◌, length};
+ghost use Rattle.std.specs.Prelude.{Err, OnOk, IfOk, IfErr};
 ghost use Rattle.script.specs.Ending.{script_ending, script_text};
 ghost use Rattle.script.specs.Playing.{answers_from};
 ghost use Rattle.script.specs.Scripts.{script_in};
+ghost use Rattle.std.specs.Io.KnownBytes.{Consumes};
 ghost use Rattle.octets.specs.Beginning.{IsBeginning};
+ghost use Rattle.listings.specs.Devices.{HasEnded};
 ghost use Rattle.listings.specs.Failures.{writes_failed, reads_failed_in, writes_failed_in};
 ghost use Rattle.listings.specs.Gained.{gained};
 ghost use Rattle.tctool.specs.Outcome.{outcome_view, as_outcome};
@@ -80,7 +83,9 @@ fn read_all<R: Source>(alloc: Global, reader: &mut R) -> Result<Vec<u8>, DumpFau
     ensures all { IfOk result (λ text. text.items
         ≡ gained (R.given reader.old) (R.given reader.new)) }
     ensures short { IfOk result (λ text. length text.items ≤ MOST_OCTETS) }
-    ensures end { OnOk result (R.has_ended reader.new ≡ true) }
+    ensures consumes { Consumes (R.remaining reader.old) (R.remaining reader.new)
+        (gained (R.given reader.old) (R.given reader.new)) }
+    ensures end { OnOk result (HasEnded (R.has_ended reader.new) (R.remaining reader.new)) }
     ensures failures { R.failures reader.new ≡ R.failures reader.old + reads_failed_in result }
     ensures faults { IfErr result (λ e. writes_failed e ≡ 0) }
     ensures too_long { result ≡ Err DumpFault.TooLong
@@ -115,7 +120,9 @@ pub fn simulate<R: Source, W: Sink>(
         (script_text (gained (R.given reader.old) (R.given reader.new))) }
     ensures outcome { IfOk result (λ outcome. outcome_view outcome
         ≡ as_outcome (script_ending (gained (R.given reader.old) (R.given reader.new)))) }
-    ensures end { OnOk result (R.has_ended reader.new ≡ true) }
+    ensures consumes { Consumes (R.remaining reader.old) (R.remaining reader.new)
+        (gained (R.given reader.old) (R.given reader.new)) }
+    ensures end { OnOk result (HasEnded (R.has_ended reader.new) (R.remaining reader.new)) }
     ensures beginning { BeginsToWrite result (W.taken_octets writer.old) (W.taken_octets writer.new)
         (script_text (gained (R.given reader.old) (R.given reader.new))) }
     ensures read { R.failures reader.new ≡ R.failures reader.old + reads_failed_in result }

@@ -16,11 +16,12 @@ use crate::ending::ending;
 use crate::outcome::Outcome;
 use crate::task::{Options, Task};
 use devices::{Store, Supply, WriteFault};
-use listings::{DumpFault, Reader, Writer};
+use listings::{DumpFault, Reader, Sink, Source, Writer};
 use rows::{
-    Row, check_rows, faulty, faulty_farm_rows, good_farm_rows, packets_rows, tc_rows, tm_rows,
+    Row, check_rows, faulty, faulty_farm_rows, good, good_farm_rows, packets_rows, tc_rows, tm_rows,
 };
 use std::alloc::{AllocError, Global};
+use std::io::ErrorKind;
 use std::process::Abort;
 use tc_frame::Check;
 
@@ -45,12 +46,13 @@ fn dumped(
     rt: &impl Abort,
     alloc: Global,
     row: &Row,
-    supply: &mut Supply,
+    reader: &mut Reader<Supply>,
     store: &mut Store,
 ) -> Result<Outcome, DumpFault> {
     let task = row.task;
     is_in_range(rt, task);
-    dump(alloc, supply, store, &Options { task, file: "" })
+    let mut writer = Writer::new(store);
+    dump(alloc, reader, &mut writer, &Options { task, file: "" })
 }
 
 fn writes_all(alloc: Global, step: usize) -> Store {
@@ -58,11 +60,12 @@ fn writes_all(alloc: Global, step: usize) -> Store {
 }
 
 fn is_written(rt: &impl Abort, alloc: Global, row: &Row, read_step: usize, write_step: usize) {
-    let mut supply = Supply::new(row.octets, read_step, usize::MAX);
+    let mut reader = Reader::new(Supply::new(row.octets, read_step, usize::MAX));
     let mut store = writes_all(alloc, write_step);
-    let result = dumped(rt, alloc, row, &mut supply, &mut store);
+    let result = dumped(rt, alloc, row, &mut reader, &mut store);
     assert_eq!(rt; result, Ok(row.outcome));
     assert_eq!(rt; store.octets(), row.text.as_bytes());
+    assert!(rt; reader.get_ref().most_asked() <= 4096);
 }
 
 fn is_written_in_pieces(rt: &impl Abort, alloc: Global, row: &Row) {
@@ -77,12 +80,13 @@ fn ends_early(
     rt: &impl Abort,
     alloc: Global,
     row: &Row,
-    mut supply: Supply,
+    supply: Supply,
     mut store: Store,
     fault: DumpFault,
 ) -> bool {
-    let result = dumped(rt, alloc, row, &mut supply, &mut store);
-    if supply.has_failed() || store.has_failed() {
+    let mut reader = Reader::new(supply);
+    let result = dumped(rt, alloc, row, &mut reader, &mut store);
+    if reader.get_ref().has_failed() || store.has_failed() {
         assert!(rt; row.text.as_bytes().starts_with(store.octets()));
         assert_eq!(rt; result, Err(fault));
         return true;
@@ -165,9 +169,9 @@ fn failing_devices(rt: HostRuntime) {
 #[test]
 fn a_line_is_written_before_the_next_read(rt: HostRuntime) {
     let [row, ..] = good_farm_rows();
-    let mut supply = Supply::new(row.octets, 13, 1);
+    let mut reader = Reader::new(Supply::new(row.octets, 13, 1));
     let mut store = writes_all(rt.alloc(), 4096);
-    let result = dumped(&rt, rt.alloc(), &row, &mut supply, &mut store);
+    let result = dumped(&rt, rt.alloc(), &row, &mut reader, &mut store);
     assert_eq!(rt; result, Err(DumpFault::Read));
     let line = "1 AD 255 accepted Open vr=0 l=0 w=0 t=0 b=0\n";
     assert_eq!(rt; store.octets(), line.as_bytes());
@@ -177,21 +181,24 @@ fn a_line_is_written_before_the_next_read(rt: HostRuntime) {
 #[test]
 fn an_error_is_no_end(rt: HostRuntime) {
     let [_, _, _, _, row, ..] = tc_rows();
-    let mut supply = Supply::new(row.octets, 4096, 1);
+    let mut reader = Reader::new(Supply::new(row.octets, 4096, 1));
     let mut store = writes_all(rt.alloc(), 4096);
-    let result = dumped(&rt, rt.alloc(), &row, &mut supply, &mut store);
+    let result = dumped(&rt, rt.alloc(), &row, &mut reader, &mut store);
     assert_eq!(rt; result, Err(DumpFault::Read));
     assert!(rt; store.octets().is_empty());
 }
 
 fn stops_at(rt: &impl Abort, alloc: Global, task: Task, octets: &'static [u8], line: &'static str) {
     let row = faulty(task, octets, line);
-    let mut supply = Supply::new(octets, 6, usize::MAX);
+    let mut reader = Reader::new(Supply::new(octets, 6, usize::MAX));
     let mut store = writes_all(alloc, 4096);
-    let result = dumped(rt, alloc, &row, &mut supply, &mut store);
+    let result = dumped(rt, alloc, &row, &mut reader, &mut store);
     assert_eq!(rt; result, Ok(Outcome::Faulty));
     assert_eq!(rt; store.octets(), line.as_bytes());
-    assert_eq!(rt; supply.given(), 6);
+    assert_eq!(rt;
+        reader.get_ref().left().len().saturating_add(6),
+        octets.len()
+    );
 }
 
 // Each length is refused with the first six octets. The frames of `tctool tm` declare none.
@@ -224,23 +231,47 @@ fn nothing_is_read_behind_a_refused_length(rt: HostRuntime) {
     );
 }
 
+// A piece has at most 4,096 octets, and each is full where the input has as many.
+#[test]
+fn sizes_of_pieces(rt: HostRuntime) -> Result<(), AllocError> {
+    let mut packets = Vec::new(rt.alloc());
+    for _ in 0..1500usize {
+        packets.extend_from_slice(b"\x10\x05\xc0\x00\x00\x00\xaa")?;
+    }
+    for (reads, result) in [(3, Err(DumpFault::Read)), (4, Ok(Outcome::Good))] {
+        let row = good(Task::Packets, b"", "");
+        let mut reader = Reader::new(Supply::new(packets.as_slice(), usize::MAX, reads));
+        let mut store = writes_all(rt.alloc(), usize::MAX);
+        assert_eq!(rt;
+            dumped(&rt, rt.alloc(), &row, &mut reader, &mut store),
+            result
+        );
+        assert!(rt; reader.get_ref().left().is_empty());
+        assert_eq!(rt; reader.get_ref().most_asked(), 4096);
+    }
+    Ok(())
+}
+
+// What the reader or the writer inside answers is answered: how many octets, or its error.
 #[test]
 fn readers_and_writers_of_std(rt: HostRuntime) {
-    let [row, ..] = good_farm_rows();
-    let mut text = Vec::new(rt.alloc());
-    is_in_range(&rt, row.task);
-    let options = Options {
-        task: row.task,
-        file: "",
-    };
-    let result = dump(
-        rt.alloc(),
-        &mut Reader::new(row.octets),
-        &mut Writer::new(&mut text),
-        &options,
-    );
-    assert_eq!(rt; result, Ok(row.outcome));
-    assert_eq!(rt; text.as_slice(), row.text.as_bytes());
+    let mut piece = [0; 4];
+    let mut reader = Reader::new(Supply::new(b"unlock", 3, 2));
+    for (count, octets) in [(3, b"unl\0"), (3, b"ock\0")] {
+        assert_eq!(rt; reader.read(&mut piece).ok(), Some(count));
+        assert_eq!(rt; piece, *octets);
+    }
+    let failed = reader.read(&mut piece).err().map(|error| error.kind());
+    assert_eq!(rt; failed, Some(ErrorKind::PermissionDenied));
+    assert_eq!(rt; reader.read(&mut piece).ok(), Some(0));
+
+    let mut store = Store::new(rt.alloc(), 3, 1, WriteFault::Error);
+    let mut writer = Writer::new(&mut store);
+    assert_eq!(rt; writer.write(b"unlock").ok(), Some(3));
+    let failed = writer.write(b"ock").err().map(|error| error.kind());
+    assert_eq!(rt; failed, Some(ErrorKind::StorageFull));
+    assert_eq!(rt; writer.write(b"ock").ok(), Some(3));
+    assert_eq!(rt; store.octets(), b"unlock".as_slice());
 }
 
 #[test]
@@ -269,10 +300,10 @@ fn endings(rt: HostRuntime) {
         (Err(DumpFault::TooLong), 3, "tctool: input too long\n"),
     ] {
         let mut errors = writes_all(rt.alloc(), 4096);
-        assert_eq!(rt; ending(&dumped, &mut errors), status);
+        assert_eq!(rt; ending(&dumped, &mut Writer::new(&mut errors)), status);
         assert_eq!(rt; errors.octets(), line.as_bytes());
         let mut closed = Store::new(rt.alloc(), 4096, 0, WriteFault::Error);
-        assert_eq!(rt; ending(&dumped, &mut closed), status);
+        assert_eq!(rt; ending(&dumped, &mut Writer::new(&mut closed)), status);
     }
 }
 
@@ -292,9 +323,9 @@ fn texts_of_faults(rt: HostRuntime) -> Result<(), AllocError> {
 
 // A growth that is refused ends the dump. What is written by then are whole lines, nothing of the piece that needed it.
 fn dumps_again(rt: &(impl Abort + Eprint), alloc: Global, row: &Row) {
-    let mut supply = Supply::new(row.octets, 13, usize::MAX);
+    let mut reader = Reader::new(Supply::new(row.octets, 13, usize::MAX));
     let mut store = writes_all(alloc, 4096);
-    let result = dumped(rt, alloc, row, &mut supply, &mut store);
+    let result = dumped(rt, alloc, row, &mut reader, &mut store);
     if result != Ok(row.outcome) {
         let _ = eprintln!(rt; "refused a growth");
         assert!(rt; matches!(result, Err(DumpFault::Memory | DumpFault::Write)));

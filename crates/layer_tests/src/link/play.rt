@@ -60,12 +60,9 @@ impl Play {
         &self.sim
     }
 
-    /// Lets an event happen. Where memory is refused the call made again answers as ever.
+    /// Lets an event happen, where memory is ample.
     pub fn step(&mut self, event: Event<'_>) -> Result<Reply, SimFault> {
-        match self.sim.step(event) {
-            Err(SimFault::Memory) => self.sim.step(event),
-            answer => answer,
-        }
+        self.sim.step(event)
     }
 
     // Lets an event happen. Where memory is refused nothing has changed, and the call made again answers

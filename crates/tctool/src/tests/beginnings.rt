@@ -4,6 +4,7 @@ use crate::outcome::Outcome;
 use crate::tests::devices::Supply;
 use crate::tests::rows::{Row, good_farm_rows, packets_rows, tc_rows, tm_rows};
 use crate::tests::{dumped, writes_all};
+use listings::Reader;
 use std::alloc::{AllocError, Global};
 use std::process::Abort;
 
@@ -50,9 +51,9 @@ fn is_cut(
             let line = format!(in alloc; "{} invalid 1 {name}\n", whole.saturating_add(1))?;
             text.extend_from_slice(line.as_bytes())?;
         }
-        let mut supply = Supply::new(&row.octets[..end], 4096, usize::MAX);
+        let mut reader = Reader::new(Supply::new(&row.octets[..end], 4096, usize::MAX));
         let mut store = writes_all(alloc, 4096);
-        let result = dumped(rt, alloc, row, &mut supply, &mut store);
+        let result = dumped(rt, alloc, row, &mut reader, &mut store);
         assert_eq!(rt; result, Ok(Outcome::of(left == 0)));
         assert_eq!(rt; store.octets(), text.as_slice());
     }

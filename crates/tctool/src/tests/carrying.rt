@@ -5,6 +5,7 @@ use super::writes_all;
 use crate::dump::dump;
 use crate::outcome::Outcome;
 use crate::task::{Options, Task};
+use listings::{Reader, Writer};
 use std::alloc::Global;
 use std::process::Abort;
 use std::test::Fail;
@@ -37,13 +38,14 @@ fn script_of_600(alloc: Global) -> Result<String, Fail> {
 }
 
 fn carries(rt: &impl Abort, alloc: Global, script: &str, expected: &str) -> Result<(), Fail> {
-    let mut supply = Supply::new(script.as_bytes(), 4096, usize::MAX);
+    let mut reader = Reader::new(Supply::new(script.as_bytes(), 4096, usize::MAX));
     let mut store = writes_all(alloc, 4096);
     let options = Options {
         task: Task::Sim,
         file: "",
     };
-    let result = dump(alloc, &mut supply, &mut store, &options);
+    let mut writer = Writer::new(&mut store);
+    let result = dump(alloc, &mut reader, &mut writer, &options);
     assert_eq!(rt; result, Ok(Outcome::Good));
     let mut packets = String::new(alloc);
     for line in store.octets().split(|octet| *octet == b'\n') {

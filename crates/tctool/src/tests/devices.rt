@@ -1,68 +1,57 @@
-// Devices over memory. They move few octets at a call, and fail once, at the call behind so many.
+// A reader and a writer over memory. They move few octets at a call, and fail once, at the call behind
+// so many.
 
-ghost use Rattle.std.specs.Prelude.{◌≤◌, length, take};
-
-use listings::{Call, DeviceLog, Sink, Source};
 use std::alloc::Global;
 use std::io;
+use std::io::{ErrorKind, Read, Write};
 
 /// Gives these octets.
 #[derive(Drop)]
 pub struct Supply<'a> {
-    octets: &'a [u8],
-    given: usize,
+    left: &'a [u8],
     step: usize,
     calls_left: usize,
     has_failed: bool,
-    has_ended: bool,
-    log: DeviceLog,
-    ghost in_range: { given ≤ length octets.now },
+    most_asked: usize,
 }
 
 impl<'a> Supply<'a> {
     /// Gives at most `step` octets at each read. The read behind the first `calls` fails.
     pub fn new(octets: &'a [u8], step: usize, calls: usize) -> Self {
         Supply {
-            octets,
-            given: 0,
+            left: octets,
             step,
             calls_left: calls,
             has_failed: false,
-            has_ended: false,
-            log: DeviceLog::new(),
+            most_asked: 0,
         }
     }
 
-    /// How many octets were given.
-    pub fn given(&self) -> usize {
-        self.given
+    /// The octets that were not given yet.
+    pub fn left(&self) -> &[u8] {
+        self.left
     }
 
     pub fn has_failed(&self) -> bool {
         self.has_failed
     }
+
+    /// The most octets that a read has asked for.
+    pub fn most_asked(&self) -> usize {
+        self.most_asked
+    }
 }
 
-impl<'a> Source for Supply<'a> {
-    ghost given = { λ s. take s.given s.octets.now };
-
-    ghost has_ended = { λ s. s.has_ended };
-
-    ghost failures = { λ s. s.log.failures };
-
+impl Read for Supply<'_> {
     fn read(&mut self, piece: &mut [u8]) -> io::Result<usize> {
+        self.most_asked = self.most_asked.max(piece.len());
         if self.calls_left == 0 && !self.has_failed {
             self.has_failed = true;
-            self.log = self.log.then(&Call::Failed);
-            return Err(io::Error::other("a read that fails"));
+            return Err(io::Error::from(ErrorKind::PermissionDenied));
         }
         self.calls_left = self.calls_left.saturating_sub(1);
-        let left = &self.octets[self.given..];
-        let count = left.len().min(self.step).min(piece.len());
-        piece[..count].copy_from_slice(&left[..count]);
-        self.given += count;
-        self.has_ended = count == 0;
-        Ok(count)
+        let most = piece.len().min(self.step);
+        self.left.read(&mut piece[..most])
     }
 }
 
@@ -81,7 +70,6 @@ pub struct Store {
     calls_left: usize,
     fault: WriteFault,
     has_failed: bool,
-    log: DeviceLog,
 }
 
 impl Store {
@@ -93,7 +81,6 @@ impl Store {
             calls_left: calls,
             fault,
             has_failed: false,
-            log: DeviceLog::new(),
         }
     }
 
@@ -107,31 +94,22 @@ impl Store {
     }
 }
 
-impl Sink for Store {
-    ghost taken_octets = { λ s. s.octets.items };
-
-    ghost failures = { λ s. s.log.failures };
-
+impl Write for Store {
     fn write(&mut self, text: &[u8]) -> io::Result<usize> {
-        if text.is_empty() {
-            return Ok(0);
-        }
         if self.calls_left == 0 && !self.has_failed {
             self.has_failed = true;
-            self.log = self.log.then(&Call::Failed);
             return match self.fault {
-                WriteFault::Error => Err(io::Error::other("a write that fails")),
+                WriteFault::Error => Err(io::Error::from(ErrorKind::StorageFull)),
                 WriteFault::Nothing => Ok(0),
             };
         }
         self.calls_left = self.calls_left.saturating_sub(1);
-        let count = text.len().min(self.step.max(1));
-        match self.octets.extend_from_slice(&text[..count]) {
-            Ok(()) => Ok(count),
-            Err(error) => {
-                self.log = self.log.then(&Call::Failed);
-                Err(io::Error::from(error))
-            }
-        }
+        let count = text.len().min(self.step);
+        self.octets.extend_from_slice(&text[..count])?;
+        Ok(count)
+    }
+
+    fn flush(&mut self) -> io::Result<()> {
+        Ok(())
     }
 }

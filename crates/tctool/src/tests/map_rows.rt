@@ -8,6 +8,7 @@ use crate::tests::rows::{Row, faulty, good};
 use crate::tests::{
     dumps_again, fails_with_each_call, is_in_range, is_written_in_pieces, writes_all,
 };
+use listings::{Reader, Writer};
 use std::alloc::{AllocError, Global};
 use std::process::Abort;
 use tc_frame::Check;
@@ -231,9 +232,10 @@ struct Told {
 fn is_told(rt: &impl Abort, alloc: Global, octets: &[u8], text: &str, outcome: Outcome) {
     let task = map(Check::Off, 254, 0, false);
     is_in_range(rt, task);
-    let mut supply = Supply::new(octets, 4096, usize::MAX);
+    let mut reader = Reader::new(Supply::new(octets, 4096, usize::MAX));
     let mut store = writes_all(alloc, 4096);
-    let result = dump(alloc, &mut supply, &mut store, &Options { task, file: "" });
+    let mut writer = Writer::new(&mut store);
+    let result = dump(alloc, &mut reader, &mut writer, &Options { task, file: "" });
     assert_eq!(rt; result, Ok(outcome));
     assert_eq!(rt; store.octets(), text.as_bytes());
 }

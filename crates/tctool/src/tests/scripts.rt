@@ -1,6 +1,5 @@
 // Scripts of the simulated link, and what the tool writes of them.
 
-use super::devices::{Store, Supply};
 use super::rows::Row;
 use super::{dumped, dumps_again, fails_with_each_call, is_written, is_written_in_pieces};
 use crate::outcome::Outcome;

@@ -13,6 +13,7 @@ use Rattle.listings.specs.declared.stream.Course.TheVariants.{Open, Refused}
 use Rattle.listings.proofs.Beginnings.{gained_nothing, on_ok_from}
 use Rattle.listings.proofs.Listed.{bare, listed-nothing, first_record-nothing}
 use Rattle.listings.proofs.Pieces.{adds_piece, at_end, stops, is_bad}
+use Rattle.listings.proofs.Remaining.{consumes_nothing, consumes_piece}
 use Rattle.listings.proofs.stream.list_stream.Goals as goal
 
 abbrev done : Course → Result Course DumpFault
@@ -34,6 +35,7 @@ loop-count-init g c =
         wrote = sym (append-nil taken) ∙ ap (λ x. taken ++ x.text) (sym nothing);
         stands = ap (standing [] c.args.command (record { count = 0; all_good = true })) held_nothing ∙ sym bare_nothing;
       };
+      consumes = consumes_nothing (g.R.Source.remaining c.args.reader.now) given;
       is_open = ap (first_by g.S.Cutter.layout) held_nothing ∙ first_record-nothing g.C.Listing.lines g.S.Cutter.layout g.met.S.Cutter.heads;
       going = c.requires.going;
       counted = ap length (sym none);
@@ -52,6 +54,8 @@ loop-count-preserved g c =
     let short : length piece ≡ c.in-Ok.count = length-take-le c.in-Ok.count c.read.new.piece (omega (arith, c.in-Ok.ensures.count)) in
     record {
       up_to = record { gave = adds.gave; wrote = has.written ∙ adds.text; stands = has.next_is ∙ adds.stands };
+      consumes = consumes_piece _ _ _ _ _ _ _ c.loop-count.invariant.up_to.gave
+          c.in-Ok.ensures.given c.loop-count.invariant.consumes c.in-Ok.ensures.consumes.0;
       is_open = ap (λ (x : Standing g.row.C.Denot). first_by g.S.Cutter.layout x.octets) has.next_is ∙ has.is_open;
       going = c.list_piece.ensures.going went ∙ c.loop-count.invariant.going;
       counted = omega (arith, adds.counted);

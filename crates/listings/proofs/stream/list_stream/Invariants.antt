@@ -1,5 +1,6 @@
 use Rattle.std.proofs.Common.{◌≡◌, ◌+◌, ◌-◌, ◌≤◌, [], length}
 use Rattle.std.specs.Prelude.{None}
+use Rattle.std.specs.Io.KnownBytes.{Consumes}
 use Rattle.listings.specs.Gained.{gained}
 use Rattle.listings.specs.Layouts.{first_by}
 use Rattle.listings.specs.Progress.{standing}
@@ -11,10 +12,12 @@ use Rattle.listings.proofs.stream.list_stream.Given as goal
 abbrev pub invariant-loop-count : goal.invariant-loop-count
 invariant-loop-count g l =
     let given = g.R.Source.given in
+    let left = g.R.Source.remaining in
     let taken = g.W.Sink.taken_octets in
     let held = g.S.Cutter.held l.cutter in
     record {
       up_to : IsUpTo g.C.Listing.lines g.S.Cutter.layout l.fn.command (given l.fn.reader) (given l.reader) (taken l.fn.writer) (taken l.writer) (standing [] l.command l.progress held);
+      consumes : Consumes (left l.fn.reader) (left l.reader) (gained (given l.fn.reader) (given l.reader));
       is_open : first_by g.S.Cutter.layout held ≡ None;
       going : g.S.Cutter.failure l.cutter ≡ None;
       counted : l.total ≡ length (gained (given l.fn.reader) (given l.reader));
