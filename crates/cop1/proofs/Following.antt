@@ -18,7 +18,7 @@ use Rattle.cop1.specs.declared.fop.Directive.TheVariants.{InitWithoutCheck, Init
 use Rattle.cop1.specs.declared.sender.SenderFields.{SenderFields}
 use Rattle.cop1.specs.declared.sender.sending.SenderNext.{SenderNext}
 use Rattle.cop1.specs.declared.sender.sending.SenderNext.TheVariants as sends
-use Rattle.cop1.specs.FopNext.{IsPlaced}
+use Rattle.cop1.specs.FopNext.{IsPlaced, seen_at, peeked_at}
 use Rattle.cop1.specs.FopState.{FopState}
 use Rattle.cop1.specs.FopWords.{FopOutcome}
 use Rattle.cop1.specs.FopWords as words
@@ -393,10 +393,13 @@ module _ {U : Type 0} where
     pub fits : Fits o.after (taken_from o.answer q)
     pub same_room : o.after.room ≡ s.room
     pub placed : IsPlaced (taken_from o.answer q).units (next_at o.after.nn o.answer)
+    -- the unit is there before it goes
+    pub seen : seen_at (taken_from o.answer q).units (next_at o.after.nn o.answer)
+        ≡ peeked_at o.after.nn o.answer q.waiting q.units
 
   nothing_goes : (s : SenderFields) (q : Queues U) → Fits s q
       → Goes s q (gives s sends.Nothing) (pulls.pulls (with_queues s q) NothingPulled)
-  nothing_goes s q fits = record { same = refl; fits = unchanged s s q fits refl refl; same_room = refl; placed = tt }
+  nothing_goes s q fits = record { same = refl; fits = unchanged s s q fits refl refl; same_room = refl; placed = tt; seen = refl }
 
   goes_if : {s : SenderFields} {q : Queues U} {o p : SenderOutcome SenderNext} {f g : FopOutcome U (PulledUnit U)}
       (b : Bool)
@@ -432,6 +435,7 @@ module _ {U : Type 0} where
           fits = record { waiting = refl; units = rw waits (omega (arith, more, fits.units)) };
           same_room = refl;
           placed = rw waits (omega (arith, more, place));
+          seen = rw (waits, place, slice_get-push q.units u) refl;
         }
 
     waiting_goes : (w : Option U) (b : Bool) → is_some w ≡ b → q.waiting ≡ w → s.due ≡ 0
@@ -462,6 +466,7 @@ module _ {U : Type 0} where
           fits = record { waiting = fits.waiting; units = fits.units };
           same_room = refl;
           placed = omega (arith, place, fits.units, some, within);
+          seen = refl;
         }
 
     sequence_goes : Goes s q (next_sequence s) (pulls.next_sequence (with_queues s q))
@@ -492,7 +497,7 @@ module _ {U : Type 0} where
       → bypass ≡ q.bypass → IsSender s → Fits s q → Goes s q (next_control s control)
       (pulls.pull_control (record (with_queues s q) { bypass = bypass }) control)
   control_goes s q (Due command) bypass none same is fits =
-      rw same (record { same = refl; fits = unchanged s _ q fits refl refl; same_room = refl; placed = tt })
+      rw same (record { same = refl; fits = unchanged s _ q fits refl refl; same_room = refl; placed = tt; seen = refl })
   control_goes s q (Sent command) [] none same is fits = rw same (in_state_goes s q s.state refl is fits)
   control_goes s q (Sent command) (u ∷ us) none same is fits = absurd (cc none)
   control_goes s q Idle [] none same is fits = rw same (in_state_goes s q s.state refl is fits)

@@ -1,6 +1,7 @@
 // The sender, FOP-1: its state.
 
 mod directing;
+mod peeking;
 mod pulling;
 mod reporting;
 mod settling;
@@ -10,6 +11,7 @@ mod ticking;
 use crate::fault::CopFault;
 use crate::sender::Sender;
 use circular_buffer::HeapCircularBuffer;
+pub use peeking::Peeked;
 pub use pulling::{Next, Pulled};
 use std::alloc::Global;
 use std::collections::VecDeque;

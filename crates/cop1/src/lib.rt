@@ -12,6 +12,6 @@ mod tests;
 
 pub use farm::{Farm, FarmFields, FarmMode, Verdict};
 pub use fault::CopFault;
-pub use fop::{Alert, Control, Directive, Fop, FopMode, Next, Pulled};
+pub use fop::{Alert, Control, Directive, Fop, FopMode, Next, Peeked, Pulled};
 pub use laws::{flags_always_agree, law_of_senders};
 pub use sender::{ReportAnswer, Sender, SenderFields, SenderNext};

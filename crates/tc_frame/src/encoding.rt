@@ -26,7 +26,7 @@ pub fn encode(frame: &TcFrame, check: Check, out: &mut [u8]) -> Result<usize, Tc
     if !is_in_range(frame, check) {
         return Err(TcFault::FieldRange);
     }
-    let total = len_of(frame, check);
+    let total = frame.total(check);
     if out.len() < total {
         return Err(TcFault::Room);
     }
@@ -40,7 +40,7 @@ fn is_in_range(frame: &TcFrame, check: Check) -> bool
     frame.scid < 1024
         && frame.vcid < 64
         && is_body_in_range(&frame.body)
-        && len_of(frame, check) <= 1024
+        && frame.total(check) <= 1024
 }
 
 fn is_body_in_range(body: &Body) -> bool
@@ -54,10 +54,17 @@ fn is_body_in_range(body: &Body) -> bool
     }
 }
 
-fn len_of(frame: &TcFrame, check: Check) -> usize
-    ensures { result ≡ total_of check (frame_view frame.now) }
-{
-    4 + len_of_body(&frame.body) + len_of_check(check)
+impl TcFrame<'_> {
+    ghost use Rattle.std.specs.Prelude.{◌≡◌};
+    ghost use Rattle.tc_frame.specs.Layout.{frame_view};
+    ghost use Rattle.tc_frame.specs.Writing.{total_of};
+
+    /// How many octets the frame has, with or without its check (CCSDS 232.0-B-4, 4.1.2.7).
+    pub fn total(&self, check: Check) -> usize
+        ensures { result ≡ total_of check (frame_view self.now) }
+    {
+        4 + len_of_body(&self.body) + len_of_check(check)
+    }
 }
 
 fn len_of_body(body: &Body) -> usize
@@ -99,7 +106,7 @@ fn put_header(frame: &TcFrame, check: Check, out: &mut [u8])
     ensures { let view = frame_view frame.now in
         out.new ≡ big_bytes 2 (first_number view) ++ big_bytes 2 (second_number check view) }
 {
-    let total = len_of(frame, check);
+    let total = frame.total(check);
     let (first, second) = out.split_at_mut(2);
     BigEndian::write_u16(first, flags_of(&frame.body) + frame.scid);
     BigEndian::write_u16(second, (u16::from(frame.vcid) << 10) + (total - 1) as u16);

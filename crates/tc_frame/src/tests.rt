@@ -30,6 +30,7 @@ fn is_spelled(rt: &impl Abort, body: Body, check: Check, octets: &[u8]) -> Resul
     let mut out = [0x55; 16];
     let total = encode(&frame(body), check, &mut out)?;
     assert_eq!(rt; total, octets.len());
+    assert_eq!(rt; frame(body).total(check), total);
     assert!(rt; out.starts_with(octets));
     assert!(rt; out[total..].iter().all(|octet| *octet == 0x55));
     Ok(())

@@ -1,7 +1,7 @@
 // Runs of the sender.
 
 use crate::{
-    Alert, Control, CopFault, Directive, Fop, FopMode, Pulled, Sender, SenderFields, SenderNext,
+    Alert, Control, CopFault, Directive, Fop, FopMode, Peeked, Pulled, Sender, SenderFields, SenderNext,
 };
 use bitflags::Flags;
 use clcw::{Clcw, ClcwFlags};
@@ -52,6 +52,13 @@ fn new_both(alloc: Global, limit: u8, timer: u16) -> Result<Both, CopFault> {
     })
 }
 
+fn peeked(fop: &Fop<u8>) -> Option<(u8, u8)> {
+    match fop.peek() {
+        Peeked::Sequence(number, unit) => Some((number, *unit)),
+        _ => None,
+    }
+}
+
 fn pulled(fop: &mut Fop<u8>) -> Option<(u8, u8)> {
     match fop.pull() {
         Pulled::Sequence(number, unit) => Some((number, *unit)),
@@ -74,7 +81,10 @@ fn answer_of_fop(rt: &impl Abort, fop: &mut Fop<u8>, call: Call) {
             assert_eq!(rt; fop.clcw(&report(flags, value)), alert)
         }
         Call::Tick(alert) => assert_eq!(rt; fop.tick(), alert),
-        Call::Pull(answer) => assert_eq!(rt; pulled(fop), answer),
+        Call::Pull(answer) => {
+            assert_eq!(rt; peeked(fop), answer);
+            assert_eq!(rt; pulled(fop), answer);
+        }
     }
 }
 
@@ -353,6 +363,7 @@ fn a_sender_does_without_memory(rt: HostRuntime) -> Result<(), Fail> {
         }
     }
     for unit in 0..20u8 {
+        assert!(rt; matches!(fop.peek(), Peeked::Bypass(peeked) if *peeked == unit));
         assert!(rt; matches!(fop.pull(), Pulled::Bypass(pulled) if pulled == unit));
     }
     assert!(rt; !fop.waiting());

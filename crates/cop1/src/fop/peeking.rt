@@ -1,0 +1,74 @@
+// What would go on the link next.
+
+ghost use Rattle.std.specs.Prelude.{◌≡◌, option_copied};
+ghost use Rattle.cop1.specs.FopNext.{peeked_view, peeked_at};
+ghost use Rattle.cop1.specs.FopQueues.{first_bypass};
+ghost use Rattle.cop1.specs.SenderNext.{is_due};
+
+use super::{Control, Fop};
+use crate::sender::{Sender, SenderNext};
+use circular_buffer::HeapCircularBuffer;
+use std::collections::VecDeque;
+use tc_frame::Command;
+
+/// What goes on the link next, each unit lent.
+#[derive(Drop)]
+pub enum Peeked<'a, U> {
+    /// Nothing.
+    Nothing,
+    /// A control command, in a Type-BC frame.
+    Control(Command),
+    /// A unit to be sent past the sequence control, in a Type-BD frame.
+    Bypass(&'a U),
+    /// A unit to be sent under sequence control, in a Type-AD frame with this number.
+    Sequence(u8, &'a U),
+}
+
+impl<U: Drop> Fop<U> {
+    ghost use Rattle.std.specs.Prelude.{◌≡◌};
+    ghost use Rattle.cop1.specs.FopNext.{peeked_view};
+    ghost use Rattle.cop1.specs.FopStep.{fop_step, Pull};
+
+    /// What goes on the link next, as `next` would take it; the sender stays as it is.
+    pub fn peek(&self) -> Peeked<'_, U>
+        ensures { peeked_view result ≡ (fop_step self.now Pull).answer }
+    {
+        if let Some(unit) = oldest_bypass(&self.sender, &self.bypass) {
+            return Peeked::Bypass(unit);
+        }
+        let mut sender = self.sender;
+        let next = sender.next();
+        unit_at(next, sender.fields().nn, &self.waiting, &self.sent)
+    }
+}
+
+// The oldest bypass unit, unless a control command is due.
+fn oldest_bypass<'a, U>(sender: &Sender, bypass: &'a VecDeque<U>) -> Option<&'a U>
+    ensures { option_copied result ≡ first_bypass (is_due sender.now.control) bypass.now.items }
+{
+    match sender.fields().control {
+        Control::Due(_) => None,
+        _ => bypass.front(),
+    }
+}
+
+// What goes on the link, the unit that waits or one of the sent queue.
+fn unit_at<'a, U>(
+    next: SenderNext,
+    nn: u8,
+    waiting: &'a Option<U>,
+    sent: &'a HeapCircularBuffer<U>,
+) -> Peeked<'a, U>
+    ensures { peeked_view result ≡ peeked_at nn next waiting.now sent.now.items }
+{
+    let (number, unit) = match next {
+        SenderNext::Nothing => return Peeked::Nothing,
+        SenderNext::Control(command) => return Peeked::Control(command),
+        SenderNext::First(number) => (number, waiting.as_ref()),
+        SenderNext::Again(number) => (number, sent.get(usize::from(number.wrapping_sub(nn)))),
+    };
+    match unit {
+        Some(unit) => Peeked::Sequence(number, unit),
+        None => Peeked::Nothing,
+    }
+}
