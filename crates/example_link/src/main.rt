@@ -3,7 +3,7 @@
 
 use anyhow::{Context, Result};
 use cop1::Directive;
-use tc_link::{Config, Ground, Spacecraft};
+use nodes::{Config, Ground, Spacecraft};
 
 fn main(rt: HostRuntime) -> Result<()> {
     let config = Config::default();

@@ -2,7 +2,7 @@
 
 mod carrying;
 mod lines;
-mod nodes;
+mod node_runs;
 mod play;
 mod refused;
 mod refusing;

@@ -5,7 +5,7 @@ use Rattle.cop1.specs.declared.fop.FopMode.{FopMode}
 use Rattle.cop1.specs.declared.fop.FopMode.TheVariants.{S1, S2, S3, S4, S5, S6}
 use Rattle.tc_link.specs.declared.sim.fault.SimFault.{SimFault}
 use Rattle.tc_link.specs.declared.sim.opening.Opening.{Opening}
-use Rattle.tc_link.specs.Ground.{outstanding}
+use Rattle.nodes.specs.Ground.{outstanding}
 use Rattle.tc_link.specs.Replies.{ReplyView}
 use Rattle.tc_link.specs.World.{World, world_step, accepted, submitted, delivered}
 use Rattle.script.specs.Lines.{ScriptLine, Skipped, Setting, Happening, Showing, Unreadable}

@@ -8,12 +8,12 @@ use Rattle.tc_frame.specs.Reading.{frame_at}
 use Rattle.cop1.specs.declared.farm.Verdict.{Verdict}
 use Rattle.cop1.specs.declared.farm.Verdict.TheVariants.{Accepted, Ahead, NoBuffer, Behind, Outside, Discarded}
 use Rattle.cop1.specs.Farm.{verdict_of}
-use Rattle.tc_link.specs.declared.received.Received.{Received}
-use Rattle.tc_link.specs.declared.received.Received.TheVariants.{Foreign}
-use Rattle.tc_link.specs.Spacecraft.{SpacecraftState, SpacecraftOutcome, spacecraft_receive, frame_outcome, body_outcome, sequence_outcome, bypass_outcome, is_free, is_own_frame, is_accepted}
-use Rattle.tc_link.specs.BypassSegments.{is_kept}
-use Rattle.tc_link.specs.Parameters.{limits_of}
-use Rattle.tc_link.specs.Acceptance.{segment_in_body, segment_in_frame, segment_to_accept}
+use Rattle.nodes.specs.declared.received.Received.{Received}
+use Rattle.nodes.specs.declared.received.Received.TheVariants.{Foreign}
+use Rattle.nodes.specs.Spacecraft.{SpacecraftState, SpacecraftOutcome, spacecraft_receive, frame_outcome, body_outcome, sequence_outcome, bypass_outcome, is_free, is_own_frame, is_accepted}
+use Rattle.nodes.specs.BypassSegments.{is_kept}
+use Rattle.nodes.specs.Parameters.{limits_of}
+use Rattle.nodes.specs.Acceptance.{segment_in_body, segment_in_frame, segment_to_accept}
 
 same : {A : Type 0} (xs : List A) → xs ≡ xs ++ []
 same xs = sym (append-nil xs)

@@ -16,11 +16,11 @@ use Rattle.cop1.specs.declared.farm.Verdict.TheVariants.{Accepted, Ahead, NoBuff
 use Rattle.cop1.specs.declared.fop.Directive.{Directive}
 use Rattle.cop1.specs.declared.fop.Directive.TheVariants.{InitWithoutCheck, InitWithCheck, InitUnlock, InitSetVr, Terminate, SetVs, SetWindow, SetLimit, SetTimer}
 use Rattle.cop1.specs.Farm.{FarmState, verdict_of, after_verdict, after_unlock, after_set_vr, after_type_b}
-use Rattle.tc_link.specs.declared.config.Config.{Config}
-use Rattle.tc_link.specs.Parameters.{limits_of}
-use Rattle.tc_link.specs.BypassSegments.{is_kept}
-use Rattle.tc_link.specs.Spacecraft.{SpacecraftState, frame_outcome, body_outcome, sequence_outcome, bypass_outcome, after_segment, is_free}
-use Rattle.tc_link.specs.Ground.{frame_of}
+use Rattle.nodes.specs.declared.config.Config.{Config}
+use Rattle.nodes.specs.Parameters.{limits_of}
+use Rattle.nodes.specs.BypassSegments.{is_kept}
+use Rattle.nodes.specs.Spacecraft.{SpacecraftState, frame_outcome, body_outcome, sequence_outcome, bypass_outcome, after_segment, is_free}
+use Rattle.nodes.specs.Ground.{frame_of}
 use Rattle.tc_link.specs.World.{World, up_deliver_step, up_lose_step, up_damage_outcome, up_damage_step}
 use Rattle.tc_link.specs.PlainLink.{takes, leaves}
 use Rattle.tc_link.specs.Confirmation.{IsChecked}

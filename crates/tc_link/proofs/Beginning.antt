@@ -13,9 +13,9 @@ use Rattle.cop1.specs.declared.fop.FopMode.TheVariants.{S1, S2, S3, S4, S5, S6}
 use Rattle.cop1.specs.FopDirective.{from_S6, after_begin}
 use Rattle.cop1.specs.FopState.{FopState}
 use Rattle.cop1.specs.FopWords.{after_restart}
-use Rattle.tc_link.specs.declared.config.Config.{Config}
+use Rattle.nodes.specs.declared.config.Config.{Config}
 use Rattle.tc_link.specs.declared.event.Event.TheVariants as events
-use Rattle.tc_link.specs.Ground.{is_closed, directive_outcome}
+use Rattle.nodes.specs.Ground.{is_closed, directive_outcome}
 use Rattle.tc_link.specs.World.{World, world_step, world_after_directive, session_begun_by, begins_clean, is_quiet, is_none}
 use Rattle.tc_link.specs.PlainLink.{new_link, none}
 use Rattle.tc_link.specs.Reached.{IsDirective}

@@ -7,9 +7,9 @@ use Rattle.cop1.specs.declared.farm.FarmMode.TheVariants.{Open, Wait, Lockout}
 use Rattle.cop1.specs.declared.fop.Directive.{Directive}
 use Rattle.cop1.specs.Farm.{FarmState, after_release, farm_step, BufferReleased}
 use Rattle.tm_link.specs.Building.{is_to_send, after_queue}
-use Rattle.tc_link.specs.declared.config.Config.{Config}
-use Rattle.tc_link.specs.Packets.{PacketOn}
-use Rattle.tc_link.specs.Spacecraft.{SpacecraftState, spacecraft_take, spacecraft_take_bypass, spacecraft_telemetry}
+use Rattle.nodes.specs.declared.config.Config.{Config}
+use Rattle.nodes.specs.Packets.{PacketOn}
+use Rattle.nodes.specs.Spacecraft.{SpacecraftState, spacecraft_take, spacecraft_take_bypass, spacecraft_telemetry}
 use Rattle.tc_link.specs.World.{World, world_after_take, world_after_queueing}
 use Rattle.tc_link.proofs.Arriving.{other_keeps}
 use Rattle.tc_link.proofs.Linked.{Steady, Late, Next, stays}

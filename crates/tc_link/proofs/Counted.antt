@@ -1,14 +1,14 @@
 -- What is acknowledged has left the sent queue, and what is in the sent queue was sent.
-use Rattle.std.proofs.Common.{◌≡◌, ◌≢◌, ◌≤◌, ◌<◌, ℕ, suc, ◌+◌, true, false, not, List, [], ◌∷◌, ◌++◌, length, map, drop, Option, Some, None, Result, Ok, Err, IfSome, refl, ap, ◌∙◌, arith, length-append, length-drop}
+use Rattle.std.proofs.Common.{◌≡◌, ◌≢◌, ◌≤◌, ◌<◌, ℕ, suc, ◌+◌, true, false, not, List, [], ◌∷◌, ◌++◌, length, map, drop, Option, Some, None, Result, Ok, Err, option_map, refl, ap, ◌∙◌, arith, length-append, length-drop}
 use Rattle.std.specs.Prelude.{◌==◌, ◌&&◌, ◌||◌, nat_lt}
 use Rattle.std.proofs.lemmas.Bool.{cond_both, ltb-false, eq-eqb}
-use Rattle.std.specs.Option.{is_some}
 use Rattle.std.proofs.lemmas.List.{length-map}
 use Rattle.clcw.specs.Reading.{clcw_at}
 use Rattle.clcw.specs.declared.fault.ClcwFault.{ClcwFault}
 use Rattle.clcw.specs.declared.word.Clcw.{Clcw}
 use Rattle.tc_frame.specs.declared.frame.Check.TheVariants.{On}
-use Rattle.tc_frame.specs.Layout.{SegmentView, FrameView, IsTcFrame}
+use Rattle.tc_frame.specs.Layout.{SegmentView, FrameView}
+use Rattle.tc_frame.specs.Writing.{spelling}
 use Rattle.cop1.specs.Modulo.{ahead_by}
 use Rattle.cop1.specs.declared.fault.CopFault.{CopFault}
 use Rattle.cop1.specs.declared.fop.Alert.{Alert}
@@ -28,12 +28,12 @@ use Rattle.cop1.specs.FopWords.{FopOutcome, is_outside, after_acknowledge, after
 use Rattle.tm_link.specs.declared.fault.TmFault.{TmFault}
 use Rattle.tm_link.specs.Extraction.{Extracted, extract_step}
 use Rattle.tm_link.specs.Layout as telemetry
-use Rattle.tc_link.specs.declared.config.Config.{Config}
-use Rattle.tc_link.specs.declared.fault.LinkFault.{LinkFault}
-use Rattle.tc_link.specs.declared.heard.Heard.{Heard}
-use Rattle.tc_link.specs.Ground.{GroundState, GroundOutcome, settle_step, with_fop, unless_refused, after_submission, after_bypass, directive_outcome, after_extraction, own_frame_outcome, telemetry_outcome, frame_to_send}
-use Rattle.tc_link.specs.Ground as ground
-use Rattle.tc_link.specs.World.{first_sent, is_initiation}
+use Rattle.nodes.specs.declared.config.Config.{Config}
+use Rattle.nodes.specs.declared.fault.LinkFault.{LinkFault}
+use Rattle.nodes.specs.declared.heard.Heard.{Heard}
+use Rattle.nodes.specs.Ground.{GroundState, GroundOutcome, settle_step, with_fop, unless_refused, after_submission, after_bypass, directive_outcome, after_extraction, own_frame_outcome, telemetry_outcome, frame_to_send}
+use Rattle.nodes.specs.Ground as ground
+use Rattle.tc_link.specs.World.{first_in, is_initiation}
 use Rattle.tc_link.proofs.Settled.{settled_keeps}
 
 -- ---- the sender's queue
@@ -112,11 +112,6 @@ module _ (f : FopState SegmentView) where
   begun_empty (SetTimer t) is = absurd cc
 
 -- ---- a pull: the queue gains at most the unit that is first sent
-
--- the data field of the unit that is pulled, where it is first sent
-abbrev pub first_in : ℕ → Option FrameView → List (List ℕ)
-first_in vs None = []
-first_in vs (Some frame) = first_sent vs frame.body
 
 module _ (c : Config) (f : FopState SegmentView) where
   abbrev IsPutFirst : FopOutcome SegmentView (PulledUnit SegmentView) → Type 0
@@ -276,13 +271,8 @@ module _ (s : GroundState) (fop : IsFop s.fop) (octet : s.fop.nn < 256) where
   heard_less (Err fault) = same_less s refl
   heard_less (Ok frame) = cond_both (ground.is_own_telemetry s.config frame) _ _ (λ (o : GroundOutcome Heard). IsLess o.after) (λ t. word_less (extract_step s.extractor frame) (clcw_at frame.ocf)) (λ t. same_less s refl)
 
--- ---- what is pulled and first sent
+-- ---- nothing is sent first where nothing goes
 
-pub nothing_first : (vs : ℕ) (o : Option FrameView) → is_some o ≡ false → first_in vs o ≡ []
+pub nothing_first : (vs : ℕ) (o : Option FrameView) → None ≡ option_map (spelling On) o → first_in vs o ≡ []
 nothing_first vs None is = refl
 nothing_first vs (Some f) is = absurd cc
-
-pub some_first : (vs : ℕ) (o : Option FrameView) (octets : List ℕ) (first : List (List ℕ)) → is_some o ≡ true → IfSome o (λ (f : FrameView). IsTcFrame On f octets)
-    → ((f : FrameView) → IsTcFrame On f octets → first_sent vs f.body ≡ first) → first_in vs o ≡ first
-some_first vs None octets first is spells each = absurd cc
-some_first vs (Some f) octets first is spells each = each f spells

@@ -16,10 +16,10 @@ use Rattle.cop1.specs.declared.fop.Directive.TheVariants.{InitWithoutCheck}
 use Rattle.cop1.specs.declared.fop.FopMode.TheVariants.{S1}
 use Rattle.cop1.specs.FopNext.{units_of}
 use Rattle.cop1.specs.FopState.{IsActive}
-use Rattle.tc_link.specs.declared.config.Config.{Config}
-use Rattle.tc_link.specs.Packets.{PacketOn}
-use Rattle.tc_link.specs.Parameters.{limits_of}
-use Rattle.tc_link.specs.Ground.{outstanding, unsent_segments}
+use Rattle.nodes.specs.declared.config.Config.{Config}
+use Rattle.nodes.specs.Packets.{PacketOn}
+use Rattle.nodes.specs.Parameters.{limits_of}
+use Rattle.nodes.specs.Ground.{outstanding, unsent_segments}
 use Rattle.tc_link.specs.World.{World, IsSettled, submitted, accepted, delivered}
 use Rattle.tc_link.specs.PlainLink.{PlainLink, PlainRun, new_link, none, more, adds}
 use Rattle.octets.specs.Beginning.{IsBeginning}
@@ -33,7 +33,7 @@ use Rattle.tc_link.proofs.SteadyWorld.{Sound}
 use Rattle.tc_link.proofs.Transit.{Fits}
 use Rattle.tc_link.proofs.Windows.{units_in, values_in, reports_are, late_on, directive_is}
 use Rattle.tc_link.specs.Confirmation.{IsChecking}
-use Rattle.tc_link.specs.Ground.{is_closed}
+use Rattle.nodes.specs.Ground.{is_closed}
 
 -- ---- packets that were given are assembled, whatever came before
 

@@ -12,8 +12,8 @@ use Rattle.cop1.specs.FopState.{FopState}
 use Rattle.cop1.specs.FopDirective.{obeys, refuses, from_S6, terminate_in}
 use Rattle.cop1.specs.FopTick.{tick_with, timer_ended, after_count}
 use Rattle.cop1.specs.FopWords.{FopOutcome, after_alert, after_repeat, after_stop, goes_on}
-use Rattle.tc_link.specs.declared.config.Config.{Config}
-use Rattle.tc_link.specs.Ground.{is_closed, with_fop, directive_outcome}
+use Rattle.nodes.specs.declared.config.Config.{Config}
+use Rattle.nodes.specs.Ground.{is_closed, with_fop, directive_outcome}
 use Rattle.tc_link.specs.declared.event.Event.TheVariants as events
 use Rattle.tc_link.specs.World.{World, world_after_directive, is_initiation, world_step}
 use Rattle.tc_link.specs.Reached.{IsDirective}

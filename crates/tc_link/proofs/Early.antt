@@ -11,10 +11,10 @@ use Rattle.cop1.specs.declared.fop.FopMode.{FopMode}
 use Rattle.cop1.specs.declared.fop.FopMode.TheVariants.{S1, S2, S3, S4, S5, S6}
 use Rattle.cop1.specs.FopReport.{locks, waits, asks}
 use Rattle.cop1.specs.FopState.{SentUnit}
-use Rattle.tc_link.specs.declared.config.Config.{Config}
-use Rattle.tc_link.specs.OwnedFields.{FitsFrame}
-use Rattle.tc_link.specs.Ground.{GroundState, is_closed, unsent_segments, settle_step}
-use Rattle.tc_link.specs.Spacecraft.{SpacecraftState}
+use Rattle.nodes.specs.declared.config.Config.{Config}
+use Rattle.nodes.specs.OwnedFields.{FitsFrame}
+use Rattle.nodes.specs.Ground.{GroundState, is_closed, unsent_segments, settle_step}
+use Rattle.nodes.specs.Spacecraft.{SpacecraftState}
 use Rattle.tc_link.specs.World.{World}
 use Rattle.tc_link.specs.PlainLink.{PlainLink, PlainRun, new_link, none, more, adds, reports as tells}
 use Rattle.tc_link.specs.Confirmation.{IsChecked}

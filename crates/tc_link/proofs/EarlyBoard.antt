@@ -18,11 +18,11 @@ use Rattle.cop1.specs.FopReport.{locks, waits, asks}
 use Rattle.cop1.specs.Report.{report_of}
 use Rattle.tm_link.specs.Building.{is_to_send, after_queue}
 use Rattle.tm_link.specs.Writing as telemetry_writing
-use Rattle.tc_link.specs.declared.config.Config.{Config}
-use Rattle.tc_link.specs.Spacecraft.{SpacecraftState, spacecraft_step, Report, spacecraft_report, body_outcome, bypass_outcome, spacecraft_take, spacecraft_take_bypass, spacecraft_telemetry}
-use Rattle.tc_link.specs.BypassSegments.{is_kept}
-use Rattle.tc_link.specs.Packets.{PacketOn}
-use Rattle.tc_link.specs.Parameters.{limits_of}
+use Rattle.nodes.specs.declared.config.Config.{Config}
+use Rattle.nodes.specs.Spacecraft.{SpacecraftState, spacecraft_step, Report, spacecraft_report, body_outcome, bypass_outcome, spacecraft_take, spacecraft_take_bypass, spacecraft_telemetry}
+use Rattle.nodes.specs.BypassSegments.{is_kept}
+use Rattle.nodes.specs.Packets.{PacketOn}
+use Rattle.nodes.specs.Parameters.{limits_of}
 use Rattle.tc_link.specs.World.{World, world_after_take, world_after_queueing, world_after_report, up_deliver_step, up_lose_step, up_damage_outcome, up_damage_step}
 use Rattle.tc_link.proofs.Arriving.{own_arrives}
 use Rattle.tc_link.proofs.Early.{WouldConfirm, Confirming, Lasts, lasts_on, lasts_push, AllSame, same_push, Begun}

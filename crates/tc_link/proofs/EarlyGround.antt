@@ -20,14 +20,14 @@ use Rattle.cop1.specs.FopPull.{PulledUnit, NothingPulled, pulls, pull_step, pull
 use Rattle.cop1.specs.FopState.{FopState}
 use Rattle.cop1.specs.FopTick.{tick_with, timer_ended, after_count, due_again}
 use Rattle.cop1.specs.FopWords.{FopOutcome, after_alert, after_stop, after_restart, goes_on}
-use Rattle.tc_link.specs.declared.config.Config.{Config}
+use Rattle.nodes.specs.declared.config.Config.{Config}
 use Rattle.tc_link.specs.declared.event.Event.TheVariants as events
-use Rattle.tc_link.specs.declared.fault.LinkFault.{LinkFault}
-use Rattle.tc_link.specs.OwnedFields.{FitsFrame}
-use Rattle.tc_link.specs.Packets.{PacketOn, packet_on}
-use Rattle.tc_link.specs.Ground.{is_closed, unsent_segments, with_fop, frame_of, frame_to_send, directive_outcome, segments_on, submit_fault, after_submission, bypass_fault, after_bypass, unless_refused}
+use Rattle.nodes.specs.declared.fault.LinkFault.{LinkFault}
+use Rattle.nodes.specs.OwnedFields.{FitsFrame}
+use Rattle.nodes.specs.Packets.{PacketOn, packet_on}
+use Rattle.nodes.specs.Ground.{is_closed, unsent_segments, with_fop, frame_of, frame_to_send, directive_outcome, segments_on, submit_fault, after_submission, bypass_fault, after_bypass, unless_refused}
 use Rattle.tc_link.specs.World.{World, is_initiation, world_step, world_after_directive, world_after_pull, world_after_submission, world_after_bypass}
-use Rattle.tc_link.proofs.Submitting.{segments_fit}
+use Rattle.nodes.proofs.Submitting.{segments_fit}
 use Rattle.tc_link.specs.Reached.{IsDirective}
 use Rattle.tc_link.proofs.Early.{IsEarly, ControlFits, HoldsEarly, HeldEarly, Begun, early_settled}
 use Rattle.tc_link.proofs.Linked.{Steady, IsGiven, units_of_all, Carries, carries_push}

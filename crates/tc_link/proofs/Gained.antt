@@ -13,12 +13,12 @@ use Rattle.map_service.proofs.Steps.{assembled-push, assembled-other}
 use Rattle.cop1.specs.declared.farm.Verdict.{Verdict}
 use Rattle.cop1.specs.declared.farm.Verdict.TheVariants.{Accepted, Ahead, NoBuffer, Behind, Outside, Discarded}
 use Rattle.cop1.specs.Farm.{verdict_of}
-use Rattle.tc_link.specs.declared.config.Config.{Config}
-use Rattle.tc_link.specs.Spacecraft.{SpacecraftState, spacecraft_receive, frame_outcome, body_outcome, sequence_outcome, bypass_outcome, is_free, is_own_frame}
-use Rattle.tc_link.specs.Acceptance.{segment_to_accept, acceptance_with}
-use Rattle.tc_link.specs.BypassSegments.{is_kept}
+use Rattle.nodes.specs.declared.config.Config.{Config}
+use Rattle.nodes.specs.Spacecraft.{SpacecraftState, spacecraft_receive, frame_outcome, body_outcome, sequence_outcome, bypass_outcome, is_free, is_own_frame}
+use Rattle.nodes.specs.Acceptance.{segment_to_accept, acceptance_with}
+use Rattle.nodes.specs.BypassSegments.{is_kept}
 use Rattle.tc_link.specs.WorldFields.{packets_accepted_on}
-use Rattle.tc_link.specs.Parameters.{limits_of}
+use Rattle.nodes.specs.Parameters.{limits_of}
 use Rattle.tc_link.proofs.AcceptedSegments.{accepts_segment, foreign}
 
 -- ---- the configuration stays

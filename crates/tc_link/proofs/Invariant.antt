@@ -19,12 +19,12 @@ use Rattle.cop1.specs.FopState.{FopState}
 use Rattle.tm_link.specs.declared.fault.TmFault.{TmFault}
 use Rattle.tm_link.specs.Layout as telemetry
 use Rattle.tm_link.specs.Reading as telemetry_reading
-use Rattle.tc_link.specs.declared.config.Config.{Config}
+use Rattle.nodes.specs.declared.config.Config.{Config}
 use Rattle.tc_link.specs.declared.event.Event.{Event}
 use Rattle.tc_link.specs.declared.event.Event.TheVariants as events
 use Rattle.tc_link.specs.declared.sim.opening.Opening.{Opening}
-use Rattle.tc_link.specs.Parameters.{IsConfig}
-use Rattle.tc_link.specs.Ground.{GroundState, is_closed, directive_outcome, with_fop, frame_to_send}
+use Rattle.nodes.specs.Parameters.{IsConfig}
+use Rattle.nodes.specs.Ground.{GroundState, is_closed, directive_outcome, with_fop, frame_to_send}
 use Rattle.tc_link.specs.World.{World, new_world, world_step, world_run, IsClean, BeginsNoSession, is_initiation, begins_clean, session_begun_by, session_after_directive, world_after_pull, up_deliver_step, up_lose_step, up_damage_outcome, up_damage_step, down_deliver_step, down_lose_step, down_damage_outcome, down_damage_step}
 use Rattle.tc_link.specs.Reached.{IsDirective, IsEvent, IsReached}
 use Rattle.tc_link.proofs.Arriving.{up_deliver_keeps, up_lose_keeps, up_damage_keeps}

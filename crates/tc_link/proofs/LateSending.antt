@@ -15,9 +15,9 @@ use Rattle.cop1.specs.declared.fop.FopMode.TheVariants.{S1, S2, S3, S4, S5, S6}
 use Rattle.cop1.specs.FopNext.{units_of}
 use Rattle.cop1.specs.FopPull.{PulledUnit, NothingPulled, BypassPulled, SequencePulled, pulls, pull_step, pull_control, pull_bypass, pull_in, pull_marked, pull_waiting, oldest_marked, without_oldest_mark, after_send_first}
 use Rattle.cop1.specs.FopWords.{FopOutcome, after_restart, unmarked_unit}
-use Rattle.tc_link.specs.declared.config.Config.{Config}
-use Rattle.tc_link.specs.OwnedFields.{FitsFrame}
-use Rattle.tc_link.specs.Ground.{is_closed, unsent_segments, with_fop, frame_of, frame_to_send}
+use Rattle.nodes.specs.declared.config.Config.{Config}
+use Rattle.nodes.specs.OwnedFields.{FitsFrame}
+use Rattle.nodes.specs.Ground.{is_closed, unsent_segments, with_fop, frame_of, frame_to_send}
 use Rattle.tc_link.specs.World.{World, world_after_pull, first_sent}
 use Rattle.tc_link.specs.PlainLink.{puts_next, puts_again}
 use Rattle.tc_link.proofs.Lists.{drop_cons_get, drop_cons_rest, take_next, get_within, get_drop, get_take}

@@ -8,13 +8,13 @@ use Rattle.tc_frame.specs.Layout.{SegmentView, segment_octets}
 use Rattle.map_service.specs.Cutting.{segments_of}
 use Rattle.map_service.specs.Packets.{packets_in, are_taken, is_some_over}
 use Rattle.cop1.specs.declared.fop.Directive.{Directive}
-use Rattle.tc_link.specs.declared.config.Config.{Config}
-use Rattle.tc_link.specs.declared.fault.LinkFault.{LinkFault}
-use Rattle.tc_link.specs.OwnedFields.{FitsFrame}
-use Rattle.tc_link.specs.Packets.{PacketOn, packet_on}
-use Rattle.tc_link.specs.Ground.{GroundState, is_closed, unsent_segments, segments_on, submit_fault, after_submission, bypass_fault, after_bypass, unless_refused}
+use Rattle.nodes.specs.declared.config.Config.{Config}
+use Rattle.nodes.specs.declared.fault.LinkFault.{LinkFault}
+use Rattle.nodes.specs.OwnedFields.{FitsFrame}
+use Rattle.nodes.specs.Packets.{PacketOn, packet_on}
+use Rattle.nodes.specs.Ground.{GroundState, is_closed, unsent_segments, segments_on, submit_fault, after_submission, bypass_fault, after_bypass, unless_refused}
 use Rattle.tc_link.specs.World.{World, world_after_submission, world_after_bypass}
-use Rattle.tc_link.proofs.Submitting.{segments_fit, submit_map}
+use Rattle.nodes.proofs.Submitting.{segments_fit, submit_map}
 use Rattle.tc_link.specs.PlainLink.{adds}
 use Rattle.tc_link.proofs.Transit.{Fits, fits_longer}
 use Rattle.tc_link.proofs.Linked.{Steady, Late, IsGiven, units_of_all, Holds, Held, Next, stays}

@@ -19,12 +19,12 @@ use Rattle.tm_link.specs.Extraction.{Extracted, extract_step}
 use Rattle.tm_link.specs.Layout as telemetry
 use Rattle.tm_link.specs.Reading as telemetry_reading
 use Rattle.tm_link.specs.Writing as telemetry_writing
-use Rattle.tc_link.specs.declared.config.Config.{Config}
-use Rattle.tc_link.specs.declared.heard.Heard.{Heard}
-use Rattle.tc_link.specs.declared.heard.Heard.TheVariants.{Frame}
-use Rattle.tc_link.specs.declared.heard.HeardReport.TheVariants.{Used}
-use Rattle.tc_link.specs.Spacecraft.{spacecraft_step, Report, spacecraft_report}
-use Rattle.tc_link.specs.Ground.{GroundState, GroundOutcome, is_closed, unsent_segments, with_fop, after_extraction, ground_telemetry, telemetry_outcome, own_frame_outcome}
+use Rattle.nodes.specs.declared.config.Config.{Config}
+use Rattle.nodes.specs.declared.heard.Heard.{Heard}
+use Rattle.nodes.specs.declared.heard.Heard.TheVariants.{Frame}
+use Rattle.nodes.specs.declared.heard.HeardReport.TheVariants.{Used}
+use Rattle.nodes.specs.Spacecraft.{spacecraft_step, Report, spacecraft_report}
+use Rattle.nodes.specs.Ground.{GroundState, GroundOutcome, is_closed, unsent_segments, with_fop, after_extraction, ground_telemetry, telemetry_outcome, own_frame_outcome}
 use Rattle.tc_link.specs.World.{World, is_confirmation, is_initialising, session_after_report, world_after_report, down_deliver_step, down_lose_step, down_damage_outcome, down_damage_step}
 use Rattle.tc_link.specs.PlainLink.{PlainLink, AtMostOneStep, reports as tells, loses_down, hears, ignores}
 use Rattle.tc_link.specs.Confirmation.{IsChecked}

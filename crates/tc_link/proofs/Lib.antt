@@ -3,11 +3,8 @@ pub mod Alerts
 pub mod Arriving
 pub mod Beginning
 pub mod Board
-pub mod Commanding
 pub mod Counted
-pub mod Counting
 pub mod Delivered
-pub mod Delivering
 pub mod Directing
 pub mod Early
 pub mod EarlyBoard
@@ -15,7 +12,6 @@ pub mod EarlyGround
 pub mod EarlyTelemetry
 pub mod FirstOctets
 pub mod Gained
-pub mod InRange
 pub mod Invariant
 pub mod LateSending
 pub mod LateSubmitting
@@ -36,7 +32,6 @@ pub mod Spelled
 pub mod SteadyNodes
 pub mod SteadyWorld
 pub mod Steps
-pub mod Submitting
 pub mod Transit
 pub mod Verdicts
 pub mod Windows

@@ -18,13 +18,13 @@ use Rattle.cop1.specs.FopState.{SentUnit}
 use Rattle.cop1.specs.FopNext.{units_of}
 use Rattle.tm_link.specs.Layout as telemetry
 use Rattle.tm_link.specs.Reading as telemetry_reading
-use Rattle.tc_link.specs.declared.config.Config.{Config}
+use Rattle.nodes.specs.declared.config.Config.{Config}
 use Rattle.tc_link.specs.Confirmation.{IsChecked}
-use Rattle.tc_link.specs.SpacecraftFields.{IsBuilderOf}
-use Rattle.tc_link.specs.Parameters.{IsConfig, limits_of}
-use Rattle.tc_link.specs.OwnedFields.{FitsFrame}
-use Rattle.tc_link.specs.Packets.{PacketOn}
-use Rattle.tc_link.specs.Ground.{frame_of, is_closed, unsent_segments}
+use Rattle.nodes.specs.SpacecraftFields.{IsBuilderOf}
+use Rattle.nodes.specs.Parameters.{IsConfig, limits_of}
+use Rattle.nodes.specs.OwnedFields.{FitsFrame}
+use Rattle.nodes.specs.Packets.{PacketOn}
+use Rattle.nodes.specs.Ground.{frame_of, is_closed, unsent_segments}
 use Rattle.tc_link.specs.World.{World}
 use Rattle.tc_link.specs.PlainLink.{PlainLink, PlainRun, AtMostOneStep, new_link, more}
 use Rattle.tc_link.proofs.Reports.{IsLate, asked}

@@ -20,14 +20,14 @@ use Rattle.tm_link.specs.Building.{is_to_send}
 use Rattle.tm_link.specs.declared.fault.TmFault.{TmFault}
 use Rattle.tm_link.specs.Layout as telemetry
 use Rattle.tm_link.specs.Reading as telemetry_reading
-use Rattle.tc_link.specs.declared.config.Config.{Config}
+use Rattle.nodes.specs.declared.config.Config.{Config}
 use Rattle.tc_link.specs.declared.event.Event.{Event}
 use Rattle.tc_link.specs.declared.event.Event.TheVariants as events
-use Rattle.tc_link.specs.BypassSegments.{is_kept}
-use Rattle.tc_link.specs.Packets.{PacketOn}
-use Rattle.tc_link.specs.Parameters.{limits_of}
-use Rattle.tc_link.specs.Spacecraft.{SpacecraftState, SpacecraftOutcome, body_outcome, bypass_outcome, spacecraft_take, spacecraft_take_bypass, spacecraft_telemetry}
-use Rattle.tc_link.specs.Ground.{GroundState, with_fop, frame_to_send, directive_outcome}
+use Rattle.nodes.specs.BypassSegments.{is_kept}
+use Rattle.nodes.specs.Packets.{PacketOn}
+use Rattle.nodes.specs.Parameters.{limits_of}
+use Rattle.nodes.specs.Spacecraft.{SpacecraftState, SpacecraftOutcome, body_outcome, bypass_outcome, spacecraft_take, spacecraft_take_bypass, spacecraft_telemetry}
+use Rattle.nodes.specs.Ground.{GroundState, with_fop, frame_to_send, directive_outcome}
 use Rattle.tc_link.specs.World.{World, world_step, is_initiation, session_begun_by, session_after_directive, world_after_pull, up_deliver_step, up_lose_step, up_damage_outcome, up_damage_step, down_deliver_step, down_lose_step, down_damage_outcome, down_damage_step, directive_of}
 use Rattle.tc_link.specs.Confirmation.{ConfirmsExactly, IsChecked, IsChecking}
 use Rattle.tc_link.specs.FalseAlarms.{HasNoFalseAlarm}

@@ -2,12 +2,12 @@
 use Rattle.std.proofs.Common.{◌≡◌, ◌<◌, ℕ, ◌+◌, get_or, length, take, List, [], ◌∷◌, ◌++◌, Result, Ok, Err, OnOk, OnErr, inl, refl, ap, sym, subst, ◌∙◌}
 use Rattle.std.specs.List.{AllByRecursion}
 use Rattle.std.proofs.lemmas.List.{take_more}
-use Rattle.tc_link.specs.declared.config.Config.{Config}
+use Rattle.nodes.specs.declared.config.Config.{Config}
 use Rattle.tc_link.specs.declared.event.Event.{Event}
 use Rattle.tc_link.specs.declared.sim.fault.SimFault.{SimFault}
 use Rattle.tc_link.specs.Confirmation.{ConfirmsExactly}
 use Rattle.tc_link.specs.History.{IsHistory, HasPlainHistory, GoesOnByAStep}
-use Rattle.tc_link.specs.Parameters.{IsConfig}
+use Rattle.nodes.specs.Parameters.{IsConfig}
 use Rattle.tc_link.specs.Promises.{IsPromised, IsPromisedOf, HoldsThroughout}
 use Rattle.tc_link.specs.Reached.{IsEvent, IsReached}
 use Rattle.tc_link.specs.Simulation.{SimState, sim_run}

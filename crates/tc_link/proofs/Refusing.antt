@@ -9,7 +9,7 @@ use Rattle.tm_link.specs.Layout as telemetry
 use Rattle.tm_link.specs.Reading as telemetry_reading
 use Rattle.tc_link.specs.declared.event.Event.{Event}
 use Rattle.tc_link.specs.declared.event.Event.TheVariants as events
-use Rattle.tc_link.specs.Ground.{GroundState, ground_step, Pull}
+use Rattle.nodes.specs.Ground.{GroundState, ground_step, Pull}
 use Rattle.tc_link.specs.World.{World, WorldOutcome, world_step, world_after_pull, up_deliver_step, up_lose_step, up_damage_outcome, up_damage_step, down_deliver_step, down_lose_step, down_damage_outcome, down_damage_step}
 
 abbrev Keeps : World → WorldOutcome → Type 0

@@ -10,8 +10,8 @@ use Rattle.tm_link.specs.Writing as telemetry_writing
 use Rattle.tm_link.proofs.Fields.{built_is}
 use Rattle.tm_link.proofs.Frames.{frame_again}
 use Rattle.tm_link.proofs.IdlePackets.{length-idle, length-tail}
-use Rattle.tc_link.specs.declared.config.Config.{Config}
-use Rattle.tc_link.specs.Spacecraft.{report_octets, spacecraft_report}
+use Rattle.nodes.specs.declared.config.Config.{Config}
+use Rattle.nodes.specs.Spacecraft.{report_octets, spacecraft_report}
 use Rattle.tc_link.specs.World.{World}
 use Rattle.tc_link.proofs.Linked.{Steady, Tells}
 use Rattle.tc_link.proofs.Words.{report_reads}

@@ -13,7 +13,7 @@ use Rattle.cop1.specs.FopState.{FopState}
 use Rattle.cop1.specs.FopNext.{units_of}
 use Rattle.cop1.specs.FopReport.{locks, waits, asks, report_while_active, nothing_new, after_move_on, goes_back, retransmits, ask_for_all, goes_back_again, after_new_value}
 use Rattle.cop1.specs.FopWords.{FopOutcome, is_outside, after_acknowledge, after_repeat, alerts, goes_on, after_gone}
-use Rattle.tc_link.specs.Ground.{is_closed}
+use Rattle.nodes.specs.Ground.{is_closed}
 use Rattle.tc_link.proofs.Queue.{units-marked, units-drop}
 use Rattle.tc_link.proofs.Transit.{bit}
 

@@ -1,7 +1,7 @@
 -- A run with its answers, from steps that record theirs.
 use Rattle.std.proofs.Common.{◌≡◌, ◌≤◌, ℕ, List, [], ◌∷◌, ◌++◌, length, drop, ap, sym, ◌∙◌}
 use Rattle.std.proofs.lemmas.List.{append-nil, append_assoc, at_drop_all}
-use Rattle.tc_link.specs.declared.config.Config.{Config}
+use Rattle.nodes.specs.declared.config.Config.{Config}
 use Rattle.tc_link.specs.declared.event.Event.{Event}
 use Rattle.tc_link.specs.World.{world_step, world_run, run_answers}
 use Rattle.tc_link.specs.Simulation.{SimState, record_step, run_from, new_sim, sim_run}

@@ -6,8 +6,8 @@ use Rattle.cop1.specs.declared.fop.FopMode.{FopMode}
 use Rattle.cop1.specs.declared.fop.FopMode.TheVariants.{S1, S2, S3, S4, S5, S6}
 use Rattle.cop1.specs.FopState.{FopState, SentUnit}
 use Rattle.cop1.specs.FopNext.{units_of}
-use Rattle.tc_link.specs.declared.config.Config.{Config}
-use Rattle.tc_link.specs.Ground.{GroundState, is_closed, unsent_segments, after_moving_up, settle_in, settle_step, with_fop}
+use Rattle.nodes.specs.declared.config.Config.{Config}
+use Rattle.nodes.specs.Ground.{GroundState, is_closed, unsent_segments, after_moving_up, settle_in, settle_step, with_fop}
 use Rattle.tc_link.specs.PlainLink.{PlainLink}
 use Rattle.tc_link.specs.World.{World}
 use Rattle.tc_link.proofs.Linked.{Late, Held, Next, LateBy}

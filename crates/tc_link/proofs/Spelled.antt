@@ -10,10 +10,10 @@ use Rattle.tc_frame.specs.Reading.{frame_at}
 use Rattle.tc_frame.specs.Writing.{frame_fits, spelling, total_of}
 use Rattle.tc_frame.proofs.Frames.{frame_again}
 use Rattle.tc_frame.proofs.Spellings.{spelling_is}
-use Rattle.tc_link.specs.declared.config.Config.{Config}
-use Rattle.tc_link.specs.Parameters.{IsConfig}
-use Rattle.tc_link.specs.OwnedFields.{FitsFrame}
-use Rattle.tc_link.specs.Ground.{frame_of}
+use Rattle.nodes.specs.declared.config.Config.{Config}
+use Rattle.nodes.specs.Parameters.{IsConfig}
+use Rattle.nodes.specs.OwnedFields.{FitsFrame}
+use Rattle.nodes.specs.Ground.{frame_of}
 
 -- a body that fits a frame
 abbrev pub Goes : BodyView → Type 0

@@ -23,9 +23,9 @@ use Rattle.cop1.specs.FopReport.{locks, waits, asks, clcw_step, report_in, repor
 use Rattle.cop1.specs.FopState.{FopState}
 use Rattle.cop1.specs.FopTick.{tick_step, tick_with, timer_ended, after_count, due_again}
 use Rattle.cop1.specs.FopWords.{FopOutcome, is_outside, after_acknowledge, after_repeat, after_alert, after_stop, after_restart, alerts, goes_on, after_gone}
-use Rattle.tc_link.specs.declared.config.Config.{Config}
-use Rattle.tc_link.specs.OwnedFields.{FitsFrame}
-use Rattle.tc_link.specs.Ground.{GroundState, is_closed, settle_step}
+use Rattle.nodes.specs.declared.config.Config.{Config}
+use Rattle.nodes.specs.OwnedFields.{FitsFrame}
+use Rattle.nodes.specs.Ground.{GroundState, is_closed, settle_step}
 use Rattle.tc_link.proofs.Linked.{Commanded}
 use Rattle.tc_link.proofs.Settled.{settled_keeps}
 

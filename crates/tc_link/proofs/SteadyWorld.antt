@@ -35,21 +35,21 @@ use Rattle.tm_link.specs.declared.fault.TmFault.{TmFault}
 use Rattle.tm_link.specs.Extraction.{Extracted, extract_step}
 use Rattle.tm_link.specs.Layout as telemetry
 use Rattle.tm_link.specs.Reading as telemetry_reading
-use Rattle.tc_link.specs.declared.config.Config.{Config}
+use Rattle.nodes.specs.declared.config.Config.{Config}
 use Rattle.tc_link.specs.declared.event.Event.{Event}
 use Rattle.tc_link.specs.declared.event.Event.TheVariants as events
-use Rattle.tc_link.specs.declared.fault.LinkFault.{LinkFault}
-use Rattle.tc_link.specs.declared.heard.Heard.{Heard}
-use Rattle.tc_link.specs.SpacecraftFields.{IsBuilderOf}
-use Rattle.tc_link.specs.BypassSegments.{is_kept}
-use Rattle.tc_link.specs.OwnedFields.{FitsFrame}
-use Rattle.tc_link.specs.Packets.{PacketOn}
-use Rattle.tc_link.specs.Parameters.{IsConfig, limits_of}
-use Rattle.tc_link.specs.Spacecraft.{SpacecraftState, SpacecraftOutcome, spacecraft_report, frame_outcome, body_outcome, sequence_outcome, bypass_outcome, command_event, is_free, is_own_frame, spacecraft_take, spacecraft_take_bypass, spacecraft_telemetry}
-use Rattle.tc_link.specs.Ground.{GroundState, is_closed, unsent_segments, settle_step, with_fop, frame_to_send, directive_outcome, submit_fault, after_submission, bypass_fault, after_bypass, unless_refused, after_extraction, ground_telemetry, telemetry_outcome, own_frame_outcome}
-use Rattle.tc_link.specs.Ground as ground
+use Rattle.nodes.specs.declared.fault.LinkFault.{LinkFault}
+use Rattle.nodes.specs.declared.heard.Heard.{Heard}
+use Rattle.nodes.specs.SpacecraftFields.{IsBuilderOf}
+use Rattle.nodes.specs.BypassSegments.{is_kept}
+use Rattle.nodes.specs.OwnedFields.{FitsFrame}
+use Rattle.nodes.specs.Packets.{PacketOn}
+use Rattle.nodes.specs.Parameters.{IsConfig, limits_of}
+use Rattle.nodes.specs.Spacecraft.{SpacecraftState, SpacecraftOutcome, spacecraft_report, frame_outcome, body_outcome, sequence_outcome, bypass_outcome, command_event, is_free, is_own_frame, spacecraft_take, spacecraft_take_bypass, spacecraft_telemetry}
+use Rattle.nodes.specs.Ground.{GroundState, is_closed, unsent_segments, settle_step, with_fop, frame_to_send, directive_outcome, submit_fault, after_submission, bypass_fault, after_bypass, unless_refused, after_extraction, ground_telemetry, telemetry_outcome, own_frame_outcome}
+use Rattle.nodes.specs.Ground as ground
 use Rattle.tc_link.specs.World.{World, new_world, world_step, world_after_pull, up_deliver_step, up_lose_step, up_damage_outcome, up_damage_step, down_deliver_step, down_lose_step, down_damage_outcome, down_damage_step, session_after_directive, is_initiation}
-use Rattle.tc_link.proofs.Submitting.{bypass_fits}
+use Rattle.nodes.proofs.Submitting.{bypass_fits}
 use Rattle.tc_link.specs.Reached.{IsDirective, IsEvent}
 use Rattle.tc_link.proofs.Linked.{Steady, Commanded}
 use Rattle.tc_link.proofs.SteadyNodes.{FopSteady, GroundNodeSteady, FarmSteady, settled_so, farm_so, report_so, tick_so, pull_so, gives_up, goes_same, off_so}

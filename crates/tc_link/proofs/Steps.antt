@@ -1,6 +1,6 @@
 -- An event takes the run of a settled session's plain link on by at most one step.
 use Rattle.std.proofs.Common.{inl, inr}
-use Rattle.tc_link.specs.declared.config.Config.{Config}
+use Rattle.nodes.specs.declared.config.Config.{Config}
 use Rattle.tc_link.specs.declared.event.Event.{Event}
 use Rattle.tc_link.specs.History.{GoesOnByAStep}
 use Rattle.tc_link.specs.Reached.{IsEvent}

@@ -6,11 +6,11 @@ use Rattle.cop1.specs.declared.fop.Alert.{Alert}
 use Rattle.cop1.specs.declared.fop.Alert.TheVariants.{Lockout, NnR, Clcw as ClcwAlert, Synch, Limit, Timer, Terminated}
 use Rattle.cop1.specs.declared.fop.Directive.TheVariants.{InitWithCheck, Terminate}
 use Rattle.cop1.specs.FopReport.{asks}
-use Rattle.tc_link.specs.declared.config.Config.{Config}
+use Rattle.nodes.specs.declared.config.Config.{Config}
 use Rattle.tc_link.specs.declared.event.Event.{Event}
 use Rattle.tc_link.specs.declared.event.Event.TheVariants as events
-use Rattle.tc_link.specs.declared.heard.Heard.{Heard}
-use Rattle.tc_link.specs.declared.heard.Heard.TheVariants as heard_cases
+use Rattle.nodes.specs.declared.heard.Heard.{Heard}
+use Rattle.nodes.specs.declared.heard.Heard.TheVariants as heard_cases
 use Rattle.tc_link.specs.declared.sim.fault.SimFault.{SimFault}
 use Rattle.tc_link.specs.InTransit.{report_carried}
 use Rattle.tc_link.specs.Replies.{ReplyView, Done, Nothing, Lost, Refused, Alerted, Sent, Reported, Up, Down, Packet}

@@ -5,7 +5,7 @@ use Rattle.std.specs.List.{AllByRecursion}
 use Rattle.tc_frame.specs.Layout.{SegmentView, segment_octets}
 use Rattle.map_service.specs.Cutting.{segments_of}
 use Rattle.cop1.specs.FopState.{IsActive}
-use Rattle.tc_link.specs.Packets.{PacketOn}
+use Rattle.nodes.specs.Packets.{PacketOn}
 use Rattle.tc_link.specs.World.{World, IsSettled, accepted}
 use Rattle.tc_link.specs.InTransit.{units_up, values_down}
 use Rattle.tc_link.specs.PlainLink.{PlainLink, PlainRun, AtMostOneStep, new_link}

@@ -2,7 +2,7 @@
 use Rattle.std.specs.Prelude.{◌≡◌, ◌≤◌, ℕ, [], length, take}
 use Rattle.octets.specs.Beginning.{IsBeginning}
 use Rattle.cop1.specs.declared.fop.FopMode.TheVariants.{S1}
-use Rattle.tc_link.specs.Ground.{outstanding}
+use Rattle.nodes.specs.Ground.{outstanding}
 use Rattle.tc_link.specs.World.{World, submitted, accepted, delivered}
 
 -- Packets are delivered in order, each once.

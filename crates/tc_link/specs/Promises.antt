@@ -1,6 +1,6 @@
 -- What is promised at every moment of a run, in a session that began clean.
 use Rattle.std.specs.Prelude.{◌≡◌, List, ◌∷◌, ◌++◌}
-use Rattle.tc_link.specs.declared.config.Config.{Config}
+use Rattle.nodes.specs.declared.config.Config.{Config}
 use Rattle.tc_link.specs.declared.event.Event.{Event}
 use Rattle.tc_link.specs.Confirmation.{IsChecking, ConfirmsExactly, IsConfirmedExactly}
 use Rattle.tc_link.specs.FalseAlarms.{HasNoFalseAlarm}

@@ -4,14 +4,14 @@ use Rattle.clcw.specs.declared.word.Clcw.{Clcw}
 use Rattle.cop1.specs.declared.fault.CopFault.{CopFault}
 use Rattle.cop1.specs.declared.fop.Alert.{Alert}
 use Rattle.tm_link.specs.declared.fault.TmFault.{TmFault}
-use Rattle.tc_link.specs.declared.fault.LinkFault.{LinkFault}
-use Rattle.tc_link.specs.declared.heard.Heard.{Heard}
-use Rattle.tc_link.specs.declared.received.Received.{Received}
+use Rattle.nodes.specs.declared.fault.LinkFault.{LinkFault}
+use Rattle.nodes.specs.declared.heard.Heard.{Heard}
+use Rattle.nodes.specs.declared.received.Received.{Received}
 use Rattle.tc_link.specs.declared.reply.NodeFault.{NodeFault}
 use Rattle.tc_link.specs.declared.reply.NodeFault.TheVariants.{Link, Cop, Tm}
 use Rattle.tc_link.specs.declared.reply.Reply.{Reply}
 use Rattle.tc_link.specs.declared.reply.Reply.TheVariants as replies
-use Rattle.tc_link.specs.Packets.{PacketOn, packet_on}
+use Rattle.nodes.specs.Packets.{PacketOn, packet_on}
 
 pub data ReplyView : Type 0 where
   Done : ReplyView

@@ -4,15 +4,15 @@ use Rattle.tc_frame.specs.declared.frame.Check.TheVariants.{On}
 use Rattle.tc_frame.specs.Reading as command
 use Rattle.tm_link.specs.Building.{is_to_send}
 use Rattle.tm_link.specs.Reading as telemetry
-use Rattle.tc_link.specs.declared.config.Config.{Config}
+use Rattle.nodes.specs.declared.config.Config.{Config}
 use Rattle.tc_link.specs.declared.event.Event.{Event}
 use Rattle.tc_link.specs.declared.event.Event.TheVariants as events
 use Rattle.tc_link.specs.declared.reply.Reply.{Reply}
 use Rattle.tc_link.specs.declared.sim.fault.SimFault.{SimFault}
 use Rattle.tc_link.specs.declared.sim.fault.SimFault.TheVariants as faults
 use Rattle.tc_link.specs.Replies.{ReplyView, reply_view}
-use Rattle.tc_link.specs.Ground.{submit_fault, bypass_fault, FinishesNothing}
-use Rattle.tc_link.specs.Spacecraft.{HandsNothingOn}
+use Rattle.nodes.specs.Ground.{submit_fault, bypass_fault, FinishesNothing}
+use Rattle.nodes.specs.Spacecraft.{HandsNothingOn}
 use Rattle.tc_link.specs.World.{World, new_world, world_step, world_run, run_answers}
 
 pub record SimState : Type 0 where

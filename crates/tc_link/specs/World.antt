@@ -20,23 +20,23 @@ use Rattle.tm_link.specs.declared.fault.TmFault.{TmFault}
 use Rattle.tm_link.specs.Layout as telemetry
 use Rattle.tm_link.specs.Reading as telemetry_reading
 use Rattle.tm_link.specs.Writing as telemetry_writing
-use Rattle.tc_link.specs.declared.config.Config.{Config}
+use Rattle.nodes.specs.declared.config.Config.{Config}
 use Rattle.tc_link.specs.declared.event.Event.{Event}
 use Rattle.tc_link.specs.declared.event.Event.TheVariants as events
-use Rattle.tc_link.specs.declared.fault.LinkFault.{LinkFault}
-use Rattle.tc_link.specs.declared.heard.Heard.{Heard}
-use Rattle.tc_link.specs.declared.heard.Heard.TheVariants as heard_cases
-use Rattle.tc_link.specs.declared.received.Received.{Received}
-use Rattle.tc_link.specs.declared.received.Received.TheVariants as received_cases
+use Rattle.nodes.specs.declared.fault.LinkFault.{LinkFault}
+use Rattle.nodes.specs.declared.heard.Heard.{Heard}
+use Rattle.nodes.specs.declared.heard.Heard.TheVariants as heard_cases
+use Rattle.nodes.specs.declared.received.Received.{Received}
+use Rattle.nodes.specs.declared.received.Received.TheVariants as received_cases
 use Rattle.tc_link.specs.declared.sim.opening.Opening.{Opening}
 use Rattle.tc_link.specs.declared.sim.fault.SimFault.{SimFault}
 use Rattle.tc_link.specs.declared.sim.fault.SimFault.TheVariants.{NothingInTransit, NotDetectable}
-use Rattle.tc_link.specs.Parameters.{limits_of}
-use Rattle.tc_link.specs.Packets.{PacketOn, packet_on}
-use Rattle.tc_link.specs.Ground.{GroundState, GroundOutcome, is_closed, new_ground, ground_step}
-use Rattle.tc_link.specs.Ground as ground_calls
-use Rattle.tc_link.specs.Spacecraft.{SpacecraftState, SpacecraftOutcome, new_spacecraft, spacecraft_step}
-use Rattle.tc_link.specs.Spacecraft as spacecraft_calls
+use Rattle.nodes.specs.Parameters.{limits_of}
+use Rattle.nodes.specs.Packets.{PacketOn, packet_on}
+use Rattle.nodes.specs.Ground.{GroundState, GroundOutcome, is_closed, new_ground, ground_step}
+use Rattle.nodes.specs.Ground as ground_calls
+use Rattle.nodes.specs.Spacecraft.{SpacecraftState, SpacecraftOutcome, new_spacecraft, spacecraft_step}
+use Rattle.nodes.specs.Spacecraft as spacecraft_calls
 use Rattle.tc_link.specs.Replies.{ReplyView, Nothing, Lost, Sent, Reported, Up, Down, reply_to_submission, reply_to_directive, reply_to_alert, reply_to_taking, reply_to_telemetry}
 
 -- the records of the session, which lasts until the next one begins; none has begun at first
@@ -238,6 +238,11 @@ abbrev pub first_sent : ℕ → BodyView → List (List ℕ)
 first_sent vs (Ad n segment) = if n == vs then segment_octets segment ∷ [] else []
 first_sent vs (Bd segment) = []
 first_sent vs (Bc command) = []
+
+-- of the frame that goes next, where one does
+abbrev pub first_in : ℕ → Option FrameView → List (List ℕ)
+first_in vs None = []
+first_in vs (Some frame) = first_sent vs frame.body
 
 abbrev pub world_after_pull : World → GroundState → Option FrameView → WorldOutcome
 world_after_pull w after None = world_reply Nothing (record w { ground_node = after })

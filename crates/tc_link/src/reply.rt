@@ -1,10 +1,8 @@
 // What a simulated link answers.
 
-use crate::fault::LinkFault;
-use crate::heard::Heard;
-use crate::received::Received;
 use clcw::Clcw;
 use cop1::{Alert, CopFault};
+use nodes::{Heard, LinkFault, Received};
 use tm_link::TmFault;
 
 /// What a simulated link answers to an event.

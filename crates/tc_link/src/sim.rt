@@ -4,11 +4,11 @@ mod fault;
 mod opening;
 mod runs;
 
-use crate::config::Config;
 use crate::event::Event;
 use crate::reply::Reply;
 use crate::world::World;
 use cop1::{Directive, FopMode};
+use nodes::Config;
 pub use fault::SimFault;
 pub(crate) use opening::Opening;
 pub use runs::run;
@@ -40,9 +40,9 @@ impl Sim {
     ghost use Rattle.std.specs.Prelude.{◌≡◌, ◌≢◌, map, length, option_map, None, Ok, Err, IfOk, IfErr, OnOk, OnErr, IsOkUnless};
     ghost use Rattle.octets.specs.Outcome.{map_ok};
     ghost use Rattle.tm_link.specs.Extraction.{octets_of};
-    ghost use Rattle.tc_link.specs.Ground.{outstanding};
-    ghost use Rattle.tc_link.specs.Packets.{packet_view};
-    ghost use Rattle.tc_link.specs.Parameters.{config_fault};
+    ghost use Rattle.nodes.specs.Ground.{outstanding};
+    ghost use Rattle.nodes.specs.Packets.{packet_view};
+    ghost use Rattle.nodes.specs.Parameters.{config_fault};
     ghost use Rattle.tc_link.specs.Replies.{reply_view};
     ghost use Rattle.tc_link.specs.Simulation.{IsReplyTo, new_sim, refused_field, TakesNone};
     ghost use Rattle.tc_link.specs.Confirmation.{ConfirmsExactly, IsChecking, IsConfirmedExactly};

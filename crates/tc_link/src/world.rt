@@ -7,12 +7,10 @@ mod losing;
 mod stepping;
 mod upward;
 
-use crate::config::Config;
-use crate::ground_node::Ground;
 use crate::map_lists::{no_packets, packets_of};
 use crate::session::Session;
 use crate::sim::{Opening, SimFault};
-use crate::spacecraft::Spacecraft;
+use nodes::{Config, Ground, Spacecraft};
 use std::alloc::Global;
 use std::collections::VecDeque;
 use std::marker::Model;
@@ -45,8 +43,8 @@ impl Model for World {
 impl World {
     ghost use Rattle.std.specs.Prelude.{◌≡◌, map, IfOk, IsOkUnless};
     ghost use Rattle.tm_link.specs.Extraction.{octets_of};
-    ghost use Rattle.tc_link.specs.Packets.{packet_view};
-    ghost use Rattle.tc_link.specs.Parameters.{IsConfig};
+    ghost use Rattle.nodes.specs.Packets.{packet_view};
+    ghost use Rattle.nodes.specs.Parameters.{IsConfig};
     ghost use Rattle.tc_link.specs.World.{new_world, submitted, accepted, delivered};
 
     pub(crate) fn new(alloc: Global, config: &Config) -> Result<World, SimFault>

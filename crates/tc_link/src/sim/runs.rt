@@ -1,14 +1,14 @@
 // Whole runs of a simulated link.
 
 ghost use Rattle.std.specs.Prelude.{◌≡◌, None, IfOk, OnOk, IsOkUnless};
-ghost use Rattle.tc_link.specs.Parameters.{config_fault};
+ghost use Rattle.nodes.specs.Parameters.{config_fault};
 ghost use Rattle.tc_link.specs.Promises.{IsPromised, HoldsThroughout};
 ghost use Rattle.tc_link.specs.Simulation.{sim_run, refused_field};
 ghost use Rattle.tc_link.specs.World.{IsClean};
 
 use super::{Sim, SimFault};
-use crate::config::Config;
 use crate::event::Event;
+use nodes::Config;
 use std::alloc::Global;
 
 /// Lets the events happen one after another, and keeps what was answered to each. The faults are 9

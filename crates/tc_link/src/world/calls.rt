@@ -1,7 +1,7 @@
 // Calls of the nodes that put nothing on its way.
 
 ghost use Rattle.std.specs.Prelude.{◌≡◌, option_map};
-ghost use Rattle.tc_link.specs.Packets.{packet_view};
+ghost use Rattle.nodes.specs.Packets.{packet_view};
 ghost use Rattle.tc_link.specs.Replies.{reply_view, reply_to_alert, reply_to_taking};
 ghost use Rattle.tc_link.specs.World.{is_initiation};
 
@@ -81,7 +81,7 @@ impl World {
     {
         match directive {
             Directive::InitWithoutCheck => {
-                self.is_quiet() && self.spacecraft.vr() == self.ground_node.vs()
+                self.is_quiet() && self.spacecraft.clcw().value == self.ground_node.vs()
             }
             Directive::InitWithCheck | Directive::InitUnlock | Directive::InitSetVr(_) => {
                 self.is_quiet()

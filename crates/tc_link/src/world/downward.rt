@@ -5,6 +5,7 @@ ghost use Rattle.tc_link.specs.World.{is_confirmation};
 
 use super::World;
 use crate::event::Event;
+use crate::putting::put_report;
 use crate::reply::Reply;
 use crate::sim::SimFault;
 use cop1::FopMode;
@@ -20,15 +21,14 @@ impl World {
         ensures err { OnErr result (self.new ≡ self.old) }
         ensures memory { IsOkUnless result SimFault.Memory }
     {
-        let Ok(mut octets) = Vec::with_capacity(self.alloc, 2048) else {
+        let Ok(mut octets) = Vec::with_capacity(self.alloc, self.spacecraft.frame_length()) else {
             return Err(SimFault::Memory);
         };
         if self.down.try_reserve(1).is_err() {
             return Err(SimFault::Memory);
         }
         let clcw = self.spacecraft.clcw();
-        self.spacecraft.put_report(&mut octets);
-        octets.shrink_to_fit();
+        put_report(&mut self.spacecraft, &mut octets);
         self.down.push_back_reserved(octets);
         Ok(Reply::Reported(clcw))
     }

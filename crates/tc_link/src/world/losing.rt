@@ -2,10 +2,9 @@
 
 use super::World;
 use crate::event::Event;
-use crate::heard::Heard;
-use crate::received::Received;
 use crate::reply::Reply;
 use crate::sim::SimFault;
+use nodes::{Heard, Received};
 use tc_frame::Check;
 
 impl World {

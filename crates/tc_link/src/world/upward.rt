@@ -1,20 +1,18 @@
 // What goes to the spacecraft: telecommand frames.
 
-ghost use Rattle.std.specs.Prelude.{◌≡◌, ◌≢◌, ◌<◌, ◌≤◌, [], ◌++◌, IfOk, IsOkUnless, option_to_list, option_map};
+ghost use Rattle.std.specs.Prelude.{◌≡◌, ◌≢◌, ◌<◌, ◌++◌, IfOk, IsOkUnless, option_to_list, option_map};
 ghost use Rattle.std.specs.Vec.{vec_len, vec_capacity};
 ghost use Rattle.tm_link.specs.Extraction.{octets_of};
 
 use super::World;
 use super::accepting::{make_room_for, record_accepted};
-use crate::copying::copy_front;
-use crate::data_field::first_sent;
 use crate::event::Event;
-use crate::fault::LinkFault;
 use crate::map_lists::{append_on, make_room};
+use crate::outgoing::next_frame;
 use crate::reply::{NodeFault, Reply};
 use crate::sim::SimFault;
 use map_service::copied_packets;
-use std::alloc::Global;
+use nodes::LinkFault;
 
 impl World {
     ghost use Rattle.std.specs.Prelude.{Ok, Err, IfErr, OnOk, OnErr};
@@ -40,7 +38,7 @@ impl World {
         };
         if self.session.submissions.try_reserve(1).is_err()
             || make_room(&mut self.session.submitted, map, packets.len()).is_err()
-            || self.ground_node.enqueue(map, octets).is_err()
+            || self.ground_node.submit(map, octets).is_err()
         {
             return Err(SimFault::Memory);
         }
@@ -70,22 +68,17 @@ impl World {
         ensures err { OnErr result (self.new ≡ self.old) }
         ensures memory { IsOkUnless result SimFault.Memory }
     {
-        let mut frame = room(self.alloc)?;
-        let mut copy = room(self.alloc)?;
-        let field = room(self.alloc)?;
+        let Some(outgoing) = next_frame(self.alloc, &self.ground_node)? else {
+            self.ground_node.advance();
+            return Ok(Reply::Nothing);
+        };
         if self.up.try_reserve(1).is_err() || self.session.sent.try_reserve(1).is_err() {
             return Err(SimFault::Memory);
         }
-        let vs = self.ground_node.vs();
-        if !self.ground_node.put_next(&mut frame) {
-            return Ok(Reply::Nothing);
-        }
-        copy_front(&mut copy, &frame, frame.len());
-        push_some(&mut self.session.sent, first_sent(field, vs, &frame));
-        frame.shrink_to_fit();
-        self.up.push_back_reserved(frame);
-        copy.shrink_to_fit();
-        Ok(Reply::Sent(copy))
+        self.ground_node.advance();
+        self.up.push_back_reserved(outgoing.octets);
+        push_some(&mut self.session.sent, outgoing.field);
+        Ok(Reply::Sent(outgoing.copy))
     }
 
     pub(crate) fn up_deliver(&mut self) -> Result<Reply, SimFault>
@@ -124,16 +117,4 @@ fn push_some(fields: &mut Vec<Vec<u8>>, field: Option<Vec<u8>>)
     if let Some(field) = field {
         fields.push_reserved(field);
     }
-}
-
-// Octets, with room for a frame.
-fn room(alloc: Global) -> Result<Vec<u8>, SimFault>
-    ensures empty { IfOk result (λ v. v.items ≡ []) }
-    ensures room { IfOk result (λ v. vec_capacity v ≡ 1024) }
-    ensures fault { IsOkUnless result SimFault.Memory }
-{
-    let Ok(octets) = Vec::with_capacity(alloc, 1024) else {
-        return Err(SimFault::Memory);
-    };
-    Ok(octets)
 }

@@ -1,5 +1,5 @@
 use Rattle.std.proofs.Common.{codes, string_bytes, length}
-use Rattle.tc_link.specs.Ground.{outstanding}
+use Rattle.nodes.specs.Ground.{outstanding}
 use Rattle.script.proofs.Counts.{two_counts}
 use Rattle.script.proofs.showing.push_acknowledged.Goals as goal
 

@@ -3,7 +3,7 @@ use Rattle.std.specs.List.{AllByRecursion}
 use Rattle.std.proofs.lemmas.Grind.{common_steps}
 use Rattle.std.proofs.lemmas.List.{take_all}
 use Rattle.tc_link.specs.Reached.{IsEvent}
-use Rattle.tc_link.proofs.InRange.{config_is}
+use Rattle.nodes.proofs.InRange.{config_is}
 use Rattle.tc_link.proofs.Promised.{holds_throughout, one_more, promised_run}
 use Rattle.tc_link.proofs.Runs.{run_ends}
 use Rattle.tc_link.proofs.sim.runs.run.Goals as goal

@@ -7,8 +7,8 @@ use Rattle.std.proofs.lemmas.List.{map_push}
 use Rattle.std.proofs.lemmas.List.Elements.{filter-append}
 use Rattle.map_service.specs.Packets.{packets_in}
 use Rattle.map_service.specs.Views.{packets_view}
-use Rattle.tc_link.specs.Ground.{GroundState}
-use Rattle.tc_link.specs.Packets.{PacketOn, packet_on, packet_view}
+use Rattle.nodes.specs.Ground.{GroundState, submit_fault}
+use Rattle.nodes.specs.Packets.{PacketOn, packet_on, packet_view}
 use Rattle.tc_link.proofs.Counted.{submit_same}
 use Rattle.tc_link.proofs.world.World.submit.Goals as goal
 
@@ -34,9 +34,9 @@ pub invariant_of-self-2 : goal.invariant_of-self-2
 invariant_of-self-2 c =
     let s : GroundState = c.self.inside.ground_node in
     let octets : List ℕ = c.args.octets.now in
-    let after = where_ok c.enqueue.result (sym c.is_err-else-is_err-2.ensures.value ∙ c.if-is_err-3.false) c.enqueue.ensures.after in
-    let same : length c.enqueue.new.self.fop.sent ≡ length s.fop.sent =
-    ap (λ (t : GroundState). length t.fop.sent) after ∙ ap length (submit_same s c.args.map octets None) in
+    let after = where_ok c.submit.result (sym c.is_err-else-is_err-2.ensures.value ∙ c.if-is_err-3.false) c.submit.ensures.after in
+    let same : length c.submit.new.self.fop.sent ≡ length s.fop.sent =
+    ap (λ (t : GroundState). length t.fop.sent) after ∙ ap length (submit_same s c.args.map octets (submit_fault s c.args.map octets)) in
     let submissions : map packet_view c.push_reserved.new.self.items ≡ map packet_view c.self.inside.session.submissions.items ++ packet_on c.args.map octets ∷ [] =
     ap (map packet_view) (c.push_reserved.ensures.items ∙ ap (λ xs. xs ++ (c.args.map, c.in-Ok.copy) ∷ []) c.try_reserve.ensures.items)
     ∙ map_push packet_view c.self.inside.session.submissions.items (c.args.map, c.in-Ok.copy)

@@ -1,5 +1,5 @@
 use Rattle.std.proofs.Common.{◌≤◌, ◌+◌, length, ap, arith}
-use Rattle.tc_link.specs.Ground.{GroundState}
+use Rattle.nodes.specs.Ground.{GroundState}
 use Rattle.tc_link.proofs.Counted.{tick_shorter}
 use Rattle.tc_link.proofs.world.World.tick.Goals as goal
 

@@ -2,9 +2,9 @@ use Rattle.std.proofs.Common.{◌≡◌, ℕ, List, ◌++◌, length, map, Optio
 use Rattle.std.proofs.lemmas.List.{length-map}
 use Rattle.tc_frame.specs.Layout.{SegmentView, segment_octets}
 use Rattle.tm_link.specs.Extraction.{octets_of}
-use Rattle.tc_link.specs.declared.spacecraft.acceptance.Acceptance.{Acceptance}
-use Rattle.tc_link.specs.Spacecraft.{SpacecraftState}
-use Rattle.tc_link.specs.Acceptance.{AcceptanceView, acceptance_with, segment_to_accept, acceptance_view}
+use Rattle.nodes.specs.declared.spacecraft.acceptance.Acceptance.{Acceptance}
+use Rattle.nodes.specs.Spacecraft.{SpacecraftState}
+use Rattle.nodes.specs.Acceptance.{AcceptanceView, acceptance_with, segment_to_accept, acceptance_view}
 use Rattle.tc_link.specs.WorldFields.{packets_accepted_on}
 use Rattle.tc_link.proofs.AcceptedSegments.{field_behind}
 use Rattle.tc_link.proofs.Gained.{delivered_by, gained}

@@ -1,0 +1,5 @@
+pub mod Commanding
+pub mod Counting
+pub mod Delivering
+pub mod InRange
+pub mod Submitting

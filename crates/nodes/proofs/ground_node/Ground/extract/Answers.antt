@@ -1,0 +1,22 @@
+use Rattle.std.proofs.Common.{◌≡◌, ◌+◌, ◌++◌, ℕ, List, length, ap, arith, length-append}
+use Rattle.std.proofs.lemmas.List.{length-map}
+use Rattle.tm_link.specs.Extraction.{octets_of, extract_step}
+use Rattle.tm_link.specs.Layout.{FrameView, frame_view}
+use Rattle.nodes.specs.Ground.{GroundState}
+use Rattle.nodes.proofs.ground_node.Ground.extract.Goals as goal
+
+pub returns-clause-count : goal.returns-clause-count
+returns-clause-count c =
+    let frame : FrameView = frame_view c.args.frame.now in
+    let packets : List (List ℕ) = (extract_step c.self.inside.extractor frame).packets in
+    let old : List (List ℕ) = octets_of c.self.inside.finished.items in
+    let new : List (List ℕ) = octets_of c.frame.new.packets.items in
+    let joined : length new ≡ length (old ++ packets) = ap length c.in-Ok.ensures.packets in
+    let sum : length (old ++ packets) ≡ length old + length packets = length-append old packets in
+    let before : length old ≡ length c.self.inside.finished.items = length-map c.self.inside.finished.items _ in
+    let after : length new ≡ length c.frame.new.packets.items = length-map c.frame.new.packets.items _ in
+    let gained : length c.frame.new.packets.items ≡ length c.self.inside.finished.items + length packets = omega arith in
+    let count : c.len.result ≡ c.len-before.result + length packets = omega arith in
+    let is : length packets ≡ length (extract_step c.args.self.now.extractor frame).packets =
+    ap (λ (s : GroundState). length (extract_step s.extractor frame).packets) c.self.view_is in
+    omega arith

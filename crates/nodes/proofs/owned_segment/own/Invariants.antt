@@ -1,0 +1,6 @@
+use Rattle.std.proofs.Common.{◌≡◌, take}
+use Rattle.map_service.specs.Cutting.{segment_views}
+use Rattle.nodes.proofs.owned_segment.own.Given as goal
+
+abbrev pub invariant-loop-segment : goal.invariant-loop-segment
+invariant-loop-segment l = l.owned.items ≡ segment_views (take l.segment-index l.segments)

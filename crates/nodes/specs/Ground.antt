@@ -1,0 +1,274 @@
+-- The ground: what it holds, and what each of its calls answers and leaves.
+use Rattle.std.specs.Prelude.{◌≡◌, ℕ, ◌+◌, List, [], ◌∷◌, ◌++◌, length, map, option_to_list, Bool, true, false, not, ◌&&◌, ◌==◌, nat_lt, if◌then◌else◌, Option, Some, None, Result, Ok, Err}
+use Rattle.clcw.specs.declared.word.Clcw.{Clcw}
+use Rattle.clcw.specs.declared.fault.ClcwFault.{ClcwFault}
+use Rattle.clcw.specs.Reading.{clcw_at}
+use Rattle.tc_frame.specs.declared.frame.SegmentFlags.TheVariants.{Alone}
+use Rattle.tc_frame.specs.Layout.{SegmentView, BodyView, Ad, Bd, Bc, FrameView}
+use Rattle.map_service.specs.Assembly.{is_open, is_too_long}
+use Rattle.map_service.specs.Cutting.{segment_with, segments_of}
+use Rattle.map_service.specs.Packets.{packets_in, is_some_over}
+use Rattle.cop1.specs.declared.fault.CopFault.{CopFault}
+use Rattle.cop1.specs.declared.fop.FopMode.{FopMode}
+use Rattle.cop1.specs.declared.fop.FopMode.TheVariants.{S1, S2, S3, S4, S5, S6}
+use Rattle.cop1.specs.declared.fop.Alert.{Alert}
+use Rattle.cop1.specs.declared.fop.Directive.{Directive}
+use Rattle.cop1.specs.FopState.{FopState, new_fop}
+use Rattle.cop1.specs.FopPull.{PulledUnit, NothingPulled, ControlPulled, BypassPulled, SequencePulled}
+use Rattle.cop1.specs.FopStep as sender
+use Rattle.cop1.specs.FopWords.{FopOutcome}
+use Rattle.tm_link.specs.declared.fault.TmFault.{TmFault}
+use Rattle.tm_link.specs.Layout as telemetry
+use Rattle.tm_link.specs.Reading.{frame_at}
+use Rattle.tm_link.specs.Extraction.{ExtractorState, Extracted, new_extractor, extract_step}
+use Rattle.nodes.specs.declared.config.Config.{Config}
+use Rattle.nodes.specs.declared.fault.LinkFault.{LinkFault}
+use Rattle.nodes.specs.declared.fault.LinkFault.TheVariants.{NotOpen, ClosedMap, NotCommand, TooLong, QueueFull}
+use Rattle.nodes.specs.declared.heard.Heard.{Heard}
+use Rattle.nodes.specs.declared.heard.Heard.TheVariants.{Invalid, Foreign, Frame}
+use Rattle.nodes.specs.declared.heard.HeardReport.TheVariants.{Used, Refused, OtherChannel}
+use Rattle.nodes.specs.Commands.{are_commands}
+use Rattle.nodes.specs.Parameters.{limits_of}
+
+-- a ground node
+pub record GroundState : Type 0 where
+  pub config : Config
+  -- the sender, FOP-1, of segments
+  pub fop : FopState SegmentView
+  -- the segments behind its wait queue, the oldest first
+  pub pending : List SegmentView
+  -- what takes packets out of the telemetry frames, and those that wait to be taken, the oldest
+  -- first
+  pub extractor : ExtractorState
+  pub telemetry : List (List ℕ)
+
+-- what a call answers, and the ground after it
+pub record GroundOutcome (A : Type 0) : Type 0 where
+  pub answer : A
+  pub after : GroundState
+
+abbrev pub new_ground : Config → GroundState
+new_ground c = record {
+  config = c;
+  fop = new_fop c.width c.window c.limit c.timer;
+  pending = [];
+  extractor = new_extractor;
+  telemetry = [];
+}
+
+-- ---- what is pending
+
+-- the oldest pending segment goes into the wait queue where its one place is free
+abbrev pub after_moving_up : GroundState → Option SegmentView → List SegmentView → GroundState
+after_moving_up s (Some waiting) pending = s
+after_moving_up s None [] = s
+after_moving_up s None (segment ∷ pending) =
+    record s { fop = record s.fop { waiting = Some segment }; pending = pending }
+
+-- nothing is pending in S6, where an alert leads; in the other states the oldest moves up
+abbrev pub settle_in : GroundState → FopMode → GroundState
+settle_in s S1 = after_moving_up s s.fop.waiting s.pending
+settle_in s S2 = after_moving_up s s.fop.waiting s.pending
+settle_in s S3 = after_moving_up s s.fop.waiting s.pending
+settle_in s S4 = after_moving_up s s.fop.waiting s.pending
+settle_in s S5 = after_moving_up s s.fop.waiting s.pending
+settle_in s S6 = record s { pending = [] }
+
+abbrev pub settle_step : GroundState → GroundState
+settle_step s = settle_in s s.fop.state
+
+-- the ground, where its sender is so
+abbrev pub with_fop : GroundState → FopState SegmentView → GroundState
+with_fop s fop = settle_step (record s { fop = fop })
+
+-- the segments that were not sent, and those that were not acknowledged, the oldest first
+abbrev pub unsent_segments : GroundState → List SegmentView
+unsent_segments s = option_to_list s.fop.waiting ++ s.pending
+
+abbrev pub outstanding : GroundState → List SegmentView
+outstanding s = map (λ u. u.unit) s.fop.sent ++ unsent_segments s
+
+-- ---- packets are submitted
+
+abbrev pub is_closed : FopMode → Bool
+is_closed S1 = false
+is_closed S2 = false
+is_closed S3 = false
+is_closed S4 = false
+is_closed S5 = false
+is_closed S6 = true
+
+abbrev pub segments_on : GroundState → ℕ → List ℕ → List SegmentView
+segments_on s m octets = segments_of s.config.part m octets
+
+-- the segments that were not sent, with the new ones, are more than the queue slots
+abbrev pub is_over_slots : GroundState → ℕ → List ℕ → Bool
+is_over_slots s m octets =
+    nat_lt s.config.queue_slots (length (unsent_segments s) + length (segments_on s m octets))
+
+-- the first of the refusals that applies
+abbrev pub submit_fault : GroundState → ℕ → List ℕ → Option LinkFault
+submit_fault s m octets =
+    if is_closed s.fop.state then Some NotOpen
+    else if not (is_open (limits_of s.config) m) then Some ClosedMap
+    else if not (are_commands (s.config.blocking == 1) octets) then Some NotCommand
+    else if is_some_over s.config.max_packet (packets_in octets) then Some TooLong
+    else if is_over_slots s m octets then Some QueueFull
+    else None
+
+abbrev pub after_submission : GroundState → ℕ → List ℕ → GroundState
+after_submission s m octets =
+    settle_step (record s { pending = s.pending ++ segments_on s m octets })
+
+-- the call is refused, or the ground is the next
+abbrev pub unless_refused : Option LinkFault → GroundState → GroundState
+    → GroundOutcome (Result (Unit {0}) LinkFault)
+unless_refused None s next = record { answer = Ok tt; after = next }
+unless_refused (Some fault) s next = record { answer = Err fault; after = s }
+
+-- ---- packets are sent past the sequence control, each as one segment that stands alone
+
+abbrev pub bypass_fault : GroundState → ℕ → List ℕ → Option LinkFault
+bypass_fault s m octets =
+    if not (is_open (limits_of s.config) m) then Some ClosedMap
+    else if not (are_commands false octets) then Some NotCommand
+    else if is_too_long (limits_of s.config) octets then Some TooLong
+    else if nat_lt s.config.part (length octets) then Some TooLong
+    else if nat_lt s.config.queue_slots (length s.fop.bypass + 1) then Some QueueFull
+    else None
+
+abbrev pub after_bypass : GroundState → ℕ → List ℕ → GroundState
+after_bypass s m octets =
+    record s { fop = (sender.fop_step s.fop (sender.Bypass (segment_with Alone m octets))).after }
+
+-- ---- directives and ticks
+
+-- what the sender answers, and the ground after it
+abbrev pub sender_outcome : {A : Type 0} → GroundState → FopOutcome SegmentView A → GroundOutcome A
+sender_outcome s outcome = record { answer = outcome.answer; after = with_fop s outcome.after }
+
+-- a directive that is refused changes nothing
+abbrev pub after_directive : GroundState → Result (Option Alert) CopFault → FopState SegmentView
+    → GroundState
+after_directive s (Ok alert) fop = with_fop s fop
+after_directive s (Err fault) fop = s
+
+abbrev pub directive_outcome : GroundState → FopOutcome SegmentView (Result (Option Alert) CopFault)
+    → GroundOutcome (Result (Option Alert) CopFault)
+directive_outcome s outcome = record {
+  answer = outcome.answer;
+  after = after_directive s outcome.answer outcome.after;
+}
+
+abbrev pub ground_directive : GroundState → Directive
+    → GroundOutcome (Result (Option Alert) CopFault)
+ground_directive s directive = directive_outcome s (sender.fop_step s.fop (sender.Direct directive))
+
+abbrev pub ground_tick : GroundState → GroundOutcome (Option Alert)
+ground_tick s = sender_outcome s (sender.fop_step s.fop sender.Tick)
+
+-- ---- what goes on the link next, as a frame (CCSDS 232.0-B-4, 4.1)
+
+abbrev pub frame_of : Config → BodyView → FrameView
+frame_of c body = record { scid = c.scid; vcid = c.vcid; body = body }
+
+abbrev pub frame_to_send : Config → PulledUnit SegmentView → Option FrameView
+frame_to_send c NothingPulled = None
+frame_to_send c (ControlPulled command) = Some (frame_of c (Bc command))
+frame_to_send c (BypassPulled segment) = Some (frame_of c (Bd segment))
+frame_to_send c (SequencePulled n segment) = Some (frame_of c (Ad n segment))
+
+abbrev pub ground_pull : GroundState → GroundOutcome (Option FrameView)
+ground_pull s = record {
+  answer = frame_to_send s.config (sender.fop_step s.fop sender.Pull).answer;
+  after = with_fop s (sender.fop_step s.fop sender.Pull).after;
+}
+
+-- ---- telemetry arrives
+
+-- the ground once the packets of a frame were taken out
+abbrev pub after_extraction : GroundState → Extracted → GroundState
+after_extraction s x = record s { extractor = x.after; telemetry = s.telemetry ++ x.packets }
+
+-- the report reaches the sender where it is one of this ground's virtual channel
+abbrev pub own_frame_outcome : GroundState → Extracted → Result Clcw ClcwFault → GroundOutcome Heard
+own_frame_outcome s x (Err fault) = record {
+  answer = Frame x.gap (length x.packets) (Refused fault) None;
+  after = after_extraction s x;
+}
+own_frame_outcome s x (Ok report) =
+    if report.vcid == s.config.vcid then record {
+      answer =
+          Frame x.gap (length x.packets) Used (sender.fop_step s.fop (sender.Report report)).answer;
+      after = with_fop (after_extraction s x) (sender.fop_step s.fop (sender.Report report)).after;
+    }
+    else record {
+      answer = Frame x.gap (length x.packets) OtherChannel None;
+      after = after_extraction s x;
+    }
+
+abbrev pub receive_frame_step : GroundState → telemetry.FrameView → GroundOutcome Heard
+receive_frame_step s frame =
+    own_frame_outcome s (extract_step s.extractor frame) (clcw_at frame.ocf)
+
+-- a frame of this spacecraft's virtual channel
+abbrev pub is_own_telemetry : Config → telemetry.FrameView → Bool
+is_own_telemetry c frame = (frame.scid == c.scid) && (frame.vcid == c.tm_vcid)
+
+abbrev pub telemetry_outcome : GroundState → Result telemetry.FrameView TmFault
+    → GroundOutcome Heard
+telemetry_outcome s (Err fault) = record { answer = Invalid fault; after = s }
+telemetry_outcome s (Ok frame) =
+    if is_own_telemetry s.config frame then receive_frame_step s frame
+    else record { answer = Foreign; after = s }
+
+abbrev pub ground_telemetry : GroundState → List ℕ → GroundOutcome Heard
+ground_telemetry s octets = telemetry_outcome s (frame_at s.config.frame_length octets)
+
+-- no packet is finished with the octets that arrive: they are no frame, or a frame of another
+-- channel, or one that finishes none
+abbrev pub FinishesNothing : GroundState → Result telemetry.FrameView TmFault → Type 0
+FinishesNothing s (Err fault) = Unit {0}
+FinishesNothing s (Ok frame) =
+    is_own_telemetry s.config frame ≡ true → (extract_step s.extractor frame).packets ≡ []
+
+-- ---- packets of telemetry are taken
+
+abbrev pub ground_take_telemetry : GroundState → List (List ℕ) → GroundOutcome (Option (List ℕ))
+ground_take_telemetry s [] = record { answer = None; after = s }
+ground_take_telemetry s (packet ∷ left) = record {
+  answer = Some packet;
+  after = record s { telemetry = left };
+}
+
+-- ---- all calls
+
+pub data GroundEvent : Type 0 where
+  Submit : (on_map : ℕ) (octets : List ℕ) → GroundEvent
+  Bypass : (on_map : ℕ) (octets : List ℕ) → GroundEvent
+  Direct : (directive : Directive) → GroundEvent
+  Pull : GroundEvent
+  Tick : GroundEvent
+  Telemetry : (octets : List ℕ) → GroundEvent
+  TakeTelemetry : GroundEvent
+
+-- what is answered to a call; to a pull the frame that is sent
+abbrev pub GroundAnswer : GroundEvent → Type 0
+GroundAnswer (Submit m octets) = Result (Unit {0}) LinkFault
+GroundAnswer (Bypass m octets) = Result (Unit {0}) LinkFault
+GroundAnswer (Direct directive) = Result (Option Alert) CopFault
+GroundAnswer Pull = Option FrameView
+GroundAnswer Tick = Option Alert
+GroundAnswer (Telemetry octets) = Heard
+GroundAnswer TakeTelemetry = Option (List ℕ)
+
+abbrev pub ground_step : GroundState → (event : GroundEvent) → GroundOutcome (GroundAnswer event)
+ground_step s (Submit m octets) =
+    unless_refused (submit_fault s m octets) s (after_submission s m octets)
+ground_step s (Bypass m octets) =
+    unless_refused (bypass_fault s m octets) s (after_bypass s m octets)
+ground_step s (Direct directive) = ground_directive s directive
+ground_step s Pull = ground_pull s
+ground_step s Tick = ground_tick s
+ground_step s (Telemetry octets) = ground_telemetry s octets
+ground_step s TakeTelemetry = ground_take_telemetry s s.telemetry

@@ -1,0 +1,14 @@
+pub mod Acceptance
+pub mod BypassSegments
+pub mod Commands
+pub mod Delivery
+pub mod Faults
+pub mod Frames
+pub mod Ground
+pub mod GroundFields
+pub mod OwnedFields
+pub mod Packets
+pub mod Parameters
+pub mod SegmentCode
+pub mod Spacecraft
+pub mod SpacecraftFields

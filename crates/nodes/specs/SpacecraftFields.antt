@@ -1,0 +1,33 @@
+-- How a spacecraft's fields stand for its state.
+use Rattle.std.specs.Prelude.{◌≡◌, ◌<◌}
+use Rattle.map_service.specs.Exactness.{HasPartsOf}
+use Rattle.tm_link.specs.Building.{BuilderState}
+use Rattle.nodes.specs.declared.config.Config.{Config}
+use Rattle.nodes.specs.declared.spacecraft.Spacecraft.TheInside.{Inside}
+use Rattle.nodes.specs.Parameters.{limits_of}
+use Rattle.nodes.specs.Spacecraft.{SpacecraftState}
+
+abbrev pub state_of : Inside → SpacecraftState
+state_of s = record {
+  config = s.config;
+  farm = s.farm;
+  accepted = s.accepted.segments;
+  ready = s.ready.items;
+  bypass = s.bypass.items;
+  builder = s.builder;
+}
+
+-- frames of the length and the virtual channel that are configured
+pub record IsBuilderOf (c : Config) (b : BuilderState) : Type 0 where
+  pub scid : b.scid ≡ c.scid
+  pub vcid : b.vcid ≡ c.tm_vcid
+  pub total : b.total ≡ c.frame_length
+
+-- what the fields keep to
+pub record IsSound (s : Inside) : Type 0 where
+  pub vcid : s.config.vcid < 64
+  pub limits : s.assembler.limits ≡ limits_of s.config
+  -- the assembler keeps the open parts of the segments that were accepted
+  pub parts : HasPartsOf s.assembler s.accepted.segments
+  pub slots : s.bypass.capacity ≡ s.config.bypass_slots
+  pub frames : IsBuilderOf s.config s.builder

@@ -1,0 +1,166 @@
+// The node on the ground.
+
+mod pulling;
+mod receiving;
+mod submitting;
+
+use crate::config::Config;
+use crate::fault::LinkFault;
+use crate::owned_segment::OwnedSegment;
+use cop1::{Alert, CopFault, Directive, Fop, FopMode};
+use std::alloc::Global;
+use std::collections::VecDeque;
+use std::marker::Model;
+use std::mem;
+use tm_link::Extractor;
+
+/// The node on the ground: it cuts packets into segments, sends these in telecommand frames until
+/// the spacecraft reports that it has accepted them, and takes packets out of telemetry frames.
+#[derive(Drop)]
+pub struct Ground {
+    alloc: Global,
+    config: Config,
+    fop: Fop<OwnedSegment>,
+    pending: VecDeque<OwnedSegment>,
+    extractor: Extractor,
+    // the packets of telemetry: those that are taken first, and those that frames finished since
+    waiting: VecDeque<Vec<u8>>,
+    finished: Vec<Vec<u8>>,
+}
+
+impl Model for Ground {
+    ghost use Rattle.nodes.specs.Ground.{GroundState};
+
+    ghost Value = { GroundState };
+
+    ghost use Rattle.nodes.specs.GroundFields.{state_of, IsSound};
+
+    ghost view = { state_of };
+
+    ghost invariant = { IsSound };
+}
+
+impl Ground {
+    ghost use Rattle.std.specs.Prelude.{◌≡◌, length, option_map, IfOk, OnErr, IsOkUnless};
+    ghost use Rattle.cop1.specs.FopState.{IsFop};
+    ghost use Rattle.nodes.specs.Parameters.{IsConfig};
+    ghost use Rattle.nodes.specs.Ground.{new_ground, ground_step, Direct, Tick, TakeTelemetry, settle_step, outstanding};
+
+    /// A ground that has sent nothing, its sender in S6, with each field of the configuration in its
+    /// range. The fault is 6 `Memory`.
+    pub fn new(alloc: Global, config: &Config) -> Result<Ground, LinkFault>
+        requires { IsConfig config.now }
+        ensures made { IfOk result (λ g. g ≡ new_ground config.now) }
+        ensures fault { IsOkUnless result LinkFault.Memory }
+    {
+        let Ok(fop) = Fop::new(
+            alloc,
+            config.width as u8,
+            config.window as u8,
+            config.limit as u8,
+            config.timer as u16,
+        ) else {
+            return Err(LinkFault::Memory);
+        };
+        let Ok(extractor) = Extractor::new(alloc) else {
+            return Err(LinkFault::Memory);
+        };
+        Ok(Ground {
+            alloc,
+            config: *config,
+            fop,
+            pending: VecDeque::new(alloc),
+            extractor,
+            waiting: VecDeque::new(alloc),
+            finished: Vec::new(alloc),
+        })
+    }
+
+    /// The sender's state.
+    pub fn state(&self) -> FopMode
+        ensures state { result ≡ self.now.fop.state }
+        ensures holds { IsFop self.now.fop }
+    {
+        self.fop.state()
+    }
+
+    /// V(S), the number of the next segment that is sent for the first time.
+    pub fn vs(&self) -> u8
+        ensures { result ≡ self.now.fop.vs }
+    {
+        self.fop.vs()
+    }
+
+    /// NN(R), the number that the spacecraft was last known to expect.
+    pub fn nn(&self) -> u8
+        ensures { result ≡ self.now.fop.nn }
+    {
+        self.fop.nn()
+    }
+
+    /// How many octets a telemetry frame has.
+    pub fn frame_length(&self) -> usize
+        ensures { result ≡ self.now.config.frame_length }
+    {
+        self.config.frame_length as usize
+    }
+
+    /// How many segments were submitted and are not acknowledged.
+    pub fn outstanding(&self) -> usize
+        ensures { result ≡ length (outstanding self.now) }
+    {
+        self.fop.sent() + usize::from(self.fop.waiting()) + self.pending.len()
+    }
+
+    /// Follows a directive; the alert is that of `Terminate`. The faults are those of the sender: 2
+    /// `Window`, 3 `Limit`, 4 `Timer` for a value out of its range, 8 `WrongState`.
+    pub fn directive(&mut self, directive: Directive) -> Result<Option<Alert>, CopFault>
+        ensures answer { result ≡ (ground_step self.old (Direct directive)).answer }
+        ensures after { self.new ≡ (ground_step self.old (Direct directive)).after }
+        ensures err { OnErr result (self.new ≡ self.old) }
+    {
+        let alert = self.fop.directive(directive)?;
+        self.settle();
+        Ok(alert)
+    }
+
+    /// A tick of the clock has passed; an alert where the sender gives up.
+    pub fn tick(&mut self) -> Option<Alert>
+        ensures answer { result ≡ (ground_step self.old Tick).answer }
+        ensures after { self.new ≡ (ground_step self.old Tick).after }
+    {
+        let alert = self.fop.tick();
+        self.settle();
+        alert
+    }
+
+    /// Takes the oldest packet that telemetry frames carried.
+    pub fn take_telemetry(&mut self) -> Option<Vec<u8>>
+        ensures answer { option_map (λ v. v.items) result
+            ≡ (ground_step self.old TakeTelemetry).answer }
+        ensures after { self.new ≡ (ground_step self.old TakeTelemetry).after }
+    {
+        if self.waiting.is_empty() {
+            let finished = mem::replace(&mut self.finished, Vec::new(self.alloc));
+            self.waiting = VecDeque::from_vec(finished);
+        }
+        self.waiting.pop_front()
+    }
+
+    // Moves the oldest pending segment into the wait queue where its place is free. Once the sender has
+    // given up nothing is pending.
+    fn settle(&mut self)
+        ensures { self.new ≡ settle_step self.old }
+    {
+        if self.fop.state() == FopMode::S6 {
+            self.pending.clear();
+            return;
+        }
+        if self.fop.waiting() {
+            return;
+        }
+        if let Some(segment) = self.pending.pop_front() {
+            let _ = self.fop.submit(segment);
+        }
+    }
+}

@@ -1,0 +1,101 @@
+// What comes from the spacecraft.
+
+use super::Ground;
+use crate::fault::LinkFault;
+use crate::heard::{Heard, HeardReport};
+use tm_link::{Gap, TmFrame, decode};
+
+impl Ground {
+    ghost use Rattle.std.specs.Prelude.{◌≡◌, [], IsOk, IfOk, IfErr, OnOk, OnErr, IsTrue, length};
+    ghost use Rattle.tm_link.specs.Extraction.{extract_step};
+    ghost use Rattle.tm_link.specs.Layout.{frame_view, pointer_fits};
+    ghost use Rattle.tm_link.specs.Reading.{frame_at};
+    ghost use Rattle.nodes.specs.Ground.{ground_step, Telemetry, is_own_telemetry, after_extraction, receive_frame_step, FinishesNothing};
+
+    /// Takes octets that came from the spacecraft: exactly one telemetry frame (CCSDS 132.0-B-3, 4.1).
+    /// The packets that it finishes wait to be taken, and the report that it carries goes to the sender
+    /// where it tells of this virtual channel. The fault is 6 `Memory`; all growths are made first, so
+    /// that the ground is as it was then.
+    pub fn telemetry(&mut self, octets: &[u8]) -> Result<Heard, LinkFault>
+        ensures answer { IfOk result
+            (λ heard. heard ≡ (ground_step self.old (Telemetry octets.now)).answer) }
+        ensures after { OnOk result
+            (self.new ≡ (ground_step self.old (Telemetry octets.now)).after) }
+        ensures err { OnErr result (self.new ≡ self.old) }
+        ensures fault { IfErr result (λ e. e ≡ LinkFault.Memory) }
+
+        // It takes no memory for octets that are no frame, nor for a frame of another spacecraft or
+        // virtual channel, nor for one that finishes no packet.
+        ensures none { FinishesNothing self.old (frame_at self.old.config.frame_length octets.now)
+            → IsOk result }
+    {
+        let frame = match decode(octets, self.config.frame_length as usize) {
+            Ok(frame) => frame,
+            Err(fault) => return Ok(Heard::Invalid(fault)),
+        };
+        if !self.is_own_telemetry(&frame) {
+            return Ok(Heard::Foreign);
+        }
+        self.receive_frame(&frame)
+    }
+
+    fn is_own_telemetry(&self, frame: &TmFrame<'_>) -> bool
+        ensures { result ≡ is_own_telemetry self.now.config (frame_view frame.now) }
+    {
+        u32::from(frame.scid) == self.config.scid && u32::from(frame.vcid) == self.config.tm_vcid
+    }
+
+    fn receive_frame(&mut self, frame: &TmFrame<'_>) -> Result<Heard, LinkFault>
+        requires { IsTrue (pointer_fits frame.now.pointer (length frame.now.payload.now)) }
+        ensures answer { IfOk result
+            (λ heard. heard ≡ (receive_frame_step self.old (frame_view frame.now)).answer) }
+        ensures after { OnOk result
+            (self.new ≡ (receive_frame_step self.old (frame_view frame.now)).after) }
+        ensures err { OnErr result (self.new ≡ self.old) }
+        ensures fault { IfErr result (λ e. e ≡ LinkFault.Memory) }
+        ensures none { (extract_step self.old.extractor (frame_view frame.now)).packets ≡ []
+            → IsOk result }
+    {
+        let (gap, packets) = self.extract(frame)?;
+        let (report, alert) = match frame.report() {
+            Err(fault) => (HeardReport::Refused(fault), None),
+            Ok(word) => {
+                if u32::from(word.vcid) == self.config.vcid {
+                    let alert = self.fop.clcw(&word);
+                    self.settle();
+                    (HeardReport::Used, alert)
+                } else {
+                    (HeardReport::OtherChannel, None)
+                }
+            }
+        };
+        Ok(Heard::Frame {
+            gap,
+            packets,
+            report,
+            alert,
+        })
+    }
+
+    // Takes out the packets that the frame finishes: says how many frames are missing before it, and how
+    // many packets there are.
+    fn extract(&mut self, frame: &TmFrame<'_>) -> Result<(Gap, usize), LinkFault>
+        requires { IsTrue (pointer_fits frame.now.pointer (length frame.now.payload.now)) }
+        ensures gap { IfOk result
+            (λ r. r.0 ≡ (extract_step self.old.extractor (frame_view frame.now)).gap) }
+        ensures count { IfOk result
+            (λ r. r.1 ≡ length (extract_step self.old.extractor (frame_view frame.now)).packets) }
+        ensures after { OnOk result (self.new
+            ≡ after_extraction self.old (extract_step self.old.extractor (frame_view frame.now))) }
+        ensures err { OnErr result (self.new ≡ self.old) }
+        ensures fault { IfErr result (λ e. e ≡ LinkFault.Memory) }
+        ensures none { (extract_step self.old.extractor (frame_view frame.now)).packets ≡ []
+            → IsOk result }
+    {
+        let before = self.finished.len();
+        let Ok(gap) = self.extractor.frame(frame, &mut self.finished) else {
+            return Err(LinkFault::Memory);
+        };
+        Ok((gap, self.finished.len() - before))
+    }
+}

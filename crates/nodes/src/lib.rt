@@ -1,0 +1,30 @@
+//! The two nodes of the telecommand link with COP-1 (CCSDS 232.0-B-4, 232.1-B-2), as
+//! docs/PROFILE.md has it.
+//!
+//! A `Config` has the numbers that both nodes keep to. A `Spacecraft` receives telecommand frames,
+//! hands out the packets that they carry, and sends telemetry frames that report on them. A `Ground`
+//! sends telecommand frames until they are accepted, and hands out the packets of telemetry frames.
+#![tactic(auto)]
+
+mod bypass_segments;
+mod commands;
+mod config;
+mod data_field;
+mod fault;
+mod ground_node;
+mod heard;
+mod laws;
+mod map_packet;
+mod owned_segment;
+mod received;
+mod segment_log;
+mod spacecraft;
+
+pub use config::Config;
+pub use data_field::data_field_of;
+pub use fault::LinkFault;
+pub use ground_node::Ground;
+pub use heard::{Heard, HeardReport};
+pub use laws::law_of_delivery;
+pub use received::Received;
+pub use spacecraft::{Acceptance, Spacecraft};

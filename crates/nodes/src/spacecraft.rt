@@ -1,0 +1,161 @@
+// The node on board.
+
+mod acceptance;
+mod receiving;
+
+use crate::config::Config;
+use crate::fault::LinkFault;
+use crate::map_packet::MapPacket;
+use crate::segment_log::SegmentLog;
+pub use acceptance::Acceptance;
+use circular_buffer::HeapCircularBuffer;
+use clcw::{Clcw, encode};
+use cop1::Farm;
+use map_service::Assembler;
+use std::alloc::Global;
+use std::collections::VecDeque;
+use std::marker::Model;
+use tm_link::{TmBuilder, TmFault};
+
+/// The node on board: it receives telecommand frames, keeps the packets that they carry until they
+/// are taken, and sends telemetry frames that report on the receiver.
+#[derive(Drop)]
+pub struct Spacecraft {
+    alloc: Global,
+    config: Config,
+    farm: Farm,
+    assembler: Assembler,
+    accepted: SegmentLog,
+    ready: VecDeque<MapPacket>,
+    bypass: HeapCircularBuffer<MapPacket>,
+    builder: TmBuilder,
+}
+
+impl Model for Spacecraft {
+    ghost use Rattle.nodes.specs.Spacecraft.{SpacecraftState};
+
+    ghost Value = { SpacecraftState };
+
+    ghost use Rattle.nodes.specs.SpacecraftFields.{state_of, IsSound};
+
+    ghost view = { state_of };
+
+    ghost invariant = { IsSound };
+}
+
+impl Spacecraft {
+    ghost use Rattle.std.specs.Prelude.{◌≡◌, ◌++◌, drop, take, Ok, option_map, IfOk, IfErr, OnOk, OnErr, IsOkUnless, IsTrue};
+    ghost use Rattle.clcw.specs.Writing.{fits};
+    ghost use Rattle.cop1.specs.Report.{report_of};
+    ghost use Rattle.tm_link.specs.Building.{queue_fault};
+    ghost use Rattle.tm_link.specs.Layout.{IsTmFrame};
+    ghost use Rattle.tm_link.specs.Writing.{spelling};
+    ghost use Rattle.nodes.specs.Parameters.{IsConfig};
+    ghost use Rattle.nodes.specs.Spacecraft.{new_spacecraft, spacecraft_step, Take, TakeBypass, Telemetry, Report, IsOwnFrame};
+    ghost use Rattle.nodes.specs.Packets.{packet_view};
+
+    /// A spacecraft that has received nothing, with each field of the configuration in its range. The
+    /// fault is 6 `Memory`.
+    pub fn new(alloc: Global, config: &Config) -> Result<Spacecraft, LinkFault>
+        requires { IsConfig config.now }
+        ensures made { IfOk result (λ spacecraft. spacecraft ≡ new_spacecraft config.now) }
+        ensures fault { IsOkUnless result LinkFault.Memory }
+    {
+        let Ok(farm) = Farm::new(config.width as u8, 0) else {
+            unreachable!()
+        };
+        let scid = config.scid as u16;
+        let total = config.frame_length as usize;
+        let Ok(builder) = TmBuilder::new(alloc, scid, config.tm_vcid as u8, total) else {
+            unreachable!()
+        };
+        let slots = config.bypass_slots as usize;
+        let Ok(bypass) = HeapCircularBuffer::with_capacity(alloc, slots) else {
+            return Err(LinkFault::Memory);
+        };
+        Ok(Spacecraft {
+            alloc,
+            config: *config,
+            farm,
+            assembler: Assembler::new(alloc, config.limits()),
+            accepted: SegmentLog::new(),
+            ready: VecDeque::new(alloc),
+            bypass,
+            builder,
+        })
+    }
+
+    /// Takes the oldest packet that sequence-controlled frames carried, with its MAP. There is room
+    /// on board again where fewer packets than the ready slots wait then.
+    pub fn take(&mut self) -> Option<(u8, Vec<u8>)>
+        ensures answer { option_map packet_view result ≡ (spacecraft_step self.old Take).answer }
+        ensures after { self.new ≡ (spacecraft_step self.old Take).after }
+    {
+        let Some(packet) = self.ready.pop_front() else {
+            return None;
+        };
+        if self.ready.len() < self.config.ready_slots as usize {
+            self.farm.released();
+        }
+        Some(packet.into_parts())
+    }
+
+    /// Takes the oldest packet that frames past the sequence control carried, with its MAP.
+    pub fn take_bypass(&mut self) -> Option<(u8, Vec<u8>)>
+        ensures answer { option_map packet_view result
+            ≡ (spacecraft_step self.old TakeBypass).answer }
+        ensures after { self.new ≡ (spacecraft_step self.old TakeBypass).after }
+    {
+        match self.bypass.pop_front() {
+            Some(packet) => Some(packet.into_parts()),
+            None => None,
+        }
+    }
+
+    /// Queues a packet to be sent as telemetry. Refuses by 8 `NotAPacket` octets that are not exactly
+    /// one packet, or an idle packet, and then by 7 `Memory`; the spacecraft is as it was then.
+    pub fn telemetry(&mut self, packet: &[u8]) -> Result<(), TmFault>
+        ensures ok { OnOk result
+            (self.new ≡ (spacecraft_step self.old (Telemetry packet.now)).after) }
+        ensures taken { OnOk result
+            ((spacecraft_step self.old (Telemetry packet.now)).answer ≡ Ok tt) }
+        ensures err { OnErr result (self.new ≡ self.old) }
+        ensures fault { IfErr result (λ e. e ≡ queue_fault packet.now) }
+    {
+        self.builder.queue(packet)
+    }
+
+    /// How many octets a telemetry frame has.
+    pub fn frame_length(&self) -> usize
+        ensures { result ≡ self.now.config.frame_length }
+    {
+        self.config.frame_length as usize
+    }
+
+    /// The report on the receiver that the next telemetry frame carries (CCSDS 232.0-B-4, 4.2).
+    pub fn clcw(&self) -> Clcw
+        ensures report { result ≡ report_of self.now.farm self.now.config.vcid }
+        ensures fits { IsTrue (fits result) }
+    {
+        self.farm.report(self.config.vcid as u8)
+    }
+
+    /// Writes the next telemetry frame, which reports on the receiver, at the beginning of `out`, and
+    /// says how many octets it has. Octets past it stay.
+    pub fn report(&mut self, out: &mut [u8; 2048]) -> usize
+        ensures count { result ≡ self.old.config.frame_length }
+        ensures frame { out.new
+            ≡ spelling (spacecraft_step self.old Report).answer ++ drop result out.old }
+        ensures after { self.new ≡ (spacecraft_step self.old Report).after }
+
+        // So the octets are this frame, of the spacecraft's own channel.
+        ensures spells { IsTmFrame result (spacecraft_step self.old Report).answer
+            (take result out.new) }
+        ensures own { IsOwnFrame self.old.config (spacecraft_step self.old Report).answer }
+    {
+        let Ok(ocf) = encode(&self.clcw()) else {
+            unreachable!()
+        };
+        self.builder.build(ocf, out)
+    }
+}

@@ -1,5 +1,0 @@
-use Rattle.tc_link.proofs.Delivering.{delivers}
-use Rattle.tc_link.proofs.laws.law_of_delivery.Goals as goal
-
-pub returns : goal.returns
-returns c = delivers c.law_of_steps.ensures.packets c.law_of_steps.ensures.other_packets
