@@ -12,3 +12,4 @@ pub mod InParts
 pub mod Counts
 pub mod Grouping
 pub mod Histories
+pub mod Handed

@@ -1,3 +1,4 @@
+mod Whole
 pub mod Commanding
 pub mod Counting
 pub mod Delivering

@@ -7,6 +7,7 @@ pub mod Frames
 pub mod Ground
 pub mod GroundFields
 pub mod OwnedFields
+pub mod PacketFields
 pub mod Packets
 pub mod Parameters
 pub mod SegmentCode

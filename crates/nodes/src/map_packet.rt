@@ -1,9 +1,11 @@
 // Packets on board.
 
 ghost use Rattle.std.specs.Prelude.{◌≡◌, ◌≤◌, ◌+◌, ◌++◌, length};
+ghost use Rattle.std.specs.List.{AllByRecursion};
 ghost use Rattle.std.specs.VecDeque.{deque_len, deque_capacity};
 ghost use Rattle.map_service.specs.Views.{packets_view};
 ghost use Rattle.nodes.specs.Packets.{put_on_map};
+ghost use Rattle.nodes.specs.PacketFields.{IsPacketOn};
 
 use std::collections::VecDeque;
 use std::marker::Model;
@@ -20,20 +22,30 @@ impl Model for MapPacket {
 
     ghost Value = { PacketOn };
 
-    ghost view = { λ p. record { on_map = p.map; octets = p.octets.items } };
+    ghost use Rattle.nodes.specs.PacketFields.{state_of, IsSound};
+
+    ghost view = { state_of };
+
+    ghost invariant = { IsSound };
 }
 
 impl MapPacket {
+    ghost use Rattle.std.specs.Prelude.{◌<◌, true};
+    ghost use Rattle.map_service.specs.Packets.{is_packet};
     ghost use Rattle.nodes.specs.Packets.{packet_on, packet_view};
+    ghost use Rattle.nodes.specs.PacketFields.{IsPacketOn};
 
     pub(crate) fn new(map: u8, octets: Vec<u8>) -> MapPacket
+        requires { IsPacketOn (packet_on map octets.items) }
         ensures { result ≡ packet_on map octets.items }
     {
         MapPacket { map, octets }
     }
 
     pub(crate) fn into_parts(self) -> (u8, Vec<u8>)
-        ensures { packet_view result ≡ self }
+        ensures parts { packet_view result ≡ self }
+        ensures map { result.0 < 64 }
+        ensures packet { is_packet result.1.items ≡ true }
     {
         let MapPacket { map, octets } = self;
         (map, octets)
@@ -42,7 +54,8 @@ impl MapPacket {
 
 // Puts the packets of a MAP, for which there is room, behind those that are ready.
 pub(crate) fn make_ready(ready: &mut VecDeque<MapPacket>, on_map: u8, packets: Vec<Vec<u8>>)
-    requires { deque_len ready.old + length (packets_view packets) ≤ deque_capacity ready.old }
+    requires whole { AllByRecursion IsPacketOn (put_on_map on_map (packets_view packets)) }
+    requires room { deque_len ready.old + length (packets_view packets) ≤ deque_capacity ready.old }
     ensures { ready.new.items ≡ ready.old.items ++ put_on_map on_map (packets_view packets) }
 {
     for octets in packets {

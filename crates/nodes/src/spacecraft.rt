@@ -44,9 +44,10 @@ impl Model for Spacecraft {
 }
 
 impl Spacecraft {
-    ghost use Rattle.std.specs.Prelude.{◌≡◌, ◌++◌, drop, take, Ok, option_map, IfOk, IfErr, OnOk, OnErr, IsOkUnless, IsTrue};
+    ghost use Rattle.std.specs.Prelude.{◌≡◌, ◌<◌, ◌++◌, drop, take, true, Ok, option_map, IfOk, IfSome, IfErr, OnOk, OnErr, IsOkUnless, IsTrue};
     ghost use Rattle.clcw.specs.Writing.{fits};
     ghost use Rattle.cop1.specs.Report.{report_of};
+    ghost use Rattle.map_service.specs.Packets.{is_packet};
     ghost use Rattle.tm_link.specs.Building.{queue_fault};
     ghost use Rattle.tm_link.specs.Layout.{IsTmFrame};
     ghost use Rattle.tm_link.specs.Writing.{spelling};
@@ -90,6 +91,10 @@ impl Spacecraft {
     pub fn take(&mut self) -> Option<(u8, Vec<u8>)>
         ensures answer { option_map packet_view result ≡ (spacecraft_step self.old Take).answer }
         ensures after { self.new ≡ (spacecraft_step self.old Take).after }
+
+        // It is exactly one packet, on one of the 64 MAPs.
+        ensures map { IfSome result (λ p. p.0 < 64) }
+        ensures packet { IfSome result (λ p. is_packet p.1.items ≡ true) }
     {
         let Some(packet) = self.ready.pop_front() else {
             return None;
@@ -105,6 +110,10 @@ impl Spacecraft {
         ensures answer { option_map packet_view result
             ≡ (spacecraft_step self.old TakeBypass).answer }
         ensures after { self.new ≡ (spacecraft_step self.old TakeBypass).after }
+
+        // It is exactly one packet, on one of the 64 MAPs.
+        ensures map { IfSome result (λ p. p.0 < 64) }
+        ensures packet { IfSome result (λ p. is_packet p.1.items ≡ true) }
     {
         match self.bypass.pop_front() {
             Some(packet) => Some(packet.into_parts()),

@@ -1,0 +1,92 @@
+-- What is handed out at a segment is packets, each exactly one, on a MAP that is open.
+use Rattle.std.proofs.Common.{◌≡◌, ◌<◌, ℕ, Bool, true, false, not, List, [], ◌∷◌, ◌++◌, Option, Some, None, refl, subst}
+use Rattle.std.specs.Prelude.{◌&&◌, if◌then◌else◌, nat_lt}
+use Rattle.std.specs.List.{AllByRecursion}
+use Rattle.std.proofs.lemmas.Bool.{cond_both, ltb-true}
+use Rattle.std.proofs.lemmas.List.{append-nil}
+use Rattle.tc_frame.specs.declared.frame.SegmentFlags.{SegmentFlags}
+use Rattle.tc_frame.specs.declared.frame.SegmentFlags.TheVariants.{First, Continuing, Last, Alone}
+use Rattle.tc_frame.specs.Layout.{SegmentView}
+use Rattle.map_service.specs.declared.limits.Limits.{Limits}
+use Rattle.map_service.specs.declared.dropped.Dropped.{Dropped}
+use Rattle.map_service.specs.declared.dropped.Dropped.TheVariants.{Interrupted, NotAPacket, TooLong}
+use Rattle.map_service.specs.Assembly.{is_open, is_too_long}
+use Rattle.map_service.specs.Packets.{packets_in, rest_in, is_packet, are_packets}
+use Rattle.map_service.specs.Taking.{one_fault, several_fault, alone_fault, alone_packets, drop_outcome, packets_outcome, part_outcome, cell, take_step}
+use Rattle.map_service.proofs.Groups.{IsWhole, packets-split, again}
+
+abbrev pub AreWhole : List (List ℕ) → Type 0
+AreWhole packets = AllByRecursion (λ (p : List ℕ). is_packet p ≡ true) packets
+
+pub both : (x y : Bool) → (x && y) ≡ true → (x ≡ true) × (y ≡ true)
+both true y e = (refl, e)
+both false y e = absurd (cc e)
+
+is_so : (b : Bool) → not b ≡ false → b ≡ true
+is_so true e = refl
+is_so false e = absurd (cc e)
+
+one_whole : (limits : Limits) (octets : List ℕ) → one_fault limits octets ≡ None → is_packet octets ≡ true
+one_whole limits octets =
+    cond_both (is_too_long limits octets) (Some TooLong) _ (λ (o : Option Dropped). o ≡ None → is_packet octets ≡ true)
+    (λ t e. absurd (cc e))
+    (λ t. cond_both (not (is_packet octets)) (Some NotAPacket) None (λ (o : Option Dropped). o ≡ None → is_packet octets ≡ true)
+    (λ t e. absurd (cc e)) (λ t e. is_so (is_packet octets) t))
+
+lone_whole : (p : List ℕ) → IsWhole (p ∷ []) → is_packet p ≡ true
+lone_whole p h =
+    let only = subst (λ (xs : List ℕ). (p ∷ [] ≡ packets_in xs) × ([] ≡ rest_in xs)) (append-nil p) (again (p ∷ []) h) in
+    rw (← only.0, ← only.1) refl
+
+each_whole : (packets : List (List ℕ)) → IsWhole packets → AreWhole packets
+each_whole [] h = tt
+each_whole (p ∷ ps) h = (lone_whole p (h.0, tt), each_whole ps h.1)
+
+several_whole : (limits : Limits) (octets : List ℕ) → several_fault limits octets ≡ None
+    → AreWhole (packets_in octets)
+several_whole limits octets =
+    cond_both (not (are_packets octets)) (Some NotAPacket) _
+    (λ (o : Option Dropped). o ≡ None → AreWhole (packets_in octets)) (λ t e. absurd (cc e))
+    (λ t e. each_whole (packets_in octets) (packets-split octets).each)
+
+alone_whole : (limits : Limits) (octets : List ℕ) (blocking : Bool)
+    → (if blocking then several_fault limits octets else one_fault limits octets) ≡ None
+    → AreWhole (if blocking then packets_in octets else octets ∷ [])
+alone_whole limits octets true e = several_whole limits octets e
+alone_whole limits octets false e = (one_whole limits octets e, tt)
+
+given_whole : (earlier : Option Dropped) (packets : List (List ℕ)) (fault : Option Dropped)
+    → (fault ≡ None → AreWhole packets) → AreWhole (packets_outcome earlier packets fault).packets
+given_whole earlier packets None whole = whole refl
+given_whole earlier packets (Some cause) whole = tt
+
+opened_whole : (limits : Limits) (earlier : Option Dropped) (octets : List ℕ)
+    → AreWhole (part_outcome limits earlier octets).packets
+opened_whole limits earlier octets =
+    cond_both (is_too_long limits octets) (drop_outcome TooLong) _ (λ o. AreWhole o.packets) (λ t. tt) (λ t. tt)
+
+cell_whole : (limits : Limits) (flags : SegmentFlags) (part : Option (List ℕ)) (octets : List ℕ)
+    → AreWhole (cell limits flags part octets).packets
+cell_whole limits Alone None octets =
+    given_whole None _ (alone_fault limits octets) (alone_whole limits octets limits.blocking)
+cell_whole limits Alone (Some part) octets =
+    given_whole (Some Interrupted) _ (alone_fault limits octets) (alone_whole limits octets limits.blocking)
+cell_whole limits First None octets = opened_whole limits None octets
+cell_whole limits First (Some part) octets = opened_whole limits (Some Interrupted) octets
+cell_whole limits Continuing None octets = tt
+cell_whole limits Continuing (Some part) octets = opened_whole limits None (part ++ octets)
+cell_whole limits Last None octets = tt
+cell_whole limits Last (Some part) octets =
+    given_whole None _ (one_fault limits (part ++ octets)) (λ e. (one_whole limits (part ++ octets) e, tt))
+
+pub open_below : (limits : Limits) (m : ℕ) → is_open limits m ≡ true → m < 64
+open_below limits m e = ltb-true m 64 (both (nat_lt m 64) _ e).0
+
+-- the property of a segment's packets, where it holds of none, and of whole ones on an open MAP
+pub taken_whole : (P : List (List ℕ) → Type 0) (limits : Limits) (part : Option (List ℕ)) (s : SegmentView)
+    → P [] → ((packets : List (List ℕ)) → s.header.map < 64 → AreWhole packets → P packets)
+    → P (take_step limits part s).packets
+taken_whole P limits part s none whole =
+    cond_both (is_open limits s.header.map) (cell limits s.header.flags part s.payload) _ (λ o. P o.packets)
+    (λ t. whole (cell limits s.header.flags part s.payload).packets (open_below limits s.header.map t)
+    (cell_whole limits s.header.flags part s.payload)) (λ t. none)
