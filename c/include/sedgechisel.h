@@ -1,5 +1,5 @@
 /* Sedgechisel for programs in C: the check of frames, telecommand frames, space packets, control words, telemetry
- * frames, and the receiver FARM-1. For C99 and later, and for C++.
+ * frames, the receiver FARM-1, the sender FOP-1, and packets in segments. For C99 and later, and for C++.
  *
  * Nothing here allocates, keeps a state of its own, or calls a function of another library; so each function may be
  * called anywhere, from two threads at once too, where they do not share what they write. Each is proved to do what
@@ -15,7 +15,8 @@
  * - A bool is false or true, as it is wherever C or C++ makes it of another value.
  *
  * Most functions answer 0, SEDGE_OK, or the number of the first reason why not, by the enum that stands before them. A
- * call that answers anything but 0 has written nothing, sedge_farm_ad excepted, whose answer is a verdict. */
+ * call that answers anything but 0 has written nothing, except where its answer is no reason: a verdict
+ * (sedge_farm_ad), what goes on the link next (sedge_fop_next), or an alert (sedge_fop_report, sedge_fop_tick). */
 #ifndef SEDGECHISEL_H
 #define SEDGECHISEL_H
 
@@ -29,9 +30,24 @@
 extern "C" {
 #endif
 
+/* The version of this header; sedge_version() gives that of the library, as "0.1.0". */
+#define SEDGE_VERSION_MAJOR 0
+#define SEDGE_VERSION_MINOR 1
+#define SEDGE_VERSION_PATCH 0
+
+/* A word of at most 19 characters, with zeros after it. To print one, keep it in a variable of your own first:
+ *     struct sedge_text name = sedge_verdict_name(verdict);
+ *     puts(name.text); */
+struct sedge_text {
+    char text[20];
+};
+
+struct sedge_text sedge_version(void);
+
 /* The answers that all kinds of calls share. */
 enum sedge_status {
     SEDGE_OK = 0,
+    SEDGE_ABSENT = 253,      /* there are not so many of what is asked for by its place */
     SEDGE_WRONG_COUNT = 254, /* the octets are not as many as the call wants */
     SEDGE_DAMAGED = 255      /* a struct has a value that none of its kind has */
 };
@@ -93,8 +109,15 @@ uint8_t sedge_clcw_encode(const struct sedge_clcw *word, uint8_t *out, size_t ro
 
 /* ---- The receiver FARM-1 of one virtual channel (232.1-B-2, section 6). ---- */
 
+/* Why a call of the receiver or of the sender is refused. */
 enum sedge_cop_fault {
-    SEDGE_COP_WIDTH = 1 /* the window width is not an even number from 2 to 254 */
+    SEDGE_COP_WIDTH = 1,      /* the window width is not an even number from 2 to 254 */
+    SEDGE_COP_WINDOW = 2,     /* the sender's window K is not from 1 to half the width */
+    SEDGE_COP_LIMIT = 3,      /* the transmission limit is 0 */
+    SEDGE_COP_TIMER = 4,      /* the timer's value is 0 */
+    SEDGE_COP_NOT_OPEN = 6,   /* the sender is in its state S6 */
+    SEDGE_COP_BUSY = 7,       /* a unit waits already */
+    SEDGE_COP_WRONG_STATE = 8 /* the directive is not followed in the sender's state */
 };
 
 /* What the receiver does with a Type-AD frame. */
@@ -152,6 +175,128 @@ uint8_t sedge_farm_report(const struct sedge_farm *farm, uint8_t vcid, struct se
 
 /* The state, of sedge_farm_mode, or SEDGE_DAMAGED. */
 uint8_t sedge_farm_state(const struct sedge_farm *farm);
+
+/* ---- The sender FOP-1 of one virtual channel (232.1-B-2, section 5, in the profile of docs/PROFILE.md). ----
+ *
+ * The sender keeps numbers; its caller keeps the units, which are the data of frames. One unit waits to be sent for the
+ * first time, and those that are sent and not acknowledged have the numbers from NN(R) to V(S) - 1, modulo 256, at most
+ * 127 of them. So 256 places, one for each number, always serve:
+ *
+ *     static struct unit waiting, sent[256];
+ *     ...
+ *     if (sedge_fop_submit(&fop) == SEDGE_OK) waiting = unit;
+ *     ...
+ *     uint8_t number;
+ *     switch (sedge_fop_next(&fop, &number)) {
+ *     case SEDGE_NEXT_UNLOCK: send_unlock(); break;
+ *     case SEDGE_NEXT_SET_VR: send_set_vr(number); break;
+ *     case SEDGE_NEXT_FIRST: sent[number] = waiting; send_ad(number, &sent[number]); break;
+ *     case SEDGE_NEXT_AGAIN: send_ad(number, &sent[number]); break;
+ *     }
+ *     ...
+ *     uint8_t released;
+ *     uint8_t alert = sedge_fop_report(&fop, &word, &released);
+ *
+ * A report acknowledges the released oldest units: those places may be used again, and here nothing is left to do. An
+ * alert, also that of a tick, and sedge_fop_terminate let go of all units, the one that waits too; so does nothing
+ * else. ---- */
+
+/* The sender's state (5.1.2). */
+enum sedge_fop_state {
+    SEDGE_FOP_S1 = 1, /* active */
+    SEDGE_FOP_S2 = 2, /* retransmit without wait */
+    SEDGE_FOP_S3 = 3, /* retransmit with wait */
+    SEDGE_FOP_S4 = 4, /* initialising without a control command */
+    SEDGE_FOP_S5 = 5, /* initialising with a control command */
+    SEDGE_FOP_S6 = 6  /* initial */
+};
+
+/* The control command of S5, and whether it has to be sent. */
+enum sedge_control {
+    SEDGE_CONTROL_IDLE = 0, /* none, as in all other states */
+    SEDGE_CONTROL_UNLOCK_DUE = 1,
+    SEDGE_CONTROL_UNLOCK_SENT = 2,
+    SEDGE_CONTROL_SET_VR_DUE = 3,
+    SEDGE_CONTROL_SET_VR_SENT = 4
+};
+
+/* Why the sender has given up (5.2.5). */
+enum sedge_alert {
+    SEDGE_NO_ALERT = 0,
+    SEDGE_ALERT_LOCKOUT = 1,   /* a report has the lockout flag */
+    SEDGE_ALERT_NNR = 2,       /* a report's value is no number from NN(R) to V(S) */
+    SEDGE_ALERT_CLCW = 3,      /* a report has the wait flag without the retransmit flag */
+    SEDGE_ALERT_SYNCH = 4,     /* a report asks for what was not sent, or no more for what it asked for */
+    SEDGE_ALERT_LIMIT = 5,     /* a report asks for units again, and each may be sent once */
+    SEDGE_ALERT_TIMER = 6,     /* the timer has ended, and units may not be sent again */
+    SEDGE_ALERT_TERMINATED = 7 /* sedge_fop_terminate */
+};
+
+/* What goes on the link next. */
+enum sedge_next {
+    SEDGE_NEXT_NOTHING = 0,
+    SEDGE_NEXT_UNLOCK = 1, /* the control command Unlock, in a Type-BC frame */
+    SEDGE_NEXT_SET_VR = 2, /* the control command Set V(R) with the number, in a Type-BC frame */
+    SEDGE_NEXT_FIRST = 3,  /* the unit that waits, in a Type-AD frame with the number; keep it under that number */
+    SEDGE_NEXT_AGAIN = 4   /* the unit kept under the number, in a Type-AD frame with it */
+};
+
+/* A sender, which its owner keeps. Begin it with sedge_fop_open, and then read its fields as you like. Each call looks
+ * whether the fields are a sender's: the ranges below, and in S1 to S5 the number of units sent is V(S) - NN(R), modulo
+ * 256; in S6 none is sent or waits, and the timer is off; a control command is there in S5 alone. Where they are not,
+ * it answers SEDGE_DAMAGED and changes nothing. */
+struct sedge_fop {
+    uint16_t timer;  /* the timer's value in ticks, at least 1 */
+    uint16_t ticks;  /* the ticks that are left where the timer runs, and 0 where it is off */
+    uint8_t room;    /* half the receiver's window width, 1 to 127: the most units sent and not acknowledged */
+    uint8_t state;   /* of sedge_fop_state */
+    uint8_t vs;      /* V(S), the number of the next unit to be sent for the first time */
+    uint8_t nn;      /* NN(R), the number that the receiver was last known to expect */
+    uint8_t waiting; /* whether a unit waits to be sent for the first time, 0 or 1 */
+    uint8_t sent;    /* how many units are sent and not acknowledged, at most room */
+    uint8_t due;     /* how many of the last of these are due to be sent again */
+    uint8_t window;  /* the window K, 1 to room */
+    uint8_t limit;   /* the transmission limit, at least 1 */
+    uint8_t count;   /* the transmission count, at least 1 */
+    uint8_t control; /* of sedge_control */
+    uint8_t vr;      /* the number of the control command Set V(R), and 0 where there is no such command */
+};
+
+/* Begins a sender in its state S6 with V(S) and NN(R) 0, to a receiver of this window width, with the window K, the
+ * transmission limit and the timer's value in ticks. Answers 0, or the first of SEDGE_COP_WIDTH (not even, 2 to 254),
+ * SEDGE_COP_WINDOW (not 1 to half the width), SEDGE_COP_LIMIT (0) and SEDGE_COP_TIMER (0). */
+uint8_t sedge_fop_open(struct sedge_fop *fop, uint8_t width, uint8_t window, uint8_t limit, uint16_t timer);
+
+/* The directives (5.2.4). Each answers 0, or SEDGE_DAMAGED. The initiations and the one that sets V(S), and NN(R) to
+ * it, are followed in S6 alone, and terminate in S1 to S5: otherwise SEDGE_COP_WRONG_STATE. Terminate is the alert
+ * SEDGE_ALERT_TERMINATED: all units are let go of. */
+uint8_t sedge_fop_init_without_check(struct sedge_fop *fop);
+uint8_t sedge_fop_init_with_check(struct sedge_fop *fop);
+uint8_t sedge_fop_init_unlock(struct sedge_fop *fop);
+uint8_t sedge_fop_init_set_vr(struct sedge_fop *fop, uint8_t vr);
+uint8_t sedge_fop_terminate(struct sedge_fop *fop);
+uint8_t sedge_fop_set_vs(struct sedge_fop *fop, uint8_t vs);
+
+/* These are followed in all states; or SEDGE_COP_WINDOW, SEDGE_COP_LIMIT, SEDGE_COP_TIMER for a value out of its
+ * range. */
+uint8_t sedge_fop_set_window(struct sedge_fop *fop, uint8_t window);
+uint8_t sedge_fop_set_limit(struct sedge_fop *fop, uint8_t limit);
+uint8_t sedge_fop_set_timer(struct sedge_fop *fop, uint16_t timer);
+
+/* A unit has come to be sent under sequence control, and waits: keep it. Answers 0, or SEDGE_DAMAGED, or
+ * SEDGE_COP_NOT_OPEN in S6, or SEDGE_COP_BUSY where one waits already. */
+uint8_t sedge_fop_submit(struct sedge_fop *fop);
+
+/* Takes what goes on the link next. Answers one of sedge_next, and writes its number, or 0 where it has none; or
+ * SEDGE_DAMAGED, with nothing written. */
+uint8_t sedge_fop_next(struct sedge_fop *fop, uint8_t *number);
+
+/* The control word of a report has come. Answers the alert, of sedge_alert, and writes how many units are acknowledged,
+ * the oldest of those sent; or SEDGE_DAMAGED, with nothing written. */
+uint8_t sedge_fop_report(struct sedge_fop *fop, const struct sedge_clcw *word, uint8_t *released);
+
+/* A tick of the clock has passed. Answers the alert, of sedge_alert, or SEDGE_DAMAGED. */
+uint8_t sedge_fop_tick(struct sedge_fop *fop);
 
 /* ---- Telecommand transfer frames of at most 1,024 octets (232.0-B-4, 4.1), with or without their check. ---- */
 
@@ -301,6 +446,86 @@ uint8_t sedge_tm_decode(const uint8_t *octets, size_t count, size_t length, stru
  * than its data. Answers 0, or SEDGE_TM_FIELD_RANGE, then SEDGE_TM_ROOM. */
 uint8_t sedge_tm_encode(const struct sedge_tm_frame *frame, const uint8_t *data, size_t data_count, uint8_t *out,
                         size_t room, size_t *total);
+
+/* ---- Packets in segments, for one MAP (232.0-B-4, 4.1.3.2.2), with blocking or without it. ---- */
+
+/* Why what came on a MAP is dropped. */
+enum sedge_dropped {
+    SEDGE_NOT_DROPPED = 0,
+    SEDGE_DROPPED_INTERRUPTED = 2,  /* the part that was open: a first or an alone segment came before its last */
+    SEDGE_DROPPED_NO_BEGINNING = 3, /* the segment: it continues or ends a packet, and no part is open */
+    SEDGE_DROPPED_NOT_A_PACKET = 4, /* what was joined, or stood alone: it is not exactly one packet, or with blocking
+                                     * not one or more whole packets */
+    SEDGE_DROPPED_TOO_LONG = 5      /* what was joined, or stood alone: it, or with blocking one of its packets, has more
+                                     * octets than the memory */
+};
+
+/* Where the packets stand that are whole now. */
+enum sedge_where {
+    SEDGE_NO_PACKET = 0,
+    SEDGE_IN_MEMORY = 1, /* one packet, the first octets of the memory */
+    SEDGE_IN_DATA = 2    /* the segment's data: one packet, or with blocking one or more, one after another */
+};
+
+/* A MAP on board, which its owner keeps with its memory: as many octets as the longest packet may have. Begin it as
+ * {0, 0, 0}, or as {0, 0, 1} for blocking, in which an alone segment may hold several whole packets. The part that is
+ * open, of the packet that is not whole yet, is the first octets of the memory. Fields that no MAP has are
+ * SEDGE_DAMAGED: a flag above 1, a count above the memory's, or one where no part is open. */
+struct sedge_map {
+    size_t count;     /* how many octets the open part has, and 0 where none is open */
+    uint8_t open;     /* whether a part is open, 0 or 1 */
+    uint8_t blocking; /* whether a segment may hold several whole packets, 0 or 1 */
+};
+
+/* What came of a segment. Where a part was interrupted there may be packets too. */
+struct sedge_taken {
+    size_t count;    /* how many octets the packets have together, and 0 where there are none */
+    uint8_t where;   /* of sedge_where */
+    uint8_t dropped; /* of sedge_dropped, the later of two */
+};
+
+/* Takes the next segment of the MAP, its flags of sedge_segment_flags and its data. The packet or packets that are
+ * whole now are to be handed on before the next call. Answers 0, or SEDGE_DAMAGED, also for flags that are none. */
+uint8_t sedge_map_take(struct sedge_map *map, uint8_t flags, const uint8_t *data, size_t data_count, uint8_t *memory,
+                       size_t room, struct sedge_taken *taken);
+
+/* The packet after this part of the octets, so that with {0, 0} first each of several packets is told in its turn.
+ * Answers true, and the part is that packet; or false, with nothing written, where none stands there. */
+bool sedge_map_packet(const uint8_t *octets, size_t count, struct sedge_part *packet);
+
+/* Why octets are not cut. */
+enum sedge_map_fault {
+    SEDGE_MAP_NOT_A_PACKET = 1, /* they are not exactly one packet, or with blocking not one or more whole packets */
+    SEDGE_MAP_TOO_LONG = 2      /* a packet has more octets than max_packet */
+};
+
+/* What a sender cuts. A part of 0 and a blocking above 1 are SEDGE_DAMAGED. */
+struct sedge_limits {
+    uint32_t part;       /* the most octets of data in a segment, at least 1 */
+    uint32_t max_packet; /* the most octets of a packet */
+    uint8_t blocking;    /* whether packets that have at most part octets together go into one segment, 0 or 1 */
+};
+
+/* How many segments are made of a packet, or with blocking of packets one after another. Answers 0, or SEDGE_DAMAGED,
+ * or the first of sedge_map_fault. */
+uint8_t sedge_map_count(const uint8_t *octets, size_t count, const struct sedge_limits *limits, size_t *segments);
+
+/* Segment k of these, from 0: its flags of sedge_segment_flags, and where its data stand in the octets. Answers as
+ * sedge_map_count does, and SEDGE_ABSENT where there are not so many. */
+uint8_t sedge_map_segment(const uint8_t *octets, size_t count, const struct sedge_limits *limits, size_t k,
+                          uint8_t *flags, struct sedge_part *data);
+
+/* ---- Names, as tctool writes them: of a number that is none "?". ---- */
+
+struct sedge_text sedge_clcw_fault_name(uint8_t fault);   /* of sedge_clcw_fault */
+struct sedge_text sedge_cop_fault_name(uint8_t fault);    /* of sedge_cop_fault */
+struct sedge_text sedge_verdict_name(uint8_t verdict);    /* of sedge_verdict */
+struct sedge_text sedge_alert_name(uint8_t alert);        /* of sedge_alert */
+struct sedge_text sedge_tc_fault_name(uint8_t fault);     /* of sedge_tc_fault */
+struct sedge_text sedge_packet_fault_name(uint8_t fault); /* of sedge_packet_fault */
+struct sedge_text sedge_tm_fault_name(uint8_t fault);     /* of sedge_tm_fault */
+struct sedge_text sedge_map_fault_name(uint8_t fault);    /* of sedge_map_fault */
+struct sedge_text sedge_dropped_name(uint8_t cause);      /* of sedge_dropped */
 
 #ifdef __cplusplus
 }
