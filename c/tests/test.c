@@ -14,6 +14,35 @@ static int failures;
         }                                                                                                              \
     } while (0)
 
+/* ---- The version, and names. ---- */
+
+static int is_named(struct sedge_text name, const char *word) {
+    return strlen(name.text) < sizeof name.text && strcmp(name.text, word) == 0;
+}
+
+static void the_version(void) {
+    char version[20];
+    sprintf(version, "%d.%d.%d", SEDGE_VERSION_MAJOR, SEDGE_VERSION_MINOR, SEDGE_VERSION_PATCH);
+    WANT(is_named(sedge_version(), version));
+}
+
+static void names(void) {
+    int number;
+    WANT(is_named(sedge_clcw_fault_name(SEDGE_CLCW_RANGE), "Range"));
+    WANT(is_named(sedge_cop_fault_name(SEDGE_COP_WRONG_STATE), "WrongState"));
+    WANT(is_named(sedge_verdict_name(SEDGE_NO_BUFFER), "nobuffer"));
+    WANT(is_named(sedge_alert_name(SEDGE_ALERT_NNR), "NnR"));
+    WANT(is_named(sedge_tc_fault_name(SEDGE_TC_BYPASS_NUMBER), "BypassNumber"));
+    WANT(is_named(sedge_packet_fault_name(SEDGE_PACKET_IDLE_WITH_SECONDARY), "IdleWithSecondary"));
+    WANT(is_named(sedge_tm_fault_name(SEDGE_TM_NO_OCF), "NoOcf"));
+    WANT(is_named(sedge_map_fault_name(SEDGE_MAP_TOO_LONG), "TooLong"));
+    WANT(is_named(sedge_dropped_name(SEDGE_DROPPED_INTERRUPTED), "Interrupted"));
+    WANT(is_named(sedge_alert_name(SEDGE_NO_ALERT), "?") && is_named(sedge_tc_fault_name(SEDGE_OK), "?"));
+    for (number = 13; number < 256; number++) {
+        WANT(is_named(sedge_verdict_name((uint8_t)number), "?") && is_named(sedge_tc_fault_name((uint8_t)number), "?"));
+    }
+}
+
 /* ---- The check. The vectors of CCSDS and of ECSS-E-ST-70-41C, annex B. ---- */
 
 static void known_checks(void) {
@@ -630,6 +659,8 @@ static void unwritten_telemetry_frames(void) {
 }
 
 int main(void) {
+    the_version();
+    names();
     known_checks();
     a_check_is_set_and_holds();
     control_words();

@@ -1,5 +1,6 @@
 // The sender, FOP-1: its state.
 
+mod alerting;
 mod directing;
 mod peeking;
 mod pulling;

@@ -72,7 +72,7 @@ pub(crate) fn fields_from(word: &Clcw) -> ControlWord
     }
 }
 
-fn word_from(fields: &ControlWord) -> Clcw
+pub(crate) fn word_from(fields: &ControlWord) -> Clcw
     ensures { result ≡ word_of fields.now }
 {
     Clcw {

@@ -4,8 +4,10 @@
 mod checking;
 mod command_frame;
 mod control_word;
+mod names;
 mod numbers;
 mod packet;
 mod part;
 mod receiver;
 mod report_frame;
+mod text;

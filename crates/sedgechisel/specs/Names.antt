@@ -1,0 +1,65 @@
+-- The words for numbers, which are those of the crates.
+use Rattle.std.specs.Prelude.{ℕ, List, [], ◌∷◌, ◌++◌, ◌-◌, length, replicate, codes, ◌==◌, if◌then◌else◌}
+use Rattle.clcw.specs.declared.fault.ClcwFault.TheVariants as clcw
+use Rattle.clcw.specs.Faults as clcw_faults
+use Rattle.cop1.specs.declared.fault.CopFault.TheVariants as cop
+use Rattle.cop1.specs.Faults as cop_faults
+use Rattle.cop1.specs.declared.farm.Verdict.TheVariants as verdicts
+use Rattle.cop1.specs.Names.{verdict_name, alert_name}
+use Rattle.cop1.specs.declared.fop.Alert.TheVariants as alerts
+use Rattle.tc_frame.specs.declared.fault.TcFault.TheVariants as tc
+use Rattle.tc_frame.specs.Faults as tc_faults
+use Rattle.space_packet.specs.declared.fault.PacketFault.TheVariants as packet
+use Rattle.space_packet.specs.Faults as packet_faults
+use Rattle.tm_link.specs.declared.fault.TmFault.TheVariants as tm
+use Rattle.tm_link.specs.Faults as tm_faults
+use Rattle.map_service.specs.declared.fault.MapFault.TheVariants as map
+use Rattle.map_service.specs.Faults as map_faults
+use Rattle.map_service.specs.declared.dropped.Dropped.TheVariants as dropped
+use Rattle.map_service.specs.Causes.{cause_name}
+use Rattle.sedgechisel.specs.Receivers.{verdict_number}
+use Rattle.sedgechisel.specs.Numbers.{alert_number, cause_number}
+
+-- a word, and zeros up to 20 octets
+abbrev pub text_of : List ℕ → List ℕ
+text_of word = word ++ replicate (20 - length word) 0
+
+-- the name of the one of these that has the number, and "?" where none has it
+abbrev pub name_by : {A : Type 0} → (A → ℕ) → (A → List ℕ) → List A → ℕ → List ℕ
+name_by number name [] n = codes "?"
+name_by number name (x ∷ xs) n = if n == number x then name x else name_by number name xs n
+
+abbrev pub clcw_fault_word : ℕ → List ℕ
+clcw_fault_word n = name_by clcw_faults.fault_number clcw_faults.fault_name (clcw.Kind ∷ clcw.Version ∷ clcw.Cop ∷ clcw.Spare ∷ clcw.Range ∷ []) n
+
+abbrev pub cop_fault_word : ℕ → List ℕ
+cop_fault_word n = name_by cop_faults.fault_number cop_faults.fault_name
+    (cop.Width ∷ cop.Window ∷ cop.Limit ∷ cop.Timer ∷ cop.Memory ∷ cop.NotOpen ∷ cop.Busy ∷ cop.WrongState ∷ cop.State ∷ []) n
+
+abbrev pub verdict_word : ℕ → List ℕ
+verdict_word n = name_by verdict_number verdict_name
+    (verdicts.Accepted ∷ verdicts.Ahead ∷ verdicts.NoBuffer ∷ verdicts.Behind ∷ verdicts.Outside ∷ verdicts.Discarded ∷ []) n
+
+abbrev pub alert_word : ℕ → List ℕ
+alert_word n = name_by alert_number alert_name
+    (alerts.Lockout ∷ alerts.NnR ∷ alerts.Clcw ∷ alerts.Synch ∷ alerts.Limit ∷ alerts.Timer ∷ alerts.Terminated ∷ []) n
+
+abbrev pub tc_fault_word : ℕ → List ℕ
+tc_fault_word n = name_by tc_faults.fault_number tc_faults.fault_name
+    (tc.Short ∷ tc.Version ∷ tc.ReservedType ∷ tc.Spare ∷ tc.Length ∷ tc.Check ∷ tc.BypassNumber ∷ tc.EmptyData ∷ tc.Command
+    ∷ tc.Room ∷ tc.FieldRange ∷ tc.Memory ∷ []) n
+
+abbrev pub packet_fault_word : ℕ → List ℕ
+packet_fault_word n = name_by packet_faults.fault_number packet_faults.fault_name
+    (packet.Truncated ∷ packet.Version ∷ packet.IdleWithSecondary ∷ packet.Room ∷ packet.FieldRange ∷ packet.Memory ∷ []) n
+
+abbrev pub tm_fault_word : ℕ → List ℕ
+tm_fault_word n = name_by tm_faults.fault_number tm_faults.fault_name
+    (tm.Length ∷ tm.Version ∷ tm.Check ∷ tm.Status ∷ tm.Pointer ∷ tm.NoOcf ∷ tm.Memory ∷ tm.NotAPacket ∷ tm.Room ∷ tm.FieldRange ∷ []) n
+
+abbrev pub map_fault_word : ℕ → List ℕ
+map_fault_word n = name_by map_faults.fault_number map_faults.fault_name (map.NotAPacket ∷ map.TooLong ∷ map.Memory ∷ []) n
+
+abbrev pub dropped_word : ℕ → List ℕ
+dropped_word n = name_by cause_number cause_name
+    (dropped.ClosedMap ∷ dropped.Interrupted ∷ dropped.NoBeginning ∷ dropped.NotAPacket ∷ dropped.TooLong ∷ []) n
