@@ -333,6 +333,131 @@ static void refusals_of_a_receiver(void) {
     WANT(sedge_farm_report(&farm, 63, &word) == SEDGE_OK && is_word(&word, 0, 63, 0, 0, 3));
 }
 
+/* ---- The sender. ---- */
+
+static struct sedge_fop opened_sender(void) {
+    struct sedge_fop fop;
+    memset(&fop, 0x55, sizeof fop);
+    WANT(sedge_fop_open(&fop, 254, 127, 3, 10) == SEDGE_OK);
+    WANT(fop.state == SEDGE_FOP_S6 && fop.room == 127 && fop.window == 127 && fop.limit == 3 && fop.timer == 10);
+    WANT(fop.vs == 0 && fop.nn == 0 && fop.waiting == 0 && fop.sent == 0 && fop.due == 0 && fop.ticks == 0);
+    WANT(fop.count == 1 && fop.control == SEDGE_CONTROL_IDLE && fop.vr == 0);
+    return fop;
+}
+
+static void send_first(struct sedge_fop *fop, uint8_t number) {
+    uint8_t found = 99;
+    WANT(sedge_fop_submit(fop) == SEDGE_OK && fop->waiting == 1 && sedge_fop_submit(fop) == SEDGE_COP_BUSY);
+    WANT(sedge_fop_next(fop, &found) == SEDGE_NEXT_FIRST && found == number && fop->waiting == 0);
+}
+
+/* Three units, of which the second is lost: one is acknowledged, and two are sent again. */
+static void a_sender_sends_again(void) {
+    struct sedge_fop fop = opened_sender();
+    struct sedge_clcw word = {0, 0, SEDGE_CLCW_RETRANSMIT, 0, 1};
+    uint8_t number, released = 99;
+    WANT(sedge_fop_init_without_check(&fop) == SEDGE_OK && fop.state == SEDGE_FOP_S1);
+    WANT(sedge_fop_next(&fop, &number) == SEDGE_NEXT_NOTHING && number == 0);
+    for (number = 0; number < 3; number++) send_first(&fop, number);
+    WANT(fop.vs == 3 && fop.nn == 0 && fop.sent == 3 && fop.ticks == 10);
+    WANT(sedge_fop_report(&fop, &word, &released) == SEDGE_NO_ALERT && released == 1);
+    WANT(fop.state == SEDGE_FOP_S2 && fop.nn == 1 && fop.sent == 2 && fop.due == 2);
+    WANT(sedge_fop_next(&fop, &number) == SEDGE_NEXT_AGAIN && number == 1 && fop.due == 1);
+    WANT(sedge_fop_next(&fop, &number) == SEDGE_NEXT_AGAIN && number == 2 && fop.due == 0);
+    word.flags = 0;
+    word.value = 3;
+    WANT(sedge_fop_report(&fop, &word, &released) == SEDGE_NO_ALERT && released == 2);
+    WANT(fop.state == SEDGE_FOP_S1 && fop.sent == 0 && fop.ticks == 0);
+    word.value = 4;
+    WANT(sedge_fop_report(&fop, &word, &released) == SEDGE_ALERT_NNR && released == 0 && fop.state == SEDGE_FOP_S6);
+}
+
+/* The timer ends three times, and then the sender gives up. */
+static void a_sender_gives_up(void) {
+    struct sedge_fop fop = opened_sender();
+    int tick, alert = SEDGE_NO_ALERT;
+    WANT(sedge_fop_init_without_check(&fop) == SEDGE_OK);
+    send_first(&fop, 0);
+    for (tick = 1; tick < 100 && alert == SEDGE_NO_ALERT; tick++) alert = sedge_fop_tick(&fop);
+    WANT(alert == SEDGE_ALERT_TIMER && tick == 31 && fop.state == SEDGE_FOP_S6 && fop.sent == 0);
+}
+
+static void the_directives(void) {
+    struct sedge_fop fop = opened_sender();
+    struct sedge_clcw word = {0, 0, 0, 0, 7};
+    uint8_t number, released;
+    WANT(sedge_fop_submit(&fop) == SEDGE_COP_NOT_OPEN && sedge_fop_terminate(&fop) == SEDGE_COP_WRONG_STATE);
+    WANT(sedge_fop_set_window(&fop, 5) == SEDGE_OK && fop.window == 5);
+    WANT(sedge_fop_set_window(&fop, 128) == SEDGE_COP_WINDOW && sedge_fop_set_window(&fop, 0) == SEDGE_COP_WINDOW);
+    WANT(sedge_fop_set_limit(&fop, 9) == SEDGE_OK && fop.limit == 9 && sedge_fop_set_limit(&fop, 0) == SEDGE_COP_LIMIT);
+    WANT(sedge_fop_set_timer(&fop, 300) == SEDGE_OK && fop.timer == 300);
+    WANT(sedge_fop_set_timer(&fop, 0) == SEDGE_COP_TIMER && fop.window == 5 && fop.timer == 300);
+    WANT(sedge_fop_set_vs(&fop, 7) == SEDGE_OK && fop.vs == 7 && fop.nn == 7);
+    WANT(sedge_fop_init_with_check(&fop) == SEDGE_OK && fop.state == SEDGE_FOP_S4 && fop.ticks == 300);
+    WANT(sedge_fop_report(&fop, &word, &released) == SEDGE_NO_ALERT && fop.state == SEDGE_FOP_S1);
+    WANT(sedge_fop_set_vs(&fop, 8) == SEDGE_COP_WRONG_STATE && sedge_fop_init_unlock(&fop) == SEDGE_COP_WRONG_STATE);
+    WANT(sedge_fop_terminate(&fop) == SEDGE_OK && fop.state == SEDGE_FOP_S6);
+    WANT(sedge_fop_init_unlock(&fop) == SEDGE_OK && fop.state == SEDGE_FOP_S5);
+    WANT(fop.control == SEDGE_CONTROL_UNLOCK_DUE && sedge_fop_next(&fop, &number) == SEDGE_NEXT_UNLOCK);
+    WANT(fop.control == SEDGE_CONTROL_UNLOCK_SENT && sedge_fop_next(&fop, &number) == SEDGE_NEXT_NOTHING);
+    WANT(sedge_fop_terminate(&fop) == SEDGE_OK && sedge_fop_init_set_vr(&fop, 200) == SEDGE_OK);
+    WANT(fop.control == SEDGE_CONTROL_SET_VR_DUE && fop.vr == 200 && fop.vs == 200 && fop.nn == 200);
+    WANT(sedge_fop_next(&fop, &number) == SEDGE_NEXT_SET_VR && number == 200);
+    word.value = 200;
+    WANT(sedge_fop_report(&fop, &word, &released) == SEDGE_NO_ALERT && fop.state == SEDGE_FOP_S1 && fop.vr == 0);
+}
+
+static void refusals_of_a_sender(void) {
+    struct sedge_fop fop, kept;
+    memset(&fop, 0x55, sizeof fop);
+    kept = fop;
+    WANT(sedge_fop_open(&fop, 253, 1, 1, 1) == SEDGE_COP_WIDTH && sedge_fop_open(&fop, 0, 0, 0, 0) == SEDGE_COP_WIDTH);
+    WANT(sedge_fop_open(&fop, 10, 6, 1, 1) == SEDGE_COP_WINDOW);
+    WANT(sedge_fop_open(&fop, 10, 0, 0, 0) == SEDGE_COP_WINDOW);
+    WANT(sedge_fop_open(&fop, 10, 5, 0, 0) == SEDGE_COP_LIMIT && sedge_fop_open(&fop, 10, 5, 1, 0) == SEDGE_COP_TIMER);
+    WANT(memcmp(&fop, &kept, sizeof fop) == 0);
+}
+
+/* Each call refuses the sender, and writes nothing. */
+static void is_damaged_sender(struct sedge_fop fop) {
+    static const struct sedge_clcw word = {0, 0, 0, 0, 0};
+    const struct sedge_fop kept = fop;
+    uint8_t number = 99;
+    WANT(sedge_fop_init_without_check(&fop) == SEDGE_DAMAGED && sedge_fop_init_with_check(&fop) == SEDGE_DAMAGED);
+    WANT(sedge_fop_init_unlock(&fop) == SEDGE_DAMAGED && sedge_fop_init_set_vr(&fop, 1) == SEDGE_DAMAGED);
+    WANT(sedge_fop_terminate(&fop) == SEDGE_DAMAGED && sedge_fop_set_vs(&fop, 1) == SEDGE_DAMAGED);
+    WANT(sedge_fop_set_window(&fop, 1) == SEDGE_DAMAGED && sedge_fop_set_limit(&fop, 1) == SEDGE_DAMAGED);
+    WANT(sedge_fop_set_timer(&fop, 1) == SEDGE_DAMAGED && sedge_fop_submit(&fop) == SEDGE_DAMAGED);
+    WANT(sedge_fop_next(&fop, &number) == SEDGE_DAMAGED && sedge_fop_tick(&fop) == SEDGE_DAMAGED);
+    WANT(sedge_fop_report(&fop, &word, &number) == SEDGE_DAMAGED && number == 99);
+    WANT(memcmp(&fop, &kept, sizeof fop) == 0);
+}
+
+static void damaged_senders(void) {
+    static const struct sedge_fop good = {10, 4, 5, SEDGE_FOP_S5, 7, 5, 1, 2, 1, 5, 3, 1, SEDGE_CONTROL_SET_VR_SENT, 5};
+    struct sedge_fop fop = good;
+    WANT(sedge_fop_tick(&fop) == SEDGE_NO_ALERT && fop.ticks == 3);
+#define DAMAGED(field, value)                                                                                          \
+    fop = good;                                                                                                        \
+    fop.field = value;                                                                                                 \
+    is_damaged_sender(fop)
+    DAMAGED(timer, 0);
+    DAMAGED(room, 128);
+    DAMAGED(room, 4);
+    DAMAGED(state, 0);
+    DAMAGED(state, 7);
+    DAMAGED(state, SEDGE_FOP_S1);
+    DAMAGED(vs, 8);
+    DAMAGED(waiting, 2);
+    DAMAGED(sent, 3);
+    DAMAGED(due, 3);
+    DAMAGED(window, 0);
+    DAMAGED(limit, 0);
+    DAMAGED(count, 0);
+    DAMAGED(control, 5);
+    DAMAGED(control, SEDGE_CONTROL_UNLOCK_SENT);
+}
+
 /* ---- Telecommand frames. ---- */
 
 static const uint8_t DATA[13] = {0x00, 0x01, 0x08, 0x0c, 0x03, 0xc4, 0x10, 0x05, 0xc0, 0x00, 0x00, 0x00, 0xaa};
@@ -671,6 +796,11 @@ int main(void) {
     the_table();
     damaged_receivers();
     refusals_of_a_receiver();
+    a_sender_sends_again();
+    a_sender_gives_up();
+    the_directives();
+    refusals_of_a_sender();
+    damaged_senders();
     telecommand_frames();
     refused_telecommand_frames();
     a_wrong_octet();

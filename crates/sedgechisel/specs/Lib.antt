@@ -5,4 +5,5 @@ pub mod Names
 pub mod Numbers
 pub mod Packets
 pub mod Receivers
+pub mod Senders
 pub mod Telemetry

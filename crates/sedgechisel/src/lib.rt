@@ -10,4 +10,5 @@ mod packet;
 mod part;
 mod receiver;
 mod report_frame;
+mod sender;
 mod text;

@@ -1,0 +1,121 @@
+-- The fields that are kept of a sender tell that sender again, and fields that no sender has tell none.
+use Rattle.std.proofs.Common.{◌≡◌, ◌≤◌, ◌<◌, ℕ, Bool, true, false, Option, Some, None, Result, Ok, Err, refl, ap, ◌∙◌, arith}
+use Rattle.std.specs.Prelude.{IfSome, if◌then◌else◌}
+use Rattle.std.proofs.lemmas.Bool.{and_from, and_parts, le-leb}
+use Rattle.tc_frame.specs.declared.frame.Command.TheVariants.{Unlock, SetVr}
+use Rattle.cop1.specs.declared.fop.Control.{Control}
+use Rattle.cop1.specs.declared.fop.Control.TheVariants.{Idle, Due, Sent}
+use Rattle.cop1.specs.declared.fop.FopMode.{FopMode}
+use Rattle.cop1.specs.declared.fop.FopMode.TheVariants.{S1, S2, S3, S4, S5, S6}
+use Rattle.cop1.specs.declared.sender.SenderFields.{SenderFields}
+use Rattle.cop1.specs.SenderState.{IsSender, HasRanges, AgreesWithState}
+use Rattle.sedgechisel.specs.declared.sender.KeptSender.{KeptSender}
+use Rattle.sedgechisel.specs.Answers.{damaged, and_then}
+use Rattle.sedgechisel.specs.Receivers.{flag_number}
+use Rattle.sedgechisel.specs.Senders.{mode_number, ticks_number, control_number, control_vr, kept_of, mode_at, ticks_at, control_at, flag_at, fields_with, fields_told, has_ranges, agrees_in, is_sender, sender_told}
+
+-- ---- each field is told again
+
+mode_again : (m : FopMode) → mode_at (mode_number m) ≡ Some m
+mode_again S1 = refl
+mode_again S2 = refl
+mode_again S3 = refl
+mode_again S4 = refl
+mode_again S5 = refl
+mode_again S6 = refl
+
+flag_again : (b : Bool) → flag_at (flag_number b) ≡ Some b
+flag_again true = refl
+flag_again false = refl
+
+control_again : (c : Control) → control_at (control_number c) (control_vr c) ≡ Some c
+control_again Idle = refl
+control_again (Due Unlock) = refl
+control_again (Sent Unlock) = refl
+control_again (Due (SetVr vr)) = refl
+control_again (Sent (SetVr vr)) = refl
+
+ticks_again : (t : Option ℕ) → IfSome t (λ left. 1 ≤ left) → ticks_at (ticks_number t) ≡ t
+ticks_again None h = refl
+ticks_again (Some left) h = grind arith
+
+-- ---- the ranges
+
+ranges_hold : (s : SenderFields) → HasRanges s → has_ranges s ≡ true
+ranges_hold s h =
+    rw (
+      le-leb _ _ h.within,
+      le-leb _ _ h.room,
+      le-leb _ _ h.least,
+      le-leb _ _ h.window,
+      le-leb _ _ h.due,
+      le-leb _ _ h.limit,
+      le-leb _ _ h.timer,
+      le-leb _ _ h.count,
+    ) refl
+
+agreement_holds : (s : SenderFields) (m : FopMode) → s.state ≡ m → AgreesWithState s → agrees_in s m ≡ true
+agreement_holds s S1 is h = grind (arith, h)
+agreement_holds s S2 is h = grind (arith, h)
+agreement_holds s S3 is h = grind (arith, h)
+agreement_holds s S4 is h = grind (arith, h)
+agreement_holds s S5 is h = grind (arith, h)
+agreement_holds s S6 is h = grind (arith, h)
+
+is_sure : (s : SenderFields) → IsSender s → is_sender s ≡ true
+is_sure s h = and_from _ _ (ranges_hold s h.ranges) (agreement_holds s s.state refl h.agrees)
+
+fields_again : (s : SenderFields) → IfSome s.ticks (λ left. 1 ≤ left) → fields_told (kept_of s) ≡ Ok s
+fields_again s h =
+    ap (λ (m : Option FopMode). fields_with (kept_of s) m (flag_at (flag_number s.waiting)) (control_at (control_number s.control) (control_vr s.control)))
+    (mode_again s.state)
+    ∙ ap (λ (f : Option Bool). fields_with (kept_of s) (Some s.state) f (control_at (control_number s.control) (control_vr s.control)))
+    (flag_again s.waiting)
+    ∙ ap (λ (c : Option Control). fields_with (kept_of s) (Some s.state) (Some s.waiting) c) (control_again s.control)
+    ∙ ap (λ (t : Option ℕ). Ok (record s { ticks = t })) (ticks_again s.ticks h)
+
+pub told_again : (s : SenderFields) → IsSender s → sender_told (kept_of s) ≡ Ok s
+told_again s h =
+    ap (λ (r : Result SenderFields ℕ). and_then r (λ t. if is_sender t then Ok t else Err damaged)) (fields_again s h.ranges.ticks)
+    ∙ ap (λ (b : Bool). if b then Ok s else Err damaged) (is_sure s h)
+
+pub kept_tells : (k : KeptSender) (s : SenderFields) → k ≡ kept_of s → IsSender s → sender_told k ≡ Ok s
+kept_tells k s is h = rw is (told_again s h)
+
+-- ---- fields that no sender has
+
+ranges_are : (s : SenderFields) → s.vs < 256 → s.nn < 256 → IfSome s.ticks (λ left. 1 ≤ left) → has_ranges s ≡ true → HasRanges s
+ranges_are s vs nn ticks h = grind (arith, vs, nn, ticks, h)
+
+agreement_is : (s : SenderFields) (m : FopMode) → s.state ≡ m → agrees_in s m ≡ true → AgreesWithState s
+agreement_is s S1 is h = grind (arith, is, h)
+agreement_is s S2 is h = grind (arith, is, h)
+agreement_is s S3 is h = grind (arith, is, h)
+agreement_is s S4 is h = grind (arith, is, h)
+agreement_is s S5 is h = grind (arith, is, h)
+agreement_is s S6 is h = grind (arith, is, h)
+
+sender_is : (s : SenderFields) → s.vs < 256 → s.nn < 256 → IfSome s.ticks (λ left. 1 ≤ left) → is_sender s ≡ true → IsSender s
+sender_is s vs nn ticks h =
+    let parts = and_parts _ _ h in
+    record { ranges = ranges_are s vs nn ticks parts.0; agrees = agreement_is s s.state refl parts.1 }
+
+if_err : (b : Bool) (s : SenderFields) → (b ≡ true → ⊥) → (if b then Ok s else Err damaged) ≡ Err damaged
+if_err true s h = absurd (h refl)
+if_err false s h = refl
+
+same_ticks : (k : KeptSender) (m : Option FopMode) (f : Option Bool) (c : Option Control) (s : SenderFields)
+    → fields_with k m f c ≡ Ok s → s.ticks ≡ ticks_at k.ticks
+same_ticks k (Some m) (Some f) (Some c) s h = grind arith
+same_ticks k (Some m) (Some f) None s h = absurd cc
+same_ticks k (Some m) None c s h = absurd cc
+same_ticks k None f c s h = absurd cc
+
+ticks_run : (n : ℕ) → IfSome (ticks_at n) (λ left. 1 ≤ left)
+ticks_run n = grind arith
+
+pub told_none : (k : KeptSender) (s : SenderFields) → s.vs < 256 → s.nn < 256 → fields_told k ≡ Ok s → (IsSender s → ⊥) → sender_told k ≡ Err damaged
+told_none k s vs nn is h =
+    let ticks : IfSome s.ticks (λ left. 1 ≤ left) = rw (same_ticks k _ _ _ s is) (ticks_run k.ticks) in
+    ap (λ (r : Result SenderFields ℕ). and_then r (λ t. if is_sender t then Ok t else Err damaged)) is
+    ∙ if_err (is_sender s) s (λ (sure : is_sender s ≡ true). h (sender_is s vs nn ticks sure))

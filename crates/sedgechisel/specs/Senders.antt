@@ -1,0 +1,212 @@
+-- The sender as C keeps it.
+use Rattle.std.specs.Prelude.{◌≡◌, ℕ, Bool, true, false, not, ◌&&◌, ◌==◌, nat_le, if◌then◌else◌, Option, Some, None, is_some, Result, Ok, Err}
+use Rattle.tc_frame.specs.declared.frame.Command.TheVariants.{Unlock, SetVr}
+use Rattle.cop1.specs.declared.fault.CopFault.{CopFault}
+use Rattle.cop1.specs.declared.fop.Alert.{Alert}
+use Rattle.cop1.specs.declared.fop.Control.{Control}
+use Rattle.cop1.specs.declared.fop.Control.TheVariants.{Idle, Due, Sent}
+use Rattle.cop1.specs.declared.fop.Directive.{Directive}
+use Rattle.cop1.specs.declared.fop.FopMode.{FopMode}
+use Rattle.cop1.specs.declared.fop.FopMode.TheVariants.{S1, S2, S3, S4, S5, S6}
+use Rattle.cop1.specs.declared.sender.SenderFields.{SenderFields}
+use Rattle.cop1.specs.declared.sender.sending.SenderNext.{SenderNext}
+use Rattle.cop1.specs.declared.sender.sending.SenderNext.TheVariants as next
+use Rattle.cop1.specs.Faults.{fault_number}
+use Rattle.cop1.specs.FopNew.{new_fault}
+use Rattle.cop1.specs.Modulo.{ahead_by}
+use Rattle.cop1.specs.SenderState.{new_sender}
+use Rattle.cop1.specs.SenderStep.{SenderInput, SenderAnswer, Submit, Direct, sender_step}
+use Rattle.cop1.specs.SenderWords.{SenderOutcome}
+use Rattle.octets.specs.Outcome.{map_ok}
+use Rattle.sedgechisel.specs.declared.sender.KeptSender.{KeptSender}
+use Rattle.sedgechisel.specs.Answers.{damaged, and_then}
+use Rattle.sedgechisel.specs.Numbers.{alert_number}
+use Rattle.sedgechisel.specs.Receivers.{flag_number}
+
+-- ---- from a sender to fields
+
+abbrev pub mode_number : FopMode → ℕ
+mode_number S1 = 1
+mode_number S2 = 2
+mode_number S3 = 3
+mode_number S4 = 4
+mode_number S5 = 5
+mode_number S6 = 6
+
+-- the ticks that are left, and 0 where the timer is off
+abbrev pub ticks_number : Option ℕ → ℕ
+ticks_number None = 0
+ticks_number (Some left) = left
+
+abbrev pub control_number : Control → ℕ
+control_number Idle = 0
+control_number (Due Unlock) = 1
+control_number (Sent Unlock) = 2
+control_number (Due (SetVr vr)) = 3
+control_number (Sent (SetVr vr)) = 4
+
+abbrev pub control_vr : Control → ℕ
+control_vr Idle = 0
+control_vr (Due Unlock) = 0
+control_vr (Sent Unlock) = 0
+control_vr (Due (SetVr vr)) = vr
+control_vr (Sent (SetVr vr)) = vr
+
+-- the fields that tell a sender
+abbrev pub kept_of : SenderFields → KeptSender
+kept_of s = record {
+  timer = s.timer;
+  ticks = ticks_number s.ticks;
+  room = s.room;
+  state = mode_number s.state;
+  vs = s.vs;
+  nn = s.nn;
+  waiting = flag_number s.waiting;
+  sent = s.sent;
+  due = s.due;
+  window = s.window;
+  limit = s.limit;
+  count = s.count;
+  control = control_number s.control;
+  vr = control_vr s.control;
+}
+
+-- ---- from fields to a sender
+
+abbrev pub mode_at : ℕ → Option FopMode
+mode_at n =
+    if n == 1 then Some S1
+    else if n == 2 then Some S2
+    else if n == 3 then Some S3
+    else if n == 4 then Some S4
+    else if n == 5 then Some S5
+    else if n == 6 then Some S6
+    else None
+
+abbrev pub ticks_at : ℕ → Option ℕ
+ticks_at n = if n == 0 then None else Some n
+
+-- a command without a number has 0 for it
+abbrev pub control_at : ℕ → ℕ → Option Control
+control_at n vr =
+    if n == 3 then Some (Due (SetVr vr))
+    else if n == 4 then Some (Sent (SetVr vr))
+    else if not (vr == 0) then None
+    else if n == 0 then Some Idle
+    else if n == 1 then Some (Due Unlock)
+    else if n == 2 then Some (Sent Unlock)
+    else None
+
+abbrev pub flag_at : ℕ → Option Bool
+flag_at n = if n == 0 then Some false else if n == 1 then Some true else None
+
+abbrev pub fields_with : KeptSender → Option FopMode → Option Bool → Option Control → Result SenderFields ℕ
+fields_with k (Some state) (Some waiting) (Some control) = Ok (record {
+  room = k.room;
+  state = state;
+  vs = k.vs;
+  nn = k.nn;
+  waiting = waiting;
+  sent = k.sent;
+  due = k.due;
+  window = k.window;
+  limit = k.limit;
+  timer = k.timer;
+  ticks = ticks_at k.ticks;
+  count = k.count;
+  control = control;
+})
+fields_with k (Some state) (Some waiting) None = Err damaged
+fields_with k (Some state) None control = Err damaged
+fields_with k None waiting control = Err damaged
+
+-- the numbers that the fields tell
+abbrev pub fields_told : KeptSender → Result SenderFields ℕ
+fields_told k = fields_with k (mode_at k.state) (flag_at k.waiting) (control_at k.control k.vr)
+
+-- the ranges of a sender's numbers
+abbrev pub has_ranges : SenderFields → Bool
+has_ranges s =
+    nat_le s.sent s.room && nat_le s.room 127 && nat_le 1 s.window && nat_le s.window s.room
+    && nat_le s.due s.sent && nat_le 1 s.limit && nat_le 1 s.timer && nat_le 1 s.count
+
+abbrev pub is_idle : Control → Bool
+is_idle Idle = true
+is_idle (Due command) = false
+is_idle (Sent command) = false
+
+-- in S1 to S5 the units that are sent have the numbers from NN(R) to V(S) - 1
+abbrev pub is_numbered : SenderFields → Bool
+is_numbered s = ahead_by s.vs s.nn == s.sent
+
+-- in S6 nothing is there, and a control command is there in S5 alone
+abbrev pub agrees_in : SenderFields → FopMode → Bool
+agrees_in s S1 = is_numbered s && is_idle s.control
+agrees_in s S2 = is_numbered s && is_idle s.control
+agrees_in s S3 = is_numbered s && is_idle s.control
+agrees_in s S4 = is_numbered s && is_idle s.control
+agrees_in s S5 = is_numbered s
+agrees_in s S6 = (s.sent == 0) && not s.waiting && not (is_some s.ticks) && is_idle s.control
+
+-- a sender has such numbers
+abbrev pub is_sender : SenderFields → Bool
+is_sender s = has_ranges s && agrees_in s s.state
+
+-- the sender that the fields tell
+abbrev pub sender_told : KeptSender → Result SenderFields ℕ
+sender_told k = and_then (fields_told k) (λ s. if is_sender s then Ok s else Err damaged)
+
+-- the fields tell this sender, where there is one
+abbrev pub AreTold : KeptSender → Result SenderFields ℕ → Type 0
+AreTold k (Ok s) = sender_told k ≡ Ok s
+AreTold k (Err number) = Unit {0}
+
+-- ---- the calls
+
+abbrev pub unless_refused : Option CopFault → SenderFields → Result SenderFields ℕ
+unless_refused None s = Ok s
+unless_refused (Some fault) s = Err (fault_number fault)
+
+-- a new sender
+abbrev pub sender_opened : ℕ → ℕ → ℕ → ℕ → Result SenderFields ℕ
+sender_opened width window limit timer =
+    unless_refused (new_fault width window limit timer) (new_sender width window limit timer)
+
+-- what an input leads to at the sender that the fields tell
+abbrev pub stepped : (k : KeptSender) (input : SenderInput) → Result (SenderOutcome (SenderAnswer input)) ℕ
+stepped k input = map_ok (λ s. sender_step s input) (sender_told k)
+
+-- the sender behind an input
+abbrev pub after_step : KeptSender → SenderInput → Result SenderFields ℕ
+after_step k input = map_ok (λ o. o.after) (stepped k input)
+
+-- the sender behind what may be refused
+abbrev pub unless_fault : {A : Type 0} → SenderFields → Result A CopFault → Result SenderFields ℕ
+unless_fault s (Ok answer) = Ok s
+unless_fault s (Err fault) = Err (fault_number fault)
+
+abbrev pub submitted : KeptSender → Result SenderFields ℕ
+submitted k = and_then (stepped k Submit) (λ o. unless_fault o.after o.answer)
+
+abbrev pub directed : KeptSender → Directive → Result SenderFields ℕ
+directed k directive = and_then (stepped k (Direct directive)) (λ o. unless_fault o.after o.answer)
+
+-- an alert's number, and 0 for none
+abbrev pub alert_answer : Option Alert → ℕ
+alert_answer None = 0
+alert_answer (Some alert) = alert_number alert
+
+abbrev pub next_answer : SenderNext → ℕ
+next_answer next.Nothing = 0
+next_answer (next.Control Unlock) = 1
+next_answer (next.Control (SetVr vr)) = 2
+next_answer (next.First n) = 3
+next_answer (next.Again n) = 4
+
+-- the number that goes with it, and 0 for none
+abbrev pub next_number : SenderNext → ℕ
+next_number next.Nothing = 0
+next_number (next.Control Unlock) = 0
+next_number (next.Control (SetVr vr)) = vr
+next_number (next.First n) = n
+next_number (next.Again n) = n

@@ -1,0 +1,183 @@
+// The sender, FOP-1, whose numbers the caller keeps.
+
+mod directing;
+mod telling;
+
+ghost use Rattle.std.specs.Prelude.{◌≡◌};
+ghost use Rattle.cop1.specs.SenderStep.{Submit, Next, Report, Tick};
+ghost use Rattle.sedgechisel.specs.Answers.{status_of, left_by};
+ghost use Rattle.sedgechisel.specs.ControlWords.{word_of};
+ghost use Rattle.sedgechisel.specs.Receivers.{answer_of};
+ghost use Rattle.sedgechisel.specs.Senders.{kept_of, sender_opened, stepped, after_step, submitted, alert_answer, next_answer, next_number, AreTold};
+
+use crate::control_word::{ControlWord, word_from};
+use cop1::{Alert, Sender, SenderNext};
+use tc_frame::Command;
+use telling::{kept, told};
+
+/// A sender (CCSDS 232.1-B-2, 5.1): its numbers as `cop1::SenderFields` has them. The ticks are 0 where the timer is
+/// off; the state is 1 for S1 to 6 for S6; the control command is 0 for none, 1 for Unlock that is due and 2 for Unlock
+/// that is sent, 3 and 4 for Set V(R) with the number `vr`.
+#[repr(C)]
+#[derive(Clone, Copy)]
+pub struct KeptSender {
+    pub timer: u16,
+    pub ticks: u16,
+    pub room: u8,
+    pub state: u8,
+    pub vs: u8,
+    pub nn: u8,
+    pub waiting: u8,
+    pub sent: u8,
+    pub due: u8,
+    pub window: u8,
+    pub limit: u8,
+    pub count: u8,
+    pub control: u8,
+    pub vr: u8,
+}
+
+/// Opens a sender in its state S6, and answers 0, or the first of 1 `Width`, 2 `Window`, 3 `Limit` and 4 `Timer`.
+#[unsafe(no_mangle)]
+pub extern "C" fn sedge_fop_open(
+    sender: &mut KeptSender,
+    width: u8,
+    window: u8,
+    limit: u8,
+    timer: u16,
+) -> u8
+    ensures answer { result ≡ status_of (sender_opened width window limit timer) }
+    ensures sender { sender.new
+        ≡ left_by kept_of (sender_opened width window limit timer) sender.old }
+    ensures tells { AreTold sender.new (sender_opened width window limit timer) }
+{
+    match Sender::new(width, window, limit, timer) {
+        Ok(opened) => {
+            *sender = kept(&opened);
+            0
+        }
+        Err(fault) => fault.number(),
+    }
+}
+
+/// A unit has come to be sent under sequence control, and waits. Answers 0, or 255 where the sender is damaged, or
+/// 6 `NotOpen` in S6, or 7 `Busy` where one waits already.
+#[unsafe(no_mangle)]
+pub extern "C" fn sedge_fop_submit(sender: &mut KeptSender) -> u8
+    ensures answer { result ≡ status_of (submitted sender.old) }
+    ensures sender { sender.new ≡ left_by kept_of (submitted sender.old) sender.old }
+    ensures tells { AreTold sender.new (submitted sender.old) }
+{
+    match told(sender) {
+        Ok(mut machine) => match machine.submit() {
+            Ok(()) => {
+                *sender = kept(&machine);
+                0
+            }
+            Err(fault) => fault.number(),
+        },
+        Err(number) => number,
+    }
+}
+
+/// Takes what goes on the link next, and its number: 0 for nothing, 1 for Unlock, 2 for Set V(R) with the number, 3 for
+/// the unit that waits under the number, 4 for the one that is kept under it. Or 255 where the sender is damaged.
+#[unsafe(no_mangle)]
+pub extern "C" fn sedge_fop_next(sender: &mut KeptSender, number: &mut u8) -> u8
+    ensures answer { result ≡ answer_of (λ o. next_answer o.answer) (stepped sender.old Next) }
+    ensures number { number.new
+        ≡ left_by (λ o. next_number o.answer) (stepped sender.old Next) number.old }
+    ensures sender { sender.new ≡ left_by kept_of (after_step sender.old Next) sender.old }
+    ensures tells { AreTold sender.new (after_step sender.old Next) }
+{
+    match told(sender) {
+        Ok(mut machine) => {
+            let next = machine.next();
+            *sender = kept(&machine);
+            *number = number_with(next);
+            number_of_next(next)
+        }
+        Err(number) => number,
+    }
+}
+
+/// The control word of a report has come. Answers the alert's number, 0 for none, and how many units are acknowledged;
+/// or 255 where the sender is damaged.
+#[unsafe(no_mangle)]
+pub extern "C" fn sedge_fop_report(
+    sender: &mut KeptSender,
+    word: &ControlWord,
+    released: &mut u8,
+) -> u8
+    ensures answer { result ≡ answer_of
+        (λ o. alert_answer o.answer) (stepped sender.old (Report (word_of word.now))) }
+    ensures released { released.new
+        ≡ left_by (λ o. o.gone) (stepped sender.old (Report (word_of word.now))) released.old }
+    ensures sender { sender.new
+        ≡ left_by kept_of (after_step sender.old (Report (word_of word.now))) sender.old }
+    ensures tells { AreTold sender.new (after_step sender.old (Report (word_of word.now))) }
+{
+    match told(sender) {
+        Ok(mut machine) => {
+            let answer = machine.report(&word_from(word));
+            *sender = kept(&machine);
+            *released = answer.released;
+            number_of_alert(answer.alert)
+        }
+        Err(number) => number,
+    }
+}
+
+/// A tick of the clock has passed. Answers the alert's number, 0 for none; or 255 where the sender is damaged.
+#[unsafe(no_mangle)]
+pub extern "C" fn sedge_fop_tick(sender: &mut KeptSender) -> u8
+    ensures answer { result ≡ answer_of (λ o. alert_answer o.answer) (stepped sender.old Tick) }
+    ensures sender { sender.new ≡ left_by kept_of (after_step sender.old Tick) sender.old }
+    ensures tells { AreTold sender.new (after_step sender.old Tick) }
+{
+    match told(sender) {
+        Ok(mut machine) => {
+            let alert = machine.tick();
+            *sender = kept(&machine);
+            number_of_alert(alert)
+        }
+        Err(number) => number,
+    }
+}
+
+fn number_of_alert(alert: Option<Alert>) -> u8
+    ensures { result ≡ alert_answer alert }
+{
+    match alert {
+        None => 0,
+        Some(Alert::Lockout) => 1,
+        Some(Alert::NnR) => 2,
+        Some(Alert::Clcw) => 3,
+        Some(Alert::Synch) => 4,
+        Some(Alert::Limit) => 5,
+        Some(Alert::Timer) => 6,
+        Some(Alert::Terminated) => 7,
+    }
+}
+
+fn number_of_next(next: SenderNext) -> u8
+    ensures { result ≡ next_answer next }
+{
+    match next {
+        SenderNext::Nothing => 0,
+        SenderNext::Control(Command::Unlock) => 1,
+        SenderNext::Control(Command::SetVr(_)) => 2,
+        SenderNext::First(_) => 3,
+        SenderNext::Again(_) => 4,
+    }
+}
+
+fn number_with(next: SenderNext) -> u8
+    ensures { result ≡ next_number next }
+{
+    match next {
+        SenderNext::Nothing | SenderNext::Control(Command::Unlock) => 0,
+        SenderNext::Control(Command::SetVr(number)) => number,
+        SenderNext::First(number) | SenderNext::Again(number) => number,
+    }
+}

@@ -1,0 +1,184 @@
+// The sender that fields tell, and the fields that tell a sender.
+
+ghost use Rattle.std.specs.Prelude.{◌≡◌, Ok};
+ghost use Rattle.sedgechisel.specs.Receivers.{flag_number};
+ghost use Rattle.sedgechisel.specs.Senders.{mode_number, ticks_number, control_number, control_vr, kept_of, mode_at, ticks_at, control_at, flag_at, fields_told, sender_told};
+
+use super::KeptSender;
+use crate::numbers::DAMAGED;
+use cop1::{Control, FopMode, Sender, SenderFields};
+use tc_frame::Command;
+
+// The sender that the fields tell, unless they are damaged.
+#[tactic(auto, using(crate::proofs::Kept::told_none))]
+pub(super) fn told(sender: &KeptSender) -> Result<Sender, u8>
+    ensures { result ≡ sender_told sender.now }
+{
+    let Ok(fields) = fields_from(sender) else {
+        return Err(DAMAGED);
+    };
+    match Sender::restore(fields) {
+        Ok(machine) => Ok(machine),
+        Err(_) => Err(DAMAGED),
+    }
+}
+
+// What C keeps of a sender.
+#[tactic(auto, using(crate::proofs::Kept::kept_tells))]
+pub(super) fn kept(machine: &Sender) -> KeptSender
+    ensures fields { result ≡ kept_of machine.now }
+    ensures tells { sender_told result ≡ Ok machine.now }
+{
+    fields_with(machine.fields())
+}
+
+fn fields_with(fields: SenderFields) -> KeptSender
+    ensures { result ≡ kept_of fields }
+{
+    KeptSender {
+        timer: fields.timer,
+        ticks: number_of_ticks(fields.ticks),
+        room: fields.room,
+        state: number_of_mode(fields.state),
+        vs: fields.vs,
+        nn: fields.nn,
+        waiting: number_of_flag(fields.waiting),
+        sent: fields.sent,
+        due: fields.due,
+        window: fields.window,
+        limit: fields.limit,
+        count: fields.count,
+        control: number_of_control(fields.control),
+        vr: number_with(fields.control),
+    }
+}
+
+fn fields_from(sender: &KeptSender) -> Result<SenderFields, u8>
+    ensures { result ≡ fields_told sender.now }
+{
+    let Some(state) = mode_from(sender.state) else {
+        return Err(DAMAGED);
+    };
+    let Some(waiting) = flag_from(sender.waiting) else {
+        return Err(DAMAGED);
+    };
+    let Some(control) = control_from(sender.control, sender.vr) else {
+        return Err(DAMAGED);
+    };
+    Ok(SenderFields {
+        room: sender.room,
+        state,
+        vs: sender.vs,
+        nn: sender.nn,
+        waiting,
+        sent: sender.sent,
+        due: sender.due,
+        window: sender.window,
+        limit: sender.limit,
+        timer: sender.timer,
+        ticks: ticks_from(sender.ticks),
+        count: sender.count,
+        control,
+    })
+}
+
+fn mode_from(number: u8) -> Option<FopMode>
+    ensures { result ≡ mode_at number }
+{
+    match number {
+        1 => Some(FopMode::S1),
+        2 => Some(FopMode::S2),
+        3 => Some(FopMode::S3),
+        4 => Some(FopMode::S4),
+        5 => Some(FopMode::S5),
+        6 => Some(FopMode::S6),
+        _ => None,
+    }
+}
+
+fn number_of_mode(mode: FopMode) -> u8
+    ensures { result ≡ mode_number mode }
+{
+    match mode {
+        FopMode::S1 => 1,
+        FopMode::S2 => 2,
+        FopMode::S3 => 3,
+        FopMode::S4 => 4,
+        FopMode::S5 => 5,
+        FopMode::S6 => 6,
+    }
+}
+
+fn flag_from(number: u8) -> Option<bool>
+    ensures { result ≡ flag_at number }
+{
+    match number {
+        0 => Some(false),
+        1 => Some(true),
+        _ => None,
+    }
+}
+
+fn number_of_flag(flag: bool) -> u8
+    ensures { result ≡ flag_number flag }
+{
+    u8::from(flag)
+}
+
+fn ticks_from(number: u16) -> Option<u16>
+    ensures { result ≡ ticks_at number }
+{
+    if number == 0 {
+        return None;
+    }
+    Some(number)
+}
+
+fn number_of_ticks(ticks: Option<u16>) -> u16
+    ensures { result ≡ ticks_number ticks }
+{
+    match ticks {
+        None => 0,
+        Some(left) => left,
+    }
+}
+
+fn control_from(number: u8, vr: u8) -> Option<Control>
+    ensures { result ≡ control_at number vr }
+{
+    match number {
+        3 => return Some(Control::Due(Command::SetVr(vr))),
+        4 => return Some(Control::Sent(Command::SetVr(vr))),
+        _ => {}
+    }
+    if vr != 0 {
+        return None;
+    }
+    match number {
+        0 => Some(Control::Idle),
+        1 => Some(Control::Due(Command::Unlock)),
+        2 => Some(Control::Sent(Command::Unlock)),
+        _ => None,
+    }
+}
+
+fn number_of_control(control: Control) -> u8
+    ensures { result ≡ control_number control }
+{
+    match control {
+        Control::Idle => 0,
+        Control::Due(Command::Unlock) => 1,
+        Control::Sent(Command::Unlock) => 2,
+        Control::Due(Command::SetVr(_)) => 3,
+        Control::Sent(Command::SetVr(_)) => 4,
+    }
+}
+
+fn number_with(control: Control) -> u8
+    ensures { result ≡ control_vr control }
+{
+    match control {
+        Control::Due(Command::SetVr(number)) | Control::Sent(Command::SetVr(number)) => number,
+        _ => 0,
+    }
+}
