@@ -783,6 +783,78 @@ static void unwritten_telemetry_frames(void) {
     WANT(telemetry_unwritten(frame, 2036, 3000) == SEDGE_TM_FIELD_RANGE);
 }
 
+/* ---- Packets in segments. ---- */
+
+static const uint8_t FIRST_HALF[4] = {0x10, 0x05, 0xc0, 0x00}, LAST_HALF[3] = {0x00, 0x00, 0xaa};
+static const uint8_t TWO[15] = {0x10, 0x05, 0xc0, 0x00, 0x00, 0x00, 0xaa, 0x10,
+                                0x05, 0xc0, 0x01, 0x00, 0x01, 0xbb, 0xcc};
+
+static struct sedge_taken take(struct sedge_map *map, uint8_t flags, const uint8_t *data, size_t count, uint8_t *memory,
+                               size_t room) {
+    struct sedge_taken taken;
+    memset(&taken, 0x55, sizeof taken);
+    WANT(sedge_map_take(map, flags, data, count, memory, room, &taken) == SEDGE_OK);
+    return taken;
+}
+
+static int is_taken(struct sedge_taken taken, size_t count, int where, int dropped) {
+    return taken.count == count && taken.where == where && taken.dropped == dropped;
+}
+
+static void packets_from_segments(void) {
+    struct sedge_map map = {0, 0, 0};
+    uint8_t memory[9];
+    memset(memory, 0x55, 9);
+    WANT(is_taken(take(&map, SEDGE_SEGMENT_ALONE, TWO, 7, memory, 8), 7, SEDGE_IN_DATA, SEDGE_NOT_DROPPED));
+    WANT(is_taken(take(&map, SEDGE_SEGMENT_LAST, TWO, 7, memory, 8), 0, SEDGE_NO_PACKET, SEDGE_DROPPED_NO_BEGINNING));
+    WANT(is_taken(take(&map, SEDGE_SEGMENT_FIRST, FIRST_HALF, 4, memory, 8), 0, SEDGE_NO_PACKET, SEDGE_NOT_DROPPED));
+    WANT(map.open == 1 && map.count == 4 && memcmp(memory, FIRST_HALF, 4) == 0 && memory[4] == 0x55);
+    WANT(is_taken(take(&map, SEDGE_SEGMENT_CONTINUING, LAST_HALF, 1, memory, 8), 0, SEDGE_NO_PACKET, 0));
+    WANT(is_taken(take(&map, SEDGE_SEGMENT_LAST, LAST_HALF + 1, 2, memory, 8), 7, SEDGE_IN_MEMORY, SEDGE_NOT_DROPPED));
+    WANT(map.open == 0 && map.count == 0 && memcmp(memory, TWO, 7) == 0 && memory[8] == 0x55);
+    WANT(is_taken(take(&map, SEDGE_SEGMENT_FIRST, FIRST_HALF, 4, memory, 8), 0, SEDGE_NO_PACKET, SEDGE_NOT_DROPPED));
+    WANT(is_taken(take(&map, SEDGE_SEGMENT_ALONE, TWO, 7, memory, 8), 7, SEDGE_IN_DATA, SEDGE_DROPPED_INTERRUPTED));
+    WANT(is_taken(take(&map, SEDGE_SEGMENT_FIRST, TWO, 9, memory, 8), 0, SEDGE_NO_PACKET, SEDGE_DROPPED_TOO_LONG));
+    WANT(is_taken(take(&map, SEDGE_SEGMENT_ALONE, TWO, 15, memory, 9), 0, SEDGE_NO_PACKET, SEDGE_DROPPED_TOO_LONG));
+    WANT(is_taken(take(&map, SEDGE_SEGMENT_ALONE, TWO, 6, memory, 8), 0, SEDGE_NO_PACKET, SEDGE_DROPPED_NOT_A_PACKET));
+}
+
+static void packets_in_blocks(void) {
+    struct sedge_map map = {0, 0, 1};
+    struct sedge_part packet = {0, 0};
+    uint8_t memory[8];
+    WANT(is_taken(take(&map, SEDGE_SEGMENT_ALONE, TWO, 15, memory, 8), 15, SEDGE_IN_DATA, SEDGE_NOT_DROPPED));
+    WANT(sedge_map_packet(TWO, 15, &packet) && packet.from == 0 && packet.count == 7);
+    WANT(sedge_map_packet(TWO, 15, &packet) && packet.from == 7 && packet.count == 8);
+    WANT(!sedge_map_packet(TWO, 15, &packet) && packet.from == 7 && packet.count == 8);
+    packet.from = SIZE_MAX;
+    WANT(!sedge_map_packet(TWO, 15, &packet) && !sedge_map_packet(TWO, 0, &packet));
+    WANT(is_taken(take(&map, SEDGE_SEGMENT_ALONE, TWO, 15, memory, 7), 0, SEDGE_NO_PACKET, SEDGE_DROPPED_TOO_LONG));
+    WANT(is_taken(take(&map, SEDGE_SEGMENT_ALONE, TWO, 0, memory, 8), 0, SEDGE_NO_PACKET, SEDGE_DROPPED_NOT_A_PACKET));
+}
+
+static uint8_t untaken(struct sedge_map map, uint8_t flags) {
+    const struct sedge_map kept = map;
+    struct sedge_taken taken = {77, 88, 99};
+    uint8_t memory[8], answer;
+    memset(memory, 0x55, 8);
+    answer = sedge_map_take(&map, flags, TWO, 7, memory, 8, &taken);
+    WANT(answer == SEDGE_OK || (map.count == kept.count && map.open == kept.open && map.blocking == kept.blocking));
+    WANT(answer == SEDGE_OK || (is_taken(taken, 77, 88, 99) && memory[0] == 0x55 && memory[7] == 0x55));
+    return answer;
+}
+
+static void damaged_maps(void) {
+    static const struct sedge_map good = {8, 1, 1};
+    static const struct sedge_map damages[] = {{9, 1, 1}, {8, 2, 1}, {8, 1, 2}, {1, 0, 0}, {SIZE_MAX, 1, 0}};
+    size_t i;
+    WANT(untaken(good, SEDGE_SEGMENT_LAST) == SEDGE_OK);
+    WANT(untaken(good, 4) == SEDGE_DAMAGED && untaken(good, 255) == SEDGE_DAMAGED);
+    for (i = 0; i < sizeof damages / sizeof *damages; i++) {
+        WANT(untaken(damages[i], SEDGE_SEGMENT_FIRST) == SEDGE_DAMAGED);
+    }
+}
+
 int main(void) {
     the_version();
     names();
@@ -811,6 +883,9 @@ int main(void) {
     telemetry_frames();
     refused_telemetry_frames();
     unwritten_telemetry_frames();
+    packets_from_segments();
+    packets_in_blocks();
+    damaged_maps();
     printf(failures ? "%d failed\n" : "all as wanted\n", failures);
     return failures != 0;
 }

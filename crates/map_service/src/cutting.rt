@@ -121,8 +121,9 @@ fn run_len(octets: &[u8], part: usize) -> usize
     len
 }
 
-// How many octets the first group has.
-pub(crate) fn group_len(octets: &[u8], part: usize) -> usize
+/// How many octets the packets have that go into the first segment together, or the first packet
+/// that has more than `part` octets.
+pub fn group_len(octets: &[u8], part: usize) -> usize
     requires some_octet { 1 ≤ length octets.now }
     requires whole { rest_in octets.now ≡ [] }
     ensures group { result ≡ length (concat (first_group part (packets_in octets.now))) }

@@ -11,8 +11,8 @@ use crate::packets::{are_whole_packets, has_packet_over};
 use space_packet::{is_packet, packet_len};
 use std::alloc::{AllocError, Global};
 
-// Why octets that should be one packet are dropped.
-pub(crate) fn fault_of_one(limits: &Limits, octets: &[u8]) -> Option<Dropped>
+/// Why octets that should be exactly one packet are dropped, where they are: `TooLong`, then `NotAPacket`.
+pub fn fault_of_one(limits: &Limits, octets: &[u8]) -> Option<Dropped>
     ensures { result ≡ one_fault limits.now octets.now }
 {
     if limits.is_too_long(octets.len()) {
@@ -37,8 +37,9 @@ fn fault_of_several(limits: &Limits, octets: &[u8]) -> Option<Dropped>
     None
 }
 
-// Why the octets of an alone segment are dropped.
-pub(crate) fn fault_of_alone(limits: &Limits, octets: &[u8]) -> Option<Dropped>
+/// Why the octets of an alone segment are dropped, where they are: as `fault_of_one`, or with
+/// blocking `NotAPacket`, where they are not one or more whole packets, and then `TooLong`.
+pub fn fault_of_alone(limits: &Limits, octets: &[u8]) -> Option<Dropped>
     ensures { result ≡ alone_fault limits.now octets.now }
 {
     if limits.blocking {

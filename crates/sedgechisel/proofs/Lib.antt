@@ -1,2 +1,3 @@
+mod Assembling
 mod Kept
 mod Told

@@ -1,6 +1,7 @@
 //! The half of the link on board for programs in C: a static library that allocates nothing and calls nothing.
 #![tactic(auto)]
 
+mod assembly;
 mod checking;
 mod command_frame;
 mod control_word;

@@ -1,0 +1,98 @@
+-- A MAP as C keeps it, and what C is told of a segment.
+use Rattle.std.specs.Prelude.{◌≡◌, ℕ, ◌+◌, true, false, List, [], ◌∷◌, length, take, drop, min, Bool, ◌&&◌, ◌||◌, ◌==◌, nat_lt, nat_le, if◌then◌else◌, Option, Some, None, Result, Ok, Err}
+use Rattle.tc_frame.specs.Reading.{flags_at}
+use Rattle.map_service.specs.declared.dropped.Dropped.{Dropped}
+use Rattle.map_service.specs.declared.dropped.Dropped.TheVariants.{ClosedMap, Interrupted, NoBeginning, NotAPacket, TooLong}
+use Rattle.map_service.specs.declared.limits.Limits.{Limits}
+use Rattle.map_service.specs.Cutting.{segment_with}
+use Rattle.map_service.specs.Packets.{first_packet, packets_in}
+use Rattle.map_service.specs.Taking.{TakeOutcome, take_step}
+use Rattle.sedgechisel.specs.declared.assembly.KeptMap.{KeptMap}
+use Rattle.sedgechisel.specs.declared.assembly.TakenSegment.{TakenSegment}
+use Rattle.sedgechisel.specs.declared.part.Part.{Part}
+use Rattle.sedgechisel.specs.Answers.{damaged}
+use Rattle.sedgechisel.specs.Numbers.{cause_number}
+
+-- ---- what the structs tell
+
+-- a MAP has such fields, with so many octets of memory
+abbrev pub is_map : KeptMap → ℕ → Bool
+is_map m room = nat_lt m.is_open 2 && nat_lt m.blocking 2 && nat_le m.count room && ((m.is_open == 1) || (m.count == 0))
+
+-- the part that is open, the first octets of the memory
+abbrev pub part_of : KeptMap → List ℕ → Option (List ℕ)
+part_of m memory = if m.is_open == 1 then Some (take m.count memory) else None
+
+-- the memory holds the longest packet; the MAP itself stands as MAP 0, which is open
+abbrev pub limits_of : KeptMap → ℕ → Limits
+limits_of m room = record { part = 1; max_packet = min room 4294967295; maps = 1; blocking = m.blocking == 1 }
+
+abbrev pub cause_at : ℕ → Option Dropped
+cause_at n =
+    if n == 1 then Some ClosedMap
+    else if n == 2 then Some Interrupted
+    else if n == 3 then Some NoBeginning
+    else if n == 4 then Some NotAPacket
+    else if n == 5 then Some TooLong
+    else None
+
+-- a cause's number, and 0 for none
+abbrev pub cause_answer : Option Dropped → ℕ
+cause_answer None = 0
+cause_answer (Some cause) = cause_number cause
+
+-- the packets that are whole now: one at the beginning of the memory, or those of the segment's data
+abbrev pub packets_told : TakenSegment → List ℕ → List ℕ → List (List ℕ)
+packets_told t memory octets =
+    if t.place == 1 then take t.count memory ∷ []
+    else if t.place == 2 then packets_in (take t.count octets)
+    else []
+
+-- the outcome that the structs and the octets tell
+abbrev pub outcome_told : KeptMap → TakenSegment → List ℕ → List ℕ → TakeOutcome
+outcome_told m t memory octets =
+    record { dropped = cause_at t.dropped; packets = packets_told t memory octets; part = part_of m memory }
+
+-- with no part open
+abbrev pub closed : KeptMap → KeptMap
+closed m = record m { count = 0; is_open = 0 }
+
+abbrev pub no_packets : ℕ → TakenSegment
+no_packets dropped = record { count = 0; place = 0; dropped = dropped }
+
+-- what a first or an alone segment drops: the part that is open
+abbrev pub interrupted : KeptMap → Option Dropped
+interrupted m = if m.is_open == 1 then Some Interrupted else None
+
+-- ---- the calls
+
+-- what a segment with these flags and data leads to
+abbrev pub taken_at : KeptMap → ℕ → List ℕ → List ℕ → Result TakeOutcome ℕ
+taken_at m flags octets memory =
+    if nat_lt flags 4 && is_map m (length memory)
+    then Ok (take_step (limits_of m (length memory)) (part_of m memory) (segment_with (flags_at flags) 0 octets))
+    else Err damaged
+
+-- the structs and the octets tell the outcome, where there is one
+abbrev pub TellsOutcome : Result TakeOutcome ℕ → TakeOutcome → Type 0
+TellsOutcome (Ok o) told = told ≡ o
+TellsOutcome (Err number) told = Unit {0}
+
+-- where the packet stands that octets begin with behind a part
+abbrev pub part_behind : ℕ → Option (List ℕ) → Option Part
+part_behind place None = None
+part_behind place (Some packet) = Some (record { from = place; count = length packet })
+
+abbrev pub next_packet : List ℕ → Part → Option Part
+next_packet octets part = part_behind (part.from + part.count) (first_packet (drop (part.from + part.count) octets))
+
+abbrev pub part_or : Option Part → Part → Part
+part_or None old = old
+part_or (Some part) old = part
+
+-- the packet behind a part, and those behind it, are the packets behind the part
+abbrev pub TellsPackets : List ℕ → Part → Part → Bool → Type 0
+TellsPackets octets old new true =
+    packets_in (drop (old.from + old.count) octets)
+    ≡ take new.count (drop new.from octets) ∷ packets_in (drop (new.from + new.count) octets)
+TellsPackets octets old new false = packets_in (drop (old.from + old.count) octets) ≡ []

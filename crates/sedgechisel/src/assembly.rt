@@ -1,0 +1,270 @@
+// Joining the segments of one MAP, in the caller's memory.
+
+ghost use Rattle.std.specs.Prelude.{◌≡◌, ◌+◌, ◌≤◌, ◌++◌, length, take, true, None, OnOk, OnErr, is_some};
+ghost use Rattle.tc_frame.specs.declared.frame.SegmentFlags.TheVariants as flags;
+ghost use Rattle.map_service.specs.Adding.{adding_fault};
+ghost use Rattle.map_service.specs.Taking.{cell};
+ghost use Rattle.sedgechisel.specs.Answers.{status_of};
+ghost use Rattle.sedgechisel.specs.Maps.{is_map, interrupted, part_of, limits_of, cause_answer, closed, no_packets, outcome_told, taken_at, TellsOutcome, next_packet, part_or, TellsPackets};
+
+use crate::numbers::DAMAGED;
+use crate::part::Part;
+use map_service::{Dropped, Limits, fault_of_alone, fault_of_one};
+use space_packet::packet_len;
+use tc_frame::SegmentFlags;
+
+/// One MAP (CCSDS 232.0-B-4, 4.1.3.2): how many octets of the memory the open part has, whether one is open, and whether
+/// a segment may hold several packets.
+#[repr(C)]
+#[derive(Clone, Copy)]
+pub struct KeptMap {
+    pub count: usize,
+    pub is_open: u8,
+    pub blocking: u8,
+}
+
+/// What came of a segment: how many octets the packets have that are whole now; 0 for none, 1 for one at the beginning
+/// of the memory, 2 for the segment's data; and the number of the cause of a drop, or 0.
+#[repr(C)]
+#[derive(Clone, Copy)]
+pub struct TakenSegment {
+    pub count: usize,
+    pub place: u8,
+    pub dropped: u8,
+}
+
+/// Takes the next segment of a MAP, its flags and its data. The memory has as many octets as the longest packet. Answers
+/// 0, or 255 where the flags are none or the MAP is damaged, and nothing is written then.
+#[unsafe(no_mangle)]
+pub extern "C" fn sedge_map_take(
+    map: &mut KeptMap,
+    flags: u8,
+    octets: &[u8],
+    memory: &mut [u8],
+    taken: &mut TakenSegment,
+) -> u8
+    ensures answer { result ≡ status_of (taken_at map.old flags octets.now memory.old) }
+    ensures tells { TellsOutcome (taken_at map.old flags octets.now memory.old)
+        (outcome_told map.new taken.new memory.new octets.now) }
+    ensures map { OnOk (taken_at map.old flags octets.now memory.old)
+        (is_map map.new (length memory.old) ≡ true) }
+    ensures unchanged { OnErr (taken_at map.old flags octets.now memory.old)
+        ((map.new ≡ map.old) × (taken.new ≡ taken.old) × (memory.new ≡ memory.old)) }
+{
+    if flags >= 4 || !is_whole(map, memory.len()) {
+        return DAMAGED;
+    }
+    *taken = take_cell(map, SegmentFlags::with_code(flags), octets, memory);
+    0
+}
+
+fn is_whole(map: &KeptMap, room: usize) -> bool
+    ensures { result ≡ is_map map.now room }
+{
+    map.is_open < 2 && map.blocking < 2 && map.count <= room && (map.is_open == 1 || map.count == 0)
+}
+
+fn limits_for(map: &KeptMap, room: usize) -> Limits
+    ensures { result ≡ limits_of map.now room }
+{
+    Limits {
+        part: 1,
+        max_packet: room.min(4294967295) as u32,
+        maps: 1,
+        blocking: map.blocking == 1,
+    }
+}
+
+// A segment's cell of the assembler's table.
+fn take_cell(
+    map: &mut KeptMap,
+    flags: SegmentFlags,
+    octets: &[u8],
+    memory: &mut [u8],
+) -> TakenSegment
+    requires whole { is_map map.old (length memory.old) ≡ true }
+    ensures tells { outcome_told map.new result memory.new octets.now
+        ≡ cell (limits_of map.old (length memory.old)) flags (part_of map.old memory.old)
+        octets.now }
+    ensures map { is_map map.new (length memory.old) ≡ true }
+{
+    match flags {
+        SegmentFlags::Alone => take_alone(map, octets, memory),
+        SegmentFlags::First => take_first(map, octets, memory),
+        SegmentFlags::Continuing => take_continuing(map, octets, memory),
+        SegmentFlags::Last => take_last(map, octets, memory),
+    }
+}
+
+// No part is open.
+fn close(map: &mut KeptMap)
+    ensures { map.new ≡ closed map.old }
+{
+    map.count = 0;
+    map.is_open = 0;
+}
+
+// No packet is whole, and this is dropped, if anything.
+fn no_packets(dropped: Option<Dropped>) -> TakenSegment
+    ensures { result ≡ no_packets (cause_answer dropped) }
+{
+    TakenSegment {
+        count: 0,
+        place: 0,
+        dropped: number_of(dropped),
+    }
+}
+
+fn number_of(dropped: Option<Dropped>) -> u8
+    ensures { result ≡ cause_answer dropped }
+{
+    match dropped {
+        None => 0,
+        Some(Dropped::ClosedMap) => 1,
+        Some(Dropped::Interrupted) => 2,
+        Some(Dropped::NoBeginning) => 3,
+        Some(Dropped::NotAPacket) => 4,
+        Some(Dropped::TooLong) => 5,
+    }
+}
+
+// What a first or an alone segment drops: the part that is open.
+fn interruption(map: &KeptMap) -> Option<Dropped>
+    ensures { result ≡ interrupted map.now }
+{
+    if map.is_open == 1 {
+        return Some(Dropped::Interrupted);
+    }
+    None
+}
+
+fn take_alone(map: &mut KeptMap, octets: &[u8], memory: &[u8]) -> TakenSegment
+    requires whole { is_map map.old (length memory.now) ≡ true }
+    ensures tells { outcome_told map.new result memory.now octets.now
+        ≡ cell (limits_of map.old (length memory.now)) flags.Alone (part_of map.old memory.now)
+        octets.now }
+    ensures map { is_map map.new (length memory.now) ≡ true }
+{
+    let limits = limits_for(map, memory.len());
+    let earlier = interruption(map);
+    close(map);
+    if let Some(cause) = fault_of_alone(&limits, octets) {
+        return no_packets(Some(cause));
+    }
+    TakenSegment {
+        count: octets.len(),
+        place: 2,
+        dropped: number_of(earlier),
+    }
+}
+
+fn take_first(map: &mut KeptMap, octets: &[u8], memory: &mut [u8]) -> TakenSegment
+    requires whole { is_map map.old (length memory.old) ≡ true }
+    ensures tells { outcome_told map.new result memory.new octets.now
+        ≡ cell (limits_of map.old (length memory.old)) flags.First (part_of map.old memory.old)
+        octets.now }
+    ensures map { is_map map.new (length memory.old) ≡ true }
+{
+    let limits = limits_for(map, memory.len());
+    let earlier = interruption(map);
+    close(map);
+    if limits.is_too_long(octets.len()) {
+        return no_packets(Some(Dropped::TooLong));
+    }
+    map.count = add(0, octets, memory);
+    map.is_open = 1;
+    no_packets(earlier)
+}
+
+// Puts octets into the memory behind so many, and says how many are there then.
+fn add(count: usize, octets: &[u8], memory: &mut [u8]) -> usize
+    requires room { count + length octets.now ≤ length memory.old }
+    ensures joined { take result memory.new ≡ take count memory.old ++ octets.now }
+    ensures count { result ≡ count + length octets.now }
+    ensures room { length memory.new ≡ length memory.old }
+{
+    let end = count + octets.len();
+    memory[count..end].copy_from_slice(octets);
+    end
+}
+
+// Why a continuing or a last segment is not added to the part that is open.
+fn fault_of_adding(map: &KeptMap, octets: &[u8], memory: &[u8]) -> Option<Dropped>
+    requires whole { is_map map.now (length memory.now) ≡ true }
+    ensures fault { result ≡ adding_fault
+        (limits_of map.now (length memory.now)) (part_of map.now memory.now) octets.now }
+    ensures room { result ≡ None → (map.now.is_open ≡ 1)
+        × (map.now.count + length octets.now ≤ length memory.now) }
+{
+    if map.is_open == 0 {
+        return Some(Dropped::NoBeginning);
+    }
+    if limits_for(map, memory.len()).is_too_long(map.count + octets.len()) {
+        return Some(Dropped::TooLong);
+    }
+    None
+}
+
+fn take_continuing(map: &mut KeptMap, octets: &[u8], memory: &mut [u8]) -> TakenSegment
+    requires whole { is_map map.old (length memory.old) ≡ true }
+    ensures tells { outcome_told map.new result memory.new octets.now
+        ≡ cell (limits_of map.old (length memory.old)) flags.Continuing (part_of map.old memory.old)
+        octets.now }
+    ensures map { is_map map.new (length memory.old) ≡ true }
+{
+    if let Some(cause) = fault_of_adding(map, octets, memory) {
+        close(map);
+        return no_packets(Some(cause));
+    }
+    map.count = add(map.count, octets, memory);
+    no_packets(None)
+}
+
+fn take_last(map: &mut KeptMap, octets: &[u8], memory: &mut [u8]) -> TakenSegment
+    requires whole { is_map map.old (length memory.old) ≡ true }
+    ensures tells { outcome_told map.new result memory.new octets.now
+        ≡ cell (limits_of map.old (length memory.old)) flags.Last (part_of map.old memory.old)
+        octets.now }
+    ensures map { is_map map.new (length memory.old) ≡ true }
+{
+    let limits = limits_for(map, memory.len());
+    if let Some(cause) = fault_of_adding(map, octets, memory) {
+        close(map);
+        return no_packets(Some(cause));
+    }
+    let count = add(map.count, octets, memory);
+    close(map);
+    if let Some(cause) = fault_of_one(&limits, &memory[..count]) {
+        return no_packets(Some(cause));
+    }
+    TakenSegment {
+        count,
+        place: 1,
+        dropped: 0,
+    }
+}
+
+/// The packet behind a part of the octets, which the part is then; false, and nothing is written, where none stands
+/// there.
+#[tactic(auto, using(crate::proofs::Assembling::stands_at, crate::proofs::Assembling::none_at, crate::proofs::Assembling::none_past))]
+#[unsafe(no_mangle)]
+pub extern "C" fn sedge_map_packet(octets: &[u8], packet: &mut Part) -> bool
+    ensures found { result ≡ is_some (next_packet octets.now packet.old) }
+    ensures packet { packet.new ≡ part_or (next_packet octets.now packet.old) packet.old }
+    ensures tells { TellsPackets octets.now packet.old packet.new result }
+{
+    if packet.from > octets.len() || packet.count > octets.len() - packet.from {
+        return false;
+    }
+    let place = packet.from + packet.count;
+    match packet_len(octets.split_at(place).1) {
+        Some(len) => {
+            *packet = Part {
+                from: place,
+                count: len,
+            };
+            true
+        }
+        None => false,
+    }
+}
