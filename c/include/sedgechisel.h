@@ -456,8 +456,8 @@ enum sedge_dropped {
     SEDGE_DROPPED_NO_BEGINNING = 3, /* the segment: it continues or ends a packet, and no part is open */
     SEDGE_DROPPED_NOT_A_PACKET = 4, /* what was joined, or stood alone: it is not exactly one packet, or with blocking
                                      * not one or more whole packets */
-    SEDGE_DROPPED_TOO_LONG = 5      /* what was joined, or stood alone: it, or with blocking one of its packets, has more
-                                     * octets than the memory */
+    SEDGE_DROPPED_TOO_LONG = 5      /* what was joined, or stood alone: it, or with blocking one of its packets, has
+                                     * more octets than the memory */
 };
 
 /* Where the packets stand that are whole now. */

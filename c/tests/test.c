@@ -855,6 +855,46 @@ static void damaged_maps(void) {
     }
 }
 
+static int is_cut(const uint8_t *octets, size_t count, struct sedge_limits limits, size_t k, int flags, size_t from,
+                  size_t length) {
+    struct sedge_part data;
+    uint8_t found;
+    return sedge_map_segment(octets, count, &limits, k, &found, &data) == SEDGE_OK && found == flags
+           && data.from == from && data.count == length;
+}
+
+static void segments_of_packets(void) {
+    static const struct sedge_limits thirds = {3, 8, 0}, fifteen = {15, 8, 1}, eight = {8, 8, 1}, four = {4, 8, 1};
+    size_t segments = 99;
+    WANT(sedge_map_count(TWO, 7, &thirds, &segments) == SEDGE_OK && segments == 3);
+    WANT(is_cut(TWO, 7, thirds, 0, SEDGE_SEGMENT_FIRST, 0, 3) && is_cut(TWO, 7, thirds, 2, SEDGE_SEGMENT_LAST, 6, 1));
+    WANT(is_cut(TWO, 7, thirds, 1, SEDGE_SEGMENT_CONTINUING, 3, 3));
+    WANT(sedge_map_count(TWO, 15, &fifteen, &segments) == SEDGE_OK && segments == 1);
+    WANT(is_cut(TWO, 15, fifteen, 0, SEDGE_SEGMENT_ALONE, 0, 15));
+    WANT(sedge_map_count(TWO, 15, &eight, &segments) == SEDGE_OK && segments == 2);
+    WANT(is_cut(TWO, 15, eight, 0, SEDGE_SEGMENT_ALONE, 0, 7) && is_cut(TWO, 15, eight, 1, SEDGE_SEGMENT_ALONE, 7, 8));
+    WANT(sedge_map_count(TWO, 15, &four, &segments) == SEDGE_OK && segments == 4);
+    WANT(is_cut(TWO, 15, four, 1, SEDGE_SEGMENT_LAST, 4, 3) && is_cut(TWO, 15, four, 3, SEDGE_SEGMENT_LAST, 11, 4));
+}
+
+static uint8_t uncut(size_t count, struct sedge_limits limits, size_t k) {
+    struct sedge_part data = {11, 22};
+    uint8_t flags = 77, answer = sedge_map_segment(TWO, count, &limits, k, &flags, &data);
+    size_t segments = 99;
+    uint8_t counted = sedge_map_count(TWO, count, &limits, &segments);
+    WANT(answer == SEDGE_ABSENT ? counted == SEDGE_OK : counted == answer && segments == 99);
+    WANT(flags == 77 && data.from == 11 && data.count == 22);
+    return answer;
+}
+
+static void octets_that_are_not_cut(void) {
+    static const struct sedge_limits good = {3, 8, 0}, block = {3, 7, 1}, none = {0, 8, 0}, flag = {3, 8, 2};
+    WANT(uncut(7, good, 3) == SEDGE_ABSENT && uncut(7, good, SIZE_MAX) == SEDGE_ABSENT);
+    WANT(uncut(6, good, 0) == SEDGE_MAP_NOT_A_PACKET && uncut(15, good, 0) == SEDGE_MAP_NOT_A_PACKET);
+    WANT(uncut(0, block, 0) == SEDGE_MAP_NOT_A_PACKET && uncut(15, block, 0) == SEDGE_MAP_TOO_LONG);
+    WANT(uncut(7, none, 0) == SEDGE_DAMAGED && uncut(7, flag, 0) == SEDGE_DAMAGED);
+}
+
 int main(void) {
     the_version();
     names();
@@ -886,6 +926,8 @@ int main(void) {
     packets_from_segments();
     packets_in_blocks();
     damaged_maps();
+    segments_of_packets();
+    octets_that_are_not_cut();
     printf(failures ? "%d failed\n" : "all as wanted\n", failures);
     return failures != 0;
 }

@@ -1,3 +1,4 @@
 mod Assembling
+mod Cut
 mod Kept
 mod Told

@@ -1,6 +1,7 @@
 pub mod Answers
 pub mod Commands
 pub mod ControlWords
+pub mod Cuttings
 pub mod Maps
 pub mod Names
 pub mod Numbers

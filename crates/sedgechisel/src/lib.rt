@@ -5,6 +5,7 @@ mod assembly;
 mod checking;
 mod command_frame;
 mod control_word;
+mod cutting;
 mod names;
 mod numbers;
 mod packet;

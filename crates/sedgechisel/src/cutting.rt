@@ -1,0 +1,155 @@
+// Cutting packets into segments, each told by its place.
+
+ghost use Rattle.std.specs.Prelude.{◌≡◌, ◌≤◌, ◌<◌, ◌+◌, ◌*◌, [], length, take, drop, Some, None, IfSome, OnErr, slice_get};
+ghost use Rattle.tc_frame.specs.Layout.{flags_code};
+ghost use Rattle.map_service.specs.Cutting.{parts_of, segments_of};
+ghost use Rattle.map_service.specs.Packets.{rest_in};
+ghost use Rattle.sedgechisel.specs.Answers.{status_of, left_by};
+ghost use Rattle.sedgechisel.specs.Cuttings.{limits_told, segments_told, segment_told, segment_in, segment_at, TellsSegment};
+
+use crate::numbers::{ABSENT, DAMAGED};
+use crate::part::Part;
+use map_service::{Limits, group_len, segment_count};
+use tc_frame::SegmentFlags;
+
+/// What a sender cuts: the most octets of data in a segment, at least 1, the most octets of a packet, and whether a
+/// segment may hold several packets, 0 or 1.
+#[repr(C)]
+#[derive(Clone, Copy)]
+pub struct CutLimits {
+    pub part: u32,
+    pub max_packet: u32,
+    pub blocking: u8,
+}
+
+/// Where a segment's data stand among the octets, and its flags.
+#[derive(Clone, Copy)]
+struct Place {
+    flags: SegmentFlags,
+    from: usize,
+    count: usize,
+}
+
+/// How many segments are made of the octets. Answers 0, or 255 where the limits are none, or 1 `NotAPacket`, or 2
+/// `TooLong`.
+#[unsafe(no_mangle)]
+pub extern "C" fn sedge_map_count(octets: &[u8], limits: &CutLimits, segments: &mut usize) -> u8
+    ensures answer { result ≡ status_of (segments_told limits.now octets.now) }
+    ensures segments { segments.new
+        ≡ left_by length (segments_told limits.now octets.now) segments.old }
+{
+    match limits_from(limits) {
+        Ok(told) => match segment_count(octets, &told) {
+            Ok(count) => {
+                *segments = count;
+                0
+            }
+            Err(fault) => fault.number(),
+        },
+        Err(number) => number,
+    }
+}
+
+/// Segment `k` of these, from 0: its flags, and where its data stand in the octets. Answers as `sedge_map_count` does, or
+/// 253 where there are not so many.
+#[unsafe(no_mangle)]
+pub extern "C" fn sedge_map_segment(
+    octets: &[u8],
+    limits: &CutLimits,
+    k: usize,
+    flags: &mut u8,
+    payload: &mut Part,
+) -> u8
+    ensures answer { result ≡ status_of (segment_told limits.now octets.now k) }
+    ensures flags { flags.new
+        ≡ left_by (λ s. flags_code s.header.flags) (segment_told limits.now octets.now k) flags.old }
+    ensures tells { TellsSegment (segment_told limits.now octets.now k)
+        (take payload.new.count (drop payload.new.from octets.now)) }
+    ensures unchanged { OnErr (segment_told limits.now octets.now k) (payload.new ≡ payload.old) }
+{
+    match limits_from(limits) {
+        Ok(told) => match segment_count(octets, &told) {
+            Ok(_) => match place_in(octets, told.part as usize, k) {
+                Some(place) => {
+                    *flags = place.flags.code();
+                    *payload = Part {
+                        from: place.from,
+                        count: place.count,
+                    };
+                    0
+                }
+                None => ABSENT,
+            },
+            Err(fault) => fault.number(),
+        },
+        Err(number) => number,
+    }
+}
+
+fn limits_from(limits: &CutLimits) -> Result<Limits, u8>
+    ensures { result ≡ limits_told limits.now }
+{
+    if limits.part == 0 || limits.blocking >= 2 {
+        return Err(DAMAGED);
+    }
+    Ok(Limits {
+        part: limits.part,
+        max_packet: limits.max_packet,
+        maps: 0,
+        blocking: limits.blocking == 1,
+    })
+}
+
+// Segment k of packets.
+fn place_in(octets: &[u8], part: usize, k: usize) -> Option<Place>
+    requires some_part { 1 ≤ part }
+    requires whole { rest_in octets.now ≡ [] }
+    ensures { slice_get (segments_of part 0 octets.now) k
+        ≡ segment_at octets.now result }
+{
+    let mut rest = octets;
+    let mut from = 0;
+    let mut left = k;
+    'groups: while !rest.is_empty() {
+        let len = group_len(rest, part);
+        let count = (len - 1) / part + 1;
+        if left < count {
+            return Some(place_of(octets, from, len, part, left));
+        }
+        left -= count;
+        from += len;
+        rest = rest.split_at(len).1;
+    }
+    None
+}
+
+// Part k of the packets that have so many octets from a place on, where there is one.
+#[tactic(auto, using(crate::proofs::Cut::alone_at, crate::proofs::Cut::first_at, crate::proofs::Cut::continuing_at, crate::proofs::Cut::last_at))]
+fn place_of(octets: &[u8], from: usize, len: usize, part: usize, k: usize) -> Place
+    requires some_octet { 1 ≤ len }
+    requires some_part { 1 ≤ part }
+    requires within { from + len ≤ length octets.now }
+    requires there { k * part < len }
+    ensures { slice_get (parts_of part 0 (take len (drop from octets.now))) k
+        ≡ Some (segment_in octets.now result) }
+{
+    let start = k * part;
+    let rest = len - start;
+    if k == 0 {
+        if rest <= part {
+            placed(SegmentFlags::Alone, from + start, rest)
+        } else {
+            placed(SegmentFlags::First, from + start, part)
+        }
+    } else if rest <= part {
+        placed(SegmentFlags::Last, from + start, rest)
+    } else {
+        placed(SegmentFlags::Continuing, from + start, part)
+    }
+}
+
+fn placed(flags: SegmentFlags, from: usize, count: usize) -> Place
+    ensures { result ≡ record { flags = flags; from = from; count = count } }
+{
+    Place { flags, from, count }
+}
