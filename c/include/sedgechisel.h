@@ -1,7 +1,7 @@
 /* Sedgechisel for programs in C: the check of frames, telecommand frames, space packets, control words, telemetry
  * frames, the receiver FARM-1, the sender FOP-1, and packets in segments. For C99 and later, and for C++.
  *
- * Nothing here allocates, keeps a state of its own, or calls a function of another library; so each function may be
+ * Nothing here allocates, keeps a state of its own, or calls a function of another library but memmove; so each may be
  * called anywhere, from two threads at once too, where they do not share what they write. Each is proved to do what
  * its crate's contract says, for every value of its arguments and of the structs behind its pointers. The books are
  * CCSDS 133.0-B-2 (space packets), 132.0-B-3 (telemetry), 232.0-B-4 (telecommand) and 232.1-B-2 (COP-1).
