@@ -1,0 +1,299 @@
+/* Random structs and octets, given to every call that reads them: `random COUNT`. Each answers one of its numbers; a call
+ * that refuses has written nothing, and one that writes octets has written those that it tells of. Octets and structs end
+ * where a page begins that may not be touched. Ends with 0 where all is as wanted, and tells what is not. */
+#define _DEFAULT_SOURCE
+#include <sedgechisel.h>
+#include <stdio.h>
+#include <stdlib.h>
+#include <string.h>
+#include <sys/mman.h>
+#include <unistd.h>
+
+enum { MOST = 4096, REGIONS = 4, KINDS = 8 };
+
+static int failures;
+
+#define WANT(holds)                                                                                                    \
+    do {                                                                                                               \
+        if (!(holds) && failures++ < 20) printf("%s:%d: not so: %s\n", __FILE__, __LINE__, #holds);                    \
+    } while (0)
+
+static uint64_t state = 0x9e3779b97f4a7c15u;
+
+/* A number below the limit (xorshift64*, Marsaglia and Vigna). */
+static uint32_t below(uint32_t limit) {
+    state ^= state >> 12;
+    state ^= state << 25;
+    state ^= state >> 27;
+    return (uint32_t)((state * 2685821657736338717u) >> 33) % limit;
+}
+
+/* The first page behind each region may not be touched. */
+static uint8_t *ends[REGIONS];
+
+static int make_regions(void) {
+    size_t page = (size_t)sysconf(_SC_PAGESIZE);
+    size_t size = (MOST + page - 1) / page * page;
+    for (int i = 0; i < REGIONS; i++) {
+        uint8_t *at = mmap(NULL, size + page, PROT_READ | PROT_WRITE, MAP_PRIVATE | MAP_ANONYMOUS, -1, 0);
+        if (at == MAP_FAILED || mprotect(at + size, page, PROT_NONE) != 0) return 1;
+        ends[i] = at + size;
+    }
+    return 0;
+}
+
+static uint32_t any_count(void) {
+    return below(8) == 0 ? below(2100) : below(40);
+}
+
+static void fill(uint8_t *at, size_t count) {
+    uint32_t how = below(3);
+    for (size_t i = 0; i < count; i++) at[i] = (uint8_t)(how == 0 || below(4) == 0 ? below(256) : below(6));
+}
+
+/* So many octets of anything, at a region's end. */
+static uint8_t *octets_of(int region, size_t count) {
+    uint8_t *at = ends[region] - count;
+    fill(at, count);
+    return at;
+}
+
+/* So many octets to be written, at the end of region 1, of which each is 0x55. */
+static uint8_t *room_of(size_t room) {
+    return memset(ends[1] - room, 0x55, room);
+}
+
+/* Whether the octets from a place to the end of region 1 are as they were. */
+static int is_kept(const uint8_t *at) {
+    while (at < ends[1] && *at == 0x55) at++;
+    return at == ends[1];
+}
+
+/* A struct of anything, at the end of region 2. */
+#define ANY(type) ((type *)(void *)octets_of(2, sizeof(type)))
+
+/* Whether an answer is one that a call may give, and a refusal has left the struct as it was. */
+static int is_answer(uint8_t answer, uint8_t most, const void *now, const void *kept, size_t size) {
+    return (answer <= most || answer >= SEDGE_ABSENT) && (answer == SEDGE_OK || memcmp(now, kept, size) == 0);
+}
+
+/* What a call that writes octets answered and told. */
+static void look_at_written(uint8_t answer, uint8_t most, const uint8_t *out, size_t room, size_t total) {
+    WANT(answer <= most || answer == SEDGE_DAMAGED);
+    WANT(answer == SEDGE_OK ? total > 0 && total <= room && is_kept(out + total) : total == 99 && is_kept(out));
+}
+
+static void checks(void) {
+    size_t count = any_count();
+    uint8_t *octets = octets_of(1, count);
+    bool is_set = sedge_check_append(octets, count);
+    WANT(is_set == (count > 1) && sedge_check_holds(octets, count) == is_set);
+    WANT(!is_set || sedge_check(octets, count - 2) == (octets[count - 2] << 8 | octets[count - 1]));
+}
+
+static void control_words(void) {
+    size_t count = below(4) == 0 ? below(8) : 4, room = below(4) == 0 ? below(8) : 4;
+    uint8_t *octets = octets_of(0, count), *out = room_of(room), answer;
+    struct sedge_clcw *word = ANY(struct sedge_clcw), kept = *word;
+    answer = sedge_clcw_encode(word, out, room);
+    WANT((answer == SEDGE_OK && room == 4) || (is_kept(out) && (answer == SEDGE_CLCW_RANGE || answer == SEDGE_WRONG_COUNT)));
+    answer = sedge_clcw_decode(octets, count, word);
+    WANT(is_answer(answer, SEDGE_CLCW_SPARE, word, &kept, sizeof kept));
+}
+
+/* A receiver of anything, or mostly one. */
+static struct sedge_farm *any_receiver(void) {
+    struct sedge_farm *farm = ANY(struct sedge_farm);
+    if (below(4) == 0) return farm;
+    farm->width = (uint8_t)(2 + 2 * below(127));
+    farm->lockout = (uint8_t)below(2);
+    farm->wait = (uint8_t)(below(4) == 0);
+    farm->retransmit = (uint8_t)(farm->wait || below(2));
+    farm->farm_b &= 3;
+    return farm;
+}
+
+static void receivers(void) {
+    struct sedge_farm *farm = any_receiver(), kept = *farm;
+    struct sedge_clcw *word = (struct sedge_clcw *)(void *)room_of(sizeof *word);
+    uint8_t is_damaged = sedge_farm_state(farm) == SEDGE_DAMAGED ? SEDGE_DAMAGED : 0, answer, which = (uint8_t)below(7);
+    WANT(sedge_farm_state(farm) <= SEDGE_FARM_LOCKOUT || is_damaged);
+    if (which == 0) {
+        answer = sedge_farm_ad(farm, (uint8_t)(farm->vr + (below(2) ? 0 : below(256))), below(2));
+        WANT(is_damaged ? answer == SEDGE_DAMAGED : answer <= SEDGE_DISCARDED);
+    } else if (which == 1) {
+        answer = sedge_farm_report(farm, (uint8_t)below(80), word);
+        WANT(answer == SEDGE_OK || (is_kept((uint8_t *)word) && (answer == SEDGE_CLCW_RANGE || answer == is_damaged)));
+    } else if (which == 2) {
+        WANT(is_answer(sedge_farm_open(farm, (uint8_t)below(256), 0), SEDGE_COP_WIDTH, farm, &kept, sizeof kept));
+        return;
+    } else {
+        answer = which == 3   ? sedge_farm_bd(farm)
+                 : which == 4 ? sedge_farm_unlock(farm)
+                 : which == 5 ? sedge_farm_set_vr(farm, (uint8_t)below(256))
+                              : sedge_farm_released(farm);
+        WANT(answer == is_damaged);
+    }
+    WANT(is_damaged ? memcmp(farm, &kept, sizeof kept) == 0 : sedge_farm_state(farm) <= SEDGE_FARM_LOCKOUT);
+}
+
+/* A sender of anything, or one that is like a sender. */
+static struct sedge_fop *any_sender(void) {
+    struct sedge_fop *fop = ANY(struct sedge_fop);
+    if (below(2) == 0) return fop;
+    fop->room = (uint8_t)(1 + below(127));
+    fop->state = (uint8_t)(1 + below(6));
+    fop->sent = fop->state == SEDGE_FOP_S6 ? 0 : (uint8_t)below(fop->room + 1u);
+    fop->vs = (uint8_t)(fop->nn + fop->sent);
+    fop->due = (uint8_t)below(fop->sent + 1u);
+    fop->window = (uint8_t)(1 + below(fop->room));
+    fop->waiting = fop->state == SEDGE_FOP_S6 ? 0 : (uint8_t)below(2);
+    fop->limit = (uint8_t)(1 + below(255));
+    fop->count = (uint8_t)(1 + below(3));
+    fop->timer = (uint16_t)(1 + below(65535));
+    fop->ticks = fop->state == SEDGE_FOP_S6 ? 0 : (uint16_t)below(fop->timer + 1u);
+    fop->control = fop->state == SEDGE_FOP_S5 ? (uint8_t)(1 + below(4)) : SEDGE_CONTROL_IDLE;
+    fop->vr = fop->control >= SEDGE_CONTROL_SET_VR_DUE ? (uint8_t)below(256) : 0;
+    return fop;
+}
+
+static void senders(void) {
+    struct sedge_fop *fop = any_sender(), kept = *fop;
+    struct sedge_clcw word;
+    uint8_t *number = room_of(1), answer, which = (uint8_t)below(14), value = (uint8_t)below(256);
+    fill((uint8_t *)&word, sizeof word);
+    switch (which) {
+    case 0: answer = sedge_fop_open(fop, value, (uint8_t)below(256), value, value); break;
+    case 1: answer = sedge_fop_init_without_check(fop); break;
+    case 2: answer = sedge_fop_init_with_check(fop); break;
+    case 3: answer = sedge_fop_init_unlock(fop); break;
+    case 4: answer = sedge_fop_init_set_vr(fop, value); break;
+    case 5: answer = sedge_fop_terminate(fop); break;
+    case 6: answer = sedge_fop_set_vs(fop, value); break;
+    case 7: answer = sedge_fop_set_window(fop, value); break;
+    case 8: answer = sedge_fop_set_limit(fop, value); break;
+    case 9: answer = sedge_fop_set_timer(fop, value); break;
+    case 10: answer = sedge_fop_submit(fop); break;
+    case 11: answer = sedge_fop_next(fop, number); break;
+    case 12: answer = sedge_fop_report(fop, &word, number); break;
+    default: answer = sedge_fop_tick(fop); break;
+    }
+    if (which < 11) {
+        WANT(is_answer(answer, SEDGE_COP_WRONG_STATE, fop, &kept, sizeof kept));
+    } else {
+        WANT(answer <= SEDGE_ALERT_TERMINATED || answer == SEDGE_DAMAGED);
+        WANT(answer != SEDGE_DAMAGED || (memcmp(fop, &kept, sizeof kept) == 0 && is_kept(number)));
+    }
+    WANT(answer == SEDGE_DAMAGED || which == 0 || sedge_fop_tick(fop) != SEDGE_DAMAGED);
+}
+
+static void telecommand_frames(void) {
+    size_t count = any_count(), room = any_count(), total = 99;
+    uint8_t *octets = octets_of(0, count), *out = room_of(room), answer;
+    struct sedge_tc_frame *frame = ANY(struct sedge_tc_frame), kept;
+    struct sedge_part data = {11, 22};
+    bool checked = below(2);
+    if (count >= 5 && count <= 1024 && below(4) != 0) {
+        octets[0] &= 0x23;
+        octets[2] = (uint8_t)((octets[2] & 0xfc) | (count - 1) >> 8);
+        octets[3] = (uint8_t)(count - 1);
+        if (checked) sedge_check_append(octets, count);
+    }
+    if (below(4) != 0) {
+        frame->scid = (uint16_t)below(1024);
+        frame->vcid = (uint8_t)below(65);
+        frame->kind = (uint8_t)below(4);
+        frame->flags = (uint8_t)below(4);
+        frame->map = (uint8_t)below(65);
+        frame->command = (uint8_t)below(3);
+    }
+    answer = sedge_tc_encode(frame, octets, count, checked, out, room, &total);
+    look_at_written(answer, SEDGE_TC_FIELD_RANGE, out, room, total);
+    kept = *frame;
+    answer = sedge_tc_decode(octets, count, checked, frame, &data);
+    WANT(is_answer(answer, SEDGE_TC_COMMAND, frame, &kept, sizeof kept));
+    WANT(answer == SEDGE_OK ? data.from <= count && data.count <= count - data.from : data.from == 11 && data.count == 22);
+    total = 99;
+    answer = sedge_tc_declared(octets, count, checked, &total);
+    WANT(answer == SEDGE_OK ? total <= 1024 : total == 99 && (answer == SEDGE_TC_SHORT || answer == SEDGE_TC_LENGTH));
+}
+
+static void make_packet(uint8_t *octets, size_t count) {
+    if (count < 7 || below(4) == 0) return;
+    octets[0] &= 0x17;
+    octets[4] = (uint8_t)((count - 7) >> 8);
+    octets[5] = (uint8_t)(count - 7 - (below(4) == 0 ? below(3) : 0));
+}
+
+static void packets(void) {
+    size_t count = any_count(), room = any_count(), total = 99;
+    uint8_t *octets = octets_of(0, count), *out = room_of(room), answer;
+    struct sedge_packet *packet = ANY(struct sedge_packet), kept;
+    struct sedge_part data = {11, 22};
+    make_packet(octets, count);
+    if (below(4) != 0) {
+        packet->apid = (uint16_t)below(2049);
+        packet->count = (uint16_t)below(16384);
+        packet->kind = (uint8_t)below(2);
+        packet->secondary = (uint8_t)below(2);
+        packet->flags = (uint8_t)below(4);
+    }
+    answer = sedge_packet_encode(packet, octets, count, out, room, &total);
+    look_at_written(answer, SEDGE_PACKET_FIELD_RANGE, out, room, total);
+    kept = *packet;
+    answer = sedge_packet_decode(octets, count, packet, &data);
+    WANT(is_answer(answer, SEDGE_PACKET_IDLE_WITH_SECONDARY, packet, &kept, sizeof kept));
+    WANT(answer == SEDGE_OK ? data.from == 6 && data.count <= count - 6 : data.from == 11 && data.count == 22);
+    total = 99;
+    answer = sedge_packet_declared(octets, count, &total);
+    WANT(answer == SEDGE_OK ? total >= 7 && total <= 65542 : total == 99 && answer <= SEDGE_PACKET_IDLE_WITH_SECONDARY);
+}
+
+static void telemetry_frames(void) {
+    size_t count = any_count(), room = any_count(), total = 99, length = below(4) == 0 ? any_count() : count;
+    uint8_t *octets = octets_of(0, count), *out = room_of(room), answer;
+    struct sedge_tm_frame *frame = ANY(struct sedge_tm_frame), kept;
+    struct sedge_part data = {11, 22};
+    if (count >= 16 && below(4) != 0) {
+        octets[0] &= 0x3f;
+        octets[1] |= below(8) != 0;
+        octets[4] = (uint8_t)(0x18 | (octets[4] & 7));
+        sedge_check_append(octets, count);
+    }
+    if (below(2)) frame->scid = (uint16_t)below(1024), frame->pointer = SEDGE_POINTER_ONLY_IDLE, frame->vcid &= 7;
+    answer = sedge_tm_encode(frame, octets, count, out, room, &total);
+    look_at_written(answer, SEDGE_TM_FIELD_RANGE, out, room, total);
+    kept = *frame;
+    answer = sedge_tm_decode(octets, count, length, frame, &data);
+    WANT(is_answer(answer, SEDGE_TM_NO_OCF, frame, &kept, sizeof kept));
+    WANT(answer == SEDGE_OK ? data.from == 6 && data.count == count - 12 : data.from == 11 && data.count == 22);
+}
+
+static void maps(void) {
+    size_t count = any_count(), room = any_count();
+    uint8_t *octets = octets_of(0, count), *memory = octets_of(3, room), answer, flags = (uint8_t)below(5);
+    struct sedge_map *map = ANY(struct sedge_map), kept;
+    struct sedge_taken taken = {77, 7, 7};
+    struct sedge_part packet = {0, 0};
+    make_packet(octets, count);
+    if (below(4) != 0) {
+        map->open = (uint8_t)below(2);
+        map->count = map->open ? below((uint32_t)room + 2) : 0;
+        map->blocking = (uint8_t)below(2);
+    }
+    kept = *map;
+    answer = sedge_map_take(map, flags, octets, count, memory, room, &taken);
+    WANT(answer == SEDGE_OK || (answer == SEDGE_DAMAGED && memcmp(map, &kept, sizeof kept) == 0 && taken.count == 77));
+    WANT(answer == SEDGE_DAMAGED || (map->count <= room && taken.where <= SEDGE_IN_DATA && taken.dropped <= SEDGE_DROPPED_TOO_LONG));
+    if (answer == SEDGE_OK) WANT(taken.count <= (taken.where == SEDGE_IN_MEMORY ? room : count));
+    while (sedge_map_packet(octets, count, &packet)) WANT(packet.count >= 7 && packet.from + packet.count <= count);
+}
+
+int main(int count, char **words) {
+    static void (*const kinds[KINDS])(void) = {checks, control_words, receivers, senders, telecommand_frames,
+                                               packets, telemetry_frames, maps};
+    if (count != 2 || make_regions() != 0) return 2;
+    for (unsigned long left = strtoul(words[1], NULL, 10); left > 0; left--) kinds[below(KINDS)]();
+    printf(failures ? "%d failed\n" : "all as wanted\n", failures);
+    return failures != 0;
+}
