@@ -1,16 +1,16 @@
 """Sedgechisel for Python: the check of frames, telecommand frames, space packets, control words, telemetry frames, the
-receiver FARM-1 and the sender FOP-1, by the library for C, whose calls are proved.
+receiver FARM-1, the sender FOP-1, and packets in segments, by the library for C, whose calls are proved.
 
 Octets are `bytes`. What the library refuses is a `Fault` with its number and its name, those of sedgechisel.h. The fields
 of structs are those of the header too; a number that does not fit its field is an OverflowError. The books are CCSDS
 133.0-B-2 (space packets), 132.0-B-3 (telemetry), 232.0-B-4 (telecommand) and 232.1-B-2 (COP-1)."""
 import ctypes
-from ctypes import POINTER, byref, c_bool, c_char, c_char_p, c_size_t, c_uint8, c_uint16
+from ctypes import POINTER, byref, c_bool, c_char, c_char_p, c_size_t, c_uint8, c_uint16, c_uint32
 from enum import IntEnum
 from os import path
 
 _library = ctypes.CDLL(path.join(path.dirname(path.abspath(__file__)), "libsedgechisel.so"))
-_MOST = {c_uint8: 0xFF, c_uint16: 0xFFFF}
+_MOST = {c_uint8: 0xFF, c_uint16: 0xFFFF, c_uint32: 0xFFFFFFFF}
 _SHARED = {253: "Absent", 254: "WrongCount", 255: "Damaged"}
 _DAMAGED = 255
 
@@ -91,6 +91,12 @@ class TmFault(Fault):
     """Why a telemetry frame is refused."""
 
     _word = staticmethod(_word_of("tm_fault"))
+
+
+class MapFault(Fault):
+    """Why octets are not cut into segments, or a MAP is refused."""
+
+    _word = staticmethod(_word_of("map_fault"))
 
 
 class _Struct(ctypes.Structure):
@@ -499,3 +505,60 @@ class TmFrame(_Struct):
 
 _tm_decode = _call("tm_decode", c_uint8, *_OCTETS, c_size_t, POINTER(TmFrame), POINTER(_Part))
 _tm_encode = _call("tm_encode", c_uint8, POINTER(TmFrame), *_OCTETS, *_ROOM)
+
+# ---- Packets in segments ----
+
+_dropped_word = _word_of("dropped")
+
+
+class _Map(ctypes.Structure):
+    _fields_ = [("count", c_size_t), ("open", c_uint8), ("blocking", c_uint8)]
+
+
+class _Taken(ctypes.Structure):
+    _fields_ = [("count", c_size_t), ("where", c_uint8), ("dropped", c_uint8)]
+
+
+class _Limits(ctypes.Structure):
+    _fields_ = [("part", c_uint32), ("max_packet", c_uint32), ("blocking", c_uint8)]
+
+
+def _packets_of(octets):
+    part = _Part()
+    while _map_packet(octets, len(octets), byref(part)):
+        yield part.of(octets)
+
+
+class Map:
+    """One MAP on board, which joins segments to packets of at most `longest` octets (232.0-B-4, 4.1.3.2.2). With blocking
+    an alone segment may hold several whole packets."""
+
+    def __init__(self, longest=65542, blocking=False):
+        self._map, self._memory = _Map(blocking=bool(blocking)), ctypes.create_string_buffer(longest)
+
+    def take(self, flags, data):
+        """Takes the next segment, its Segment flags and its data: the packets that are whole now, and why something was
+        dropped, in the word of tctool, or None. A MapFault, 255 Damaged, for flags that are none."""
+        data, taken = bytes(data), _Taken()
+        MapFault._look_at(_map_take(byref(self._map), flags, data, len(data), self._memory, len(self._memory), byref(taken)))
+        whole = (b"", self._memory.raw, data)[taken.where][:taken.count]
+        return list(_packets_of(whole)), _dropped_word(taken.dropped) if taken.dropped else None
+
+
+def segments(octets, part, longest=65542, blocking=False):
+    """The segments of a packet, or with blocking of packets one after another, of at most `part` octets each: for each its
+    Segment flags and its data. A MapFault where the octets are no packet, or one of more than `longest`."""
+    for name, value in (("part", part), ("longest", longest)):
+        _within(name, c_uint32, value)
+    octets, limits, flags, data = bytes(octets), _Limits(part, longest, bool(blocking)), c_uint8(), _Part()
+    count, cut = _count_of(_map_count, MapFault, octets, len(octets), byref(limits)), []
+    for k in range(count):
+        MapFault._look_at(_map_segment(octets, len(octets), byref(limits), k, byref(flags), byref(data)))
+        cut.append((Segment(flags.value), data.of(octets)))
+    return cut
+
+
+_map_take = _call("map_take", c_uint8, POINTER(_Map), c_uint8, *_OCTETS, *_OCTETS, POINTER(_Taken))
+_map_packet = _call("map_packet", c_bool, *_OCTETS, POINTER(_Part))
+_map_count = _call("map_count", c_uint8, *_OCTETS, POINTER(_Limits), POINTER(c_size_t))
+_map_segment = _call("map_segment", c_uint8, *_OCTETS, POINTER(_Limits), c_size_t, POINTER(c_uint8), POINTER(_Part))

@@ -9,7 +9,7 @@
 #include <sys/mman.h>
 #include <unistd.h>
 
-enum { MOST = 4096, REGIONS = 4, KINDS = 8 };
+enum { MOST = 4096, REGIONS = 4, KINDS = 9 };
 
 static int failures;
 
@@ -289,9 +289,33 @@ static void maps(void) {
     while (sedge_map_packet(octets, count, &packet)) WANT(packet.count >= 7 && packet.from + packet.count <= count);
 }
 
+static void cuttings(void) {
+    size_t count = any_count(), segments = 99, joined = 0, k;
+    uint8_t *octets = octets_of(0, count), answer, flags = 99;
+    struct sedge_limits *limits = ANY(struct sedge_limits);
+    struct sedge_part data = {11, 22};
+    make_packet(octets, count);
+    if (below(4) != 0) {
+        limits->part = below(300);
+        limits->max_packet = any_count();
+        limits->blocking = (uint8_t)below(2);
+    }
+    answer = sedge_map_count(octets, count, limits, &segments);
+    WANT(answer == SEDGE_OK || (segments == 99 && (answer <= SEDGE_MAP_TOO_LONG || answer == SEDGE_DAMAGED)));
+    for (k = 0; answer == SEDGE_OK && k < segments; k++) {
+        WANT(sedge_map_segment(octets, count, limits, k, &flags, &data) == SEDGE_OK && flags <= SEDGE_SEGMENT_ALONE);
+        WANT(data.from == joined && data.count > 0 && data.count <= limits->part);
+        joined += data.count;
+    }
+    WANT(answer != SEDGE_OK || joined == count);
+    data.from = flags = 99;
+    if (answer == SEDGE_OK) answer = SEDGE_ABSENT;
+    WANT(sedge_map_segment(octets, count, limits, segments, &flags, &data) == answer && flags == 99 && data.from == 99);
+}
+
 int main(int count, char **words) {
     static void (*const kinds[KINDS])(void) = {checks, control_words, receivers, senders, telecommand_frames,
-                                               packets, telemetry_frames, maps};
+                                               packets, telemetry_frames, maps, cuttings};
     if (count != 2 || make_regions() != 0) return 2;
     for (unsigned long left = strtoul(words[1], NULL, 10); left > 0; left--) kinds[below(KINDS)]();
     printf(failures ? "%d failed\n" : "all as wanted\n", failures);
