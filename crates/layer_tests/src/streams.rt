@@ -62,26 +62,10 @@ fn frames_and_their_faults(rt: HostRuntime) {
     let alloc = rt.alloc();
     let line = "1 BC scid=1 vcid=2 unlock\n";
     let unchecked = Splitter::<Unchecked>::new(alloc);
-    is_listed(
-        &rt,
-        alloc,
-        &UNLOCK,
-        unchecked,
-        FrameListing::new(alloc),
-        true,
-        line,
-    );
+    is_listed(&rt, alloc, &UNLOCK, unchecked, FrameListing, true, line);
     let rest = Splitter::<Unchecked>::new(alloc);
     let line = "1 invalid 1 Short\n";
-    is_listed(
-        &rt,
-        alloc,
-        &UNLOCK[..3],
-        rest,
-        FrameListing::new(alloc),
-        false,
-        line,
-    );
+    is_listed(&rt, alloc, &UNLOCK[..3], rest, FrameListing, false, line);
     let checked = Splitter::<Checked>::new(alloc);
     let line = "1 invalid 5 Length\n";
     is_listed(&rt, alloc, &UNLOCK, checked, RefusalListing, false, line);
@@ -110,7 +94,7 @@ fn packets(rt: HostRuntime) {
         alloc,
         &DATA[6..],
         splitter,
-        PacketListing::new(alloc),
+        PacketListing::new(),
         true,
         line,
     );
@@ -152,7 +136,7 @@ fn texts_and_logs(rt: HostRuntime) {
         &mut Reader::new(UNLOCK.as_slice()),
         &mut Writer::new(none.as_mut_slice()),
         Splitter::<Unchecked>::new(rt.alloc()),
-        FrameListing::new(rt.alloc()),
+        FrameListing,
     );
     assert_eq!(rt; result, Err(DumpFault::Write));
 }

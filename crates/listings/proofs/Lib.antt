@@ -3,3 +3,4 @@ pub mod Pieces
 pub mod Beginnings
 pub mod ToldPackets
 pub mod Remaining
+pub mod Digits

@@ -17,3 +17,5 @@ pub mod Progress
 pub mod Writing
 pub mod Failures
 pub mod Gained
+pub mod Written
+pub mod FourDigits

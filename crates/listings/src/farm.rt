@@ -1,85 +1,164 @@
 // The lines of `tctool farm`.
 
-ghost use Rattle.std.specs.Prelude.{◌≡◌, OnOk, IfOk, is_ok};
+ghost use Rattle.std.specs.Prelude.{◌≡◌, ◌+◌, ◌<◌, ◌≤◌, ◌++◌, codes, decimal, length, take, OnOk, IfOk, is_ok};
 ghost use Rattle.tc_frame.specs.Layout.{body_view, frame_view};
 ghost use Rattle.tc_frame.specs.Reading.{frame_at};
 ghost use Rattle.tc_frame.specs.Splitting.{check_if};
-ghost use Rattle.octets.specs.Appending.{Appends};
+ghost use Rattle.cop1.specs.Names.{verdict_name};
+ghost use Rattle.listings.specs.Written.{Appends};
 ghost use Rattle.listings.specs.FarmLines.{state_word, flag_number, flags_text, state_text, body_text, after_body, farm_line, after_record, farm_lines};
 
+use crate::lines::push_invalid;
 use crate::listing::Listing;
-use crate::text::{push_field, push_index, push_invalid};
-use cop1::{Farm, FarmMode};
+use crate::parts::{put_digit, put_field, put_number, put_one, put_word};
+use crate::text::Text;
+use cop1::{Farm, FarmMode, Verdict};
 use octets::Splitter;
 use std::alloc::AllocError;
 use tc_frame::{Body, Check, Command, FrameLayout, TcFault, check_if, decode};
 
-fn word_of_state(state: FarmMode) -> &'static str
-    ensures { result.now ≡ state_word state }
+fn put_state(room: &mut [u8], at: usize, state: FarmMode) -> usize
+    requires { at + 7 ≤ length room.old }
+    ensures put { take result room.new ≡ take at room.old ++ state_word state }
+    ensures room { length room.new ≡ length room.old }
+    ensures next { result ≤ at + 7 }
 {
     match state {
-        FarmMode::Open => "Open",
-        FarmMode::Wait => "Wait",
-        FarmMode::Lockout => "Lockout",
+        FarmMode::Open => put_word(room, at, b"Open"),
+        FarmMode::Wait => put_word(room, at, b"Wait"),
+        FarmMode::Lockout => put_word(room, at, b"Lockout"),
     }
 }
 
-fn number_of_flag(flag: bool) -> u64
-    ensures { result ≡ flag_number flag }
+fn put_verdict(room: &mut [u8], at: usize, verdict: Verdict) -> usize
+    requires { at + 9 ≤ length room.old }
+    ensures put { take result room.new ≡ take at room.old ++ verdict_name verdict }
+    ensures room { length room.new ≡ length room.old }
+    ensures next { result ≤ at + 9 }
 {
-    u64::from(flag)
+    match verdict {
+        Verdict::Accepted => put_word(room, at, b"accepted"),
+        Verdict::Ahead => put_word(room, at, b"ahead"),
+        Verdict::NoBuffer => put_word(room, at, b"nobuffer"),
+        Verdict::Behind => put_word(room, at, b"behind"),
+        Verdict::Outside => put_word(room, at, b"outside"),
+        Verdict::Discarded => put_word(room, at, b"discarded"),
+    }
 }
 
-fn push_state(text: &mut String, farm: &Farm) -> Result<(), AllocError>
-    ensures { Appends result text.old text.new (state_text farm.now) }
+fn number_of_flag(flag: bool) -> u8
+    ensures number { result ≡ flag_number flag }
+    ensures digit { result < 10 }
 {
-    text.push_str(word_of_state(farm.state()))?;
-    push_field(text, " vr=", u64::from(farm.vr()))?;
-    push_flags(text, farm)
+    u8::from(flag)
 }
 
-fn push_flags(text: &mut String, farm: &Farm) -> Result<(), AllocError>
-    ensures { Appends result text.old text.new (flags_text farm.now) }
+fn put_flag(room: &mut [u8], at: usize, word: &[u8; 3], flag: bool) -> usize
+    requires { at + 4 ≤ length room.old }
+    ensures put { take result room.new ≡ take at room.old
+        ++ (word.now ++ decimal (flag_number flag)) }
+    ensures room { length room.new ≡ length room.old }
+    ensures next { result ≡ at + 4 }
 {
-    push_field(text, " l=", number_of_flag(farm.lockout()))?;
-    push_field(text, " w=", number_of_flag(farm.wait()))?;
-    push_field(text, " t=", number_of_flag(farm.retransmit()))?;
-    push_field(text, " b=", u64::from(farm.farm_b()))?;
-    text.push('\n')
+    let next = put_word(room, at, word);
+    put_digit(room, next, number_of_flag(flag))
 }
 
-/// Gives a frame to the receiver, whose buffer is free, and appends what it made of it.
-fn push_body(text: &mut String, farm: &mut Farm, body: &Body) -> Result<(), AllocError>
-    ensures text { Appends result text.old text.new (body_text farm.old (body_view body.now)) }
+fn put_flags(room: &mut [u8], at: usize, farm: &Farm) -> usize
+    requires { at + 32 ≤ length room.old }
+    ensures put { take result room.new ≡ take at room.old ++ flags_text farm.now }
+    ensures room { length room.new ≡ length room.old }
+    ensures next { result ≤ at + 32 }
+{
+    let next = put_flag(room, at, b" l=", farm.lockout());
+    let next = put_flag(room, next, b" w=", farm.wait());
+    let next = put_flag(room, next, b" t=", farm.retransmit());
+    let next = put_field(room, next, b" b=", farm.farm_b());
+    put_one(room, next, b'\n')
+}
+
+fn put_receiver(room: &mut [u8], at: usize, farm: &Farm) -> usize
+    requires { at + 64 ≤ length room.old }
+    ensures put { take result room.new ≡ take at room.old ++ state_text farm.now }
+    ensures room { length room.new ≡ length room.old }
+    ensures next { result ≤ at + 64 }
+{
+    let next = put_state(room, at, farm.state());
+    let next = put_field(room, next, b" vr=", farm.vr());
+    put_flags(room, next, farm)
+}
+
+fn put_ad(room: &mut [u8], at: usize, n: u8, verdict: Verdict) -> usize
+    requires { at + 32 ≤ length room.old }
+    ensures put { take result room.new ≡ take at room.old
+        ++ (codes "AD " ++ (decimal n ++ (codes " " ++ (verdict_name verdict ++ codes " ")))) }
+    ensures room { length room.new ≡ length room.old }
+    ensures next { result ≤ at + 32 }
+{
+    let next = put_field(room, at, b"AD ", n);
+    let next = put_one(room, next, b' ');
+    let next = put_verdict(room, next, verdict);
+    put_one(room, next, b' ')
+}
+
+fn put_set_vr(room: &mut [u8], at: usize, vr: u8) -> usize
+    requires { at + 32 ≤ length room.old }
+    ensures put { take result room.new ≡ take at room.old
+        ++ (codes "BC set " ++ (decimal vr ++ codes " ")) }
+    ensures room { length room.new ≡ length room.old }
+    ensures next { result ≤ at + 32 }
+{
+    let next = put_field(room, at, b"BC set ", vr);
+    put_one(room, next, b' ')
+}
+
+/// Gives a frame to the receiver, whose buffer is free, and puts what it made of it.
+fn put_body(room: &mut [u8], at: usize, farm: &mut Farm, body: &Body) -> usize
+    requires { at + 32 ≤ length room.old }
+    ensures put { take result room.new ≡ take at room.old
+        ++ body_text farm.old (body_view body.now) }
     ensures farm { farm.new ≡ after_body farm.old (body_view body.now) }
+    ensures room { length room.new ≡ length room.old }
+    ensures next { result ≤ at + 32 }
 {
     match body {
         Body::Ad { n, .. } => {
-            let verdict = farm.ad(*n, true).name();
-            push_field(text, "AD ", u64::from(*n))?;
-            text.push(' ')?;
-            text.push_str(verdict)?;
-            text.push(' ')
+            let verdict = farm.ad(*n, true);
+            put_ad(room, at, *n, verdict)
         }
         Body::Bd { .. } => {
             farm.bd();
-            text.push_str("BD ")
+            put_word(room, at, b"BD ")
         }
         Body::Bc(Command::Unlock) => {
             farm.unlock();
-            text.push_str("BC unlock ")
+            put_word(room, at, b"BC unlock ")
         }
         Body::Bc(Command::SetVr(vr)) => {
             farm.set_vr(*vr);
-            push_field(text, "BC set ", u64::from(*vr))?;
-            text.push(' ')
+            put_set_vr(room, at, *vr)
         }
     }
+}
+
+/// Gives a frame to the receiver, and puts its line.
+fn put_frame(room: &mut [u8], at: usize, farm: &mut Farm, index: u64, body: &Body) -> usize
+    requires { at + 128 ≤ length room.old }
+    ensures put { take result room.new ≡ take at room.old ++ (decimal index ++ (codes " "
+        ++ (body_text farm.old (body_view body.now) ++ state_text farm.new))) }
+    ensures farm { farm.new ≡ after_body farm.old (body_view body.now) }
+    ensures room { length room.new ≡ length room.old }
+    ensures next { result ≤ at + 128 }
+{
+    let next = put_number(room, at, index);
+    let next = put_one(room, next, b' ');
+    let next = put_body(room, next, farm, body);
+    put_receiver(room, next, farm)
 }
 
 /// Gives a record to the receiver, appends its line, and answers whether it is a frame.
 fn push_frame(
-    text: &mut String,
+    text: &mut Text,
     farm: &mut Farm,
     check: Check,
     index: u64,
@@ -91,9 +170,14 @@ fn push_frame(
 {
     match decode(octets, check) {
         Ok(frame) => {
-            push_index(text, index)?;
-            push_body(text, farm, &frame.body)?;
-            push_state(text, farm)?;
+            text.make_room(128)?;
+            text.len = put_frame(
+                text.octets.as_mut_slice(),
+                text.len,
+                farm,
+                index,
+                &frame.body,
+            );
             Ok(true)
         }
         Err(fault) => {
@@ -106,11 +190,11 @@ fn push_frame(
 impl<const CHECKED: bool> Listing<Splitter<FrameLayout<CHECKED>>> for Farm {
     ghost lines = { farm_lines (check_if CHECKED) };
 
-    fn take(&mut self, text: &mut String, index: u64, octets: &[u8]) -> Result<bool, AllocError> {
+    fn take(&mut self, text: &mut Text, index: u64, octets: &[u8]) -> Result<bool, AllocError> {
         push_frame(text, self, check_if(CHECKED), index, octets)
     }
 
-    fn refuse(text: &mut String, index: u64, fault: TcFault) -> Result<(), AllocError> {
+    fn refuse(text: &mut Text, index: u64, fault: TcFault) -> Result<(), AllocError> {
         push_invalid(text, index, fault.number(), fault.name())
     }
 }

@@ -1,24 +1,27 @@
 // The lines of `tctool tc`.
 
-ghost use Rattle.std.specs.Prelude.{◌≡◌, IfOk, is_ok};
-ghost use Rattle.tc_frame.specs.Layout.{frame_view, body_view, segment_view};
+ghost use Rattle.std.specs.Prelude.{◌≡◌, ◌+◌, ◌≤◌, ◌++◌, codes, decimal, length, take, vec_len, IfOk, is_ok};
+ghost use Rattle.tc_frame.specs.Layout.{frame_view, body_view, segment_view, flags_code};
 ghost use Rattle.tc_frame.specs.Reading.{frame_at};
 ghost use Rattle.tc_frame.specs.Splitting.{check_if};
-ghost use Rattle.octets.specs.Appending.{Appends};
+ghost use Rattle.listings.specs.Written.{Appends};
+ghost use Rattle.listings.specs.Text.{line_end};
 ghost use Rattle.listings.specs.FrameLines.{type_word, channel_text, segment_text, body_line, frame_line, frame_lines};
 
+use crate::lines::{push_invalid, push_octets};
 use crate::listing::Listing;
-use crate::text::{push_field, push_index, push_invalid, push_octets};
+use crate::parts::{put_field, put_number, put_one, put_short_field, put_word};
+use crate::text::Text;
 use octets::Splitter;
-use std::alloc::{AllocError, Global};
+use std::alloc::AllocError;
 use std::marker::Model;
-use tc_frame::{Body, Check, Command, FrameLayout, Segment, TcFault, TcFrame, check_if, decode};
+use tc_frame::{
+    Body, Check, Command, FrameLayout, Segment, SegmentHeader, TcFault, TcFrame, check_if, decode,
+};
 
 /// Tells what each frame says. Nothing is kept between two frames.
 #[derive(Drop)]
-pub struct FrameListing {
-    alloc: Global,
-}
+pub struct FrameListing;
 
 impl Model for FrameListing {
     ghost Value = { Unit {0} };
@@ -27,15 +30,10 @@ impl Model for FrameListing {
 }
 
 impl FrameListing {
-    /// A listing that takes its memory for octets from here.
-    pub fn new(alloc: Global) -> Self {
-        FrameListing { alloc }
-    }
-
     /// Appends the line of a record, and answers whether it is a frame.
     fn push_frame(
         &self,
-        text: &mut String,
+        text: &mut Text,
         check: Check,
         index: u64,
         octets: &[u8],
@@ -46,9 +44,9 @@ impl FrameListing {
     {
         match decode(octets, check) {
             Ok(frame) => {
-                push_index(text, index)?;
-                push_channel(text, &frame)?;
-                push_body(text, self.alloc, &frame.body)?;
+                text.make_room(128)?;
+                text.len = put_channel(text.octets.as_mut_slice(), text.len, index, &frame);
+                push_body(text, &frame.body)?;
                 Ok(true)
             }
             Err(fault) => {
@@ -59,47 +57,78 @@ impl FrameListing {
     }
 }
 
-fn word_of_type(body: &Body) -> &'static str
-    ensures { result.now ≡ type_word (body_view body.now) }
+fn word_of_type(body: &Body) -> [u8; 2]
+    ensures { result ≡ type_word (body_view body.now) }
 {
     match body {
-        Body::Ad { .. } => "AD",
-        Body::Bd { .. } => "BD",
-        Body::Bc(_) => "BC",
+        Body::Ad { .. } => *b"AD",
+        Body::Bd { .. } => *b"BD",
+        Body::Bc(_) => *b"BC",
     }
 }
 
-fn push_channel(text: &mut String, frame: &TcFrame) -> Result<(), AllocError>
-    ensures { Appends result text.old text.new (channel_text (frame_view frame.now)) }
+fn put_channel(room: &mut [u8], at: usize, index: u64, frame: &TcFrame) -> usize
+    requires { at + 64 ≤ length room.old }
+    ensures put { take result room.new ≡ take at room.old
+        ++ (decimal index ++ (codes " " ++ channel_text (frame_view frame.now))) }
+    ensures room { length room.new ≡ length room.old }
+    ensures next { result ≤ at + 64 }
 {
-    text.push_str(word_of_type(&frame.body))?;
-    push_field(text, " scid=", u64::from(frame.scid))?;
-    push_field(text, " vcid=", u64::from(frame.vcid))
+    let next = put_number(room, at, index);
+    let next = put_one(room, next, b' ');
+    let next = put_word(room, next, &word_of_type(&frame.body));
+    let next = put_short_field(room, next, b" scid=", frame.scid);
+    put_field(room, next, b" vcid=", frame.vcid)
 }
 
-fn push_segment(text: &mut String, alloc: Global, segment: &Segment) -> Result<(), AllocError>
+fn put_header(room: &mut [u8], at: usize, header: SegmentHeader) -> usize
+    requires { at + 32 ≤ length room.old }
+    ensures put { take result room.new ≡ take at room.old ++ (codes " seg="
+        ++ (decimal (flags_code header.flags) ++ (codes " map=" ++ (decimal header.map ++ codes " data=")))) }
+    ensures room { length room.new ≡ length room.old }
+    ensures next { result ≤ at + 32 }
+{
+    let next = put_field(room, at, b" seg=", header.flags.code());
+    let next = put_field(room, next, b" map=", header.map);
+    put_word(room, next, b" data=")
+}
+
+fn push_segment(text: &mut Text, segment: &Segment) -> Result<(), AllocError>
+    requires { text.old.len + 32 ≤ vec_len text.old.octets }
     ensures { Appends result text.old text.new (segment_text (segment_view segment.now)) }
 {
-    let flags = segment.header.flags.code();
-    push_field(text, " seg=", u64::from(flags))?;
-    push_field(text, " map=", u64::from(segment.header.map))?;
-    text.push_str(" data=")?;
-    push_octets(text, alloc, segment.payload)
+    text.len = put_header(text.octets.as_mut_slice(), text.len, segment.header);
+    push_octets(text, segment.payload)
 }
 
-fn push_body(text: &mut String, alloc: Global, body: &Body) -> Result<(), AllocError>
+fn put_set_vr(room: &mut [u8], at: usize, vr: u8) -> usize
+    requires { at + 32 ≤ length room.old }
+    ensures put { take result room.new ≡ take at room.old
+        ++ (codes " set " ++ (decimal vr ++ line_end)) }
+    ensures room { length room.new ≡ length room.old }
+    ensures next { result ≤ at + 32 }
+{
+    let next = put_field(room, at, b" set ", vr);
+    put_one(room, next, b'\n')
+}
+
+fn push_body(text: &mut Text, body: &Body) -> Result<(), AllocError>
+    requires { text.old.len + 64 ≤ vec_len text.old.octets }
     ensures { Appends result text.old text.new (body_line (body_view body.now)) }
 {
     match body {
         Body::Ad { n, segment } => {
-            push_field(text, " n=", u64::from(*n))?;
-            push_segment(text, alloc, segment)
+            text.len = put_field(text.octets.as_mut_slice(), text.len, b" n=", *n);
+            push_segment(text, segment)
         }
-        Body::Bd { segment } => push_segment(text, alloc, segment),
-        Body::Bc(Command::Unlock) => text.push_str(" unlock\n"),
+        Body::Bd { segment } => push_segment(text, segment),
+        Body::Bc(Command::Unlock) => {
+            text.len = put_word(text.octets.as_mut_slice(), text.len, b" unlock\n");
+            Ok(())
+        }
         Body::Bc(Command::SetVr(vr)) => {
-            push_field(text, " set ", u64::from(*vr))?;
-            text.push('\n')
+            text.len = put_set_vr(text.octets.as_mut_slice(), text.len, *vr);
+            Ok(())
         }
     }
 }
@@ -107,11 +136,11 @@ fn push_body(text: &mut String, alloc: Global, body: &Body) -> Result<(), AllocE
 impl<const CHECKED: bool> Listing<Splitter<FrameLayout<CHECKED>>> for FrameListing {
     ghost lines = { frame_lines (check_if CHECKED) };
 
-    fn take(&mut self, text: &mut String, index: u64, octets: &[u8]) -> Result<bool, AllocError> {
+    fn take(&mut self, text: &mut Text, index: u64, octets: &[u8]) -> Result<bool, AllocError> {
         self.push_frame(text, check_if(CHECKED), index, octets)
     }
 
-    fn refuse(text: &mut String, index: u64, fault: TcFault) -> Result<(), AllocError> {
+    fn refuse(text: &mut Text, index: u64, fault: TcFault) -> Result<(), AllocError> {
         push_invalid(text, index, fault.number(), fault.name())
     }
 }

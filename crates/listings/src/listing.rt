@@ -1,10 +1,11 @@
 // What the commands write of a stream of records.
 
 ghost use Rattle.std.specs.Prelude.{◌≡◌, OnOk, IfOk};
-ghost use Rattle.octets.specs.Appending.{Appends};
+ghost use Rattle.listings.specs.Written.{Appends};
 ghost use Rattle.listings.specs.Listing.{Lines};
 
 use crate::cutter::Cutter;
+use crate::text::Text;
 use std::alloc::AllocError;
 
 /// What a command writes of the records of a layout.
@@ -12,12 +13,12 @@ pub trait Listing<S: Cutter> {
     ghost lines: { Lines Self S.Fault };
 
     /// Takes a record, appends its lines, and answers whether it is good.
-    fn take(&mut self, text: &mut String, index: u64, octets: &[u8]) -> Result<bool, AllocError>
+    fn take(&mut self, text: &mut Text, index: u64, octets: &[u8]) -> Result<bool, AllocError>
         ensures text { Appends result text.old text.new (lines.line_of self.old index octets.now) }
         ensures state { OnOk result (self.new ≡ lines.after self.old octets.now) }
         ensures good { IfOk result (λ good. good ≡ lines.is_good octets.now) };
 
     /// Appends the line of octets that are refused as no record.
-    fn refuse(text: &mut String, index: u64, fault: S::Fault) -> Result<(), AllocError>
+    fn refuse(text: &mut Text, index: u64, fault: S::Fault) -> Result<(), AllocError>
         ensures { Appends result text.old text.new (lines.fault_line index fault) };
 }

@@ -1,6 +1,6 @@
 // The lines of `tctool map`.
 
-ghost use Rattle.std.specs.Prelude.{◌≡◌, ℕ, Bool, List, OnOk, IfOk, is_ok, codes};
+ghost use Rattle.std.specs.Prelude.{◌≡◌, ◌+◌, ◌≤◌, ◌++◌, ℕ, Bool, List, OnOk, IfOk, is_ok, codes, decimal, length, take};
 ghost use Rattle.tc_frame.specs.Layout.{body_view, frame_view, segment_view};
 ghost use Rattle.tc_frame.specs.Reading.{frame_at};
 ghost use Rattle.tc_frame.specs.declared.frame.Check.{Check as Checking};
@@ -9,12 +9,14 @@ ghost use Rattle.cop1.specs.Farm.{IsWidth, new_farm};
 ghost use Rattle.map_service.specs.Assembly.{assembled};
 ghost use Rattle.map_service.specs.Exactness.{step_at, after_step};
 ghost use Rattle.tm_link.specs.Extraction.{octets_of};
-ghost use Rattle.octets.specs.Appending.{Appends};
+ghost use Rattle.listings.specs.Written.{Appends};
 ghost use Rattle.listings.specs.MapLines.{MapState, map_limits, map_opened, is_bypass, dropped_line, on_map_line, cause_text, map_packets_text, outcome_text, bypass_text, body_text, after_body, record_text, after_record, map_lines};
 ghost use Rattle.listings.specs.ToldPackets.{accepted_in, told_on};
 
+use crate::lines::{push_invalid, push_name, push_octets};
 use crate::listing::Listing;
-use crate::text::{push_field, push_invalid, push_number, push_octets};
+use crate::parts::{put_number, put_octet, put_one, put_word};
+use crate::text::Text;
 use cop1::{Farm, Verdict};
 use map_service::{Assembler, Dropped, Limits, Taken, are_one_packet};
 use octets::Splitter;
@@ -30,7 +32,6 @@ use tc_frame::{
 pub struct MapListing {
     farm: Farm,
     assembler: Assembler,
-    alloc: Global,
 }
 
 impl Model for MapListing {
@@ -55,14 +56,13 @@ impl MapListing {
         MapListing {
             farm: Farm::new(width, vr).unwrap(),
             assembler: Assembler::new(alloc, limits),
-            alloc,
         }
     }
 
     /// Gives a segment to the assembler, and appends what it drops and hands out.
     fn push_segment(
         &mut self,
-        text: &mut String,
+        text: &mut Text,
         index: u64,
         segment: Segment,
     ) -> Result<(), AllocError>
@@ -74,23 +74,18 @@ impl MapListing {
             }) }
     {
         if let Some(packet) = self.assembler.lone_packet(&segment) {
-            return push_packet(text, self.alloc, segment.header.map, packet);
+            return push_packet(text, segment.header.map, packet);
         }
         let Ok(taken) = self.assembler.take(&segment) else {
             return Err(AllocError);
         };
         push_cause(text, index, taken.dropped)?;
-        push_packets(
-            text,
-            self.alloc,
-            segment.header.map,
-            taken.packets.as_slice(),
-        )
+        push_packets(text, segment.header.map, taken.packets.as_slice())
     }
 
     /// Gives a frame to the receiver, whose buffer is free, and appends its lines.
     #[inline(always)]
-    fn push_body(&mut self, text: &mut String, index: u64, body: Body) -> Result<(), AllocError>
+    fn push_body(&mut self, text: &mut Text, index: u64, body: Body) -> Result<(), AllocError>
         ensures text { Appends result text.old text.new
             (body_text self.old index (body_view body.entry)) }
         ensures state { OnOk result (self.new ≡ after_body self.old (body_view body.entry)) }
@@ -106,7 +101,7 @@ impl MapListing {
             },
             Body::Bd { segment } => {
                 self.farm.bd();
-                push_bypass(text, self.alloc, index, segment)
+                push_bypass(text, index, segment)
             }
             Body::Bc(Command::Unlock) => {
                 self.farm.unlock();
@@ -123,7 +118,7 @@ impl MapListing {
     #[inline(always)]
     fn push_frame(
         &mut self,
-        text: &mut String,
+        text: &mut Text,
         check: Check,
         index: u64,
         octets: &[u8],
@@ -147,31 +142,46 @@ impl MapListing {
 }
 
 /// Appends the line of what is dropped.
-fn push_dropped(text: &mut String, index: u64, cause: &str) -> Result<(), AllocError>
+fn push_dropped(text: &mut Text, index: u64, cause: &str) -> Result<(), AllocError>
     ensures { Appends result text.old text.new (dropped_line index cause.now) }
 {
-    push_number(text, index)?;
-    text.push_str(" dropped ")?;
-    text.push_str(cause)?;
-    text.push('\n')
+    text.make_room(32)?;
+    text.len = put_dropped(text.octets.as_mut_slice(), text.len, index);
+    push_name(text, cause)
+}
+
+fn put_dropped(room: &mut [u8], at: usize, index: u64) -> usize
+    requires { at + 32 ≤ length room.old }
+    ensures put { take result room.new ≡ take at room.old ++ (decimal index ++ codes " dropped ") }
+    ensures room { length room.new ≡ length room.old }
+    ensures next { result ≤ at + 32 }
+{
+    let next = put_number(room, at, index);
+    put_word(room, next, b" dropped ")
 }
 
 /// Appends a word, a MAP, and octets that came on it.
-fn push_on_map(
-    text: &mut String,
-    alloc: Global,
-    word: &str,
-    map: u8,
-    octets: &[u8],
-) -> Result<(), AllocError>
+fn push_on_map(text: &mut Text, word: &[u8; 7], map: u8, octets: &[u8]) -> Result<(), AllocError>
     ensures { Appends result text.old text.new (on_map_line word.now map octets.now) }
 {
-    push_field(text, word, u64::from(map))?;
-    text.push(' ')?;
-    push_octets(text, alloc, octets)
+    text.make_room(16)?;
+    text.len = put_on_map(text.octets.as_mut_slice(), text.len, word, map);
+    push_octets(text, octets)
 }
 
-fn push_cause(text: &mut String, index: u64, dropped: Option<Dropped>) -> Result<(), AllocError>
+fn put_on_map(room: &mut [u8], at: usize, word: &[u8; 7], map: u8) -> usize
+    requires { at + 16 ≤ length room.old }
+    ensures put { take result room.new ≡ take at room.old
+        ++ (word.now ++ (decimal map ++ codes " ")) }
+    ensures room { length room.new ≡ length room.old }
+    ensures next { result ≤ at + 16 }
+{
+    let next = put_word(room, at, word);
+    let next = put_octet(room, next, map);
+    put_one(room, next, b' ')
+}
+
+fn push_cause(text: &mut Text, index: u64, dropped: Option<Dropped>) -> Result<(), AllocError>
     ensures { Appends result text.old text.new (cause_text index dropped) }
 {
     match dropped {
@@ -181,23 +191,18 @@ fn push_cause(text: &mut String, index: u64, dropped: Option<Dropped>) -> Result
 }
 
 /// Appends the line of a packet that is handed out.
-fn push_packet(text: &mut String, alloc: Global, map: u8, packet: &[u8]) -> Result<(), AllocError>
+fn push_packet(text: &mut Text, map: u8, packet: &[u8]) -> Result<(), AllocError>
     ensures { Appends result text.old text.new (on_map_line (codes "packet ") map packet.now) }
 {
-    push_on_map(text, alloc, "packet ", map, packet)
+    push_on_map(text, b"packet ", map, packet)
 }
 
 /// Appends the line of each packet that is handed out.
-fn push_packets(
-    text: &mut String,
-    alloc: Global,
-    map: u8,
-    packets: &[Vec<u8>],
-) -> Result<(), AllocError>
+fn push_packets(text: &mut Text, map: u8, packets: &[Vec<u8>]) -> Result<(), AllocError>
     ensures { Appends result text.old text.new (map_packets_text map (octets_of packets.now)) }
 {
     for packet in packets {
-        push_packet(text, alloc, map, packet.as_slice())?;
+        push_packet(text, map, packet.as_slice())?;
     }
     Ok(())
 }
@@ -212,16 +217,11 @@ fn is_bypass(segment: Segment) -> bool
     }
 }
 
-fn push_bypass(
-    text: &mut String,
-    alloc: Global,
-    index: u64,
-    segment: Segment,
-) -> Result<(), AllocError>
+fn push_bypass(text: &mut Text, index: u64, segment: Segment) -> Result<(), AllocError>
     ensures { Appends result text.old text.new (bypass_text index (segment_view segment.entry)) }
 {
     if is_bypass(segment) {
-        push_on_map(text, alloc, "bypass ", segment.header.map, segment.payload)
+        push_on_map(text, b"bypass ", segment.header.map, segment.payload)
     } else {
         push_dropped(text, index, "Bypass")
     }
@@ -238,11 +238,11 @@ pub fn law_of_told_packets()
 impl<const CHECKED: bool> Listing<Splitter<FrameLayout<CHECKED>>> for MapListing {
     ghost lines = { map_lines (check_if CHECKED) };
 
-    fn take(&mut self, text: &mut String, index: u64, octets: &[u8]) -> Result<bool, AllocError> {
+    fn take(&mut self, text: &mut Text, index: u64, octets: &[u8]) -> Result<bool, AllocError> {
         self.push_frame(text, check_if(CHECKED), index, octets)
     }
 
-    fn refuse(text: &mut String, index: u64, fault: TcFault) -> Result<(), AllocError> {
+    fn refuse(text: &mut Text, index: u64, fault: TcFault) -> Result<(), AllocError> {
         push_invalid(text, index, fault.number(), fault.name())
     }
 }

@@ -1,24 +1,25 @@
 // The lines of `tctool packets`.
 
-ghost use Rattle.std.specs.Prelude.{◌≡◌, IfOk, is_ok, get_or, ℕ, List, Option};
+ghost use Rattle.std.specs.Prelude.{◌≡◌, ◌+◌, ◌≤◌, ◌++◌, codes, decimal, length, take, IfOk, is_ok, get_or, ℕ, List, Option};
 ghost use Rattle.space_packet.specs.Counters.{gap_after};
 ghost use Rattle.space_packet.specs.Layout.{packet_view, secondary_bit};
 ghost use Rattle.space_packet.specs.Reading.{packet_at};
-ghost use Rattle.octets.specs.Appending.{Appends};
+ghost use Rattle.listings.specs.Written.{Appends};
 ghost use Rattle.listings.specs.PacketLines.{kind_word, none_seen, process_text, sequence_text, gap_text, packet_line, after_packet, packet_lines};
 
+use crate::lines::{push_invalid, push_octets};
 use crate::listing::Listing;
-use crate::text::{push_field, push_index, push_invalid, push_octets};
+use crate::parts::{put_field, put_number, put_one, put_short_field, put_word};
+use crate::text::Text;
 use octets::Splitter;
 use space_packet::{GapCheck, Packet, PacketFault, PacketKind, Packets, decode};
-use std::alloc::{AllocError, Global};
+use std::alloc::AllocError;
 use std::marker::Model;
 
 /// Tells what each packet says, and how many of its application process are missing before it.
 #[derive(Drop)]
 pub struct PacketListing {
     gaps: GapCheck,
-    alloc: Global,
 }
 
 impl Model for PacketListing {
@@ -30,23 +31,22 @@ impl Model for PacketListing {
 impl PacketListing {
     /// A listing that has seen no packet.
     #[tactic(auto, unfolding(crate::specs::PacketLines::none_seen))]
-    pub fn new(alloc: Global) -> Self
+    pub fn new() -> Self
         ensures { result ≡ none_seen }
     {
         PacketListing {
             gaps: GapCheck::new(),
-            alloc,
         }
     }
 }
 
 #[tactic(auto, unfolding(crate::specs::PacketLines::kind_word))]
-fn word_of_kind(kind: PacketKind) -> &'static str
-    ensures { result.now ≡ kind_word kind }
+fn word_of_kind(kind: PacketKind) -> [u8; 2]
+    ensures { result ≡ kind_word kind }
 {
     match kind {
-        PacketKind::Telemetry => "TM",
-        PacketKind::Telecommand => "TC",
+        PacketKind::Telemetry => *b"TM",
+        PacketKind::Telecommand => *b"TC",
     }
 }
 
@@ -56,47 +56,69 @@ fn number_of_flag(flag: bool) -> u8
     u8::from(flag)
 }
 
-fn push_process(text: &mut String, kind: &str, secondary: u8, apid: u16) -> Result<(), AllocError>
-    ensures { Appends result text.old text.new (process_text kind.now secondary apid) }
+fn put_process(room: &mut [u8], at: usize, kind: &[u8; 2], secondary: u8, apid: u16) -> usize
+    requires { at + 48 ≤ length room.old }
+    ensures put { take result room.new ≡ take at room.old ++ process_text kind.now secondary apid }
+    ensures room { length room.new ≡ length room.old }
+    ensures next { result ≤ at + 48 }
 {
-    text.push_str(kind)?;
-    push_field(text, " secondary=", u64::from(secondary))?;
-    push_field(text, " apid=", u64::from(apid))
+    let next = put_word(room, at, kind);
+    let next = put_field(room, next, b" secondary=", secondary);
+    put_short_field(room, next, b" apid=", apid)
 }
 
-fn push_sequence(text: &mut String, packet: &Packet) -> Result<(), AllocError>
-    ensures { Appends result text.old text.new (sequence_text (packet_view packet.now)) }
+fn put_sequence(room: &mut [u8], at: usize, packet: &Packet) -> usize
+    requires { at + 32 ≤ length room.old }
+    ensures put { take result room.new ≡ take at room.old ++ sequence_text (packet_view packet.now) }
+    ensures room { length room.new ≡ length room.old }
+    ensures next { result ≤ at + 32 }
 {
-    push_field(text, " flags=", u64::from(packet.flags))?;
-    push_field(text, " count=", u64::from(packet.count))
+    let next = put_field(room, at, b" flags=", packet.flags);
+    put_short_field(room, next, b" count=", packet.count)
 }
 
-fn push_gap(text: &mut String, gap: Option<u16>) -> Result<(), AllocError>
-    ensures { Appends result text.old text.new (gap_text gap) }
+fn put_gap(room: &mut [u8], at: usize, gap: Option<u16>) -> usize
+    requires { at + 32 ≤ length room.old }
+    ensures put { take result room.new ≡ take at room.old ++ gap_text gap }
+    ensures room { length room.new ≡ length room.old }
+    ensures next { result ≤ at + 32 }
 {
     match gap {
-        None => text.push_str(" gap=- data="),
+        None => put_word(room, at, b" gap=- data="),
         Some(gap) => {
-            push_field(text, " gap=", u64::from(gap))?;
-            text.push_str(" data=")
+            let next = put_short_field(room, at, b" gap=", gap);
+            put_word(room, next, b" data=")
         }
     }
+}
+
+fn put_packet(room: &mut [u8], at: usize, index: u64, packet: &Packet, gap: Option<u16>) -> usize
+    requires { at + 144 ≤ length room.old }
+    ensures put { take result room.new ≡ take at room.old ++ (decimal index ++ (codes " "
+        ++ (process_text (kind_word packet.now.kind) (secondary_bit packet.now.secondary) packet.now.apid
+        ++ (sequence_text (packet_view packet.now) ++ gap_text gap)))) }
+    ensures room { length room.new ≡ length room.old }
+    ensures next { result ≤ at + 144 }
+{
+    let next = put_number(room, at, index);
+    let next = put_one(room, next, b' ');
+    let kind = word_of_kind(packet.kind);
+    let secondary = number_of_flag(packet.secondary);
+    let next = put_process(room, next, &kind, secondary, packet.apid);
+    let next = put_sequence(room, next, packet);
+    put_gap(room, next, gap)
 }
 
 impl Listing<Splitter<Packets>> for PacketListing {
     ghost lines = { packet_lines };
 
-    fn take(&mut self, text: &mut String, index: u64, octets: &[u8]) -> Result<bool, AllocError> {
+    fn take(&mut self, text: &mut Text, index: u64, octets: &[u8]) -> Result<bool, AllocError> {
         match decode(octets) {
             Ok((packet, _)) => {
                 let gap = self.gaps.see(packet.apid, packet.count);
-                push_index(text, index)?;
-                let kind = word_of_kind(packet.kind);
-                let secondary = number_of_flag(packet.secondary);
-                push_process(text, kind, secondary, packet.apid)?;
-                push_sequence(text, &packet)?;
-                push_gap(text, gap)?;
-                push_octets(text, self.alloc, packet.payload)?;
+                text.make_room(144)?;
+                text.len = put_packet(text.octets.as_mut_slice(), text.len, index, &packet, gap);
+                push_octets(text, packet.payload)?;
                 Ok(true)
             }
             Err(fault) => {
@@ -106,7 +128,7 @@ impl Listing<Splitter<Packets>> for PacketListing {
         }
     }
 
-    fn refuse(text: &mut String, index: u64, fault: PacketFault) -> Result<(), AllocError> {
+    fn refuse(text: &mut Text, index: u64, fault: PacketFault) -> Result<(), AllocError> {
         push_invalid(text, index, fault.number(), fault.name())
     }
 }

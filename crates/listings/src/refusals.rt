@@ -1,10 +1,12 @@
 // The lines of `tctool check`.
 
-ghost use Rattle.std.specs.Prelude.{◌≡◌, ◌++◌, OnOk, IfOk, is_ok, string_bytes};
+ghost use Rattle.std.specs.Prelude.{◌≡◌, ◌++◌, OnOk, IfOk, is_ok};
+ghost use Rattle.listings.specs.Written.{Appends};
 ghost use Rattle.listings.specs.RefusalLines.{refusal_lines};
 
+use crate::lines::push_invalid;
 use crate::listing::Listing;
-use crate::text::push_invalid;
+use crate::text::Text;
 use octets::Splitter;
 use std::alloc::AllocError;
 use std::marker::Model;
@@ -23,7 +25,7 @@ impl Model for RefusalListing {
 impl Listing<Splitter<Checked>> for RefusalListing {
     ghost lines = { refusal_lines };
 
-    fn take(&mut self, text: &mut String, index: u64, octets: &[u8]) -> Result<bool, AllocError> {
+    fn take(&mut self, text: &mut Text, index: u64, octets: &[u8]) -> Result<bool, AllocError> {
         match decode(octets, Check::On) {
             Ok(_) => Ok(true),
             Err(fault) => {
@@ -33,7 +35,7 @@ impl Listing<Splitter<Checked>> for RefusalListing {
         }
     }
 
-    fn refuse(text: &mut String, index: u64, fault: TcFault) -> Result<(), AllocError> {
+    fn refuse(text: &mut Text, index: u64, fault: TcFault) -> Result<(), AllocError> {
         push_invalid(text, index, fault.number(), fault.name())
     }
 }

@@ -1,6 +1,6 @@
 // Reads a stream in pieces, and writes what a command makes of its records.
 
-ghost use Rattle.std.specs.Prelude.{◌≡◌, ◌⊎◌, None, false, ◌+◌, ◌-◌, ◌^◌, ◌<◌, ◌≤◌, ◌&&◌, ◌++◌, [], length, Ok, Err, OnOk, IfOk, IfErr, string_bytes};
+ghost use Rattle.std.specs.Prelude.{◌≡◌, ◌⊎◌, None, false, ◌+◌, ◌-◌, ◌^◌, ◌<◌, ◌≤◌, ◌&&◌, ◌++◌, [], length, Ok, Err, OnOk, IfOk, IfErr};
 ghost use Rattle.listings.specs.Layouts.{first_by, rest_by, IsRefused};
 ghost use Rattle.listings.specs.Listing.{fresh, listed, text_of, is_all_good, rest_line, is_empty, HasListed, HasRefused};
 ghost use Rattle.octets.specs.Beginning.{IsBeginning};
@@ -9,6 +9,7 @@ ghost use Rattle.listings.specs.Devices.{HasEnded};
 ghost use Rattle.listings.specs.Failures.{reads_failed_in, writes_failed_in};
 ghost use Rattle.listings.specs.Gained.{gained};
 ghost use Rattle.listings.specs.Progress.{where_refused, standing};
+ghost use Rattle.listings.specs.Written.{written};
 ghost use Rattle.listings.specs.Writing.{BeginsToWrite, Writes};
 
 use crate::cutter::Cutter;
@@ -17,6 +18,7 @@ use crate::listing::Listing;
 use crate::output::{WriteFailed, write_all};
 use crate::sink::Sink;
 use crate::source::Source;
+use crate::text::Text;
 use std::alloc::{AllocError, Global};
 
 /// How many records there were, and whether all of them were good.
@@ -43,15 +45,15 @@ fn list_records<S: Cutter, C: Listing<S>>(
     cutter: &mut S,
     command: &mut C,
     progress: &mut Progress,
-    text: &mut String,
+    text: &mut Text,
 ) -> Result<Option<S::Fault>, AllocError>
     requires { progress.old.count + length (S.held cutter.old) < 2 ^ 64 }
     ensures count { OnOk result (progress.new.count + length (S.held cutter.new)
         ≤ progress.old.count + length (S.held cutter.old)) }
     ensures listed { OnOk result (
-        standing (string_bytes text.new) command.new progress.new (S.held cutter.new)
+        standing (written text.new) command.new progress.new (S.held cutter.new)
         ≡ listed C.lines S.layout
-        (standing (string_bytes text.old) command.old progress.old (S.held cutter.old))) }
+        (standing (written text.old) command.old progress.old (S.held cutter.old))) }
     ensures fault { IfOk result (λ fault. first_by S.layout (S.held cutter.new) ≡ where_refused fault) }
     ensures failed { result ≡ Ok None → S.failure cutter.new ≡ S.failure cutter.old }
 {
@@ -76,11 +78,11 @@ enum Course {
 }
 
 /// Writes a text whole, and answers this.
-fn put<W: Sink, T: Copy>(writer: &mut W, text: &String, answer: T) -> Result<T, DumpFault>
+fn put<W: Sink, T: Copy>(writer: &mut W, text: &Text, answer: T) -> Result<T, DumpFault>
     ensures ok { IfOk result (λ answered. (answered ≡ answer)
-        × (W.taken_octets writer.new ≡ W.taken_octets writer.old ++ string_bytes text.now)) }
+        × (W.taken_octets writer.new ≡ W.taken_octets writer.old ++ written text.now)) }
     ensures beginning { BeginsToWrite result (W.taken_octets writer.old) (W.taken_octets writer.new)
-        (string_bytes text.now) }
+        (written text.now) }
     ensures fault { IfErr result (λ e. e ≡ DumpFault.Write) }
     ensures failures { W.failures writer.new ≡ W.failures writer.old + writes_failed_in result }
 {
@@ -96,7 +98,7 @@ fn list_piece<S: Cutter, C: Listing<S>, W: Sink>(
     cutter: &mut S,
     command: &mut C,
     progress: &mut Progress,
-    text: &mut String,
+    text: &mut Text,
     writer: &mut W,
     piece: &[u8],
 ) -> Result<Course, DumpFault>
@@ -138,7 +140,7 @@ fn list_piece<S: Cutter, C: Listing<S>, W: Sink>(
 fn list_rest<S: Cutter, C: Listing<S>, W: Sink>(
     cutter: &S,
     progress: Progress,
-    text: &mut String,
+    text: &mut Text,
     writer: &mut W,
 ) -> Result<bool, DumpFault>
     requires open { first_by S.layout (S.held cutter.now) ≡ None }
@@ -203,7 +205,7 @@ pub fn list_stream<S: Cutter + Drop, C: Listing<S> + Drop, R: Source, W: Sink>(
         count: 0,
         all_good: true,
     };
-    let mut text = String::new(alloc);
+    let mut text = Text::new(alloc);
     let mut piece = [0u8; 4096];
     let mut total: u64 = 0;
     loop {

@@ -1,15 +1,17 @@
 // The lines of `tctool tm`.
 
-ghost use Rattle.std.specs.Prelude.{◌≡◌, ◌+◌, ◌++◌, IfOk, codes};
-ghost use Rattle.octets.specs.Appending.{Appends};
+ghost use Rattle.std.specs.Prelude.{◌≡◌, ◌+◌, ◌≤◌, ◌++◌, IfOk, codes, length, take};
+ghost use Rattle.listings.specs.Written.{Appends};
 ghost use Rattle.listings.specs.Text.{line_end};
 ghost use Rattle.tm_link.specs.Extraction.{ExtractorState, new_extractor, octets_of};
 ghost use Rattle.tm_link.specs.Layout.{frame_view};
 ghost use Rattle.listings.specs.TelemetryLines.{counts_text, pointer_text, lost_text, frame_line, finished_line, finished_lines, telemetry_lines};
 
 use crate::frame_cutter::{FrameCutter, FrameLength};
+use crate::lines::{push_invalid, push_octets};
 use crate::listing::Listing;
-use crate::text::{push_digits, push_field, push_invalid, push_number, push_octets};
+use crate::parts::{put_digits, put_field, put_number, put_one, put_short_field, put_word};
+use crate::text::Text;
 use std::alloc::{AllocError, Global};
 use std::marker::{Model, PhantomData};
 use tm_link::{Extractor, Gap, Pointer, TmFault, TmFrame, decode};
@@ -21,7 +23,6 @@ pub struct TelemetryListing<K: FrameLength> {
     frame_length: u16,
     extractor: Extractor,
     packets: Vec<Vec<u8>>,
-    alloc: Global,
     channel: PhantomData<K>,
 }
 
@@ -46,7 +47,6 @@ impl<K: FrameLength> TelemetryListing<K> {
             frame_length,
             extractor,
             packets: Vec::new(alloc),
-            alloc,
             channel: PhantomData,
         })
     }
@@ -55,15 +55,16 @@ impl<K: FrameLength> TelemetryListing<K> {
 impl<K: FrameLength> Listing<FrameCutter<K>> for TelemetryListing<K> {
     ghost lines = { telemetry_lines (K.payload + 12) };
 
-    fn take(&mut self, text: &mut String, index: u64, octets: &[u8]) -> Result<bool, AllocError> {
+    fn take(&mut self, text: &mut Text, index: u64, octets: &[u8]) -> Result<bool, AllocError> {
         match decode(octets, usize::from(self.frame_length)) {
             Ok(frame) => {
                 self.packets.clear();
                 let Ok(gap) = self.extractor.frame(&frame, &mut self.packets) else {
                     return Err(AllocError);
                 };
-                push_frame(text, self.alloc, index, &frame, gap)?;
-                push_finished(text, self.alloc, self.packets.as_slice())?;
+                text.make_room(128)?;
+                text.len = put_frame(text.octets.as_mut_slice(), text.len, index, &frame, gap);
+                push_finished(text, self.packets.as_slice())?;
                 Ok(true)
             }
             Err(fault) => {
@@ -73,75 +74,85 @@ impl<K: FrameLength> Listing<FrameCutter<K>> for TelemetryListing<K> {
         }
     }
 
-    fn refuse(text: &mut String, index: u64, fault: TmFault) -> Result<(), AllocError> {
+    fn refuse(text: &mut Text, index: u64, fault: TmFault) -> Result<(), AllocError> {
         push_invalid(text, index, fault.number(), fault.name())
     }
 }
 
-fn push_counts(text: &mut String, index: u64, frame: &TmFrame) -> Result<(), AllocError>
-    ensures { Appends result text.old text.new (counts_text index (frame_view frame.now)) }
+fn put_counts(room: &mut [u8], at: usize, index: u64, frame: &TmFrame) -> usize
+    requires { at + 64 ≤ length room.old }
+    ensures put { take result room.new ≡ take at room.old
+        ++ counts_text index (frame_view frame.now) }
+    ensures room { length room.new ≡ length room.old }
+    ensures next { result ≤ at + 64 }
 {
-    push_number(text, index)?;
-    push_field(text, " scid=", u64::from(frame.scid))?;
-    push_field(text, " vcid=", u64::from(frame.vcid))?;
-    push_field(text, " mc=", u64::from(frame.mc_count))?;
-    push_field(text, " vc=", u64::from(frame.vc_count))
+    let next = put_number(room, at, index);
+    let next = put_short_field(room, next, b" scid=", frame.scid);
+    let next = put_field(room, next, b" vcid=", frame.vcid);
+    let next = put_field(room, next, b" mc=", frame.mc_count);
+    put_field(room, next, b" vc=", frame.vc_count)
 }
 
-fn push_pointer(text: &mut String, pointer: Pointer) -> Result<(), AllocError>
-    ensures { Appends result text.old text.new
-        (codes " pointer=" ++ (pointer_text pointer ++ codes " ocf=")) }
+fn put_pointer(room: &mut [u8], at: usize, pointer: Pointer) -> usize
+    requires { at + 32 ≤ length room.old }
+    ensures put { take result room.new ≡ take at room.old
+        ++ (codes " pointer=" ++ (pointer_text pointer ++ codes " ocf=")) }
+    ensures room { length room.new ≡ length room.old }
+    ensures next { result ≤ at + 32 }
 {
     match pointer {
         Pointer::At(place) => {
-            push_field(text, " pointer=", u64::from(place))?;
-            text.push_str(" ocf=")
+            let next = put_short_field(room, at, b" pointer=", place);
+            put_word(room, next, b" ocf=")
         }
-        Pointer::NoStart => text.push_str(" pointer=none ocf="),
-        Pointer::OnlyIdle => text.push_str(" pointer=idle ocf="),
+        Pointer::NoStart => put_word(room, at, b" pointer=none ocf="),
+        Pointer::OnlyIdle => put_word(room, at, b" pointer=idle ocf="),
     }
 }
 
-fn push_gap(text: &mut String, gap: Gap) -> Result<(), AllocError>
-    ensures { Appends result text.old text.new (codes " gap=" ++ (lost_text gap ++ line_end)) }
+fn put_gap(room: &mut [u8], at: usize, gap: Gap) -> usize
+    requires { at + 16 ≤ length room.old }
+    ensures put { take result room.new ≡ take at room.old
+        ++ (codes " gap=" ++ (lost_text gap ++ line_end)) }
+    ensures room { length room.new ≡ length room.old }
+    ensures next { result ≤ at + 16 }
 {
     match gap {
-        Gap::First => text.push_str(" gap=-\n"),
+        Gap::First => put_word(room, at, b" gap=-\n"),
         Gap::Lost(count) => {
-            push_field(text, " gap=", u64::from(count))?;
-            text.push('\n')
+            let next = put_field(room, at, b" gap=", count);
+            put_one(room, next, b'\n')
         }
     }
 }
 
-fn push_frame(
-    text: &mut String,
-    alloc: Global,
-    index: u64,
-    frame: &TmFrame,
-    gap: Gap,
-) -> Result<(), AllocError>
-    ensures { Appends result text.old text.new (frame_line index (frame_view frame.now) gap) }
+fn put_frame(room: &mut [u8], at: usize, index: u64, frame: &TmFrame, gap: Gap) -> usize
+    requires { at + 128 ≤ length room.old }
+    ensures put { take result room.new ≡ take at room.old
+        ++ frame_line index (frame_view frame.now) gap }
+    ensures room { length room.new ≡ length room.old }
+    ensures next { result ≤ at + 128 }
 {
-    push_counts(text, index, frame)?;
-    push_pointer(text, frame.pointer)?;
-    push_digits(text, alloc, &frame.ocf)?;
-    push_gap(text, gap)
+    let next = put_counts(room, at, index, frame);
+    let next = put_pointer(room, next, frame.pointer);
+    let next = put_digits(room, next, &frame.ocf);
+    put_gap(room, next, gap)
 }
 
 /// Appends the line of each packet that is finished.
-fn push_finished(text: &mut String, alloc: Global, packets: &[Vec<u8>]) -> Result<(), AllocError>
+fn push_finished(text: &mut Text, packets: &[Vec<u8>]) -> Result<(), AllocError>
     ensures { Appends result text.old text.new (finished_lines (octets_of packets.now)) }
 {
     for packet in packets {
-        push_packet(text, alloc, packet.as_slice())?;
+        push_packet(text, packet.as_slice())?;
     }
     Ok(())
 }
 
-fn push_packet(text: &mut String, alloc: Global, packet: &[u8]) -> Result<(), AllocError>
+fn push_packet(text: &mut Text, packet: &[u8]) -> Result<(), AllocError>
     ensures { Appends result text.old text.new (finished_line packet.now) }
 {
-    text.push_str("packet ")?;
-    push_octets(text, alloc, packet)
+    text.make_room(7)?;
+    text.len = put_word(text.octets.as_mut_slice(), text.len, b"packet ");
+    push_octets(text, packet)
 }

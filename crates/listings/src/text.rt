@@ -1,117 +1,95 @@
-// Pieces of lines.
+// A text that is written in place.
 
-ghost use Rattle.std.specs.Prelude.{◌≡◌, ◌<◌, ◌*◌, ◌++◌, codes, decimal, length, slice_index, OnOk, OnErr};
-ghost use Rattle.hex.specs.Hex.{encode_upper, upper_digits};
-ghost use Rattle.octets.specs.Appending.{Appends};
-ghost use Rattle.listings.specs.Text.{invalid_line, octets_line};
+ghost use Rattle.std.specs.Prelude.{◌≡◌, ◌+◌, ◌*◌, ◌≤◌, [], vec_len, OnOk};
 
-use itoa::Buffer;
+use crate::parts::put_all;
 use std::alloc::{AllocError, Global};
-use std::mem;
 
-/// Appends the line of a record that was refused, or of a rest.
-pub fn push_invalid(text: &mut String, index: u64, number: u8, name: &str) -> Result<(), AllocError>
-    ensures { Appends result text.old text.new (invalid_line index number name.now) }
-{
-    push_number(text, index)?;
-    push_field(text, " invalid ", u64::from(number))?;
-    text.push(' ')?;
-    text.push_str(name)?;
-    text.push('\n')
+/// A text whose room is filled ahead of it, so that a line is written where it stands.
+#[derive(Drop)]
+pub struct Text {
+    pub(crate) octets: Vec<u8>,
+    pub(crate) len: usize,
+    ghost in_range: { len ≤ vec_len octets },
 }
 
-/// Appends a number's decimal digits. Most numbers of a line have one, which needs no buffer.
-#[inline(always)]
-#[tactic(auto, using(std::proofs::lemmas::Fmt::decimal_digit))]
-pub fn push_number(text: &mut String, number: u64) -> Result<(), AllocError>
-    ensures { Appends result text.old text.new (decimal number) }
-{
-    if number < 10 {
-        text.push((b'0' + number as u8) as char)
-    } else {
-        push_digits_of(text, number)
+impl Text {
+    ghost use Rattle.listings.specs.Written.{written, Appends};
+
+    /// A text with nothing in it; it takes no memory.
+    pub fn new(alloc: Global) -> Self
+        ensures { written result ≡ [] }
+    {
+        Text {
+            octets: Vec::new(alloc),
+            len: 0,
+        }
     }
-}
 
-#[inline(never)]
-fn push_digits_of(text: &mut String, number: u64) -> Result<(), AllocError>
-    ensures { Appends result text.old text.new (decimal number) }
-{
-    let mut buffer = Buffer::new();
-    text.push_str(buffer.format(number))
-}
-
-/// Appends the number of a record, and a blank.
-pub fn push_index(text: &mut String, index: u64) -> Result<(), AllocError>
-    ensures { Appends result text.old text.new (decimal index ++ codes " ") }
-{
-    push_number(text, index)?;
-    text.push(' ')
-}
-
-/// Appends a word, and a number's decimal digits behind it.
-#[inline(always)]
-pub fn push_field(text: &mut String, name: &str, number: u64) -> Result<(), AllocError>
-    ensures { Appends result text.old text.new (name.now ++ decimal number) }
-{
-    text.push_str(name)?;
-    push_number(text, number)
-}
-
-/// Appends octets as upper-case hexadecimal digits, and ends the line.
-pub fn push_octets(text: &mut String, alloc: Global, octets: &[u8]) -> Result<(), AllocError>
-    ensures { Appends result text.old text.new (octets_line octets.now) }
-{
-    push_digits(text, alloc, octets)?;
-    text.push('\n')
-}
-
-/// Appends octets as upper-case hexadecimal digits.
-pub fn push_digits(text: &mut String, alloc: Global, octets: &[u8]) -> Result<(), AllocError>
-    ensures { Appends result text.old text.new (encode_upper octets.now) }
-{
-    let mut bytes = mem::replace(text, String::new(alloc)).into_bytes();
-    let pushed = append_digits(&mut bytes, octets);
-    *text = unsafe { String::from_utf8_unchecked(bytes) };
-    pushed
-}
-
-// Appends the digits in place, which is twice as fast as a text of their own that is copied.
-fn append_digits(bytes: &mut Vec<u8>, octets: &[u8]) -> Result<(), AllocError>
-    ensures ok { OnOk result (bytes.new.items ≡ bytes.old.items ++ encode_upper octets.now) }
-    ensures err { OnErr result (bytes.new.items ≡ bytes.old.items) }
-{
-    let start = bytes.len();
-    let Some(count) = octets.len().checked_mul(2) else {
-        return Err(AllocError);
-    };
-    let Some(end) = start.checked_add(count) else {
-        return Err(AllocError);
-    };
-    bytes.resize(end, 0)?;
-    write_digits(&mut bytes.as_mut_slice()[start..], octets);
-    Ok(())
-}
-
-fn write_digits(digits: &mut [u8], octets: &[u8])
-    requires { length digits.old ≡ 2 * length octets.now }
-    ensures { digits.new ≡ encode_upper octets.now }
-{
-    'octets: for i in 0..octets.len() {
-        let octet = octets[i];
-        digits[2 * i] = digit_of(octet / 16);
-        digits[2 * i + 1] = digit_of(octet % 16);
+    /// What was written.
+    pub fn as_bytes(&self) -> &[u8]
+        ensures { result.now ≡ written self.now }
+    {
+        &self.octets[..self.len]
     }
-}
 
-#[inline(always)]
-fn digit_of(value: u8) -> u8
-    requires { value < 16 }
-    ensures { result ≡ slice_index upper_digits value }
-{
-    if value < 10 {
-        b'0' + value
-    } else {
-        b'7' + value
+    /// Forgets what was written, and keeps the room.
+    pub fn clear(&mut self)
+        ensures { written self.new ≡ [] }
+    {
+        self.len = 0;
+    }
+
+    /// Appends octets.
+    pub fn push(&mut self, octets: &[u8]) -> Result<(), AllocError>
+        ensures { Appends result self.old self.new octets.now }
+    {
+        self.make_room(octets.len())?;
+        self.len = put_all(self.octets.as_mut_slice(), self.len, octets);
+        Ok(())
+    }
+
+    /// Makes room for so many octets more.
+    #[inline(always)]
+    pub(crate) fn make_room(&mut self, count: usize) -> Result<(), AllocError>
+        ensures written { written self.new ≡ written self.old }
+        ensures len { self.new.len ≡ self.old.len }
+        ensures ok { OnOk result (self.old.len + count ≤ vec_len self.new.octets) }
+    {
+        if count <= self.octets.len() - self.len {
+            return Ok(());
+        }
+        self.grow(count)
+    }
+
+    #[inline(never)]
+    fn grow(&mut self, count: usize) -> Result<(), AllocError>
+        ensures written { written self.new ≡ written self.old }
+        ensures len { self.new.len ≡ self.old.len }
+        ensures ok { OnOk result (self.old.len + count ≤ vec_len self.new.octets) }
+    {
+        let Some(end) = self.len.checked_add(count) else {
+            return Err(AllocError);
+        };
+        let Some(room) = end.checked_mul(2) else {
+            return Err(AllocError);
+        };
+        self.octets.resize(room, 0)
+    }
+
+    /// Makes room for the digits of so many octets and the end of a line.
+    #[inline(always)]
+    pub(crate) fn make_room_for(&mut self, octets: usize) -> Result<(), AllocError>
+        ensures written { written self.new ≡ written self.old }
+        ensures len { self.new.len ≡ self.old.len }
+        ensures ok { OnOk result (self.old.len + (2 * octets + 1) ≤ vec_len self.new.octets) }
+    {
+        let Some(digits) = octets.checked_mul(2) else {
+            return Err(AllocError);
+        };
+        let Some(count) = digits.checked_add(1) else {
+            return Err(AllocError);
+        };
+        self.make_room(count)
     }
 }

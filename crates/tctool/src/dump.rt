@@ -83,7 +83,7 @@ pub fn dump<R: Source, W: Sink>(
             }
         }
         Task::Tc { check } => {
-            let frames = FrameListing::new(alloc);
+            let frames = FrameListing;
             match check {
                 Check::On => list_file(alloc, reader, writer, checked, frames),
                 Check::Off => list_file(alloc, reader, writer, unchecked, frames),
@@ -93,7 +93,7 @@ pub fn dump<R: Source, W: Sink>(
         Task::Check => list_file(alloc, reader, writer, checked, RefusalListing),
         Task::Packets => {
             let splitter = Splitter::<Packets>::new(alloc);
-            let packets = PacketListing::new(alloc);
+            let packets = PacketListing::new();
             list_file(alloc, reader, writer, splitter, packets)
         }
         Task::Sim => simulate(alloc, reader, writer),

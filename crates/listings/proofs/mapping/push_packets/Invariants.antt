@@ -1,5 +1,5 @@
 use Rattle.std.proofs.Common.{◌≡◌, ◌++◌, drop}
-use Rattle.std.specs.Prelude.{string_bytes}
+use Rattle.listings.specs.Written.{written}
 use Rattle.tm_link.specs.Extraction.{octets_of}
 use Rattle.listings.specs.MapLines.{map_packets_text}
 use Rattle.listings.proofs.mapping.push_packets.Given as goal
@@ -7,4 +7,4 @@ use Rattle.listings.proofs.mapping.push_packets.Given as goal
 -- the lines so far, and those of the packets that are left
 abbrev pub invariant-loop-packet : goal.invariant-loop-packet
 invariant-loop-packet l =
-    string_bytes l.text ++ map_packets_text l.map (octets_of (drop l.packet-index l.packets)) ≡ string_bytes l.fn.text ++ map_packets_text l.map (octets_of l.fn.packets)
+    written l.text ++ map_packets_text l.map (octets_of (drop l.packet-index l.packets)) ≡ written l.fn.text ++ map_packets_text l.map (octets_of l.fn.packets)

@@ -1,5 +1,5 @@
 use Rattle.std.proofs.Common.{◌≡◌, ◌+◌, ◌≤◌, length}
-use Rattle.std.specs.Prelude.{string_bytes}
+use Rattle.listings.specs.Written.{written}
 use Rattle.listings.specs.Listing.{listed}
 use Rattle.listings.specs.Progress.{standing}
 use Rattle.listings.proofs.stream.list_records.Given as goal
@@ -9,7 +9,7 @@ abbrev pub invariant-loop-answer : goal.invariant-loop-answer
 invariant-loop-answer g l =
     let all = listed g.C.Listing.lines g.S.Cutter.layout in
     record {
-      same : all (standing (string_bytes l.text) l.command l.progress (g.S.Cutter.held l.cutter)) ≡ all (standing (string_bytes l.fn.text) l.fn.command l.fn.progress (g.S.Cutter.held l.fn.cutter));
+      same : all (standing (written l.text) l.command l.progress (g.S.Cutter.held l.cutter)) ≡ all (standing (written l.fn.text) l.fn.command l.fn.progress (g.S.Cutter.held l.fn.cutter));
       failed : g.S.Cutter.failure l.cutter ≡ g.S.Cutter.failure l.fn.cutter;
       room : l.progress.count + length (g.S.Cutter.held l.cutter) ≤ l.fn.progress.count + length (g.S.Cutter.held l.fn.cutter);
     }

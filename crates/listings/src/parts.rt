@@ -1,0 +1,296 @@
+// Parts of a line, each put in place behind the one before it. Each call answers the place behind what it put.
+
+ghost use Rattle.std.specs.Prelude.{◌≡◌, ◌+◌, ◌*◌, ◌<◌, ◌≤◌, ◌%◌, ◌++◌, [], ◌∷◌, codes, decimal, length, take, slice_index};
+ghost use Rattle.hex.specs.Hex.{encode_upper, upper_digits};
+ghost use Rattle.listings.specs.FourDigits.{four_digits};
+
+/// Puts one octet.
+#[inline(always)]
+pub fn put_one(room: &mut [u8], at: usize, octet: u8) -> usize
+    requires { at < length room.old }
+    ensures put { take result room.new ≡ take at room.old ++ octet ∷ [] }
+    ensures room { length room.new ≡ length room.old }
+    ensures next { result ≡ at + 1 }
+{
+    room[at] = octet;
+    at + 1
+}
+
+/// Puts octets.
+#[inline(always)]
+pub fn put_all(room: &mut [u8], at: usize, octets: &[u8]) -> usize
+    requires { at + length octets.now ≤ length room.old }
+    ensures put { take result room.new ≡ take at room.old ++ octets.now }
+    ensures room { length room.new ≡ length room.old }
+    ensures next { result ≡ at + length octets.now }
+{
+    let next = at + octets.len();
+    room[at..next].copy_from_slice(octets);
+    next
+}
+
+/// Puts octets whose count is known when this is compiled.
+#[inline(always)]
+pub fn put_word<const N: usize>(room: &mut [u8], at: usize, word: &[u8; N]) -> usize
+    requires { at + N ≤ length room.old }
+    ensures put { take result room.new ≡ take at room.old ++ word.now }
+    ensures room { length room.new ≡ length room.old }
+    ensures next { result ≡ at + N }
+{
+    room[at..at + N].copy_from_slice(word);
+    at + N
+}
+
+/// Puts a number of one decimal digit.
+#[inline(always)]
+#[tactic(auto, using(std::proofs::lemmas::Fmt::decimal_digit))]
+pub fn put_digit(room: &mut [u8], at: usize, number: u8) -> usize
+    requires room { at < length room.old }
+    requires digit { number < 10 }
+    ensures put { take result room.new ≡ take at room.old ++ decimal number }
+    ensures room { length room.new ≡ length room.old }
+    ensures next { result ≡ at + 1 }
+{
+    put_one(room, at, b'0' + number)
+}
+
+/// Puts an octet's decimal digits, which are at most three.
+#[inline(always)]
+#[tactic(auto, using(crate::proofs::Digits::two_digits, crate::proofs::Digits::three_digits))]
+pub fn put_octet(room: &mut [u8], at: usize, number: u8) -> usize
+    requires { at + 3 ≤ length room.old }
+    ensures put { take result room.new ≡ take at room.old ++ decimal number }
+    ensures room { length room.new ≡ length room.old }
+    ensures next { result ≤ at + 3 }
+{
+    if number < 10 {
+        return put_digit(room, at, number);
+    }
+    if number < 100 {
+        return put_word(room, at, &[b'0' + number / 10, b'0' + number % 10]);
+    }
+    put_word(
+        room,
+        at,
+        &[
+            b'0' + number / 100,
+            b'0' + number / 10 % 10,
+            b'0' + number % 10,
+        ],
+    )
+}
+
+/// Puts the decimal digits of a number below 1,000.
+#[inline(always)]
+#[tactic(auto, using(std::proofs::lemmas::Fmt::decimal_digit, crate::proofs::Digits::two_digits, crate::proofs::Digits::three_digits))]
+fn put_small(room: &mut [u8], at: usize, number: u16) -> usize
+    requires room { at + 3 ≤ length room.old }
+    requires small { number < 1000 }
+    ensures put { take result room.new ≡ take at room.old ++ decimal number }
+    ensures room { length room.new ≡ length room.old }
+    ensures next { result ≤ at + 3 }
+{
+    if number < 10 {
+        return put_one(room, at, b'0' + number as u8);
+    }
+    if number < 100 {
+        return put_word(
+            room,
+            at,
+            &[b'0' + (number / 10) as u8, b'0' + (number % 10) as u8],
+        );
+    }
+    put_word(
+        room,
+        at,
+        &[
+            b'0' + (number / 100) as u8,
+            b'0' + (number / 10 % 10) as u8,
+            b'0' + (number % 10) as u8,
+        ],
+    )
+}
+
+// Puts four decimal digits.
+#[inline(always)]
+fn put_four(room: &mut [u8], at: usize, number: u16) -> usize
+    requires room { at + 4 ≤ length room.old }
+    requires four { number < 10000 }
+    ensures put { take result room.new ≡ take at room.old ++ four_digits number }
+    ensures room { length room.new ≡ length room.old }
+    ensures next { result ≡ at + 4 }
+{
+    put_word(
+        room,
+        at,
+        &[
+            b'0' + (number / 1000) as u8,
+            b'0' + (number / 100 % 10) as u8,
+            b'0' + (number / 10 % 10) as u8,
+            b'0' + (number % 10) as u8,
+        ],
+    )
+}
+
+/// Puts a number's decimal digits, which are at most five.
+#[inline(always)]
+#[tactic(auto, using(std::proofs::lemmas::Fmt::decimal_digit, crate::proofs::Digits::is_four, crate::proofs::Digits::then_four))]
+pub fn put_short(room: &mut [u8], at: usize, number: u16) -> usize
+    requires { at + 5 ≤ length room.old }
+    ensures put { take result room.new ≡ take at room.old ++ decimal number }
+    ensures room { length room.new ≡ length room.old }
+    ensures next { result ≤ at + 5 }
+{
+    if number < 1000 {
+        return put_small(room, at, number);
+    }
+    if number < 10000 {
+        return put_four(room, at, number);
+    }
+    let next = put_digit(room, at, (number / 10000) as u8);
+    put_four(room, next, number % 10000)
+}
+
+/// Puts a word, and an octet's decimal digits behind it.
+#[inline(always)]
+pub fn put_field<const N: usize>(room: &mut [u8], at: usize, word: &[u8; N], number: u8) -> usize
+    requires { at + (N + 3) ≤ length room.old }
+    ensures put { take result room.new ≡ take at room.old ++ (word.now ++ decimal number) }
+    ensures room { length room.new ≡ length room.old }
+    ensures next { result ≤ at + (N + 3) }
+{
+    let next = put_word(room, at, word);
+    put_octet(room, next, number)
+}
+
+/// Puts a word, and a number's decimal digits behind it.
+#[inline(always)]
+pub fn put_short_field<const N: usize>(
+    room: &mut [u8],
+    at: usize,
+    word: &[u8; N],
+    number: u16,
+) -> usize
+    requires { at + (N + 5) ≤ length room.old }
+    ensures put { take result room.new ≡ take at room.old ++ (word.now ++ decimal number) }
+    ensures room { length room.new ≡ length room.old }
+    ensures next { result ≤ at + (N + 5) }
+{
+    let next = put_word(room, at, word);
+    put_short(room, next, number)
+}
+
+/// Puts the decimal digits of the number of a record, which are at most twenty.
+#[inline(always)]
+#[tactic(auto, using(crate::proofs::Digits::at_most_twenty))]
+pub fn put_number(room: &mut [u8], at: usize, number: u64) -> usize
+    requires { at + 20 ≤ length room.old }
+    ensures put { take result room.new ≡ take at room.old ++ decimal number }
+    ensures room { length room.new ≡ length room.old }
+    ensures next { result ≤ at + 20 }
+{
+    if number < 100_000_000 {
+        return put_eight(room, at, number as u32);
+    }
+    put_long(room, at, number)
+}
+
+// Puts at most eight decimal digits.
+#[inline(always)]
+#[tactic(auto, using(crate::proofs::Digits::at_most_four))]
+fn put_eight(room: &mut [u8], at: usize, number: u32) -> usize
+    requires room { at + 8 ≤ length room.old }
+    requires eight { number < 100000000 }
+    ensures put { take result room.new ≡ take at room.old ++ decimal number }
+    ensures room { length room.new ≡ length room.old }
+    ensures next { result ≤ at + 8 }
+{
+    if number < 10000 {
+        return put_upper(room, at, number as u16);
+    }
+    let next = put_upper(room, at, (number / 10000) as u16);
+    put_four(room, next, (number % 10000) as u16)
+}
+
+#[tactic(auto, using(crate::proofs::Digits::then_four, crate::proofs::Digits::four_more))]
+fn put_long(room: &mut [u8], at: usize, number: u64) -> usize
+    requires { at + length (decimal number) ≤ length room.old }
+    ensures put { take result room.new ≡ take at room.old ++ decimal number }
+    ensures room { length room.new ≡ length room.old }
+    ensures next { result ≡ at + length (decimal number) }
+{
+    if number < 10000 {
+        return put_upper(room, at, number as u16);
+    }
+    let next = put_long(room, at, number / 10000);
+    put_four(room, next, (number % 10000) as u16)
+}
+
+#[inline(always)]
+#[tactic(auto, using(std::proofs::lemmas::Fmt::decimal_digit, crate::proofs::Digits::two_digits, crate::proofs::Digits::three_digits, crate::proofs::Digits::is_four))]
+fn put_upper(room: &mut [u8], at: usize, number: u16) -> usize
+    requires room { at + length (decimal number) ≤ length room.old }
+    requires four { number < 10000 }
+    ensures put { take result room.new ≡ take at room.old ++ decimal number }
+    ensures room { length room.new ≡ length room.old }
+    ensures next { result ≡ at + length (decimal number) }
+{
+    if number < 10 {
+        return put_one(room, at, b'0' + number as u8);
+    }
+    if number < 100 {
+        return put_word(
+            room,
+            at,
+            &[b'0' + (number / 10) as u8, b'0' + (number % 10) as u8],
+        );
+    }
+    if number < 1000 {
+        return put_word(
+            room,
+            at,
+            &[
+                b'0' + (number / 100) as u8,
+                b'0' + (number / 10 % 10) as u8,
+                b'0' + (number % 10) as u8,
+            ],
+        );
+    }
+    put_four(room, at, number)
+}
+
+/// Puts octets as upper-case hexadecimal digits.
+#[inline(always)]
+pub fn put_digits(room: &mut [u8], at: usize, octets: &[u8]) -> usize
+    requires { at + 2 * length octets.now ≤ length room.old }
+    ensures put { take result room.new ≡ take at room.old ++ encode_upper octets.now }
+    ensures room { length room.new ≡ length room.old }
+    ensures next { result ≡ at + 2 * length octets.now }
+{
+    let next = at + 2 * octets.len();
+    write_digits(&mut room[at..next], octets);
+    next
+}
+
+fn write_digits(digits: &mut [u8], octets: &[u8])
+    requires { length digits.old ≡ 2 * length octets.now }
+    ensures { digits.new ≡ encode_upper octets.now }
+{
+    'octets: for i in 0..octets.len() {
+        let octet = octets[i];
+        digits[2 * i] = digit_of(octet / 16);
+        digits[2 * i + 1] = digit_of(octet % 16);
+    }
+}
+
+#[inline(always)]
+fn digit_of(value: u8) -> u8
+    requires { value < 16 }
+    ensures { result ≡ slice_index upper_digits value }
+{
+    if value < 10 {
+        b'0' + value
+    } else {
+        b'7' + value
+    }
+}
