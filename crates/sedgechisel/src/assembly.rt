@@ -13,8 +13,8 @@ use map_service::{Dropped, Limits, fault_of_alone, fault_of_one};
 use space_packet::packet_len;
 use tc_frame::SegmentFlags;
 
-/// One MAP (CCSDS 232.0-B-4, 4.1.3.2): how many octets of the memory the open part has, whether one is open, and whether
-/// a segment may hold several packets.
+/// One MAP (CCSDS 232.0-B-4, 4.1.3.2): how many octets of the memory the open part has, whether one is open, and
+/// whether a segment may hold several packets.
 #[repr(C)]
 #[derive(Clone, Copy)]
 pub struct KeptMap {
@@ -33,8 +33,8 @@ pub struct TakenSegment {
     pub dropped: u8,
 }
 
-/// Takes the next segment of a MAP, its flags and its data. The memory has as many octets as the longest packet. Answers
-/// 0, or 255 where the flags are none or the MAP is damaged, and nothing is written then.
+/// Takes the next segment of a MAP, its flags and its data. The memory has as many octets as the longest packet.
+/// Answers 0, or 255 where the flags are none or the MAP is damaged, and nothing is written then.
 #[unsafe(no_mangle)]
 pub extern "C" fn sedge_map_take(
     map: &mut KeptMap,

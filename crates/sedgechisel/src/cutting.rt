@@ -50,8 +50,8 @@ pub extern "C" fn sedge_map_count(octets: &[u8], limits: &CutLimits, segments: &
     }
 }
 
-/// Segment `k` of these, from 0: its flags, and where its data stand in the octets. Answers as `sedge_map_count` does, or
-/// 253 where there are not so many.
+/// Segment `k` of these, from 0: its flags, and where its data stand in the octets. Answers as `sedge_map_count` does,
+/// or 253 where there are not so many.
 #[unsafe(no_mangle)]
 pub extern "C" fn sedge_map_segment(
     octets: &[u8],
