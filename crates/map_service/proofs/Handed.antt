@@ -12,7 +12,7 @@ use Rattle.map_service.specs.declared.dropped.Dropped.{Dropped}
 use Rattle.map_service.specs.declared.dropped.Dropped.TheVariants.{Interrupted, NotAPacket, TooLong}
 use Rattle.map_service.specs.Assembly.{is_open, is_too_long}
 use Rattle.map_service.specs.Packets.{packets_in, rest_in, is_packet, are_packets}
-use Rattle.map_service.specs.Taking.{one_fault, several_fault, alone_fault, alone_packets, drop_outcome, packets_outcome, part_outcome, cell, take_step}
+use Rattle.map_service.specs.Taking.{one_fault, several_fault, alone_fault, drop_outcome, packets_outcome, part_outcome, cell, take_step}
 use Rattle.map_service.proofs.Groups.{IsWhole, packets-split, again}
 
 abbrev pub AreWhole : List (List ℕ) → Type 0

@@ -8,7 +8,7 @@ use Rattle.tc_link.specs.World.{World, IsSettled, BeginsNoSession, world_step}
 use Rattle.tc_link.proofs.Beginning.{Clean}
 use Rattle.tc_link.proofs.Delivered.{late_history, is_history, unsettled}
 use Rattle.tc_link.proofs.Invariant.{late_step}
-use Rattle.tc_link.proofs.Linked.{Late, Next}
+use Rattle.tc_link.proofs.Linked.{Next}
 use Rattle.tc_link.proofs.SteadyWorld.{Sound, steady_of, step_sound}
 
 pub goes_on_by_a_step : (c : Config) (w : World) (k : Sound c w) (s : Clean c w) (e : Event) → IsEvent e

@@ -15,6 +15,8 @@ mod sim;
 mod world;
 
 pub use event::Event;
-pub use nodes::{Config, Ground, Heard, HeardReport, LinkFault, Received, Spacecraft, law_of_delivery};
+pub use nodes::{
+    Config, Ground, Heard, HeardReport, LinkFault, Received, Spacecraft, law_of_delivery,
+};
 pub use reply::{NodeFault, Reply};
 pub use sim::{Sim, SimFault, run};

@@ -44,7 +44,11 @@ pub(crate) fn next_frame(alloc: Global, ground_node: &Ground) -> Result<Option<O
         return Err(SimFault::Memory);
     };
     let field = first_sent(alloc, ground_node.vs(), &frame.body)?;
-    Ok(Some(Outgoing { octets, copy, field }))
+    Ok(Some(Outgoing {
+        octets,
+        copy,
+        field,
+    }))
 }
 
 // The data field, where V(S) is the frame's number, so that it is first sent.

@@ -1,7 +1,8 @@
 // Runs of the sender.
 
 use crate::{
-    Alert, Control, CopFault, Directive, Fop, FopMode, Peeked, Pulled, Sender, SenderFields, SenderNext,
+    Alert, Control, CopFault, Directive, Fop, FopMode, Peeked, Pulled, Sender, SenderFields,
+    SenderNext,
 };
 use bitflags::Flags;
 use clcw::{Clcw, ClcwFlags};
