@@ -1,0 +1,113 @@
+/* Measures the calls of sedge_fop beside the same rules in plain C, each in turn: 4 * 10^6 rounds of submit, next, and a
+ * tick or a report. In the first row each report acknowledges all that was sent; in the second some ask for units again,
+ * and some come late. Prints a row for each, and fails where the two do not answer the same, or where the library takes
+ * more than 1.3 times as long. */
+#define _POSIX_C_SOURCE 199309L
+#include "sender.h"
+#include <stdint.h>
+#include <stdio.h>
+#include <time.h>
+
+enum { ROUNDS = 4000000, TURNS = 9 };
+
+#define MOST 1.3
+
+/* The calls of the library, or those in plain C. */
+struct calls {
+    uint8_t (*submit)(struct sedge_fop *);
+    uint8_t (*next)(struct sedge_fop *, uint8_t *);
+    uint8_t (*report)(struct sedge_fop *, const struct sedge_clcw *, uint8_t *);
+    uint8_t (*tick)(struct sedge_fop *);
+};
+
+static const struct calls library_calls = {sedge_fop_submit, sedge_fop_next, sedge_fop_report, sedge_fop_tick};
+static const struct calls plain_calls = {plain_fop_submit, plain_fop_next, plain_fop_report, plain_fop_tick};
+
+static uint8_t chances[ROUNDS];
+
+/* What a run answered, and the processor's seconds. */
+struct run {
+    uint64_t sum;
+    double seconds;
+};
+
+static double seconds_now(void)
+{
+    struct timespec now;
+    clock_gettime(CLOCK_PROCESS_CPUTIME_ID, &now);
+    return (double)now.tv_sec + (double)now.tv_nsec * 1e-9;
+}
+
+/* A report of what was sent, all of it or less, with or without the flag for a retransmission. */
+static struct sedge_clcw word_of(const struct sedge_fop *fop, uint8_t chance)
+{
+    struct sedge_clcw word = {0, 0, 0, 0, fop->vs};
+    if (chance >= 224 && fop->sent > 0) {
+        word.value = (uint8_t)(fop->vs - 1);
+        word.flags = chance >= 240 ? SEDGE_CLCW_RETRANSMIT : 0;
+    }
+    return word;
+}
+
+/* The calls of both are made through pointers, so that none is inlined. */
+static struct run run_of(const struct calls *volatile which)
+{
+    const struct calls *calls = which;
+    struct sedge_fop fop;
+    struct run run = {0, 0};
+    uint64_t sum = 0;
+    sedge_fop_open(&fop, 254, 127, 10, 100);
+    double start = seconds_now();
+    for (int i = 0; i < ROUNDS; i++) {
+        uint8_t number, released = 0, alert;
+        if (fop.state == SEDGE_FOP_S6)
+            sedge_fop_init_without_check(&fop);
+        sum = sum * 31 + calls->submit(&fop);
+        sum = sum * 31 + calls->next(&fop, &number) + number;
+        if (i % 4 == 3) {
+            struct sedge_clcw word = word_of(&fop, chances[i]);
+            alert = calls->report(&fop, &word, &released);
+        } else {
+            alert = calls->tick(&fop);
+        }
+        sum = sum * 31 + alert + released;
+    }
+    run.seconds = seconds_now() - start;
+    run.sum = sum * 31 + fop.vs + fop.nn;
+    return run;
+}
+
+/* The least seconds of each over the turns; 1 where their answers differ, or where the ratio is too high. */
+static int row(const char *what)
+{
+    double library = 1e9, plain = 1e9;
+    for (int turn = 0; turn < TURNS; turn++) {
+        struct run one = run_of(&library_calls);
+        struct run other = run_of(&plain_calls);
+        if (one.sum != other.sum) {
+            fprintf(stderr, "%s: the answers differ\n", what);
+            return 1;
+        }
+        library = one.seconds < library ? one.seconds : library;
+        plain = other.seconds < plain ? other.seconds : plain;
+    }
+    printf("| %s | %.1f | %.1f | %.2f |\n", what, plain * 1e9 / (3.0 * ROUNDS), library * 1e9 / (3.0 * ROUNDS),
+           library / plain);
+    return library > MOST * plain;
+}
+
+int main(void)
+{
+    int failed;
+    uint32_t state = 1;
+    puts("| calls | plain C, ns a call | sedge_fop, ns a call | ratio |\n|---|---|---|---|");
+    failed = row("all acknowledged in time");
+    for (int i = 0; i < ROUNDS; i++) {
+        state ^= state << 13;
+        state ^= state >> 17;
+        state ^= state << 5;
+        chances[i] = (uint8_t)(state >> 24);
+    }
+    failed |= row("some asked for again");
+    return failed;
+}
