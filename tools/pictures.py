@@ -41,12 +41,15 @@ def flags_of(word):
 
 class Picture:
     def __init__(self, width, height, title):
-        self.width, self.height, self.title, self.parts = width, height, title, []
+        self.width, self.height, self.title, self.shapes, self.words = width, height, title, [], []
 
     def add(self, name, text=None, **fields):
         shown = {key.replace("_", "-"): f"{it:.0f}" if isinstance(it, float) else str(it) for key, it in fields.items()}
         words = "".join(f' {key}="{html.escape(it)}"' for key, it in shown.items())
-        self.parts.append(f"<{name}{words}/>" if text is None else f"<{name}{words}>{html.escape(text)}</{name}>")
+        if text is None:
+            self.shapes.append(f"<{name}{words}/>")
+        else:
+            self.words.append(f"<{name}{words}>{html.escape(text)}</{name}>")
 
     def text(self, x, y, text, anchor="middle", **more):
         self.add("text", text, x=x, y=y, text_anchor=anchor, **more)
@@ -68,11 +71,12 @@ class Picture:
         return (x0 + 2 * x + x1) / 4, (y0 + 2 * y + y1) / 4
 
     def write(self, file):
+        """Words come after all shapes, so that no line runs through them."""
         style = "text { font: 13px monospace; fill: #123; paint-order: stroke; stroke: #fff; stroke-width: 6px; stroke-linejoin: round } .name { font-weight: bold }"
         tip = '<marker id="tip" markerWidth="9" markerHeight="9" refX="8" refY="4" orient="auto"><path d="M0 0 L9 4 L0 8 z" fill="#345"/></marker>'
         head = f'<svg xmlns="http://www.w3.org/2000/svg" viewBox="0 0 {self.width} {self.height}" width="{self.width}" height="{self.height}" role="img">'
         back = f'<rect width="{self.width}" height="{self.height}" fill="#fff"/>'
-        lines = [head, f"<title>{html.escape(self.title)}</title>", f"<style>{style}</style>", f"<defs>{tip}</defs>", back, *self.parts, "</svg>"]
+        lines = [head, f"<title>{html.escape(self.title)}</title>", f"<style>{style}</style>", f"<defs>{tip}</defs>", back, *self.shapes, *self.words, "</svg>"]
         with open(file, "w", encoding="utf-8") as it:
             it.write("\n".join(lines) + "\n")
 
