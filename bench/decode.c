@@ -45,7 +45,7 @@ static struct run run_of(decode_call *volatile decode, size_t count, bool checke
     return run;
 }
 
-/* Frames of so many octets, of which one in 16 is damaged. */
+/* Frames of this number of octets, of which one in 16 is damaged. */
 static int make_frames(size_t count, bool checked)
 {
     struct sedge_tc_frame frame = {1, 2, SEDGE_TC_AD, 0, SEDGE_SEGMENT_ALONE, 4, 0, 0};

@@ -114,7 +114,7 @@ static void put_invalid(int fault, const char *name) {
 
 /* ---- octets */
 
-static uint16_t later[8][256];  /* what an octet adds to the check, so many octets later */
+static uint16_t later[8][256];  /* what an octet adds to the check, this number of octets later */
 
 static void make_tables(void) {
     for (int i = 0; i < 256; i++) {

@@ -414,7 +414,7 @@ class TcFrame(_Struct):
     @classmethod
     def decode(cls, octets, checked=False):
         """Reads all of the octets as one frame, which ends with its check where `checked` is true: the frame, and the
-        data behind the segment header, which a control frame lacks. A TcFault of 1 to 9 where they are none."""
+        data after the segment header, which a control frame lacks. A TcFault of 1 to 9 where they are none."""
         octets, frame, part = bytes(octets), cls(), _Part()
         TcFault._look_at(_tc_decode(octets, len(octets), checked, byref(frame), byref(part)))
         return frame, part.of(octets)

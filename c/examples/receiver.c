@@ -1,5 +1,5 @@
 /* A receiver on board: it cuts the octets of standard input into telecommand frames, gives those of its virtual channel
- * to FARM-1, joins the packets of its MAP, and writes these, and behind each frame the control word for the ground. */
+ * to FARM-1, joins the packets of its MAP, and writes these, and after each frame the control word for the ground. */
 #include <sedgechisel.h>
 #include <stdio.h>
 #include <string.h>

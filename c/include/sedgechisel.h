@@ -47,7 +47,7 @@ struct sedge_text sedge_version(void);
 /* The answers that all kinds of calls share. */
 enum sedge_status {
     SEDGE_OK = 0,
-    SEDGE_ABSENT = 253,      /* there are not so many of what is asked for by its place */
+    SEDGE_ABSENT = 253,      /* there are fewer of what is asked for by its place */
     SEDGE_WRONG_COUNT = 254, /* the octets are not as many as the call wants */
     SEDGE_DAMAGED = 255      /* a struct has a value that none of its kind has */
 };
@@ -489,7 +489,7 @@ struct sedge_taken {
 uint8_t sedge_map_take(struct sedge_map *map, uint8_t flags, const uint8_t *data, size_t data_count, uint8_t *memory,
                        size_t room, struct sedge_taken *taken);
 
-/* The packet after this part of the octets, so that with {0, 0} first each of several packets is told in its turn.
+/* The packet after this part of the octets, so that with {0, 0} first each of several packets is given in its turn.
  * Answers true, and the part is that packet; or false, with nothing written, where none stands there. */
 bool sedge_map_packet(const uint8_t *octets, size_t count, struct sedge_part *packet);
 
@@ -511,7 +511,7 @@ struct sedge_limits {
 uint8_t sedge_map_count(const uint8_t *octets, size_t count, const struct sedge_limits *limits, size_t *segments);
 
 /* Segment k of these, from 0: its flags of sedge_segment_flags, and where its data stand in the octets. Answers as
- * sedge_map_count does, and SEDGE_ABSENT where there are not so many. */
+ * sedge_map_count does, and SEDGE_ABSENT where there are fewer. */
 uint8_t sedge_map_segment(const uint8_t *octets, size_t count, const struct sedge_limits *limits, size_t k,
                           uint8_t *flags, struct sedge_part *data);
 

@@ -28,7 +28,7 @@ static uint32_t below(uint32_t limit) {
     return (uint32_t)((state * 2685821657736338717u) >> 33) % limit;
 }
 
-/* The first page behind each region may not be touched. */
+/* The first page after each region may not be touched. */
 static uint8_t *ends[REGIONS];
 
 static int make_regions(void) {
@@ -77,7 +77,7 @@ static int is_answer(uint8_t answer, uint8_t most, const void *now, const void *
     return (answer <= most || answer >= SEDGE_ABSENT) && (answer == SEDGE_OK || memcmp(now, kept, size) == 0);
 }
 
-/* What a call that writes octets answered and told. */
+/* What a call that writes octets answered and wrote. */
 static void look_at_written(uint8_t answer, uint8_t most, const uint8_t *out, size_t room, size_t total) {
     WANT(answer <= most || answer == SEDGE_DAMAGED);
     WANT(answer == SEDGE_OK ? total > 0 && total <= room && is_kept(out + total) : total == 99 && is_kept(out));
