@@ -6,17 +6,17 @@
  * its crate's contract says, for every value of its arguments and of the structs behind its pointers. The books are
  * CCSDS 133.0-B-2 (space packets), 132.0-B-3 (telemetry), 232.0-B-4 (telecommand) and 232.1-B-2 (COP-1).
  *
- * What a caller owes, and nothing can check:
+ * What a caller has to ensure, since nothing can check it:
  * - No pointer is null, and each is aligned for its type; this holds of a pointer to no octets too.
- * - Behind a pointer to octets, as many octets as the count after it says may be read, or written where the pointer is
- *   not to const; behind a pointer to a struct or a number, that struct or number. Octets and structs that are read
- *   have been written before; what is written alone need not have been.
+ * - At a pointer to octets, as many octets as the count after it says may be read, and written where the pointer is not
+ *   to const; at a pointer to a struct or a number, that struct or number. Octets and structs that are read have been
+ *   written before; what is only written need not have been.
  * - What is written overlaps nothing else that the call is given.
  * - A bool is false or true, as it is wherever C or C++ makes it of another value.
  *
- * Most functions answer 0, SEDGE_OK, or the number of the first reason why not, by the enum that stands before them. A
- * call that answers anything but 0 has written nothing, except where its answer is no reason: a verdict
- * (sedge_farm_ad), what goes on the link next (sedge_fop_next), or an alert (sedge_fop_report, sedge_fop_tick). */
+ * Most functions return 0, SEDGE_OK, or the number of the first fault that applies, by the enum before them. A call
+ * that returns anything but 0 has written nothing, except where the number is not a fault: a verdict (sedge_farm_ad),
+ * what goes on the link next (sedge_fop_next), or an alert (sedge_fop_report, sedge_fop_tick). */
 #ifndef SEDGECHISEL_H
 #define SEDGECHISEL_H
 
@@ -44,15 +44,15 @@ struct sedge_text {
 
 struct sedge_text sedge_version(void);
 
-/* The answers that all kinds of calls share. */
+/* The numbers that all kinds of calls share. */
 enum sedge_status {
     SEDGE_OK = 0,
-    SEDGE_ABSENT = 253,      /* there are fewer of what is asked for by its place */
-    SEDGE_WRONG_COUNT = 254, /* the octets are not as many as the call wants */
-    SEDGE_DAMAGED = 255      /* a struct has a value that none of its kind has */
+    SEDGE_ABSENT = 253,      /* there are not that many segments */
+    SEDGE_WRONG_COUNT = 254, /* not the number of octets that the call needs */
+    SEDGE_DAMAGED = 255      /* a struct has a value that no sender, receiver or MAP has, or one out of its enum */
 };
 
-/* So many octets from a place on, which is counted from 0: where data stand in the octets that were read. */
+/* Where data are in the octets that were read: count octets, the first at octets + from. */
 struct sedge_part {
     size_t from;
     size_t count;
@@ -64,8 +64,8 @@ struct sedge_part {
 /* The check of the octets. */
 uint16_t sedge_check(const uint8_t *octets, size_t count);
 
-/* Sets the last two octets to the check of those before them, and answers true; false, with nothing written, for fewer
- * than two octets. */
+/* Sets the last two octets to the check of those before them, and returns true; for fewer than two octets it returns
+ * false and writes nothing. */
 bool sedge_check_append(uint8_t *octets, size_t count);
 
 /* Whether the last two octets are the check of those before them; false for fewer than two octets (232.0-B-4,
@@ -84,7 +84,7 @@ enum sedge_clcw_fault {
 
 /* The flags of a control word, as bits of sedge_clcw.flags (4.2.1.8). */
 enum sedge_clcw_flags {
-    SEDGE_CLCW_RETRANSMIT = 0x08,  /* frames have to be sent again, from the reported number on */
+    SEDGE_CLCW_RETRANSMIT = 0x08,  /* frames have to be sent again, from the report value on */
     SEDGE_CLCW_WAIT = 0x10,        /* there is no room for a further frame */
     SEDGE_CLCW_LOCKOUT = 0x20,     /* the receiver is in its state Lockout */
     SEDGE_CLCW_NO_BIT_LOCK = 0x40, /* the receiver has no bit lock */
@@ -99,12 +99,12 @@ struct sedge_clcw {
     uint8_t value;  /* the report value, V(R) of the receiver */
 };
 
-/* Reads four octets as a control word. Answers 0, or the first of 1 to 4 of sedge_clcw_fault, or SEDGE_WRONG_COUNT
- * where the octets are not four. */
+/* Reads four octets as a control word. Returns 0, or the first of 1 to 4 of sedge_clcw_fault, or SEDGE_WRONG_COUNT
+ * if the octets are not four. */
 uint8_t sedge_clcw_decode(const uint8_t *octets, size_t count, struct sedge_clcw *word);
 
-/* Writes a control word as four octets. Answers 0, or SEDGE_CLCW_RANGE, or SEDGE_WRONG_COUNT where there is not room
- * for exactly four octets. */
+/* Writes a control word as four octets. Returns 0, or SEDGE_CLCW_RANGE, or SEDGE_WRONG_COUNT if the room is not
+ * four octets. */
 uint8_t sedge_clcw_encode(const struct sedge_clcw *word, uint8_t *out, size_t room);
 
 /* ---- The receiver FARM-1 of one virtual channel (232.1-B-2, section 6). ---- */
@@ -117,7 +117,7 @@ enum sedge_cop_fault {
     SEDGE_COP_TIMER = 4,      /* the timer's value is 0 */
     SEDGE_COP_NOT_OPEN = 6,   /* the sender is in its state S6 */
     SEDGE_COP_BUSY = 7,       /* a unit waits already */
-    SEDGE_COP_WRONG_STATE = 8 /* the directive is not followed in the sender's state */
+    SEDGE_COP_WRONG_STATE = 8 /* the directive is not allowed in the sender's state */
 };
 
 /* What the receiver does with a Type-AD frame. */
@@ -137,9 +137,9 @@ enum sedge_farm_mode {
     SEDGE_FARM_LOCKOUT = 2 /* S3: a number outside the window came; Unlock alone opens again */
 };
 
-/* A receiver, which its owner keeps. Begin it with sedge_farm_open, and then read its fields as you like. Each call
- * looks whether the fields are a receiver's: the width even, 2 to 254; the flags 0 or 1; the retransmit flag 1 where
- * the wait flag is; FARM-B 0 to 3. Where they are not, it answers SEDGE_DAMAGED and changes nothing. */
+/* A receiver, which the caller keeps. Begin it with sedge_farm_open; its fields may be read at any time. Each call
+ * checks that the fields are those of a receiver: the width even, 2 to 254; the flags 0 or 1; the retransmit flag 1 if
+ * the wait flag is; FARM-B 0 to 3. If they are not, it returns SEDGE_DAMAGED and changes nothing. */
 struct sedge_farm {
     uint8_t width;      /* of both windows together; each is half of it */
     uint8_t vr;         /* V(R), the number of the next frame to be accepted */
@@ -149,31 +149,31 @@ struct sedge_farm {
     uint8_t farm_b; /* FARM-B, the count of Type-B frames modulo 4 */
 };
 
-/* Begins a receiver that is open with all flags 0 and FARM-B 0, and expects the number vr. Answers 0, or
+/* Begins a receiver in its state Open, with all flags 0 and FARM-B 0, which expects the number vr. Returns 0, or
  * SEDGE_COP_WIDTH. */
 uint8_t sedge_farm_open(struct sedge_farm *farm, uint8_t width, uint8_t vr);
 
-/* A Type-AD frame with the number n has come, and there is room for its data or not. Answers its verdict; where that
- * is SEDGE_ACCEPTED, hand its data on. Or SEDGE_DAMAGED. */
+/* A Type-AD frame with the number n has arrived; buffer_free says whether there is room for its data. Returns its
+ * verdict, of sedge_verdict: if it is SEDGE_ACCEPTED, hand the data on. Or returns SEDGE_DAMAGED. */
 uint8_t sedge_farm_ad(struct sedge_farm *farm, uint8_t n, bool buffer_free);
 
-/* A Type-BD frame has come; hand its data on in every state. Answers 0, or SEDGE_DAMAGED. */
+/* A Type-BD frame has arrived; hand its data on in every state. Returns 0, or SEDGE_DAMAGED. */
 uint8_t sedge_farm_bd(struct sedge_farm *farm);
 
-/* The control command Unlock has come. Answers 0, or SEDGE_DAMAGED. */
+/* The control command Unlock has arrived. Returns 0, or SEDGE_DAMAGED. */
 uint8_t sedge_farm_unlock(struct sedge_farm *farm);
 
-/* The control command Set V(R) has come; a locked receiver counts it and keeps its V(R). Answers 0, or SEDGE_DAMAGED. */
+/* The control command Set V(R) has arrived; in Lockout it is counted, and V(R) stays. Returns 0, or SEDGE_DAMAGED. */
 uint8_t sedge_farm_set_vr(struct sedge_farm *farm, uint8_t vr);
 
-/* There is room on board again. Answers 0, or SEDGE_DAMAGED. */
+/* There is room on board again. Returns 0, or SEDGE_DAMAGED. */
 uint8_t sedge_farm_released(struct sedge_farm *farm);
 
-/* The control word that reports the receiver as it is, for the virtual channel vcid; the flags for the radio channel
- * and bit lock are 0. Answers 0, or SEDGE_DAMAGED, or SEDGE_CLCW_RANGE where vcid is not below 64. */
+/* Makes the control word that reports on the receiver as it is, for the virtual channel vcid; the flags for the radio
+ * channel and bit lock are 0. Returns 0, or SEDGE_DAMAGED, or SEDGE_CLCW_RANGE if vcid is not below 64. */
 uint8_t sedge_farm_report(const struct sedge_farm *farm, uint8_t vcid, struct sedge_clcw *word);
 
-/* The state, of sedge_farm_mode, or SEDGE_DAMAGED. */
+/* Returns the state, of sedge_farm_mode, or SEDGE_DAMAGED. */
 uint8_t sedge_farm_state(const struct sedge_farm *farm);
 
 /* ---- The sender FOP-1 of one virtual channel (232.1-B-2, section 5, in the profile of docs/PROFILE.md). ----
@@ -197,9 +197,9 @@ uint8_t sedge_farm_state(const struct sedge_farm *farm);
  *     uint8_t released;
  *     uint8_t alert = sedge_fop_report(&fop, &word, &released);
  *
- * A report acknowledges the released oldest units: those places may be used again, and here nothing is left to do. An
- * alert, also that of a tick, and sedge_fop_terminate let go of all units, the one that waits too; so does nothing
- * else. ---- */
+ * A report acknowledges the oldest units sent, as many as it writes to released; their places may be used again. An
+ * alert (of a report, of a tick, or by sedge_fop_terminate) discards all units, the one that waits too; nothing else
+ * does. ---- */
 
 /* The sender's state (5.1.2). */
 enum sedge_fop_state {
@@ -224,10 +224,10 @@ enum sedge_control {
 enum sedge_alert {
     SEDGE_NO_ALERT = 0,
     SEDGE_ALERT_LOCKOUT = 1,   /* a report has the lockout flag */
-    SEDGE_ALERT_NNR = 2,       /* a report's value is no number from NN(R) to V(S) */
+    SEDGE_ALERT_NNR = 2,       /* a report's value is not from NN(R) to V(S) */
     SEDGE_ALERT_CLCW = 3,      /* a report has the wait flag without the retransmit flag */
     SEDGE_ALERT_SYNCH = 4,     /* a report asks for what was not sent, or no more for what it asked for */
-    SEDGE_ALERT_LIMIT = 5,     /* a report asks for units again, and each may be sent once */
+    SEDGE_ALERT_LIMIT = 5,     /* a report asks for units again, and the transmission limit is 1 */
     SEDGE_ALERT_TIMER = 6,     /* the timer has ended, and units may not be sent again */
     SEDGE_ALERT_TERMINATED = 7 /* sedge_fop_terminate */
 };
@@ -241,35 +241,35 @@ enum sedge_next {
     SEDGE_NEXT_AGAIN = 4   /* the unit kept under the number, in a Type-AD frame with it */
 };
 
-/* A sender, which its owner keeps. Begin it with sedge_fop_open, and then read its fields as you like. Each call looks
- * whether the fields are a sender's: the ranges below, and in S1 to S5 the number of units sent is V(S) - NN(R), modulo
- * 256; in S6 none is sent or waits, and the timer is off; a control command is there in S5 alone. Where they are not,
- * it answers SEDGE_DAMAGED and changes nothing. */
+/* A sender, which the caller keeps. Begin it with sedge_fop_open; its fields may be read at any time. Each call checks
+ * that the fields are those of a sender: the ranges below; in S1 to S5 the number of units sent is V(S) - NN(R), modulo
+ * 256; in S6 no unit is sent or waits, and the timer is off; only S5 has a control command. If they are not, it returns
+ * SEDGE_DAMAGED and changes nothing. */
 struct sedge_fop {
     uint16_t timer;  /* the timer's value in ticks, at least 1 */
-    uint16_t ticks;  /* the ticks that are left where the timer runs, and 0 where it is off */
+    uint16_t ticks;  /* the ticks that are left while the timer runs, and 0 while it is off */
     uint8_t room;    /* half the receiver's window width, 1 to 127: the most units sent and not acknowledged */
     uint8_t state;   /* of sedge_fop_state */
     uint8_t vs;      /* V(S), the number of the next unit to be sent for the first time */
     uint8_t nn;      /* NN(R), the number that the receiver was last known to expect */
     uint8_t waiting; /* whether a unit waits to be sent for the first time, 0 or 1 */
-    uint8_t sent;    /* how many units are sent and not acknowledged, at most room */
-    uint8_t due;     /* how many of the last of these are due to be sent again */
+    uint8_t sent;    /* the number of units sent and not acknowledged, at most room */
+    uint8_t due;     /* the number of these, the last ones, that are due to be sent again */
     uint8_t window;  /* the window K, 1 to room */
     uint8_t limit;   /* the transmission limit, at least 1 */
     uint8_t count;   /* the transmission count, at least 1 */
     uint8_t control; /* of sedge_control */
-    uint8_t vr;      /* the number of the control command Set V(R), and 0 where there is no such command */
+    uint8_t vr;      /* the number of the control command Set V(R), and 0 if there is no such command */
 };
 
 /* Begins a sender in its state S6 with V(S) and NN(R) 0, to a receiver of this window width, with the window K, the
- * transmission limit and the timer's value in ticks. Answers 0, or the first of SEDGE_COP_WIDTH (not even, 2 to 254),
+ * transmission limit and the timer's value in ticks. Returns 0, or the first of SEDGE_COP_WIDTH (not even, 2 to 254),
  * SEDGE_COP_WINDOW (not 1 to half the width), SEDGE_COP_LIMIT (0) and SEDGE_COP_TIMER (0). */
 uint8_t sedge_fop_open(struct sedge_fop *fop, uint8_t width, uint8_t window, uint8_t limit, uint16_t timer);
 
-/* The directives (5.2.4). Each answers 0, or SEDGE_DAMAGED. The initiations and the one that sets V(S), and NN(R) to
- * it, are followed in S6 alone, and terminate in S1 to S5: otherwise SEDGE_COP_WRONG_STATE. Terminate is the alert
- * SEDGE_ALERT_TERMINATED: all units are let go of. */
+/* The directives (5.2.4). Each returns 0, or SEDGE_DAMAGED, or SEDGE_COP_WRONG_STATE: the four initiations and Set V(S)
+ * (which sets NN(R) too) are allowed in S6 alone, Terminate in S1 to S5. Terminate is the alert SEDGE_ALERT_TERMINATED:
+ * all units are discarded. */
 uint8_t sedge_fop_init_without_check(struct sedge_fop *fop);
 uint8_t sedge_fop_init_with_check(struct sedge_fop *fop);
 uint8_t sedge_fop_init_unlock(struct sedge_fop *fop);
@@ -277,25 +277,25 @@ uint8_t sedge_fop_init_set_vr(struct sedge_fop *fop, uint8_t vr);
 uint8_t sedge_fop_terminate(struct sedge_fop *fop);
 uint8_t sedge_fop_set_vs(struct sedge_fop *fop, uint8_t vs);
 
-/* These are followed in all states; or SEDGE_COP_WINDOW, SEDGE_COP_LIMIT, SEDGE_COP_TIMER for a value out of its
- * range. */
+/* These are allowed in all states. Each returns 0, or SEDGE_DAMAGED, or for a value out of its range SEDGE_COP_WINDOW,
+ * SEDGE_COP_LIMIT or SEDGE_COP_TIMER. */
 uint8_t sedge_fop_set_window(struct sedge_fop *fop, uint8_t window);
 uint8_t sedge_fop_set_limit(struct sedge_fop *fop, uint8_t limit);
 uint8_t sedge_fop_set_timer(struct sedge_fop *fop, uint16_t timer);
 
-/* A unit has come to be sent under sequence control, and waits: keep it. Answers 0, or SEDGE_DAMAGED, or
- * SEDGE_COP_NOT_OPEN in S6, or SEDGE_COP_BUSY where one waits already. */
+/* Submits a unit, to be sent under sequence control: it waits, and the caller keeps it. Returns 0, or SEDGE_DAMAGED, or
+ * SEDGE_COP_NOT_OPEN in S6, or SEDGE_COP_BUSY while another one waits. */
 uint8_t sedge_fop_submit(struct sedge_fop *fop);
 
-/* Takes what goes on the link next. Answers one of sedge_next, and writes its number, or 0 where it has none; or
+/* Takes what goes on the link next. Returns one of sedge_next, and writes its number, or 0 if it has none; or returns
  * SEDGE_DAMAGED, with nothing written. */
 uint8_t sedge_fop_next(struct sedge_fop *fop, uint8_t *number);
 
-/* The control word of a report has come. Answers the alert, of sedge_alert, and writes how many units are acknowledged,
- * the oldest of those sent; or SEDGE_DAMAGED, with nothing written. */
+/* The control word of a report has arrived. Returns the alert, of sedge_alert, and writes the number of units that are
+ * acknowledged, the oldest of those sent; or returns SEDGE_DAMAGED, with nothing written. */
 uint8_t sedge_fop_report(struct sedge_fop *fop, const struct sedge_clcw *word, uint8_t *released);
 
-/* A tick of the clock has passed. Answers the alert, of sedge_alert, or SEDGE_DAMAGED. */
+/* A tick of the clock has passed. Returns the alert, of sedge_alert, or SEDGE_DAMAGED. */
 uint8_t sedge_fop_tick(struct sedge_fop *fop);
 
 /* ---- Telecommand transfer frames of at most 1,024 octets (232.0-B-4, 4.1), with or without their check. ---- */
@@ -309,7 +309,7 @@ enum sedge_tc_fault {
     SEDGE_TC_CHECK = 6,         /* the last two octets are not the check of those before them (4.1.4) */
     SEDGE_TC_BYPASS_NUMBER = 7, /* a frame with the bypass flag has a number other than 0 (4.1.2.8) */
     SEDGE_TC_EMPTY_DATA = 8,    /* no octet in the data field, or a segment header alone */
-    SEDGE_TC_COMMAND = 9,       /* the data field of a control frame is no command (4.1.3.3) */
+    SEDGE_TC_COMMAND = 9,       /* the data of a control frame are neither Unlock nor Set V(R) (4.1.3.3) */
     SEDGE_TC_ROOM = 10,         /* there is too little room for the frame */
     SEDGE_TC_FIELD_RANGE = 11   /* a field out of its range, no data, or more than 1,024 octets */
 };
@@ -335,7 +335,7 @@ enum sedge_command {
     SEDGE_SET_VR = 1  /* expect this number next: the octets 82 00 and the number */
 };
 
-/* A frame without its data. Reading a frame sets the fields that its kind lacks to 0, and writing one does not look at
+/* A frame without its data. Reading a frame sets the fields that its kind does not have to 0; writing one ignores
  * them. */
 struct sedge_tc_frame {
     uint16_t scid;   /* the spacecraft identifier, below 1,024 */
@@ -348,21 +348,21 @@ struct sedge_tc_frame {
     uint8_t vr;      /* Type-BC, Set V(R): the number */
 };
 
-/* Reads all of the octets as one frame, which ends with its check where checked is true, and tells where the data
- * behind the segment header stand among them; a control frame has none, and the part is 0 octets from place 0. Answers
- * 0, or the first of 1 to 9 of sedge_tc_fault. */
+/* Reads all of the octets as one frame, which ends with its check if checked is true, and writes where the data after
+ * the segment header are; a control frame has none, and the part is {0, 0}. Returns 0, or the first of 1 to 9 of
+ * sedge_tc_fault. */
 uint8_t sedge_tc_decode(const uint8_t *octets, size_t count, bool checked, struct sedge_tc_frame *frame,
                         struct sedge_part *data);
 
-/* Writes the frame with these data, which a control frame lacks and are not looked at then, to the beginning of out,
- * with its check where checked is true, and tells how many octets it has: 6 to 1,024. Answers 0; or SEDGE_DAMAGED
- * where the kind, the segment flags or the command is none; then SEDGE_TC_FIELD_RANGE, then SEDGE_TC_ROOM. */
+/* Writes the frame with these data (ignored for a control frame) to the beginning of out, with its check if checked is
+ * true, and its length in octets, 6 to 1,024, to total. Returns 0, or the first of SEDGE_DAMAGED (the kind, the segment
+ * flags or the command is out of its enum), SEDGE_TC_FIELD_RANGE and SEDGE_TC_ROOM. */
 uint8_t sedge_tc_encode(const struct sedge_tc_frame *frame, const uint8_t *data, size_t data_count, bool checked,
                         uint8_t *out, size_t room, size_t *total);
 
-/* How many octets the frame has that the octets begin, for cutting a stream (4.1.2.7); the first 5 alone are looked
- * at. Answers 0; or SEDGE_TC_SHORT for fewer than 5; or SEDGE_TC_LENGTH where it declares fewer than 5, or than 7 with
- * the check. */
+/* Writes the length of the frame that begins with these octets, by its first 5 octets alone; for cutting a stream
+ * (4.1.2.7). Returns 0, or SEDGE_TC_SHORT for fewer than 5 octets, or SEDGE_TC_LENGTH if it declares fewer than 5, or
+ * with the check fewer than 7. */
 uint8_t sedge_tc_declared(const uint8_t *octets, size_t count, bool checked, size_t *total);
 
 /* ---- Space packets of 7 to 65,542 octets (133.0-B-2, 4.1). ---- */
@@ -391,19 +391,19 @@ struct sedge_packet {
     uint8_t flags;     /* the sequence flags: 0 continuation, 1 first, 2 last, 3 unsegmented (4.1.3.4.2) */
 };
 
-/* Reads the packet that the octets begin with, and tells where its data field stands among them; the packet ends where
- * that ends, and what follows is not looked at. Answers 0, or the first of 1 to 3 of sedge_packet_fault (Truncated for
+/* Reads the packet at the beginning of the octets, and writes where its data field is; the packet ends where that ends,
+ * and octets after it are ignored. Returns 0, or the first of 1 to 3 of sedge_packet_fault (SEDGE_PACKET_TRUNCATED for
  * fewer octets than declared comes last). */
 uint8_t sedge_packet_decode(const uint8_t *octets, size_t count, struct sedge_packet *packet, struct sedge_part *data);
 
-/* Writes the packet with this data field to the beginning of out, and tells how many octets it has: 6 more than its
- * data. Answers 0; or SEDGE_DAMAGED where the kind or the secondary header flag is none; then
- * SEDGE_PACKET_FIELD_RANGE, then SEDGE_PACKET_ROOM. */
+/* Writes the packet with this data field to the beginning of out, and its length in octets, 6 more than its data, to
+ * total. Returns 0, or the first of SEDGE_DAMAGED (the kind is out of its enum, or the secondary header flag above 1),
+ * SEDGE_PACKET_FIELD_RANGE and SEDGE_PACKET_ROOM. */
 uint8_t sedge_packet_encode(const struct sedge_packet *packet, const uint8_t *data, size_t data_count, uint8_t *out,
                             size_t room, size_t *total);
 
-/* How many octets the packet has that the octets begin, for cutting a stream (4.1.3.5); the first 6 alone are looked
- * at. Answers 0, or SEDGE_PACKET_TRUNCATED for fewer than 6, or SEDGE_PACKET_VERSION, or
+/* Writes the length of the packet that begins with these octets, by its first 6 octets alone; for cutting a stream
+ * (4.1.3.5). Returns 0, or SEDGE_PACKET_TRUNCATED for fewer than 6 octets, or SEDGE_PACKET_VERSION, or
  * SEDGE_PACKET_IDLE_WITH_SECONDARY. */
 uint8_t sedge_packet_declared(const uint8_t *octets, size_t count, size_t *total);
 
@@ -411,14 +411,14 @@ uint8_t sedge_packet_declared(const uint8_t *octets, size_t count, size_t *total
  * 4.1). ---- */
 
 enum sedge_tm_fault {
-    SEDGE_TM_LENGTH = 1,      /* not as many octets as a frame has, or a length outside 16 to 2,048 */
+    SEDGE_TM_LENGTH = 1,      /* not length octets, or a length outside 16 to 2,048 */
     SEDGE_TM_VERSION = 2,     /* the version number is not 00 (4.1.2.2) */
     SEDGE_TM_CHECK = 3,       /* the last two octets are not the check of those before them (4.1.6) */
     SEDGE_TM_STATUS = 4,      /* a flag of the data field status is 1, or its identifier is not 11 (4.1.2.7) */
-    SEDGE_TM_POINTER = 5,     /* a first header pointer at or behind the data field's end (4.1.2.7.6) */
+    SEDGE_TM_POINTER = 5,     /* a first header pointer at or after the data field's end (4.1.2.7.6) */
     SEDGE_TM_NO_OCF = 6,      /* the frame declares no operational control field (4.1.2.4) */
     SEDGE_TM_ROOM = 9,        /* there is too little room for the frame */
-    SEDGE_TM_FIELD_RANGE = 10 /* a field out of its range, a pointer behind the data, or not 4 to 2,036 octets of data */
+    SEDGE_TM_FIELD_RANGE = 10 /* a field out of its range, a pointer after the data, or not 4 to 2,036 octets of data */
 };
 
 /* The first header pointers that are no place (4.1.2.7.6). */
@@ -437,19 +437,19 @@ struct sedge_tm_frame {
     uint8_t ocf[4];   /* the operational control field, as sedge_clcw_encode writes it (4.1.5) */
 };
 
-/* Reads all of the octets as one frame of the channel's length, and tells where its data stand among them. Answers 0,
- * or the first of 1 to 6 of sedge_tm_fault. */
+/* Reads all of the octets as one frame of this length, and writes where its data are. Returns 0, or the first of 1 to 6
+ * of sedge_tm_fault. */
 uint8_t sedge_tm_decode(const uint8_t *octets, size_t count, size_t length, struct sedge_tm_frame *frame,
                         struct sedge_part *data);
 
-/* Writes the frame with these data and its check to the beginning of out, and tells how many octets it has: 12 more
- * than its data. Answers 0, or SEDGE_TM_FIELD_RANGE, then SEDGE_TM_ROOM. */
+/* Writes the frame with these data and its check to the beginning of out, and its length in octets, 12 more than its
+ * data, to total. Returns 0, or the first of SEDGE_TM_FIELD_RANGE and SEDGE_TM_ROOM. */
 uint8_t sedge_tm_encode(const struct sedge_tm_frame *frame, const uint8_t *data, size_t data_count, uint8_t *out,
                         size_t room, size_t *total);
 
 /* ---- Packets in segments, for one MAP (232.0-B-4, 4.1.3.2.2), with blocking or without it. ---- */
 
-/* Why what came on a MAP is dropped. */
+/* Why octets of a MAP are dropped. */
 enum sedge_dropped {
     SEDGE_NOT_DROPPED = 0,
     SEDGE_DROPPED_INTERRUPTED = 2,  /* the part that was open: a first or an alone segment came before its last */
@@ -460,62 +460,62 @@ enum sedge_dropped {
                                      * more octets than the memory */
 };
 
-/* Where the packets stand that are whole now. */
+/* Where the packets are that are whole now. */
 enum sedge_where {
     SEDGE_NO_PACKET = 0,
     SEDGE_IN_MEMORY = 1, /* one packet, the first octets of the memory */
     SEDGE_IN_DATA = 2    /* the segment's data: one packet, or with blocking one or more, one after another */
 };
 
-/* A MAP on board, which its owner keeps with its memory: as many octets as the longest packet may have. Begin it as
- * {0, 0, 0}, or as {0, 0, 1} for blocking, in which an alone segment may hold several whole packets. The part that is
- * open, of the packet that is not whole yet, is the first octets of the memory. Fields that no MAP has are
- * SEDGE_DAMAGED: a flag above 1, a count above the memory's, or one where no part is open. */
+/* A MAP on board, which the caller keeps with its memory: as many octets as the longest packet may have. Begin it as
+ * {0, 0, 0}, or with blocking, where an alone segment may hold several whole packets, as {0, 0, 1}. The first octets of
+ * the memory are the open part, the beginning of a packet that is not whole yet. SEDGE_DAMAGED is returned for a flag
+ * above 1, a count above the memory's, and a count above 0 with no part open. */
 struct sedge_map {
-    size_t count;     /* how many octets the open part has, and 0 where none is open */
+    size_t count;     /* the octets of the open part, and 0 if none is open */
     uint8_t open;     /* whether a part is open, 0 or 1 */
     uint8_t blocking; /* whether a segment may hold several whole packets, 0 or 1 */
 };
 
-/* What came of a segment. Where a part was interrupted there may be packets too. */
+/* What came of a segment. If a part was interrupted, there may be packets too. */
 struct sedge_taken {
-    size_t count;    /* how many octets the packets have together, and 0 where there are none */
+    size_t count;    /* the octets of all the packets together, and 0 if there are none */
     uint8_t where;   /* of sedge_where */
     uint8_t dropped; /* of sedge_dropped, the later of two */
 };
 
-/* Takes the next segment of the MAP, its flags of sedge_segment_flags and its data. The packet or packets that are
- * whole now are to be handed on before the next call. Answers 0, or SEDGE_DAMAGED, also for flags that are none. */
+/* Takes the next segment of the MAP, its flags of sedge_segment_flags and its data. Hand the packets that are whole now
+ * on before the next call. Returns 0, or SEDGE_DAMAGED, also for flags above 3. */
 uint8_t sedge_map_take(struct sedge_map *map, uint8_t flags, const uint8_t *data, size_t data_count, uint8_t *memory,
                        size_t room, struct sedge_taken *taken);
 
-/* The packet after this part of the octets, so that with {0, 0} first each of several packets is given in its turn.
- * Answers true, and the part is that packet; or false, with nothing written, where none stands there. */
+/* Goes on to the packet after this part of the octets; begin with {0, 0}. Returns true, and the part is that packet; or
+ * false, with nothing written, if there is none. */
 bool sedge_map_packet(const uint8_t *octets, size_t count, struct sedge_part *packet);
 
-/* Why octets are not cut. */
+/* Why octets are not cut into segments. */
 enum sedge_map_fault {
     SEDGE_MAP_NOT_A_PACKET = 1, /* they are not exactly one packet, or with blocking not one or more whole packets */
     SEDGE_MAP_TOO_LONG = 2      /* a packet has more octets than max_packet */
 };
 
-/* What a sender cuts. A part of 0 and a blocking above 1 are SEDGE_DAMAGED. */
+/* How a sender cuts packets. SEDGE_DAMAGED is returned for a part of 0 and for a blocking above 1. */
 struct sedge_limits {
     uint32_t part;       /* the most octets of data in a segment, at least 1 */
     uint32_t max_packet; /* the most octets of a packet */
     uint8_t blocking;    /* whether packets that have at most part octets together go into one segment, 0 or 1 */
 };
 
-/* How many segments are made of a packet, or with blocking of packets one after another. Answers 0, or SEDGE_DAMAGED,
- * or the first of sedge_map_fault. */
+/* Writes the number of segments that a packet is cut into, or with blocking one or more packets, one after another.
+ * Returns 0, or SEDGE_DAMAGED, or the first of sedge_map_fault. */
 uint8_t sedge_map_count(const uint8_t *octets, size_t count, const struct sedge_limits *limits, size_t *segments);
 
-/* Segment k of these, from 0: its flags of sedge_segment_flags, and where its data stand in the octets. Answers as
- * sedge_map_count does, and SEDGE_ABSENT where there are fewer. */
+/* Writes segment k of these, counted from 0: its flags of sedge_segment_flags, and where its data are in the octets.
+ * Returns what sedge_map_count does, or SEDGE_ABSENT if there are not that many. */
 uint8_t sedge_map_segment(const uint8_t *octets, size_t count, const struct sedge_limits *limits, size_t k,
                           uint8_t *flags, struct sedge_part *data);
 
-/* ---- Names, as tctool writes them: of a number that is none "?". ---- */
+/* ---- Names, as tctool writes them; "?" for a number out of the enum. ---- */
 
 struct sedge_text sedge_clcw_fault_name(uint8_t fault);   /* of sedge_clcw_fault */
 struct sedge_text sedge_cop_fault_name(uint8_t fault);    /* of sedge_cop_fault */
