@@ -127,7 +127,7 @@ class _Part(ctypes.Structure):
 
 
 def _written(call, fault, most, *values):
-    """What a call writes into so much room, and tells the count of."""
+    """The octets that a call writes, and says the number of, given this room."""
     out, total = ctypes.create_string_buffer(most), c_size_t()
     fault._look_at(call(*values, out, most, byref(total)))
     return out.raw[:total.value]
@@ -395,7 +395,7 @@ class Kind(IntEnum):
 
 
 class Segment(IntEnum):
-    """Where a segment stands in what it is a part of (4.1.3.2.2.2)."""
+    """The part of a packet that a segment is (4.1.3.2.2.2)."""
 
     CONTINUING, FIRST, LAST, ALONE = range(4)
 

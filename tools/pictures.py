@@ -25,7 +25,7 @@ def play(script):
 
 
 def frame_name(octets):
-    """A telecommand frame as `tctool tc` tells it: 'AD 0', 'BD', 'BC unlock'."""
+    """A telecommand frame as `tctool tc` shows it: 'AD 0', 'BD', 'BC unlock'."""
     [line] = tool(["tc", "--check"], bytes.fromhex(octets))
     words = line.split()
     fields = dict(it.split("=") for it in words if "=" in it)
@@ -63,7 +63,7 @@ class Picture:
         return height
 
     def arrow(self, x0, y0, x1, y1, bend=0, colour="#345", tip=True):
-        """An arrow, bent to its left by so many units; answers its middle."""
+        """An arrow, bent to its left by this number of units; returns its middle."""
         length = max(((x1 - x0) ** 2 + (y1 - y0) ** 2) ** 0.5, 1)
         x, y = (x0 + x1) / 2 + bend * (y1 - y0) / length, (y0 + y1) / 2 - bend * (x1 - x0) / length
         path = f"M {x0:.0f} {y0:.0f} Q {x:.0f} {y:.0f} {x1:.0f} {y1:.0f}"

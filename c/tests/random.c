@@ -1,6 +1,6 @@
-/* Random structs and octets, given to every call that reads them: `random COUNT`. Each answers one of its numbers; a call
- * that refuses has written nothing, and one that writes octets has written those that it tells of. Octets and structs end
- * where a page begins that may not be touched. Ends with 0 where all is as wanted, and tells what is not. */
+/* Random structs and octets, given to every call that reads them: `random COUNT`. Each returns one of its numbers; a call
+ * that refuses has written nothing, and one that writes octets has written those that it says. Octets and structs end
+ * where a page begins that may not be touched. Ends with 0 where all is as wanted, and says what is not. */
 #define _DEFAULT_SOURCE
 #include <sedgechisel.h>
 #include <stdio.h>
@@ -51,14 +51,14 @@ static void fill(uint8_t *at, size_t count) {
     for (size_t i = 0; i < count; i++) at[i] = (uint8_t)(how == 0 || below(4) == 0 ? below(256) : below(6));
 }
 
-/* So many octets of anything, at a region's end. */
+/* Random octets, at a region's end. */
 static uint8_t *octets_of(int region, size_t count) {
     uint8_t *at = ends[region] - count;
     fill(at, count);
     return at;
 }
 
-/* So many octets to be written, at the end of region 1, of which each is 0x55. */
+/* Octets to be written, at the end of region 1, each 0x55 so far. */
 static uint8_t *room_of(size_t room) {
     return memset(ends[1] - room, 0x55, room);
 }

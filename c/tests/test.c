@@ -1,5 +1,5 @@
 /* The library as a program in C meets it: rows worked by hand, vectors from outside, the receiver's table, each
- * refusal by its number, and damaged structs. Ends with 0 where all is as wanted, and tells each line that is not. */
+ * refusal by its number, and damaged structs. Ends with 0 where all is as wanted, and says each line that is not. */
 #include <sedgechisel.h>
 #include <stdio.h>
 #include <string.h>
@@ -470,7 +470,7 @@ static int is_frame(const struct sedge_tc_frame *f, int kind, int n, int flags, 
            && f->command == command && f->vr == vr;
 }
 
-/* The octets are read as a frame, and written again of it, with what stands behind them left. */
+/* The octets are read as a frame, and written again of it, and octets after it stay. */
 static int is_spelled(const uint8_t *octets, size_t count, bool checked, struct sedge_tc_frame *frame,
                       struct sedge_part *data) {
     uint8_t out[16];

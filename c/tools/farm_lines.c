@@ -1,5 +1,5 @@
-/* The lines of `tctool farm`, by the library: what a receiver makes of each frame of standard input, and how it stands
- * behind it. The words are the window width, V(R) at first, and whether frames end with their check, 0 or 1. */
+/* The lines of `tctool farm`, by the library: what a receiver makes of each frame of standard input, and its
+ * state after it. The words are the window width, V(R) at first, and whether frames end with their check, 0 or 1. */
 #include <sedgechisel.h>
 #include <stdio.h>
 #include <stdlib.h>

@@ -1,5 +1,5 @@
 /* Writes random telecommand frames: Type-AD frames mostly in sequence, Type-BD frames and control commands among them,
- * and one in sixteen damaged behind its length. The words are how many, and whether they end with their check, 0 or 1.
+ * and one in sixteen damaged after its length. The words are the number of frames, and whether they end with their check, 0 or 1.
  * The same words give the same frames. */
 #include <sedgechisel.h>
 #include <stdio.h>
@@ -16,7 +16,7 @@ static unsigned below(unsigned limit) {
     return (unsigned)((state * 2685821657736338717u) >> 33) % limit;
 }
 
-/* The number of a Type-AD frame behind one with the number last: the next, or one near it, or any. */
+/* The number of a Type-AD frame after one with the number last: the next, or one near it, or any. */
 static uint8_t number_behind(uint8_t last) {
     unsigned choice = below(64);
     if (choice < 55) return (uint8_t)(last + 1);
@@ -25,7 +25,7 @@ static uint8_t number_behind(uint8_t last) {
     return (uint8_t)below(256);
 }
 
-/* A frame behind others, of which the last Type-AD frame had the number last. Set V(R) mostly brings the receiver to
+/* A frame after others, of which the last Type-AD frame had the number last. Set V(R) mostly brings the receiver to
  * the number that comes next. */
 static struct sedge_tc_frame any_frame(uint8_t *last) {
     struct sedge_tc_frame frame;
