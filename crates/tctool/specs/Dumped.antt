@@ -1,5 +1,5 @@
 -- What the commands write of the octets of a file: the table of commands, and what it says of lines, outcome and end.
-use Rattle.std.specs.Prelude.{List, ℕ}
+use Rattle.std.specs.Prelude.{List, ℕ, Result}
 use Rattle.tc_frame.specs.declared.frame.Check.TheVariants.{On}
 use Rattle.cop1.specs.Farm.{new_farm}
 use Rattle.tm_link.specs.Extraction.{new_extractor}
@@ -15,6 +15,10 @@ use Rattle.listings.specs.TelemetryLines.{telemetry_lines}
 use Rattle.listings.specs.Layouts.{Layout, frame_layout, telemetry_layout, packet_layout, rest_by, IsRefused}
 use Rattle.listings.specs.Listing.{Lines, fresh, text_of, is_all_good}
 use Rattle.tctool.specs.Outcome.{OutcomeView, outcome_if, outcome_view, as_outcome}
+
+-- the layout of records by the head, the extent and the fault of a `Wire`
+abbrev pub layout_by : {F : Type 0} → ℕ → (List ℕ → Result ℕ F) → F → Layout F
+layout_by head extent truncated = record { head = head; extent = extent; truncated = truncated }
 
 -- What is done with a file: its records are listed, cut by this layout, with these lines and this kept before the first;
 -- or it is played as a script, which is no stream of records.

@@ -3,7 +3,7 @@
 ghost use Rattle.std.specs.Prelude.{◌≡◌, ◌⊎◌, ◌+◌, ◌<◌, [], None, length, Err, OnOk, IfOk};
 ghost use Rattle.std.specs.Io.KnownBytes.{Consumes};
 ghost use Rattle.octets.specs.Beginning.{IsBeginning};
-ghost use Rattle.tctool.specs.Dumped.{lines_of, outcome_for, StopsAt};
+ghost use Rattle.tctool.specs.Dumped.{layout_by, lines_of, outcome_for, StopsAt};
 ghost use Rattle.listings.specs.Devices.{HasEnded};
 ghost use Rattle.listings.specs.Failures.{reads_failed_in, writes_failed_in};
 ghost use Rattle.listings.specs.Gained.{gained};
@@ -19,10 +19,10 @@ use crate::simulation::simulate;
 use crate::task::{Options, Task};
 use cop1::Farm;
 use listings::{
-    Cutter, DumpFault, FrameCutter, FrameLength, FrameListing, Listing, MOST_OCTETS, MapListing,
+    DumpFault, FrameCutter, FrameLength, FrameListing, Listing, MOST_OCTETS, MapListing,
     PacketListing, RefusalListing, Sink, Source, TelemetryListing, list_stream,
 };
-use octets::Splitter;
+use octets::{Splitter, Wire};
 use space_packet::Packets;
 use std::alloc::Global;
 use std::marker::Brand;
@@ -60,14 +60,12 @@ pub fn dump<R: Source, W: Sink>(
     ensures too_long { result ≡ Err DumpFault.TooLong
         → 9223372036854775807 < length (gained (R.given reader.old) (R.given reader.new)) }
 {
-    let checked = Splitter::<Checked>::new(alloc);
-    let unchecked = Splitter::<Unchecked>::new(alloc);
     match options.task {
         Task::Farm { check, width, vr } => {
             let farm = Farm::new(width, vr).unwrap();
             match check {
-                Check::On => list_file(alloc, reader, writer, checked, farm),
-                Check::Off => list_file(alloc, reader, writer, unchecked, farm),
+                Check::On => list_file::<Checked, Farm, R, W>(alloc, reader, writer, farm),
+                Check::Off => list_file::<Unchecked, Farm, R, W>(alloc, reader, writer, farm),
             }
         }
         Task::Map {
@@ -78,58 +76,63 @@ pub fn dump<R: Source, W: Sink>(
         } => {
             let packets = MapListing::new(alloc, width, vr, blocking);
             match check {
-                Check::On => list_file(alloc, reader, writer, checked, packets),
-                Check::Off => list_file(alloc, reader, writer, unchecked, packets),
+                Check::On => list_file::<Checked, MapListing, R, W>(alloc, reader, writer, packets),
+                Check::Off => list_file::<Unchecked, MapListing, R, W>(
+                    alloc, reader, writer, packets,
+                ),
             }
         }
         Task::Tc { check } => {
             let frames = FrameListing;
             match check {
-                Check::On => list_file(alloc, reader, writer, checked, frames),
-                Check::Off => list_file(alloc, reader, writer, unchecked, frames),
+                Check::On => list_file::<Checked, FrameListing, R, W>(
+                    alloc, reader, writer, frames,
+                ),
+                Check::Off => list_file::<Unchecked, FrameListing, R, W>(
+                    alloc, reader, writer, frames,
+                ),
             }
         }
         Task::Tm { length } => list_frames::<Brand, R, W>(alloc, reader, writer, length),
-        Task::Check => list_file(alloc, reader, writer, checked, RefusalListing),
+        Task::Check => {
+            list_file::<Checked, RefusalListing, R, W>(alloc, reader, writer, RefusalListing)
+        }
         Task::Packets => {
-            let splitter = Splitter::<Packets>::new(alloc);
             let packets = PacketListing::new();
-            list_file(alloc, reader, writer, splitter, packets)
+            list_file::<Packets, PacketListing, R, W>(alloc, reader, writer, packets)
         }
         Task::Sim => simulate(alloc, reader, writer),
     }
 }
 
-// Lists the records of a stream, and tells how it ends.
-fn list_file<S: Cutter + Drop, C: Listing<S> + Drop, R: Source, W: Sink>(
+// Lists the records of a stream whose first octets give their length, and says how it ends.
+fn list_file<L: Wire, C: Listing<Splitter<L>> + Drop, R: Source, W: Sink>(
     alloc: Global,
     reader: &mut R,
     writer: &mut W,
-    cutter: S,
     listing: C,
 ) -> Result<Outcome, DumpFault>
-    requires held { S.held cutter ≡ [] }
-    requires going { S.failure cutter ≡ None }
     ensures given { IsBeginning (R.given reader.old) (R.given reader.new) }
     ensures text { Writes result (W.taken_octets writer.old) (W.taken_octets writer.new)
-        (text_of C.lines S.layout
+        (text_of C.lines (layout_by L.HEAD L.extent_of L.truncated_fault)
         (fresh listing (gained (R.given reader.old) (R.given reader.new)))) }
-    ensures outcome { IfOk result (λ outcome. outcome ≡ outcome_if (is_all_good C.lines S.layout
+    ensures outcome { IfOk result (λ outcome. outcome ≡ outcome_if (is_all_good C.lines (layout_by L.HEAD L.extent_of L.truncated_fault)
         (fresh listing (gained (R.given reader.old) (R.given reader.new))))) }
     ensures consumes { Consumes (R.remaining reader.old) (R.remaining reader.new)
         (gained (R.given reader.old) (R.given reader.new)) }
     ensures end { OnOk result (HasEnded (R.has_ended reader.new) (R.remaining reader.new)
-        ⊎ IsRefused S.layout
-        (rest_by S.layout (gained (R.given reader.old) (R.given reader.new)))) }
+        ⊎ IsRefused (layout_by L.HEAD L.extent_of L.truncated_fault)
+        (rest_by (layout_by L.HEAD L.extent_of L.truncated_fault)
+        (gained (R.given reader.old) (R.given reader.new)))) }
     ensures beginning { BeginsToWrite result (W.taken_octets writer.old) (W.taken_octets writer.new)
-        (text_of C.lines S.layout
+        (text_of C.lines (layout_by L.HEAD L.extent_of L.truncated_fault)
         (fresh listing (gained (R.given reader.old) (R.given reader.new)))) }
     ensures read { R.failures reader.new ≡ R.failures reader.old + reads_failed_in result }
     ensures write { W.failures writer.new ≡ W.failures writer.old + writes_failed_in result }
     ensures too_long { result ≡ Err DumpFault.TooLong
         → MOST_OCTETS < length (gained (R.given reader.old) (R.given reader.new)) }
 {
-    match list_stream(alloc, reader, writer, cutter, listing) {
+    match list_stream(alloc, reader, writer, Splitter::<L>::new(alloc), listing) {
         Ok(good) => Ok(Outcome::of(good)),
         Err(fault) => Err(fault),
     }
@@ -163,5 +166,8 @@ fn list_frames<K: FrameLength, R: Source, W: Sink>(
         return Err(DumpFault::Memory);
     };
     let cutter = FrameCutter::<K>::new(alloc, usize::from(size));
-    list_file(alloc, reader, writer, cutter, frames)
+    match list_stream(alloc, reader, writer, cutter, frames) {
+        Ok(good) => Ok(Outcome::of(good)),
+        Err(fault) => Err(fault),
+    }
 }

@@ -15,16 +15,68 @@ use clap::error::ErrorKind;
 use clap::{Command, Error};
 use std::alloc::{AllocError, Global};
 
-// The commands, as the help lists them.
-const COMMANDS: [Described<'static>; 7] = [
-    farm::FARM,
-    map::MAP,
-    files::TC,
-    tm::TM,
-    files::CHECK,
-    files::PACKETS,
-    files::SIM,
+// The commands, in the order in which the help lists them.
+const COMMANDS: [Named; 7] = [
+    Named::Farm,
+    Named::Map,
+    Named::Tc,
+    Named::Tm,
+    Named::Check,
+    Named::Packets,
+    Named::Sim,
 ];
+
+// A command of the tool.
+#[derive(Clone, Copy)]
+enum Named {
+    Farm,
+    Map,
+    Tc,
+    Tm,
+    Check,
+    Packets,
+    Sim,
+}
+
+impl Named {
+    // The command of this name.
+    fn of(name: &str) -> Option<Named> {
+        for command in COMMANDS {
+            if command.described().name == name {
+                return Some(command);
+            }
+        }
+        None
+    }
+
+    fn described<'a>(self) -> Described<'a> {
+        match self {
+            Named::Farm => farm::FARM,
+            Named::Map => map::MAP,
+            Named::Tc => files::TC,
+            Named::Tm => tm::TM,
+            Named::Check => files::CHECK,
+            Named::Packets => files::PACKETS,
+            Named::Sim => files::SIM,
+        }
+    }
+
+    // Reads the words of the command, its name first.
+    fn options<'a>(self, alloc: Global, words: &'a [&'a str]) -> Result<Options<'a>, UsageFault>
+        ensures range { IfOk result (λ options. IsInRange options.task) }
+        ensures odd { IfErr result IsOddIfWidth }
+    {
+        match self {
+            Named::Farm => farm::farm_options(alloc, words),
+            Named::Map => map::map_options(alloc, words),
+            Named::Tc => files::tc_options(alloc, words),
+            Named::Tm => tm::tm_options(alloc, words),
+            Named::Check => files::check_options(alloc, words),
+            Named::Packets => files::packets_options(alloc, words),
+            Named::Sim => files::sim_options(alloc, words),
+        }
+    }
+}
 
 /// Reads the words of a command line, the program's name first.
 ///
@@ -34,20 +86,13 @@ pub fn options<'a>(alloc: Global, words: &'a [&'a str]) -> Result<Options<'a>, U
     ensures range { IfOk result (λ options. IsInRange options.task) }
     ensures odd { IfErr result IsOddIfWidth }
 {
-    if let [_, command, ..] = words {
-        match *command {
-            "farm" => return farm::farm_options(alloc, &words[1..]),
-            "map" => return map::map_options(alloc, &words[1..]),
-            "tc" => return files::tc_options(alloc, &words[1..]),
-            "tm" => return tm::tm_options(alloc, &words[1..]),
-            "check" => return files::check_options(alloc, &words[1..]),
-            "packets" => return files::packets_options(alloc, &words[1..]),
-            "sim" => return files::sim_options(alloc, &words[1..]),
-            _ => {}
+    if let [_, name, ..] = words {
+        if let Some(command) = Named::of(name) {
+            return command.options(alloc, &words[1..]);
         }
     }
-    if let [_, "help", command] = words {
-        if let Some(fault) = help_of(alloc, command) {
+    if let [_, "help", name] = words {
+        if let Some(fault) = help_of(alloc, name) {
             return Err(fault);
         }
     }
@@ -55,20 +100,11 @@ pub fn options<'a>(alloc: Global, words: &'a [&'a str]) -> Result<Options<'a>, U
 }
 
 // What `help` answers for a command.
-fn help_of(alloc: Global, command: &str) -> Option<UsageFault>
+fn help_of(alloc: Global, name: &str) -> Option<UsageFault>
     ensures { IfSome result IsOddIfWidth }
 {
-    let asked = match command {
-        "farm" => farm::farm_options(alloc, &["farm", "--help"]),
-        "map" => map::map_options(alloc, &["map", "--help"]),
-        "tc" => files::tc_options(alloc, &["tc", "--help"]),
-        "tm" => tm::tm_options(alloc, &["tm", "--help"]),
-        "check" => files::check_options(alloc, &["check", "--help"]),
-        "packets" => files::packets_options(alloc, &["packets", "--help"]),
-        "sim" => files::sim_options(alloc, &["sim", "--help"]),
-        _ => return None,
-    };
-    asked.err()
+    let command = Named::of(name)?;
+    command.options(alloc, &[name, "--help"]).err()
 }
 
 // What the parser answers where no command is named: help that was asked for, or what is wrong.
@@ -86,7 +122,8 @@ fn no_command<'a>(alloc: Global, words: &'a [&'a str]) -> Result<Error, AllocErr
         .after_help(ending_of_help!("3 BC unlock Open vr=0 l=0 w=0 t=0 b=1"))
         .subcommand_required(true);
     for named in COMMANDS {
-        command = command.subcommand(Command::new(alloc, named.name).about(named.about))?;
+        let described = named.described();
+        command = command.subcommand(Command::new(alloc, described.name).about(described.about))?;
     }
     match command.try_get_matches_from_mut(words) {
         Err(error) => Ok(error),
