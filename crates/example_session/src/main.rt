@@ -1,15 +1,15 @@
-//! A session over both nodes, by a link that loses frames: packets are submitted as the queue has room, each
+//! A session over both nodes and a link that loses frames: packets are submitted as the queue has room, each
 //! round is a tick of the clock, and each alert is answered, until the ground holds all packets acknowledged.
 #![tactic(auto)]
 
 use anyhow::{Context, Error, Result};
-use cop1::{Alert, CopFault, Directive};
+use cop1::{Alert, CopFault, Directive, FopMode};
 use nodes::{Config, Ground, Heard, Spacecraft};
 
 // The number of packets, of 7 octets each, that are sent on MAP 4.
 const PACKETS: usize = 8;
 
-// Loses each fifth frame on either way, and ten in a row.
+// Loses every fifth frame, up or down, and once ten in a row.
 #[derive(Clone, Copy)]
 struct Link {
     frames: u32,
@@ -44,18 +44,21 @@ fn main(rt: HostRuntime) -> Result<()> {
 fn play(rt: &HostRuntime, ground: &mut Ground, spacecraft: &mut Spacecraft) -> Result<()> {
     let mut link = Link { frames: 0 };
     let mut submitted = 0;
-    begin(ground, None).ok().context("begin")?;
+    let mut unlocks = false;
+    begin(ground, unlocks).ok().context("begin")?;
     for round in 1..=100_u32 {
         submitted = submit_from(ground, submitted);
+        let initialising = ground.state() == FopMode::S5;
+        let acknowledged = submitted.saturating_sub(ground.outstanding());
         carry_up(ground, spacecraft, &mut link)?;
         deliver(rt, spacecraft)?;
-        let acknowledged = submitted.saturating_sub(ground.outstanding());
         let heard = carry_down(ground, spacecraft, &mut link)?;
         let ticked = ground.tick();
         if let Some(alert) = heard.or(ticked) {
             println!(rt; "round {round}: {alert:?}; again from packet {acknowledged}")?;
             submitted = acknowledged;
-            begin(ground, Some(alert)).ok().context("begin")?;
+            unlocks = alert == Alert::Lockout || initialising && !unlocks;
+            begin(ground, unlocks).ok().context("begin")?;
         } else if submitted == PACKETS && ground.outstanding() == 0 {
             println!(rt; "round {round}: all are acknowledged")?;
             return Ok(());
@@ -64,12 +67,13 @@ fn play(rt: &HostRuntime, ground: &mut Ground, spacecraft: &mut Spacecraft) -> R
     Err(Error::msg("not all were acknowledged"))
 }
 
-// Begins a session, after an alert where there was one. Set V(R) brings both ends to one number; a receiver in
-// Lockout follows Unlock alone.
-fn begin(ground: &mut Ground, alert: Option<Alert>) -> Result<Option<Alert>, CopFault> {
-    let directive = match alert {
-        Some(Alert::Lockout) => Directive::InitUnlock,
-        _ => Directive::InitSetVr(ground.vs()),
+// Begins a session. Set V(R) brings both ends to one number. A receiver in Lockout ignores it and follows Unlock, and
+// the sender in S5 does not look at its reports; so where Set V(R) was in vain, Unlock is next.
+fn begin(ground: &mut Ground, unlocks: bool) -> Result<Option<Alert>, CopFault> {
+    let directive = if unlocks {
+        Directive::InitUnlock
+    } else {
+        Directive::InitSetVr(ground.vs())
     };
     ground.directive(directive)
 }
