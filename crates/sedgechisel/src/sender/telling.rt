@@ -10,6 +10,7 @@ use cop1::{Control, FopMode, Sender, SenderFields};
 use tc_frame::Command;
 
 // The sender that the fields tell, unless they are damaged.
+#[inline(always)]
 #[tactic(auto, using(crate::proofs::Kept::told_none))]
 pub(super) fn told(sender: &KeptSender) -> Result<Sender, u8>
     ensures { result ≡ sender_told sender.now }
@@ -24,6 +25,7 @@ pub(super) fn told(sender: &KeptSender) -> Result<Sender, u8>
 }
 
 // What C keeps of a sender.
+#[inline(always)]
 #[tactic(auto, using(crate::proofs::Kept::kept_tells))]
 pub(super) fn kept(machine: &Sender) -> KeptSender
     ensures fields { result ≡ kept_of machine.now }
