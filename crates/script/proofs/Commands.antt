@@ -1,7 +1,7 @@
 -- A line that is read is spelled so.
 use Rattle.std.proofs.Common.{◌≡◌, ◌∙◌, ◌≤◌, ◌<◌, ◌^◌, ◌==◌, ◌&&◌, ◌++◌, ℕ, Bool, true, false, cond, List, [], ◌∷◌, Option, Some, None, refl, sym, ap, subst, arith}
 use Rattle.std.specs.Prelude.{codes, decimal, ◌↔◌, option_map, option_and_then}
-use Rattle.std.specs.List.{join_with_byte}
+use Rattle.std.specs.List.{find, join_with_byte}
 use Rattle.std.specs.Option.{unwrap_or}
 use Rattle.std.specs.Str.{bytes_eq}
 use Rattle.std.proofs.lemmas.Bool.{and_parts, eqb-true}
@@ -13,10 +13,12 @@ use Rattle.tc_link.specs.declared.event.Event.{Event}
 use Rattle.tc_link.specs.declared.event.Event.TheVariants as events
 use Rattle.script.specs.declared.field.Field.{Field}
 use Rattle.script.specs.declared.field.Field.TheVariants as fields
-use Rattle.script.specs.Lines.{ScriptLine, Skipped, Setting, Happening, Showing, Unreadable, borrow_of, field_named, most_for, is_maps, line_of_one_word, initiation, up_event, down_event, numbered_directive, line_of_two_words, submission_line, setting_line, line_of_three_words, line_of_words, line_in}
+use Rattle.script.specs.declared.field.TheConstants.{FIELDS}
+use Rattle.script.specs.Fields.{field_name, field_named, most_for}
+use Rattle.script.specs.Lines.{ScriptLine, Skipped, Setting, Happening, Showing, Unreadable, borrow_of, line_of_one_word, initiation, up_event, down_event, numbered_directive, line_of_two_words, submission_line, setting_line, line_of_three_words, line_of_words, line_in}
 use Rattle.script.specs.Words.{words_in, number_in_word, octets_in_word}
 use Rattle.script.specs.Spelling as spelling
-use Rattle.script.specs.Spelling.{Spells, IsHex, field_name}
+use Rattle.script.specs.Spelling.{Spells, IsHex}
 use Rattle.script.proofs.HexWords.{read_octets}
 use Rattle.script.proofs.Numerals.{read}
 use Rattle.script.proofs.Spelled.{spelled, most_small}
@@ -139,44 +141,16 @@ module _ (name word : List ℕ) where
 
 -- ---- lines of three words
 
-spells_setting : (field : Field) (n : ℕ) → n ≤ most_for field → Spells (Setting field n) (codes "config" ++ 32 ∷ (field_name field ++ 32 ∷ decimal n))
-spells_setting fields.Scid n le = spelling.config fields.Scid n le
-spells_setting fields.Vcid n le = spelling.config fields.Vcid n le
-spells_setting fields.TmVcid n le = spelling.config fields.TmVcid n le
-spells_setting fields.Width n le = spelling.config fields.Width n le
-spells_setting fields.Window n le = spelling.config fields.Window n le
-spells_setting fields.Limit n le = spelling.config fields.Limit n le
-spells_setting fields.Timer n le = spelling.config fields.Timer n le
-spells_setting fields.Part n le = spelling.config fields.Part n le
-spells_setting fields.MaxPacket n le = spelling.config fields.MaxPacket n le
+spells_setting : (field : Field) (n : ℕ) → n ≤ most_for field
+    → Spells (Setting field n) (codes "config" ++ 32 ∷ (field_name field ++ 32 ∷ decimal n))
 spells_setting fields.Maps n le = spelling.maps n (omega (arith, le))
-spells_setting fields.ReadySlots n le = spelling.config fields.ReadySlots n le
-spells_setting fields.BypassSlots n le = spelling.config fields.BypassSlots n le
-spells_setting fields.QueueSlots n le = spelling.config fields.QueueSlots n le
-spells_setting fields.FrameLength n le = spelling.config fields.FrameLength n le
-spells_setting fields.Blocking n le = spelling.config fields.Blocking n le
+spells_setting field n le = spelling.config field n le
 
-names : {word : List ℕ} {other : Field} (field : Field) → word ≡ field_name field → Some field ≡ Some other → word ≡ field_name other
-names {other = other} field is e = is ∙ ap field_name (some_is field other e)
-
-named : (word : List ℕ) (field : Field) → field_named word ≡ Some field → word ≡ field_name field
-named word field e =
-    let P = λ (f : Field). word ≡ field_name f in
-    tested P e (names fields.Scid) (λ e1.
-    tested P e1 (names fields.Vcid) (λ e2.
-    tested P e2 (names fields.TmVcid) (λ e3.
-    tested P e3 (names fields.Width) (λ e4.
-    tested P e4 (names fields.Window) (λ e5.
-    tested P e5 (names fields.Limit) (λ e6.
-    tested P e6 (names fields.Timer) (λ e7.
-    tested P e7 (names fields.Part) (λ e8.
-    tested P e8 (names fields.MaxPacket) (λ e9.
-    tested P e9 (names fields.Maps) (λ e10.
-    tested P e10 (names fields.ReadySlots) (λ e11.
-    tested P e11 (names fields.BypassSlots) (λ e12.
-    tested P e12 (names fields.QueueSlots) (λ e13.
-    tested P e13 (names fields.FrameLength) (λ e14.
-    tested P e14 (names fields.Blocking) (λ e15. cc e15)))))))))))))))
+named : (word : List ℕ) (all : List Field) (field : Field)
+    → find (λ one. bytes_eq word (field_name one)) all ≡ Some field → word ≡ field_name field
+named word [] field e = cc e
+named word (one ∷ more) field e =
+    tested (λ (f : Field). word ≡ field_name f) e (λ is same. is ∙ ap field_name (some_is one field same)) (named word more field)
 
 module _ (name first second : List ℕ) where
   abbrev Three : ScriptLine → Type 0
@@ -186,8 +160,8 @@ module _ (name first second : List ℕ) where
   set what is e =
       let f = chained (λ field. option_map (λ n. Setting field n) (number_in_word (most_for field) second)) (field_named first) what e in
       let n = mapped (λ x. Setting f.0 x) (number_in_word (most_for f.0) second) what f.2 in
-      let number = read (most_for f.0) n.0 second (most_small (is_maps f.0)) n.1 in
-      moved (spells_setting f.0 n.0 number.1) n.2 (one_more is (one_more (named first f.0 f.1) number.0))
+      let number = read (most_for f.0) n.0 second (most_small f.0) n.1 in
+      moved (spells_setting f.0 n.0 number.1) n.2 (one_more is (one_more (named first FIELDS f.0 f.1) number.0))
 
   submitted : (text : List ℕ) (event : ℕ → Bor (List ℕ) → Event) (what : ScriptLine)
       → ((map : ℕ) (octets hex : List ℕ) → map ≤ 255 → IsHex octets hex → Spells (Happening (event map (borrow_of octets))) (text ++ 32 ∷ (decimal map ++ 32 ∷ hex)))
@@ -249,11 +223,8 @@ pub says : (line : List ℕ) (what : ScriptLine) → Spells what line ↔ ((line
 says line what = (λ it. (spelled it, λ e. unspelled (subst (λ w. Spells w line) e it)), λ e. spells line what e.0 e.1)
 
 unreadable_as : (line : List ℕ) (what : ScriptLine) → line_in line ≡ what → ((other : ScriptLine) → Spells other line → ⊥) → what ≡ Unreadable
-unreadable_as line Skipped e none = absurd (none Skipped (spells line Skipped e (λ no. cc no)))
-unreadable_as line (Setting field n) e none = absurd (none (Setting field n) (spells line (Setting field n) e (λ no. cc no)))
-unreadable_as line (Happening event) e none = absurd (none (Happening event) (spells line (Happening event) e (λ no. cc no)))
-unreadable_as line Showing e none = absurd (none Showing (spells line Showing e (λ no. cc no)))
 unreadable_as line Unreadable e none = refl
+unreadable_as line what e none = absurd (none what (spells line what e (λ no. cc no)))
 
 -- a line is unreadable where it spells nothing
 pub unreadable : (line : List ℕ) → (line_in line ≡ Unreadable) ↔ ((what : ScriptLine) → Spells what line → ⊥)

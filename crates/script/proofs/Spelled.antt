@@ -4,9 +4,10 @@ use Rattle.std.specs.Prelude.{codes, decimal}
 use Rattle.std.specs.Option.{unwrap_or}
 use Rattle.script.specs.declared.field.Field.{Field}
 use Rattle.script.specs.declared.field.Field.TheVariants as fields
-use Rattle.script.specs.Lines.{ScriptLine, Setting, Unreadable, field_named, is_maps, most_for, setting_line, line_of_words, line_in}
+use Rattle.script.specs.Fields.{field_name, field_named, most_for}
+use Rattle.script.specs.Lines.{ScriptLine, Setting, Unreadable, setting_line, line_of_words, line_in}
 use Rattle.script.specs.Spelling as spelling
-use Rattle.script.specs.Spelling.{Spells, field_name}
+use Rattle.script.specs.Spelling.{Spells}
 use Rattle.script.proofs.HexWords.{spelled_octets}
 use Rattle.script.proofs.Numerals.{printed}
 use Rattle.script.proofs.Spaces.{is_word, number_word, hex_word, two_words, three_words}
@@ -17,50 +18,24 @@ meant words = unwrap_or (line_of_words words) Unreadable
 -- ---- settings
 
 name_word : (field : Field) → is_word (field_name field) ≡ true
-name_word fields.Scid = refl
-name_word fields.Vcid = refl
-name_word fields.TmVcid = refl
-name_word fields.Width = refl
-name_word fields.Window = refl
-name_word fields.Limit = refl
-name_word fields.Timer = refl
-name_word fields.Part = refl
-name_word fields.MaxPacket = refl
 name_word fields.Maps = refl
-name_word fields.ReadySlots = refl
-name_word fields.BypassSlots = refl
-name_word fields.QueueSlots = refl
-name_word fields.FrameLength = refl
-name_word fields.Blocking = refl
+name_word field = refl
 
 named : (field : Field) → field_named (field_name field) ≡ Some field
-named fields.Scid = refl
-named fields.Vcid = refl
-named fields.TmVcid = refl
-named fields.Width = refl
-named fields.Window = refl
-named fields.Limit = refl
-named fields.Timer = refl
-named fields.Part = refl
-named fields.MaxPacket = refl
 named fields.Maps = refl
-named fields.ReadySlots = refl
-named fields.BypassSlots = refl
-named fields.QueueSlots = refl
-named fields.FrameLength = refl
-named fields.Blocking = refl
+named field = refl
 
-pub most_small : (b : Bool) → cond b (2 ^ 64 - 1) 65542 < 2 ^ 64
-most_small true = omega arith
-most_small false = omega arith
+pub most_small : (field : Field) → most_for field < 2 ^ 64
+most_small fields.Maps = omega arith
+most_small field = omega arith
 
-least_most : (b : Bool) (n : ℕ) → n ≤ 65542 → n ≤ cond b (2 ^ 64 - 1) 65542
-least_most true n le = omega arith
-least_most false n le = le
+least_most : (field : Field) (n : ℕ) → n ≤ 65542 → n ≤ most_for field
+least_most fields.Maps n le = omega (arith, le)
+least_most field n le = le
 
 set : (field : Field) (n : ℕ) → n ≤ most_for field → setting_line (field_name field) (decimal n) ≡ Some (Setting field n)
 set field n le =
-    let number = printed (most_for field) n (most_small (is_maps field)) le in
+    let number = printed (most_for field) n (most_small field) le in
     rw (named field, number) refl
 
 -- ---- lines
@@ -69,7 +44,7 @@ pub spelled : {line : List ℕ} {what : ScriptLine} → Spells what line → lin
 spelled spelling.empty = refl
 spelled (spelling.note text) = refl
 spelled (spelling.config field n le) =
-    let read = set field n (least_most (is_maps field) n le) in
+    let read = set field n (least_most field n le) in
     ap meant (three_words (codes "config") (field_name field) (decimal n) refl (name_word field) (number_word n (omega arith)))
     ∙ ap (λ (o : Option ScriptLine). unwrap_or o Unreadable) read
 spelled (spelling.maps n less) =

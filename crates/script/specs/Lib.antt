@@ -1,4 +1,5 @@
 pub mod Words
+pub mod Fields
 pub mod Lines
 pub mod Spelling
 pub mod Scripts

@@ -4,6 +4,7 @@ use Rattle.cop1.specs.declared.fop.Directive.TheVariants as directives
 use Rattle.tc_link.specs.declared.event.Event.TheVariants as events
 use Rattle.script.specs.declared.field.Field.{Field}
 use Rattle.script.specs.declared.field.Field.TheVariants as fields
+use Rattle.script.specs.Fields.{field_name}
 use Rattle.script.specs.Lines.{ScriptLine, Skipped, Setting, Happening, Showing, borrow_of}
 
 -- ---- HEX
@@ -24,23 +25,6 @@ pub data IsHex : List ℕ → List ℕ → Type 0 where
   some_octets : {octet : ℕ} {octets digits : List ℕ} → IsPairs (octet ∷ octets) digits → IsHex (octet ∷ octets) digits
 
 -- ---- lines
-
-abbrev pub field_name : Field → List ℕ
-field_name fields.Scid = codes "scid"
-field_name fields.Vcid = codes "vcid"
-field_name fields.TmVcid = codes "tm_vcid"
-field_name fields.Width = codes "width"
-field_name fields.Window = codes "window"
-field_name fields.Limit = codes "limit"
-field_name fields.Timer = codes "timer"
-field_name fields.Part = codes "part"
-field_name fields.MaxPacket = codes "max_packet"
-field_name fields.Maps = codes "maps"
-field_name fields.ReadySlots = codes "ready_slots"
-field_name fields.BypassSlots = codes "bypass_slots"
-field_name fields.QueueSlots = codes "queue_slots"
-field_name fields.FrameLength = codes "frame_length"
-field_name fields.Blocking = codes "blocking"
 
 -- The lines that say a thing. Numbers are spelled as they are printed.
 pub data Spells : ScriptLine → List ℕ → Type 0 where
