@@ -1,12 +1,15 @@
 -- A word is read as octets where it spells them.
-use Rattle.std.proofs.Common.{◌≡◌, ℕ, zero, suc, ◌+◌, ◌*◌, ◌/◌, ◌%◌, ◌<◌, ◌==◌, Bool, true, false, ◌&&◌, ◌||◌, inl, inr, List, [], ◌∷◌, length, slice_index, cond, Option, Some, None, Result, Ok, Err, refl, sym, ap, subst, ◌∙◌, arith}
+use Rattle.std.proofs.Common.{◌≡◌, ℕ, zero, suc, ◌+◌, ◌*◌, ◌/◌, ◌%◌, ◌<◌, ◌==◌, Bool, true, false, ◌&&◌, ◌||◌, inl, inr}
+use Rattle.std.proofs.Common.{List, [], ◌∷◌, length, slice_index, cond, Option, Some, None, Result, Ok, Err, refl, sym}
+use Rattle.std.proofs.Common.{ap, subst, ◌∙◌, arith}
 use Rattle.std.specs.Prelude.{codes, ◌↔◌}
 use Rattle.std.specs.Option.{unwrap_or}
 use Rattle.std.specs.Result.{result_ok, result_unwrap_or}
 use Rattle.std.specs.Str.{bytes_eq}
 use Rattle.std.proofs.lemmas.Bool.{and_parts, cases_lt, eqb-true}
 use Rattle.std.proofs.lemmas.Slice.Eq.{bytes_eq-Decides}
-use Rattle.hex.specs.Hex.{decode_of, decode_pairs, digit_or_error, hex_digit_value, lower_digits, upper_digits, pair_value, value_at, ◌>>=◌}
+use Rattle.hex.specs.Hex.{decode_of, decode_pairs, digit_or_error, hex_digit_value, lower_digits, upper_digits}
+use Rattle.hex.specs.Hex.{pair_value, value_at, ◌>>=◌}
 use Rattle.hex.specs.declared.error.FromHexError.{FromHexError}
 use Rattle.hex.proofs.HexLemmas.{decode_of-even, decode_of-ok, IsDigits-lower_digits, IsDigits-upper_digits}
 use Rattle.hex.proofs.Pairs.{cons_byte, decode_pairs-ok_pair}
@@ -37,7 +40,8 @@ stand (suc n) digit all small =
       | inr top ↦ (let e : digit ≡ n = omega arith in rw e parts.0)
     ]
 
-either : (value digit : ℕ) (a b : Bool) → (slice_index lower_digits value == digit) ≡ a → (slice_index upper_digits value == digit) ≡ b → a || b ≡ true → IsHexDigit value digit
+either : (value digit : ℕ) (a b : Bool) → (slice_index lower_digits value == digit) ≡ a
+    → (slice_index upper_digits value == digit) ≡ b → a || b ≡ true → IsHexDigit value digit
 either value digit true b ea eb h = inl (eqb-true _ _ ea)
 either value digit false true ea eb h = inr (eqb-true _ _ eb)
 either value digit false false ea eb h = cc h
@@ -54,8 +58,10 @@ spelled_pairs : {octets digits : List ℕ} (i : ℕ) → IsPairs octets digits �
 unfolding decode_pairs
 spelled_pairs i no_pair = refl
 spelled_pairs i (pair {octet} {high} {low} {octets} {digits} fits is_high is_low more) =
-    let ha : value_at high i ≡ Ok (octet / 16) = ap (digit_or_error high i) (spelled_digit (octet / 16) high (omega arith) is_high) in
-    let hb : value_at low (i + 1) ≡ Ok (octet % 16) = ap (digit_or_error low (i + 1)) (spelled_digit (octet % 16) low (omega arith) is_low) in
+    let ha : value_at high i ≡ Ok (octet / 16) =
+    ap (digit_or_error high i) (spelled_digit (octet / 16) high (omega arith) is_high) in
+    let hb : value_at low (i + 1) ≡ Ok (octet % 16) =
+    ap (digit_or_error low (i + 1)) (spelled_digit (octet % 16) low (omega arith) is_low) in
     let one : pair_value high low i ≡ Ok (octet / 16 * 16 + octet % 16) = rw (ha, hb) refl in
     let whole : octet / 16 * 16 + octet % 16 ≡ octet = omega arith in
     decode_pairs-ok_pair i high low _ digits one
@@ -66,7 +72,8 @@ even_pairs : {octets digits : List ℕ} → IsPairs octets digits → length dig
 even_pairs no_pair = refl
 even_pairs (pair fits is_high is_low more) = let e = even_pairs more in omega (arith, e)
 
-bind_ok : {A B : Type 0} (r : Result A FromHexError) (f : A → Result B FromHexError) (y : B) → (r >>= f) ≡ Ok y → (x : A) × (r ≡ Ok x) × (f x ≡ Ok y)
+bind_ok : {A B : Type 0} (r : Result A FromHexError) (f : A → Result B FromHexError) (y : B) → (r >>= f) ≡ Ok y
+    → (x : A) × (r ≡ Ok x) × (f x ≡ Ok y)
 bind_ok (Ok x) f y h = (x, refl, h)
 bind_ok (Err e) f y h = cc h
 
@@ -98,7 +105,8 @@ read_pairs i (a ∷ b ∷ digits) octets h =
     let first : p1.0 ≡ p0.0 / 16 = omega (arith, byte) in
     let second : p2.0 ≡ p0.0 % 16 = omega (arith, byte) in
     subst (λ (os : List ℕ). IsPairs os (a ∷ b ∷ digits)) e
-    (pair (omega (arith, byte)) (subst (λ (v : ℕ). IsHexDigit v a) first (read_digit p1.0 a high)) (subst (λ (v : ℕ). IsHexDigit v b) second (read_digit p2.0 b low)) more)
+    (pair (omega (arith, byte)) (subst (λ (v : ℕ). IsHexDigit v a) first (read_digit p1.0 a high))
+    (subst (λ (v : ℕ). IsHexDigit v b) second (read_digit p2.0 b low)) more)
 
 -- ---- words
 
@@ -109,11 +117,13 @@ not_dash a b more true e =
     let len : length (a ∷ b ∷ more) ≡ 1 = ap (λ (l : List ℕ). length l) same in
     absurd (omega (arith, len))
 
-spelled_some : (octet : ℕ) (octets digits : List ℕ) → IsPairs (octet ∷ octets) digits → octets_in_word digits ≡ Some (octet ∷ octets)
+spelled_some : (octet : ℕ) (octets digits : List ℕ) → IsPairs (octet ∷ octets) digits
+    → octets_in_word digits ≡ Some (octet ∷ octets)
 unfolding octets_in_word
 spelled_some octet octets digits (pair {high = high} {low = low} {digits = rest} fits is_high is_low more) =
     let even = even_pairs more in
-    let decoded : decode_of (high ∷ low ∷ rest) ≡ Ok (octet ∷ octets) = decode_of-even (high ∷ low ∷ rest) (omega (arith, even)) ∙ spelled_pairs 0 (pair fits is_high is_low more) in
+    let decoded : decode_of (high ∷ low ∷ rest) ≡ Ok (octet ∷ octets) =
+    decode_of-even (high ∷ low ∷ rest) (omega (arith, even)) ∙ spelled_pairs 0 (pair fits is_high is_low more) in
     let other : bytes_eq (high ∷ low ∷ rest) (codes "-") ≡ false = not_dash high low rest _ refl in
     let long : (length (high ∷ low ∷ rest) == 0) ≡ false = grind (arith) in
     rw (other, decoded, long) refl
@@ -131,7 +141,8 @@ some_pairs : (octets digits : List ℕ) → (length digits == 0) ≡ false → I
 some_pairs octets digits long no_pair = cc long
 some_pairs octets digits long (pair fits high low more) = some_octets (pair fits high low more)
 
-read_behind : (digits octets : List ℕ) (none : Bool) → (length digits == 0) ≡ none → cond none None (result_ok (decode_of digits)) ≡ Some octets → IsHex octets digits
+read_behind : (digits octets : List ℕ) (none : Bool) → (length digits == 0) ≡ none
+    → cond none None (result_ok (decode_of digits)) ≡ Some octets → IsHex octets digits
 read_behind digits octets true long e = cc e
 read_behind digits octets false long e =
     let decoded = ok_some octets (decode_of digits) e in
@@ -139,7 +150,8 @@ read_behind digits octets false long e =
     some_pairs octets digits long (read_pairs 0 digits octets (sym (decode_of-even digits even) ∙ decoded))
 
 read_word : (digits octets : List ℕ) (dash : Bool) → bytes_eq digits (codes "-") ≡ dash
-    → cond dash (Some []) (cond (length digits == 0) None (result_ok (decode_of digits))) ≡ Some octets → IsHex octets digits
+    → cond dash (Some []) (cond (length digits == 0) None (result_ok (decode_of digits))) ≡ Some octets
+    → IsHex octets digits
 read_word digits octets true is e =
     let same : digits ≡ codes "-" = (bytes_eq-Decides digits (codes "-")).0 is in
     let none : [] ≡ octets = ap (λ (o : Option (List ℕ)). unwrap_or o []) e in

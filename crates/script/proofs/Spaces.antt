@@ -1,5 +1,6 @@
 -- Words that are parted by one space.
-use Rattle.std.proofs.Common.{◌≡◌, ◌∙◌, ◌==◌, ◌++◌, ◌<◌, ◌^◌, not, ℕ, Bool, true, false, List, [], ◌∷◌, Some, refl, ap, arith}
+use Rattle.std.proofs.Common.{◌≡◌, ◌∙◌, ◌==◌, ◌++◌, ◌<◌, ◌^◌, not, ℕ, Bool, true, false, List, [], ◌∷◌, Some, refl, ap}
+use Rattle.std.proofs.Common.{arith}
 use Rattle.std.specs.Prelude.{decimal}
 use Rattle.std.specs.Char.{is_ascii_digit}
 use Rattle.std.specs.List.{All, list_all}
@@ -32,12 +33,14 @@ one_word word h = slice_split_none (λ (octet : ℕ). octet == 32) word (passes 
 pub more_words : (word more : List ℕ) → is_word word ≡ true → words_in (word ++ 32 ∷ more) ≡ word ∷ words_in more
 more_words word more h = slice_split_at (λ (octet : ℕ). octet == 32) word 32 more (passes word h) refl
 
-pub two_words : (name word : List ℕ) → is_word name ≡ true → is_word word ≡ true → words_in (name ++ 32 ∷ word) ≡ name ∷ word ∷ []
+pub two_words : (name word : List ℕ) → is_word name ≡ true → is_word word ≡ true
+    → words_in (name ++ 32 ∷ word) ≡ name ∷ word ∷ []
 two_words name word h k = more_words name word h ∙ ap (λ (ws : List (List ℕ)). name ∷ ws) (one_word word k)
 
 pub three_words : (name first second : List ℕ) → is_word name ≡ true → is_word first ≡ true → is_word second ≡ true
     → words_in (name ++ 32 ∷ (first ++ 32 ∷ second)) ≡ name ∷ first ∷ second ∷ []
-three_words name first second h k l = more_words name (first ++ 32 ∷ second) h ∙ ap (λ (ws : List (List ℕ)). name ∷ ws) (two_words first second k l)
+three_words name first second h k l =
+    more_words name (first ++ 32 ∷ second) h ∙ ap (λ (ws : List (List ℕ)). name ∷ ws) (two_words first second k l)
 
 -- ---- numbers and octets are words
 

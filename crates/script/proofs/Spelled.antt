@@ -1,5 +1,6 @@
 -- A line that is spelled is read so.
-use Rattle.std.proofs.Common.{◌≡◌, ◌∙◌, ◌≤◌, ◌<◌, ◌^◌, ◌-◌, ℕ, Bool, true, false, cond, List, Option, Some, refl, ap, arith}
+use Rattle.std.proofs.Common.{◌≡◌, ◌∙◌, ◌≤◌, ◌<◌, ◌^◌, ◌-◌, ℕ, Bool, true, false, cond, List, Option, Some, refl, ap}
+use Rattle.std.proofs.Common.{arith}
 use Rattle.std.specs.Prelude.{codes, decimal}
 use Rattle.std.specs.Option.{unwrap_or}
 use Rattle.script.specs.declared.field.Field.{Field}
@@ -33,7 +34,8 @@ least_most : (field : Field) (n : ℕ) → n ≤ 65542 → n ≤ most_for field
 least_most fields.Maps n le = omega (arith, le)
 least_most field n le = le
 
-set : (field : Field) (n : ℕ) → n ≤ most_for field → setting_line (field_name field) (decimal n) ≡ Some (Setting field n)
+set : (field : Field) (n : ℕ) → n ≤ most_for field
+    → setting_line (field_name field) (decimal n) ≡ Some (Setting field n)
 set field n le =
     let number = printed (most_for field) n (most_small field) le in
     rw (named field, number) refl
@@ -45,7 +47,8 @@ spelled spelling.empty = refl
 spelled (spelling.note text) = refl
 spelled (spelling.config field n le) =
     let read = set field n (least_most field n le) in
-    ap meant (three_words (codes "config") (field_name field) (decimal n) refl (name_word field) (number_word n (omega arith)))
+    ap meant (three_words (codes "config") (field_name field) (decimal n) refl (name_word field)
+    (number_word n (omega arith)))
     ∙ ap (λ (o : Option ScriptLine). unwrap_or o Unreadable) read
 spelled (spelling.maps n less) =
     let read = set fields.Maps n (omega arith) in
@@ -54,11 +57,13 @@ spelled (spelling.maps n less) =
 spelled (spelling.submit map octets hex le is) =
     let number = printed 255 map (omega arith) le in
     let read = spelled_octets octets hex is in
-    ap meant (three_words (codes "submit") (decimal map) hex refl (number_word map (omega arith)) (hex_word is)) ∙ rw (number, read) refl
+    ap meant (three_words (codes "submit") (decimal map) hex refl (number_word map (omega arith)) (hex_word is))
+    ∙ rw (number, read) refl
 spelled (spelling.bypass map octets hex le is) =
     let number = printed 255 map (omega arith) le in
     let read = spelled_octets octets hex is in
-    ap meant (three_words (codes "bypass") (decimal map) hex refl (number_word map (omega arith)) (hex_word is)) ∙ rw (number, read) refl
+    ap meant (three_words (codes "bypass") (decimal map) hex refl (number_word map (omega arith)) (hex_word is))
+    ∙ rw (number, read) refl
 spelled (spelling.telemetry octets hex is) =
     let read = spelled_octets octets hex is in
     ap meant (two_words (codes "telemetry") hex refl (hex_word is)) ∙ rw read refl
@@ -67,7 +72,8 @@ spelled spelling.init_check = refl
 spelled spelling.init_unlock = refl
 spelled (spelling.init_set x le) =
     let number = printed 255 x (omega arith) le in
-    ap meant (three_words (codes "init") (codes "set") (decimal x) refl refl (number_word x (omega arith))) ∙ rw number refl
+    ap meant (three_words (codes "init") (codes "set") (decimal x) refl refl (number_word x (omega arith)))
+    ∙ rw number refl
 spelled (spelling.vs x le) =
     let number = printed 255 x (omega arith) le in
     ap meant (two_words (codes "vs") (decimal x) refl (number_word x (omega arith))) ∙ rw number refl

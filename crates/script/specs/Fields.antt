@@ -1,4 +1,5 @@
--- The fields of the configuration that a script sets: the word for each, the greatest number, and what it sets.
+-- The fields of the configuration that a script sets: the word for each, the greatest number, and
+-- what it sets.
 use Rattle.std.specs.Prelude.{ℕ, ◌^◌, ◌-◌, List, codes, Option}
 use Rattle.std.specs.List.{find}
 use Rattle.std.specs.Str.{bytes_eq}

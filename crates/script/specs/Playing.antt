@@ -1,5 +1,6 @@
 -- A script played: the responses to its lines, and the text that is written of them.
-use Rattle.std.specs.Prelude.{ℕ, zero, suc, ◌+◌, Bool, true, false, option_map, List, [], ◌∷◌, ◌++◌, length, codes, decimal, Option, Some, None, Result}
+use Rattle.std.specs.Prelude.{ℕ, zero, suc, ◌+◌, Bool, true, false, option_map, List, [], ◌∷◌, ◌++◌}
+use Rattle.std.specs.Prelude.{length, codes, decimal, Option, Some, None, Result}
 use Rattle.std.specs.List.{flat_map}
 use Rattle.cop1.specs.declared.fop.FopMode.{FopMode}
 use Rattle.cop1.specs.declared.fop.FopMode.TheVariants.{S1, S2, S3, S4, S5, S6}
@@ -35,7 +36,8 @@ after_line w Unreadable = w
 -- the responses to the lines of a script, in their order
 abbrev pub script_responses : World → List ScriptLine → List Response
 script_responses w [] = []
-script_responses w (line ∷ more) = line_responses w line ++ script_responses (after_line w line) more
+script_responses w (line ∷ more) =
+    line_responses w line ++ script_responses (after_line w line) more
 
 -- ---- one line of text for each
 
@@ -63,7 +65,8 @@ count_over_maps packets_on = count_below_map packets_on 64
 
 -- of the packets
 abbrev pub packets_text : World → List ℕ
-packets_text w = codes "clean=" ++ (clean_word (option_map (λ (o : Opening). o.clean) w.session.opening)
+packets_text w =
+    codes "clean=" ++ (clean_word (option_map (λ (o : Opening). o.clean) w.session.opening)
     ++ (codes " state=" ++ (fop_state_word w.ground_node.fop.state
     ++ (codes " submitted=" ++ (decimal (count_over_maps (submitted w))
     ++ (codes " delivered=" ++ decimal (count_over_maps (delivered w))))))))

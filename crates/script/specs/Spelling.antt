@@ -1,5 +1,6 @@
 -- How each line of a script is spelled.
-use Rattle.std.specs.Prelude.{◌≡◌, ◌≤◌, ◌<◌, ◌^◌, ◌/◌, ◌%◌, ◌⊎◌, ℕ, List, [], ◌∷◌, ◌++◌, codes, decimal, slice_index}
+use Rattle.std.specs.Prelude.{◌≡◌, ◌≤◌, ◌<◌, ◌^◌, ◌/◌, ◌%◌, ◌⊎◌, ℕ, List, [], ◌∷◌, ◌++◌, codes}
+use Rattle.std.specs.Prelude.{decimal, slice_index}
 use Rattle.cop1.specs.declared.fop.Directive.TheVariants as directives
 use Rattle.tc_link.specs.declared.event.Event.TheVariants as events
 use Rattle.script.specs.declared.field.Field.{Field}
@@ -11,18 +12,22 @@ use Rattle.script.specs.Lines.{ScriptLine, Skipped, Setting, Happening, Showing,
 
 -- a digit of this value; its letters are of either case
 abbrev pub IsHexDigit : ℕ → ℕ → Type 0
-IsHexDigit value digit = (slice_index (codes "0123456789abcdef") value ≡ digit) ⊎ (slice_index (codes "0123456789ABCDEF") value ≡ digit)
+IsHexDigit value digit =
+    (slice_index (codes "0123456789abcdef") value ≡ digit)
+    ⊎ (slice_index (codes "0123456789ABCDEF") value ≡ digit)
 
 -- two digits for each octet, the high one first
 pub data IsPairs : List ℕ → List ℕ → Type 0 where
   no_pair : IsPairs [] []
-  pair : {octet high low : ℕ} {octets digits : List ℕ} → octet < 256 → IsHexDigit (octet / 16) high → IsHexDigit (octet % 16) low
+  pair : {octet high low : ℕ} {octets digits : List ℕ} → octet < 256 → IsHexDigit (octet / 16) high
+      → IsHexDigit (octet % 16) low
       → IsPairs octets digits → IsPairs (octet ∷ octets) (high ∷ low ∷ digits)
 
 -- octets as a word
 pub data IsHex : List ℕ → List ℕ → Type 0 where
   no_octets : IsHex [] (codes "-")
-  some_octets : {octet : ℕ} {octets digits : List ℕ} → IsPairs (octet ∷ octets) digits → IsHex (octet ∷ octets) digits
+  some_octets : {octet : ℕ} {octets digits : List ℕ} → IsPairs (octet ∷ octets) digits
+      → IsHex (octet ∷ octets) digits
 
 -- ---- lines
 
@@ -34,19 +39,24 @@ pub data Spells : ScriptLine → List ℕ → Type 0 where
       → Spells (Setting field n) (codes "config " ++ (field_name field ++ (codes " " ++ decimal n)))
   maps : (n : ℕ) → n < 2 ^ 64 → Spells (Setting fields.Maps n) (codes "config maps " ++ decimal n)
   submit : (map : ℕ) (octets hex : List ℕ) → map ≤ 255 → IsHex octets hex
-      → Spells (Happening (events.Submit map (borrow_of octets))) (codes "submit " ++ (decimal map ++ (codes " " ++ hex)))
+      → Spells (Happening (events.Submit map (borrow_of octets)))
+      (codes "submit " ++ (decimal map ++ (codes " " ++ hex)))
   bypass : (map : ℕ) (octets hex : List ℕ) → map ≤ 255 → IsHex octets hex
-      → Spells (Happening (events.Bypass map (borrow_of octets))) (codes "bypass " ++ (decimal map ++ (codes " " ++ hex)))
+      → Spells (Happening (events.Bypass map (borrow_of octets)))
+      (codes "bypass " ++ (decimal map ++ (codes " " ++ hex)))
   telemetry : (octets hex : List ℕ) → IsHex octets hex
       → Spells (Happening (events.Telemetry (borrow_of octets))) (codes "telemetry " ++ hex)
   init_none : Spells (Happening (events.Directive directives.InitWithoutCheck)) (codes "init none")
   init_check : Spells (Happening (events.Directive directives.InitWithCheck)) (codes "init check")
   init_unlock : Spells (Happening (events.Directive directives.InitUnlock)) (codes "init unlock")
   init_set : (x : ℕ) → x ≤ 255
-      → Spells (Happening (events.Directive (directives.InitSetVr x))) (codes "init set " ++ decimal x)
-  vs : (x : ℕ) → x ≤ 255 → Spells (Happening (events.Directive (directives.SetVs x))) (codes "vs " ++ decimal x)
+      → Spells (Happening (events.Directive (directives.InitSetVr x)))
+      (codes "init set " ++ decimal x)
+  vs : (x : ℕ) → x ≤ 255
+      → Spells (Happening (events.Directive (directives.SetVs x))) (codes "vs " ++ decimal x)
   window : (x : ℕ) → x ≤ 255
-      → Spells (Happening (events.Directive (directives.SetWindow x))) (codes "window " ++ decimal x)
+      → Spells (Happening (events.Directive (directives.SetWindow x)))
+      (codes "window " ++ decimal x)
   limit : (x : ℕ) → x ≤ 255
       → Spells (Happening (events.Directive (directives.SetLimit x))) (codes "limit " ++ decimal x)
   timer : (x : ℕ) → x ≤ 65535

@@ -1,5 +1,6 @@
 -- Part k of a packet stands at place k times the size of a part.
-use Rattle.std.proofs.Common.{◌≡◌, ◌≢◌, ◌≤◌, ◌<◌, ℕ, zero, suc, ◌+◌, ◌-◌, ◌*◌, ◌/◌, ◌++◌, List, [], ◌∷◌, length, take, drop, Some, refl, sym, ap, ◌∙◌, arith, length-drop, length-take}
+use Rattle.std.proofs.Common.{◌≡◌, ◌≢◌, ◌≤◌, ◌<◌, ℕ, zero, suc, ◌+◌, ◌-◌, ◌*◌, ◌/◌, ◌++◌, List, [], ◌∷◌, length, take}
+use Rattle.std.proofs.Common.{drop, Some, refl, sym, ap, ◌∙◌, arith, length-drop, length-take}
 use Rattle.std.specs.Prelude.{slice_get}
 use Rattle.std.proofs.lemmas.List.{drop-drop, drop-take, take_all, take-take}
 use Rattle.tc_frame.specs.declared.frame.SegmentFlags.TheVariants.{First, Continuing, Last, Alone}
@@ -19,7 +20,8 @@ behind t part xs = drop-drop t part xs
 
 -- a part that is not the last of those behind a first
 later_continuing : (k part m : ℕ) (xs : List ℕ) → 1 ≤ part → k * part + part < length xs
-    → slice_get (later_segments m (pieces_of part xs)) k ≡ Some (segment_with Continuing m (take part (drop (k * part) xs)))
+    → slice_get (later_segments m (pieces_of part xs)) k
+    ≡ Some (segment_with Continuing m (take part (drop (k * part) xs)))
 later_continuing zero part m xs one more =
     let here : zero * part ≡ 0 = omega arith in
     rw (here, later_segments-more m part xs one (omega arith)) refl
@@ -60,26 +62,33 @@ behind_place octets from len start within =
 full_part : (octets : List ℕ) (from len start part : ℕ) → start ≤ len → part ≤ len - start
     → take part (drop start (packet_at octets from len)) ≡ take part (drop (from + start) octets)
 full_part octets from len start part within fits =
-    ap (take part) (behind_place octets from len start within) ∙ take-take part (len - start) (drop (from + start) octets) fits
+    ap (take part) (behind_place octets from len start within)
+    ∙ take-take part (len - start) (drop (from + start) octets) fits
 
 short_part : (octets : List ℕ) (from len start part : ℕ) → start ≤ len → len - start ≤ part
     → take part (drop start (packet_at octets from len)) ≡ take (len - start) (drop (from + start) octets)
 short_part octets from len start part within short =
     ap (take part) (behind_place octets from len start within)
-    ∙ take_all part (take (len - start) (drop (from + start) octets)) (omega (arith, length-take (len - start) (drop (from + start) octets)))
+    ∙ take_all part (take (len - start) (drop (from + start) octets))
+    (omega (arith, length-take (len - start) (drop (from + start) octets)))
 
-pub alone_at : (octets : List ℕ) (from len part m k : ℕ) → from + len ≤ length octets → 1 ≤ len → k ≡ 0 → len - k * part ≤ part
-    → slice_get (parts_of part m (packet_at octets from len)) k ≡ Some (segment_with Alone m (take (len - k * part) (drop (from + k * part) octets)))
+pub alone_at : (octets : List ℕ) (from len part m k : ℕ) → from + len ≤ length octets → 1 ≤ len → k ≡ 0
+    → len - k * part ≤ part
+    → slice_get (parts_of part m (packet_at octets from len)) k
+    ≡ Some (segment_with Alone m (take (len - k * part) (drop (from + k * part) octets)))
 alone_at octets from len part m zero fits some here le =
     let size = packet-length octets from len fits in
     let start : zero * part ≡ 0 = omega arith in
     let place : from + 0 ≡ from = omega arith in
     let all : len - 0 ≡ len = omega arith in
-    rw (start, place, all) (ap (λ (l : List SegmentView). slice_get l 0) (parts-fit m part (packet_at octets from len) (omega arith) (omega arith)))
+    rw (start, place, all) (ap (λ (l : List SegmentView). slice_get l 0)
+    (parts-fit m part (packet_at octets from len) (omega arith) (omega arith)))
 alone_at octets from len part m (suc k) fits some here le = absurd (omega arith)
 
-pub first_at : (octets : List ℕ) (from len part m k : ℕ) → from + len ≤ length octets → 1 ≤ part → k ≡ 0 → part < len - k * part
-    → slice_get (parts_of part m (packet_at octets from len)) k ≡ Some (segment_with First m (take part (drop (from + k * part) octets)))
+pub first_at : (octets : List ℕ) (from len part m k : ℕ) → from + len ≤ length octets → 1 ≤ part → k ≡ 0
+    → part < len - k * part
+    → slice_get (parts_of part m (packet_at octets from len)) k
+    ≡ Some (segment_with First m (take part (drop (from + k * part) octets)))
 first_at octets from len part m zero fits one here lt =
     let size = packet-length octets from len fits in
     let start : zero * part ≡ 0 = omega arith in
@@ -89,8 +98,10 @@ first_at octets from len part m zero fits one here lt =
     ∙ ap (λ (p : List ℕ). Some (segment_with First m p)) (take-take part len (drop from octets) (omega arith)))
 first_at octets from len part m (suc k) fits one here lt = absurd (omega arith)
 
-pub continuing_at : (octets : List ℕ) (from len part m k : ℕ) → from + len ≤ length octets → 1 ≤ part → k ≢ 0 → k * part < len → part < len - k * part
-    → slice_get (parts_of part m (packet_at octets from len)) k ≡ Some (segment_with Continuing m (take part (drop (from + k * part) octets)))
+pub continuing_at : (octets : List ℕ) (from len part m k : ℕ) → from + len ≤ length octets → 1 ≤ part → k ≢ 0
+    → k * part < len → part < len - k * part
+    → slice_get (parts_of part m (packet_at octets from len)) k
+    ≡ Some (segment_with Continuing m (take part (drop (from + k * part) octets)))
 continuing_at octets from len part m zero fits one some there more = absurd (some refl)
 continuing_at octets from len part m (suc k) fits one some there more =
     let xs : List ℕ = packet_at octets from len in
@@ -101,10 +112,13 @@ continuing_at octets from len part m (suc k) fits one some there more =
     (ap (λ (l : List SegmentView). slice_get l (suc k)) (parts-more m part xs one (omega arith))
     ∙ later_continuing k part m (drop part xs) one (omega arith)
     ∙ ap (λ (p : List ℕ). Some (segment_with Continuing m p))
-    (ap (take part) (behind (k * part) part xs) ∙ full_part octets from len (part + k * part) part (omega arith) (omega arith)))
+    (ap (take part) (behind (k * part) part xs)
+    ∙ full_part octets from len (part + k * part) part (omega arith) (omega arith)))
 
-pub last_at : (octets : List ℕ) (from len part m k : ℕ) → from + len ≤ length octets → 1 ≤ part → k ≢ 0 → k * part < len → len - k * part ≤ part
-    → slice_get (parts_of part m (packet_at octets from len)) k ≡ Some (segment_with Last m (take (len - k * part) (drop (from + k * part) octets)))
+pub last_at : (octets : List ℕ) (from len part m k : ℕ) → from + len ≤ length octets → 1 ≤ part → k ≢ 0 → k * part < len
+    → len - k * part ≤ part
+    → slice_get (parts_of part m (packet_at octets from len)) k
+    ≡ Some (segment_with Last m (take (len - k * part) (drop (from + k * part) octets)))
 last_at octets from len part m zero fits one some there last = absurd (some refl)
 last_at octets from len part m (suc k) fits one some there last =
     let xs : List ℕ = packet_at octets from len in
@@ -115,7 +129,8 @@ last_at octets from len part m (suc k) fits one some there last =
     (ap (λ (l : List SegmentView). slice_get l (suc k)) (parts-more m part xs one (omega arith))
     ∙ later_last k part m (drop part xs) one (omega arith) (omega arith)
     ∙ ap (λ (p : List ℕ). Some (segment_with Last m p))
-    (ap (take part) (behind (k * part) part xs) ∙ short_part octets from len (part + k * part) part (omega arith) (omega arith)))
+    (ap (take part) (behind (k * part) part xs)
+    ∙ short_part octets from len (part + k * part) part (omega arith) (omega arith)))
 
 -- ---- one group of packets after another
 
@@ -130,7 +145,8 @@ get_behind (x ∷ xs) ys k =
     let next : length (x ∷ xs) + k ≡ suc (length xs + k) = omega arith in
     rw next (get_behind xs ys k)
 
-module _ (part n : ℕ) (rest : List ℕ) (none : rest_in rest ≡ []) (one : 1 ≤ part) (some : 1 ≤ n) (within : n ≤ length rest)
+module _ (part n : ℕ) (rest : List ℕ) (none : rest_in rest ≡ []) (one : 1 ≤ part) (some : 1 ≤ n)
+    (within : n ≤ length rest)
     (group : n ≡ length (concat (first_group part (packets_in rest)))) where
   cut_here : segments_of part 0 rest ≡ parts_of part 0 (take n rest) ++ segments_of part 0 (drop n rest)
   cut_here = (groups-cut part 0 n rest (take n rest) (drop n rest) none (omega arith) group refl refl).0
@@ -140,10 +156,12 @@ module _ (part n : ℕ) (rest : List ℕ) (none : rest_in rest ≡ []) (one : 1 
       let size : length (take n rest) ≡ n = omega (arith, length-take n rest) in
       parts-count part 0 (take n rest) one (omega arith) ∙ ap (λ (k : ℕ). (k - 1) / part + 1) size
 
-  pub found_here : (k : ℕ) → k < (n - 1) / part + 1 → slice_get (segments_of part 0 rest) k ≡ slice_get (parts_of part 0 (take n rest)) k
+  pub found_here : (k : ℕ) → k < (n - 1) / part + 1
+      → slice_get (segments_of part 0 rest) k ≡ slice_get (parts_of part 0 (take n rest)) k
   found_here k lt =
       let size = parts_here in
-      ap (λ (l : List SegmentView). slice_get l k) cut_here ∙ get_front (parts_of part 0 (take n rest)) (segments_of part 0 (drop n rest)) k (omega arith)
+      ap (λ (l : List SegmentView). slice_get l k) cut_here
+      ∙ get_front (parts_of part 0 (take n rest)) (segments_of part 0 (drop n rest)) k (omega arith)
 
   pub found_later : (k : ℕ) → (n - 1) / part + 1 ≤ k
       → slice_get (segments_of part 0 rest) k ≡ slice_get (segments_of part 0 (drop n rest)) (k - ((n - 1) / part + 1))

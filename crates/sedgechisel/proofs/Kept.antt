@@ -1,5 +1,6 @@
 -- The fields that are kept of a sender tell that sender again, and fields that no sender has tell none.
-use Rattle.std.proofs.Common.{◌≡◌, ◌≤◌, ◌<◌, ℕ, Bool, true, false, Option, Some, None, Result, Ok, Err, refl, ap, ◌∙◌, arith}
+use Rattle.std.proofs.Common.{◌≡◌, ◌≤◌, ◌<◌, ℕ, Bool, true, false, Option, Some, None, Result, Ok, Err, refl, ap, ◌∙◌}
+use Rattle.std.proofs.Common.{arith}
 use Rattle.std.specs.Prelude.{IfSome, if◌then◌else◌}
 use Rattle.std.proofs.lemmas.Bool.{and_from, and_parts, le-leb}
 use Rattle.tc_frame.specs.declared.frame.Command.TheVariants.{Unlock, SetVr}
@@ -12,7 +13,9 @@ use Rattle.cop1.specs.SenderState.{IsSender, HasRanges, AgreesWithState}
 use Rattle.sedgechisel.specs.declared.sender.KeptSender.{KeptSender}
 use Rattle.sedgechisel.specs.Answers.{damaged, and_then}
 use Rattle.sedgechisel.specs.Receivers.{flag_number}
-use Rattle.sedgechisel.specs.Senders.{mode_number, ticks_number, control_number, control_vr, kept_of, mode_at, ticks_at, control_at, flag_at, fields_with, fields_told, has_ranges, agrees_in, is_sender, sender_told}
+use Rattle.sedgechisel.specs.Senders.{mode_number, ticks_number, control_number, control_vr, kept_of, mode_at, ticks_at}
+use Rattle.sedgechisel.specs.Senders.{control_at, flag_at, fields_with, fields_told, has_ranges, agrees_in, is_sender}
+use Rattle.sedgechisel.specs.Senders.{sender_told}
 
 -- ---- each field is told again
 
@@ -67,16 +70,19 @@ is_sure s h = and_from _ _ (ranges_hold s h.ranges) (agreement_holds s s.state r
 
 fields_again : (s : SenderFields) → IfSome s.ticks (λ left. 1 ≤ left) → fields_told (kept_of s) ≡ Ok s
 fields_again s h =
-    ap (λ (m : Option FopMode). fields_with (kept_of s) m (flag_at (flag_number s.waiting)) (control_at (control_number s.control) (control_vr s.control)))
+    ap (λ (m : Option FopMode). fields_with (kept_of s) m (flag_at (flag_number s.waiting))
+    (control_at (control_number s.control) (control_vr s.control)))
     (mode_again s.state)
-    ∙ ap (λ (f : Option Bool). fields_with (kept_of s) (Some s.state) f (control_at (control_number s.control) (control_vr s.control)))
+    ∙ ap (λ (f : Option Bool). fields_with (kept_of s) (Some s.state) f
+    (control_at (control_number s.control) (control_vr s.control)))
     (flag_again s.waiting)
     ∙ ap (λ (c : Option Control). fields_with (kept_of s) (Some s.state) (Some s.waiting) c) (control_again s.control)
     ∙ ap (λ (t : Option ℕ). Ok (record s { ticks = t })) (ticks_again s.ticks h)
 
 pub told_again : (s : SenderFields) → IsSender s → sender_told (kept_of s) ≡ Ok s
 told_again s h =
-    ap (λ (r : Result SenderFields ℕ). and_then r (λ t. if is_sender t then Ok t else Err damaged)) (fields_again s h.ranges.ticks)
+    ap (λ (r : Result SenderFields ℕ). and_then r (λ t. if is_sender t then Ok t else Err damaged))
+    (fields_again s h.ranges.ticks)
     ∙ ap (λ (b : Bool). if b then Ok s else Err damaged) (is_sure s h)
 
 pub kept_tells : (k : KeptSender) (s : SenderFields) → k ≡ kept_of s → IsSender s → sender_told k ≡ Ok s
@@ -84,7 +90,8 @@ kept_tells k s is h = rw is (told_again s h)
 
 -- ---- fields that no sender has
 
-ranges_are : (s : SenderFields) → s.vs < 256 → s.nn < 256 → IfSome s.ticks (λ left. 1 ≤ left) → has_ranges s ≡ true → HasRanges s
+ranges_are : (s : SenderFields) → s.vs < 256 → s.nn < 256 → IfSome s.ticks (λ left. 1 ≤ left) → has_ranges s ≡ true
+    → HasRanges s
 ranges_are s vs nn ticks h = grind (arith, vs, nn, ticks, h)
 
 agreement_is : (s : SenderFields) (m : FopMode) → s.state ≡ m → agrees_in s m ≡ true → AgreesWithState s
@@ -95,7 +102,8 @@ agreement_is s S4 is h = grind (arith, is, h)
 agreement_is s S5 is h = grind (arith, is, h)
 agreement_is s S6 is h = grind (arith, is, h)
 
-sender_is : (s : SenderFields) → s.vs < 256 → s.nn < 256 → IfSome s.ticks (λ left. 1 ≤ left) → is_sender s ≡ true → IsSender s
+sender_is : (s : SenderFields) → s.vs < 256 → s.nn < 256 → IfSome s.ticks (λ left. 1 ≤ left) → is_sender s ≡ true
+    → IsSender s
 sender_is s vs nn ticks h =
     let parts = and_parts _ _ h in
     record { ranges = ranges_are s vs nn ticks parts.0; agrees = agreement_is s s.state refl parts.1 }
@@ -114,7 +122,8 @@ same_ticks k None f c s h = absurd cc
 ticks_run : (n : ℕ) → IfSome (ticks_at n) (λ left. 1 ≤ left)
 ticks_run n = grind arith
 
-pub told_none : (k : KeptSender) (s : SenderFields) → s.vs < 256 → s.nn < 256 → fields_told k ≡ Ok s → (IsSender s → ⊥) → sender_told k ≡ Err damaged
+pub told_none : (k : KeptSender) (s : SenderFields) → s.vs < 256 → s.nn < 256 → fields_told k ≡ Ok s → (IsSender s → ⊥)
+    → sender_told k ≡ Err damaged
 told_none k s vs nn is h =
     let ticks : IfSome s.ticks (λ left. 1 ≤ left) = rw (same_ticks k _ _ _ s is) (ticks_run k.ticks) in
     ap (λ (r : Result SenderFields ℕ). and_then r (λ t. if is_sender t then Ok t else Err damaged)) is

@@ -1,5 +1,6 @@
 -- What was read is told again by its fields and by its data, where they stand.
-use Rattle.std.proofs.Common.{◌≡◌, ℕ, zero, suc, ◌-◌, Bool, List, [], ◌∷◌, ◌++◌, length, take, drop, Result, Ok, Err, refl, sym, ap, subst, ◌∙◌, arith}
+use Rattle.std.proofs.Common.{◌≡◌, ℕ, zero, suc, ◌-◌, Bool, List, [], ◌∷◌, ◌++◌, length, take, drop, Result, Ok, Err}
+use Rattle.std.proofs.Common.{refl, sym, ap, subst, ◌∙◌, arith}
 use Rattle.std.proofs.lemmas.List.{take-append-drop, append-nil, append_assoc}
 use Rattle.std.proofs.Math.Seq.{take-append_seam}
 use Rattle.octets.specs.Number.{IsOctets}
@@ -47,7 +48,8 @@ begins_with : (p r s xs : List ℕ) → xs ≡ (p ++ r) ++ s → take (length p)
 begins_with p r s xs h = ap (take (length p)) (h ∙ append_assoc p r s) ∙ take-append_seam p (r ++ s)
 
 front_again : (k n : ℕ) (b p r : List ℕ) → drop k (take n b) ≡ p ++ r → take (length p) (drop k b) ≡ p
-front_again zero n b p r h = begins_with p r (drop n b) b (sym (take-append-drop n b) ∙ ap (λ (t : List ℕ). t ++ drop n b) h)
+front_again zero n b p r h =
+    begins_with p r (drop n b) b (sym (take-append-drop n b) ∙ ap (λ (t : List ℕ). t ++ drop n b) h)
 front_again (suc k) zero b p r h = none_again p r (drop (suc k) b) h
 front_again (suc k) (suc n) [] p r h = none_again p r [] h
 front_again (suc k) (suc n) (x ∷ b) p r h = front_again k n b p r h
@@ -66,7 +68,8 @@ payload_again : (n : ℕ) (b p : List ℕ) (x y : ℕ) → drop 4 (take n b) ≡
 payload_again n b p x y h = front_again 6 n b p [] (sym (drop_two (take n b)) ∙ ap (drop 2) h ∙ sym (append-nil p))
 
 ad_again : (scid vcid n map : ℕ) (flags : SegmentFlags) (p : List ℕ)
-    → commands.frame_told (fields_with scid vcid (Ad n (record { header = record { flags = flags; map = map }; payload = p }))) p
+    → commands.frame_told (fields_with scid vcid
+    (Ad n (record { header = record { flags = flags; map = map }; payload = p }))) p
     ≡ Ok (frame_with scid vcid (Ad n (record { header = record { flags = flags; map = map }; payload = p })))
 ad_again scid vcid n map First p = refl
 ad_again scid vcid n map Continuing p = refl
@@ -74,7 +77,8 @@ ad_again scid vcid n map Last p = refl
 ad_again scid vcid n map Alone p = refl
 
 bd_again : (scid vcid map : ℕ) (flags : SegmentFlags) (p : List ℕ)
-    → commands.frame_told (fields_with scid vcid (Bd (record { header = record { flags = flags; map = map }; payload = p }))) p
+    → commands.frame_told (fields_with scid vcid
+    (Bd (record { header = record { flags = flags; map = map }; payload = p }))) p
     ≡ Ok (frame_with scid vcid (Bd (record { header = record { flags = flags; map = map }; payload = p })))
 bd_again scid vcid map First p = refl
 bd_again scid vcid map Continuing p = refl
@@ -82,7 +86,8 @@ bd_again scid vcid map Last p = refl
 bd_again scid vcid map Alone p = refl
 
 body_again : (scid vcid n : ℕ) (b : List ℕ) (body : BodyView) → drop 4 (take n b) ≡ body_octets body
-    → commands.frame_told (fields_with scid vcid body) (take (part_with body).count (drop (part_with body).from b)) ≡ Ok (frame_with scid vcid body)
+    → commands.frame_told (fields_with scid vcid body) (take (part_with body).count (drop (part_with body).from b))
+    ≡ Ok (frame_with scid vcid body)
 body_again scid vcid n b (Ad m s) h =
     ap (commands.frame_told (fields_with scid vcid (Ad m s))) (payload_again n b s.payload _ _ h)
     ∙ ad_again scid vcid m s.header.map s.header.flags s.payload
@@ -92,22 +97,28 @@ body_again scid vcid n b (Bd s) h =
 body_again scid vcid n b (Bc Unlock) h = refl
 body_again scid vcid n b (Bc (SetVr x)) h = refl
 
-pub command_again : (checked : Bool) (b : List ℕ) (view : tc.FrameView) → IsOctets b → commands.frame_read checked b ≡ Ok view
-    → commands.frame_told (commands.fields_of view) (take (commands.part_of view).count (drop (commands.part_of view).from b)) ≡ Ok view
+pub command_again : (checked : Bool) (b : List ℕ) (view : tc.FrameView) → IsOctets b
+    → commands.frame_read checked b ≡ Ok view
+    → commands.frame_told (commands.fields_of view)
+    (take (commands.part_of view).count (drop (commands.part_of view).from b)) ≡ Ok view
 command_again checked b view octets h =
     let is = tc_frames.frame_is (check_if checked) b view octets (read_ok _ _ view h) in
     body_again view.scid view.vcid (length b - check_length (check_if checked)) b view.body is.rest
 
-found_tells : (checked : Bool) (b : List ℕ) (found : tc.FrameView) → IsOctets b → commands.frame_read checked b ≡ Ok found
+found_tells : (checked : Bool) (b : List ℕ) (found : tc.FrameView) → IsOctets b
+    → commands.frame_read checked b ≡ Ok found
     → commands.TellsFrame checked b (commands.fields_of found) (commands.part_of found)
 found_tells checked b found octets h view k =
     let same : found ≡ view = cc in
-    subst (λ (v : tc.FrameView). commands.frame_told (commands.fields_of found) (take (commands.part_of found).count (drop (commands.part_of found).from b)) ≡ Ok v) same
+    subst (λ (v : tc.FrameView). commands.frame_told (commands.fields_of found)
+    (take (commands.part_of found).count (drop (commands.part_of found).from b)) ≡ Ok v) same
     (command_again checked b found octets h)
 
-pub command_tells : (checked : Bool) (check : Check) (b : List ℕ) (r : Result TcFrame TcFault) (f : TcFrame) (fields : CommandFrame) (part : Part)
+pub command_tells : (checked : Bool) (check : Check) (b : List ℕ) (r : Result TcFrame TcFault) (f : TcFrame)
+    (fields : CommandFrame) (part : Part)
     → IsOctets b → check ≡ check_if checked → map_ok tc.frame_view r ≡ tc_reading.frame_at check b → r ≡ Ok f
-    → fields ≡ commands.fields_of (tc.frame_view f) → part ≡ commands.part_of (tc.frame_view f) → commands.TellsFrame checked b fields part
+    → fields ≡ commands.fields_of (tc.frame_view f) → part ≡ commands.part_of (tc.frame_view f)
+    → commands.TellsFrame checked b fields part
 command_tells checked check b r f fields part octets on answer is same there =
     let read : commands.frame_read checked b ≡ Ok (tc.frame_view f) =
     ap (λ (c : Check). numbered tc_faults.fault_number (tc_reading.frame_at c b)) (sym on)
@@ -121,13 +132,15 @@ found_reports : (total : ℕ) (b : List ℕ) (found : tm.FrameView) → IsOctets
 found_reports total b found octets h view k =
     let is = tm_frames.frame_is total b found octets (read_ok _ _ found h) in
     let again = tm_frames.pointer_again found.pointer (total - 12) (omega (arith, is.most)) is.pointer in
-    let part : take (length found.payload) (drop 6 b) ≡ found.payload = front_again 6 (total - 2) b found.payload found.ocf is.rest in
+    let part : take (length found.payload) (drop 6 b) ≡ found.payload =
+    front_again 6 (total - 2) b found.payload found.ocf is.rest in
     let same : found ≡ view = cc in
     rw (part, again.again) same
 
 pub report_tells : (total : ℕ) (b : List ℕ) (r : Result TmFrame TmFault) (f : TmFrame) (fields : ReportFrame)
     → IsOctets b → map_ok tm.frame_view r ≡ tm_reading.frame_at total b → r ≡ Ok f
-    → fields ≡ telemetry.fields_of (tm.frame_view f) → telemetry.TellsFrame total b fields (telemetry.part_of (tm.frame_view f))
+    → fields ≡ telemetry.fields_of (tm.frame_view f)
+    → telemetry.TellsFrame total b fields (telemetry.part_of (tm.frame_view f))
 report_tells total b r f fields octets answer is same =
     let read : telemetry.frame_read total b ≡ Ok (tm.frame_view f) =
     ap (numbered tm_faults.fault_number) (sym answer ∙ ap (map_ok tm.frame_view) is) in

@@ -1,4 +1,5 @@
--- What a caller in C is told: 0, or the number of the first fault; and what a call leaves in a struct of the caller's.
+-- What a caller in C is told: 0, or the number of the first fault; and what a call leaves in a
+-- struct of the caller's.
 use Rattle.std.specs.Prelude.{ℕ, Result, Ok, Err}
 
 -- a struct has a value that no such value of a crate has

@@ -1,5 +1,6 @@
 -- Telecommand frames as C has them.
-use Rattle.std.specs.Prelude.{◌≡◌, ℕ, List, length, take, drop, Bool, ◌==◌, nat_lt, if◌then◌else◌, Result, Ok, Err}
+use Rattle.std.specs.Prelude.{◌≡◌, ℕ, List, length, take, drop, Bool, ◌==◌, nat_lt, if◌then◌else◌}
+use Rattle.std.specs.Prelude.{Result, Ok, Err}
 use Rattle.octets.specs.Outcome.{map_ok}
 use Rattle.tc_frame.specs.declared.frame.Command.TheVariants.{Unlock, SetVr}
 use Rattle.tc_frame.specs.Faults.{fault_number}
@@ -16,7 +17,11 @@ use Rattle.sedgechisel.specs.Answers.{damaged, numbered, and_then, if_ok}
 abbrev pub segment_told : CommandFrame → List ℕ → Result SegmentView ℕ
 segment_told f payload =
     if nat_lt f.flags 4
-    then Ok (record { header = record { flags = flags_at f.flags; map = f.map }; payload = payload })
+    then Ok (record {
+      header =
+          record { flags = flags_at f.flags; map = f.map };
+      payload = payload;
+    })
     else Err damaged
 
 abbrev pub command_told : CommandFrame → Result BodyView ℕ
@@ -53,7 +58,17 @@ segment_fields scid vcid kind n s = record {
 
 abbrev pub command_fields : ℕ → ℕ → ℕ → ℕ → CommandFrame
 command_fields scid vcid command vr =
-    record { scid = scid; vcid = vcid; kind = 2; n = 0; flags = 0; map = 0; command = command; vr = vr }
+    record {
+      scid =
+          scid;
+      vcid = vcid;
+      kind = 2;
+      n = 0;
+      flags = 0;
+      map = 0;
+      command = command;
+      vr = vr;
+    }
 
 abbrev pub fields_with : ℕ → ℕ → BodyView → CommandFrame
 fields_with scid vcid (Ad n s) = segment_fields scid vcid 0 n s
@@ -81,7 +96,8 @@ frame_read checked octets = numbered fault_number (frame_at (check_if checked) o
 -- the frame that is written where there is so much room
 abbrev pub frame_taken : Bool → CommandFrame → List ℕ → ℕ → Result FrameView ℕ
 frame_taken checked f payload room =
-    and_then (frame_told f payload) (λ view. if_ok (numbered fault_number (encode_answer (check_if checked) view room)) view)
+    and_then (frame_told f payload) (λ view. if_ok
+    (numbered fault_number (encode_answer (check_if checked) view room)) view)
 
 -- the declared length of the record that octets begin; 1 Short for fewer than 5
 abbrev pub total_declared : Bool → List ℕ → Result ℕ ℕ

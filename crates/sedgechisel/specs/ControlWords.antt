@@ -10,16 +10,33 @@ use Rattle.sedgechisel.specs.Answers.{wrong_count, numbered}
 
 -- the word that the fields tell
 abbrev pub word_of : ControlWord → Clcw
-word_of w = record { status = w.status; vcid = w.vcid; flags = flags_from w.flags; farm_b = w.farm_b; value = w.value }
+word_of w = record {
+  status =
+      w.status;
+  vcid = w.vcid;
+  flags = flags_from w.flags;
+  farm_b = w.farm_b;
+  value = w.value;
+}
 
 -- the fields that tell the word
 abbrev pub fields_of : Clcw → ControlWord
-fields_of w = record { status = w.status; vcid = w.vcid; flags = flags_number w.flags; farm_b = w.farm_b; value = w.value }
+fields_of w =
+    record {
+      status =
+          w.status;
+      vcid = w.vcid;
+      flags = flags_number w.flags;
+      farm_b = w.farm_b;
+      value = w.value;
+    }
 
 -- the word that octets spell, which are to be four
 abbrev pub word_read : List ℕ → Result Clcw ℕ
-word_read octets = if length octets == 4 then numbered fault_number (clcw_at octets) else Err wrong_count
+word_read octets =
+    if length octets == 4 then numbered fault_number (clcw_at octets) else Err wrong_count
 
 -- the octets that spell the word of the fields, where there is room for exactly four
 abbrev pub word_written : ControlWord → ℕ → Result (List ℕ) ℕ
-word_written w room = if room == 4 then numbered fault_number (writing.encode_answer (word_of w)) else Err wrong_count
+word_written w room =
+    if room == 4 then numbered fault_number (writing.encode_answer (word_of w)) else Err wrong_count

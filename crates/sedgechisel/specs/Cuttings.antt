@@ -1,5 +1,6 @@
 -- Cutting packets into segments as C asks for it.
-use Rattle.std.specs.Prelude.{◌≡◌, ℕ, List, take, drop, ◌&&◌, ◌==◌, nat_lt, if◌then◌else◌, Option, Some, None, Result, Ok, Err, slice_get}
+use Rattle.std.specs.Prelude.{◌≡◌, ℕ, List, take, drop, ◌&&◌, ◌==◌, nat_lt, if◌then◌else◌, Option}
+use Rattle.std.specs.Prelude.{Some, None, Result, Ok, Err, slice_get}
 use Rattle.tc_frame.specs.Layout.{SegmentView}
 use Rattle.map_service.specs.declared.fault.MapFault.{MapFault}
 use Rattle.map_service.specs.declared.limits.Limits.{Limits}
@@ -17,7 +18,13 @@ absent = 253
 abbrev pub limits_told : CutLimits → Result Limits ℕ
 limits_told l =
     if nat_lt 0 l.part && nat_lt l.blocking 2
-    then Ok (record { part = l.part; max_packet = l.max_packet; maps = 0; blocking = l.blocking == 1 })
+    then Ok (record {
+      part =
+          l.part;
+      max_packet = l.max_packet;
+      maps = 0;
+      blocking = l.blocking == 1;
+    })
     else Err damaged
 
 abbrev pub unless_fault : Option MapFault → List SegmentView → Result (List SegmentView) ℕ
@@ -27,14 +34,16 @@ unless_fault (Some fault) segments = Err (fault_number fault)
 -- the segments of the octets
 abbrev pub segments_told : CutLimits → List ℕ → Result (List SegmentView) ℕ
 segments_told l octets =
-    and_then (limits_told l) (λ limits. unless_fault (cut_fault limits octets) (segments_of limits.part 0 octets))
+    and_then (limits_told l) (λ limits. unless_fault (cut_fault limits octets)
+    (segments_of limits.part 0 octets))
 
 abbrev pub if_there : Option SegmentView → Result SegmentView ℕ
 if_there (Some segment) = Ok segment
 if_there None = Err absent
 
 abbrev pub segment_told : CutLimits → List ℕ → ℕ → Result SegmentView ℕ
-segment_told l octets k = and_then (segments_told l octets) (λ segments. if_there (slice_get segments k))
+segment_told l octets k =
+    and_then (segments_told l octets) (λ segments. if_there (slice_get segments k))
 
 -- these are the segment's data, where there is one
 abbrev pub TellsSegment : Result SegmentView ℕ → List ℕ → Type 0

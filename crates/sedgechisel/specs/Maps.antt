@@ -1,8 +1,11 @@
 -- A MAP as C keeps it, and what C is told of a segment.
-use Rattle.std.specs.Prelude.{◌≡◌, ℕ, ◌+◌, true, false, List, [], ◌∷◌, length, take, drop, min, Bool, ◌&&◌, ◌||◌, ◌==◌, nat_lt, nat_le, if◌then◌else◌, Option, Some, None, Result, Ok, Err}
+use Rattle.std.specs.Prelude.{◌≡◌, ℕ, ◌+◌, true, false, List, [], ◌∷◌, length, take, drop, min}
+use Rattle.std.specs.Prelude.{Bool, ◌&&◌, ◌||◌, ◌==◌, nat_lt, nat_le, if◌then◌else◌, Option, Some}
+use Rattle.std.specs.Prelude.{None, Result, Ok, Err}
 use Rattle.tc_frame.specs.Reading.{flags_at}
 use Rattle.map_service.specs.declared.dropped.Dropped.{Dropped}
-use Rattle.map_service.specs.declared.dropped.Dropped.TheVariants.{ClosedMap, Interrupted, NoBeginning, NotAPacket, TooLong}
+use Rattle.map_service.specs.declared.dropped.Dropped.TheVariants.{ClosedMap, Interrupted}
+use Rattle.map_service.specs.declared.dropped.Dropped.TheVariants.{NoBeginning, NotAPacket, TooLong}
 use Rattle.map_service.specs.declared.limits.Limits.{Limits}
 use Rattle.map_service.specs.Cutting.{segment_with}
 use Rattle.map_service.specs.Packets.{first_packet, packets_in}
@@ -17,7 +20,9 @@ use Rattle.sedgechisel.specs.Numbers.{cause_number}
 
 -- a MAP has such fields, with so many octets of memory
 abbrev pub is_map : KeptMap → ℕ → Bool
-is_map m room = nat_lt m.is_open 2 && nat_lt m.blocking 2 && nat_le m.count room && ((m.is_open == 1) || (m.count == 0))
+is_map m room =
+    nat_lt m.is_open 2 && nat_lt m.blocking 2 && nat_le m.count room
+    && ((m.is_open == 1) || (m.count == 0))
 
 -- the part that is open, the first octets of the memory
 abbrev pub part_of : KeptMap → List ℕ → Option (List ℕ)
@@ -25,7 +30,8 @@ part_of m memory = if m.is_open == 1 then Some (take m.count memory) else None
 
 -- the memory holds the longest packet; the MAP itself stands as MAP 0, which is open
 abbrev pub limits_of : KeptMap → ℕ → Limits
-limits_of m room = record { part = 1; max_packet = min room 4294967295; maps = 1; blocking = m.blocking == 1 }
+limits_of m room =
+    record { part = 1; max_packet = min room 4294967295; maps = 1; blocking = m.blocking == 1 }
 
 abbrev pub cause_at : ℕ → Option Dropped
 cause_at n =
@@ -41,7 +47,8 @@ abbrev pub cause_answer : Option Dropped → ℕ
 cause_answer None = 0
 cause_answer (Some cause) = cause_number cause
 
--- the packets that are whole now: one at the beginning of the memory, or those of the segment's data
+-- the packets that are whole now: one at the beginning of the memory, or those of the segment's
+-- data
 abbrev pub packets_told : TakenSegment → List ℕ → List ℕ → List (List ℕ)
 packets_told t memory octets =
     if t.place == 1 then take t.count memory ∷ []
@@ -51,7 +58,12 @@ packets_told t memory octets =
 -- the outcome that the structs and the octets tell
 abbrev pub outcome_told : KeptMap → TakenSegment → List ℕ → List ℕ → TakeOutcome
 outcome_told m t memory octets =
-    record { dropped = cause_at t.dropped; packets = packets_told t memory octets; part = part_of m memory }
+    record {
+      dropped =
+          cause_at t.dropped;
+      packets = packets_told t memory octets;
+      part = part_of m memory;
+    }
 
 -- with no part open
 abbrev pub closed : KeptMap → KeptMap
@@ -70,7 +82,8 @@ interrupted m = if m.is_open == 1 then Some Interrupted else None
 abbrev pub taken_at : KeptMap → ℕ → List ℕ → List ℕ → Result TakeOutcome ℕ
 taken_at m flags octets memory =
     if nat_lt flags 4 && is_map m (length memory)
-    then Ok (take_step (limits_of m (length memory)) (part_of m memory) (segment_with (flags_at flags) 0 octets))
+    then Ok (take_step (limits_of m (length memory)) (part_of m memory)
+    (segment_with (flags_at flags) 0 octets))
     else Err damaged
 
 -- the structs and the octets tell the outcome, where there is one
@@ -84,7 +97,8 @@ part_behind place None = None
 part_behind place (Some packet) = Some (record { from = place; count = length packet })
 
 abbrev pub next_packet : List ℕ → Part → Option Part
-next_packet octets part = part_behind (part.from + part.count) (first_packet (drop (part.from + part.count) octets))
+next_packet octets part =
+    part_behind (part.from + part.count) (first_packet (drop (part.from + part.count) octets))
 
 abbrev pub part_or : Option Part → Part → Part
 part_or None old = old

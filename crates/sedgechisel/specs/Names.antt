@@ -1,5 +1,6 @@
 -- The words for numbers, which are those of the crates.
-use Rattle.std.specs.Prelude.{ℕ, List, [], ◌∷◌, ◌++◌, ◌-◌, length, replicate, codes, ◌==◌, if◌then◌else◌}
+use Rattle.std.specs.Prelude.{ℕ, List, [], ◌∷◌, ◌++◌, ◌-◌, length, replicate, codes, ◌==◌}
+use Rattle.std.specs.Prelude.{if◌then◌else◌}
 use Rattle.clcw.specs.declared.fault.ClcwFault.TheVariants as clcw
 use Rattle.clcw.specs.Faults as clcw_faults
 use Rattle.cop1.specs.declared.fault.CopFault.TheVariants as cop
@@ -30,36 +31,47 @@ name_by number name [] n = codes "?"
 name_by number name (x ∷ xs) n = if n == number x then name x else name_by number name xs n
 
 abbrev pub clcw_fault_word : ℕ → List ℕ
-clcw_fault_word n = name_by clcw_faults.fault_number clcw_faults.fault_name (clcw.Kind ∷ clcw.Version ∷ clcw.Cop ∷ clcw.Spare ∷ clcw.Range ∷ []) n
+clcw_fault_word n =
+    name_by clcw_faults.fault_number clcw_faults.fault_name
+    (clcw.Kind ∷ clcw.Version ∷ clcw.Cop ∷ clcw.Spare ∷ clcw.Range ∷ []) n
 
 abbrev pub cop_fault_word : ℕ → List ℕ
 cop_fault_word n = name_by cop_faults.fault_number cop_faults.fault_name
-    (cop.Width ∷ cop.Window ∷ cop.Limit ∷ cop.Timer ∷ cop.Memory ∷ cop.NotOpen ∷ cop.Busy ∷ cop.WrongState ∷ cop.State ∷ []) n
+    (cop.Width ∷ cop.Window ∷ cop.Limit ∷ cop.Timer ∷ cop.Memory ∷ cop.NotOpen ∷ cop.Busy
+    ∷ cop.WrongState ∷ cop.State ∷ []) n
 
 abbrev pub verdict_word : ℕ → List ℕ
 verdict_word n = name_by verdict_number verdict_name
-    (verdicts.Accepted ∷ verdicts.Ahead ∷ verdicts.NoBuffer ∷ verdicts.Behind ∷ verdicts.Outside ∷ verdicts.Discarded ∷ []) n
+    (verdicts.Accepted ∷ verdicts.Ahead ∷ verdicts.NoBuffer ∷ verdicts.Behind ∷ verdicts.Outside
+    ∷ verdicts.Discarded ∷ []) n
 
 abbrev pub alert_word : ℕ → List ℕ
 alert_word n = name_by alert_number alert_name
-    (alerts.Lockout ∷ alerts.NnR ∷ alerts.Clcw ∷ alerts.Synch ∷ alerts.Limit ∷ alerts.Timer ∷ alerts.Terminated ∷ []) n
+    (alerts.Lockout ∷ alerts.NnR ∷ alerts.Clcw ∷ alerts.Synch ∷ alerts.Limit ∷ alerts.Timer
+    ∷ alerts.Terminated ∷ []) n
 
 abbrev pub tc_fault_word : ℕ → List ℕ
 tc_fault_word n = name_by tc_faults.fault_number tc_faults.fault_name
-    (tc.Short ∷ tc.Version ∷ tc.ReservedType ∷ tc.Spare ∷ tc.Length ∷ tc.Check ∷ tc.BypassNumber ∷ tc.EmptyData ∷ tc.Command
+    (tc.Short ∷ tc.Version ∷ tc.ReservedType ∷ tc.Spare ∷ tc.Length ∷ tc.Check ∷ tc.BypassNumber
+    ∷ tc.EmptyData ∷ tc.Command
     ∷ tc.Room ∷ tc.FieldRange ∷ tc.Memory ∷ []) n
 
 abbrev pub packet_fault_word : ℕ → List ℕ
 packet_fault_word n = name_by packet_faults.fault_number packet_faults.fault_name
-    (packet.Truncated ∷ packet.Version ∷ packet.IdleWithSecondary ∷ packet.Room ∷ packet.FieldRange ∷ packet.Memory ∷ []) n
+    (packet.Truncated ∷ packet.Version ∷ packet.IdleWithSecondary ∷ packet.Room ∷ packet.FieldRange
+    ∷ packet.Memory ∷ []) n
 
 abbrev pub tm_fault_word : ℕ → List ℕ
 tm_fault_word n = name_by tm_faults.fault_number tm_faults.fault_name
-    (tm.Length ∷ tm.Version ∷ tm.Check ∷ tm.Status ∷ tm.Pointer ∷ tm.NoOcf ∷ tm.Memory ∷ tm.NotAPacket ∷ tm.Room ∷ tm.FieldRange ∷ []) n
+    (tm.Length ∷ tm.Version ∷ tm.Check ∷ tm.Status ∷ tm.Pointer ∷ tm.NoOcf ∷ tm.Memory
+    ∷ tm.NotAPacket ∷ tm.Room ∷ tm.FieldRange ∷ []) n
 
 abbrev pub map_fault_word : ℕ → List ℕ
-map_fault_word n = name_by map_faults.fault_number map_faults.fault_name (map.NotAPacket ∷ map.TooLong ∷ map.Memory ∷ []) n
+map_fault_word n =
+    name_by map_faults.fault_number map_faults.fault_name
+    (map.NotAPacket ∷ map.TooLong ∷ map.Memory ∷ []) n
 
 abbrev pub dropped_word : ℕ → List ℕ
 dropped_word n = name_by cause_number cause_name
-    (dropped.ClosedMap ∷ dropped.Interrupted ∷ dropped.NoBeginning ∷ dropped.NotAPacket ∷ dropped.TooLong ∷ []) n
+    (dropped.ClosedMap ∷ dropped.Interrupted ∷ dropped.NoBeginning ∷ dropped.NotAPacket
+    ∷ dropped.TooLong ∷ []) n

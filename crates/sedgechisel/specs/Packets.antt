@@ -1,5 +1,6 @@
 -- Space packets as C has them.
-use Rattle.std.specs.Prelude.{◌≡◌, ℕ, List, length, take, drop, ◌&&◌, ◌==◌, nat_lt, if◌then◌else◌, Result, Ok, Err}
+use Rattle.std.specs.Prelude.{◌≡◌, ℕ, List, length, take, drop, ◌&&◌, ◌==◌, nat_lt, if◌then◌else◌}
+use Rattle.std.specs.Prelude.{Result, Ok, Err}
 use Rattle.space_packet.specs.Faults.{fault_number}
 use Rattle.space_packet.specs.Layout.{PacketView, type_bit, secondary_bit}
 use Rattle.space_packet.specs.Reading.{kind_at, extent_at, packet_at}
@@ -44,7 +45,8 @@ packet_read octets = numbered fault_number (packet_at octets)
 -- the packet that is written where there is so much room
 abbrev pub packet_taken : PacketFields → List ℕ → ℕ → Result PacketView ℕ
 packet_taken p payload room =
-    and_then (packet_told p payload) (λ view. if_ok (numbered fault_number (encode_answer view room)) view)
+    and_then (packet_told p payload) (λ view. if_ok
+    (numbered fault_number (encode_answer view room)) view)
 
 -- the declared length of the packet that octets begin; 1 Truncated for fewer than 6
 abbrev pub total_declared : List ℕ → Result ℕ ℕ

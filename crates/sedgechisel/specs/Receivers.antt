@@ -1,10 +1,12 @@
 -- The receiver as C keeps it.
-use Rattle.std.specs.Prelude.{ℕ, ◌%◌, Bool, true, false, not, ◌&&◌, ◌==◌, nat_lt, nat_le, if◌then◌else◌, Result, Ok, Err}
+use Rattle.std.specs.Prelude.{ℕ, ◌%◌, Bool, true, false, not, ◌&&◌, ◌==◌, nat_lt, nat_le}
+use Rattle.std.specs.Prelude.{if◌then◌else◌, Result, Ok, Err}
 use Rattle.clcw.specs.declared.word.Clcw.{Clcw}
 use Rattle.cop1.specs.declared.farm.FarmMode.{FarmMode}
 use Rattle.cop1.specs.declared.farm.FarmMode.TheVariants.{Open, Wait, Lockout}
 use Rattle.cop1.specs.declared.farm.Verdict.{Verdict}
-use Rattle.cop1.specs.declared.farm.Verdict.TheVariants.{Accepted, Ahead, NoBuffer, Behind, Outside, Discarded}
+use Rattle.cop1.specs.declared.farm.Verdict.TheVariants.{Accepted, Ahead, NoBuffer, Behind, Outside}
+use Rattle.cop1.specs.declared.farm.Verdict.TheVariants.{Discarded}
 use Rattle.cop1.specs.Farm.{FarmState, FarmEvent, state_of, farm_step, new_farm}
 use Rattle.cop1.specs.Report.{report_of}
 use Rattle.octets.specs.Outcome.{map_ok}
@@ -22,7 +24,8 @@ is_width width = nat_le 2 width && nat_le width 254 && (width % 2 == 0)
 -- each flag is 0 or 1, the wait flag comes with the retransmit flag, and FARM-B is below 4
 abbrev pub are_flags_whole : Receiver → Bool
 are_flags_whole r =
-    nat_lt r.lockout 2 && nat_lt r.wait 2 && nat_lt r.retransmit 2 && nat_lt r.farm_b 4 && nat_le r.wait r.retransmit
+    nat_lt r.lockout 2 && nat_lt r.wait 2 && nat_lt r.retransmit 2 && nat_lt r.farm_b 4
+    && nat_le r.wait r.retransmit
 
 -- a receiver has such fields
 abbrev pub is_whole : Receiver → Bool

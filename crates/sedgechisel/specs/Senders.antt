@@ -1,5 +1,6 @@
 -- The sender as C keeps it.
-use Rattle.std.specs.Prelude.{◌≡◌, ℕ, Bool, true, false, not, ◌&&◌, ◌==◌, nat_le, if◌then◌else◌, Option, Some, None, is_some, Result, Ok, Err}
+use Rattle.std.specs.Prelude.{◌≡◌, ℕ, Bool, true, false, not, ◌&&◌, ◌==◌, nat_le, if◌then◌else◌}
+use Rattle.std.specs.Prelude.{Option, Some, None, is_some, Result, Ok, Err}
 use Rattle.tc_frame.specs.declared.frame.Command.TheVariants.{Unlock, SetVr}
 use Rattle.cop1.specs.declared.fault.CopFault.{CopFault}
 use Rattle.cop1.specs.declared.fop.Alert.{Alert}
@@ -100,7 +101,8 @@ control_at n vr =
 abbrev pub flag_at : ℕ → Option Bool
 flag_at n = if n == 0 then Some false else if n == 1 then Some true else None
 
-abbrev pub fields_with : KeptSender → Option FopMode → Option Bool → Option Control → Result SenderFields ℕ
+abbrev pub fields_with : KeptSender → Option FopMode → Option Bool → Option Control
+    → Result SenderFields ℕ
 fields_with k (Some state) (Some waiting) (Some control) = Ok (record {
   room = k.room;
   state = state;
@@ -173,7 +175,8 @@ sender_opened width window limit timer =
     unless_refused (new_fault width window limit timer) (new_sender width window limit timer)
 
 -- what an input leads to at the sender that the fields tell
-abbrev pub stepped : (k : KeptSender) (input : SenderInput) → Result (SenderOutcome (SenderAnswer input)) ℕ
+abbrev pub stepped : (k : KeptSender) (input : SenderInput)
+    → Result (SenderOutcome (SenderAnswer input)) ℕ
 stepped k input = map_ok (λ s. sender_step s input) (sender_told k)
 
 -- the sender behind an input

@@ -42,7 +42,8 @@ frame_read total octets = numbered fault_number (frame_at total octets)
 
 -- the frame that is written where there is so much room
 abbrev pub frame_taken : ReportFrame → List ℕ → ℕ → Result FrameView ℕ
-frame_taken f payload room = if_ok (numbered fault_number (encode_answer (frame_told f payload) room)) (frame_told f payload)
+frame_taken f payload room =
+    if_ok (numbered fault_number (encode_answer (frame_told f payload) room)) (frame_told f payload)
 
 -- what the fields and the octets at the place tell is the frame that was read
 abbrev pub TellsFrame : ℕ → List ℕ → ReportFrame → Part → Type 0

@@ -1,4 +1,5 @@
--- What the commands write of the octets of a file: the table of commands, and what it says of lines, outcome and end.
+-- What the commands write of the octets of a file: the table of commands, and what it says of
+-- lines, outcome and end.
 use Rattle.std.specs.Prelude.{List, ℕ, Result}
 use Rattle.tc_frame.specs.declared.frame.Check.TheVariants.{On}
 use Rattle.cop1.specs.Farm.{new_farm}
@@ -12,7 +13,8 @@ use Rattle.listings.specs.MapLines.{map_lines, map_opened}
 use Rattle.listings.specs.RefusalLines.{refusal_lines}
 use Rattle.listings.specs.PacketLines.{none_seen, packet_lines}
 use Rattle.listings.specs.TelemetryLines.{telemetry_lines}
-use Rattle.listings.specs.Layouts.{Layout, frame_layout, telemetry_layout, packet_layout, rest_by, IsRefused}
+use Rattle.listings.specs.Layouts.{Layout, frame_layout, telemetry_layout, packet_layout, rest_by}
+use Rattle.listings.specs.Layouts.{IsRefused}
 use Rattle.listings.specs.Listing.{Lines, fresh, text_of, is_all_good}
 use Rattle.tctool.specs.Outcome.{OutcomeView, outcome_if, outcome_view, as_outcome}
 
@@ -20,7 +22,8 @@ use Rattle.tctool.specs.Outcome.{OutcomeView, outcome_if, outcome_view, as_outco
 abbrev pub layout_by : {F : Type 0} → ℕ → (List ℕ → Result ℕ F) → F → Layout F
 layout_by head extent truncated = record { head = head; extent = extent; truncated = truncated }
 
--- What is done with a file: its records are listed, cut by this layout, with these lines and this kept before the first;
+-- What is done with a file: its records are listed, cut by this layout, with these lines and this
+-- kept before the first;
 -- or it is played as a script, which is no stream of records.
 pub data Work : Type 1 where
   Lists : {S F : Type 0} → Layout F → Lines S F → S → Work
@@ -28,8 +31,10 @@ pub data Work : Type 1 where
 
 -- the table of commands
 abbrev pub work_of : Task → Work
-work_of (tasks.Farm check width vr) = Lists (frame_layout check) (farm_lines check) (new_farm width vr)
-work_of (tasks.Map check width vr blocking) = Lists (frame_layout check) (map_lines check) (map_opened width vr blocking)
+work_of (tasks.Farm check width vr) =
+    Lists (frame_layout check) (farm_lines check) (new_farm width vr)
+work_of (tasks.Map check width vr blocking) =
+    Lists (frame_layout check) (map_lines check) (map_opened width vr blocking)
 work_of (tasks.Tc check) = Lists (frame_layout check) (frame_lines check) tt
 work_of (tasks.Tm size) = Lists (telemetry_layout size) (telemetry_lines size) new_extractor
 work_of tasks.Check = Lists (frame_layout On) refusal_lines tt
@@ -41,7 +46,8 @@ work_lines (Lists layout lines start) octets = text_of lines layout (fresh start
 work_lines Plays octets = script_text octets
 
 abbrev pub work_outcome : Work → List ℕ → OutcomeView
-work_outcome (Lists layout lines start) octets = outcome_view (outcome_if (is_all_good lines layout (fresh start octets)))
+work_outcome (Lists layout lines start) octets =
+    outcome_view (outcome_if (is_all_good lines layout (fresh start octets)))
 work_outcome Plays octets = as_outcome (script_ending octets)
 
 abbrev pub WorkStops : Work → List ℕ → Type 0

@@ -6,7 +6,8 @@ use Rattle.script.proofs.playing.play_some.Given as goal
 -- the text so far and the answers to the lines from here on are the answers to all lines
 abbrev pub invariant-lines : goal.invariant-lines
 invariant-lines l = record {
-  same : string_bytes l.text ++ answers_from l.sim.world (script_in l.rest) ≡ string_bytes l.fn.text ++ answers_from l.fn.sim.world (script_in l.fn.lines);
+  same : string_bytes l.text ++ answers_from l.sim.world (script_in l.rest) ≡ string_bytes l.fn.text
+      ++ answers_from l.fn.sim.world (script_in l.fn.lines);
   left : length l.rest ≤ length l.fn.lines;
 }
 

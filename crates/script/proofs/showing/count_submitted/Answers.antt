@@ -4,4 +4,5 @@ use Rattle.script.proofs.Counts.{all_maps}
 use Rattle.script.proofs.showing.count_submitted.Goals as goal
 
 pub returns : goal.returns
-returns c = all_maps (submitted c.args.sim.now.world) c.maps.count c.maps.map c.maps.invariant.counted (omega (arith, c.maps.invariant.maps, c.maps-test.false))
+returns c = all_maps (submitted c.args.sim.now.world) c.maps.count c.maps.map c.maps.invariant.counted
+    (omega (arith, c.maps.invariant.maps, c.maps-test.false))

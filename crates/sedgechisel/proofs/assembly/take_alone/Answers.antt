@@ -8,5 +8,7 @@ use Rattle.sedgechisel.proofs.assembly.take_alone.Goals as goal
 pub returns-clause-tells : goal.returns-clause-tells
 returns-clause-tells c =
     let none : alone_fault (limits_of c.args.map.now (length c.args.memory.now)) c.args.octets.now ≡ None =
-    ap (λ (l : Limits). alone_fault l c.args.octets.now) (sym c.limits_for-limits.ensures) ∙ sym c.fault_of_alone.ensures ∙ c.in_default.is in
-    rw (c.close.ensures, c.number_of.ensures, c.interruption-earlier.ensures) (alone_told c.args.map.now c.args.memory.now c.args.octets.now none)
+    ap (λ (l : Limits). alone_fault l c.args.octets.now) (sym c.limits_for-limits.ensures)
+    ∙ sym c.fault_of_alone.ensures ∙ c.in_default.is in
+    rw (c.close.ensures, c.number_of.ensures, c.interruption-earlier.ensures)
+    (alone_told c.args.map.now c.args.memory.now c.args.octets.now none)

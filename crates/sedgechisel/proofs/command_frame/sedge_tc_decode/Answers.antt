@@ -4,5 +4,7 @@ use Rattle.sedgechisel.proofs.command_frame.sedge_tc_decode.Goals as goal
 
 pub returns-in-Ok-clause-tells : goal.returns-in-Ok-clause-tells
 returns-in-Ok-clause-tells c =
-    command_tells c.args.checked c.check_if.result c.args.octets.now c.decode.result c.in-Ok.found c.fields_from.result c.part_from.result
-    (λ i. omega (arith, c.type_inv.octets i)) c.check_if.ensures c.decode.ensures.answer c.in-Ok.is c.fields_from.ensures c.part_from.ensures
+    command_tells c.args.checked c.check_if.result c.args.octets.now c.decode.result c.in-Ok.found c.fields_from.result
+    c.part_from.result
+    (λ i. omega (arith, c.type_inv.octets i)) c.check_if.ensures c.decode.ensures.answer c.in-Ok.is
+    c.fields_from.ensures c.part_from.ensures

@@ -14,7 +14,8 @@ returns-then-left-count c =
     let n : ℕ = c.group_len-len.result in
     let left : ℕ = c.groups.left in
     sym c.groups.invariant.left
-    ∙ found_here part n c.groups.rest.now c.groups.invariant.whole c.requires.some_part c.group_len-len.ensures.some c.group_len-len.ensures.within
+    ∙ found_here part n c.groups.rest.now c.groups.invariant.whole c.requires.some_part c.group_len-len.ensures.some
+    c.group_len-len.ensures.within
     c.group_len-len.ensures.group left c.if-left-count.true
     ∙ ap (λ (xs : List ℕ). slice_get (parts_of part 0 (take n xs)) left) c.groups.invariant.behind
     ∙ c.place_of.ensures
@@ -28,12 +29,15 @@ groups-preserved c =
     let count : ℕ = (n - 1) / part + 1 in
     let some : 1 ≤ length rest = omega (arith, c.group_len-len.ensures.some, c.group_len-len.ensures.within) in
     record {
-      whole = (groups-cut part 0 n rest c.split_at.result.0.now c.split_at.result.1.now c.groups.invariant.whole some c.group_len-len.ensures.group c.split_at.ensures.front c.split_at.ensures.back).1;
-      behind = c.split_at.ensures.back ∙ ap (drop n) c.groups.invariant.behind ∙ drop-drop n c.groups.from c.args.octets.now;
+      whole = (groups-cut part 0 n rest c.split_at.result.0.now c.split_at.result.1.now c.groups.invariant.whole some
+          c.group_len-len.ensures.group c.split_at.ensures.front c.split_at.ensures.back).1;
+      behind = c.split_at.ensures.back ∙ ap (drop n) c.groups.invariant.behind
+          ∙ drop-drop n c.groups.from c.args.octets.now;
       within = omega (arith, c.groups.invariant.within, c.split_at.ensures.back_len, c.group_len-len.ensures.within);
       left =
           ap (λ (xs : List ℕ). slice_get (segments_of part 0 xs) (left - count)) c.split_at.ensures.back
-          ∙ sym (found_later part n rest c.groups.invariant.whole c.requires.some_part c.group_len-len.ensures.some c.group_len-len.ensures.within
+          ∙ sym (found_later part n rest c.groups.invariant.whole c.requires.some_part c.group_len-len.ensures.some
+          c.group_len-len.ensures.within
           c.group_len-len.ensures.group left c.if-left-count.false)
           ∙ c.groups.invariant.left;
     }

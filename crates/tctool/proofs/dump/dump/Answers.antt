@@ -22,12 +22,14 @@ pub returns-in-On-check-clause-beginning : goal.returns-in-On-check-clause-begin
 returns-in-On-check-clause-beginning g c =
     let listed = c.list_file-in-On-check in
     let written = g.W.Sink.taken_octets in
-    subst (λ (lines : List ℕ). OnErr listed.result (IsBeginning (written listed.new.writer) (written c.args.writer.now ++ lines)))
+    subst (λ (lines : List ℕ). OnErr listed.result
+    (IsBeginning (written listed.new.writer) (written c.args.writer.now ++ lines)))
     (map_text _ _ _ _ _ _ _ _ c.in-Map.is c.in-On-check.is c.new-packets.ensures) listed.ensures.beginning
 
 pub returns-in-Off-check-clause-beginning : goal.returns-in-Off-check-clause-beginning
 returns-in-Off-check-clause-beginning g c =
     let listed = c.list_file-in-Off-check in
     let written = g.W.Sink.taken_octets in
-    subst (λ (lines : List ℕ). OnErr listed.result (IsBeginning (written listed.new.writer) (written c.args.writer.now ++ lines)))
+    subst (λ (lines : List ℕ). OnErr listed.result
+    (IsBeginning (written listed.new.writer) (written c.args.writer.now ++ lines)))
     (map_text _ _ _ _ _ _ _ _ c.in-Map.is c.in-Off-check.is c.new-packets.ensures) listed.ensures.beginning

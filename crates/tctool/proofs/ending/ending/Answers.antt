@@ -10,4 +10,5 @@ none_failed (Ok u) before now ok failures same = ok
 none_failed (Err e) before now ok failures same = absurd (omega (arith, failures, same))
 
 pub returns-clause-whole : goal.returns-clause-whole
-returns-clause-whole g c = none_failed c.write_ending.result _ _ c.write_ending.ensures.ok c.write_ending.ensures.failures
+returns-clause-whole g c =
+    none_failed c.write_ending.result _ _ c.write_ending.ensures.ok c.write_ending.ensures.failures

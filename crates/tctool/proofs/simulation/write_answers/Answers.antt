@@ -11,6 +11,9 @@ returns-in-Err-clause-beginning g c =
     let taken = g.W.Sink.taken_octets in
     let more = remaining_answers c.play_some.new.sim.world (option_copied c.in-Ok.behind) in
     let whole = answers_from c.pieces.sim.world (script_in c.pieces.rest.now) in
-    let told : whole ≡ c.as_bytes.result.now ++ more = sym (ap (λ (t : List ℕ). t ++ more) c.as_bytes.ensures.value ∙ c.in-Ok.ensures.answers ∙ ap (λ (t : List ℕ). t ++ whole) c.clear.ensures.bytes) in
+    let told : whole ≡ c.as_bytes.result.now ++ more =
+    sym (ap (λ (t : List ℕ). t ++ more) c.as_bytes.ensures.value ∙ c.in-Ok.ensures.answers
+    ∙ ap (λ (t : List ℕ). t ++ whole) c.clear.ensures.bytes) in
     subst (IsBeginning (taken c.write_all.new.writer)) c.pieces.invariant.same
-    (begins_more (taken c.write_all.new.writer) (taken c.pieces.writer) c.as_bytes.result.now more whole told c.in-Err.ensures.beginning)
+    (begins_more (taken c.write_all.new.writer) (taken c.pieces.writer) c.as_bytes.result.now more whole told
+    c.in-Err.ensures.beginning)

@@ -6,4 +6,5 @@ use Rattle.tctool.proofs.given.GivenWords.texts.Goals as goal
 pub returns : goal.returns
 returns c =
     map_from_collect _ c.collect.ensures.ran
-    (YieldsList-from_map_by _ _ _ (YieldsList-from_slice c.args.self.now.words.items cc) c.map.ensures.closure (λ x r q k. search rules))
+    (YieldsList-from_map_by _ _ _ (YieldsList-from_slice c.args.self.now.words.items cc) c.map.ensures.closure
+    (λ x r q k. search rules))

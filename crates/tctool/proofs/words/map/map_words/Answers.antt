@@ -1,7 +1,8 @@
 use Rattle.std.proofs.Common.{◌∙◌, [], ◌∷◌, refl, sym, ap, arith}
 use Rattle.clap.specs.Words.{found_of, one_text}
 use Rattle.std.specs.Str.Parse.{ParsesUnsigned, ExplainsUnsignedError, HasUnsignedDigitsIfOk}
-use Rattle.tctool.proofs.GivenWords.{blocking_named, check_named, file_named, vr_named, width_named, made_of, number_given, text_given}
+use Rattle.tctool.proofs.GivenWords.{blocking_named, check_named, file_named, vr_named, width_named, made_of}
+use Rattle.tctool.proofs.GivenWords.{number_given, text_given}
 use Rattle.tctool.proofs.words.map.map_words.Goals as goal
 
 pub returns : goal.returns
@@ -45,8 +46,10 @@ returns c =
     let same = ap (one_text (found_of c.in_ok-matches.matches)) w.ensures.id in
     number_given (w.result ∷ v.result ∷ k.result ∷ b.result ∷ f.result ∷ []) c.in_ok-command.command made
     c.in_ok-matches.matches c.in_ok-matches.ensures.parsed 0 w.result (omega arith)
-    _ (λ bs r. ParsesUnsigned 8 10 bs r × ExplainsUnsignedError 10 bs r × HasUnsignedDigitsIfOk bs r) 8 2 254 c.get_one.result w.ensures.parser
-    (λ e. c.get_one.ensures.none (sym same ∙ e)) (λ t e. c.get_one.ensures.value t (sym same ∙ e)) (λ u x g. g.0) (omega arith)
+    _ (λ bs r. ParsesUnsigned 8 10 bs r × ExplainsUnsignedError 10 bs r × HasUnsignedDigitsIfOk bs r) 8 2 254
+    c.get_one.result w.ensures.parser
+    (λ e. c.get_one.ensures.none (sym same ∙ e)) (λ t e. c.get_one.ensures.value t (sym same ∙ e)) (λ u x g. g.0)
+    (omega arith)
 
 pub unwrap-requires : goal.unwrap-requires
 unwrap-requires c =
@@ -87,4 +90,5 @@ unwrap-requires c =
     )
     c.in_ok-start.ensures in
     text_given (w.result ∷ v.result ∷ k.result ∷ b.result ∷ f.result ∷ []) c.in_ok-command.command made
-    c.in_ok-matches.matches c.in_ok-matches.ensures.parsed 4 w.result (omega arith) f.ensures.takes _ f.ensures.id c.get_str.result c.get_str.ensures
+    c.in_ok-matches.matches c.in_ok-matches.ensures.parsed 4 w.result (omega arith) f.ensures.takes _ f.ensures.id
+    c.get_str.result c.get_str.ensures
