@@ -1,8 +1,6 @@
 // Scripts played by hand, and each of their growths refused in turn.
 
-use script::{
-    Carrier, Field, Line, ScriptFault, config_in, open, play_some, read_line, unreadable_line,
-};
+use script::{Carrier, Field, Line, Program, ScriptFault, Step, open, play_some, read_line};
 use std::alloc::Global;
 use std::process::Abort;
 use tc_link::Sim;
@@ -12,22 +10,22 @@ fn answers(alloc: Global, script: &[u8], room: usize) -> Result<String, ScriptFa
     if script.len() > 4096 {
         return Err(ScriptFault::Memory);
     }
-    let mut sim = open(alloc, script)?;
+    let (mut sim, program) = open(alloc, script)?;
     let Ok(mut text) = String::with_capacity(alloc, room) else {
         return Err(ScriptFault::Memory);
     };
-    match play_all(alloc, &mut sim, &mut text, script) {
+    match play_all(alloc, &mut sim, &mut text, &program) {
         true => Ok(text),
         false => Err(ScriptFault::Memory),
     }
 }
 
 // Whether there was memory for all lines.
-fn play_all(alloc: Global, sim: &mut Sim, text: &mut String, script: &[u8]) -> bool {
-    let mut lines = script;
+fn play_all(alloc: Global, sim: &mut Sim, text: &mut String, program: &Program<'_>) -> bool {
+    let mut rest = program.all();
     for _ in 0..4096 {
-        match play_some(alloc, sim, text, lines) {
-            Ok(Some(rest)) => lines = rest,
+        match play_some(alloc, sim, text, rest) {
+            Ok(Some(left)) => rest = left,
             Ok(None) => return true,
             Err(_) => return false,
         }
@@ -35,7 +33,7 @@ fn play_all(alloc: Global, sim: &mut Sim, text: &mut String, script: &[u8]) -> b
     false
 }
 
-// A script answers so. Where memory is refused the script opened and played again answers as ever.
+// A script is answered so. Where memory is refused the script opened and played again answers as ever.
 fn tells(rt: &(impl Abort + Eprint), alloc: Global, room: usize, script: &str, want: &str) {
     let told = match answers(alloc, script.as_bytes(), room) {
         Err(ScriptFault::Memory) => {
@@ -106,13 +104,13 @@ fn scripts_that_are_not_opened(rt: HostRuntime) {
     refuses(
         &rt,
         rt.alloc(),
-        "tick\nconfig width 4\n",
-        ScriptFault::Unreadable(2),
+        "show\n\nconfig width 4\nx",
+        ScriptFault::Unreadable(3),
     );
     refuses(
         &rt,
         rt.alloc(),
-        "config window 128\n",
+        "config window 1\nconfig window 128\n",
         ScriptFault::OutOfRange("window"),
     );
 }
@@ -122,7 +120,7 @@ fn lines_one_by_one(rt: HostRuntime) {
     assert!(rt;
         matches!(
             read_line(b"submit 4 0f"),
-            Line::Carrying(Carrier::Submit(4), b"0f")
+            Line::Played(Step::Carrying(Carrier::Submit(4)), b"0f")
         )
     );
     assert!(rt;
@@ -133,6 +131,4 @@ fn lines_one_by_one(rt: HostRuntime) {
     );
     assert!(rt; matches!(read_line(b"submit 4 0F "), Line::Unreadable));
     assert!(rt; matches!(read_line(b"# submit"), Line::Skipped));
-    assert_eq!(rt; unreadable_line(b"show\n\nconfig width 4\nx"), Some(3));
-    assert_eq!(rt; config_in(b"config width 4\nconfig width 6").width, 6);
 }

@@ -16,10 +16,9 @@ use Rattle.script.specs.declared.field.Field.{Field}
 use Rattle.script.specs.declared.field.Field.TheVariants as fields
 use Rattle.script.specs.declared.field.TheConstants.{FIELDS}
 use Rattle.script.specs.Fields.{field_name, field_named, most_for}
-use Rattle.script.specs.Lines.{ScriptLine, Skipped, Setting, Happening, Showing, Unreadable, borrow_of}
-use Rattle.script.specs.Lines.{line_of_one_word, initiation, up_event, down_event, numbered_directive}
-use Rattle.script.specs.Lines.{line_of_two_words, submission_line, setting_line, line_of_three_words, line_of_words}
-use Rattle.script.specs.Lines.{line_in}
+use Rattle.script.specs.Lines.{ScriptLine, Skipped, Setting, Happening, Unreadable, borrow_of, line_of_one_word}
+use Rattle.script.specs.Lines.{initiation, up_event, down_event, numbered_directive, line_of_two_words, submission_line}
+use Rattle.script.specs.Lines.{setting_line, line_of_three_words, line_of_words, line_in}
 use Rattle.script.specs.Words.{words_in, number_in_word, octets_in_word}
 use Rattle.script.specs.Spelling as spelling
 use Rattle.script.specs.Spelling.{Spells, IsHex}

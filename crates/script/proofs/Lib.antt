@@ -5,6 +5,6 @@ pub mod Spaces
 pub mod Spelled
 pub mod Commands
 pub mod Digits
-pub mod Plays
+pub mod Programs
 pub mod Refused
 pub mod Counts

@@ -4,6 +4,7 @@ use Rattle.nodes.specs.Parameters.{config_fault}
 use Rattle.tc_link.specs.World.{World, new_world}
 use Rattle.script.specs.declared.opening.ScriptFault.{ScriptFault}
 use Rattle.script.specs.declared.opening.ScriptFault.TheVariants as faults
+use Rattle.script.specs.Lines.{ScriptLine}
 use Rattle.script.specs.Scripts.{script_in, unreadable_line, config_in}
 use Rattle.script.specs.Playing.{answers_from}
 
@@ -41,6 +42,6 @@ abbrev pub script_text : List ℕ → List ℕ
 script_text script = text_if_good (script_ending script) script
 
 -- the answers to the lines that are left, where there are any
-abbrev pub remaining_answers : World → Option (List ℕ) → List ℕ
+abbrev pub remaining_answers : World → Option (List ScriptLine) → List ℕ
 remaining_answers w None = []
-remaining_answers w (Some rest) = answers_from w (script_in rest)
+remaining_answers w (Some lines) = answers_from w lines

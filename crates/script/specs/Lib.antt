@@ -3,6 +3,7 @@ pub mod Fields
 pub mod Lines
 pub mod Spelling
 pub mod Scripts
+pub mod Programs
 pub mod Answers
 pub mod Playing
 pub mod Ending

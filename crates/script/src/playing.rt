@@ -1,21 +1,19 @@
-// Plays the lines of a script.
+// Plays what was read of a script.
 
-ghost use Rattle.std.specs.Prelude.{◌≡◌, ◌<◌, ◌++◌, ◌∷◌, [], true, length, OnOk, IfOk, IfSome, is_some, option_copied, string_bytes};
+ghost use Rattle.std.specs.Prelude.{◌≡◌, ◌<◌, ◌++◌, ◌∷◌, [], length, OnOk, IfOk, IfSome, option_map, string_bytes};
 ghost use Rattle.std.specs.List.{flat_map};
 ghost use Rattle.octets.specs.Outcome.{map_ok};
 ghost use Rattle.tc_link.specs.Replies.{reply_view};
 ghost use Rattle.tc_link.specs.World.{World, world_step};
-ghost use Rattle.script.specs.Lines.{event_with, octets_of_digits, line_view, IsWellRead};
-ghost use Rattle.script.specs.Words.{octets_in_word};
+ghost use Rattle.script.specs.Lines.{event_with, octets_of_digits, step_line};
+ghost use Rattle.script.specs.Programs.{lines_left};
 ghost use Rattle.octets.specs.Appending.{Appends};
 ghost use Rattle.script.specs.Playing.{ToEvent, line_responses, response_line, after_line, answers_from};
-ghost use Rattle.script.specs.Scripts.{script_in};
 ghost use Rattle.script.specs.Ending.{remaining_answers};
 
 use crate::answer::push_answer;
-use crate::cutting::cut;
-use crate::line::{Carrier, Line};
-use crate::reading::read_line;
+use crate::line::{Carrier, Step, carrier_of, plain_event};
+use crate::program::Rest;
 use crate::showing::push_show;
 use crate::words::is;
 use std::alloc::{AllocError, Global};
@@ -24,7 +22,6 @@ use tc_link::{Event, Reply, Sim, SimFault};
 // The octets of a word of digits.
 #[tactic(auto, unfolding(crate::specs::Words::octets_in_word))]
 fn octets_of_digits(alloc: Global, digits: &[u8]) -> Result<Vec<u8>, AllocError>
-    requires { is_some (octets_in_word digits.now) ≡ true }
     ensures { IfOk result (λ octets. octets.items ≡ octets_of_digits digits.now) }
 {
     if is(digits, "-") {
@@ -78,52 +75,51 @@ fn play_event(
     push_answer(text, alloc, &answer)
 }
 
-// Lets happen what a line asks for, and appends the line of the response.
-fn play_line(
+// Plays a step with these digits, and appends the line of the response.
+fn play_step(
     alloc: Global,
     sim: &mut Sim,
     text: &mut String,
-    line: &Line<'_>,
+    step: Step,
+    digits: &[u8],
 ) -> Result<(), AllocError>
-    requires { IsWellRead line.now }
     ensures text { Appends result text.old text.new
-        (flat_map response_line (line_responses sim.old.world (line_view line.now))) }
-    ensures world { OnOk result (sim.new.world ≡ after_line sim.old.world (line_view line.now)) }
+        (flat_map response_line (line_responses sim.old.world (step_line step digits.now))) }
+    ensures world { OnOk result (sim.new.world ≡ after_line sim.old.world (step_line step digits.now)) }
 {
-    match line {
-        Line::Plain(event) => play_event(alloc, sim, text, *event),
-        Line::Carrying(carrier, digits) => {
-            let octets = octets_of_digits(alloc, digits)?;
-            play_event(alloc, sim, text, event_with(*carrier, octets.as_slice()))
-        }
-        Line::Show => push_show(text, sim),
-        _ => Ok(()),
+    if let Some(carrier) = carrier_of(step) {
+        let octets = octets_of_digits(alloc, digits)?;
+        return play_event(alloc, sim, text, event_with(carrier, octets.as_slice()));
+    }
+    match plain_event(step) {
+        Some(event) => play_event(alloc, sim, text, event),
+        None => push_show(text, sim),
     }
 }
 
-/// Plays lines from a line's beginning on, until the answers have some 4,096 octets, and answers the
-/// lines that are left. Where there is no memory the link has met some of the lines' events.
-pub fn play_some<'a>(
+/// Plays steps of a program until the answers have some 4,096 octets, and returns what is left of it.
+/// Where there is no memory the link has met some of the events.
+pub fn play_some<'p, 'a>(
     alloc: Global,
     sim: &mut Sim,
     text: &mut String,
-    lines: &'a [u8],
-) -> Result<Option<&'a [u8]>, AllocError>
-    ensures answers { IfOk result (λ rest.
-        string_bytes text.new ++ remaining_answers sim.new.world (option_copied rest)
-        ≡ string_bytes text.old ++ answers_from sim.old.world (script_in lines.now)) }
-    ensures shorter { IfOk result (λ rest. IfSome rest (λ r. length r.now < length lines.now)) }
+    program: Rest<'p, 'a>,
+) -> Result<Option<Rest<'p, 'a>>, AllocError>
+    ensures answers { IfOk result (λ left.
+        string_bytes text.new ++ remaining_answers sim.new.world (option_map lines_left left)
+        ≡ string_bytes text.old ++ answers_from sim.old.world (lines_left program.entry)) }
+    ensures shorter { IfOk result (λ left.
+        IfSome left (λ rest. length rest.steps.now < length program.entry.steps.now)) }
 {
-    let mut rest = lines;
-    'lines: loop {
-        let (line, behind) = cut(rest, b'\n');
-        let Ok(()) = play_line(alloc, sim, text, &read_line(line)) else {
-            return Err(AllocError);
-        };
-        let Some(behind) = behind else {
+    let mut rest = program;
+    'steps: loop {
+        let Some((step, digits, left)) = rest.next() else {
             return Ok(None);
         };
-        rest = behind;
+        let Ok(()) = play_step(alloc, sim, text, step, digits) else {
+            return Err(AllocError);
+        };
+        rest = left;
         if text.len() >= 4096 {
             return Ok(Some(rest));
         }

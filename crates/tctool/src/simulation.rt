@@ -4,7 +4,7 @@ ghost use Rattle.std.specs.Prelude.{◌≡◌, ◌⊎◌, ◌+◌, ◌<◌, ◌�
 ghost use Rattle.std.specs.Prelude.{Err, OnOk, IfOk, IfErr};
 ghost use Rattle.script.specs.Ending.{script_ending, script_text};
 ghost use Rattle.script.specs.Playing.{answers_from};
-ghost use Rattle.script.specs.Scripts.{script_in};
+ghost use Rattle.script.specs.Programs.{program_lines};
 ghost use Rattle.std.specs.Io.KnownBytes.{Consumes};
 ghost use Rattle.octets.specs.Beginning.{IsBeginning};
 ghost use Rattle.listings.specs.Devices.{HasEnded};
@@ -15,38 +15,38 @@ ghost use Rattle.listings.specs.Writing.{BeginsToWrite, Writes};
 
 use crate::outcome::Outcome;
 use listings::{DumpFault, MOST_OCTETS, Sink, Source, WriteFailed, write_all};
-use script::{ScriptFault, open, play_some};
+use script::{Program, ScriptFault, open, play_some};
 use std::alloc::Global;
 use tc_link::Sim;
 
-/// Plays a script, and writes the answers of each piece of it before the next is played.
+/// Plays what was read of a script, and writes the answers of each piece of it before the next is played.
 fn write_answers<W: Sink>(
     alloc: Global,
     writer: &mut W,
     sim: &mut Sim,
-    script: &[u8],
+    program: &Program<'_>,
 ) -> Result<(), DumpFault>
     ensures ok { Writes result (W.taken_octets writer.old) (W.taken_octets writer.new)
-        (answers_from sim.old.world (script_in script.now)) }
+        (answers_from sim.old.world (program_lines program.now)) }
     ensures beginning { BeginsToWrite result (W.taken_octets writer.old) (W.taken_octets writer.new)
-        (answers_from sim.old.world (script_in script.now)) }
+        (answers_from sim.old.world (program_lines program.now)) }
     ensures failures { W.failures writer.new ≡ W.failures writer.old + writes_failed_in result }
     ensures faults { IfErr result (λ e. (e ≡ DumpFault.Write) ⊎ (e ≡ DumpFault.Memory)) }
 {
     let mut text = String::new(alloc);
-    let mut rest = script;
+    let mut rest = program.all();
     'pieces: loop {
         text.clear();
-        let Ok(behind) = play_some(alloc, sim, &mut text, rest) else {
+        let Ok(left) = play_some(alloc, sim, &mut text, rest) else {
             return Err(DumpFault::Memory);
         };
         if let Err(WriteFailed) = write_all(writer, text.as_bytes()) {
             return Err(DumpFault::Write);
         }
-        let Some(behind) = behind else {
+        let Some(left) = left else {
             return Ok(());
         };
-        rest = behind;
+        rest = left;
     }
 }
 
@@ -64,8 +64,8 @@ fn run_script<W: Sink>(alloc: Global, writer: &mut W, script: &[u8]) -> Result<O
     ensures faults { IfErr result (λ e. (e ≡ DumpFault.Write) ⊎ (e ≡ DumpFault.Memory)) }
 {
     match open(alloc, script) {
-        Ok(mut sim) => {
-            let written = write_answers(alloc, writer, &mut sim, script);
+        Ok((mut sim, program)) => {
+            let written = write_answers(alloc, writer, &mut sim, &program);
             match written {
                 Ok(()) => Ok(Outcome::Good),
                 Err(fault) => Err(fault),

@@ -1,15 +1,15 @@
 use Rattle.std.proofs.Common.{◌≡◌, ◌≤◌, ◌++◌, length, string_bytes}
-use Rattle.script.specs.Scripts.{script_in}
 use Rattle.script.specs.Playing.{answers_from}
+use Rattle.script.specs.Programs.{lines_left}
 use Rattle.script.proofs.playing.play_some.Given as goal
 
--- the text so far and the answers to the lines from here on are the answers to all lines
-abbrev pub invariant-lines : goal.invariant-lines
-invariant-lines l = record {
-  same : string_bytes l.text ++ answers_from l.sim.world (script_in l.rest) ≡ string_bytes l.fn.text
-      ++ answers_from l.fn.sim.world (script_in l.fn.lines);
-  left : length l.rest ≤ length l.fn.lines;
+-- the text so far and the answers to what is left are the answers to the program
+abbrev pub invariant-steps : goal.invariant-steps
+invariant-steps l = record {
+  same : string_bytes l.text ++ answers_from l.sim.world (lines_left l.rest)
+      ≡ string_bytes l.fn.text ++ answers_from l.fn.sim.world (lines_left l.fn.program);
+  left : length l.rest.steps.now ≤ length l.fn.program.steps.now;
 }
 
-abbrev pub decreases-lines : goal.decreases-lines
-decreases-lines l = length l.rest
+abbrev pub decreases-steps : goal.decreases-steps
+decreases-steps l = length l.rest.steps.now

@@ -1,7 +1,7 @@
-use Rattle.std.proofs.Common.{◌≡◌, ◌++◌, ◌∙◌, List, ℕ, sym, ap, subst, option_copied}
+use Rattle.std.proofs.Common.{◌≡◌, ◌++◌, ◌∙◌, List, ℕ, sym, ap, subst, option_map}
 use Rattle.script.specs.Ending.{remaining_answers}
 use Rattle.script.specs.Playing.{answers_from}
-use Rattle.script.specs.Scripts.{script_in}
+use Rattle.script.specs.Programs.{lines_left}
 use Rattle.octets.specs.Beginning.{IsBeginning}
 use Rattle.listings.proofs.Beginnings.{begins_more}
 use Rattle.tctool.proofs.simulation.write_answers.Goals as goal
@@ -9,8 +9,8 @@ use Rattle.tctool.proofs.simulation.write_answers.Goals as goal
 pub returns-in-Err-clause-beginning : goal.returns-in-Err-clause-beginning
 returns-in-Err-clause-beginning g c =
     let taken = g.W.Sink.taken_octets in
-    let more = remaining_answers c.play_some.new.sim.world (option_copied c.in-Ok.behind) in
-    let whole = answers_from c.pieces.sim.world (script_in c.pieces.rest.now) in
+    let more = remaining_answers c.play_some.new.sim.world (option_map lines_left c.in-Ok.left) in
+    let whole = answers_from c.pieces.sim.world (lines_left c.pieces.rest) in
     let told : whole ≡ c.as_bytes.result.now ++ more =
     sym (ap (λ (t : List ℕ). t ++ more) c.as_bytes.ensures.value ∙ c.in-Ok.ensures.answers
     ∙ ap (λ (t : List ℕ). t ++ whole) c.clear.ensures.bytes) in
