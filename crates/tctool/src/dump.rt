@@ -116,7 +116,8 @@ fn list_file<L: Wire, C: Listing<Splitter<L>> + Drop, R: Source, W: Sink>(
     ensures text { Writes result (W.taken_octets writer.old) (W.taken_octets writer.new)
         (text_of C.lines (layout_by L.HEAD L.extent_of L.truncated_fault)
         (fresh listing (gained (R.given reader.old) (R.given reader.new)))) }
-    ensures outcome { IfOk result (λ outcome. outcome ≡ outcome_if (is_all_good C.lines (layout_by L.HEAD L.extent_of L.truncated_fault)
+    ensures outcome { IfOk result (λ outcome. outcome ≡ outcome_if (is_all_good C.lines
+        (layout_by L.HEAD L.extent_of L.truncated_fault)
         (fresh listing (gained (R.given reader.old) (R.given reader.new))))) }
     ensures consumes { Consumes (R.remaining reader.old) (R.remaining reader.new)
         (gained (R.given reader.old) (R.given reader.new)) }
