@@ -16,6 +16,8 @@ read_again word octets is =
     let last : eqb ((flags_number word.flags + 2 * word.farm_b) % 2) 0 ≡ true = eq-eqb _ _ (omega (arith, is.flags)) in
     let status : (4 * word.status + 1) / 4 % 8 ≡ word.status = omega (arith, is.status) in
     let vcid : 4 * word.vcid / 4 ≡ word.vcid = omega arith in
-    let flags : (flags_number word.flags + 2 * word.farm_b) / 8 * 8 ≡ flags_number word.flags = omega (arith, is.flags, is.farm_b) in
-    let farm_b : (flags_number word.flags + 2 * word.farm_b) / 2 % 4 ≡ word.farm_b = omega (arith, is.flags, is.farm_b) in
+    let flags : (flags_number word.flags + 2 * word.farm_b) / 8 * 8 ≡ flags_number word.flags =
+    omega (arith, is.flags, is.farm_b) in
+    let farm_b : (flags_number word.flags + 2 * word.farm_b) / 2 % 4 ≡ word.farm_b =
+    omega (arith, is.flags, is.farm_b) in
     rw (is.spelled, kind, version, cop, spare, last, status, vcid, flags, farm_b) refl

@@ -1,4 +1,5 @@
--- The five flags of a control word: bits 16 to 20 (CCSDS 232.0-B-4, 4.2.1.8), as the bits of its third octet.
+-- The five flags of a control word: bits 16 to 20 (CCSDS 232.0-B-4, 4.2.1.8), as the bits of its
+-- third octet.
 use Rattle.std.specs.Prelude.{ℕ, Bool, List, [], ◌∷◌, ◌==◌, codes}
 use Rattle.std.specs.Int.RustNames.{bit_and}
 use Rattle.clcw.specs.declared.flags.ClcwFlags.{ClcwFlags}
@@ -6,7 +7,8 @@ use Rattle.clcw.specs.declared.flags.ClcwFlags.{ClcwFlags}
 -- the flags' names and values
 abbrev pub flag_table : List (List ℕ × ℕ)
 flag_table =
-    (codes "NO_RF_AVAILABLE", 128) ∷ (codes "NO_BIT_LOCK", 64) ∷ (codes "LOCKOUT", 32) ∷ (codes "WAIT", 16) ∷ (codes "RETRANSMIT", 8) ∷ []
+    (codes "NO_RF_AVAILABLE", 128) ∷ (codes "NO_BIT_LOCK", 64) ∷ (codes "LOCKOUT", 32)
+    ∷ (codes "WAIT", 16) ∷ (codes "RETRANSMIT", 8) ∷ []
 
 -- the flags as a number, the sum of the values of those that are set
 abbrev pub flags_number : ClcwFlags → ℕ

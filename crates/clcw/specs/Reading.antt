@@ -1,5 +1,6 @@
 -- Reading four octets as a control word (CCSDS 232.0-B-4, 4.2.1), with the first fault.
-use Rattle.std.specs.Prelude.{ℕ, ◌*◌, ◌/◌, ◌%◌, List, not, ◌==◌, slice_index, if◌then◌else◌, Result, Ok, Err}
+use Rattle.std.specs.Prelude.{ℕ, ◌*◌, ◌/◌, ◌%◌, List, not, ◌==◌, slice_index, if◌then◌else◌, Result}
+use Rattle.std.specs.Prelude.{Ok, Err}
 use Rattle.clcw.specs.declared.word.Clcw.{Clcw}
 use Rattle.clcw.specs.declared.fault.ClcwFault.{ClcwFault}
 use Rattle.clcw.specs.declared.fault.ClcwFault.TheVariants.{Kind, Version, Cop, Spare}
@@ -8,7 +9,15 @@ use Rattle.clcw.specs.Flags.{flags_from}
 -- the fields, where nothing is wrong
 abbrev pub fields_at : ℕ → ℕ → ℕ → ℕ → Clcw
 fields_at first second third fourth =
-    record { status = first / 4 % 8; vcid = second / 4; flags = flags_from (third / 8 * 8); farm_b = third / 2 % 4; value = fourth }
+    record {
+      status =
+          first / 4 % 8;
+      vcid =
+          second / 4;
+      flags = flags_from (third / 8 * 8);
+      farm_b = third / 2 % 4;
+      value = fourth;
+    }
 
 abbrev pub word_at : ℕ → ℕ → ℕ → ℕ → Result Clcw ClcwFault
 word_at first second third fourth =
@@ -21,4 +30,6 @@ word_at first second third fourth =
 
 -- the word that the octets spell, or the first fault in this order
 unfoldable pub clcw_at : List ℕ → Result Clcw ClcwFault
-clcw_at octets = word_at (slice_index octets 0) (slice_index octets 1) (slice_index octets 2) (slice_index octets 3)
+clcw_at octets =
+    word_at (slice_index octets 0) (slice_index octets 1) (slice_index octets 2)
+    (slice_index octets 3)

@@ -1,5 +1,6 @@
 -- The one spelling of each control word (CCSDS 232.0-B-4, 4.2.1), and when there is one.
-use Rattle.std.specs.Prelude.{ℕ, ◌+◌, ◌*◌, ◌%◌, List, [], ◌∷◌, Bool, ◌&&◌, ◌==◌, nat_lt, if◌then◌else◌, Result, Ok, Err}
+use Rattle.std.specs.Prelude.{ℕ, ◌+◌, ◌*◌, ◌%◌, List, [], ◌∷◌, Bool, ◌&&◌, ◌==◌, nat_lt}
+use Rattle.std.specs.Prelude.{if◌then◌else◌, Result, Ok, Err}
 use Rattle.clcw.specs.declared.word.Clcw.{Clcw}
 use Rattle.clcw.specs.declared.fault.ClcwFault.{ClcwFault}
 use Rattle.clcw.specs.declared.fault.ClcwFault.TheVariants.{Range}
@@ -7,10 +8,13 @@ use Rattle.clcw.specs.Flags.{flags_number}
 
 -- each field is in its range, and each flag bit has a name
 abbrev pub fits : Clcw → Bool
-fits word = nat_lt word.status 8 && nat_lt word.vcid 64 && nat_lt word.farm_b 4 && (flags_number word.flags % 8 == 0)
+fits word = nat_lt word.status 8 && nat_lt word.vcid 64 && nat_lt word.farm_b 4
+    && (flags_number word.flags % 8 == 0)
 
 abbrev pub spelling : Clcw → List ℕ
-spelling word = (4 * word.status + 1) ∷ (4 * word.vcid) ∷ (flags_number word.flags + 2 * word.farm_b) ∷ word.value ∷ []
+spelling word =
+    (4 * word.status + 1) ∷ (4 * word.vcid) ∷ (flags_number word.flags + 2 * word.farm_b)
+    ∷ word.value ∷ []
 
 -- what writing a word answers
 abbrev pub encode_answer : Clcw → Result (List ℕ) ClcwFault

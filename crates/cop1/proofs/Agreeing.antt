@@ -4,7 +4,9 @@ use Rattle.cop1.specs.declared.farm.FarmMode.{FarmMode}
 use Rattle.cop1.specs.declared.farm.FarmMode.TheVariants.{Open, Wait, Lockout}
 use Rattle.cop1.specs.declared.farm.Place.{Place}
 use Rattle.cop1.specs.declared.farm.Place.TheVariants.{Expected, InPositiveWindow, InNegativeWindow, OutsideWindows}
-use Rattle.cop1.specs.Farm.{FarmState, FarmEvent, AdArrives, BdArrives, UnlockArrives, SetVrArrives, InvalidArrives, BufferReleased, farm_step, new_farm, state_of, place_of, ad_verdict, after_verdict, after_unlock, after_set_vr, after_release}
+use Rattle.cop1.specs.Farm.{FarmState, FarmEvent, AdArrives, BdArrives, UnlockArrives, SetVrArrives, InvalidArrives}
+use Rattle.cop1.specs.Farm.{BufferReleased, farm_step, new_farm, state_of, place_of, ad_verdict, after_verdict}
+use Rattle.cop1.specs.Farm.{after_unlock, after_set_vr, after_release}
 use Rattle.cop1.specs.FarmRuns.{FlagsAgree, FlagsAlwaysAgree, farm_run}
 
 in_open : (lockout wait : Bool) → Open ≡ state_of lockout wait → (lockout ≡ false) × (wait ≡ false)
@@ -49,21 +51,34 @@ after_unlocking s Open e is =
     let flags = in_open s.lockout s.wait (e ∙ is.state) in
     record { asks = λ w. absurd (cc (w, flags.1)); state = is.state }
 after_unlocking s Wait e is =
-    record { asks = λ w. w; state = ap (λ lockout. state_of lockout false) (sym (in_wait s.lockout s.wait (e ∙ is.state))) }
+    record {
+      asks =
+          λ w. w;
+      state = ap (λ lockout. state_of lockout false) (sym (in_wait s.lockout s.wait (e ∙ is.state)));
+    }
 after_unlocking s Lockout e is = record { asks = λ w. w; state = refl }
 
-after_setting : (s : FarmState) (vr : ℕ) (mode : FarmMode) → mode ≡ s.state → FlagsAgree s → FlagsAgree (after_set_vr s vr mode)
+after_setting : (s : FarmState) (vr : ℕ) (mode : FarmMode) → mode ≡ s.state → FlagsAgree s
+    → FlagsAgree (after_set_vr s vr mode)
 after_setting s vr Open e is =
     let flags = in_open s.lockout s.wait (e ∙ is.state) in
     record { asks = λ w. absurd (cc (w, flags.1)); state = is.state }
 after_setting s vr Wait e is =
-    record { asks = λ w. w; state = ap (λ lockout. state_of lockout false) (sym (in_wait s.lockout s.wait (e ∙ is.state))) }
+    record {
+      asks =
+          λ w. w;
+      state = ap (λ lockout. state_of lockout false) (sym (in_wait s.lockout s.wait (e ∙ is.state)));
+    }
 after_setting s vr Lockout e is = record { asks = is.asks; state = is.state }
 
 after_releasing : (s : FarmState) (mode : FarmMode) → mode ≡ s.state → FlagsAgree s → FlagsAgree (after_release s mode)
 after_releasing s Open e is = is
 after_releasing s Wait e is =
-    record { asks = λ w. absurd cc; state = ap (λ lockout. state_of lockout false) (sym (in_wait s.lockout s.wait (e ∙ is.state))) }
+    record {
+      asks =
+          λ w. absurd cc;
+      state = ap (λ lockout. state_of lockout false) (sym (in_wait s.lockout s.wait (e ∙ is.state)));
+    }
 after_releasing s Lockout e is =
     let locked = in_lockout s.lockout s.wait (e ∙ is.state) in
     record { asks = λ w. absurd cc; state = sym e ∙ ap (λ lockout. state_of lockout false) (sym locked) }

@@ -1,5 +1,7 @@
 -- A sender of units follows the rules over numbers: its outcomes are theirs, with the queues that their answers leave.
-use Rattle.std.proofs.Common.{◌≡◌, ◌≤◌, ◌<◌, ℕ, suc, ◌+◌, ◌-◌, ◌%◌, Bool, true, false, List, [], ◌∷◌, length, drop, is_some, Option, Some, None, inl, inr, refl, sym, subst, ap, ◌∙◌, arith, length-drop, length-append}
+use Rattle.std.proofs.Common.{◌≡◌, ◌≤◌, ◌<◌, ℕ, suc, ◌+◌, ◌-◌, ◌%◌, Bool, true, false, List, [], ◌∷◌, length, drop}
+use Rattle.std.proofs.Common.{is_some, Option, Some, None, inl, inr, refl, sym, subst, ap, ◌∙◌, arith, length-drop}
+use Rattle.std.proofs.Common.{length-append}
 use Rattle.std.specs.Prelude.{if◌then◌else◌, ◌==◌, ◌&&◌, ◌||◌, not, nat_lt, slice_get}
 use Rattle.std.proofs.lemmas.Bool.{cases_lt, ltb-false, eq-eqb, ne_eqb}
 use Rattle.std.proofs.lemmas.List.{drop-drop}
@@ -14,7 +16,8 @@ use Rattle.cop1.specs.declared.fop.Alert.TheVariants.{Limit as LimitAlert}
 use Rattle.cop1.specs.declared.fop.Control.{Control}
 use Rattle.cop1.specs.declared.fop.Control.TheVariants.{Idle, Due, Sent}
 use Rattle.cop1.specs.declared.fop.Directive.{Directive}
-use Rattle.cop1.specs.declared.fop.Directive.TheVariants.{InitWithoutCheck, InitWithCheck, InitUnlock, InitSetVr, Terminate, SetVs, SetWindow, SetLimit, SetTimer}
+use Rattle.cop1.specs.declared.fop.Directive.TheVariants.{InitWithoutCheck, InitWithCheck, InitUnlock, InitSetVr}
+use Rattle.cop1.specs.declared.fop.Directive.TheVariants.{Terminate, SetVs, SetWindow, SetLimit, SetTimer}
 use Rattle.cop1.specs.declared.sender.SenderFields.{SenderFields}
 use Rattle.cop1.specs.declared.sender.sending.SenderNext.{SenderNext}
 use Rattle.cop1.specs.declared.sender.sending.SenderNext.TheVariants as sends
@@ -31,15 +34,21 @@ use Rattle.cop1.specs.FopReport.{locks, waits, asks}
 use Rattle.cop1.specs.FopTick as ticks
 use Rattle.cop1.specs.FopStep as fop
 use Rattle.cop1.specs.FopStep.{FopInput, fop_step}
-use Rattle.cop1.specs.FopQueues.{Queues, Fits, FollowsTheRules, with_queues, marked_last, still_waiting, settled, settles, submitted, first_bypass, taken_from, next_at, pulled, pulled_by, by_rules}
+use Rattle.cop1.specs.FopQueues.{Queues, Fits, FollowsTheRules, with_queues, marked_last, still_waiting, settled}
+use Rattle.cop1.specs.FopQueues.{settles, submitted, first_bypass, taken_from, next_at, pulled, pulled_by, by_rules}
 use Rattle.cop1.specs.SenderState.{IsSender}
-use Rattle.cop1.specs.SenderWords.{SenderOutcome, is_outside, after_restart, after_stop, after_acknowledge, after_repeat, after_gone, after_alert, alerts, goes_on}
+use Rattle.cop1.specs.SenderWords.{SenderOutcome, is_outside, after_restart, after_stop, after_acknowledge}
+use Rattle.cop1.specs.SenderWords.{after_repeat, after_gone, after_alert, alerts, goes_on}
 use Rattle.cop1.specs.SenderUnits.{submit_in, waits_behind}
 use Rattle.cop1.specs.SenderDirective.{from_S6, terminate_in, directive_step, after_begin, obeys, refuses}
-use Rattle.cop1.specs.SenderNext.{is_due, next_in, next_control, next_sequence, next_waiting, next_step, after_send_first, gives}
-use Rattle.cop1.specs.SenderReport.{report_step, report_in, report_in_S4, report_in_S5, report_while_active, confirms, nothing_new, move_on, ask_again, ask_for_others, goes_back, goes_back_again, retransmits, after_new_value, after_move_on}
+use Rattle.cop1.specs.SenderNext.{is_due, next_in, next_control, next_sequence, next_waiting, next_step}
+use Rattle.cop1.specs.SenderNext.{after_send_first, gives}
+use Rattle.cop1.specs.SenderReport.{report_step, report_in, report_in_S4, report_in_S5, report_while_active, confirms}
+use Rattle.cop1.specs.SenderReport.{nothing_new, move_on, ask_again, ask_for_others, goes_back, goes_back_again}
+use Rattle.cop1.specs.SenderReport.{retransmits, after_new_value, after_move_on}
 use Rattle.cop1.specs.SenderTick.{tick_step, tick_with, timer_ended, while_below}
-use Rattle.cop1.proofs.Marks.{map-marked_unit-marked_last, marked_last-keep, marked_last-push, oldest_marked-none, oldest_marked-last, without_oldest_mark-last, slice_get-within, slice_get-push}
+use Rattle.cop1.proofs.Marks.{map-marked_unit-marked_last, marked_last-keep, marked_last-push, oldest_marked-none}
+use Rattle.cop1.proofs.Marks.{oldest_marked-last, without_oldest_mark-last, slice_get-within, slice_get-push}
 
 uncommanded : (s : SenderFields) → IsSender s → S6 ≡ s.state → s.control ≡ Idle
 uncommanded s is e = is.agrees.commanded (λ h. cc (e, h))
@@ -399,7 +408,8 @@ module _ {U : Type 0} where
 
   nothing_goes : (s : SenderFields) (q : Queues U) → Fits s q
       → Goes s q (gives s sends.Nothing) (pulls.pulls (with_queues s q) NothingPulled)
-  nothing_goes s q fits = record { same = refl; fits = unchanged s s q fits refl refl; same_room = refl; placed = tt; seen = refl }
+  nothing_goes s q fits =
+      record { same = refl; fits = unchanged s s q fits refl refl; same_room = refl; placed = tt; seen = refl }
 
   goes_if : {s : SenderFields} {q : Queues U} {o p : SenderOutcome SenderNext} {f g : FopOutcome U (PulledUnit U)}
       (b : Bool)
@@ -497,7 +507,14 @@ module _ {U : Type 0} where
       → bypass ≡ q.bypass → IsSender s → Fits s q → Goes s q (next_control s control)
       (pulls.pull_control (record (with_queues s q) { bypass = bypass }) control)
   control_goes s q (Due command) bypass none same is fits =
-      rw same (record { same = refl; fits = unchanged s _ q fits refl refl; same_room = refl; placed = tt; seen = refl })
+      rw same (record {
+        same =
+            refl;
+        fits = unchanged s _ q fits refl refl;
+        same_room = refl;
+        placed = tt;
+        seen = refl;
+      })
   control_goes s q (Sent command) [] none same is fits = rw same (in_state_goes s q s.state refl is fits)
   control_goes s q (Sent command) (u ∷ us) none same is fits = absurd (cc none)
   control_goes s q Idle [] none same is fits = rw same (in_state_goes s q s.state refl is fits)

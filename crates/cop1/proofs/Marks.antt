@@ -1,5 +1,6 @@
 -- The sent queue as bare units, of which the last are marked.
-use Rattle.std.proofs.Common.{◌≡◌, ◌≤◌, ◌<◌, ℕ, zero, suc, ◌+◌, ◌-◌, true, false, List, [], ◌∷◌, ◌++◌, length, drop, map, min, Option, Some, None, inl, inr, refl, ap, arith, ltb, add-zero, length-drop}
+use Rattle.std.proofs.Common.{◌≡◌, ◌≤◌, ◌<◌, ℕ, zero, suc, ◌+◌, ◌-◌, true, false, List, [], ◌∷◌, ◌++◌, length, drop}
+use Rattle.std.proofs.Common.{map, min, Option, Some, None, inl, inr, refl, ap, arith, ltb, add-zero, length-drop}
 use Rattle.std.specs.Prelude.{slice_get, option_map, option_copied, is_some}
 use Rattle.std.proofs.lemmas.Bool.{cases_lt, lt-ltb, le-ltb}
 use denote.Bor.{Bor}
@@ -19,20 +20,27 @@ module _ {U : Type 0} where
   drop-marked_last due (suc n) (u ∷ us) = drop-marked_last due n us
 
   -- no more are marked than there are
-  pub marked_last-all : (due more : ℕ) (us : List U) → length us ≤ due → length us ≤ more → marked_last due us ≡ marked_last more us
+  pub marked_last-all : (due more : ℕ) (us : List U) → length us ≤ due → length us ≤ more
+      → marked_last due us ≡ marked_last more us
   marked_last-all due more [] all all' = refl
   marked_last-all due more (u ∷ us) all all' =
       let here : ltb (length us) due ≡ true = lt-ltb _ _ (omega arith) in
       let here' : ltb (length us) more ≡ true = lt-ltb _ _ (omega arith) in
       rw (here, here', marked_last-all due more us (omega arith) (omega arith)) refl
 
-  pub map-marked_unit-marked_last : (due : ℕ) (us : List U) → map marked_unit (marked_last due us) ≡ marked_last (length us) us
+  pub map-marked_unit-marked_last : (due : ℕ) (us : List U)
+      → map marked_unit (marked_last due us) ≡ marked_last (length us) us
   map-marked_unit-marked_last due [] = refl
   map-marked_unit-marked_last due (u ∷ us) =
       let here : ltb (length us) (suc (length us)) ≡ true = lt-ltb _ _ (omega arith) in
-      rw (here, map-marked_unit-marked_last due us, marked_last-all (length us) (suc (length us)) us (omega arith) (omega arith)) refl
+      rw (
+        here,
+        map-marked_unit-marked_last due us,
+        marked_last-all (length us) (suc (length us)) us (omega arith)
+            (omega arith),
+      ) refl
 
-  -- where none is marked, a unit comes behind
+  -- where none is marked, a unit comes after
   pub marked_last-push : (us : List U) (u : U) → marked_last 0 (us ++ u ∷ []) ≡ marked_last 0 us ++ unmarked_unit u ∷ []
   marked_last-push [] u = refl
   marked_last-push (x ∷ us) u =
@@ -47,7 +55,8 @@ module _ {U : Type 0} where
       let here : ltb (length us) 0 ≡ false = le-ltb _ _ (omega arith) in
       rw here (oldest_marked-none (place + 1) us)
 
-  pub oldest_marked-last : (place due : ℕ) (us : List U) (u : U) → 0 < due → due ≤ length us → slice_get us (length us - due) ≡ Some u
+  pub oldest_marked-last : (place due : ℕ) (us : List U) (u : U) → 0 < due → due ≤ length us
+      → slice_get us (length us - due) ≡ Some u
       → oldest_marked place (marked_last due us) ≡ Some (place + (length us - due), u)
   oldest_marked-last place due [] u some within found = absurd (omega arith)
   oldest_marked-last place due (x ∷ us) u some within found =
@@ -73,7 +82,8 @@ module _ {U : Type 0} where
         | inl lt ↦
             let here : ltb (length us) due ≡ true = lt-ltb _ _ lt in
             let there : ltb (length us) (due - 1) ≡ false = le-ltb _ _ (omega arith) in
-            rw (here, there) (ap (λ us. record { unit = x; marked = false } ∷ us) (marked_last-all due (due - 1) us (omega arith) (omega arith)))
+            rw (here, there) (ap (λ us. record { unit = x; marked = false } ∷ us)
+            (marked_last-all due (due - 1) us (omega arith) (omega arith)))
         | inr le ↦
             let here : ltb (length us) due ≡ false = le-ltb _ _ le in
             let there : ltb (length us) (due - 1) ≡ false = le-ltb _ _ (omega arith) in
@@ -109,4 +119,5 @@ module _ {U : Type 0} where
   slice_get-push [] u = refl
   slice_get-push (x ∷ us) u = slice_get-push us u
 
-pub ruleset marks = (length-marked_last, drop-marked_last, map-marked_unit-marked_last, marked_last-push, map-unit-marked_last)
+pub ruleset marks =
+    (length-marked_last, drop-marked_last, map-marked_unit-marked_last, marked_last-push, map-unit-marked_last)

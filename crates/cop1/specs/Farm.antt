@@ -1,13 +1,17 @@
--- The receiver, FARM-1: its variables (CCSDS 232.1-B-2, 6.1) and its state table (table 6-1), event by event, one line a
--- cell. What a line does not name stays. The columns Wait and Lockout are this project's profile (docs/PROFILE.md).
-use Rattle.std.specs.Prelude.{◌≡◌, ℕ, ◌+◌, ◌-◌, ◌/◌, ◌%◌, ◌≤◌, Bool, true, false, if◌then◌else◌, ◌==◌, nat_lt, nat_le}
+-- The receiver, FARM-1: its variables (CCSDS 232.1-B-2, 6.1) and its state table (table 6-1), event
+-- by event, one line a cell. What a line does not name stays. The columns Wait and Lockout are this
+-- project's profile (docs/PROFILE.md).
+use Rattle.std.specs.Prelude.{◌≡◌, ℕ, ◌+◌, ◌-◌, ◌/◌, ◌%◌, ◌≤◌, Bool, true, false, if◌then◌else◌}
+use Rattle.std.specs.Prelude.{◌==◌, nat_lt, nat_le}
 use Rattle.cop1.specs.Modulo.{ahead_by}
 use Rattle.cop1.specs.declared.farm.FarmMode.{FarmMode}
 use Rattle.cop1.specs.declared.farm.FarmMode.TheVariants.{Open, Wait, Lockout}
 use Rattle.cop1.specs.declared.farm.Place.{Place}
-use Rattle.cop1.specs.declared.farm.Place.TheVariants.{Expected, InPositiveWindow, InNegativeWindow, OutsideWindows}
+use Rattle.cop1.specs.declared.farm.Place.TheVariants.{Expected, InPositiveWindow, InNegativeWindow}
+use Rattle.cop1.specs.declared.farm.Place.TheVariants.{OutsideWindows}
 use Rattle.cop1.specs.declared.farm.Verdict.{Verdict}
-use Rattle.cop1.specs.declared.farm.Verdict.TheVariants.{Accepted, Ahead, NoBuffer, Behind, Outside, Discarded}
+use Rattle.cop1.specs.declared.farm.Verdict.TheVariants.{Accepted, Ahead, NoBuffer, Behind, Outside}
+use Rattle.cop1.specs.declared.farm.Verdict.TheVariants.{Discarded}
 
 -- a receiver: its window width, its state, V(R), its three flags and FARM-B
 pub record FarmState : Type 0 where
@@ -32,9 +36,20 @@ IsWidth width = (width % 2 ≡ 0) × (2 ≤ width) × (width ≤ 254)
 -- a new receiver
 abbrev pub new_farm : ℕ → ℕ → FarmState
 new_farm width vr =
-    record { width = width; state = Open; vr = vr; lockout = false; wait = false; retransmit = false; farm_b = 0 }
+    record {
+      width =
+          width;
+      state =
+          Open;
+      vr = vr;
+      lockout = false;
+      wait = false;
+      retransmit = false;
+      farm_b = 0;
+    }
 
--- where a number that is so far ahead of V(R) lies: the positive and the negative window are half the width each
+-- where a number that is so far ahead of V(R) lies: the positive and the negative window are half
+-- the width each
 abbrev pub place_at : ℕ → ℕ → Place
 place_at half ahead =
     if ahead == 0 then Expected
@@ -83,11 +98,13 @@ after_type_b s = record s { farm_b = (s.farm_b + 1) % 4 }
 abbrev pub after_unlock : FarmState → FarmMode → FarmState
 after_unlock s Open = record (after_type_b s) { retransmit = false }
 after_unlock s Wait = record (after_type_b s) { retransmit = false; wait = false; state = Open }
-after_unlock s Lockout = record (after_type_b s) { retransmit = false; wait = false; lockout = false; state = Open }
+after_unlock s Lockout =
+    record (after_type_b s) { retransmit = false; wait = false; lockout = false; state = Open }
 
 abbrev pub after_set_vr : FarmState → ℕ → FarmMode → FarmState
 after_set_vr s vr Open = record (after_type_b s) { retransmit = false; vr = vr }
-after_set_vr s vr Wait = record (after_type_b s) { retransmit = false; vr = vr; wait = false; state = Open }
+after_set_vr s vr Wait =
+    record (after_type_b s) { retransmit = false; vr = vr; wait = false; state = Open }
 after_set_vr s vr Lockout = after_type_b s
 
 abbrev pub after_release : FarmState → FarmMode → FarmState

@@ -7,7 +7,18 @@ use Rattle.cop1.specs.FarmRuns.{FlagsAgree}
 -- the receiver with these fields: the lockout flag and the wait flag tell its state
 abbrev pub farm_with : FarmFields → FarmState
 farm_with f =
-    record { width = f.width; state = state_of f.lockout f.wait; vr = f.vr; lockout = f.lockout; wait = f.wait; retransmit = f.retransmit; farm_b = f.farm_b }
+    record {
+      width =
+          f.width;
+      state =
+          state_of f.lockout f.wait;
+      vr =
+          f.vr;
+      lockout = f.lockout;
+      wait = f.wait;
+      retransmit = f.retransmit;
+      farm_b = f.farm_b;
+    }
 
 -- what is so of every receiver
 pub record IsFarm (s : FarmState) : Type 0 where

@@ -1,7 +1,8 @@
 -- The numbers and names of the refusals.
 use Rattle.std.specs.Prelude.{ℕ, List, codes}
 use Rattle.cop1.specs.declared.fault.CopFault.{CopFault}
-use Rattle.cop1.specs.declared.fault.CopFault.TheVariants.{Width, Window, Limit, Timer, Memory, NotOpen, Busy, WrongState, State}
+use Rattle.cop1.specs.declared.fault.CopFault.TheVariants.{Width, Window, Limit, Timer, Memory}
+use Rattle.cop1.specs.declared.fault.CopFault.TheVariants.{NotOpen, Busy, WrongState, State}
 
 abbrev pub fault_number : CopFault → ℕ
 fault_number Width = 1

@@ -1,5 +1,7 @@
--- What a directive does at the sender (this project's profile of CCSDS 232.1-B-2, 5.2.4 and table 5-1).
-use Rattle.std.specs.Prelude.{◌==◌, ◌||◌, nat_lt, if◌then◌else◌, [], Option, Some, None, Result, Ok, Err}
+-- What a directive does at the sender (this project's profile of CCSDS 232.1-B-2, 5.2.4 and table
+-- 5-1).
+use Rattle.std.specs.Prelude.{◌==◌, ◌||◌, nat_lt, if◌then◌else◌, [], Option, Some, None, Result, Ok}
+use Rattle.std.specs.Prelude.{Err}
 use Rattle.tc_frame.specs.declared.frame.Command.TheVariants.{Unlock, SetVr}
 use Rattle.cop1.specs.declared.fault.CopFault.{CopFault}
 use Rattle.cop1.specs.declared.fault.CopFault.TheVariants.{Window, Limit, Timer, WrongState}
@@ -9,7 +11,9 @@ use Rattle.cop1.specs.declared.fop.Alert.{Alert}
 use Rattle.cop1.specs.declared.fop.Alert.TheVariants.{Terminated}
 use Rattle.cop1.specs.declared.fop.Control.TheVariants.{Due}
 use Rattle.cop1.specs.declared.fop.Directive.{Directive}
-use Rattle.cop1.specs.declared.fop.Directive.TheVariants.{InitWithoutCheck, InitWithCheck, InitUnlock, InitSetVr, Terminate, SetVs, SetWindow, SetLimit, SetTimer}
+use Rattle.cop1.specs.declared.fop.Directive.TheVariants.{InitWithoutCheck, InitWithCheck}
+use Rattle.cop1.specs.declared.fop.Directive.TheVariants.{InitUnlock, InitSetVr, Terminate, SetVs}
+use Rattle.cop1.specs.declared.fop.Directive.TheVariants.{SetWindow, SetLimit, SetTimer}
 use Rattle.cop1.specs.FopState.{FopState}
 use Rattle.cop1.specs.FopWords.{FopOutcome, after_restart, after_alert}
 
@@ -28,7 +32,8 @@ module _ {U : Type 0} where
   after_begin s = record s { sent = []; waiting = None; count = 1 }
 
   -- what is obeyed in S6 alone
-  abbrev pub from_S6 : FopState U → FopMode → FopState U → FopOutcome U (Result (Option Alert) CopFault)
+  abbrev pub from_S6 : FopState U → FopMode → FopState U
+      → FopOutcome U (Result (Option Alert) CopFault)
   from_S6 s S1 next = refuses s WrongState
   from_S6 s S2 next = refuses s WrongState
   from_S6 s S3 next = refuses s WrongState
@@ -45,12 +50,18 @@ module _ {U : Type 0} where
   terminate_in s S6 = refuses s WrongState
 
   abbrev pub directive_step : FopState U → Directive → FopOutcome U (Result (Option Alert) CopFault)
-  directive_step s InitWithoutCheck = from_S6 s s.state (record (after_begin s) { nn = s.vs; state = S1 })
-  directive_step s InitWithCheck = from_S6 s s.state (record (after_restart (after_begin s)) { nn = s.vs; state = S4 })
-  directive_step s InitUnlock = from_S6 s s.state (record (after_begin s) { nn = s.vs; control = Due Unlock; state = S5 })
-  directive_step s (InitSetVr x) = from_S6 s s.state (record (after_begin s) { vs = x; nn = x; control = Due (SetVr x); state = S5 })
+  directive_step s InitWithoutCheck =
+      from_S6 s s.state (record (after_begin s) { nn = s.vs; state = S1 })
+  directive_step s InitWithCheck =
+      from_S6 s s.state (record (after_restart (after_begin s)) { nn = s.vs; state = S4 })
+  directive_step s InitUnlock =
+      from_S6 s s.state (record (after_begin s) { nn = s.vs; control = Due Unlock; state = S5 })
+  directive_step s (InitSetVr x) =
+      from_S6 s s.state (record (after_begin s)
+      { vs = x; nn = x; control = Due (SetVr x); state = S5 })
   directive_step s Terminate = terminate_in s s.state
   directive_step s (SetVs x) = from_S6 s s.state (record s { vs = x; nn = x })
-  directive_step s (SetWindow k) = if (k == 0) || nat_lt s.room k then refuses s Window else obeys (record s { window = k })
+  directive_step s (SetWindow k) =
+      if (k == 0) || nat_lt s.room k then refuses s Window else obeys (record s { window = k })
   directive_step s (SetLimit n) = if n == 0 then refuses s Limit else obeys (record s { limit = n })
   directive_step s (SetTimer t) = if t == 0 then refuses s Timer else obeys (record s { timer = t })

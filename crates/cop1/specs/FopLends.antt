@@ -7,4 +7,5 @@ use Rattle.cop1.specs.contracts.fop.Fop.{the_row}
 
 -- the sender s ends in this state
 abbrev pub EndsAs : (U : RattleType) → MutBor (FopState U.Denot) → FopState U.Denot → Fml
-EndsAs U s after = follows_so (the_row U) (the_row U) s.ghost_name none (λ _ _. ⊤) (λ last. last ≡ after)
+EndsAs U s after =
+    follows_so (the_row U) (the_row U) s.ghost_name none (λ _ _. ⊤) (λ last. last ≡ after)

@@ -3,7 +3,8 @@ use Rattle.std.specs.Prelude.{ℕ, ◌/◌, ◌%◌, ◌||◌, ◌==◌, nat_lt,
 use Rattle.cop1.specs.declared.fault.CopFault.{CopFault}
 use Rattle.cop1.specs.declared.fault.CopFault.TheVariants.{Width, Window, Limit, Timer}
 
--- what is wrong with a receiver's window width, a window, a limit and a timer's value, in this order
+-- what is wrong with a receiver's window width, a window, a limit and a timer's value, in this
+-- order
 abbrev pub new_fault : ℕ → ℕ → ℕ → ℕ → Option CopFault
 new_fault width window limit timer =
     if (width == 0) || (width % 2 == 1) then Some Width

@@ -1,6 +1,7 @@
--- A sender of units is the sender's numbers and three queues: each input is put to the rules over numbers, and what is
--- done to the queues follows from their answer.
-use Rattle.std.specs.Prelude.{◌≡◌, ℕ, Bool, true, false, nat_lt, List, [], ◌∷◌, ◌++◌, length, drop, is_some, Option, Some, None, Result, Ok, Err}
+-- A sender of units is the sender's numbers and three queues: each input is put to the rules over
+-- numbers, and what is done to the queues follows from their answer.
+use Rattle.std.specs.Prelude.{◌≡◌, ℕ, Bool, true, false, nat_lt, List, [], ◌∷◌, ◌++◌, length, drop}
+use Rattle.std.specs.Prelude.{is_some, Option, Some, None, Result, Ok, Err}
 use Rattle.circular_buffer.specs.Buffer.{keep_last}
 use Rattle.cop1.specs.Modulo.{ahead_by}
 use Rattle.cop1.specs.declared.fault.CopFault.{CopFault}
@@ -24,7 +25,8 @@ use Rattle.cop1.specs.SenderNext.{is_due, next_step}
 use Rattle.cop1.specs.SenderReport.{report_step}
 use Rattle.cop1.specs.SenderTick.{tick_step}
 
--- the wait queue of one unit, the units that are sent and those of the bypass queue, the oldest first
+-- the wait queue of one unit, the units that are sent and those of the bypass queue, the oldest
+-- first
 pub record Queues (U : Type 0) : Type 0 where
   pub waiting : Option U
   pub units : List U
@@ -34,12 +36,35 @@ module _ {U : Type 0} where
   -- the units, the last of them marked, as many as are due
   abbrev pub marked_last : ℕ → List U → List (SentUnit U)
   marked_last due [] = []
-  marked_last due (u ∷ us) = record { unit = u; marked = nat_lt (length us) due } ∷ marked_last due us
+  marked_last due (u ∷ us) =
+      record { unit = u; marked = nat_lt (length us) due } ∷ marked_last due us
 
   -- the sender of units that numbers and queues make
   abbrev pub with_queues : SenderFields → Queues U → FopState U
   with_queues s q =
-      record { room = s.room; state = s.state; vs = s.vs; nn = s.nn; waiting = q.waiting; sent = marked_last s.due q.units; bypass = q.bypass; window = s.window; limit = s.limit; timer = s.timer; ticks = s.ticks; count = s.count; control = s.control }
+      record {
+        room =
+            s.room;
+        state =
+            s.state;
+        vs =
+            s.vs;
+        nn = s.nn;
+        waiting =
+            q.waiting;
+        sent =
+            marked_last s.due q.units;
+        bypass =
+            q.bypass;
+        window =
+            s.window;
+        limit =
+            s.limit;
+        timer = s.timer;
+        ticks = s.ticks;
+        count = s.count;
+        control = s.control;
+      }
 
   -- a unit waits where the numbers say so, and as many units are sent as they say
   pub record Fits (s : SenderFields) (q : Queues U) : Type 0 where
@@ -53,13 +78,16 @@ module _ {U : Type 0} where
 
   -- the queues, once what the numbers no longer count is let go of
   abbrev pub settled : SenderFields → Queues U → Queues U
-  settled s q = record q { waiting = still_waiting s.waiting q.waiting; units = keep_last s.sent q.units }
+  settled s q =
+      record q { waiting = still_waiting s.waiting q.waiting; units = keep_last s.sent q.units }
 
   abbrev pub settles : {A : Type 0} → Queues U → SenderOutcome A → FopOutcome U A
-  settles q o = record { after = with_queues o.after (settled o.after q); answer = o.answer; gone = o.gone }
+  settles q o =
+      record { after = with_queues o.after (settled o.after q); answer = o.answer; gone = o.gone }
 
   -- a unit comes: it waits, unless the numbers refuse it
-  abbrev pub submitted : Queues U → U → SenderFields → Result (Unit {0}) CopFault → FopOutcome U (Result (Unit {0}) (CopFault × U))
+  abbrev pub submitted : Queues U → U → SenderFields → Result (Unit {0}) CopFault
+      → FopOutcome U (Result (Unit {0}) (CopFault × U))
   submitted q u s (Ok x) = taking_outcome (with_queues s (record q { waiting = Some u }))
   submitted q u s (Err fault) = comes_back (with_queues s q) fault u
 
@@ -89,7 +117,11 @@ module _ {U : Type 0} where
 
   abbrev pub taken_from : SenderNext → Queues U → Queues U
   taken_from sends q =
-      record q { waiting = waiting_after sends q.waiting; units = units_after sends q.waiting q.units }
+      record q {
+        waiting =
+            waiting_after sends q.waiting;
+        units = units_after sends q.waiting q.units;
+      }
 
   -- a unit stands as far from the oldest as its number is from NN(R)
   abbrev pub next_at : ℕ → SenderNext → Next U
@@ -106,11 +138,13 @@ module _ {U : Type 0} where
 
   abbrev pub pulled_by : SenderFields → Queues U → Option U → FopOutcome U (PulledUnit U)
   pulled_by s q None = pulled (next_step s) q
-  pulled_by s q (Some u) = pulls (with_queues s (record q { bypass = drop 1 q.bypass })) (BypassPulled u)
+  pulled_by s q (Some u) =
+      pulls (with_queues s (record q { bypass = drop 1 q.bypass })) (BypassPulled u)
 
   abbrev pub by_rules : SenderFields → Queues U → (input : FopInput U) → FopOutcome U (Answer input)
   by_rules s q (fop.Submit unit) = submitted q unit (submit_step s).after (submit_step s).answer
-  by_rules s q (fop.Bypass unit) = taking_outcome (with_queues s (record q { bypass = q.bypass ++ unit ∷ [] }))
+  by_rules s q (fop.Bypass unit) =
+      taking_outcome (with_queues s (record q { bypass = q.bypass ++ unit ∷ [] }))
   by_rules s q (fop.Direct directive) = settles q (directive_step s directive)
   by_rules s q fop.Pull = pulled_by s q (first_bypass (is_due s.control) q.bypass)
   by_rules s q (fop.Report report) = settles q (report_step s report)

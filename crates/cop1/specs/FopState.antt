@@ -46,7 +46,26 @@ pub record FopState (U : Type 0) : Type 0 where
 -- a new sender
 abbrev pub new_fop : {U : Type 0} → ℕ → ℕ → ℕ → ℕ → FopState U
 new_fop width window limit timer =
-    record { room = width / 2; state = S6; vs = 0; nn = 0; waiting = None; sent = []; bypass = []; window = window; limit = limit; timer = timer; ticks = None; count = 1; control = Idle }
+    record {
+      room =
+          width / 2;
+      state =
+          S6;
+      vs = 0;
+      nn =
+          0;
+      waiting = None;
+      sent =
+          [];
+      bypass = [];
+      window =
+          window;
+      limit = limit;
+      timer = timer;
+      ticks = None;
+      count = 1;
+      control = Idle;
+    }
 
 -- what is so of every sender
 pub record IsFop {U : Type 0} (s : FopState U) : Type 0 where

@@ -29,7 +29,8 @@ Answer {U = U} Pull = PulledUnit U
 Answer (Report report) = Option Alert
 Answer Tick = Option Alert
 
-abbrev pub fop_step : {U : Type 0} (s : FopState U) (input : FopInput U) → FopOutcome U (Answer input)
+abbrev pub fop_step : {U : Type 0} (s : FopState U) (input : FopInput U)
+    → FopOutcome U (Answer input)
 fop_step s (Submit unit) = submit_step s unit
 fop_step s (Bypass unit) = bypass_step s unit
 fop_step s (Direct directive) = directive_step s directive

@@ -7,7 +7,8 @@ use Rattle.cop1.specs.declared.fop.Alert.TheVariants.{Timer}
 use Rattle.cop1.specs.declared.fop.Control.{Control}
 use Rattle.cop1.specs.declared.fop.Control.TheVariants.{Idle, Due, Sent}
 use Rattle.cop1.specs.FopState.{FopState}
-use Rattle.cop1.specs.FopWords.{FopOutcome, after_restart, after_stop, after_repeat, alerts, goes_on}
+use Rattle.cop1.specs.FopWords.{FopOutcome, after_restart, after_stop, after_repeat, alerts}
+use Rattle.cop1.specs.FopWords.{goes_on}
 
 abbrev pub due_again : Control → Control
 due_again Idle = Idle

@@ -9,14 +9,16 @@ use Rattle.cop1.specs.FopWords.{FopOutcome}
 
 module _ {U : Type 0} where
   -- the unit comes back with the fault
-  abbrev pub comes_back : FopState U → CopFault → U → FopOutcome U (Result (Unit {0}) (CopFault × U))
+  abbrev pub comes_back : FopState U → CopFault → U
+      → FopOutcome U (Result (Unit {0}) (CopFault × U))
   comes_back s fault u = record { after = s; answer = Err (fault, u); gone = 0 }
 
   abbrev pub taking_outcome : FopState U → FopOutcome U (Result (Unit {0}) (CopFault × U))
   taking_outcome s = record { after = s; answer = Ok tt; gone = 0 }
 
   -- the wait queue has one place
-  abbrev pub waits_behind : FopState U → U → Option U → FopOutcome U (Result (Unit {0}) (CopFault × U))
+  abbrev pub waits_behind : FopState U → U → Option U
+      → FopOutcome U (Result (Unit {0}) (CopFault × U))
   waits_behind s u None = taking_outcome (record s { waiting = Some u })
   waits_behind s u (Some before) = comes_back s Busy u
 

@@ -36,7 +36,8 @@ module _ {U : Type 0} where
 
   -- Repeat: the whole sent queue is marked and counted, and the timer starts again
   abbrev pub after_repeat : FopState U → FopState U
-  after_repeat s = record s { sent = map marked_unit s.sent; count = s.count + 1; ticks = Some s.timer }
+  after_repeat s =
+      record s { sent = map marked_unit s.sent; count = s.count + 1; ticks = Some s.timer }
 
   -- Alert: nothing is kept but the bypass queue and the numbers
   abbrev pub after_alert : FopState U → FopState U

@@ -14,4 +14,5 @@ abbrev pub report_flags : FarmState → ClcwFlags
 report_flags s = flags_from (value_if s.lockout 32 + value_if s.wait 16 + value_if s.retransmit 8)
 
 abbrev pub report_of : FarmState → ℕ → Clcw
-report_of s vcid = record { status = 0; vcid = vcid; flags = report_flags s; farm_b = s.farm_b; value = s.vr }
+report_of s vcid =
+    record { status = 0; vcid = vcid; flags = report_flags s; farm_b = s.farm_b; value = s.vr }

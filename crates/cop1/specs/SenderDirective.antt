@@ -1,5 +1,7 @@
--- What a directive does at the sender (this project's profile of CCSDS 232.1-B-2, 5.2.4 and table 5-1).
-use Rattle.std.specs.Prelude.{ℕ, ◌==◌, ◌||◌, nat_lt, if◌then◌else◌, Option, Some, None, Result, Ok, Err}
+-- What a directive does at the sender (this project's profile of CCSDS 232.1-B-2, 5.2.4 and table
+-- 5-1).
+use Rattle.std.specs.Prelude.{ℕ, ◌==◌, ◌||◌, nat_lt, if◌then◌else◌, Option, Some, None, Result, Ok}
+use Rattle.std.specs.Prelude.{Err}
 use Rattle.tc_frame.specs.declared.frame.Command.TheVariants.{Unlock, SetVr}
 use Rattle.cop1.specs.declared.fault.CopFault.{CopFault}
 use Rattle.cop1.specs.declared.fault.CopFault.TheVariants.{Window, Limit, Timer, WrongState}
@@ -10,7 +12,9 @@ use Rattle.cop1.specs.declared.fop.Alert.TheVariants.{Terminated}
 use Rattle.cop1.specs.declared.fop.Control.{Control}
 use Rattle.cop1.specs.declared.fop.Control.TheVariants.{Idle, Due}
 use Rattle.cop1.specs.declared.fop.Directive.{Directive}
-use Rattle.cop1.specs.declared.fop.Directive.TheVariants.{InitWithoutCheck, InitWithCheck, InitUnlock, InitSetVr, Terminate, SetVs, SetWindow, SetLimit, SetTimer}
+use Rattle.cop1.specs.declared.fop.Directive.TheVariants.{InitWithoutCheck, InitWithCheck}
+use Rattle.cop1.specs.declared.fop.Directive.TheVariants.{InitUnlock, InitSetVr, Terminate, SetVs}
+use Rattle.cop1.specs.declared.fop.Directive.TheVariants.{SetWindow, SetLimit, SetTimer}
 use Rattle.cop1.specs.declared.sender.SenderFields.{SenderFields}
 use Rattle.cop1.specs.SenderWords.{SenderOutcome, after_restart, after_alert}
 
@@ -23,12 +27,15 @@ refuses s fault = record { after = s; answer = Err fault; gone = 0 }
 abbrev pub terminates : SenderFields → SenderOutcome (Result (Option Alert) CopFault)
 terminates s = record { after = after_alert s; answer = Ok (Some Terminated); gone = 0 }
 
--- an initiation begins with this number for V(S) and NN(R), in this state, and with the first transmission
+-- an initiation begins with this number for V(S) and NN(R), in this state, and with the first
+-- transmission
 abbrev pub after_begin : SenderFields → ℕ → FopMode → Control → SenderFields
-after_begin s x state control = record s { vs = x; nn = x; state = state; control = control; count = 1 }
+after_begin s x state control =
+    record s { vs = x; nn = x; state = state; control = control; count = 1 }
 
 -- what is obeyed in S6 alone
-abbrev pub from_S6 : SenderFields → FopMode → SenderFields → SenderOutcome (Result (Option Alert) CopFault)
+abbrev pub from_S6 : SenderFields → FopMode → SenderFields
+    → SenderOutcome (Result (Option Alert) CopFault)
 from_S6 s S1 next = refuses s WrongState
 from_S6 s S2 next = refuses s WrongState
 from_S6 s S3 next = refuses s WrongState
@@ -44,13 +51,15 @@ terminate_in s S4 = terminates s
 terminate_in s S5 = terminates s
 terminate_in s S6 = refuses s WrongState
 
-abbrev pub directive_step : SenderFields → Directive → SenderOutcome (Result (Option Alert) CopFault)
+abbrev pub directive_step : SenderFields → Directive
+    → SenderOutcome (Result (Option Alert) CopFault)
 directive_step s InitWithoutCheck = from_S6 s s.state (after_begin s s.vs S1 Idle)
 directive_step s InitWithCheck = from_S6 s s.state (after_restart (after_begin s s.vs S4 Idle))
 directive_step s InitUnlock = from_S6 s s.state (after_begin s s.vs S5 (Due Unlock))
 directive_step s (InitSetVr x) = from_S6 s s.state (after_begin s x S5 (Due (SetVr x)))
 directive_step s Terminate = terminate_in s s.state
 directive_step s (SetVs x) = from_S6 s s.state (record s { vs = x; nn = x })
-directive_step s (SetWindow k) = if (k == 0) || nat_lt s.room k then refuses s Window else obeys (record s { window = k })
+directive_step s (SetWindow k) =
+    if (k == 0) || nat_lt s.room k then refuses s Window else obeys (record s { window = k })
 directive_step s (SetLimit n) = if n == 0 then refuses s Limit else obeys (record s { limit = n })
 directive_step s (SetTimer t) = if t == 0 then refuses s Timer else obeys (record s { timer = t })

@@ -1,4 +1,5 @@
--- What goes on the link next, the first rule that applies (this project's profile of CCSDS 232.1-B-2, 5.2.7).
+-- What goes on the link next, the first rule that applies (this project's profile of CCSDS
+-- 232.1-B-2, 5.2.7).
 use Rattle.std.specs.Prelude.{ℕ, ◌+◌, ◌-◌, ◌%◌, ◌==◌, Bool, true, false, nat_lt, if◌then◌else◌}
 use Rattle.cop1.specs.Modulo.{ahead_by}
 use Rattle.cop1.specs.declared.fop.FopMode.{FopMode}
@@ -25,7 +26,13 @@ count_behind s = if s.sent == 0 then 1 else s.count
 
 abbrev pub after_send_first : SenderFields → SenderFields
 after_send_first s =
-    record (after_restart s) { waiting = false; sent = s.sent + 1; vs = (s.vs + 1) % 256; count = count_behind s }
+    record (after_restart s) {
+      waiting =
+          false;
+      sent = s.sent + 1;
+      vs = (s.vs + 1) % 256;
+      count = count_behind s;
+    }
 
 -- the unit that waits, where the window has room for it
 abbrev pub next_waiting : SenderFields → Bool → SenderOutcome SenderNext
@@ -38,7 +45,8 @@ next_waiting s true =
 abbrev pub next_sequence : SenderFields → SenderOutcome SenderNext
 next_sequence s =
     if s.due == 0 then next_waiting s s.waiting
-    else gives (record (after_restart s) { due = s.due - 1 }) (next.Again ((s.nn + (s.sent - s.due)) % 256))
+    else gives (record (after_restart s) { due = s.due - 1 })
+    (next.Again ((s.nn + (s.sent - s.due)) % 256))
 
 abbrev pub next_in : SenderFields → FopMode → SenderOutcome SenderNext
 next_in s S1 = next_sequence s
@@ -50,7 +58,8 @@ next_in s S6 = gives s next.Nothing
 
 -- the control command of S5, where it is due
 abbrev pub next_control : SenderFields → Control → SenderOutcome SenderNext
-next_control s (Due command) = gives (record (after_restart s) { control = Sent command }) (next.Control command)
+next_control s (Due command) =
+    gives (record (after_restart s) { control = Sent command }) (next.Control command)
 next_control s (Sent command) = next_in s s.state
 next_control s Idle = next_in s s.state
 

@@ -1,6 +1,7 @@
 -- What a report does at the sender, state by state and rule by rule (this project's profile of
 -- CCSDS 232.1-B-2, table 5-1).
-use Rattle.std.specs.Prelude.{ℕ, Bool, true, not, ◌&&◌, ◌==◌, nat_lt, if◌then◌else◌, Option, Some, None}
+use Rattle.std.specs.Prelude.{ℕ, Bool, true, not, ◌&&◌, ◌==◌, nat_lt, if◌then◌else◌, Option, Some}
+use Rattle.std.specs.Prelude.{None}
 use Rattle.clcw.specs.declared.word.Clcw.{Clcw}
 use Rattle.cop1.specs.Modulo.{ahead_by}
 use Rattle.cop1.specs.declared.fop.FopMode.{FopMode}
@@ -11,7 +12,8 @@ use Rattle.cop1.specs.declared.fop.Control.TheVariants.{Idle}
 use Rattle.cop1.specs.declared.sender.SenderFields.{SenderFields}
 use Rattle.cop1.specs.declared.sender.reporting.ReportAnswer.{ReportAnswer}
 use Rattle.cop1.specs.FopReport.{locks, waits, asks}
-use Rattle.cop1.specs.SenderWords.{SenderOutcome, is_outside, after_acknowledge, after_repeat, alerts, goes_on, after_gone}
+use Rattle.cop1.specs.SenderWords.{SenderOutcome, is_outside, after_acknowledge, after_repeat}
+use Rattle.cop1.specs.SenderWords.{alerts, goes_on, after_gone}
 
 -- the answer to a report
 abbrev pub report_answer : SenderOutcome (Option Alert) → ReportAnswer

@@ -1,5 +1,5 @@
--- The sender's numbers (CCSDS 232.1-B-2, 5.1), as this project's profile has them (docs/PROFILE.md), and what is so of
--- every sender.
+-- The sender's numbers (CCSDS 232.1-B-2, 5.1), as this project's profile has them
+-- (docs/PROFILE.md), and what is so of every sender.
 use Rattle.std.specs.Prelude.{◌≡◌, ◌≢◌, ◌≤◌, ◌<◌, ℕ, ◌/◌, false, None, IfSome}
 use Rattle.cop1.specs.Modulo.{ahead_by}
 use Rattle.cop1.specs.declared.fop.FopMode.TheVariants.{S5, S6}
@@ -9,7 +9,26 @@ use Rattle.cop1.specs.declared.sender.SenderFields.{SenderFields}
 -- a new sender
 abbrev pub new_sender : ℕ → ℕ → ℕ → ℕ → SenderFields
 new_sender width window limit timer =
-    record { room = width / 2; state = S6; vs = 0; nn = 0; waiting = false; sent = 0; due = 0; window = window; limit = limit; timer = timer; ticks = None; count = 1; control = Idle }
+    record {
+      room =
+          width / 2;
+      state =
+          S6;
+      vs = 0;
+      nn =
+          0;
+      waiting = false;
+      sent =
+          0;
+      due = 0;
+      window =
+          window;
+      limit = limit;
+      timer = timer;
+      ticks = None;
+      count = 1;
+      control = Idle;
+    }
 
 -- the ranges of the numbers
 pub record HasRanges (s : SenderFields) : Type 0 where

@@ -28,7 +28,8 @@ SenderAnswer Next = SenderNext
 SenderAnswer (Report report) = Option Alert
 SenderAnswer Tick = Option Alert
 
-abbrev pub sender_step : (s : SenderFields) (input : SenderInput) → SenderOutcome (SenderAnswer input)
+abbrev pub sender_step : (s : SenderFields) (input : SenderInput)
+    → SenderOutcome (SenderAnswer input)
 sender_step s Submit = submit_step s
 sender_step s (Direct directive) = directive_step s directive
 sender_step s Next = next_step s

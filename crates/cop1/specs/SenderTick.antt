@@ -6,7 +6,8 @@ use Rattle.cop1.specs.declared.fop.Alert.{Alert}
 use Rattle.cop1.specs.declared.fop.Alert.TheVariants.{Timer}
 use Rattle.cop1.specs.declared.sender.SenderFields.{SenderFields}
 use Rattle.cop1.specs.FopTick.{due_again}
-use Rattle.cop1.specs.SenderWords.{SenderOutcome, after_restart, after_stop, after_repeat, alerts, goes_on}
+use Rattle.cop1.specs.SenderWords.{SenderOutcome, after_restart, after_stop, after_repeat, alerts}
+use Rattle.cop1.specs.SenderWords.{goes_on}
 
 abbrev pub after_count : SenderFields → SenderFields
 after_count s = record (after_restart s) { count = s.count + 1 }

@@ -37,7 +37,8 @@ after_repeat s = record s { due = s.sent; count = s.count + 1; ticks = Some s.ti
 
 -- Alert: nothing is kept but the numbers
 abbrev pub after_alert : SenderFields → SenderFields
-after_alert s = record s { state = S6; sent = 0; due = 0; waiting = false; ticks = None; control = Idle }
+after_alert s =
+    record s { state = S6; sent = 0; due = 0; waiting = false; ticks = None; control = Idle }
 
 abbrev pub alerts : SenderFields → Alert → SenderOutcome (Option Alert)
 alerts s x = record { after = after_alert s; answer = Some x; gone = 0 }

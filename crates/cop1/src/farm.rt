@@ -62,7 +62,7 @@ pub(crate) enum Place {
     OutsideWindows,
 }
 
-/// What a receiver is told by (CCSDS 232.1-B-2, 6.1), which a node may keep and go on from.
+/// The fields that make a receiver (CCSDS 232.1-B-2, 6.1), which a node may keep and go on from.
 #[derive(Clone, Copy, Debug, PartialEq, Eq)]
 pub struct FarmFields {
     /// The window width, even, 2 to 254.

@@ -7,8 +7,6 @@ mod fault;
 mod fop;
 mod laws;
 mod sender;
-#[cfg(test)]
-mod tests;
 
 pub use farm::{Farm, FarmFields, FarmMode, Verdict};
 pub use fault::CopFault;

@@ -4,7 +4,7 @@ ghost use Rattle.std.specs.Prelude.{◌≡◌, [], None};
 
 use cop1::Farm;
 use listings::{
-    Call, Cutter, DeviceLog, DumpFault, FrameCutter, FrameLength, FrameListing, Listing,
+    Call, Cutter, DeviceLog, FrameCutter, FrameLength, FrameListing, Listing, ListingFault,
     MapListing, PacketListing, Reader, RefusalListing, TelemetryListing, Writer, list_stream,
     write_all,
 };
@@ -138,5 +138,5 @@ fn texts_and_logs(rt: HostRuntime) {
         Splitter::<Unchecked>::new(rt.alloc()),
         FrameListing,
     );
-    assert_eq!(rt; result, Err(DumpFault::Write));
+    assert_eq!(rt; result, Err(ListingFault::Write));
 }

@@ -21,10 +21,13 @@ gained_more a b c t e h =
     ap (drop (length a)) whole ∙ drop_at a (gained a b ++ t) (length a) refl
 
 pub gained_whole : (a b c t : List ℕ) → b ≡ a ++ gained a b → c ≡ b ++ t → c ≡ a ++ gained a c
-gained_whole a b c t e h = h ∙ ap (λ (x : List ℕ). x ++ t) e ∙ append_assoc a (gained a b) t ∙ ap (λ (x : List ℕ). a ++ x) (sym (gained_more a b c t e h))
+gained_whole a b c t e h =
+    h ∙ ap (λ (x : List ℕ). x ++ t) e ∙ append_assoc a (gained a b) t
+    ∙ ap (λ (x : List ℕ). a ++ x) (sym (gained_more a b c t e h))
 
 pub gained_none : (a b c t : List ℕ) → b ≡ a ++ gained a b → c ≡ b ++ t → t ≡ [] → gained a c ≡ gained a b
-gained_none a b c t e h none = gained_more a b c t e h ∙ ap (λ (x : List ℕ). gained a b ++ x) none ∙ append-nil (gained a b)
+gained_none a b c t e h none =
+    gained_more a b c t e h ∙ ap (λ (x : List ℕ). gained a b ++ x) none ∙ append-nil (gained a b)
 
 pub gained_nothing : (a : List ℕ) → gained a a ≡ []
 gained_nothing a = drop_all (length a) a (omega arith)

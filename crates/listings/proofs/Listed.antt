@@ -1,14 +1,17 @@
 -- How a listing goes on by a record, and how it ends.
-use Rattle.std.proofs.Common.{◌≡◌, ℕ, ◌+◌, ◌≤◌, Bool, true, false, List, [], ◌∷◌, ◌++◌, length, drop, Result, Ok, Err, refl, sym, ap, ◌∙◌, append_assoc, arith}
+use Rattle.std.proofs.Common.{◌≡◌, ℕ, ◌+◌, ◌≤◌, Bool, true, false, List, [], ◌∷◌, ◌++◌, length, drop, Result, Ok, Err}
+use Rattle.std.proofs.Common.{refl, sym, ap, ◌∙◌, append_assoc, arith}
 use Rattle.std.specs.Prelude.{◌&&◌, Some, None}
 use Rattle.std.specs.List.{list_all}
 use Rattle.std.proofs.lemmas.List.{append-nil, length-drop, length-append}
 use Rattle.std.proofs.Common.{cond, ltb, take, subst}
 use Rattle.std.proofs.lemmas.Bool.{lt-ltb}
 use Rattle.octets.specs.Records.{record_of}
-use Rattle.octets.proofs.Streams.{IsNoRecord, record_is, records_of-record, records_of-none, records_of-append, rest_of-append}
+use Rattle.octets.proofs.Streams.{IsNoRecord, record_is, records_of-record, records_of-none, records_of-append}
+use Rattle.octets.proofs.Streams.{rest_of-append}
 use Rattle.listings.specs.Layouts.{Layout, HasHeads, first_by, records_by, rest_by, extent_fault}
-use Rattle.listings.specs.Listing.{Lines, Standing, fresh, fed, record_lines, kept_behind, behind, listed, rest_line, text_of, is_empty}
+use Rattle.listings.specs.Listing.{Lines, Standing, fresh, fed, record_lines, kept_behind, behind, listed, rest_line}
+use Rattle.listings.specs.Listing.{text_of, is_empty}
 
 -- a listing of all octets so far, without its text
 abbrev pub bare : {S F : Type 0} → Lines S F → Layout F → S → List ℕ → Standing S
@@ -35,24 +38,29 @@ module _ {S F : Type 0} (lines : Lines S F) (layout : Layout F) (heads : HasHead
 
   -- how a listing stands, by its parts
   abbrev stands : List ℕ → S → ℕ → Bool → List ℕ → Standing S
-  stands text kept count all_good octets = record { text = text; kept = kept; count = count; all_good = all_good; octets = octets }
+  stands text kept count all_good octets =
+      record { text = text; kept = kept; count = count; all_good = all_good; octets = octets }
 
-  same_parts : (text text' : List ℕ) (kept : S) (count count' : ℕ) (good good' : Bool) (octets octets' : List ℕ) → text ≡ text' → count ≡ count' → good ≡ good' → octets ≡ octets'
+  same_parts : (text text' : List ℕ) (kept : S) (count count' : ℕ) (good good' : Bool) (octets octets' : List ℕ)
+      → text ≡ text' → count ≡ count' → good ≡ good' → octets ≡ octets'
       → stands text kept count good octets ≡ stands text' kept count' good' octets'
   same_parts text text' kept count count' good good' octets octets' t n g o =
       ap (λ (x : List ℕ). stands x kept count good octets) t ∙ ap (λ (x : ℕ). stands text' kept x good octets) n
       ∙ ap (λ (x : Bool). stands text' kept count' x octets) g ∙ ap (stands text' kept count' good') o
 
-  behind-cons : (st : Standing S) (r : List ℕ) (rs : List (List ℕ)) (rest : List ℕ) → behind lines st (r ∷ rs) rest ≡ behind lines (one_more st r) rs rest
+  behind-cons : (st : Standing S) (r : List ℕ) (rs : List (List ℕ)) (rest : List ℕ)
+      → behind lines st (r ∷ rs) rest ≡ behind lines (one_more st r) rs rest
   behind-cons st r rs rest =
       same_parts _ _ (kept_behind lines (lines.after st.kept r) rs) _ _ _ _ rest rest
-      (sym (append_assoc st.text (lines.line_of st.kept (st.count + 1) r) (record_lines lines (lines.after st.kept r) (st.count + 1 + 1) rs)))
+      (sym (append_assoc st.text (lines.line_of st.kept (st.count + 1) r)
+      (record_lines lines (lines.after st.kept r) (st.count + 1 + 1) rs)))
       (omega arith)
       (sym (and-assoc st.all_good (lines.is_good r) (list_all lines.is_good rs)))
       refl
 
-  -- where there is a record, the listing goes on behind it
-  pub listed-record : (st : Standing S) (r : List ℕ) → first_by layout st.octets ≡ Some (Ok r) → listed lines layout (one_more st r) ≡ listed lines layout st
+  -- where there is a record, the listing goes on after it
+  pub listed-record : (st : Standing S) (r : List ℕ) → first_by layout st.octets ≡ Some (Ok r)
+      → listed lines layout (one_more st r) ≡ listed lines layout st
   listed-record st r first =
       let split = records_of-record layout.head layout.extent heads.some_head heads.has_head st.octets r first in
       sym (
@@ -60,29 +68,43 @@ module _ {S F : Type 0} (lines : Lines S F) (layout : Layout F) (heads : HasHead
       ∙ ap (behind lines st (r ∷ records_by layout (drop (length r) st.octets))) split.1
       ∙ behind-cons st r (records_by layout (drop (length r) st.octets)) (rest_by layout (drop (length r) st.octets)))
 
-  -- how a listing stands behind the record that is first
-  pub goes_on : (st next : Standing S) (r : List ℕ) → first_by layout st.octets ≡ Some (Ok r) → next.text ≡ st.text ++ lines.line_of st.kept (st.count + 1) r → next.kept ≡ lines.after st.kept r
-      → next.count ≡ st.count + 1 → next.all_good ≡ st.all_good && lines.is_good r → next.octets ≡ drop (length r) st.octets
+  -- how a listing stands after the record that is first
+  pub goes_on : (st next : Standing S) (r : List ℕ) → first_by layout st.octets ≡ Some (Ok r)
+      → next.text ≡ st.text ++ lines.line_of st.kept (st.count + 1) r → next.kept ≡ lines.after st.kept r
+      → next.count ≡ st.count + 1 → next.all_good ≡ st.all_good && lines.is_good r
+      → next.octets ≡ drop (length r) st.octets
       → listed lines layout next ≡ listed lines layout st
   goes_on st next r first text kept count good octets =
       let parts = same_parts next.text _ next.kept next.count _ next.all_good _ next.octets _ text count good octets in
-      let whole : next ≡ one_more st r = parts ∙ ap (λ (x : S). stands (st.text ++ lines.line_of st.kept (st.count + 1) r) x (st.count + 1) (st.all_good && lines.is_good r) (drop (length r) st.octets)) kept in
+      let whole : next ≡ one_more st r =
+      parts ∙ ap (λ (x : S). stands (st.text ++ lines.line_of st.kept (st.count + 1) r) x (st.count + 1)
+      (st.all_good && lines.is_good r) (drop (length r) st.octets)) kept in
       ap (listed lines layout) whole ∙ listed-record st r first
 
-  -- fewer octets are left behind a record
-  pub shorter : (octets r : List ℕ) → first_by layout octets ≡ Some (Ok r) → length (drop (length r) octets) + 1 ≤ length octets
+  -- fewer octets are left after a record
+  pub shorter : (octets r : List ℕ) → first_by layout octets ≡ Some (Ok r)
+      → length (drop (length r) octets) + 1 ≤ length octets
   shorter octets r first =
       let is = record_is layout.head layout.extent heads.some_head heads.has_head octets r first in
-      omega (arith, length-drop (length r) octets, is.0.has_head, ap length is.1, length-append r (drop (length r) octets))
+      omega (
+        arith,
+        length-drop (length r) octets,
+        is.0.has_head,
+        ap length is.1,
+        length-append r
+            (drop (length r) octets),
+      )
 
   -- where there is none, it is as it was
-  pub listed-none : (st : Standing S) → IsNoRecord layout.head layout.extent (first_by layout st.octets) → listed lines layout st ≡ st
+  pub listed-none : (st : Standing S) → IsNoRecord layout.head layout.extent (first_by layout st.octets)
+      → listed lines layout st ≡ st
   listed-none st none =
       let split = records_of-none layout.head layout.extent heads.some_head heads.has_head st.octets none in
       ap (λ (x : List (List ℕ)). behind lines st x (rest_by layout st.octets)) split.0
       ∙ same_parts _ _ st.kept _ _ _ _ _ _ (append-nil st.text) (omega arith) (and-true st.all_good) split.1
 
-  behind-append : (st : Standing S) (rs rs' : List (List ℕ)) (rest rest' : List ℕ) → behind lines st (rs ++ rs') rest' ≡ behind lines (behind lines st rs rest) rs' rest'
+  behind-append : (st : Standing S) (rs rs' : List (List ℕ)) (rest rest' : List ℕ)
+      → behind lines st (rs ++ rs') rest' ≡ behind lines (behind lines st rs rest) rs' rest'
   behind-append st [] rs' rest rest' =
       same_parts _ _ (kept_behind lines st.kept rs') _ _ _ _ rest' rest'
       (ap (λ (t : List ℕ). t ++ record_lines lines st.kept (st.count + 1) rs') (sym (append-nil st.text))
@@ -98,19 +120,23 @@ module _ {S F : Type 0} (lines : Lines S F) (layout : Layout F) (heads : HasHead
       ∙ ap (λ (x : Standing S). behind lines x rs' rest') (sym (behind-cons st r rs rest))
 
   -- however the octets come, the listing of all is that of the first and then of what is left with those that follow
-  pub listed-fed : (st : Standing S) (more : List ℕ) → listed lines layout (fed (listed lines layout st) more) ≡ listed lines layout (fed st more)
+  pub listed-fed : (st : Standing S) (more : List ℕ)
+      → listed lines layout (fed (listed lines layout st) more) ≡ listed lines layout (fed st more)
   listed-fed st more =
       let records = records_of-append layout.head layout.extent heads.some_head heads.has_head st.octets more in
       let rest = rest_of-append layout.head layout.extent heads.some_head heads.has_head st.octets more in
       sym (
       ap (λ (x : List (List ℕ)). behind lines (fed st more) x (rest_by layout (st.octets ++ more))) records
-      ∙ ap (behind lines (fed st more) (records_by layout st.octets ++ records_by layout (rest_by layout st.octets ++ more))) rest
-      ∙ behind-append st (records_by layout st.octets) (records_by layout (rest_by layout st.octets ++ more)) (rest_by layout st.octets) (rest_by layout (rest_by layout st.octets ++ more)))
+      ∙ ap (behind lines (fed st more) (records_by layout st.octets
+      ++ records_by layout (rest_by layout st.octets ++ more))) rest
+      ∙ behind-append st (records_by layout st.octets) (records_by layout (rest_by layout st.octets ++ more))
+      (rest_by layout st.octets) (rest_by layout (rest_by layout st.octets ++ more)))
 
   -- ---- the line of a rest
 
   -- why an extent was refused
-  refused_fault : (octets : List ℕ) (x : Result ℕ F) (e : F) → record_of layout.head layout.extent octets x ≡ Some (Err e) → extent_fault layout x ≡ e
+  refused_fault : (octets : List ℕ) (x : Result ℕ F) (e : F)
+      → record_of layout.head layout.extent octets x ≡ Some (Err e) → extent_fault layout x ≡ e
   refused_fault octets (Ok n) e h = absurd (not_cut (ltb (length octets) n) h)
     where
       not_cut : (b : Bool) → cond b None (Some (Ok (take n octets))) ≡ Some (Err e) → ⊥
@@ -118,18 +144,23 @@ module _ {S F : Type 0} (lines : Lines S F) (layout : Layout F) (heads : HasHead
       not_cut false k = cc
   refused_fault octets (Err f) e h = cc
 
-  fault_of : (octets : List ℕ) (e : F) (b : Bool) → cond b None (record_of layout.head layout.extent octets (layout.extent (take layout.head octets))) ≡ Some (Err e)
+  fault_of : (octets : List ℕ) (e : F) (b : Bool)
+      → cond b None (record_of layout.head layout.extent octets (layout.extent (take layout.head octets)))
+      ≡ Some (Err e)
       → cond b layout.truncated (extent_fault layout (layout.extent (take layout.head octets))) ≡ e
   fault_of octets e true h = absurd cc
   fault_of octets e false h = refused_fault octets (layout.extent (take layout.head octets)) e h
 
   -- octets that are refused have the line of their fault
-  pub rest_line-refused : (i : ℕ) (octets : List ℕ) (e : F) → first_by layout octets ≡ Some (Err e) → rest_line lines layout i octets ≡ lines.fault_line i e
+  pub rest_line-refused : (i : ℕ) (octets : List ℕ) (e : F) → first_by layout octets ≡ Some (Err e)
+      → rest_line lines layout i octets ≡ lines.fault_line i e
   rest_line-refused i [] e h =
       let short : ltb 0 layout.head ≡ true = lt-ltb 0 layout.head (omega (arith, heads.some_head)) in
       absurd (none_is (ltb 0 layout.head) short h)
     where
-      none_is : (b : Bool) → b ≡ true → cond b None (record_of layout.head layout.extent [] (layout.extent (take layout.head []))) ≡ Some (Err e) → ⊥
+      none_is : (b : Bool) → b ≡ true
+          → cond b None (record_of layout.head layout.extent [] (layout.extent (take layout.head []))) ≡ Some (Err e)
+          → ⊥
       none_is true t k = cc
       none_is false t k = cc
   rest_line-refused i (x ∷ xs) e h = ap (lines.fault_line i) (fault_of (x ∷ xs) e (ltb (length (x ∷ xs)) layout.head) h)
@@ -138,11 +169,14 @@ module _ {S F : Type 0} (lines : Lines S F) (layout : Layout F) (heads : HasHead
 
   -- what a piece adds to a listing of all octets before it
   pub record IsFed (s : S) (octets piece : List ℕ) (code : Standing S) : Type 0 where
-    pub text : (listed lines layout (fresh s (octets ++ piece))).text ≡ (listed lines layout (fresh s octets)).text ++ (listed lines layout (fed code piece)).text
+    pub text : (listed lines layout (fresh s (octets ++ piece))).text ≡ (listed lines layout (fresh s octets)).text
+        ++ (listed lines layout (fed code piece)).text
     pub stands_so : record (listed lines layout (fed code piece)) { text = [] } ≡ bare lines layout s (octets ++ piece)
-    pub all : text_of lines layout (fresh s (octets ++ piece)) ≡ (listed lines layout (fresh s octets)).text ++ text_of lines layout (fed code piece)
+    pub all : text_of lines layout (fresh s (octets ++ piece)) ≡ (listed lines layout (fresh s octets)).text
+        ++ text_of lines layout (fed code piece)
 
-  pub is_fed : (s : S) (octets piece : List ℕ) (code : Standing S) → code ≡ bare lines layout s octets → IsFed s octets piece code
+  pub is_fed : (s : S) (octets piece : List ℕ) (code : Standing S) → code ≡ bare lines layout s octets
+      → IsFed s octets piece code
   is_fed s octets piece code is =
       let now : Standing S = listed lines layout (fresh s octets) in
       let later : Standing S = listed lines layout (fed now piece) in
@@ -151,21 +185,26 @@ module _ {S F : Type 0} (lines : Lines S F) (layout : Layout F) (heads : HasHead
         text = ap (λ (x : Standing S). x.text) (sym e);
         stands_so = ap (λ (x : Standing S). record x { text = [] }) e;
         all = ap (λ (x : Standing S). x.text ++ rest_line lines layout (x.count + 1) x.octets) (sym e)
-            ∙ append_assoc now.text (listed lines layout (fed (bare lines layout s octets) piece)).text (rest_line lines layout (later.count + 1) later.octets);
+            ∙ append_assoc now.text (listed lines layout (fed (bare lines layout s octets) piece)).text
+            (rest_line lines layout (later.count + 1) later.octets);
       })
 
   -- nothing is listed of no octets
   pub listed-nothing : (s : S) → listed lines layout (fresh s []) ≡ fresh s []
-  listed-nothing s = listed-none (fresh s []) (none_in (ltb 0 layout.head) (lt-ltb 0 layout.head (omega (arith, heads.some_head))))
+  listed-nothing s =
+      listed-none (fresh s []) (none_in (ltb 0 layout.head) (lt-ltb 0 layout.head (omega (arith, heads.some_head))))
     where
-      none_in : (b : Bool) → b ≡ true → IsNoRecord layout.head layout.extent (cond b None (record_of layout.head layout.extent [] (layout.extent (take layout.head []))))
+      none_in : (b : Bool) → b ≡ true
+          → IsNoRecord layout.head layout.extent
+          (cond b None (record_of layout.head layout.extent [] (layout.extent (take layout.head []))))
       none_in true t = tt
       none_in false t = absurd cc
 
   pub first_record-nothing : first_by layout [] ≡ None
   first_record-nothing = none_of (ltb 0 layout.head) (lt-ltb 0 layout.head (omega (arith, heads.some_head)))
     where
-      none_of : (b : Bool) → b ≡ true → cond b None (record_of layout.head layout.extent [] (layout.extent (take layout.head []))) ≡ None
+      none_of : (b : Bool) → b ≡ true
+          → cond b None (record_of layout.head layout.extent [] (layout.extent (take layout.head []))) ≡ None
       none_of true t = refl
       none_of false t = absurd cc
 

@@ -1,4 +1,5 @@
--- What the calls of a device did: reads, which take octets from it, or writes, which hand octets to it.
+-- What the calls of a device did: reads, which take octets from it, or writes, which hand octets to
+-- it.
 use Rattle.std.specs.Prelude.{ℕ, ◌+◌, Bool, ◌==◌, List, ◌++◌, length}
 use Rattle.listings.specs.declared.device_log.Call.{Call}
 use Rattle.listings.specs.declared.device_log.Call.TheVariants.{Moved, Failed}

@@ -1,29 +1,30 @@
--- How many calls of a device failed in a function that answers so: one where it answers the device's fault, and else none.
+-- How many calls of a device failed in a function that answers so: one where it answers the
+-- device's fault, and else none.
 use Rattle.std.specs.Prelude.{ℕ, Result, Ok, Err}
 use Rattle.listings.specs.declared.output.WriteFailed.{WriteFailed}
-use Rattle.listings.specs.declared.fault.DumpFault.{DumpFault}
-use Rattle.listings.specs.declared.fault.DumpFault.TheVariants.{Read, Write, Memory, TooLong}
+use Rattle.listings.specs.declared.fault.ListingFault.{ListingFault}
+use Rattle.listings.specs.declared.fault.ListingFault.TheVariants.{Read, Write, Memory, TooLong}
 
 abbrev pub failed_in : Result (Unit {0}) WriteFailed → ℕ
 failed_in (Ok _) = 0
 failed_in (Err _) = 1
 
-abbrev pub reads_failed : DumpFault → ℕ
+abbrev pub reads_failed : ListingFault → ℕ
 reads_failed Read = 1
 reads_failed Write = 0
 reads_failed Memory = 0
 reads_failed TooLong = 0
 
-abbrev pub writes_failed : DumpFault → ℕ
+abbrev pub writes_failed : ListingFault → ℕ
 writes_failed Read = 0
 writes_failed Write = 1
 writes_failed Memory = 0
 writes_failed TooLong = 0
 
-abbrev pub reads_failed_in : {A : Type 0} → Result A DumpFault → ℕ
+abbrev pub reads_failed_in : {A : Type 0} → Result A ListingFault → ℕ
 reads_failed_in (Ok _) = 0
 reads_failed_in (Err fault) = reads_failed fault
 
-abbrev pub writes_failed_in : {A : Type 0} → Result A DumpFault → ℕ
+abbrev pub writes_failed_in : {A : Type 0} → Result A ListingFault → ℕ
 writes_failed_in (Ok _) = 0
 writes_failed_in (Err fault) = writes_failed fault

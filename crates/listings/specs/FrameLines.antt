@@ -1,4 +1,4 @@
--- The lines of `tctool tc`: what each frame says.
+-- The lines of TC frames: the fields of each.
 use Rattle.std.specs.Prelude.{ℕ, is_ok, List, ◌++◌, codes, decimal, Result, Ok, Err}
 use Rattle.tc_frame.specs.declared.frame.Check.{Check}
 use Rattle.tc_frame.specs.declared.frame.Command.TheVariants.{Unlock, SetVr}
@@ -16,11 +16,15 @@ type_word (Bc command) = codes "BC"
 
 -- the frame's type, and the channel that it came on
 abbrev pub channel_text : FrameView → List ℕ
-channel_text f = type_word f.body ++ (codes " scid=" ++ (decimal f.scid ++ (codes " vcid=" ++ decimal f.vcid)))
+channel_text f =
+    type_word f.body ++ (codes " scid=" ++ (decimal f.scid ++ (codes " vcid=" ++ decimal f.vcid)))
 
 -- a segment, up to the end of the line
 abbrev pub segment_text : SegmentView → List ℕ
-segment_text s = codes " seg=" ++ (decimal (flags_code s.header.flags) ++ (codes " map=" ++ (decimal s.header.map ++ (codes " data=" ++ octets_line s.payload))))
+segment_text s =
+    codes " seg="
+    ++ (decimal (flags_code s.header.flags)
+    ++ (codes " map=" ++ (decimal s.header.map ++ (codes " data=" ++ octets_line s.payload))))
 
 -- what the frame carries, up to the end of the line
 abbrev pub body_line : BodyView → List ℕ
@@ -33,7 +37,7 @@ abbrev pub frame_line : ℕ → Result FrameView TcFault → List ℕ
 frame_line i (Ok f) = decimal i ++ (codes " " ++ (channel_text f ++ body_line f.body))
 frame_line i (Err e) = frame_fault_line i e
 
--- what `tctool tc` writes of frames
+-- what is written of frames
 abbrev pub frame_lines : Check → Lines (Unit {0}) TcFault
 frame_lines check = record {
   line_of = λ s i octets. frame_line i (frame_at check octets);

@@ -1,5 +1,7 @@
--- How a stream of octets is cut into records, and the three ways in which the files of the commands are.
-use Rattle.std.specs.Prelude.{◌≡◌, ◌≤◌, ℕ, List, take, length, nat_lt, if◌then◌else◌, Option, Some, Result, Ok, Err}
+-- How a stream of octets is cut into records, and the three ways in which the files of the commands
+-- are.
+use Rattle.std.specs.Prelude.{◌≡◌, ◌≤◌, ℕ, List, take, length, nat_lt, if◌then◌else◌, Option, Some}
+use Rattle.std.specs.Prelude.{Result, Ok, Err}
 use Rattle.octets.specs.Records.{first_record, records_of, rest_of}
 use Rattle.tc_frame.specs.declared.frame.Check.{Check}
 use Rattle.tc_frame.specs.declared.fault.TcFault.{TcFault}
@@ -34,7 +36,7 @@ module _ {F : Type 0} (layout : Layout F) where
   abbrev pub records_by : List ℕ → List (List ℕ)
   records_by octets = records_of layout.head layout.extent octets
 
-  -- the octets behind them
+  -- the octets after them
   abbrev pub rest_by : List ℕ → List ℕ
   rest_by octets = rest_of layout.head layout.extent octets
 
@@ -50,15 +52,17 @@ module _ {F : Type 0} (layout : Layout F) where
   -- why octets that begin with no whole record are refused
   abbrev pub rest_fault : List ℕ → F
   rest_fault rest =
-      if nat_lt (length rest) layout.head then layout.truncated else extent_fault (layout.extent (take layout.head rest))
+      if nat_lt (length rest) layout.head then layout.truncated else extent_fault
+      (layout.extent (take layout.head rest))
 
 -- ---- the layouts of the commands
 
--- telecommand frames, with or without their check: the first five octets tell the length (CCSDS 232.0-B-4, 4.1.2)
+-- telecommand frames, with or without their check: the first five octets tell the length (CCSDS
+-- 232.0-B-4, 4.1.2)
 abbrev pub frame_layout : Check → Layout TcFault
 frame_layout check = record { head = 5; extent = total_at check; truncated = Short }
 
--- every so many octets are a telemetry frame, whatever they are
+-- every this many octets are a telemetry frame, whatever they are
 abbrev pub frame_extent : ℕ → List ℕ → Result ℕ TmFault
 frame_extent size head = Ok size
 

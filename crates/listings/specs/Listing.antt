@@ -1,21 +1,24 @@
--- What a command writes of a stream of records: the lines of each record in turn, and a line for a rest.
-use Rattle.std.specs.Prelude.{◌≡◌, None, ℕ, ◌+◌, Bool, true, false, ◌&&◌, List, [], ◌∷◌, ◌++◌, length}
+-- What a command writes of a stream of records: the lines of each record in turn, and a line for a
+-- rest.
+use Rattle.std.specs.Prelude.{◌≡◌, None, ℕ, ◌+◌, Bool, true, false, ◌&&◌, List, [], ◌∷◌, ◌++◌}
+use Rattle.std.specs.Prelude.{length}
 use Rattle.std.specs.List.{list_all}
 use Rattle.listings.specs.Layouts.{Layout, first_by, records_by, rest_by, rest_fault, IsRefused}
 
--- What a command writes. S is what it keeps between two records, F is why octets are refused as no record.
+-- What a command writes. S is what it keeps between two records, F is why octets are refused as no
+-- record.
 pub record Lines (S F : Type 0) : Type 0 where
   -- the lines of a record with this number
   pub line_of : S → ℕ → List ℕ → List ℕ
-  -- what is kept behind a record
+  -- what is kept after a record
   pub after : S → List ℕ → S
   -- whether a record is good
   pub is_good : List ℕ → Bool
   -- the line of octets with this number that are no record
   pub fault_line : ℕ → F → List ℕ
 
--- How a listing stands: the text so far, what is kept, how many records there were and whether all were good, and the
--- octets that are not listed yet.
+-- How a listing stands: the text so far, what is kept, how many records there were and whether all
+-- were good, and the octets that are not listed yet.
 pub record Standing (S : Type 0) : Type 0 where
   pub text : List ℕ
   pub kept : S
@@ -41,12 +44,12 @@ module _ {S F : Type 0} (lines : Lines S F) where
   record_lines s i [] = []
   record_lines s i (r ∷ rs) = lines.line_of s i r ++ record_lines (lines.after s r) (i + 1) rs
 
-  -- what is kept behind records
+  -- what is kept after records
   abbrev pub kept_behind : S → List (List ℕ) → S
   kept_behind s [] = s
   kept_behind s (r ∷ rs) = kept_behind (lines.after s r) rs
 
-  -- a listing behind these records, with these octets left
+  -- a listing after these records, with these octets left
   abbrev pub behind : Standing S → List (List ℕ) → List ℕ → Standing S
   behind st records rest = record {
     text = st.text ++ record_lines st.kept (st.count + 1) records;
@@ -70,11 +73,11 @@ module _ {S F : Type 0} (lines : Lines S F) where
     abbrev pub text_of : Standing S → List ℕ
     text_of st = (listed st).text ++ rest_line ((listed st).count + 1) (listed st).octets
 
-    -- whether all records are good and nothing is left behind them
+    -- whether all records are good and nothing is left after them
     abbrev pub is_all_good : Standing S → Bool
     is_all_good st = (listed st).all_good && is_empty (listed st).octets
 
-    -- Octets were listed: the text is written, and more octets may come behind those that are left.
+    -- Octets were listed: the text is written, and more octets may come after those that are left.
     pub record HasListed (st next : Standing S) (before now : List ℕ) : Type 0 where
       pub written : now ≡ before ++ (listed st).text
       pub next_is : next ≡ record (listed st) { text = [] }

@@ -1,6 +1,7 @@
--- The lines of `tctool map`: the packets out of each frame, by the receiver's table and then by the assembler's, and what
--- is dropped.
-use Rattle.std.specs.Prelude.{ℕ, is_ok, Bool, true, false, ◌&&◌, List, [], ◌++◌, map, replicate, codes, decimal, if◌then◌else◌, Option, Some, None, Result, Ok, Err}
+-- The packets out of each frame, by the receiver's table and then by the assembler's, and what is
+-- dropped.
+use Rattle.std.specs.Prelude.{ℕ, is_ok, Bool, true, false, ◌&&◌, List, [], ◌++◌, map, replicate}
+use Rattle.std.specs.Prelude.{codes, decimal, if◌then◌else◌, Option, Some, None, Result, Ok, Err}
 use Rattle.std.specs.List.{concat}
 use Rattle.tc_frame.specs.declared.frame.Check.{Check}
 use Rattle.tc_frame.specs.declared.frame.SegmentFlags.{SegmentFlags}
@@ -10,7 +11,8 @@ use Rattle.tc_frame.specs.Layout.{SegmentView, BodyView, Ad, Bd, Bc, FrameView}
 use Rattle.tc_frame.specs.Reading.{frame_at}
 use Rattle.cop1.specs.Farm.{FarmState, new_farm, verdict_of}
 use Rattle.cop1.specs.declared.farm.Verdict.{Verdict}
-use Rattle.cop1.specs.declared.farm.Verdict.TheVariants.{Accepted, Ahead, NoBuffer, Behind, Outside, Discarded}
+use Rattle.cop1.specs.declared.farm.Verdict.TheVariants.{Accepted, Ahead, NoBuffer, Behind, Outside}
+use Rattle.cop1.specs.declared.farm.Verdict.TheVariants.{Discarded}
 use Rattle.map_service.specs.declared.dropped.Dropped.{Dropped}
 use Rattle.map_service.specs.declared.limits.Limits.{Limits}
 use Rattle.map_service.specs.Causes.{cause_name}
@@ -29,7 +31,8 @@ pub record MapState : Type 0 where
 
 -- all MAPs are open, a segment has at most 1,016 octets of data, and a packet at most 65,542
 abbrev pub map_limits : Bool → Limits
-map_limits blocking = record { part = 1016; max_packet = 65542; maps = 18446744073709551615; blocking = blocking }
+map_limits blocking =
+    record { part = 1016; max_packet = 65542; maps = 18446744073709551615; blocking = blocking }
 
 -- an assembler with no part open
 abbrev pub none_open : Bool → AssemblerState
@@ -37,7 +40,8 @@ none_open blocking = record { limits = map_limits blocking; parts = replicate 64
 
 -- before the first frame
 abbrev pub map_opened : ℕ → ℕ → Bool → MapState
-map_opened width vr blocking = record { receiver = new_farm width vr; assembler = none_open blocking }
+map_opened width vr blocking =
+    record { receiver = new_farm width vr; assembler = none_open blocking }
 
 -- ---- what the assembler is given
 
@@ -60,7 +64,7 @@ abbrev pub assembler_after : AssemblerState → Option SegmentView → Assembler
 assembler_after a None = a
 assembler_after a (Some s) = after_step a s
 
--- the receiver and the assembler behind a frame
+-- the receiver and the assembler after a frame
 abbrev pub after_body : MapState → BodyView → MapState
 after_body x body = record {
   receiver = farms.after_body x.receiver body;
@@ -111,7 +115,8 @@ is_bypass s = are_alone s.header.flags && is_packet s.payload
 
 abbrev pub bypass_text : ℕ → SegmentView → List ℕ
 bypass_text i s =
-    if is_bypass s then on_map_line (codes "bypass ") s.header.map s.payload else dropped_line i (codes "Bypass")
+    if is_bypass s then on_map_line (codes "bypass ") s.header.map s.payload else dropped_line i
+    (codes "Bypass")
 
 -- the lines of a frame
 abbrev pub body_text : MapState → ℕ → BodyView → List ℕ
@@ -123,7 +128,7 @@ abbrev pub record_text : MapState → ℕ → Result FrameView TcFault → List 
 record_text x i (Ok f) = body_text x i f.body
 record_text x i (Err e) = frame_fault_line i e
 
--- what `tctool map` writes of frames; what is dropped makes no frame bad
+-- what is written of frames; what is dropped makes no frame bad
 abbrev pub map_lines : Check → Lines MapState TcFault
 map_lines check = record {
   line_of = λ x i octets. record_text x i (frame_at check octets);

@@ -1,5 +1,7 @@
--- The lines of `tctool packets`: what each packet says, and how many of its application process are missing before it.
-use Rattle.std.specs.Prelude.{ℕ, is_ok, List, ◌++◌, codes, decimal, get_or, replicate, Option, Some, None, Result, Ok, Err}
+-- The lines of packets: what each packet says, and how many of its application process are
+-- missing before it.
+use Rattle.std.specs.Prelude.{ℕ, is_ok, List, ◌++◌, codes, decimal, get_or, replicate, Option, Some}
+use Rattle.std.specs.Prelude.{None, Result, Ok, Err}
 use Rattle.space_packet.specs.declared.packet.PacketKind.{PacketKind}
 use Rattle.space_packet.specs.declared.packet.PacketKind.TheVariants.{Telemetry, Telecommand}
 use Rattle.space_packet.specs.declared.fault.PacketFault.{PacketFault}
@@ -16,7 +18,8 @@ kind_word Telecommand = codes "TC"
 
 -- the packet identification, of a word for the type and the flag as a number
 abbrev pub process_text : List ℕ → ℕ → ℕ → List ℕ
-process_text kind secondary apid = kind ++ (codes " secondary=" ++ (decimal secondary ++ (codes " apid=" ++ decimal apid)))
+process_text kind secondary apid =
+    kind ++ (codes " secondary=" ++ (decimal secondary ++ (codes " apid=" ++ decimal apid)))
 
 -- the packet sequence control
 abbrev pub sequence_text : PacketView → List ℕ
@@ -36,15 +39,18 @@ abbrev pub gap_before : List (Option ℕ) → PacketView → Option ℕ
 gap_before seen p = gap_after (get_or seen p.apid None) p.count
 
 abbrev pub packet_line : List (Option ℕ) → ℕ → Result (PacketView × ℕ) PacketFault → List ℕ
-packet_line seen i (Ok (p, n)) = decimal i ++ (codes " " ++ (process_text (kind_word p.kind) (secondary_bit p.secondary) p.apid ++ (sequence_text p ++ (gap_text (gap_before seen p) ++ octets_line p.payload))))
+packet_line seen i (Ok (p, n)) =
+    decimal i ++ (codes " "
+    ++ (process_text (kind_word p.kind) (secondary_bit p.secondary) p.apid
+    ++ (sequence_text p ++ (gap_text (gap_before seen p) ++ octets_line p.payload))))
 packet_line seen i (Err e) = packet_fault_line i e
 
--- the last counts behind a packet
+-- the last counts after a packet
 abbrev pub after_packet : List (Option ℕ) → Result (PacketView × ℕ) PacketFault → List (Option ℕ)
 after_packet seen (Ok (p, n)) = counts_seen seen p.apid p.count
 after_packet seen (Err e) = seen
 
--- what `tctool packets` writes
+-- what is written of packets
 abbrev pub packet_lines : Lines (List (Option ℕ)) PacketFault
 packet_lines = record {
   line_of = λ seen i octets. packet_line seen i (packet_at octets);

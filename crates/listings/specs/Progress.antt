@@ -4,7 +4,15 @@ use Rattle.listings.specs.declared.stream.Progress.{Progress}
 use Rattle.listings.specs.Listing.{Standing}
 
 abbrev pub standing : {S : Type 0} → List ℕ → S → Progress → List ℕ → Standing S
-standing text kept progress octets = record { text = text; kept = kept; count = progress.count; all_good = progress.all_good; octets = octets }
+standing text kept progress octets =
+    record {
+      text =
+          text;
+      kept = kept;
+      count = progress.count;
+      all_good = progress.all_good;
+      octets = octets;
+    }
 
 -- a where_refused, or that octets are missing
 abbrev pub where_refused : {F : Type 0} → Option F → Option (Result (List ℕ) F)

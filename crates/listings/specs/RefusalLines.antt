@@ -1,4 +1,4 @@
--- The lines of `tctool check`: the frames that are refused.
+-- The lines of refused frames: the frames that are refused.
 use Rattle.std.specs.Prelude.{ℕ, is_ok, List, [], Result, Ok, Err}
 use Rattle.tc_frame.specs.declared.frame.Check.TheVariants.{On}
 use Rattle.tc_frame.specs.declared.fault.TcFault.{TcFault}
@@ -12,7 +12,7 @@ abbrev pub refusal_line : ℕ → Result FrameView TcFault → List ℕ
 refusal_line i (Ok f) = []
 refusal_line i (Err e) = frame_fault_line i e
 
--- what `tctool check` writes of frames that end with their check
+-- what is written of frames that end with their check
 abbrev pub refusal_lines : Lines (Unit {0}) TcFault
 refusal_lines = record {
   line_of = λ s i octets. refusal_line i (frame_at On octets);

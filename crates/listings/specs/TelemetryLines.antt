@@ -1,4 +1,5 @@
--- The lines of `tctool tm`: what each frame says, how many are missing before it, and the packets that are finished with it.
+-- The lines of TM frames: what each frame says, how many are missing before it, and the packets
+-- that are finished with it.
 use Rattle.std.specs.Prelude.{ℕ, is_ok, List, ◌++◌, map, codes, decimal, Result, Ok, Err}
 use Rattle.std.specs.List.{concat}
 use Rattle.hex.specs.Hex.{encode_upper}
@@ -16,7 +17,12 @@ use Rattle.listings.specs.Text.{octets_line, line_end}
 
 -- a frame's number, the channel that it came on, and its counts
 abbrev pub counts_text : ℕ → FrameView → List ℕ
-counts_text i f = decimal i ++ (codes " scid=" ++ (decimal f.scid ++ (codes " vcid=" ++ (decimal f.vcid ++ (codes " mc=" ++ (decimal f.mc_count ++ (codes " vc=" ++ decimal f.vc_count)))))))
+counts_text i f =
+    decimal i ++ (codes " scid="
+    ++ (decimal f.scid
+    ++ (codes " vcid="
+    ++ (decimal f.vcid
+    ++ (codes " mc=" ++ (decimal f.mc_count ++ (codes " vc=" ++ decimal f.vc_count)))))))
 
 -- the place where a packet starts, or that none does
 abbrev pub pointer_text : Pointer → List ℕ
@@ -30,7 +36,11 @@ lost_text First = codes "-"
 lost_text (Lost n) = decimal n
 
 abbrev pub frame_line : ℕ → FrameView → Gap → List ℕ
-frame_line i f gap = counts_text i f ++ (codes " pointer=" ++ (pointer_text f.pointer ++ (codes " ocf=" ++ (encode_upper f.ocf ++ (codes " gap=" ++ (lost_text gap ++ line_end))))))
+frame_line i f gap =
+    counts_text i f
+    ++ (codes " pointer="
+    ++ (pointer_text f.pointer
+    ++ (codes " ocf=" ++ (encode_upper f.ocf ++ (codes " gap=" ++ (lost_text gap ++ line_end))))))
 
 -- the line of a packet that is finished
 abbrev pub finished_line : List ℕ → List ℕ
@@ -41,15 +51,16 @@ finished_lines packets = concat (map finished_line packets)
 
 -- the lines of a record, from the extractor before it
 abbrev pub record_text : ExtractorState → ℕ → Result FrameView TmFault → List ℕ
-record_text x i (Ok f) = frame_line i f (extract_step x f).gap ++ finished_lines (extract_step x f).packets
+record_text x i (Ok f) =
+    frame_line i f (extract_step x f).gap ++ finished_lines (extract_step x f).packets
 record_text x i (Err e) = telemetry_fault_line i e
 
--- the extractor behind a record; it is not given one that is refused
+-- the extractor after a record; it is not given one that is refused
 abbrev pub after_record : ExtractorState → Result FrameView TmFault → ExtractorState
 after_record x (Ok f) = (extract_step x f).after
 after_record x (Err e) = x
 
--- what `tctool tm` writes of frames of so many octets; one extractor takes them all
+-- what is written of frames of this many octets; one extractor takes them all
 abbrev pub telemetry_lines : ℕ → Lines ExtractorState TmFault
 telemetry_lines size = record {
   line_of = λ x i octets. record_text x i (frame_at size octets);

@@ -8,7 +8,8 @@ line_end = 10 ∷ []
 
 -- the line of a refused record, or of a rest
 abbrev pub invalid_line : ℕ → ℕ → List ℕ → List ℕ
-invalid_line i number name = decimal i ++ (codes " invalid " ++ (decimal number ++ (codes " " ++ (name ++ line_end))))
+invalid_line i number name =
+    decimal i ++ (codes " invalid " ++ (decimal number ++ (codes " " ++ (name ++ line_end))))
 
 -- octets as upper-case hexadecimal digits, at the end of a line
 abbrev pub octets_line : List ℕ → List ℕ

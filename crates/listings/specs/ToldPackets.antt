@@ -1,5 +1,6 @@
--- The packets that `tctool map` tells on one MAP, and the segments that they are put together of.
-use Rattle.std.specs.Prelude.{ℕ, ◌==◌, List, [], ◌∷◌, ◌++◌, if◌then◌else◌, Option, Some, None, Result, Ok, Err}
+-- The packets that are listed on one MAP, and the segments that they are put together of.
+use Rattle.std.specs.Prelude.{ℕ, ◌==◌, List, [], ◌∷◌, ◌++◌, if◌then◌else◌, Option, Some, None}
+use Rattle.std.specs.Prelude.{Result, Ok, Err}
 use Rattle.tc_frame.specs.declared.frame.Check.{Check}
 use Rattle.tc_frame.specs.declared.fault.TcFault.{TcFault}
 use Rattle.tc_frame.specs.Layout.{SegmentView, FrameView}
@@ -33,4 +34,5 @@ told_at m a (Some s) = if s.header.map == m then (step_at a s).packets else []
 abbrev pub told_on : Check → ℕ → MapState → List (List ℕ) → List (List ℕ)
 told_on check m x [] = []
 told_on check m x (o ∷ os) =
-    told_at m x.assembler (segment_in x.receiver (frame_at check o)) ++ told_on check m (after_record check x o) os
+    told_at m x.assembler (segment_in x.receiver (frame_at check o))
+    ++ told_on check m (after_record check x o) os

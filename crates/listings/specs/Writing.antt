@@ -2,7 +2,7 @@
 use Rattle.std.specs.Prelude.{◌≡◌, ℕ, List, ◌++◌, Result, OnOk, OnErr}
 use Rattle.octets.specs.Beginning.{IsBeginning}
 
--- where the call goes well, the device has taken these octets behind those that it had
+-- where the call goes well, the device has taken these octets after those that it had
 abbrev pub Writes : {T E : Type 0} → Result T E → List ℕ → List ℕ → List ℕ → Type 0
 Writes result before now octets = OnOk result (now ≡ before ++ octets)
 

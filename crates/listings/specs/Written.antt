@@ -6,6 +6,6 @@ use Rattle.listings.specs.declared.text.Text.{Text}
 abbrev pub written : Text → List ℕ
 written t = take t.len t.octets.items
 
--- where the call goes well, these octets stand behind those that the text had
+-- where the call goes well, these octets stand after those that the text had
 abbrev pub Appends : {T E : Type 0} → Result T E → Text → Text → List ℕ → Type 0
 Appends result old new octets = OnOk result (written new ≡ written old ++ octets)

@@ -1,4 +1,4 @@
-// The lines of `tctool farm`.
+// The line of each TC frame as a receiver takes it: its verdict, and how the receiver stands then.
 
 ghost use Rattle.std.specs.Prelude.{◌≡◌, ◌+◌, ◌<◌, ◌≤◌, ◌++◌, codes, decimal, length, take, OnOk, IfOk, is_ok};
 ghost use Rattle.tc_frame.specs.Layout.{body_view, frame_view};

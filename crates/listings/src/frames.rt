@@ -1,4 +1,4 @@
-// The lines of `tctool tc`.
+// The line of each TC frame: its fields.
 
 ghost use Rattle.std.specs.Prelude.{◌≡◌, ◌+◌, ◌≤◌, ◌++◌, codes, decimal, length, take, vec_len, IfOk, is_ok};
 ghost use Rattle.tc_frame.specs.Layout.{frame_view, body_view, segment_view, flags_code};
@@ -19,7 +19,7 @@ use tc_frame::{
     Body, Check, Command, FrameLayout, Segment, SegmentHeader, TcFault, TcFrame, check_if, decode,
 };
 
-/// Tells what each frame says. Nothing is kept between two frames.
+/// Lists the fields of each frame. Nothing is kept between two frames.
 #[derive(Drop)]
 pub struct FrameListing;
 

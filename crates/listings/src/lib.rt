@@ -26,7 +26,7 @@ mod text;
 
 pub use cutter::Cutter;
 pub use device_log::{Call, DeviceLog};
-pub use fault::DumpFault;
+pub use fault::ListingFault;
 pub use frame_cutter::{FrameCutter, FrameLength};
 pub use frames::FrameListing;
 pub use listing::Listing;

@@ -1,4 +1,4 @@
-// The lines of `tctool map`.
+// The packets out of TC frames, MAP by MAP, and what is dropped.
 
 ghost use Rattle.std.specs.Prelude.{◌≡◌, ◌+◌, ◌≤◌, ◌++◌, ℕ, Bool, List, OnOk, IfOk, is_ok, codes, decimal, length, take};
 ghost use Rattle.tc_frame.specs.Layout.{body_view, frame_view, segment_view};
@@ -18,15 +18,16 @@ use crate::listing::Listing;
 use crate::parts::{put_number, put_octet, put_one, put_word};
 use crate::text::Text;
 use cop1::{Farm, Verdict};
-use map_service::{Assembler, Dropped, Limits, Taken, are_one_packet};
+use map_service::{Assembler, Dropped, Limits, Taken};
 use octets::Splitter;
+use space_packet::is_packet;
 use std::alloc::{AllocError, Global};
 use std::marker::Model;
 use tc_frame::{
     Body, Check, Command, FrameLayout, Segment, SegmentFlags, TcFault, check_if, decode,
 };
 
-/// Tells the packets out of frames: a receiver takes each frame, and one assembler, with all MAPs
+/// Lists the packets out of frames: a receiver takes each frame, and one assembler, with all MAPs
 /// open, each segment that came in a Type-AD frame and was accepted.
 #[derive(Drop)]
 pub struct MapListing {
@@ -212,7 +213,7 @@ fn is_bypass(segment: Segment) -> bool
     ensures { result ≡ is_bypass (segment_view segment.entry) }
 {
     match segment.header.flags {
-        SegmentFlags::Alone => are_one_packet(segment.payload),
+        SegmentFlags::Alone => is_packet(segment.payload),
         SegmentFlags::First | SegmentFlags::Continuing | SegmentFlags::Last => false,
     }
 }
@@ -227,7 +228,7 @@ fn push_bypass(text: &mut Text, index: u64, segment: Segment) -> Result<(), Allo
     }
 }
 
-/// Whatever the records are, the packets that are told on a MAP are those that the accepted segments
+/// Whatever the records are, the packets listed on a MAP are those that the accepted segments
 /// of all of them give on it, in their order.
 pub fn law_of_told_packets()
     ensures { (check : Checking) (width vr : ℕ) (blocking : Bool) (m : ℕ) (records : List (List ℕ))

@@ -1,4 +1,4 @@
-// The lines of `tctool packets`.
+// The line of each space packet: its fields, and how many of its application process are missing before it.
 
 ghost use Rattle.std.specs.Prelude.{◌≡◌, ◌+◌, ◌≤◌, ◌++◌, codes, decimal, length, take, IfOk, is_ok, get_or, ℕ, List, Option};
 ghost use Rattle.space_packet.specs.Counters.{gap_after};
@@ -16,7 +16,7 @@ use space_packet::{GapCheck, Packet, PacketFault, PacketKind, Packets, decode};
 use std::alloc::AllocError;
 use std::marker::Model;
 
-/// Tells what each packet says, and how many of its application process are missing before it.
+/// Lists the fields of each packet, and how many of its application process are missing before it.
 #[derive(Drop)]
 pub struct PacketListing {
     gaps: GapCheck,

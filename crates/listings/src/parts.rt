@@ -1,4 +1,4 @@
-// Parts of a line, each put in place behind the one before it. Each call answers the place behind what it put.
+// Parts of a line, each put in place after the one before it. Each call answers the place after what it put.
 
 ghost use Rattle.std.specs.Prelude.{◌≡◌, ◌+◌, ◌*◌, ◌<◌, ◌≤◌, ◌%◌, ◌++◌, [], ◌∷◌, codes, decimal, length, take, slice_index};
 ghost use Rattle.hex.specs.Hex.{encode_upper, upper_digits};
@@ -151,7 +151,7 @@ pub fn put_short(room: &mut [u8], at: usize, number: u16) -> usize
     put_four(room, next, number % 10000)
 }
 
-/// Puts a word, and an octet's decimal digits behind it.
+/// Puts a word, and an octet's decimal digits after it.
 #[inline(always)]
 pub fn put_field<const N: usize>(room: &mut [u8], at: usize, word: &[u8; N], number: u8) -> usize
     requires { at + (N + 3) ≤ length room.old }
@@ -163,7 +163,7 @@ pub fn put_field<const N: usize>(room: &mut [u8], at: usize, word: &[u8; N], num
     put_octet(room, next, number)
 }
 
-/// Puts a word, and a number's decimal digits behind it.
+/// Puts a word, and a number's decimal digits after it.
 #[inline(always)]
 pub fn put_short_field<const N: usize>(
     room: &mut [u8],

@@ -1,4 +1,4 @@
-// The lines of `tctool check`.
+// The line of each TC frame that is refused, among frames that end with their check.
 
 ghost use Rattle.std.specs.Prelude.{◌≡◌, ◌++◌, OnOk, IfOk, is_ok};
 ghost use Rattle.listings.specs.Written.{Appends};
@@ -12,7 +12,7 @@ use std::alloc::AllocError;
 use std::marker::Model;
 use tc_frame::{Check, Checked, TcFault, decode};
 
-/// Tells the frames that are refused, of frames that end with their check. Nothing is kept between two.
+/// Lists the frames that are refused, of frames that end with their check. Nothing is kept between two.
 #[derive(Drop)]
 pub struct RefusalListing;
 

@@ -1,4 +1,4 @@
-// Reads a stream in pieces, and writes what a command makes of its records.
+// Reads a stream in pieces, and writes the lines that a listing makes of its records.
 
 ghost use Rattle.std.specs.Prelude.{◌≡◌, ◌⊎◌, None, false, ◌+◌, ◌-◌, ◌^◌, ◌<◌, ◌≤◌, ◌&&◌, ◌++◌, [], length, Ok, Err, OnOk, IfOk, IfErr};
 ghost use Rattle.listings.specs.Layouts.{first_by, rest_by, IsRefused};
@@ -13,7 +13,7 @@ ghost use Rattle.listings.specs.Written.{written};
 ghost use Rattle.listings.specs.Writing.{BeginsToWrite, Writes};
 
 use crate::cutter::Cutter;
-use crate::fault::DumpFault;
+use crate::fault::ListingFault;
 use crate::listing::Listing;
 use crate::output::{WriteFailed, write_all};
 use crate::sink::Sink;
@@ -39,11 +39,11 @@ impl Progress {
     }
 }
 
-/// Takes all whole records that the cutter holds, and answers the fault of the octets behind them
+/// Takes all whole records that the cutter holds, and answers the fault of the octets after them
 /// where they are refused.
 fn list_records<S: Cutter, C: Listing<S>>(
     cutter: &mut S,
-    command: &mut C,
+    listing: &mut C,
     progress: &mut Progress,
     text: &mut Text,
 ) -> Result<Option<S::Fault>, AllocError>
@@ -51,9 +51,9 @@ fn list_records<S: Cutter, C: Listing<S>>(
     ensures count { OnOk result (progress.new.count + length (S.held cutter.new)
         ≤ progress.old.count + length (S.held cutter.old)) }
     ensures listed { OnOk result (
-        standing (written text.new) command.new progress.new (S.held cutter.new)
+        standing (written text.new) listing.new progress.new (S.held cutter.new)
         ≡ listed C.lines S.layout
-        (standing (written text.old) command.old progress.old (S.held cutter.old))) }
+        (standing (written text.old) listing.old progress.old (S.held cutter.old))) }
     ensures fault { IfOk result (λ fault. first_by S.layout (S.held cutter.new) ≡ where_refused fault) }
     ensures failed { result ≡ Ok None → S.failure cutter.new ≡ S.failure cutter.old }
 {
@@ -61,7 +61,7 @@ fn list_records<S: Cutter, C: Listing<S>>(
         match answer {
             Ok(octets) => {
                 progress.count += 1;
-                let good = command.take(text, progress.count, octets)?;
+                let good = listing.take(text, progress.count, octets)?;
                 *progress = progress.and(good);
             }
             Err(fault) => return Ok(Some(*fault)),
@@ -78,59 +78,59 @@ enum Course {
 }
 
 /// Writes a text whole, and answers this.
-fn put<W: Sink, T: Copy>(writer: &mut W, text: &Text, answer: T) -> Result<T, DumpFault>
+fn put<W: Sink, T: Copy>(writer: &mut W, text: &Text, answer: T) -> Result<T, ListingFault>
     ensures ok { IfOk result (λ answered. (answered ≡ answer)
         × (W.taken_octets writer.new ≡ W.taken_octets writer.old ++ written text.now)) }
     ensures beginning { BeginsToWrite result (W.taken_octets writer.old) (W.taken_octets writer.new)
         (written text.now) }
-    ensures fault { IfErr result (λ e. e ≡ DumpFault.Write) }
+    ensures fault { IfErr result (λ e. e ≡ ListingFault.Write) }
     ensures failures { W.failures writer.new ≡ W.failures writer.old + writes_failed_in result }
 {
     match write_all(writer, text.as_bytes()) {
         Ok(()) => Ok(answer),
-        Err(WriteFailed) => Err(DumpFault::Write),
+        Err(WriteFailed) => Err(ListingFault::Write),
     }
 }
 
 /// Takes a piece of the stream, and writes the lines of all records that are whole now, and the line
-/// of octets that are refused behind them.
+/// of octets that are refused after them.
 fn list_piece<S: Cutter, C: Listing<S>, W: Sink>(
     cutter: &mut S,
-    command: &mut C,
+    listing: &mut C,
     progress: &mut Progress,
     text: &mut Text,
     writer: &mut W,
     piece: &[u8],
-) -> Result<Course, DumpFault>
+) -> Result<Course, ListingFault>
     requires { progress.old.count + length (S.held cutter.old ++ piece.now) < 2 ^ 64 - 1 }
     ensures open { result ≡ Ok Course.Open → HasListed C.lines S.layout
-        (standing [] command.old progress.old (S.held cutter.old ++ piece.now))
-        (standing [] command.new progress.new (S.held cutter.new))
+        (standing [] listing.old progress.old (S.held cutter.old ++ piece.now))
+        (standing [] listing.new progress.new (S.held cutter.new))
         (W.taken_octets writer.old) (W.taken_octets writer.new) }
     ensures going { result ≡ Ok Course.Open → S.failure cutter.new ≡ S.failure cutter.old }
     ensures count { result ≡ Ok Course.Open → progress.new.count + length (S.held cutter.new)
         ≤ progress.old.count + length (S.held cutter.old ++ piece.now) }
     ensures refused { result ≡ Ok Course.Refused → HasRefused C.lines S.layout
-        (standing [] command.old progress.old (S.held cutter.old ++ piece.now))
+        (standing [] listing.old progress.old (S.held cutter.old ++ piece.now))
         (W.taken_octets writer.old) (W.taken_octets writer.new) }
     ensures beginning { BeginsToWrite result (W.taken_octets writer.old) (W.taken_octets writer.new)
         (text_of C.lines S.layout
-        (standing [] command.old progress.old (S.held cutter.old ++ piece.now))) }
+        (standing [] listing.old progress.old (S.held cutter.old ++ piece.now))) }
     ensures failures { W.failures writer.new ≡ W.failures writer.old + writes_failed_in result }
-    ensures faults { IfErr result (λ e. (e ≡ DumpFault.Write) ⊎ (e ≡ DumpFault.Memory)) }
+    ensures faults { IfErr result (λ e. (e ≡ ListingFault.Write) ⊎ (e ≡ ListingFault.Memory)) }
 {
     text.clear();
     let Ok(()) = cutter.feed(piece) else {
-        return Err(DumpFault::Memory);
+        return Err(ListingFault::Memory);
     };
-    let Ok(fault) = list_records(cutter, command, progress, text) else {
-        return Err(DumpFault::Memory);
+    let Ok(fault) = list_records(cutter, listing, progress, text) else {
+        return Err(ListingFault::Memory);
     };
     let Some(fault) = fault else {
         return put(writer, text, Course::Open);
     };
     let Ok(()) = C::refuse(text, progress.count + 1, fault) else {
-        return Err(DumpFault::Memory);
+        return Err(ListingFault::Memory);
     };
     put(writer, text, Course::Refused)
 }
@@ -142,7 +142,7 @@ fn list_rest<S: Cutter, C: Listing<S>, W: Sink>(
     progress: Progress,
     text: &mut Text,
     writer: &mut W,
-) -> Result<bool, DumpFault>
+) -> Result<bool, ListingFault>
     requires open { first_by S.layout (S.held cutter.now) ≡ None }
     requires going { S.failure cutter.now ≡ None }
     requires count { progress.count < 2 ^ 64 - 1 }
@@ -152,23 +152,23 @@ fn list_rest<S: Cutter, C: Listing<S>, W: Sink>(
     ensures beginning { BeginsToWrite result (W.taken_octets writer.old) (W.taken_octets writer.new)
         (rest_line C.lines S.layout (progress.count + 1) (S.held cutter.now)) }
     ensures failures { W.failures writer.new ≡ W.failures writer.old + writes_failed_in result }
-    ensures faults { IfErr result (λ e. (e ≡ DumpFault.Write) ⊎ (e ≡ DumpFault.Memory)) }
+    ensures faults { IfErr result (λ e. (e ≡ ListingFault.Write) ⊎ (e ≡ ListingFault.Memory)) }
 {
     let Err(fault) = cutter.finish() else {
         return Ok(progress.all_good);
     };
     text.clear();
     let Ok(()) = C::refuse(text, progress.count + 1, fault) else {
-        return Err(DumpFault::Memory);
+        return Err(ListingFault::Memory);
     };
     put(writer, text, false)
 }
 
-/// The most octets that a dump reads.
+/// The most octets that are read of a stream.
 pub const MOST_OCTETS: u64 = 9_223_372_036_854_775_807;
 
 /// Reads a stream in pieces, and writes the lines of each piece before it reads the next. It answers
-/// whether every record was good and nothing was left behind them.
+/// whether every record was good and nothing was left after them.
 ///
 /// Where a record declares a length that none can have, its line is the last and nothing more is
 /// read. The fault is `Read` or `Write` where that device failed, `Memory` where none was left, and
@@ -178,16 +178,16 @@ pub fn list_stream<S: Cutter + Drop, C: Listing<S> + Drop, R: Source, W: Sink>(
     reader: &mut R,
     writer: &mut W,
     mut cutter: S,
-    mut command: C,
-) -> Result<bool, DumpFault>
+    mut listing: C,
+) -> Result<bool, ListingFault>
     requires held { S.held cutter ≡ [] }
     requires going { S.failure cutter ≡ None }
     ensures given { IsBeginning (R.given reader.old) (R.given reader.new) }
     ensures text { Writes result (W.taken_octets writer.old) (W.taken_octets writer.new)
         (text_of C.lines S.layout
-        (fresh command (gained (R.given reader.old) (R.given reader.new)))) }
+        (fresh listing (gained (R.given reader.old) (R.given reader.new)))) }
     ensures good { IfOk result (λ good. good ≡ is_all_good C.lines S.layout
-        (fresh command (gained (R.given reader.old) (R.given reader.new)))) }
+        (fresh listing (gained (R.given reader.old) (R.given reader.new)))) }
     ensures consumes { Consumes (R.remaining reader.old) (R.remaining reader.new)
         (gained (R.given reader.old) (R.given reader.new)) }
     ensures end { OnOk result (HasEnded (R.has_ended reader.new) (R.remaining reader.new)
@@ -195,10 +195,10 @@ pub fn list_stream<S: Cutter + Drop, C: Listing<S> + Drop, R: Source, W: Sink>(
         (rest_by S.layout (gained (R.given reader.old) (R.given reader.new)))) }
     ensures beginning { BeginsToWrite result (W.taken_octets writer.old) (W.taken_octets writer.new)
         (text_of C.lines S.layout
-        (fresh command (gained (R.given reader.old) (R.given reader.new)))) }
+        (fresh listing (gained (R.given reader.old) (R.given reader.new)))) }
     ensures read { R.failures reader.new ≡ R.failures reader.old + reads_failed_in result }
     ensures write { W.failures writer.new ≡ W.failures writer.old + writes_failed_in result }
-    ensures too_long { result ≡ Err DumpFault.TooLong
+    ensures too_long { result ≡ Err ListingFault.TooLong
         → MOST_OCTETS < length (gained (R.given reader.old) (R.given reader.new)) }
 {
     let mut progress = Progress {
@@ -210,18 +210,18 @@ pub fn list_stream<S: Cutter + Drop, C: Listing<S> + Drop, R: Source, W: Sink>(
     let mut total: u64 = 0;
     loop {
         let Ok(count) = reader.read(&mut piece) else {
-            return Err(DumpFault::Read);
+            return Err(ListingFault::Read);
         };
         if count == 0 {
             return list_rest::<S, C, W>(&cutter, progress, &mut text, writer);
         }
         if count as u64 > MOST_OCTETS - total {
-            return Err(DumpFault::TooLong);
+            return Err(ListingFault::TooLong);
         }
         total += count as u64;
         let course = match list_piece(
             &mut cutter,
-            &mut command,
+            &mut listing,
             &mut progress,
             &mut text,
             writer,

@@ -1,4 +1,4 @@
-// The lines of `tctool tm`.
+// The line of each TM frame: its fields, how many are missing before it, and the packets that it finishes.
 
 ghost use Rattle.std.specs.Prelude.{◌≡◌, ◌+◌, ◌≤◌, ◌++◌, IfOk, codes, length, take};
 ghost use Rattle.listings.specs.Written.{Appends};
@@ -16,7 +16,7 @@ use std::alloc::{AllocError, Global};
 use std::marker::{Model, PhantomData};
 use tm_link::{Extractor, Gap, Pointer, TmFault, TmFrame, decode};
 
-/// Tells what each frame says, and the packets that are finished with it. One extractor takes all
+/// Lists the fields of each frame, and the packets that are finished with it. One extractor takes all
 /// frames.
 #[derive(Drop)]
 pub struct TelemetryListing<K: FrameLength> {

@@ -49,7 +49,7 @@ impl Text {
         Ok(())
     }
 
-    /// Makes room for so many octets more.
+    /// Makes room for this many octets more.
     #[inline(always)]
     pub(crate) fn make_room(&mut self, count: usize) -> Result<(), AllocError>
         ensures written { written self.new ≡ written self.old }
@@ -77,7 +77,7 @@ impl Text {
         self.octets.resize(room, 0)
     }
 
-    /// Makes room for the digits of so many octets and the end of a line.
+    /// Makes room for the digits of this many octets and the end of a line.
     #[inline(always)]
     pub(crate) fn make_room_for(&mut self, octets: usize) -> Result<(), AllocError>
         ensures written { written self.new ≡ written self.old }

@@ -7,8 +7,10 @@ use Rattle.map_service.specs.declared.limits.Limits.{Limits}
 use Rattle.map_service.specs.Assembly.{is_open, of_map, ending_part, blocks_packets, assembled}
 use Rattle.map_service.proofs.Joining.{packets_behind, blocks_packets-push}
 
-blocks_begin : (limits : Limits) (xs ys : List SegmentView) → (more : List (List ℕ)) × (blocks_packets limits (xs ++ ys) ≡ blocks_packets limits xs ++ more)
-blocks_begin limits xs [] = ([], ap (blocks_packets limits) (append-nil xs) ∙ sym (append-nil (blocks_packets limits xs)))
+blocks_begin : (limits : Limits) (xs ys : List SegmentView)
+    → (more : List (List ℕ)) × (blocks_packets limits (xs ++ ys) ≡ blocks_packets limits xs ++ more)
+blocks_begin limits xs [] =
+    ([], ap (blocks_packets limits) (append-nil xs) ∙ sym (append-nil (blocks_packets limits xs)))
 blocks_begin limits xs (y ∷ ys) =
     let rest = blocks_begin limits (xs ++ y ∷ []) ys in
     let one : List (List ℕ) = packets_behind limits y.header.flags y.payload (ending_part xs) in (
@@ -27,5 +29,6 @@ begins_by limits m xs ys true h =
 begins_by limits m xs ys false h = ([], rw h refl)
 
 -- the packets of a beginning are a beginning of the packets
-pub assembled_begins : (limits : Limits) (m : ℕ) (xs ys : List SegmentView) → (more : List (List ℕ)) × (assembled limits m (xs ++ ys) ≡ assembled limits m xs ++ more)
+pub assembled_begins : (limits : Limits) (m : ℕ) (xs ys : List SegmentView)
+    → (more : List (List ℕ)) × (assembled limits m (xs ++ ys) ≡ assembled limits m xs ++ more)
 assembled_begins limits m xs ys = begins_by limits m xs ys _ refl

@@ -12,7 +12,8 @@ use Rattle.map_service.specs.declared.dropped.Dropped.{Dropped}
 use Rattle.map_service.specs.declared.dropped.Dropped.TheVariants.{Interrupted, NotAPacket, TooLong}
 use Rattle.map_service.specs.Assembly.{is_open, is_too_long}
 use Rattle.map_service.specs.Packets.{packets_in, rest_in, is_packet, are_packets}
-use Rattle.map_service.specs.Taking.{one_fault, several_fault, alone_fault, drop_outcome, packets_outcome, part_outcome, cell, take_step}
+use Rattle.map_service.specs.Taking.{one_fault, several_fault, alone_fault, drop_outcome, packets_outcome, part_outcome}
+use Rattle.map_service.specs.Taking.{cell, take_step}
 use Rattle.map_service.proofs.Groups.{IsWhole, packets-split, again}
 
 abbrev pub AreWhole : List (List ℕ) → Type 0
@@ -30,12 +31,14 @@ one_whole : (limits : Limits) (octets : List ℕ) → one_fault limits octets �
 one_whole limits octets =
     cond_both (is_too_long limits octets) (Some TooLong) _ (λ (o : Option Dropped). o ≡ None → is_packet octets ≡ true)
     (λ t e. absurd (cc e))
-    (λ t. cond_both (not (is_packet octets)) (Some NotAPacket) None (λ (o : Option Dropped). o ≡ None → is_packet octets ≡ true)
+    (λ t. cond_both (not (is_packet octets)) (Some NotAPacket) None
+    (λ (o : Option Dropped). o ≡ None → is_packet octets ≡ true)
     (λ t e. absurd (cc e)) (λ t e. is_so (is_packet octets) t))
 
 lone_whole : (p : List ℕ) → IsWhole (p ∷ []) → is_packet p ≡ true
 lone_whole p h =
-    let only = subst (λ (xs : List ℕ). (p ∷ [] ≡ packets_in xs) × ([] ≡ rest_in xs)) (append-nil p) (again (p ∷ []) h) in
+    let only = subst (λ (xs : List ℕ). (p ∷ [] ≡ packets_in xs) × ([] ≡ rest_in xs)) (append-nil p) (again (p ∷ []) h)
+    in
     rw (← only.0, ← only.1) refl
 
 each_whole : (packets : List (List ℕ)) → IsWhole packets → AreWhole packets

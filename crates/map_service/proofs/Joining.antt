@@ -5,7 +5,8 @@ use Rattle.tc_frame.specs.declared.frame.SegmentFlags.{SegmentFlags}
 use Rattle.tc_frame.specs.declared.frame.SegmentFlags.TheVariants.{First, Continuing, Last, Alone}
 use Rattle.tc_frame.specs.Layout.{SegmentView}
 use Rattle.map_service.specs.declared.limits.Limits.{Limits}
-use Rattle.map_service.specs.Assembly.{one_packet, packets_of, joined_data, up_to_last_from, up_to_last, up_to_end_from, up_to_end, block_packets, blocks_packets, part_from, ending_part}
+use Rattle.map_service.specs.Assembly.{one_packet, packets_of, joined_data, up_to_last_from, up_to_last, up_to_end_from}
+use Rattle.map_service.specs.Assembly.{up_to_end, block_packets, blocks_packets, part_from, ending_part}
 
 -- ---- segments that are all continuing end no block, give no packet and begin no part
 
@@ -14,7 +15,8 @@ pub record AllGoOn (limits : Limits) (segments : List SegmentView) : Type 0 wher
   pub given : blocks_packets limits segments ≡ []
   pub unbegun : ending_part segments ≡ None
 
-one_goes_on : (limits : Limits) (s : SegmentView) (segments : List SegmentView) (flags : SegmentFlags) (more : Option (List ℕ)) (joined : List ℕ)
+one_goes_on : (limits : Limits) (s : SegmentView) (segments : List SegmentView) (flags : SegmentFlags)
+    (more : Option (List ℕ)) (joined : List ℕ)
     → s.header.flags ≡ flags → up_to_end_from flags s.payload more ≡ Some joined
     → ((j : List ℕ) → more ≡ Some j → AllGoOn limits segments) → AllGoOn limits (s ∷ segments)
 one_goes_on limits s segments Continuing (Some more) joined e h rest =
@@ -25,13 +27,15 @@ one_goes_on limits s segments First more joined e h rest = absurd cc
 one_goes_on limits s segments Last more joined e h rest = absurd cc
 one_goes_on limits s segments Alone more joined e h rest = absurd cc
 
-pub all_go_on : (limits : Limits) (segments : List SegmentView) (joined : List ℕ) → up_to_end segments ≡ Some joined → AllGoOn limits segments
+pub all_go_on : (limits : Limits) (segments : List SegmentView) (joined : List ℕ) → up_to_end segments ≡ Some joined
+    → AllGoOn limits segments
 all_go_on limits [] joined h = record { unended = refl; given = refl; unbegun = refl }
-all_go_on limits (s ∷ segments) joined h = one_goes_on limits s segments s.header.flags (up_to_end segments) joined refl h (all_go_on limits segments)
+all_go_on limits (s ∷ segments) joined h =
+    one_goes_on limits s segments s.header.flags (up_to_end segments) joined refl h (all_go_on limits segments)
 
 -- ---- the joined data up to a last segment
 
--- behind it, where these are the data up to a last segment, and up to the end, before it
+-- after it, where these are the data up to a last segment, and up to the end, before it
 abbrev pub ended : SegmentFlags → List ℕ → Option (List ℕ) → Option (List ℕ) → Option (List ℕ)
 ended flags octets (Some joined) all = Some joined
 ended Last octets None (Some joined) = Some (joined ++ octets)
@@ -56,13 +60,15 @@ joined_data-ended First octets o None all = refl
 joined_data-ended Continuing octets o None all = refl
 
 up_to_last_from-ended : (f flags : SegmentFlags) (octets o : List ℕ) (last all : Option (List ℕ))
-    → up_to_last_from f o (ended flags octets last all) ≡ ended flags octets (up_to_last_from f o last) (up_to_end_from f o all)
+    → up_to_last_from f o (ended flags octets last all)
+    ≡ ended flags octets (up_to_last_from f o last) (up_to_end_from f o all)
 up_to_last_from-ended Alone flags octets o last all = sym (none_ended flags octets)
 up_to_last_from-ended First flags octets o last all = sym (none_ended flags octets)
 up_to_last_from-ended Continuing flags octets o last all = joined_data-ended flags octets o last all
 up_to_last_from-ended Last flags octets o last all = refl
 
-one_ended : (flags : SegmentFlags) (octets : List ℕ) → up_to_last_from flags octets None ≡ ended flags octets None (Some [])
+one_ended : (flags : SegmentFlags) (octets : List ℕ)
+    → up_to_last_from flags octets None ≡ ended flags octets None (Some [])
 one_ended Alone octets = refl
 one_ended First octets = refl
 one_ended Continuing octets = refl
@@ -92,7 +98,8 @@ none_continued Last octets = refl
 
 joined_data-continued : (flags : SegmentFlags) (octets o : List ℕ) (all : Option (List ℕ))
     → joined_data o (continued flags octets all) ≡ continued flags octets (joined_data o all)
-joined_data-continued Continuing octets o (Some joined) = ap (λ (xs : List ℕ). Some xs) (sym (append_assoc o joined octets))
+joined_data-continued Continuing octets o (Some joined) =
+    ap (λ (xs : List ℕ). Some xs) (sym (append_assoc o joined octets))
 joined_data-continued Continuing octets o None = refl
 joined_data-continued Alone octets o all = refl
 joined_data-continued First octets o all = refl
@@ -105,7 +112,8 @@ up_to_end_from-continued First flags octets o all = sym (none_continued flags oc
 up_to_end_from-continued Continuing flags octets o all = joined_data-continued flags octets o all
 up_to_end_from-continued Last flags octets o all = sym (none_continued flags octets)
 
-one_continued : (flags : SegmentFlags) (octets : List ℕ) → up_to_end_from flags octets (Some []) ≡ continued flags octets (Some [])
+one_continued : (flags : SegmentFlags) (octets : List ℕ)
+    → up_to_end_from flags octets (Some []) ≡ continued flags octets (Some [])
 one_continued Alone octets = refl
 one_continued First octets = refl
 one_continued Continuing octets = ap (λ (xs : List ℕ). Some xs) (append-nil octets)
@@ -128,22 +136,28 @@ part_behind Continuing octets None = None
 part_behind Last octets part = None
 
 first_part_from : (flags : SegmentFlags) (octets o : List ℕ) (all later : Option (List ℕ))
-    → part_from First o (continued flags octets all) (part_behind flags octets later) ≡ part_behind flags octets (part_from First o all later)
-first_part_from Alone octets o all (Some later) = elim all as (λ a. part_behind Alone octets (Some later) ≡ part_behind Alone octets (part_from First o a (Some later))) [ None ↦ refl | Some j ↦ refl ]
+    → part_from First o (continued flags octets all) (part_behind flags octets later)
+    ≡ part_behind flags octets (part_from First o all later)
+first_part_from Alone octets o all (Some later) =
+    elim all as (λ a. part_behind Alone octets (Some later)
+    ≡ part_behind Alone octets (part_from First o a (Some later))) [ None ↦ refl | Some j ↦ refl ]
 first_part_from Alone octets o all None = refl
 first_part_from First octets o all later = refl
-first_part_from Continuing octets o (Some joined) later = ap (λ (xs : List ℕ). Some xs) (sym (append_assoc o joined octets))
+first_part_from Continuing octets o (Some joined) later =
+    ap (λ (xs : List ℕ). Some xs) (sym (append_assoc o joined octets))
 first_part_from Continuing octets o None later = refl
 first_part_from Last octets o all later = refl
 
 part_from-behind : (f flags : SegmentFlags) (octets o : List ℕ) (all later : Option (List ℕ))
-    → part_from f o (continued flags octets all) (part_behind flags octets later) ≡ part_behind flags octets (part_from f o all later)
+    → part_from f o (continued flags octets all) (part_behind flags octets later)
+    ≡ part_behind flags octets (part_from f o all later)
 part_from-behind Alone flags octets o all later = refl
 part_from-behind First flags octets o all later = first_part_from flags octets o all later
 part_from-behind Continuing flags octets o all later = refl
 part_from-behind Last flags octets o all later = refl
 
-one_part_from : (flags : SegmentFlags) (octets : List ℕ) → part_from flags octets (Some []) None ≡ part_behind flags octets None
+one_part_from : (flags : SegmentFlags) (octets : List ℕ)
+    → part_from flags octets (Some []) None ≡ part_behind flags octets None
 one_part_from Alone octets = refl
 one_part_from First octets = ap (λ (xs : List ℕ). Some xs) (append-nil octets)
 one_part_from Continuing octets = refl
@@ -166,11 +180,13 @@ packets_behind limits Continuing octets part = []
 packets_behind limits Last octets (Some part) = one_packet limits (part ++ octets)
 packets_behind limits Last octets None = []
 
-first_gives : (limits : Limits) (flags : SegmentFlags) (octets o : List ℕ) (last all later : Option (List ℕ)) (given : List (List ℕ))
+first_gives : (limits : Limits) (flags : SegmentFlags) (octets o : List ℕ) (last all later : Option (List ℕ))
+    (given : List (List ℕ))
     → ((j : List ℕ) → all ≡ Some j → (last ≡ None) × (given ≡ []) × (later ≡ None))
     → block_packets limits First o (ended flags octets last all) ++ (given ++ packets_behind limits flags octets later)
     ≡ (block_packets limits First o last ++ given) ++ packets_behind limits flags octets (part_from First o all later)
-first_gives limits flags octets o (Some joined) None later given h = sym (append_assoc (one_packet limits (o ++ joined)) given (packets_behind limits flags octets later))
+first_gives limits flags octets o (Some joined) None later given h =
+    sym (append_assoc (one_packet limits (o ++ joined)) given (packets_behind limits flags octets later))
 first_gives limits flags octets o (Some joined) (Some j) later given h = let impossible = (h j refl).0 in absurd cc
 first_gives limits Alone octets o None all later given h = refl
 first_gives limits First octets o None all later given h = refl
@@ -180,25 +196,31 @@ first_gives limits Last octets o None (Some j) later given h =
     let known = h j refl in
     rw (known.1, known.2, append-nil, append_assoc o j octets) refl
 
-block_gives : (limits : Limits) (f flags : SegmentFlags) (octets o : List ℕ) (last all later : Option (List ℕ)) (given : List (List ℕ))
+block_gives : (limits : Limits) (f flags : SegmentFlags) (octets o : List ℕ) (last all later : Option (List ℕ))
+    (given : List (List ℕ))
     → ((j : List ℕ) → all ≡ Some j → (last ≡ None) × (given ≡ []) × (later ≡ None))
     → block_packets limits f o (ended flags octets last all) ++ (given ++ packets_behind limits flags octets later)
     ≡ (block_packets limits f o last ++ given) ++ packets_behind limits flags octets (part_from f o all later)
-block_gives limits Alone flags octets o last all later given h = sym (append_assoc (packets_of limits o) given (packets_behind limits flags octets later))
-block_gives limits First flags octets o last all later given h = first_gives limits flags octets o last all later given h
+block_gives limits Alone flags octets o last all later given h =
+    sym (append_assoc (packets_of limits o) given (packets_behind limits flags octets later))
+block_gives limits First flags octets o last all later given h =
+    first_gives limits flags octets o last all later given h
 block_gives limits Continuing flags octets o last all later given h = refl
 block_gives limits Last flags octets o last all later given h = refl
 
-one_gives : (limits : Limits) (flags : SegmentFlags) (octets : List ℕ) → block_packets limits flags octets None ++ [] ≡ packets_behind limits flags octets None
+one_gives : (limits : Limits) (flags : SegmentFlags) (octets : List ℕ)
+    → block_packets limits flags octets None ++ [] ≡ packets_behind limits flags octets None
 one_gives limits Alone octets = append-nil (packets_of limits octets)
 one_gives limits First octets = refl
 one_gives limits Continuing octets = refl
 one_gives limits Last octets = refl
 
 pub blocks_packets-push : (limits : Limits) (segments : List SegmentView) (s : SegmentView)
-    → blocks_packets limits (segments ++ s ∷ []) ≡ blocks_packets limits segments ++ packets_behind limits s.header.flags s.payload (ending_part segments)
+    → blocks_packets limits (segments ++ s ∷ []) ≡ blocks_packets limits segments
+    ++ packets_behind limits s.header.flags s.payload (ending_part segments)
 blocks_packets-push limits [] s = one_gives limits s.header.flags s.payload
 blocks_packets-push limits (x ∷ segments) s =
     rw (up_to_last-push segments s, blocks_packets-push limits segments s)
-    (block_gives limits x.header.flags s.header.flags s.payload x.payload (up_to_last segments) (up_to_end segments) (ending_part segments) (blocks_packets limits segments)
+    (block_gives limits x.header.flags s.header.flags s.payload x.payload (up_to_last segments) (up_to_end segments)
+    (ending_part segments) (blocks_packets limits segments)
     (λ j e. let known = all_go_on limits segments j e in (known.unended, known.given, known.unbegun)))

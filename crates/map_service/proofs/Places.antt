@@ -1,5 +1,6 @@
 -- One part among those of all MAPs, as the assembler holds them.
-use Rattle.std.proofs.Common.{◌≡◌, ◌<◌, ℕ, List, [], length, map, replicate, Option, None, Bool, true, false, cond, refl, ap, sym, ◌∙◌, get_or, set, arith, inl, inr}
+use Rattle.std.proofs.Common.{◌≡◌, ◌<◌, ℕ, List, [], length, map, replicate, Option, None, Bool, true, false, cond}
+use Rattle.std.proofs.Common.{refl, ap, sym, ◌∙◌, get_or, set, arith, inl, inr}
 use Rattle.std.specs.declared.vec.Vec.{Vec}
 use Rattle.std.proofs.lemmas.Bool.{cases_lt}
 use Rattle.std.proofs.lemmas.List.{map-set, get_or-map, set-get_or, get_or-replicate, get_or_past, length-replicate}
@@ -15,36 +16,46 @@ nothing_open : (b : Bool) → (let part : Option (List ℕ) = cond b None None i
 nothing_open true = refl
 nothing_open false = refl
 
--- no part is open anywhere, as behind no segments
+-- no part is open anywhere, as after no segments
 pub no_parts : (limits : Limits) (m : ℕ) → get_or (replicate 64 None) m None ≡ open_part limits m []
 no_parts limits m =
     let none : Option (List ℕ) = None in
     elim (cases_lt m 64) [
       | inl lt ↦ get_or-replicate 64 m none None lt ∙ sym (nothing_open (is_open limits m))
-      | inr ge ↦ get_or_past (replicate 64 none) m None (omega (arith, length-replicate 64 none)) ∙ sym (nothing_open (is_open limits m))
+      | inr ge ↦ get_or_past (replicate 64 none) m None (omega (arith, length-replicate 64 none))
+          ∙ sym (nothing_open (is_open limits m))
     ]
 
-module _ {Z : Type 0} (limits : Limits) (parts : List (Option (Vec ℕ Z))) (s : SegmentView) (place : ℕ) (part old : Option (Vec ℕ Z)) where
+module _ {Z : Type 0} (limits : Limits) (parts : List (Option (Vec ℕ Z))) (s : SegmentView) (place : ℕ)
+    (part old : Option (Vec ℕ Z)) where
   abbrev pub state_with : List (Option (Vec ℕ Z)) → AssemblerState
   state_with ps = record { limits = limits; parts = map part_view ps }
 
   is_map : is_open limits s.header.map ≡ true → s.header.map < 64
-  is_map opened = elim (cases_lt s.header.map 64) [ inl lt ↦ lt | inr ge ↦ absurd (let closed = no_such_map limits s.header.map ge in cc) ]
+  is_map opened =
+      elim (cases_lt s.header.map 64) [
+        | inl lt ↦ lt
+        | inr ge ↦ absurd
+            (let closed = no_such_map limits s.header.map ge in cc)
+      ]
 
   viewed_at : place ≡ s.header.map → length parts ≡ 64 → is_open limits s.header.map ≡ true
       → get_or (map part_view parts) s.header.map None ≡ part_view (get_or parts place old)
   viewed_at at count opened =
       let lt = is_map opened in
-      ap (λ (m : ℕ). get_or (map part_view parts) m None) (sym at) ∙ get_or-map part_view parts place old None (omega arith)
+      ap (λ (m : ℕ). get_or (map part_view parts) m None) (sym at)
+      ∙ get_or-map part_view parts place old None (omega arith)
 
   -- the part of the segment's MAP is that of the table's cell
   pub set_part : place ≡ s.header.map → length parts ≡ 64 → is_open limits s.header.map ≡ true
       → part_view part ≡ (cell limits s.header.flags (part_view (get_or parts place old)) s.payload).part
       → state_with (set parts place part) ≡ after_step (state_with parts) s
   set_part at count opened cell_is =
-      let new : part_view part ≡ (take_step limits (get_or (map part_view parts) s.header.map None) s).part = rw (opened, viewed_at at count opened) cell_is in
+      let new : part_view part ≡ (take_step limits (get_or (map part_view parts) s.header.map None) s).part =
+      rw (opened, viewed_at at count opened) cell_is in
       ap (λ (ps : List (Option (List ℕ))). let a : AssemblerState = record { limits = limits; parts = ps } in a)
-      (map-set part_view parts place part ∙ ap (λ (m : ℕ). set (map part_view parts) m (part_view part)) at ∙ ap (set (map part_view parts) s.header.map) new)
+      (map-set part_view parts place part ∙ ap (λ (m : ℕ). set (map part_view parts) m (part_view part)) at
+      ∙ ap (set (map part_view parts) s.header.map) new)
 
   -- the part is as it was
   pub same_parts : place ≡ s.header.map → length parts ≡ 64 → is_open limits s.header.map ≡ true

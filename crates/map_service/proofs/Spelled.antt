@@ -13,7 +13,8 @@ use Rattle.map_service.proofs.Passage.{whole-from, one-from}
 -- ---- what is found in octets
 
 spelled_in : (octets : List ℕ) → IsOctets octets → rest_in octets ≡ [] → AllByRecursion IsSomePacket (packets_in octets)
-spelled_in octets fits none = records_are (packets_in octets) (subst IsOctets (all_of octets none) fits) (packets-split octets).each
+spelled_in octets fits none =
+    records_are (packets_in octets) (subst IsOctets (all_of octets none) fits) (packets-split octets).each
 
 some_in : (packets : List (List ℕ)) → 1 ≤ length (concat packets) → 1 ≤ length packets
 some_in [] h = absurd (omega arith)
@@ -24,7 +25,8 @@ one_is octets fits h =
     let one = one-from octets h in
     (subst (AllByRecursion IsSomePacket) one.1 (spelled_in octets fits one.0)).0
 
-pub several_are : (octets : List ℕ) → IsOctets octets → are_packets octets ≡ true → ArePackets octets (packets_in octets)
+pub several_are : (octets : List ℕ) → IsOctets octets → are_packets octets ≡ true
+    → ArePackets octets (packets_in octets)
 several_are octets fits h =
     let whole = whole-from octets h in
     let joined = all_of octets whole.1 in
@@ -40,17 +42,22 @@ records_again : (packets : List (List ℕ)) → AllByRecursion IsSomePacket pack
 records_again [] h = tt
 records_again (p ∷ ps) h = (record_again p h.0, records_again ps h.1)
 
-some_octets : (packets : List (List ℕ)) → 1 ≤ length packets → AllByRecursion IsSomePacket packets → 0 < length (concat packets)
+some_octets : (packets : List (List ℕ)) → 1 ≤ length packets → AllByRecursion IsSomePacket packets
+    → 0 < length (concat packets)
 some_octets [] h each = absurd (omega arith)
 some_octets (p ∷ ps) h each = omega (arith, each.0.1.least, length-append p (concat ps))
 
 pub one_again : (octets : List ℕ) → IsSomePacket octets → is_packet octets ≡ true
 one_again octets h =
-    let only = subst (λ (xs : List ℕ). (octets ∷ [] ≡ packets_in xs) × ([] ≡ rest_in xs)) (append-nil octets) (again (octets ∷ []) (records_again (octets ∷ []) (h, tt))) in
+    let only = subst (λ (xs : List ℕ). (octets ∷ [] ≡ packets_in xs) × ([] ≡ rest_in xs)) (append-nil octets)
+    (again (octets ∷ []) (records_again (octets ∷ []) (h, tt))) in
     rw (← only.0, ← only.1) refl
 
-pub several_again : (octets : List ℕ) (packets : List (List ℕ)) → ArePackets octets packets → (are_packets octets ≡ true) × (packets ≡ packets_in octets)
+pub several_again : (octets : List ℕ) (packets : List (List ℕ)) → ArePackets octets packets
+    → (are_packets octets ≡ true) × (packets ≡ packets_in octets)
 several_again octets packets h =
-    let only = subst (λ (xs : List ℕ). (packets ≡ packets_in xs) × ([] ≡ rest_in xs)) h.joined (again packets (records_again packets h.each)) in
-    let long : 0 < length octets = subst (λ (xs : List ℕ). 0 < length xs) h.joined (some_octets packets h.some h.each) in
+    let only = subst (λ (xs : List ℕ). (packets ≡ packets_in xs) × ([] ≡ rest_in xs)) h.joined
+    (again packets (records_again packets h.each)) in
+    let long : 0 < length octets =
+    subst (λ (xs : List ℕ). 0 < length xs) h.joined (some_octets packets h.some h.each) in
     (rw (← only.1, lt-ltb 0 (length octets) long) refl, only.0)

@@ -1,6 +1,8 @@
--- What a list of segments gives on a MAP. A block is an alone segment, or a first one followed directly, among the
--- segments of its MAP, by any number of continuing ones and a last one (CCSDS 232.0-B-4, 4.1.3.2.2.2).
-use Rattle.std.specs.Prelude.{ℕ, ◌/◌, ◌%◌, ◌^◌, List, [], ◌∷◌, ◌++◌, length, filter, Bool, not, ◌&&◌, ◌==◌, nat_lt, if◌then◌else◌, Option, Some, None}
+-- What a list of segments gives on a MAP. A block is an alone segment, or a first one followed
+-- directly, among the segments of its MAP, by any number of continuing ones and a last one (CCSDS
+-- 232.0-B-4, 4.1.3.2.2.2).
+use Rattle.std.specs.Prelude.{ℕ, ◌/◌, ◌%◌, ◌^◌, List, [], ◌∷◌, ◌++◌, length, filter, Bool, not}
+use Rattle.std.specs.Prelude.{◌&&◌, ◌==◌, nat_lt, if◌then◌else◌, Option, Some, None}
 use Rattle.tc_frame.specs.declared.frame.SegmentFlags.{SegmentFlags}
 use Rattle.tc_frame.specs.declared.frame.SegmentFlags.TheVariants.{First, Continuing, Last, Alone}
 use Rattle.tc_frame.specs.Layout.{SegmentView}
@@ -21,12 +23,14 @@ is_too_long limits octets = nat_lt limits.max_packet (length octets)
 
 -- the octets, where they are exactly one packet
 abbrev pub one_packet : Limits → List ℕ → List (List ℕ)
-one_packet limits octets = if is_packet octets && not (is_too_long limits octets) then octets ∷ [] else []
+one_packet limits octets =
+    if is_packet octets && not (is_too_long limits octets) then octets ∷ [] else []
 
 -- the packets of an alone segment, which with blocking are one or more
 abbrev pub packets_of : Limits → List ℕ → List (List ℕ)
 packets_of limits octets =
-    if limits.blocking then (if are_packets octets && not (is_some_over limits.max_packet (packets_in octets)) then packets_in octets else [])
+    if limits.blocking then (if are_packets octets
+    && not (is_some_over limits.max_packet (packets_in octets)) then packets_in octets else [])
     else one_packet limits octets
 
 -- ---- what follows a place, in a list of segments of one MAP
@@ -60,7 +64,8 @@ up_to_end (s ∷ segments) = up_to_end_from s.header.flags s.payload (up_to_end 
 
 -- ---- what a list of segments gives
 
--- the packets of the block that begins with a segment of these flags and data, before this joined data up to a last one
+-- the packets of the block that begins with a segment of these flags and data, before this joined
+-- data up to a last one
 abbrev pub block_packets : Limits → SegmentFlags → List ℕ → Option (List ℕ) → List (List ℕ)
 block_packets limits Alone octets more = packets_of limits octets
 block_packets limits First octets (Some more) = one_packet limits (octets ++ more)
@@ -71,13 +76,16 @@ block_packets limits Last octets more = []
 -- the packets of the blocks, from left to right
 abbrev pub blocks_packets : Limits → List SegmentView → List (List ℕ)
 blocks_packets limits [] = []
-blocks_packets limits (s ∷ segments) = block_packets limits s.header.flags s.payload (up_to_last segments) ++ blocks_packets limits segments
+blocks_packets limits (s ∷ segments) =
+    block_packets limits s.header.flags s.payload (up_to_last segments)
+    ++ blocks_packets limits segments
 
 abbrev pub assembled : Limits → ℕ → List SegmentView → List (List ℕ)
-assembled limits m segments = if is_open limits m then blocks_packets limits (of_map m segments) else []
+assembled limits m segments =
+    if is_open limits m then blocks_packets limits (of_map m segments) else []
 
--- the joined data of a first and the continuing segments that end the list, from a segment of these flags and data on or
--- from a later one
+-- the joined data of a first and the continuing segments that end the list, from a segment of these
+-- flags and data on or from a later one
 abbrev pub part_from : SegmentFlags → List ℕ → Option (List ℕ) → Option (List ℕ) → Option (List ℕ)
 part_from Alone octets more later = later
 part_from First octets (Some more) later = Some (octets ++ more)
@@ -87,11 +95,13 @@ part_from Last octets more later = later
 
 abbrev pub ending_part : List SegmentView → Option (List ℕ)
 ending_part [] = None
-ending_part (s ∷ segments) = part_from s.header.flags s.payload (up_to_end segments) (ending_part segments)
+ending_part (s ∷ segments) =
+    part_from s.header.flags s.payload (up_to_end segments) (ending_part segments)
 
 abbrev pub unless_too_long : Limits → Option (List ℕ) → Option (List ℕ)
 unless_too_long limits None = None
 unless_too_long limits (Some octets) = if is_too_long limits octets then None else Some octets
 
 abbrev pub open_part : Limits → ℕ → List SegmentView → Option (List ℕ)
-open_part limits m segments = if is_open limits m then unless_too_long limits (ending_part (of_map m segments)) else None
+open_part limits m segments =
+    if is_open limits m then unless_too_long limits (ending_part (of_map m segments)) else None

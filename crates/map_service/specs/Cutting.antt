@@ -1,5 +1,8 @@
--- Packets as segments of a MAP (CCSDS 232.0-B-4, 4.1.3.2.2): cut where they are long, joined where they are short.
-use Rattle.std.specs.Prelude.{◌≡◌, ◌≤◌, ◌<◌, ◌⊎◌, ℕ, zero, suc, ◌+◌, ◌-◌, List, [], ◌∷◌, length, take, drop, map, replicate, ◌++◌, not, nat_lt, nat_le, if◌then◌else◌, Option, None, Some}
+-- Packets as segments of a MAP (CCSDS 232.0-B-4, 4.1.3.2.2): cut where they are long, joined where
+-- they are short.
+use Rattle.std.specs.Prelude.{◌≡◌, ◌≤◌, ◌<◌, ◌⊎◌, ℕ, zero, suc, ◌+◌, ◌-◌, List, [], ◌∷◌, length}
+use Rattle.std.specs.Prelude.{take, drop, map, replicate, ◌++◌, not, nat_lt, nat_le, if◌then◌else◌}
+use Rattle.std.specs.Prelude.{Option, None, Some}
 use Rattle.std.specs.List.{AllByRecursion, concat, flat_map}
 use Rattle.tc_frame.specs.declared.frame.SegmentFlags.{SegmentFlags}
 use Rattle.tc_frame.specs.declared.frame.SegmentFlags.TheVariants.{First, Continuing, Last, Alone}
@@ -16,19 +19,23 @@ segment_views segments = map segment_view segments
 
 -- ---- octets cut into parts
 
--- the pieces of octets, of exactly `part` octets each but the last, which has the 1 to `part` that are left
+-- the pieces of octets, of exactly `part` octets each but the last, which has the 1 to `part` that
+-- are left
 abbrev pub pieces_within : ℕ → ℕ → List ℕ → List (List ℕ)
 pieces_within zero part octets = []
-pieces_within (suc n) part octets = if nat_le (length octets) part then octets ∷ [] else take part octets ∷ pieces_within n part (drop part octets)
+pieces_within (suc n) part octets =
+    if nat_le (length octets) part then octets ∷ [] else take part octets
+    ∷ pieces_within n part (drop part octets)
 
 -- octets have no more pieces than octets
 unfoldable pub pieces_of : ℕ → List ℕ → List (List ℕ)
 pieces_of part octets = pieces_within (length octets) part octets
 
 abbrev pub segment_with : SegmentFlags → ℕ → List ℕ → SegmentView
-segment_with flags m octets = record { header = record { flags = flags; map = m }; payload = octets }
+segment_with flags m octets =
+    record { header = record { flags = flags; map = m }; payload = octets }
 
--- the pieces behind a first: continuing as often as needed, and a last
+-- the pieces after a first: continuing as often as needed, and a last
 abbrev pub later_segments : ℕ → List (List ℕ) → List SegmentView
 later_segments m [] = []
 later_segments m (x ∷ []) = segment_with Last m x ∷ []
@@ -49,9 +56,11 @@ parts_of part m octets = segments_of_pieces m (pieces_of part octets)
 -- the longest run of the first packets that have at most `room` octets together
 abbrev pub longest_run : ℕ → List (List ℕ) → List (List ℕ)
 longest_run room [] = []
-longest_run room (p ∷ ps) = if nat_lt room (length p) then [] else p ∷ longest_run (room - length p) ps
+longest_run room (p ∷ ps) =
+    if nat_lt room (length p) then [] else p ∷ longest_run (room - length p) ps
 
--- a packet of more than `part` octets is a group by itself; any other group is the longest run of at most `part` octets
+-- a packet of more than `part` octets is a group by itself; any other group is the longest run of
+-- at most `part` octets
 abbrev pub first_group : ℕ → List (List ℕ) → List (List ℕ)
 first_group part [] = []
 first_group part (p ∷ ps) = if nat_lt part (length p) then p ∷ [] else longest_run part (p ∷ ps)
@@ -61,7 +70,8 @@ abbrev pub groups_within : ℕ → ℕ → List (List ℕ) → List (List (List 
 groups_within zero part packets = []
 groups_within (suc n) part [] = []
 groups_within (suc n) part (p ∷ ps) =
-    first_group part (p ∷ ps) ∷ groups_within n part (drop (length (first_group part (p ∷ ps))) (p ∷ ps))
+    first_group part (p ∷ ps)
+    ∷ groups_within n part (drop (length (first_group part (p ∷ ps))) (p ∷ ps))
 
 -- packets have no more groups than packets
 unfoldable pub groups_of : ℕ → List (List ℕ) → List (List (List ℕ))
@@ -69,7 +79,8 @@ groups_of part packets = groups_within (length packets) part packets
 
 -- the segments of the packets that octets are, on MAP m
 abbrev pub segments_of : ℕ → ℕ → List ℕ → List SegmentView
-segments_of part m octets = flat_map (λ group. parts_of part m (concat group)) (groups_of part (packets_in octets))
+segments_of part m octets =
+    flat_map (λ group. parts_of part m (concat group)) (groups_of part (packets_in octets))
 
 -- ---- which octets are cut
 
@@ -94,8 +105,8 @@ pub record IsPart (part m : ℕ) (s : SegmentView) : Type 0 where
 abbrev pub flags_of : List SegmentView → List SegmentFlags
 flags_of segments = map (λ s. s.header.flags) segments
 
--- The segments are the octets in parts: a first, so many continuing ones between, and a last; all before the last have
--- exactly `part` octets, and the last has 1 to `part`.
+-- The segments are the octets in parts: a first, this many continuing ones between, and a last; all
+-- before the last have exactly `part` octets, and the last has 1 to `part`.
 pub record IsInParts (part m : ℕ) (octets : List ℕ) (segments : List SegmentView) : Type 0 where
   pub between : ℕ
   pub flags : flags_of segments ≡ First ∷ (replicate between Continuing ++ Last ∷ [])
@@ -110,14 +121,16 @@ pub record IsGroup (part : ℕ) (group : List (List ℕ)) : Type 0 where
   pub some : 1 ≤ length group
   pub size : (length (concat group) ≤ part) ⊎ (length group ≡ 1)
 
--- the first packet behind each group would not have fitted into it
+-- the first packet after each group would not have fitted into it
 abbrev pub AreLongest : ℕ → List (List (List ℕ)) → Type 0
 AreLongest part [] = Unit {0}
 AreLongest part (g ∷ []) = Unit {0}
-AreLongest part (g ∷ h ∷ gs) = (part < length (concat g) + length (concat (take 1 h))) × AreLongest part (h ∷ gs)
+AreLongest part (g ∷ h ∷ gs) =
+    (part < length (concat g) + length (concat (take 1 h))) × AreLongest part (h ∷ gs)
 
 -- the groups are the packets in their order
-pub record IsGrouped (part : ℕ) (packets : List (List ℕ)) (groups : List (List (List ℕ))) : Type 0 where
-  pub joined : flat_map (λ g. g) groups ≡ packets
-  pub each : AllByRecursion (IsGroup part) groups
-  pub longest : AreLongest part groups
+pub record IsGrouped (part : ℕ) (packets : List (List ℕ)) (groups : List (List (List ℕ))) : Type 0
+  where
+    pub joined : flat_map (λ g. g) groups ≡ packets
+    pub each : AllByRecursion (IsGroup part) groups
+    pub longest : AreLongest part groups

@@ -30,7 +30,10 @@ abbrev pub HasPartsOf : AssemblerState → List SegmentView → Type 0
 HasPartsOf a segments = (m : ℕ) → part_on_map a m ≡ open_part a.limits m segments
 
 -- Behind these segments comes one more, which hands out these packets and leaves the assembler so.
-pub record IsTakenExactly (a : AssemblerState) (segments : List SegmentView) (s : SegmentView) (packets : List (List ℕ)) : Type 0 where
-  pub given : assembled a.limits s.header.map (segments ++ s ∷ []) ≡ assembled a.limits s.header.map segments ++ packets
-  pub others : (m : ℕ) → m ≢ s.header.map → assembled a.limits m (segments ++ s ∷ []) ≡ assembled a.limits m segments
+pub record IsTakenExactly (a : AssemblerState) (segments : List SegmentView) (s : SegmentView)
+    (packets : List (List ℕ)) : Type 0 where
+  pub given : assembled a.limits s.header.map (segments ++ s ∷ [])
+      ≡ assembled a.limits s.header.map segments ++ packets
+  pub others : (m : ℕ) → m ≢ s.header.map
+      → assembled a.limits m (segments ++ s ∷ []) ≡ assembled a.limits m segments
   pub kept : HasPartsOf a (segments ++ s ∷ [])

@@ -23,4 +23,5 @@ segments_of_all part submissions = flat_map (λ s. segments_of part s.on_map s.o
 
 -- the packets that were handed over on MAP m, in their order
 abbrev pub packets_on : ℕ → List Submission → List (List ℕ)
-packets_on m submissions = flat_map (λ s. if s.on_map == m then packets_in s.octets else []) submissions
+packets_on m submissions =
+    flat_map (λ s. if s.on_map == m then packets_in s.octets else []) submissions

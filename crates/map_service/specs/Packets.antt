@@ -4,7 +4,7 @@ use Rattle.std.specs.List.{AllByRecursion, concat, list_any}
 use Rattle.space_packet.specs.Layout.{IsSomePacket}
 pub use Rattle.space_packet.specs.Packets.{first_packet, packets_in, rest_in, is_packet}
 
--- one or more whole packets, and nothing behind them
+-- one or more whole packets, and nothing after them
 abbrev pub are_packets : List ℕ → Bool
 are_packets octets = nat_lt 0 (length octets) && (length (rest_in octets) == 0)
 

@@ -1,15 +1,18 @@
 -- How the assembler takes a segment: a line for each cell of its table.
-use Rattle.std.specs.Prelude.{◌≡◌, Result, IsOk, ℕ, List, [], ◌∷◌, ◌++◌, Bool, true, false, not, ◌&&◌, if◌then◌else◌, Option, Some, None}
+use Rattle.std.specs.Prelude.{◌≡◌, Result, IsOk, ℕ, List, [], ◌∷◌, ◌++◌, Bool, true, false, not}
+use Rattle.std.specs.Prelude.{◌&&◌, if◌then◌else◌, Option, Some, None}
 use Rattle.tc_frame.specs.declared.frame.SegmentFlags.{SegmentFlags}
 use Rattle.tc_frame.specs.declared.frame.SegmentFlags.TheVariants.{First, Continuing, Last, Alone}
 use Rattle.tc_frame.specs.Layout.{SegmentView}
 use Rattle.map_service.specs.declared.limits.Limits.{Limits}
 use Rattle.map_service.specs.declared.dropped.Dropped.{Dropped}
-use Rattle.map_service.specs.declared.dropped.Dropped.TheVariants.{ClosedMap, Interrupted, NoBeginning, NotAPacket, TooLong}
+use Rattle.map_service.specs.declared.dropped.Dropped.TheVariants.{ClosedMap, Interrupted}
+use Rattle.map_service.specs.declared.dropped.Dropped.TheVariants.{NoBeginning, NotAPacket, TooLong}
 use Rattle.map_service.specs.Packets.{packets_in, are_packets, is_packet, is_some_over}
 use Rattle.map_service.specs.Assembly.{is_open, is_too_long}
 
--- what is dropped, which packets are handed out, and the part that is open then on the segment's MAP
+-- what is dropped, which packets are handed out, and the part that is open then on the segment's
+-- MAP
 pub record TakeOutcome : Type 0 where
   pub dropped : Option Dropped
   pub packets : List (List ℕ)
@@ -30,12 +33,13 @@ several_fault limits octets =
     else None
 
 abbrev pub alone_fault : Limits → List ℕ → Option Dropped
-alone_fault limits octets = if limits.blocking then several_fault limits octets else one_fault limits octets
+alone_fault limits octets =
+    if limits.blocking then several_fault limits octets else one_fault limits octets
 
 abbrev pub alone_packets : Limits → List ℕ → List (List ℕ)
 alone_packets limits octets = if limits.blocking then packets_in octets else octets ∷ []
 
--- ---- what follows; where something was dropped before, the later cause is told
+-- ---- what follows; where something was dropped before, the later cause is reported
 
 abbrev pub drop_outcome : Dropped → TakeOutcome
 drop_outcome cause = record { dropped = Some cause; packets = []; part = None }
@@ -46,19 +50,23 @@ packets_outcome earlier packets (Some cause) = drop_outcome cause
 
 abbrev pub part_outcome : Limits → Option Dropped → List ℕ → TakeOutcome
 part_outcome limits earlier octets =
-    if is_too_long limits octets then drop_outcome TooLong else record { dropped = earlier; packets = []; part = Some octets }
+    if is_too_long limits octets then drop_outcome TooLong else record
+    { dropped = earlier; packets = []; part = Some octets }
 
 -- ---- the table: the segment's flags, the part that is open, the segment's data
 
 abbrev pub cell : Limits → SegmentFlags → Option (List ℕ) → List ℕ → TakeOutcome
-cell limits Alone None octets = packets_outcome None (alone_packets limits octets) (alone_fault limits octets)
-cell limits Alone (Some part) octets = packets_outcome (Some Interrupted) (alone_packets limits octets) (alone_fault limits octets)
+cell limits Alone None octets =
+    packets_outcome None (alone_packets limits octets) (alone_fault limits octets)
+cell limits Alone (Some part) octets =
+    packets_outcome (Some Interrupted) (alone_packets limits octets) (alone_fault limits octets)
 cell limits First None octets = part_outcome limits None octets
 cell limits First (Some part) octets = part_outcome limits (Some Interrupted) octets
 cell limits Continuing None octets = drop_outcome NoBeginning
 cell limits Continuing (Some part) octets = part_outcome limits None (part ++ octets)
 cell limits Last None octets = drop_outcome NoBeginning
-cell limits Last (Some part) octets = packets_outcome None ((part ++ octets) ∷ []) (one_fault limits (part ++ octets))
+cell limits Last (Some part) octets =
+    packets_outcome None ((part ++ octets) ∷ []) (one_fault limits (part ++ octets))
 
 -- the cell of a segment, by the part that is open
 abbrev pub cell_at : Limits → Option (List ℕ) → SegmentView → TakeOutcome
@@ -85,10 +93,12 @@ lone_packet_cell limits First part octets = None
 lone_packet_cell limits Continuing part octets = None
 lone_packet_cell limits Last part octets = None
 
--- the packet that an alone segment of an open MAP is, where no part is open there and nothing is blocked
+-- the packet that an alone segment of an open MAP is, where no part is open there and nothing is
+-- blocked
 abbrev pub lone_packet_at : Limits → Option (List ℕ) → SegmentView → Option (List ℕ)
 lone_packet_at limits part s =
-    if is_open limits s.header.map && not limits.blocking then lone_packet_cell limits s.header.flags part s.payload else None
+    if is_open limits s.header.map
+    && not limits.blocking then lone_packet_cell limits s.header.flags part s.payload else None
 
 -- what is dropped with no memory taken first
 abbrev pub is_dropped_at_once : Option Dropped → Bool

@@ -19,4 +19,5 @@ interruption (Some part) = Some Interrupted
 
 -- an answer, and the part that is open then, as an outcome of the table
 abbrev pub outcome_of : {Z : Type 0} → Taken → Option (Vec ℕ Z) → TakeOutcome
-outcome_of taken part = record { dropped = taken.dropped; packets = packets_view taken.packets; part = part_view part }
+outcome_of taken part =
+    record { dropped = taken.dropped; packets = packets_view taken.packets; part = part_view part }

@@ -68,7 +68,7 @@ impl Assembler {
     /// the cause where a part passes `max_packet` octets. A part that is open at a first or an alone
     /// segment is dropped, `Interrupted`; a continuing or last segment with no part open,
     /// `NoBeginning`. A segment of a MAP that is not open, `ClosedMap`, changes nothing. Where two
-    /// causes come together the later is told.
+    /// causes come together the later is reported.
     ///
     /// 3 `Memory` where there was no memory; the assembler is as it was then.
     pub fn take(&mut self, segment: &Segment) -> Result<Taken, MapFault>

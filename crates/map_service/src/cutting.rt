@@ -62,7 +62,7 @@ fn append<'a>(
     Ok(())
 }
 
-// The parts behind a first.
+// The parts after a first.
 fn append_following<'a>(
     octets: &'a [u8],
     map: u8,

@@ -25,7 +25,7 @@ pub fn law_of_parts()
 {}
 
 /// Packets are grouped in the only way in which the groups are these packets in their order, each
-/// fits in a part or is one packet, and the first packet behind it would not have fitted into it.
+/// fits in a part or is one packet, and the first packet after it would not have fitted into it.
 pub fn law_of_groups()
     ensures found { (part : ℕ) (packets : List (List ℕ))
         → IsGrouped part packets (groups_of part packets) }

@@ -27,7 +27,3 @@ pub use fault::MapFault;
 pub use judging::{copied_packets, fault_of_alone, fault_of_one};
 pub use laws::{law_of_beginnings, law_of_packets, law_of_steps};
 pub use limits::Limits;
-pub use packets::are_one_packet;
-
-#[cfg(test)]
-mod tests;

@@ -26,7 +26,7 @@ impl Limits {
         map < 64 && (self.maps >> map) & 1 == 1
     }
 
-    /// Whether so many octets are more than a packet may have.
+    /// Whether this many octets are more than a packet may have.
     pub fn is_too_long(&self, len: usize) -> bool
         ensures { result ≡ nat_lt self.now.max_packet len }
     {

@@ -1,17 +1,9 @@
 // Octets as whole packets, one after another.
 
 ghost use Rattle.std.specs.Prelude.{◌≡◌};
-ghost use Rattle.map_service.specs.Packets.{packets_in, is_packet, are_packets, are_taken, is_some_over};
+ghost use Rattle.map_service.specs.Packets.{packets_in, are_packets, are_taken, is_some_over};
 
 use space_packet::{is_packet, packet_len};
-
-/// Whether the octets are exactly one space packet, of either type, idle too: a whole one, and
-/// nothing behind it (CCSDS 133.0-B-2, 4.1).
-pub fn are_one_packet(octets: &[u8]) -> bool
-    ensures { result ≡ is_packet octets.now }
-{
-    is_packet(octets)
-}
 
 // Whether the octets are one or more whole packets.
 pub(crate) fn are_whole_packets(octets: &[u8]) -> bool

@@ -1,12 +1,13 @@
--- No field is told to be out of its range exactly where each is in it.
+-- No field is reported as out of its range exactly where each is in it.
 use Rattle.std.proofs.Common.{◌≡◌, ◌≤◌, ℕ, ◌/◌, ◌%◌, List, Bool, true, false, not, cond, eqb, Option, Some, None, refl}
 use Rattle.std.specs.Prelude.{◌&&◌}
 use Rattle.std.proofs.lemmas.Bool.{ltb-false, le-ltb, leb-true, le-leb, eqb-true, eq-eqb, and_parts, not-false}
 use Rattle.nodes.specs.declared.config.Config.{Config}
 use Rattle.nodes.specs.Parameters.{is_within, channel_fault, cop_fault, node_fault, config_fault, first_of, IsConfig}
 
--- a test that told nothing
-passed : (b : Bool) (field : List ℕ) (rest : Option (List ℕ)) → cond b (Some field) rest ≡ None → (b ≡ false) × (rest ≡ None)
+-- a test that reported nothing
+passed : (b : Bool) (field : List ℕ) (rest : Option (List ℕ)) → cond b (Some field) rest ≡ None
+    → (b ≡ false) × (rest ≡ None)
 passed true field rest h = absurd cc
 passed false field rest h = (refl, h)
 
@@ -70,7 +71,11 @@ channel_none c h = rw (le-ltb 1023 c.scid h.scid, le-ltb 63 c.vcid h.vcid, le-lt
 cop_none : (c : Config) → IsConfig c → cop_fault c ≡ None
 cop_none c h =
     rw (le-leb 2 c.width h.width.0, le-leb c.width 254 h.width.1, eq-eqb (c.width % 2) 0 h.even)
-    (rw (not_outside c.window 1 (c.width / 2) h.window.0 h.window.1, not_outside c.limit 1 255 h.limit.0 h.limit.1, not_outside c.timer 1 65535 h.timer.0 h.timer.1) refl)
+    (rw (
+      not_outside c.window 1 (c.width / 2) h.window.0 h.window.1,
+      not_outside c.limit 1 255 h.limit.0 h.limit.1,
+      not_outside c.timer 1 65535 h.timer.0 h.timer.1,
+    ) refl)
 
 node_none : (c : Config) → IsConfig c → node_fault c ≡ None
 node_none c h =

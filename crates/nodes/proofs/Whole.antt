@@ -8,7 +8,8 @@ use Rattle.map_service.proofs.Handed.{AreWhole, taken_whole}
 use Rattle.nodes.specs.Packets.{put_on_map}
 use Rattle.nodes.specs.PacketFields.{IsPacketOn}
 
-on_map : (m : ℕ) → m < 64 → (packets : List (List ℕ)) → AreWhole packets → AllByRecursion IsPacketOn (put_on_map m packets)
+on_map : (m : ℕ) → m < 64 → (packets : List (List ℕ)) → AreWhole packets
+    → AllByRecursion IsPacketOn (put_on_map m packets)
 on_map m below [] whole = tt
 on_map m below (p ∷ ps) whole = (record { on_map = below; packet = whole.0 }, on_map m below ps whole.1)
 

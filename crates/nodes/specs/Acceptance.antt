@@ -7,7 +7,8 @@ use Rattle.tc_frame.specs.Reading.{frame_at}
 use Rattle.cop1.specs.Farm.{verdict_of}
 use Rattle.map_service.specs.Views.{packets_view}
 use Rattle.nodes.specs.declared.spacecraft.acceptance.Acceptance.{Acceptance}
-use Rattle.nodes.specs.Spacecraft.{SpacecraftState, is_free, is_own_frame, is_accepted, assemble_step}
+use Rattle.nodes.specs.Spacecraft.{SpacecraftState, is_free, is_own_frame, is_accepted}
+use Rattle.nodes.specs.Spacecraft.{assemble_step}
 
 abbrev pub segment_in_body : SpacecraftState → BodyView → Option SegmentView
 segment_in_body s (Ad n segment) =

@@ -1,7 +1,8 @@
 -- The numbers and names of a node's refusals.
 use Rattle.std.specs.Prelude.{ℕ, List, codes}
 use Rattle.nodes.specs.declared.fault.LinkFault.{LinkFault}
-use Rattle.nodes.specs.declared.fault.LinkFault.TheVariants.{NotOpen, ClosedMap, NotCommand, TooLong, QueueFull, Memory}
+use Rattle.nodes.specs.declared.fault.LinkFault.TheVariants.{NotOpen, ClosedMap, NotCommand}
+use Rattle.nodes.specs.declared.fault.LinkFault.TheVariants.{TooLong, QueueFull, Memory}
 
 abbrev pub fault_number : LinkFault → ℕ
 fault_number NotOpen = 1

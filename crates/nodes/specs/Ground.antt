@@ -1,5 +1,7 @@
 -- The ground: what it holds, and what each of its calls answers and leaves.
-use Rattle.std.specs.Prelude.{◌≡◌, ℕ, ◌+◌, List, [], ◌∷◌, ◌++◌, length, map, option_to_list, Bool, true, false, not, ◌&&◌, ◌==◌, nat_lt, if◌then◌else◌, Option, Some, None, Result, Ok, Err}
+use Rattle.std.specs.Prelude.{◌≡◌, ℕ, ◌+◌, List, [], ◌∷◌, ◌++◌, length, map, option_to_list, Bool}
+use Rattle.std.specs.Prelude.{true, false, not, ◌&&◌, ◌==◌, nat_lt, if◌then◌else◌, Option, Some}
+use Rattle.std.specs.Prelude.{None, Result, Ok, Err}
 use Rattle.clcw.specs.declared.word.Clcw.{Clcw}
 use Rattle.clcw.specs.declared.fault.ClcwFault.{ClcwFault}
 use Rattle.clcw.specs.Reading.{clcw_at}
@@ -14,7 +16,8 @@ use Rattle.cop1.specs.declared.fop.FopMode.TheVariants.{S1, S2, S3, S4, S5, S6}
 use Rattle.cop1.specs.declared.fop.Alert.{Alert}
 use Rattle.cop1.specs.declared.fop.Directive.{Directive}
 use Rattle.cop1.specs.FopState.{FopState, new_fop}
-use Rattle.cop1.specs.FopPull.{PulledUnit, NothingPulled, ControlPulled, BypassPulled, SequencePulled}
+use Rattle.cop1.specs.FopPull.{PulledUnit, NothingPulled, ControlPulled, BypassPulled}
+use Rattle.cop1.specs.FopPull.{SequencePulled}
 use Rattle.cop1.specs.FopStep as sender
 use Rattle.cop1.specs.FopWords.{FopOutcome}
 use Rattle.tm_link.specs.declared.fault.TmFault.{TmFault}
@@ -23,7 +26,8 @@ use Rattle.tm_link.specs.Reading.{frame_at}
 use Rattle.tm_link.specs.Extraction.{ExtractorState, Extracted, new_extractor, extract_step}
 use Rattle.nodes.specs.declared.config.Config.{Config}
 use Rattle.nodes.specs.declared.fault.LinkFault.{LinkFault}
-use Rattle.nodes.specs.declared.fault.LinkFault.TheVariants.{NotOpen, ClosedMap, NotCommand, TooLong, QueueFull}
+use Rattle.nodes.specs.declared.fault.LinkFault.TheVariants.{NotOpen, ClosedMap, NotCommand}
+use Rattle.nodes.specs.declared.fault.LinkFault.TheVariants.{TooLong, QueueFull}
 use Rattle.nodes.specs.declared.heard.Heard.{Heard}
 use Rattle.nodes.specs.declared.heard.Heard.TheVariants.{Invalid, Foreign, Frame}
 use Rattle.nodes.specs.declared.heard.HeardReport.TheVariants.{Used, Refused, OtherChannel}
@@ -35,7 +39,7 @@ pub record GroundState : Type 0 where
   pub config : Config
   -- the sender, FOP-1, of segments
   pub fop : FopState SegmentView
-  -- the segments behind its wait queue, the oldest first
+  -- the segments after its wait queue, the oldest first
   pub pending : List SegmentView
   -- what takes packets out of the telemetry frames, and those that wait to be taken, the oldest
   -- first

@@ -1,6 +1,7 @@
 -- The managed parameters: their ranges in their order, the values that a script begins with, and
 -- what the segmentation service keeps to.
-use Rattle.std.specs.Prelude.{◌≡◌, ◌≤◌, ℕ, ◌/◌, ◌%◌, ◌^◌, ◌-◌, List, codes, Bool, not, ◌&&◌, ◌==◌, nat_lt, nat_le, if◌then◌else◌, Option, Some, None}
+use Rattle.std.specs.Prelude.{◌≡◌, ◌≤◌, ℕ, ◌/◌, ◌%◌, ◌^◌, ◌-◌, List, codes, Bool, not, ◌&&◌, ◌==◌}
+use Rattle.std.specs.Prelude.{nat_lt, nat_le, if◌then◌else◌, Option, Some, None}
 use Rattle.map_service.specs.declared.limits.Limits.{Limits}
 use Rattle.nodes.specs.declared.config.Config.{Config}
 

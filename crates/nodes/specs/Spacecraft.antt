@@ -1,5 +1,6 @@
 -- The spacecraft: what it holds, and what each of its calls answers and leaves.
-use Rattle.std.specs.Prelude.{◌≡◌, ℕ, List, [], ◌∷◌, ◌++◌, length, Bool, true, false, ◌&&◌, ◌==◌, nat_lt, if◌then◌else◌, Option, Some, None, Result, Ok, Err}
+use Rattle.std.specs.Prelude.{◌≡◌, ℕ, List, [], ◌∷◌, ◌++◌, length, Bool, true, false, ◌&&◌, ◌==◌}
+use Rattle.std.specs.Prelude.{nat_lt, if◌then◌else◌, Option, Some, None, Result, Ok, Err}
 use Rattle.circular_buffer.specs.Buffer.{keep_last}
 use Rattle.clcw.specs.Writing as words
 use Rattle.tc_frame.specs.declared.frame.Check.TheVariants.{On}
@@ -11,8 +12,10 @@ use Rattle.tc_frame.specs.Reading.{frame_at}
 use Rattle.map_service.specs.Assembly.{open_part}
 use Rattle.map_service.specs.Taking.{TakeOutcome, take_step}
 use Rattle.cop1.specs.declared.farm.Verdict.{Verdict}
-use Rattle.cop1.specs.declared.farm.Verdict.TheVariants.{Accepted, Ahead, NoBuffer, Behind, Outside, Discarded}
-use Rattle.cop1.specs.Farm.{FarmState, FarmEvent, AdArrives, BdArrives, UnlockArrives, SetVrArrives, BufferReleased, farm_step, new_farm, verdict_of}
+use Rattle.cop1.specs.declared.farm.Verdict.TheVariants.{Accepted, Ahead, NoBuffer, Behind, Outside}
+use Rattle.cop1.specs.declared.farm.Verdict.TheVariants.{Discarded}
+use Rattle.cop1.specs.Farm.{FarmState, FarmEvent, AdArrives, BdArrives, UnlockArrives, SetVrArrives}
+use Rattle.cop1.specs.Farm.{BufferReleased, farm_step, new_farm, verdict_of}
 use Rattle.cop1.specs.Report.{report_of}
 use Rattle.tm_link.specs.declared.fault.TmFault.{TmFault}
 use Rattle.tm_link.specs.declared.fault.TmFault.TheVariants.{NotAPacket}
@@ -20,7 +23,8 @@ use Rattle.tm_link.specs.Layout as telemetry
 use Rattle.tm_link.specs.Building.{BuilderState, new_builder, is_to_send, after_queue, build_step}
 use Rattle.nodes.specs.declared.config.Config.{Config}
 use Rattle.nodes.specs.declared.received.Received.{Received}
-use Rattle.nodes.specs.declared.received.Received.TheVariants.{Invalid, Foreign, Sequence, Bypass, Control}
+use Rattle.nodes.specs.declared.received.Received.TheVariants.{Invalid, Foreign, Sequence, Bypass}
+use Rattle.nodes.specs.declared.received.Received.TheVariants.{Control}
 use Rattle.nodes.specs.Parameters.{limits_of}
 use Rattle.nodes.specs.BypassSegments.{is_kept}
 use Rattle.nodes.specs.Packets.{PacketOn, packet_on, put_on_map}
@@ -72,7 +76,7 @@ is_accepted Behind = false
 is_accepted Outside = false
 is_accepted Discarded = false
 
--- what a segment more does behind those that were accepted (CCSDS 232.0-B-4, 4.1.3.2)
+-- what a segment more does after those that were accepted (CCSDS 232.0-B-4, 4.1.3.2)
 abbrev pub assemble_step : SpacecraftState → SegmentView → TakeOutcome
 assemble_step s segment =
     take_step (limits_of s.config) (open_part (limits_of s.config) segment.header.map s.accepted)

@@ -52,7 +52,7 @@ impl MapPacket {
     }
 }
 
-// Puts the packets of a MAP, for which there is room, behind those that are ready.
+// Puts the packets of a MAP, for which there is room, after those that are ready.
 pub(crate) fn make_ready(ready: &mut VecDeque<MapPacket>, on_map: u8, packets: Vec<Vec<u8>>)
     requires whole { AllByRecursion IsPacketOn (put_on_map on_map (packets_view packets)) }
     requires room { deque_len ready.old + length (packets_view packets) ≤ deque_capacity ready.old }

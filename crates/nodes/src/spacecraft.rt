@@ -142,7 +142,7 @@ impl Spacecraft {
     }
 
     /// The report on the receiver that the next telemetry frame carries (CCSDS 232.0-B-4, 4.2).
-    pub fn clcw(&self) -> Clcw
+    pub fn control_word(&self) -> Clcw
         ensures report { result ≡ report_of self.now.farm self.now.config.vcid }
         ensures fits { IsTrue (fits result) }
     {
@@ -162,7 +162,7 @@ impl Spacecraft {
             (take result out.new) }
         ensures own { IsOwnFrame self.old.config (spacecraft_step self.old Report).answer }
     {
-        let Ok(ocf) = encode(&self.clcw()) else {
+        let Ok(ocf) = encode(&self.control_word()) else {
             unreachable!()
         };
         self.builder.build(ocf, out)

@@ -1,9 +1,11 @@
 -- A check fits 16 bits.
-use Rattle.std.proofs.Common.{◌≡◌, ℕ, zero, suc, ◌+◌, ◌*◌, ◌^◌, ◌<◌, ◌≤◌, Bool, true, false, List, [], ◌∷◌, ◌++◌, length, refl, ap, ◌∙◌, arith, length-append}
+use Rattle.std.proofs.Common.{◌≡◌, ℕ, zero, suc, ◌+◌, ◌*◌, ◌^◌, ◌<◌, ◌≤◌, Bool, true, false, List, [], ◌∷◌, ◌++◌}
+use Rattle.std.proofs.Common.{length, refl, ap, ◌∙◌, arith, length-append}
 use Rattle.std.specs.Prelude.{replicate}
 use Rattle.std.proofs.lemmas.List.Concat.{flat_map-cons}
 use Rattle.std.proofs.Math.Nat.{pow-suc}
-use Rattle.octets.specs.Check.{bits_of, sum_without_carries, number_of_bits, octet_bits, generator_rest, remainder, check_of}
+use Rattle.octets.specs.Check.{bits_of, sum_without_carries, number_of_bits, octet_bits, generator_rest, remainder}
+use Rattle.octets.specs.Check.{check_of}
 
 pub number_of_bits-below : (bits : List Bool) → number_of_bits bits < 2 ^ length bits
 number_of_bits-below [] = omega arith
@@ -19,18 +21,28 @@ pub length-remainder : (n : ℕ) (bits : List Bool) → length bits ≡ n + 16 �
 unfolding remainder
 length-remainder zero bits h = omega arith
 length-remainder (suc n) [] h = absurd (omega arith)
-length-remainder (suc n) (true ∷ bits) h = length-remainder n (sum_without_carries generator_rest bits) (omega (arith, length-sum generator_rest bits (omega arith)))
+length-remainder (suc n) (true ∷ bits) h =
+    length-remainder n (sum_without_carries generator_rest bits)
+    (omega (arith, length-sum generator_rest bits (omega arith)))
 length-remainder (suc n) (false ∷ bits) h = length-remainder n bits (omega arith)
 
 pub length-octet_bits : (octets : List ℕ) → length (octet_bits octets) ≡ 8 * length octets
 length-octet_bits [] = refl
-length-octet_bits (x ∷ xs) = let h = length-octet_bits xs in omega (arith, ap length (flat_map-cons (bits_of 8) x xs), length-append (bits_of 8 x) (octet_bits xs))
+length-octet_bits (x ∷ xs) =
+    let h = length-octet_bits xs in omega (
+      arith,
+      ap length (flat_map-cons (bits_of 8) x xs),
+      length-append
+          (bits_of 8 x) (octet_bits xs),
+    )
 
 pub check_of-below : (octets : List ℕ) → check_of octets < 2 ^ 16
 unfolding check_of
 check_of-below octets =
     let rest : List Bool = octet_bits octets ++ replicate 16 false in
-    let long : length rest ≡ 8 * length octets + 16 = omega (arith, length-append (octet_bits octets) (replicate 16 false), length-octet_bits octets) in
-    let all : length (sum_without_carries (replicate 16 true) rest) ≡ 8 * length octets + 16 = length-sum (replicate 16 true) rest (omega arith) ∙ long in
+    let long : length rest ≡ 8 * length octets + 16 =
+    omega (arith, length-append (octet_bits octets) (replicate 16 false), length-octet_bits octets) in
+    let all : length (sum_without_carries (replicate 16 true) rest) ≡ 8 * length octets + 16 =
+    length-sum (replicate 16 true) rest (omega arith) ∙ long in
     let left = length-remainder (8 * length octets) (sum_without_carries (replicate 16 true) rest) all in
     rw left at (number_of_bits-below (remainder (8 * length octets) (sum_without_carries (replicate 16 true) rest)))

@@ -13,7 +13,8 @@ pub ok_is : {A F : Type 0} (x y : A) → done {F = F} x ≡ done y → x ≡ y
 ok_is x y e = cc
 
 -- what comes after a fault that wasn't answered
-pub passed : {A F : Type 0} (b : Bool) (e : F) (r : Result A F) (y : A) → cond b (Err e) r ≡ Ok y → (b ≡ false) × (r ≡ Ok y)
+pub passed : {A F : Type 0} (b : Bool) (e : F) (r : Result A F) (y : A) → cond b (Err e) r ≡ Ok y
+    → (b ≡ false) × (r ≡ Ok y)
 passed true e r y h = absurd cc
 passed false e r y h = (refl, h)
 
@@ -23,7 +24,8 @@ ended true e x y h = (refl, cc)
 ended false e x y h = absurd cc
 
 -- a changed answer Ok comes from an answer Ok
-pub mapped : {A B F : Type 0} (f : A → B) (r : Result A F) (y : B) → map_ok f r ≡ Ok y → (x : A) × (r ≡ Ok x) × (f x ≡ y)
+pub mapped : {A B F : Type 0} (f : A → B) (r : Result A F) (y : B) → map_ok f r ≡ Ok y
+    → (x : A) × (r ≡ Ok x) × (f x ≡ y)
 mapped f (Ok x) y h = (x, refl, cc)
 mapped f (Err e) y h = absurd cc
 

@@ -1,5 +1,6 @@
 -- The register of 16 bits: one step a bit, and each step is linear.
-use Rattle.std.proofs.Common.{◌≡◌, ℕ, zero, suc, ◌+◌, ◌*◌, ◌/◌, ◌%◌, ◌^◌, ◌<◌, Bool, true, false, cond, eqb, refl, sym, ap, ◌∙◌, arith}
+use Rattle.std.proofs.Common.{◌≡◌, ℕ, zero, suc, ◌+◌, ◌*◌, ◌/◌, ◌%◌, ◌^◌, ◌<◌, Bool, true, false, cond, eqb, refl, sym}
+use Rattle.std.proofs.Common.{ap, ◌∙◌, arith}
 use Rattle.std.specs.Prelude.{bit_xor}
 use Rattle.std.specs.Int.Bits.{xor_assoc, xor_zero_r, xor_block}
 use Rattle.std.proofs.lemmas.Nat.{xor_comm, xor_mod, xor_shr, xor_lt}
@@ -16,7 +17,8 @@ register_after (suc n) r = register_after n (register_step r)
 -- a step moves the bits on: linear
 double-xor : (a b : ℕ) → bit_xor (a * 2) (b * 2) ≡ bit_xor a b * 2
 double-xor a b =
-    let h : bit_xor (a * 2 ^ 1 + 0) (b * 2 ^ 1 + 0) ≡ bit_xor a b * 2 ^ 1 + bit_xor 0 0 = xor_block 1 a b 0 0 (omega arith) (omega arith) in
+    let h : bit_xor (a * 2 ^ 1 + 0) (b * 2 ^ 1 + 0) ≡ bit_xor a b * 2 ^ 1 + bit_xor 0 0 =
+    xor_block 1 a b 0 0 (omega arith) (omega arith) in
     let left : a * 2 ^ 1 + 0 ≡ a * 2 = omega arith in
     let right : b * 2 ^ 1 + 0 ≡ b * 2 = omega arith in
     let out : bit_xor a b * 2 ^ 1 + 0 ≡ bit_xor a b * 2 = omega arith in
@@ -54,7 +56,8 @@ swap-middle a b c d =
     ∙ ap (bit_xor a) (sym (xor_assoc b c d) ∙ ap (λ (x : ℕ). bit_xor x d) (xor_comm b c) ∙ xor_assoc c b d)
     ∙ sym (xor_assoc a c (bit_xor b d))
 
-pub step-xor : (a b : ℕ) → a < 2 ^ 16 → b < 2 ^ 16 → register_step (bit_xor a b) ≡ bit_xor (register_step a) (register_step b)
+pub step-xor : (a b : ℕ) → a < 2 ^ 16 → b < 2 ^ 16
+    → register_step (bit_xor a b) ≡ bit_xor (register_step a) (register_step b)
 step-xor a b p q =
     let top : bit_xor a b / 2 ^ 15 ≡ bit_xor (a / 2 ^ 15) (b / 2 ^ 15) = xor_shr a b 15 in
     step-is (bit_xor a b)
@@ -68,6 +71,9 @@ step-xor a b p q =
 pub step-fits : (r : ℕ) → register_step r < 2 ^ 16
 step-fits r = chosen-fits (eqb (r / 2 ^ 15) 1) (r * 2 % 2 ^ 16) (omega arith)
 
-pub after-xor : (n a b : ℕ) → a < 2 ^ 16 → b < 2 ^ 16 → register_after n (bit_xor a b) ≡ bit_xor (register_after n a) (register_after n b)
+pub after-xor : (n a b : ℕ) → a < 2 ^ 16 → b < 2 ^ 16
+    → register_after n (bit_xor a b) ≡ bit_xor (register_after n a) (register_after n b)
 after-xor zero a b p q = refl
-after-xor (suc n) a b p q = ap (register_after n) (step-xor a b p q) ∙ after-xor n (register_step a) (register_step b) (step-fits a) (step-fits b)
+after-xor (suc n) a b p q =
+    ap (register_after n) (step-xor a b p q)
+    ∙ after-xor n (register_step a) (register_step b) (step-fits a) (step-fits b)

@@ -1,5 +1,6 @@
 -- The rule of the check's tables at each entry, from one test over all of them, and the register after octets.
-use Rattle.std.proofs.Common.{◌≡◌, ℕ, zero, suc, ◌+◌, ◌-◌, ◌*◌, ◌/◌, ◌%◌, ◌^◌, ◌<◌, ◌≤◌, Bool, true, eqb, List, [], ◌∷◌, ◌++◌, length, get_or, take, drop, refl, sym, ap, subst, ◌∙◌, arith, inl, inr}
+use Rattle.std.proofs.Common.{◌≡◌, ℕ, zero, suc, ◌+◌, ◌-◌, ◌*◌, ◌/◌, ◌%◌, ◌^◌, ◌<◌, ◌≤◌, Bool, true, eqb, List, [], ◌∷◌}
+use Rattle.std.proofs.Common.{◌++◌, length, get_or, take, drop, refl, sym, ap, subst, ◌∙◌, arith, inl, inr}
 use Rattle.std.specs.Prelude.{◌&&◌, bit_xor}
 use Rattle.std.specs.Int.Bits.{xor_zero_r, xor_assoc, xor_block, xor_shifted}
 use Rattle.std.proofs.lemmas.Nat.{shr_split, xor_comm, xor_lt}
@@ -108,9 +109,11 @@ parts : (r x : ℕ) → bit_xor r (x * 2 ^ 8) ≡ bit_xor (bit_xor (r / 2 ^ 8) x
 parts r x =
     let whole : r / 2 ^ 8 * 2 ^ 8 + r % 2 ^ 8 ≡ r = shr_split r 8 in
     let plain : x * 2 ^ 8 + 0 ≡ x * 2 ^ 8 = omega arith in
-    let block : bit_xor (r / 2 ^ 8 * 2 ^ 8 + r % 2 ^ 8) (x * 2 ^ 8 + 0) ≡ bit_xor (r / 2 ^ 8) x * 2 ^ 8 + bit_xor (r % 2 ^ 8) 0 = xor_block 8 (r / 2 ^ 8) x (r % 2 ^ 8) 0 (omega arith) (omega arith) in
+    let block : bit_xor (r / 2 ^ 8 * 2 ^ 8 + r % 2 ^ 8) (x * 2 ^ 8 + 0) ≡ bit_xor (r / 2 ^ 8) x * 2 ^ 8
+    + bit_xor (r % 2 ^ 8) 0 = xor_block 8 (r / 2 ^ 8) x (r % 2 ^ 8) 0 (omega arith) (omega arith) in
     sym (ap (λ (y : ℕ). bit_xor y (x * 2 ^ 8)) whole) ∙ sym (ap (bit_xor (r / 2 ^ 8 * 2 ^ 8 + r % 2 ^ 8)) plain) ∙ block
-    ∙ ap (λ (y : ℕ). bit_xor (r / 2 ^ 8) x * 2 ^ 8 + y) (xor_zero_r (r % 2 ^ 8)) ∙ sym (xor_shifted (bit_xor (r / 2 ^ 8) x) 8 (r % 2 ^ 8) (omega arith))
+    ∙ ap (λ (y : ℕ). bit_xor (r / 2 ^ 8) x * 2 ^ 8 + y) (xor_zero_r (r % 2 ^ 8))
+    ∙ sym (xor_shifted (bit_xor (r / 2 ^ 8) x) 8 (r % 2 ^ 8) (omega arith))
 
 -- eight steps over the register with an octet in its first half
 octet_after : (r x : ℕ) → r < 2 ^ 16 → x < 256
@@ -127,8 +130,10 @@ steps_fit zero r fits = fits
 steps_fit (suc n) r fits = steps_fit n (register_step r) (step-fits r)
 
 -- eight steps more
-takes_whole_octet : (r x : ℕ) (xs : List ℕ) → r < 2 ^ 16 → x < 256 → divided (register_after 8 (bit_xor r (x * 2 ^ 8))) 0 xs ≡ divided r 0 (x ∷ xs)
-takes_whole_octet r x xs fits small = takes_bits 8 (bit_xor r (x * 2 ^ 8)) xs (xor_lt 16 r (x * 2 ^ 8) fits (omega arith)) ∙ takes_octet r x xs
+takes_whole_octet : (r x : ℕ) (xs : List ℕ) → r < 2 ^ 16 → x < 256
+    → divided (register_after 8 (bit_xor r (x * 2 ^ 8))) 0 xs ≡ divided r 0 (x ∷ xs)
+takes_whole_octet r x xs fits small =
+    takes_bits 8 (bit_xor r (x * 2 ^ 8)) xs (xor_lt 16 r (x * 2 ^ 8) fits (omega arith)) ∙ takes_octet r x xs
 
 -- ---- octets one after another
 
@@ -262,7 +267,8 @@ takes_octet_at r s i octets fits lt small is =
 
 -- a list of eight is its eight places
 eight_places : (xs : List ℕ) → length xs ≡ 8
-    → xs ≡ get_or xs 0 0 ∷ get_or xs 1 0 ∷ get_or xs 2 0 ∷ get_or xs 3 0 ∷ get_or xs 4 0 ∷ get_or xs 5 0 ∷ get_or xs 6 0 ∷ get_or xs 7 0 ∷ []
+    → xs ≡ get_or xs 0 0 ∷ get_or xs 1 0 ∷ get_or xs 2 0 ∷ get_or xs 3 0 ∷ get_or xs 4 0 ∷ get_or xs 5 0 ∷ get_or xs 6 0
+    ∷ get_or xs 7 0 ∷ []
 eight_places (a ∷ b ∷ c ∷ d ∷ e ∷ f ∷ g ∷ h ∷ []) long = refl
 eight_places [] long = absurd (omega arith)
 eight_places (a ∷ []) long = absurd (omega arith)

@@ -1,5 +1,8 @@
--- The check of a frame (CCSDS 232.0-B-4, 4.1.4.2; CCSDS 132.0-B-3, 4.1.6.2): the remainder of a division of bits.
-use Rattle.std.specs.Prelude.{◌≡◌, ◌≤◌, ◌-◌, take, drop, ℕ, zero, suc, ◌+◌, ◌*◌, ◌^◌, ◌==◌, Bool, true, false, not, if◌then◌else◌, List, [], ◌∷◌, ◌++◌, length, replicate}
+-- The check of a frame (CCSDS 232.0-B-4, 4.1.4.2; CCSDS 132.0-B-3, 4.1.6.2): the remainder of a
+-- division of bits.
+use Rattle.std.specs.Prelude.{◌≡◌, ◌≤◌, ◌-◌, take, drop, ℕ, zero, suc, ◌+◌, ◌*◌, ◌^◌, ◌==◌, Bool}
+use Rattle.std.specs.Prelude.{true, false, not, if◌then◌else◌, List, [], ◌∷◌, ◌++◌, length}
+use Rattle.std.specs.Prelude.{replicate}
 use Rattle.std.specs.Int.{bit_at}
 use Rattle.std.specs.List.{flat_map}
 use Rattle.octets.specs.Number.{number_of}
@@ -32,18 +35,23 @@ sum_without_carries (x ∷ xs) (y ∷ ys) = bit_sum x y ∷ sum_without_carries 
 abbrev pub generator_rest : List Bool
 generator_rest = bits_of 16 0x1021
 
--- Long division by the generator, with as many steps as the quotient has bits. Where the first bit is 1 the generator
--- is taken away there; then that bit, which is 0 now, is left out.
+-- Long division by the generator, with as many steps as the quotient has bits. Where the first bit
+-- is 1 the generator is taken away there; then that bit, which is 0 now, is left out.
 unfoldable pub remainder : ℕ → List Bool → List Bool
 remainder zero bits = bits
 remainder (suc n) [] = []
-remainder (suc n) (b ∷ bits) = remainder n (if b then sum_without_carries generator_rest bits else bits)
+remainder (suc n) (b ∷ bits) =
+    remainder n (if b then sum_without_carries generator_rest bits else bits)
 
--- the check of octets: their bits and 16 zero bits, the first 16 of all these inverted, divided by the generator
+-- the check of octets: their bits and 16 zero bits, the first 16 of all these inverted, divided by
+-- the generator
 unfoldable pub check_of : List ℕ → ℕ
-check_of octets = number_of_bits (remainder (8 * length octets) (sum_without_carries (replicate 16 true) (octet_bits octets ++ replicate 16 false)))
+check_of octets =
+    number_of_bits (remainder (8 * length octets)
+    (sum_without_carries (replicate 16 true) (octet_bits octets ++ replicate 16 false)))
 
 -- there are at least two octets, and the last two spell the check of those before them
 pub record HoldsCheck (octets : List ℕ) : Type 0 where
   pub long : 2 ≤ length octets
-  pub same : number_of (drop (length octets - 2) octets) ≡ check_of (take (length octets - 2) octets)
+  pub same : number_of (drop (length octets - 2) octets)
+      ≡ check_of (take (length octets - 2) octets)

@@ -1,5 +1,6 @@
 -- What a splitter holds, and what it answers.
-use Rattle.std.specs.Prelude.{◌≤◌, ◌-◌, ℕ, List, length, take, drop, Option, Some, None, Result, Ok, Err}
+use Rattle.std.specs.Prelude.{◌≤◌, ◌-◌, ℕ, List, length, take, drop, Option, Some, None, Result, Ok}
+use Rattle.std.specs.Prelude.{Err}
 use Rattle.std.specs.Borrow.{Bor}
 use Rattle.octets.specs.declared.splitter.Splitter.{Splitter}
 use Rattle.octets.specs.declared.wire.Wire as wire
@@ -12,32 +13,35 @@ held s = drop s.start s.octets.items
 abbrev pub failure : {W F : Type 0} {layout : wire.Ghosts W F} → Splitter W F layout → Option F
 failure s = s.failed
 
--- what is held behind an answer
+-- what is held after an answer
 abbrev pub rest_after : {F : Type 0} → Option (Result (List ℕ) F) → List ℕ → List ℕ
 rest_after None octets = octets
 rest_after (Some (Err e)) octets = octets
 rest_after (Some (Ok r)) octets = drop (length r) octets
 
--- how it has failed behind an answer
+-- how it has failed after an answer
 abbrev pub failure_after : {F : Type 0} → Option (Result (List ℕ) F) → Option F → Option F
 failure_after None f = f
 failure_after (Some (Err e)) f = Some e
 failure_after (Some (Ok r)) f = f
 
 -- an answer without where its octets lie in memory
-abbrev pub answer_view : {F : Type 0} → Option (Result (Bor (List ℕ)) F) → Option (Result (List ℕ) F)
+abbrev pub answer_view : {F : Type 0} → Option (Result (Bor (List ℕ)) F)
+    → Option (Result (List ℕ) F)
 answer_view None = None
 answer_view (Some (Err e)) = Some (Err e)
 answer_view (Some (Ok r)) = Some (Ok r.now)
 
 -- the same, where the fault is lent too
-abbrev pub lent_view : {F : Type 0} → Option (Result (Bor (List ℕ)) (Bor F)) → Option (Result (List ℕ) F)
+abbrev pub lent_view : {F : Type 0} → Option (Result (Bor (List ℕ)) (Bor F))
+    → Option (Result (List ℕ) F)
 lent_view None = None
 lent_view (Some (Err e)) = Some (Err e.now)
 lent_view (Some (Ok r)) = Some (Ok r.now)
 
 -- the same, where the octets are those between two places
-abbrev pub place_view : {F : Type 0} → List ℕ → Option (Result (ℕ × ℕ) F) → Option (Result (List ℕ) F)
+abbrev pub place_view : {F : Type 0} → List ℕ → Option (Result (ℕ × ℕ) F)
+    → Option (Result (List ℕ) F)
 place_view octets None = None
 place_view octets (Some (Err e)) = Some (Err e)
 place_view octets (Some (Ok p)) = Some (Ok (take (p.1 - p.0) (drop p.0 octets)))

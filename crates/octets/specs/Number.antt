@@ -1,4 +1,5 @@
--- The number that octets spell (the bit numbering convention of CCSDS 132.0-B, 133.0-B and 232.0-B, 1.6).
+-- The number that octets spell (the bit numbering convention of CCSDS 132.0-B, 133.0-B and 232.0-B,
+-- 1.6).
 use Rattle.std.specs.Prelude.{ℕ, ◌+◌, ◌*◌, ◌^◌, ◌<◌, List, [], ◌∷◌, length, slice_index}
 
 -- each octet times 256 to the power of the octets after it, summed

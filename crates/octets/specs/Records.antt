@@ -1,6 +1,8 @@
--- A stream of octets as the records of a layout and a rest. A layout is told by its head, the octets that are needed to
--- know a record's length, and by the length, or the fault, that such a head gives.
-use Rattle.std.specs.Prelude.{◌≡◌, ◌≤◌, ◌<◌, ◌⊎◌, ℕ, zero, suc, List, [], ◌∷◌, ◌++◌, length, take, drop, Option, Some, None, Result, Ok, Err, nat_lt, if◌then◌else◌}
+-- A stream of octets as the records of a layout and a rest. A layout is given by its head, the
+-- octets that are needed to know a record's length, and by the length, or the fault, that such a
+-- head gives.
+use Rattle.std.specs.Prelude.{◌≡◌, ◌≤◌, ◌<◌, ◌⊎◌, ℕ, zero, suc, List, [], ◌∷◌, ◌++◌, length, take}
+use Rattle.std.specs.Prelude.{drop, Option, Some, None, Result, Ok, Err, nat_lt, if◌then◌else◌}
 use Rattle.std.specs.List.{AllByRecursion, concat}
 
 module _ {F : Type 0} (head : ℕ) (extent : List ℕ → Result ℕ F) where
@@ -27,7 +29,8 @@ module _ {F : Type 0} (head : ℕ) (extent : List ℕ → Result ℕ F) where
 
   -- the first record of a stream, or the fault of its extent; none while octets are missing
   abbrev pub first_record : List ℕ → Option (Result (List ℕ) F)
-  first_record stream = if nat_lt (length stream) head then None else record_of stream (extent (take head stream))
+  first_record stream =
+      if nat_lt (length stream) head then None else record_of stream (extent (take head stream))
 
   -- one way where there is a record, and another where there is none
   abbrev pub by_record : {A : Type 0} → Option (Result (List ℕ) F) → A → (List ℕ → A) → A
@@ -35,14 +38,17 @@ module _ {F : Type 0} (head : ℕ) (extent : List ℕ → Result ℕ F) where
   by_record (Some (Err e)) none some = none
   by_record (Some (Ok octets)) none some = some octets
 
-  -- the first n records of a stream, and what is left behind them
+  -- the first n records of a stream, and what is left after them
   abbrev pub first_records : ℕ → List ℕ → List (List ℕ)
   first_records zero stream = []
-  first_records (suc n) stream = by_record (first_record stream) [] (λ octets. octets ∷ first_records n (drop (length octets) stream))
+  first_records (suc n) stream =
+      by_record (first_record stream) []
+      (λ octets. octets ∷ first_records n (drop (length octets) stream))
 
   abbrev pub rest_behind : ℕ → List ℕ → List ℕ
   rest_behind zero stream = stream
-  rest_behind (suc n) stream = by_record (first_record stream) stream (λ octets. rest_behind n (drop (length octets) stream))
+  rest_behind (suc n) stream =
+      by_record (first_record stream) stream (λ octets. rest_behind n (drop (length octets) stream))
 
   -- a stream has no more records than octets
   unfoldable pub records_of : List ℕ → List (List ℕ)

@@ -10,7 +10,7 @@ pub all_maps : (packets_on : ℕ → List (List ℕ)) (count map : ℕ) → coun
 unfolding count_over_maps
 all_maps packets_on count map counted end = counted ∙ ap (count_below_map packets_on) end
 
--- two counts that are told one after the other
+-- two counts that are written one after the other
 pub two_counts : {E : Type 0} (r : Result (Unit {0}) E) (before middle new first second : List ℕ) (m n k l : ℕ)
     → middle ≡ before ++ (first ++ decimal m) → m ≡ k → n ≡ l → OnOk r (new ≡ middle ++ (second ++ decimal n))
     → OnOk r (new ≡ before ++ (first ++ (decimal k ++ (second ++ decimal l))))

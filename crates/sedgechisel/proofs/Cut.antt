@@ -18,7 +18,7 @@ times_suc k part = omega arith
 behind : (t part : ℕ) (xs : List ℕ) → drop t (drop part xs) ≡ drop (part + t) xs
 behind t part xs = drop-drop t part xs
 
--- a part that is not the last of those behind a first
+-- a part that is not the last of those after a first
 later_continuing : (k part m : ℕ) (xs : List ℕ) → 1 ≤ part → k * part + part < length xs
     → slice_get (later_segments m (pieces_of part xs)) k
     ≡ Some (segment_with Continuing m (take part (drop (k * part) xs)))
@@ -51,7 +51,7 @@ packet_at octets from len = take len (drop from octets)
 packet-length : (octets : List ℕ) (from len : ℕ) → from + len ≤ length octets → length (packet_at octets from len) ≡ len
 packet-length octets from len fits = omega (arith, length-take len (drop from octets), length-drop from octets)
 
--- what is behind a place in the packet
+-- what is after a place in the packet
 behind_place : (octets : List ℕ) (from len start : ℕ) → start ≤ len
     → drop start (packet_at octets from len) ≡ take (len - start) (drop (from + start) octets)
 behind_place octets from len start within =

@@ -17,7 +17,7 @@ use Rattle.sedgechisel.specs.Senders.{mode_number, ticks_number, control_number,
 use Rattle.sedgechisel.specs.Senders.{control_at, flag_at, fields_with, fields_told, has_ranges, agrees_in, is_sender}
 use Rattle.sedgechisel.specs.Senders.{sender_told}
 
--- ---- each field is told again
+-- ---- each field is written again
 
 mode_again : (m : FopMode) → mode_at (mode_number m) ≡ Some m
 mode_again S1 = refl

@@ -1,4 +1,4 @@
--- What a caller in C is told: 0, or the number of the first fault; and what a call leaves in a
+-- What a caller in C is answered: 0, or the number of the first fault; and what a call leaves in a
 -- struct of the caller's.
 use Rattle.std.specs.Prelude.{ℕ, Result, Ok, Err}
 
@@ -19,7 +19,7 @@ abbrev pub status_of : {A : Type 0} → Result A ℕ → ℕ
 status_of (Ok x) = 0
 status_of (Err number) = number
 
--- what a struct holds behind a call: what spells the answer, or what it held
+-- what a struct holds after a call: what spells the answer, or what it held
 abbrev pub left_by : {A S : Type 0} → (A → S) → Result A ℕ → S → S
 left_by fields (Ok x) old = fields x
 left_by fields (Err number) old = old

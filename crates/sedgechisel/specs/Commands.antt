@@ -79,7 +79,7 @@ fields_with scid vcid (Bc (SetVr x)) = command_fields scid vcid 1 x
 abbrev pub fields_of : FrameView → CommandFrame
 fields_of f = fields_with f.scid f.vcid f.body
 
--- behind the header and the segment header
+-- after the header and the segment header
 abbrev pub part_with : BodyView → Part
 part_with (Ad n s) = record { from = 6; count = length s.payload }
 part_with (Bd s) = record { from = 6; count = length s.payload }

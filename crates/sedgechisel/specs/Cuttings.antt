@@ -10,7 +10,7 @@ use Rattle.sedgechisel.specs.declared.cutting.CutLimits.{CutLimits}
 use Rattle.sedgechisel.specs.declared.cutting.Place.{Place}
 use Rattle.sedgechisel.specs.Answers.{damaged, and_then}
 
--- there are not so many
+-- there are not that many
 abbrev pub absent : ℕ
 absent = 253
 

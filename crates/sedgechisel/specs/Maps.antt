@@ -1,4 +1,4 @@
--- A MAP as C keeps it, and what C is told of a segment.
+-- A MAP as C keeps it, and what C is given of a segment.
 use Rattle.std.specs.Prelude.{◌≡◌, ℕ, ◌+◌, true, false, List, [], ◌∷◌, length, take, drop, min}
 use Rattle.std.specs.Prelude.{Bool, ◌&&◌, ◌||◌, ◌==◌, nat_lt, nat_le, if◌then◌else◌, Option, Some}
 use Rattle.std.specs.Prelude.{None, Result, Ok, Err}
@@ -18,7 +18,7 @@ use Rattle.sedgechisel.specs.Numbers.{cause_number}
 
 -- ---- what the structs tell
 
--- a MAP has such fields, with so many octets of memory
+-- a MAP has such fields, with this many octets of memory
 abbrev pub is_map : KeptMap → ℕ → Bool
 is_map m room =
     nat_lt m.is_open 2 && nat_lt m.blocking 2 && nat_le m.count room
@@ -91,7 +91,7 @@ abbrev pub TellsOutcome : Result TakeOutcome ℕ → TakeOutcome → Type 0
 TellsOutcome (Ok o) told = told ≡ o
 TellsOutcome (Err number) told = Unit {0}
 
--- where the packet stands that octets begin with behind a part
+-- where the packet stands that octets begin with after a part
 abbrev pub part_behind : ℕ → Option (List ℕ) → Option Part
 part_behind place None = None
 part_behind place (Some packet) = Some (record { from = place; count = length packet })
@@ -104,7 +104,7 @@ abbrev pub part_or : Option Part → Part → Part
 part_or None old = old
 part_or (Some part) old = part
 
--- the packet behind a part, and those behind it, are the packets behind the part
+-- the packet after a part, and those after it, are the packets after the part
 abbrev pub TellsPackets : List ℕ → Part → Part → Bool → Type 0
 TellsPackets octets old new true =
     packets_in (drop (old.from + old.count) octets)

@@ -32,7 +32,7 @@ fields_of p = record {
   flags = p.flags;
 }
 
--- where its data stand, behind the header
+-- where its data stand, after the header
 abbrev pub part_of : PacketView → Part
 part_of p = record { from = 6; count = length p.payload }
 

@@ -61,7 +61,7 @@ farm_told r = if is_whole r then Ok (farm_of r) else Err damaged
 abbrev pub farm_opened : ℕ → ℕ → Result FarmState ℕ
 farm_opened width vr = if is_width width then Ok (new_farm width vr) else Err 1
 
--- the receiver that the fields tell, behind an event
+-- the receiver that the fields tell, after an event
 abbrev pub farm_stepped : Receiver → FarmEvent → Result FarmState ℕ
 farm_stepped r event = map_ok (λ s. farm_step s event) (farm_told r)
 

@@ -179,11 +179,11 @@ abbrev pub stepped : (k : KeptSender) (input : SenderInput)
     → Result (SenderOutcome (SenderAnswer input)) ℕ
 stepped k input = map_ok (λ s. sender_step s input) (sender_told k)
 
--- the sender behind an input
+-- the sender after an input
 abbrev pub after_step : KeptSender → SenderInput → Result SenderFields ℕ
 after_step k input = map_ok (λ o. o.after) (stepped k input)
 
--- the sender behind what may be refused
+-- the sender after what may be refused
 abbrev pub unless_fault : {A : Type 0} → SenderFields → Result A CopFault → Result SenderFields ℕ
 unless_fault s (Ok answer) = Ok s
 unless_fault s (Err fault) = Err (fault_number fault)

@@ -31,7 +31,7 @@ fields_of f = record {
   ocf = f.ocf;
 }
 
--- where its data stand, behind the header
+-- where its data stand, after the header
 abbrev pub part_of : FrameView → Part
 part_of f = record { from = 6; count = length f.payload }
 

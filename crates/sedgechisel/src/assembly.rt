@@ -176,7 +176,7 @@ fn take_first(map: &mut KeptMap, octets: &[u8], memory: &mut [u8]) -> TakenSegme
     no_packets(earlier)
 }
 
-// Puts octets into the memory behind so many, and says how many are there then.
+// Puts octets into the memory after this many, and says how many are there then.
 fn add(count: usize, octets: &[u8], memory: &mut [u8]) -> usize
     requires room { count + length octets.now ≤ length memory.old }
     ensures joined { take result memory.new ≡ take count memory.old ++ octets.now }
@@ -244,7 +244,7 @@ fn take_last(map: &mut KeptMap, octets: &[u8], memory: &mut [u8]) -> TakenSegmen
     }
 }
 
-/// The packet behind a part of the octets, which the part is then; false, and nothing is written, where none stands
+/// The packet after a part of the octets, which the part is then; false, and nothing is written, where none stands
 /// there.
 #[tactic(auto, using(crate::proofs::Assembling::stands_at, crate::proofs::Assembling::none_at, crate::proofs::Assembling::none_past))]
 #[unsafe(no_mangle)]

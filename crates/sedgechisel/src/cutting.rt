@@ -1,4 +1,4 @@
-// Cutting packets into segments, each told by its place.
+// Cutting packets into segments, each given by its place.
 
 ghost use Rattle.std.specs.Prelude.{◌≡◌, ◌≤◌, ◌<◌, ◌+◌, ◌*◌, [], length, take, drop, Some, None, IfSome, OnErr, slice_get};
 ghost use Rattle.tc_frame.specs.Layout.{flags_code};
@@ -51,7 +51,7 @@ pub extern "C" fn sedge_map_count(octets: &[u8], limits: &CutLimits, segments: &
 }
 
 /// Segment `k` of these, from 0: its flags, and where its data stand in the octets. Answers as `sedge_map_count` does,
-/// or 253 where there are not so many.
+/// or 253 where there are not that many.
 #[unsafe(no_mangle)]
 pub extern "C" fn sedge_map_segment(
     octets: &[u8],
@@ -123,7 +123,7 @@ fn place_in(octets: &[u8], part: usize, k: usize) -> Option<Place>
     None
 }
 
-// Part k of the packets that have so many octets from a place on, where there is one.
+// Part k of the packets that have this many octets from a place on, where there is one.
 #[tactic(auto, using(crate::proofs::Cut::alone_at, crate::proofs::Cut::first_at, crate::proofs::Cut::continuing_at, crate::proofs::Cut::last_at))]
 fn place_of(octets: &[u8], from: usize, len: usize, part: usize, k: usize) -> Place
     requires some_octet { 1 ≤ len }

@@ -1,5 +1,6 @@
 -- Packets: what is read is spelled so, and what is spelled so is read.
-use Rattle.std.proofs.Common.{◌≡◌, ◌<◌, ◌≤◌, ℕ, zero, suc, ◌+◌, ◌/◌, ◌%◌, false, eqb, ltb, List, [], ◌∷◌, ◌++◌, length, take, drop, Result, Ok, Err, refl, sym, ap, subst, ◌∙◌, arith}
+use Rattle.std.proofs.Common.{◌≡◌, ◌<◌, ◌≤◌, ℕ, zero, suc, ◌+◌, ◌/◌, ◌%◌, false, eqb, ltb, List, [], ◌∷◌, ◌++◌, length}
+use Rattle.std.proofs.Common.{take, drop, Result, Ok, Err, refl, sym, ap, subst, ◌∙◌, arith}
 use Rattle.std.specs.Prelude.{IfOk}
 use Rattle.std.specs.List.{AllByRecursion, concat}
 use Rattle.std.proofs.lemmas.Bool.{ltb-false, le-ltb}
@@ -13,7 +14,8 @@ use Rattle.octets.proofs.Cuts.{take_fits, drop_fits}
 use Rattle.space_packet.specs.declared.packet.Packet.{Packet}
 use Rattle.space_packet.specs.declared.fault.PacketFault.{PacketFault}
 use Rattle.space_packet.specs.declared.fault.PacketFault.TheVariants as faults
-use Rattle.space_packet.specs.Layout.{PacketView, packet_view, type_bit, secondary_bit, is_idle_with_secondary, IsPacket, IsSomePacket, IsFirstPacket}
+use Rattle.space_packet.specs.Layout.{PacketView, packet_view, type_bit, secondary_bit, is_idle_with_secondary}
+use Rattle.space_packet.specs.Layout.{IsPacket, IsSomePacket, IsFirstPacket}
 use Rattle.space_packet.specs.Reading.{found_view, extent_at, kind_at, packet_with, packet_of, packet_at}
 use Rattle.space_packet.specs.Laws.{HasExtent, extent_is, kind_again, secondary_again, own_extent_of, two_within}
 
@@ -35,7 +37,8 @@ pub record IsRead (b : List ℕ) (p : PacketView) (n : ℕ) : Type 0 where
   pub within : n ≤ length b
   pub is : packet_with (number_of (take 2 b)) (number_of (take 2 (drop 2 b))) (drop 6 (take n b)) ≡ p
 
-read_of : (b : List ℕ) (r : Result ℕ PacketFault) (p : PacketView) (n : ℕ) → extent_at (take 6 b) ≡ r → packet_of b r ≡ Ok (p, n) → IsRead b p n
+read_of : (b : List ℕ) (r : Result ℕ PacketFault) (p : PacketView) (n : ℕ) → extent_at (take 6 b) ≡ r
+    → packet_of b r ≡ Ok (p, n) → IsRead b p n
 read_of b (Err e) p n is h = absurd cc
 read_of b (Ok m) p n is h =
     let made : PacketView = packet_with (number_of (take 2 b)) (number_of (take 2 (drop 2 b))) (drop 6 (take m b)) in
@@ -61,7 +64,8 @@ made_is b n octets has within =
     let two : take 2 (drop 2 (take n b)) ≡ take 2 (drop 2 b) = two_within b n 2 (omega arith) in
     let three : take 2 (drop 4 (take n b)) ≡ take 2 (drop 4 b) = two_within b n 4 (omega arith) in
     let kind : type_bit (kind_at (first / 4096 % 2)) ≡ first / 4096 % 2 = type_from (first / 4096 % 2) (omega arith) in
-    let flag : secondary_bit (eqb (first / 2048 % 2) 1) ≡ first / 2048 % 2 = secondary_from (first / 2048 % 2) (omega arith) in
+    let flag : secondary_bit (eqb (first / 2048 % 2) 1) ≡ first / 2048 % 2 =
+    secondary_from (first / 2048 % 2) (omega arith) in
     record {
       first = ap number_of one ∙ omega arith;
       second = ap number_of two ∙ omega arith;
@@ -90,11 +94,14 @@ record_is b octets h =
     (_, subst (IsPacket _) (take_all (length b) b (omega arith)) made)
 
 -- so are all records that stand one after another
-pub records_are : (records : List (List ℕ)) → IsOctets (concat records) → AllByRecursion (IsRecord 6 extent_at) records → AllByRecursion IsSomePacket records
+pub records_are : (records : List (List ℕ)) → IsOctets (concat records) → AllByRecursion (IsRecord 6 extent_at) records
+    → AllByRecursion IsSomePacket records
 records_are [] octets h = tt
 records_are (b ∷ bs) octets h =
-    let here : IsOctets b = subst IsOctets (take_at b (concat bs) (length b) refl) (take_fits (b ++ concat bs) (length b) octets) in
-    let behind : IsOctets (concat bs) = subst IsOctets (drop_at b (concat bs) (length b) refl) (drop_fits (b ++ concat bs) (length b) octets) in
+    let here : IsOctets b =
+    subst IsOctets (take_at b (concat bs) (length b) refl) (take_fits (b ++ concat bs) (length b) octets) in
+    let behind : IsOctets (concat bs) =
+    subst IsOctets (drop_at b (concat bs) (length b) refl) (drop_fits (b ++ concat bs) (length b) octets) in
     (record_is b here h.0, records_are bs behind h.1)
 
 -- ---- from what was spelled
@@ -110,9 +117,12 @@ packet_again b p n h =
     let secondary = secondary_again p.secondary in
     let count : length (take n b) ≡ n = omega (arith, length-take n b, h.within) in
     let own = own_extent_of p (take n b) h.spells in
-    let extent : extent_at (take 6 b) ≡ Ok n = ap extent_at (sym (take-take 6 n b (omega arith))) ∙ own.1 ∙ ap (λ (m : ℕ). Ok m) count in
-    let one : number_of (take 2 b) ≡ number_of (take 2 (take n b)) = ap number_of (sym (two_within b n 0 (omega arith))) in
-    let two : number_of (take 2 (drop 2 b)) ≡ number_of (take 2 (drop 2 (take n b))) = ap number_of (sym (two_within b n 2 (omega arith))) in
+    let extent : extent_at (take 6 b) ≡ Ok n =
+    ap extent_at (sym (take-take 6 n b (omega arith))) ∙ own.1 ∙ ap (λ (m : ℕ). Ok m) count in
+    let one : number_of (take 2 b) ≡ number_of (take 2 (take n b)) =
+    ap number_of (sym (two_within b n 0 (omega arith))) in
+    let two : number_of (take 2 (drop 2 b)) ≡ number_of (take 2 (drop 2 (take n b))) =
+    ap number_of (sym (two_within b n 2 (omega arith))) in
     let long : ltb (length b) 6 ≡ false = le-ltb _ _ (omega (arith, h.within)) in
     let whole : ltb (length b) n ≡ false = le-ltb _ _ h.within in
     let bit : number_of (take 2 b) / 4096 % 2 ≡ type_bit p.kind = omega arith in
@@ -123,6 +133,7 @@ packet_again b p n h =
     rw (long, extent, whole, bit, kind.0, flag, secondary.0, apid, flags, sequence, h.spells.rest) refl
 
 -- what a decoder answered
-pub is_found : (b : List ℕ) (r : Result (Packet × ℕ) PacketFault) → IsOctets b → map_ok found_view r ≡ packet_at b → IfOk r (λ f. IsFirstPacket (packet_view f.0) f.1 b)
+pub is_found : (b : List ℕ) (r : Result (Packet × ℕ) PacketFault) → IsOctets b → map_ok found_view r ≡ packet_at b
+    → IfOk r (λ f. IsFirstPacket (packet_view f.0) f.1 b)
 is_found b (Ok f) octets h = packet_is b (packet_view f.0) f.1 octets (sym h)
 is_found b (Err e) octets h = tt

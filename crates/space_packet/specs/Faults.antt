@@ -1,7 +1,9 @@
 -- The faults of space packets by number and by name.
 use Rattle.std.specs.Prelude.{ℕ, List, codes}
 use Rattle.space_packet.specs.declared.fault.PacketFault.{PacketFault}
-use Rattle.space_packet.specs.declared.fault.PacketFault.TheVariants.{Truncated, Version, IdleWithSecondary, Room, FieldRange, Memory}
+use Rattle.space_packet.specs.declared.fault.PacketFault.TheVariants.{Truncated, Version}
+use Rattle.space_packet.specs.declared.fault.PacketFault.TheVariants.{IdleWithSecondary, Room}
+use Rattle.space_packet.specs.declared.fault.PacketFault.TheVariants.{FieldRange, Memory}
 
 abbrev pub fault_number : PacketFault → ℕ
 fault_number Truncated = 1

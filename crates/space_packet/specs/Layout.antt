@@ -1,5 +1,6 @@
 -- The space packet, and the octets that spell it (CCSDS 133.0-B-2, 4.1).
-use Rattle.std.specs.Prelude.{◌≡◌, ◌≤◌, ◌<◌, ℕ, ◌+◌, ◌-◌, ◌*◌, List, length, take, drop, Bool, true, false, ◌&&◌, ◌==◌}
+use Rattle.std.specs.Prelude.{◌≡◌, ◌≤◌, ◌<◌, ℕ, ◌+◌, ◌-◌, ◌*◌, List, length, take, drop, Bool, true}
+use Rattle.std.specs.Prelude.{false, ◌&&◌, ◌==◌}
 use Rattle.octets.specs.Number.{number_of}
 use Rattle.space_packet.specs.declared.packet.PacketKind.{PacketKind}
 use Rattle.space_packet.specs.declared.packet.PacketKind.TheVariants.{Telemetry, Telecommand}
@@ -15,7 +16,17 @@ pub record PacketView : Type 0 where
   pub payload : List ℕ
 
 abbrev pub packet_view : Packet → PacketView
-packet_view p = record { kind = p.kind; secondary = p.secondary; apid = p.apid; flags = p.flags; count = p.count; payload = p.payload.now }
+packet_view p =
+    record {
+      kind =
+          p.kind;
+      secondary =
+          p.secondary;
+      apid = p.apid;
+      flags = p.flags;
+      count = p.count;
+      payload = p.payload.now;
+    }
 
 -- ---- the packet identification (4.1.3.3)
 
@@ -36,7 +47,8 @@ is_idle_with_secondary apid secondary = (apid == 2047) && secondary
 -- The octets b, all of them, spell the packet p.
 pub record IsPacket (p : PacketView) (b : List ℕ) : Type 0 where
   -- octets 0 and 1: version 000, the type, the secondary header flag, the APID
-  pub first : number_of (take 2 b) ≡ 4096 * type_bit p.kind + 2048 * secondary_bit p.secondary + p.apid
+  pub first : number_of (take 2 b) ≡ 4096 * type_bit p.kind + 2048 * secondary_bit p.secondary
+      + p.apid
   -- octets 2 and 3: the sequence flags, the count or name
   pub second : number_of (take 2 (drop 2 b)) ≡ 16384 * p.flags + p.count
   -- octets 4 and 5: the number of octets in the data field, less one

@@ -11,7 +11,7 @@ first_packet octets = by_record 6 extent_at (first_record 6 extent_at octets) No
 abbrev pub packets_in : List ℕ → List (List ℕ)
 packets_in octets = records_of 6 extent_at octets
 
--- the octets behind these packets
+-- the octets after these packets
 abbrev pub rest_in : List ℕ → List ℕ
 rest_in octets = rest_of 6 extent_at octets
 

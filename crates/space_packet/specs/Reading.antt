@@ -1,5 +1,6 @@
 -- The packet that octets begin with, or the first fault.
-use Rattle.std.specs.Prelude.{ℕ, ◌+◌, ◌/◌, ◌%◌, List, length, take, drop, not, ◌==◌, nat_lt, if◌then◌else◌, Result, Ok, Err}
+use Rattle.std.specs.Prelude.{ℕ, ◌+◌, ◌/◌, ◌%◌, List, length, take, drop, not, ◌==◌, nat_lt}
+use Rattle.std.specs.Prelude.{if◌then◌else◌, Result, Ok, Err}
 use Rattle.octets.specs.Number.{number_of}
 use Rattle.space_packet.specs.declared.packet.PacketKind.{PacketKind}
 use Rattle.space_packet.specs.declared.packet.PacketKind.TheVariants.{Telemetry, Telecommand}
@@ -12,12 +13,14 @@ use Rattle.space_packet.specs.Layout.{PacketView, packet_view, is_idle_with_seco
 abbrev pub found_view : Packet × ℕ → PacketView × ℕ
 found_view f = (packet_view f.0, f.1)
 
--- how many octets the packet has that begins with this header (CCSDS 133.0-B-2, 4.1.3), or why none does
+-- how many octets the packet has that begins with this header (CCSDS 133.0-B-2, 4.1.3), or why none
+-- does
 unfoldable pub extent_at : List ℕ → Result ℕ PacketFault
 extent_at head =
     let first : ℕ = number_of (take 2 head) in
     if not (first / 8192 == 0) then Err faults.Version
-    else if is_idle_with_secondary (first % 2048) (first / 2048 % 2 == 1) then Err faults.IdleWithSecondary
+    else if is_idle_with_secondary (first % 2048) (first / 2048 % 2 == 1) then Err
+    faults.IdleWithSecondary
     else Ok (number_of (take 2 (drop 4 head)) + 7)
 
 abbrev pub kind_at : ℕ → PacketKind
@@ -39,7 +42,11 @@ abbrev pub packet_of : List ℕ → Result ℕ PacketFault → Result (PacketVie
 packet_of b (Err e) = Err e
 packet_of b (Ok n) =
     if nat_lt (length b) n then Err faults.Truncated
-    else Ok (packet_with (number_of (take 2 b)) (number_of (take 2 (drop 2 b))) (drop 6 (take n b)), n)
+    else Ok (
+      packet_with (number_of (take 2 b)) (number_of (take 2 (drop 2 b))) (drop 6 (take n b)),
+      n,
+    )
 
 unfoldable pub packet_at : List ℕ → Result (PacketView × ℕ) PacketFault
-packet_at b = if nat_lt (length b) 6 then Err faults.Truncated else packet_of b (extent_at (take 6 b))
+packet_at b =
+    if nat_lt (length b) 6 then Err faults.Truncated else packet_of b (extent_at (take 6 b))

@@ -1,5 +1,6 @@
 -- The one spelling of a packet, and which packets have one.
-use Rattle.std.specs.Prelude.{ℕ, ◌+◌, ◌-◌, ◌*◌, List, ◌++◌, length, Bool, not, ◌&&◌, nat_lt, nat_le, if◌then◌else◌, Result, Ok, Err}
+use Rattle.std.specs.Prelude.{ℕ, ◌+◌, ◌-◌, ◌*◌, List, ◌++◌, length, Bool, not, ◌&&◌, nat_lt, nat_le}
+use Rattle.std.specs.Prelude.{if◌then◌else◌, Result, Ok, Err}
 use Rattle.byteorder.specs.Endian.{big_bytes}
 use Rattle.space_packet.specs.declared.fault.PacketFault.{PacketFault}
 use Rattle.space_packet.specs.declared.fault.PacketFault.TheVariants as faults
@@ -20,7 +21,8 @@ abbrev pub third_number : PacketView → ℕ
 third_number p = length p.payload - 1
 
 abbrev pub header_octets : PacketView → List ℕ
-header_octets p = big_bytes 2 (first_number p) ++ (big_bytes 2 (second_number p) ++ big_bytes 2 (third_number p))
+header_octets p =
+    big_bytes 2 (first_number p) ++ (big_bytes 2 (second_number p) ++ big_bytes 2 (third_number p))
 
 abbrev pub spelling : PacketView → List ℕ
 spelling p = header_octets p ++ p.payload
@@ -28,10 +30,11 @@ spelling p = header_octets p ++ p.payload
 -- each field is in its range, and an idle packet has no secondary header
 abbrev pub packet_fits : PacketView → Bool
 packet_fits p =
-    nat_lt p.apid 2048 && nat_lt p.flags 4 && nat_lt p.count 16384 && nat_lt 0 (length p.payload) && nat_le (length p.payload) 65536
+    nat_lt p.apid 2048 && nat_lt p.flags 4 && nat_lt p.count 16384 && nat_lt 0 (length p.payload)
+    && nat_le (length p.payload) 65536
     && not (is_idle_with_secondary p.apid p.secondary)
 
--- how many octets are written where there is room for so many, or why none are
+-- how many octets are written where there is room for this many, or why none are
 abbrev pub encode_answer : PacketView → ℕ → Result ℕ PacketFault
 encode_answer p room =
     if not (packet_fits p) then Err faults.FieldRange

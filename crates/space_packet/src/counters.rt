@@ -28,7 +28,7 @@ impl SequenceCounters {
         SequenceCounters { counts: [0; 2048] }
     }
 
-    /// The count for the next packet of this APID; the one behind it is held then. No other APID's
+    /// The count for the next packet of this APID; the one after it is held then. No other APID's
     /// count changes.
     pub fn next(&mut self, apid: u16) -> u16
         requires { apid < 2048 }

@@ -16,7 +16,7 @@ use octets::first_two;
 pub fn decode(octets: &[u8]) -> Result<(Packet<'_>, usize), PacketFault>
     ensures answer { map_ok found_view result ≡ packet_at octets.now }
 
-    // It is a packet and its length exactly where so many octets spell it.
+    // It is a packet and its length exactly where this many octets spell it.
     ensures found { IfOk result (λ f. IsFirstPacket (packet_view f.0) f.1 octets.now) }
     ensures only { (p : PacketView) (n : ℕ) → IsFirstPacket p n octets.now
         → map_ok found_view result ≡ Ok (p, n) }

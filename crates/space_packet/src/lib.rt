@@ -25,6 +25,3 @@ pub use layout::Packets;
 pub use packet::{Packet, PacketKind};
 pub use splitter::PacketSplitter;
 pub use whole::{is_packet, packet_len};
-
-#[cfg(test)]
-mod tests;

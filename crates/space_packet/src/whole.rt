@@ -18,7 +18,7 @@ pub fn packet_len(octets: &[u8]) -> Option<usize>
 }
 
 /// Whether the octets are exactly one packet, of either type, idle too: a whole one, and nothing
-/// behind it (CCSDS 133.0-B-2, 4.1).
+/// after it (CCSDS 133.0-B-2, 4.1).
 pub fn is_packet(octets: &[u8]) -> bool
     ensures one { result ≡ is_packet octets.now }
     ensures range { IsTrue result → (7 ≤ length octets.now) × (length octets.now ≤ 65542) }

@@ -1,5 +1,6 @@
 -- Data fields and bodies: what is read is spelled so, and what is spelled so is read.
-use Rattle.std.proofs.Common.{◌≡◌, ◌<◌, ◌≤◌, ℕ, zero, suc, ◌+◌, ◌*◌, ◌/◌, ◌%◌, Bool, true, false, not, eqb, List, [], ◌∷◌, length, get_or, Ok, refl, ap, subst, ◌∙◌, arith}
+use Rattle.std.proofs.Common.{◌≡◌, ◌<◌, ◌≤◌, ℕ, zero, suc, ◌+◌, ◌*◌, ◌/◌, ◌%◌, Bool, true, false, not, eqb, List, []}
+use Rattle.std.proofs.Common.{◌∷◌, length, get_or, Ok, refl, ap, subst, ◌∙◌, arith}
 use Rattle.std.specs.Prelude.{◌&&◌, ◌==◌, IsTrue}
 use Rattle.std.proofs.lemmas.Bool.{and_from, eqb-true, ltb-true, lt-ltb}
 use Rattle.octets.proofs.Outcomes.{passed, ended, mapped, both_true, is_zero, ok_is}
@@ -9,7 +10,8 @@ use Rattle.tc_frame.specs.declared.frame.SegmentFlags.TheVariants.{First, Contin
 use Rattle.tc_frame.specs.declared.frame.Command.{Command}
 use Rattle.tc_frame.specs.declared.frame.Command.TheVariants.{Unlock, SetVr}
 use Rattle.tc_frame.specs.declared.fault.TcFault.TheVariants as faults
-use Rattle.tc_frame.specs.Layout.{SegmentView, BodyView, Ad, Bd, Bc, flags_code, segment_octets, command_octets, body_octets, bypass_flag, control_flag, segment_fits, body_fits}
+use Rattle.tc_frame.specs.Layout.{SegmentView, BodyView, Ad, Bd, Bc, flags_code, segment_octets, command_octets}
+use Rattle.tc_frame.specs.Layout.{body_octets, bypass_flag, control_flag, segment_fits, body_fits}
 use Rattle.tc_frame.specs.Reading.{flags_at, segment_at, command_at, body_at}
 
 -- ---- segments
@@ -27,18 +29,24 @@ flags_again First = (refl, omega arith)
 flags_again Last = (refl, omega arith)
 flags_again Alone = (refl, omega arith)
 
-segment_is : (field : List ℕ) (s : SegmentView) → get_or field 0 0 < 256 → segment_at field ≡ Ok s → (field ≡ segment_octets s) × IsTrue (segment_fits s)
+segment_is : (field : List ℕ) (s : SegmentView) → get_or field 0 0 < 256 → segment_at field ≡ Ok s
+    → (field ≡ segment_octets s) × IsTrue (segment_fits s)
 unfolding segment_at
 segment_is [] s octet h = absurd cc
 segment_is (header ∷ []) s octet h = absurd cc
 segment_is (header ∷ x ∷ xs) s octet h =
-    let made : SegmentView = record { header = record { flags = flags_at (header / 64); map = header % 64 }; payload = x ∷ xs } in
-    let spelled : header ≡ 64 * flags_code (flags_at (header / 64)) + header % 64 = omega (arith, flags_back (header / 64) (omega arith)) in
-    let low : IsTrue (segment_fits made) = and_from _ _ (lt-ltb (header % 64) 64 (omega arith)) (lt-ltb 0 (length (x ∷ xs)) (omega arith)) in
-    subst (λ (v : SegmentView). (header ∷ x ∷ xs ≡ segment_octets v) × IsTrue (segment_fits v)) (ok_is made s h) (ap (λ (o : ℕ). o ∷ x ∷ xs) spelled, low)
+    let made : SegmentView =
+    record { header = record { flags = flags_at (header / 64); map = header % 64 }; payload = x ∷ xs } in
+    let spelled : header ≡ 64 * flags_code (flags_at (header / 64)) + header % 64 =
+    omega (arith, flags_back (header / 64) (omega arith)) in
+    let low : IsTrue (segment_fits made) =
+    and_from _ _ (lt-ltb (header % 64) 64 (omega arith)) (lt-ltb 0 (length (x ∷ xs)) (omega arith)) in
+    subst (λ (v : SegmentView). (header ∷ x ∷ xs ≡ segment_octets v) × IsTrue (segment_fits v)) (ok_is made s h)
+    (ap (λ (o : ℕ). o ∷ x ∷ xs) spelled, low)
 
 segment_parts_again : (flags : SegmentFlags) (map : ℕ) (payload : List ℕ) → map < 64 → 0 < length payload
-    → segment_at ((64 * flags_code flags + map) ∷ payload) ≡ Ok (record { header = record { flags = flags; map = map }; payload = payload })
+    → segment_at ((64 * flags_code flags + map) ∷ payload)
+    ≡ Ok (record { header = record { flags = flags; map = map }; payload = payload })
 unfolding segment_at
 segment_parts_again flags map [] low some = absurd (omega arith)
 segment_parts_again flags map (x ∷ xs) low some =
@@ -84,25 +92,31 @@ pub record IsBody (bypass control : Bool) (n : ℕ) (field : List ℕ) (body : B
   pub bypass_is : bypass ≡ (bypass_flag body == 1)
   pub control_is : control ≡ (control_flag body == 1)
 
-pub body_is : (bypass control : Bool) (n : ℕ) (field : List ℕ) (body : BodyView) → not bypass && control ≡ false → get_or field 0 0 < 256
+pub body_is : (bypass control : Bool) (n : ℕ) (field : List ℕ) (body : BodyView) → not bypass && control ≡ false
+    → get_or field 0 0 < 256
     → body_at bypass control n field ≡ Ok body → IsBody bypass control n field body
 unfolding body_at
 body_is false false n field body kind octet h =
     let read = mapped (Ad n) (segment_at field) body h in
     let s = segment_is field read.0 octet read.1 in
-    subst (IsBody false false n field) read.2 (record { octets = ap (λ (o : List ℕ). n ∷ o) s.0; fits = s.1; bypass_is = refl; control_is = refl })
+    subst (IsBody false false n field) read.2
+    (record { octets = ap (λ (o : List ℕ). n ∷ o) s.0; fits = s.1; bypass_is = refl; control_is = refl })
 body_is false true n field body kind octet h = absurd cc
 body_is true true n field body kind octet h =
     let zeroed = passed (not (eqb n 0)) faults.BypassNumber (map_ok Bc (command_at field)) body h in
     let read = mapped Bc (command_at field) body zeroed.1 in
-    let spelled : n ∷ field ≡ 0 ∷ command_octets read.0 = ap (λ (k : ℕ). k ∷ field) (is_zero n zeroed.0) ∙ ap (λ (o : List ℕ). 0 ∷ o) (command_is field read.0 read.1) in
-    subst (IsBody true true n field) read.2 (record { octets = spelled; fits = refl; bypass_is = refl; control_is = refl })
+    let spelled : n ∷ field ≡ 0 ∷ command_octets read.0 =
+    ap (λ (k : ℕ). k ∷ field) (is_zero n zeroed.0) ∙ ap (λ (o : List ℕ). 0 ∷ o) (command_is field read.0 read.1) in
+    subst (IsBody true true n field) read.2
+    (record { octets = spelled; fits = refl; bypass_is = refl; control_is = refl })
 body_is true false n field body kind octet h =
     let zeroed = passed (not (eqb n 0)) faults.BypassNumber (map_ok Bd (segment_at field)) body h in
     let read = mapped Bd (segment_at field) body zeroed.1 in
     let s = segment_is field read.0 octet read.1 in
-    let spelled : n ∷ field ≡ 0 ∷ segment_octets read.0 = ap (λ (k : ℕ). k ∷ field) (is_zero n zeroed.0) ∙ ap (λ (o : List ℕ). 0 ∷ o) s.0 in
-    subst (IsBody true false n field) read.2 (record { octets = spelled; fits = s.1; bypass_is = refl; control_is = refl })
+    let spelled : n ∷ field ≡ 0 ∷ segment_octets read.0 =
+    ap (λ (k : ℕ). k ∷ field) (is_zero n zeroed.0) ∙ ap (λ (o : List ℕ). 0 ∷ o) s.0 in
+    subst (IsBody true false n field) read.2
+    (record { octets = spelled; fits = s.1; bypass_is = refl; control_is = refl })
 
 pub body_again : (n : ℕ) (field : List ℕ) (body : BodyView) → n ∷ field ≡ body_octets body → IsTrue (body_fits body)
     → body_at (bypass_flag body == 1) (control_flag body == 1) n field ≡ Ok body

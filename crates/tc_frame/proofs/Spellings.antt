@@ -1,5 +1,6 @@
 -- The spelling of a frame spells it.
-use Rattle.std.proofs.Common.{◌≡◌, ◌<◌, ◌≤◌, ℕ, ◌-◌, true, List, ◌++◌, length, take, drop, sym, ap, subst, ◌∙◌, arith, length-append}
+use Rattle.std.proofs.Common.{◌≡◌, ◌<◌, ◌≤◌, ℕ, ◌-◌, true, List, ◌++◌, length, take, drop, sym, ap, subst, ◌∙◌, arith}
+use Rattle.std.proofs.Common.{length-append}
 use Rattle.std.proofs.lemmas.Bool.{ltb-true}
 use Rattle.std.proofs.lemmas.List.{take_all, take_at}
 use Rattle.byteorder.specs.Endian.{big_bytes}
@@ -28,11 +29,13 @@ checked : (check : Check) (f : FrameView) → HoldsCheckIfOn check (spelling che
 checked On f = holds_check (front_octets On f)
 checked Off f = tt
 
-first_again : (check : Check) (f : FrameView) → first_number f < 65536 → number_of (take 2 (spelling check f)) ≡ first_number f
+first_again : (check : Check) (f : FrameView) → first_number f < 65536
+    → number_of (take 2 (spelling check f)) ≡ first_number f
 first_again On f lt = omega arith
 first_again Off f lt = omega arith
 
-second_again : (check : Check) (f : FrameView) → second_number check f < 65536 → number_of (take 2 (drop 2 (spelling check f))) ≡ second_number check f
+second_again : (check : Check) (f : FrameView) → second_number check f < 65536
+    → number_of (take 2 (drop 2 (spelling check f))) ≡ second_number check f
 second_again On f lt = omega arith
 second_again Off f lt = omega arith
 
@@ -57,7 +60,8 @@ spelling_is check f fits =
     }
 
 -- what was written in front of other octets
-pub written_is : (check : Check) (f : FrameView) (n : ℕ) (out rest : List ℕ) → frame_fits check f ≡ true → n ≡ total_of check f → out ≡ spelling check f → IsTcFrame check f (take n (out ++ rest))
+pub written_is : (check : Check) (f : FrameView) (n : ℕ) (out rest : List ℕ) → frame_fits check f ≡ true
+    → n ≡ total_of check f → out ≡ spelling check f → IsTcFrame check f (take n (out ++ rest))
 written_is check f n out rest fits total is =
     let front : take n (out ++ rest) ≡ out = take_at out rest n (ap length is ∙ length-spelling check f ∙ sym total) in
     subst (IsTcFrame check f) (sym (front ∙ is)) (spelling_is check f fits)

@@ -1,7 +1,10 @@
 -- The faults of telecommand frames by number and by name.
 use Rattle.std.specs.Prelude.{ℕ, List, codes}
 use Rattle.tc_frame.specs.declared.fault.TcFault.{TcFault}
-use Rattle.tc_frame.specs.declared.fault.TcFault.TheVariants.{Short, Version, ReservedType, Spare, Length, Check, BypassNumber, EmptyData, Command, Room, FieldRange, Memory}
+use Rattle.tc_frame.specs.declared.fault.TcFault.TheVariants.{Short, Version, ReservedType, Spare}
+use Rattle.tc_frame.specs.declared.fault.TcFault.TheVariants.{Length, Check, BypassNumber}
+use Rattle.tc_frame.specs.declared.fault.TcFault.TheVariants.{EmptyData, Command, Room, FieldRange}
+use Rattle.tc_frame.specs.declared.fault.TcFault.TheVariants.{Memory}
 
 abbrev pub fault_number : TcFault → ℕ
 fault_number Short = 1

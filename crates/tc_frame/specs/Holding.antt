@@ -6,9 +6,11 @@ use Rattle.tc_frame.specs.declared.fault.TcFault.{TcFault}
 use Rattle.tc_frame.specs.declared.splitter.TcSplitter.{TcSplitter}
 
 -- the octets that were fed and not handed out
-abbrev pub octets_held : {C : Type 0} {layout : wire.Ghosts C TcFault} → TcSplitter C layout → List ℕ
+abbrev pub octets_held : {C : Type 0} {layout : wire.Ghosts C TcFault} → TcSplitter C layout
+    → List ℕ
 octets_held s = held s.splitter
 
 -- the fault of a refused extent, once one was met
-abbrev pub refusal : {C : Type 0} {layout : wire.Ghosts C TcFault} → TcSplitter C layout → Option TcFault
+abbrev pub refusal : {C : Type 0} {layout : wire.Ghosts C TcFault} → TcSplitter C layout
+    → Option TcFault
 refusal s = failure s.splitter

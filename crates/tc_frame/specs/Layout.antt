@@ -1,5 +1,6 @@
 -- The telecommand transfer frame, and the octets that spell it (CCSDS 232.0-B-4, 4.1).
-use Rattle.std.specs.Prelude.{◌≡◌, ◌≤◌, ◌<◌, ℕ, ◌+◌, ◌-◌, ◌*◌, List, [], ◌∷◌, length, take, drop, Bool, true, ◌&&◌, nat_lt, IsTrue}
+use Rattle.std.specs.Prelude.{◌≡◌, ◌≤◌, ◌<◌, ℕ, ◌+◌, ◌-◌, ◌*◌, List, [], ◌∷◌, length, take, drop}
+use Rattle.std.specs.Prelude.{Bool, true, ◌&&◌, nat_lt, IsTrue}
 use Rattle.octets.specs.Number.{number_of}
 use Rattle.octets.specs.Check.{HoldsCheck}
 use Rattle.tc_frame.specs.declared.frame.Check.{Check}

@@ -1,5 +1,7 @@
 -- The frame that octets spell, or the first fault in the order of the faults' numbers.
-use Rattle.std.specs.Prelude.{ℕ, ◌+◌, ◌-◌, ◌/◌, ◌%◌, List, [], ◌∷◌, length, slice_index, take, drop, Bool, false, not, ◌&&◌, ◌||◌, ◌==◌, nat_lt, if◌then◌else◌, Result, Ok, Err}
+use Rattle.std.specs.Prelude.{ℕ, ◌+◌, ◌-◌, ◌/◌, ◌%◌, List, [], ◌∷◌, length, slice_index, take, drop}
+use Rattle.std.specs.Prelude.{Bool, false, not, ◌&&◌, ◌||◌, ◌==◌, nat_lt, if◌then◌else◌, Result, Ok}
+use Rattle.std.specs.Prelude.{Err}
 use Rattle.octets.specs.Number.{number_of}
 use Rattle.octets.specs.Check.{check_of}
 use Rattle.octets.specs.Outcome.{map_ok}
@@ -11,17 +13,24 @@ use Rattle.tc_frame.specs.declared.frame.Command.{Command}
 use Rattle.tc_frame.specs.declared.frame.Command.TheVariants.{Unlock, SetVr}
 use Rattle.tc_frame.specs.declared.fault.TcFault.{TcFault}
 use Rattle.tc_frame.specs.declared.fault.TcFault.TheVariants as faults
-use Rattle.tc_frame.specs.Layout.{SegmentView, BodyView, Ad, Bd, Bc, FrameView, check_length, before_check}
+use Rattle.tc_frame.specs.Layout.{SegmentView, BodyView, Ad, Bd, Bc, FrameView, check_length}
+use Rattle.tc_frame.specs.Layout.{before_check}
 
 -- the flags of a segment header (CCSDS 232.0-B-4, 4.1.3.2.2.2)
 abbrev pub flags_at : ℕ → SegmentFlags
-flags_at code = if code == 0 then Continuing else if code == 1 then First else if code == 2 then Last else Alone
+flags_at code =
+    if code == 0 then Continuing else if code == 1 then First else if code == 2 then Last else Alone
 
 -- a data field of a Type-D frame: a segment header and at least one octet
 unfoldable pub segment_at : List ℕ → Result SegmentView TcFault
 segment_at [] = Err faults.EmptyData
 segment_at (header ∷ []) = Err faults.EmptyData
-segment_at (header ∷ octet ∷ octets) = Ok (record { header = record { flags = flags_at (header / 64); map = header % 64 }; payload = octet ∷ octets })
+segment_at (header ∷ octet ∷ octets) =
+    Ok (record {
+      header =
+          record { flags = flags_at (header / 64); map = header % 64 };
+      payload = octet ∷ octets;
+    })
 
 -- a data field of a control frame: one of the two commands (4.1.3.3)
 unfoldable pub command_at : List ℕ → Result Command TcFault
@@ -62,6 +71,8 @@ frame_at check b =
     else if not (first / 16384 == 0) then Err faults.Version
     else if first / 4096 % 4 == 1 then Err faults.ReservedType
     else if not (first / 1024 % 4 == 0) then Err faults.Spare
-    else if not (second % 1024 + 1 == length b) || nat_lt (length b) (least_total check) then Err faults.Length
+    else if not (second % 1024 + 1 == length b) || nat_lt (length b) (least_total check) then Err
+    faults.Length
     else if is_check_wrong check b then Err faults.Check
-    else map_ok (frame_with (first % 1024) (second / 1024)) (body_at bypass control (slice_index b 4) (drop 5 (before_check check b)))
+    else map_ok (frame_with (first % 1024) (second / 1024))
+    (body_at bypass control (slice_index b 4) (drop 5 (before_check check b)))

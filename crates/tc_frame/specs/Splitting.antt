@@ -1,5 +1,6 @@
 -- Frames on a stream: a frame is as long as its head declares (CCSDS 232.0-B-4, 4.1.2.7).
-use Rattle.std.specs.Prelude.{◌<◌, ℕ, ◌+◌, ◌%◌, List, take, drop, slice_index, Bool, true, false, nat_lt, if◌then◌else◌, Result, Ok, Err}
+use Rattle.std.specs.Prelude.{◌<◌, ℕ, ◌+◌, ◌%◌, List, take, drop, slice_index, Bool, true, false}
+use Rattle.std.specs.Prelude.{nat_lt, if◌then◌else◌, Result, Ok, Err}
 use Rattle.octets.specs.Number.{number_of}
 use Rattle.tc_frame.specs.declared.frame.Check.{Check}
 use Rattle.tc_frame.specs.declared.frame.Check.TheVariants.{On, Off}

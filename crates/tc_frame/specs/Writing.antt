@@ -1,12 +1,14 @@
 -- The one spelling of a frame, and which frames have one.
-use Rattle.std.specs.Prelude.{ℕ, ◌+◌, ◌-◌, ◌*◌, List, ◌++◌, length, Bool, not, ◌&&◌, nat_lt, nat_le, if◌then◌else◌, Result, Ok, Err}
+use Rattle.std.specs.Prelude.{ℕ, ◌+◌, ◌-◌, ◌*◌, List, ◌++◌, length, Bool, not, ◌&&◌, nat_lt, nat_le}
+use Rattle.std.specs.Prelude.{if◌then◌else◌, Result, Ok, Err}
 use Rattle.byteorder.specs.Endian.{big_bytes}
 use Rattle.octets.specs.Check.{check_of}
 use Rattle.tc_frame.specs.declared.frame.Check.{Check}
 use Rattle.tc_frame.specs.declared.frame.Check.TheVariants.{On, Off}
 use Rattle.tc_frame.specs.declared.fault.TcFault.{TcFault}
 use Rattle.tc_frame.specs.declared.fault.TcFault.TheVariants as faults
-use Rattle.tc_frame.specs.Layout.{FrameView, bypass_flag, control_flag, body_octets, body_fits, check_length}
+use Rattle.tc_frame.specs.Layout.{FrameView, bypass_flag, control_flag, body_octets, body_fits}
+use Rattle.tc_frame.specs.Layout.{check_length}
 
 -- all octets of the frame
 abbrev pub total_of : Check → FrameView → ℕ
@@ -21,9 +23,10 @@ second_number check f = 1024 * f.vcid + total_of check f - 1
 
 -- the octets before the check
 abbrev pub front_octets : Check → FrameView → List ℕ
-front_octets check f = big_bytes 2 (first_number f) ++ (big_bytes 2 (second_number check f) ++ body_octets f.body)
+front_octets check f =
+    big_bytes 2 (first_number f) ++ (big_bytes 2 (second_number check f) ++ body_octets f.body)
 
--- octets with their check behind them, where it is on (4.1.4)
+-- octets with their check after them, where it is on (4.1.4)
 abbrev pub with_check : Check → List ℕ → List ℕ
 with_check On octets = octets ++ big_bytes 2 (check_of octets)
 with_check Off octets = octets
@@ -33,9 +36,10 @@ spelling check f = with_check check (front_octets check f)
 
 -- each field is in its range, and there are at most 1,024 octets
 abbrev pub frame_fits : Check → FrameView → Bool
-frame_fits check f = nat_lt f.scid 1024 && nat_lt f.vcid 64 && body_fits f.body && nat_le (total_of check f) 1024
+frame_fits check f =
+    nat_lt f.scid 1024 && nat_lt f.vcid 64 && body_fits f.body && nat_le (total_of check f) 1024
 
--- how many octets are written where there is room for so many, or why none are
+-- how many octets are written where there is room for this many, or why none are
 abbrev pub encode_answer : Check → FrameView → ℕ → Result ℕ TcFault
 encode_answer check f room =
     if not (frame_fits check f) then Err faults.FieldRange

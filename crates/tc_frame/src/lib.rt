@@ -20,6 +20,3 @@ pub use frame::{Body, Check, Command, Segment, SegmentFlags, SegmentHeader, TcFr
 pub use laws::{law_of_reading, law_of_spelling};
 pub use layouts::{Checked, FrameLayout, Unchecked, check_if};
 pub use splitter::TcSplitter;
-
-#[cfg(test)]
-mod tests;

@@ -1,5 +1,6 @@
 -- A clean session begins.
-use Rattle.std.proofs.Common.{◌≡◌, ℕ, ◌<◌, ◌⊎◌, inl, inr, true, false, List, [], ◌∷◌, length, drop, Some, refl, ap, arith}
+use Rattle.std.proofs.Common.{◌≡◌, ℕ, ◌<◌, ◌⊎◌, inl, inr, true, false, List, [], ◌∷◌, length, drop, Some, refl, ap}
+use Rattle.std.proofs.Common.{arith}
 use Rattle.std.specs.Prelude.{◌==◌}
 use Rattle.std.proofs.lemmas.Bool.{and_parts, eqb-true}
 use Rattle.std.proofs.lemmas.List.{drop_all}
@@ -7,7 +8,8 @@ use Rattle.tc_frame.specs.declared.frame.Command.TheVariants.{Unlock, SetVr}
 use Rattle.tc_frame.specs.Layout.{SegmentView}
 use Rattle.cop1.specs.declared.fop.Control.TheVariants.{Idle, Due}
 use Rattle.cop1.specs.declared.fop.Directive.{Directive}
-use Rattle.cop1.specs.declared.fop.Directive.TheVariants.{InitWithoutCheck, InitWithCheck, InitUnlock, InitSetVr, Terminate, SetVs, SetWindow, SetLimit, SetTimer}
+use Rattle.cop1.specs.declared.fop.Directive.TheVariants.{InitWithoutCheck, InitWithCheck, InitUnlock, InitSetVr}
+use Rattle.cop1.specs.declared.fop.Directive.TheVariants.{Terminate, SetVs, SetWindow, SetLimit, SetTimer}
 use Rattle.cop1.specs.declared.fop.FopMode.{FopMode}
 use Rattle.cop1.specs.declared.fop.FopMode.TheVariants.{S1, S2, S3, S4, S5, S6}
 use Rattle.cop1.specs.FopDirective.{from_S6, after_begin}
@@ -16,7 +18,8 @@ use Rattle.cop1.specs.FopWords.{after_restart}
 use Rattle.nodes.specs.declared.config.Config.{Config}
 use Rattle.tc_link.specs.declared.event.Event.TheVariants as events
 use Rattle.nodes.specs.Ground.{is_closed, directive_outcome}
-use Rattle.tc_link.specs.World.{World, world_step, world_after_directive, session_begun_by, begins_clean, is_quiet, is_none}
+use Rattle.tc_link.specs.World.{World, world_step, world_after_directive, session_begun_by, begins_clean, is_quiet}
+use Rattle.tc_link.specs.World.{is_none}
 use Rattle.tc_link.specs.PlainLink.{new_link, none}
 use Rattle.tc_link.specs.Reached.{IsDirective}
 use Rattle.tc_link.proofs.Early.{Begun, early_settled}
@@ -56,7 +59,9 @@ module _ (c : Config) (w : World) (k : Sound c w) where
     idle : w.ground_node.fop.control ≡ Idle
     idle = let it : Commanded S6 w.ground_node.fop.control = rw off at k.ground_node.fop.commanded in it
 
-    without_check : begins_clean w InitWithoutCheck ≡ true → Late c InitWithoutCheck w.ground_node.fop.vs (begun_with InitWithoutCheck (record (after_begin w.ground_node.fop) { nn = w.ground_node.fop.vs; state = S1 }))
+    without_check : begins_clean w InitWithoutCheck ≡ true
+        → Late c InitWithoutCheck w.ground_node.fop.vs
+        (begun_with InitWithoutCheck (record (after_begin w.ground_node.fop) { nn = w.ground_node.fop.vs; state = S1 }))
     without_check clean =
         let both = and_parts (is_quiet w) (w.spacecraft.farm.vr == w.ground_node.fop.vs) clean in
         record {
@@ -70,10 +75,21 @@ module _ (c : Config) (w : World) (k : Sound c w) where
             confirmed_is = λ checked. elim checked [ ];
             confirmed_so = λ is. absurd cc;
             base_octet = k.ground_node.fop.vs_octet;
-            vr_is = omega (arith, eqb-true w.spacecraft.farm.vr w.ground_node.fop.vs both.1, k.ground_node.fop.vs_octet);
+            vr_is = omega (
+              arith,
+              eqb-true w.spacecraft.farm.vr w.ground_node.fop.vs both.1,
+              k.ground_node.fop.vs_octet,
+            );
             nn_octet = k.ground_node.fop.vs_octet;
             late = tt;
-            held = record { vs_is = omega (arith, k.ground_node.fop.vs_octet); nn_is = omega (arith, k.ground_node.fop.vs_octet); sent_is = refl; rest_is = pending };
+            held = record {
+              vs_is =
+                  omega (arith, k.ground_node.fop.vs_octet);
+              nn_is =
+                  omega (arith, k.ground_node.fop.vs_octet);
+              sent_is = refl;
+              rest_is = pending;
+            };
             given = tt;
             units_are = refl;
             units_fit = tt;
@@ -95,7 +111,10 @@ module _ (c : Config) (w : World) (k : Sound c w) where
           calm = λ checked. elim checked [ ];
         }
 
-    with_check : begins_clean w InitWithCheck ≡ true → Begun c InitWithCheck w.ground_node.fop.vs (begun_with InitWithCheck (record (after_restart (after_begin w.ground_node.fop)) { nn = w.ground_node.fop.vs; state = S4 }))
+    with_check : begins_clean w InitWithCheck ≡ true
+        → Begun c InitWithCheck w.ground_node.fop.vs
+        (begun_with InitWithCheck (record (after_restart (after_begin w.ground_node.fop))
+        { nn = w.ground_node.fop.vs; state = S4 }))
     with_check clean = record {
       frames = [];
       reports = [];
@@ -121,7 +140,10 @@ module _ (c : Config) (w : World) (k : Sound c w) where
       };
     }
 
-    with_unlock : begins_clean w InitUnlock ≡ true → Begun c InitUnlock w.ground_node.fop.vs (begun_with InitUnlock (record (after_begin w.ground_node.fop) { nn = w.ground_node.fop.vs; control = Due Unlock; state = S5 }))
+    with_unlock : begins_clean w InitUnlock ≡ true
+        → Begun c InitUnlock w.ground_node.fop.vs
+        (begun_with InitUnlock (record (after_begin w.ground_node.fop)
+        { nn = w.ground_node.fop.vs; control = Due Unlock; state = S5 }))
     with_unlock clean = record {
       frames = [];
       reports = [];
@@ -147,7 +169,9 @@ module _ (c : Config) (w : World) (k : Sound c w) where
       };
     }
 
-    with_set_vr : (x : ℕ) → x < 256 → begins_clean w (InitSetVr x) ≡ true → Begun c (InitSetVr x) x (begun_with (InitSetVr x) (record (after_begin w.ground_node.fop) { vs = x; nn = x; control = Due (SetVr x); state = S5 }))
+    with_set_vr : (x : ℕ) → x < 256 → begins_clean w (InitSetVr x) ≡ true
+        → Begun c (InitSetVr x) x (begun_with (InitSetVr x)
+        (record (after_begin w.ground_node.fop) { vs = x; nn = x; control = Due (SetVr x); state = S5 }))
     with_set_vr x lt clean = record {
       frames = [];
       reports = [];
@@ -174,7 +198,11 @@ module _ (c : Config) (w : World) (k : Sound c w) where
     }
 
   -- only in S6 does an initiation begin a session
-  begins_in : (d : Directive) (next : FopState SegmentView) (m : FopMode) → is_closed m ≡ true → w.ground_node.fop.state ≡ m → (w.ground_node.fop.state ≡ S6 → Clean c (world_after_directive w d (directive_outcome w.ground_node (from_S6 w.ground_node.fop S6 next))).after) → Clean c (world_after_directive w d (directive_outcome w.ground_node (from_S6 w.ground_node.fop m next))).after
+  begins_in : (d : Directive) (next : FopState SegmentView) (m : FopMode) → is_closed m ≡ true
+      → w.ground_node.fop.state ≡ m
+      → (w.ground_node.fop.state ≡ S6
+      → Clean c (world_after_directive w d (directive_outcome w.ground_node (from_S6 w.ground_node.fop S6 next))).after)
+      → Clean c (world_after_directive w d (directive_outcome w.ground_node (from_S6 w.ground_node.fop m next))).after
   begins_in d next S1 off is so = absurd cc
   begins_in d next S2 off is so = absurd cc
   begins_in d next S3 off is so = absurd cc
@@ -182,19 +210,55 @@ module _ (c : Config) (w : World) (k : Sound c w) where
   begins_in d next S5 off is so = absurd cc
   begins_in d next S6 off is so = so is
 
-  pub begins : (d : Directive) → IsDirective d → is_closed w.ground_node.fop.state ≡ true → begins_clean w d ≡ true → Clean c (world_step w (events.Directive d)).after
+  pub begins : (d : Directive) → IsDirective d → is_closed w.ground_node.fop.state ≡ true → begins_clean w d ≡ true
+      → Clean c (world_step w (events.Directive d)).after
   begins InitWithoutCheck fits off clean =
       let f : FopState SegmentView = record (after_begin w.ground_node.fop) { nn = w.ground_node.fop.vs; state = S1 } in
-      begins_in InitWithoutCheck f w.ground_node.fop.state off refl (λ is. record { directive = InitWithoutCheck; base = w.ground_node.fop.vs; session = inr (late_settled c InitWithoutCheck w.ground_node.fop.vs (begun_with InitWithoutCheck f) (without_check is clean)) })
+      begins_in InitWithoutCheck f w.ground_node.fop.state off refl
+      (λ is. record {
+        directive =
+            InitWithoutCheck;
+        base =
+            w.ground_node.fop.vs;
+        session =
+            inr (late_settled c InitWithoutCheck w.ground_node.fop.vs (begun_with InitWithoutCheck f)
+            (without_check is clean));
+      })
   begins InitWithCheck fits off clean =
-      let f : FopState SegmentView = record (after_restart (after_begin w.ground_node.fop)) { nn = w.ground_node.fop.vs; state = S4 } in
-      begins_in InitWithCheck f w.ground_node.fop.state off refl (λ is. record { directive = InitWithCheck; base = w.ground_node.fop.vs; session = inl (early_settled c InitWithCheck w.ground_node.fop.vs (begun_with InitWithCheck f) (with_check is clean)) })
+      let f : FopState SegmentView =
+      record (after_restart (after_begin w.ground_node.fop)) { nn = w.ground_node.fop.vs; state = S4 } in
+      begins_in InitWithCheck f w.ground_node.fop.state off refl
+      (λ is. record {
+        directive =
+            InitWithCheck;
+        base =
+            w.ground_node.fop.vs;
+        session =
+            inl (early_settled c InitWithCheck w.ground_node.fop.vs (begun_with InitWithCheck f) (with_check is clean));
+      })
   begins InitUnlock fits off clean =
-      let f : FopState SegmentView = record (after_begin w.ground_node.fop) { nn = w.ground_node.fop.vs; control = Due Unlock; state = S5 } in
-      begins_in InitUnlock f w.ground_node.fop.state off refl (λ is. record { directive = InitUnlock; base = w.ground_node.fop.vs; session = inl (early_settled c InitUnlock w.ground_node.fop.vs (begun_with InitUnlock f) (with_unlock is clean)) })
+      let f : FopState SegmentView =
+      record (after_begin w.ground_node.fop) { nn = w.ground_node.fop.vs; control = Due Unlock; state = S5 } in
+      begins_in InitUnlock f w.ground_node.fop.state off refl
+      (λ is. record {
+        directive =
+            InitUnlock;
+        base =
+            w.ground_node.fop.vs;
+        session =
+            inl (early_settled c InitUnlock w.ground_node.fop.vs (begun_with InitUnlock f) (with_unlock is clean));
+      })
   begins (InitSetVr x) fits off clean =
-      let f : FopState SegmentView = record (after_begin w.ground_node.fop) { vs = x; nn = x; control = Due (SetVr x); state = S5 } in
-      begins_in (InitSetVr x) f w.ground_node.fop.state off refl (λ is. record { directive = InitSetVr x; base = x; session = inl (early_settled c (InitSetVr x) x (begun_with (InitSetVr x) f) (with_set_vr is x fits clean)) })
+      let f : FopState SegmentView =
+      record (after_begin w.ground_node.fop) { vs = x; nn = x; control = Due (SetVr x); state = S5 } in
+      begins_in (InitSetVr x) f w.ground_node.fop.state off refl
+      (λ is. record {
+        directive =
+            InitSetVr x;
+        base =
+            x;
+        session = inl (early_settled c (InitSetVr x) x (begun_with (InitSetVr x) f) (with_set_vr is x fits clean));
+      })
   begins Terminate fits off clean = absurd cc
   begins (SetVs x) fits off clean = absurd cc
   begins (SetWindow n) fits off clean = absurd cc

@@ -1,8 +1,11 @@
 -- In a clean session packets are delivered in order.
-use Rattle.std.proofs.Common.{◌≡◌, ◌≢◌, ℕ, ◌+◌, ◌/◌, ◌≤◌, max, inl, inr, Bool, true, false, cond, eqb, List, [], ◌∷◌, ◌++◌, length, take, drop, map, filter, Some, None, refl, ap, sym, subst, ◌∙◌, append_assoc, arith, length-append, length-drop}
+use Rattle.std.proofs.Common.{◌≡◌, ◌≢◌, ℕ, ◌+◌, ◌/◌, ◌≤◌, max, inl, inr, Bool, true, false, cond, eqb, List, [], ◌∷◌}
+use Rattle.std.proofs.Common.{◌++◌, length, take, drop, map, filter, Some, None, refl, ap, sym, subst, ◌∙◌}
+use Rattle.std.proofs.Common.{append_assoc, arith, length-append, length-drop}
 use Rattle.std.specs.List.{AllByRecursion, flat_map}
 use Rattle.std.proofs.lemmas.Bool.{eqb-true, eqb-false}
-use Rattle.std.proofs.lemmas.List.{append-nil, take-append-drop, take_all, take-take, append_cancel_left, length-take-le, take-map, length-map}
+use Rattle.std.proofs.lemmas.List.{append-nil, take-append-drop, take_all, take-take, append_cancel_left}
+use Rattle.std.proofs.lemmas.List.{length-take-le, take-map, length-map}
 use Rattle.tc_frame.specs.Layout.{SegmentView, segment_octets}
 use Rattle.map_service.specs.declared.limits.Limits.{Limits}
 use Rattle.map_service.specs.Assembly.{is_open, assembled, blocks_packets}
@@ -48,19 +51,26 @@ module _ (limits : Limits) (m : ℕ) (one : 1 ≤ limits.part) where
   abbrev packets : List PacketOn → List (List ℕ)
   packets ps = flat_map (λ (p : PacketOn). packets_in p.octets) (filter (λ (p : PacketOn). eqb p.on_map m) ps)
 
-  one_given : (before : List SegmentView) (p : PacketOn) (b : Bool) → eqb p.on_map m ≡ b → Goes limits p → assembled limits m (before ++ segments p) ≡ assembled limits m before ++ cond b (packets_in p.octets) []
+  one_given : (before : List SegmentView) (p : PacketOn) (b : Bool) → eqb p.on_map m ≡ b → Goes limits p
+      → assembled limits m (before ++ segments p) ≡ assembled limits m before ++ cond b (packets_in p.octets) []
   one_given before p true own h =
       let is : p.on_map ≡ m = eqb-true _ _ own in
-      subst (λ (k : ℕ). assembled limits k (before ++ segments p) ≡ assembled limits k before ++ packets_in p.octets) is (given-passed limits p.on_map before p.octets one h.opened h.cut)
+      subst (λ (k : ℕ). assembled limits k (before ++ segments p) ≡ assembled limits k before ++ packets_in p.octets) is
+      (given-passed limits p.on_map before p.octets one h.opened h.cut)
   one_given before p false other h =
       let ne : m ≢ p.on_map = λ e. eqb-false _ _ other (sym e) in
-      ap (λ (xs : List SegmentView). cond (is_open limits m) (blocks_packets limits xs) []) (other-append limits.part p.on_map m before p.octets one ne) ∙ sym (append-nil (assembled limits m before))
+      ap (λ (xs : List SegmentView). cond (is_open limits m) (blocks_packets limits xs) [])
+      (other-append limits.part p.on_map m before p.octets one ne) ∙ sym (append-nil (assembled limits m before))
 
-  cond_first : (b : Bool) (p : PacketOn) (ps : List PacketOn) → cond b (packets_in p.octets) [] ++ packets ps ≡ flat_map (λ (p : PacketOn). packets_in p.octets) (cond b (p ∷ filter (λ (p : PacketOn). eqb p.on_map m) ps) (filter (λ (p : PacketOn). eqb p.on_map m) ps))
+  cond_first : (b : Bool) (p : PacketOn) (ps : List PacketOn)
+      → cond b (packets_in p.octets) [] ++ packets ps
+      ≡ flat_map (λ (p : PacketOn). packets_in p.octets)
+      (cond b (p ∷ filter (λ (p : PacketOn). eqb p.on_map m) ps) (filter (λ (p : PacketOn). eqb p.on_map m) ps))
   cond_first true p ps = refl
   cond_first false p ps = refl
 
-  pub all_given : (before : List SegmentView) (ps : List PacketOn) → AllByRecursion (Goes limits) ps → assembled limits m (before ++ flat_map segments ps) ≡ assembled limits m before ++ packets ps
+  pub all_given : (before : List SegmentView) (ps : List PacketOn) → AllByRecursion (Goes limits) ps
+      → assembled limits m (before ++ flat_map segments ps) ≡ assembled limits m before ++ packets ps
   all_given before [] h = ap (assembled limits m) (append-nil before) ∙ sym (append-nil (assembled limits m before))
   all_given before (p ∷ ps) h =
       ap (assembled limits m) (sym (append_assoc before (segments p) (flat_map segments ps)))
@@ -252,26 +262,35 @@ module _ (c : Config) (w : World) (k : Sound c w) (base : ℕ) (p : PlainLink) (
 
   delivered_is : delivered w m ≡ begins.0
   delivered_is =
-      ap (λ (x : Config). drop (length (assembled (limits_of x) m old)) (assembled (limits_of x) m w.spacecraft.accepted)) k.spacecraft.config
+      ap (λ (x : Config). drop (length (assembled (limits_of x) m old))
+      (assembled (limits_of x) m w.spacecraft.accepted)) k.spacecraft.config
       ∙ ap (λ xs. drop (length (assembled lim m old)) (assembled lim m xs)) all_is
       ∙ ap (drop (length (assembled lim m old))) begins.1
       ∙ drop_front (assembled lim m old) begins.0
 
   whole : assembled lim m (old ++ p.units) ≡ assembled lim m old ++ submitted w m
-  whole = ap (λ us. assembled lim m (old ++ us)) h.units_are ∙ all_given lim m k.ranges.part.0 old w.session.submissions (given_go c w.session.submissions h.given)
+  whole = ap (λ us. assembled lim m (old ++ us)) h.units_are
+      ∙ all_given lim m k.ranges.part.0 old w.session.submissions (given_go c w.session.submissions h.given)
 
   pub in_order : IsBeginning (delivered w m) (submitted w m)
   in_order =
       let left : List SegmentView = drop p.r p.units in
       let further = assembled_begins lim m (old ++ new) left in
-      let joined : old ++ p.units ≡ (old ++ new) ++ left = ap (λ us. old ++ us) (sym (take-append-drop p.r p.units)) ∙ sym (append_assoc old new left) in
-      let both : assembled lim m old ++ submitted w m ≡ assembled lim m old ++ (begins.0 ++ further.0) = sym whole ∙ ap (assembled lim m) joined ∙ further.1 ∙ ap (λ ps. ps ++ further.0) begins.1 ∙ append_assoc (assembled lim m old) begins.0 further.0 in
-      (further.0, append_cancel_left (assembled lim m old) (submitted w m) (begins.0 ++ further.0) both ∙ ap (λ ps. ps ++ further.0) (sym delivered_is))
+      let joined : old ++ p.units ≡ (old ++ new) ++ left =
+      ap (λ us. old ++ us) (sym (take-append-drop p.r p.units)) ∙ sym (append_assoc old new left) in
+      let both : assembled lim m old ++ submitted w m ≡ assembled lim m old ++ (begins.0 ++ further.0) =
+      sym whole ∙ ap (assembled lim m) joined ∙ further.1 ∙ ap (λ ps. ps ++ further.0) begins.1
+      ∙ append_assoc (assembled lim m old) begins.0 further.0 in (
+        further.0,
+        append_cancel_left (assembled lim m old) (submitted w m) (begins.0 ++ further.0) both
+            ∙ ap (λ ps. ps ++ further.0) (sym delivered_is),
+      )
 
   pub all_delivered : length p.units ≤ p.r → delivered w m ≡ submitted w m
   all_delivered most =
       let same : new ≡ p.units = take_all p.r p.units most in
-      let both : assembled lim m old ++ begins.0 ≡ assembled lim m old ++ submitted w m = sym begins.1 ∙ ap (λ us. assembled lim m (old ++ us)) same ∙ whole in
+      let both : assembled lim m old ++ begins.0 ≡ assembled lim m old ++ submitted w m =
+      sym begins.1 ∙ ap (λ us. assembled lim m (old ++ us)) same ∙ whole in
       delivered_is ∙ append_cancel_left (assembled lim m old) begins.0 (submitted w m) both
 
 -- ---- the promises

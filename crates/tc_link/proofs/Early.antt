@@ -1,5 +1,6 @@
 -- Before a session that is begun by check, Unlock or Set V(R) is confirmed, and how it comes to be.
-use Rattle.std.proofs.Common.{◌≡◌, ℕ, ◌<◌, Bool, true, false, List, [], ◌∷◌, ◌++◌, drop, Some, option_to_list, refl, ap, ◌∙◌, arith}
+use Rattle.std.proofs.Common.{◌≡◌, ℕ, ◌<◌, Bool, true, false, List, [], ◌∷◌, ◌++◌, drop, Some, option_to_list, refl, ap}
+use Rattle.std.proofs.Common.{◌∙◌, arith}
 use Rattle.std.specs.List.{AllByRecursion}
 use Rattle.clcw.specs.declared.word.Clcw.{Clcw}
 use Rattle.tc_frame.specs.Layout.{SegmentView, BodyView}
@@ -54,13 +55,16 @@ pub lasts_on : (base : ℕ) (cs : List Clcw) (l m : Type 0) → (l → m) → La
 lasts_on base [] l m on all = tt
 lasts_on base (c ∷ cs) l m on all = (λ good. all_good_on base cs l m on (all.0 good), lasts_on base cs l m on all.1)
 
-all_good_push : (base : ℕ) (c : Clcw) (cs : List Clcw) (l : Type 0) → (l → Good base c) → AllGood base cs l → AllGood base (cs ++ c ∷ []) l
+all_good_push : (base : ℕ) (c : Clcw) (cs : List Clcw) (l : Type 0) → (l → Good base c) → AllGood base cs l
+    → AllGood base (cs ++ c ∷ []) l
 all_good_push base c [] l is all = (is all, all)
 all_good_push base c (x ∷ xs) l is all = (all.0, all_good_push base c xs l is all.1)
 
-pub lasts_push : (base : ℕ) (c : Clcw) (cs : List Clcw) (l : Type 0) → (l → Good base c) → (Good base c → l) → Lasts base cs l → Lasts base (cs ++ c ∷ []) l
+pub lasts_push : (base : ℕ) (c : Clcw) (cs : List Clcw) (l : Type 0) → (l → Good base c) → (Good base c → l)
+    → Lasts base cs l → Lasts base (cs ++ c ∷ []) l
 lasts_push base c [] l is so all = (so, tt)
-lasts_push base c (x ∷ xs) l is so all = (λ good. all_good_push base c xs l is (all.0 good), lasts_push base c xs l is so all.1)
+lasts_push base c (x ∷ xs) l is so all =
+    (λ good. all_good_push base c xs l is (all.0 good), lasts_push base c xs l is so all.1)
 
 pub last_good : (base : ℕ) (cs : List Clcw) (l : Type 0) → AllGood base cs l → l
 last_good base [] l all = all
@@ -81,7 +85,9 @@ zeros_plain units down = record { units = units; a = 0; r = 0; n = 0; up = []; d
 
 zeros_run : (units : List SegmentView) (cs : List Clcw) → PlainRun new_link (zeros_plain units (zeros cs))
 zeros_run units [] = more none (adds units)
-zeros_run units (c ∷ cs) = let one : PlainRun new_link (zeros_plain units (zeros cs ++ 0 ∷ [])) = more (zeros_run units cs) tells in rw zeros-push at one
+zeros_run units (c ∷ cs) =
+    let one : PlainRun new_link (zeros_plain units (zeros cs ++ 0 ∷ [])) =
+    more (zeros_run units cs) tells in rw zeros-push at one
 
 zeros_down : (base : ℕ) (cs : List Clcw) (l : Type 0) → base < 256 → AllGood base cs l → DownIs base cs (zeros cs)
 zeros_down base [] l most all = tt
@@ -93,7 +99,13 @@ zeros_rise (c ∷ cs) = (omega arith, zeros_rise cs)
 
 zeros_rank : (base : ℕ) (cs : List Clcw) (l : Type 0) → AllGood base cs l → Ranks 0 cs (zeros cs) 0
 zeros_rank base [] l all = omega arith
-zeros_rank base (c ∷ cs) l all = (all.0.0, λ t. absurd (let no : waits c ≡ false = all.0.1 in cc), omega arith, rw all.0.2 (zeros_rank base cs l all.1))
+zeros_rank base (c ∷ cs) l all = (
+  all.0.0,
+  λ t. absurd (let no : waits c ≡ false = all.0.1 in cc),
+  omega arith,
+  rw all.0.2
+      (zeros_rank base cs l all.1),
+)
 
 -- ---- what holds before the confirmation
 
@@ -111,11 +123,12 @@ ControlFits d base Idle = Unit {0}
 ControlFits d base (Due command) = CommandFits d base command
 ControlFits d base (Sent command) = CommandFits d base command
 
-pub record HoldsEarly (base vs nn : ℕ) (sent : List (SentUnit SegmentView)) (rest units : List SegmentView) : Type 0 where
-  pub vs_is : vs ≡ base
-  pub nn_is : nn ≡ base
-  pub sent_is : sent ≡ []
-  pub rest_is : rest ≡ units
+pub record HoldsEarly (base vs nn : ℕ) (sent : List (SentUnit SegmentView)) (rest units : List SegmentView) : Type 0
+  where
+    pub vs_is : vs ≡ base
+    pub nn_is : nn ≡ base
+    pub sent_is : sent ≡ []
+    pub rest_is : rest ≡ units
 
 abbrev pub HeldEarly : Bool → (base vs nn : ℕ) → List (SentUnit SegmentView) → (rest units : List SegmentView) → Type 0
 HeldEarly true base vs nn sent rest units = Unit {0}
@@ -124,19 +137,26 @@ HeldEarly false base vs nn sent rest units = HoldsEarly base vs nn sent rest uni
 -- each report has the receiver's lockout flag, retransmit flag and V(R), and one that waits asks for repetition
 abbrev pub AllSame : List Clcw → (lockout retransmit : Bool) (vr : ℕ) → Type 0
 AllSame [] lockout retransmit vr = Unit {0}
-AllSame (c ∷ cs) lockout retransmit vr = (locks c ≡ lockout) × (asks c ≡ retransmit) × (c.value ≡ vr) × (waits c ≡ true → asks c ≡ true) × AllSame cs lockout retransmit vr
+AllSame (c ∷ cs) lockout retransmit vr =
+    (locks c ≡ lockout) × (asks c ≡ retransmit) × (c.value ≡ vr) × (waits c ≡ true → asks c ≡ true)
+    × AllSame cs lockout retransmit vr
 
-pub same_push : (c : Clcw) (cs : List Clcw) (lockout retransmit : Bool) (vr : ℕ) → (locks c ≡ lockout) → (asks c ≡ retransmit) → (c.value ≡ vr) → (waits c ≡ true → asks c ≡ true) → AllSame cs lockout retransmit vr → AllSame (cs ++ c ∷ []) lockout retransmit vr
+pub same_push : (c : Clcw) (cs : List Clcw) (lockout retransmit : Bool) (vr : ℕ) → (locks c ≡ lockout)
+    → (asks c ≡ retransmit) → (c.value ≡ vr) → (waits c ≡ true → asks c ≡ true) → AllSame cs lockout retransmit vr
+    → AllSame (cs ++ c ∷ []) lockout retransmit vr
 same_push c [] lockout retransmit vr l t v w all = (l, t, v, w, tt)
-same_push c (x ∷ xs) lockout retransmit vr l t v w all = (all.0, all.1, all.2, all.3, same_push c xs lockout retransmit vr l t v w all.4)
+same_push c (x ∷ xs) lockout retransmit vr l t v w all =
+    (all.0, all.1, all.2, all.3, same_push c xs lockout retransmit vr l t v w all.4)
 
-pub record Early (c : Config) (d : Directive) (base : ℕ) (w : World) (frames : List BodyView) (reports : List Clcw) : Type 0 where
+pub record Early (c : Config) (d : Directive) (base : ℕ) (w : World) (frames : List BodyView) (reports : List Clcw) :
+    Type 0 where
   pub opened : w.session.opening ≡ Some (record { directive = d; clean = true })
   pub base_octet : base < 256
   pub checked : IsChecked d
   pub nn_octet : w.ground_node.fop.nn < 256
   pub early : IsEarly d w.ground_node.fop.state
-  pub held : HeldEarly (is_closed w.ground_node.fop.state) base w.ground_node.fop.vs w.ground_node.fop.nn w.ground_node.fop.sent (unsent_segments w.ground_node) (units_of_all c w.session.submissions)
+  pub held : HeldEarly (is_closed w.ground_node.fop.state) base w.ground_node.fop.vs w.ground_node.fop.nn
+      w.ground_node.fop.sent (unsent_segments w.ground_node) (units_of_all c w.session.submissions)
   pub given : AllByRecursion (IsGiven c) w.session.submissions
   pub units_fit : AllByRecursion FitsFrame (units_of_all c w.session.submissions)
   pub sent_none : w.session.sent ≡ []
@@ -147,7 +167,8 @@ pub record Early (c : Config) (d : Directive) (base : ℕ) (w : World) (frames :
   pub reporting : Reporting c w.down reports
   pub up_is : UpIs d base true frames []
   pub lasts : Lasts base reports (WouldConfirm base w.spacecraft)
-  pub same : d ≡ InitWithCheck → AllSame reports w.spacecraft.farm.lockout w.spacecraft.farm.retransmit w.spacecraft.farm.vr
+  pub same : d ≡ InitWithCheck
+      → AllSame reports w.spacecraft.farm.lockout w.spacecraft.farm.retransmit w.spacecraft.farm.vr
   pub confirmed_not : w.session.confirmed ≡ false
 
 pub record Begun (c : Config) (d : Directive) (base : ℕ) (w : World) : Type 0 where
@@ -160,28 +181,58 @@ pub record Confirmed (c : Config) (d : Directive) (base : ℕ) (w : World) : Typ
   pub late : Late c d base w
   pub exact : (w.spacecraft.farm.vr ≡ w.ground_node.fop.vs) × (w.ground_node.fop.nn ≡ w.ground_node.fop.vs)
 
-pub held_early_again : (off : Bool) (base vs nn : ℕ) (sent : List (SentUnit SegmentView)) (rest new units : List SegmentView) → (off ≡ false → new ≡ rest) → HeldEarly off base vs nn sent rest units → HeldEarly off base vs nn sent new units
+pub held_early_again : (off : Bool) (base vs nn : ℕ) (sent : List (SentUnit SegmentView))
+    (rest new units : List SegmentView) → (off ≡ false → new ≡ rest) → HeldEarly off base vs nn sent rest units
+    → HeldEarly off base vs nn sent new units
 held_early_again true base vs nn sent rest new units same held = tt
-held_early_again false base vs nn sent rest new units same held = let rest_is : new ≡ units = same refl ∙ held.rest_is in assumption (rest_is, held)
+held_early_again false base vs nn sent rest new units same held =
+    let rest_is : new ≡ units = same refl ∙ held.rest_is in assumption (rest_is, held)
 
 module _ (c : Config) (d : Directive) (base : ℕ) where
-  pub early_settled : (w : World) → Begun c d base w → Begun c d base (record w { ground_node = settle_step w.ground_node })
-  early_settled w g = settled_keeps (λ s. Begun c d base (record w { ground_node = s })) w.ground_node (λ waiting pending on off.
+  pub early_settled : (w : World) → Begun c d base w
+      → Begun c d base (record w { ground_node = settle_step w.ground_node })
+  early_settled w g =
+      settled_keeps (λ s. Begun c d base (record w { ground_node = s })) w.ground_node (λ waiting pending on off.
       let l = g.early in
-      let held : HeldEarly (is_closed w.ground_node.fop.state) base w.ground_node.fop.vs w.ground_node.fop.nn w.ground_node.fop.sent (option_to_list waiting ++ pending) (units_of_all c w.session.submissions) = held_early_again (is_closed w.ground_node.fop.state) base w.ground_node.fop.vs w.ground_node.fop.nn w.ground_node.fop.sent (unsent_segments w.ground_node) (option_to_list waiting ++ pending) (units_of_all c w.session.submissions) on l.held in
+      let held : HeldEarly (is_closed w.ground_node.fop.state) base w.ground_node.fop.vs w.ground_node.fop.nn
+      w.ground_node.fop.sent (option_to_list waiting ++ pending) (units_of_all c w.session.submissions) =
+      held_early_again (is_closed w.ground_node.fop.state) base w.ground_node.fop.vs w.ground_node.fop.nn
+      w.ground_node.fop.sent (unsent_segments w.ground_node) (option_to_list waiting ++ pending)
+      (units_of_all c w.session.submissions) on l.held in
       record { frames = g.frames; reports = g.reports; early = assumption (held, l) })
 
   -- the report that confirms
   pub confirmed : (w : World) (g : Begun c d base w) → is_closed w.ground_node.fop.state ≡ false
       → (bs : List (List ℕ)) (rs : List Clcw) → Reporting c bs rs → AllGood base rs (WouldConfirm base w.spacecraft)
-      → (ground_node : GroundState) → ground_node.fop.state ≡ S1 → ground_node.fop.vs ≡ w.ground_node.fop.vs → ground_node.fop.nn ≡ w.ground_node.fop.nn → ground_node.fop.sent ≡ w.ground_node.fop.sent → unsent_segments ground_node ≡ unsent_segments w.ground_node
-      → (now : Bool) → now ≡ true → (acked : ℕ) → acked ≡ 0 → Late c d base (record w { ground_node = ground_node; down = bs; session = record w.session { confirmed = now; acknowledged = acked } })
+      → (ground_node : GroundState) → ground_node.fop.state ≡ S1 → ground_node.fop.vs ≡ w.ground_node.fop.vs
+      → ground_node.fop.nn ≡ w.ground_node.fop.nn → ground_node.fop.sent ≡ w.ground_node.fop.sent
+      → unsent_segments ground_node ≡ unsent_segments w.ground_node
+      → (now : Bool) → now ≡ true → (acked : ℕ) → acked ≡ 0
+      → Late c d base (record w {
+        ground_node =
+            ground_node;
+        down = bs;
+        session = record w.session { confirmed = now; acknowledged = acked };
+      })
   confirmed w g on bs rs rest all ground_node state_is vs nn sent waiting now now_is acked acked_is =
       let l = g.early in
       let good = last_good base rs (WouldConfirm base w.spacecraft) all in
       let units : List SegmentView = units_of_all c w.session.submissions in
-      let was : HoldsEarly base w.ground_node.fop.vs w.ground_node.fop.nn w.ground_node.fop.sent (unsent_segments w.ground_node) units = let it : HeldEarly false base w.ground_node.fop.vs w.ground_node.fop.nn w.ground_node.fop.sent (unsent_segments w.ground_node) units = rw on at l.held in it in
-      let held : Held (is_closed ground_node.fop.state) base ground_node.fop.vs ground_node.fop.nn ground_node.fop.sent (unsent_segments ground_node) 0 0 units = rw state_is (record { vs_is = omega (arith, vs, was.vs_is, l.base_octet); nn_is = omega (arith, nn, was.nn_is, l.base_octet); sent_is = rw (sent, was.sent_is) refl; rest_is = waiting ∙ was.rest_is }) in
+      let was : HoldsEarly base w.ground_node.fop.vs w.ground_node.fop.nn w.ground_node.fop.sent
+      (unsent_segments w.ground_node) units =
+      let it : HeldEarly false base w.ground_node.fop.vs w.ground_node.fop.nn w.ground_node.fop.sent
+      (unsent_segments w.ground_node) units = rw on at l.held in it in
+      let held : Held (is_closed ground_node.fop.state) base ground_node.fop.vs ground_node.fop.nn ground_node.fop.sent
+      (unsent_segments ground_node) 0 0 units =
+      rw state_is (record {
+        vs_is =
+            omega (arith, vs, was.vs_is, l.base_octet);
+        nn_is =
+            omega (arith, nn, was.nn_is, l.base_octet);
+        sent_is =
+            rw (sent, was.sent_is) refl;
+        rest_is = waiting ∙ was.rest_is;
+      }) in
       record {
         plain = zeros_plain units (zeros rs);
         ran = zeros_run units rs;
@@ -218,7 +269,8 @@ module _ (c : Config) (d : Directive) (base : ℕ) where
         calm = λ t. record {
           unlocked = good.0;
           clear = λ e. good.2;
-          ranks = let ranks : Ranks 0 rs (zeros rs) 0 = zeros_rank base rs (WouldConfirm base w.spacecraft) all in rw (state_is, good.2) ranks;
+          ranks = let ranks : Ranks 0 rs (zeros rs) 0 =
+              zeros_rank base rs (WouldConfirm base w.spacecraft) all in rw (state_is, good.2) ranks;
           rank_most = rw good.2 (omega arith);
         };
       }

@@ -1,5 +1,6 @@
 -- Before the confirmation: telemetry that arrives keeps what holds, or confirms.
-use Rattle.std.proofs.Common.{◌≡◌, ℕ, ◌+◌, ◌<◌, ◌⊎◌, inl, inr, Bool, true, false, not, List, [], ◌∷◌, ◌++◌, Option, None, option_to_list, Result, Ok, Err, refl, ap, sym, subst, ◌∙◌, arith}
+use Rattle.std.proofs.Common.{◌≡◌, ℕ, ◌+◌, ◌<◌, ◌⊎◌, inl, inr, Bool, true, false, not, List, [], ◌∷◌, ◌++◌, Option}
+use Rattle.std.proofs.Common.{None, option_to_list, Result, Ok, Err, refl, ap, sym, subst, ◌∙◌, arith}
 use Rattle.std.specs.Prelude.{◌==◌, ◌&&◌, ◌||◌}
 use Rattle.std.proofs.lemmas.Bool.{cond_both, eqb-true, not-true, not-false, and_parts}
 use Rattle.clcw.specs.declared.word.Clcw.{Clcw}
@@ -22,8 +23,10 @@ use Rattle.tm_link.specs.Reading as telemetry_reading
 use Rattle.nodes.specs.declared.config.Config.{Config}
 use Rattle.nodes.specs.declared.heard.Heard.{Heard}
 use Rattle.nodes.specs.Ground.{GroundState, GroundOutcome, is_closed, unsent_segments, with_fop, after_extraction}
-use Rattle.tc_link.specs.World.{World, is_confirmation, is_initialising, down_deliver_step, down_lose_step, down_damage_outcome, down_damage_step, session_after_report}
-use Rattle.tc_link.proofs.Early.{WouldConfirm, Good, AllGood, Lasts, IsEarly, ControlFits, HoldsEarly, HeldEarly, AllSame, Begun, held_early_again, last_good, Confirmed, confirmed}
+use Rattle.tc_link.specs.World.{World, is_confirmation, is_initialising, down_deliver_step, down_lose_step}
+use Rattle.tc_link.specs.World.{down_damage_outcome, down_damage_step, session_after_report}
+use Rattle.tc_link.proofs.Early.{WouldConfirm, Good, AllGood, Lasts, IsEarly, ControlFits, HoldsEarly, HeldEarly}
+use Rattle.tc_link.proofs.Early.{AllSame, Begun, held_early_again, last_good, Confirmed, confirmed}
 use Rattle.tc_link.proofs.LateTelemetry.{used_is}
 use Rattle.tc_link.proofs.Linked.{Steady, units_of_all, Reporting}
 use Rattle.tc_link.proofs.Settled.{settled_keeps, queued_as}
@@ -36,7 +39,8 @@ confirms_not d old S4 early = refl
 confirms_not d old S5 early = refl
 confirms_not d old S6 early = refl
 
-confirms_now : (was : Bool) (old new : FopMode) → new ≡ S1 → is_initialising old ≡ true → was || is_confirmation old new ≡ true
+confirms_now : (was : Bool) (old new : FopMode) → new ≡ S1 → is_initialising old ≡ true
+    → was || is_confirmation old new ≡ true
 confirms_now true old new is waits_for = refl
 confirms_now false old new is waits_for = rw is waits_for
 
@@ -44,25 +48,56 @@ module _ (c : Config) (d : Directive) (base : ℕ) (w : World) (k : Steady c w) 
   -- ---- telemetry arrives
 
   abbrev with_heard : GroundState → List (List ℕ) → World
-  with_heard t down = record w { ground_node = t; down = down; session = session_after_report w.session w.ground_node t }
+  with_heard t down =
+      record w { ground_node = t; down = down; session = session_after_report w.session w.ground_node t }
 
   acked_same : w.session.acknowledged + ahead_by w.ground_node.fop.nn w.ground_node.fop.nn ≡ 0
   acked_same = omega (arith, g.early.nn_octet, g.early.acked_none)
 
-  module _ (x : Extracted) (r : Clcw) (bs : List (List ℕ)) (rs : List Clcw) (rest : Reporting c bs rs) (on_good : Good base r → AllGood base rs (WouldConfirm base w.spacecraft)) (lasts_rest : Lasts base rs (WouldConfirm base w.spacecraft)) (same_rest : d ≡ InitWithCheck → AllSame rs w.spacecraft.farm.lockout w.spacecraft.farm.retransmit w.spacecraft.farm.vr) where
+  module _ (x : Extracted) (r : Clcw) (bs : List (List ℕ)) (rs : List Clcw) (rest : Reporting c bs rs)
+      (on_good : Good base r → AllGood base rs (WouldConfirm base w.spacecraft))
+      (lasts_rest : Lasts base rs (WouldConfirm base w.spacecraft))
+      (same_rest : d ≡ InitWithCheck
+      → AllSame rs w.spacecraft.farm.lockout w.spacecraft.farm.retransmit w.spacecraft.farm.vr) where
     abbrev Hears : FopOutcome SegmentView (Option Alert) → Type 0
-    Hears o = Begun c d base (with_heard (with_fop (after_extraction w.ground_node x) o.after) bs) ⊎ Confirmed c d base (with_heard (with_fop (after_extraction w.ground_node x) o.after) bs)
+    Hears o = Begun c d base (with_heard (with_fop (after_extraction w.ground_node x) o.after) bs)
+        ⊎ Confirmed c d base (with_heard (with_fop (after_extraction w.ground_node x) o.after) bs)
 
     -- the sender stays early
-    stays : (f : FopState SegmentView) → IsEarly d f.state → f.nn ≡ w.ground_node.fop.nn → ControlFits d base f.control → HeldEarly (is_closed f.state) base f.vs f.nn f.sent (option_to_list f.waiting ++ w.ground_node.pending) (units_of_all c w.session.submissions) → Begun c d base (with_heard (with_fop (after_extraction w.ground_node x) f) bs)
-    stays f early nn command_is held_f = settled_keeps (λ t. Begun c d base (with_heard t bs)) (record (after_extraction w.ground_node x) { fop = f }) (λ waiting pending on off.
+    stays : (f : FopState SegmentView) → IsEarly d f.state → f.nn ≡ w.ground_node.fop.nn → ControlFits d base f.control
+        → HeldEarly (is_closed f.state) base f.vs f.nn f.sent (option_to_list f.waiting ++ w.ground_node.pending)
+        (units_of_all c w.session.submissions)
+        → Begun c d base (with_heard (with_fop (after_extraction w.ground_node x) f) bs)
+    stays f early nn command_is held_f =
+        settled_keeps (λ t. Begun c d base (with_heard t bs)) (record (after_extraction w.ground_node x) { fop = f })
+        (λ waiting pending on off.
         let l = g.early in
         let units : List SegmentView = units_of_all c w.session.submissions in
-        let held : HeldEarly (is_closed f.state) base f.vs f.nn f.sent (option_to_list waiting ++ pending) units = held_early_again (is_closed f.state) base f.vs f.nn f.sent (option_to_list f.waiting ++ w.ground_node.pending) (option_to_list waiting ++ pending) units on held_f in
+        let held : HeldEarly (is_closed f.state) base f.vs f.nn f.sent (option_to_list waiting ++ pending) units =
+        held_early_again (is_closed f.state) base f.vs f.nn f.sent
+        (option_to_list f.waiting ++ w.ground_node.pending) (option_to_list waiting ++ pending) units on held_f in
         let nn_octet : f.nn < 256 = omega (arith, nn, l.nn_octet) in
         let acked_none : w.session.acknowledged + ahead_by f.nn w.ground_node.fop.nn ≡ 0 = rw nn acked_same in
-        let confirmed_not : w.session.confirmed || is_confirmation w.ground_node.fop.state f.state ≡ false = rw (l.confirmed_not, confirms_not d w.ground_node.fop.state f.state early) refl in
-        record { frames = g.frames; reports = rs; early = assumption (rest, lasts_rest, same_rest, held, early, nn_octet, command_is, acked_none, confirmed_not, l) })
+        let confirmed_not : w.session.confirmed || is_confirmation w.ground_node.fop.state f.state ≡ false =
+        rw (l.confirmed_not, confirms_not d w.ground_node.fop.state f.state early) refl in
+        record {
+          frames =
+              g.frames;
+          reports =
+              rs;
+          early = assumption (
+            rest,
+            lasts_rest,
+            same_rest,
+            held,
+            early,
+            nn_octet,
+            command_is,
+            acked_none,
+            confirmed_not,
+            l,
+          );
+        })
 
     goes_off : (alert : Alert) → Hears (alerts w.ground_node.fop alert)
     goes_off alert = inl (stays (after_alert w.ground_node.fop) tt refl tt tt)
@@ -70,18 +105,36 @@ module _ (c : Config) (d : Directive) (base : ℕ) (w : World) (k : Steady c w) 
     goes_on_early : Hears (goes_on w.ground_node.fop)
     goes_on_early = inl (stays w.ground_node.fop g.early.early refl g.early.command_is g.early.held)
 
-    held_on : is_closed w.ground_node.fop.state ≡ false → HoldsEarly base w.ground_node.fop.vs w.ground_node.fop.nn w.ground_node.fop.sent (unsent_segments w.ground_node) (units_of_all c w.session.submissions)
-    held_on on = let it : HeldEarly false base w.ground_node.fop.vs w.ground_node.fop.nn w.ground_node.fop.sent (unsent_segments w.ground_node) (units_of_all c w.session.submissions) = rw on at g.early.held in it
+    held_on : is_closed w.ground_node.fop.state ≡ false
+        → HoldsEarly base w.ground_node.fop.vs w.ground_node.fop.nn w.ground_node.fop.sent
+        (unsent_segments w.ground_node) (units_of_all c w.session.submissions)
+    held_on on = let it : HeldEarly false base w.ground_node.fop.vs w.ground_node.fop.nn w.ground_node.fop.sent
+        (unsent_segments w.ground_node) (units_of_all c w.session.submissions) = rw on at g.early.held in it
 
     vs_of : is_closed w.ground_node.fop.state ≡ false → w.ground_node.fop.vs ≡ base
     vs_of on = (held_on on).vs_is
 
     -- the report confirms
-    goes_late : (f : FopState SegmentView) → is_closed w.ground_node.fop.state ≡ false → is_initialising w.ground_node.fop.state ≡ true → f.state ≡ S1 → f.vs ≡ w.ground_node.fop.vs → f.nn ≡ w.ground_node.fop.nn → f.sent ≡ w.ground_node.fop.sent → f.waiting ≡ w.ground_node.fop.waiting → Good base r → Hears (goes_on f)
-    goes_late f on waits_for state vs nn sent waiting good = inr (settled_keeps (λ t. Confirmed c d base (with_heard t bs)) (record (after_extraction w.ground_node x) { fop = f }) (λ wait pending so off.
+    goes_late : (f : FopState SegmentView) → is_closed w.ground_node.fop.state ≡ false
+        → is_initialising w.ground_node.fop.state ≡ true → f.state ≡ S1 → f.vs ≡ w.ground_node.fop.vs
+        → f.nn ≡ w.ground_node.fop.nn → f.sent ≡ w.ground_node.fop.sent → f.waiting ≡ w.ground_node.fop.waiting
+        → Good base r → Hears (goes_on f)
+    goes_late f on waits_for state vs nn sent waiting good =
+        inr (settled_keeps (λ t. Confirmed c d base (with_heard t bs))
+        (record (after_extraction w.ground_node x) { fop = f }) (λ wait pending so off.
         let was = held_on on in
         let all = last_good base rs (WouldConfirm base w.spacecraft) (on_good good) in
-        record { exact = (all.3 ∙ sym was.vs_is ∙ sym vs, nn ∙ was.nn_is ∙ sym was.vs_is ∙ sym vs); late = confirmed c d base w g on bs rs rest (on_good good) (queued_as (record (after_extraction w.ground_node x) { fop = f }) wait pending) state vs nn sent (so (rw state refl) ∙ ap (λ o. option_to_list o ++ w.ground_node.pending) waiting) (w.session.confirmed || is_confirmation w.ground_node.fop.state f.state) (confirms_now w.session.confirmed w.ground_node.fop.state f.state state waits_for) (w.session.acknowledged + ahead_by f.nn w.ground_node.fop.nn) (rw nn acked_same) }))
+        record {
+          exact =
+              (all.3 ∙ sym was.vs_is ∙ sym vs, nn ∙ was.nn_is ∙ sym was.vs_is ∙ sym vs);
+          late =
+              confirmed c d base w g on bs rs rest (on_good good)
+              (queued_as (record (after_extraction w.ground_node x) { fop = f }) wait pending) state vs nn sent
+              (so (rw state refl) ∙ ap (λ o. option_to_list o ++ w.ground_node.pending) waiting)
+              (w.session.confirmed || is_confirmation w.ground_node.fop.state f.state)
+              (confirms_now w.session.confirmed w.ground_node.fop.state f.state state waits_for)
+              (w.session.acknowledged + ahead_by f.nn w.ground_node.fop.nn) (rw nn acked_same);
+        }))
 
     hears_in : (m : FopMode) → w.ground_node.fop.state ≡ m → Hears (report_in w.ground_node.fop r m)
     hears_in S1 is = absurd (let no : IsEarly d S1 = rw is at g.early.early in no)
@@ -95,44 +148,64 @@ module _ (c : Config) (d : Directive) (base : ℕ) (w : World) (k : Steady c w) 
         (λ l. cond_both (not (r.value == s.vs)) (alerts s alert.NnR) _ (λ o. Hears o) (λ t. goes_off alert.NnR)
         (λ v. cond_both (asks r) (alerts s alert.Synch) _ (λ o. Hears o) (λ t. goes_off alert.Synch)
         (λ a. cond_both (waits r) (alerts s alert.Clcw) _ (λ o. Hears o) (λ t. goes_off alert.Clcw)
-        (λ t. goes_late (record s { state = S1; ticks = None }) on (rw is refl) refl refl refl refl refl (l, t, a, eqb-true r.value s.vs (not-false (r.value == s.vs) v) ∙ vs_of on)))))
+        (λ t. goes_late (record s { state = S1; ticks = None }) on (rw is refl) refl refl refl refl refl
+        (l, t, a, eqb-true r.value s.vs (not-false (r.value == s.vs) v) ∙ vs_of on)))))
     hears_in S5 is =
         let s = w.ground_node.fop in
         let on : is_closed s.state ≡ false = rw is refl in
-        cond_both (confirms s r) (goes_on (record s { state = S1; ticks = None; control = Idle })) (goes_on s) (λ o. Hears o)
+        cond_both (confirms s r) (goes_on (record s { state = S1; ticks = None; control = Idle })) (goes_on s)
+        (λ o. Hears o)
         (λ t.
         let p = and_parts (not (locks r) && not (waits r) && not (asks r)) (r.value == s.vs) t in
         let q = and_parts (not (locks r) && not (waits r)) (not (asks r)) p.0 in
         let u = and_parts (not (locks r)) (not (waits r)) q.0 in
-        goes_late (record s { state = S1; ticks = None; control = Idle }) on (rw is refl) refl refl refl refl refl (not-true (locks r) u.0, not-true (waits r) u.1, not-true (asks r) q.1, eqb-true r.value s.vs p.1 ∙ vs_of on))
+        goes_late (record s { state = S1; ticks = None; control = Idle }) on (rw is refl) refl refl refl refl refl (
+          not-true (locks r) u.0,
+          not-true (waits r) u.1,
+          not-true (asks r) q.1,
+          eqb-true r.value s.vs p.1
+              ∙ vs_of on,
+        ))
         (λ t. goes_on_early)
 
-  down_early : (bs : List (List ℕ)) (rs : List Clcw) → Reporting c bs rs → Lasts base rs (WouldConfirm base w.spacecraft) → (d ≡ InitWithCheck → AllSame rs w.spacecraft.farm.lockout w.spacecraft.farm.retransmit w.spacecraft.farm.vr) → Begun c d base (down_deliver_step w bs).after ⊎ Confirmed c d base (down_deliver_step w bs).after
+  down_early : (bs : List (List ℕ)) (rs : List Clcw) → Reporting c bs rs
+      → Lasts base rs (WouldConfirm base w.spacecraft)
+      → (d ≡ InitWithCheck → AllSame rs w.spacecraft.farm.lockout w.spacecraft.farm.retransmit w.spacecraft.farm.vr)
+      → Begun c d base (down_deliver_step w bs).after ⊎ Confirmed c d base (down_deliver_step w bs).after
   down_early [] rs rest lasts same = inl g
   down_early (b ∷ bs) [] rest lasts same = elim rest [ ]
   down_early (b ∷ bs) (r ∷ rs) rest lasts same =
       let x : Extracted = extract_step w.ground_node.extractor rest.0.frame in
-      subst (λ (o : GroundOutcome Heard). Begun c d base (with_heard o.after bs) ⊎ Confirmed c d base (with_heard o.after bs)) (sym (used_is c w.ground_node b r k.ground_config rest.0))
+      subst (λ (o : GroundOutcome Heard). Begun c d base (with_heard o.after bs)
+      ⊎ Confirmed c d base (with_heard o.after bs)) (sym (used_is c w.ground_node b r k.ground_config rest.0))
       (hears_in x r bs rs rest.1 lasts.0 lasts.1 (λ e. (same e).4) w.ground_node.fop.state refl)
 
-  down_lose_early : (bs : List (List ℕ)) (rs : List Clcw) → Reporting c bs rs → Lasts base rs (WouldConfirm base w.spacecraft) → (d ≡ InitWithCheck → AllSame rs w.spacecraft.farm.lockout w.spacecraft.farm.retransmit w.spacecraft.farm.vr) → Begun c d base (down_lose_step w bs).after
+  down_lose_early : (bs : List (List ℕ)) (rs : List Clcw) → Reporting c bs rs
+      → Lasts base rs (WouldConfirm base w.spacecraft)
+      → (d ≡ InitWithCheck → AllSame rs w.spacecraft.farm.lockout w.spacecraft.farm.retransmit w.spacecraft.farm.vr)
+      → Begun c d base (down_lose_step w bs).after
   down_lose_early [] rs rest lasts same = g
   down_lose_early (b ∷ bs) [] rest lasts same = elim rest [ ]
   down_lose_early (b ∷ bs) (r ∷ rs) rest lasts same =
       let left = rest.1 in
       let lasts_left = lasts.1 in
-      let same_left : d ≡ InitWithCheck → AllSame rs w.spacecraft.farm.lockout w.spacecraft.farm.retransmit w.spacecraft.farm.vr = λ e. (same e).4 in
+      let same_left : d ≡ InitWithCheck
+      → AllSame rs w.spacecraft.farm.lockout w.spacecraft.farm.retransmit w.spacecraft.farm.vr = λ e. (same e).4 in
       record { frames = g.frames; reports = rs; early = assumption (left, lasts_left, same_left, g.early) }
 
-  down_detect_early : (b : List ℕ) (bs : List (List ℕ)) (r : Result telemetry.FrameView TmFault) → Begun c d base (down_lose_step w (b ∷ bs)).after → Begun c d base (down_damage_outcome w bs r).after
+  down_detect_early : (b : List ℕ) (bs : List (List ℕ)) (r : Result telemetry.FrameView TmFault)
+      → Begun c d base (down_lose_step w (b ∷ bs)).after → Begun c d base (down_damage_outcome w bs r).after
   down_detect_early b bs (Ok frame) lost = g
   down_detect_early b bs (Err fault) lost = lost
 
-  down_damage_early : (bs : List (List ℕ)) (damaged : List ℕ) → Begun c d base (down_lose_step w bs).after → Begun c d base (down_damage_step w bs damaged).after
+  down_damage_early : (bs : List (List ℕ)) (damaged : List ℕ) → Begun c d base (down_lose_step w bs).after
+      → Begun c d base (down_damage_step w bs damaged).after
   down_damage_early [] damaged lost = g
-  down_damage_early (b ∷ bs) damaged lost = down_detect_early b bs (telemetry_reading.frame_at w.ground_node.config.frame_length damaged) lost
+  down_damage_early (b ∷ bs) damaged lost =
+      down_detect_early b bs (telemetry_reading.frame_at w.ground_node.config.frame_length damaged) lost
 
-  pub early_down_deliver : Begun c d base (down_deliver_step w w.down).after ⊎ Confirmed c d base (down_deliver_step w w.down).after
+  pub early_down_deliver : Begun c d base (down_deliver_step w w.down).after
+      ⊎ Confirmed c d base (down_deliver_step w w.down).after
   early_down_deliver = down_early w.down g.reports g.early.reporting g.early.lasts g.early.same
 
   pub early_down_lose : Begun c d base (down_lose_step w w.down).after

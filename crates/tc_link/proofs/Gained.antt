@@ -1,5 +1,7 @@
--- What is accepted on board is delivered on its MAP, behind what the session delivered there.
-use Rattle.std.proofs.Common.{◌≡◌, ◌≤◌, ℕ, List, [], ◌∷◌, ◌++◌, length, take, drop, option_map, option_to_list, Bool, true, false, Option, Some, None, Result, Ok, Err, if◌then◌else◌, refl, sym, ap, ◌∙◌, append-nil, arith, length-append, inl, inr}
+-- What is accepted on board is delivered on its MAP, after what the session delivered there.
+use Rattle.std.proofs.Common.{◌≡◌, ◌≤◌, ℕ, List, [], ◌∷◌, ◌++◌, length, take, drop, option_map, option_to_list, Bool}
+use Rattle.std.proofs.Common.{true, false, Option, Some, None, Result, Ok, Err, if◌then◌else◌, refl, sym, ap, ◌∙◌}
+use Rattle.std.proofs.Common.{append-nil, arith, length-append, inl, inr}
 use Rattle.std.proofs.lemmas.Bool.{cases_eq, eq-eqb, ne_eqb}
 use Rattle.std.proofs.lemmas.List.{take-append-drop, take-append-le, drop-append-le}
 use Rattle.tc_frame.specs.declared.fault.TcFault.{TcFault}
@@ -14,7 +16,8 @@ use Rattle.cop1.specs.declared.farm.Verdict.{Verdict}
 use Rattle.cop1.specs.declared.farm.Verdict.TheVariants.{Accepted, Ahead, NoBuffer, Behind, Outside, Discarded}
 use Rattle.cop1.specs.Farm.{verdict_of}
 use Rattle.nodes.specs.declared.config.Config.{Config}
-use Rattle.nodes.specs.Spacecraft.{SpacecraftState, spacecraft_receive, frame_outcome, body_outcome, sequence_outcome, bypass_outcome, is_free, is_own_frame}
+use Rattle.nodes.specs.Spacecraft.{SpacecraftState, spacecraft_receive, frame_outcome, body_outcome, sequence_outcome}
+use Rattle.nodes.specs.Spacecraft.{bypass_outcome, is_free, is_own_frame}
 use Rattle.nodes.specs.Acceptance.{segment_to_accept, acceptance_with}
 use Rattle.nodes.specs.BypassSegments.{is_kept}
 use Rattle.tc_link.specs.WorldFields.{packets_accepted_on}
@@ -23,7 +26,8 @@ use Rattle.tc_link.proofs.AcceptedSegments.{accepts_segment, foreign}
 
 -- ---- the configuration stays
 
-in_sequence : (s : SpacecraftState) (n : ℕ) (segment : SegmentView) (verdict : Verdict) → (sequence_outcome s n segment verdict).after.config ≡ s.config
+in_sequence : (s : SpacecraftState) (n : ℕ) (segment : SegmentView) (verdict : Verdict)
+    → (sequence_outcome s n segment verdict).after.config ≡ s.config
 in_sequence s n segment Accepted = refl
 in_sequence s n segment Ahead = refl
 in_sequence s n segment NoBuffer = refl
@@ -31,7 +35,8 @@ in_sequence s n segment Behind = refl
 in_sequence s n segment Outside = refl
 in_sequence s n segment Discarded = refl
 
-in_bypass : (s : SpacecraftState) (segment : SegmentView) (kept : Bool) → (bypass_outcome s segment kept).after.config ≡ s.config
+in_bypass : (s : SpacecraftState) (segment : SegmentView) (kept : Bool)
+    → (bypass_outcome s segment kept).after.config ≡ s.config
 in_bypass s segment true = refl
 in_bypass s segment false = refl
 
@@ -40,7 +45,8 @@ in_own s (Ad n segment) = in_sequence s n segment (verdict_of s.farm n (is_free 
 in_own s (Bd segment) = in_bypass s segment (is_kept (limits_of s.config) segment)
 in_own s (Bc command) = refl
 
-in_any : (s : SpacecraftState) (frame : FrameView) (own : Bool) → (if own then body_outcome s frame.body else foreign s).after.config ≡ s.config
+in_any : (s : SpacecraftState) (frame : FrameView) (own : Bool)
+    → (if own then body_outcome s frame.body else foreign s).after.config ≡ s.config
 in_any s frame true = in_own s frame.body
 in_any s frame false = refl
 
@@ -50,36 +56,53 @@ in_read s (Ok frame) = in_any s frame (is_own_frame s.config frame)
 
 -- ---- what is delivered
 
--- on MAP m, where so many segments had been accepted when the session began
+-- on MAP m, where this many segments had been accepted when the session began
 abbrev pub delivered_by : Config → ℕ → ℕ → List SegmentView → List (List ℕ)
-delivered_by c m before segments = drop (length (assembled (limits_of c) m (take before segments))) (assembled (limits_of c) m segments)
+delivered_by c m before segments =
+    drop (length (assembled (limits_of c) m (take before segments))) (assembled (limits_of c) m segments)
 
 adds : (s : SpacecraftState) (segment : SegmentView) (m : ℕ)
-    → assembled (limits_of s.config) m (s.accepted ++ segment ∷ []) ≡ assembled (limits_of s.config) m s.accepted ++ packets_accepted_on m (Some (acceptance_with s segment))
+    → assembled (limits_of s.config) m (s.accepted ++ segment ∷ []) ≡ assembled (limits_of s.config) m s.accepted
+    ++ packets_accepted_on m (Some (acceptance_with s segment))
 adds s segment m =
     elim (cases_eq m segment.header.map) [
-      | inl same ↦ rw (same, eq-eqb segment.header.map segment.header.map refl) (assembled-push (limits_of s.config) s.accepted segment _ refl)
-      | inr apart ↦ rw (ne_eqb segment.header.map m (λ e. apart (sym e))) (assembled-other (limits_of s.config) s.accepted segment m apart ∙ sym (append-nil (assembled (limits_of s.config) m s.accepted)))
+      | inl same ↦ rw (same, eq-eqb segment.header.map segment.header.map refl)
+          (assembled-push (limits_of s.config) s.accepted segment _ refl)
+      | inr apart ↦ rw (ne_eqb segment.header.map m (λ e. apart (sym e)))
+          (assembled-other (limits_of s.config) s.accepted segment m apart
+          ∙ sym (append-nil (assembled (limits_of s.config) m s.accepted)))
     ]
 
-begins : (limits : Limits) (m before : ℕ) (segments : List SegmentView) → length (assembled limits m (take before segments)) ≤ length (assembled limits m segments)
+begins : (limits : Limits) (m before : ℕ) (segments : List SegmentView)
+    → length (assembled limits m (take before segments)) ≤ length (assembled limits m segments)
 begins limits m before segments =
     let more = assembled_begins limits m (take before segments) (drop before segments) in
-    let all : assembled limits m segments ≡ assembled limits m (take before segments) ++ more.0 = ap (assembled limits m) (sym (take-append-drop before segments)) ∙ more.1 in
+    let all : assembled limits m segments ≡ assembled limits m (take before segments) ++ more.0 =
+    ap (assembled limits m) (sym (take-append-drop before segments)) ∙ more.1 in
     omega (arith, ap length all, length-append (assembled limits m (take before segments)) more.0)
 
 with_one : (s : SpacecraftState) (m before : ℕ) (o : Option SegmentView) → before ≤ length s.accepted
-    → delivered_by s.config m before (s.accepted ++ option_to_list o) ≡ delivered_by s.config m before s.accepted ++ packets_accepted_on m (option_map (acceptance_with s) o)
-with_one s m before None le = ap (delivered_by s.config m before) (append-nil s.accepted) ∙ sym (append-nil (delivered_by s.config m before s.accepted))
+    → delivered_by s.config m before (s.accepted ++ option_to_list o) ≡ delivered_by s.config m before s.accepted
+    ++ packets_accepted_on m (option_map (acceptance_with s) o)
+with_one s m before None le =
+    ap (delivered_by s.config m before) (append-nil s.accepted)
+    ∙ sym (append-nil (delivered_by s.config m before s.accepted))
 with_one s m before (Some segment) le =
-    ap (λ (xs : List SegmentView). drop (length (assembled (limits_of s.config) m xs)) (assembled (limits_of s.config) m (s.accepted ++ segment ∷ []))) (take-append-le before s.accepted (segment ∷ []) le)
+    ap (λ (xs : List SegmentView). drop (length (assembled (limits_of s.config) m xs))
+    (assembled (limits_of s.config) m (s.accepted ++ segment ∷ [])))
+    (take-append-le before s.accepted (segment ∷ []) le)
     ∙ ap (drop (length (assembled (limits_of s.config) m (take before s.accepted)))) (adds s segment m)
-    ∙ drop-append-le (length (assembled (limits_of s.config) m (take before s.accepted))) (assembled (limits_of s.config) m s.accepted) (packets_accepted_on m (Some (acceptance_with s segment))) (begins (limits_of s.config) m before s.accepted)
+    ∙ drop-append-le (length (assembled (limits_of s.config) m (take before s.accepted)))
+    (assembled (limits_of s.config) m s.accepted) (packets_accepted_on m (Some (acceptance_with s segment)))
+    (begins (limits_of s.config) m before s.accepted)
 
 -- when octets arrive
 pub gained : (s : SpacecraftState) (octets : List ℕ) (m before : ℕ) → before ≤ length s.accepted
-    → delivered_by (spacecraft_receive s octets).after.config m before (spacecraft_receive s octets).after.accepted ≡ delivered_by s.config m before s.accepted ++ packets_accepted_on m (option_map (acceptance_with s) (segment_to_accept s octets))
+    → delivered_by (spacecraft_receive s octets).after.config m before (spacecraft_receive s octets).after.accepted
+    ≡ delivered_by s.config m before s.accepted
+    ++ packets_accepted_on m (option_map (acceptance_with s) (segment_to_accept s octets))
 gained s octets m before le =
-    ap (λ (c : Config). delivered_by c m before (spacecraft_receive s octets).after.accepted) (in_read s (frame_at On octets))
+    ap (λ (c : Config). delivered_by c m before (spacecraft_receive s octets).after.accepted)
+    (in_read s (frame_at On octets))
     ∙ ap (delivered_by s.config m before) (accepts_segment s octets)
     ∙ with_one s m before (segment_to_accept s octets) le

@@ -1,5 +1,7 @@
 -- Packets that are submitted keep what holds late in a session.
-use Rattle.std.proofs.Common.{◌≡◌, ℕ, ◌/◌, ◌≤◌, ◌<◌, Bool, true, false, cond, List, [], ◌∷◌, ◌++◌, length, take, drop, map, Option, Some, None, option_to_list, refl, ap, sym, subst, ◌∙◌, append_assoc, arith, length-append, inl, inr}
+use Rattle.std.proofs.Common.{◌≡◌, ℕ, ◌/◌, ◌≤◌, ◌<◌, Bool, true, false, cond, List, [], ◌∷◌, ◌++◌, length, take, drop}
+use Rattle.std.proofs.Common.{map, Option, Some, None, option_to_list, refl, ap, sym, subst, ◌∙◌, append_assoc, arith}
+use Rattle.std.proofs.Common.{length-append, inl, inr}
 use Rattle.std.specs.Prelude.{◌==◌}
 use Rattle.std.specs.List.{AllByRecursion}
 use Rattle.std.proofs.lemmas.Bool.{and_parts, not-false}
@@ -12,7 +14,8 @@ use Rattle.nodes.specs.declared.config.Config.{Config}
 use Rattle.nodes.specs.declared.fault.LinkFault.{LinkFault}
 use Rattle.nodes.specs.OwnedFields.{FitsFrame}
 use Rattle.nodes.specs.Packets.{PacketOn, packet_on}
-use Rattle.nodes.specs.Ground.{GroundState, is_closed, unsent_segments, segments_on, submit_fault, after_submission, bypass_fault, after_bypass, unless_refused}
+use Rattle.nodes.specs.Ground.{GroundState, is_closed, unsent_segments, segments_on, submit_fault, after_submission}
+use Rattle.nodes.specs.Ground.{bypass_fault, after_bypass, unless_refused}
 use Rattle.tc_link.specs.World.{World, world_after_submission, world_after_bypass}
 use Rattle.nodes.proofs.Submitting.{segments_fit, submit_map}
 use Rattle.tc_link.specs.PlainLink.{adds}
@@ -20,7 +23,8 @@ use Rattle.tc_link.proofs.Transit.{Fits, fits_longer}
 use Rattle.tc_link.proofs.Linked.{Steady, Late, IsGiven, units_of_all, Holds, Held, Next, stays}
 use Rattle.tc_link.proofs.Settled.{late_settled}
 
-passed : (b : Bool) (fault : LinkFault) (rest : Option LinkFault) → cond b (Some fault) rest ≡ None → (b ≡ false) × (rest ≡ None)
+passed : (b : Bool) (fault : LinkFault) (rest : Option LinkFault) → cond b (Some fault) rest ≡ None
+    → (b ≡ false) × (rest ≡ None)
 passed true fault rest h = absurd cc
 passed false fault rest h = (refl, h)
 
@@ -44,42 +48,84 @@ taken_from s m octets h =
       on_map = submit_map s m octets h;
     }
 
-pub taken_is : (c : Config) (s : GroundState) (m : ℕ) (octets : List ℕ) → s.config ≡ c → submit_fault s m octets ≡ None → Taken c s m octets
+pub taken_is : (c : Config) (s : GroundState) (m : ℕ) (octets : List ℕ) → s.config ≡ c → submit_fault s m octets ≡ None
+    → Taken c s m octets
 taken_is c s m octets is h = subst (λ x. Taken x s m octets) is (taken_from s m octets h)
 
-pub all_push : {X : Type 0} (P : X → Type 0) (xs : List X) (x : X) → AllByRecursion P xs → P x → AllByRecursion P (xs ++ x ∷ [])
+pub all_push : {X : Type 0} (P : X → Type 0) (xs : List X) (x : X) → AllByRecursion P xs → P x
+    → AllByRecursion P (xs ++ x ∷ [])
 all_push P [] x all is = (is, tt)
 all_push P (y ∷ ys) x all is = (all.0, all_push P ys x all.1 is)
 
-pub all_append : {X : Type 0} (P : X → Type 0) (xs ys : List X) → AllByRecursion P xs → AllByRecursion P ys → AllByRecursion P (xs ++ ys)
+pub all_append : {X : Type 0} (P : X → Type 0) (xs ys : List X) → AllByRecursion P xs → AllByRecursion P ys
+    → AllByRecursion P (xs ++ ys)
 all_append P [] ys all rest = rest
 all_append P (x ∷ xs) ys all rest = (all.0, all_append P xs ys all.1 rest)
 
-pub units-push : (c : Config) (ps : List PacketOn) (p : PacketOn) → units_of_all c (ps ++ p ∷ []) ≡ units_of_all c ps ++ segments_of c.part p.on_map p.octets
+pub units-push : (c : Config) (ps : List PacketOn) (p : PacketOn)
+    → units_of_all c (ps ++ p ∷ []) ≡ units_of_all c ps ++ segments_of c.part p.on_map p.octets
 units-push c [] p = append-nil (segments_of c.part p.on_map p.octets)
-units-push c (x ∷ xs) p = ap (λ l. segments_of c.part x.on_map x.octets ++ l) (units-push c xs p) ∙ sym (append_assoc (segments_of c.part x.on_map x.octets) (units_of_all c xs) (segments_of c.part p.on_map p.octets))
+units-push c (x ∷ xs) p =
+    ap (λ l. segments_of c.part x.on_map x.octets ++ l) (units-push c xs p)
+    ∙ sym (append_assoc (segments_of c.part x.on_map x.octets) (units_of_all c xs)
+    (segments_of c.part p.on_map p.octets))
 
-module _ (c : Config) (d : Directive) (base : ℕ) (w : World) (k : Steady c w) (g : Late c d base w) (m : ℕ) (octets : List ℕ) where
-  given_keeps : submit_fault w.ground_node m octets ≡ None → Next c d base g.plain (record w { ground_node = after_submission w.ground_node m octets; session = record w.session { submissions = w.session.submissions ++ packet_on m octets ∷ [] } })
+module _ (c : Config) (d : Directive) (base : ℕ) (w : World) (k : Steady c w) (g : Late c d base w) (m : ℕ)
+    (octets : List ℕ) where
+  given_keeps : submit_fault w.ground_node m octets ≡ None
+      → Next c d base g.plain (record w {
+        ground_node =
+            after_submission w.ground_node m octets;
+        session =
+            record w.session { submissions = w.session.submissions ++ packet_on m octets ∷ [] };
+      })
   given_keeps none =
       let p = g.plain in
       let l = g.linked in
       let t = taken_is c w.ground_node m octets k.ground_config none in
       let new : List SegmentView = segments_of c.part m octets in
       let cut : segments_on w.ground_node m octets ≡ new = ap (λ x. segments_of x.part m octets) k.ground_config in
-      let was : Holds base w.ground_node.fop.vs w.ground_node.fop.nn w.ground_node.fop.sent (unsent_segments w.ground_node) p.a p.n p.units = let it : Held false base w.ground_node.fop.vs w.ground_node.fop.nn w.ground_node.fop.sent (unsent_segments w.ground_node) p.a p.n p.units = rw t.on at l.held in it in
+      let was : Holds base w.ground_node.fop.vs w.ground_node.fop.nn w.ground_node.fop.sent
+      (unsent_segments w.ground_node) p.a p.n p.units =
+      let it : Held false base w.ground_node.fop.vs w.ground_node.fop.nn w.ground_node.fop.sent
+      (unsent_segments w.ground_node) p.a p.n p.units = rw t.on at l.held in it in
       let r_most : p.r ≤ length p.units = omega (arith, l.r_n, l.n_most) in
       let shorter : take p.n (p.units ++ new) ≡ take p.n p.units = take-append-le p.n p.units new l.n_most in
-      let rest : option_to_list w.ground_node.fop.waiting ++ (w.ground_node.pending ++ segments_on w.ground_node m octets) ≡ drop p.n (p.units ++ new) = sym (append_assoc (option_to_list w.ground_node.fop.waiting) w.ground_node.pending (segments_on w.ground_node m octets)) ∙ ap (λ xs. xs ++ segments_on w.ground_node m octets) was.rest_is ∙ ap (λ xs. drop p.n p.units ++ xs) cut ∙ sym (drop-append-le p.n p.units new l.n_most) in
-      let held : Held (is_closed w.ground_node.fop.state) base w.ground_node.fop.vs w.ground_node.fop.nn w.ground_node.fop.sent (option_to_list w.ground_node.fop.waiting ++ (w.ground_node.pending ++ segments_on w.ground_node m octets)) p.a p.n (p.units ++ new) = rw t.on (record { vs_is = was.vs_is; nn_is = was.nn_is; sent_is = was.sent_is ∙ ap (drop p.a) (sym shorter); rest_is = rest }) in
-      let given : AllByRecursion (IsGiven c) (w.session.submissions ++ packet_on m octets ∷ []) = all_push (IsGiven c) w.session.submissions (packet_on m octets) l.given t.given in
-      let units_are : p.units ++ new ≡ units_of_all c (w.session.submissions ++ packet_on m octets ∷ []) = ap (λ xs. xs ++ new) l.units_are ∙ sym (units-push c w.session.submissions (packet_on m octets)) in
-      let units_fit : AllByRecursion FitsFrame (p.units ++ new) = all_append FitsFrame p.units new l.units_fit (segments_fit c.part m octets k.ranges.part.0 k.ranges.part.1 t.on_map) in
-      let sent_is : w.session.sent ≡ map segment_octets (take p.n (p.units ++ new)) = l.sent_is ∙ ap (map segment_octets) (sym shorter) in
-      let accepted_is : drop w.session.before w.spacecraft.accepted ≡ take p.r (p.units ++ new) = l.accepted_is ∙ sym (take-append-le p.r p.units new r_most) in
+      let rest : option_to_list w.ground_node.fop.waiting
+      ++ (w.ground_node.pending ++ segments_on w.ground_node m octets) ≡ drop p.n (p.units ++ new) =
+      sym (append_assoc (option_to_list w.ground_node.fop.waiting) w.ground_node.pending
+      (segments_on w.ground_node m octets)) ∙ ap (λ xs. xs ++ segments_on w.ground_node m octets) was.rest_is
+      ∙ ap (λ xs. drop p.n p.units ++ xs) cut ∙ sym (drop-append-le p.n p.units new l.n_most) in
+      let held : Held (is_closed w.ground_node.fop.state) base w.ground_node.fop.vs w.ground_node.fop.nn
+      w.ground_node.fop.sent (option_to_list w.ground_node.fop.waiting
+      ++ (w.ground_node.pending ++ segments_on w.ground_node m octets)) p.a p.n (p.units ++ new) =
+      rw t.on (record {
+        vs_is =
+            was.vs_is;
+        nn_is = was.nn_is;
+        sent_is = was.sent_is ∙ ap (drop p.a) (sym shorter);
+        rest_is = rest;
+      }) in
+      let given : AllByRecursion (IsGiven c) (w.session.submissions ++ packet_on m octets ∷ []) =
+      all_push (IsGiven c) w.session.submissions (packet_on m octets) l.given t.given in
+      let units_are : p.units ++ new ≡ units_of_all c (w.session.submissions ++ packet_on m octets ∷ []) =
+      ap (λ xs. xs ++ new) l.units_are ∙ sym (units-push c w.session.submissions (packet_on m octets)) in
+      let units_fit : AllByRecursion FitsFrame (p.units ++ new) =
+      all_append FitsFrame p.units new l.units_fit
+      (segments_fit c.part m octets k.ranges.part.0 k.ranges.part.1 t.on_map) in
+      let sent_is : w.session.sent ≡ map segment_octets (take p.n (p.units ++ new)) =
+      l.sent_is ∙ ap (map segment_octets) (sym shorter) in
+      let accepted_is : drop w.session.before w.spacecraft.accepted ≡ take p.r (p.units ++ new) =
+      l.accepted_is ∙ sym (take-append-le p.r p.units new r_most) in
       let n_most : p.n ≤ length (p.units ++ new) = omega (arith, l.n_most, length-append p.units new) in
-      let fits : Fits (c.width / 2) p.n (p.units ++ new) p.r p.up = fits_longer (c.width / 2) p.n p.units new p.r p.up l.fits in
-      late_settled c d base (record w { ground_node = record w.ground_node { pending = w.ground_node.pending ++ segments_on w.ground_node m octets }; session = record w.session { submissions = w.session.submissions ++ packet_on m octets ∷ [] } }) (record {
+      let fits : Fits (c.width / 2) p.n (p.units ++ new) p.r p.up =
+      fits_longer (c.width / 2) p.n p.units new p.r p.up l.fits in
+      late_settled c d base (record w {
+        ground_node =
+            record w.ground_node { pending = w.ground_node.pending ++ segments_on w.ground_node m octets };
+        session =
+            record w.session { submissions = w.session.submissions ++ packet_on m octets ∷ [] };
+      }) (record {
         plain = record p { units = p.units ++ new };
         ran = inr (adds new);
         front = g.front;
@@ -89,20 +135,45 @@ module _ (c : Config) (d : Directive) (base : ℕ) (w : World) (k : Steady c w) 
         calm = λ checked. let i = g.calm checked in assumption i;
       })
 
-  -- an empty list behind the submissions
-  refused_keeps : (fault : LinkFault) → Next c d base g.plain (world_after_submission w (packet_on m octets) (unless_refused (Some fault) w.ground_node (after_submission w.ground_node m octets))).after
-  refused_keeps fault = subst (λ (ps : List PacketOn). Next c d base g.plain (record w { session = record w.session { submissions = ps } })) (sym (append-nil w.session.submissions)) (stays g)
+  -- an empty list after the submissions
+  refused_keeps : (fault : LinkFault)
+      → Next c d base g.plain (world_after_submission w (packet_on m octets)
+      (unless_refused (Some fault) w.ground_node (after_submission w.ground_node m octets))).after
+  refused_keeps fault =
+      subst (λ (ps : List PacketOn). Next c d base g.plain
+      (record w { session = record w.session { submissions = ps } })) (sym (append-nil w.session.submissions)) (stays g)
 
-  submit_keeps : (o : Option LinkFault) → submit_fault w.ground_node m octets ≡ o → Next c d base g.plain (world_after_submission w (packet_on m octets) (unless_refused o w.ground_node (after_submission w.ground_node m octets))).after
+  submit_keeps : (o : Option LinkFault) → submit_fault w.ground_node m octets ≡ o
+      → Next c d base g.plain (world_after_submission w (packet_on m octets)
+      (unless_refused o w.ground_node (after_submission w.ground_node m octets))).after
   submit_keeps None none = given_keeps none
   submit_keeps (Some fault) is = refused_keeps fault
 
-  pub late_submit : Next c d base g.plain (world_after_submission w (packet_on m octets) (unless_refused (submit_fault w.ground_node m octets) w.ground_node (after_submission w.ground_node m octets))).after
+  pub late_submit : Next c d base g.plain (world_after_submission w (packet_on m octets)
+      (unless_refused (submit_fault w.ground_node m octets) w.ground_node
+      (after_submission w.ground_node m octets))).after
   late_submit = submit_keeps (submit_fault w.ground_node m octets) refl
 
-  bypass_keeps : (o : Option LinkFault) → Next c d base g.plain (world_after_bypass w (unless_refused o w.ground_node (after_bypass w.ground_node m octets))).after
+  bypass_keeps : (o : Option LinkFault)
+      → Next c d base g.plain (world_after_bypass w
+      (unless_refused o w.ground_node (after_bypass w.ground_node m octets))).after
   bypass_keeps (Some fault) = stays g
-  bypass_keeps None = record { plain = g.plain; ran = inl refl; front = g.front; frames = g.frames; reports = g.reports; linked = assumption g.linked; calm = λ checked. let i = g.calm checked in assumption i }
+  bypass_keeps None =
+      record {
+        plain =
+            g.plain;
+        ran =
+            inl refl;
+        front =
+            g.front;
+        frames =
+            g.frames;
+        reports =
+            g.reports;
+        linked = assumption g.linked;
+        calm = λ checked. let i = g.calm checked in assumption i;
+      }
 
-  pub late_bypass : Next c d base g.plain (world_after_bypass w (unless_refused (bypass_fault w.ground_node m octets) w.ground_node (after_bypass w.ground_node m octets))).after
+  pub late_bypass : Next c d base g.plain (world_after_bypass w
+      (unless_refused (bypass_fault w.ground_node m octets) w.ground_node (after_bypass w.ground_node m octets))).after
   late_bypass = bypass_keeps (bypass_fault w.ground_node m octets)

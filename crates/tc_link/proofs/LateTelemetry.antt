@@ -1,5 +1,6 @@
 -- Telemetry that is sent, arrives or doesn't keeps what holds late in a session.
-use Rattle.std.proofs.Common.{◌≡◌, ℕ, ◌+◌, ◌*◌, ◌/◌, ◌%◌, ◌<◌, ◌≤◌, ◌⊎◌, inl, inr, Bool, true, false, List, [], ◌∷◌, ◌++◌, length, Option, option_to_list, Result, Ok, Err, refl, ap, sym, subst, ◌∙◌, arith}
+use Rattle.std.proofs.Common.{◌≡◌, ℕ, ◌+◌, ◌*◌, ◌/◌, ◌%◌, ◌<◌, ◌≤◌, ◌⊎◌, inl, inr, Bool, true, false, List, [], ◌∷◌}
+use Rattle.std.proofs.Common.{◌++◌, length, Option, option_to_list, Result, Ok, Err, refl, ap, sym, subst, ◌∙◌, arith}
 use Rattle.std.specs.Prelude.{◌||◌}
 use Rattle.std.proofs.lemmas.Bool.{eq-eqb}
 use Rattle.std.proofs.lemmas.List.{drop-drop}
@@ -24,14 +25,17 @@ use Rattle.nodes.specs.declared.heard.Heard.{Heard}
 use Rattle.nodes.specs.declared.heard.Heard.TheVariants.{Frame}
 use Rattle.nodes.specs.declared.heard.HeardReport.TheVariants.{Used}
 use Rattle.nodes.specs.Spacecraft.{spacecraft_step, Report, spacecraft_report}
-use Rattle.nodes.specs.Ground.{GroundState, GroundOutcome, is_closed, unsent_segments, with_fop, after_extraction, ground_telemetry, telemetry_outcome, own_frame_outcome}
-use Rattle.tc_link.specs.World.{World, is_confirmation, is_initialising, session_after_report, world_after_report, down_deliver_step, down_lose_step, down_damage_outcome, down_damage_step}
+use Rattle.nodes.specs.Ground.{GroundState, GroundOutcome, is_closed, unsent_segments, with_fop, after_extraction}
+use Rattle.nodes.specs.Ground.{ground_telemetry, telemetry_outcome, own_frame_outcome}
+use Rattle.tc_link.specs.World.{World, is_confirmation, is_initialising, session_after_report, world_after_report}
+use Rattle.tc_link.specs.World.{down_deliver_step, down_lose_step, down_damage_outcome, down_damage_step}
 use Rattle.tc_link.specs.PlainLink.{PlainLink, AtMostOneStep, reports as tells, loses_down, hears, ignores}
 use Rattle.tc_link.specs.Confirmation.{IsChecked}
 use Rattle.tc_link.proofs.Reports as rules
 use Rattle.tc_link.proofs.Reports.{IsLate, IsRunning, asked, HeldBy, Leads, Led, active_led}
 use Rattle.tc_link.specs.History.{Rises}
-use Rattle.tc_link.proofs.Transit.{DownIs, Ranks, bit, down_push, rises_push, rises_lower, rises_to, ranks_push, ranks_lower, ranks_to}
+use Rattle.tc_link.proofs.Transit.{DownIs, Ranks, bit, down_push, rises_push, rises_lower, rises_to, ranks_push}
+use Rattle.tc_link.proofs.Transit.{ranks_lower, ranks_to}
 use Rattle.tc_link.proofs.Linked.{Steady, Late, Tells, Reporting, Holds, Held, reporting_push, Next, stays}
 use Rattle.tc_link.proofs.Settled.{settled_keeps, held_again}
 use Rattle.tc_link.proofs.ReportFrames.{tells_now}
@@ -45,7 +49,8 @@ used s x report = record {
   after = with_fop (after_extraction s x) (clcw_step s.fop report).after;
 }
 
-pub used_is : (c : Config) (s : GroundState) (octets : List ℕ) (report : Clcw) → s.config ≡ c → (t : Tells c octets report) → ground_telemetry s octets ≡ used s (extract_step s.extractor t.frame) report
+pub used_is : (c : Config) (s : GroundState) (octets : List ℕ) (report : Clcw) → s.config ≡ c
+    → (t : Tells c octets report) → ground_telemetry s octets ≡ used s (extract_step s.extractor t.frame) report
 used_is c s octets report is t =
     let reads : telemetry_reading.frame_at s.config.frame_length octets ≡ Ok t.frame = rw is t.reads in
     let x : Extracted = extract_step s.extractor t.frame in
@@ -57,19 +62,23 @@ used_is c s octets report is t =
 -- ---- what a report leads to
 
 -- an outcome that acknowledges `gone` units more, or none where the sender is off
-pub record Goes (base : ℕ) (checked : Type 0) (s : FopState SegmentView) (rank a v gone : ℕ) (f : FopState SegmentView) : Type 0 where
+pub record Goes (base : ℕ) (checked : Type 0) (s : FopState SegmentView) (rank a v gone : ℕ) (f : FopState SegmentView)
+    : Type 0 where
   pub gone_is : (gone ≡ 0) ⊎ (a + gone ≡ v)
   pub nn_is : ahead_by f.nn s.nn ≡ gone
   pub nn_octet : f.nn < 256
   pub late : IsLate f.state
-  pub held : (pending : List SegmentView) (n : ℕ) (units : List SegmentView) → Held (is_closed s.state) base s.vs s.nn s.sent (option_to_list s.waiting ++ pending) a n units → Held (is_closed f.state) base f.vs f.nn f.sent (option_to_list f.waiting ++ pending) (a + gone) n units
+  pub held : (pending : List SegmentView) (n : ℕ) (units : List SegmentView)
+      → Held (is_closed s.state) base s.vs s.nn s.sent (option_to_list s.waiting ++ pending) a n units
+      → Held (is_closed f.state) base f.vs f.nn f.sent (option_to_list f.waiting ++ pending) (a + gone) n units
   pub rank_is : checked → 2 * (a + gone) + asked f.state ≤ rank
 
 abbrev Going : ℕ → Type 0 → FopState SegmentView → ℕ → Clcw → ℕ → FopState SegmentView → Type 0
 Going base checked s a c v f = (gone : ℕ) × Goes base checked s (2 * v + bit (asks c)) a v gone f
 
 -- what is known as a report comes
-pub record Coming (base h : ℕ) (checked : Type 0) (s : FopState SegmentView) (a n : ℕ) (units rest : List SegmentView) (c : Clcw) (v : ℕ) : Type 0 where
+pub record Coming (base h : ℕ) (checked : Type 0) (s : FopState SegmentView) (a n : ℕ) (units rest : List SegmentView)
+    (c : Clcw) (v : ℕ) : Type 0 where
   pub value_is : c.value ≡ (base + v) % 256
   pub low : a ≤ v
   pub high : v ≤ n
@@ -83,7 +92,8 @@ pub record Coming (base h : ℕ) (checked : Type 0) (s : FopState SegmentView) (
   pub rank_low : checked → 2 * a + asked s.state ≤ 2 * v + bit (asks c)
   pub rank_high : checked → 2 * v + bit (asks c) ≤ 2 * n
 
-module _ (base h : ℕ) (checked : Type 0) (s : FopState SegmentView) (a n : ℕ) (units rest : List SegmentView) (c : Clcw) (v : ℕ) (k : Coming base h checked s a n units rest c v) where
+module _ (base h : ℕ) (checked : Type 0) (s : FopState SegmentView) (a n : ℕ) (units rest : List SegmentView) (c : Clcw)
+    (v : ℕ) (k : Coming base h checked s a n units rest c v) where
   held_on : is_closed s.state ≡ false → Holds base s.vs s.nn s.sent rest a n units
   held_on on = let it : Held false base s.vs s.nn s.sent rest a n units = rw on at k.held in it
 
@@ -94,8 +104,10 @@ module _ (base h : ℕ) (checked : Type 0) (s : FopState SegmentView) (a n : ℕ
       let nn_is = was.nn_is in
       assumption (vs_is, nn_is, k)
 
-  held_after : (off : Bool) (gone : ℕ) (o : FopOutcome SegmentView (Option Alert)) (pending : List SegmentView) (m : ℕ) (us : List SegmentView) → o.after.vs ≡ s.vs → o.after.nn ≡ (base + (a + gone)) % 256 → HeldBy off s gone o
-      → Held false base s.vs s.nn s.sent (option_to_list s.waiting ++ pending) a m us → Held off base o.after.vs o.after.nn o.after.sent (option_to_list o.after.waiting ++ pending) (a + gone) m us
+  held_after : (off : Bool) (gone : ℕ) (o : FopOutcome SegmentView (Option Alert)) (pending : List SegmentView) (m : ℕ)
+      (us : List SegmentView) → o.after.vs ≡ s.vs → o.after.nn ≡ (base + (a + gone)) % 256 → HeldBy off s gone o
+      → Held false base s.vs s.nn s.sent (option_to_list s.waiting ++ pending) a m us
+      → Held off base o.after.vs o.after.nn o.after.sent (option_to_list o.after.waiting ++ pending) (a + gone) m us
   held_after true gone o pending m us vs nn by was = tt
   held_after false gone o pending m us vs nn by was = record {
     vs_is = vs ∙ was.vs_is;
@@ -104,25 +116,34 @@ module _ (base h : ℕ) (checked : Type 0) (s : FopState SegmentView) (a n : ℕ
     rest_is = rw by.1 was.rest_is;
   }
 
-  running : (o : FopOutcome SegmentView (Option Alert)) → is_closed s.state ≡ false → Led base checked s a c v o → Going base checked s a c v o.after
+  running : (o : FopOutcome SegmentView (Option Alert)) → is_closed s.state ≡ false → Led base checked s a c v o
+      → Going base checked s a c v o.after
   running o on led =
       let to = led.2 in
-      let most : led.0 ≤ 127 = elim led.1 [ inl e ↦ omega (arith, e) | inr e ↦ omega (arith, e, k.high, k.n_a, k.half_most) ] in (
+      let most : led.0 ≤ 127 =
+      elim led.1 [ inl e ↦ omega (arith, e) | inr e ↦ omega (arith, e, k.high, k.n_a, k.half_most) ] in (
         led.0,
         record {
           gone_is = led.1;
           nn_is = omega (arith, to.nn_is, (held_on on).nn_is, most);
           nn_octet = omega (arith, to.nn_is);
           late = to.late;
-          held = λ pending m us was. held_after (is_closed o.after.state) led.0 o pending m us to.vs_is to.nn_is to.held (rw on at was);
+          held = λ pending m us was. held_after (is_closed o.after.state) led.0 o pending m us to.vs_is to.nn_is to.held
+              (rw on at was);
           rank_is = to.rank_is;
         },
       )
 
   pub goes_in : (m : FopMode) → s.state ≡ m → Going base checked s a c v (report_in s c m).after
-  goes_in S1 is = let on : is_closed s.state ≡ false = rw is refl in running (report_in s c S1) on (active_led base h checked s a n c v (report_comes on) (rw is tt))
-  goes_in S2 is = let on : is_closed s.state ≡ false = rw is refl in running (report_in s c S2) on (active_led base h checked s a n c v (report_comes on) (rw is tt))
-  goes_in S3 is = let on : is_closed s.state ≡ false = rw is refl in running (report_in s c S3) on (active_led base h checked s a n c v (report_comes on) (rw is tt))
+  goes_in S1 is =
+      let on : is_closed s.state ≡ false =
+      rw is refl in running (report_in s c S1) on (active_led base h checked s a n c v (report_comes on) (rw is tt))
+  goes_in S2 is =
+      let on : is_closed s.state ≡ false =
+      rw is refl in running (report_in s c S2) on (active_led base h checked s a n c v (report_comes on) (rw is tt))
+  goes_in S3 is =
+      let on : is_closed s.state ≡ false =
+      rw is refl in running (report_in s c S3) on (active_led base h checked s a n c v (report_comes on) (rw is tt))
   goes_in S4 is = absurd (let no : IsLate S4 = rw is at k.late in no)
   goes_in S5 is = absurd (let no : IsLate S5 = rw is at k.late in no)
   goes_in S6 is = (
@@ -161,30 +182,42 @@ was_confirmed false old new late is = sym (confirms_no_more old new late) ∙ is
 
 module _ (c : Config) (d : Directive) (base : ℕ) (w : World) (k : Steady c w) (g : Late c d base w) where
   abbrev with_heard : GroundState → List (List ℕ) → World
-  with_heard t down = record w { ground_node = t; down = down; session = session_after_report w.session w.ground_node t }
+  with_heard t down =
+      record w { ground_node = t; down = down; session = session_after_report w.session w.ground_node t }
 
   -- the first report is no longer on its way, and the sender is another
-  heard_keeps : (x : Extracted) (bs : List (List ℕ)) (rs : List Clcw) (v : ℕ) (vs : List ℕ) (rank : ℕ) (f : FopState SegmentView) (gone : ℕ) → g.plain.down ≡ v ∷ vs → Reporting c bs rs → DownIs base rs vs → g.plain.a ≤ v → Rises v vs g.plain.r
-      → (IsChecked d → Ranks rank rs vs (2 * g.plain.r + bit w.spacecraft.farm.retransmit)) → Goes base (IsChecked d) w.ground_node.fop rank g.plain.a v gone f
+  heard_keeps : (x : Extracted) (bs : List (List ℕ)) (rs : List Clcw) (v : ℕ) (vs : List ℕ) (rank : ℕ)
+      (f : FopState SegmentView) (gone : ℕ) → g.plain.down ≡ v ∷ vs → Reporting c bs rs → DownIs base rs vs
+      → g.plain.a ≤ v → Rises v vs g.plain.r
+      → (IsChecked d → Ranks rank rs vs (2 * g.plain.r + bit w.spacecraft.farm.retransmit))
+      → Goes base (IsChecked d) w.ground_node.fop rank g.plain.a v gone f
       → Next c d base g.plain (with_heard (with_fop (after_extraction w.ground_node x) f) bs)
   heard_keeps x bs rs v vs rank f gone also rest down_is low rises_on ranks_on to =
-      settled_keeps (λ t. Next c d base g.plain (with_heard t bs)) (record (after_extraction w.ground_node x) { fop = f }) (λ waiting pending on off.
+      settled_keeps (λ t. Next c d base g.plain (with_heard t bs))
+      (record (after_extraction w.ground_node x) { fop = f }) (λ waiting pending on off.
       let p = g.plain in
       let l = g.linked in
       let a : ℕ = p.a + gone in
       let high : v ≤ p.r = rises_to v p.r vs rises_on in
       let most : a ≤ v = elim to.gone_is [ inl e ↦ omega (arith, e) | inr e ↦ omega (arith, e) ] in
-      let held_new : Held (is_closed f.state) base f.vs f.nn f.sent (option_to_list f.waiting ++ w.ground_node.pending) a p.n p.units = to.held w.ground_node.pending p.n p.units l.held in
-      let held : Held (is_closed f.state) base f.vs f.nn f.sent (option_to_list waiting ++ pending) a p.n p.units = held_again (is_closed f.state) base f.vs f.nn f.sent (option_to_list f.waiting ++ w.ground_node.pending) (option_to_list waiting ++ pending) a p.n p.units on held_new in
-      let acked_is : w.session.acknowledged + ahead_by f.nn w.ground_node.fop.nn ≡ a = omega (arith, to.nn_is, l.acked_is) in
-      let confirmed_is : IsChecked d → w.session.confirmed || is_confirmation w.ground_node.fop.state f.state ≡ true = λ t. rw (l.confirmed_is t) refl in
-      let confirmed_so : w.session.confirmed || is_confirmation w.ground_node.fop.state f.state ≡ true → IsChecked d = λ t. l.confirmed_so (was_confirmed w.session.confirmed w.ground_node.fop.state f.state l.late t) in
+      let held_new : Held (is_closed f.state) base f.vs f.nn f.sent (option_to_list f.waiting ++ w.ground_node.pending)
+      a p.n p.units = to.held w.ground_node.pending p.n p.units l.held in
+      let held : Held (is_closed f.state) base f.vs f.nn f.sent (option_to_list waiting ++ pending) a p.n p.units =
+      held_again (is_closed f.state) base f.vs f.nn f.sent (option_to_list f.waiting ++ w.ground_node.pending)
+      (option_to_list waiting ++ pending) a p.n p.units on held_new in
+      let acked_is : w.session.acknowledged + ahead_by f.nn w.ground_node.fop.nn ≡ a =
+      omega (arith, to.nn_is, l.acked_is) in
+      let confirmed_is : IsChecked d → w.session.confirmed || is_confirmation w.ground_node.fop.state f.state ≡ true =
+      λ t. rw (l.confirmed_is t) refl in
+      let confirmed_so : w.session.confirmed || is_confirmation w.ground_node.fop.state f.state ≡ true → IsChecked d =
+      λ t. l.confirmed_so (was_confirmed w.session.confirmed w.ground_node.fop.state f.state l.late t) in
       let a_r : a ≤ p.r = omega arith in
       let n_a : p.n ≤ a + c.width / 2 = omega (arith, l.n_a) in
       let rises : Rises a vs p.r = rises_lower v a p.r vs most rises_on in
       let next : PlainLink = record p { a = a; down = vs } in
       let ran : AtMostOneStep p next = elim to.gone_is [
-        | inl e ↦ (let same : p.a ≡ a = omega (arith, e) in subst (λ i. AtMostOneStep p (record p { a = i; down = vs })) same (inr (ignores also)))
+        | inl e ↦ (let same : p.a ≡ a =
+            omega (arith, e) in subst (λ i. AtMostOneStep p (record p { a = i; down = vs })) same (inr (ignores also)))
         | inr e ↦ (subst (λ i. AtMostOneStep p (record p { a = i; down = vs })) (sym e) (inr (hears also)))
       ] in
       record {
@@ -193,16 +226,36 @@ module _ (c : Config) (d : Directive) (base : ℕ) (w : World) (k : Steady c w) 
         front = g.front;
         frames = g.frames;
         reports = rs;
-        linked = assumption (rest, down_is, held, to.late, to.nn_octet, confirmed_is, confirmed_so, acked_is, a_r, n_a, rises, l);
+        linked = assumption (
+          rest,
+          down_is,
+          held,
+          to.late,
+          to.nn_octet,
+          confirmed_is,
+          confirmed_so,
+          acked_is,
+          a_r,
+          n_a,
+          rises,
+          l,
+        );
         calm = λ checked.
             let m = g.calm checked in
-            let ranks : Ranks (2 * a + asked f.state) rs vs (2 * p.r + bit w.spacecraft.farm.retransmit) = ranks_lower rank (2 * a + asked f.state) (2 * p.r + bit w.spacecraft.farm.retransmit) rs vs (to.rank_is checked) (ranks_on checked) in
+            let ranks : Ranks (2 * a + asked f.state) rs vs (2 * p.r + bit w.spacecraft.farm.retransmit) =
+            ranks_lower rank (2 * a + asked f.state) (2 * p.r + bit w.spacecraft.farm.retransmit) rs vs
+            (to.rank_is checked) (ranks_on checked) in
             assumption (ranks, m);
       })
 
   -- a report that stands first
-  pub coming : (r : Clcw) (rs : List Clcw) (v : ℕ) (vs : List ℕ) → DownIs base (r ∷ rs) (v ∷ vs) → Rises g.plain.a (v ∷ vs) g.plain.r → (IsChecked d → Ranks (2 * g.plain.a + asked w.ground_node.fop.state) (r ∷ rs) (v ∷ vs) (2 * g.plain.r + bit w.spacecraft.farm.retransmit))
-      → Coming base (c.width / 2) (IsChecked d) w.ground_node.fop g.plain.a g.plain.n g.plain.units (unsent_segments w.ground_node) r v
+  pub coming : (r : Clcw) (rs : List Clcw) (v : ℕ) (vs : List ℕ) → DownIs base (r ∷ rs) (v ∷ vs)
+      → Rises g.plain.a (v ∷ vs) g.plain.r
+      → (IsChecked d
+      → Ranks (2 * g.plain.a + asked w.ground_node.fop.state) (r ∷ rs) (v ∷ vs)
+      (2 * g.plain.r + bit w.spacecraft.farm.retransmit))
+      → Coming base (c.width / 2) (IsChecked d) w.ground_node.fop g.plain.a g.plain.n g.plain.units
+      (unsent_segments w.ground_node) r v
   coming r rs v vs down_is up ranks =
       let p = g.plain in
       let l = g.linked in
@@ -219,10 +272,18 @@ module _ (c : Config) (d : Directive) (base : ℕ) (w : World) (k : Steady c w) 
         unlocked = λ t. (ranks t).0;
         waiting = λ t. (ranks t).1;
         rank_low = λ t. (ranks t).2;
-        rank_high = λ t. omega (arith, ranks_to (2 * v + bit (asks r)) (2 * p.r + bit w.spacecraft.farm.retransmit) rs vs (ranks t).3, (g.calm t).rank_most);
+        rank_high = λ t. omega (
+          arith,
+          ranks_to (2 * v + bit (asks r)) (2 * p.r + bit w.spacecraft.farm.retransmit) rs
+              vs (ranks t).3,
+          (g.calm t).rank_most,
+        );
       }
 
-  deliver_keeps : (bs : List (List ℕ)) (rs : List Clcw) (vs : List ℕ) → g.plain.down ≡ vs → Reporting c bs rs → DownIs base rs vs → Rises g.plain.a vs g.plain.r → (IsChecked d → Ranks (2 * g.plain.a + asked w.ground_node.fop.state) rs vs (2 * g.plain.r + bit w.spacecraft.farm.retransmit))
+  deliver_keeps : (bs : List (List ℕ)) (rs : List Clcw) (vs : List ℕ) → g.plain.down ≡ vs → Reporting c bs rs
+      → DownIs base rs vs → Rises g.plain.a vs g.plain.r
+      → (IsChecked d
+      → Ranks (2 * g.plain.a + asked w.ground_node.fop.state) rs vs (2 * g.plain.r + bit w.spacecraft.farm.retransmit))
       → Next c d base g.plain (down_deliver_step w bs).after
   deliver_keeps [] rs vs also rest down_is up ranks = stays g
   deliver_keeps (b ∷ bs) [] vs also rest down_is up ranks = elim rest [ ]
@@ -230,11 +291,17 @@ module _ (c : Config) (d : Directive) (base : ℕ) (w : World) (k : Steady c w) 
   deliver_keeps (b ∷ bs) (r ∷ rs) (v ∷ vs) also rest down_is up ranks =
       let p = g.plain in
       let x : Extracted = extract_step w.ground_node.extractor rest.0.frame in
-      let goes = goes_in base (c.width / 2) (IsChecked d) w.ground_node.fop p.a p.n p.units (unsent_segments w.ground_node) r v (coming r rs v vs down_is up ranks) w.ground_node.fop.state refl in
-      subst (λ (o : GroundOutcome Heard). Next c d base g.plain (with_heard o.after bs)) (sym (used_is c w.ground_node b r k.ground_config rest.0))
-      (heard_keeps x bs rs v vs (2 * v + bit (asks r)) (clcw_step w.ground_node.fop r).after goes.0 also rest.1 down_is.1 up.0 up.1 (λ t. (ranks t).3) goes.1)
+      let goes = goes_in base (c.width / 2) (IsChecked d) w.ground_node.fop p.a p.n p.units
+      (unsent_segments w.ground_node) r v (coming r rs v vs down_is up ranks) w.ground_node.fop.state refl in
+      subst (λ (o : GroundOutcome Heard). Next c d base g.plain (with_heard o.after bs))
+      (sym (used_is c w.ground_node b r k.ground_config rest.0))
+      (heard_keeps x bs rs v vs (2 * v + bit (asks r)) (clcw_step w.ground_node.fop r).after goes.0 also rest.1
+      down_is.1 up.0 up.1 (λ t. (ranks t).3) goes.1)
 
-  lose_keeps : (bs : List (List ℕ)) (rs : List Clcw) (vs : List ℕ) → g.plain.down ≡ vs → Reporting c bs rs → DownIs base rs vs → Rises g.plain.a vs g.plain.r → (IsChecked d → Ranks (2 * g.plain.a + asked w.ground_node.fop.state) rs vs (2 * g.plain.r + bit w.spacecraft.farm.retransmit))
+  lose_keeps : (bs : List (List ℕ)) (rs : List Clcw) (vs : List ℕ) → g.plain.down ≡ vs → Reporting c bs rs
+      → DownIs base rs vs → Rises g.plain.a vs g.plain.r
+      → (IsChecked d
+      → Ranks (2 * g.plain.a + asked w.ground_node.fop.state) rs vs (2 * g.plain.r + bit w.spacecraft.farm.retransmit))
       → Next c d base g.plain (down_lose_step w bs).after
   lose_keeps [] rs vs also rest down_is up ranks = stays g
   lose_keeps (b ∷ bs) [] vs also rest down_is up ranks = elim rest [ ]
@@ -254,23 +321,35 @@ module _ (c : Config) (d : Directive) (base : ℕ) (w : World) (k : Steady c w) 
         calm = λ checked.
             let m = g.calm checked in
             let t = ranks checked in
-            let lower : Ranks (2 * p.a + asked w.ground_node.fop.state) rs vs (2 * p.r + bit w.spacecraft.farm.retransmit) = ranks_lower (2 * v + bit (asks r)) (2 * p.a + asked w.ground_node.fop.state) (2 * p.r + bit w.spacecraft.farm.retransmit) rs vs t.2 t.3 in
+            let lower : Ranks (2 * p.a + asked w.ground_node.fop.state) rs vs
+            (2 * p.r + bit w.spacecraft.farm.retransmit) =
+            ranks_lower (2 * v + bit (asks r)) (2 * p.a + asked w.ground_node.fop.state)
+            (2 * p.r + bit w.spacecraft.farm.retransmit) rs vs t.2 t.3 in
             assumption (lower, m);
       }
 
-  detect_keeps : (b : List ℕ) (bs : List (List ℕ)) (r : Result telemetry.FrameView TmFault) → Next c d base g.plain (down_lose_step w (b ∷ bs)).after → Next c d base g.plain (down_damage_outcome w bs r).after
+  detect_keeps : (b : List ℕ) (bs : List (List ℕ)) (r : Result telemetry.FrameView TmFault)
+      → Next c d base g.plain (down_lose_step w (b ∷ bs)).after
+      → Next c d base g.plain (down_damage_outcome w bs r).after
   detect_keeps b bs (Ok frame) lost = stays g
   detect_keeps b bs (Err fault) lost = lost
 
-  damage_keeps : (bs : List (List ℕ)) (damaged : List ℕ) → ((b : List ℕ) (more : List (List ℕ)) → bs ≡ b ∷ more → Next c d base g.plain (down_lose_step w bs).after) → Next c d base g.plain (down_damage_step w bs damaged).after
+  damage_keeps : (bs : List (List ℕ)) (damaged : List ℕ)
+      → ((b : List ℕ) (more : List (List ℕ)) → bs ≡ b ∷ more → Next c d base g.plain (down_lose_step w bs).after)
+      → Next c d base g.plain (down_damage_step w bs damaged).after
   damage_keeps [] damaged lost = stays g
-  damage_keeps (b ∷ bs) damaged lost = detect_keeps b bs (telemetry_reading.frame_at w.ground_node.config.frame_length damaged) (lost b bs refl)
+  damage_keeps (b ∷ bs) damaged lost =
+      detect_keeps b bs (telemetry_reading.frame_at w.ground_node.config.frame_length damaged) (lost b bs refl)
 
   pub late_down_deliver : Next c d base g.plain (down_deliver_step w w.down).after
-  late_down_deliver = deliver_keeps w.down g.reports g.plain.down refl g.linked.reporting g.linked.down_is g.linked.rises (λ t. (g.calm t).ranks)
+  late_down_deliver =
+      deliver_keeps w.down g.reports g.plain.down refl g.linked.reporting g.linked.down_is g.linked.rises
+      (λ t. (g.calm t).ranks)
 
   pub late_down_lose : Next c d base g.plain (down_lose_step w w.down).after
-  late_down_lose = lose_keeps w.down g.reports g.plain.down refl g.linked.reporting g.linked.down_is g.linked.rises (λ t. (g.calm t).ranks)
+  late_down_lose =
+      lose_keeps w.down g.reports g.plain.down refl g.linked.reporting g.linked.down_is g.linked.rises
+      (λ t. (g.calm t).ranks)
 
   pub late_down_damage : (damaged : List ℕ) → Next c d base g.plain (down_damage_step w w.down damaged).after
   late_down_damage damaged = damage_keeps w.down damaged (λ b bs e. late_down_lose)
@@ -283,11 +362,18 @@ module _ (c : Config) (d : Directive) (base : ℕ) (w : World) (k : Steady c w) 
       let l = g.linked in
       let farm = w.spacecraft.farm in
       let r : Clcw = report_of farm w.spacecraft.config.vcid in
-      let asks_so : asks r ≡ farm.retransmit = asks_is farm farm.lockout farm.wait farm.retransmit refl refl refl w.spacecraft.config.vcid in
-      let waits_so : waits r ≡ farm.wait = waits_is farm farm.lockout farm.wait farm.retransmit refl refl refl w.spacecraft.config.vcid in
-      let locks_so : locks r ≡ farm.lockout = locks_is farm farm.lockout farm.wait farm.retransmit refl refl refl w.spacecraft.config.vcid in
-      let reporting : Reporting c (w.down ++ telemetry_writing.spelling (spacecraft_report w.spacecraft).answer ∷ []) (g.reports ++ r ∷ []) = reporting_push c (telemetry_writing.spelling (spacecraft_report w.spacecraft).answer) r w.down g.reports (tells_now c w k) l.reporting in
-      let down_is : DownIs base (g.reports ++ r ∷ []) (p.down ++ p.r ∷ []) = down_push base p.r r g.reports p.down l.vr_is l.down_is in
+      let asks_so : asks r ≡ farm.retransmit =
+      asks_is farm farm.lockout farm.wait farm.retransmit refl refl refl w.spacecraft.config.vcid in
+      let waits_so : waits r ≡ farm.wait =
+      waits_is farm farm.lockout farm.wait farm.retransmit refl refl refl w.spacecraft.config.vcid in
+      let locks_so : locks r ≡ farm.lockout =
+      locks_is farm farm.lockout farm.wait farm.retransmit refl refl refl w.spacecraft.config.vcid in
+      let reporting : Reporting c (w.down ++ telemetry_writing.spelling (spacecraft_report w.spacecraft).answer ∷ [])
+      (g.reports ++ r ∷ []) =
+      reporting_push c (telemetry_writing.spelling (spacecraft_report w.spacecraft).answer) r w.down g.reports
+      (tells_now c w k) l.reporting in
+      let down_is : DownIs base (g.reports ++ r ∷ []) (p.down ++ p.r ∷ []) =
+      down_push base p.r r g.reports p.down l.vr_is l.down_is in
       let rises : Rises p.a (p.down ++ p.r ∷ []) p.r = rises_push p.a p.r p.down l.rises in
       record {
         plain = record p { down = p.down ++ p.r ∷ [] };
@@ -298,6 +384,10 @@ module _ (c : Config) (d : Directive) (base : ℕ) (w : World) (k : Steady c w) 
         linked = assumption (reporting, down_is, rises, l);
         calm = λ checked.
             let m = g.calm checked in
-            let ranks : Ranks (2 * p.a + asked w.ground_node.fop.state) (g.reports ++ r ∷ []) (p.down ++ p.r ∷ []) (2 * p.r + bit farm.retransmit) = ranks_push (2 * p.a + asked w.ground_node.fop.state) (2 * p.r + bit farm.retransmit) p.r r g.reports p.down (locks_so ∙ m.unlocked) (λ t. asks_so ∙ k.flags.asks (sym waits_so ∙ t)) (rw asks_so refl) m.ranks in
+            let ranks : Ranks (2 * p.a + asked w.ground_node.fop.state) (g.reports ++ r ∷ []) (p.down ++ p.r ∷ [])
+            (2 * p.r + bit farm.retransmit) =
+            ranks_push (2 * p.a + asked w.ground_node.fop.state) (2 * p.r + bit farm.retransmit) p.r r g.reports
+            p.down (locks_so ∙ m.unlocked) (λ t. asks_so ∙ k.flags.asks (sym waits_so ∙ t)) (rw asks_so refl)
+            m.ranks in
             assumption (ranks, m);
       }

@@ -1,5 +1,6 @@
 -- How the nodes, what is on its way, the records and a plain link hold together in a clean session.
-use Rattle.std.proofs.Common.{◌≡◌, ℕ, ◌+◌, ◌*◌, ◌/◌, ◌%◌, ◌<◌, ◌≤◌, Bool, true, false, List, [], ◌∷◌, ◌++◌, length, take, drop, map, Some, None, Ok, inl, inr, refl, sym, subst}
+use Rattle.std.proofs.Common.{◌≡◌, ℕ, ◌+◌, ◌*◌, ◌/◌, ◌%◌, ◌<◌, ◌≤◌, Bool, true, false, List, [], ◌∷◌, ◌++◌, length}
+use Rattle.std.proofs.Common.{take, drop, map, Some, None, Ok, inl, inr, refl, sym, subst}
 use Rattle.std.specs.List.{AllByRecursion, flat_map}
 use Rattle.clcw.specs.declared.word.Clcw.{Clcw}
 use Rattle.clcw.specs.Reading.{clcw_at}
@@ -95,19 +96,22 @@ units_of_all c ps = flat_map (λ (p : PacketOn). segments_of c.part p.on_map p.o
 
 -- ---- what the sender holds where it is on
 
-pub record Holds (base vs nn : ℕ) (sent : List (SentUnit SegmentView)) (rest : List SegmentView) (a n : ℕ) (units : List SegmentView) : Type 0 where
+pub record Holds (base vs nn : ℕ) (sent : List (SentUnit SegmentView)) (rest : List SegmentView) (a n : ℕ)
+    (units : List SegmentView) : Type 0 where
   pub vs_is : vs ≡ (base + n) % 256
   pub nn_is : nn ≡ (base + a) % 256
   pub sent_is : units_of sent ≡ drop a (take n units)
   pub rest_is : rest ≡ drop n units
 
-abbrev pub Held : Bool → (base vs nn : ℕ) → List (SentUnit SegmentView) → List SegmentView → (a n : ℕ) → List SegmentView → Type 0
+abbrev pub Held : Bool → (base vs nn : ℕ) → List (SentUnit SegmentView) → List SegmentView → (a n : ℕ)
+    → List SegmentView → Type 0
 Held true base vs nn sent rest a n units = Unit {0}
 Held false base vs nn sent rest a n units = Holds base vs nn sent rest a n units
 
 -- ---- once the session is confirmed, or begun without a check
 
-pub record Linked (c : Config) (d : Directive) (base : ℕ) (w : World) (p : PlainLink) (front : Bool) (frames : List BodyView) (reports : List Clcw) : Type 0 where
+pub record Linked (c : Config) (d : Directive) (base : ℕ) (w : World) (p : PlainLink) (front : Bool)
+    (frames : List BodyView) (reports : List Clcw) : Type 0 where
   pub opened : w.session.opening ≡ Some (record { directive = d; clean = true })
   pub confirmed_is : IsChecked d → w.session.confirmed ≡ true
   pub confirmed_so : w.session.confirmed ≡ true → IsChecked d
@@ -115,7 +119,8 @@ pub record Linked (c : Config) (d : Directive) (base : ℕ) (w : World) (p : Pla
   pub vr_is : w.spacecraft.farm.vr ≡ (base + p.r) % 256
   pub nn_octet : w.ground_node.fop.nn < 256
   pub late : IsLate w.ground_node.fop.state
-  pub held : Held (is_closed w.ground_node.fop.state) base w.ground_node.fop.vs w.ground_node.fop.nn w.ground_node.fop.sent (unsent_segments w.ground_node) p.a p.n p.units
+  pub held : Held (is_closed w.ground_node.fop.state) base w.ground_node.fop.vs w.ground_node.fop.nn
+      w.ground_node.fop.sent (unsent_segments w.ground_node) p.a p.n p.units
   pub given : AllByRecursion (IsGiven c) w.session.submissions
   pub units_are : p.units ≡ units_of_all c w.session.submissions
   pub units_fit : AllByRecursion FitsFrame p.units
@@ -138,7 +143,8 @@ pub record Linked (c : Config) (d : Directive) (base : ℕ) (w : World) (p : Pla
 pub record Calm (w : World) (p : PlainLink) (front : Bool) (reports : List Clcw) : Type 0 where
   pub unlocked : w.spacecraft.farm.lockout ≡ false
   pub clear : front ≡ true → w.spacecraft.farm.retransmit ≡ false
-  pub ranks : Ranks (2 * p.a + asked w.ground_node.fop.state) reports p.down (2 * p.r + bit w.spacecraft.farm.retransmit)
+  pub ranks : Ranks (2 * p.a + asked w.ground_node.fop.state) reports p.down
+      (2 * p.r + bit w.spacecraft.farm.retransmit)
   pub rank_most : 2 * p.r + bit w.spacecraft.farm.retransmit ≤ 2 * p.n
 
 -- a plain link that is reached so stands beside the world
@@ -174,7 +180,8 @@ pub run_on : (p q : PlainLink) → PlainRun new_link p → AtMostOneStep p q →
 run_on p q ran (inl same) = subst (PlainRun new_link) (sym same) ran
 run_on p q ran (inr step) = more ran step
 
-pub late_of : {c : Config} {d : Directive} {base : ℕ} {w new : World} (g : Late c d base w) → Next c d base g.plain new → Late c d base new
+pub late_of : {c : Config} {d : Directive} {base : ℕ} {w new : World} (g : Late c d base w) → Next c d base g.plain new
+    → Late c d base new
 late_of g s = record {
   plain = s.plain;
   ran = run_on g.plain s.plain g.ran s.ran;
@@ -187,13 +194,15 @@ late_of g s = record {
 
 -- ---- what keeps the octets
 
-pub carries_push : (c : Config) (octets : List ℕ) (f : BodyView) (bs : List (List ℕ)) (fs : List BodyView) → command.frame_at On octets ≡ Ok (frame_of c f) → Carries c bs fs → Carries c (bs ++ octets ∷ []) (fs ++ f ∷ [])
+pub carries_push : (c : Config) (octets : List ℕ) (f : BodyView) (bs : List (List ℕ)) (fs : List BodyView)
+    → command.frame_at On octets ≡ Ok (frame_of c f) → Carries c bs fs → Carries c (bs ++ octets ∷ []) (fs ++ f ∷ [])
 carries_push c octets f [] [] reads h = (reads, tt)
 carries_push c octets f [] (g ∷ gs) reads h = elim h [ ]
 carries_push c octets f (b ∷ bs) [] reads h = elim h [ ]
 carries_push c octets f (b ∷ bs) (g ∷ gs) reads h = (h.0, carries_push c octets f bs gs reads h.1)
 
-pub reporting_push : (c : Config) (octets : List ℕ) (r : Clcw) (bs : List (List ℕ)) (rs : List Clcw) → Tells c octets r → Reporting c bs rs → Reporting c (bs ++ octets ∷ []) (rs ++ r ∷ [])
+pub reporting_push : (c : Config) (octets : List ℕ) (r : Clcw) (bs : List (List ℕ)) (rs : List Clcw) → Tells c octets r
+    → Reporting c bs rs → Reporting c (bs ++ octets ∷ []) (rs ++ r ∷ [])
 reporting_push c octets r [] [] tells h = (tells, tt)
 reporting_push c octets r [] (g ∷ gs) tells h = elim h [ ]
 reporting_push c octets r (b ∷ bs) [] tells h = elim h [ ]

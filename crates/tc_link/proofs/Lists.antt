@@ -1,5 +1,6 @@
 -- What the proofs need of lists.
-use Rattle.std.proofs.Common.{◌≡◌, ℕ, zero, suc, ◌+◌, ◌<◌, List, [], ◌∷◌, ◌++◌, length, take, drop, Some, ap, arith, add-one, zero-add}
+use Rattle.std.proofs.Common.{◌≡◌, ℕ, zero, suc, ◌+◌, ◌<◌, List, [], ◌∷◌, ◌++◌, length, take, drop, Some, ap, arith}
+use Rattle.std.proofs.Common.{add-one, zero-add}
 use Rattle.std.specs.Prelude.{slice_get}
 
 module _ {A : Type 0} where
@@ -14,12 +15,15 @@ module _ {A : Type 0} where
   drop_cons_rest [] zero u us e = cc
   drop_cons_rest [] (suc n) u us e = cc
   drop_cons_rest (x ∷ xs) zero u us e = cc
-  drop_cons_rest (x ∷ xs) (suc n) u us e = let here : drop (n + 1) xs ≡ us = drop_cons_rest xs n u us e in rw add-one (rw add-one at here)
+  drop_cons_rest (x ∷ xs) (suc n) u us e =
+      let here : drop (n + 1) xs ≡ us = drop_cons_rest xs n u us e in rw add-one (rw add-one at here)
 
   pub take_next : (xs : List A) (n : ℕ) (u : A) → slice_get xs n ≡ Some u → take (n + 1) xs ≡ take n xs ++ u ∷ []
   take_next [] n u e = cc
   take_next (x ∷ xs) zero u e = cc
-  take_next (x ∷ xs) (suc n) u e = let here : take (n + 1) xs ≡ take n xs ++ u ∷ [] = take_next xs n u e in rw add-one (ap (λ l. x ∷ l) (rw add-one at here))
+  take_next (x ∷ xs) (suc n) u e =
+      let here : take (n + 1) xs ≡ take n xs ++ u ∷ [] =
+      take_next xs n u e in rw add-one (ap (λ l. x ∷ l) (rw add-one at here))
 
   pub get_within : (xs : List A) (n : ℕ) (u : A) → slice_get xs n ≡ Some u → n < length xs
   get_within [] n u e = cc

@@ -1,5 +1,7 @@
--- The receiver doesn't enter Lockout, and a confirmation is exact, in a clean session begun by check, Unlock or Set V(R).
-use Rattle.std.proofs.Common.{◌≡◌, ◌≢◌, ℕ, ◌⊎◌, inl, inr, Bool, true, false, List, [], ◌∷◌, length, Option, Some, None, Result, Ok, Err, refl, ap, sym, subst, ◌∙◌}
+-- The receiver doesn't enter Lockout, and a confirmation is exact, in a clean session begun by check, Unlock or Set
+-- V(R).
+use Rattle.std.proofs.Common.{◌≡◌, ◌≢◌, ℕ, ◌⊎◌, inl, inr, Bool, true, false, List, [], ◌∷◌, length, Option, Some, None}
+use Rattle.std.proofs.Common.{Result, Ok, Err, refl, ap, sym, subst, ◌∙◌}
 use Rattle.std.specs.Prelude.{nat_lt}
 use Rattle.std.proofs.lemmas.Bool.{cond_both}
 use Rattle.tc_frame.specs.declared.fault.TcFault.{TcFault}
@@ -26,9 +28,12 @@ use Rattle.tc_link.specs.declared.event.Event.TheVariants as events
 use Rattle.nodes.specs.BypassSegments.{is_kept}
 use Rattle.nodes.specs.Packets.{PacketOn}
 use Rattle.nodes.specs.Parameters.{limits_of}
-use Rattle.nodes.specs.Spacecraft.{SpacecraftState, SpacecraftOutcome, body_outcome, bypass_outcome, spacecraft_take, spacecraft_take_bypass, spacecraft_telemetry}
+use Rattle.nodes.specs.Spacecraft.{SpacecraftState, SpacecraftOutcome, body_outcome, bypass_outcome, spacecraft_take}
+use Rattle.nodes.specs.Spacecraft.{spacecraft_take_bypass, spacecraft_telemetry}
 use Rattle.nodes.specs.Ground.{GroundState, with_fop, frame_to_send, directive_outcome}
-use Rattle.tc_link.specs.World.{World, world_step, is_initiation, session_begun_by, session_after_directive, world_after_pull, up_deliver_step, up_lose_step, up_damage_outcome, up_damage_step, down_deliver_step, down_lose_step, down_damage_outcome, down_damage_step, directive_of}
+use Rattle.tc_link.specs.World.{World, world_step, is_initiation, session_begun_by, session_after_directive}
+use Rattle.tc_link.specs.World.{world_after_pull, up_deliver_step, up_lose_step, up_damage_outcome, up_damage_step}
+use Rattle.tc_link.specs.World.{down_deliver_step, down_lose_step, down_damage_outcome, down_damage_step, directive_of}
 use Rattle.tc_link.specs.Confirmation.{ConfirmsExactly, IsChecked, IsChecking}
 use Rattle.tc_link.specs.FalseAlarms.{HasNoFalseAlarm}
 use Rattle.tc_link.specs.Reached.{IsEvent}
@@ -51,7 +56,8 @@ abbrev SameFarm : World → World → Type 0
 SameFarm old new = new.spacecraft.farm ≡ old.spacecraft.farm
 
 module _ (w : World) where
-  pull_same : (ground_node : GroundState) (frame : Option FrameView) → SameFarm w (world_after_pull w ground_node frame).after
+  pull_same : (ground_node : GroundState) (frame : Option FrameView)
+      → SameFarm w (world_after_pull w ground_node frame).after
   pull_same ground_node None = refl
   pull_same ground_node (Some frame) = refl
 
@@ -71,20 +77,24 @@ module _ (w : World) where
   down_same [] = (refl, refl)
   down_same (b ∷ bs) = (refl, refl)
 
-  down_detected_same : (bs : List (List ℕ)) (r : Result telemetry.FrameView TmFault) → SameFarm w (down_damage_outcome w bs r).after
+  down_detected_same : (bs : List (List ℕ)) (r : Result telemetry.FrameView TmFault)
+      → SameFarm w (down_damage_outcome w bs r).after
   down_detected_same bs (Ok frame) = refl
   down_detected_same bs (Err fault) = refl
 
   down_damaged_same : (bs : List (List ℕ)) (octets : List ℕ) → SameFarm w (down_damage_step w bs octets).after
   down_damaged_same [] octets = refl
-  down_damaged_same (b ∷ bs) octets = down_detected_same bs (telemetry_reading.frame_at w.ground_node.config.frame_length octets)
+  down_damaged_same (b ∷ bs) octets =
+      down_detected_same bs (telemetry_reading.frame_at w.ground_node.config.frame_length octets)
 
 bypass_same : (s : SpacecraftState) (ps : List PacketOn) → (spacecraft_take_bypass s ps).after.farm ≡ s.farm
 bypass_same s [] = refl
 bypass_same s (p ∷ ps) = refl
 
 queued_same : (s : SpacecraftState) (octets : List ℕ) → (spacecraft_telemetry s octets).after.farm ≡ s.farm
-queued_same s octets = cond_both (is_to_send octets) _ _ (λ (o : SpacecraftOutcome (Result (Unit {0}) TmFault)). o.after.farm ≡ s.farm) (λ t. refl) (λ t. refl)
+queued_same s octets =
+    cond_both (is_to_send octets) _ _ (λ (o : SpacecraftOutcome (Result (Unit {0}) TmFault)). o.after.farm ≡ s.farm)
+    (λ t. refl) (λ t. refl)
 
 released : (s : FarmState) (m : FarmMode) → (after_release s m).lockout ≡ s.lockout
 released s Open = refl
@@ -93,7 +103,9 @@ released s Lockout = refl
 
 taken_same : (s : SpacecraftState) (ps : List PacketOn) → (spacecraft_take s ps).after.farm.lockout ≡ s.farm.lockout
 taken_same s [] = refl
-taken_same s (p ∷ left) = cond_both (nat_lt (length left) s.config.ready_slots) (farm_step s.farm BufferReleased) s.farm (λ (farm : FarmState). farm.lockout ≡ s.farm.lockout) (λ t. released s.farm s.farm.state) (λ t. refl)
+taken_same s (p ∷ left) =
+    cond_both (nat_lt (length left) s.config.ready_slots) (farm_step s.farm BufferReleased) s.farm
+    (λ (farm : FarmState). farm.lockout ≡ s.farm.lockout) (λ t. released s.farm s.farm.state) (λ t. refl)
 
 -- ---- frames before the confirmation
 
@@ -107,33 +119,42 @@ set_by s x Open is = is
 set_by s x Wait is = is
 set_by s x Lockout is = is
 
-bypass_by : (s : SpacecraftState) (u : SegmentView) (kept : Bool) → s.farm.lockout ≡ false → (bypass_outcome s u kept).after.farm.lockout ≡ false
+bypass_by : (s : SpacecraftState) (u : SegmentView) (kept : Bool) → s.farm.lockout ≡ false
+    → (bypass_outcome s u kept).after.farm.lockout ≡ false
 bypass_by s u true is = is
 bypass_by s u false is = is
 
 module _ (c : Config) (d : Directive) (base : ℕ) (w : World) (k : Steady c w) where
-  body_by : (f : BodyView) (fs : List BodyView) → UpIs d base true (f ∷ fs) [] → w.spacecraft.farm.lockout ≡ false → (body_outcome w.spacecraft f).after.farm.lockout ≡ false
+  body_by : (f : BodyView) (fs : List BodyView) → UpIs d base true (f ∷ fs) [] → w.spacecraft.farm.lockout ≡ false
+      → (body_outcome w.spacecraft f).after.farm.lockout ≡ false
   body_by (Ad n u) fs up is = elim up [ ]
   body_by (Bd u) fs up is = bypass_by w.spacecraft u (is_kept (limits_of w.spacecraft.config) u) is
   body_by (Bc Unlock) fs up is = unlocked_by w.spacecraft.farm w.spacecraft.farm.state is
   body_by (Bc (SetVr x)) fs up is = set_by w.spacecraft.farm x w.spacecraft.farm.state is
 
-  delivered_by : (bs : List (List ℕ)) (fs : List BodyView) → Carries c bs fs → UpIs d base true fs [] → w.spacecraft.farm.lockout ≡ false → (up_deliver_step w bs).after.spacecraft.farm.lockout ≡ false
+  delivered_by : (bs : List (List ℕ)) (fs : List BodyView) → Carries c bs fs → UpIs d base true fs []
+      → w.spacecraft.farm.lockout ≡ false → (up_deliver_step w bs).after.spacecraft.farm.lockout ≡ false
   delivered_by [] fs carries up is = is
   delivered_by (b ∷ bs) [] carries up is = elim carries [ ]
-  delivered_by (b ∷ bs) (f ∷ fs) carries up is = subst (λ o. o.after.farm.lockout ≡ false) (sym (own_arrives w.spacecraft c f (frame_at On b) k.spacecraft_config carries.0)) (body_by f fs up is)
+  delivered_by (b ∷ bs) (f ∷ fs) carries up is =
+      subst (λ o. o.after.farm.lockout ≡ false)
+      (sym (own_arrives w.spacecraft c f (frame_at On b) k.spacecraft_config carries.0)) (body_by f fs up is)
 
-  up_unlocked : IsChecked d → Begun c d base w ⊎ Late c d base w → w.spacecraft.farm.lockout ≡ false → (up_deliver_step w w.up).after.spacecraft.farm.lockout ≡ false
+  up_unlocked : IsChecked d → Begun c d base w ⊎ Late c d base w → w.spacecraft.farm.lockout ≡ false
+      → (up_deliver_step w w.up).after.spacecraft.farm.lockout ≡ false
   up_unlocked checked s is = elim s [
     | inl g ↦ delivered_by w.up g.frames g.early.carries g.early.up_is is
     | inr g ↦ ((late_step c d base w k g events.UpDeliver tt (λ x same begins. absurd (cc same))).calm checked).unlocked
   ]
 
-  not_locked : IsChecked d → Begun c d base w ⊎ Late c d base w → (e : Event) → w.spacecraft.farm.lockout ≡ false → (world_step w e).after.spacecraft.farm.lockout ≡ false
+  not_locked : IsChecked d → Begun c d base w ⊎ Late c d base w → (e : Event) → w.spacecraft.farm.lockout ≡ false
+      → (world_step w e).after.spacecraft.farm.lockout ≡ false
   not_locked checked s (events.Submit m octets) is = is
   not_locked checked s (events.Bypass m octets) is = is
   not_locked checked s (events.Directive e) is = is
-  not_locked checked s events.Send is = ap (λ f. f.lockout) (pull_same w (with_fop w.ground_node (pull_step w.ground_node.fop).after) (frame_to_send w.ground_node.config (pull_step w.ground_node.fop).answer)) ∙ is
+  not_locked checked s events.Send is =
+      ap (λ f. f.lockout) (pull_same w (with_fop w.ground_node (pull_step w.ground_node.fop).after)
+      (frame_to_send w.ground_node.config (pull_step w.ground_node.fop).answer)) ∙ is
   not_locked checked s events.UpDeliver is = up_unlocked checked s is
   not_locked checked s events.UpLose is = ap (λ f. f.lockout) (lost_same w w.up) ∙ is
   not_locked checked s (events.UpDamage octets) is = ap (λ f. f.lockout) (damaged_same w w.up octets.now) ∙ is
@@ -146,7 +167,8 @@ module _ (c : Config) (d : Directive) (base : ℕ) (w : World) (k : Steady c w) 
   not_locked checked s events.TakeBypass is = ap (λ f. f.lockout) (bypass_same w.spacecraft w.spacecraft.bypass) ∙ is
   not_locked checked s (events.Telemetry octets) is = ap (λ f. f.lockout) (queued_same w.spacecraft octets.now) ∙ is
 
-  unlocked : IsChecked d → Begun c d base w ⊎ Late c d base w → w.session.confirmed ≡ true → w.spacecraft.farm.lockout ≡ false
+  unlocked : IsChecked d → Begun c d base w ⊎ Late c d base w → w.session.confirmed ≡ true
+      → w.spacecraft.farm.lockout ≡ false
   unlocked checked s confirmed = elim s [
     | inl g ↦ (absurd (let no : w.session.confirmed ≡ false = g.early.confirmed_not in cc))
     | inr g ↦ (g.calm checked).unlocked
@@ -154,28 +176,42 @@ module _ (c : Config) (d : Directive) (base : ℕ) (w : World) (k : Steady c w) 
 
   -- ---- the event that confirms
 
-  confirmed_by : (e : Directive) (r : Result (Option Alert) CopFault) → w.session.confirmed ≡ false → (session_after_directive w e r).confirmed ≡ false
+  confirmed_by : (e : Directive) (r : Result (Option Alert) CopFault) → w.session.confirmed ≡ false
+      → (session_after_directive w e r).confirmed ≡ false
   confirmed_by e (Err fault) not_yet = not_yet
-  confirmed_by e (Ok alert) not_yet = cond_both (is_initiation e) (session_begun_by w e) w.session (λ s. s.confirmed ≡ false) (λ t. refl) (λ t. not_yet)
+  confirmed_by e (Ok alert) not_yet =
+      cond_both (is_initiation e) (session_begun_by w e) w.session (λ s. s.confirmed ≡ false) (λ t. refl) (λ t. not_yet)
 
-  exactly : (g : Begun c d base w) (e : Event) → w.session.confirmed ≡ false → (world_step w e).after.session.confirmed ≡ true → ((world_step w e).after.spacecraft.farm.vr ≡ (world_step w e).after.ground_node.fop.vs) × ((world_step w e).after.ground_node.fop.nn ≡ (world_step w e).after.ground_node.fop.vs)
+  exactly : (g : Begun c d base w) (e : Event) → w.session.confirmed ≡ false
+      → (world_step w e).after.session.confirmed ≡ true
+      → ((world_step w e).after.spacecraft.farm.vr ≡ (world_step w e).after.ground_node.fop.vs)
+      × ((world_step w e).after.ground_node.fop.nn ≡ (world_step w e).after.ground_node.fop.vs)
   exactly g (events.Submit m octets) not_yet now = absurd cc
   exactly g (events.Bypass m octets) not_yet now = absurd cc
-  exactly g (events.Directive e) not_yet now = absurd (cc (confirmed_by e (directive_outcome w.ground_node (directive_step w.ground_node.fop e)).answer not_yet, now))
+  exactly g (events.Directive e) not_yet now =
+      absurd (cc (
+        confirmed_by e (directive_outcome w.ground_node (directive_step w.ground_node.fop e)).answer not_yet,
+        now,
+      ))
   exactly g events.Send not_yet now = absurd (cc ((early_send c d base w k g).early.confirmed_not, now))
   exactly g events.UpDeliver not_yet now = absurd (cc ((early_up_deliver c d base w k g).early.confirmed_not, now))
   exactly g events.UpLose not_yet now = absurd (cc ((early_up_lose c d base w k g).early.confirmed_not, now))
-  exactly g (events.UpDamage octets) not_yet now = absurd (cc ((early_up_damage c d base w k g octets.now).early.confirmed_not, now))
+  exactly g (events.UpDamage octets) not_yet now =
+      absurd (cc ((early_up_damage c d base w k g octets.now).early.confirmed_not, now))
   exactly g events.Report not_yet now = absurd cc
-  exactly g events.DownDeliver not_yet now = elim (early_down_deliver c d base w k g) [ inl t ↦ absurd (let no = t.early.confirmed_not in cc (no, now)) | inr t ↦ t.exact ]
+  exactly g events.DownDeliver not_yet now =
+      elim (early_down_deliver c d base w k g)
+      [ inl t ↦ absurd (let no = t.early.confirmed_not in cc (no, now)) | inr t ↦ t.exact ]
   exactly g events.DownLose not_yet now = absurd (cc ((early_down_lose c d base w k g).early.confirmed_not, now))
-  exactly g (events.DownDamage octets) not_yet now = absurd (cc ((early_down_damage c d base w k g octets.now).early.confirmed_not, now))
+  exactly g (events.DownDamage octets) not_yet now =
+      absurd (cc ((early_down_damage c d base w k g octets.now).early.confirmed_not, now))
   exactly g events.Tick not_yet now = absurd (cc ((early_tick c d base w k g).early.confirmed_not, now))
   exactly g events.Take not_yet now = absurd cc
   exactly g events.TakeBypass not_yet now = absurd cc
   exactly g (events.Telemetry octets) not_yet now = absurd cc
 
-  confirms_so : IsChecked d → Begun c d base w ⊎ Late c d base w → (e : Event) → ConfirmsExactly w (world_step w e).after
+  confirms_so : IsChecked d → Begun c d base w ⊎ Late c d base w → (e : Event)
+      → ConfirmsExactly w (world_step w e).after
   confirms_so checked s e not_yet now = elim s [
     | inl g ↦ exactly g e not_yet now
     | inr g ↦ absurd (let was : w.session.confirmed ≡ true = g.linked.confirmed_is checked in cc (was, not_yet))
@@ -193,7 +229,12 @@ flag_of s agree other = locked_flag s.lockout s.wait (λ e. other (agree.state �
 -- ---- the promises
 
 opened_as : (c : Config) (w : World) (s : Clean c w) → directive_of w ≡ Some s.directive
-opened_as c w s = elim s.session [ inl g ↦ directive_is w s.directive g.early.opened | inr g ↦ directive_is w s.directive g.linked.opened ]
+opened_as c w s =
+    elim s.session [
+      | inl g ↦ directive_is w s.directive g.early.opened
+      | inr g ↦ directive_is w s.directive
+          g.linked.opened
+    ]
 
 module _ (c : Config) (w : World) (k : Sound c w) (s : Clean c w) (checking : IsChecking (directive_of w)) where
   checked : IsChecked s.directive
@@ -201,8 +242,12 @@ module _ (c : Config) (w : World) (k : Sound c w) (s : Clean c w) (checking : Is
 
   pub has_no_false_alarm : (e : Event) → IsEvent e → HasNoFalseAlarm w e
   has_no_false_alarm e fits = record {
-    not_locked = λ other. state_by (world_step w e).after.spacecraft.farm (step_sound c w k e fits).spacecraft.farm.flags (not_locked c s.directive s.base w (steady_of c w k) checked s.session e (flag_of w.spacecraft.farm k.spacecraft.farm.flags other));
-    unlocked = λ confirmed. state_by w.spacecraft.farm k.spacecraft.farm.flags (unlocked c s.directive s.base w (steady_of c w k) checked s.session confirmed);
+    not_locked = λ other. state_by (world_step w e).after.spacecraft.farm
+        (step_sound c w k e fits).spacecraft.farm.flags
+        (not_locked c s.directive s.base w (steady_of c w k) checked s.session e
+        (flag_of w.spacecraft.farm k.spacecraft.farm.flags other));
+    unlocked = λ confirmed. state_by w.spacecraft.farm k.spacecraft.farm.flags
+        (unlocked c s.directive s.base w (steady_of c w k) checked s.session confirmed);
     alerts = λ alert is. cause c s.directive s.base w (steady_of c w k) checked s.session e alert is;
   }
 

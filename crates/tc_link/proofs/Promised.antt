@@ -1,5 +1,6 @@
 -- What a world that a run leads to promises.
-use Rattle.std.proofs.Common.{◌≡◌, ◌<◌, ℕ, ◌+◌, get_or, length, take, List, [], ◌∷◌, ◌++◌, Result, Ok, Err, OnOk, OnErr, inl, refl, ap, sym, subst, ◌∙◌}
+use Rattle.std.proofs.Common.{◌≡◌, ◌<◌, ℕ, ◌+◌, get_or, length, take, List, [], ◌∷◌, ◌++◌, Result, Ok, Err, OnOk, OnErr}
+use Rattle.std.proofs.Common.{inl, refl, ap, sym, subst, ◌∙◌}
 use Rattle.std.specs.List.{AllByRecursion}
 use Rattle.std.proofs.lemmas.List.{take_more}
 use Rattle.nodes.specs.declared.config.Config.{Config}
@@ -42,7 +43,8 @@ promised_of w e r fits is =
 
 -- ---- how worlds are reached
 
-run_push : (w : World) (events : List Event) (e : Event) → world_run w (events ++ e ∷ []) ≡ (world_step (world_run w events) e).after
+run_push : (w : World) (events : List Event) (e : Event)
+    → world_run w (events ++ e ∷ []) ≡ (world_step (world_run w events) e).after
 run_push w [] e = refl
 run_push w (x ∷ xs) e = run_push (world_step w x).after xs e
 
@@ -58,22 +60,28 @@ reached_step w e r fits = record {
   led = run_push (new_world r.config) r.events e ∙ ap (λ x. (world_step x e).after) r.led;
 }
 
-pub reached_run : (c : Config) (events : List Event) → IsConfig c → AllByRecursion IsEvent events → IsReached (world_run (new_world c) events)
+pub reached_run : (c : Config) (events : List Event) → IsConfig c → AllByRecursion IsEvent events
+    → IsReached (world_run (new_world c) events)
 reached_run c events ranges all = record { config = c; ranges = ranges; events = events; octets = all; led = refl }
 
 -- ---- as a call leaves it
 
 module _ {A : Type 0} (w new : World) (e : Event) where
-  pub reached_after : (r : Result A SimFault) → IsReached w → IsEvent e → OnOk r (new ≡ (world_step w e).after) → OnErr r (new ≡ w) → IsReached new
+  pub reached_after : (r : Result A SimFault) → IsReached w → IsEvent e → OnOk r (new ≡ (world_step w e).after)
+      → OnErr r (new ≡ w) → IsReached new
   reached_after (Ok x) reached fits ok err = subst IsReached (sym ok) (reached_step w e reached fits)
   reached_after (Err fault) reached fits ok err = subst IsReached (sym err) reached
 
-  pub confirmed_after : (r : Result A SimFault) → OnOk r (new ≡ (world_step w e).after) → OnErr r (new ≡ w) → ConfirmsExactly w (world_step w e).after → ConfirmsExactly w new
+  pub confirmed_after : (r : Result A SimFault) → OnOk r (new ≡ (world_step w e).after) → OnErr r (new ≡ w)
+      → ConfirmsExactly w (world_step w e).after → ConfirmsExactly w new
   confirmed_after (Ok x) ok err confirms = subst (ConfirmsExactly w) (sym ok) confirms
-  confirmed_after (Err fault) ok err confirms = λ not_yet now. absurd (let same : new.session.confirmed ≡ w.session.confirmed = ap (λ (x : World). x.session.confirmed) err in cc)
+  confirmed_after (Err fault) ok err confirms =
+      λ not_yet now. absurd (let same : new.session.confirmed ≡ w.session.confirmed =
+      ap (λ (x : World). x.session.confirmed) err in cc)
 
   -- a refused event leaves the plain link where it is
-  pub stepped_after : (r : Result A SimFault) → OnOk r (new ≡ (world_step w e).after) → OnErr r (new ≡ w) → HasPlainHistory w → GoesOnByAStep w (world_step w e).after → GoesOnByAStep w new
+  pub stepped_after : (r : Result A SimFault) → OnOk r (new ≡ (world_step w e).after) → OnErr r (new ≡ w)
+      → HasPlainHistory w → GoesOnByAStep w (world_step w e).after → GoesOnByAStep w new
   stepped_after (Ok x) ok err now step = subst (GoesOnByAStep w) (sym ok) step
   stepped_after (Err fault) ok err now step = record {
     base = now.base;
@@ -87,19 +95,27 @@ module _ {A : Type 0} (w new : World) (e : Event) where
 
 -- ---- at each event of a run
 
-parts : (before : List Event) (e : Event) (after : List Event) → AllByRecursion IsEvent (before ++ e ∷ after) → AllByRecursion IsEvent before × IsEvent e
+parts : (before : List Event) (e : Event) (after : List Event) → AllByRecursion IsEvent (before ++ e ∷ after)
+    → AllByRecursion IsEvent before × IsEvent e
 parts [] e after all = (tt, all.0)
 parts (x ∷ xs) e after all = let t = parts xs e after all.1 in ((all.0, t.0), t.1)
 
-pub holds_throughout : (c : Config) (events : List Event) → IsConfig c → AllByRecursion IsEvent events → HoldsThroughout c events
+pub holds_throughout : (c : Config) (events : List Event) → IsConfig c → AllByRecursion IsEvent events
+    → HoldsThroughout c events
 holds_throughout c events ranges all before after e split is =
     let t = parts before e after (subst (AllByRecursion IsEvent) split all) in
     let r : IsReached (world_run (new_world c) before) = reached_run c before ranges t.0 in
     (promised (world_run (new_world c) before) r is, promised_of (world_run (new_world c) before) e r t.1 is)
 
-pub promised_run : (c : Config) (events : List Event) (s : SimState) → s ≡ sim_run c events → IsConfig c → AllByRecursion IsEvent events → IsClean s.world → IsPromised s.world
-promised_run c events s ran ranges all = subst (λ (s : SimState). IsClean s.world → IsPromised s.world) (sym ran) (promised (world_run (new_world c) events) (reached_run c events ranges all))
+pub promised_run : (c : Config) (events : List Event) (s : SimState) → s ≡ sim_run c events → IsConfig c
+    → AllByRecursion IsEvent events → IsClean s.world → IsPromised s.world
+promised_run c events s ran ranges all =
+    subst (λ (s : SimState). IsClean s.world → IsPromised s.world) (sym ran)
+    (promised (world_run (new_world c) events) (reached_run c events ranges all))
 
 -- one event more of a run was seen
-pub one_more : (events : List Event) (i : ℕ) (d : Event) → i < length events → AllByRecursion IsEvent (take i events) → IsEvent (get_or events i d) → AllByRecursion IsEvent (take (i + 1) events)
-one_more events i d lt all is = subst (AllByRecursion IsEvent) (sym (take_more events i d lt)) (all_push IsEvent (take i events) (get_or events i d) all is)
+pub one_more : (events : List Event) (i : ℕ) (d : Event) → i < length events → AllByRecursion IsEvent (take i events)
+    → IsEvent (get_or events i d) → AllByRecursion IsEvent (take (i + 1) events)
+one_more events i d lt all is =
+    subst (AllByRecursion IsEvent) (sym (take_more events i d lt))
+    (all_push IsEvent (take i events) (get_or events i d) all is)

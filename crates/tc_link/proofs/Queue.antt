@@ -1,5 +1,6 @@
 -- The sent queue as the list of its units.
-use Rattle.std.proofs.Common.{◌≡◌, ℕ, zero, suc, ◌+◌, Bool, true, false, List, [], ◌∷◌, ◌++◌, map, drop, Some, refl, ap, arith, if◌then◌else◌}
+use Rattle.std.proofs.Common.{◌≡◌, ℕ, zero, suc, ◌+◌, Bool, true, false, List, [], ◌∷◌, ◌++◌, map, drop, Some, refl, ap}
+use Rattle.std.proofs.Common.{arith, if◌then◌else◌}
 use Rattle.std.specs.Prelude.{slice_get}
 use Rattle.cop1.specs.FopState.{SentUnit}
 use Rattle.cop1.specs.FopNext.{units_of}
@@ -20,7 +21,8 @@ module _ {U : Type 0} where
   units-push [] u = refl
   units-push (x ∷ xs) u = ap (λ l. x.unit ∷ l) (units-push xs u)
 
-  units-put_back : (b : Bool) (x : SentUnit U) (xs ys : List (SentUnit U)) → units_of ys ≡ units_of xs → units_of (if b then record x { marked = false } ∷ xs else x ∷ ys) ≡ x.unit ∷ units_of xs
+  units-put_back : (b : Bool) (x : SentUnit U) (xs ys : List (SentUnit U)) → units_of ys ≡ units_of xs
+      → units_of (if b then record x { marked = false } ∷ xs else x ∷ ys) ≡ x.unit ∷ units_of xs
   units-put_back true x xs ys same = refl
   units-put_back false x xs ys same = ap (λ l. x.unit ∷ l) same
 
@@ -32,8 +34,11 @@ module _ {U : Type 0} where
   abbrev pub Stands : ℕ → List (SentUnit U) → ℕ × U → Type 0
   Stands k xs x = (j : ℕ) × (x.0 ≡ k + j) × (slice_get (units_of xs) j ≡ Some x.1)
 
-  stands_in : (b : Bool) (k : ℕ) (u : SentUnit U) (us : List (SentUnit U)) (x : ℕ × U) → (oldest_marked (k + 1) us ≡ Some x → Stands (k + 1) us x) → (if b then Some (k, u.unit) else oldest_marked (k + 1) us) ≡ Some x → Stands k (u ∷ us) x
-  stands_in true k u us x more e = let place : k ≡ x.0 = cc in let unit : u.unit ≡ x.1 = cc in (0, omega arith, ap Some unit)
+  stands_in : (b : Bool) (k : ℕ) (u : SentUnit U) (us : List (SentUnit U)) (x : ℕ × U)
+      → (oldest_marked (k + 1) us ≡ Some x → Stands (k + 1) us x)
+      → (if b then Some (k, u.unit) else oldest_marked (k + 1) us) ≡ Some x → Stands k (u ∷ us) x
+  stands_in true k u us x more e =
+      let place : k ≡ x.0 = cc in let unit : u.unit ≡ x.1 = cc in (0, omega arith, ap Some unit)
   stands_in false k u us x more e = let t = more e in (suc t.0, omega (arith, t.1), t.2)
 
   pub oldest_stands : (k : ℕ) (xs : List (SentUnit U)) (x : ℕ × U) → oldest_marked k xs ≡ Some x → Stands k xs x

@@ -10,7 +10,9 @@ use Rattle.tm_link.specs.Reading as telemetry_reading
 use Rattle.tc_link.specs.declared.event.Event.{Event}
 use Rattle.tc_link.specs.declared.event.Event.TheVariants as events
 use Rattle.nodes.specs.Ground.{GroundState, ground_step, Pull}
-use Rattle.tc_link.specs.World.{World, WorldOutcome, world_step, world_after_pull, up_deliver_step, up_lose_step, up_damage_outcome, up_damage_step, down_deliver_step, down_lose_step, down_damage_outcome, down_damage_step}
+use Rattle.tc_link.specs.World.{World, WorldOutcome, world_step, world_after_pull, up_deliver_step, up_lose_step}
+use Rattle.tc_link.specs.World.{up_damage_outcome, up_damage_step, down_deliver_step, down_lose_step}
+use Rattle.tc_link.specs.World.{down_damage_outcome, down_damage_step}
 
 abbrev Keeps : World → WorldOutcome → Type 0
 Keeps w o = IfErr o.answer (λ _. o.after ≡ w)
@@ -43,19 +45,23 @@ down_loss_keeps : (w : World) (down : List (List ℕ)) → Keeps w (down_lose_st
 down_loss_keeps w [] = refl
 down_loss_keeps w (octets ∷ down) = tt
 
-down_seen_keeps : (w : World) (down : List (List ℕ)) (r : Result telemetry.FrameView TmFault) → Keeps w (down_damage_outcome w down r)
+down_seen_keeps : (w : World) (down : List (List ℕ)) (r : Result telemetry.FrameView TmFault)
+    → Keeps w (down_damage_outcome w down r)
 down_seen_keeps w down (Ok frame) = refl
 down_seen_keeps w down (Err fault) = tt
 
 down_damage_keeps : (w : World) (down : List (List ℕ)) (damaged : List ℕ) → Keeps w (down_damage_step w down damaged)
 down_damage_keeps w [] damaged = refl
-down_damage_keeps w (octets ∷ down) damaged = down_seen_keeps w down (telemetry_reading.frame_at w.ground_node.config.frame_length damaged)
+down_damage_keeps w (octets ∷ down) damaged =
+    down_seen_keeps w down (telemetry_reading.frame_at w.ground_node.config.frame_length damaged)
 
-pub refused_keeps : (w : World) (event : Event) → IfErr (world_step w event).answer (λ _. (world_step w event).after ≡ w)
+pub refused_keeps : (w : World) (event : Event)
+    → IfErr (world_step w event).answer (λ _. (world_step w event).after ≡ w)
 refused_keeps w (events.Submit m octets) = tt
 refused_keeps w (events.Bypass m octets) = tt
 refused_keeps w (events.Directive directive) = tt
-refused_keeps w events.Send = pull_keeps w (ground_step w.ground_node Pull).after (ground_step w.ground_node Pull).answer
+refused_keeps w events.Send =
+    pull_keeps w (ground_step w.ground_node Pull).after (ground_step w.ground_node Pull).answer
 refused_keeps w events.UpDeliver = up_keeps w w.up
 refused_keeps w events.UpLose = up_loss_keeps w w.up
 refused_keeps w (events.UpDamage octets) = up_damage_keeps w w.up octets.now

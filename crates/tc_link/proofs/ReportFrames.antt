@@ -3,7 +3,8 @@ use Rattle.std.proofs.Common.{◌≡◌, ℕ, ◌+◌, ◌≤◌, max, List, ◌
 use Rattle.std.proofs.lemmas.Bool.{cond_both}
 use Rattle.std.proofs.lemmas.List.{length-replicate, length-take-le}
 use Rattle.cop1.specs.Report.{report_of}
-use Rattle.tm_link.specs.Building.{BuilderState, idle_tail, idle_packet, data_size, data_from, data_built, is_at_rest, room_left, frame_built}
+use Rattle.tm_link.specs.Building.{BuilderState, idle_tail, idle_packet, data_size, data_from, data_built, is_at_rest}
+use Rattle.tm_link.specs.Building.{room_left, frame_built}
 use Rattle.tm_link.specs.Layout as telemetry
 use Rattle.tm_link.specs.Reading as telemetry_reading
 use Rattle.tm_link.specs.Writing as telemetry_writing
@@ -17,26 +18,42 @@ use Rattle.tc_link.proofs.Linked.{Steady, Tells}
 use Rattle.tc_link.proofs.Words.{report_reads}
 
 data_length : (s : BuilderState) → s.idle_left ≤ 6 → length (data_built s) ≡ data_size s
-data_length s least = cond_both (is_at_rest s) (replicate (data_size s) 0x55) (data_from s.idle_left s.pending (data_size s)) (λ (xs : List ℕ). length xs ≡ data_size s)
+data_length s least =
+    cond_both (is_at_rest s) (replicate (data_size s) 0x55) (data_from s.idle_left s.pending (data_size s))
+    (λ (xs : List ℕ). length xs ≡ data_size s)
     (λ t. length-replicate (data_size s) 0x55)
     (λ t.
     let filler : List ℕ = idle_packet (max (room_left (data_size s) s.idle_left (length s.pending)) 7) in
     let all : List ℕ = idle_tail s.idle_left ++ s.pending ++ filler in
     let room : 7 ≤ max (room_left (data_size s) s.idle_left (length s.pending)) 7 = omega arith in
     let tail : length (idle_tail s.idle_left) ≡ s.idle_left = length-tail s.idle_left (omega (arith, least)) in
-    let sizes : length all ≡ s.idle_left + (length s.pending + max (room_left (data_size s) s.idle_left (length s.pending)) 7) = omega (arith, length-append (idle_tail s.idle_left ++ s.pending) filler, length-append (idle_tail s.idle_left) s.pending, tail, length-idle (max (room_left (data_size s) s.idle_left (length s.pending)) 7) room) in
+    let sizes : length all ≡ s.idle_left
+    + (length s.pending + max (room_left (data_size s) s.idle_left (length s.pending)) 7) =
+    omega (
+      arith,
+      length-append (idle_tail s.idle_left ++ s.pending) filler,
+      length-append (idle_tail s.idle_left)
+          s.pending,
+      tail,
+      length-idle (max (room_left (data_size s) s.idle_left (length s.pending)) 7) room,
+    ) in
     let enough : data_size s ≤ length all = omega (arith, sizes) in
     length-take-le (data_size s) all enough)
 
 module _ (c : Config) (w : World) (k : Steady c w) where
-  pub tells_now : Tells c (telemetry_writing.spelling (spacecraft_report w.spacecraft).answer) (report_of w.spacecraft.farm w.spacecraft.config.vcid)
+  pub tells_now : Tells c (telemetry_writing.spelling (spacecraft_report w.spacecraft).answer)
+      (report_of w.spacecraft.farm w.spacecraft.config.vcid)
   tells_now =
       let b : BuilderState = w.spacecraft.builder in
       let ocf : List ℕ = report_octets w.spacecraft in
       let f : telemetry.FrameView = frame_built b ocf in
       let total : b.total ≡ c.frame_length = k.builder.total in
-      let spelled = built_is b ocf (omega (arith, k.builder.scid, k.ranges.scid)) (omega (arith, k.builder.vcid, k.ranges.tm_vcid)) (omega (arith, total, k.ranges.frame_length)) (omega (arith, total, k.ranges.frame_length)) refl (data_length b k.idle_left) in
-      let reads : telemetry_reading.frame_at c.frame_length (telemetry_writing.spelling f) ≡ Ok f = rw (← total) (frame_again b.total (telemetry_writing.spelling f) f spelled) in
+      let spelled =
+      built_is b ocf (omega (arith, k.builder.scid, k.ranges.scid))
+      (omega (arith, k.builder.vcid, k.ranges.tm_vcid)) (omega (arith, total, k.ranges.frame_length))
+      (omega (arith, total, k.ranges.frame_length)) refl (data_length b k.idle_left) in
+      let reads : telemetry_reading.frame_at c.frame_length (telemetry_writing.spelling f) ≡ Ok f =
+      rw (← total) (frame_again b.total (telemetry_writing.spelling f) f spelled) in
       record {
         frame = f;
         reads = reads;

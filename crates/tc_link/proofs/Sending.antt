@@ -8,7 +8,8 @@ use Rattle.tc_link.specs.World.{World, world_after_pull, first_in}
 
 -- the world with another node on the ground, and more on its way up and sent
 abbrev pub with_sent : World → GroundState → List (List ℕ) → List (List ℕ) → World
-with_sent w ground_node up sent = record w { ground_node = ground_node; up = up; session = record w.session { sent = sent } }
+with_sent w ground_node up sent =
+    record w { ground_node = ground_node; up = up; session = record w.session { sent = sent } }
 
 or_nothing : Option (List ℕ) → List ℕ
 or_nothing None = []

@@ -1,5 +1,6 @@
 -- What is pending moves up, and what is known of the ground is still so.
-use Rattle.std.proofs.Common.{◌≡◌, ℕ, ◌+◌, ◌*◌, ◌<◌, Bool, true, false, List, [], ◌∷◌, ◌++◌, drop, Option, Some, None, option_to_list, refl, ◌∙◌, arith, inl}
+use Rattle.std.proofs.Common.{◌≡◌, ℕ, ◌+◌, ◌*◌, ◌<◌, Bool, true, false, List, [], ◌∷◌, ◌++◌, drop, Option, Some, None}
+use Rattle.std.proofs.Common.{option_to_list, refl, ◌∙◌, arith, inl}
 use Rattle.tc_frame.specs.Layout.{SegmentView}
 use Rattle.cop1.specs.declared.fop.Directive.{Directive}
 use Rattle.cop1.specs.declared.fop.FopMode.{FopMode}
@@ -7,7 +8,8 @@ use Rattle.cop1.specs.declared.fop.FopMode.TheVariants.{S1, S2, S3, S4, S5, S6}
 use Rattle.cop1.specs.FopState.{FopState, SentUnit}
 use Rattle.cop1.specs.FopNext.{units_of}
 use Rattle.nodes.specs.declared.config.Config.{Config}
-use Rattle.nodes.specs.Ground.{GroundState, is_closed, unsent_segments, after_moving_up, settle_in, settle_step, with_fop}
+use Rattle.nodes.specs.Ground.{GroundState, is_closed, unsent_segments, after_moving_up, settle_in, settle_step}
+use Rattle.nodes.specs.Ground.{with_fop}
 use Rattle.tc_link.specs.PlainLink.{PlainLink}
 use Rattle.tc_link.specs.World.{World}
 use Rattle.tc_link.proofs.Linked.{Late, Held, Next, LateBy}
@@ -17,11 +19,13 @@ use Rattle.tc_link.proofs.Transit.{Ranks, bit, ranks_lower}
 abbrev pub queued_as : GroundState → Option SegmentView → List SegmentView → GroundState
 queued_as s waiting pending = record s { fop = record s.fop { waiting = waiting }; pending = pending }
 
-module _ (P : GroundState → Type 0) (s : GroundState) (each : (waiting : Option SegmentView) (pending : List SegmentView)
+module _ (P : GroundState → Type 0) (s : GroundState)
+    (each : (waiting : Option SegmentView) (pending : List SegmentView)
     → (is_closed s.fop.state ≡ false → option_to_list waiting ++ pending ≡ unsent_segments s)
     → (is_closed s.fop.state ≡ true → (waiting ≡ s.fop.waiting) × (pending ≡ []))
     → P (queued_as s waiting pending)) where
-  moved : (o : Option SegmentView) (ps : List SegmentView) → s.fop.waiting ≡ o → s.pending ≡ ps → is_closed s.fop.state ≡ false → P (after_moving_up s o ps)
+  moved : (o : Option SegmentView) (ps : List SegmentView) → s.fop.waiting ≡ o → s.pending ≡ ps
+      → is_closed s.fop.state ≡ false → P (after_moving_up s o ps)
   moved (Some u) ps has is on = each s.fop.waiting s.pending (λ e. refl) (λ e. absurd cc)
   moved None [] has is on = each s.fop.waiting s.pending (λ e. refl) (λ e. absurd cc)
   moved None (u ∷ ps) has is on = each (Some u) ps (λ e. rw (has, is) refl) (λ e. absurd cc)
@@ -37,32 +41,68 @@ module _ (P : GroundState → Type 0) (s : GroundState) (each : (waiting : Optio
   pub settled_keeps : P (settle_step s)
   settled_keeps = moved_in s.fop.state refl
 
-pub held_again : (off : Bool) (base vs nn : ℕ) (sent : List (SentUnit SegmentView)) (rest new : List SegmentView) (a n : ℕ) (units : List SegmentView) → (off ≡ false → new ≡ rest) → Held off base vs nn sent rest a n units → Held off base vs nn sent new a n units
+pub held_again : (off : Bool) (base vs nn : ℕ) (sent : List (SentUnit SegmentView)) (rest new : List SegmentView)
+    (a n : ℕ) (units : List SegmentView) → (off ≡ false → new ≡ rest) → Held off base vs nn sent rest a n units
+    → Held off base vs nn sent new a n units
 held_again true base vs nn sent rest new a n units same held = tt
-held_again false base vs nn sent rest new a n units same held = let rest_is : new ≡ drop n units = same refl ∙ held.rest_is in assumption (rest_is, held)
+held_again false base vs nn sent rest new a n units same held =
+    let rest_is : new ≡ drop n units = same refl ∙ held.rest_is in assumption (rest_is, held)
 
 module _ (c : Config) (d : Directive) (base : ℕ) where
   -- the ground may be settled
-  pub late_settled : {Reached : PlainLink → Type 0} (w : World) → LateBy Reached c d base w → LateBy Reached c d base (record w { ground_node = settle_step w.ground_node })
-  late_settled {Reached} w g = settled_keeps (λ s. LateBy Reached c d base (record w { ground_node = s })) w.ground_node (λ waiting pending on off.
+  pub late_settled : {Reached : PlainLink → Type 0} (w : World) → LateBy Reached c d base w
+      → LateBy Reached c d base (record w { ground_node = settle_step w.ground_node })
+  late_settled {Reached} w g =
+      settled_keeps (λ s. LateBy Reached c d base (record w { ground_node = s })) w.ground_node
+      (λ waiting pending on off.
       let l = g.linked in
-      let held : Held (is_closed w.ground_node.fop.state) base w.ground_node.fop.vs w.ground_node.fop.nn w.ground_node.fop.sent (option_to_list waiting ++ pending) g.plain.a g.plain.n g.plain.units = held_again (is_closed w.ground_node.fop.state) base w.ground_node.fop.vs w.ground_node.fop.nn w.ground_node.fop.sent (unsent_segments w.ground_node) (option_to_list waiting ++ pending) g.plain.a g.plain.n g.plain.units on l.held in
-      record { plain = g.plain; ran = g.ran; front = g.front; frames = g.frames; reports = g.reports; linked = assumption (held, l); calm = λ checked. let m = g.calm checked in assumption m })
+      let held : Held (is_closed w.ground_node.fop.state) base w.ground_node.fop.vs w.ground_node.fop.nn
+      w.ground_node.fop.sent (option_to_list waiting ++ pending) g.plain.a g.plain.n g.plain.units =
+      held_again (is_closed w.ground_node.fop.state) base w.ground_node.fop.vs w.ground_node.fop.nn
+      w.ground_node.fop.sent (unsent_segments w.ground_node) (option_to_list waiting ++ pending) g.plain.a g.plain.n
+      g.plain.units on l.held in
+      record {
+        plain =
+            g.plain;
+        ran =
+            g.ran;
+        front =
+            g.front;
+        frames =
+            g.frames;
+        reports =
+            g.reports;
+        linked = assumption (held, l);
+        calm = λ checked. let m = g.calm checked in assumption m;
+      })
 
   module _ (w : World) (g : Late c d base w) where
-    held_same : (off : Bool) (f : FopState SegmentView) → f.vs ≡ w.ground_node.fop.vs → f.nn ≡ w.ground_node.fop.nn → units_of f.sent ≡ units_of w.ground_node.fop.sent → f.waiting ≡ w.ground_node.fop.waiting
-        → Held off base w.ground_node.fop.vs w.ground_node.fop.nn w.ground_node.fop.sent (unsent_segments w.ground_node) g.plain.a g.plain.n g.plain.units
-        → Held off base f.vs f.nn f.sent (option_to_list f.waiting ++ w.ground_node.pending) g.plain.a g.plain.n g.plain.units
+    held_same : (off : Bool) (f : FopState SegmentView) → f.vs ≡ w.ground_node.fop.vs → f.nn ≡ w.ground_node.fop.nn
+        → units_of f.sent ≡ units_of w.ground_node.fop.sent → f.waiting ≡ w.ground_node.fop.waiting
+        → Held off base w.ground_node.fop.vs w.ground_node.fop.nn w.ground_node.fop.sent (unsent_segments w.ground_node)
+        g.plain.a g.plain.n g.plain.units
+        → Held off base f.vs f.nn f.sent (option_to_list f.waiting ++ w.ground_node.pending) g.plain.a g.plain.n
+        g.plain.units
     held_same true f vs nn sent waiting held = tt
-    held_same false f vs nn sent waiting held = record { vs_is = vs ∙ held.vs_is; nn_is = nn ∙ held.nn_is; sent_is = sent ∙ held.sent_is; rest_is = rw waiting held.rest_is }
+    held_same false f vs nn sent waiting held =
+        record {
+          vs_is =
+              vs ∙ held.vs_is;
+          nn_is = nn ∙ held.nn_is;
+          sent_is = sent ∙ held.sent_is;
+          rest_is = rw waiting held.rest_is;
+        }
 
     -- the sender holds the same
-    pub same_keeps : (f : FopState SegmentView) → f.vs ≡ w.ground_node.fop.vs → f.nn ≡ w.ground_node.fop.nn → f.state ≡ w.ground_node.fop.state → units_of f.sent ≡ units_of w.ground_node.fop.sent → f.waiting ≡ w.ground_node.fop.waiting
+    pub same_keeps : (f : FopState SegmentView) → f.vs ≡ w.ground_node.fop.vs → f.nn ≡ w.ground_node.fop.nn
+        → f.state ≡ w.ground_node.fop.state → units_of f.sent ≡ units_of w.ground_node.fop.sent
+        → f.waiting ≡ w.ground_node.fop.waiting
         → Next c d base g.plain (record w { ground_node = with_fop w.ground_node f })
     same_keeps f vs nn state sent waiting =
         let p = g.plain in
         let l = g.linked in
-        let held : Held (is_closed f.state) base f.vs f.nn f.sent (option_to_list f.waiting ++ w.ground_node.pending) p.a p.n p.units = rw state (held_same (is_closed w.ground_node.fop.state) f vs nn sent waiting l.held) in
+        let held : Held (is_closed f.state) base f.vs f.nn f.sent (option_to_list f.waiting ++ w.ground_node.pending)
+        p.a p.n p.units = rw state (held_same (is_closed w.ground_node.fop.state) f vs nn sent waiting l.held) in
         let late : IsLate f.state = rw state l.late in
         let nn_octet : f.nn < 256 = omega (arith, nn, l.nn_octet) in
         late_settled (record w { ground_node = record w.ground_node { fop = f } }) (record {
@@ -74,16 +114,19 @@ module _ (c : Config) (d : Directive) (base : ℕ) where
           linked = assumption (held, late, nn_octet, l);
           calm = λ checked.
               let m = g.calm checked in
-              let ranks : Ranks (2 * p.a + asked f.state) g.reports p.down (2 * p.r + bit w.spacecraft.farm.retransmit) = rw state m.ranks in
+              let ranks : Ranks (2 * p.a + asked f.state) g.reports p.down (2 * p.r + bit w.spacecraft.farm.retransmit)
+              = rw state m.ranks in
               assumption (ranks, m);
         })
 
     -- the sender is off
-    pub off_keeps : (f : FopState SegmentView) → f.state ≡ S6 → f.nn < 256 → Next c d base g.plain (record w { ground_node = with_fop w.ground_node f })
+    pub off_keeps : (f : FopState SegmentView) → f.state ≡ S6 → f.nn < 256
+        → Next c d base g.plain (record w { ground_node = with_fop w.ground_node f })
     off_keeps f state nn_octet =
         let p = g.plain in
         let l = g.linked in
-        let held : Held (is_closed f.state) base f.vs f.nn f.sent (option_to_list f.waiting ++ w.ground_node.pending) p.a p.n p.units = rw state tt in
+        let held : Held (is_closed f.state) base f.vs f.nn f.sent (option_to_list f.waiting ++ w.ground_node.pending)
+        p.a p.n p.units = rw state tt in
         let late : IsLate f.state = rw state tt in
         late_settled (record w { ground_node = record w.ground_node { fop = f } }) (record {
           plain = p;
@@ -94,6 +137,8 @@ module _ (c : Config) (d : Directive) (base : ℕ) where
           linked = assumption (held, late, nn_octet, l);
           calm = λ checked.
               let m = g.calm checked in
-              let ranks : Ranks (2 * p.a + asked f.state) g.reports p.down (2 * p.r + bit w.spacecraft.farm.retransmit) = rw state (ranks_lower (2 * p.a + asked w.ground_node.fop.state) (2 * p.a + 0) (2 * p.r + bit w.spacecraft.farm.retransmit) g.reports p.down (omega arith) m.ranks) in
+              let ranks : Ranks (2 * p.a + asked f.state) g.reports p.down (2 * p.r + bit w.spacecraft.farm.retransmit)
+              = rw state (ranks_lower (2 * p.a + asked w.ground_node.fop.state) (2 * p.a + 0)
+              (2 * p.r + bit w.spacecraft.farm.retransmit) g.reports p.down (omega arith) m.ranks) in
               assumption (ranks, m);
         })

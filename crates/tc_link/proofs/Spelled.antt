@@ -22,15 +22,38 @@ Goes (Bd s) = FitsFrame s
 Goes (Bc command) = Unit {0}
 
 goes_fits : (c : Config) (f : BodyView) → IsConfig c → Goes f → frame_fits On (frame_of c f) ≡ true
-goes_fits c (Ad n s) is h = rw (lt-ltb c.scid 1024 (omega (arith, is.scid)), lt-ltb c.vcid 64 (omega (arith, is.vcid)), lt-ltb s.header.map 64 h.map, lt-ltb 0 (length s.payload) h.least, le-leb (total_of On (frame_of c (Ad n s))) 1024 (omega (arith, h.most))) refl
-goes_fits c (Bd s) is h = rw (lt-ltb c.scid 1024 (omega (arith, is.scid)), lt-ltb c.vcid 64 (omega (arith, is.vcid)), lt-ltb s.header.map 64 h.map, lt-ltb 0 (length s.payload) h.least, le-leb (total_of On (frame_of c (Bd s))) 1024 (omega (arith, h.most))) refl
-goes_fits c (Bc Unlock) is h = rw (lt-ltb c.scid 1024 (omega (arith, is.scid)), lt-ltb c.vcid 64 (omega (arith, is.vcid))) refl
-goes_fits c (Bc (SetVr x)) is h = rw (lt-ltb c.scid 1024 (omega (arith, is.scid)), lt-ltb c.vcid 64 (omega (arith, is.vcid))) refl
+goes_fits c (Ad n s) is h =
+    rw (
+      lt-ltb c.scid 1024 (omega (arith, is.scid)),
+      lt-ltb c.vcid 64 (omega (arith, is.vcid)),
+      lt-ltb s.header.map 64
+          h.map,
+      lt-ltb 0 (length s.payload) h.least,
+      le-leb (total_of On (frame_of c (Ad n s))) 1024 (omega (arith, h.most)),
+    )
+    refl
+goes_fits c (Bd s) is h =
+    rw (
+      lt-ltb c.scid 1024 (omega (arith, is.scid)),
+      lt-ltb c.vcid 64 (omega (arith, is.vcid)),
+      lt-ltb s.header.map 64
+          h.map,
+      lt-ltb 0 (length s.payload) h.least,
+      le-leb (total_of On (frame_of c (Bd s))) 1024 (omega (arith, h.most)),
+    )
+    refl
+goes_fits c (Bc Unlock) is h =
+    rw (lt-ltb c.scid 1024 (omega (arith, is.scid)), lt-ltb c.vcid 64 (omega (arith, is.vcid))) refl
+goes_fits c (Bc (SetVr x)) is h =
+    rw (lt-ltb c.scid 1024 (omega (arith, is.scid)), lt-ltb c.vcid 64 (omega (arith, is.vcid))) refl
 
-pub reads_back : (c : Config) (f : BodyView) → IsConfig c → Goes f → frame_at On (spelling On (frame_of c f)) ≡ Ok (frame_of c f)
-reads_back c f is h = frame_again On (spelling On (frame_of c f)) (frame_of c f) (spelling_is On (frame_of c f) (goes_fits c f is h))
+pub reads_back : (c : Config) (f : BodyView) → IsConfig c → Goes f
+    → frame_at On (spelling On (frame_of c f)) ≡ Ok (frame_of c f)
+reads_back c f is h =
+    frame_again On (spelling On (frame_of c f)) (frame_of c f) (spelling_is On (frame_of c f) (goes_fits c f is h))
 
-pub fits_at : (units : List SegmentView) (i : ℕ) (u : SegmentView) → AllByRecursion FitsFrame units → slice_get units i ≡ Some u → FitsFrame u
+pub fits_at : (units : List SegmentView) (i : ℕ) (u : SegmentView) → AllByRecursion FitsFrame units
+    → slice_get units i ≡ Some u → FitsFrame u
 fits_at [] i u all e = absurd cc
 fits_at (x ∷ xs) zero u all e = let same : x ≡ u = cc in subst FitsFrame same all.0
 fits_at (x ∷ xs) (suc i) u all e = fits_at xs i u all.1 e

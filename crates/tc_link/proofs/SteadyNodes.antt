@@ -1,5 +1,6 @@
 -- What holds of each node at every moment, in any session.
-use Rattle.std.proofs.Common.{◌≡◌, ℕ, ◌-◌, ◌/◌, ◌<◌, ◌≤◌, true, false, not, List, [], ◌∷◌, Option, Some, None, refl, ◌∙◌, arith}
+use Rattle.std.proofs.Common.{◌≡◌, ℕ, ◌-◌, ◌/◌, ◌<◌, ◌≤◌, true, false, not, List, [], ◌∷◌, Option, Some, None, refl}
+use Rattle.std.proofs.Common.{◌∙◌, arith}
 use Rattle.std.specs.Prelude.{◌==◌, ◌&&◌, nat_lt}
 use Rattle.std.specs.List.{AllByRecursion}
 use Rattle.std.proofs.lemmas.Bool.{cond_both}
@@ -15,14 +16,19 @@ use Rattle.cop1.specs.declared.fop.Control.{Control}
 use Rattle.cop1.specs.declared.fop.Control.TheVariants.{Idle, Due, Sent}
 use Rattle.cop1.specs.declared.fop.FopMode.{FopMode}
 use Rattle.cop1.specs.declared.fop.FopMode.TheVariants.{S1, S2, S3, S4, S5, S6}
-use Rattle.cop1.specs.Farm.{FarmState, FarmEvent, AdArrives, BdArrives, UnlockArrives, SetVrArrives, InvalidArrives, BufferReleased, farm_step, after_verdict, after_unlock, after_set_vr, after_release, verdict_of}
+use Rattle.cop1.specs.Farm.{FarmState, FarmEvent, AdArrives, BdArrives, UnlockArrives, SetVrArrives, InvalidArrives}
+use Rattle.cop1.specs.Farm.{BufferReleased, farm_step, after_verdict, after_unlock, after_set_vr, after_release}
+use Rattle.cop1.specs.Farm.{verdict_of}
 use Rattle.cop1.specs.FarmRuns.{FlagsAgree}
 use Rattle.cop1.proofs.Agreeing.{FlagsAgree-step}
-use Rattle.cop1.specs.FopPull.{NothingPulled, SequencePulled, pulls, pull_step, pull_control, pull_bypass, pull_in, pull_marked, pull_waiting, oldest_marked, without_oldest_mark, after_send_first}
-use Rattle.cop1.specs.FopReport.{locks, waits, asks, clcw_step, report_in, report_while_active, report_in_S4, confirms, nothing_new, after_move_on, goes_back, retransmits, goes_back_again, after_new_value}
+use Rattle.cop1.specs.FopPull.{NothingPulled, SequencePulled, pulls, pull_step, pull_control, pull_bypass, pull_in}
+use Rattle.cop1.specs.FopPull.{pull_marked, pull_waiting, oldest_marked, without_oldest_mark, after_send_first}
+use Rattle.cop1.specs.FopReport.{locks, waits, asks, clcw_step, report_in, report_while_active, report_in_S4, confirms}
+use Rattle.cop1.specs.FopReport.{nothing_new, after_move_on, goes_back, retransmits, goes_back_again, after_new_value}
 use Rattle.cop1.specs.FopState.{FopState}
 use Rattle.cop1.specs.FopTick.{tick_step, tick_with, timer_ended, after_count, due_again}
-use Rattle.cop1.specs.FopWords.{FopOutcome, is_outside, after_acknowledge, after_repeat, after_alert, after_stop, after_restart, alerts, goes_on, after_gone}
+use Rattle.cop1.specs.FopWords.{FopOutcome, is_outside, after_acknowledge, after_repeat, after_alert, after_stop}
+use Rattle.cop1.specs.FopWords.{after_restart, alerts, goes_on, after_gone}
 use Rattle.nodes.specs.declared.config.Config.{Config}
 use Rattle.nodes.specs.OwnedFields.{FitsFrame}
 use Rattle.nodes.specs.Ground.{GroundState, is_closed, settle_step}
@@ -44,28 +50,75 @@ module _ (c : Config) (s : FopState SegmentView) (k : FopSteady c s) where
   abbrev Steadily : {A : Type 0} → FopOutcome SegmentView A → Type 0
   Steadily o = FopSteady c o.after
 
-  pub gives_up : (f : FopState SegmentView) → f.room ≡ s.room → f.window ≡ s.window → f.vs ≡ s.vs → f.bypass ≡ s.bypass → FopSteady c (after_alert f)
+  pub gives_up : (f : FopState SegmentView) → f.room ≡ s.room → f.window ≡ s.window → f.vs ≡ s.vs → f.bypass ≡ s.bypass
+      → FopSteady c (after_alert f)
   gives_up f room window vs bypass =
       let bypass_fits : AllByRecursion FitsFrame f.bypass = rw bypass k.bypass_fits in
-      record { room = room ∙ k.room; window = omega (arith, window, k.window); vs_octet = omega (arith, vs, k.vs_octet); sent_none = λ e. refl; waiting_none = λ e. refl; commanded = refl; bypass_fits = bypass_fits }
+      record {
+        room =
+            room ∙ k.room;
+        window =
+            omega (arith, window, k.window);
+        vs_octet =
+            omega (arith, vs, k.vs_octet);
+        sent_none =
+            λ e. refl;
+        waiting_none = λ e. refl;
+        commanded = refl;
+        bypass_fits = bypass_fits;
+      }
 
-  goes_so : (f : FopState SegmentView) → f.room ≡ s.room → f.window ≡ s.window → f.vs ≡ s.vs → f.bypass ≡ s.bypass → is_closed f.state ≡ false → Commanded f.state f.control → FopSteady c f
+  goes_so : (f : FopState SegmentView) → f.room ≡ s.room → f.window ≡ s.window → f.vs ≡ s.vs → f.bypass ≡ s.bypass
+      → is_closed f.state ≡ false → Commanded f.state f.control → FopSteady c f
   goes_so f room window vs bypass on commanded =
       let bypass_fits : AllByRecursion FitsFrame f.bypass = rw bypass k.bypass_fits in
-      record { room = room ∙ k.room; window = omega (arith, window, k.window); vs_octet = omega (arith, vs, k.vs_octet); sent_none = λ e. absurd (cc (e, on)); waiting_none = λ e. absurd (cc (e, on)); commanded = commanded; bypass_fits = bypass_fits }
+      record {
+        room =
+            room ∙ k.room;
+        window =
+            omega (arith, window, k.window);
+        vs_octet =
+            omega (arith, vs, k.vs_octet);
+        sent_none =
+            λ e. absurd (cc (e, on));
+        waiting_none =
+            λ e. absurd (cc (e, on));
+        commanded = commanded;
+        bypass_fits = bypass_fits;
+      }
 
   -- the sender is as it was but for what no field speaks of
-  pub goes_same : (f : FopState SegmentView) → f.room ≡ s.room → f.window ≡ s.window → f.vs ≡ s.vs → f.bypass ≡ s.bypass → f.state ≡ s.state → f.control ≡ s.control → (is_closed s.state ≡ true → f.sent ≡ s.sent) → f.waiting ≡ s.waiting → FopSteady c f
+  pub goes_same : (f : FopState SegmentView) → f.room ≡ s.room → f.window ≡ s.window → f.vs ≡ s.vs → f.bypass ≡ s.bypass
+      → f.state ≡ s.state → f.control ≡ s.control → (is_closed s.state ≡ true → f.sent ≡ s.sent) → f.waiting ≡ s.waiting
+      → FopSteady c f
   goes_same f room window vs bypass state control sent waiting =
       let bypass_fits : AllByRecursion FitsFrame f.bypass = rw bypass k.bypass_fits in
       let commanded : Commanded f.state f.control = rw (state, control) k.commanded in
-      record { room = room ∙ k.room; window = omega (arith, window, k.window); vs_octet = omega (arith, vs, k.vs_octet); sent_none = λ e. let off : is_closed s.state ≡ true = rw state at e in sent off ∙ k.sent_none off; waiting_none = λ e. let off : is_closed s.state ≡ true = rw state at e in waiting ∙ k.waiting_none off; commanded = commanded; bypass_fits = bypass_fits }
+      record {
+        room =
+            room ∙ k.room;
+        window =
+            omega (arith, window, k.window);
+        vs_octet =
+            omega (arith, vs, k.vs_octet);
+        sent_none =
+            λ e. let off : is_closed s.state ≡ true =
+            rw state at e in sent off ∙ k.sent_none off;
+        waiting_none =
+            λ e. let off : is_closed s.state ≡ true =
+            rw state at e in waiting ∙ k.waiting_none off;
+        commanded = commanded;
+        bypass_fits = bypass_fits;
+      }
 
   -- ---- a report
 
   module _ (r : Clcw) (idle : s.control ≡ Idle) where
     again_so : FopSteady c (retransmits s (nat_lt s.count s.limit))
-    again_so = cond_both (nat_lt s.count s.limit) (after_repeat s) s (λ (f : FopState SegmentView). FopSteady c (record f { state = S2 })) (λ t. goes_so (record (after_repeat s) { state = S2 }) refl refl refl refl refl idle) (λ t. goes_so (record s { state = S2 }) refl refl refl refl refl idle)
+    again_so = cond_both (nat_lt s.count s.limit) (after_repeat s) s
+        (λ (f : FopState SegmentView). FopSteady c (record f { state = S2 }))
+        (λ t. goes_so (record (after_repeat s) { state = S2 }) refl refl refl refl refl idle)
+        (λ t. goes_so (record s { state = S2 }) refl refl refl refl refl idle)
 
     back_again_so : (m : FopMode) → FopSteady c (goes_back_again s m)
     back_again_so S1 = again_so
@@ -86,17 +139,27 @@ module _ (c : Config) (s : FopState SegmentView) (k : FopSteady c s) where
     active_so : Steadily (report_while_active s r)
     active_so =
         cond_both (locks r) (alerts s alert.Lockout) _ (λ o. Steadily o) (λ t. gives_up s refl refl refl refl)
-        (λ l. cond_both (is_outside s r.value) (alerts s alert.NnR) _ (λ o. Steadily o) (λ t. gives_up s refl refl refl refl)
-        (λ o. cond_both (not (asks r) && waits r) (alerts s alert.Clcw) _ (λ o. Steadily o) (λ t. gives_up s refl refl refl refl)
-        (λ w. cond_both (asks r && (r.value == s.vs)) (alerts s alert.Synch) _ (λ o. Steadily o) (λ t. gives_up s refl refl refl refl)
-        (λ y. cond_both (not (asks r) && (r.value == s.nn)) (nothing_new s s.state) _ (λ o. Steadily o) (λ t. nothing_so s.state)
-        (λ n. cond_both (not (asks r)) (after_gone (ahead_by r.value s.nn) (goes_on (after_move_on (after_acknowledge s r.value)))) _ (λ o. Steadily o)
+        (λ l. cond_both (is_outside s r.value) (alerts s alert.NnR) _ (λ o. Steadily o)
+        (λ t. gives_up s refl refl refl refl)
+        (λ o. cond_both (not (asks r) && waits r) (alerts s alert.Clcw) _ (λ o. Steadily o)
+        (λ t. gives_up s refl refl refl refl)
+        (λ w. cond_both (asks r && (r.value == s.vs)) (alerts s alert.Synch) _ (λ o. Steadily o)
+        (λ t. gives_up s refl refl refl refl)
+        (λ y. cond_both (not (asks r) && (r.value == s.nn)) (nothing_new s s.state) _ (λ o. Steadily o)
+        (λ t. nothing_so s.state)
+        (λ n. cond_both (not (asks r)) (after_gone (ahead_by r.value s.nn)
+        (goes_on (after_move_on (after_acknowledge s r.value)))) _ (λ o. Steadily o)
         (λ t. goes_so (after_move_on (after_acknowledge s r.value)) refl refl refl refl refl idle)
-        (λ t. cond_both (not (r.value == s.nn)) (after_gone (ahead_by r.value s.nn) (goes_back (after_new_value s r.value) (waits r))) _ (λ o. Steadily o)
-        (λ t. cond_both (s.limit == 1) (alerts (after_new_value s r.value) alert.Limit) _ (λ o. Steadily (after_gone (ahead_by r.value s.nn) o)) (λ t. gives_up (after_new_value s r.value) refl refl refl refl)
-        (λ f. cond_both (waits r) (goes_on (record (after_new_value s r.value) { state = S3 })) _ (λ o. Steadily (after_gone (ahead_by r.value s.nn) o))
+        (λ t. cond_both (not (r.value == s.nn))
+        (after_gone (ahead_by r.value s.nn) (goes_back (after_new_value s r.value) (waits r))) _ (λ o. Steadily o)
+        (λ t. cond_both (s.limit == 1) (alerts (after_new_value s r.value) alert.Limit) _
+        (λ o. Steadily (after_gone (ahead_by r.value s.nn) o))
+        (λ t. gives_up (after_new_value s r.value) refl refl refl refl)
+        (λ f. cond_both (waits r) (goes_on (record (after_new_value s r.value) { state = S3 })) _
+        (λ o. Steadily (after_gone (ahead_by r.value s.nn) o))
         (λ t. goes_so (record (after_new_value s r.value) { state = S3 }) refl refl refl refl refl idle)
-        (λ t. goes_so (record (after_repeat (after_new_value s r.value)) { state = S2 }) refl refl refl refl refl idle)))
+        (λ t. goes_so (record (after_repeat (after_new_value s r.value)) { state = S2 }) refl refl refl refl refl
+        idle)))
         (λ t. cond_both (s.limit == 1) (alerts s alert.Limit) _ (λ o. Steadily o) (λ t. gives_up s refl refl refl refl)
         (λ f. cond_both (waits r) (goes_on (record s { state = S3 })) _ (λ o. Steadily o)
         (λ t. goes_so (record s { state = S3 }) refl refl refl refl refl idle)
@@ -105,7 +168,8 @@ module _ (c : Config) (s : FopState SegmentView) (k : FopSteady c s) where
     in_S4_so : Steadily (report_in_S4 s r)
     in_S4_so =
         cond_both (locks r) (alerts s alert.Lockout) _ (λ o. Steadily o) (λ t. gives_up s refl refl refl refl)
-        (λ l. cond_both (not (r.value == s.vs)) (alerts s alert.NnR) _ (λ o. Steadily o) (λ t. gives_up s refl refl refl refl)
+        (λ l. cond_both (not (r.value == s.vs)) (alerts s alert.NnR) _ (λ o. Steadily o)
+        (λ t. gives_up s refl refl refl refl)
         (λ v. cond_both (asks r) (alerts s alert.Synch) _ (λ o. Steadily o) (λ t. gives_up s refl refl refl refl)
         (λ a. cond_both (waits r) (alerts s alert.Clcw) _ (λ o. Steadily o) (λ t. gives_up s refl refl refl refl)
         (λ t. goes_so (record s { state = S1; ticks = None }) refl refl refl refl refl idle))))
@@ -115,7 +179,10 @@ module _ (c : Config) (s : FopState SegmentView) (k : FopSteady c s) where
   report_in_so r S2 is idle = active_so r idle
   report_in_so r S3 is idle = active_so r idle
   report_in_so r S4 is idle = in_S4_so r idle
-  report_in_so r S5 is idle = cond_both (confirms s r) (goes_on (record s { state = S1; ticks = None; control = Idle })) (goes_on s) (λ o. Steadily o) (λ t. goes_so (record s { state = S1; ticks = None; control = Idle }) refl refl refl refl refl refl) (λ t. k)
+  report_in_so r S5 is idle =
+      cond_both (confirms s r) (goes_on (record s { state = S1; ticks = None; control = Idle })) (goes_on s)
+      (λ o. Steadily o) (λ t. goes_so (record s { state = S1; ticks = None; control = Idle }) refl refl refl refl refl
+      refl) (λ t. k)
   report_in_so r S6 is idle = k
 
   pub report_so : (r : Clcw) → FopSteady c (clcw_step s r).after
@@ -127,37 +194,85 @@ module _ (c : Config) (s : FopState SegmentView) (k : FopSteady c s) where
   due_so m is five = rw (is, five) tt
 
   timer_so : (m : FopMode) → s.state ≡ m → Steadily (timer_ended (after_stop s) m)
-  timer_so S1 is = cond_both (nat_lt s.count s.limit) (goes_on (after_repeat (after_stop s))) _ (λ o. Steadily o) (λ t. goes_same (after_repeat (after_stop s)) refl refl refl refl refl refl (λ e. absurd (let no : false ≡ true = rw is at e in cc)) refl) (λ t. gives_up (after_stop s) refl refl refl refl)
-  timer_so S2 is = cond_both (nat_lt s.count s.limit) (goes_on (after_repeat (after_stop s))) _ (λ o. Steadily o) (λ t. goes_same (after_repeat (after_stop s)) refl refl refl refl refl refl (λ e. absurd (let no : false ≡ true = rw is at e in cc)) refl) (λ t. gives_up (after_stop s) refl refl refl refl)
-  timer_so S3 is = cond_both (nat_lt s.count s.limit) (goes_on (after_count (after_stop s))) _ (λ o. Steadily o) (λ t. goes_same (after_count (after_stop s)) refl refl refl refl refl refl (λ e. refl) refl) (λ t. gives_up (after_stop s) refl refl refl refl)
+  timer_so S1 is =
+      cond_both (nat_lt s.count s.limit) (goes_on (after_repeat (after_stop s))) _ (λ o. Steadily o)
+      (λ t. goes_same (after_repeat (after_stop s)) refl refl refl refl refl refl
+      (λ e. absurd (let no : false ≡ true = rw is at e in cc)) refl) (λ t. gives_up (after_stop s) refl refl refl refl)
+  timer_so S2 is =
+      cond_both (nat_lt s.count s.limit) (goes_on (after_repeat (after_stop s))) _ (λ o. Steadily o)
+      (λ t. goes_same (after_repeat (after_stop s)) refl refl refl refl refl refl
+      (λ e. absurd (let no : false ≡ true = rw is at e in cc)) refl) (λ t. gives_up (after_stop s) refl refl refl refl)
+  timer_so S3 is =
+      cond_both (nat_lt s.count s.limit) (goes_on (after_count (after_stop s))) _ (λ o. Steadily o)
+      (λ t. goes_same (after_count (after_stop s)) refl refl refl refl refl refl (λ e. refl) refl)
+      (λ t. gives_up (after_stop s) refl refl refl refl)
   timer_so S4 is = gives_up (after_stop s) refl refl refl refl
-  timer_so S5 is = cond_both (nat_lt s.count s.limit) (goes_on (record (after_count (after_stop s)) { control = due_again s.control })) _ (λ o. Steadily o) (λ t. goes_so (record (after_count (after_stop s)) { control = due_again s.control }) refl refl refl refl (rw is refl) (due_so S5 is refl)) (λ t. gives_up (after_stop s) refl refl refl refl)
+  timer_so S5 is =
+      cond_both (nat_lt s.count s.limit) (goes_on
+      (record (after_count (after_stop s)) { control = due_again s.control })) _ (λ o. Steadily o)
+      (λ t. goes_so (record (after_count (after_stop s)) { control = due_again s.control }) refl refl refl refl
+      (rw is refl) (due_so S5 is refl)) (λ t. gives_up (after_stop s) refl refl refl refl)
   timer_so S6 is = goes_same (after_stop s) refl refl refl refl refl refl (λ e. refl) refl
 
   ticking_so : (ticks : Option ℕ) → Steadily (tick_with s ticks)
   ticking_so None = k
-  ticking_so (Some left) = cond_both (left == 1) (timer_ended (after_stop s) s.state) _ (λ o. Steadily o) (λ t. timer_so s.state refl) (λ t. goes_same (record s { ticks = Some (left - 1) }) refl refl refl refl refl refl (λ e. refl) refl)
+  ticking_so (Some left) =
+      cond_both (left == 1) (timer_ended (after_stop s) s.state) _ (λ o. Steadily o) (λ t. timer_so s.state refl)
+      (λ t. goes_same (record s { ticks = Some (left - 1) }) refl refl refl refl refl refl (λ e. refl) refl)
 
   pub tick_so : FopSteady c (tick_step s).after
   tick_so = ticking_so s.ticks
 
   -- ---- a directive
 
-  pub off_so : (f : FopState SegmentView) → s.state ≡ S6 → f.room ≡ s.room → f.window ≡ s.window → f.vs < 256 → f.bypass ≡ s.bypass → is_closed f.state ≡ false → Commanded f.state f.control → FopSteady c f
+  pub off_so : (f : FopState SegmentView) → s.state ≡ S6 → f.room ≡ s.room → f.window ≡ s.window → f.vs < 256
+      → f.bypass ≡ s.bypass → is_closed f.state ≡ false → Commanded f.state f.control → FopSteady c f
   off_so f is room window vs bypass on commanded =
       let bypass_fits : AllByRecursion FitsFrame f.bypass = rw bypass k.bypass_fits in
-      record { room = room ∙ k.room; window = omega (arith, window, k.window); vs_octet = vs; sent_none = λ e. absurd (cc (e, on)); waiting_none = λ e. absurd (cc (e, on)); commanded = commanded; bypass_fits = bypass_fits }
+      record {
+        room =
+            room ∙ k.room;
+        window =
+            omega (arith, window, k.window);
+        vs_octet =
+            vs;
+        sent_none =
+            λ e. absurd (cc (e, on));
+        waiting_none =
+            λ e. absurd (cc (e, on));
+        commanded = commanded;
+        bypass_fits = bypass_fits;
+      }
 
   -- ---- a pull
 
-  pull_waiting_so : (m : FopMode) → s.state ≡ m → is_closed m ≡ false → Commanded m s.control → (o : Option SegmentView) → Steadily (pull_waiting s o)
+  pull_waiting_so : (m : FopMode) → s.state ≡ m → is_closed m ≡ false → Commanded m s.control → (o : Option SegmentView)
+      → Steadily (pull_waiting s o)
   pull_waiting_so m is on commanded None = k
-  pull_waiting_so m is on commanded (Some u) = cond_both (nat_lt (ahead_by s.vs s.nn) s.window) (pulls (after_send_first s u) (SequencePulled s.vs u)) (pulls s NothingPulled) (λ o. Steadily o)
-      (λ t. record { room = k.room; window = k.window; vs_octet = omega arith; sent_none = λ e. absurd (let no : is_closed m ≡ true = rw is at e in cc (no, on)); waiting_none = λ e. refl; commanded = k.commanded; bypass_fits = k.bypass_fits }) (λ t. k)
+  pull_waiting_so m is on commanded (Some u) =
+      cond_both (nat_lt (ahead_by s.vs s.nn) s.window) (pulls (after_send_first s u) (SequencePulled s.vs u))
+      (pulls s NothingPulled) (λ o. Steadily o)
+      (λ t. record {
+        room =
+            k.room;
+        window =
+            k.window;
+        vs_octet =
+            omega arith;
+        sent_none =
+            λ e. absurd (let no : is_closed m ≡ true = rw is at e in cc (no, on));
+        waiting_none =
+            λ e. refl;
+        commanded = k.commanded;
+        bypass_fits = k.bypass_fits;
+      }) (λ t. k)
 
-  pull_marked_so : (m : FopMode) → s.state ≡ m → is_closed m ≡ false → Commanded m s.control → (o : Option (ℕ × SegmentView)) → Steadily (pull_marked s o)
+  pull_marked_so : (m : FopMode) → s.state ≡ m → is_closed m ≡ false → Commanded m s.control
+      → (o : Option (ℕ × SegmentView)) → Steadily (pull_marked s o)
   pull_marked_so m is on commanded None = pull_waiting_so m is on commanded s.waiting
-  pull_marked_so m is on commanded (Some x) = goes_same (record (after_restart s) { sent = without_oldest_mark s.sent }) refl refl refl refl refl refl (λ e. absurd (let no : is_closed m ≡ true = rw is at e in cc (no, on))) refl
+  pull_marked_so m is on commanded (Some x) =
+      goes_same (record (after_restart s) { sent = without_oldest_mark s.sent }) refl refl refl refl refl refl
+      (λ e. absurd (let no : is_closed m ≡ true = rw is at e in cc (no, on))) refl
 
   pull_in_so : (m : FopMode) → s.state ≡ m → Commanded m s.control → Steadily (pull_in s m)
   pull_in_so S1 is commanded = pull_marked_so S1 is refl commanded (oldest_marked 0 s.sent)
@@ -172,9 +287,22 @@ module _ (c : Config) (s : FopState SegmentView) (k : FopSteady c s) where
   pull_bypass_so (u ∷ us) is =
       let fit : AllByRecursion FitsFrame (u ∷ us) = rw is at k.bypass_fits in
       let bypass_fits : AllByRecursion FitsFrame us = fit.1 in
-      record { room = k.room; window = k.window; vs_octet = k.vs_octet; sent_none = k.sent_none; waiting_none = k.waiting_none; commanded = k.commanded; bypass_fits = bypass_fits }
+      record {
+        room =
+            k.room;
+        window =
+            k.window;
+        vs_octet =
+            k.vs_octet;
+        sent_none =
+            k.sent_none;
+        waiting_none = k.waiting_none;
+        commanded = k.commanded;
+        bypass_fits = bypass_fits;
+      }
 
-  sent_so : (command : Control) (m : FopMode) (new : Control) → Commanded m command → (command ≡ Idle → ⊥) → Commanded m new
+  sent_so : (command : Control) (m : FopMode) (new : Control) → Commanded m command → (command ≡ Idle → ⊥)
+      → Commanded m new
   sent_so command S1 new is not_idle = absurd (not_idle is)
   sent_so command S2 new is not_idle = absurd (not_idle is)
   sent_so command S3 new is not_idle = absurd (not_idle is)
@@ -186,8 +314,21 @@ module _ (c : Config) (s : FopState SegmentView) (k : FopSteady c s) where
   pull_control_so Idle is = pull_bypass_so s.bypass refl
   pull_control_so (Sent command) is = pull_bypass_so s.bypass refl
   pull_control_so (Due command) is =
-      let commanded : Commanded s.state (Sent command) = sent_so s.control s.state (Sent command) k.commanded (λ e. absurd (cc (e, is))) in
-      record { room = k.room; window = k.window; vs_octet = k.vs_octet; sent_none = k.sent_none; waiting_none = k.waiting_none; commanded = commanded; bypass_fits = k.bypass_fits }
+      let commanded : Commanded s.state (Sent command) =
+      sent_so s.control s.state (Sent command) k.commanded (λ e. absurd (cc (e, is))) in
+      record {
+        room =
+            k.room;
+        window =
+            k.window;
+        vs_octet =
+            k.vs_octet;
+        sent_none =
+            k.sent_none;
+        waiting_none = k.waiting_none;
+        commanded = commanded;
+        bypass_fits = k.bypass_fits;
+      }
 
   pub pull_so : FopSteady c (pull_step s).after
   pull_so = pull_control_so s.control refl
@@ -212,7 +353,8 @@ pub record FarmSteady (c : Config) (s : FarmState) : Type 0 where
   pub farm_b : s.farm_b < 4
   pub flags : FlagsAgree s
 
-verdict_so : (s : FarmState) (v : Verdict) → ((after_verdict s v).width ≡ s.width) × ((after_verdict s v).farm_b ≡ s.farm_b)
+verdict_so : (s : FarmState) (v : Verdict)
+    → ((after_verdict s v).width ≡ s.width) × ((after_verdict s v).farm_b ≡ s.farm_b)
 verdict_so s Accepted = (refl, refl)
 verdict_so s Ahead = (refl, refl)
 verdict_so s NoBuffer = (refl, refl)
@@ -225,17 +367,20 @@ unlock_so s Open = (refl, omega arith)
 unlock_so s Wait = (refl, omega arith)
 unlock_so s Lockout = (refl, omega arith)
 
-set_so : (s : FarmState) (x : ℕ) (m : FarmMode) → ((after_set_vr s x m).width ≡ s.width) × ((after_set_vr s x m).farm_b < 4)
+set_so : (s : FarmState) (x : ℕ) (m : FarmMode)
+    → ((after_set_vr s x m).width ≡ s.width) × ((after_set_vr s x m).farm_b < 4)
 set_so s x Open = (refl, omega arith)
 set_so s x Wait = (refl, omega arith)
 set_so s x Lockout = (refl, omega arith)
 
-release_so : (s : FarmState) (m : FarmMode) → ((after_release s m).width ≡ s.width) × ((after_release s m).farm_b ≡ s.farm_b)
+release_so : (s : FarmState) (m : FarmMode)
+    → ((after_release s m).width ≡ s.width) × ((after_release s m).farm_b ≡ s.farm_b)
 release_so s Open = (refl, refl)
 release_so s Wait = (refl, refl)
 release_so s Lockout = (refl, refl)
 
-farm_fields : (s : FarmState) (e : FarmEvent) → s.farm_b < 4 → ((farm_step s e).width ≡ s.width) × ((farm_step s e).farm_b < 4)
+farm_fields : (s : FarmState) (e : FarmEvent) → s.farm_b < 4
+    → ((farm_step s e).width ≡ s.width) × ((farm_step s e).farm_b < 4)
 farm_fields s (AdArrives n free) lt = let t = verdict_so s (verdict_of s n free) in (t.0, omega (arith, t.1, lt))
 farm_fields s BdArrives lt = (refl, omega arith)
 farm_fields s UnlockArrives lt = unlock_so s s.state
@@ -244,4 +389,6 @@ farm_fields s InvalidArrives lt = (refl, lt)
 farm_fields s BufferReleased lt = let t = release_so s s.state in (t.0, omega (arith, t.1, lt))
 
 pub farm_so : (c : Config) (s : FarmState) (e : FarmEvent) → FarmSteady c s → FarmSteady c (farm_step s e)
-farm_so c s e k = let t = farm_fields s e k.farm_b in record { width = t.0 ∙ k.width; farm_b = t.1; flags = FlagsAgree-step s e k.flags }
+farm_so c s e k =
+    let t = farm_fields s e k.farm_b in record
+    { width = t.0 ∙ k.width; farm_b = t.1; flags = FlagsAgree-step s e k.flags }

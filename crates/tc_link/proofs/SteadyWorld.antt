@@ -1,5 +1,6 @@
 -- What holds of the world at every moment, in any session.
-use Rattle.std.proofs.Common.{◌≡◌, ℕ, ◌+◌, ◌-◌, ◌%◌, ◌<◌, ◌≤◌, Bool, true, false, List, [], ◌∷◌, ◌++◌, length, Option, Some, None, Result, Ok, Err, refl, arith, length-append}
+use Rattle.std.proofs.Common.{◌≡◌, ℕ, ◌+◌, ◌-◌, ◌%◌, ◌<◌, ◌≤◌, Bool, true, false, List, [], ◌∷◌, ◌++◌, length, Option}
+use Rattle.std.proofs.Common.{Some, None, Result, Ok, Err, refl, arith, length-append}
 use Rattle.std.specs.Prelude.{◌==◌, ◌||◌, nat_lt}
 use Rattle.std.specs.List.{AllByRecursion}
 use Rattle.std.proofs.lemmas.Bool.{cond_both, ltb-false, eqb-false, or_parts}
@@ -20,7 +21,8 @@ use Rattle.cop1.specs.declared.farm.Verdict.TheVariants.{Accepted, Ahead, NoBuff
 use Rattle.cop1.specs.declared.fop.Alert.{Alert}
 use Rattle.cop1.specs.declared.fop.Control.TheVariants.{Idle, Due}
 use Rattle.cop1.specs.declared.fop.Directive.{Directive}
-use Rattle.cop1.specs.declared.fop.Directive.TheVariants.{InitWithoutCheck, InitWithCheck, InitUnlock, InitSetVr, Terminate, SetVs, SetWindow, SetLimit, SetTimer}
+use Rattle.cop1.specs.declared.fop.Directive.TheVariants.{InitWithoutCheck, InitWithCheck, InitUnlock, InitSetVr}
+use Rattle.cop1.specs.declared.fop.Directive.TheVariants.{Terminate, SetVs, SetWindow, SetLimit, SetTimer}
 use Rattle.cop1.specs.declared.fop.FopMode.{FopMode}
 use Rattle.cop1.specs.declared.fop.FopMode.TheVariants.{S1, S2, S3, S4, S5, S6}
 use Rattle.cop1.specs.Farm.{FarmState, AdArrives, BdArrives, BufferReleased, farm_step, verdict_of}
@@ -45,14 +47,21 @@ use Rattle.nodes.specs.BypassSegments.{is_kept}
 use Rattle.nodes.specs.OwnedFields.{FitsFrame}
 use Rattle.nodes.specs.Packets.{PacketOn}
 use Rattle.nodes.specs.Parameters.{IsConfig, limits_of}
-use Rattle.nodes.specs.Spacecraft.{SpacecraftState, SpacecraftOutcome, spacecraft_report, frame_outcome, body_outcome, sequence_outcome, bypass_outcome, command_event, is_free, is_own_frame, spacecraft_take, spacecraft_take_bypass, spacecraft_telemetry}
-use Rattle.nodes.specs.Ground.{GroundState, is_closed, unsent_segments, settle_step, with_fop, frame_to_send, directive_outcome, submit_fault, after_submission, bypass_fault, after_bypass, unless_refused, after_extraction, ground_telemetry, telemetry_outcome, own_frame_outcome}
+use Rattle.nodes.specs.Spacecraft.{SpacecraftState, SpacecraftOutcome, spacecraft_report, frame_outcome, body_outcome}
+use Rattle.nodes.specs.Spacecraft.{sequence_outcome, bypass_outcome, command_event, is_free, is_own_frame}
+use Rattle.nodes.specs.Spacecraft.{spacecraft_take, spacecraft_take_bypass, spacecraft_telemetry}
+use Rattle.nodes.specs.Ground.{GroundState, is_closed, unsent_segments, settle_step, with_fop, frame_to_send}
+use Rattle.nodes.specs.Ground.{directive_outcome, submit_fault, after_submission, bypass_fault, after_bypass}
+use Rattle.nodes.specs.Ground.{unless_refused, after_extraction, ground_telemetry, telemetry_outcome, own_frame_outcome}
 use Rattle.nodes.specs.Ground as ground
-use Rattle.tc_link.specs.World.{World, new_world, world_step, world_after_pull, up_deliver_step, up_lose_step, up_damage_outcome, up_damage_step, down_deliver_step, down_lose_step, down_damage_outcome, down_damage_step, session_after_directive, is_initiation}
+use Rattle.tc_link.specs.World.{World, new_world, world_step, world_after_pull, up_deliver_step, up_lose_step}
+use Rattle.tc_link.specs.World.{up_damage_outcome, up_damage_step, down_deliver_step, down_lose_step}
+use Rattle.tc_link.specs.World.{down_damage_outcome, down_damage_step, session_after_directive, is_initiation}
 use Rattle.nodes.proofs.Submitting.{bypass_fits}
 use Rattle.tc_link.specs.Reached.{IsDirective, IsEvent}
 use Rattle.tc_link.proofs.Linked.{Steady, Commanded}
-use Rattle.tc_link.proofs.SteadyNodes.{FopSteady, GroundNodeSteady, FarmSteady, settled_so, farm_so, report_so, tick_so, pull_so, gives_up, goes_same, off_so}
+use Rattle.tc_link.proofs.SteadyNodes.{FopSteady, GroundNodeSteady, FarmSteady, settled_so, farm_so, report_so, tick_so}
+use Rattle.tc_link.proofs.SteadyNodes.{pull_so, gives_up, goes_same, off_so}
 use Rattle.tc_link.proofs.LateSubmitting.{all_push}
 
 pub record SpacecraftSteady (c : Config) (s : SpacecraftState) : Type 0 where
@@ -67,7 +76,8 @@ pub record Sound (c : Config) (w : World) : Type 0 where
   pub spacecraft : SpacecraftSteady c w.spacecraft
   pub before : w.session.before ≤ length w.spacecraft.accepted
 
-unsent_so : (c : Config) (s : GroundState) → GroundNodeSteady c s → is_closed s.fop.state ≡ true → unsent_segments s ≡ []
+unsent_so : (c : Config) (s : GroundState) → GroundNodeSteady c s → is_closed s.fop.state ≡ true
+    → unsent_segments s ≡ []
 unsent_so c s k off = rw (k.fop.waiting_none off, k.pending_none off) refl
 
 pub steady_of : (c : Config) (w : World) → Sound c w → Steady c w
@@ -98,47 +108,202 @@ record Grows (c : Config) (s t : SpacecraftState) : Type 0 where
 
 module _ (c : Config) (s : SpacecraftState) (k : SpacecraftSteady c s) where
   sequence_so : (n : ℕ) (u : SegmentView) (v : Verdict) → Grows c s (sequence_outcome s n u v).after
-  sequence_so n u Accepted = record { steady = record { config = k.config; farm = farm_so c s.farm (AdArrives n (is_free s)) k.farm; builder = k.builder; idle_left = k.idle_left }; accepted = omega (arith, length-append s.accepted (u ∷ [])) }
-  sequence_so n u Ahead = record { steady = record { config = k.config; farm = farm_so c s.farm (AdArrives n (is_free s)) k.farm; builder = k.builder; idle_left = k.idle_left }; accepted = omega arith }
-  sequence_so n u NoBuffer = record { steady = record { config = k.config; farm = farm_so c s.farm (AdArrives n (is_free s)) k.farm; builder = k.builder; idle_left = k.idle_left }; accepted = omega arith }
-  sequence_so n u Behind = record { steady = record { config = k.config; farm = farm_so c s.farm (AdArrives n (is_free s)) k.farm; builder = k.builder; idle_left = k.idle_left }; accepted = omega arith }
-  sequence_so n u Outside = record { steady = record { config = k.config; farm = farm_so c s.farm (AdArrives n (is_free s)) k.farm; builder = k.builder; idle_left = k.idle_left }; accepted = omega arith }
-  sequence_so n u Discarded = record { steady = record { config = k.config; farm = farm_so c s.farm (AdArrives n (is_free s)) k.farm; builder = k.builder; idle_left = k.idle_left }; accepted = omega arith }
+  sequence_so n u Accepted =
+      record {
+        steady =
+            record {
+              config =
+                  k.config;
+              farm =
+                  farm_so c s.farm (AdArrives n (is_free s)) k.farm;
+              builder = k.builder;
+              idle_left = k.idle_left;
+            };
+        accepted =
+            omega (arith, length-append s.accepted (u ∷ []));
+      }
+  sequence_so n u Ahead =
+      record {
+        steady =
+            record {
+              config =
+                  k.config;
+              farm =
+                  farm_so c s.farm (AdArrives n (is_free s)) k.farm;
+              builder = k.builder;
+              idle_left = k.idle_left;
+            };
+        accepted =
+            omega arith;
+      }
+  sequence_so n u NoBuffer =
+      record {
+        steady =
+            record {
+              config =
+                  k.config;
+              farm =
+                  farm_so c s.farm (AdArrives n (is_free s)) k.farm;
+              builder = k.builder;
+              idle_left = k.idle_left;
+            };
+        accepted =
+            omega arith;
+      }
+  sequence_so n u Behind =
+      record {
+        steady =
+            record {
+              config =
+                  k.config;
+              farm =
+                  farm_so c s.farm (AdArrives n (is_free s)) k.farm;
+              builder = k.builder;
+              idle_left = k.idle_left;
+            };
+        accepted =
+            omega arith;
+      }
+  sequence_so n u Outside =
+      record {
+        steady =
+            record {
+              config =
+                  k.config;
+              farm =
+                  farm_so c s.farm (AdArrives n (is_free s)) k.farm;
+              builder = k.builder;
+              idle_left = k.idle_left;
+            };
+        accepted =
+            omega arith;
+      }
+  sequence_so n u Discarded =
+      record {
+        steady =
+            record {
+              config =
+                  k.config;
+              farm =
+                  farm_so c s.farm (AdArrives n (is_free s)) k.farm;
+              builder = k.builder;
+              idle_left = k.idle_left;
+            };
+        accepted =
+            omega arith;
+      }
 
   bypass_so : (u : SegmentView) (kept : Bool) → Grows c s (bypass_outcome s u kept).after
-  bypass_so u true = record { steady = record { config = k.config; farm = farm_so c s.farm BdArrives k.farm; builder = k.builder; idle_left = k.idle_left }; accepted = omega arith }
-  bypass_so u false = record { steady = record { config = k.config; farm = farm_so c s.farm BdArrives k.farm; builder = k.builder; idle_left = k.idle_left }; accepted = omega arith }
+  bypass_so u true =
+      record {
+        steady =
+            record {
+              config =
+                  k.config;
+              farm = farm_so c s.farm BdArrives k.farm;
+              builder = k.builder;
+              idle_left = k.idle_left;
+            };
+        accepted =
+            omega arith;
+      }
+  bypass_so u false =
+      record {
+        steady =
+            record {
+              config =
+                  k.config;
+              farm = farm_so c s.farm BdArrives k.farm;
+              builder = k.builder;
+              idle_left = k.idle_left;
+            };
+        accepted =
+            omega arith;
+      }
 
   body_so : (f : BodyView) → Grows c s (body_outcome s f).after
   body_so (Ad n u) = sequence_so n u (verdict_of s.farm n (is_free s))
   body_so (Bd u) = bypass_so u (is_kept (limits_of s.config) u)
-  body_so (Bc command) = record { steady = record { config = k.config; farm = farm_so c s.farm (command_event command) k.farm; builder = k.builder; idle_left = k.idle_left }; accepted = omega arith }
+  body_so (Bc command) =
+      record {
+        steady =
+            record {
+              config =
+                  k.config;
+              farm = farm_so c s.farm (command_event command) k.farm;
+              builder = k.builder;
+              idle_left = k.idle_left;
+            };
+        accepted = omega arith;
+      }
 
   arrived_so : (r : Result FrameView TcFault) → Grows c s (frame_outcome s r).after
   arrived_so (Err fault) = record { steady = k; accepted = omega arith }
-  arrived_so (Ok frame) = cond_both (is_own_frame s.config frame) (body_outcome s frame.body) _ (λ o. Grows c s o.after) (λ t. body_so frame.body) (λ t. record { steady = k; accepted = omega arith })
+  arrived_so (Ok frame) =
+      cond_both (is_own_frame s.config frame) (body_outcome s frame.body) _ (λ o. Grows c s o.after)
+      (λ t. body_so frame.body) (λ t. record { steady = k; accepted = omega arith })
 
   taken_so : (ps : List PacketOn) → SpacecraftSteady c (spacecraft_take s ps).after
   taken_so [] = k
-  taken_so (p ∷ left) = cond_both (nat_lt (length left) s.config.ready_slots) (farm_step s.farm BufferReleased) s.farm (λ (farm : FarmState). SpacecraftSteady c (record s { ready = left; farm = farm }))
-      (λ t. record { config = k.config; farm = farm_so c s.farm BufferReleased k.farm; builder = k.builder; idle_left = k.idle_left }) (λ t. record { config = k.config; farm = k.farm; builder = k.builder; idle_left = k.idle_left })
+  taken_so (p ∷ left) =
+      cond_both (nat_lt (length left) s.config.ready_slots) (farm_step s.farm BufferReleased) s.farm
+      (λ (farm : FarmState). SpacecraftSteady c (record s { ready = left; farm = farm }))
+      (λ t. record {
+        config =
+            k.config;
+        farm = farm_so c s.farm BufferReleased k.farm;
+        builder = k.builder;
+        idle_left = k.idle_left;
+      })
+      (λ t. record { config = k.config; farm = k.farm; builder = k.builder; idle_left = k.idle_left })
 
   bypass_taken_so : (ps : List PacketOn) → SpacecraftSteady c (spacecraft_take_bypass s ps).after
   bypass_taken_so [] = k
   bypass_taken_so (p ∷ left) = record { config = k.config; farm = k.farm; builder = k.builder; idle_left = k.idle_left }
 
   queued_so : (octets : List ℕ) → SpacecraftSteady c (spacecraft_telemetry s octets).after
-  queued_so octets = cond_both (is_to_send octets) _ _ (λ (o : SpacecraftOutcome (Result (Unit {0}) TmFault)). SpacecraftSteady c o.after) (λ t. record { config = k.config; farm = k.farm; builder = record { scid = k.builder.scid; vcid = k.builder.vcid; total = k.builder.total }; idle_left = k.idle_left }) (λ t. k)
+  queued_so octets =
+      cond_both (is_to_send octets) _ _ (λ (o : SpacecraftOutcome (Result (Unit {0}) TmFault)). SpacecraftSteady c
+      o.after) (λ t. record {
+        config =
+            k.config;
+        farm =
+            k.farm;
+        builder =
+            record { scid = k.builder.scid; vcid = k.builder.vcid; total = k.builder.total };
+        idle_left = k.idle_left;
+      })
+      (λ t. k)
 
   idle_so : (size left count : ℕ) → left ≤ 6 → idle_after size left count ≤ 6
-  idle_so size left count least = cond_both (room_left size left count == 0) (left - size) (7 - room_left size left count) (λ (n : ℕ). n ≤ 6) (λ t. omega (arith, least)) (λ t. omega (arith, eqb-false _ _ t))
+  idle_so size left count least =
+      cond_both (room_left size left count == 0) (left - size) (7 - room_left size left count) (λ (n : ℕ). n ≤ 6)
+      (λ t. omega (arith, least)) (λ t. omega (arith, eqb-false _ _ t))
 
   reported_so : SpacecraftSteady c (spacecraft_report s).after
   reported_so =
       let b : BuilderState = s.builder in
-      cond_both (is_at_rest b) b (after_send b (data_size b)) (λ (t : BuilderState). SpacecraftSteady c (record s { builder = record t { count = (t.count + 1) % 256 } }))
-      (λ t. record { config = k.config; farm = k.farm; builder = record { scid = k.builder.scid; vcid = k.builder.vcid; total = k.builder.total }; idle_left = k.idle_left })
-      (λ t. record { config = k.config; farm = k.farm; builder = record { scid = k.builder.scid; vcid = k.builder.vcid; total = k.builder.total }; idle_left = idle_so (data_size b) b.idle_left (length b.pending) k.idle_left })
+      cond_both (is_at_rest b) b (after_send b (data_size b))
+      (λ (t : BuilderState). SpacecraftSteady c (record s { builder = record t { count = (t.count + 1) % 256 } }))
+      (λ t. record {
+        config =
+            k.config;
+        farm =
+            k.farm;
+        builder =
+            record { scid = k.builder.scid; vcid = k.builder.vcid; total = k.builder.total };
+        idle_left = k.idle_left;
+      })
+      (λ t. record {
+        config =
+            k.config;
+        farm =
+            k.farm;
+        builder =
+            record { scid = k.builder.scid; vcid = k.builder.vcid; total = k.builder.total };
+        idle_left =
+            idle_so (data_size b) b.idle_left (length b.pending) k.idle_left;
+      })
 
 -- ---- the ground
 
@@ -149,7 +314,8 @@ module _ (c : Config) (s : GroundState) (k : GroundNodeSteady c s) where
   abbrev Directed : FopOutcome SegmentView (Result (Option Alert) CopFault) → Type 0
   Directed o = GroundNodeSteady c (directive_outcome s o).after
 
-  from_so : (next : FopState SegmentView) → (s.fop.state ≡ S6 → FopSteady c next) → (m : FopMode) → s.fop.state ≡ m → Directed (from_S6 s.fop m next)
+  from_so : (next : FopState SegmentView) → (s.fop.state ≡ S6 → FopSteady c next) → (m : FopMode) → s.fop.state ≡ m
+      → Directed (from_S6 s.fop m next)
   from_so next so S1 is = k
   from_so next so S2 is = k
   from_so next so S3 is = k
@@ -169,74 +335,167 @@ module _ (c : Config) (s : GroundState) (k : GroundNodeSteady c s) where
   idle_off is = let idle : Commanded S6 s.fop.control = rw is at k.fop.commanded in idle
 
   set_vs_so : (x : ℕ) → x < 256 → FopSteady c (record s.fop { vs = x; nn = x })
-  set_vs_so x lt = let f = k.fop in record { room = f.room; window = f.window; vs_octet = lt; sent_none = f.sent_none; waiting_none = f.waiting_none; commanded = f.commanded; bypass_fits = f.bypass_fits }
+  set_vs_so x lt =
+      let f = k.fop in record {
+        room =
+            f.room;
+        window =
+            f.window;
+        vs_octet =
+            lt;
+        sent_none = f.sent_none;
+        waiting_none = f.waiting_none;
+        commanded = f.commanded;
+        bypass_fits = f.bypass_fits;
+      }
 
   set_window_so : (n : ℕ) → ((n == 0) || nat_lt s.fop.room n) ≡ false → FopSteady c (record s.fop { window = n })
-  set_window_so n small = let f = k.fop in let most : n ≤ s.fop.room = ltb-false s.fop.room n (or_parts (n == 0) (nat_lt s.fop.room n) small).1 in record { room = f.room; window = omega (arith, most, f.room); vs_octet = f.vs_octet; sent_none = f.sent_none; waiting_none = f.waiting_none; commanded = f.commanded; bypass_fits = f.bypass_fits }
+  set_window_so n small =
+      let f = k.fop in let most : n ≤ s.fop.room =
+      ltb-false s.fop.room n (or_parts (n == 0) (nat_lt s.fop.room n) small).1 in record {
+        room = f.room;
+        window =
+            omega (arith, most, f.room);
+        vs_octet =
+            f.vs_octet;
+        sent_none =
+            f.sent_none;
+        waiting_none = f.waiting_none;
+        commanded = f.commanded;
+        bypass_fits = f.bypass_fits;
+      }
 
   directive_so : (d : Directive) → IsDirective d → Directed (directive_step s.fop d)
-  directive_so InitWithoutCheck fits = from_so (record (after_begin s.fop) { nn = s.fop.vs; state = S1 }) (λ is. off_so c s.fop k.fop (record (after_begin s.fop) { nn = s.fop.vs; state = S1 }) is refl refl k.fop.vs_octet refl refl (idle_off is)) s.fop.state refl
-  directive_so InitWithCheck fits = from_so (record (after_restart (after_begin s.fop)) { nn = s.fop.vs; state = S4 }) (λ is. off_so c s.fop k.fop (record (after_restart (after_begin s.fop)) { nn = s.fop.vs; state = S4 }) is refl refl k.fop.vs_octet refl refl (idle_off is)) s.fop.state refl
-  directive_so InitUnlock fits = from_so (record (after_begin s.fop) { nn = s.fop.vs; control = Due Unlock; state = S5 }) (λ is. off_so c s.fop k.fop (record (after_begin s.fop) { nn = s.fop.vs; control = Due Unlock; state = S5 }) is refl refl k.fop.vs_octet refl refl tt) s.fop.state refl
-  directive_so (InitSetVr x) fits = from_so (record (after_begin s.fop) { vs = x; nn = x; control = Due (SetVr x); state = S5 }) (λ is. off_so c s.fop k.fop (record (after_begin s.fop) { vs = x; nn = x; control = Due (SetVr x); state = S5 }) is refl refl fits refl refl tt) s.fop.state refl
+  directive_so InitWithoutCheck fits =
+      from_so (record (after_begin s.fop) { nn = s.fop.vs; state = S1 })
+      (λ is. off_so c s.fop k.fop (record (after_begin s.fop) { nn = s.fop.vs; state = S1 }) is refl refl k.fop.vs_octet
+      refl refl (idle_off is)) s.fop.state refl
+  directive_so InitWithCheck fits =
+      from_so (record (after_restart (after_begin s.fop)) { nn = s.fop.vs; state = S4 })
+      (λ is. off_so c s.fop k.fop (record (after_restart (after_begin s.fop)) { nn = s.fop.vs; state = S4 }) is refl
+      refl k.fop.vs_octet refl refl (idle_off is)) s.fop.state refl
+  directive_so InitUnlock fits =
+      from_so (record (after_begin s.fop) { nn = s.fop.vs; control = Due Unlock; state = S5 })
+      (λ is. off_so c s.fop k.fop (record (after_begin s.fop) { nn = s.fop.vs; control = Due Unlock; state = S5 }) is
+      refl refl k.fop.vs_octet refl refl tt) s.fop.state refl
+  directive_so (InitSetVr x) fits =
+      from_so (record (after_begin s.fop) { vs = x; nn = x; control = Due (SetVr x); state = S5 })
+      (λ is. off_so c s.fop k.fop (record (after_begin s.fop) { vs = x; nn = x; control = Due (SetVr x); state = S5 })
+      is refl refl fits refl refl tt) s.fop.state refl
   directive_so Terminate fits = terminated_so s.fop.state
   directive_so (SetVs x) fits = from_so (record s.fop { vs = x; nn = x }) (λ is. set_vs_so x fits) s.fop.state refl
-  directive_so (SetWindow n) fits = cond_both ((n == 0) || nat_lt s.fop.room n) (refuses s.fop faults.Window) (obeys (record s.fop { window = n })) (λ o. Directed o) (λ t. k) (λ t. with_so (record s.fop { window = n }) (set_window_so n t))
-  directive_so (SetLimit n) fits = cond_both (n == 0) (refuses s.fop faults.Limit) (obeys (record s.fop { limit = n })) (λ o. Directed o) (λ t. k) (λ t. with_so (record s.fop { limit = n }) (goes_same c s.fop k.fop (record s.fop { limit = n }) refl refl refl refl refl refl (λ e. refl) refl))
-  directive_so (SetTimer n) fits = cond_both (n == 0) (refuses s.fop faults.Timer) (obeys (record s.fop { timer = n })) (λ o. Directed o) (λ t. k) (λ t. with_so (record s.fop { timer = n }) (goes_same c s.fop k.fop (record s.fop { timer = n }) refl refl refl refl refl refl (λ e. refl) refl))
+  directive_so (SetWindow n) fits =
+      cond_both ((n == 0) || nat_lt s.fop.room n) (refuses s.fop faults.Window) (obeys (record s.fop { window = n }))
+      (λ o. Directed o) (λ t. k) (λ t. with_so (record s.fop { window = n }) (set_window_so n t))
+  directive_so (SetLimit n) fits =
+      cond_both (n == 0) (refuses s.fop faults.Limit) (obeys (record s.fop { limit = n })) (λ o. Directed o) (λ t. k)
+      (λ t. with_so (record s.fop { limit = n })
+      (goes_same c s.fop k.fop (record s.fop { limit = n }) refl refl refl refl refl refl (λ e. refl) refl))
+  directive_so (SetTimer n) fits =
+      cond_both (n == 0) (refuses s.fop faults.Timer) (obeys (record s.fop { timer = n })) (λ o. Directed o) (λ t. k)
+      (λ t. with_so (record s.fop { timer = n })
+      (goes_same c s.fop k.fop (record s.fop { timer = n }) refl refl refl refl refl refl (λ e. refl) refl))
 
-  submitted_so : (m : ℕ) (octets : List ℕ) (o : Option LinkFault) → GroundNodeSteady c (unless_refused o s (after_submission s m octets)).after
+  submitted_so : (m : ℕ) (octets : List ℕ) (o : Option LinkFault)
+      → GroundNodeSteady c (unless_refused o s (after_submission s m octets)).after
   submitted_so m octets (Some fault) = k
-  submitted_so m octets None = settled_so c (record s { pending = s.pending ++ ground.segments_on s m octets }) k.config k.fop
+  submitted_so m octets None =
+      settled_so c (record s { pending = s.pending ++ ground.segments_on s m octets }) k.config k.fop
 
-  bypassed_so : IsConfig c → (m : ℕ) (octets : List ℕ) (o : Option LinkFault) → bypass_fault s m octets ≡ o → GroundNodeSteady c (unless_refused o s (after_bypass s m octets)).after
+  bypassed_so : IsConfig c → (m : ℕ) (octets : List ℕ) (o : Option LinkFault) → bypass_fault s m octets ≡ o
+      → GroundNodeSteady c (unless_refused o s (after_bypass s m octets)).after
   bypassed_so ranges m octets (Some fault) is = k
   bypassed_so ranges m octets None is =
       let own : IsConfig s.config = rw k.config ranges in
-      let fits : AllByRecursion FitsFrame (s.fop.bypass ++ segment_with Alone m octets ∷ []) = all_push FitsFrame s.fop.bypass (segment_with Alone m octets) k.fop.bypass_fits (bypass_fits s m octets own is) in
+      let fits : AllByRecursion FitsFrame (s.fop.bypass ++ segment_with Alone m octets ∷ []) =
+      all_push FitsFrame s.fop.bypass (segment_with Alone m octets) k.fop.bypass_fits
+      (bypass_fits s m octets own is) in
       let f = k.fop in
-      record { config = k.config; fop = record { room = f.room; window = f.window; vs_octet = f.vs_octet; sent_none = f.sent_none; waiting_none = f.waiting_none; commanded = f.commanded; bypass_fits = fits }; pending_none = k.pending_none }
+      record {
+        config =
+            k.config;
+        fop =
+            record {
+              room =
+                  f.room;
+              window =
+                  f.window;
+              vs_octet =
+                  f.vs_octet;
+              sent_none =
+                  f.sent_none;
+              waiting_none = f.waiting_none;
+              commanded = f.commanded;
+              bypass_fits = fits;
+            };
+        pending_none =
+            k.pending_none;
+      }
 
   extracted_so : (x : Extracted) → GroundNodeSteady c (after_extraction s x)
   extracted_so x = record { config = k.config; fop = k.fop; pending_none = k.pending_none }
 
   word_so : (x : Extracted) (r : Result Clcw ClcwFault) → GroundNodeSteady c (own_frame_outcome s x r).after
   word_so x (Err fault) = extracted_so x
-  word_so x (Ok report) = cond_both (report.vcid == s.config.vcid) _ _ (λ (o : ground.GroundOutcome Heard). GroundNodeSteady c o.after)
-      (λ t. settled_so c (record (after_extraction s x) { fop = (clcw_step s.fop report).after }) k.config (report_so c s.fop k.fop report)) (λ t. extracted_so x)
+  word_so x (Ok report) =
+      cond_both (report.vcid == s.config.vcid) _ _ (λ (o : ground.GroundOutcome Heard). GroundNodeSteady c o.after)
+      (λ t. settled_so c (record (after_extraction s x) { fop = (clcw_step s.fop report).after }) k.config
+      (report_so c s.fop k.fop report)) (λ t. extracted_so x)
 
   telemetry_so : (r : Result telemetry.FrameView TmFault) → GroundNodeSteady c (telemetry_outcome s r).after
   telemetry_so (Err fault) = k
-  telemetry_so (Ok frame) = cond_both (ground.is_own_telemetry s.config frame) _ _ (λ (o : ground.GroundOutcome Heard). GroundNodeSteady c o.after) (λ t. word_so (extract_step s.extractor frame) (clcw_at frame.ocf)) (λ t. k)
+  telemetry_so (Ok frame) =
+      cond_both (ground.is_own_telemetry s.config frame) _ _
+      (λ (o : ground.GroundOutcome Heard). GroundNodeSteady c o.after)
+      (λ t. word_so (extract_step s.extractor frame) (clcw_at frame.ocf)) (λ t. k)
 
 -- ---- the world
 
 module _ (c : Config) (w : World) (k : Sound c w) where
-  ground_so : (ground_node : GroundState) → GroundNodeSteady c ground_node → Sound c (record w { ground_node = ground_node })
-  ground_so ground_node so = record { ranges = k.ranges; ground_node = so; spacecraft = k.spacecraft; before = k.before }
+  ground_so : (ground_node : GroundState) → GroundNodeSteady c ground_node
+      → Sound c (record w { ground_node = ground_node })
+  ground_so ground_node so =
+      record { ranges = k.ranges; ground_node = so; spacecraft = k.spacecraft; before = k.before }
 
-  spacecraft_so : (spacecraft : SpacecraftState) → SpacecraftSteady c spacecraft → spacecraft.accepted ≡ w.spacecraft.accepted → Sound c (record w { spacecraft = spacecraft })
-  spacecraft_so spacecraft so same = record { ranges = k.ranges; ground_node = k.ground_node; spacecraft = so; before = rw same k.before }
+  spacecraft_so : (spacecraft : SpacecraftState) → SpacecraftSteady c spacecraft
+      → spacecraft.accepted ≡ w.spacecraft.accepted → Sound c (record w { spacecraft = spacecraft })
+  spacecraft_so spacecraft so same =
+      record { ranges = k.ranges; ground_node = k.ground_node; spacecraft = so; before = rw same k.before }
 
-  session_so : (d : Directive) (r : Result (Option Alert) CopFault) → (session_after_directive w d r).before ≤ length w.spacecraft.accepted
+  session_so : (d : Directive) (r : Result (Option Alert) CopFault)
+      → (session_after_directive w d r).before ≤ length w.spacecraft.accepted
   session_so d (Err fault) = k.before
-  session_so d (Ok alert) = cond_both (is_initiation d) _ w.session (λ x. x.before ≤ length w.spacecraft.accepted) (λ t. omega arith) (λ t. k.before)
+  session_so d (Ok alert) =
+      cond_both (is_initiation d) _ w.session (λ x. x.before ≤ length w.spacecraft.accepted) (λ t. omega arith)
+      (λ t. k.before)
 
-  pulled_so : (ground_node : GroundState) → GroundNodeSteady c ground_node → (frame : Option FrameView) → Sound c (world_after_pull w ground_node frame).after
-  pulled_so ground_node so None = record { ranges = k.ranges; ground_node = so; spacecraft = k.spacecraft; before = k.before }
-  pulled_so ground_node so (Some frame) = record { ranges = k.ranges; ground_node = so; spacecraft = k.spacecraft; before = k.before }
+  pulled_so : (ground_node : GroundState) → GroundNodeSteady c ground_node → (frame : Option FrameView)
+      → Sound c (world_after_pull w ground_node frame).after
+  pulled_so ground_node so None =
+      record { ranges = k.ranges; ground_node = so; spacecraft = k.spacecraft; before = k.before }
+  pulled_so ground_node so (Some frame) =
+      record { ranges = k.ranges; ground_node = so; spacecraft = k.spacecraft; before = k.before }
 
   delivered_so : (bs : List (List ℕ)) → Sound c (up_deliver_step w bs).after
   delivered_so [] = k
-  delivered_so (b ∷ bs) = let t = arrived_so c w.spacecraft k.spacecraft (frame_at On b) in record { ranges = k.ranges; ground_node = k.ground_node; spacecraft = t.steady; before = omega (arith, k.before, t.accepted) }
+  delivered_so (b ∷ bs) =
+      let t = arrived_so c w.spacecraft k.spacecraft (frame_at On b) in record {
+        ranges = k.ranges;
+        ground_node =
+            k.ground_node;
+        spacecraft = t.steady;
+        before = omega (arith, k.before, t.accepted);
+      }
 
   lost_so : (bs : List (List ℕ)) → Sound c (up_lose_step w bs).after
   lost_so [] = k
-  lost_so (b ∷ bs) = record { ranges = k.ranges; ground_node = k.ground_node; spacecraft = k.spacecraft; before = k.before }
+  lost_so (b ∷ bs) =
+      record { ranges = k.ranges; ground_node = k.ground_node; spacecraft = k.spacecraft; before = k.before }
 
   detected_so : (bs : List (List ℕ)) (r : Result FrameView TcFault) → Sound c (up_damage_outcome w bs r).after
   detected_so bs (Ok frame) = k
-  detected_so bs (Err fault) = record { ranges = k.ranges; ground_node = k.ground_node; spacecraft = k.spacecraft; before = k.before }
+  detected_so bs (Err fault) =
+      record { ranges = k.ranges; ground_node = k.ground_node; spacecraft = k.spacecraft; before = k.before }
 
   damaged_so : (bs : List (List ℕ)) (octets : List ℕ) → Sound c (up_damage_step w bs octets).after
   damaged_so [] octets = k
@@ -244,54 +503,123 @@ module _ (c : Config) (w : World) (k : Sound c w) where
 
   heard_so : (bs : List (List ℕ)) → Sound c (down_deliver_step w bs).after
   heard_so [] = k
-  heard_so (b ∷ bs) = record { ranges = k.ranges; ground_node = telemetry_so c w.ground_node k.ground_node (telemetry_reading.frame_at w.ground_node.config.frame_length b); spacecraft = k.spacecraft; before = k.before }
+  heard_so (b ∷ bs) =
+      record {
+        ranges =
+            k.ranges;
+        ground_node =
+            telemetry_so c w.ground_node k.ground_node (telemetry_reading.frame_at w.ground_node.config.frame_length b);
+        spacecraft = k.spacecraft;
+        before = k.before;
+      }
 
   down_lost_so : (bs : List (List ℕ)) → Sound c (down_lose_step w bs).after
   down_lost_so [] = k
-  down_lost_so (b ∷ bs) = record { ranges = k.ranges; ground_node = k.ground_node; spacecraft = k.spacecraft; before = k.before }
+  down_lost_so (b ∷ bs) =
+      record { ranges = k.ranges; ground_node = k.ground_node; spacecraft = k.spacecraft; before = k.before }
 
-  down_detected_so : (bs : List (List ℕ)) (r : Result telemetry.FrameView TmFault) → Sound c (down_damage_outcome w bs r).after
+  down_detected_so : (bs : List (List ℕ)) (r : Result telemetry.FrameView TmFault)
+      → Sound c (down_damage_outcome w bs r).after
   down_detected_so bs (Ok frame) = k
-  down_detected_so bs (Err fault) = record { ranges = k.ranges; ground_node = k.ground_node; spacecraft = k.spacecraft; before = k.before }
+  down_detected_so bs (Err fault) =
+      record { ranges = k.ranges; ground_node = k.ground_node; spacecraft = k.spacecraft; before = k.before }
 
   down_damaged_so : (bs : List (List ℕ)) (octets : List ℕ) → Sound c (down_damage_step w bs octets).after
   down_damaged_so [] octets = k
-  down_damaged_so (b ∷ bs) octets = down_detected_so bs (telemetry_reading.frame_at w.ground_node.config.frame_length octets)
+  down_damaged_so (b ∷ bs) octets =
+      down_detected_so bs (telemetry_reading.frame_at w.ground_node.config.frame_length octets)
 
   taken_accepted : (ps : List PacketOn) → (spacecraft_take w.spacecraft ps).after.accepted ≡ w.spacecraft.accepted
   taken_accepted [] = refl
   taken_accepted (p ∷ left) = refl
 
-  bypass_accepted : (ps : List PacketOn) → (spacecraft_take_bypass w.spacecraft ps).after.accepted ≡ w.spacecraft.accepted
+  bypass_accepted : (ps : List PacketOn)
+      → (spacecraft_take_bypass w.spacecraft ps).after.accepted ≡ w.spacecraft.accepted
   bypass_accepted [] = refl
   bypass_accepted (p ∷ left) = refl
 
-  queued_accepted : (octets : List ℕ) → (spacecraft_telemetry w.spacecraft octets).after.accepted ≡ w.spacecraft.accepted
-  queued_accepted octets = cond_both (is_to_send octets) _ _ (λ (o : SpacecraftOutcome (Result (Unit {0}) TmFault)). o.after.accepted ≡ w.spacecraft.accepted) (λ t. refl) (λ t. refl)
+  queued_accepted : (octets : List ℕ)
+      → (spacecraft_telemetry w.spacecraft octets).after.accepted ≡ w.spacecraft.accepted
+  queued_accepted octets =
+      cond_both (is_to_send octets) _ _ (λ (o : SpacecraftOutcome (Result (Unit {0}) TmFault)). o.after.accepted
+      ≡ w.spacecraft.accepted) (λ t. refl) (λ t. refl)
 
   pub step_sound : (e : Event) → IsEvent e → Sound c (world_step w e).after
-  step_sound (events.Submit m octets) fits = record { ranges = k.ranges; ground_node = submitted_so c w.ground_node k.ground_node m octets.now (submit_fault w.ground_node m octets.now); spacecraft = k.spacecraft; before = k.before }
-  step_sound (events.Bypass m octets) fits = ground_so (unless_refused (bypass_fault w.ground_node m octets.now) w.ground_node (after_bypass w.ground_node m octets.now)).after (bypassed_so c w.ground_node k.ground_node k.ranges m octets.now (bypass_fault w.ground_node m octets.now) refl)
-  step_sound (events.Directive d) fits = record { ranges = k.ranges; ground_node = directive_so c w.ground_node k.ground_node d fits; spacecraft = k.spacecraft; before = session_so d (directive_outcome w.ground_node (directive_step w.ground_node.fop d)).answer }
-  step_sound events.Send fits = pulled_so (with_fop w.ground_node (pull_step w.ground_node.fop).after) (with_so c w.ground_node k.ground_node (pull_step w.ground_node.fop).after (pull_so c w.ground_node.fop k.ground_node.fop)) (frame_to_send w.ground_node.config (pull_step w.ground_node.fop).answer)
+  step_sound (events.Submit m octets) fits =
+      record {
+        ranges =
+            k.ranges;
+        ground_node =
+            submitted_so c w.ground_node k.ground_node m octets.now (submit_fault w.ground_node m octets.now);
+        spacecraft =
+            k.spacecraft;
+        before = k.before;
+      }
+  step_sound (events.Bypass m octets) fits =
+      ground_so (unless_refused (bypass_fault w.ground_node m octets.now) w.ground_node
+      (after_bypass w.ground_node m octets.now)).after
+      (bypassed_so c w.ground_node k.ground_node k.ranges m octets.now (bypass_fault w.ground_node m octets.now) refl)
+  step_sound (events.Directive d) fits =
+      record {
+        ranges =
+            k.ranges;
+        ground_node =
+            directive_so c w.ground_node k.ground_node d fits;
+        spacecraft =
+            k.spacecraft;
+        before =
+            session_so d (directive_outcome w.ground_node (directive_step w.ground_node.fop d)).answer;
+      }
+  step_sound events.Send fits =
+      pulled_so (with_fop w.ground_node (pull_step w.ground_node.fop).after)
+      (with_so c w.ground_node k.ground_node (pull_step w.ground_node.fop).after
+      (pull_so c w.ground_node.fop k.ground_node.fop))
+      (frame_to_send w.ground_node.config (pull_step w.ground_node.fop).answer)
   step_sound events.UpDeliver fits = delivered_so w.up
   step_sound events.UpLose fits = lost_so w.up
   step_sound (events.UpDamage octets) fits = damaged_so w.up octets.now
-  step_sound events.Report fits = record { ranges = k.ranges; ground_node = k.ground_node; spacecraft = reported_so c w.spacecraft k.spacecraft; before = k.before }
+  step_sound events.Report fits =
+      record {
+        ranges =
+            k.ranges;
+        ground_node = k.ground_node;
+        spacecraft = reported_so c w.spacecraft k.spacecraft;
+        before = k.before;
+      }
   step_sound events.DownDeliver fits = heard_so w.down
   step_sound events.DownLose fits = down_lost_so w.down
   step_sound (events.DownDamage octets) fits = down_damaged_so w.down octets.now
-  step_sound events.Tick fits = ground_so (with_fop w.ground_node (tick_step w.ground_node.fop).after) (with_so c w.ground_node k.ground_node (tick_step w.ground_node.fop).after (tick_so c w.ground_node.fop k.ground_node.fop))
-  step_sound events.Take fits = spacecraft_so (spacecraft_take w.spacecraft w.spacecraft.ready).after (taken_so c w.spacecraft k.spacecraft w.spacecraft.ready) (taken_accepted w.spacecraft.ready)
-  step_sound events.TakeBypass fits = spacecraft_so (spacecraft_take_bypass w.spacecraft w.spacecraft.bypass).after (bypass_taken_so c w.spacecraft k.spacecraft w.spacecraft.bypass) (bypass_accepted w.spacecraft.bypass)
-  step_sound (events.Telemetry octets) fits = spacecraft_so (spacecraft_telemetry w.spacecraft octets.now).after (queued_so c w.spacecraft k.spacecraft octets.now) (queued_accepted octets.now)
+  step_sound events.Tick fits =
+      ground_so (with_fop w.ground_node (tick_step w.ground_node.fop).after)
+      (with_so c w.ground_node k.ground_node (tick_step w.ground_node.fop).after
+      (tick_so c w.ground_node.fop k.ground_node.fop))
+  step_sound events.Take fits =
+      spacecraft_so (spacecraft_take w.spacecraft w.spacecraft.ready).after
+      (taken_so c w.spacecraft k.spacecraft w.spacecraft.ready) (taken_accepted w.spacecraft.ready)
+  step_sound events.TakeBypass fits =
+      spacecraft_so (spacecraft_take_bypass w.spacecraft w.spacecraft.bypass).after
+      (bypass_taken_so c w.spacecraft k.spacecraft w.spacecraft.bypass) (bypass_accepted w.spacecraft.bypass)
+  step_sound (events.Telemetry octets) fits =
+      spacecraft_so (spacecraft_telemetry w.spacecraft octets.now).after
+      (queued_so c w.spacecraft k.spacecraft octets.now) (queued_accepted octets.now)
 
 pub new_sound : (c : Config) → IsConfig c → Sound c (new_world c)
 new_sound c ranges = record {
   ranges = ranges;
   ground_node = record {
     config = refl;
-    fop = record { room = refl; window = ranges.window.1; vs_octet = omega arith; sent_none = λ e. refl; waiting_none = λ e. refl; commanded = refl; bypass_fits = tt };
+    fop = record {
+      room =
+          refl;
+      window =
+          ranges.window.1;
+      vs_octet =
+          omega arith;
+      sent_none = λ e. refl;
+      waiting_none = λ e. refl;
+      commanded = refl;
+      bypass_fits = tt;
+    };
     pending_none = λ e. refl;
   };
   spacecraft = record {

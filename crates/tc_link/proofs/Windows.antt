@@ -1,5 +1,6 @@
 -- Where the numbers on their way lie in a clean session.
-use Rattle.std.proofs.Common.{◌≡◌, ◌≢◌, ℕ, ◌+◌, ◌-◌, ◌/◌, ◌%◌, ◌<◌, ◌≤◌, inl, inr, max, Bool, true, false, List, [], ◌∷◌, ◌++◌, length, take, map, Some, refl, ap, sym, subst, ◌∙◌, arith}
+use Rattle.std.proofs.Common.{◌≡◌, ◌≢◌, ℕ, ◌+◌, ◌-◌, ◌/◌, ◌%◌, ◌<◌, ◌≤◌, inl, inr, max, Bool, true, false, List, []}
+use Rattle.std.proofs.Common.{◌∷◌, ◌++◌, length, take, map, Some, refl, ap, sym, subst, ◌∙◌, arith}
 use Rattle.std.specs.Prelude.{option_map, flat_map}
 use Rattle.std.specs.List.{AllByRecursion}
 use Rattle.std.proofs.lemmas.Bool.{cases_lt}
@@ -15,7 +16,8 @@ use Rattle.cop1.specs.Farm.{state_of, FarmState}
 use Rattle.cop1.specs.FarmRuns.{FlagsAgree}
 use Rattle.cop1.specs.declared.farm.FarmMode.TheVariants.{Lockout}
 use Rattle.cop1.specs.declared.fop.Directive.{Directive}
-use Rattle.cop1.specs.declared.fop.Directive.TheVariants.{InitWithoutCheck, InitWithCheck, InitUnlock, InitSetVr, Terminate, SetVs, SetWindow, SetLimit, SetTimer}
+use Rattle.cop1.specs.declared.fop.Directive.TheVariants.{InitWithoutCheck, InitWithCheck, InitUnlock, InitSetVr}
+use Rattle.cop1.specs.declared.fop.Directive.TheVariants.{Terminate, SetVs, SetWindow, SetLimit, SetTimer}
 use Rattle.cop1.specs.declared.fop.FopMode.{FopMode}
 use Rattle.cop1.specs.declared.fop.FopMode.TheVariants.{S1, S2, S3, S4, S5, S6}
 use Rattle.nodes.specs.declared.config.Config.{Config}
@@ -25,7 +27,8 @@ use Rattle.tc_link.specs.World.{World, directive_of}
 use Rattle.tc_link.specs.History.{number_of, numbered}
 use Rattle.tc_link.specs.Confirmation.{LeavesVr, IsChecking, IsConfirmedExactly}
 use Rattle.cop1.specs.FopState.{IsActive}
-use Rattle.tc_link.specs.InTransit.{number_in, command_in, unit_in, in_frame, report_read, report_of_frame, report_carried, reports_down, IsInWindow, IsRising, KeepsToWindow}
+use Rattle.tc_link.specs.InTransit.{number_in, command_in, unit_in, in_frame, report_read, report_of_frame}
+use Rattle.tc_link.specs.InTransit.{report_carried, reports_down, IsInWindow, IsRising, KeepsToWindow}
 use Rattle.tc_link.proofs.Beginning.{Clean}
 use Rattle.tc_link.proofs.Early.{Begun, IsEarly}
 use Rattle.tc_link.proofs.Linked.{Late, Carries, Tells, Reporting, Holds, Held}
@@ -42,80 +45,111 @@ abbrev commands : List (List ℕ) → List Command
 commands bs = flat_map (λ octets. in_frame command_in (frame_at On octets)) bs
 
 module _ (c : Config) (d : Directive) (base h n : ℕ) (units : List SegmentView) where
-  numbers_in : (P : ℕ → Type 0) (low : ℕ) (front : Bool) (bs : List (List ℕ)) (fs : List BodyView) (qs : List (ℕ × SegmentView)) (r : ℕ) → ((i : ℕ) → low ≤ i + h → i < n → P ((base + i) % 256)) → low ≤ r
+  numbers_in : (P : ℕ → Type 0) (low : ℕ) (front : Bool) (bs : List (List ℕ)) (fs : List BodyView)
+      (qs : List (ℕ × SegmentView)) (r : ℕ) → ((i : ℕ) → low ≤ i + h → i < n → P ((base + i) % 256)) → low ≤ r
       → Carries c bs fs → UpIs d base front fs qs → Fits h n units r qs → AllByRecursion P (numbers bs)
   numbers_in P low front [] fs qs r each le carries up fit = tt
   numbers_in P low front (b ∷ bs) [] qs r each le carries up fit = elim carries [ ]
   numbers_in P low front (b ∷ bs) (Bd s ∷ fs) qs r each le carries up fit =
-      subst (λ x. AllByRecursion P (in_frame number_in x ++ numbers bs)) (sym carries.0) (numbers_in P low front bs fs qs r each le carries.1 up fit)
+      subst (λ x. AllByRecursion P (in_frame number_in x ++ numbers bs)) (sym carries.0)
+      (numbers_in P low front bs fs qs r each le carries.1 up fit)
   numbers_in P low front (b ∷ bs) (Bc command ∷ fs) qs r each le carries up fit =
-      subst (λ x. AllByRecursion P (in_frame number_in x ++ numbers bs)) (sym carries.0) (numbers_in P low front bs fs qs r each le carries.1 up.2 fit)
+      subst (λ x. AllByRecursion P (in_frame number_in x ++ numbers bs)) (sym carries.0)
+      (numbers_in P low front bs fs qs r each le carries.1 up.2 fit)
   numbers_in P low front (b ∷ bs) (Ad m s ∷ fs) [] r each le carries up fit = elim up [ ]
   numbers_in P low front (b ∷ bs) (Ad m s ∷ fs) (q ∷ qs) r each le carries up fit =
-      subst (λ x. AllByRecursion P (in_frame number_in x ++ numbers bs)) (sym carries.0)
-      (subst P (sym up.0) (each q.0 (omega (arith, fit.2)) fit.1), numbers_in P low false bs fs qs (max r (q.0 + 1)) each (omega arith) carries.1 up.2 fit.3)
+      subst (λ x. AllByRecursion P (in_frame number_in x ++ numbers bs)) (sym carries.0) (
+        subst P (sym up.0) (each q.0 (omega (arith, fit.2)) fit.1),
+        numbers_in P low false bs fs qs (max r (q.0 + 1))
+            each (omega arith) carries.1 up.2 fit.3,
+      )
 
-  commands_in : (P : Command → Type 0) (front : Bool) (bs : List (List ℕ)) (fs : List BodyView) (qs : List (ℕ × SegmentView)) → ((command : Command) → front ≡ true → CommandFits d base command → P command)
+  commands_in : (P : Command → Type 0) (front : Bool) (bs : List (List ℕ)) (fs : List BodyView)
+      (qs : List (ℕ × SegmentView)) → ((command : Command) → front ≡ true → CommandFits d base command → P command)
       → Carries c bs fs → UpIs d base front fs qs → AllByRecursion P (commands bs)
   commands_in P front [] fs qs each carries up = tt
   commands_in P front (b ∷ bs) [] qs each carries up = elim carries [ ]
   commands_in P front (b ∷ bs) (Bd s ∷ fs) qs each carries up =
-      subst (λ x. AllByRecursion P (in_frame command_in x ++ commands bs)) (sym carries.0) (commands_in P front bs fs qs each carries.1 up)
+      subst (λ x. AllByRecursion P (in_frame command_in x ++ commands bs)) (sym carries.0)
+      (commands_in P front bs fs qs each carries.1 up)
   commands_in P front (b ∷ bs) (Bc command ∷ fs) qs each carries up =
-      subst (λ x. AllByRecursion P (in_frame command_in x ++ commands bs)) (sym carries.0) (each command up.0 up.1, commands_in P front bs fs qs each carries.1 up.2)
+      subst (λ x. AllByRecursion P (in_frame command_in x ++ commands bs)) (sym carries.0)
+      (each command up.0 up.1, commands_in P front bs fs qs each carries.1 up.2)
   commands_in P front (b ∷ bs) (Ad m s ∷ fs) [] each carries up = elim up [ ]
   commands_in P front (b ∷ bs) (Ad m s ∷ fs) (q ∷ qs) each carries up =
-      subst (λ x. AllByRecursion P (in_frame command_in x ++ commands bs)) (sym carries.0) (commands_in P false bs fs qs (λ command e. absurd cc) carries.1 up.2)
+      subst (λ x. AllByRecursion P (in_frame command_in x ++ commands bs)) (sym carries.0)
+      (commands_in P false bs fs qs (λ command e. absurd cc) carries.1 up.2)
 
 pub report_told : (c : Config) (b : List ℕ) (r : Clcw) → Tells c b r → report_carried c b ≡ r ∷ []
 report_told c b r tells = ap report_of_frame tells.reads ∙ ap report_read tells.word
 
-pub reports_are : (c : Config) (bs : List (List ℕ)) (rs : List Clcw) → Reporting c bs rs → flat_map (report_carried c) bs ≡ rs
+pub reports_are : (c : Config) (bs : List (List ℕ)) (rs : List Clcw) → Reporting c bs rs
+    → flat_map (report_carried c) bs ≡ rs
 reports_are c [] [] h = refl
 reports_are c [] (r ∷ rs) h = elim h [ ]
 reports_are c (b ∷ bs) [] h = elim h [ ]
-reports_are c (b ∷ bs) (r ∷ rs) h = ap (λ xs. xs ++ flat_map (report_carried c) bs) (report_told c b r h.0) ∙ ap (λ xs. r ∷ xs) (reports_are c bs rs h.1)
+reports_are c (b ∷ bs) (r ∷ rs) h =
+    ap (λ xs. xs ++ flat_map (report_carried c) bs) (report_told c b r h.0)
+    ∙ ap (λ xs. r ∷ xs) (reports_are c bs rs h.1)
 
-reports_of : (c : Config) (w : World) (rs : List Clcw) → w.ground_node.config ≡ c → Reporting c w.down rs → reports_down w ≡ rs
+reports_of : (c : Config) (w : World) (rs : List Clcw) → w.ground_node.config ≡ c → Reporting c w.down rs
+    → reports_down w ≡ rs
 reports_of c w rs is h = ap (λ (x : Config). flat_map (report_carried x) w.down) is ∙ reports_are c w.down rs h
 
-rising_in : (base nn a low r last most : ℕ) (rs : List Clcw) (vs : List ℕ) → nn ≡ (base + a) % 256 → last ≡ (base + r) % 256 → a ≤ low → r ≤ a + most → most ≤ 127 → DownIs base rs vs → Rises low vs r → IsRising nn (low - a) rs last
-rising_in base nn a low r last most [] [] nn_is last_is le near small down up = omega (arith, nn_is, last_is, le, near, small, up)
+rising_in : (base nn a low r last most : ℕ) (rs : List Clcw) (vs : List ℕ) → nn ≡ (base + a) % 256
+    → last ≡ (base + r) % 256 → a ≤ low → r ≤ a + most → most ≤ 127 → DownIs base rs vs → Rises low vs r
+    → IsRising nn (low - a) rs last
+rising_in base nn a low r last most [] [] nn_is last_is le near small down up =
+    omega (arith, nn_is, last_is, le, near, small, up)
 rising_in base nn a low r last most [] (v ∷ vs) nn_is last_is le near small down up = elim down [ ]
 rising_in base nn a low r last most (c ∷ cs) [] nn_is last_is le near small down up = elim down [ ]
 rising_in base nn a low r last most (c ∷ cs) (v ∷ vs) nn_is last_is le near small down up =
     let high : v ≤ r = rises_to v r vs up.1 in
-    let value : ahead_by c.value nn ≡ v - a = omega (arith, down.0, nn_is, le, near, small, up.0, high) in
-    (omega (arith, value, le, up.0), rw value (rising_in base nn a v r last most cs vs nn_is last_is (omega (arith, le, up.0)) near small down.1 up.1))
+    let value : ahead_by c.value nn ≡ v - a = omega (arith, down.0, nn_is, le, near, small, up.0, high) in (
+      omega (arith, value, le, up.0),
+      rw value
+          (rising_in base nn a v r last most cs vs nn_is last_is (omega (arith, le, up.0)) near small down.1 up.1),
+    )
 
 -- ---- what is on its way, as the plain link has it
 
-same_units : (m n : ℕ) (s u : SegmentView) (xs ys : List (ℕ × SegmentView)) → m ≡ n → s ≡ u → xs ≡ ys → (m, s) ∷ xs ≡ (n, u) ∷ ys
+same_units : (m n : ℕ) (s u : SegmentView) (xs ys : List (ℕ × SegmentView)) → m ≡ n → s ≡ u → xs ≡ ys
+    → (m, s) ∷ xs ≡ (n, u) ∷ ys
 same_units m n s u xs ys number unit more = rw (number, unit, more) refl
 
 abbrev units : List (List ℕ) → List (ℕ × SegmentView)
 units bs = flat_map (λ octets. in_frame unit_in (frame_at On octets)) bs
 
 module _ (c : Config) (d : Directive) (base : ℕ) where
-  pub units_in : (front : Bool) (bs : List (List ℕ)) (fs : List BodyView) (qs : List (ℕ × SegmentView)) → Carries c bs fs → UpIs d base front fs qs → units bs ≡ map (numbered base) qs
+  pub units_in : (front : Bool) (bs : List (List ℕ)) (fs : List BodyView) (qs : List (ℕ × SegmentView))
+      → Carries c bs fs → UpIs d base front fs qs → units bs ≡ map (numbered base) qs
   units_in front [] [] [] carries up = refl
   units_in front [] [] (q ∷ qs) carries up = elim up [ ]
   units_in front [] (f ∷ fs) qs carries up = elim carries [ ]
   units_in front (b ∷ bs) [] qs carries up = elim carries [ ]
-  units_in front (b ∷ bs) (Bd s ∷ fs) qs carries up = ap (λ x. in_frame unit_in x ++ units bs) carries.0 ∙ units_in front bs fs qs carries.1 up
-  units_in front (b ∷ bs) (Bc command ∷ fs) qs carries up = ap (λ x. in_frame unit_in x ++ units bs) carries.0 ∙ units_in front bs fs qs carries.1 up.2
+  units_in front (b ∷ bs) (Bd s ∷ fs) qs carries up =
+      ap (λ x. in_frame unit_in x ++ units bs) carries.0 ∙ units_in front bs fs qs carries.1 up
+  units_in front (b ∷ bs) (Bc command ∷ fs) qs carries up =
+      ap (λ x. in_frame unit_in x ++ units bs) carries.0 ∙ units_in front bs fs qs carries.1 up.2
   units_in front (b ∷ bs) (Ad m s ∷ fs) [] carries up = elim up [ ]
-  units_in front (b ∷ bs) (Ad m s ∷ fs) (q ∷ qs) carries up = ap (λ x. in_frame unit_in x ++ units bs) carries.0 ∙ same_units m (number_of base q.0) s q.1 (units bs) (map (numbered base) qs) up.0 up.1 (units_in false bs fs qs carries.1 up.2)
+  units_in front (b ∷ bs) (Ad m s ∷ fs) (q ∷ qs) carries up =
+      ap (λ x. in_frame unit_in x ++ units bs) carries.0
+      ∙ same_units m (number_of base q.0) s q.1 (units bs) (map (numbered base) qs) up.0 up.1
+      (units_in false bs fs qs carries.1 up.2)
 
-pub values_in : (base : ℕ) (rs : List Clcw) (vs : List ℕ) → DownIs base rs vs → map (λ (r : Clcw). r.value) rs ≡ map (number_of base) vs
+pub values_in : (base : ℕ) (rs : List Clcw) (vs : List ℕ) → DownIs base rs vs
+    → map (λ (r : Clcw). r.value) rs ≡ map (number_of base) vs
 values_in base [] [] down = refl
 values_in base [] (v ∷ vs) down = elim down [ ]
 values_in base (r ∷ rs) [] down = elim down [ ]
-values_in base (r ∷ rs) (v ∷ vs) down = ap (λ (x : ℕ). x ∷ map (λ (r : Clcw). r.value) rs) down.0 ∙ ap (λ (xs : List ℕ). number_of base v ∷ xs) (values_in base rs vs down.1)
+values_in base (r ∷ rs) (v ∷ vs) down =
+    ap (λ (x : ℕ). x ∷ map (λ (r : Clcw). r.value) rs) down.0
+    ∙ ap (λ (xs : List ℕ). number_of base v ∷ xs) (values_in base rs vs down.1)
 
 -- ---- the promises
 
-pub directive_is : (w : World) (d : Directive) → w.session.opening ≡ Some (record { directive = d; clean = true }) → directive_of w ≡ Some d
+pub directive_is : (w : World) (d : Directive) → w.session.opening ≡ Some (record { directive = d; clean = true })
+    → directive_of w ≡ Some d
 directive_is w d is = ap (option_map (λ (o : Opening). o.directive)) is
 
 pub late_on : (m : FopMode) → IsActive m → is_closed m ≡ false
@@ -134,7 +168,8 @@ early_off d S4 early active = active
 early_off d S5 early active = active
 early_off d S6 early active = active
 
-leaves : (d : Directive) (base vr : ℕ) (command : Command) → CommandFits d base command → vr ≡ base → LeavesVr vr command
+leaves : (d : Directive) (base vr : ℕ) (command : Command) → CommandFits d base command → vr ≡ base
+    → LeavesVr vr command
 leaves d base vr Unlock fits is = tt
 leaves InitUnlock base vr (SetVr y) fits is = elim fits [ ]
 leaves (InitSetVr x) base vr (SetVr y) fits is = fits ∙ sym is
@@ -162,27 +197,39 @@ module _ (c : Config) (w : World) (k : Sound c w) (d : Directive) (base : ℕ) w
       let l = g.linked in
       let h : ℕ = c.width / 2 in
       let half : w.spacecraft.farm.width / 2 ≡ h = ap (λ x. x / 2) k.spacecraft.farm.width in
-      let each : (i : ℕ) → p.r ≤ i + h → i < p.n → IsInWindow (w.spacecraft.farm.width / 2) w.spacecraft.farm.vr ((base + i) % 256) = λ i low high. rw half (elim (cases_lt i p.r) [
+      let each : (i : ℕ) → p.r ≤ i + h → i < p.n
+      → IsInWindow (w.spacecraft.farm.width / 2) w.spacecraft.farm.vr ((base + i) % 256) =
+      λ i low high. rw half (elim (cases_lt i p.r) [
         | inl lt ↦ inr (omega (arith, l.vr_is, lt, low, k.ranges.width))
         | inr ge ↦ inl (omega (arith, l.vr_is, ge, high, l.n_a, l.a_r, k.ranges.width))
       ]) in
       record {
-        up = numbers_in c d base h p.n p.units (IsInWindow (w.spacecraft.farm.width / 2) w.spacecraft.farm.vr) p.r g.front w.up g.frames p.up p.r each (omega arith) l.carries l.up_is l.fits;
+        up = numbers_in c d base h p.n p.units (IsInWindow (w.spacecraft.farm.width / 2) w.spacecraft.farm.vr) p.r
+            g.front w.up g.frames p.up p.r each (omega arith) l.carries l.up_is l.fits;
         down = λ settled active.
             let on : is_closed w.ground_node.fop.state ≡ false = late_on w.ground_node.fop.state active in
-            let was : Holds base w.ground_node.fop.vs w.ground_node.fop.nn w.ground_node.fop.sent (unsent_segments w.ground_node) p.a p.n p.units = let it : Held false base w.ground_node.fop.vs w.ground_node.fop.nn w.ground_node.fop.sent (unsent_segments w.ground_node) p.a p.n p.units = rw on at l.held in it in
+            let was : Holds base w.ground_node.fop.vs w.ground_node.fop.nn w.ground_node.fop.sent
+            (unsent_segments w.ground_node) p.a p.n p.units =
+            let it : Held false base w.ground_node.fop.vs w.ground_node.fop.nn w.ground_node.fop.sent
+            (unsent_segments w.ground_node) p.a p.n p.units = rw on at l.held in it in
             let most : h ≤ 127 = omega (arith, k.ranges.width) in
-            let rising : IsRising w.ground_node.fop.nn (p.a - p.a) g.reports w.spacecraft.farm.vr = rising_in base w.ground_node.fop.nn p.a p.a p.r w.spacecraft.farm.vr h g.reports p.down was.nn_is l.vr_is (omega arith) (omega (arith, l.r_n, l.n_a)) most l.down_is l.rises in
+            let rising : IsRising w.ground_node.fop.nn (p.a - p.a) g.reports w.spacecraft.farm.vr =
+            rising_in base w.ground_node.fop.nn p.a p.a p.r w.spacecraft.farm.vr h g.reports p.down was.nn_is
+            l.vr_is (omega arith) (omega (arith, l.r_n, l.n_a)) most l.down_is l.rises in
             let zero : p.a - p.a ≡ 0 = omega arith in
-            let from_zero : IsRising w.ground_node.fop.nn 0 g.reports w.spacecraft.farm.vr = rw zero at rising in
-            (rw (reports_of c w g.reports k.ground_node.config l.reporting) from_zero, omega (arith, was.vs_is, was.nn_is, l.vr_is, l.a_r, l.r_n, l.n_a, most));
+            let from_zero : IsRising w.ground_node.fop.nn 0 g.reports w.spacecraft.farm.vr = rw zero at rising in (
+              rw (reports_of c w g.reports k.ground_node.config l.reporting) from_zero,
+              omega
+                  (arith, was.vs_is, was.nn_is, l.vr_is, l.a_r, l.r_n, l.n_a, most),
+            );
       }
 
   early_window : Begun c d base w → KeepsToWindow w
   early_window g =
       let l = g.early in
       record {
-        up = numbers_in c d base 0 0 [] (IsInWindow (w.spacecraft.farm.width / 2) w.spacecraft.farm.vr) 0 true w.up g.frames [] 0 (λ i low high. absurd (omega (arith, high))) (omega arith) l.carries l.up_is tt;
+        up = numbers_in c d base 0 0 [] (IsInWindow (w.spacecraft.farm.width / 2) w.spacecraft.farm.vr) 0 true w.up
+            g.frames [] 0 (λ i low high. absurd (omega (arith, high))) (omega arith) l.carries l.up_is tt;
         down = λ settled active. absurd (early_off d w.ground_node.fop.state l.early active);
       }
 
@@ -198,11 +245,19 @@ module _ (c : Config) (w : World) (k : Sound c w) (d : Directive) (base : ℕ) w
             );
         exact = λ confirmed active nothing.
             let on : is_closed w.ground_node.fop.state ≡ false = late_on w.ground_node.fop.state active in
-            let was : Holds base w.ground_node.fop.vs w.ground_node.fop.nn w.ground_node.fop.sent (unsent_segments w.ground_node) p.a p.n p.units = let it : Held false base w.ground_node.fop.vs w.ground_node.fop.nn w.ground_node.fop.sent (unsent_segments w.ground_node) p.a p.n p.units = rw on at l.held in it in
-            let none : p.n ≡ 0 = sym (length-take-le p.n p.units l.n_most) ∙ sym (length-map (take p.n p.units) segment_octets) ∙ sym (ap length l.sent_is) ∙ ap length nothing in
+            let was : Holds base w.ground_node.fop.vs w.ground_node.fop.nn w.ground_node.fop.sent
+            (unsent_segments w.ground_node) p.a p.n p.units =
+            let it : Held false base w.ground_node.fop.vs w.ground_node.fop.nn w.ground_node.fop.sent
+            (unsent_segments w.ground_node) p.a p.n p.units = rw on at l.held in it in
+            let none : p.n ≡ 0 =
+            sym (length-take-le p.n p.units l.n_most) ∙ sym (length-map (take p.n p.units) segment_octets)
+            ∙ sym (ap length l.sent_is) ∙ ap length nothing in
             (omega (arith, none, l.vr_is, was.vs_is, l.r_n), omega (arith, none, was.nn_is, was.vs_is, l.a_r, l.r_n));
-        commands = λ confirmed. commands_in c d base 0 0 [] (LeavesVr w.spacecraft.farm.vr) g.front w.up g.frames p.up (λ command front fits. leaves d base w.spacecraft.farm.vr command fits (omega (arith, l.first front, l.vr_is, l.base_octet))) l.carries l.up_is;
-        unlocked = λ confirmed. state_by w.spacecraft.farm k.spacecraft.farm.flags (g.calm (l.confirmed_so confirmed)).unlocked;
+        commands = λ confirmed. commands_in c d base 0 0 [] (LeavesVr w.spacecraft.farm.vr) g.front w.up g.frames p.up
+            (λ command front fits. leaves d base w.spacecraft.farm.vr command fits
+            (omega (arith, l.first front, l.vr_is, l.base_octet))) l.carries l.up_is;
+        unlocked = λ confirmed. state_by w.spacecraft.farm k.spacecraft.farm.flags
+            (g.calm (l.confirmed_so confirmed)).unlocked;
       }
 
   early_confirmed : Begun c d base w → IsConfirmedExactly w
@@ -216,7 +271,13 @@ module _ (c : Config) (w : World) (k : Sound c w) (d : Directive) (base : ℕ) w
       }
 
 pub keeps_to_window : (c : Config) (w : World) → Sound c w → Clean c w → KeepsToWindow w
-keeps_to_window c w k s = elim s.session [ inl g ↦ early_window c w k s.directive s.base g | inr g ↦ late_window c w k s.directive s.base g ]
+keeps_to_window c w k s =
+    elim s.session [ inl g ↦ early_window c w k s.directive s.base g | inr g ↦ late_window c w k s.directive s.base g ]
 
 pub is_confirmed_exactly : (c : Config) (w : World) → Sound c w → Clean c w → IsConfirmedExactly w
-is_confirmed_exactly c w k s = elim s.session [ inl g ↦ early_confirmed c w k s.directive s.base g | inr g ↦ late_confirmed c w k s.directive s.base g ]
+is_confirmed_exactly c w k s =
+    elim s.session [
+      | inl g ↦ early_confirmed c w k s.directive s.base g
+      | inr g ↦ late_confirmed c w k s.directive
+          s.base g
+    ]

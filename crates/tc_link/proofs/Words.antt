@@ -19,7 +19,8 @@ flags_multiple false true false = refl
 flags_multiple false false true = refl
 flags_multiple false false false = refl
 
-pub locks_is : (s : FarmState) (l w t : Bool) → s.lockout ≡ l → s.wait ≡ w → s.retransmit ≡ t → (vcid : ℕ) → locks (report_of s vcid) ≡ l
+pub locks_is : (s : FarmState) (l w t : Bool) → s.lockout ≡ l → s.wait ≡ w → s.retransmit ≡ t → (vcid : ℕ)
+    → locks (report_of s vcid) ≡ l
 locks_is s true true true e f g vcid = rw (e, f, g) refl
 locks_is s true true false e f g vcid = rw (e, f, g) refl
 locks_is s true false true e f g vcid = rw (e, f, g) refl
@@ -29,7 +30,8 @@ locks_is s false true false e f g vcid = rw (e, f, g) refl
 locks_is s false false true e f g vcid = rw (e, f, g) refl
 locks_is s false false false e f g vcid = rw (e, f, g) refl
 
-pub waits_is : (s : FarmState) (l w t : Bool) → s.lockout ≡ l → s.wait ≡ w → s.retransmit ≡ t → (vcid : ℕ) → waits (report_of s vcid) ≡ w
+pub waits_is : (s : FarmState) (l w t : Bool) → s.lockout ≡ l → s.wait ≡ w → s.retransmit ≡ t → (vcid : ℕ)
+    → waits (report_of s vcid) ≡ w
 waits_is s true true true e f g vcid = rw (e, f, g) refl
 waits_is s true true false e f g vcid = rw (e, f, g) refl
 waits_is s true false true e f g vcid = rw (e, f, g) refl
@@ -39,7 +41,8 @@ waits_is s false true false e f g vcid = rw (e, f, g) refl
 waits_is s false false true e f g vcid = rw (e, f, g) refl
 waits_is s false false false e f g vcid = rw (e, f, g) refl
 
-pub asks_is : (s : FarmState) (l w t : Bool) → s.lockout ≡ l → s.wait ≡ w → s.retransmit ≡ t → (vcid : ℕ) → asks (report_of s vcid) ≡ t
+pub asks_is : (s : FarmState) (l w t : Bool) → s.lockout ≡ l → s.wait ≡ w → s.retransmit ≡ t → (vcid : ℕ)
+    → asks (report_of s vcid) ≡ t
 asks_is s true true true e f g vcid = rw (e, f, g) refl
 asks_is s true true false e f g vcid = rw (e, f, g) refl
 asks_is s true false true e f g vcid = rw (e, f, g) refl
@@ -49,7 +52,8 @@ asks_is s false true false e f g vcid = rw (e, f, g) refl
 asks_is s false false true e f g vcid = rw (e, f, g) refl
 asks_is s false false false e f g vcid = rw (e, f, g) refl
 
-read_again : (word : Clcw) → word.status ≡ 0 → flags_number word.flags % 8 ≡ 0 → word.farm_b < 4 → clcw_at (spelling word) ≡ Ok word
+read_again : (word : Clcw) → word.status ≡ 0 → flags_number word.flags % 8 ≡ 0 → word.farm_b < 4
+    → clcw_at (spelling word) ≡ Ok word
 unfolding clcw_at
 read_again word status flags farm_b =
     let kind : eqb ((4 * word.status + 1) / 128) 0 ≡ true = eq-eqb _ _ (omega (arith, status)) in
@@ -59,9 +63,11 @@ read_again word status flags farm_b =
     let last : eqb ((flags_number word.flags + 2 * word.farm_b) % 2) 0 ≡ true = eq-eqb _ _ (omega (arith, flags)) in
     let status_is : (4 * word.status + 1) / 4 % 8 ≡ word.status = omega (arith, status) in
     let vcid_is : 4 * word.vcid / 4 ≡ word.vcid = omega arith in
-    let flags_is : (flags_number word.flags + 2 * word.farm_b) / 8 * 8 ≡ flags_number word.flags = omega (arith, flags, farm_b) in
+    let flags_is : (flags_number word.flags + 2 * word.farm_b) / 8 * 8 ≡ flags_number word.flags =
+    omega (arith, flags, farm_b) in
     let farm_b_is : (flags_number word.flags + 2 * word.farm_b) / 2 % 4 ≡ word.farm_b = omega (arith, flags, farm_b) in
     rw (kind, version, cop, spare, last, status_is, vcid_is, flags_is, farm_b_is) refl
 
-pub report_reads : (s : FarmState) (vcid : ℕ) → s.farm_b < 4 → clcw_at (spelling (report_of s vcid)) ≡ Ok (report_of s vcid)
+pub report_reads : (s : FarmState) (vcid : ℕ) → s.farm_b < 4
+    → clcw_at (spelling (report_of s vcid)) ≡ Ok (report_of s vcid)
 report_reads s vcid farm_b = read_again (report_of s vcid) refl (flags_multiple s.lockout s.wait s.retransmit) farm_b

@@ -5,7 +5,9 @@ use Rattle.tc_frame.specs.declared.frame.Command.{Command}
 use Rattle.tc_frame.specs.declared.frame.Command.TheVariants.{Unlock, SetVr}
 use Rattle.cop1.specs.declared.farm.FarmMode.TheVariants.{Lockout}
 use Rattle.cop1.specs.declared.fop.Directive.{Directive}
-use Rattle.cop1.specs.declared.fop.Directive.TheVariants.{InitWithoutCheck, InitWithCheck, InitUnlock, InitSetVr, Terminate, SetVs, SetWindow, SetLimit, SetTimer}
+use Rattle.cop1.specs.declared.fop.Directive.TheVariants.{InitWithoutCheck, InitWithCheck}
+use Rattle.cop1.specs.declared.fop.Directive.TheVariants.{InitUnlock, InitSetVr, Terminate, SetVs}
+use Rattle.cop1.specs.declared.fop.Directive.TheVariants.{SetWindow, SetLimit, SetTimer}
 use Rattle.cop1.specs.FopState.{IsActive}
 use Rattle.tc_link.specs.InTransit.{commands_up}
 use Rattle.tc_link.specs.World.{World, accepted, directive_of}

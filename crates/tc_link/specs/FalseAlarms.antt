@@ -1,9 +1,11 @@
 -- No false alarm: the receiver does not lock, and each alert has its cause.
-use Rattle.std.specs.Prelude.{◌≡◌, ◌≢◌, ℕ, List, [], ◌∷◌, true, false, Option, Some, None, Result, Ok, Err}
+use Rattle.std.specs.Prelude.{◌≡◌, ◌≢◌, ℕ, List, [], ◌∷◌, true, false, Option, Some, None, Result}
+use Rattle.std.specs.Prelude.{Ok, Err}
 use Rattle.clcw.specs.declared.word.Clcw.{Clcw}
 use Rattle.cop1.specs.declared.farm.FarmMode.TheVariants as farm
 use Rattle.cop1.specs.declared.fop.Alert.{Alert}
-use Rattle.cop1.specs.declared.fop.Alert.TheVariants.{Lockout, NnR, Clcw as ClcwAlert, Synch, Limit, Timer, Terminated}
+use Rattle.cop1.specs.declared.fop.Alert.TheVariants.{Lockout, NnR, Clcw as ClcwAlert, Synch, Limit}
+use Rattle.cop1.specs.declared.fop.Alert.TheVariants.{Timer, Terminated}
 use Rattle.cop1.specs.declared.fop.Directive.TheVariants.{InitWithCheck, Terminate}
 use Rattle.cop1.specs.FopReport.{asks}
 use Rattle.nodes.specs.declared.config.Config.{Config}
@@ -13,7 +15,8 @@ use Rattle.nodes.specs.declared.heard.Heard.{Heard}
 use Rattle.nodes.specs.declared.heard.Heard.TheVariants as heard_cases
 use Rattle.tc_link.specs.declared.sim.fault.SimFault.{SimFault}
 use Rattle.tc_link.specs.InTransit.{report_carried}
-use Rattle.tc_link.specs.Replies.{ReplyView, Done, Nothing, Lost, Refused, Alerted, Sent, Reported, Up, Down, Packet}
+use Rattle.tc_link.specs.Replies.{ReplyView, Done, Nothing, Lost, Refused, Alerted, Sent, Reported}
+use Rattle.tc_link.specs.Replies.{Up, Down, Packet}
 use Rattle.tc_link.specs.World.{World, world_step, directive_of}
 
 -- ---- the alert that is answered

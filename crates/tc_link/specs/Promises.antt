@@ -7,7 +7,8 @@ use Rattle.tc_link.specs.FalseAlarms.{HasNoFalseAlarm}
 use Rattle.tc_link.specs.History.{HasPlainHistory, GoesOnByAStep}
 use Rattle.tc_link.specs.InOrder.{IsInOrder}
 use Rattle.tc_link.specs.InTransit.{KeepsToWindow}
-use Rattle.tc_link.specs.World.{World, new_world, world_step, world_run, IsClean, IsSettled, BeginsNoSession, directive_of}
+use Rattle.tc_link.specs.World.{World, new_world, world_step, world_run, IsClean, IsSettled}
+use Rattle.tc_link.specs.World.{BeginsNoSession, directive_of}
 
 -- of a world
 pub record IsPromised (w : World) : Type 0 where

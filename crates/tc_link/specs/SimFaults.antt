@@ -1,7 +1,8 @@
 -- The numbers and names of a simulated link's refusals.
 use Rattle.std.specs.Prelude.{ℕ, List, codes}
 use Rattle.tc_link.specs.declared.sim.fault.SimFault.{SimFault}
-use Rattle.tc_link.specs.declared.sim.fault.SimFault.TheVariants.{Memory, NothingInTransit, NotDetectable, Config}
+use Rattle.tc_link.specs.declared.sim.fault.SimFault.TheVariants.{Memory, NothingInTransit}
+use Rattle.tc_link.specs.declared.sim.fault.SimFault.TheVariants.{NotDetectable, Config}
 
 abbrev pub fault_number : SimFault → ℕ
 fault_number Memory = 6

@@ -1,5 +1,6 @@
 -- A simulated link with the answers of a run.
-use Rattle.std.specs.Prelude.{◌≡◌, ℕ, List, [], ◌∷◌, ◌++◌, false, Option, Some, None, IsSome, Result, Ok, Err}
+use Rattle.std.specs.Prelude.{◌≡◌, ℕ, List, [], ◌∷◌, ◌++◌, false, Option, Some, None, IsSome}
+use Rattle.std.specs.Prelude.{Result, Ok, Err}
 use Rattle.tc_frame.specs.declared.frame.Check.TheVariants.{On}
 use Rattle.tc_frame.specs.Reading as command
 use Rattle.tm_link.specs.Building.{is_to_send}
@@ -60,8 +61,8 @@ abbrev pub IfFirst : List (List ℕ) → (List ℕ → Type 0) → Type 0
 IfFirst [] P = Unit {0}
 IfFirst (octets ∷ more) P = P octets
 
--- an event takes no memory: packets are refused, a frame's data are not handed on, a telemetry frame
--- finishes no packet, or nothing is to be kept
+-- an event takes no memory: packets are refused, a frame's data are not handed on, a telemetry
+-- frame finishes no packet, or nothing is to be kept
 abbrev pub TakesNone : World → Event → Type 0
 TakesNone w (events.Submit m octets) = IsSome (submit_fault w.ground_node m octets.now)
 TakesNone w (events.Bypass m octets) = IsSome (bypass_fault w.ground_node m octets.now)

@@ -1,6 +1,8 @@
 -- A simulated link: its world, and what each event answers and leaves. Each direction keeps its
 -- order, and loses or damages frames only so that the receiver sees it.
-use Rattle.std.specs.Prelude.{◌≡◌, ◌⊎◌, option_map, ℕ, List, [], ◌∷◌, ◌++◌, length, take, drop, map, flat_map, filter, Bool, true, false, ◌&&◌, ◌||◌, ◌==◌, if◌then◌else◌, ◌+◌, Option, Some, None, Result, Ok, Err}
+use Rattle.std.specs.Prelude.{◌≡◌, ◌⊎◌, option_map, ℕ, List, [], ◌∷◌, ◌++◌, length, take, drop, map}
+use Rattle.std.specs.Prelude.{flat_map, filter, Bool, true, false, ◌&&◌, ◌||◌, ◌==◌, if◌then◌else◌}
+use Rattle.std.specs.Prelude.{◌+◌, Option, Some, None, Result, Ok, Err}
 use Rattle.tc_frame.specs.declared.frame.Check.TheVariants.{On}
 use Rattle.tc_frame.specs.declared.fault.TcFault.{TcFault}
 use Rattle.tc_frame.specs.Layout.{SegmentView, BodyView, Ad, Bd, Bc, FrameView, segment_octets}
@@ -13,7 +15,9 @@ use Rattle.cop1.specs.Report.{report_of}
 use Rattle.cop1.specs.declared.fault.CopFault.{CopFault}
 use Rattle.cop1.specs.declared.fop.Alert.{Alert}
 use Rattle.cop1.specs.declared.fop.Directive.{Directive}
-use Rattle.cop1.specs.declared.fop.Directive.TheVariants.{InitWithoutCheck, InitWithCheck, InitUnlock, InitSetVr, Terminate, SetVs, SetWindow, SetLimit, SetTimer}
+use Rattle.cop1.specs.declared.fop.Directive.TheVariants.{InitWithoutCheck, InitWithCheck}
+use Rattle.cop1.specs.declared.fop.Directive.TheVariants.{InitUnlock, InitSetVr, Terminate, SetVs}
+use Rattle.cop1.specs.declared.fop.Directive.TheVariants.{SetWindow, SetLimit, SetTimer}
 use Rattle.cop1.specs.declared.fop.FopMode.{FopMode}
 use Rattle.cop1.specs.declared.fop.FopMode.TheVariants.{S1, S2, S3, S4, S5, S6}
 use Rattle.tm_link.specs.declared.fault.TmFault.{TmFault}
@@ -35,9 +39,12 @@ use Rattle.nodes.specs.Parameters.{limits_of}
 use Rattle.nodes.specs.Packets.{PacketOn, packet_on}
 use Rattle.nodes.specs.Ground.{GroundState, GroundOutcome, is_closed, new_ground, ground_step}
 use Rattle.nodes.specs.Ground as ground_calls
-use Rattle.nodes.specs.Spacecraft.{SpacecraftState, SpacecraftOutcome, new_spacecraft, spacecraft_step}
+use Rattle.nodes.specs.Spacecraft.{SpacecraftState, SpacecraftOutcome, new_spacecraft}
+use Rattle.nodes.specs.Spacecraft.{spacecraft_step}
 use Rattle.nodes.specs.Spacecraft as spacecraft_calls
-use Rattle.tc_link.specs.Replies.{ReplyView, Nothing, Lost, Sent, Reported, Up, Down, reply_to_submission, reply_to_directive, reply_to_alert, reply_to_taking, reply_to_telemetry}
+use Rattle.tc_link.specs.Replies.{ReplyView, Nothing, Lost, Sent, Reported, Up, Down}
+use Rattle.tc_link.specs.Replies.{reply_to_submission, reply_to_directive, reply_to_alert}
+use Rattle.tc_link.specs.Replies.{reply_to_taking, reply_to_telemetry}
 
 -- the records of the session, which lasts until the next one begins; none has begun at first
 pub record Session : Type 0 where

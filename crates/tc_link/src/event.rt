@@ -41,7 +41,7 @@ impl Event<'_> {
     ghost use Rattle.tc_link.specs.Reached.{IsEvent};
 
     // The numbers that an event sets are octets; this does nothing.
-    pub(crate) fn has_octets(self)
+    pub(crate) fn keeps_octets(self)
         ensures { IsEvent self.entry }
     {
         match self {

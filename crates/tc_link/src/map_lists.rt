@@ -26,7 +26,7 @@ pub(crate) fn packets_of(lists: &[Vec<Vec<u8>>; 64], map: u8) -> &[Vec<u8>]
     }
 }
 
-// Makes room for so many packets more on a MAP.
+// Makes room for this many packets more on a MAP.
 pub(crate) fn make_room(
     lists: &mut [Vec<Vec<u8>>; 64],
     map: u8,
@@ -39,7 +39,7 @@ pub(crate) fn make_room(
     lists[usize::from(map)].try_reserve(more)
 }
 
-// Puts packets, for which there is room, behind those on their MAP.
+// Puts packets, for which there is room, after those on their MAP.
 pub(crate) fn append_on(lists: &mut [Vec<Vec<u8>>; 64], map: u8, packets: Vec<Vec<u8>>)
     requires map { map < 64 }
     requires room { HasRoom lists.old map (length packets.items) }

@@ -100,7 +100,7 @@ impl Sim {
         ensures no_false_alarm { IsClean self.old.world → IsChecking (directive_of self.old.world)
             → HasNoFalseAlarm self.old.world event.entry }
     {
-        event.has_octets();
+        event.keeps_octets();
         self.world.step(event)
     }
 

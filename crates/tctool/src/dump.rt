@@ -19,7 +19,7 @@ use crate::simulation::simulate;
 use crate::task::{Options, Task};
 use cop1::Farm;
 use listings::{
-    DumpFault, FrameCutter, FrameLength, FrameListing, Listing, MOST_OCTETS, MapListing,
+    FrameCutter, FrameLength, FrameListing, Listing, ListingFault, MOST_OCTETS, MapListing,
     PacketListing, RefusalListing, Sink, Source, TelemetryListing, list_stream,
 };
 use octets::{Splitter, Wire};
@@ -42,7 +42,7 @@ pub fn dump<R: Source, W: Sink>(
     reader: &mut R,
     writer: &mut W,
     options: &Options,
-) -> Result<Outcome, DumpFault>
+) -> Result<Outcome, ListingFault>
     requires { IsInRange options.now.task }
     ensures given { IsBeginning (R.given reader.old) (R.given reader.new) }
     ensures text { Writes result (W.taken_octets writer.old) (W.taken_octets writer.new)
@@ -57,7 +57,7 @@ pub fn dump<R: Source, W: Sink>(
         (lines_of options.now.task (gained (R.given reader.old) (R.given reader.new))) }
     ensures read { R.failures reader.new ≡ R.failures reader.old + reads_failed_in result }
     ensures write { W.failures writer.new ≡ W.failures writer.old + writes_failed_in result }
-    ensures too_long { result ≡ Err DumpFault.TooLong
+    ensures too_long { result ≡ Err ListingFault.TooLong
         → 9223372036854775807 < length (gained (R.given reader.old) (R.given reader.new)) }
 {
     match options.task {
@@ -111,7 +111,7 @@ fn list_file<L: Wire, C: Listing<Splitter<L>> + Drop, R: Source, W: Sink>(
     reader: &mut R,
     writer: &mut W,
     listing: C,
-) -> Result<Outcome, DumpFault>
+) -> Result<Outcome, ListingFault>
     ensures given { IsBeginning (R.given reader.old) (R.given reader.new) }
     ensures text { Writes result (W.taken_octets writer.old) (W.taken_octets writer.new)
         (text_of C.lines (layout_by L.HEAD L.extent_of L.truncated_fault)
@@ -130,7 +130,7 @@ fn list_file<L: Wire, C: Listing<Splitter<L>> + Drop, R: Source, W: Sink>(
         (fresh listing (gained (R.given reader.old) (R.given reader.new)))) }
     ensures read { R.failures reader.new ≡ R.failures reader.old + reads_failed_in result }
     ensures write { W.failures writer.new ≡ W.failures writer.old + writes_failed_in result }
-    ensures too_long { result ≡ Err DumpFault.TooLong
+    ensures too_long { result ≡ Err ListingFault.TooLong
         → MOST_OCTETS < length (gained (R.given reader.old) (R.given reader.new)) }
 {
     match list_stream(alloc, reader, writer, Splitter::<L>::new(alloc), listing) {
@@ -145,7 +145,7 @@ fn list_frames<K: FrameLength, R: Source, W: Sink>(
     reader: &mut R,
     writer: &mut W,
     size: u16,
-) -> Result<Outcome, DumpFault>
+) -> Result<Outcome, ListingFault>
     requires { size ≡ K.payload + 12 }
     ensures given { IsBeginning (R.given reader.old) (R.given reader.new) }
     ensures text { Writes result (W.taken_octets writer.old) (W.taken_octets writer.new)
@@ -160,11 +160,11 @@ fn list_frames<K: FrameLength, R: Source, W: Sink>(
         (lines_of (tasks.Tm size) (gained (R.given reader.old) (R.given reader.new))) }
     ensures read { R.failures reader.new ≡ R.failures reader.old + reads_failed_in result }
     ensures write { W.failures writer.new ≡ W.failures writer.old + writes_failed_in result }
-    ensures too_long { result ≡ Err DumpFault.TooLong
+    ensures too_long { result ≡ Err ListingFault.TooLong
         → 9223372036854775807 < length (gained (R.given reader.old) (R.given reader.new)) }
 {
     let Ok(frames) = TelemetryListing::<K>::new(alloc, size) else {
-        return Err(DumpFault::Memory);
+        return Err(ListingFault::Memory);
     };
     let cutter = FrameCutter::<K>::new(alloc, usize::from(size));
     match list_stream(alloc, reader, writer, cutter, frames) {

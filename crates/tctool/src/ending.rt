@@ -7,12 +7,12 @@ ghost use Rattle.tctool.specs.Status.{ending_line, exit_status, fault_line};
 
 use crate::outcome::Outcome;
 use itoa::Buffer;
-use listings::{DumpFault, Sink, WriteFailed, write_all};
+use listings::{ListingFault, Sink, WriteFailed, write_all};
 
 /// Writes the line for standard error, where there is one, and answers the status: 0 where all was
 /// good, 1 for a fault in the data or the script, 3 where a device or memory failed or the input was too long. A
 /// fault of the sink is passed over; it has taken a beginning of the line then.
-pub fn ending<W: Sink>(dumped: &Result<Outcome, DumpFault>, errors: &mut W) -> u8
+pub fn ending<W: Sink>(dumped: &Result<Outcome, ListingFault>, errors: &mut W) -> u8
     ensures status { result ≡ exit_status dumped.now }
     ensures line { IsBeginning (W.taken_octets errors.new)
         (W.taken_octets errors.old ++ ending_line dumped.now) }
@@ -23,7 +23,7 @@ pub fn ending<W: Sink>(dumped: &Result<Outcome, DumpFault>, errors: &mut W) -> u
     status_of(dumped)
 }
 
-fn status_of(dumped: &Result<Outcome, DumpFault>) -> u8
+fn status_of(dumped: &Result<Outcome, ListingFault>) -> u8
     ensures { result ≡ exit_status dumped.now }
 {
     match dumped {
@@ -36,7 +36,7 @@ fn status_of(dumped: &Result<Outcome, DumpFault>) -> u8
 }
 
 fn write_ending<W: Sink>(
-    dumped: &Result<Outcome, DumpFault>,
+    dumped: &Result<Outcome, ListingFault>,
     errors: &mut W,
 ) -> Result<(), WriteFailed>
     ensures ok { OnOk result (W.taken_octets errors.new
@@ -61,14 +61,14 @@ fn write_ending<W: Sink>(
 }
 
 // The line of a fault.
-fn line_of(fault: DumpFault) -> &'static str
+fn line_of(fault: ListingFault) -> &'static str
     ensures { result.now ≡ fault_line fault }
 {
     match fault {
-        DumpFault::Read => "tctool: read failed\n",
-        DumpFault::Write => "tctool: write failed\n",
-        DumpFault::Memory => "tctool: no memory\n",
-        DumpFault::TooLong => "tctool: input too long\n",
+        ListingFault::Read => "tctool: read failed\n",
+        ListingFault::Write => "tctool: write failed\n",
+        ListingFault::Memory => "tctool: no memory\n",
+        ListingFault::TooLong => "tctool: input too long\n",
     }
 }
 

@@ -32,7 +32,7 @@ impl GivenWords {
         Ok(given)
     }
 
-    /// Whether all words behind the program's name are Unicode.
+    /// Whether all words after the program's name are Unicode.
     pub fn is_unicode(&self) -> bool {
         self.is_unicode
     }

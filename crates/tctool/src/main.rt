@@ -17,7 +17,7 @@ use clap::Error;
 use clap::error::ErrorKind;
 use ending::ending;
 use given::GivenWords;
-use listings::{DumpFault, Reader, Writer};
+use listings::{ListingFault, Reader, Writer};
 use std::fs::File;
 use std::io;
 use std::io::Read;
@@ -27,18 +27,18 @@ use task::{Options, UsageFault};
 fn main(rt: HostRuntime) -> ExitCode {
     ExitCode::from(match GivenWords::read(&rt, rt.alloc()) {
         Ok(given) => status_for(&rt, &given),
-        Err(_) => fails(&rt, DumpFault::Memory),
+        Err(_) => fails(&rt, ListingFault::Memory),
     })
 }
 
 // Tells a fault on standard error, and answers the status.
-fn fails(rt: &HostRuntime, fault: DumpFault) -> u8 {
+fn fails(rt: &HostRuntime, fault: ListingFault) -> u8 {
     ending(&Err(fault), &mut Writer::new(rt.stderr()))
 }
 
 fn status_for(rt: &HostRuntime, given: &GivenWords) -> u8 {
     let Ok(texts) = given.texts(rt.alloc()) else {
-        return fails(rt, DumpFault::Memory);
+        return fails(rt, ListingFault::Memory);
     };
     match words::options(rt.alloc(), texts.as_slice()) {
         Ok(options) if given.is_unicode() => run(rt, &options),
@@ -54,13 +54,13 @@ fn status_for(rt: &HostRuntime, given: &GivenWords) -> u8 {
 // Prints what the parser of the words answers.
 fn answer(rt: &HostRuntime, error: &Error) -> u8 {
     if error.kind() == ErrorKind::OutOfMemory {
-        return fails(rt, DumpFault::Memory);
+        return fails(rt, ListingFault::Memory);
     }
     let printed = error.print(rt);
     if error.use_stderr() {
         2
     } else if printed.is_err() {
-        fails(rt, DumpFault::Write)
+        fails(rt, ListingFault::Write)
     } else {
         0
     }

@@ -5,7 +5,7 @@ ghost use Rattle.std.specs.Prelude.{◌≡◌};
 /// How a dump ends that has come to its input's end.
 #[derive(Clone, Copy, Debug, Drop, PartialEq, Eq)]
 pub enum Outcome {
-    /// Every record is good, and nothing is left behind them.
+    /// Every record is good, and nothing is left after them.
     Good,
     /// There is a record that is refused, or octets are left that are no record.
     Faulty,

@@ -14,7 +14,7 @@ ghost use Rattle.tctool.specs.Outcome.{outcome_view, as_outcome};
 ghost use Rattle.listings.specs.Writing.{BeginsToWrite, Writes};
 
 use crate::outcome::Outcome;
-use listings::{DumpFault, MOST_OCTETS, Sink, Source, WriteFailed, write_all};
+use listings::{ListingFault, MOST_OCTETS, Sink, Source, WriteFailed, write_all};
 use script::{Program, ScriptFault, open, play_some};
 use std::alloc::Global;
 use tc_link::Sim;
@@ -25,23 +25,23 @@ fn write_answers<W: Sink>(
     writer: &mut W,
     sim: &mut Sim,
     program: &Program<'_>,
-) -> Result<(), DumpFault>
+) -> Result<(), ListingFault>
     ensures ok { Writes result (W.taken_octets writer.old) (W.taken_octets writer.new)
         (answers_from sim.old.world (program_lines program.now)) }
     ensures beginning { BeginsToWrite result (W.taken_octets writer.old) (W.taken_octets writer.new)
         (answers_from sim.old.world (program_lines program.now)) }
     ensures failures { W.failures writer.new ≡ W.failures writer.old + writes_failed_in result }
-    ensures faults { IfErr result (λ e. (e ≡ DumpFault.Write) ⊎ (e ≡ DumpFault.Memory)) }
+    ensures faults { IfErr result (λ e. (e ≡ ListingFault.Write) ⊎ (e ≡ ListingFault.Memory)) }
 {
     let mut text = String::new(alloc);
     let mut rest = program.all();
     'pieces: loop {
         text.clear();
         let Ok(left) = play_some(alloc, sim, &mut text, rest) else {
-            return Err(DumpFault::Memory);
+            return Err(ListingFault::Memory);
         };
         if let Err(WriteFailed) = write_all(writer, text.as_bytes()) {
-            return Err(DumpFault::Write);
+            return Err(ListingFault::Write);
         }
         let Some(left) = left else {
             return Ok(());
@@ -52,7 +52,11 @@ fn write_answers<W: Sink>(
 
 /// Reads the lines of a script and then plays it, where all are readable and the configuration is in
 /// range.
-fn run_script<W: Sink>(alloc: Global, writer: &mut W, script: &[u8]) -> Result<Outcome, DumpFault>
+fn run_script<W: Sink>(
+    alloc: Global,
+    writer: &mut W,
+    script: &[u8],
+) -> Result<Outcome, ListingFault>
     requires { length script.now < 2 ^ 64 - 1 }
     ensures text { Writes result (W.taken_octets writer.old) (W.taken_octets writer.new)
         (script_text script.now) }
@@ -61,7 +65,7 @@ fn run_script<W: Sink>(alloc: Global, writer: &mut W, script: &[u8]) -> Result<O
     ensures beginning { BeginsToWrite result (W.taken_octets writer.old) (W.taken_octets writer.new)
         (script_text script.now) }
     ensures failures { W.failures writer.new ≡ W.failures writer.old + writes_failed_in result }
-    ensures faults { IfErr result (λ e. (e ≡ DumpFault.Write) ⊎ (e ≡ DumpFault.Memory)) }
+    ensures faults { IfErr result (λ e. (e ≡ ListingFault.Write) ⊎ (e ≡ ListingFault.Memory)) }
 {
     match open(alloc, script) {
         Ok((mut sim, program)) => {
@@ -73,12 +77,12 @@ fn run_script<W: Sink>(alloc: Global, writer: &mut W, script: &[u8]) -> Result<O
         }
         Err(ScriptFault::Unreadable(line)) => Ok(Outcome::Unreadable(line)),
         Err(ScriptFault::OutOfRange(field)) => Ok(Outcome::OutOfRange(field)),
-        Err(ScriptFault::Memory) => Err(DumpFault::Memory),
+        Err(ScriptFault::Memory) => Err(ListingFault::Memory),
     }
 }
 
 /// Reads the input to its end, in pieces, and keeps it.
-fn read_all<R: Source>(alloc: Global, reader: &mut R) -> Result<Vec<u8>, DumpFault>
+fn read_all<R: Source>(alloc: Global, reader: &mut R) -> Result<Vec<u8>, ListingFault>
     ensures given { IsBeginning (R.given reader.old) (R.given reader.new) }
     ensures all { IfOk result (λ text. text.items
         ≡ gained (R.given reader.old) (R.given reader.new)) }
@@ -88,23 +92,23 @@ fn read_all<R: Source>(alloc: Global, reader: &mut R) -> Result<Vec<u8>, DumpFau
     ensures end { OnOk result (HasEnded (R.has_ended reader.new) (R.remaining reader.new)) }
     ensures failures { R.failures reader.new ≡ R.failures reader.old + reads_failed_in result }
     ensures faults { IfErr result (λ e. writes_failed e ≡ 0) }
-    ensures too_long { result ≡ Err DumpFault.TooLong
+    ensures too_long { result ≡ Err ListingFault.TooLong
         → MOST_OCTETS < length (gained (R.given reader.old) (R.given reader.new)) }
 {
     let mut text = Vec::new(alloc);
     let mut piece = [0; 4096];
     'pieces: loop {
         let Ok(count) = reader.read(&mut piece) else {
-            return Err(DumpFault::Read);
+            return Err(ListingFault::Read);
         };
         if count == 0 {
             return Ok(text);
         }
         if count as u64 > MOST_OCTETS - text.len() as u64 {
-            return Err(DumpFault::TooLong);
+            return Err(ListingFault::TooLong);
         }
         let Ok(()) = text.extend_from_slice(&piece[..count]) else {
-            return Err(DumpFault::Memory);
+            return Err(ListingFault::Memory);
         };
     }
 }
@@ -114,7 +118,7 @@ pub fn simulate<R: Source, W: Sink>(
     alloc: Global,
     reader: &mut R,
     writer: &mut W,
-) -> Result<Outcome, DumpFault>
+) -> Result<Outcome, ListingFault>
     ensures given { IsBeginning (R.given reader.old) (R.given reader.new) }
     ensures text { Writes result (W.taken_octets writer.old) (W.taken_octets writer.new)
         (script_text (gained (R.given reader.old) (R.given reader.new))) }
@@ -127,7 +131,7 @@ pub fn simulate<R: Source, W: Sink>(
         (script_text (gained (R.given reader.old) (R.given reader.new))) }
     ensures read { R.failures reader.new ≡ R.failures reader.old + reads_failed_in result }
     ensures write { W.failures writer.new ≡ W.failures writer.old + writes_failed_in result }
-    ensures too_long { result ≡ Err DumpFault.TooLong
+    ensures too_long { result ≡ Err ListingFault.TooLong
         → MOST_OCTETS < length (gained (R.given reader.old) (R.given reader.new)) }
 {
     match read_all(alloc, reader) {

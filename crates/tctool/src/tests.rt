@@ -16,7 +16,7 @@ use crate::ending::ending;
 use crate::outcome::Outcome;
 use crate::task::{Options, Task};
 use devices::{Store, Supply, WriteFault};
-use listings::{DumpFault, Reader, Sink, Source, Writer};
+use listings::{ListingFault, Reader, Sink, Source, Writer};
 use rows::{
     Row, check_rows, faulty, faulty_farm_rows, good, good_farm_rows, packets_rows, tc_rows, tm_rows,
 };
@@ -48,7 +48,7 @@ fn dumped(
     row: &Row,
     reader: &mut Reader<Supply>,
     store: &mut Store,
-) -> Result<Outcome, DumpFault> {
+) -> Result<Outcome, ListingFault> {
     let task = row.task;
     is_in_range(rt, task);
     let mut writer = Writer::new(store);
@@ -75,14 +75,14 @@ fn is_written_in_pieces(rt: &impl Abort, alloc: Global, row: &Row) {
     is_written(rt, alloc, row, 4096, 1);
 }
 
-// Whether a device failed, whose call behind so many fails, and no other. What is written by then begins the text.
+// Whether a device failed, whose call after this many fails, and no other. What is written by then begins the text.
 fn ends_early(
     rt: &impl Abort,
     alloc: Global,
     row: &Row,
     supply: Supply,
     mut store: Store,
-    fault: DumpFault,
+    fault: ListingFault,
 ) -> bool {
     let mut reader = Reader::new(supply);
     let result = dumped(rt, alloc, row, &mut reader, &mut store);
@@ -100,7 +100,7 @@ fn fails_with_each_read(rt: &impl Abort, alloc: Global, row: &Row) {
     for reads in 0..1000usize {
         let supply = Supply::new(row.octets, 5, reads);
         let store = writes_all(alloc, 9);
-        if !ends_early(rt, alloc, row, supply, store, DumpFault::Read) {
+        if !ends_early(rt, alloc, row, supply, store, ListingFault::Read) {
             break;
         }
     }
@@ -110,7 +110,7 @@ fn fails_with_each_write(rt: &impl Abort, alloc: Global, row: &Row, fault: Write
     for writes in 0..1000usize {
         let supply = Supply::new(row.octets, 5, usize::MAX);
         let store = Store::new(alloc, 9, writes, fault);
-        if !ends_early(rt, alloc, row, supply, store, DumpFault::Write) {
+        if !ends_early(rt, alloc, row, supply, store, ListingFault::Write) {
             break;
         }
     }
@@ -172,7 +172,7 @@ fn a_line_is_written_before_the_next_read(rt: HostRuntime) {
     let mut reader = Reader::new(Supply::new(row.octets, 13, 1));
     let mut store = writes_all(rt.alloc(), 4096);
     let result = dumped(&rt, rt.alloc(), &row, &mut reader, &mut store);
-    assert_eq!(rt; result, Err(DumpFault::Read));
+    assert_eq!(rt; result, Err(ListingFault::Read));
     let line = "1 AD 255 accepted Open vr=0 l=0 w=0 t=0 b=0\n";
     assert_eq!(rt; store.octets(), line.as_bytes());
 }
@@ -184,7 +184,7 @@ fn an_error_is_no_end(rt: HostRuntime) {
     let mut reader = Reader::new(Supply::new(row.octets, 4096, 1));
     let mut store = writes_all(rt.alloc(), 4096);
     let result = dumped(&rt, rt.alloc(), &row, &mut reader, &mut store);
-    assert_eq!(rt; result, Err(DumpFault::Read));
+    assert_eq!(rt; result, Err(ListingFault::Read));
     assert!(rt; store.octets().is_empty());
 }
 
@@ -238,7 +238,7 @@ fn sizes_of_pieces(rt: HostRuntime) -> Result<(), AllocError> {
     for _ in 0..1500usize {
         packets.extend_from_slice(b"\x10\x05\xc0\x00\x00\x00\xaa")?;
     }
-    for (reads, result) in [(3, Err(DumpFault::Read)), (4, Ok(Outcome::Good))] {
+    for (reads, result) in [(3, Err(ListingFault::Read)), (4, Ok(Outcome::Good))] {
         let row = good(Task::Packets, b"", "");
         let mut reader = Reader::new(Supply::new(packets.as_slice(), usize::MAX, reads));
         let mut store = writes_all(rt.alloc(), usize::MAX);
@@ -294,10 +294,10 @@ fn endings(rt: HostRuntime) {
             1,
             "tctool: config out of range: window\n",
         ),
-        (Err(DumpFault::Read), 3, "tctool: read failed\n"),
-        (Err(DumpFault::Write), 3, "tctool: write failed\n"),
-        (Err(DumpFault::Memory), 3, "tctool: no memory\n"),
-        (Err(DumpFault::TooLong), 3, "tctool: input too long\n"),
+        (Err(ListingFault::Read), 3, "tctool: read failed\n"),
+        (Err(ListingFault::Write), 3, "tctool: write failed\n"),
+        (Err(ListingFault::Memory), 3, "tctool: no memory\n"),
+        (Err(ListingFault::TooLong), 3, "tctool: input too long\n"),
     ] {
         let mut errors = writes_all(rt.alloc(), 4096);
         assert_eq!(rt; ending(&dumped, &mut Writer::new(&mut errors)), status);
@@ -307,7 +307,7 @@ fn endings(rt: HostRuntime) {
     }
 }
 
-fn says(rt: &impl Abort, alloc: Global, fault: DumpFault, text: &str) -> Result<(), AllocError> {
+fn says(rt: &impl Abort, alloc: Global, fault: ListingFault, text: &str) -> Result<(), AllocError> {
     let said = format!(in alloc; "{fault}")?;
     assert_eq!(rt; said.as_str(), text);
     Ok(())
@@ -315,10 +315,10 @@ fn says(rt: &impl Abort, alloc: Global, fault: DumpFault, text: &str) -> Result<
 
 #[test]
 fn texts_of_faults(rt: HostRuntime) -> Result<(), AllocError> {
-    says(&rt, rt.alloc(), DumpFault::Read, "read failed")?;
-    says(&rt, rt.alloc(), DumpFault::Write, "write failed")?;
-    says(&rt, rt.alloc(), DumpFault::Memory, "no memory")?;
-    says(&rt, rt.alloc(), DumpFault::TooLong, "input too long")
+    says(&rt, rt.alloc(), ListingFault::Read, "read failed")?;
+    says(&rt, rt.alloc(), ListingFault::Write, "write failed")?;
+    says(&rt, rt.alloc(), ListingFault::Memory, "no memory")?;
+    says(&rt, rt.alloc(), ListingFault::TooLong, "input too long")
 }
 
 // A growth that is refused ends the dump. What is written by then are whole lines, nothing of the piece that needed it.
@@ -328,7 +328,7 @@ fn dumps_again(rt: &(impl Abort + Eprint), alloc: Global, row: &Row) {
     let result = dumped(rt, alloc, row, &mut reader, &mut store);
     if result != Ok(row.outcome) {
         let _ = eprintln!(rt; "refused a growth");
-        assert!(rt; matches!(result, Err(DumpFault::Memory | DumpFault::Write)));
+        assert!(rt; matches!(result, Err(ListingFault::Memory | ListingFault::Write)));
         assert!(rt; row.text.as_bytes().starts_with(store.octets()));
         assert!(rt; store.octets().is_empty() || store.octets().ends_with(b"\n"));
         is_written(rt, alloc, row, 13, 4096);

@@ -1,29 +1,35 @@
 -- A frame that is built goes on with the stream where those before it ended.
-use Rattle.std.proofs.Common.{◌≡◌, ◌≤◌, ◌<◌, ℕ, ◌+◌, ◌-◌, max, Bool, true, false, cond, eqb, List, [], ◌∷◌, ◌++◌, length, take, drop, replicate, refl, sym, ap, subst, ◌∙◌, arith, inl, inr, length-append}
+use Rattle.std.proofs.Common.{◌≡◌, ◌≤◌, ◌<◌, ℕ, ◌+◌, ◌-◌, max, Bool, true, false, cond, eqb, List, [], ◌∷◌, ◌++◌}
+use Rattle.std.proofs.Common.{length, take, drop, replicate, refl, sym, ap, subst, ◌∙◌, arith, inl, inr, length-append}
 use Rattle.std.specs.List.{concat}
 use Rattle.std.proofs.lemmas.Bool.{cases_lt, eq-eqb, eqb-true, ne_eqb}
 use Rattle.std.proofs.lemmas.List.{append-nil, drop_all, take-append-le, take-append-drop, length-take}
 use Rattle.octets.proofs.Outcomes.{both_true}
 use Rattle.tm_link.specs.declared.frame.Pointer.TheVariants.{OnlyIdle}
-use Rattle.tm_link.specs.Building.{BuilderState, idle_packet, idle_tail, data_size, is_at_rest, room_left, data_from, first_start, idle_after, left_after, after_send, with_next_count, build_step}
+use Rattle.tm_link.specs.Building.{BuilderState, idle_packet, idle_tail, data_size, is_at_rest, room_left, data_from}
+use Rattle.tm_link.specs.Building.{first_start, idle_after, left_after, after_send, with_next_count, build_step}
 use Rattle.tm_link.specs.Layout.{FrameView}
 use Rattle.tm_link.specs.Laying.{held_by, IsCutAt, IsLaidOutBy}
 use Rattle.tm_link.specs.Stream.{IsEnd, IsPointed, slice_of, carried_octets, IsLaidOut}
 use Rattle.tm_link.proofs.IdlePackets.{drop_both, length-idle, idle_is, not_handed, length-tail, drop_tail, drop_idle}
 use Rattle.tm_link.proofs.Laying.{carried_within, packet_behind, IsNext, next_again, frame_behind, laid_again}
-use Rattle.tm_link.proofs.Passing.{length-more, cut_most, cut_more, pointed_first, slice_is, cut_again, cut_behind, cut_last, passed_held}
+use Rattle.tm_link.proofs.Passing.{length-more, cut_most, cut_more, pointed_first, slice_is, cut_again, cut_behind}
+use Rattle.tm_link.proofs.Passing.{cut_last, passed_held}
 use Rattle.tm_link.proofs.Places.{length-carried}
 
 -- ---- what is held
 
 after_none : (size left count : ℕ) → size ≤ left + count → idle_after size left count ≡ left - size
-after_none size left count le = let none : eqb (room_left size left count) 0 ≡ true = eq-eqb _ _ (omega arith) in rw none refl
+after_none size left count le =
+    let none : eqb (room_left size left count) 0 ≡ true = eq-eqb _ _ (omega arith) in rw none refl
 
 after_some : (size left count : ℕ) → left + count < size → idle_after size left count ≡ 7 - room_left size left count
-after_some size left count lt = let some : eqb (room_left size left count) 0 ≡ false = ne_eqb _ _ (λ e. omega arith) in rw some refl
+after_some size left count lt =
+    let some : eqb (room_left size left count) 0 ≡ false = ne_eqb _ _ (λ e. omega arith) in rw some refl
 
 length-held : (s : BuilderState) → s.idle_left ≤ 7 → length (held_by s) ≡ s.idle_left + length s.pending
-length-held s le = length-append (idle_tail s.idle_left) s.pending ∙ ap (λ (n : ℕ). n + length s.pending) (length-tail s.idle_left le)
+length-held s le =
+    length-append (idle_tail s.idle_left) s.pending ∙ ap (λ (n : ℕ). n + length s.pending) (length-tail s.idle_left le)
 
 -- ---- a frame, by whether the stream is at rest
 
@@ -45,30 +51,37 @@ abbrev IsKeptWhen : Bool → BuilderState → List ℕ → List (List ℕ) → L
 IsKeptWhen rest s ocf packets frames = IsLaidOutBy (state_when rest s) packets (frames ++ frame_when rest s ocf ∷ [])
 
 -- only idle data
-idle_laid : (s : BuilderState) (ocf : List ℕ) (packets : List (List ℕ)) (frames : List FrameView) → is_at_rest s ≡ true → IsLaidOutBy s packets frames → IsKeptWhen true s ocf packets frames
+idle_laid : (s : BuilderState) (ocf : List ℕ) (packets : List (List ℕ)) (frames : List FrameView) → is_at_rest s ≡ true
+    → IsLaidOutBy s packets frames → IsKeptWhen true s ocf packets frames
 idle_laid s ocf packets frames rest h =
     let g : FrameView = frame_when true s ocf in
     let both = both_true (eqb s.idle_left 0) (eqb (length s.pending) 0) rest in
     let idle : s.idle_left ≡ 0 = eqb-true _ _ both.0 in
     let none : length s.pending ≡ 0 = eqb-true _ _ both.1 in
     let place : ℕ = length (carried_octets frames) in
-    let size : place + length (held_by s) ≡ length (concat h.laid.all) = carried_within packets frames (held_by s) h.laid in
+    let size : place + length (held_by s) ≡ length (concat h.laid.all) =
+    carried_within packets frames (held_by s) h.laid in
     let held : length (held_by s) ≡ s.idle_left + length s.pending = length-held s (omega arith) in
     let here : IsEnd h.laid.all place = (h.laid.all, [], sym (append-nil h.laid.all), omega arith) in
     let x = frame_behind packets frames (held_by s) (held_by s) g h.laid refl here h.next in
     let next : length (carried_octets (frames ++ g ∷ [])) ≡ place = length-carried frames [] g ∙ omega arith in
-    let cut = cut_again h.laid.all place (s.idle_left + s.begun) (length (carried_octets (frames ++ g ∷ []))) (s.idle_left + s.begun) s.sizes (sym next) refl h.cut in
-    laid_again (state_when true s) packets (frames ++ g ∷ []) (held_by s) h.laid.all x.0 x.1 refl (next_again frames g) cut
+    let cut = cut_again h.laid.all place (s.idle_left + s.begun) (length (carried_octets (frames ++ g ∷ [])))
+    (s.idle_left + s.begun) s.sizes (sym next) refl h.cut in
+    laid_again (state_when true s) packets (frames ++ g ∷ []) (held_by s) h.laid.all x.0 x.1 refl (next_again frames g)
+    cut
 
 -- what is left of an idle packet, and of the packet that was begun
 abbrev left_when : Bool → BuilderState → ℕ
 left_when rest s = (state_when rest s).idle_left + (state_when rest s).begun
 
 -- a field that a stream fills which goes on at least so far
-filled_laid : (s : BuilderState) (ocf : List ℕ) (packets : List (List ℕ)) (frames : List FrameView) (stream : List ℕ) (h : IsLaidOut packets frames stream) (all : List (List ℕ)) → h.all ≡ all
+filled_laid : (s : BuilderState) (ocf : List ℕ) (packets : List (List ℕ)) (frames : List FrameView) (stream : List ℕ)
+    (h : IsLaidOut packets frames stream) (all : List (List ℕ)) → h.all ≡ all
     → data_size s ≤ length stream → data_from s.idle_left s.pending (data_size s) ≡ take (data_size s) stream
-    → IsPointed all (length (carried_octets frames)) (first_start (s.idle_left + s.begun) (data_size s)) (data_size s) → IsNext frames s.count
-    → drop (data_size s) stream ≡ held_by (state_when false s) → IsCutAt all (length (carried_octets frames) + data_size s) (left_when false s) (state_when false s).sizes
+    → IsPointed all (length (carried_octets frames)) (first_start (s.idle_left + s.begun) (data_size s)) (data_size s)
+    → IsNext frames s.count
+    → drop (data_size s) stream ≡ held_by (state_when false s)
+    → IsCutAt all (length (carried_octets frames) + data_size s) (left_when false s) (state_when false s).sizes
     → IsKeptWhen false s ocf packets frames
 filled_laid s ocf packets frames stream h all same long payload pointed next held cut =
     let g : FrameView = frame_when false s ocf in
@@ -77,24 +90,35 @@ filled_laid s ocf packets frames stream h all same long payload pointed next hel
     let left : ℕ = s.idle_left + s.begun in
     let count : length (take size stream) ≡ size = length-take size stream ∙ omega arith in
     let slice : slice_of g ≡ take size stream = slice_is left size g.payload ∙ payload in
-    let parts : slice_of g ++ drop size stream ≡ stream = ap (λ (xs : List ℕ). xs ++ drop size stream) slice ∙ take-append-drop size stream in
-    let with_next_count-is : IsPointed all place g.pointer (length g.payload) = subst (λ (n : ℕ). IsPointed all place g.pointer n) (sym (ap length payload ∙ count)) pointed in
-    let here : IsPointed h.all place g.pointer (length g.payload) = subst (λ (ps : List (List ℕ)). IsPointed ps place g.pointer (length g.payload)) (sym same) with_next_count-is in
+    let parts : slice_of g ++ drop size stream ≡ stream =
+    ap (λ (xs : List ℕ). xs ++ drop size stream) slice ∙ take-append-drop size stream in
+    let with_next_count-is : IsPointed all place g.pointer (length g.payload) =
+    subst (λ (n : ℕ). IsPointed all place g.pointer n) (sym (ap length payload ∙ count)) pointed in
+    let here : IsPointed h.all place g.pointer (length g.payload) =
+    subst (λ (ps : List (List ℕ)). IsPointed ps place g.pointer (length g.payload)) (sym same) with_next_count-is in
     let x = frame_behind packets frames stream (drop size stream) g h parts here next in
-    let behind : place + size ≡ length (carried_octets (frames ++ g ∷ [])) = sym (length-carried frames [] g ∙ omega (arith, ap length slice)) in
-    laid_again (state_when false s) packets (frames ++ g ∷ []) (drop size stream) all x.0 (x.1 ∙ same) held (next_again frames g) (cut_again all (place + size) (left_when false s) (length (carried_octets (frames ++ g ∷ []))) (left_when false s) (state_when false s).sizes behind refl cut)
+    let behind : place + size ≡ length (carried_octets (frames ++ g ∷ [])) =
+    sym (length-carried frames [] g ∙ omega (arith, ap length slice)) in
+    laid_again (state_when false s) packets (frames ++ g ∷ []) (drop size stream) all x.0 (x.1 ∙ same) held
+    (next_again frames g) (cut_again all (place + size) (left_when false s)
+    (length (carried_octets (frames ++ g ∷ []))) (left_when false s) (state_when false s).sizes behind refl cut)
 
 -- ---- a field that what is held fills
 
-held_full : (s : BuilderState) → s.idle_left ≤ 7 → data_size s ≤ s.idle_left + length s.pending → drop (data_size s) (held_by s) ≡ held_by (state_when false s)
+held_full : (s : BuilderState) → s.idle_left ≤ 7 → data_size s ≤ s.idle_left + length s.pending
+    → drop (data_size s) (held_by s) ≡ held_by (state_when false s)
 held_full s small full =
     let size : ℕ = data_size s in
     let tail : length (idle_tail s.idle_left) ≡ s.idle_left = length-tail s.idle_left small in
-    let after : idle_after size s.idle_left (length s.pending) ≡ s.idle_left - size = after_none size s.idle_left (length s.pending) full in
-    drop_both size (idle_tail s.idle_left) s.pending ∙ ap (λ (k : ℕ). drop size (idle_tail s.idle_left) ++ drop (size - k) s.pending) tail
-    ∙ ap (λ (xs : List ℕ). xs ++ drop (size - s.idle_left) s.pending) (drop_tail size s.idle_left small ∙ ap idle_tail (sym after))
+    let after : idle_after size s.idle_left (length s.pending) ≡ s.idle_left - size =
+    after_none size s.idle_left (length s.pending) full in
+    drop_both size (idle_tail s.idle_left) s.pending
+    ∙ ap (λ (k : ℕ). drop size (idle_tail s.idle_left) ++ drop (size - k) s.pending) tail
+    ∙ ap (λ (xs : List ℕ). xs ++ drop (size - s.idle_left) s.pending)
+    (drop_tail size s.idle_left small ∙ ap idle_tail (sym after))
 
-full_laid : (s : BuilderState) (ocf : List ℕ) (packets : List (List ℕ)) (frames : List FrameView) → s.idle_left ≤ 6 → data_size s ≤ s.idle_left + length s.pending → IsLaidOutBy s packets frames
+full_laid : (s : BuilderState) (ocf : List ℕ) (packets : List (List ℕ)) (frames : List FrameView) → s.idle_left ≤ 6
+    → data_size s ≤ s.idle_left + length s.pending → IsLaidOutBy s packets frames
     → IsKeptWhen false s ocf packets frames
 full_laid s ocf packets frames small full h =
     let all : List (List ℕ) = h.laid.all in
@@ -105,13 +129,17 @@ full_laid s ocf packets frames small full h =
     let idle : List ℕ = idle_packet (max (room_left size s.idle_left (length s.pending)) 7) in
     let long : length held ≡ s.idle_left + length s.pending = length-held s (omega arith) in
     let total : place + length held ≡ length (concat all) = carried_within packets frames held h.laid in
-    let most : length (concat all) ≡ place + left + length (concat h.cut.whole) = cut_most all place left s.sizes h.cut in
+    let most : length (concat all) ≡ place + left + length (concat h.cut.whole) =
+    cut_most all place left s.sizes h.cut in
     let payload : data_from s.idle_left s.pending size ≡ take size held = take-append-le size held idle (omega arith) in
-    let pointed : IsPointed all place (first_start left size) size = pointed_first all place left size s.sizes h.cut (λ lt. omega arith) in
-    let after : idle_after size s.idle_left (length s.pending) ≡ s.idle_left - size = after_none size s.idle_left (length s.pending) full in
+    let pointed : IsPointed all place (first_start left size) size =
+    pointed_first all place left size s.sizes h.cut (λ lt. omega arith) in
+    let after : idle_after size s.idle_left (length s.pending) ≡ s.idle_left - size =
+    after_none size s.idle_left (length s.pending) full in
     let behind = cut_behind all place s.idle_left s.begun size s.sizes h.cut (omega arith) in
     let cut = cut_again all (place + size) _ (place + size) (left_when false s) _ refl (omega arith) behind in
-    filled_laid s ocf packets frames held h.laid all refl (omega arith) payload pointed h.next (held_full s (omega arith) full) cut
+    filled_laid s ocf packets frames held h.laid all refl (omega arith) payload pointed h.next
+    (held_full s (omega arith) full) cut
 
 -- ---- a field in which packets run out, so that an idle packet is placed
 
@@ -121,30 +149,43 @@ room_of s = room_left (data_size s) s.idle_left (length s.pending)
 abbrev idle_of : BuilderState → List ℕ
 idle_of s = idle_packet (max (room_of s) 7)
 
-held_short : (s : BuilderState) → s.idle_left ≤ 7 → s.idle_left + length s.pending < data_size s → drop (data_size s) (held_by s ++ idle_of s) ≡ held_by (state_when false s)
+held_short : (s : BuilderState) → s.idle_left ≤ 7 → s.idle_left + length s.pending < data_size s
+    → drop (data_size s) (held_by s ++ idle_of s) ≡ held_by (state_when false s)
 held_short s small short =
     let size : ℕ = data_size s in
     let long : length (held_by s) ≡ s.idle_left + length s.pending = length-held s small in
     let room : size - length (held_by s) ≡ room_of s = omega arith in
-    let after : 7 - room_of s ≡ idle_after size s.idle_left (length s.pending) = sym (after_some size s.idle_left (length s.pending) short) in
+    let after : 7 - room_of s ≡ idle_after size s.idle_left (length s.pending) =
+    sym (after_some size s.idle_left (length s.pending) short) in
     let none : drop size (held_by s) ≡ [] = drop_all size (held_by s) (omega arith) in
-    let none-pending : [] ≡ drop (size - s.idle_left) s.pending = sym (drop_all (size - s.idle_left) s.pending (omega arith)) in
-    let left : drop (size - length (held_by s)) (idle_of s) ≡ idle_tail (idle_after size s.idle_left (length s.pending)) = ap (λ (k : ℕ). drop k (idle_of s)) room ∙ drop_idle (room_of s) ∙ ap idle_tail after in
+    let none-pending : [] ≡ drop (size - s.idle_left) s.pending =
+    sym (drop_all (size - s.idle_left) s.pending (omega arith)) in
+    let left : drop (size - length (held_by s)) (idle_of s)
+    ≡ idle_tail (idle_after size s.idle_left (length s.pending)) =
+    ap (λ (k : ℕ). drop k (idle_of s)) room ∙ drop_idle (room_of s) ∙ ap idle_tail after in
     let behind : idle_tail (idle_after size s.idle_left (length s.pending)) ≡ held_by (state_when false s) =
-    sym (append-nil (idle_tail (idle_after size s.idle_left (length s.pending)))) ∙ ap (λ (xs : List ℕ). idle_tail (idle_after size s.idle_left (length s.pending)) ++ xs) none-pending in
-    drop_both size (held_by s) (idle_of s) ∙ ap (λ (xs : List ℕ). xs ++ drop (size - length (held_by s)) (idle_of s)) none ∙ left ∙ behind
+    sym (append-nil (idle_tail (idle_after size s.idle_left (length s.pending))))
+    ∙ ap (λ (xs : List ℕ). idle_tail (idle_after size s.idle_left (length s.pending)) ++ xs) none-pending in
+    drop_both size (held_by s) (idle_of s)
+    ∙ ap (λ (xs : List ℕ). xs ++ drop (size - length (held_by s)) (idle_of s)) none ∙ left ∙ behind
 
-cut_short : (s : BuilderState) (all : List (List ℕ)) (place : ℕ) → IsCutAt all place (s.idle_left + s.begun) s.sizes → place + (s.idle_left + length s.pending) ≡ length (concat all) → s.idle_left + length s.pending < data_size s
+cut_short : (s : BuilderState) (all : List (List ℕ)) (place : ℕ) → IsCutAt all place (s.idle_left + s.begun) s.sizes
+    → place + (s.idle_left + length s.pending) ≡ length (concat all) → s.idle_left + length s.pending < data_size s
     → IsCutAt (all ++ idle_of s ∷ []) (place + data_size s) (left_when false s) (state_when false s).sizes
 cut_short s all place h total short =
     let size : ℕ = data_size s in
-    let most : length (concat all) ≡ place + (s.idle_left + s.begun) + length (concat h.whole) = cut_most all place (s.idle_left + s.begun) s.sizes h in
+    let most : length (concat all) ≡ place + (s.idle_left + s.begun) + length (concat h.whole) =
+    cut_most all place (s.idle_left + s.begun) s.sizes h in
     let count : length (idle_of s) ≡ max (room_of s) 7 = length-idle (max (room_of s) 7) (omega arith) in
-    let gone : left_after (size - s.idle_left) s.begun s.sizes ≡ (0, []) = passed_held all place (s.idle_left + s.begun) (size - s.idle_left) s.begun s.sizes h (omega arith) in
-    let after : idle_after size s.idle_left (length s.pending) ≡ 7 - room_of s = after_some size s.idle_left (length s.pending) short in
-    rw gone (cut_last all (idle_of s) (place + size) (idle_after size s.idle_left (length s.pending) + 0) (omega arith) (omega arith))
+    let gone : left_after (size - s.idle_left) s.begun s.sizes ≡ (0, []) =
+    passed_held all place (s.idle_left + s.begun) (size - s.idle_left) s.begun s.sizes h (omega arith) in
+    let after : idle_after size s.idle_left (length s.pending) ≡ 7 - room_of s =
+    after_some size s.idle_left (length s.pending) short in
+    rw gone (cut_last all (idle_of s) (place + size) (idle_after size s.idle_left (length s.pending) + 0) (omega arith)
+    (omega arith))
 
-short_laid : (s : BuilderState) (ocf : List ℕ) (packets : List (List ℕ)) (frames : List FrameView) → s.idle_left ≤ 6 → s.total ≤ 2048 → s.idle_left + length s.pending < data_size s → IsLaidOutBy s packets frames
+short_laid : (s : BuilderState) (ocf : List ℕ) (packets : List (List ℕ)) (frames : List FrameView) → s.idle_left ≤ 6
+    → s.total ≤ 2048 → s.idle_left + length s.pending < data_size s → IsLaidOutBy s packets frames
     → IsKeptWhen false s ocf packets frames
 short_laid s ocf packets frames small few short h =
     let size : ℕ = data_size s in
@@ -157,18 +198,24 @@ short_laid s ocf packets frames small few short h =
     let long : length held ≡ s.idle_left + length s.pending = length-held s (omega arith) in
     let count : length idle ≡ max (room_of s) 7 = length-idle (max (room_of s) 7) (omega arith) in
     let total : place + length held ≡ length (concat h.laid.all) = carried_within packets frames held h.laid in
-    let x = packet_behind packets packets frames held idle h.laid (idle_is (max (room_of s) 7) (omega arith) (omega arith)) (not_handed packets (max (room_of s) 7)) in
+    let x = packet_behind packets packets frames held idle h.laid
+    (idle_is (max (room_of s) 7) (omega arith) (omega arith)) (not_handed packets (max (room_of s) 7)) in
     let total-more : length (concat all) ≡ length (concat h.laid.all) + length idle = length-more h.laid.all idle in
     let stream : length (held ++ idle) ≡ length held + length idle = length-append held idle in
     let more : IsCutAt all place left sizes = cut_more h.laid.all place left s.sizes idle h.cut in
-    let most : length (concat h.laid.all) ≡ place + left + length (concat h.cut.whole) = cut_most h.laid.all place left s.sizes h.cut in
-    let most-more : length (concat all) ≡ place + left + length (concat more.whole) = cut_most all place left sizes more in
-    let pointed : IsPointed all place (first_start left size) size = pointed_first all place left size sizes more (λ lt. omega arith) in
-    filled_laid s ocf packets frames (held ++ idle) x.0 all x.1 (omega arith) refl pointed h.next (held_short s (omega arith) short) (cut_short s h.laid.all place h.cut (omega arith) short)
+    let most : length (concat h.laid.all) ≡ place + left + length (concat h.cut.whole) =
+    cut_most h.laid.all place left s.sizes h.cut in
+    let most-more : length (concat all) ≡ place + left + length (concat more.whole) =
+    cut_most all place left sizes more in
+    let pointed : IsPointed all place (first_start left size) size =
+    pointed_first all place left size sizes more (λ lt. omega arith) in
+    filled_laid s ocf packets frames (held ++ idle) x.0 all x.1 (omega arith) refl pointed h.next
+    (held_short s (omega arith) short) (cut_short s h.laid.all place h.cut (omega arith) short)
 
 -- ---- each frame
 
-laid_when : (rest : Bool) (s : BuilderState) (ocf : List ℕ) (packets : List (List ℕ)) (frames : List FrameView) → is_at_rest s ≡ rest → s.idle_left ≤ 6 → s.total ≤ 2048 → IsLaidOutBy s packets frames
+laid_when : (rest : Bool) (s : BuilderState) (ocf : List ℕ) (packets : List (List ℕ)) (frames : List FrameView)
+    → is_at_rest s ≡ rest → s.idle_left ≤ 6 → s.total ≤ 2048 → IsLaidOutBy s packets frames
     → IsKeptWhen rest s ocf packets frames
 laid_when true s ocf packets frames e small few h = idle_laid s ocf packets frames e h
 laid_when false s ocf packets frames e small few h =
@@ -177,6 +224,7 @@ laid_when false s ocf packets frames e small few h =
       | inr ge ↦ full_laid s ocf packets frames small ge h
     ]
 
-pub build_laid : (s : BuilderState) (ocf : List ℕ) (packets : List (List ℕ)) (frames : List FrameView) → s.idle_left ≤ 6 → s.total ≤ 2048 → IsLaidOutBy s packets frames
+pub build_laid : (s : BuilderState) (ocf : List ℕ) (packets : List (List ℕ)) (frames : List FrameView) → s.idle_left ≤ 6
+    → s.total ≤ 2048 → IsLaidOutBy s packets frames
     → IsLaidOutBy (build_step s ocf).1 packets (frames ++ (build_step s ocf).0 ∷ [])
 build_laid s ocf packets frames small few h = laid_when (is_at_rest s) s ocf packets frames refl small few h

@@ -1,14 +1,18 @@
 -- Frames some of which come: an extractor hands out the packets that arrive with them.
-use Rattle.std.proofs.Common.{◌≡◌, ◌<◌, ℕ, zero, suc, ◌+◌, ◌-◌, ◌%◌, Bool, true, false, eqb, List, [], ◌∷◌, ◌++◌, length, map, replicate, Option, Some, None, refl, sym, ap, subst, ◌∙◌, arith, append_assoc, length-append}
+use Rattle.std.proofs.Common.{◌≡◌, ◌<◌, ℕ, zero, suc, ◌+◌, ◌-◌, ◌%◌, Bool, true, false, eqb, List, [], ◌∷◌, ◌++◌}
+use Rattle.std.proofs.Common.{length, map, replicate, Option, Some, None, refl, sym, ap, subst, ◌∙◌, arith}
+use Rattle.std.proofs.Common.{append_assoc, length-append}
 use Rattle.std.specs.List.{AllByRecursion, concat}
 use Rattle.std.proofs.lemmas.Bool.{ne_eqb}
 use Rattle.std.proofs.lemmas.List.{append-nil, map-append}
 use Rattle.std.proofs.lemmas.List.Folds.{concat-append}
 use Rattle.tm_link.specs.declared.gap.Gap.TheVariants.{Lost}
 use Rattle.tm_link.specs.Arriving.{IsInRange, all_extracted}
-use Rattle.tm_link.specs.Extraction.{ExtractorState, new_extractor, gap_of, part_behind, finished_packets, part_after, without_idle, extract_step}
+use Rattle.tm_link.specs.Extraction.{ExtractorState, new_extractor, gap_of, part_behind, finished_packets, part_after}
+use Rattle.tm_link.specs.Extraction.{without_idle, extract_step}
 use Rattle.tm_link.specs.Layout.{FrameView}
-use Rattle.tm_link.specs.Stream.{IsPointed, IsLaidOut, IsClose, slice_of, carried_octets, marks_of, complete_packets, choice, arrived_packets}
+use Rattle.tm_link.specs.Stream.{IsPointed, IsLaidOut, IsClose, slice_of, carried_octets, marks_of, complete_packets}
+use Rattle.tm_link.specs.Stream.{choice, arrived_packets}
 use Rattle.tm_link.proofs.Marking.{complete_packets-short}
 use Rattle.tm_link.proofs.Records.{without_idle-append}
 use Rattle.tm_link.proofs.Standing.{Packets, Stood, none_opens, moved_on}
@@ -20,36 +24,50 @@ use Rattle.tm_link.proofs.Stepping.{kept, Stepped, step_of}
 abbrev Follow : Packets → ℕ → ℕ → List FrameView → Type 0
 Follow all place count [] = Unit {0}
 Follow all place count (f ∷ frames) =
-    (f.vc_count ≡ count) × IsInRange f × IsPointed all place f.pointer (length f.payload) × Follow all (place + length (slice_of f)) ((count + 1) % 256) frames
+    (f.vc_count ≡ count) × IsInRange f × IsPointed all place f.pointer (length f.payload)
+    × Follow all (place + length (slice_of f)) ((count + 1) % 256) frames
 
 abbrev FirstIs : ℕ → List FrameView → Type 0
 FirstIs count [] = Unit {0}
 FirstIs count (f ∷ frames) = f.vc_count ≡ count
 
 abbrev HasPointers : Packets → List FrameView → Type 0
-HasPointers all whole = (before after : List FrameView) (f : FrameView) → whole ≡ before ++ f ∷ after → IsPointed all (length (carried_octets before)) f.pointer (length f.payload)
+HasPointers all whole =
+    (before after : List FrameView) (f : FrameView) → whole ≡ before ++ f ∷ after
+    → IsPointed all (length (carried_octets before)) f.pointer (length f.payload)
 
 abbrev HasCounts : List FrameView → Type 0
-HasCounts whole = (before after : List FrameView) (f g : FrameView) → whole ≡ before ++ f ∷ g ∷ after → g.vc_count ≡ (f.vc_count + 1) % 256
+HasCounts whole =
+    (before after : List FrameView) (f g : FrameView) → whole ≡ before ++ f ∷ g ∷ after
+    → g.vc_count ≡ (f.vc_count + 1) % 256
 
-carried_octets-push : (before : List FrameView) (f : FrameView) → length (carried_octets (before ++ f ∷ [])) ≡ length (carried_octets before) + length (slice_of f)
+carried_octets-push : (before : List FrameView) (f : FrameView)
+    → length (carried_octets (before ++ f ∷ [])) ≡ length (carried_octets before) + length (slice_of f)
 carried_octets-push before f =
     ap (λ (xs : Packets). length (concat xs)) (map-append slice_of before (f ∷ []))
     ∙ ap length (concat-append (map slice_of before) (slice_of f ∷ []))
     ∙ length-append (carried_octets before) (slice_of f ++ [])
     ∙ ap (λ (xs : List ℕ). length (carried_octets before) + length xs) (append-nil (slice_of f))
 
-next_first : (whole before frames : List FrameView) (f : FrameView) (count : ℕ) → HasCounts whole → whole ≡ before ++ f ∷ frames → f.vc_count ≡ count → FirstIs ((count + 1) % 256) frames
+next_first : (whole before frames : List FrameView) (f : FrameView) (count : ℕ) → HasCounts whole
+    → whole ≡ before ++ f ∷ frames → f.vc_count ≡ count → FirstIs ((count + 1) % 256) frames
 next_first whole before [] f count counts e is = tt
 next_first whole before (g ∷ frames) f count counts e is = counts before frames f g e ∙ ap (λ n. (n + 1) % 256) is
 
-follow_of : (all : Packets) (whole before frames : List FrameView) (count : ℕ) → HasPointers all whole → HasCounts whole → whole ≡ before ++ frames → AllByRecursion IsInRange frames → FirstIs count frames
+follow_of : (all : Packets) (whole before frames : List FrameView) (count : ℕ) → HasPointers all whole → HasCounts whole
+    → whole ≡ before ++ frames → AllByRecursion IsInRange frames → FirstIs count frames
     → Follow all (length (carried_octets before)) count frames
 follow_of all whole before [] count pointers counts e each first = tt
 follow_of all whole before (f ∷ frames) count pointers counts e each first =
     let regrouped : whole ≡ (before ++ f ∷ []) ++ frames = e ∙ sym (append_assoc before (f ∷ []) frames) in
-    let rest = follow_of all whole (before ++ f ∷ []) frames ((count + 1) % 256) pointers counts regrouped each.1 (next_first whole before frames f count counts e first) in
-    (first, each.0, pointers before frames f e, subst (λ (n : ℕ). Follow all n ((count + 1) % 256) frames) (carried_octets-push before f) rest)
+    let rest = follow_of all whole (before ++ f ∷ []) frames ((count + 1) % 256) pointers counts regrouped each.1
+    (next_first whole before frames f count counts e first) in (
+      first,
+      each.0,
+      pointers before frames f e,
+      subst (λ (n : ℕ). Follow all n ((count + 1) % 256) frames)
+          (carried_octets-push before f) rest,
+    )
 
 abbrev first_count : List FrameView → ℕ
 first_count [] = 0
@@ -61,7 +79,7 @@ first_is (f ∷ frames) = refl
 
 -- ---- the frames that are left out
 
--- behind one that came, and n that did not
+-- after one that came, and n that did not
 abbrev Spaced : ℕ → List Bool → Type 0
 Spaced n [] = Unit {0}
 Spaced n (true ∷ chosen) = (n < 256) × Spaced 0 chosen
@@ -84,14 +102,20 @@ replicate-shift (suc n) chosen = ap (λ (xs : List Bool). false ∷ xs) (replica
 spaced_from : (n : ℕ) (chosen : List Bool) → IsClose (true ∷ (replicate n false ++ chosen)) → Spaced n chosen
 spaced_from n [] h = tt
 spaced_from n (true ∷ chosen) h =
-    let front : List Bool = true ∷ replicate n false in
-    (h [] chosen n refl, spaced_from 0 chosen (λ before after k e. h (front ++ before) after k (ap (λ (xs : List Bool). front ++ xs) e ∙ sym (append_assoc front before _))))
-spaced_from n (false ∷ chosen) h = spaced_from (suc n) chosen (subst (λ (xs : List Bool). IsClose (true ∷ xs)) (replicate-shift n chosen) h)
+    let front : List Bool = true ∷ replicate n false in (
+      h [] chosen n refl,
+      spaced_from 0 chosen
+          (λ before after k e. h (front ++ before) after k
+          (ap (λ (xs : List Bool). front ++ xs) e ∙ sym (append_assoc front before _))),
+    )
+spaced_from n (false ∷ chosen) h =
+    spaced_from (suc n) chosen (subst (λ (xs : List Bool). IsClose (true ∷ xs)) (replicate-shift n chosen) h)
 
 begins_from : (chosen : List Bool) → IsClose chosen → Begins chosen
 begins_from [] h = tt
 begins_from (true ∷ chosen) h = spaced_from 0 chosen h
-begins_from (false ∷ chosen) h = begins_from chosen (λ before after n e. h (false ∷ before) after n (ap (λ (xs : List Bool). false ∷ xs) e))
+begins_from (false ∷ chosen) h =
+    begins_from chosen (λ before after n e. h (false ∷ before) after n (ap (λ (xs : List Bool). false ∷ xs) e))
 
 near_lost : (last : Option ℕ) (n : ℕ) (chosen : List Bool) → Near last n (false ∷ chosen) → Near last (suc n) chosen
 near_lost None n chosen h = h
@@ -103,22 +127,27 @@ near_came (Some last) n chosen h = h.1
 
 -- ---- the extractor's part
 
--- behind n frames that did not come, before one of this count: what the part is, and what is kept of the open packet
+-- after n frames that did not come, before one of this count: what the part is, and what is kept of the open packet
 abbrev Tied : Option ℕ → List ℕ → ℕ → ℕ → List ℕ → Type 0
 Tied None part n count keeps = (part ≡ []) × (keeps ≡ [])
-Tied (Some last) part n count keeps = (last < 256) × (count ≡ (last + 1 + n) % 256) × (n ≡ 0 → part ≡ keeps) × (0 < n → keeps ≡ [])
+Tied (Some last) part n count keeps =
+    (last < 256) × (count ≡ (last + 1 + n) % 256) × (n ≡ 0 → part ≡ keeps) × (0 < n → keeps ≡ [])
 
-tied_lost : (last : Option ℕ) (part : List ℕ) (n count : ℕ) (keeps after : List ℕ) → Tied last part n count keeps → after ≡ [] → Tied last part (suc n) ((count + 1) % 256) after
+tied_lost : (last : Option ℕ) (part : List ℕ) (n count : ℕ) (keeps after : List ℕ) → Tied last part n count keeps
+    → after ≡ [] → Tied last part (suc n) ((count + 1) % 256) after
 tied_lost None part n count keeps after t none = (t.0, none)
-tied_lost (Some last) part n count keeps after t none = (t.0, omega (arith, t.1), λ (is : suc n ≡ 0). absurd (omega arith), λ some. none)
+tied_lost (Some last) part n count keeps after t none =
+    (t.0, omega (arith, t.1), λ (is : suc n ≡ 0). absurd (omega arith), λ some. none)
 
-part_by_gap : (n : ℕ) (part keeps : List ℕ) → (n ≡ 0 → part ≡ keeps) → (0 < n → keeps ≡ []) → part_behind (Lost n) part ≡ keeps
+part_by_gap : (n : ℕ) (part keeps : List ℕ) → (n ≡ 0 → part ≡ keeps) → (0 < n → keeps ≡ [])
+    → part_behind (Lost n) part ≡ keeps
 part_by_gap zero part keeps none some = none refl
 part_by_gap (suc n) part keeps none some =
     let t : eqb (suc n) 0 ≡ false = ne_eqb _ _ (λ (is : suc n ≡ 0). omega arith) in
     rw t (sym (some (omega arith)))
 
-tied_part : (last : Option ℕ) (part : List ℕ) (n count : ℕ) (keeps : List ℕ) (chosen : List Bool) → Tied last part n count keeps → Near last n (true ∷ chosen) → part_behind (gap_of last count) part ≡ keeps
+tied_part : (last : Option ℕ) (part : List ℕ) (n count : ℕ) (keeps : List ℕ) (chosen : List Bool)
+    → Tied last part n count keeps → Near last n (true ∷ chosen) → part_behind (gap_of last count) part ≡ keeps
 tied_part None part n count keeps chosen t near = t.0 ∙ sym t.1
 tied_part (Some last) part n count keeps chosen t near =
     let gap : (count + (255 - last)) % 256 ≡ n = omega (arith, t.0, t.1, near.0) in
@@ -126,7 +155,8 @@ tied_part (Some last) part n count keeps chosen t near =
 
 -- ---- where no more frames come, no more packets do
 
-no_more : (all : Packets) (place : ℕ) (tail : List ℕ) (ps : Packets) (others : List ℕ) (marks : List Bool) → Stood all place tail ps others → length marks ≡ length tail
+no_more : (all : Packets) (place : ℕ) (tail : List ℕ) (ps : Packets) (others : List ℕ) (marks : List Bool)
+    → Stood all place tail ps others → length marks ≡ length tail
     → without_idle (complete_packets ps (marks ++ [])) ≡ []
 no_more all place tail [] others marks s sized = refl
 no_more all place tail (p ∷ ps) others marks s sized =
@@ -136,50 +166,86 @@ no_more all place tail (p ∷ ps) others marks s sized =
 -- ---- any choice
 
 -- one frame that did not come
-came_not : (ps added left : Packets) (marks flags more : List Bool) (n : ℕ) → complete_packets ps (marks ++ (replicate n false ++ more)) ≡ added ++ complete_packets left (flags ++ more) → added ≡ []
-    → without_idle (complete_packets left (flags ++ more)) ≡ without_idle (complete_packets ps (marks ++ (replicate n false ++ more)))
-came_not ps added left marks flags more n e none = ap without_idle (sym (e ∙ ap (λ (xs : Packets). xs ++ complete_packets left (flags ++ more)) none))
+came_not : (ps added left : Packets) (marks flags more : List Bool) (n : ℕ)
+    → complete_packets ps (marks ++ (replicate n false ++ more)) ≡ added ++ complete_packets left (flags ++ more)
+    → added ≡ []
+    → without_idle (complete_packets left (flags ++ more))
+    ≡ without_idle (complete_packets ps (marks ++ (replicate n false ++ more)))
+came_not ps added left marks flags more n e none =
+    ap without_idle (sym (e ∙ ap (λ (xs : Packets). xs ++ complete_packets left (flags ++ more)) none))
 
 -- one that came
-came_one : (ps added left given : Packets) (marks flags more : List Bool) (n : ℕ) → complete_packets ps (marks ++ (replicate n true ++ more)) ≡ added ++ complete_packets left (flags ++ more) → given ≡ without_idle added
-    → given ++ without_idle (complete_packets left (flags ++ more)) ≡ without_idle (complete_packets ps (marks ++ (replicate n true ++ more)))
+came_one : (ps added left given : Packets) (marks flags more : List Bool) (n : ℕ)
+    → complete_packets ps (marks ++ (replicate n true ++ more)) ≡ added ++ complete_packets left (flags ++ more)
+    → given ≡ without_idle added
+    → given ++ without_idle (complete_packets left (flags ++ more))
+    ≡ without_idle (complete_packets ps (marks ++ (replicate n true ++ more)))
 came_one ps added left given marks flags more n e is =
-    ap (λ (xs : Packets). xs ++ without_idle (complete_packets left (flags ++ more))) is ∙ sym (without_idle-append added (complete_packets left (flags ++ more))) ∙ ap without_idle (sym e)
+    ap (λ (xs : Packets). xs ++ without_idle (complete_packets left (flags ++ more))) is
+    ∙ sym (without_idle-append added (complete_packets left (flags ++ more))) ∙ ap without_idle (sym e)
 
-extracted : (frames : List FrameView) (chosen : List Bool) (all : Packets) (place : ℕ) (tail : List ℕ) (ps : Packets) (others : List ℕ) (marks : List Bool) (s : ExtractorState) (n count : ℕ)
-    → Stood all place tail ps (carried_octets frames ++ others) → length marks ≡ length tail → Follow all place count frames → Near s.last n chosen → Tied s.last s.part n count (kept tail marks)
+extracted : (frames : List FrameView) (chosen : List Bool) (all : Packets) (place : ℕ) (tail : List ℕ) (ps : Packets)
+    (others : List ℕ) (marks : List Bool) (s : ExtractorState) (n count : ℕ)
+    → Stood all place tail ps (carried_octets frames ++ others) → length marks ≡ length tail
+    → Follow all place count frames → Near s.last n chosen → Tied s.last s.part n count (kept tail marks)
     → all_extracted s (choice frames chosen) ≡ without_idle (complete_packets ps (marks ++ marks_of frames chosen))
-extracted [] chosen all place tail ps others marks s n count stood sized follow near tied = sym (no_more all place tail ps others marks stood sized)
-extracted (f ∷ frames) [] all place tail ps others marks s n count stood sized follow near tied = sym (no_more all place tail ps (carried_octets (f ∷ frames) ++ others) marks stood sized)
+extracted [] chosen all place tail ps others marks s n count stood sized follow near tied =
+    sym (no_more all place tail ps others marks stood sized)
+extracted (f ∷ frames) [] all place tail ps others marks s n count stood sized follow near tied =
+    sym (no_more all place tail ps (carried_octets (f ∷ frames) ++ others) marks stood sized)
 extracted (f ∷ frames) (false ∷ chosen) all place tail ps others marks s n count stood sized follow near tied =
     let behind : List ℕ = carried_octets frames ++ others in
-    let here : Stood all place tail ps (slice_of f ++ behind) = subst (Stood all place tail ps) (append_assoc (slice_of f) (carried_octets frames) others) stood in
-    let step : Stepped false ps tail marks f.pointer f.payload = step_of false all place tail f.payload behind ps marks f.pointer here sized follow.1.some follow.2 in
+    let here : Stood all place tail ps (slice_of f ++ behind) =
+    subst (Stood all place tail ps) (append_assoc (slice_of f) (carried_octets frames) others) stood in
+    let step : Stepped false ps tail marks f.pointer f.payload =
+    step_of false all place tail f.payload behind ps marks f.pointer here sized follow.1.some follow.2 in
     let m = step.0 in
-    extracted frames chosen all (place + length (slice_of f)) m.begun m.left others m.flags s (suc n) ((count + 1) % 256)
-    (moved_on all place tail ps (slice_of f) behind false marks here m) m.sized follow.3 (near_lost s.last n chosen near) (tied_lost s.last s.part n count (kept tail marks) (kept m.begun m.flags) tied step.1.1)
-    ∙ came_not ps m.added m.left marks m.flags (marks_of frames chosen) (length (slice_of f)) (m.comes (marks_of frames chosen)) step.1.0
+    extracted frames chosen all (place + length (slice_of f)) m.begun m.left others m.flags s (suc n)
+    ((count + 1) % 256)
+    (moved_on all place tail ps (slice_of f) behind false marks here m) m.sized follow.3
+    (near_lost s.last n chosen near) (tied_lost s.last s.part n count (kept tail marks) (kept m.begun m.flags) tied
+    step.1.1)
+    ∙ came_not ps m.added m.left marks m.flags (marks_of frames chosen) (length (slice_of f))
+    (m.comes (marks_of frames chosen)) step.1.0
 extracted (f ∷ frames) (true ∷ chosen) all place tail ps others marks s n count stood sized follow near tied =
     let behind : List ℕ = carried_octets frames ++ others in
-    let here : Stood all place tail ps (slice_of f ++ behind) = subst (Stood all place tail ps) (append_assoc (slice_of f) (carried_octets frames) others) stood in
-    let step : Stepped true ps tail marks f.pointer f.payload = step_of true all place tail f.payload behind ps marks f.pointer here sized follow.1.some follow.2 in
+    let here : Stood all place tail ps (slice_of f ++ behind) =
+    subst (Stood all place tail ps) (append_assoc (slice_of f) (carried_octets frames) others) stood in
+    let step : Stepped true ps tail marks f.pointer f.payload =
+    step_of true all place tail f.payload behind ps marks f.pointer here sized follow.1.some follow.2 in
     let m = step.0 in
     let part : part_behind (gap_of s.last f.vc_count) s.part ≡ kept tail marks =
-    ap (λ (k : ℕ). part_behind (gap_of s.last k) s.part) follow.0 ∙ tied_part s.last s.part n count (kept tail marks) chosen tied near in
-    let given : (extract_step s f).packets ≡ without_idle m.added = ap (λ (xs : List ℕ). without_idle (finished_packets xs f.pointer f.payload)) part ∙ ap without_idle step.1.0 in
-    let after : (extract_step s f).after.part ≡ kept m.begun m.flags = ap (λ (xs : List ℕ). part_after xs f.pointer f.payload) part ∙ step.1.1 in
+    ap (λ (k : ℕ). part_behind (gap_of s.last k) s.part) follow.0
+    ∙ tied_part s.last s.part n count (kept tail marks) chosen tied near in
+    let given : (extract_step s f).packets ≡ without_idle m.added =
+    ap (λ (xs : List ℕ). without_idle (finished_packets xs f.pointer f.payload)) part ∙ ap without_idle step.1.0 in
+    let after : (extract_step s f).after.part ≡ kept m.begun m.flags =
+    ap (λ (xs : List ℕ). part_after xs f.pointer f.payload) part ∙ step.1.1 in
     let next : (count + 1) % 256 ≡ (f.vc_count + 1 + 0) % 256 = omega (arith, follow.0) in
     ap (λ (xs : Packets). (extract_step s f).packets ++ xs)
-    (extracted frames chosen all (place + length (slice_of f)) m.begun m.left others m.flags (extract_step s f).after 0 ((count + 1) % 256)
+    (extracted frames chosen all (place + length (slice_of f)) m.begun m.left others m.flags (extract_step s f).after 0
+    ((count + 1) % 256)
     (moved_on all place tail ps (slice_of f) behind true marks here m) m.sized follow.3 (near_came s.last n chosen near)
     (follow.1.count, next, λ is. after, λ (some : 0 < 0). absurd (omega arith)))
-    ∙ came_one ps m.added m.left (extract_step s f).packets marks m.flags (marks_of frames chosen) (length (slice_of f)) (m.comes (marks_of frames chosen)) given
+    ∙ came_one ps m.added m.left (extract_step s f).packets marks m.flags (marks_of frames chosen) (length (slice_of f))
+    (m.comes (marks_of frames chosen)) given
 
 -- a new extractor hands out what arrives
-pub extraction_exact : (packets : Packets) (frames : List FrameView) (rest : List ℕ) (laid : IsLaidOut packets frames rest) (chosen : List Bool) → AllByRecursion IsInRange frames → IsClose chosen
+pub extraction_exact : (packets : Packets) (frames : List FrameView) (rest : List ℕ)
+    (laid : IsLaidOut packets frames rest) (chosen : List Bool) → AllByRecursion IsInRange frames → IsClose chosen
     → all_extracted new_extractor (choice frames chosen) ≡ arrived_packets laid.all frames chosen
 extraction_exact packets frames rest laid chosen each close =
     let start : Stood laid.all 0 [] laid.all (carried_octets frames ++ rest) =
-    record { passed = []; parts = refl; each = laid.each; place_is = refl; opens = none_opens laid.all laid.each; ahead = laid.stream } in
+    record {
+      passed =
+          [];
+      parts = refl;
+      each =
+          laid.each;
+      place_is = refl;
+      opens = none_opens laid.all laid.each;
+      ahead = laid.stream;
+    } in
     extracted frames chosen laid.all 0 [] laid.all rest [] new_extractor 0 (first_count frames) start refl
-    (follow_of laid.all frames [] frames (first_count frames) laid.pointers laid.counts refl each (first_is frames)) (begins_from chosen close) (refl, refl)
+    (follow_of laid.all frames [] frames (first_count frames) laid.pointers laid.counts refl each (first_is frames))
+    (begins_from chosen close) (refl, refl)

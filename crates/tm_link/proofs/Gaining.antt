@@ -1,5 +1,6 @@
 -- One frame more adds to what arrives just what the extractor hands out with it.
-use Rattle.std.proofs.Common.{◌≡◌, ℕ, Bool, true, false, List, [], ◌∷◌, ◌++◌, length, replicate, refl, sym, ap, ◌∙◌, arith, append_assoc}
+use Rattle.std.proofs.Common.{◌≡◌, ℕ, Bool, true, false, List, [], ◌∷◌, ◌++◌, length, replicate, refl, sym, ap, ◌∙◌}
+use Rattle.std.proofs.Common.{arith, append_assoc}
 use Rattle.std.proofs.lemmas.List.{append-nil}
 use Rattle.tm_link.specs.Arriving.{all_extracted, state_behind, IsGain, HasGained}
 use Rattle.tm_link.specs.Extraction.{ExtractorState, new_extractor, extract_step}
@@ -16,7 +17,8 @@ choice-push : (before after : List FrameView) (f : FrameView) (chosen : List Boo
 choice-push [] after f [] h = ap (λ (xs : List FrameView). f ∷ xs) (choice-none after)
 choice-push [] after f (c ∷ chosen) h = absurd (omega arith)
 choice-push (g ∷ before) after f [] h = absurd (omega arith)
-choice-push (g ∷ before) after f (true ∷ chosen) h = ap (λ (xs : List FrameView). g ∷ xs) (choice-push before after f chosen (omega arith))
+choice-push (g ∷ before) after f (true ∷ chosen) h =
+    ap (λ (xs : List FrameView). g ∷ xs) (choice-push before after f chosen (omega arith))
 choice-push (g ∷ before) after f (false ∷ chosen) h = choice-push before after f chosen (omega arith)
 
 all_extracted-push : (s : ExtractorState) (frames : List FrameView) (f : FrameView)
@@ -25,7 +27,8 @@ all_extracted-push s [] f = append-nil (extract_step s f).packets
 all_extracted-push s (g ∷ frames) f =
     let next : ExtractorState = (extract_step s g).after in
     ap (λ (xs : List (List ℕ)). (extract_step s g).packets ++ xs) (all_extracted-push next frames f)
-    ∙ sym (append_assoc (extract_step s g).packets (all_extracted next frames) (extract_step (state_behind next frames) f).packets)
+    ∙ sym (append_assoc (extract_step s g).packets (all_extracted next frames)
+    (extract_step (state_behind next frames) f).packets)
 
 close_before : (chosen : List Bool) → IsClose (chosen ++ true ∷ []) → IsClose chosen
 close_before chosen h before after n e =
@@ -37,13 +40,17 @@ close_before chosen h before after n e =
 pub step_gains : (s : ExtractorState) (f : FrameView) → IsGain s f (extract_step s f).packets
 step_gains s f packets frames rest laid chosen each leads =
     let next : choice frames (chosen ++ true ∷ []) ≡ choice frames chosen ++ f ∷ [] =
-    ap (λ (xs : List FrameView). choice xs (chosen ++ true ∷ [])) leads.parts ∙ choice-push leads.before leads.after f chosen leads.counted
+    ap (λ (xs : List FrameView). choice xs (chosen ++ true ∷ [])) leads.parts
+    ∙ choice-push leads.before leads.after f chosen leads.counted
     ∙ ap (λ (xs : List FrameView). choice xs chosen ++ f ∷ []) (sym leads.parts) in
     sym (extraction_exact packets frames rest laid (chosen ++ true ∷ []) each leads.close)
     ∙ ap (all_extracted new_extractor) next
     ∙ all_extracted-push new_extractor (choice frames chosen) f
-    ∙ ap (λ (t : ExtractorState). all_extracted new_extractor (choice frames chosen) ++ (extract_step t f).packets) (sym leads.state)
-    ∙ ap (λ (xs : List (List ℕ)). xs ++ (extract_step s f).packets) (extraction_exact packets frames rest laid chosen each (close_before chosen leads.close))
+    ∙ ap (λ (t : ExtractorState). all_extracted new_extractor (choice frames chosen) ++ (extract_step t f).packets)
+    (sym leads.state)
+    ∙ ap (λ (xs : List (List ℕ)). xs ++ (extract_step s f).packets)
+    (extraction_exact packets frames rest laid chosen each (close_before chosen leads.close))
 
-pub has_gained : (s : ExtractorState) (f : FrameView) (old new : List (List ℕ)) → new ≡ old ++ (extract_step s f).packets → HasGained s f old new
+pub has_gained : (s : ExtractorState) (f : FrameView) (old new : List (List ℕ))
+    → new ≡ old ++ (extract_step s f).packets → HasGained s f old new
 has_gained s f old new e = ((extract_step s f).packets, e, step_gains s f)

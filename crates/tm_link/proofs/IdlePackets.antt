@@ -1,5 +1,6 @@
 -- Idle packets, and what is left of them.
-use Rattle.std.proofs.Common.{◌≡◌, ◌≤◌, ℕ, zero, suc, ◌+◌, ◌-◌, max, List, [], ◌∷◌, ◌++◌, length, take, drop, replicate, refl, ap, ◌∙◌, arith, inl, inr, length-append}
+use Rattle.std.proofs.Common.{◌≡◌, ◌≤◌, ℕ, zero, suc, ◌+◌, ◌-◌, max, List, [], ◌∷◌, ◌++◌, length, take, drop, replicate}
+use Rattle.std.proofs.Common.{refl, ap, ◌∙◌, arith, inl, inr, length-append}
 use Rattle.std.proofs.lemmas.Bool.{cases_lt}
 use Rattle.std.proofs.lemmas.List.{append-nil, drop-drop, drop_all, length-drop, length-replicate}
 use Rattle.byteorder.specs.Endian.{big_bytes}
@@ -13,7 +14,8 @@ use Rattle.tm_link.specs.Extraction.{without_idle}
 
 pub drop_both : (n : ℕ) (xs ys : List ℕ) → drop n (xs ++ ys) ≡ drop n xs ++ drop (n - length xs) ys
 drop_both zero [] ys = refl
-drop_both zero (x ∷ xs) ys = let none : 0 ≡ 0 - length (x ∷ xs) = omega arith in ap (λ (k : ℕ). x ∷ (xs ++ drop k ys)) none
+drop_both zero (x ∷ xs) ys =
+    let none : 0 ≡ 0 - length (x ∷ xs) = omega arith in ap (λ (k : ℕ). x ∷ (xs ++ drop k ys)) none
 drop_both (suc n) [] ys = let all : suc n ≡ suc n - 0 = omega arith in ap (λ (k : ℕ). drop k ys) all
 drop_both (suc n) (x ∷ xs) ys =
     let rest : n - length xs ≡ suc n - length (x ∷ xs) = omega arith in
@@ -22,7 +24,8 @@ drop_both (suc n) (x ∷ xs) ys =
 -- ---- an idle packet
 
 pub length-idle : (n : ℕ) → 7 ≤ n → length (idle_packet n) ≡ n
-length-idle n least = omega (arith, length-append (big_bytes 2 (n - 7)) (replicate (n - 6) 0x55), length-replicate {A = ℕ} (n - 6) 0x55)
+length-idle n least =
+    omega (arith, length-append (big_bytes 2 (n - 7)) (replicate (n - 6) 0x55), length-replicate {A = ℕ} (n - 6) 0x55)
 
 -- it has its header, which gives its length
 pub idle_is : (n : ℕ) → 7 ≤ n → n ≤ 65542 → IsRecord 6 extent_at (idle_packet n)
@@ -52,7 +55,7 @@ drop_tail size left le =
           drop-drop size (7 - left) (idle_packet 7) ∙ ap (λ (k : ℕ). drop k (idle_packet 7)) place
     ]
 
--- behind the room for it
+-- after the room for it
 pub drop_idle : (room : ℕ) → drop room (idle_packet (max room 7)) ≡ idle_tail (7 - room)
 drop_idle room =
     elim (cases_lt room 7) [
@@ -62,5 +65,6 @@ drop_idle room =
           ap (λ (n : ℕ). drop room (idle_packet n)) size ∙ ap (λ (k : ℕ). drop k (idle_packet 7)) place
       | inr ge ↦
           let none : 0 ≡ 7 - room = omega arith in
-          drop_all room (idle_packet (max room 7)) (omega (arith, length-idle (max room 7) (omega arith))) ∙ ap idle_tail none
+          drop_all room (idle_packet (max room 7)) (omega (arith, length-idle (max room 7) (omega arith)))
+          ∙ ap idle_tail none
     ]

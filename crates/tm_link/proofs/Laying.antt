@@ -1,5 +1,6 @@
--- Packets behind the stream, and frames that go on with it.
-use Rattle.std.proofs.Common.{◌≡◌, ℕ, ◌+◌, ◌%◌, true, List, [], ◌∷◌, ◌++◌, length, refl, sym, ap, subst, ◌∙◌, arith, inl, inr, length-append, append_assoc}
+-- Packets after the stream, and frames that go on with it.
+use Rattle.std.proofs.Common.{◌≡◌, ℕ, ◌+◌, ◌%◌, true, List, [], ◌∷◌, ◌++◌, length, refl, sym, ap, subst, ◌∙◌, arith}
+use Rattle.std.proofs.Common.{inl, inr, length-append, append_assoc}
 use Rattle.std.specs.List.{AllByRecursion, concat}
 use Rattle.std.proofs.lemmas.List.{append-nil}
 use Rattle.std.proofs.lemmas.List.Folds.{concat-append}
@@ -41,33 +42,43 @@ new_laid scid vcid total = record {
   cut = record { before = []; whole = []; parts = refl; ends = refl; none = λ q lt s. omega arith; lengths = refl };
 }
 
--- ---- a packet behind the stream
+-- ---- a packet after the stream
 
-each_more : (P : List ℕ → Type 0) (all : List (List ℕ)) (p : List ℕ) → AllByRecursion P all → P p → AllByRecursion P (all ++ p ∷ [])
+each_more : (P : List ℕ → Type 0) (all : List (List ℕ)) (p : List ℕ) → AllByRecursion P all → P p
+    → AllByRecursion P (all ++ p ∷ [])
 each_more P [] p each here = (here, tt)
 each_more P (x ∷ xs) p each here = (each.0, each_more P xs p each.1 here)
 
 -- the stream has no fewer octets than the frames carry
-pub carried_within : (packets : List (List ℕ)) (frames : List FrameView) (rest : List ℕ) (h : IsLaidOut packets frames rest) → length (carried_octets frames) + length rest ≡ length (concat h.all)
+pub carried_within : (packets : List (List ℕ)) (frames : List FrameView) (rest : List ℕ)
+    (h : IsLaidOut packets frames rest) → length (carried_octets frames) + length rest ≡ length (concat h.all)
 carried_within packets frames rest h = sym (length-append (carried_octets frames) rest) ∙ ap length h.stream
 
 -- the frames stay where they are
-pointers_more : (packets : List (List ℕ)) (frames : List FrameView) (rest : List ℕ) (h : IsLaidOut packets frames rest) (more : List (List ℕ)) (before after : List FrameView) (f : FrameView)
-    → frames ≡ before ++ f ∷ after → IsPointed (h.all ++ more) (length (carried_octets before)) f.pointer (length f.payload)
+pointers_more : (packets : List (List ℕ)) (frames : List FrameView) (rest : List ℕ) (h : IsLaidOut packets frames rest)
+    (more : List (List ℕ)) (before after : List FrameView) (f : FrameView)
+    → frames ≡ before ++ f ∷ after
+    → IsPointed (h.all ++ more) (length (carried_octets before)) f.pointer (length f.payload)
 pointers_more packets frames rest h more before after f e =
-    let size : length (carried_octets frames) ≡ length (carried_octets before) + (length (slice_of f) + length (carried_octets after)) = ap (λ (fs : List FrameView). length (carried_octets fs)) e ∙ length-carried before after f in
-    let within : length (carried_octets frames) + length rest ≡ length (concat h.all) = carried_within packets frames rest h in
-    pointed_more h.all more (length (carried_octets before)) f.pointer f.payload (omega arith) (h.pointers before after f e)
+    let size : length (carried_octets frames) ≡ length (carried_octets before)
+    + (length (slice_of f) + length (carried_octets after)) =
+    ap (λ (fs : List FrameView). length (carried_octets fs)) e ∙ length-carried before after f in
+    let within : length (carried_octets frames) + length rest ≡ length (concat h.all) =
+    carried_within packets frames rest h in
+    pointed_more h.all more (length (carried_octets before)) f.pointer f.payload (omega arith)
+    (h.pointers before after f e)
 
 -- one more packet, of which the builder holds all octets
-pub packet_behind : (packets more : List (List ℕ)) (frames : List FrameView) (rest p : List ℕ) (h : IsLaidOut packets frames rest) → IsRecord 6 extent_at p → packets ++ without_idle (p ∷ []) ≡ more
+pub packet_behind : (packets more : List (List ℕ)) (frames : List FrameView) (rest p : List ℕ)
+    (h : IsLaidOut packets frames rest) → IsRecord 6 extent_at p → packets ++ without_idle (p ∷ []) ≡ more
     → (l : IsLaidOut more frames (rest ++ p)) × (l.all ≡ h.all ++ p ∷ [])
 packet_behind packets more frames rest p h is e = (
   record {
     all = h.all ++ p ∷ [];
     each = each_more (IsRecord 6 extent_at) h.all p h.each is;
     sent = without_idle-append h.all (p ∷ []) ∙ ap (λ (ps : List (List ℕ)). ps ++ without_idle (p ∷ [])) h.sent ∙ e;
-    stream = sym (append_assoc (carried_octets frames) rest p) ∙ ap (λ (xs : List ℕ). xs ++ p) h.stream ∙ ap (λ (xs : List ℕ). concat h.all ++ xs) (sym (append-nil p)) ∙ sym (concat-append h.all (p ∷ []));
+    stream = sym (append_assoc (carried_octets frames) rest p) ∙ ap (λ (xs : List ℕ). xs ++ p) h.stream
+        ∙ ap (λ (xs : List ℕ). concat h.all ++ xs) (sym (append-nil p)) ∙ sym (concat-append h.all (p ∷ []));
     pointers = λ before after f d. pointers_more packets frames rest h (p ∷ []) before after f d;
     counts = h.counts;
   },
@@ -76,21 +87,28 @@ packet_behind packets more frames rest p h is e = (
 
 -- ---- one more frame
 
-pointers_next : (packets : List (List ℕ)) (frames : List FrameView) (rest : List ℕ) (g : FrameView) (h : IsLaidOut packets frames rest)
+pointers_next : (packets : List (List ℕ)) (frames : List FrameView) (rest : List ℕ) (g : FrameView)
+    (h : IsLaidOut packets frames rest)
     → IsPointed h.all (length (carried_octets frames)) g.pointer (length g.payload)
-    → (before after : List FrameView) (f : FrameView) → frames ++ g ∷ [] ≡ before ++ f ∷ after → IsPointed h.all (length (carried_octets before)) f.pointer (length f.payload)
+    → (before after : List FrameView) (f : FrameView) → frames ++ g ∷ [] ≡ before ++ f ∷ after
+    → IsPointed h.all (length (carried_octets before)) f.pointer (length f.payload)
 pointers_next packets frames rest g h here before after f e =
     elim (last_or_before frames before after g f e) [
       | inl w ↦ h.pointers before w.0 f w.1
-      | inr w ↦ subst (λ (x : FrameView). IsPointed h.all (length (carried_octets before)) x.pointer (length x.payload)) (sym w.1) (subst (λ (xs : List FrameView). IsPointed h.all (length (carried_octets xs)) g.pointer (length g.payload)) (sym w.0) here)
+      | inr w ↦ subst (λ (x : FrameView). IsPointed h.all (length (carried_octets before)) x.pointer (length x.payload))
+          (sym w.1) (subst (λ (xs : List FrameView). IsPointed h.all (length (carried_octets xs)) g.pointer
+          (length g.payload)) (sym w.0) here)
     ]
 
 -- the next frame has the count that is next
 abbrev pub IsNext : List FrameView → ℕ → Type 0
-IsNext frames count = (before : List FrameView) (f : FrameView) → frames ≡ before ++ f ∷ [] → count ≡ (f.vc_count + 1) % 256
+IsNext frames count =
+    (before : List FrameView) (f : FrameView) → frames ≡ before ++ f ∷ [] → count ≡ (f.vc_count + 1) % 256
 
-counts_next : (packets : List (List ℕ)) (frames : List FrameView) (rest : List ℕ) (g : FrameView) (h : IsLaidOut packets frames rest) → IsNext frames g.vc_count
-    → (before after : List FrameView) (f x : FrameView) → frames ++ g ∷ [] ≡ before ++ f ∷ x ∷ after → x.vc_count ≡ (f.vc_count + 1) % 256
+counts_next : (packets : List (List ℕ)) (frames : List FrameView) (rest : List ℕ) (g : FrameView)
+    (h : IsLaidOut packets frames rest) → IsNext frames g.vc_count
+    → (before after : List FrameView) (f x : FrameView) → frames ++ g ∷ [] ≡ before ++ f ∷ x ∷ after
+    → x.vc_count ≡ (f.vc_count + 1) % 256
 counts_next packets frames rest g h next before after f x e =
     elim (last_or_before frames (before ++ f ∷ []) after g x (e ∙ sym (append_assoc before (f ∷ []) (x ∷ after)))) [
       | inl w ↦ h.counts before w.0 f x (w.1 ∙ append_assoc before (f ∷ []) (x ∷ w.0))
@@ -104,14 +122,19 @@ next_again frames g before f e =
       | inr w ↦ ap (λ (y : FrameView). (y.vc_count + 1) % 256) (sym w.1)
     ]
 
-pub frame_behind : (packets : List (List ℕ)) (frames : List FrameView) (rest left : List ℕ) (g : FrameView) (h : IsLaidOut packets frames rest) → slice_of g ++ left ≡ rest
-    → IsPointed h.all (length (carried_octets frames)) g.pointer (length g.payload) → IsNext frames g.vc_count → (l : IsLaidOut packets (frames ++ g ∷ []) left) × (l.all ≡ h.all)
+pub frame_behind : (packets : List (List ℕ)) (frames : List FrameView) (rest left : List ℕ) (g : FrameView)
+    (h : IsLaidOut packets frames rest) → slice_of g ++ left ≡ rest
+    → IsPointed h.all (length (carried_octets frames)) g.pointer (length g.payload) → IsNext frames g.vc_count
+    → (l : IsLaidOut packets (frames ++ g ∷ []) left) × (l.all ≡ h.all)
 frame_behind packets frames rest left g h parts here next = (
   record {
     all = h.all;
     each = h.each;
     sent = h.sent;
-    stream = ap (λ (xs : List ℕ). xs ++ left) (carried_octets-append frames (g ∷ [])) ∙ append_assoc (carried_octets frames) (slice_of g ++ []) left ∙ ap (λ (xs : List ℕ). carried_octets frames ++ (xs ++ left)) (append-nil (slice_of g)) ∙ ap (λ (xs : List ℕ). carried_octets frames ++ xs) parts ∙ h.stream;
+    stream = ap (λ (xs : List ℕ). xs ++ left) (carried_octets-append frames (g ∷ []))
+        ∙ append_assoc (carried_octets frames) (slice_of g ++ []) left
+        ∙ ap (λ (xs : List ℕ). carried_octets frames ++ (xs ++ left)) (append-nil (slice_of g))
+        ∙ ap (λ (xs : List ℕ). carried_octets frames ++ xs) parts ∙ h.stream;
     pointers = pointers_next packets frames rest g h here;
     counts = counts_next packets frames rest g h next;
   },
@@ -119,12 +142,26 @@ frame_behind packets frames rest left g h parts here next = (
 )
 
 -- what the frames lay out, as what a builder does
-pub laid_again : (s : BuilderState) (packets : List (List ℕ)) (frames : List FrameView) (rest : List ℕ) (all : List (List ℕ)) (l : IsLaidOut packets frames rest) → l.all ≡ all → rest ≡ held_by s → IsNext frames s.count
+pub laid_again : (s : BuilderState) (packets : List (List ℕ)) (frames : List FrameView) (rest : List ℕ)
+    (all : List (List ℕ)) (l : IsLaidOut packets frames rest) → l.all ≡ all → rest ≡ held_by s → IsNext frames s.count
     → IsCutAt all (length (carried_octets frames)) (s.idle_left + s.begun) s.sizes → IsLaidOutBy s packets frames
 laid_again s packets frames rest all l e held next cut = record {
-  laid = record { all = l.all; each = l.each; sent = l.sent; stream = ap (λ (xs : List ℕ). carried_octets frames ++ xs) (sym held) ∙ l.stream; pointers = l.pointers; counts = l.counts };
+  laid = record {
+    all =
+        l.all;
+    each =
+        l.each;
+    sent =
+        l.sent;
+    stream =
+        ap (λ (xs : List ℕ). carried_octets frames ++ xs) (sym held) ∙ l.stream;
+    pointers =
+        l.pointers;
+    counts = l.counts;
+  };
   next = next;
-  cut = subst (λ (ps : List (List ℕ)). IsCutAt ps (length (carried_octets frames)) (s.idle_left + s.begun) s.sizes) (sym e) cut;
+  cut = subst (λ (ps : List (List ℕ)). IsCutAt ps (length (carried_octets frames)) (s.idle_left + s.begun) s.sizes)
+      (sym e) cut;
 }
 
 -- ---- queueing
@@ -136,11 +173,16 @@ to_send_record p octets h = let own = own_extent_of p octets h.packet in record 
 to_send_handed : (p : PacketView) (octets : List ℕ) → IsToSend p octets → without_idle (octets ∷ []) ≡ octets ∷ []
 to_send_handed p octets h = rw (not_idle p octets h) refl
 
-pub queue_laid : (s : BuilderState) (octets : List ℕ) (packets : List (List ℕ)) (frames : List FrameView) → IsOctets octets → is_to_send octets ≡ true
+pub queue_laid : (s : BuilderState) (octets : List ℕ) (packets : List (List ℕ)) (frames : List FrameView)
+    → IsOctets octets → is_to_send octets ≡ true
     → IsLaidOutBy s packets frames → IsLaidOutBy (after_queue s octets) (packets ++ octets ∷ []) frames
 queue_laid s octets packets frames fits sends h =
     let packet = to_send_is octets fits sends in
-    let x = packet_behind packets (packets ++ octets ∷ []) frames (held_by s) octets h.laid (to_send_record packet.0 octets packet.1) (ap (λ (ps : List (List ℕ)). packets ++ ps) (to_send_handed packet.0 octets packet.1)) in
-    let held : held_by s ++ octets ≡ held_by (after_queue s octets) = append_assoc (idle_tail s.idle_left) s.pending octets in
+    let x = packet_behind packets (packets ++ octets ∷ []) frames (held_by s) octets h.laid
+    (to_send_record packet.0 octets packet.1)
+    (ap (λ (ps : List (List ℕ)). packets ++ ps) (to_send_handed packet.0 octets packet.1)) in
+    let held : held_by s ++ octets ≡ held_by (after_queue s octets) =
+    append_assoc (idle_tail s.idle_left) s.pending octets in
     let cut = cut_more h.laid.all (length (carried_octets frames)) (s.idle_left + s.begun) s.sizes octets h.cut in
-    laid_again (after_queue s octets) (packets ++ octets ∷ []) frames (held_by s ++ octets) (h.laid.all ++ octets ∷ []) x.0 x.1 held h.next cut
+    laid_again (after_queue s octets) (packets ++ octets ∷ []) frames (held_by s ++ octets) (h.laid.all ++ octets ∷ [])
+    x.0 x.1 held h.next cut

@@ -1,5 +1,6 @@
 -- Which packets have come, by the marks of their octets.
-use Rattle.std.proofs.Common.{◌≡◌, ◌<◌, ℕ, zero, suc, Bool, true, false, cond, eqb, List, [], ◌∷◌, ◌++◌, length, take, drop, replicate, refl, sym, ap, ◌∙◌, arith, append_assoc, length-append}
+use Rattle.std.proofs.Common.{◌≡◌, ◌<◌, ℕ, zero, suc, Bool, true, false, cond, eqb, List, [], ◌∷◌, ◌++◌, length, take}
+use Rattle.std.proofs.Common.{drop, replicate, refl, sym, ap, ◌∙◌, arith, append_assoc, length-append}
 use Rattle.std.specs.List.{AllByRecursion, concat, list_all}
 use Rattle.std.proofs.lemmas.Bool.{eq-eqb, ne_eqb}
 use Rattle.std.proofs.lemmas.List.{take_at, drop_at, take_all, drop_all, length-replicate, replicate-append-replicate}
@@ -21,7 +22,8 @@ set_alike zero c some = absurd (omega arith)
 set_alike (suc n) true some = all_set n
 set_alike (suc n) false some = refl
 
-are_received-front : (n : ℕ) (front more : List Bool) → length front ≡ n → are_received n (front ++ more) ≡ are_set front
+are_received-front : (n : ℕ) (front more : List Bool) → length front ≡ n
+    → are_received n (front ++ more) ≡ are_set front
 are_received-front n front more h =
     let t : take n (front ++ more) ≡ front = take_at front more n h in
     let e : eqb (length front) n ≡ true = eq-eqb _ _ h in
@@ -40,11 +42,13 @@ complete_packets-front p ps front more h =
     rw (t, d) (come_by p (complete_packets ps more) (are_set front))
 
 -- whole packets, all of whose octets are marked alike
-come_alike : (c : Bool) (p : List ℕ) (ws rest : List (List ℕ)) → cond c (p ∷ []) [] ++ (cond c ws [] ++ rest) ≡ cond c (p ∷ ws) [] ++ rest
+come_alike : (c : Bool) (p : List ℕ) (ws rest : List (List ℕ))
+    → cond c (p ∷ []) [] ++ (cond c ws [] ++ rest) ≡ cond c (p ∷ ws) [] ++ rest
 come_alike true p ws rest = refl
 come_alike false p ws rest = refl
 
-pub complete_packets-alike : (c : Bool) (ws ps : List (List ℕ)) (more : List Bool) → AllByRecursion (IsRecord 6 extent_at) ws
+pub complete_packets-alike : (c : Bool) (ws ps : List (List ℕ)) (more : List Bool)
+    → AllByRecursion (IsRecord 6 extent_at) ws
     → complete_packets (ws ++ ps) (replicate (length (concat ws)) c ++ more) ≡ cond c ws [] ++ complete_packets ps more
 complete_packets-alike true [] ps more each = refl
 complete_packets-alike false [] ps more each = refl
@@ -52,7 +56,8 @@ complete_packets-alike c (w ∷ ws) ps more each =
     let front : List Bool = replicate (length w) c in
     let behind : List Bool = replicate (length (concat ws)) c in
     let parts : replicate (length (w ++ concat ws)) c ≡ front ++ behind =
-    ap (λ n. replicate n c) (length-append w (concat ws)) ∙ sym (replicate-append-replicate (length w) (length (concat ws)) c) in
+    ap (λ n. replicate n c) (length-append w (concat ws))
+    ∙ sym (replicate-append-replicate (length w) (length (concat ws)) c) in
     let is : are_set front ≡ c = set_alike (length w) c (omega (arith, each.0.has_head)) in
     ap (λ (ms : List Bool). complete_packets (w ∷ (ws ++ ps)) (ms ++ more)) parts
     ∙ ap (complete_packets (w ∷ (ws ++ ps))) (append_assoc front behind more)
@@ -78,7 +83,8 @@ none_come (p ∷ ps) each =
     let d : drop (length p) no_marks ≡ no_marks = drop_all (length p) no_marks (omega arith) in
     rw (t, d) (none_come ps each.1)
 
-pub complete_packets-short : (p : List ℕ) (ps : List (List ℕ)) (marks : List Bool) → AllByRecursion (IsRecord 6 extent_at) ps → length marks < length p → complete_packets (p ∷ ps) marks ≡ []
+pub complete_packets-short : (p : List ℕ) (ps : List (List ℕ)) (marks : List Bool)
+    → AllByRecursion (IsRecord 6 extent_at) ps → length marks < length p → complete_packets (p ∷ ps) marks ≡ []
 complete_packets-short p ps marks each h =
     let t : are_received (length p) marks ≡ false = too_few (length p) marks h in
     let d : drop (length p) marks ≡ no_marks = drop_all (length p) marks (omega arith) in

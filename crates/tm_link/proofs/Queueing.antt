@@ -1,5 +1,6 @@
 -- What is queued is one packet, which isn't idle.
-use Rattle.std.proofs.Common.{◌≡◌, ◌≢◌, ℕ, ◌+◌, ◌*◌, ◌%◌, ◌<◌, Bool, true, false, not, List, take, refl, sym, ◌∙◌, arith}
+use Rattle.std.proofs.Common.{◌≡◌, ◌≢◌, ℕ, ◌+◌, ◌*◌, ◌%◌, ◌<◌, Bool, true, false, not, List, take, refl, sym, ◌∙◌}
+use Rattle.std.proofs.Common.{arith}
 use Rattle.std.proofs.lemmas.Bool.{eqb-false, ne_eqb}
 use Rattle.octets.specs.Number.{number_of, IsOctets}
 use Rattle.octets.proofs.Outcomes.{both_true}
@@ -15,7 +16,8 @@ from_not false h = refl
 
 apid_is : (p : PacketView) (octets : List ℕ) → IsPacket p octets → number_of (take 2 octets) % 2048 ≡ p.apid
 apid_is p octets h =
-    let first : number_of (take 2 octets) ≡ 4096 * type_bit p.kind + 2048 * secondary_bit p.secondary + p.apid = h.first in
+    let first : number_of (take 2 octets) ≡ 4096 * type_bit p.kind + 2048 * secondary_bit p.secondary + p.apid =
+    h.first in
     let low : p.apid < 2048 = h.apid in
     omega arith
 

@@ -1,5 +1,6 @@
 -- The spelling of a frame spells it, and nothing else does.
-use Rattle.std.proofs.Common.{◌≡◌, ◌<◌, ◌≤◌, ℕ, ◌+◌, ◌-◌, true, List, [], ◌∷◌, ◌++◌, length, get_or, take, drop, refl, sym, ap, subst, ◌∙◌, arith, length-append}
+use Rattle.std.proofs.Common.{◌≡◌, ◌<◌, ◌≤◌, ℕ, ◌+◌, ◌-◌, true, List, [], ◌∷◌, ◌++◌, length, get_or, take, drop, refl}
+use Rattle.std.proofs.Common.{sym, ap, subst, ◌∙◌, arith, length-append}
 use Rattle.std.specs.Prelude.{IsTrue}
 use Rattle.std.proofs.lemmas.Bool.{ltb-true}
 use Rattle.std.proofs.lemmas.List.{take_at, take-append-drop, take-take, drop-take, drop-drop, length-take, length-drop}
@@ -11,14 +12,16 @@ use Rattle.octets.proofs.Cuts.{take_fits, drop_fits}
 use Rattle.octets.proofs.Numbers.{number_of_two, two_octets}
 use Rattle.octets.proofs.Outcomes.{both_true, le_true}
 use Rattle.tm_link.specs.Layout.{FrameView, pointer_fits, IsTmFrame, IsSpelling}
-use Rattle.tm_link.specs.Writing.{total_of, first_number, status_number, header_octets, front_octets, spelling, frame_fits}
+use Rattle.tm_link.specs.Writing.{total_of, first_number, status_number, header_octets, front_octets, spelling}
+use Rattle.tm_link.specs.Writing.{frame_fits}
 use Rattle.tm_link.proofs.Frames.{pointer_again}
 
 length-front : (f : FrameView) → length f.ocf ≡ 4 → length (front_octets f) ≡ length f.payload + 10
 length-front f ocf = omega (arith, length-append f.payload f.ocf)
 
 length-spelling : (f : FrameView) → length f.ocf ≡ 4 → length (spelling f) ≡ total_of f
-length-spelling f ocf = omega (arith, length-front f ocf, length-append (front_octets f) (big_bytes 2 (check_of (front_octets f))))
+length-spelling f ocf =
+    omega (arith, length-front f ocf, length-append (front_octets f) (big_bytes 2 (check_of (front_octets f))))
 
 pub spelling_is : (f : FrameView) → length f.ocf ≡ 4 → frame_fits f ≡ true → IsTmFrame (total_of f) f (spelling f)
 spelling_is f ocf fits =
@@ -45,22 +48,26 @@ spelling_is f ocf fits =
       vc_count = refl;
       status = number_of_two (status_number f) [] (omega (arith, read.low));
       pointer = subst (λ (k : ℕ). IsTrue (pointer_fits f.pointer k)) (sym count) pointer.1;
-      rest = ap (drop 6) (take_at front (big_bytes 2 (check_of front)) (total_of f - 2) (omega (arith, length-front f ocf)));
+      rest = ap (drop 6) (take_at front (big_bytes 2 (check_of front)) (total_of f - 2)
+          (omega (arith, length-front f ocf)));
       payload = sym count;
       ocf = ocf;
       checked = holds_check front;
     }
 
 -- what was written in front of other octets
-pub written_is : (n : ℕ) (f : FrameView) (out rest : List ℕ) → out ≡ spelling f → IsTmFrame n f (spelling f) → IsTmFrame n f (take n (out ++ rest))
+pub written_is : (n : ℕ) (f : FrameView) (out rest : List ℕ) → out ≡ spelling f → IsTmFrame n f (spelling f)
+    → IsTmFrame n f (take n (out ++ rest))
 written_is n f out rest is h =
     let front : take n (out ++ rest) ≡ out = take_at out rest n (ap length is ∙ h.count) in
     subst (IsTmFrame n f) (sym (front ∙ is)) h
 
 -- two octets from a place on are those of their number
-two_at : (b : List ℕ) (k : ℕ) → k + 2 ≤ length b → IsOctets b → take 2 (drop k b) ≡ big_bytes 2 (number_of (take 2 (drop k b)))
+two_at : (b : List ℕ) (k : ℕ) → k + 2 ≤ length b → IsOctets b
+    → take 2 (drop k b) ≡ big_bytes 2 (number_of (take 2 (drop k b)))
 two_at b k long octets =
-    two_octets (take 2 (drop k b)) (omega (arith, length-take 2 (drop k b), length-drop k b)) (take_fits (drop k b) 2 (drop_fits b k octets))
+    two_octets (take 2 (drop k b)) (omega (arith, length-take 2 (drop k b), length-drop k b))
+    (take_fits (drop k b) 2 (drop_fits b k octets))
 
 -- two octets from place 2 on, one by one
 counts_at : (b : List ℕ) (x y : ℕ) → 4 ≤ length b → get_or b 2 0 ≡ x → get_or b 3 0 ≡ y → take 2 (drop 2 b) ≡ x ∷ y ∷ []
@@ -74,11 +81,17 @@ counts_at (a ∷ b ∷ c ∷ d ∷ rest) x y long p q = rw (p, q) refl
 header_is : (total : ℕ) (f : FrameView) (b : List ℕ) → IsSpelling total f b → take 6 b ≡ header_octets f
 header_is total f b h =
     let least : 16 ≤ length b = omega (arith, h.spells.least, h.spells.count) in
-    let one : take 2 b ≡ big_bytes 2 (first_number f) = two_at b 0 (omega arith) h.octets ∙ ap (big_bytes 2) h.spells.first in
-    let three : take 2 (drop 4 b) ≡ big_bytes 2 (status_number f) = two_at b 4 (omega arith) h.octets ∙ ap (big_bytes 2) h.spells.status in
-    let counts : take 2 (drop 2 b) ≡ f.mc_count ∷ f.vc_count ∷ [] = counts_at b (f.mc_count) (f.vc_count) (omega arith) h.spells.mc_count h.spells.vc_count in
-    let last : take 4 (drop 2 b) ≡ take 2 (drop 2 b) ++ take 2 (drop 4 b) = sym (take-append-drop 2 (take 4 (drop 2 b))) ∙ rw (take-take 2 4 (drop 2 b) (omega arith), drop-take 2 2 (drop 2 b), drop-drop 2 2 b) refl in
-    let parts : take 6 b ≡ take 2 b ++ take 4 (drop 2 b) = sym (take-append-drop 2 (take 6 b)) ∙ rw (take-take 2 6 b (omega arith), drop-take 2 4 b) refl in
+    let one : take 2 b ≡ big_bytes 2 (first_number f) =
+    two_at b 0 (omega arith) h.octets ∙ ap (big_bytes 2) h.spells.first in
+    let three : take 2 (drop 4 b) ≡ big_bytes 2 (status_number f) =
+    two_at b 4 (omega arith) h.octets ∙ ap (big_bytes 2) h.spells.status in
+    let counts : take 2 (drop 2 b) ≡ f.mc_count ∷ f.vc_count ∷ [] =
+    counts_at b (f.mc_count) (f.vc_count) (omega arith) h.spells.mc_count h.spells.vc_count in
+    let last : take 4 (drop 2 b) ≡ take 2 (drop 2 b) ++ take 2 (drop 4 b) =
+    sym (take-append-drop 2 (take 4 (drop 2 b)))
+    ∙ rw (take-take 2 4 (drop 2 b) (omega arith), drop-take 2 2 (drop 2 b), drop-drop 2 2 b) refl in
+    let parts : take 6 b ≡ take 2 b ++ take 4 (drop 2 b) =
+    sym (take-append-drop 2 (take 6 b)) ∙ rw (take-take 2 6 b (omega arith), drop-take 2 4 b) refl in
     parts ∙ rw (last, one, counts, three) refl
 
 -- octets that spell a frame are its spelling

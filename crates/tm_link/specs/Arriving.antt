@@ -13,16 +13,18 @@ pub record IsInRange (f : FrameView) : Type 0 where
 -- the packets that are handed out, in order
 abbrev pub all_extracted : ExtractorState → List FrameView → List (List ℕ)
 all_extracted s [] = []
-all_extracted s (f ∷ frames) = (extract_step s f).packets ++ all_extracted (extract_step s f).after frames
+all_extracted s (f ∷ frames) =
+    (extract_step s f).packets ++ all_extracted (extract_step s f).after frames
 
 -- what the extractor holds then
 abbrev pub state_behind : ExtractorState → List FrameView → ExtractorState
 state_behind s [] = s
 state_behind s (f ∷ frames) = state_behind (extract_step s f).after frames
 
--- The flags choose some of the frames before this one of them, fewer than 256 are left out before it since the last that
--- came, and those that came led a new extractor here.
-pub record LeadsTo (s : ExtractorState) (f : FrameView) (frames : List FrameView) (chosen : List Bool) : Type 0 where
+-- The flags choose some of the frames before this one of them, fewer than 256 are left out before
+-- it since the last that came, and those that came led a new extractor here.
+pub record LeadsTo (s : ExtractorState) (f : FrameView) (frames : List FrameView)
+    (chosen : List Bool) : Type 0 where
   pub before : List FrameView
   pub after : List FrameView
   pub parts : frames ≡ before ++ f ∷ after
@@ -30,10 +32,15 @@ pub record LeadsTo (s : ExtractorState) (f : FrameView) (frames : List FrameView
   pub close : IsClose (chosen ++ true ∷ [])
   pub state : s ≡ state_behind new_extractor (choice frames chosen)
 
--- With this frame what arrives is what arrived without it, and then these packets, whatever the stream and the choice.
+-- With this frame what arrives is what arrived without it, and then these packets, whatever the
+-- stream and the choice.
 abbrev pub IsGain : ExtractorState → FrameView → List (List ℕ) → Type 0
-IsGain s f given = (packets : List (List ℕ)) (frames : List FrameView) (rest : List ℕ) (laid : IsLaidOut packets frames rest) (chosen : List Bool)
-    → AllByRecursion IsInRange frames → LeadsTo s f frames chosen → arrived_packets laid.all frames (chosen ++ true ∷ []) ≡ arrived_packets laid.all frames chosen ++ given
+IsGain s f given =
+    (packets : List (List ℕ)) (frames : List FrameView) (rest : List ℕ)
+    (laid : IsLaidOut packets frames rest) (chosen : List Bool)
+    → AllByRecursion IsInRange frames → LeadsTo s f frames chosen
+    → arrived_packets laid.all frames (chosen ++ true ∷ [])
+    ≡ arrived_packets laid.all frames chosen ++ given
 
 -- the list of packets has grown by just what the frame gains
 abbrev pub HasGained : ExtractorState → FrameView → List (List ℕ) → List (List ℕ) → Type 0

@@ -4,7 +4,21 @@ use Rattle.tm_link.specs.declared.builder.TmBuilder.TheInside.{Inside}
 use Rattle.tm_link.specs.Building.{BuilderState}
 
 abbrev pub state_of : Inside → BuilderState
-state_of b = record { scid = b.scid; vcid = b.vcid; total = b.total; count = b.count; idle_left = b.idle_left; pending = drop b.start b.octets.items; begun = b.begun; sizes = b.sizes.items }
+state_of b = record {
+  scid =
+      b.scid;
+  vcid =
+      b.vcid;
+  total =
+      b.total;
+  count =
+      b.count;
+  idle_left =
+      b.idle_left;
+  pending = drop b.start b.octets.items;
+  begun = b.begun;
+  sizes = b.sizes.items;
+}
 
 -- what the fields keep to
 pub record IsSound (b : Inside) : Type 0 where

@@ -1,5 +1,7 @@
--- Building the frames of a stream of packets (this project's rule for CCSDS 132.0-B-3, 4.1.4 and 4.2.2).
-use Rattle.std.specs.Prelude.{◌≢◌, ℕ, ◌+◌, ◌-◌, ◌%◌, max, List, [], ◌∷◌, ◌++◌, length, take, drop, replicate, Bool, not, ◌&&◌, ◌==◌, nat_lt, nat_le, if◌then◌else◌}
+-- Building the frames of a stream of packets (this project's rule for CCSDS 132.0-B-3, 4.1.4 and
+-- 4.2.2).
+use Rattle.std.specs.Prelude.{◌≢◌, ℕ, ◌+◌, ◌-◌, ◌%◌, max, List, [], ◌∷◌, ◌++◌, length, take, drop}
+use Rattle.std.specs.Prelude.{replicate, Bool, not, ◌&&◌, ◌==◌, nat_lt, nat_le, if◌then◌else◌}
 use Rattle.byteorder.specs.Endian.{big_bytes}
 use Rattle.space_packet.specs.Layout.{PacketView, IsPacket}
 use Rattle.space_packet.specs.Packets.{is_packet}
@@ -10,8 +12,8 @@ use Rattle.tm_link.specs.declared.fault.TmFault.TheVariants as faults
 use Rattle.tm_link.specs.Extraction.{is_idle}
 use Rattle.tm_link.specs.Layout.{FrameView}
 
--- What a builder holds. The octets that are still to be sent are those left of an idle packet, and then `pending`: the
--- end of a packet that was begun, and whole packets.
+-- What a builder holds. The octets that are still to be sent are those left of an idle packet, and
+-- then `pending`: the end of a packet that was begun, and whole packets.
 pub record BuilderState : Type 0 where
   pub scid : ℕ
   pub vcid : ℕ
@@ -22,17 +24,30 @@ pub record BuilderState : Type 0 where
   -- octets left of an idle packet
   pub idle_left : ℕ
   pub pending : List ℕ
-  -- octets left of the packet that was begun, and octets of each whole packet behind it
+  -- octets left of the packet that was begun, and octets of each whole packet after it
   pub begun : ℕ
   pub sizes : List ℕ
 
 -- ---- a new builder
 
 abbrev pub builder_fits : ℕ → ℕ → ℕ → Bool
-builder_fits scid vcid total = nat_lt scid 1024 && nat_lt vcid 8 && nat_le 16 total && nat_le total 2048
+builder_fits scid vcid total =
+    nat_lt scid 1024 && nat_lt vcid 8 && nat_le 16 total && nat_le total 2048
 
 abbrev pub new_builder : ℕ → ℕ → ℕ → BuilderState
-new_builder scid vcid total = record { scid = scid; vcid = vcid; total = total; count = 0; idle_left = 0; pending = []; begun = 0; sizes = [] }
+new_builder scid vcid total =
+    record {
+      scid =
+          scid;
+      vcid = vcid;
+      total =
+          total;
+      count = 0;
+      idle_left = 0;
+      pending = [];
+      begun = 0;
+      sizes = [];
+    }
 
 -- ---- queueing
 
@@ -49,7 +64,8 @@ abbrev pub queue_fault : List ℕ → TmFault
 queue_fault octets = if is_to_send octets then faults.Memory else faults.NotAPacket
 
 abbrev pub after_queue : BuilderState → List ℕ → BuilderState
-after_queue s octets = record s { pending = s.pending ++ octets; sizes = s.sizes ++ length octets ∷ [] }
+after_queue s octets =
+    record s { pending = s.pending ++ octets; sizes = s.sizes ++ length octets ∷ [] }
 
 -- ---- building
 
@@ -69,37 +85,58 @@ data_size s = s.total - 12
 abbrev pub is_at_rest : BuilderState → Bool
 is_at_rest s = (s.idle_left == 0) && (length s.pending == 0)
 
--- the room where packets run out, in a field of so many octets
+-- the room where packets run out, in a field of this many octets
 abbrev pub room_left : ℕ → ℕ → ℕ → ℕ
 room_left size idle_left count = size - idle_left - count
 
 -- the field is filled from the stream; where packets run out an idle packet is placed
 abbrev pub data_from : ℕ → List ℕ → ℕ → List ℕ
-data_from idle_left pending size = take size (idle_tail idle_left ++ pending ++ idle_packet (max (room_left size idle_left (length pending)) 7))
+data_from idle_left pending size =
+    take size (idle_tail idle_left ++ pending
+    ++ idle_packet (max (room_left size idle_left (length pending)) 7))
 
 abbrev pub data_built : BuilderState → List ℕ
-data_built s = if is_at_rest s then replicate (data_size s) 0x55 else data_from s.idle_left s.pending (data_size s)
+data_built s =
+    if is_at_rest s then replicate (data_size s) 0x55 else data_from s.idle_left s.pending
+    (data_size s)
 
--- the least place where a packet starts: behind what is left of one, in a field of so many octets
+-- the least place where a packet starts: after what is left of one, in a field of this many octets
 abbrev pub first_start : ℕ → ℕ → Pointer
 first_start left size = if nat_lt left size then At left else NoStart
 
 abbrev pub pointer_built : BuilderState → Pointer
-pointer_built s = if is_at_rest s then OnlyIdle else first_start (s.idle_left + s.begun) (data_size s)
+pointer_built s =
+    if is_at_rest s then OnlyIdle else first_start (s.idle_left + s.begun) (data_size s)
 
 abbrev pub frame_built : BuilderState → List ℕ → FrameView
-frame_built s ocf = record { scid = s.scid; vcid = s.vcid; mc_count = s.count; vc_count = s.count; pointer = pointer_built s; payload = data_built s; ocf = ocf }
+frame_built s ocf =
+    record {
+      scid =
+          s.scid;
+      vcid =
+          s.vcid;
+      mc_count =
+          s.count;
+      vc_count = s.count;
+      pointer = pointer_built s;
+      payload = data_built s;
+      ocf = ocf;
+    }
 
--- what is left of an idle packet behind a field of so many octets
+-- what is left of an idle packet after a field of this many octets
 abbrev pub idle_after : ℕ → ℕ → ℕ → ℕ
-idle_after size idle_left count = if room_left size idle_left count == 0 then idle_left - size else 7 - room_left size idle_left count
+idle_after size idle_left count =
+    if room_left size idle_left count == 0 then idle_left - size else 7 - room_left size idle_left
+    count
 
--- what is left of the packet that was begun, and the packets behind it, once so many of their octets were sent
+-- what is left of the packet that was begun, and the packets after it, once this many of their
+-- octets were sent
 abbrev pub left_after : ℕ → ℕ → List ℕ → ℕ × List ℕ
 left_after room begun [] = (begun - room, [])
-left_after room begun (size ∷ sizes) = if nat_le room begun then (begun - room, size ∷ sizes) else left_after (room - begun) size sizes
+left_after room begun (size ∷ sizes) =
+    if nat_le room begun then (begun - room, size ∷ sizes) else left_after (room - begun) size sizes
 
--- behind a field of so many octets
+-- after a field of this many octets
 abbrev pub after_send : BuilderState → ℕ → BuilderState
 after_send s size =
     let room : ℕ = size - s.idle_left in

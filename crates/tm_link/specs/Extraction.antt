@@ -1,5 +1,7 @@
 -- Extracting packets from frames (this project's rule for CCSDS 132.0-B-3, 4.3.2).
-use Rattle.std.specs.Prelude.{◌≡◌, ℕ, ◌+◌, ◌-◌, ◌%◌, List, [], ◌∷◌, ◌++◌, length, take, drop, map, Bool, false, not, ◌==◌, nat_lt, if◌then◌else◌, Option, Some, None, Result, Ok, Err, Vec}
+use Rattle.std.specs.Prelude.{◌≡◌, ℕ, ◌+◌, ◌-◌, ◌%◌, List, [], ◌∷◌, ◌++◌, length, take, drop, map}
+use Rattle.std.specs.Prelude.{Bool, false, not, ◌==◌, nat_lt, if◌then◌else◌, Option, Some, None}
+use Rattle.std.specs.Prelude.{Result, Ok, Err, Vec}
 use Rattle.std.specs.List.{filter}
 use Rattle.std.specs.declared.alloc.Global.{Global}
 use Rattle.octets.specs.Number.{number_of}
@@ -14,8 +16,8 @@ use Rattle.tm_link.specs.declared.ending.Ending.{Ending}
 use Rattle.tm_link.specs.declared.ending.Ending.TheVariants.{Whole, Short, Wrong}
 use Rattle.tm_link.specs.Layout.{FrameView}
 
--- What an extractor holds. One that is searching and one in step with no octets are told apart by no frame, so both
--- are the state with no part.
+-- What an extractor holds. One that is searching and one in step with no octets are told apart by
+-- no frame, so both are the state with no part.
 pub record ExtractorState : Type 0 where
   -- the last frame's count on the virtual channel, once there was a frame
   pub last : Option ℕ
@@ -42,13 +44,15 @@ part_behind gap part = if is_any_lost gap then [] else part
 
 -- ---- a packet's end
 
--- how so many octets from a packet's start on stand to this extent
+-- how this many octets from a packet's start on stand to this extent
 abbrev pub ending_by : Result ℕ PacketFault → ℕ → Ending
 ending_by (Ok n) count = if n == count then Whole else if nat_lt count n then Short else Wrong
 ending_by (Err e) count = Wrong
 
 abbrev pub ending_of : List ℕ → Ending
-ending_of octets = if nat_lt (length octets) 6 then Short else ending_by (extent_at (take 6 octets)) (length octets)
+ending_of octets =
+    if nat_lt (length octets) 6 then Short else ending_by (extent_at (take 6 octets))
+    (length octets)
 
 -- the packet that is finished with these octets
 abbrev pub finished_by : List ℕ → Ending → List (List ℕ)
@@ -64,21 +68,24 @@ part_by octets Wrong = []
 
 -- ---- a frame's data, in step with a part or with none
 
--- the packet that the part and these octets behind it are
+-- the packet that the part and these octets after it are
 abbrev pub completed_packet : List ℕ → List ℕ → List (List ℕ)
-completed_packet part octets = if length part == 0 then [] else finished_by (part ++ octets) (ending_of (part ++ octets))
+completed_packet part octets =
+    if length part == 0 then [] else finished_by (part ++ octets) (ending_of (part ++ octets))
 
 abbrev pub continued_part : List ℕ → List ℕ → List ℕ
-continued_part part octets = if length part == 0 then [] else part_by (part ++ octets) (ending_of (part ++ octets))
+continued_part part octets =
+    if length part == 0 then [] else part_by (part ++ octets) (ending_of (part ++ octets))
 
--- what stands behind whole packets, unless it is refused
+-- what stands after whole packets, unless it is refused
 abbrev pub opened_part : List ℕ → List ℕ
 opened_part rest = part_by rest (ending_of rest)
 
 abbrev pub finished_packets : List ℕ → Pointer → List ℕ → List (List ℕ)
 finished_packets part OnlyIdle payload = []
 finished_packets part NoStart payload = completed_packet part payload
-finished_packets part (At p) payload = completed_packet part (take p payload) ++ records_of 6 extent_at (drop p payload)
+finished_packets part (At p) payload =
+    completed_packet part (take p payload) ++ records_of 6 extent_at (drop p payload)
 
 abbrev pub part_after : List ℕ → Pointer → List ℕ → List ℕ
 part_after part OnlyIdle payload = []
@@ -114,6 +121,6 @@ extract_step s f =
 abbrev pub octets_of : List (Vec ℕ Global) → List (List ℕ)
 octets_of packets = map (λ packet. packet.items) packets
 
--- these packets are behind those that were there
+-- these packets are after those that were there
 abbrev pub GrowsBy : Vec (Vec ℕ Global) Global → Vec (Vec ℕ Global) Global → List (List ℕ) → Type 0
 GrowsBy before after packets = octets_of after.items ≡ octets_of before.items ++ packets

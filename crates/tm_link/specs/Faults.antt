@@ -1,7 +1,9 @@
 -- The faults of telemetry frames by number and by name.
 use Rattle.std.specs.Prelude.{ℕ, List, codes}
 use Rattle.tm_link.specs.declared.fault.TmFault.{TmFault}
-use Rattle.tm_link.specs.declared.fault.TmFault.TheVariants.{Length, Version, Check, Status, Pointer, NoOcf, Memory, NotAPacket, Room, FieldRange}
+use Rattle.tm_link.specs.declared.fault.TmFault.TheVariants.{Length, Version, Check, Status}
+use Rattle.tm_link.specs.declared.fault.TmFault.TheVariants.{Pointer, NoOcf, Memory, NotAPacket}
+use Rattle.tm_link.specs.declared.fault.TmFault.TheVariants.{Room, FieldRange}
 
 abbrev pub fault_number : TmFault → ℕ
 fault_number Length = 1

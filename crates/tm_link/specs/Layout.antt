@@ -1,5 +1,6 @@
 -- The telemetry transfer frame, and the octets that spell it (CCSDS 132.0-B-3, 4.1).
-use Rattle.std.specs.Prelude.{◌≡◌, ◌≤◌, ◌<◌, ℕ, ◌+◌, ◌-◌, ◌*◌, List, ◌++◌, length, slice_index, take, drop, Bool, true, nat_lt, IsTrue}
+use Rattle.std.specs.Prelude.{◌≡◌, ◌≤◌, ◌<◌, ℕ, ◌+◌, ◌-◌, ◌*◌, List, ◌++◌, length, slice_index}
+use Rattle.std.specs.Prelude.{take, drop, Bool, true, nat_lt, IsTrue}
 use Rattle.octets.specs.Number.{number_of, IsOctets}
 use Rattle.octets.specs.Check.{HoldsCheck}
 use Rattle.tm_link.specs.declared.frame.Pointer.{Pointer}
@@ -17,7 +18,19 @@ pub record FrameView : Type 0 where
   pub ocf : List ℕ
 
 abbrev pub frame_view : TmFrame → FrameView
-frame_view f = record { scid = f.scid; vcid = f.vcid; mc_count = f.mc_count; vc_count = f.vc_count; pointer = f.pointer; payload = f.payload.now; ocf = f.ocf }
+frame_view f =
+    record {
+      scid =
+          f.scid;
+      vcid =
+          f.vcid;
+      mc_count =
+          f.mc_count;
+      vc_count = f.vc_count;
+      pointer = f.pointer;
+      payload = f.payload.now;
+      ocf = f.ocf;
+    }
 
 -- ---- the first header pointer (4.1.2.7.6)
 
@@ -26,7 +39,7 @@ pointer_number (At place) = place
 pointer_number NoStart = 2047
 pointer_number OnlyIdle = 2046
 
--- a place is one of the data field of so many octets
+-- a place is one of the data field of this many octets
 abbrev pub pointer_fits : Pointer → ℕ → Bool
 pointer_fits (At place) size = nat_lt place size
 pointer_fits NoStart size = true
@@ -34,7 +47,7 @@ pointer_fits OnlyIdle size = true
 
 -- ---- the frame
 
--- The octets b spell the frame f of so many octets.
+-- The octets b spell the frame f of this many octets.
 pub record IsTmFrame (total : ℕ) (f : FrameView) (b : List ℕ) : Type 0 where
   pub count : length b ≡ total
   pub least : 16 ≤ total

@@ -1,5 +1,7 @@
 -- The frame that octets spell, or the first fault in the order of the faults' numbers.
-use Rattle.std.specs.Prelude.{ℕ, ◌+◌, ◌-◌, ◌/◌, ◌%◌, List, [], ◌∷◌, length, slice_index, take, drop, Bool, not, ◌&&◌, ◌||◌, ◌==◌, nat_lt, nat_le, if◌then◌else◌, Result, Ok, Err}
+use Rattle.std.specs.Prelude.{ℕ, ◌+◌, ◌-◌, ◌/◌, ◌%◌, List, [], ◌∷◌, length, slice_index, take, drop}
+use Rattle.std.specs.Prelude.{Bool, not, ◌&&◌, ◌||◌, ◌==◌, nat_lt, nat_le, if◌then◌else◌, Result}
+use Rattle.std.specs.Prelude.{Ok, Err}
 use Rattle.octets.specs.Number.{number_of}
 use Rattle.octets.specs.Check.{check_of}
 use Rattle.tm_link.specs.declared.frame.Pointer.{Pointer}
@@ -8,7 +10,7 @@ use Rattle.tm_link.specs.declared.fault.TmFault.{TmFault}
 use Rattle.tm_link.specs.declared.fault.TmFault.TheVariants as faults
 use Rattle.tm_link.specs.Layout.{FrameView}
 
--- so many octets are no frame of this length, or no frame has this length
+-- this many octets are no frame of this length, or no frame has this length
 abbrev pub is_length_wrong : ℕ → ℕ → Bool
 is_length_wrong total count = not (count == total) || nat_lt total 16 || nat_lt 2048 total
 
@@ -16,18 +18,21 @@ is_length_wrong total count = not (count == total) || nat_lt total 16 || nat_lt 
 abbrev pub is_check_wrong : List ℕ → Bool
 is_check_wrong b = not (number_of (drop (length b - 2) b) == check_of (take (length b - 2) b))
 
--- a pointer of this number is neither a place in a data field of so many octets nor 2046 nor 2047 (4.1.2.7.6)
+-- a pointer of this number is neither a place in a data field of this many octets nor 2046 nor 2047
+-- (4.1.2.7.6)
 abbrev pub is_pointer_outside : ℕ → ℕ → Bool
 is_pointer_outside number size = nat_lt number 2046 && nat_le size number
 
 abbrev pub pointer_at : ℕ → Pointer
-pointer_at number = if number == 2046 then OnlyIdle else if number == 2047 then NoStart else At number
+pointer_at number =
+    if number == 2046 then OnlyIdle else if number == 2047 then NoStart else At number
 
 -- four octets from a place on
 abbrev pub four_at : List ℕ → ℕ → List ℕ
-four_at b k = slice_index b k ∷ slice_index b (k + 1) ∷ slice_index b (k + 2) ∷ slice_index b (k + 3) ∷ []
+four_at b k =
+    slice_index b k ∷ slice_index b (k + 1) ∷ slice_index b (k + 2) ∷ slice_index b (k + 3) ∷ []
 
--- the frame of so many octets, from the numbers of octets 0 and 1 and of octets 4 and 5
+-- the frame of this many octets, from the numbers of octets 0 and 1 and of octets 4 and 5
 abbrev pub frame_with : ℕ → ℕ → ℕ → List ℕ → FrameView
 frame_with total first status b = record {
   scid = first / 16;

@@ -1,5 +1,7 @@
--- The stream of packets that frames carry, and the packets that arrive with some of the frames (CCSDS 132.0-B-3, 4.1.4 and 4.2.2).
-use Rattle.std.specs.Prelude.{◌≡◌, ◌<◌, ℕ, ◌+◌, ◌%◌, List, [], ◌∷◌, ◌++◌, length, take, drop, map, replicate, Bool, true, false, ◌&&◌, ◌==◌, if◌then◌else◌}
+-- The stream of packets that frames carry, and the packets that arrive with some of the frames
+-- (CCSDS 132.0-B-3, 4.1.4 and 4.2.2).
+use Rattle.std.specs.Prelude.{◌≡◌, ◌<◌, ℕ, ◌+◌, ◌%◌, List, [], ◌∷◌, ◌++◌, length, take, drop, map}
+use Rattle.std.specs.Prelude.{replicate, Bool, true, false, ◌&&◌, ◌==◌, if◌then◌else◌}
 use Rattle.std.specs.List.{AllByRecursion, concat, list_all}
 use Rattle.octets.specs.Records.{IsRecord}
 use Rattle.space_packet.specs.Reading.{extent_at}
@@ -12,11 +14,14 @@ use Rattle.tm_link.specs.declared.frame.Pointer.TheVariants.{At, NoStart, OnlyId
 
 -- a packet starts at this place
 abbrev pub IsStart : List (List ℕ) → ℕ → Type 0
-IsStart all place = (before after : List (List ℕ)) × (p : List ℕ) × (all ≡ before ++ p ∷ after) × (length (concat before) ≡ place)
+IsStart all place =
+    (before after : List (List ℕ)) × (p : List ℕ) × (all ≡ before ++ p ∷ after)
+    × (length (concat before) ≡ place)
 
 -- the octets before this place end at a packet's end
 abbrev pub IsEnd : List (List ℕ) → ℕ → Type 0
-IsEnd all place = (before after : List (List ℕ)) × (all ≡ before ++ after) × (length (concat before) ≡ place)
+IsEnd all place =
+    (before after : List (List ℕ)) × (all ≡ before ++ after) × (length (concat before) ≡ place)
 
 -- ---- the frames
 
@@ -36,22 +41,26 @@ carried_octets frames = concat (map slice_of frames)
 abbrev pub HasNoStart : List (List ℕ) → ℕ → ℕ → Type 0
 HasNoStart all place n = (q : ℕ) → q < n → IsStart all (place + q) → ⊥
 
--- the pointer of a frame whose slice begins at this place is the least place in it where a packet starts
+-- the pointer of a frame whose slice begins at this place is the least place in it where a packet
+-- starts
 abbrev pub IsPointed : List (List ℕ) → ℕ → Pointer → ℕ → Type 0
 IsPointed all place OnlyIdle size = IsEnd all place
 IsPointed all place NoStart size = HasNoStart all place size
 IsPointed all place (At p) size = (p < size) × IsStart all (place + p) × HasNoStart all place p
 
 -- The frames lay out the stream of the packets, up to the rest.
-pub record IsLaidOut (packets : List (List ℕ)) (frames : List FrameView) (rest : List ℕ) : Type 0 where
-  -- the packets of the stream, with idle ones before, between and behind
-  pub all : List (List ℕ)
-  pub each : AllByRecursion (IsRecord 6 extent_at) all
-  pub sent : without_idle all ≡ packets
-  pub stream : carried_octets frames ++ rest ≡ concat all
-  pub pointers : (before after : List FrameView) (f : FrameView) → frames ≡ before ++ f ∷ after
-      → IsPointed all (length (carried_octets before)) f.pointer (length f.payload)
-  pub counts : (before after : List FrameView) (f g : FrameView) → frames ≡ before ++ f ∷ g ∷ after → g.vc_count ≡ (f.vc_count + 1) % 256
+pub record IsLaidOut (packets : List (List ℕ)) (frames : List FrameView) (rest : List ℕ) : Type 0
+  where
+    -- the packets of the stream, with idle ones before, between and after
+    pub all : List (List ℕ)
+    pub each : AllByRecursion (IsRecord 6 extent_at) all
+    pub sent : without_idle all ≡ packets
+    pub stream : carried_octets frames ++ rest ≡ concat all
+    pub pointers : (before after : List FrameView) (f : FrameView) → frames ≡ before ++ f ∷ after
+        → IsPointed all (length (carried_octets before)) f.pointer (length f.payload)
+    pub counts : (before after : List FrameView) (f g : FrameView)
+        → frames ≡ before ++ f ∷ g ∷ after
+        → g.vc_count ≡ (f.vc_count + 1) % 256
 
 -- ---- the packets that arrive
 
@@ -68,7 +77,9 @@ are_received n marks = (length (take n marks) == n) && list_all (λ m. m) (take 
 -- the packets all of whose octets came, idle ones among them
 abbrev pub complete_packets : List (List ℕ) → List Bool → List (List ℕ)
 complete_packets [] marks = []
-complete_packets (p ∷ ps) marks = if are_received (length p) marks then p ∷ complete_packets ps (drop (length p) marks) else complete_packets ps (drop (length p) marks)
+complete_packets (p ∷ ps) marks =
+    if are_received (length p) marks then p
+    ∷ complete_packets ps (drop (length p) marks) else complete_packets ps (drop (length p) marks)
 
 -- in order, the packets all of whose octets lie in the slices of the frames that came
 abbrev pub arrived_packets : List (List ℕ) → List FrameView → List Bool → List (List ℕ)
@@ -82,4 +93,6 @@ choice (f ∷ frames) (c ∷ chosen) = if c then f ∷ choice frames chosen else
 
 -- fewer than 256 frames are left out between two that came
 abbrev pub IsClose : List Bool → Type 0
-IsClose chosen = (before after : List Bool) (n : ℕ) → chosen ≡ before ++ true ∷ (replicate n false ++ true ∷ after) → n < 256
+IsClose chosen =
+    (before after : List Bool) (n : ℕ)
+    → chosen ≡ before ++ true ∷ (replicate n false ++ true ∷ after) → n < 256

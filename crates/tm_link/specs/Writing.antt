@@ -1,5 +1,6 @@
 -- The one spelling of a frame, and which frames have one.
-use Rattle.std.specs.Prelude.{ℕ, ◌+◌, ◌*◌, List, ◌∷◌, ◌++◌, length, Bool, not, ◌&&◌, nat_lt, nat_le, if◌then◌else◌, Result, Ok, Err}
+use Rattle.std.specs.Prelude.{ℕ, ◌+◌, ◌*◌, List, ◌∷◌, ◌++◌, length, Bool, not, ◌&&◌, nat_lt, nat_le}
+use Rattle.std.specs.Prelude.{if◌then◌else◌, Result, Ok, Err}
 use Rattle.byteorder.specs.Endian.{big_bytes}
 use Rattle.octets.specs.Check.{check_of}
 use Rattle.tm_link.specs.declared.fault.TmFault.{TmFault}
@@ -18,7 +19,8 @@ abbrev pub status_number : FrameView → ℕ
 status_number f = 6144 + pointer_number f.pointer
 
 abbrev pub header_octets : FrameView → List ℕ
-header_octets f = big_bytes 2 (first_number f) ++ (f.mc_count ∷ f.vc_count ∷ big_bytes 2 (status_number f))
+header_octets f =
+    big_bytes 2 (first_number f) ++ (f.mc_count ∷ f.vc_count ∷ big_bytes 2 (status_number f))
 
 -- the octets before the check
 abbrev pub front_octets : FrameView → List ℕ
@@ -30,10 +32,11 @@ spelling f = front_octets f ++ big_bytes 2 (check_of (front_octets f))
 -- each field is in its range, and there are 16 to 2,048 octets
 abbrev pub frame_fits : FrameView → Bool
 frame_fits f =
-    nat_lt f.scid 1024 && nat_lt f.vcid 8 && nat_le 4 (length f.payload) && nat_le (length f.payload) 2036
+    nat_lt f.scid 1024 && nat_lt f.vcid 8 && nat_le 4 (length f.payload)
+    && nat_le (length f.payload) 2036
     && pointer_fits f.pointer (length f.payload)
 
--- how many octets are written where there is room for so many, or why none are
+-- how many octets are written where there is room for this many, or why none are
 abbrev pub encode_answer : FrameView → ℕ → Result ℕ TmFault
 encode_answer f room =
     if not (frame_fits f) then Err faults.FieldRange

@@ -75,7 +75,7 @@ impl TmBuilder {
         })
     }
 
-    /// Queues the packet behind those that are to be sent. Refuses by 8 `NotAPacket` octets that are
+    /// Queues the packet after those that are to be sent. Refuses by 8 `NotAPacket` octets that are
     /// not exactly one packet, or an idle packet, and then by 7 `Memory`; the builder is as it was
     /// then.
     pub fn queue(&mut self, packet: &[u8]) -> Result<(), TmFault>
@@ -158,7 +158,7 @@ impl TmBuilder {
         self.idle_left == 0 && self.octets.len() - self.start == 0
     }
 
-    // Passes a data field of so many octets.
+    // Passes a data field of this many octets.
     fn send(&mut self, size: usize)
         requires { size ≤ 2036 }
         ensures { self.new ≡ after_send self.old size }

@@ -50,7 +50,7 @@ fn frame_of(octets: &[u8], total: usize) -> Result<TmFrame<'_>, TmFault>
     Ok(fields_of(octets, total, first, status))
 }
 
-// The fields of a frame with so many octets, from the numbers of octets 0 and 1 and of octets 4 and 5.
+// The fields of a frame with this many octets, from the numbers of octets 0 and 1 and of octets 4 and 5.
 fn fields_of(octets: &[u8], total: usize, first: u16, status: u16) -> TmFrame<'_>
     requires least { 16 ≤ total }
     requires count { length octets.now ≡ total }

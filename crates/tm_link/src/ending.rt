@@ -21,7 +21,7 @@ pub(crate) enum Ending {
     Wrong,
 }
 
-// How the part, and more octets behind it, end.
+// How the part, and more octets after it, end.
 pub(crate) fn ending_with(part: &[u8], more: &[u8]) -> Ending
     ensures value { result ≡ ending_of (part.now ++ more.now) }
     ensures short { result ≡ Ending.Short → length part.now + length more.now < 65542 }
@@ -54,7 +54,7 @@ fn ending_for(header: &[u8], count: usize) -> Ending
     }
 }
 
-// Whether the part, and more octets behind it, are an idle packet.
+// Whether the part, and more octets after it, are an idle packet.
 pub(crate) fn is_idle_with(part: &[u8], more: &[u8]) -> bool
     requires { 2 ≤ length part.now + length more.now }
     ensures { result ≡ is_idle (part.now ++ more.now) }
@@ -94,7 +94,7 @@ pub(crate) fn first_len(octets: &[u8]) -> Option<usize>
     }
 }
 
-// What stands behind the whole packets.
+// What stands after the whole packets.
 pub(crate) fn rest_behind(octets: &[u8]) -> &[u8]
     ensures { result.now ≡ rest_of 6 extent_at octets.now }
 {

@@ -14,7 +14,7 @@ pub enum TmFault {
     /// A secondary header, synchronisation or packet order flag of 1, or a segment length
     /// identifier other than 11 (4.1.2.7).
     Status = 4,
-    /// A first header pointer at or behind the data field's end (4.1.2.7.6).
+    /// A first header pointer at or after the data field's end (4.1.2.7.6).
     Pointer = 5,
     /// The frame declares no operational control field (4.1.2.4).
     NoOcf = 6,

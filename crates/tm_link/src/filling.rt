@@ -58,7 +58,7 @@ fn put_whole_idle(out: &mut [u8])
     filler.fill(0x55);
 }
 
-// Passes so many octets of the packet that was begun and of those behind it, and says how many are
+// Passes this many octets of the packet that was begun and of those after it, and says how many are
 // left of the one that is begun then.
 #[tactic(auto, using(crate::proofs::Fields::passed_within, crate::proofs::Fields::passed_beyond))]
 pub(crate) fn pass(begun: u32, sizes: &mut VecDeque<u32>, count: usize) -> u32

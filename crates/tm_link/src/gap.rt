@@ -30,7 +30,7 @@ pub(crate) fn is_lost(gap: Gap) -> bool
     }
 }
 
-// The part, where no frame is missing behind it.
+// The part, where no frame is missing after it.
 pub(crate) fn part_kept(gap: Gap, part: &[u8]) -> &[u8]
     ensures { result.now ≡ part_behind gap part.now }
 {

@@ -36,7 +36,7 @@ pub(crate) fn find(
     }
 }
 
-// Appends the packet that the part, and these octets behind it, are.
+// Appends the packet that the part, and these octets after it, are.
 fn close(alloc: Global, part: &[u8], octets: &[u8], found: &mut Vec<Vec<u8>>) -> Result<(), TmFault>
     ensures ok { OnOk result (GrowsBy found.old found.new
         (without_idle (completed_packet part.now octets.now))) }

@@ -28,6 +28,3 @@ pub use gap::Gap;
 pub use laws::{
     law_of_extraction, law_of_queueing, law_of_reading, law_of_spelling, law_of_stream,
 };
-
-#[cfg(test)]
-mod tests;

@@ -23,7 +23,7 @@ pub(crate) fn go_on(part: &mut Vec<u8>, octets: &[u8])
     }
 }
 
-// Begins a part with what stands behind whole packets.
+// Begins a part with what stands after whole packets.
 pub(crate) fn open(part: &mut Vec<u8>, octets: &[u8])
     requires { 65542 ≤ vec_capacity part.old }
     ensures part { part.new.items ≡ opened_part (rest_of 6 extent_at octets.now) }

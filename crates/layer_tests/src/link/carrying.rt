@@ -97,7 +97,7 @@ impl Carrier {
         self.compared = new;
     }
 
-    // Sends one frame after another, while there is one, and at most so many. Every seventh is lost.
+    // Sends one frame after another, while there is one, and at most this many. Every seventh is lost.
     fn sends(&mut self, rt: &impl Abort, most: usize) -> Result<(), Fail> {
         for _ in 0..most {
             if self.happens(rt, Event::Send)? == Reply::Nothing {

@@ -120,7 +120,7 @@ impl Play {
         write_lines(&mut self.line, self.sim.answers())
     }
 
-    /// The lines are these, with that of the records behind them.
+    /// The lines are these, with that of the records after them.
     pub fn ends(&mut self, rt: &impl Abort, want: &str) -> Result<(), AllocError> {
         write_records(&mut self.line, &self.sim)?;
         assert_eq!(rt; self.line.as_str(), want);

@@ -18,7 +18,7 @@ pub fn room(rt: &(impl Abort + Eprint), alloc: Global) -> Result<String, AllocEr
     String::with_capacity(alloc, 4096)
 }
 
-/// A growth behind all others of a test.
+/// A growth after all others of a test.
 pub fn ends_growths(rt: &(impl Abort + Eprint), alloc: Global) {
     if Vec::<u8>::with_capacity(alloc, 1).is_err() {
         let _ = eprintln!(rt; "refused a growth, the last");

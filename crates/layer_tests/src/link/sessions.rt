@@ -269,7 +269,7 @@ fn one_bypass_slot(rt: HostRuntime) -> Result<(), Fail> {
     plays(&rt, rt.alloc(), config, &events, lines)
 }
 
-// The number behind 255 is 0.
+// The number after 255 is 0.
 #[test]
 fn the_last_number(rt: HostRuntime) -> Result<(), Fail> {
     let events = [

@@ -14,7 +14,7 @@ use std::alloc::Global;
 /// Lets the events happen one after another, and keeps what was answered to each. The faults are 9
 /// `Config`, with the name of the first field that is out of its range, and then 6 `Memory`; no other
 /// answer ends the run. What `Sim::step` promises holds at each event, and so does what it promises of
-/// the state behind it.
+/// the state after it.
 pub fn run(alloc: Global, config: Config, events: &[Event<'_>]) -> Result<Sim, SimFault>
     ensures ran { IfOk result (λ sim. sim ≡ sim_run config events.now) }
     ensures range { refused_field result ≡ config_fault config }
@@ -44,7 +44,7 @@ impl Sim {
         if self.answers.try_reserve(1).is_err() {
             return Err(SimFault::Memory);
         }
-        event.has_octets();
+        event.keeps_octets();
         let answer = self.world.step(event);
         if let Err(SimFault::Memory) = answer {
             return Err(SimFault::Memory);

@@ -81,7 +81,7 @@ impl World {
     {
         match directive {
             Directive::InitWithoutCheck => {
-                self.is_quiet() && self.spacecraft.clcw().value == self.ground_node.vs()
+                self.is_quiet() && self.spacecraft.control_word().value == self.ground_node.vs()
             }
             Directive::InitWithCheck | Directive::InitUnlock | Directive::InitSetVr(_) => {
                 self.is_quiet()

@@ -27,7 +27,7 @@ impl World {
         if self.down.try_reserve(1).is_err() {
             return Err(SimFault::Memory);
         }
-        let clcw = self.spacecraft.clcw();
+        let clcw = self.spacecraft.control_word();
         put_report(&mut self.spacecraft, &mut octets);
         self.down.push_back_reserved(octets);
         Ok(Reply::Reported(clcw))

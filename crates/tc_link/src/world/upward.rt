@@ -108,7 +108,7 @@ impl World {
     }
 }
 
-// Puts a field, where there is one, behind those that there are.
+// Puts a field, where there is one, after those that there are.
 fn push_some(fields: &mut Vec<Vec<u8>>, field: Option<Vec<u8>>)
     requires { vec_len fields.old < vec_capacity fields.old }
     ensures items { octets_of fields.new.items

@@ -8,7 +8,7 @@ use listings::Reader;
 use std::alloc::{AllocError, Global};
 use std::process::Abort;
 
-// How many records of these lengths a beginning holds whole, and how many octets are left behind them.
+// How many records of these lengths a beginning holds whole, and how many octets are left after them.
 fn records_in(lengths: &[usize], octets: usize) -> (usize, usize) {
     let mut left = octets;
     for (whole, length) in lengths.iter().enumerate() {
@@ -20,7 +20,7 @@ fn records_in(lengths: &[usize], octets: usize) -> (usize, usize) {
     (lengths.len(), left)
 }
 
-// The lines of the first records. The line of a packet stands behind its record's.
+// The lines of the first records. The line of a packet stands after its record's.
 fn lines_of_first(text: &str, records: usize) -> &[u8] {
     let octets = text.as_bytes();
     let mut left = records;

@@ -1,5 +1,5 @@
-// A reader and a writer over memory. They move few octets at a call, and fail once, at the call behind
-// so many.
+// A reader and a writer over memory. They move few octets at a call, and fail once, at the call after
+// this many.
 
 use std::alloc::Global;
 use std::io;
@@ -16,7 +16,7 @@ pub struct Supply<'a> {
 }
 
 impl<'a> Supply<'a> {
-    /// Gives at most `step` octets at each read. The read behind the first `calls` fails.
+    /// Gives at most `step` octets at each read. The read after the first `calls` fails.
     pub fn new(octets: &'a [u8], step: usize, calls: usize) -> Self {
         Supply {
             left: octets,
@@ -73,7 +73,7 @@ pub struct Store {
 }
 
 impl Store {
-    /// Takes at most `step` octets at each write. The write behind the first `calls` fails.
+    /// Takes at most `step` octets at each write. The write after the first `calls` fails.
     pub fn new(alloc: Global, step: usize, calls: usize, fault: WriteFault) -> Self {
         Store {
             octets: Vec::new(alloc),

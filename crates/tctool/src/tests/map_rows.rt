@@ -240,7 +240,7 @@ fn is_told(rt: &impl Abort, alloc: Global, octets: &[u8], text: &str, outcome: O
     assert_eq!(rt; store.octets(), text.as_bytes());
 }
 
-// The octets so far, and each beginning of a frame behind them.
+// The octets so far, and each beginning of a frame after them.
 fn is_cut_in(
     rt: &impl Abort,
     alloc: Global,

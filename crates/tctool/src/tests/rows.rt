@@ -205,7 +205,7 @@ pub fn packets_rows() -> [Row; 5] {
 }
 
 /// Frames that carry packets of 7 octets: with the second lost, whole, with one of only idle data in the second's place,
-/// and with idle packets behind the one packet. Then a packet of 24 octets over three frames, the last of another channel,
+/// and with idle packets after the one packet. Then a packet of 24 octets over three frames, the last of another channel,
 /// a frame of the least length, no octets, and octets that are refused, at last between other frames.
 pub fn tm_rows() -> [Row; 11] {
     [

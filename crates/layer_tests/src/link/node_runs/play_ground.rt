@@ -25,7 +25,7 @@ pub enum Call<'a> {
     TakeTelemetry,
 }
 
-/// A new ground answers these calls by these lines, each with its state behind the call.
+/// A new ground answers these calls by these lines, each with its state after the call.
 pub fn plays(
     rt: &(impl Abort + Eprint),
     alloc: Global,

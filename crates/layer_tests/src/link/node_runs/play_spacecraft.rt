@@ -80,11 +80,11 @@ impl Play {
     // Octets that are no frame take none.
     fn receive(&mut self, rt: &(impl Abort + Eprint), octets: &[u8]) -> Result<(), AllocError> {
         let ahead = self.ready_ahead(rt, octets);
-        let before = self.spacecraft.clcw();
+        let before = self.spacecraft.control_word();
         let answer = match self.spacecraft.receive(octets) {
             Err(fault) if tc_frame::decode(octets, Check::On).is_ok() => {
                 says_refused(rt, fault.number(), 6);
-                assert!(rt; self.spacecraft.clcw() == before);
+                assert!(rt; self.spacecraft.control_word() == before);
                 self.spacecraft.receive(octets)
             }
             answer => answer,
@@ -121,11 +121,11 @@ impl Play {
     // Queues a packet. Where memory is refused nothing has changed, and the call made again answers as
     // ever.
     fn telemetry(&mut self, rt: &(impl Abort + Eprint), packet: &[u8]) -> Result<(), AllocError> {
-        let before = self.spacecraft.clcw();
+        let before = self.spacecraft.control_word();
         let answer = match self.spacecraft.telemetry(packet) {
             Err(TmFault::Memory) => {
                 says_refused(rt, TmFault::Memory.number(), 7);
-                assert!(rt; self.spacecraft.clcw() == before);
+                assert!(rt; self.spacecraft.control_word() == before);
                 self.spacecraft.telemetry(packet)
             }
             answer => answer,

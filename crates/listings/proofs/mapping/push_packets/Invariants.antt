@@ -7,4 +7,5 @@ use Rattle.listings.proofs.mapping.push_packets.Given as goal
 -- the lines so far, and those of the packets that are left
 abbrev pub invariant-loop-packet : goal.invariant-loop-packet
 invariant-loop-packet l =
-    written l.text ++ map_packets_text l.map (octets_of (drop l.packet-index l.packets)) ≡ written l.fn.text ++ map_packets_text l.map (octets_of l.fn.packets)
+    written l.text ++ map_packets_text l.map (octets_of (drop l.packet-index l.packets)) ≡ written l.fn.text
+    ++ map_packets_text l.map (octets_of l.fn.packets)

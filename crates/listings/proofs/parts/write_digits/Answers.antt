@@ -5,7 +5,9 @@ use Rattle.listings.proofs.parts.write_digits.Goals as goal
 
 pub octets-preserved : goal.octets-preserved
 octets-preserved c =
-    encode_step upper_digits c.args.octets.now c.octets.digits c.octets.i _ _ (omega arith) (omega arith) c.digit_of.ensures c.digit_of-in-octets.ensures c.octets.invariant
+    encode_step upper_digits c.args.octets.now c.octets.digits c.octets.i _ _ (omega arith) (omega arith)
+    c.digit_of.ensures c.digit_of-in-octets.ensures c.octets.invariant
 
 pub returns : goal.returns
-returns c = encode_done upper_digits c.args.octets.now c.octets.digits c.octets.i (omega arith) (omega arith) c.octets.invariant
+returns c = encode_done upper_digits c.args.octets.now c.octets.digits c.octets.i (omega arith) (omega arith)
+    c.octets.invariant

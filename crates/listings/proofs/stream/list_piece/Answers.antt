@@ -13,26 +13,35 @@ pub returns-in_default-fault-clause-beginning : goal.returns-in_default-fault-cl
 returns-in_default-fault-clause-beginning g c =
     let all = listed g.C.Listing.lines g.S.Cutter.layout in
     let line = rest_line g.C.Listing.lines g.S.Cutter.layout in
-    let st = standing [] c.args.command.now c.args.progress.now (g.S.Cutter.held c.args.cutter.now ++ c.args.piece.now) in
-    let begun : standing (written c.clear.new.self) c.args.command.now c.args.progress.now (g.S.Cutter.held c.feed.new.self) ≡ st =
-    ap (λ t. standing t c.args.command.now c.args.progress.now (g.S.Cutter.held c.feed.new.self)) c.clear.ensures ∙ ap (standing [] c.args.command.now c.args.progress.now) c.in-Ok.ensures.ok in
+    let st = standing [] c.args.listing.now c.args.progress.now (g.S.Cutter.held c.args.cutter.now ++ c.args.piece.now)
+    in
+    let begun : standing (written c.clear.new.self) c.args.listing.now c.args.progress.now
+    (g.S.Cutter.held c.feed.new.self) ≡ st =
+    ap (λ t. standing t c.args.listing.now c.args.progress.now (g.S.Cutter.held c.feed.new.self)) c.clear.ensures
+    ∙ ap (standing [] c.args.listing.now c.args.progress.now) c.in-Ok.ensures.ok in
     let same = c.in-Ok-list_records.ensures.listed ∙ ap all begun in
     on_err_weaker c.put.result
-    (begins_more _ _ (written c.list_records.new.text) (line ((all st).count + 1) (all st).octets) _ (ap (λ t. t ++ line ((all st).count + 1) (all st).octets) (sym (ap (λ x. x.text) same))))
+    (begins_more _ _ (written c.list_records.new.text) (line ((all st).count + 1) (all st).octets) _
+    (ap (λ t. t ++ line ((all st).count + 1) (all st).octets) (sym (ap (λ x. x.text) same))))
     c.put.ensures.beginning
 
 pub returns-clause-beginning : goal.returns-clause-beginning
 returns-clause-beginning g c =
     let all = listed g.C.Listing.lines g.S.Cutter.layout in
     let line = rest_line g.C.Listing.lines g.S.Cutter.layout in
-    let st = standing [] c.args.command.now c.args.progress.now (g.S.Cutter.held c.args.cutter.now ++ c.args.piece.now) in
-    let begun : standing (written c.clear.new.self) c.args.command.now c.args.progress.now (g.S.Cutter.held c.feed.new.self) ≡ st =
-    ap (λ t. standing t c.args.command.now c.args.progress.now (g.S.Cutter.held c.feed.new.self)) c.clear.ensures ∙ ap (standing [] c.args.command.now c.args.progress.now) c.in-Ok.ensures.ok in
+    let st = standing [] c.args.listing.now c.args.progress.now (g.S.Cutter.held c.args.cutter.now ++ c.args.piece.now)
+    in
+    let begun : standing (written c.clear.new.self) c.args.listing.now c.args.progress.now
+    (g.S.Cutter.held c.feed.new.self) ≡ st =
+    ap (λ t. standing t c.args.listing.now c.args.progress.now (g.S.Cutter.held c.feed.new.self)) c.clear.ensures
+    ∙ ap (standing [] c.args.listing.now c.args.progress.now) c.in-Ok.ensures.ok in
     let same = c.in-Ok-list_records.ensures.listed ∙ ap all begun in
-    let first : first_by g.S.Cutter.layout (g.S.Cutter.held c.list_records.new.cutter) ≡ Some (Err c.in-Some.fault) = c.in-Ok-list_records.ensures.fault ∙ ap where_refused c.in-Some.is in
+    let first : first_by g.S.Cutter.layout (g.S.Cutter.held c.list_records.new.cutter) ≡ Some (Err c.in-Some.fault) =
+    c.in-Ok-list_records.ensures.fault ∙ ap where_refused c.in-Some.is in
     let refused = rest_line-refused g.C.Listing.lines g.S.Cutter.layout g.met.S.Cutter.heads
     (c.list_records.new.progress.count + 1) (g.S.Cutter.held c.list_records.new.cutter) c.in-Some.fault first in
     on_err_weaker c.put-2.result
     (begins_same _ _ (written c.refuse.new.text) _
-    (ap (λ x. x.text ++ line (x.count + 1) x.octets) (sym same) ∙ ap (λ t. written c.list_records.new.text ++ t) refused ∙ sym c.in-Ok-refuse.ensures))
+    (ap (λ x. x.text ++ line (x.count + 1) x.octets) (sym same) ∙ ap (λ t. written c.list_records.new.text ++ t) refused
+    ∙ sym c.in-Ok-refuse.ensures))
     c.put-2.ensures.beginning

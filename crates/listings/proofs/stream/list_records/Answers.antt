@@ -8,44 +8,59 @@ use Rattle.listings.specs.Progress.{standing}
 use Rattle.listings.proofs.Listed.{goes_on, shorter, listed-none}
 use Rattle.listings.proofs.stream.list_records.Goals as goal
 
--- what was handed out is the first record, and the octets behind it are left
+-- what was handed out is the first record, and the octets after it are left
 pub loop-answer-preserved : goal.loop-answer-preserved
 loop-answer-preserved g c =
     let told = c.next.follows.holds-at-none in
     let got = rw c.in-Ok.is at c.in-Some.ensures.answer in
-    let first : first_by g.S.Cutter.layout (g.S.Cutter.held c.loop-answer.cutter) ≡ Some (Ok c.in-Ok.octets.now) = sym got in
-    let left : g.S.Cutter.held c.next.follows.lender-at-none ≡ drop (length c.in-Ok.octets.now) (g.S.Cutter.held c.loop-answer.cutter) =
+    let first : first_by g.S.Cutter.layout (g.S.Cutter.held c.loop-answer.cutter) ≡ Some (Ok c.in-Ok.octets.now) =
+    sym got in
+    let left : g.S.Cutter.held c.next.follows.lender-at-none
+    ≡ drop (length c.in-Ok.octets.now) (g.S.Cutter.held c.loop-answer.cutter) =
     told.0 ∙ ap (λ o. rest_after o (g.S.Cutter.held c.loop-answer.cutter)) (c.next.ensures.answer ∙ first) in
     let less = shorter g.C.Listing.lines g.S.Cutter.layout g.met.S.Cutter.heads _ _ first in
     record {
       same = goes_on g.C.Listing.lines g.S.Cutter.layout g.met.S.Cutter.heads
-          (standing (written c.loop-answer.text) c.loop-answer.command c.loop-answer.progress (g.S.Cutter.held c.loop-answer.cutter))
-          (standing (written c.take.new.text) c.take.new.self c.and.result (g.S.Cutter.held c.next.follows.lender-at-none))
-          c.in-Ok.octets.now first c.in_ok-good-in-Ok.ensures.text c.in_ok-good-in-Ok.ensures.state (ap (λ x. x.count) c.and.ensures)
-          (ap (λ x. x.all_good) c.and.ensures ∙ ap (λ b. c.loop-answer.progress.all_good && b) c.in_ok-good-in-Ok.ensures.good) left ∙ c.loop-answer.invariant.same;
-      failed = told.1 ∙ ap (λ o. failure_after o (g.S.Cutter.failure c.loop-answer.cutter)) (c.next.ensures.answer ∙ first) ∙ c.loop-answer.invariant.failed;
+          (standing (written c.loop-answer.text) c.loop-answer.listing c.loop-answer.progress
+          (g.S.Cutter.held c.loop-answer.cutter))
+          (standing (written c.take.new.text) c.take.new.self c.and.result
+          (g.S.Cutter.held c.next.follows.lender-at-none))
+          c.in-Ok.octets.now first c.in_ok-good-in-Ok.ensures.text c.in_ok-good-in-Ok.ensures.state
+          (ap (λ x. x.count) c.and.ensures)
+          (ap (λ x. x.all_good) c.and.ensures
+          ∙ ap (λ b. c.loop-answer.progress.all_good && b) c.in_ok-good-in-Ok.ensures.good) left
+          ∙ c.loop-answer.invariant.same;
+      failed = told.1
+          ∙ ap (λ o. failure_after o (g.S.Cutter.failure c.loop-answer.cutter)) (c.next.ensures.answer ∙ first)
+          ∙ c.loop-answer.invariant.failed;
       room = omega (arith, ap (λ x. x.count) c.and.ensures, ap length left, less);
     }
 
 pub returns-clause-listed : goal.returns-clause-listed
 returns-clause-listed g c =
     let told = c.next.follows.holds-at-none in
-    let first : first_by g.S.Cutter.layout (g.S.Cutter.held c.loop-answer.cutter) ≡ None = sym c.in_default.ensures.answer in
+    let first : first_by g.S.Cutter.layout (g.S.Cutter.held c.loop-answer.cutter) ≡ None =
+    sym c.in_default.ensures.answer in
     let none = subst (IsNoRecord g.S.Cutter.layout.head g.S.Cutter.layout.extent) (sym first) tt in
-    let left : g.S.Cutter.held c.next.follows.lender-at-none ≡ g.S.Cutter.held c.loop-answer.cutter = told.0 ∙ ap (λ o. rest_after o (g.S.Cutter.held c.loop-answer.cutter)) (c.next.ensures.answer ∙ first) in
-    ap (standing (written c.loop-answer.text) c.loop-answer.command c.loop-answer.progress) left
+    let left : g.S.Cutter.held c.next.follows.lender-at-none ≡ g.S.Cutter.held c.loop-answer.cutter =
+    told.0 ∙ ap (λ o. rest_after o (g.S.Cutter.held c.loop-answer.cutter)) (c.next.ensures.answer ∙ first) in
+    ap (standing (written c.loop-answer.text) c.loop-answer.listing c.loop-answer.progress) left
     ∙ sym (listed-none g.C.Listing.lines g.S.Cutter.layout g.met.S.Cutter.heads
-    (standing (written c.loop-answer.text) c.loop-answer.command c.loop-answer.progress (g.S.Cutter.held c.loop-answer.cutter)) none)
+    (standing (written c.loop-answer.text) c.loop-answer.listing c.loop-answer.progress
+    (g.S.Cutter.held c.loop-answer.cutter)) none)
     ∙ c.loop-answer.invariant.same
 
 pub returns-in-Err-clause-listed : goal.returns-in-Err-clause-listed
 returns-in-Err-clause-listed g c =
     let told = c.next.follows.holds-at-none in
     let got = rw c.in-Err.is at c.in-Some.ensures.answer in
-    let first : first_by g.S.Cutter.layout (g.S.Cutter.held c.loop-answer.cutter) ≡ Some (Err c.in-Err.fault.now) = sym got in
+    let first : first_by g.S.Cutter.layout (g.S.Cutter.held c.loop-answer.cutter) ≡ Some (Err c.in-Err.fault.now) =
+    sym got in
     let none = subst (IsNoRecord g.S.Cutter.layout.head g.S.Cutter.layout.extent) (sym first) tt in
-    let left : g.S.Cutter.held c.next.follows.lender-at-none ≡ g.S.Cutter.held c.loop-answer.cutter = told.0 ∙ ap (λ o. rest_after o (g.S.Cutter.held c.loop-answer.cutter)) (c.next.ensures.answer ∙ first) in
-    ap (standing (written c.loop-answer.text) c.loop-answer.command c.loop-answer.progress) left
+    let left : g.S.Cutter.held c.next.follows.lender-at-none ≡ g.S.Cutter.held c.loop-answer.cutter =
+    told.0 ∙ ap (λ o. rest_after o (g.S.Cutter.held c.loop-answer.cutter)) (c.next.ensures.answer ∙ first) in
+    ap (standing (written c.loop-answer.text) c.loop-answer.listing c.loop-answer.progress) left
     ∙ sym (listed-none g.C.Listing.lines g.S.Cutter.layout g.met.S.Cutter.heads
-    (standing (written c.loop-answer.text) c.loop-answer.command c.loop-answer.progress (g.S.Cutter.held c.loop-answer.cutter)) none)
+    (standing (written c.loop-answer.text) c.loop-answer.listing c.loop-answer.progress
+    (g.S.Cutter.held c.loop-answer.cutter)) none)
     ∙ c.loop-answer.invariant.same

@@ -9,9 +9,11 @@ abbrev pub invariant-loop-answer : goal.invariant-loop-answer
 invariant-loop-answer g l =
     let all = listed g.C.Listing.lines g.S.Cutter.layout in
     record {
-      same : all (standing (written l.text) l.command l.progress (g.S.Cutter.held l.cutter)) ≡ all (standing (written l.fn.text) l.fn.command l.fn.progress (g.S.Cutter.held l.fn.cutter));
+      same : all (standing (written l.text) l.listing l.progress (g.S.Cutter.held l.cutter))
+          ≡ all (standing (written l.fn.text) l.fn.listing l.fn.progress (g.S.Cutter.held l.fn.cutter));
       failed : g.S.Cutter.failure l.cutter ≡ g.S.Cutter.failure l.fn.cutter;
-      room : l.progress.count + length (g.S.Cutter.held l.cutter) ≤ l.fn.progress.count + length (g.S.Cutter.held l.fn.cutter);
+      room : l.progress.count + length (g.S.Cutter.held l.cutter) ≤ l.fn.progress.count
+          + length (g.S.Cutter.held l.fn.cutter);
     }
 
 abbrev pub decreases-loop-answer : goal.decreases-loop-answer

@@ -1,4 +1,5 @@
-use Rattle.std.proofs.Common.{◌≡◌, ◌∙◌, ◌++◌, ◌+◌, [], ℕ, true, Result, Ok, length, take, refl, sym, ap, subst, inr, arith}
+use Rattle.std.proofs.Common.{◌≡◌, ◌∙◌, ◌++◌, ◌+◌, [], ℕ, true, Result, Ok, length, take, refl, sym, ap, subst, inr}
+use Rattle.std.proofs.Common.{arith}
 use Rattle.std.proofs.lemmas.List.{append-nil, length-append, length-take-le}
 use Rattle.std.proofs.lemmas.Result.{on_err_weaker}
 use Rattle.octets.specs.Beginning.{IsBeginning}
@@ -7,7 +8,7 @@ use Rattle.listings.specs.Gained.{gained}
 use Rattle.listings.specs.Layouts.{first_by}
 use Rattle.listings.specs.Listing.{Standing, fresh, listed}
 use Rattle.listings.specs.Progress.{standing}
-use Rattle.listings.specs.declared.fault.DumpFault.{DumpFault}
+use Rattle.listings.specs.declared.fault.ListingFault.{ListingFault}
 use Rattle.listings.specs.declared.stream.Course.{Course}
 use Rattle.listings.specs.declared.stream.Course.TheVariants.{Open, Refused}
 use Rattle.listings.proofs.Beginnings.{gained_nothing, on_ok_from}
@@ -16,7 +17,7 @@ use Rattle.listings.proofs.Pieces.{adds_piece, at_end, stops, is_bad}
 use Rattle.listings.proofs.Remaining.{consumes_nothing, consumes_piece}
 use Rattle.listings.proofs.stream.list_stream.Goals as goal
 
-abbrev done : Course → Result Course DumpFault
+abbrev done : Course → Result Course ListingFault
 done course = Ok course
 
 pub loop-count-init : goal.loop-count-init
@@ -25,18 +26,22 @@ loop-count-init g c =
     let taken = g.W.Sink.taken_octets c.args.writer.now in
     let all = listed g.C.Listing.lines g.S.Cutter.layout in
     let none : gained given given ≡ [] = gained_nothing given in
-    let nothing : all (fresh c.args.command (gained given given)) ≡ fresh c.args.command [] = ap (λ o. all (fresh c.args.command o)) none
-    ∙ listed-nothing g.C.Listing.lines g.S.Cutter.layout g.met.S.Cutter.heads c.args.command in
-    let bare_nothing : bare g.C.Listing.lines g.S.Cutter.layout c.args.command (gained given given) ≡ fresh c.args.command [] = ap (λ (x : Standing g.row.C.Denot). record x { text = [] }) nothing in
+    let nothing : all (fresh c.args.listing (gained given given)) ≡ fresh c.args.listing [] =
+    ap (λ o. all (fresh c.args.listing o)) none
+    ∙ listed-nothing g.C.Listing.lines g.S.Cutter.layout g.met.S.Cutter.heads c.args.listing in
+    let bare_nothing : bare g.C.Listing.lines g.S.Cutter.layout c.args.listing (gained given given)
+    ≡ fresh c.args.listing [] = ap (λ (x : Standing g.row.C.Denot). record x { text = [] }) nothing in
     let held_nothing : g.S.Cutter.held c.args.cutter ≡ [] = c.requires.held in
     record {
       up_to = record {
         gave = sym (append-nil given) ∙ ap (λ o. given ++ o) (sym none);
         wrote = sym (append-nil taken) ∙ ap (λ x. taken ++ x.text) (sym nothing);
-        stands = ap (standing [] c.args.command (record { count = 0; all_good = true })) held_nothing ∙ sym bare_nothing;
+        stands = ap (standing [] c.args.listing (record { count = 0; all_good = true })) held_nothing
+            ∙ sym bare_nothing;
       };
       consumes = consumes_nothing (g.R.Source.remaining c.args.reader.now) given;
-      is_open = ap (first_by g.S.Cutter.layout) held_nothing ∙ first_record-nothing g.C.Listing.lines g.S.Cutter.layout g.met.S.Cutter.heads;
+      is_open = ap (first_by g.S.Cutter.layout) held_nothing
+          ∙ first_record-nothing g.C.Listing.lines g.S.Cutter.layout g.met.S.Cutter.heads;
       going = c.requires.going;
       counted = ap length (sym none);
       short = omega arith;
@@ -48,10 +53,12 @@ loop-count-init g c =
 pub loop-count-preserved : goal.loop-count-preserved
 loop-count-preserved g c =
     let piece = take c.in-Ok.count c.read.new.piece in
-    let adds = adds_piece g.C.Listing.lines g.S.Cutter.layout g.met.S.Cutter.heads c.loop-count.invariant.up_to c.in-Ok.ensures.given in
+    let adds = adds_piece g.C.Listing.lines g.S.Cutter.layout g.met.S.Cutter.heads c.loop-count.invariant.up_to
+    c.in-Ok.ensures.given in
     let went : c.list_piece.result ≡ done Open = c.in-Ok-list_piece.is ∙ ap done c.in-Open.is in
     let has = c.list_piece.ensures.open went in
-    let short : length piece ≡ c.in-Ok.count = length-take-le c.in-Ok.count c.read.new.piece (omega (arith, c.in-Ok.ensures.count)) in
+    let short : length piece ≡ c.in-Ok.count =
+    length-take-le c.in-Ok.count c.read.new.piece (omega (arith, c.in-Ok.ensures.count)) in
     record {
       up_to = record { gave = adds.gave; wrote = has.written ∙ adds.text; stands = has.next_is ∙ adds.stands };
       consumes = consumes_piece _ _ _ _ _ _ _ c.loop-count.invariant.up_to.gave
@@ -60,42 +67,64 @@ loop-count-preserved g c =
       going = c.list_piece.ensures.going went ∙ c.loop-count.invariant.going;
       counted = omega (arith, adds.counted);
       short = omega (arith, c.if-count-total.false);
-      bound = omega (arith, c.list_piece.ensures.count went, length-append (g.S.Cutter.held c.loop-count.cutter) piece, c.loop-count.invariant.bound);
+      bound = omega (
+        arith,
+        c.list_piece.ensures.count went,
+        length-append (g.S.Cutter.held c.loop-count.cutter) piece,
+        c.loop-count.invariant.bound,
+      );
       read_failures = omega (arith, c.in-Ok.ensures.failures, c.loop-count.invariant.read_failures);
-      write_failures = omega (arith, c.list_piece.ensures.failures ∙ ap (λ (r : Result Course DumpFault). g.W.Sink.failures c.loop-count.writer + writes_failed_in r) went, c.loop-count.invariant.write_failures);
+      write_failures =
+          omega (
+            arith,
+            c.list_piece.ensures.failures
+                ∙ ap (λ (r : Result Course ListingFault). g.W.Sink.failures c.loop-count.writer + writes_failed_in r)
+                went,
+            c.loop-count.invariant.write_failures,
+          );
     }
 
 pub returns-in_default-clause-beginning : goal.returns-in_default-clause-beginning
-returns-in_default-clause-beginning g c =
-    (_, sym (adds_piece g.C.Listing.lines g.S.Cutter.layout g.met.S.Cutter.heads c.loop-count.invariant.up_to c.read.ensures.given).all)
+returns-in_default-clause-beginning g c = (
+  _,
+  sym (adds_piece g.C.Listing.lines g.S.Cutter.layout g.met.S.Cutter.heads c.loop-count.invariant.up_to
+      c.read.ensures.given).all,
+)
 
 pub returns-then-count-total-clause-beginning : goal.returns-then-count-total-clause-beginning
-returns-then-count-total-clause-beginning g c =
-    (_, sym (adds_piece g.C.Listing.lines g.S.Cutter.layout g.met.S.Cutter.heads c.loop-count.invariant.up_to c.in-Ok.ensures.given).all)
+returns-then-count-total-clause-beginning g c = (
+  _,
+  sym (adds_piece g.C.Listing.lines g.S.Cutter.layout g.met.S.Cutter.heads c.loop-count.invariant.up_to
+      c.in-Ok.ensures.given).all,
+)
 
 pub returns-in-Err-clause-beginning : goal.returns-in-Err-clause-beginning
 returns-in-Err-clause-beginning g c =
-    let adds = adds_piece g.C.Listing.lines g.S.Cutter.layout g.met.S.Cutter.heads c.loop-count.invariant.up_to c.in-Ok.ensures.given in
+    let adds = adds_piece g.C.Listing.lines g.S.Cutter.layout g.met.S.Cutter.heads c.loop-count.invariant.up_to
+    c.in-Ok.ensures.given in
     subst (IsBeginning (g.W.Sink.taken_octets c.list_piece.new.writer)) adds.all c.in-Err.ensures.beginning
 
 pub returns-in-Refused-clause-text : goal.returns-in-Refused-clause-text
 returns-in-Refused-clause-text g c =
-    let adds = adds_piece g.C.Listing.lines g.S.Cutter.layout g.met.S.Cutter.heads c.loop-count.invariant.up_to c.in-Ok.ensures.given in
+    let adds = adds_piece g.C.Listing.lines g.S.Cutter.layout g.met.S.Cutter.heads c.loop-count.invariant.up_to
+    c.in-Ok.ensures.given in
     let went : c.list_piece.result ≡ done Refused = c.in-Ok-list_piece.is ∙ ap done c.in-Refused.is in
     let has = c.list_piece.ensures.refused went in
     has.written_all ∙ adds.all
 
 pub returns-in-Refused-clause-good : goal.returns-in-Refused-clause-good
 returns-in-Refused-clause-good g c =
-    let adds = adds_piece g.C.Listing.lines g.S.Cutter.layout g.met.S.Cutter.heads c.loop-count.invariant.up_to c.in-Ok.ensures.given in
+    let adds = adds_piece g.C.Listing.lines g.S.Cutter.layout g.met.S.Cutter.heads c.loop-count.invariant.up_to
+    c.in-Ok.ensures.given in
     let went : c.list_piece.result ≡ done Refused = c.in-Ok-list_piece.is ∙ ap done c.in-Refused.is in
     let has = c.list_piece.ensures.refused went in
     let refused = stops g.C.Listing.lines g.S.Cutter.layout adds has.refused in
-    sym (is_bad g.C.Listing.lines g.S.Cutter.layout g.met.S.Cutter.heads c.args.command _ refused)
+    sym (is_bad g.C.Listing.lines g.S.Cutter.layout g.met.S.Cutter.heads c.args.listing _ refused)
 
 pub returns-in-Refused-clause-end : goal.returns-in-Refused-clause-end
 returns-in-Refused-clause-end g c =
-    let adds = adds_piece g.C.Listing.lines g.S.Cutter.layout g.met.S.Cutter.heads c.loop-count.invariant.up_to c.in-Ok.ensures.given in
+    let adds = adds_piece g.C.Listing.lines g.S.Cutter.layout g.met.S.Cutter.heads c.loop-count.invariant.up_to
+    c.in-Ok.ensures.given in
     let went : c.list_piece.result ≡ done Refused = c.in-Ok-list_piece.is ∙ ap done c.in-Refused.is in
     let has = c.list_piece.ensures.refused went in
     let refused = stops g.C.Listing.lines g.S.Cutter.layout adds has.refused in
@@ -103,10 +132,13 @@ returns-in-Refused-clause-end g c =
 
 pub returns-then-count-eq0-clause-text : goal.returns-then-count-eq0-clause-text
 returns-then-count-eq0-clause-text g c =
-    let all = at_end g.C.Listing.lines g.S.Cutter.layout g.met.S.Cutter.heads c.loop-count.invariant.up_to c.in-Ok.ensures.given (ap (λ (n : ℕ). take n c.read.new.piece) c.if-count-eq0.true) in
+    let all = at_end g.C.Listing.lines g.S.Cutter.layout g.met.S.Cutter.heads c.loop-count.invariant.up_to
+    c.in-Ok.ensures.given (ap (λ (n : ℕ). take n c.read.new.piece) c.if-count-eq0.true) in
     on_ok_from _ c.list_rest.result (λ x h. h.1 ∙ all) c.list_rest.ensures.ok
 
 pub returns-then-count-eq0-clause-beginning : goal.returns-then-count-eq0-clause-beginning
 returns-then-count-eq0-clause-beginning g c =
-    let all = at_end g.C.Listing.lines g.S.Cutter.layout g.met.S.Cutter.heads c.loop-count.invariant.up_to c.in-Ok.ensures.given (ap (λ (n : ℕ). take n c.read.new.piece) c.if-count-eq0.true) in
-    on_err_weaker c.list_rest.result (subst (IsBeginning (g.W.Sink.taken_octets c.list_rest.new.writer)) all) c.list_rest.ensures.beginning
+    let all = at_end g.C.Listing.lines g.S.Cutter.layout g.met.S.Cutter.heads c.loop-count.invariant.up_to
+    c.in-Ok.ensures.given (ap (λ (n : ℕ). take n c.read.new.piece) c.if-count-eq0.true) in
+    on_err_weaker c.list_rest.result (subst (IsBeginning (g.W.Sink.taken_octets c.list_rest.new.writer)) all)
+    c.list_rest.ensures.beginning

@@ -16,7 +16,8 @@ invariant-loop-count g l =
     let taken = g.W.Sink.taken_octets in
     let held = g.S.Cutter.held l.cutter in
     record {
-      up_to : IsUpTo g.C.Listing.lines g.S.Cutter.layout l.fn.command (given l.fn.reader) (given l.reader) (taken l.fn.writer) (taken l.writer) (standing [] l.command l.progress held);
+      up_to : IsUpTo g.C.Listing.lines g.S.Cutter.layout l.fn.listing (given l.fn.reader) (given l.reader)
+          (taken l.fn.writer) (taken l.writer) (standing [] l.listing l.progress held);
       consumes : Consumes (left l.fn.reader) (left l.reader) (gained (given l.fn.reader) (given l.reader));
       is_open : first_by g.S.Cutter.layout held ≡ None;
       going : g.S.Cutter.failure l.cutter ≡ None;

@@ -7,4 +7,5 @@ use Rattle.listings.proofs.telemetry.push_finished.Given as goal
 -- the lines so far, and those of the packets that are left
 abbrev pub invariant-loop-packet : goal.invariant-loop-packet
 invariant-loop-packet l =
-    written l.text ++ finished_lines (octets_of (drop l.packet-index l.packets)) ≡ written l.fn.text ++ finished_lines (octets_of l.fn.packets)
+    written l.text ++ finished_lines (octets_of (drop l.packet-index l.packets)) ≡ written l.fn.text
+    ++ finished_lines (octets_of l.fn.packets)

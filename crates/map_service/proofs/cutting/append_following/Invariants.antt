@@ -5,7 +5,8 @@ use Rattle.map_service.proofs.cutting.append_following.Given as goal
 abbrev pub invariant-parts : goal.invariant-parts
 invariant-parts l = record {
   some : 1 ≤ length l.rest;
-  views : segment_views l.segments.items ++ later_segments l.map (pieces_of l.part l.rest) ≡ segment_views l.fn.segments.items ++ later_segments l.map (pieces_of l.part l.fn.octets);
+  views : segment_views l.segments.items ++ later_segments l.map (pieces_of l.part l.rest)
+      ≡ segment_views l.fn.segments.items ++ later_segments l.map (pieces_of l.part l.fn.octets);
   before : take (length l.fn.segments.items) l.segments.items ≡ l.fn.segments.items;
 }
 

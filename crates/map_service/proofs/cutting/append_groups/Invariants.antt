@@ -6,7 +6,8 @@ use Rattle.map_service.proofs.cutting.append_groups.Given as goal
 abbrev pub invariant-groups : goal.invariant-groups
 invariant-groups l = record {
   whole : rest_in l.rest ≡ [];
-  views : segment_views l.segments.items ++ segments_of l.part l.map l.rest ≡ segment_views l.fn.segments.items ++ segments_of l.part l.map l.fn.octets;
+  views : segment_views l.segments.items ++ segments_of l.part l.map l.rest ≡ segment_views l.fn.segments.items
+      ++ segments_of l.part l.map l.fn.octets;
   before : take (length l.fn.segments.items) l.segments.items ≡ l.fn.segments.items;
 }
 

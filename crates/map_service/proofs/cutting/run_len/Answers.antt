@@ -7,7 +7,12 @@ use Rattle.map_service.proofs.cutting.run_len.Goals as goal
 
 pub returns-then-next-part-clause-run : goal.returns-then-next-part-clause-run
 returns-then-next-part-clause-run c =
-    omega (arith, c.packets.invariant.run, run-over (c.args.part - c.packets.len) c.in-Some.next c.packets.rest.now c.in-Some.ensures.first c.in-Some.ensures.within.1 c.if-next-part.true)
+    omega (
+      arith,
+      c.packets.invariant.run,
+      run-over (c.args.part - c.packets.len) c.in-Some.next c.packets.rest.now
+          c.in-Some.ensures.first c.in-Some.ensures.within.1 c.if-next-part.true,
+    )
 
 pub packets-preserved : goal.packets-preserved
 packets-preserved c =
@@ -19,8 +24,11 @@ packets-preserved c =
     let fits : next ≤ part - len = c.if-next-part.false in
     let more = run-more (part - len) next rest c.in-Some.ensures.first c.in-Some.ensures.within.1 fits in
     let room : part - len - next ≡ part - (len + next) = omega arith in
-    let same : length (concat (longest_run (part - len - next) (packets_in (drop next rest)))) ≡ length (concat (longest_run (part - (len + next)) (packets_in behind))) =
-    ap (λ (k : ℕ). length (concat (longest_run k (packets_in (drop next rest))))) room ∙ ap (λ (xs : List ℕ). length (concat (longest_run (part - (len + next)) (packets_in xs)))) (sym c.split_at.ensures.back) in
+    let same : length (concat (longest_run (part - len - next) (packets_in (drop next rest))))
+    ≡ length (concat (longest_run (part - (len + next)) (packets_in behind))) =
+    ap (λ (k : ℕ). length (concat (longest_run k (packets_in (drop next rest))))) room
+    ∙ ap (λ (xs : List ℕ). length (concat (longest_run (part - (len + next)) (packets_in xs))))
+    (sym c.split_at.ensures.back) in
     record {
       fits = omega (arith, c.packets.invariant.fits);
       within = omega (arith, c.split_at.ensures.back_len, c.packets.invariant.within);
@@ -28,4 +36,10 @@ packets-preserved c =
     }
 
 pub returns-clause-run : goal.returns-clause-run
-returns-clause-run c = omega (arith, c.packets.invariant.run, run-none (c.args.part - c.packets.len) c.packets.rest.now (sym c.in_default.ensures.first))
+returns-clause-run c =
+    omega (
+      arith,
+      c.packets.invariant.run,
+      run-none (c.args.part - c.packets.len) c.packets.rest.now
+          (sym c.in_default.ensures.first),
+    )

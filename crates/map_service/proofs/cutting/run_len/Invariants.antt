@@ -8,7 +8,8 @@ abbrev pub invariant-packets : goal.invariant-packets
 invariant-packets l = record {
   fits : l.len ≤ l.part;
   within : l.len + length l.rest ≡ length l.octets;
-  run : l.len + length (concat (longest_run (l.part - l.len) (packets_in l.rest))) ≡ length (concat (longest_run l.part (packets_in l.octets)));
+  run : l.len + length (concat (longest_run (l.part - l.len) (packets_in l.rest)))
+      ≡ length (concat (longest_run l.part (packets_in l.octets)));
 }
 
 abbrev pub decreases-packets : goal.decreases-packets

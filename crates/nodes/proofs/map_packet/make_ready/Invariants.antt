@@ -11,6 +11,7 @@ abbrev pub invariant-loop-octets : goal.invariant-loop-octets
 invariant-loop-octets l =
     (goal.iterator-loop-octets).can_next l.octets-iterator ×
     (goal.iterator-loop-octets).is_finite l.octets-iterator ×
-    (l.ready.items ++ put_on_map l.fn.on_map (map (λ v. v.items) (into_iter_items l.octets-iterator)) ≡ l.fn.ready.items ++ put_on_map l.fn.on_map (packets_view l.fn.packets)) ×
+    (l.ready.items ++ put_on_map l.fn.on_map (map (λ v. v.items) (into_iter_items l.octets-iterator)) ≡ l.fn.ready.items
+    ++ put_on_map l.fn.on_map (packets_view l.fn.packets)) ×
     AllByRecursion IsPacketOn (put_on_map l.fn.on_map (map (λ v. v.items) (into_iter_items l.octets-iterator))) ×
     (deque_len l.ready + length (into_iter_items l.octets-iterator) ≤ deque_capacity l.ready)

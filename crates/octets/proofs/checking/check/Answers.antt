@@ -8,7 +8,8 @@ loop-eight-preserved c =
     let cut = c.in-Some.ensures.cases in
     let next = c.after_eight-register.ensures in (
       next.fits,
-      takes_eight c.loop-eight.register c.after_eight-register.result c.loop-eight.left.now c.in-Some.eight.now c.in-Some.rest.now
+      takes_eight c.loop-eight.register c.after_eight-register.result c.loop-eight.left.now c.in-Some.eight.now
+          c.in-Some.rest.now
           (omega (arith, cut.2)) c.loop-eight.invariant.0 cut.0 cut.1 next.octets next.after
           ∙ c.loop-eight.invariant.1,
     )
@@ -22,4 +23,5 @@ loop-octet-preserved c =
     )
 
 pub returns : goal.returns
-returns c = check_from c.loop-octet.register c.loop-octet.octet-index c.loop-eight.left.now c.args.octets.now c.loop-octet.invariant.0 c.loop-octet-test.false c.loop-octet.invariant.1
+returns c = check_from c.loop-octet.register c.loop-octet.octet-index c.loop-eight.left.now c.args.octets.now
+    c.loop-octet.invariant.0 c.loop-octet-test.false c.loop-octet.invariant.1

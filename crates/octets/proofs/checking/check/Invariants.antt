@@ -9,4 +9,5 @@ abbrev pub decreases-loop-eight : goal.decreases-loop-eight
 decreases-loop-eight l = length l.left
 
 abbrev pub invariant-loop-octet : goal.invariant-loop-octet
-invariant-loop-octet l = (l.register < 65536) × (divided l.register 0 (drop l.octet-index l.octet-items) ≡ divided 0xffff 0 l.octets)
+invariant-loop-octet l =
+    (l.register < 65536) × (divided l.register 0 (drop l.octet-index l.octet-items) ≡ divided 0xffff 0 l.octets)

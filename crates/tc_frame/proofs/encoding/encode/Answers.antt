@@ -5,5 +5,6 @@ use Rattle.tc_frame.proofs.encoding.encode.Goals as goal
 
 pub returns-clause-spells : goal.returns-clause-spells
 returns-clause-spells c =
-    written_is c.args.check (frame_view c.args.frame.now) c.total-total.result c.put_frame.new.out (drop c.total-total.result c.args.out.now)
+    written_is c.args.check (frame_view c.args.frame.now) c.total-total.result c.put_frame.new.out
+    (drop c.total-total.result c.args.out.now)
     (sym c.is_in_range.ensures ∙ c.if-not-is_in_range.false) c.total-total.ensures c.put_frame.ensures

@@ -8,7 +8,12 @@ on_ok (Ok x) f p = f p
 on_ok (Err e) f p = tt
 
 pub returns-clause-same : goal.returns-clause-same
-returns-clause-same c = same_at c.args.lists.now c.from.result c.args.map c.index-lists-from.result c.from.ensures (omega arith) c.try_reserve.new.self (ap octets_of c.try_reserve.ensures.items)
+returns-clause-same c =
+    same_at c.args.lists.now c.from.result c.args.map c.index-lists-from.result c.from.ensures (omega arith)
+    c.try_reserve.new.self (ap octets_of c.try_reserve.ensures.items)
 
 pub returns-clause-room : goal.returns-clause-room
-returns-clause-room c = on_ok c.try_reserve.result (λ room. room_at c.args.lists.now c.from.result c.args.map c.index-lists-from.result c.from.ensures (omega arith) c.try_reserve.new.self c.args.more (omega (arith, room, c.try_reserve.ensures.len))) c.try_reserve.ensures.ok
+returns-clause-room c =
+    on_ok c.try_reserve.result (λ room. room_at c.args.lists.now c.from.result c.args.map c.index-lists-from.result
+    c.from.ensures (omega arith) c.try_reserve.new.self c.args.more (omega (arith, room, c.try_reserve.ensures.len)))
+    c.try_reserve.ensures.ok

@@ -7,4 +7,6 @@ use Rattle.tc_link.proofs.putting.put_report.Goals as goal
 pub returns-clause-frame : goal.returns-clause-frame
 returns-clause-frame c =
     c.copy_front.ensures
-    ∙ front_is c.report-size.result c.report-size.new.out (spelling (spacecraft_step c.args.spacecraft.now Report).answer) (replicate 2048 0) c.report-size.ensures.frame (c.report-size.array_long) c.report-size.ensures.spells.most
+    ∙ front_is c.report-size.result c.report-size.new.out
+    (spelling (spacecraft_step c.args.spacecraft.now Report).answer) (replicate 2048 0) c.report-size.ensures.frame
+    (c.report-size.array_long) c.report-size.ensures.spells.most

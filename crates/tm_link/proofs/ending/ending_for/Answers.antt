@@ -6,4 +6,8 @@ use Rattle.tm_link.proofs.ending.ending_for.Goals as goal
 pub returns-then-count-size-clause-short : goal.returns-then-count-size-clause-short
 returns-then-count-size-clause-short c = λ same.
     let header = c.args.header.now in
-    omega (arith, extent_most (take 6 header) c.in-Ok.size (take_fits header 6 (λ i. omega (arith, c.type_inv.header i))) (sym c.extent.ensures ∙ c.in-Ok.is))
+    omega (
+      arith,
+      extent_most (take 6 header) c.in-Ok.size
+          (take_fits header 6 (λ i. omega (arith, c.type_inv.header i))) (sym c.extent.ensures ∙ c.in-Ok.is),
+    )

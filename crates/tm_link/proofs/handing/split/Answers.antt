@@ -12,24 +12,34 @@ loop-size-preserved c =
     let n : ℕ = c.in-Some.size in
     let before : List (List ℕ) = octets_of c.loop-size.found.items in
     let packet : take n rest ++ [] ≡ take n rest = append-nil (take n rest) in
-    let handed : octets_of c.hand_out.new.found.items ≡ before ++ without_idle (take n rest ∷ []) = c.in_ok-hand_out.ensures.ok ∙ ap (λ (x : List ℕ). before ++ without_idle (x ∷ [])) packet in
+    let handed : octets_of c.hand_out.new.found.items ≡ before ++ without_idle (take n rest ∷ []) =
+    c.in_ok-hand_out.ensures.ok ∙ ap (λ (x : List ℕ). before ++ without_idle (x ∷ [])) packet in
     let more : List (List ℕ) = records_of 6 extent_at (take (length rest - n) (drop n rest)) in
-    let next : take n rest ∷ more ≡ records_of 6 extent_at rest = records-next rest n (sym c.first_len.ensures.size ∙ c.in-Some.is) in (
-      handed_on before (octets_of c.hand_out.new.found.items) (take n rest) more handed ∙ ap (λ (xs : List (List ℕ)). before ++ without_idle xs) next ∙ c.loop-size.invariant.0,
+    let next : take n rest ∷ more ≡ records_of 6 extent_at rest =
+    records-next rest n (sym c.first_len.ensures.size ∙ c.in-Some.is) in (
+      handed_on before (octets_of c.hand_out.new.found.items) (take n rest) more handed
+          ∙ ap (λ (xs : List (List ℕ)). before ++ without_idle xs) next ∙ c.loop-size.invariant.0,
       λ none. (none_handed-first (take n rest) more (ap without_idle next ∙ c.loop-size.invariant.1 none)).1,
     )
 
 pub returns-clause-ok : goal.returns-clause-ok
 returns-clause-ok c =
     let found : List (List ℕ) = octets_of c.loop-size.found.items in
-    sym (append-nil found) ∙ ap (λ (xs : List (List ℕ)). found ++ without_idle xs) (sym (records-none c.loop-size.rest.now (sym c.first_len.ensures.size ∙ c.in_default.is))) ∙ c.loop-size.invariant.0
+    sym (append-nil found)
+    ∙ ap (λ (xs : List (List ℕ)). found ++ without_idle xs)
+    (sym (records-none c.loop-size.rest.now (sym c.first_len.ensures.size ∙ c.in_default.is)))
+    ∙ c.loop-size.invariant.0
 
 pub returns-in_err-hand_out-clause-none : goal.returns-in_err-hand_out-clause-none
 returns-in_err-hand_out-clause-none c = λ none.
     let rest : List ℕ = c.loop-size.rest.now in
     let n : ℕ = c.in-Some.size in
     let packet : take n rest ++ [] ≡ take n rest = append-nil (take n rest) in
-    let next : take n rest ∷ records_of 6 extent_at (take (length rest - n) (drop n rest)) ≡ records_of 6 extent_at rest = records-next rest n (sym c.first_len.ensures.size ∙ c.in-Some.is) in
-    let first : without_idle (take n rest ∷ []) ≡ [] = (none_handed-first (take n rest) (records_of 6 extent_at (take (length rest - n) (drop n rest))) (ap without_idle next ∙ c.loop-size.invariant.1 none)).0 in
-    let never : false ≡ true = c.in_err-hand_out.ensures.none (ap (λ (x : List ℕ). without_idle (x ∷ [])) packet ∙ first) in
+    let next : take n rest ∷ records_of 6 extent_at (take (length rest - n) (drop n rest))
+    ≡ records_of 6 extent_at rest = records-next rest n (sym c.first_len.ensures.size ∙ c.in-Some.is) in
+    let first : without_idle (take n rest ∷ []) ≡ [] =
+    (none_handed-first (take n rest) (records_of 6 extent_at (take (length rest - n) (drop n rest)))
+    (ap without_idle next ∙ c.loop-size.invariant.1 none)).0 in
+    let never : false ≡ true =
+    c.in_err-hand_out.ensures.none (ap (λ (x : List ℕ). without_idle (x ∷ [])) packet ∙ first) in
     absurd cc

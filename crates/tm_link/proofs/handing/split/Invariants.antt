@@ -6,7 +6,8 @@ use Rattle.tm_link.proofs.handing.split.Given as goal
 
 abbrev pub invariant-loop-size : goal.invariant-loop-size
 invariant-loop-size l =
-    (octets_of l.found.items ++ without_idle (records_of 6 extent_at l.rest) ≡ octets_of l.fn.found.items ++ without_idle (records_of 6 extent_at l.fn.octets))
+    (octets_of l.found.items ++ without_idle (records_of 6 extent_at l.rest) ≡ octets_of l.fn.found.items
+    ++ without_idle (records_of 6 extent_at l.fn.octets))
     × (without_idle (records_of 6 extent_at l.fn.octets) ≡ [] → without_idle (records_of 6 extent_at l.rest) ≡ [])
 
 abbrev pub decreases-loop-size : goal.decreases-loop-size

@@ -10,8 +10,12 @@ returns-clause-parts c =
     let long : length c.from_fn.result ≡ 64 = c.from_fn.ensures.items.long in
     ext_get_or None _ _ (length-map c.from_fn.result part_view ∙ long ∙ sym (length-replicate 64 nothing)) (λ i lt.
     let within : i < 64 = omega (arith, length-map c.from_fn.result part_view) in
-    let none : get_or c.from_fn.result i None ≡ None = let called = (c.from_fn.ensures.items.at i None within).2 in search (rules, called) in
-    get_or-map part_view c.from_fn.result i None None (omega arith) ∙ ap part_view none ∙ sym (get_or-replicate 64 i nothing None within))
+    let none : get_or c.from_fn.result i None ≡ None =
+    let called = (c.from_fn.ensures.items.at i None within).2 in search (rules, called) in
+    get_or-map part_view c.from_fn.result i None None (omega arith) ∙ ap part_view none
+    ∙ sym (get_or-replicate 64 i nothing None within))
 
 pub returns-clause-begun : goal.returns-clause-begun
-returns-clause-begun c = λ m. ap (λ (parts : List (Option (List ℕ))). get_or parts m None) (returns-clause-parts c) ∙ no_parts c.args.limits m
+returns-clause-begun c =
+    λ m. ap (λ (parts : List (Option (List ℕ))). get_or parts m None) (returns-clause-parts c)
+    ∙ no_parts c.args.limits m

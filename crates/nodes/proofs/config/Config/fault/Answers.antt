@@ -5,9 +5,11 @@ use Rattle.nodes.specs.Parameters.{config_fault, IsConfig}
 use Rattle.nodes.proofs.InRange.{config_is, no_fault}
 use Rattle.nodes.proofs.config.Config.fault.Goals as goal
 
-none_where_in_range : (field : Option (Bor (List ℕ))) (c : Config) → option_copied field ≡ config_fault c → IsNone field ↔ IsConfig c
+none_where_in_range : (field : Option (Bor (List ℕ))) (c : Config) → option_copied field ≡ config_fault c
+    → IsNone field ↔ IsConfig c
 none_where_in_range None c is = (λ _. config_is c (sym is), λ _. refl)
-none_where_in_range (Some name) c is = (λ h. absurd cc, λ h. let none : option_copied (Some name) ≡ None = is ∙ no_fault c h in absurd cc)
+none_where_in_range (Some name) c is =
+    (λ h. absurd cc, λ h. let none : option_copied (Some name) ≡ None = is ∙ no_fault c h in absurd cc)
 
 pub returns-clause-fault : goal.returns-clause-fault
 returns-clause-fault c = search rules

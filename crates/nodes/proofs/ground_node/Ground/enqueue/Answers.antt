@@ -21,7 +21,9 @@ own-requires c =
     let views : segment_views c.cut.new.segments.items ≡ segment_views c.new-segments.result.items ++ all =
     where_ok c.cut.result (sym c.is_err.ensures.value ∙ c.if-is_err.false) c.cut.ensures.ok in
     let is : segment_views c.as_slice.result.now ≡ segments_of c.self.inside.config.part m octets =
-    ap segment_views c.as_slice.ensures.value ∙ views ∙ ap (λ (ss : List Segment). segment_views ss ++ all) c.new-segments.ensures.items
+    ap segment_views c.as_slice.ensures.value ∙ views
+    ∙ ap (λ (ss : List Segment). segment_views ss ++ all) c.new-segments.ensures.items
     ∙ ap (λ (l : Limits). segments_of l.part m octets) c.limits.ensures in
     subst (λ (ss : List SegmentView). AllByRecursion FitsFrame ss) (sym is)
-    (segments_fit c.self.inside.config.part m octets c.self.invariant.part.0 c.self.invariant.part.1 (submit_map c.args.self.now m octets (c.requires)))
+    (segments_fit c.self.inside.config.part m octets c.self.invariant.part.0 c.self.invariant.part.1
+    (submit_map c.args.self.now m octets (c.requires)))

@@ -15,7 +15,8 @@ returns-clause-count c =
     let sum : length (old ++ packets) ≡ length old + length packets = length-append old packets in
     let before : length old ≡ length c.self.inside.finished.items = length-map c.self.inside.finished.items _ in
     let after : length new ≡ length c.frame.new.packets.items = length-map c.frame.new.packets.items _ in
-    let gained : length c.frame.new.packets.items ≡ length c.self.inside.finished.items + length packets = omega arith in
+    let gained : length c.frame.new.packets.items ≡ length c.self.inside.finished.items + length packets =
+    omega arith in
     let count : c.len.result ≡ c.len-before.result + length packets = omega arith in
     let is : length packets ≡ length (extract_step c.args.self.now.extractor frame).packets =
     ap (λ (s : GroundState). length (extract_step s.extractor frame).packets) c.self.view_is in

@@ -1,4 +1,5 @@
-use Rattle.std.proofs.Common.{◌≡◌, ◌≤◌, ◌+◌, ◌/◌, ℕ, false, List, length, Result, Ok, Err, OnOk, ap, sym, subst, ◌∙◌, arith}
+use Rattle.std.proofs.Common.{◌≡◌, ◌≤◌, ◌+◌, ◌/◌, ℕ, false, List, length, Result, Ok, Err, OnOk, ap, sym, subst, ◌∙◌}
+use Rattle.std.proofs.Common.{arith}
 use Rattle.std.specs.List.{AllByRecursion}
 use Rattle.std.specs.Result.{is_err}
 use Rattle.std.specs.VecDeque.{deque_len, deque_capacity}
@@ -28,15 +29,18 @@ make_ready-requires-clause-room c =
     let a : AssemblerState = c.self.inside.assembler in
     let room : deque_len c.try_reserve.new.self + (length s.payload / 6 + 1) ≤ deque_capacity c.try_reserve.new.self =
     where_ok c.try_reserve.result (sym c.is_err.ensures.value ∙ c.if-is_err.false) c.try_reserve.ensures.ok in
-    let few : length (step_at a s).packets ≤ length s.payload / 6 + 1 = taken_few a.limits (part_on_map a s.header.map) s in
-    let count : length (packets_view c.in-Ok.taken.packets) ≡ length (step_at a s).packets = ap length c.in-Ok.ensures.packets in
+    let few : length (step_at a s).packets ≤ length s.payload / 6 + 1 =
+    taken_few a.limits (part_on_map a s.header.map) s in
+    let count : length (packets_view c.in-Ok.taken.packets) ≡ length (step_at a s).packets =
+    ap length c.in-Ok.ensures.packets in
     omega arith
 
 pub invariant_of-self-2 : goal.invariant_of-self-2
 invariant_of-self-2 c = record {
   vcid = c.self.invariant.vcid;
   limits = ap (λ (a : AssemblerState). a.limits) c.in-Ok.ensures.state ∙ c.self.invariant.limits;
-  parts = subst (λ (segments : List SegmentView). HasPartsOf c.take.new.self segments) (sym c.then-self-inside.ensures) (c.in-Ok.ensures.exact c.self.inside.accepted.segments c.self.invariant.parts).kept;
+  parts = subst (λ (segments : List SegmentView). HasPartsOf c.take.new.self segments) (sym c.then-self-inside.ensures)
+      (c.in-Ok.ensures.exact c.self.inside.accepted.segments c.self.invariant.parts).kept;
   slots = c.self.invariant.slots;
   frames = c.self.invariant.frames;
 }

@@ -10,7 +10,8 @@ use Rattle.tc_link.proofs.Promised.{promised, promised_of, reached_after, confir
 use Rattle.tc_link.proofs.sim.Sim.step.Goals as goal
 
 reached : (c : goal.After-step) → IsReached c.step.new.self
-reached c = reached_after c.self.inside.world c.step.new.self c.args.event c.step.result c.self.invariant c.has_octets.ensures c.step.ensures.after c.step.ensures.err
+reached c = reached_after c.self.inside.world c.step.new.self c.args.event c.step.result c.self.invariant
+    c.keeps_octets.ensures c.step.ensures.after c.step.ensures.err
 
 kept : (c : goal.After-step) → IsClean c.step.new.self → IsPromised c.step.new.self
 kept c is = promised c.step.new.self (reached c) is
@@ -30,7 +31,7 @@ returns-clause-one_step c =
     let so : IsClean old → IsSettled old → BeginsNoSession old c.args.event → GoesOnByAStep old c.step.new.self =
     λ is settled goes. stepped_after old c.step.new.self c.args.event c.step.result c.step.ensures.after
     c.step.ensures.err (promised old c.self.invariant is).history
-    ((promised_of old c.args.event c.self.invariant c.has_octets.ensures is).history settled goes) in
+    ((promised_of old c.args.event c.self.invariant c.keeps_octets.ensures is).history settled goes) in
     subst (λ (s : SimState). IsClean s.world → IsSettled s.world → BeginsNoSession s.world c.args.event
     → GoesOnByAStep s.world c.step.new.self) c.self.view_is so
 
@@ -43,11 +44,18 @@ returns-clause-confirmed c is = (kept c is).confirmed
 pub returns-clause-confirms : goal.returns-clause-confirms
 returns-clause-confirms c =
     let old = c.self.inside.world in
-    let so : IsClean old → IsChecking (directive_of old) → ConfirmsExactly old c.step.new.self = λ is checking. confirmed_after old c.step.new.self c.args.event c.step.result c.step.ensures.after c.step.ensures.err ((promised_of old c.args.event c.self.invariant c.has_octets.ensures is).confirms checking) in
-    subst (λ (s : SimState). IsClean s.world → IsChecking (directive_of s.world) → ConfirmsExactly s.world c.step.new.self) c.self.view_is so
+    let so : IsClean old → IsChecking (directive_of old) → ConfirmsExactly old c.step.new.self =
+    λ is checking. confirmed_after old c.step.new.self c.args.event c.step.result c.step.ensures.after
+    c.step.ensures.err ((promised_of old c.args.event c.self.invariant c.keeps_octets.ensures is).confirms checking)
+    in
+    subst (λ (s : SimState). IsClean s.world → IsChecking (directive_of s.world)
+    → ConfirmsExactly s.world c.step.new.self) c.self.view_is so
 
 pub returns-clause-no_false_alarm : goal.returns-clause-no_false_alarm
 returns-clause-no_false_alarm c =
     let old = c.self.inside.world in
-    let so : IsClean old → IsChecking (directive_of old) → HasNoFalseAlarm old c.args.event = λ is checking. ((promised_of old c.args.event c.self.invariant c.has_octets.ensures is).no_false_alarm checking) in
-    subst (λ (s : SimState). IsClean s.world → IsChecking (directive_of s.world) → HasNoFalseAlarm s.world c.args.event) c.self.view_is so
+    let so : IsClean old → IsChecking (directive_of old) → HasNoFalseAlarm old c.args.event =
+    λ is checking. ((promised_of old c.args.event c.self.invariant c.keeps_octets.ensures is).no_false_alarm checking)
+    in
+    subst (λ (s : SimState). IsClean s.world → IsChecking (directive_of s.world) → HasNoFalseAlarm s.world c.args.event)
+    c.self.view_is so

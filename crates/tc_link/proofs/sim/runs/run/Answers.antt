@@ -9,20 +9,28 @@ use Rattle.tc_link.proofs.Runs.{run_ends}
 use Rattle.tc_link.proofs.sim.runs.run.Goals as goal
 
 pub returns-clause-ran : goal.returns-clause-ran
-returns-clause-ran c = run_ends c.args.config c.args.events.now c.events.sim c.events.event-index (omega (arith, c.events-test.false)) c.events.invariant.ran
+returns-clause-ran c =
+    run_ends c.args.config c.args.events.now c.events.sim c.events.event-index (omega (arith, c.events-test.false))
+    c.events.invariant.ran
 
 pub events-preserved : goal.events-preserved
 events-preserved c = record {
   ran = grind (arith, common_steps);
-  octets = one_more c.args.events.now c.events.event-index _ c.events-test.true c.events.invariant.octets c.in_ok-record_step.ensures.octets;
+  octets = one_more c.args.events.now c.events.event-index _ c.events-test.true c.events.invariant.octets
+      c.in_ok-record_step.ensures.octets;
 }
 
 pub returns-clause-promised : goal.returns-clause-promised
 returns-clause-promised c =
-    let ran = run_ends c.args.config c.args.events.now c.events.sim c.events.event-index (omega (arith, c.events-test.false)) c.events.invariant.ran in
-    promised_run c.args.config c.args.events.now c.events.sim ran (config_is c.args.config (sym c.in_ok-sim.ensures.range))
-    (subst (AllByRecursion IsEvent) (take_all c.events.event-index c.args.events.now (omega (arith, c.events-test.false))) c.events.invariant.octets)
+    let ran = run_ends c.args.config c.args.events.now c.events.sim c.events.event-index
+    (omega (arith, c.events-test.false)) c.events.invariant.ran in
+    promised_run c.args.config c.args.events.now c.events.sim ran
+    (config_is c.args.config (sym c.in_ok-sim.ensures.range))
+    (subst (AllByRecursion IsEvent) (take_all c.events.event-index c.args.events.now
+    (omega (arith, c.events-test.false))) c.events.invariant.octets)
 
 pub returns-clause-throughout : goal.returns-clause-throughout
-returns-clause-throughout c = holds_throughout c.args.config c.args.events.now (config_is c.args.config (sym c.in_ok-sim.ensures.range))
-    (subst (AllByRecursion IsEvent) (take_all c.events.event-index c.args.events.now (omega (arith, c.events-test.false))) c.events.invariant.octets)
+returns-clause-throughout c =
+    holds_throughout c.args.config c.args.events.now (config_is c.args.config (sym c.in_ok-sim.ensures.range))
+    (subst (AllByRecursion IsEvent) (take_all c.events.event-index c.args.events.now
+    (omega (arith, c.events-test.false))) c.events.invariant.octets)

@@ -1,4 +1,5 @@
-use Rattle.std.proofs.Common.{◌≡◌, ◌≤◌, ◌+◌, length, arith, length-append, ℕ, List, [], ◌∷◌, ◌++◌, None, Some, option_map, option_to_list, Option, ap, ◌∙◌}
+use Rattle.std.proofs.Common.{◌≡◌, ◌≤◌, ◌+◌, length, arith, length-append, ℕ, List, [], ◌∷◌, ◌++◌, None, Some}
+use Rattle.std.proofs.Common.{option_map, option_to_list, Option, ap, ◌∙◌}
 use Rattle.std.proofs.lemmas.List.{map-append, length-map}
 use Rattle.tc_frame.specs.declared.frame.Check.TheVariants.{On}
 use Rattle.tc_frame.specs.Layout.{FrameView}

@@ -1,4 +1,5 @@
-use Rattle.std.proofs.Common.{◌≡◌, ◌++◌, ◌∷◌, [], ℕ, List, map, filter, length, Bool, true, false, Result, Ok, Err, OnOk, refl, ap, sym, ◌∙◌, arith, append-nil}
+use Rattle.std.proofs.Common.{◌≡◌, ◌++◌, ◌∷◌, [], ℕ, List, map, filter, length, Bool, true, false, Result, Ok, Err}
+use Rattle.std.proofs.Common.{OnOk, refl, ap, sym, ◌∙◌, arith, append-nil}
 use Rattle.std.specs.Prelude.{◌==◌, if◌then◌else◌}
 use Rattle.std.specs.List.{flat_map}
 use Rattle.std.specs.Result.{is_err}
@@ -20,35 +21,46 @@ where_ok (Err e) ok p = absurd cc
 abbrev packets_on : ℕ → List PacketOn → List (List ℕ)
 packets_on m ps = flat_map (λ (p : PacketOn). packets_in p.octets) (filter (λ (p : PacketOn). p.on_map == m) ps)
 
-of_one : (m : ℕ) (p : PacketOn) (own : Bool) → p.on_map == m ≡ own → packets_on m (p ∷ []) ≡ (if own then packets_in p.octets else [])
+of_one : (m : ℕ) (p : PacketOn) (own : Bool) → p.on_map == m ≡ own
+    → packets_on m (p ∷ []) ≡ (if own then packets_in p.octets else [])
 of_one m p true own = rw own (append-nil (packets_in p.octets))
 of_one m p false own = rw own refl
 
-one_more : (m : ℕ) (ps : List PacketOn) (p : PacketOn) → packets_on m (ps ++ p ∷ []) ≡ packets_on m ps ++ (if p.on_map == m then packets_in p.octets else [])
+one_more : (m : ℕ) (ps : List PacketOn) (p : PacketOn)
+    → packets_on m (ps ++ p ∷ []) ≡ packets_on m ps ++ (if p.on_map == m then packets_in p.octets else [])
 one_more m ps p =
     ap (flat_map (λ (p : PacketOn). packets_in p.octets)) (filter-append (λ (p : PacketOn). p.on_map == m) ps (p ∷ []))
-    ∙ flat_map-append (λ (p : PacketOn). packets_in p.octets) (filter (λ (p : PacketOn). p.on_map == m) ps) (filter (λ (p : PacketOn). p.on_map == m) (p ∷ []))
+    ∙ flat_map-append (λ (p : PacketOn). packets_in p.octets) (filter (λ (p : PacketOn). p.on_map == m) ps)
+    (filter (λ (p : PacketOn). p.on_map == m) (p ∷ []))
     ∙ ap (λ (xs : List (List ℕ)). packets_on m ps ++ xs) (of_one m p (p.on_map == m) refl)
 
 pub invariant_of-self-2 : goal.invariant_of-self-2
 invariant_of-self-2 c =
     let s : GroundState = c.self.inside.ground_node in
     let octets : List ℕ = c.args.octets.now in
-    let after = where_ok c.submit.result (sym c.is_err-else-is_err-2.ensures.value ∙ c.if-is_err-3.false) c.submit.ensures.after in
+    let after = where_ok c.submit.result (sym c.is_err-else-is_err-2.ensures.value ∙ c.if-is_err-3.false)
+    c.submit.ensures.after in
     let same : length c.submit.new.self.fop.sent ≡ length s.fop.sent =
-    ap (λ (t : GroundState). length t.fop.sent) after ∙ ap length (submit_same s c.args.map octets (submit_fault s c.args.map octets)) in
-    let submissions : map packet_view c.push_reserved.new.self.items ≡ map packet_view c.self.inside.session.submissions.items ++ packet_on c.args.map octets ∷ [] =
-    ap (map packet_view) (c.push_reserved.ensures.items ∙ ap (λ xs. xs ++ (c.args.map, c.in-Ok.copy) ∷ []) c.try_reserve.ensures.items)
+    ap (λ (t : GroundState). length t.fop.sent) after
+    ∙ ap length (submit_same s c.args.map octets (submit_fault s c.args.map octets)) in
+    let submissions : map packet_view c.push_reserved.new.self.items
+    ≡ map packet_view c.self.inside.session.submissions.items ++ packet_on c.args.map octets ∷ [] =
+    ap (map packet_view) (c.push_reserved.ensures.items
+    ∙ ap (λ xs. xs ++ (c.args.map, c.in-Ok.copy) ∷ []) c.try_reserve.ensures.items)
     ∙ map_push packet_view c.self.inside.session.submissions.items (c.args.map, c.in-Ok.copy)
-    ∙ ap (λ (o : List ℕ). map packet_view c.self.inside.session.submissions.items ++ packet_on c.args.map o ∷ []) c.in-Ok.ensures.items in
+    ∙ ap (λ (o : List ℕ). map packet_view c.self.inside.session.submissions.items ++ packet_on c.args.map o ∷ [])
+    c.in-Ok.ensures.items in
     record {
       accepted = c.self.invariant.accepted;
       before = c.self.invariant.before;
       counted = omega (arith, c.self.invariant.counted, same);
       submitted_on = λ m.
           c.append_on.ensures m
-          ∙ ap (λ (xs : List (List ℕ)). xs ++ (if c.args.map == m then packets_view c.in-Ok-copied_packets.packets else [])) (c.make_room.ensures.same m ∙ c.self.invariant.submitted_on m)
-          ∙ ap (λ (xs : List (List ℕ)). packets_on m (map packet_view c.self.inside.session.submissions.items) ++ (if c.args.map == m then xs else [])) c.in-Ok-copied_packets.ensures
+          ∙ ap (λ (xs : List (List ℕ)). xs
+          ++ (if c.args.map == m then packets_view c.in-Ok-copied_packets.packets else []))
+          (c.make_room.ensures.same m ∙ c.self.invariant.submitted_on m)
+          ∙ ap (λ (xs : List (List ℕ)). packets_on m (map packet_view c.self.inside.session.submissions.items)
+          ++ (if c.args.map == m then xs else [])) c.in-Ok-copied_packets.ensures
           ∙ sym (one_more m (map packet_view c.self.inside.session.submissions.items) (packet_on c.args.map octets))
           ∙ ap (packets_on m) (sym submissions);
       delivered_on = c.self.invariant.delivered_on;

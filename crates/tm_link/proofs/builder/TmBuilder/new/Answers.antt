@@ -8,4 +8,6 @@ pub returns-clause-ok : goal.returns-clause-ok
 returns-clause-ok c = search rules
 
 pub returns-clause-laid : goal.returns-clause-laid
-returns-clause-laid c = subst (λ (b : BuilderState). IsLaidOutBy b [] []) (sym (returns-clause-ok c)) (new_laid c.args.scid c.args.vcid c.args.length)
+returns-clause-laid c =
+    subst (λ (b : BuilderState). IsLaidOutBy b [] []) (sym (returns-clause-ok c))
+    (new_laid c.args.scid c.args.vcid c.args.length)

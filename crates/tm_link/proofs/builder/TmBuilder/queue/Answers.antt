@@ -16,4 +16,5 @@ pub returns-clause-laid : goal.returns-clause-laid
 returns-clause-laid c = λ packets frames h.
     let octets : List ℕ = c.args.packet.now in
     let fits : IsOctets octets = λ i. omega (arith, c.type_inv.packet i) in
-    subst (λ (b : BuilderState). IsLaidOutBy b (packets ++ octets ∷ []) frames) (sym (returns-clause-ok c)) (queue_laid c.args.self.now octets packets frames fits (returns-clause-taken c) h)
+    subst (λ (b : BuilderState). IsLaidOutBy b (packets ++ octets ∷ []) frames) (sym (returns-clause-ok c))
+    (queue_laid c.args.self.now octets packets frames fits (returns-clause-taken c) h)

@@ -10,4 +10,5 @@ returns-clause-packets c = grind (arith, common_steps)
 
 pub returns-clause-exact : goal.returns-clause-exact
 returns-clause-exact c =
-    has_gained c.args.self.now (frame_view c.args.frame.now) (octets_of c.args.packets.now.items) (octets_of c.append.new.self.items) (returns-clause-packets c)
+    has_gained c.args.self.now (frame_view c.args.frame.now) (octets_of c.args.packets.now.items)
+    (octets_of c.append.new.self.items) (returns-clause-packets c)

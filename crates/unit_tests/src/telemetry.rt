@@ -1,9 +1,9 @@
 // Frames in octets, worked by hand.
 
-use super::*;
 use std::alloc::{AllocError, Global};
 use std::process::Abort;
 use std::test::Fail;
+use tm_link::*;
 
 // The frame of only idle data with 16 octets, before its check.
 const IDLE: [u8; 14] = [
@@ -241,7 +241,7 @@ fn take(
     }
 }
 
-// The gap and the number of packets behind each of these frames of a builder.
+// The gap and the number of packets after each of these frames of a builder.
 fn extracts(
     rt: &(impl Abort + Eprint),
     alloc: Global,

@@ -2,10 +2,10 @@
 
 ghost use Rattle.std.specs.Prelude.{◌<◌};
 
-use super::*;
 use octets::Wire;
 use std::process::Abort;
 use std::test::Fail;
+use tc_frame::*;
 
 const DATA: [u8; 13] = [
     0x00, 0x01, 0x08, 0x0c, 0x03, 0xc4, 0x10, 0x05, 0xc0, 0x00, 0x00, 0x00, 0xaa,

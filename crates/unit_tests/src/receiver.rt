@@ -1,7 +1,7 @@
 // Runs of the receiver.
 
-use crate::{CopFault, Farm, FarmFields, FarmMode, Verdict};
 use clcw::encode;
+use cop1::{CopFault, Farm, FarmFields, FarmMode, Verdict};
 use std::process::Abort;
 use std::test::Fail;
 

@@ -3,7 +3,7 @@
 ghost use Rattle.std.specs.Prelude.{◌≡◌, ◌<◌, ◌+◌, ◌%◌, IfOk, Some, vec_len};
 ghost use Rattle.space_packet.specs.Counters.{gap_between};
 
-use super::*;
+use space_packet::*;
 use std::alloc::{AllocError, Global};
 use std::process::Abort;
 use std::test::Fail;

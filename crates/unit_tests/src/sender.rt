@@ -1,11 +1,11 @@
 // Runs of the sender.
 
-use crate::{
+use bitflags::Flags;
+use clcw::{Clcw, ClcwFlags};
+use cop1::{
     Alert, Control, CopFault, Directive, Fop, FopMode, Peeked, Pulled, Sender, SenderFields,
     SenderNext,
 };
-use bitflags::Flags;
-use clcw::{Clcw, ClcwFlags};
 use std::alloc::Global;
 use std::process::Abort;
 use std::test::Fail;

@@ -4,7 +4,7 @@ ghost use Rattle.std.specs.Prelude.{◌≡◌, ◌≤◌};
 
 mod assembling;
 
-use super::*;
+use map_service::*;
 use std::process::Abort;
 use tc_frame::{Segment, SegmentFlags, SegmentHeader};
 
@@ -121,7 +121,7 @@ fn a_long_packet_between_two_short_ones(rt: HostRuntime) {
     assert!(rt; segments.as_slice() == parts.as_slice());
 }
 
-// Two growths of the list, the second of them within a packet and behind a segment that was there.
+// Two growths of the list, the second of them within a packet and after a segment that was there.
 #[test]
 fn a_packet_octet_by_octet(rt: HostRuntime) {
     let whole = segment(SegmentFlags::Alone, 4, &P0);

@@ -1,4 +1,0 @@
-// Runs of calls, with the answers of the tables.
-
-mod receiver;
-mod sender;

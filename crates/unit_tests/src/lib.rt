@@ -1,0 +1,17 @@
+//! Tests of the lower layers by their public calls alone: packets (`space_packet`), frames (`tc_frame`),
+//! telemetry (`tm_link`), segments (`map_service`), and COP-1's receiver and sender (`cop1`). They are a
+//! crate of their own, so that the layers aren't proved once more with them.
+#![tactic(auto)]
+
+#[cfg(test)]
+mod frames;
+#[cfg(test)]
+mod packets;
+#[cfg(test)]
+mod receiver;
+#[cfg(test)]
+mod segments;
+#[cfg(test)]
+mod sender;
+#[cfg(test)]
+mod telemetry;
