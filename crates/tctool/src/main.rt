@@ -31,7 +31,7 @@ fn main(rt: HostRuntime) -> ExitCode {
     })
 }
 
-// Tells a fault on standard error, and answers the status.
+// Writes a fault to standard error, and answers the status.
 fn fails(rt: &HostRuntime, fault: ListingFault) -> u8 {
     ending(&Err(fault), &mut Writer::new(rt.stderr()))
 }

@@ -6,14 +6,14 @@ use tc_frame::Check;
 /// What is to be done with the file.
 #[derive(Clone, Copy, Debug, Drop, PartialEq, Eq)]
 pub enum Task {
-    /// Tells what a receiver makes of each frame: one of this window width, even, 2 to 254, that
+    /// Lists what a receiver makes of each frame: one of this window width, even, 2 to 254, that
     /// expects the number `vr` first.
     Farm {
         check: Check,
         width: u8,
         vr: u8,
     },
-    /// Tells the packets out of the frames that such a receiver accepts, where a segment may hold
+    /// Lists the packets out of the frames that such a receiver accepts, where a segment may hold
     /// several packets or, with no blocking, one.
     Map {
         check: Check,
@@ -21,18 +21,18 @@ pub enum Task {
         vr: u8,
         blocking: bool,
     },
-    /// Tells what each telecommand frame says.
+    /// Lists the fields of each telecommand frame.
     Tc {
         check: Check,
     },
-    /// Tells what each telemetry frame says, of frames of this length, 16 to 2,048 octets, and the
+    /// Lists the fields of each telemetry frame, of frames of this length, 16 to 2,048 octets, and the
     /// packets that are finished with it.
     Tm {
         length: u16,
     },
-    /// Tells the frames that are refused, of frames that end with their check.
+    /// Lists the frames that are refused, of frames that end with their check.
     Check,
-    /// Tells what each space packet says.
+    /// Lists the fields of each space packet.
     Packets,
     /// Plays a script of the simulated link.
     Sim,

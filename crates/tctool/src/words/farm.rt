@@ -8,7 +8,7 @@ ghost use Rattle.clap.specs.declared.builder.value_parser.ValueParser.TheVariant
 
 use crate::task::{Options, Task, UsageFault};
 use crate::words::arguments::{
-    Described, FRAMES, bare_command, check_flag, ending_of_help, file_argument,
+    Described, FRAMES, bare_command, check_flag, ending_of_frames, ending_of_help, file_argument,
 };
 use clap::{Arg, ArgAction, Error, value_parser};
 use std::alloc::Global;
@@ -17,8 +17,8 @@ use tc_frame::check_if;
 pub const FARM: Described<'static> = Described {
     name: "farm",
     bin_name: "tctool farm",
-    about: "Tells what a receiver (FARM-1) makes of each frame",
-    ending: ending_of_help!("3 BC unlock Open vr=0 l=0 w=0 t=0 b=1"),
+    about: "Lists what a receiver (FARM-1) makes of each frame",
+    ending: ending_of_frames!("3 BC unlock Open vr=0 l=0 w=0 t=0 b=1"),
 };
 
 /// The words of `tctool farm`, the command's name first.

@@ -5,7 +5,7 @@ ghost use Rattle.tctool.specs.Ranges.{IsInRange, IsOddIfWidth};
 
 use crate::task::{Options, Task, UsageFault};
 use crate::words::arguments::{
-    Described, FRAMES, bare_command, check_flag, ending_of_help, file_argument,
+    Described, FRAMES, bare_command, check_flag, ending_of_frames, ending_of_help, file_argument,
 };
 use clap::Error;
 use std::alloc::Global;
@@ -14,22 +14,29 @@ use tc_frame::{Check, check_if};
 pub const TC: Described<'static> = Described {
     name: "tc",
     bin_name: "tctool tc",
-    about: "Tells what each telecommand frame says",
-    ending: ending_of_help!("1 AD scid=1 vcid=2 n=3 seg=3 map=4 data=1005C0000000AA"),
+    about: "Lists the fields of each telecommand frame",
+    ending: ending_of_frames!("1 AD scid=1 vcid=2 n=3 seg=3 map=4 data=1005C0000000AA"),
 };
 
 pub const CHECK: Described<'static> = Described {
     name: "check",
     bin_name: "tctool check",
-    about: "Tells the telecommand frames with check that are refused",
-    ending: ending_of_help!("2 invalid 6 Check"),
+    about: "Lists the telecommand frames with check that are refused",
+    ending: ending_of_frames!("2 invalid 6 Check"),
 };
 
 pub const PACKETS: Described<'static> = Described {
     name: "packets",
     bin_name: "tctool packets",
-    about: "Tells what each space packet says",
-    ending: ending_of_help!("1 TC secondary=0 apid=5 flags=3 count=0 gap=- data=AA"),
+    about: "Lists the fields of each space packet",
+    ending: ending_of_help!(
+        "1 TC secondary=0 apid=5 flags=3 count=0 gap=- data=AA",
+        "Faults of a packet, the first that applies:\n",
+        "  1 Truncated          the file ends within the packet\n",
+        "  2 Version            the version number is not 000\n",
+        "  3 IdleWithSecondary  an idle packet with a secondary header\n",
+        "\n"
+    ),
 };
 
 pub const SIM: Described<'static> = Described {

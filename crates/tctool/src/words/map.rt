@@ -16,8 +16,17 @@ use tc_frame::check_if;
 pub const MAP: Described<'static> = Described {
     name: "map",
     bin_name: "tctool map",
-    about: "Tells the packets out of the frames that a receiver accepts",
-    ending: ending_of_help!("packet 4 1005C0000000AA"),
+    about: "Lists the packets out of the frames that a receiver accepts",
+    ending: ending_of_help!(
+        "packet 4 1005C0000000AA",
+        "Why octets of a segment are dropped:\n",
+        "  Interrupted          a first segment, or one flagged alone, came before a last one\n",
+        "  NoBeginning          a continuing or last segment with no packet open\n",
+        "  NotAPacket           not exactly one packet (--blocking: whole packets)\n",
+        "  TooLong              a packet is longer than 65,542 octets\n",
+        "  Bypass               a Type-BD frame without exactly one packet\n",
+        "\nFaults of a frame: tctool help tc\n\n"
+    ),
 };
 
 /// The words of `tctool map`, the command's name first.

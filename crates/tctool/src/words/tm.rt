@@ -13,8 +13,18 @@ use std::alloc::Global;
 pub const TM: Described<'static> = Described {
     name: "tm",
     bin_name: "tctool tm",
-    about: "Tells what each telemetry frame says, and its finished packets",
-    ending: ending_of_help!("1 scid=1 vcid=0 mc=0 vc=0 pointer=0 ocf=01080000 gap=-"),
+    about: "Lists the fields of each telemetry frame, and the packets that it ends",
+    ending: ending_of_help!(
+        "1 scid=1 vcid=0 mc=0 vc=0 pointer=0 ocf=01080000 gap=-",
+        "Faults of a frame, the first that applies:\n",
+        "  1 Length             not as many octets as --length says\n",
+        "  2 Version            the version number is not 00\n",
+        "  3 Check              the last two octets are not the check of the others\n",
+        "  4 Status             a status flag is not 0, or segment length not 11\n",
+        "  5 Pointer            the first header pointer is not within the data\n",
+        "  6 NoOcf              the frame has no operational control field\n",
+        "\n"
+    ),
 };
 
 /// The words of `tctool tm`, the command's name first.
