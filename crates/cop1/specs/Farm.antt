@@ -23,7 +23,7 @@ pub record FarmState : Type 0 where
   pub retransmit : Bool
   pub farm_b : ℕ
 
--- the state that the lockout flag and the wait flag tell
+-- the state that the lockout flag and the wait flag give
 abbrev pub state_of : Bool → Bool → FarmMode
 state_of true wait = Lockout
 state_of false true = Wait

@@ -1,10 +1,10 @@
--- The fields that tell a receiver, and what is so of every receiver.
+-- The fields that describe a receiver, and what is so of every receiver.
 use Rattle.std.specs.Prelude.{◌<◌}
 use Rattle.cop1.specs.declared.farm.FarmFields.{FarmFields}
 use Rattle.cop1.specs.Farm.{FarmState, IsWidth, state_of}
 use Rattle.cop1.specs.FarmRuns.{FlagsAgree}
 
--- the receiver with these fields: the lockout flag and the wait flag tell its state
+-- the receiver with these fields: the lockout flag and the wait flag give its state
 abbrev pub farm_with : FarmFields → FarmState
 farm_with f =
     record {

@@ -18,7 +18,7 @@ pub enum FarmMode {
     Lockout,
 }
 
-/// What the receiver does with a Type-AD frame.
+/// What the receiver does with a Type-AD frame (CCSDS 232.1-B-2, table 6-1).
 #[derive(Clone, Copy, Debug, PartialEq, Eq)]
 pub enum Verdict {
     /// The expected frame: its data is handed on, V(R) steps.
@@ -38,7 +38,7 @@ pub enum Verdict {
 impl Verdict {
     ghost use Rattle.cop1.specs.Names.{verdict_name};
 
-    /// The verdict in a word, as lines tell it.
+    /// The verdict in a word, as lines have it.
     pub fn name(self) -> &'static str
         ensures { result.now ≡ verdict_name self }
     {
@@ -129,8 +129,8 @@ impl Farm {
     ghost use Rattle.cop1.specs.FarmRuns.{FlagsAgree};
     ghost use Rattle.cop1.specs.Farm.{IsWidth, new_farm, place_of, verdict_of, farm_step, AdArrives, BdArrives, UnlockArrives, SetVrArrives, BufferReleased};
 
-    /// An open receiver with all flags 0 and FARM-B 0, which expects the number `vr`. The width is
-    /// even, 2 to 254; 1 Width where it is not.
+    /// An open receiver with all flags 0 and FARM-B 0, which expects the number `vr` (CCSDS
+    /// 232.1-B-2, 6.1). The width is even, 2 to 254; 1 Width where it is not.
     pub fn new(width: u8, vr: u8) -> Result<Farm, CopFault>
         ensures new_farm { IfOk result (λ f. f ≡ new_farm width vr) }
         ensures width { IsOk result ↔ IsWidth width }
@@ -189,8 +189,8 @@ impl Farm {
         }
     }
 
-    /// A Type-AD frame with the number `n` has come, and there is room on board for its data or not.
-    /// Where the verdict is `Accepted` its data is handed on.
+    /// A Type-AD frame with the number `n` has come, and there is room on board for its data or not
+    /// (CCSDS 232.1-B-2, table 6-1). Where the verdict is `Accepted` its data is handed on.
     #[inline(always)]
     pub fn ad(&mut self, n: u8, buffer_free: bool) -> Verdict
         ensures verdict { result ≡ verdict_of self.old n buffer_free }
@@ -252,7 +252,8 @@ impl Farm {
         }
     }
 
-    /// A Type-BD frame has come: FARM-B counts it. Its data is handed on in every state.
+    /// A Type-BD frame has come: FARM-B counts it (CCSDS 232.1-B-2, table 6-1). Its data is handed
+    /// on in every state.
     pub fn bd(&mut self)
         ensures { self.new ≡ farm_step self.old BdArrives }
     {
@@ -266,7 +267,7 @@ impl Farm {
     }
 
     /// The control command Unlock has come: FARM-B counts it, and the receiver is open with all
-    /// flags 0.
+    /// flags 0 (CCSDS 232.1-B-2, table 6-1).
     pub fn unlock(&mut self)
         ensures { self.new ≡ farm_step self.old UnlockArrives }
     {
@@ -276,8 +277,8 @@ impl Farm {
         self.retransmit = false;
     }
 
-    /// The control command Set V(R) has come: FARM-B counts it, and unless the receiver is locked it
-    /// is open and expects `vr`.
+    /// The control command Set V(R) has come: FARM-B counts it, and unless the receiver is locked
+    /// it is open and expects `vr` (CCSDS 232.1-B-2, table 6-1).
     pub fn set_vr(&mut self, vr: u8)
         ensures { self.new ≡ farm_step self.old (SetVrArrives vr) }
     {
@@ -289,7 +290,7 @@ impl Farm {
         }
     }
 
-    /// There is room on board again.
+    /// There is room on board again (CCSDS 232.1-B-2, table 6-1).
     pub fn released(&mut self)
         ensures { self.new ≡ farm_step self.old BufferReleased }
     {
@@ -316,8 +317,8 @@ impl Farm {
         }
     }
 
-    /// The state, which the lockout flag and the wait flag tell. The wait flag comes with the
-    /// retransmit flag.
+    /// The state, which the lockout flag and the wait flag give (CCSDS 232.1-B-2, 6.1). The wait
+    /// flag comes with the retransmit flag.
     #[inline(always)]
     pub fn state(&self) -> FarmMode
         ensures state { result ≡ self.now.state }
@@ -332,35 +333,35 @@ impl Farm {
         }
     }
 
-    /// V(R), the number of the next frame to be accepted.
+    /// V(R), the number of the next frame to be accepted (CCSDS 232.1-B-2, 6.1).
     pub fn vr(&self) -> u8
         ensures { result ≡ self.now.vr }
     {
         self.vr
     }
 
-    /// The lockout flag.
+    /// The lockout flag (CCSDS 232.1-B-2, 6.1).
     pub fn lockout(&self) -> bool
         ensures { result ≡ self.now.lockout }
     {
         self.lockout
     }
 
-    /// The wait flag.
+    /// The wait flag (CCSDS 232.1-B-2, 6.1).
     pub fn wait(&self) -> bool
         ensures { result ≡ self.now.wait }
     {
         self.wait
     }
 
-    /// The retransmit flag.
+    /// The retransmit flag (CCSDS 232.1-B-2, 6.1).
     pub fn retransmit(&self) -> bool
         ensures { result ≡ self.now.retransmit }
     {
         self.retransmit
     }
 
-    /// FARM-B, the count of Type-B frames modulo 4.
+    /// FARM-B, the count of Type-B frames modulo 4 (CCSDS 232.1-B-2, 6.1).
     pub fn farm_b(&self) -> u8
         ensures { result ≡ self.now.farm_b }
     {

@@ -45,7 +45,8 @@ pub enum Alert {
     NnR,
     /// A report has the wait flag without the retransmit flag.
     Clcw,
-    /// A report asks for what was not sent, or no more for what it asked for.
+    /// A report asks for repetition where nothing is to be repeated, or no longer asks for it before
+    /// anything was acknowledged.
     Synch,
     /// A report asks for units again, and each may be sent once.
     Limit,
@@ -115,9 +116,9 @@ impl<U: Drop> Fop<U> {
     ghost use Rattle.cop1.specs.FopNew.{new_fault};
 
     /// A sender in its state S6 with V(S) and NN(R) 0, to a receiver of this window width, with the
-    /// window `window` (K), the transmission limit and the timer's value in ticks. The first that
-    /// applies: 1 Width (not even, 2 to 254), 2 Window (not 1 to half the width), 3 Limit (0),
-    /// 4 Timer (0), 5 Memory.
+    /// window `window` (K), the transmission limit and the timer's value in ticks (CCSDS 232.1-B-2,
+    /// 5.1). The first that applies: 1 Width (not even, 2 to 254), 2 Window (not 1 to half the
+    /// width), 3 Limit (0), 4 Timer (0), 5 Memory.
     pub fn new(
         alloc: Global,
         width: u8,
@@ -143,7 +144,7 @@ impl<U: Drop> Fop<U> {
         })
     }
 
-    /// The state.
+    /// The state (CCSDS 232.1-B-2, 5.1).
     pub fn state(&self) -> FopMode
         ensures state { result ≡ self.now.state }
         ensures holds { IsFop self.now }
@@ -151,14 +152,14 @@ impl<U: Drop> Fop<U> {
         self.sender.fields().state
     }
 
-    /// V(S), the number of the next unit to be sent for the first time.
+    /// V(S), the number of the next unit to be sent for the first time (CCSDS 232.1-B-2, 5.1).
     pub fn vs(&self) -> u8
         ensures { result ≡ self.now.vs }
     {
         self.sender.fields().vs
     }
 
-    /// NN(R), the number that the receiver was last known to expect.
+    /// NN(R), the number that the receiver was last known to expect (CCSDS 232.1-B-2, 5.1).
     pub fn nn(&self) -> u8
         ensures { result ≡ self.now.nn }
     {

@@ -73,9 +73,9 @@ impl Sender {
     ghost use Rattle.cop1.specs.FopNew.{new_fault};
 
     /// A sender in its state S6 with V(S) and NN(R) 0, to a receiver of this window width, with the
-    /// window `window` (K), the transmission limit and the timer's value in ticks. The first that
-    /// applies: 1 Width (not even, 2 to 254), 2 Window (not 1 to half the width), 3 Limit (0),
-    /// 4 Timer (0).
+    /// window `window` (K), the transmission limit and the timer's value in ticks (CCSDS 232.1-B-2,
+    /// 5.1). The first that applies: 1 Width (not even, 2 to 254), 2 Window (not 1 to half the
+    /// width), 3 Limit (0), 4 Timer (0).
     pub fn new(width: u8, window: u8, limit: u8, timer: u16) -> Result<Sender, CopFault>
         ensures made { new_fault width window limit timer ≡ None
             → result ≡ Ok (new_sender width window limit timer) }

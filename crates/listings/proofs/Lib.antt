@@ -1,6 +1,6 @@
 pub mod Listed
 pub mod Pieces
 pub mod Beginnings
-pub mod ToldPackets
+pub mod ListedPackets
 pub mod Remaining
 pub mod Digits

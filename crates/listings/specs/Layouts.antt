@@ -15,14 +15,14 @@ use Rattle.tm_link.specs.declared.fault.TmFault.TheVariants.{Length}
 
 -- How a stream is cut into records. F is why octets are refused as no record.
 pub record Layout (F : Type 0) : Type 0 where
-  -- how many octets tell a record's length
+  -- how many octets give a record's length
   pub head : ℕ
-  -- the length that they tell
+  -- the length that they give
   pub extent : List ℕ → Result ℕ F
   -- why octets are refused that end before their record does
   pub truncated : F
 
--- A record has the octets that tell its length, and they are some.
+-- A record has the octets that give its length, and they are some.
 pub record HasHeads {F : Type 0} (layout : Layout F) : Type 0 where
   pub some_head : 1 ≤ layout.head
   pub has_head : (octets : List ℕ) (n : ℕ) → layout.extent octets ≡ Ok n → layout.head ≤ n
@@ -57,7 +57,7 @@ module _ {F : Type 0} (layout : Layout F) where
 
 -- ---- the layouts of the commands
 
--- telecommand frames, with or without their check: the first five octets tell the length (CCSDS
+-- telecommand frames, with or without their check: the first five octets give the length (CCSDS
 -- 232.0-B-4, 4.1.2)
 abbrev pub frame_layout : Check → Layout TcFault
 frame_layout check = record { head = 5; extent = total_at check; truncated = Short }
@@ -69,6 +69,6 @@ frame_extent size head = Ok size
 abbrev pub telemetry_layout : ℕ → Layout TmFault
 telemetry_layout size = record { head = size; extent = frame_extent size; truncated = Length }
 
--- space packets: the first six octets tell the length (CCSDS 133.0-B-2, 4.1.3)
+-- space packets: the first six octets give the length (CCSDS 133.0-B-2, 4.1.3)
 abbrev pub packet_layout : Layout PacketFault
 packet_layout = record { head = 6; extent = extent_at; truncated = Truncated }

@@ -8,7 +8,7 @@ pub mod Cutting
 pub mod FarmLines
 pub mod FrameLines
 pub mod MapLines
-pub mod ToldPackets
+pub mod ListedPackets
 pub mod RefusalLines
 pub mod PacketLines
 pub mod TelemetryLines

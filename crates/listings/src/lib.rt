@@ -30,7 +30,7 @@ pub use fault::ListingFault;
 pub use frame_cutter::{FrameCutter, FrameLength};
 pub use frames::FrameListing;
 pub use listing::Listing;
-pub use mapping::{MapListing, law_of_told_packets};
+pub use mapping::{MapListing, law_of_listed_packets};
 pub use output::{WriteFailed, write_all};
 pub use packets::PacketListing;
 pub use refusals::RefusalListing;

@@ -11,7 +11,7 @@ ghost use Rattle.map_service.specs.Exactness.{step_at, after_step};
 ghost use Rattle.tm_link.specs.Extraction.{octets_of};
 ghost use Rattle.listings.specs.Written.{Appends};
 ghost use Rattle.listings.specs.MapLines.{MapState, map_limits, map_opened, is_bypass, dropped_line, on_map_line, cause_text, map_packets_text, outcome_text, bypass_text, body_text, after_body, record_text, after_record, map_lines};
-ghost use Rattle.listings.specs.ToldPackets.{accepted_in, told_on};
+ghost use Rattle.listings.specs.ListedPackets.{accepted_in, listed_on};
 
 use crate::lines::{push_invalid, push_name, push_octets};
 use crate::listing::Listing;
@@ -230,9 +230,9 @@ fn push_bypass(text: &mut Text, index: u64, segment: Segment) -> Result<(), Allo
 
 /// Whatever the records are, the packets listed on a MAP are those that the accepted segments
 /// of all of them give on it, in their order.
-pub fn law_of_told_packets()
+pub fn law_of_listed_packets()
     ensures { (check : Checking) (width vr : ℕ) (blocking : Bool) (m : ℕ) (records : List (List ℕ))
-        → told_on check m (map_opened width vr blocking) records
+        → listed_on check m (map_opened width vr blocking) records
         ≡ assembled (map_limits blocking) m (accepted_in check (new_farm width vr) records) }
 {}
 

@@ -8,7 +8,7 @@ use crate::device_log::{Call, DeviceLog};
 use std::io;
 use std::io::Write;
 
-/// A device that text is written to. It tells contracts what it took and how often it failed.
+/// A device that text is written to. Contracts see what it took and how often it failed.
 pub trait Sink {
     // The octets that its writes have taken.
     ghost taken_octets: { Self → List ℕ };

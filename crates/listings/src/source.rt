@@ -9,7 +9,7 @@ use crate::device_log::{Call, DeviceLog};
 use std::io;
 use std::io::Read;
 
-/// A device that octets are read from. It tells contracts what it gave and how often it failed.
+/// A device that octets are read from. Contracts see what it gave and how often it failed.
 pub trait Source {
     // The octets that its reads have given.
     ghost given: { Self → List ℕ };

@@ -9,7 +9,7 @@ use Rattle.tc_frame.specs.Layout.{SegmentView}
 use Rattle.map_service.specs.declared.limits.Limits.{Limits}
 use Rattle.map_service.specs.Packets.{packets_in, are_packets, is_packet, is_some_over}
 
--- there are MAPs 0 to 63, and bit m tells of MAP m
+-- there are MAPs 0 to 63, and bit m is for MAP m
 abbrev pub is_open : Limits → ℕ → Bool
 is_open limits m = nat_lt m 64 && (limits.maps / 2 ^ m % 2 == 1)
 

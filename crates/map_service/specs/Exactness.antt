@@ -3,7 +3,8 @@ use Rattle.std.specs.Prelude.{◌≡◌, ◌≢◌, ℕ, List, [], ◌∷◌, �
 use Rattle.tc_frame.specs.Layout.{SegmentView}
 use Rattle.map_service.specs.declared.limits.Limits.{Limits}
 use Rattle.map_service.specs.Assembly.{assembled, open_part}
-use Rattle.map_service.specs.Taking.{TakeOutcome, take_step, lone_packet_at}
+use Rattle.map_service.specs.LonePacket.{lone_packet_at}
+use Rattle.map_service.specs.Taking.{TakeOutcome, take_step}
 
 -- the limits, and the open part of each MAP
 pub record AssemblerState : Type 0 where
@@ -29,7 +30,7 @@ lone_packet a s = lone_packet_at a.limits (part_on_map a s.header.map) s
 abbrev pub HasPartsOf : AssemblerState → List SegmentView → Type 0
 HasPartsOf a segments = (m : ℕ) → part_on_map a m ≡ open_part a.limits m segments
 
--- Behind these segments comes one more, which hands out these packets and leaves the assembler so.
+-- After these segments comes one more, which hands out these packets and leaves the assembler so.
 pub record IsTakenExactly (a : AssemblerState) (segments : List SegmentView) (s : SegmentView)
     (packets : List (List ℕ)) : Type 0 where
   pub given : assembled a.limits s.header.map (segments ++ s ∷ [])

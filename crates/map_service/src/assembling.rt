@@ -14,9 +14,9 @@ use std::array;
 use std::marker::Model;
 use tc_frame::Segment;
 
-/// Joins the segments of each MAP to packets. It keeps the part that is open on each MAP, which is
-/// the data of a first segment and of the continuing ones since. In contracts it is its limits and
-/// these parts.
+/// Joins the segments of each MAP to packets (CCSDS 232.0-B-4, 4.1.3.2.2). It keeps the part that
+/// is open on each MAP, which is the data of a first segment and of the continuing ones since. In
+/// contracts it is its limits and these parts.
 #[derive(Drop)]
 pub struct Assembler {
     alloc: Global,
@@ -41,7 +41,7 @@ impl Assembler {
     ghost use Rattle.tc_frame.specs.Layout.{SegmentView, segment_view};
     ghost use Rattle.map_service.specs.Exactness.{AssemblerState, step_at, after_step};
     ghost use Rattle.map_service.specs.Exactness.{HasPartsOf, IsTakenExactly};
-    ghost use Rattle.map_service.specs.Taking.{IsSureAtOnce};
+    ghost use Rattle.map_service.specs.AtOnce.{IsSureAtOnce};
     ghost use Rattle.map_service.specs.Views.{packets_view};
 
     /// An assembler with no part open. It takes no memory.
@@ -59,7 +59,7 @@ impl Assembler {
         }
     }
 
-    /// Takes the next segment: tells what was dropped, and hands out the packets that are whole now.
+    /// Takes the next segment: says what was dropped, and hands out the packets that are whole now.
     ///
     /// An alone segment is judged as a whole, a first one opens a part, a continuing one is added to
     /// it, and a last one is added and all of it judged. What is judged is handed out where it is

@@ -5,7 +5,8 @@ ghost use Rattle.map_service.specs.Assembly.{is_too_long};
 ghost use Rattle.tc_frame.specs.declared.frame.SegmentFlags.TheVariants as flags;
 ghost use Rattle.tc_frame.specs.Layout.{segment_view};
 ghost use Rattle.map_service.specs.Adding.{adding_fault};
-ghost use Rattle.map_service.specs.Taking.{drop_outcome, cell, cell_at, IsSureAtOnce};
+ghost use Rattle.map_service.specs.AtOnce.{IsSureAtOnce};
+ghost use Rattle.map_service.specs.Taking.{drop_outcome, cell, cell_at};
 ghost use Rattle.map_service.specs.Views.{part_view, packets_view, interruption, outcome_of};
 
 use crate::dropped::{Dropped, Taken};

@@ -12,11 +12,12 @@ use space_packet::packet_len;
 use tc_frame::{Segment, SegmentFlags, SegmentHeader};
 
 /// Adds the segments of one packet, or with blocking of one or more packets one after another, on
-/// this MAP, which is below 64. A packet of more than `part` octets is cut into parts of exactly
-/// `part` octets, the last of 1 to `part`; with blocking each longest run of other packets, from the
-/// left, that have at most `part` octets together goes into one segment. The first that applies:
-/// 1 `NotAPacket` (not exactly one packet, or with blocking not one or more whole packets),
-/// 2 `TooLong` (one over `max_packet`), 3 `Memory`; and then the segments are as they were.
+/// this MAP, which is below 64 (CCSDS 232.0-B-4, 4.1.3.2.2). A packet of more than `part` octets is
+/// cut into parts of exactly `part` octets, the last of 1 to `part`; with blocking each longest run
+/// of other packets, from the left, that have at most `part` octets together goes into one segment.
+/// The first that applies: 1 `NotAPacket` (not exactly one packet, or with blocking not one or more
+/// whole packets), 2 `TooLong` (one over `max_packet`), 3 `Memory`; and then the segments are as
+/// they were.
 pub fn cut<'a>(
     octets: &'a [u8],
     map: u8,

@@ -1,5 +1,5 @@
--- The managed parameters: their ranges in their order, the values that a script begins with, and
--- what the segmentation service keeps to.
+-- The managed parameters: their ranges in their order, their default values, and what the
+-- segmentation service keeps to.
 use Rattle.std.specs.Prelude.{◌≡◌, ◌≤◌, ℕ, ◌/◌, ◌%◌, ◌^◌, ◌-◌, List, codes, Bool, not, ◌&&◌, ◌==◌}
 use Rattle.std.specs.Prelude.{nat_lt, nat_le, if◌then◌else◌, Option, Some, None}
 use Rattle.map_service.specs.declared.limits.Limits.{Limits}
@@ -61,7 +61,7 @@ first_of (Some field) later = Some field
 abbrev pub config_fault : Config → Option (List ℕ)
 config_fault c = first_of (channel_fault c) (first_of (cop_fault c) (node_fault c))
 
--- ---- the values that a script begins with
+-- ---- the default values
 
 abbrev pub default_config : Config
 default_config = record {

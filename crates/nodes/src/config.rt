@@ -29,7 +29,7 @@ pub struct Config {
     pub max_packet: u32,
     /// Bit m, which counts 2 to the power of m, says that MAP m is open.
     pub maps: u64,
-    /// As many packets wait to be taken when the buffer on board is full, 1 to 64.
+    /// The number of packets waiting to be taken at which the buffer on board is full, 1 to 64.
     pub ready_slots: u32,
     /// The most packets of bypass frames that wait to be taken, 1 to 64.
     pub bypass_slots: u32,

@@ -76,7 +76,7 @@ impl Ground {
         })
     }
 
-    /// The sender's state.
+    /// The sender's state (CCSDS 232.1-B-2, 5.1).
     pub fn state(&self) -> FopMode
         ensures state { result ≡ self.now.fop.state }
         ensures holds { IsFop self.now.fop }
@@ -84,14 +84,14 @@ impl Ground {
         self.fop.state()
     }
 
-    /// V(S), the number of the next segment that is sent for the first time.
+    /// V(S), the number of the next segment that is sent for the first time (CCSDS 232.1-B-2, 5.1).
     pub fn vs(&self) -> u8
         ensures { result ≡ self.now.fop.vs }
     {
         self.fop.vs()
     }
 
-    /// NN(R), the number that the spacecraft was last known to expect.
+    /// NN(R), the number that the spacecraft was last known to expect (CCSDS 232.1-B-2, 5.1).
     pub fn nn(&self) -> u8
         ensures { result ≡ self.now.fop.nn }
     {
@@ -112,8 +112,9 @@ impl Ground {
         self.fop.sent() + usize::from(self.fop.waiting()) + self.pending.len()
     }
 
-    /// Follows a directive; the alert is that of `Terminate`. The faults are those of the sender: 2
-    /// `Window`, 3 `Limit`, 4 `Timer` for a value out of its range, 8 `WrongState`.
+    /// Follows a directive; the alert is that of `Terminate` (CCSDS 232.1-B-2, table 5-1). The
+    /// faults are those of the sender: 2 `Window`, 3 `Limit`, 4 `Timer` for a value out of its
+    /// range, 8 `WrongState`.
     pub fn directive(&mut self, directive: Directive) -> Result<Option<Alert>, CopFault>
         ensures answer { result ≡ (ground_step self.old (Direct directive)).answer }
         ensures after { self.new ≡ (ground_step self.old (Direct directive)).after }
@@ -124,7 +125,8 @@ impl Ground {
         Ok(alert)
     }
 
-    /// A tick of the clock has passed; an alert where the sender gives up.
+    /// A tick of the clock has passed; an alert where the sender gives up (CCSDS 232.1-B-2, table
+    /// 5-1).
     pub fn tick(&mut self) -> Option<Alert>
         ensures answer { result ≡ (ground_step self.old Tick).answer }
         ensures after { self.new ≡ (ground_step self.old Tick).after }
@@ -134,7 +136,7 @@ impl Ground {
         alert
     }
 
-    /// Takes the oldest packet that telemetry frames carried.
+    /// Takes the oldest packet that telemetry frames carried (CCSDS 132.0-B-3, 4.3.2).
     pub fn take_telemetry(&mut self) -> Option<Vec<u8>>
         ensures answer { option_map (λ v. v.items) result
             ≡ (ground_step self.old TakeTelemetry).answer }

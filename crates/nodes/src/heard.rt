@@ -31,6 +31,6 @@ pub enum HeardReport {
     Used,
     /// It is no report.
     Refused(ClcwFault),
-    /// It tells of another virtual channel.
+    /// It is of another virtual channel.
     OtherChannel,
 }

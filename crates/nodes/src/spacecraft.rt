@@ -86,8 +86,9 @@ impl Spacecraft {
         })
     }
 
-    /// Takes the oldest packet that sequence-controlled frames carried, with its MAP. There is room
-    /// on board again where fewer packets than the ready slots wait then.
+    /// Takes the oldest packet that sequence-controlled frames carried, with its MAP (CCSDS
+    /// 232.0-B-4, 4.4). There is room on board again where fewer packets than the ready slots wait
+    /// then.
     pub fn take(&mut self) -> Option<(u8, Vec<u8>)>
         ensures answer { option_map packet_view result ≡ (spacecraft_step self.old Take).answer }
         ensures after { self.new ≡ (spacecraft_step self.old Take).after }
@@ -105,7 +106,8 @@ impl Spacecraft {
         Some(packet.into_parts())
     }
 
-    /// Takes the oldest packet that frames past the sequence control carried, with its MAP.
+    /// Takes the oldest packet that frames past the sequence control carried, with its MAP (CCSDS
+    /// 232.0-B-4, 4.4).
     pub fn take_bypass(&mut self) -> Option<(u8, Vec<u8>)>
         ensures answer { option_map packet_view result
             ≡ (spacecraft_step self.old TakeBypass).answer }
@@ -121,8 +123,9 @@ impl Spacecraft {
         }
     }
 
-    /// Queues a packet to be sent as telemetry. Refuses by 8 `NotAPacket` octets that are not exactly
-    /// one packet, or an idle packet, and then by 7 `Memory`; the spacecraft is as it was then.
+    /// Queues a packet to be sent as telemetry (CCSDS 132.0-B-3, 4.2.2). Refuses by 8 `NotAPacket`
+    /// octets that are not exactly one packet, or an idle packet, and then by 7 `Memory`; the
+    /// spacecraft is as it was then.
     pub fn telemetry(&mut self, packet: &[u8]) -> Result<(), TmFault>
         ensures ok { OnOk result
             (self.new ≡ (spacecraft_step self.old (Telemetry packet.now)).after) }
@@ -149,8 +152,8 @@ impl Spacecraft {
         self.farm.report(self.config.vcid as u8)
     }
 
-    /// Writes the next telemetry frame, which reports on the receiver, at the beginning of `out`, and
-    /// says how many octets it has. Octets past it stay.
+    /// Writes the next telemetry frame, which reports on the receiver, at the beginning of `out`,
+    /// and says how many octets it has (CCSDS 132.0-B-3, 4.1). Octets past it stay.
     pub fn report(&mut self, out: &mut [u8; 2048]) -> usize
         ensures count { result ≡ self.old.config.frame_length }
         ensures frame { out.new

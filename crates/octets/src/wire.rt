@@ -1,8 +1,8 @@
-// Layouts of records whose first octets tell their length.
+// Layouts of records whose first octets give their length.
 
 ghost use Rattle.std.specs.Prelude.{◌≡◌, ◌≤◌, ℕ, List, length, take, Result, Ok};
 
-/// A layout of records on a stream, each with the octets first that tell its length.
+/// A layout of records on a stream, each with the octets first that give its length.
 pub trait Wire {
     /// Why octets are refused.
     type Fault: Copy;
@@ -45,7 +45,7 @@ pub trait Wire {
     ghost one_spelling: { (v : Value) (xs ys : List ℕ)
         → IsSpelling v xs → IsSpelling v ys → xs ≡ ys };
 
-    // A spelling has its head, which tells its length.
+    // A spelling has its head, which gives its length.
     ghost own_extent: { (v : Value) (octets : List ℕ) → IsSpelling v octets
         → (HEAD ≤ length octets) × (extent_of (take HEAD octets) ≡ Ok (length octets)) };
 }

@@ -77,7 +77,7 @@ fn push_count(text: &mut String, name: &str, count: usize) -> Result<(), AllocEr
     write!(text, "{name}{count}")
 }
 
-// What the records tell of the packets.
+// What the records say of the packets.
 fn push_packets(text: &mut String, sim: &Sim) -> Result<(), AllocError>
     ensures { Appends result text.old text.new (packets_text sim.now.world) }
 {
@@ -91,7 +91,7 @@ fn push_packets(text: &mut String, sim: &Sim) -> Result<(), AllocError>
     )
 }
 
-// What the records tell of the frames.
+// What the records say of the frames.
 fn push_frames(text: &mut String, sim: &Sim) -> Result<(), AllocError>
     ensures { Appends result text.old text.new (frames_text sim.now.world) }
 {
@@ -100,7 +100,7 @@ fn push_frames(text: &mut String, sim: &Sim) -> Result<(), AllocError>
     write!(text, " sent={sent} accepted={accepted}")
 }
 
-// What the records tell of what is acknowledged.
+// What the records say of what is acknowledged.
 fn push_acknowledged(text: &mut String, sim: &Sim) -> Result<(), AllocError>
     ensures { Appends result text.old text.new (acknowledged_text sim.now.world) }
 {

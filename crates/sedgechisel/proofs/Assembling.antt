@@ -9,7 +9,7 @@ use Rattle.map_service.specs.declared.dropped.Dropped.TheVariants.{Interrupted}
 use Rattle.map_service.specs.Packets.{first_packet}
 use Rattle.map_service.specs.Taking.{TakeOutcome, cell}
 use Rattle.sedgechisel.specs.declared.assembly.KeptMap.{KeptMap}
-use Rattle.sedgechisel.specs.Maps.{part_of, limits_of, cause_at, cause_answer, closed, interrupted, outcome_told}
+use Rattle.sedgechisel.specs.Maps.{part_of, limits_of, cause_at, cause_answer, closed, interrupted, outcome_described}
 use Rattle.map_service.specs.declared.limits.Limits.{Limits}
 use Rattle.map_service.specs.declared.dropped.Dropped.{Dropped}
 use Rattle.map_service.specs.declared.dropped.Dropped.TheVariants.{NotAPacket, TooLong}
@@ -51,11 +51,11 @@ alone_by limits octets part false none =
     ∙ alone_is limits octets none))
 
 -- an alone segment that is handed out
-pub alone_told : (m : KeptMap) (memory octets : List ℕ) → alone_fault (limits_of m (length memory)) octets ≡ None
-    → outcome_told (closed m) (record { count = length octets; place = 2; dropped = cause_answer (interrupted m) })
+pub alone_described : (m : KeptMap) (memory octets : List ℕ) → alone_fault (limits_of m (length memory)) octets ≡ None
+    → outcome_described (closed m) (record { count = length octets; place = 2; dropped = cause_answer (interrupted m) })
     memory octets
     ≡ cell (limits_of m (length memory)) Alone (part_of m memory) octets
-alone_told m memory octets none =
+alone_described m memory octets none =
     alone_by (limits_of m (length memory)) octets (take m.count memory) (m.is_open == 1) none
 
 -- ---- packets one after another

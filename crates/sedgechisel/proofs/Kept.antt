@@ -1,4 +1,4 @@
--- The fields that are kept of a sender tell that sender again, and fields that no sender has tell none.
+-- The fields that are kept of a sender describe that sender again, and fields that no sender has describe none.
 use Rattle.std.proofs.Common.{◌≡◌, ◌≤◌, ◌<◌, ℕ, Bool, true, false, Option, Some, None, Result, Ok, Err, refl, ap, ◌∙◌}
 use Rattle.std.proofs.Common.{arith}
 use Rattle.std.specs.Prelude.{IfSome, if◌then◌else◌}
@@ -14,8 +14,9 @@ use Rattle.sedgechisel.specs.declared.sender.KeptSender.{KeptSender}
 use Rattle.sedgechisel.specs.Answers.{damaged, and_then}
 use Rattle.sedgechisel.specs.Receivers.{flag_number}
 use Rattle.sedgechisel.specs.Senders.{mode_number, ticks_number, control_number, control_vr, kept_of, mode_at, ticks_at}
-use Rattle.sedgechisel.specs.Senders.{control_at, flag_at, fields_with, fields_told, has_ranges, agrees_in, is_sender}
-use Rattle.sedgechisel.specs.Senders.{sender_told}
+use Rattle.sedgechisel.specs.Senders.{control_at, flag_at, fields_with, fields_described, has_ranges, agrees_in}
+use Rattle.sedgechisel.specs.Senders.{is_sender}
+use Rattle.sedgechisel.specs.Senders.{sender_described}
 
 -- ---- each field is written again
 
@@ -68,7 +69,7 @@ agreement_holds s S6 is h = grind (arith, h)
 is_sure : (s : SenderFields) → IsSender s → is_sender s ≡ true
 is_sure s h = and_from _ _ (ranges_hold s h.ranges) (agreement_holds s s.state refl h.agrees)
 
-fields_again : (s : SenderFields) → IfSome s.ticks (λ left. 1 ≤ left) → fields_told (kept_of s) ≡ Ok s
+fields_again : (s : SenderFields) → IfSome s.ticks (λ left. 1 ≤ left) → fields_described (kept_of s) ≡ Ok s
 fields_again s h =
     ap (λ (m : Option FopMode). fields_with (kept_of s) m (flag_at (flag_number s.waiting))
     (control_at (control_number s.control) (control_vr s.control)))
@@ -79,14 +80,14 @@ fields_again s h =
     ∙ ap (λ (c : Option Control). fields_with (kept_of s) (Some s.state) (Some s.waiting) c) (control_again s.control)
     ∙ ap (λ (t : Option ℕ). Ok (record s { ticks = t })) (ticks_again s.ticks h)
 
-pub told_again : (s : SenderFields) → IsSender s → sender_told (kept_of s) ≡ Ok s
-told_again s h =
+pub described_again : (s : SenderFields) → IsSender s → sender_described (kept_of s) ≡ Ok s
+described_again s h =
     ap (λ (r : Result SenderFields ℕ). and_then r (λ t. if is_sender t then Ok t else Err damaged))
     (fields_again s h.ranges.ticks)
     ∙ ap (λ (b : Bool). if b then Ok s else Err damaged) (is_sure s h)
 
-pub kept_tells : (k : KeptSender) (s : SenderFields) → k ≡ kept_of s → IsSender s → sender_told k ≡ Ok s
-kept_tells k s is h = rw is (told_again s h)
+pub kept_describes : (k : KeptSender) (s : SenderFields) → k ≡ kept_of s → IsSender s → sender_described k ≡ Ok s
+kept_describes k s is h = rw is (described_again s h)
 
 -- ---- fields that no sender has
 
@@ -122,9 +123,10 @@ same_ticks k None f c s h = absurd cc
 ticks_run : (n : ℕ) → IfSome (ticks_at n) (λ left. 1 ≤ left)
 ticks_run n = grind arith
 
-pub told_none : (k : KeptSender) (s : SenderFields) → s.vs < 256 → s.nn < 256 → fields_told k ≡ Ok s → (IsSender s → ⊥)
-    → sender_told k ≡ Err damaged
-told_none k s vs nn is h =
+pub described_none : (k : KeptSender) (s : SenderFields) → s.vs < 256 → s.nn < 256 → fields_described k ≡ Ok s
+    → (IsSender s → ⊥)
+    → sender_described k ≡ Err damaged
+described_none k s vs nn is h =
     let ticks : IfSome s.ticks (λ left. 1 ≤ left) = rw (same_ticks k _ _ _ s is) (ticks_run k.ticks) in
     ap (λ (r : Result SenderFields ℕ). and_then r (λ t. if is_sender t then Ok t else Err damaged)) is
     ∙ if_err (is_sender s) s (λ (sure : is_sender s ≡ true). h (sender_is s vs nn ticks sure))

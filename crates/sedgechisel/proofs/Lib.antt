@@ -1,4 +1,4 @@
 mod Assembling
 mod Cut
 mod Kept
-mod Told
+mod Described

@@ -14,8 +14,8 @@ use Rattle.sedgechisel.specs.Answers.{damaged, numbered, and_then, if_ok}
 
 -- ---- from fields and data to a frame
 
-abbrev pub segment_told : CommandFrame → List ℕ → Result SegmentView ℕ
-segment_told f payload =
+abbrev pub segment_described : CommandFrame → List ℕ → Result SegmentView ℕ
+segment_described f payload =
     if nat_lt f.flags 4
     then Ok (record {
       header =
@@ -24,23 +24,23 @@ segment_told f payload =
     })
     else Err damaged
 
-abbrev pub command_told : CommandFrame → Result BodyView ℕ
-command_told f =
+abbrev pub command_described : CommandFrame → Result BodyView ℕ
+command_described f =
     if f.command == 0 then Ok (Bc Unlock)
     else if f.command == 1 then Ok (Bc (SetVr f.vr))
     else Err damaged
 
 -- kind 0 is Type-AD, 1 Type-BD, 2 Type-BC
-abbrev pub body_told : CommandFrame → List ℕ → Result BodyView ℕ
-body_told f payload =
-    if f.kind == 0 then map_ok (Ad f.n) (segment_told f payload)
-    else if f.kind == 1 then map_ok Bd (segment_told f payload)
-    else if f.kind == 2 then command_told f
+abbrev pub body_described : CommandFrame → List ℕ → Result BodyView ℕ
+body_described f payload =
+    if f.kind == 0 then map_ok (Ad f.n) (segment_described f payload)
+    else if f.kind == 1 then map_ok Bd (segment_described f payload)
+    else if f.kind == 2 then command_described f
     else Err damaged
 
--- the frame that the fields and the data tell
-abbrev pub frame_told : CommandFrame → List ℕ → Result FrameView ℕ
-frame_told f payload = map_ok (frame_with f.scid f.vcid) (body_told f payload)
+-- the frame that the fields and the data describe
+abbrev pub frame_described : CommandFrame → List ℕ → Result FrameView ℕ
+frame_described f payload = map_ok (frame_with f.scid f.vcid) (body_described f payload)
 
 -- ---- from a frame to fields, those that its kind lacks 0, and to where its data stand
 
@@ -96,7 +96,7 @@ frame_read checked octets = numbered fault_number (frame_at (check_if checked) o
 -- the frame that is written where there is so much room
 abbrev pub frame_taken : Bool → CommandFrame → List ℕ → ℕ → Result FrameView ℕ
 frame_taken checked f payload room =
-    and_then (frame_told f payload) (λ view. if_ok
+    and_then (frame_described f payload) (λ view. if_ok
     (numbered fault_number (encode_answer (check_if checked) view room)) view)
 
 -- the declared length of the record that octets begin; 1 Short for fewer than 5
@@ -105,8 +105,8 @@ total_declared checked octets =
     if nat_lt (length octets) 5 then Err 1
     else numbered fault_number (total_at (check_if checked) (take 5 octets))
 
--- what the fields and the octets at the place tell is the frame that was read
-abbrev pub TellsFrame : Bool → List ℕ → CommandFrame → Part → Type 0
-TellsFrame checked octets f part =
+-- what the fields and the octets at the place describe is the frame that was read
+abbrev pub DescribesFrame : Bool → List ℕ → CommandFrame → Part → Type 0
+DescribesFrame checked octets f part =
     (view : FrameView) → frame_read checked octets ≡ Ok view
-    → frame_told f (take part.count (drop part.from octets)) ≡ Ok view
+    → frame_described f (take part.count (drop part.from octets)) ≡ Ok view

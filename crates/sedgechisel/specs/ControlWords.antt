@@ -8,7 +8,7 @@ use Rattle.clcw.specs.Writing as writing
 use Rattle.sedgechisel.specs.declared.control_word.ControlWord.{ControlWord}
 use Rattle.sedgechisel.specs.Answers.{wrong_count, numbered}
 
--- the word that the fields tell
+-- the word that the fields describe
 abbrev pub word_of : ControlWord → Clcw
 word_of w = record {
   status =
@@ -19,7 +19,7 @@ word_of w = record {
   value = w.value;
 }
 
--- the fields that tell the word
+-- the fields that describe the word
 abbrev pub fields_of : Clcw → ControlWord
 fields_of w =
     record {

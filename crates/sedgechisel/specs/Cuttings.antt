@@ -14,9 +14,9 @@ use Rattle.sedgechisel.specs.Answers.{damaged, and_then}
 abbrev pub absent : ℕ
 absent = 253
 
--- the limits that the fields tell; any MAP will do, and it stands as MAP 0
-abbrev pub limits_told : CutLimits → Result Limits ℕ
-limits_told l =
+-- the limits that the fields describe; any MAP will do, and it stands as MAP 0
+abbrev pub limits_described : CutLimits → Result Limits ℕ
+limits_described l =
     if nat_lt 0 l.part && nat_lt l.blocking 2
     then Ok (record {
       part =
@@ -32,23 +32,23 @@ unless_fault None segments = Ok segments
 unless_fault (Some fault) segments = Err (fault_number fault)
 
 -- the segments of the octets
-abbrev pub segments_told : CutLimits → List ℕ → Result (List SegmentView) ℕ
-segments_told l octets =
-    and_then (limits_told l) (λ limits. unless_fault (cut_fault limits octets)
+abbrev pub segments_described : CutLimits → List ℕ → Result (List SegmentView) ℕ
+segments_described l octets =
+    and_then (limits_described l) (λ limits. unless_fault (cut_fault limits octets)
     (segments_of limits.part 0 octets))
 
 abbrev pub if_there : Option SegmentView → Result SegmentView ℕ
 if_there (Some segment) = Ok segment
 if_there None = Err absent
 
-abbrev pub segment_told : CutLimits → List ℕ → ℕ → Result SegmentView ℕ
-segment_told l octets k =
-    and_then (segments_told l octets) (λ segments. if_there (slice_get segments k))
+abbrev pub segment_described : CutLimits → List ℕ → ℕ → Result SegmentView ℕ
+segment_described l octets k =
+    and_then (segments_described l octets) (λ segments. if_there (slice_get segments k))
 
 -- these are the segment's data, where there is one
-abbrev pub TellsSegment : Result SegmentView ℕ → List ℕ → Type 0
-TellsSegment (Ok segment) octets = octets ≡ segment.payload
-TellsSegment (Err number) octets = Unit {0}
+abbrev pub DescribesSegment : Result SegmentView ℕ → List ℕ → Type 0
+DescribesSegment (Ok segment) octets = octets ≡ segment.payload
+DescribesSegment (Err number) octets = Unit {0}
 
 -- ---- places
 

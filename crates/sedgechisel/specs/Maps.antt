@@ -16,7 +16,7 @@ use Rattle.sedgechisel.specs.declared.part.Part.{Part}
 use Rattle.sedgechisel.specs.Answers.{damaged}
 use Rattle.sedgechisel.specs.Numbers.{cause_number}
 
--- ---- what the structs tell
+-- ---- what the structs describe
 
 -- a MAP has such fields, with this many octets of memory
 abbrev pub is_map : KeptMap → ℕ → Bool
@@ -49,19 +49,19 @@ cause_answer (Some cause) = cause_number cause
 
 -- the packets that are whole now: one at the beginning of the memory, or those of the segment's
 -- data
-abbrev pub packets_told : TakenSegment → List ℕ → List ℕ → List (List ℕ)
-packets_told t memory octets =
+abbrev pub packets_described : TakenSegment → List ℕ → List ℕ → List (List ℕ)
+packets_described t memory octets =
     if t.place == 1 then take t.count memory ∷ []
     else if t.place == 2 then packets_in (take t.count octets)
     else []
 
--- the outcome that the structs and the octets tell
-abbrev pub outcome_told : KeptMap → TakenSegment → List ℕ → List ℕ → TakeOutcome
-outcome_told m t memory octets =
+-- the outcome that the structs and the octets describe
+abbrev pub outcome_described : KeptMap → TakenSegment → List ℕ → List ℕ → TakeOutcome
+outcome_described m t memory octets =
     record {
       dropped =
           cause_at t.dropped;
-      packets = packets_told t memory octets;
+      packets = packets_described t memory octets;
       part = part_of m memory;
     }
 
@@ -86,10 +86,10 @@ taken_at m flags octets memory =
     (segment_with (flags_at flags) 0 octets))
     else Err damaged
 
--- the structs and the octets tell the outcome, where there is one
-abbrev pub TellsOutcome : Result TakeOutcome ℕ → TakeOutcome → Type 0
-TellsOutcome (Ok o) told = told ≡ o
-TellsOutcome (Err number) told = Unit {0}
+-- the structs and the octets describe the outcome, where there is one
+abbrev pub DescribesOutcome : Result TakeOutcome ℕ → TakeOutcome → Type 0
+DescribesOutcome (Ok o) described = described ≡ o
+DescribesOutcome (Err number) described = Unit {0}
 
 -- where the packet stands that octets begin with after a part
 abbrev pub part_behind : ℕ → Option (List ℕ) → Option Part
@@ -105,8 +105,8 @@ part_or None old = old
 part_or (Some part) old = part
 
 -- the packet after a part, and those after it, are the packets after the part
-abbrev pub TellsPackets : List ℕ → Part → Part → Bool → Type 0
-TellsPackets octets old new true =
+abbrev pub DescribesPackets : List ℕ → Part → Part → Bool → Type 0
+DescribesPackets octets old new true =
     packets_in (drop (old.from + old.count) octets)
     ≡ take new.count (drop new.from octets) ∷ packets_in (drop (new.from + new.count) octets)
-TellsPackets octets old new false = packets_in (drop (old.from + old.count) octets) ≡ []
+DescribesPackets octets old new false = packets_in (drop (old.from + old.count) octets) ≡ []

@@ -9,9 +9,9 @@ use Rattle.sedgechisel.specs.declared.packet.PacketFields.{PacketFields}
 use Rattle.sedgechisel.specs.declared.part.Part.{Part}
 use Rattle.sedgechisel.specs.Answers.{damaged, numbered, and_then, if_ok}
 
--- the packet that the fields and the data tell; kind 0 is telemetry, 1 telecommand
-abbrev pub packet_told : PacketFields → List ℕ → Result PacketView ℕ
-packet_told p payload =
+-- the packet that the fields and the data describe; kind 0 is telemetry, 1 telecommand
+abbrev pub packet_described : PacketFields → List ℕ → Result PacketView ℕ
+packet_described p payload =
     if nat_lt p.kind 2 && nat_lt p.secondary 2 then Ok (record {
       kind = kind_at p.kind;
       secondary = p.secondary == 1;
@@ -22,7 +22,7 @@ packet_told p payload =
     })
     else Err damaged
 
--- the fields that tell the packet
+-- the fields that describe the packet
 abbrev pub fields_of : PacketView → PacketFields
 fields_of p = record {
   apid = p.apid;
@@ -45,7 +45,7 @@ packet_read octets = numbered fault_number (packet_at octets)
 -- the packet that is written where there is so much room
 abbrev pub packet_taken : PacketFields → List ℕ → ℕ → Result PacketView ℕ
 packet_taken p payload room =
-    and_then (packet_told p payload) (λ view. if_ok
+    and_then (packet_described p payload) (λ view. if_ok
     (numbered fault_number (encode_answer view room)) view)
 
 -- the declared length of the packet that octets begin; 1 Truncated for fewer than 6
@@ -54,8 +54,8 @@ total_declared octets =
     if nat_lt (length octets) 6 then Err 1
     else numbered fault_number (extent_at (take 6 octets))
 
--- what the fields and the octets at the place tell is the packet that was read
-abbrev pub TellsPacket : List ℕ → PacketFields → Part → Type 0
-TellsPacket octets p part =
+-- what the fields and the octets at the place describe is the packet that was read
+abbrev pub DescribesPacket : List ℕ → PacketFields → Part → Type 0
+DescribesPacket octets p part =
     (view : PacketView) (n : ℕ) → packet_read octets ≡ Ok (view, n)
-    → packet_told p (take part.count (drop part.from octets)) ≡ Ok view
+    → packet_described p (take part.count (drop part.from octets)) ≡ Ok view

@@ -42,7 +42,7 @@ farm_of r = record {
   farm_b = r.farm_b;
 }
 
--- the fields that tell a receiver
+-- the fields that describe a receiver
 abbrev pub receiver_of : FarmState → Receiver
 receiver_of s = record {
   width = s.width;
@@ -53,17 +53,17 @@ receiver_of s = record {
   farm_b = s.farm_b;
 }
 
--- the receiver that the fields tell
-abbrev pub farm_told : Receiver → Result FarmState ℕ
-farm_told r = if is_whole r then Ok (farm_of r) else Err damaged
+-- the receiver that the fields describe
+abbrev pub farm_described : Receiver → Result FarmState ℕ
+farm_described r = if is_whole r then Ok (farm_of r) else Err damaged
 
 -- a new receiver, where the width is one; 1 Width
 abbrev pub farm_opened : ℕ → ℕ → Result FarmState ℕ
 farm_opened width vr = if is_width width then Ok (new_farm width vr) else Err 1
 
--- the receiver that the fields tell, after an event
+-- the receiver that the fields describe, after an event
 abbrev pub farm_stepped : Receiver → FarmEvent → Result FarmState ℕ
-farm_stepped r event = map_ok (λ s. farm_step s event) (farm_told r)
+farm_stepped r event = map_ok (λ s. farm_step s event) (farm_described r)
 
 -- what the receiver reports for a virtual channel; 5 Range where that is 64 or more
 abbrev pub farm_report : Receiver → ℕ → Result Clcw ℕ

@@ -53,7 +53,7 @@ control_vr (Sent Unlock) = 0
 control_vr (Due (SetVr vr)) = vr
 control_vr (Sent (SetVr vr)) = vr
 
--- the fields that tell a sender
+-- the fields that describe a sender
 abbrev pub kept_of : SenderFields → KeptSender
 kept_of s = record {
   timer = s.timer;
@@ -122,9 +122,9 @@ fields_with k (Some state) (Some waiting) None = Err damaged
 fields_with k (Some state) None control = Err damaged
 fields_with k None waiting control = Err damaged
 
--- the numbers that the fields tell
-abbrev pub fields_told : KeptSender → Result SenderFields ℕ
-fields_told k = fields_with k (mode_at k.state) (flag_at k.waiting) (control_at k.control k.vr)
+-- the numbers that the fields describe
+abbrev pub fields_described : KeptSender → Result SenderFields ℕ
+fields_described k = fields_with k (mode_at k.state) (flag_at k.waiting) (control_at k.control k.vr)
 
 -- the ranges of a sender's numbers
 abbrev pub has_ranges : SenderFields → Bool
@@ -154,14 +154,14 @@ agrees_in s S6 = (s.sent == 0) && not s.waiting && not (is_some s.ticks) && is_i
 abbrev pub is_sender : SenderFields → Bool
 is_sender s = has_ranges s && agrees_in s s.state
 
--- the sender that the fields tell
-abbrev pub sender_told : KeptSender → Result SenderFields ℕ
-sender_told k = and_then (fields_told k) (λ s. if is_sender s then Ok s else Err damaged)
+-- the sender that the fields describe
+abbrev pub sender_described : KeptSender → Result SenderFields ℕ
+sender_described k = and_then (fields_described k) (λ s. if is_sender s then Ok s else Err damaged)
 
--- the fields tell this sender, where there is one
-abbrev pub AreTold : KeptSender → Result SenderFields ℕ → Type 0
-AreTold k (Ok s) = sender_told k ≡ Ok s
-AreTold k (Err number) = Unit {0}
+-- the fields describe this sender, where there is one
+abbrev pub AreDescribed : KeptSender → Result SenderFields ℕ → Type 0
+AreDescribed k (Ok s) = sender_described k ≡ Ok s
+AreDescribed k (Err number) = Unit {0}
 
 -- ---- the calls
 
@@ -174,10 +174,10 @@ abbrev pub sender_opened : ℕ → ℕ → ℕ → ℕ → Result SenderFields �
 sender_opened width window limit timer =
     unless_refused (new_fault width window limit timer) (new_sender width window limit timer)
 
--- what an input leads to at the sender that the fields tell
+-- what an input leads to at the sender that the fields describe
 abbrev pub stepped : (k : KeptSender) (input : SenderInput)
     → Result (SenderOutcome (SenderAnswer input)) ℕ
-stepped k input = map_ok (λ s. sender_step s input) (sender_told k)
+stepped k input = map_ok (λ s. sender_step s input) (sender_described k)
 
 -- the sender after an input
 abbrev pub after_step : KeptSender → SenderInput → Result SenderFields ℕ

@@ -8,9 +8,9 @@ use Rattle.sedgechisel.specs.declared.report_frame.ReportFrame.{ReportFrame}
 use Rattle.sedgechisel.specs.declared.part.Part.{Part}
 use Rattle.sedgechisel.specs.Answers.{numbered, if_ok}
 
--- the frame that the fields and the data tell; the pointer is as the header has it
-abbrev pub frame_told : ReportFrame → List ℕ → FrameView
-frame_told f payload = record {
+-- the frame that the fields and the data describe; the pointer is as the header has it
+abbrev pub frame_described : ReportFrame → List ℕ → FrameView
+frame_described f payload = record {
   scid = f.scid;
   vcid = f.vcid;
   mc_count = f.mc_count;
@@ -20,7 +20,7 @@ frame_told f payload = record {
   ocf = f.ocf;
 }
 
--- the fields that tell the frame
+-- the fields that describe the frame
 abbrev pub fields_of : FrameView → ReportFrame
 fields_of f = record {
   scid = f.scid;
@@ -43,10 +43,11 @@ frame_read total octets = numbered fault_number (frame_at total octets)
 -- the frame that is written where there is so much room
 abbrev pub frame_taken : ReportFrame → List ℕ → ℕ → Result FrameView ℕ
 frame_taken f payload room =
-    if_ok (numbered fault_number (encode_answer (frame_told f payload) room)) (frame_told f payload)
+    if_ok (numbered fault_number (encode_answer (frame_described f payload) room))
+    (frame_described f payload)
 
--- what the fields and the octets at the place tell is the frame that was read
-abbrev pub TellsFrame : ℕ → List ℕ → ReportFrame → Part → Type 0
-TellsFrame total octets f part =
+-- what the fields and the octets at the place describe is the frame that was read
+abbrev pub DescribesFrame : ℕ → List ℕ → ReportFrame → Part → Type 0
+DescribesFrame total octets f part =
     (view : FrameView) → frame_read total octets ≡ Ok view
-    → frame_told f (take part.count (drop part.from octets)) ≡ view
+    → frame_described f (take part.count (drop part.from octets)) ≡ view

@@ -5,7 +5,7 @@ ghost use Rattle.tc_frame.specs.declared.frame.SegmentFlags.TheVariants as flags
 ghost use Rattle.map_service.specs.Adding.{adding_fault};
 ghost use Rattle.map_service.specs.Taking.{cell};
 ghost use Rattle.sedgechisel.specs.Answers.{status_of};
-ghost use Rattle.sedgechisel.specs.Maps.{is_map, interrupted, part_of, limits_of, cause_answer, closed, no_packets, outcome_told, taken_at, TellsOutcome, next_packet, part_or, TellsPackets};
+ghost use Rattle.sedgechisel.specs.Maps.{is_map, interrupted, part_of, limits_of, cause_answer, closed, no_packets, outcome_described, taken_at, DescribesOutcome, next_packet, part_or, DescribesPackets};
 
 use crate::numbers::DAMAGED;
 use crate::part::Part;
@@ -44,8 +44,8 @@ pub extern "C" fn sedge_map_take(
     taken: &mut TakenSegment,
 ) -> u8
     ensures answer { result ≡ status_of (taken_at map.old flags octets.now memory.old) }
-    ensures tells { TellsOutcome (taken_at map.old flags octets.now memory.old)
-        (outcome_told map.new taken.new memory.new octets.now) }
+    ensures describes { DescribesOutcome (taken_at map.old flags octets.now memory.old)
+        (outcome_described map.new taken.new memory.new octets.now) }
     ensures map { OnOk (taken_at map.old flags octets.now memory.old)
         (is_map map.new (length memory.old) ≡ true) }
     ensures unchanged { OnErr (taken_at map.old flags octets.now memory.old)
@@ -83,7 +83,7 @@ fn take_cell(
     memory: &mut [u8],
 ) -> TakenSegment
     requires whole { is_map map.old (length memory.old) ≡ true }
-    ensures tells { outcome_told map.new result memory.new octets.now
+    ensures describes { outcome_described map.new result memory.new octets.now
         ≡ cell (limits_of map.old (length memory.old)) flags (part_of map.old memory.old)
         octets.now }
     ensures map { is_map map.new (length memory.old) ≡ true }
@@ -140,7 +140,7 @@ fn interruption(map: &KeptMap) -> Option<Dropped>
 
 fn take_alone(map: &mut KeptMap, octets: &[u8], memory: &[u8]) -> TakenSegment
     requires whole { is_map map.old (length memory.now) ≡ true }
-    ensures tells { outcome_told map.new result memory.now octets.now
+    ensures describes { outcome_described map.new result memory.now octets.now
         ≡ cell (limits_of map.old (length memory.now)) flags.Alone (part_of map.old memory.now)
         octets.now }
     ensures map { is_map map.new (length memory.now) ≡ true }
@@ -160,7 +160,7 @@ fn take_alone(map: &mut KeptMap, octets: &[u8], memory: &[u8]) -> TakenSegment
 
 fn take_first(map: &mut KeptMap, octets: &[u8], memory: &mut [u8]) -> TakenSegment
     requires whole { is_map map.old (length memory.old) ≡ true }
-    ensures tells { outcome_told map.new result memory.new octets.now
+    ensures describes { outcome_described map.new result memory.new octets.now
         ≡ cell (limits_of map.old (length memory.old)) flags.First (part_of map.old memory.old)
         octets.now }
     ensures map { is_map map.new (length memory.old) ≡ true }
@@ -207,7 +207,7 @@ fn fault_of_adding(map: &KeptMap, octets: &[u8], memory: &[u8]) -> Option<Droppe
 
 fn take_continuing(map: &mut KeptMap, octets: &[u8], memory: &mut [u8]) -> TakenSegment
     requires whole { is_map map.old (length memory.old) ≡ true }
-    ensures tells { outcome_told map.new result memory.new octets.now
+    ensures describes { outcome_described map.new result memory.new octets.now
         ≡ cell (limits_of map.old (length memory.old)) flags.Continuing (part_of map.old memory.old)
         octets.now }
     ensures map { is_map map.new (length memory.old) ≡ true }
@@ -222,7 +222,7 @@ fn take_continuing(map: &mut KeptMap, octets: &[u8], memory: &mut [u8]) -> Taken
 
 fn take_last(map: &mut KeptMap, octets: &[u8], memory: &mut [u8]) -> TakenSegment
     requires whole { is_map map.old (length memory.old) ≡ true }
-    ensures tells { outcome_told map.new result memory.new octets.now
+    ensures describes { outcome_described map.new result memory.new octets.now
         ≡ cell (limits_of map.old (length memory.old)) flags.Last (part_of map.old memory.old)
         octets.now }
     ensures map { is_map map.new (length memory.old) ≡ true }
@@ -251,7 +251,7 @@ fn take_last(map: &mut KeptMap, octets: &[u8], memory: &mut [u8]) -> TakenSegmen
 pub extern "C" fn sedge_map_packet(octets: &[u8], packet: &mut Part) -> bool
     ensures found { result ≡ is_some (next_packet octets.now packet.old) }
     ensures packet { packet.new ≡ part_or (next_packet octets.now packet.old) packet.old }
-    ensures tells { TellsPackets octets.now packet.old packet.new result }
+    ensures describes { DescribesPackets octets.now packet.old packet.new result }
 {
     if packet.from > octets.len() || packet.count > octets.len() - packet.from {
         return false;

@@ -6,7 +6,7 @@ ghost use Rattle.tc_frame.specs.Layout.{body_view, frame_view, segment_view};
 ghost use Rattle.tc_frame.specs.Splitting.{check_if};
 ghost use Rattle.tc_frame.specs.Writing.{total_of, spelling};
 ghost use Rattle.sedgechisel.specs.Answers.{status_of, left_by};
-ghost use Rattle.sedgechisel.specs.Commands.{segment_told, command_told, body_told, frame_told, fields_of, part_of, part_with, frame_read, frame_taken, total_declared, TellsFrame};
+ghost use Rattle.sedgechisel.specs.Commands.{segment_described, command_described, body_described, frame_described, fields_of, part_of, part_with, frame_read, frame_taken, total_declared, DescribesFrame};
 
 use crate::numbers::DAMAGED;
 use crate::part::Part;
@@ -45,7 +45,7 @@ pub extern "C" fn sedge_tc_decode(
     ensures payload { payload.new ≡ left_by part_of (frame_read checked octets.now) payload.old }
 
     // So `sedge_tc_encode` writes this frame from the fields and the data there.
-    ensures tells { TellsFrame checked octets.now frame.new payload.new }
+    ensures describes { DescribesFrame checked octets.now frame.new payload.new }
 {
     match tc_frame::decode(octets, check_if(checked)) {
         Ok(found) => {
@@ -57,8 +57,8 @@ pub extern "C" fn sedge_tc_decode(
     }
 }
 
-/// Writes the frame that the fields and the data tell at the beginning of `out`, with its check or without, and says
-/// how many octets it has. Answers 0, or 11 `FieldRange`, or 10 `Room`, or 255 where the fields tell no frame.
+/// Writes the frame that the fields and the data describe at the beginning of `out`, with its check or without, and says
+/// how many octets it has. Answers 0, or 11 `FieldRange`, or 10 `Room`, or 255 where the fields describe no frame.
 #[unsafe(no_mangle)]
 pub extern "C" fn sedge_tc_encode(
     frame: &CommandFrame,
@@ -76,7 +76,7 @@ pub extern "C" fn sedge_tc_encode(
         (frame_taken checked frame.now payload.now (length out.old)) out.old }
 {
     match frame_from(frame, payload) {
-        Ok(told) => match tc_frame::encode(&told, check_if(checked), out) {
+        Ok(described) => match tc_frame::encode(&described, check_if(checked), out) {
             Ok(count) => {
                 *total = count;
                 0
@@ -114,7 +114,7 @@ pub extern "C" fn sedge_tc_declared(octets: &[u8], checked: bool, total: &mut us
 // ---- from fields and data to a frame
 
 fn frame_from<'a>(fields: &CommandFrame, payload: &'a [u8]) -> Result<TcFrame<'a>, u8>
-    ensures { map_ok frame_view result ≡ frame_told fields.now payload.now }
+    ensures { map_ok frame_view result ≡ frame_described fields.now payload.now }
 {
     let body = body_from(fields, payload)?;
     Ok(TcFrame {
@@ -125,7 +125,7 @@ fn frame_from<'a>(fields: &CommandFrame, payload: &'a [u8]) -> Result<TcFrame<'a
 }
 
 fn body_from<'a>(fields: &CommandFrame, payload: &'a [u8]) -> Result<Body<'a>, u8>
-    ensures { map_ok body_view result ≡ body_told fields.now payload.now }
+    ensures { map_ok body_view result ≡ body_described fields.now payload.now }
 {
     match fields.kind {
         0 => Ok(Body::Ad {
@@ -141,7 +141,7 @@ fn body_from<'a>(fields: &CommandFrame, payload: &'a [u8]) -> Result<Body<'a>, u
 }
 
 fn segment_from<'a>(fields: &CommandFrame, payload: &'a [u8]) -> Result<Segment<'a>, u8>
-    ensures { map_ok segment_view result ≡ segment_told fields.now payload.now }
+    ensures { map_ok segment_view result ≡ segment_described fields.now payload.now }
 {
     if fields.flags >= 4 {
         return Err(DAMAGED);
@@ -156,7 +156,7 @@ fn segment_from<'a>(fields: &CommandFrame, payload: &'a [u8]) -> Result<Segment<
 }
 
 fn command_from<'a>(fields: &CommandFrame) -> Result<Body<'a>, u8>
-    ensures { map_ok body_view result ≡ command_told fields.now }
+    ensures { map_ok body_view result ≡ command_described fields.now }
 {
     match fields.command {
         0 => Ok(Body::Bc(Command::Unlock)),

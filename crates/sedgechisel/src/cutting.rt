@@ -5,7 +5,7 @@ ghost use Rattle.tc_frame.specs.Layout.{flags_code};
 ghost use Rattle.map_service.specs.Cutting.{parts_of, segments_of};
 ghost use Rattle.map_service.specs.Packets.{rest_in};
 ghost use Rattle.sedgechisel.specs.Answers.{status_of, left_by};
-ghost use Rattle.sedgechisel.specs.Cuttings.{limits_told, segments_told, segment_told, segment_in, segment_at, TellsSegment};
+ghost use Rattle.sedgechisel.specs.Cuttings.{limits_described, segments_described, segment_described, segment_in, segment_at, DescribesSegment};
 
 use crate::numbers::{ABSENT, DAMAGED};
 use crate::part::Part;
@@ -34,12 +34,12 @@ struct Place {
 /// `TooLong`.
 #[unsafe(no_mangle)]
 pub extern "C" fn sedge_map_count(octets: &[u8], limits: &CutLimits, segments: &mut usize) -> u8
-    ensures answer { result ≡ status_of (segments_told limits.now octets.now) }
+    ensures answer { result ≡ status_of (segments_described limits.now octets.now) }
     ensures segments { segments.new
-        ≡ left_by length (segments_told limits.now octets.now) segments.old }
+        ≡ left_by length (segments_described limits.now octets.now) segments.old }
 {
     match limits_from(limits) {
-        Ok(told) => match segment_count(octets, &told) {
+        Ok(described) => match segment_count(octets, &described) {
             Ok(count) => {
                 *segments = count;
                 0
@@ -60,16 +60,16 @@ pub extern "C" fn sedge_map_segment(
     flags: &mut u8,
     payload: &mut Part,
 ) -> u8
-    ensures answer { result ≡ status_of (segment_told limits.now octets.now k) }
+    ensures answer { result ≡ status_of (segment_described limits.now octets.now k) }
     ensures flags { flags.new
-        ≡ left_by (λ s. flags_code s.header.flags) (segment_told limits.now octets.now k) flags.old }
-    ensures tells { TellsSegment (segment_told limits.now octets.now k)
+        ≡ left_by (λ s. flags_code s.header.flags) (segment_described limits.now octets.now k) flags.old }
+    ensures describes { DescribesSegment (segment_described limits.now octets.now k)
         (take payload.new.count (drop payload.new.from octets.now)) }
-    ensures unchanged { OnErr (segment_told limits.now octets.now k) (payload.new ≡ payload.old) }
+    ensures unchanged { OnErr (segment_described limits.now octets.now k) (payload.new ≡ payload.old) }
 {
     match limits_from(limits) {
-        Ok(told) => match segment_count(octets, &told) {
-            Ok(_) => match place_in(octets, told.part as usize, k) {
+        Ok(described) => match segment_count(octets, &described) {
+            Ok(_) => match place_in(octets, described.part as usize, k) {
                 Some(place) => {
                     *flags = place.flags.code();
                     *payload = Part {
@@ -87,7 +87,7 @@ pub extern "C" fn sedge_map_segment(
 }
 
 fn limits_from(limits: &CutLimits) -> Result<Limits, u8>
-    ensures { result ≡ limits_told limits.now }
+    ensures { result ≡ limits_described limits.now }
 {
     if limits.part == 0 || limits.blocking >= 2 {
         return Err(DAMAGED);

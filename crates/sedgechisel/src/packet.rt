@@ -5,7 +5,7 @@ ghost use Rattle.octets.specs.Outcome.{map_ok};
 ghost use Rattle.space_packet.specs.Layout.{packet_view, type_bit, secondary_bit};
 ghost use Rattle.space_packet.specs.Writing.{total_of, spelling};
 ghost use Rattle.sedgechisel.specs.Answers.{status_of, left_by};
-ghost use Rattle.sedgechisel.specs.Packets.{packet_told, fields_of, part_of, packet_read, packet_taken, total_declared, TellsPacket};
+ghost use Rattle.sedgechisel.specs.Packets.{packet_described, fields_of, part_of, packet_read, packet_taken, total_declared, DescribesPacket};
 
 use crate::numbers::DAMAGED;
 use crate::part::Part;
@@ -39,7 +39,7 @@ pub extern "C" fn sedge_packet_decode(
         ≡ left_by (λ found. part_of found.0) (packet_read octets.now) payload.old }
 
     // So `sedge_packet_encode` writes this packet from the fields and the data there.
-    ensures tells { TellsPacket octets.now packet.new payload.new }
+    ensures describes { DescribesPacket octets.now packet.new payload.new }
 {
     match space_packet::decode(octets) {
         Ok((found, _)) => {
@@ -54,8 +54,8 @@ pub extern "C" fn sedge_packet_decode(
     }
 }
 
-/// Writes the packet that the fields and the data tell at the beginning of `out`, and says how many octets it has.
-/// Answers 0, or 5 `FieldRange`, or 4 `Room`, or 255 where the fields tell no packet.
+/// Writes the packet that the fields and the data describe at the beginning of `out`, and says how many octets it has.
+/// Answers 0, or 5 `FieldRange`, or 4 `Room`, or 255 where the fields describe no packet.
 #[unsafe(no_mangle)]
 pub extern "C" fn sedge_packet_encode(
     packet: &PacketFields,
@@ -70,7 +70,7 @@ pub extern "C" fn sedge_packet_encode(
         (packet_taken packet.now payload.now (length out.old)) out.old }
 {
     match packet_from(packet, payload) {
-        Ok(told) => match space_packet::encode(&told, out) {
+        Ok(described) => match space_packet::encode(&described, out) {
             Ok(count) => {
                 *total = count;
                 0
@@ -101,7 +101,7 @@ pub extern "C" fn sedge_packet_declared(octets: &[u8], total: &mut usize) -> u8
 }
 
 fn packet_from<'a>(fields: &PacketFields, payload: &'a [u8]) -> Result<Packet<'a>, u8>
-    ensures { map_ok packet_view result ≡ packet_told fields.now payload.now }
+    ensures { map_ok packet_view result ≡ packet_described fields.now payload.now }
 {
     if fields.kind >= 2 || fields.secondary >= 2 {
         return Err(DAMAGED);

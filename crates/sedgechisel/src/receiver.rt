@@ -5,7 +5,7 @@ ghost use Rattle.cop1.specs.Farm.{AdArrives, BdArrives, UnlockArrives, SetVrArri
 ghost use Rattle.octets.specs.Outcome.{map_ok};
 ghost use Rattle.sedgechisel.specs.Answers.{status_of, left_by};
 ghost use Rattle.sedgechisel.specs.ControlWords.{fields_of};
-ghost use Rattle.sedgechisel.specs.Receivers.{is_whole, farm_of, receiver_of, farm_told, farm_opened, farm_stepped, farm_report, answer_of, verdict_number, mode_number, flag_number};
+ghost use Rattle.sedgechisel.specs.Receivers.{is_whole, farm_of, receiver_of, farm_described, farm_opened, farm_stepped, farm_report, answer_of, verdict_number, mode_number, flag_number};
 
 use crate::control_word::{ControlWord, fields_from};
 use crate::numbers::DAMAGED;
@@ -44,11 +44,11 @@ pub extern "C" fn sedge_farm_open(receiver: &mut Receiver, width: u8, vr: u8) ->
 #[unsafe(no_mangle)]
 pub extern "C" fn sedge_farm_ad(receiver: &mut Receiver, n: u8, buffer_free: bool) -> u8
     ensures answer { result ≡ answer_of verdict_number
-        (map_ok (λ s. verdict_of s n buffer_free) (farm_told receiver.old)) }
+        (map_ok (λ s. verdict_of s n buffer_free) (farm_described receiver.old)) }
     ensures receiver { receiver.new
         ≡ left_by receiver_of (farm_stepped receiver.old (AdArrives n buffer_free)) receiver.old }
 {
-    match told(receiver) {
+    match described(receiver) {
         Some(mut farm) => {
             let verdict = farm.ad(n, buffer_free);
             match verdict {
@@ -73,11 +73,11 @@ pub extern "C" fn sedge_farm_ad(receiver: &mut Receiver, n: u8, buffer_free: boo
 /// A Type-BD frame has come.
 #[unsafe(no_mangle)]
 pub extern "C" fn sedge_farm_bd(receiver: &mut Receiver) -> u8
-    ensures answer { result ≡ status_of (farm_told receiver.old) }
+    ensures answer { result ≡ status_of (farm_described receiver.old) }
     ensures receiver { receiver.new
         ≡ left_by receiver_of (farm_stepped receiver.old BdArrives) receiver.old }
 {
-    match told(receiver) {
+    match described(receiver) {
         Some(mut farm) => {
             farm.bd();
             *receiver = kept(&farm);
@@ -90,11 +90,11 @@ pub extern "C" fn sedge_farm_bd(receiver: &mut Receiver) -> u8
 /// The control command Unlock has come.
 #[unsafe(no_mangle)]
 pub extern "C" fn sedge_farm_unlock(receiver: &mut Receiver) -> u8
-    ensures answer { result ≡ status_of (farm_told receiver.old) }
+    ensures answer { result ≡ status_of (farm_described receiver.old) }
     ensures receiver { receiver.new
         ≡ left_by receiver_of (farm_stepped receiver.old UnlockArrives) receiver.old }
 {
-    match told(receiver) {
+    match described(receiver) {
         Some(mut farm) => {
             farm.unlock();
             *receiver = kept(&farm);
@@ -107,11 +107,11 @@ pub extern "C" fn sedge_farm_unlock(receiver: &mut Receiver) -> u8
 /// The control command Set V(R) has come.
 #[unsafe(no_mangle)]
 pub extern "C" fn sedge_farm_set_vr(receiver: &mut Receiver, vr: u8) -> u8
-    ensures answer { result ≡ status_of (farm_told receiver.old) }
+    ensures answer { result ≡ status_of (farm_described receiver.old) }
     ensures receiver { receiver.new
         ≡ left_by receiver_of (farm_stepped receiver.old (SetVrArrives vr)) receiver.old }
 {
-    match told(receiver) {
+    match described(receiver) {
         Some(mut farm) => {
             farm.set_vr(vr);
             *receiver = kept(&farm);
@@ -124,11 +124,11 @@ pub extern "C" fn sedge_farm_set_vr(receiver: &mut Receiver, vr: u8) -> u8
 /// There is room on board again.
 #[unsafe(no_mangle)]
 pub extern "C" fn sedge_farm_released(receiver: &mut Receiver) -> u8
-    ensures answer { result ≡ status_of (farm_told receiver.old) }
+    ensures answer { result ≡ status_of (farm_described receiver.old) }
     ensures receiver { receiver.new
         ≡ left_by receiver_of (farm_stepped receiver.old BufferReleased) receiver.old }
 {
-    match told(receiver) {
+    match described(receiver) {
         Some(mut farm) => {
             farm.released();
             *receiver = kept(&farm);
@@ -145,7 +145,7 @@ pub extern "C" fn sedge_farm_report(receiver: &Receiver, vcid: u8, word: &mut Co
     ensures answer { result ≡ status_of (farm_report receiver.now vcid) }
     ensures word { word.new ≡ left_by fields_of (farm_report receiver.now vcid) word.old }
 {
-    match told(receiver) {
+    match described(receiver) {
         Some(farm) => {
             if vcid >= 64 {
                 return ClcwFault::Range.number();
@@ -160,9 +160,9 @@ pub extern "C" fn sedge_farm_report(receiver: &Receiver, vcid: u8, word: &mut Co
 /// The receiver's state: 0 Open, 1 Wait, 2 Lockout, or 255 where it is damaged.
 #[unsafe(no_mangle)]
 pub extern "C" fn sedge_farm_state(receiver: &Receiver) -> u8
-    ensures { result ≡ answer_of mode_number (map_ok (λ s. s.state) (farm_told receiver.now)) }
+    ensures { result ≡ answer_of mode_number (map_ok (λ s. s.state) (farm_described receiver.now)) }
 {
-    match told(receiver) {
+    match described(receiver) {
         Some(farm) => number_of_mode(farm.state()),
         None => DAMAGED,
     }
@@ -204,9 +204,9 @@ fn kept(farm: &Farm) -> Receiver
     }
 }
 
-// The receiver that the fields tell, unless they are damaged.
+// The receiver that the fields describe, unless they are damaged.
 #[inline(always)]
-fn told(fields: &Receiver) -> Option<Farm>
+fn described(fields: &Receiver) -> Option<Farm>
     ensures whole { IsSome result ↔ IsTrue (is_whole fields.now) }
     ensures farm { IfSome result (λ f. f ≡ farm_of fields.now) }
 {

@@ -5,7 +5,7 @@ ghost use Rattle.tm_link.specs.Layout.{frame_view, pointer_number, pointer_fits}
 ghost use Rattle.tm_link.specs.Reading.{pointer_at};
 ghost use Rattle.tm_link.specs.Writing.{total_of, spelling};
 ghost use Rattle.sedgechisel.specs.Answers.{status_of, left_by};
-ghost use Rattle.sedgechisel.specs.Telemetry.{frame_told, fields_of, part_of, frame_read, frame_taken, TellsFrame};
+ghost use Rattle.sedgechisel.specs.Telemetry.{frame_described, fields_of, part_of, frame_read, frame_taken, DescribesFrame};
 
 use crate::part::Part;
 use tm_link::{Pointer, TmFrame};
@@ -37,7 +37,7 @@ pub extern "C" fn sedge_tm_decode(
     ensures payload { payload.new ≡ left_by part_of (frame_read length octets.now) payload.old }
 
     // So `sedge_tm_encode` writes this frame from the fields and the data there.
-    ensures tells { TellsFrame length octets.now frame.new payload.new }
+    ensures describes { DescribesFrame length octets.now frame.new payload.new }
 {
     match tm_link::decode(octets, length) {
         Ok(found) => {
@@ -52,7 +52,7 @@ pub extern "C" fn sedge_tm_decode(
     }
 }
 
-/// Writes the frame that the fields and the data tell at the beginning of `out`, and says how many octets it has.
+/// Writes the frame that the fields and the data describe at the beginning of `out`, and says how many octets it has.
 /// Answers 0, or 10 `FieldRange`, or 9 `Room`.
 #[unsafe(no_mangle)]
 pub extern "C" fn sedge_tm_encode(
@@ -77,7 +77,7 @@ pub extern "C" fn sedge_tm_encode(
 }
 
 fn frame_from<'a>(fields: &ReportFrame, payload: &'a [u8]) -> TmFrame<'a>
-    ensures { frame_view result ≡ frame_told fields.now payload.now }
+    ensures { frame_view result ≡ frame_described fields.now payload.now }
 {
     TmFrame {
         scid: fields.scid,

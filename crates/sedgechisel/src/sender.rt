@@ -1,19 +1,19 @@
 // The sender, FOP-1, whose numbers the caller keeps.
 
+mod describing;
 mod directing;
-mod telling;
 
 ghost use Rattle.std.specs.Prelude.{◌≡◌};
 ghost use Rattle.cop1.specs.SenderStep.{Submit, Next, Report, Tick};
 ghost use Rattle.sedgechisel.specs.Answers.{status_of, left_by};
 ghost use Rattle.sedgechisel.specs.ControlWords.{word_of};
 ghost use Rattle.sedgechisel.specs.Receivers.{answer_of};
-ghost use Rattle.sedgechisel.specs.Senders.{kept_of, sender_opened, stepped, after_step, submitted, alert_answer, next_answer, next_number, AreTold};
+ghost use Rattle.sedgechisel.specs.Senders.{kept_of, sender_opened, stepped, after_step, submitted, alert_answer, next_answer, next_number, AreDescribed};
 
 use crate::control_word::{ControlWord, word_from};
 use cop1::{Alert, Sender, SenderNext};
+use describing::{described, kept};
 use tc_frame::Command;
-use telling::{kept, told};
 
 /// A sender (CCSDS 232.1-B-2, 5.1): its numbers as `cop1::SenderFields` has them. The ticks are 0 where the timer is
 /// off; the state is 1 for S1 to 6 for S6; the control command is 0 for none, 1 for Unlock that is due and 2 for Unlock
@@ -49,7 +49,7 @@ pub extern "C" fn sedge_fop_open(
     ensures answer { result ≡ status_of (sender_opened width window limit timer) }
     ensures sender { sender.new
         ≡ left_by kept_of (sender_opened width window limit timer) sender.old }
-    ensures tells { AreTold sender.new (sender_opened width window limit timer) }
+    ensures describes { AreDescribed sender.new (sender_opened width window limit timer) }
 {
     match Sender::new(width, window, limit, timer) {
         Ok(opened) => {
@@ -66,9 +66,9 @@ pub extern "C" fn sedge_fop_open(
 pub extern "C" fn sedge_fop_submit(sender: &mut KeptSender) -> u8
     ensures answer { result ≡ status_of (submitted sender.old) }
     ensures sender { sender.new ≡ left_by kept_of (submitted sender.old) sender.old }
-    ensures tells { AreTold sender.new (submitted sender.old) }
+    ensures describes { AreDescribed sender.new (submitted sender.old) }
 {
-    match told(sender) {
+    match described(sender) {
         Ok(mut machine) => match machine.submit() {
             Ok(()) => {
                 *sender = kept(&machine);
@@ -88,9 +88,9 @@ pub extern "C" fn sedge_fop_next(sender: &mut KeptSender, number: &mut u8) -> u8
     ensures number { number.new
         ≡ left_by (λ o. next_number o.answer) (stepped sender.old Next) number.old }
     ensures sender { sender.new ≡ left_by kept_of (after_step sender.old Next) sender.old }
-    ensures tells { AreTold sender.new (after_step sender.old Next) }
+    ensures describes { AreDescribed sender.new (after_step sender.old Next) }
 {
-    match told(sender) {
+    match described(sender) {
         Ok(mut machine) => {
             let next = machine.next();
             *sender = kept(&machine);
@@ -115,9 +115,9 @@ pub extern "C" fn sedge_fop_report(
         ≡ left_by (λ o. o.gone) (stepped sender.old (Report (word_of word.now))) released.old }
     ensures sender { sender.new
         ≡ left_by kept_of (after_step sender.old (Report (word_of word.now))) sender.old }
-    ensures tells { AreTold sender.new (after_step sender.old (Report (word_of word.now))) }
+    ensures describes { AreDescribed sender.new (after_step sender.old (Report (word_of word.now))) }
 {
-    match told(sender) {
+    match described(sender) {
         Ok(mut machine) => {
             let answer = machine.report(&word_from(word));
             *sender = kept(&machine);
@@ -133,9 +133,9 @@ pub extern "C" fn sedge_fop_report(
 pub extern "C" fn sedge_fop_tick(sender: &mut KeptSender) -> u8
     ensures answer { result ≡ answer_of (λ o. alert_answer o.answer) (stepped sender.old Tick) }
     ensures sender { sender.new ≡ left_by kept_of (after_step sender.old Tick) sender.old }
-    ensures tells { AreTold sender.new (after_step sender.old Tick) }
+    ensures describes { AreDescribed sender.new (after_step sender.old Tick) }
 {
-    match told(sender) {
+    match described(sender) {
         Ok(mut machine) => {
             let alert = machine.tick();
             *sender = kept(&machine);

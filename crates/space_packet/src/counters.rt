@@ -28,8 +28,8 @@ impl SequenceCounters {
         SequenceCounters { counts: [0; 2048] }
     }
 
-    /// The count for the next packet of this APID; the one after it is held then. No other APID's
-    /// count changes.
+    /// The count for the next packet of this APID; the one after it is held then (CCSDS 133.0-B-2,
+    /// 4.1.3.4.3). No other APID's count changes.
     pub fn next(&mut self, apid: u16) -> u16
         requires { apid < 2048 }
         ensures count { result ≡ slice_index self.old apid }

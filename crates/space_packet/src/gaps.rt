@@ -26,8 +26,9 @@ impl GapCheck {
         GapCheck { last: [None; 2048] }
     }
 
-    /// Sees a packet of this APID with this count. `None` for the first of the APID; else how many
-    /// are missing before it, (count - last - 1) modulo 16,384. No other APID's last count changes.
+    /// Sees a packet of this APID with this count (CCSDS 133.0-B-2, 4.1.3.4.3). `None` for the
+    /// first of the APID; else how many are missing before it, (count - last - 1) modulo 16,384. No
+    /// other APID's last count changes.
     pub fn see(&mut self, apid: u16, count: u16) -> Option<u16>
         requires { apid < 2048 }
         ensures gap { result ≡ gap_after (get_or self.old apid None) count }

@@ -7,8 +7,8 @@ use crate::layout::Packets;
 use octets::Splitter;
 use std::alloc::Global;
 
-/// Takes a stream of packets apart, however it was cut into pieces. A record is as long as its
-/// header declares, and is not decoded.
+/// Takes a stream of packets apart, however it was cut into pieces (CCSDS 133.0-B-2, 4.1.3). A
+/// record is as long as its header declares, and is not decoded.
 #[derive(Drop)]
 pub struct PacketSplitter {
     splitter: Splitter<Packets>,

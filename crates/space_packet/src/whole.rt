@@ -5,7 +5,8 @@ ghost use Rattle.space_packet.specs.Packets.{first_packet, is_packet};
 
 use crate::decoding::decode;
 
-/// How many octets the packet has that these begin with; `None` where they begin with none.
+/// How many octets the packet has that these begin with; `None` where they begin with none (CCSDS
+/// 133.0-B-2, 4.1.3.5).
 pub fn packet_len(octets: &[u8]) -> Option<usize>
     ensures first { option_map (λ n. take n octets.now) result ≡ first_packet octets.now }
     ensures within { IfSome result (λ n. (1 ≤ n) × (n ≤ length octets.now)) }

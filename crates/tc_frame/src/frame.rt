@@ -23,7 +23,8 @@ impl SegmentFlags {
     ghost use Rattle.tc_frame.specs.Layout.{flags_code};
     ghost use Rattle.tc_frame.specs.Reading.{flags_at};
 
-    /// The two bits in which a segment header has them: 0 continuing, 1 first, 2 last, 3 alone.
+    /// The two bits in which a segment header has them: 0 continuing, 1 first, 2 last, 3 alone
+    /// (CCSDS 232.0-B-4, 4.1.3.2.2.2).
     pub fn code(self) -> u8
         ensures { result ≡ flags_code self }
     {
@@ -69,7 +70,8 @@ impl SegmentHeader {
     }
 }
 
-/// The data field of a Type-D frame: a segment header, and at least one octet after it.
+/// The data field of a Type-D frame: a segment header, and at least one octet after it (CCSDS
+/// 232.0-B-4, 4.1.3.2.2).
 #[derive(Clone, Copy, Debug, PartialEq, Eq)]
 pub struct Segment<'a> {
     pub header: SegmentHeader,

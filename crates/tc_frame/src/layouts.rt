@@ -13,7 +13,7 @@ use crate::fault::TcFault;
 use crate::frame::Check;
 use octets::{Wire, first_two};
 
-/// Frames as records of a stream, with or without their check.
+/// Frames as records of a stream, with or without their check (CCSDS 232.0-B-4, 4.1).
 #[derive(Clone, Copy, Debug, PartialEq, Eq)]
 pub struct FrameLayout<const CHECKED: bool>;
 

@@ -7,8 +7,8 @@ use octets::{Splitter, Wire};
 use std::alloc::Global;
 
 /// Takes a stream of frames apart, with (`TcSplitter<Checked>`) or without their check
-/// (`TcSplitter<Unchecked>`), however it was cut into pieces. A record is as long as its head
-/// declares, and is not decoded.
+/// (`TcSplitter<Unchecked>`), however it was cut into pieces (CCSDS 232.0-B-4, 4.1.2.7). A record
+/// is as long as its head declares, and is not decoded.
 #[derive(Drop)]
 pub struct TcSplitter<C: Wire<Fault = TcFault>> {
     splitter: Splitter<C>,

@@ -75,9 +75,9 @@ impl TmBuilder {
         })
     }
 
-    /// Queues the packet after those that are to be sent. Refuses by 8 `NotAPacket` octets that are
-    /// not exactly one packet, or an idle packet, and then by 7 `Memory`; the builder is as it was
-    /// then.
+    /// Queues the packet after those that are to be sent (CCSDS 132.0-B-3, 4.2.2). Refuses by 8
+    /// `NotAPacket` octets that are not exactly one packet, or an idle packet, and then by 7
+    /// `Memory`; the builder is as it was then.
     pub fn queue(&mut self, packet: &[u8]) -> Result<(), TmFault>
         ensures ok { OnOk result (self.new ≡ after_queue self.old packet.now) }
         ensures taken { OnOk result (IsTrue (is_to_send packet.now)) }
@@ -104,7 +104,8 @@ impl TmBuilder {
     }
 
     /// Writes the next frame, with this operational control field, at the beginning of `out`, and
-    /// says how many octets it has: as many as all frames. Octets past it stay.
+    /// says how many octets it has: as many as all frames (CCSDS 132.0-B-3, 4.1). Octets past it
+    /// stay.
     pub fn build(&mut self, ocf: [u8; 4], out: &mut [u8; 2048]) -> usize
         ensures count { result ≡ self.old.total }
         ensures frame { out.new ≡ spelling (build_step self.old ocf).0 ++ drop result out.old }

@@ -10,14 +10,14 @@ use crate::decoding::low_eleven;
 use octets::{Wire, first_two};
 use space_packet::Packets;
 
-/// How octets from a packet's start on end.
+/// Where octets end that begin with the start of a packet.
 #[derive(Clone, Copy, Debug, PartialEq, Eq)]
 pub(crate) enum Ending {
     /// With the packet.
     Whole,
     /// Before its end.
     Short,
-    /// Behind its end, or its header is refused.
+    /// After its end, or its header is refused.
     Wrong,
 }
 

@@ -53,8 +53,8 @@ impl Extractor {
     }
 
     /// Takes the next frame that came, appends the packets that are finished with it, and says how
-    /// many frames are missing before it. All growths are made first: at 7 `Memory` the extractor
-    /// and the packets are as they were.
+    /// many frames are missing before it (CCSDS 132.0-B-3, 4.3.2). All growths are made first: at 7
+    /// `Memory` the extractor and the packets are as they were.
     pub fn frame(&mut self, frame: &TmFrame, packets: &mut Vec<Vec<u8>>) -> Result<Gap, TmFault>
         requires { IsTrue (pointer_fits frame.now.pointer (length frame.now.payload.now)) }
         ensures gap { IfOk result (λ gap. gap

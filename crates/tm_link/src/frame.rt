@@ -37,8 +37,8 @@ pub struct TmFrame<'a> {
 }
 
 impl<'a> TmFrame<'a> {
-    /// The report in the operational control field, as the control word's own decoder reads it:
-    /// 1 Kind, 2 Version, 3 Cop, 4 Spare.
+    /// The report in the operational control field, as the control word's own decoder reads it: 1
+    /// Kind, 2 Version, 3 Cop, 4 Spare (CCSDS 232.0-B-4, 4.2.1).
     pub fn report(&self) -> Result<Clcw, ClcwFault>
         ensures { result ≡ clcw_at self.now.ocf }
     {

@@ -46,8 +46,9 @@ impl<U: Drop> Fop<U> {
     ghost use Rattle.cop1.specs.FopStep.{fop_step, Pull};
 
     /// Takes what goes on the link next, by the first rule that applies: the control command of S5,
-    /// where it is due; the oldest bypass unit; in S1 and S2 the oldest unit that is marked to be sent
-    /// again; in S1 and S2 the unit that waits, where the window has room for it.
+    /// where it is due; the oldest bypass unit; in S1 and S2 the oldest unit that is marked to be
+    /// sent again; in S1 and S2 the unit that waits, where the window has room for it (CCSDS
+    /// 232.1-B-2, 5.2).
     pub fn next(&mut self) -> Next<U>
         ensures after { self.new ≡ (fop_step self.old Pull).after }
         ensures answer { seen_at (units_of self.new.sent) result ≡ (fop_step self.old Pull).answer }

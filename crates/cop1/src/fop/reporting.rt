@@ -8,7 +8,8 @@ impl<U: Drop> Fop<U> {
     ghost use Rattle.std.specs.Prelude.{◌≡◌};
     ghost use Rattle.cop1.specs.FopStep.{fop_step, Report};
 
-    /// The control word of a report has come; an alert where the sender gives up.
+    /// The control word of a report has come; an alert where the sender gives up (CCSDS 232.1-B-2,
+    /// table 5-1).
     pub fn clcw(&mut self, report: &Clcw) -> Option<Alert>
         ensures after { self.new ≡ (fop_step self.old (Report report.now)).after }
         ensures alert { result ≡ (fop_step self.old (Report report.now)).answer }

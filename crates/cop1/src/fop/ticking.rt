@@ -7,7 +7,8 @@ impl<U: Drop> Fop<U> {
     ghost use Rattle.std.specs.Prelude.{◌≡◌};
     ghost use Rattle.cop1.specs.FopStep.{fop_step, Tick};
 
-    /// A tick of the clock has passed; an alert where the sender gives up.
+    /// A tick of the clock has passed; an alert where the sender gives up (CCSDS 232.1-B-2, table
+    /// 5-1).
     pub fn tick(&mut self) -> Option<Alert>
         ensures after { self.new ≡ (fop_step self.old Tick).after }
         ensures alert { result ≡ (fop_step self.old Tick).answer }

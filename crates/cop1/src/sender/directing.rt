@@ -13,9 +13,9 @@ impl Sender {
     ghost use Rattle.cop1.specs.SenderDirective.{after_begin};
     ghost use Rattle.cop1.specs.SenderStep.{sender_step, Direct};
 
-    /// Follows a directive; the alert is that of `Terminate`, and all units are let go of. 2 Window,
-    /// 3 Limit, 4 Timer for a value out of its range, and 8 WrongState: an initiation and `SetVs` are
-    /// followed in S6 alone, `Terminate` in S1 to S5.
+    /// Follows a directive; the alert is that of `Terminate`, and all units are let go of (CCSDS
+    /// 232.1-B-2, table 5-1). 2 Window, 3 Limit, 4 Timer for a value out of its range, and 8
+    /// WrongState: an initiation and `SetVs` are followed in S6 alone, `Terminate` in S1 to S5.
     pub fn directive(&mut self, directive: Directive) -> Result<Option<Alert>, CopFault>
         ensures after { self.new ≡ (sender_step self.old (Direct directive)).after }
         ensures answer { result ≡ (sender_step self.old (Direct directive)).answer }

@@ -25,7 +25,7 @@ impl Sender {
     ghost use Rattle.cop1.specs.SenderStep.{sender_step, Report};
     ghost use Rattle.cop1.specs.SenderWords.{is_outside, alerts};
 
-    /// The control word of a report has come.
+    /// The control word of a report has come (CCSDS 232.1-B-2, table 5-1).
     pub fn report(&mut self, report: &Clcw) -> ReportAnswer
         ensures after { self.new ≡ (sender_step self.old (Report report.now)).after }
         ensures answer { result ≡ report_answer (sender_step self.old (Report report.now)) }

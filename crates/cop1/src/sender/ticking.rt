@@ -9,7 +9,8 @@ impl Sender {
     ghost use Rattle.cop1.specs.SenderTick.{timer_ended};
     ghost use Rattle.cop1.specs.SenderStep.{sender_step, Tick};
 
-    /// A tick of the clock has passed; an alert where the sender gives up, and all units are let go of.
+    /// A tick of the clock has passed; an alert where the sender gives up, and all units are let go
+    /// of (CCSDS 232.1-B-2, table 5-1).
     pub fn tick(&mut self) -> Option<Alert>
         ensures after { self.new ≡ (sender_step self.old Tick).after }
         ensures alert { result ≡ (sender_step self.old Tick).answer }

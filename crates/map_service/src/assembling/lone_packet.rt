@@ -1,7 +1,7 @@
 // Segments that are handed out as they came.
 
 ghost use Rattle.std.specs.Prelude.{◌≡◌, if◌then◌else◌, Some, None, option_map};
-ghost use Rattle.map_service.specs.Taking.{lone_packet_cell};
+ghost use Rattle.map_service.specs.LonePacket.{lone_packet_cell};
 ghost use Rattle.map_service.specs.Views.{part_view};
 
 use super::Assembler;
@@ -13,7 +13,7 @@ impl Assembler {
     ghost use Rattle.std.specs.Prelude.{IfSome, IsSome};
     ghost use Rattle.tc_frame.specs.Layout.{segment_view};
     ghost use Rattle.map_service.specs.Exactness.{lone_packet, step_at, after_step};
-    ghost use Rattle.map_service.specs.Taking.{packet_outcome};
+    ghost use Rattle.map_service.specs.LonePacket.{packet_outcome};
 
     /// The packet that an alone segment is, in the segment's own octets, where `take` would hand out
     /// just this, drop nothing and change nothing, so that the segment need not be taken: its MAP is

@@ -14,7 +14,7 @@ impl Ground {
 
     /// Takes octets that came from the spacecraft: exactly one telemetry frame (CCSDS 132.0-B-3, 4.1).
     /// The packets that it finishes wait to be taken, and the report that it carries goes to the sender
-    /// where it tells of this virtual channel. The fault is 6 `Memory`; all growths are made first, so
+    /// where it is of this virtual channel. The fault is 6 `Memory`; all growths are made first, so
     /// that the ground is as it was then.
     pub fn telemetry(&mut self, octets: &[u8]) -> Result<Heard, LinkFault>
         ensures answer { IfOk result

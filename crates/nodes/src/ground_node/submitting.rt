@@ -12,10 +12,11 @@ impl Ground {
     ghost use Rattle.std.specs.Prelude.{◌≡◌, Err, None, Ok, IfSome, OnOk, OnErr, IsOkUnless};
     ghost use Rattle.nodes.specs.Ground.{ground_step, Submit, Bypass, submit_fault, after_submission, bypass_fault};
 
-    /// Submits command packets on a MAP, to be sent under sequence control: exactly one packet, or with
-    /// blocking one or more, one after another. The first that applies: 1 `NotOpen` (in S6), 2
-    /// `ClosedMap`, 3 `NotCommand`, 4 `TooLong`, 5 `QueueFull` (more segments than the queue slots would
-    /// wait to be sent), 6 `Memory`; and then the ground is as it was.
+    /// Submits command packets on a MAP, to be sent under sequence control: exactly one packet, or
+    /// with blocking one or more, one after another (CCSDS 232.0-B-4, 4.3). The first that applies:
+    /// 1 `NotOpen` (in S6), 2 `ClosedMap`, 3 `NotCommand`, 4 `TooLong`, 5 `QueueFull` (more
+    /// segments than the queue slots would wait to be sent), 6 `Memory`; and then the ground is as
+    /// it was.
     pub fn submit(&mut self, map: u8, octets: &[u8]) -> Result<(), LinkFault>
         ensures after { OnOk result
             (self.new ≡ (ground_step self.old (Submit map octets.now)).after) }
@@ -77,9 +78,10 @@ impl Ground {
         None
     }
 
-    /// Submits one command packet on a MAP, to be sent past the sequence control, in any state. The
-    /// first that applies: 2 `ClosedMap`, 3 `NotCommand`, 4 `TooLong` (longer than a packet or than a
-    /// segment may be), 5 `QueueFull`, 6 `Memory`; and then the ground is as it was.
+    /// Submits one command packet on a MAP, to be sent past the sequence control, in any state
+    /// (CCSDS 232.0-B-4, 4.3). The first that applies: 2 `ClosedMap`, 3 `NotCommand`, 4 `TooLong`
+    /// (longer than a packet or than a segment may be), 5 `QueueFull`, 6 `Memory`; and then the
+    /// ground is as it was.
     pub fn bypass(&mut self, map: u8, octets: &[u8]) -> Result<(), LinkFault>
         ensures after { OnOk result
             (self.new ≡ (ground_step self.old (Bypass map octets.now)).after) }

@@ -3,10 +3,10 @@
 ghost use Rattle.std.specs.Prelude.{◌≡◌};
 ghost use Rattle.cop1.specs.declared.fop.Directive.{Directive};
 ghost use Rattle.sedgechisel.specs.Answers.{status_of, left_by};
-ghost use Rattle.sedgechisel.specs.Senders.{kept_of, directed, AreTold};
+ghost use Rattle.sedgechisel.specs.Senders.{kept_of, directed, AreDescribed};
 
 use super::KeptSender;
-use super::telling::{kept, told};
+use super::describing::{described, kept};
 use cop1::Directive;
 
 /// Initiates without a check of the report.
@@ -16,7 +16,7 @@ pub extern "C" fn sedge_fop_init_without_check(sender: &mut KeptSender) -> u8
     ensures answer { result ≡ status_of (directed sender.old Directive.InitWithoutCheck) }
     ensures sender { sender.new
         ≡ left_by kept_of (directed sender.old Directive.InitWithoutCheck) sender.old }
-    ensures tells { AreTold sender.new (directed sender.old Directive.InitWithoutCheck) }
+    ensures describes { AreDescribed sender.new (directed sender.old Directive.InitWithoutCheck) }
 {
     direct(sender, Directive::InitWithoutCheck)
 }
@@ -28,7 +28,7 @@ pub extern "C" fn sedge_fop_init_with_check(sender: &mut KeptSender) -> u8
     ensures answer { result ≡ status_of (directed sender.old Directive.InitWithCheck) }
     ensures sender { sender.new
         ≡ left_by kept_of (directed sender.old Directive.InitWithCheck) sender.old }
-    ensures tells { AreTold sender.new (directed sender.old Directive.InitWithCheck) }
+    ensures describes { AreDescribed sender.new (directed sender.old Directive.InitWithCheck) }
 {
     direct(sender, Directive::InitWithCheck)
 }
@@ -40,7 +40,7 @@ pub extern "C" fn sedge_fop_init_unlock(sender: &mut KeptSender) -> u8
     ensures answer { result ≡ status_of (directed sender.old Directive.InitUnlock) }
     ensures sender { sender.new
         ≡ left_by kept_of (directed sender.old Directive.InitUnlock) sender.old }
-    ensures tells { AreTold sender.new (directed sender.old Directive.InitUnlock) }
+    ensures describes { AreDescribed sender.new (directed sender.old Directive.InitUnlock) }
 {
     direct(sender, Directive::InitUnlock)
 }
@@ -52,7 +52,7 @@ pub extern "C" fn sedge_fop_init_set_vr(sender: &mut KeptSender, vr: u8) -> u8
     ensures answer { result ≡ status_of (directed sender.old (Directive.InitSetVr vr)) }
     ensures sender { sender.new
         ≡ left_by kept_of (directed sender.old (Directive.InitSetVr vr)) sender.old }
-    ensures tells { AreTold sender.new (directed sender.old (Directive.InitSetVr vr)) }
+    ensures describes { AreDescribed sender.new (directed sender.old (Directive.InitSetVr vr)) }
 {
     direct(sender, Directive::InitSetVr(vr))
 }
@@ -63,7 +63,7 @@ pub extern "C" fn sedge_fop_terminate(sender: &mut KeptSender) -> u8
     ensures answer { result ≡ status_of (directed sender.old Directive.Terminate) }
     ensures sender { sender.new
         ≡ left_by kept_of (directed sender.old Directive.Terminate) sender.old }
-    ensures tells { AreTold sender.new (directed sender.old Directive.Terminate) }
+    ensures describes { AreDescribed sender.new (directed sender.old Directive.Terminate) }
 {
     direct(sender, Directive::Terminate)
 }
@@ -74,7 +74,7 @@ pub extern "C" fn sedge_fop_set_vs(sender: &mut KeptSender, vs: u8) -> u8
     ensures answer { result ≡ status_of (directed sender.old (Directive.SetVs vs)) }
     ensures sender { sender.new
         ≡ left_by kept_of (directed sender.old (Directive.SetVs vs)) sender.old }
-    ensures tells { AreTold sender.new (directed sender.old (Directive.SetVs vs)) }
+    ensures describes { AreDescribed sender.new (directed sender.old (Directive.SetVs vs)) }
 {
     direct(sender, Directive::SetVs(vs))
 }
@@ -86,7 +86,7 @@ pub extern "C" fn sedge_fop_set_window(sender: &mut KeptSender, window: u8) -> u
     ensures answer { result ≡ status_of (directed sender.old (Directive.SetWindow window)) }
     ensures sender { sender.new
         ≡ left_by kept_of (directed sender.old (Directive.SetWindow window)) sender.old }
-    ensures tells { AreTold sender.new (directed sender.old (Directive.SetWindow window)) }
+    ensures describes { AreDescribed sender.new (directed sender.old (Directive.SetWindow window)) }
 {
     direct(sender, Directive::SetWindow(window))
 }
@@ -97,7 +97,7 @@ pub extern "C" fn sedge_fop_set_limit(sender: &mut KeptSender, limit: u8) -> u8
     ensures answer { result ≡ status_of (directed sender.old (Directive.SetLimit limit)) }
     ensures sender { sender.new
         ≡ left_by kept_of (directed sender.old (Directive.SetLimit limit)) sender.old }
-    ensures tells { AreTold sender.new (directed sender.old (Directive.SetLimit limit)) }
+    ensures describes { AreDescribed sender.new (directed sender.old (Directive.SetLimit limit)) }
 {
     direct(sender, Directive::SetLimit(limit))
 }
@@ -108,7 +108,7 @@ pub extern "C" fn sedge_fop_set_timer(sender: &mut KeptSender, timer: u16) -> u8
     ensures answer { result ≡ status_of (directed sender.old (Directive.SetTimer timer)) }
     ensures sender { sender.new
         ≡ left_by kept_of (directed sender.old (Directive.SetTimer timer)) sender.old }
-    ensures tells { AreTold sender.new (directed sender.old (Directive.SetTimer timer)) }
+    ensures describes { AreDescribed sender.new (directed sender.old (Directive.SetTimer timer)) }
 {
     direct(sender, Directive::SetTimer(timer))
 }
@@ -116,9 +116,9 @@ pub extern "C" fn sedge_fop_set_timer(sender: &mut KeptSender, timer: u16) -> u8
 fn direct(sender: &mut KeptSender, directive: Directive) -> u8
     ensures answer { result ≡ status_of (directed sender.old directive) }
     ensures sender { sender.new ≡ left_by kept_of (directed sender.old directive) sender.old }
-    ensures tells { AreTold sender.new (directed sender.old directive) }
+    ensures describes { AreDescribed sender.new (directed sender.old directive) }
 {
-    match told(sender) {
+    match described(sender) {
         Ok(mut machine) => match machine.directive(directive) {
             Ok(_) => {
                 *sender = kept(&machine);

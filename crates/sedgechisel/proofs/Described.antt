@@ -68,7 +68,7 @@ payload_again : (n : ℕ) (b p : List ℕ) (x y : ℕ) → drop 4 (take n b) ≡
 payload_again n b p x y h = front_again 6 n b p [] (sym (drop_two (take n b)) ∙ ap (drop 2) h ∙ sym (append-nil p))
 
 ad_again : (scid vcid n map : ℕ) (flags : SegmentFlags) (p : List ℕ)
-    → commands.frame_told (fields_with scid vcid
+    → commands.frame_described (fields_with scid vcid
     (Ad n (record { header = record { flags = flags; map = map }; payload = p }))) p
     ≡ Ok (frame_with scid vcid (Ad n (record { header = record { flags = flags; map = map }; payload = p })))
 ad_again scid vcid n map First p = refl
@@ -77,7 +77,7 @@ ad_again scid vcid n map Last p = refl
 ad_again scid vcid n map Alone p = refl
 
 bd_again : (scid vcid map : ℕ) (flags : SegmentFlags) (p : List ℕ)
-    → commands.frame_told (fields_with scid vcid
+    → commands.frame_described (fields_with scid vcid
     (Bd (record { header = record { flags = flags; map = map }; payload = p }))) p
     ≡ Ok (frame_with scid vcid (Bd (record { header = record { flags = flags; map = map }; payload = p })))
 bd_again scid vcid map First p = refl
@@ -86,49 +86,49 @@ bd_again scid vcid map Last p = refl
 bd_again scid vcid map Alone p = refl
 
 body_again : (scid vcid n : ℕ) (b : List ℕ) (body : BodyView) → drop 4 (take n b) ≡ body_octets body
-    → commands.frame_told (fields_with scid vcid body) (take (part_with body).count (drop (part_with body).from b))
+    → commands.frame_described (fields_with scid vcid body) (take (part_with body).count (drop (part_with body).from b))
     ≡ Ok (frame_with scid vcid body)
 body_again scid vcid n b (Ad m s) h =
-    ap (commands.frame_told (fields_with scid vcid (Ad m s))) (payload_again n b s.payload _ _ h)
+    ap (commands.frame_described (fields_with scid vcid (Ad m s))) (payload_again n b s.payload _ _ h)
     ∙ ad_again scid vcid m s.header.map s.header.flags s.payload
 body_again scid vcid n b (Bd s) h =
-    ap (commands.frame_told (fields_with scid vcid (Bd s))) (payload_again n b s.payload _ _ h)
+    ap (commands.frame_described (fields_with scid vcid (Bd s))) (payload_again n b s.payload _ _ h)
     ∙ bd_again scid vcid s.header.map s.header.flags s.payload
 body_again scid vcid n b (Bc Unlock) h = refl
 body_again scid vcid n b (Bc (SetVr x)) h = refl
 
 pub command_again : (checked : Bool) (b : List ℕ) (view : tc.FrameView) → IsOctets b
     → commands.frame_read checked b ≡ Ok view
-    → commands.frame_told (commands.fields_of view)
+    → commands.frame_described (commands.fields_of view)
     (take (commands.part_of view).count (drop (commands.part_of view).from b)) ≡ Ok view
 command_again checked b view octets h =
     let is = tc_frames.frame_is (check_if checked) b view octets (read_ok _ _ view h) in
     body_again view.scid view.vcid (length b - check_length (check_if checked)) b view.body is.rest
 
-found_tells : (checked : Bool) (b : List ℕ) (found : tc.FrameView) → IsOctets b
+found_describes : (checked : Bool) (b : List ℕ) (found : tc.FrameView) → IsOctets b
     → commands.frame_read checked b ≡ Ok found
-    → commands.TellsFrame checked b (commands.fields_of found) (commands.part_of found)
-found_tells checked b found octets h view k =
+    → commands.DescribesFrame checked b (commands.fields_of found) (commands.part_of found)
+found_describes checked b found octets h view k =
     let same : found ≡ view = cc in
-    subst (λ (v : tc.FrameView). commands.frame_told (commands.fields_of found)
+    subst (λ (v : tc.FrameView). commands.frame_described (commands.fields_of found)
     (take (commands.part_of found).count (drop (commands.part_of found).from b)) ≡ Ok v) same
     (command_again checked b found octets h)
 
-pub command_tells : (checked : Bool) (check : Check) (b : List ℕ) (r : Result TcFrame TcFault) (f : TcFrame)
+pub command_describes : (checked : Bool) (check : Check) (b : List ℕ) (r : Result TcFrame TcFault) (f : TcFrame)
     (fields : CommandFrame) (part : Part)
     → IsOctets b → check ≡ check_if checked → map_ok tc.frame_view r ≡ tc_reading.frame_at check b → r ≡ Ok f
     → fields ≡ commands.fields_of (tc.frame_view f) → part ≡ commands.part_of (tc.frame_view f)
-    → commands.TellsFrame checked b fields part
-command_tells checked check b r f fields part octets on answer is same there =
+    → commands.DescribesFrame checked b fields part
+command_describes checked check b r f fields part octets on answer is same there =
     let read : commands.frame_read checked b ≡ Ok (tc.frame_view f) =
     ap (λ (c : Check). numbered tc_faults.fault_number (tc_reading.frame_at c b)) (sym on)
     ∙ ap (numbered tc_faults.fault_number) (sym answer ∙ ap (map_ok tc.frame_view) is) in
-    rw (same, there) (found_tells checked b (tc.frame_view f) octets read)
+    rw (same, there) (found_describes checked b (tc.frame_view f) octets read)
 
 -- ---- telemetry frames
 
 found_reports : (total : ℕ) (b : List ℕ) (found : tm.FrameView) → IsOctets b → telemetry.frame_read total b ≡ Ok found
-    → telemetry.TellsFrame total b (telemetry.fields_of found) (telemetry.part_of found)
+    → telemetry.DescribesFrame total b (telemetry.fields_of found) (telemetry.part_of found)
 found_reports total b found octets h view k =
     let is = tm_frames.frame_is total b found octets (read_ok _ _ found h) in
     let again = tm_frames.pointer_again found.pointer (total - 12) (omega (arith, is.most)) is.pointer in
@@ -137,11 +137,11 @@ found_reports total b found octets h view k =
     let same : found ≡ view = cc in
     rw (part, again.again) same
 
-pub report_tells : (total : ℕ) (b : List ℕ) (r : Result TmFrame TmFault) (f : TmFrame) (fields : ReportFrame)
+pub report_describes : (total : ℕ) (b : List ℕ) (r : Result TmFrame TmFault) (f : TmFrame) (fields : ReportFrame)
     → IsOctets b → map_ok tm.frame_view r ≡ tm_reading.frame_at total b → r ≡ Ok f
     → fields ≡ telemetry.fields_of (tm.frame_view f)
-    → telemetry.TellsFrame total b fields (telemetry.part_of (tm.frame_view f))
-report_tells total b r f fields octets answer is same =
+    → telemetry.DescribesFrame total b fields (telemetry.part_of (tm.frame_view f))
+report_describes total b r f fields octets answer is same =
     let read : telemetry.frame_read total b ≡ Ok (tm.frame_view f) =
     ap (numbered tm_faults.fault_number) (sym answer ∙ ap (map_ok tm.frame_view) is) in
     rw same (found_reports total b (tm.frame_view f) octets read)

@@ -1,19 +1,19 @@
-// The sender that fields tell, and the fields that tell a sender.
+// The sender that fields describe, and the fields that describe a sender.
 
 ghost use Rattle.std.specs.Prelude.{◌≡◌, Ok};
 ghost use Rattle.sedgechisel.specs.Receivers.{flag_number};
-ghost use Rattle.sedgechisel.specs.Senders.{mode_number, ticks_number, control_number, control_vr, kept_of, mode_at, ticks_at, control_at, flag_at, fields_told, sender_told};
+ghost use Rattle.sedgechisel.specs.Senders.{mode_number, ticks_number, control_number, control_vr, kept_of, mode_at, ticks_at, control_at, flag_at, fields_described, sender_described};
 
 use super::KeptSender;
 use crate::numbers::DAMAGED;
 use cop1::{Control, FopMode, Sender, SenderFields};
 use tc_frame::Command;
 
-// The sender that the fields tell, unless they are damaged.
+// The sender that the fields describe, unless they are damaged.
 #[inline(always)]
-#[tactic(auto, using(crate::proofs::Kept::told_none))]
-pub(super) fn told(sender: &KeptSender) -> Result<Sender, u8>
-    ensures { result ≡ sender_told sender.now }
+#[tactic(auto, using(crate::proofs::Kept::described_none))]
+pub(super) fn described(sender: &KeptSender) -> Result<Sender, u8>
+    ensures { result ≡ sender_described sender.now }
 {
     let Ok(fields) = fields_from(sender) else {
         return Err(DAMAGED);
@@ -26,10 +26,10 @@ pub(super) fn told(sender: &KeptSender) -> Result<Sender, u8>
 
 // What C keeps of a sender.
 #[inline(always)]
-#[tactic(auto, using(crate::proofs::Kept::kept_tells))]
+#[tactic(auto, using(crate::proofs::Kept::kept_describes))]
 pub(super) fn kept(machine: &Sender) -> KeptSender
     ensures fields { result ≡ kept_of machine.now }
-    ensures tells { sender_told result ≡ Ok machine.now }
+    ensures describes { sender_described result ≡ Ok machine.now }
 {
     fields_with(machine.fields())
 }
@@ -56,7 +56,7 @@ fn fields_with(fields: SenderFields) -> KeptSender
 }
 
 fn fields_from(sender: &KeptSender) -> Result<SenderFields, u8>
-    ensures { result ≡ fields_told sender.now }
+    ensures { result ≡ fields_described sender.now }
 {
     let Some(state) = mode_from(sender.state) else {
         return Err(DAMAGED);

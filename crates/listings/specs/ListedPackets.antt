@@ -26,13 +26,13 @@ accepted_in check r (o ∷ os) =
     as_list (segment_in r (frame_at check o)) ++ accepted_in check (farms.after_record check r o) os
 
 -- the packets whose lines a segment has, where it is one of MAP m
-abbrev pub told_at : ℕ → AssemblerState → Option SegmentView → List (List ℕ)
-told_at m a None = []
-told_at m a (Some s) = if s.header.map == m then (step_at a s).packets else []
+abbrev pub listed_at : ℕ → AssemblerState → Option SegmentView → List (List ℕ)
+listed_at m a None = []
+listed_at m a (Some s) = if s.header.map == m then (step_at a s).packets else []
 
 -- the packets whose lines these records have, of those on MAP m
-abbrev pub told_on : Check → ℕ → MapState → List (List ℕ) → List (List ℕ)
-told_on check m x [] = []
-told_on check m x (o ∷ os) =
-    told_at m x.assembler (segment_in x.receiver (frame_at check o))
-    ++ told_on check m (after_record check x o) os
+abbrev pub listed_on : Check → ℕ → MapState → List (List ℕ) → List (List ℕ)
+listed_on check m x [] = []
+listed_on check m x (o ∷ os) =
+    listed_at m x.assembler (segment_in x.receiver (frame_at check o))
+    ++ listed_on check m (after_record check x o) os

@@ -14,13 +14,13 @@ use Rattle.map_service.proofs.Places.{no_parts}
 use Rattle.map_service.proofs.Steps.{taken_exactly}
 use Rattle.listings.specs.FarmLines as farms
 use Rattle.listings.specs.MapLines.{MapState, map_limits, map_opened, segment_of, assembler_after, after_frame}
-use Rattle.listings.specs.ToldPackets.{segment_in, as_list, accepted_in, told_at, told_on}
+use Rattle.listings.specs.ListedPackets.{segment_in, as_list, accepted_in, listed_at, listed_on}
 
 -- one segment more gives what is listed at it
-told_once : (m : ℕ) (a : AssemblerState) (segments : List SegmentView) (s : SegmentView)
+listed_once : (m : ℕ) (a : AssemblerState) (segments : List SegmentView) (s : SegmentView)
     → IsTakenExactly (after_step a s) segments s (step_at a s).packets
-    → assembled a.limits m (segments ++ s ∷ []) ≡ assembled a.limits m segments ++ told_at m a (Some s)
-told_once m a segments s exact =
+    → assembled a.limits m (segments ++ s ∷ []) ≡ assembled a.limits m segments ++ listed_at m a (Some s)
+listed_once m a segments s exact =
     let given : List (List ℕ) = (step_at a s).packets in
     let same : eqb s.header.map s.header.map ≡ true = eq-eqb s.header.map s.header.map refl in
     elim (cases_eq m s.header.map) [
@@ -38,14 +38,14 @@ module _ (check : Check) (m : ℕ) where
   IsTold records =
       (x : MapState) (segments : List SegmentView) → length x.assembler.parts ≡ 64 → HasPartsOf x.assembler segments
       → assembled x.assembler.limits m (segments ++ accepted_in check x.receiver records)
-      ≡ assembled x.assembler.limits m segments ++ told_on check m x records
+      ≡ assembled x.assembler.limits m segments ++ listed_on check m x records
 
   behind_segment : (records : List (List ℕ)) → IsTold records
       → (r : FarmState) (a : AssemblerState) (segments : List SegmentView) → length a.parts ≡ 64 → HasPartsOf a segments
       → (o : Option SegmentView)
       → assembled a.limits m (segments ++ (as_list o ++ accepted_in check r records))
       ≡ assembled a.limits m segments
-      ++ (told_at m a o ++ told_on check m (record { receiver = r; assembler = assembler_after a o }) records)
+      ++ (listed_at m a o ++ listed_on check m (record { receiver = r; assembler = assembler_after a o }) records)
   behind_segment records told r a segments count has None =
       told (record { receiver = r; assembler = a }) segments count has
   behind_segment records told r a segments count has (Some s) =
@@ -54,8 +54,8 @@ module _ (check : Check) (m : ℕ) where
       let accepted : List SegmentView = accepted_in check r records in
       let more = told x (segments ++ s ∷ []) (length-set a.parts s.header.map (step_at a s).part ∙ count) exact.kept in
       ap (assembled a.limits m) (sym (append_assoc segments (s ∷ []) accepted)) ∙ more
-      ∙ ap (λ (ps : List (List ℕ)). ps ++ told_on check m x records) (told_once m a segments s exact)
-      ∙ append_assoc (assembled a.limits m segments) (told_at m a (Some s)) (told_on check m x records)
+      ∙ ap (λ (ps : List (List ℕ)). ps ++ listed_on check m x records) (listed_once m a segments s exact)
+      ∙ append_assoc (assembled a.limits m segments) (listed_at m a (Some s)) (listed_on check m x records)
 
   behind_record : (records : List (List ℕ)) → IsTold records → (x : MapState) (segments : List SegmentView)
       → length x.assembler.parts ≡ 64 → HasPartsOf x.assembler segments
@@ -63,7 +63,7 @@ module _ (check : Check) (m : ℕ) where
       → assembled x.assembler.limits m (segments
       ++ (as_list (segment_in x.receiver f) ++ accepted_in check (farms.after_frame x.receiver f) records))
       ≡ assembled x.assembler.limits m segments
-      ++ (told_at m x.assembler (segment_in x.receiver f) ++ told_on check m (after_frame x f) records)
+      ++ (listed_at m x.assembler (segment_in x.receiver f) ++ listed_on check m (after_frame x f) records)
   behind_record records told x segments count has (Ok f) =
       behind_segment records told (farms.after_body x.receiver f.body) x.assembler segments count has
       (segment_of x.receiver f.body)
@@ -81,10 +81,10 @@ module _ (check : Check) (m : ℕ) where
 
   -- and so from the first frame on
   pub told_of_all : (width vr : ℕ) (blocking : Bool) (records : List (List ℕ))
-      → told_on check m (map_opened width vr blocking) records
+      → listed_on check m (map_opened width vr blocking) records
       ≡ assembled (map_limits blocking) m (accepted_in check (new_farm width vr) records)
   told_of_all width vr blocking records =
       let nothing : Option (List ℕ) = None in
       let x : MapState = map_opened width vr blocking in
       sym (is_told records x [] (length-replicate 64 nothing) (no_parts (map_limits blocking))
-      ∙ ap (λ (ps : List (List ℕ)). ps ++ told_on check m x records) (none_either (is_open (map_limits blocking) m)))
+      ∙ ap (λ (ps : List (List ℕ)). ps ++ listed_on check m x records) (none_either (is_open (map_limits blocking) m)))
