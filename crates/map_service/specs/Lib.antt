@@ -1,9 +1,11 @@
 pub mod Adding
 pub mod Assembly
+pub mod AtOnce
 pub mod Causes
 pub mod Cutting
 pub mod Exactness
 pub mod Faults
+pub mod LonePacket
 pub mod Packets
 pub mod Taking
 pub mod Views
