@@ -226,7 +226,7 @@ enum sedge_alert {
     SEDGE_ALERT_LOCKOUT = 1,   /* a report has the lockout flag */
     SEDGE_ALERT_NNR = 2,       /* a report's value is not from NN(R) to V(S) */
     SEDGE_ALERT_CLCW = 3,      /* a report has the wait flag without the retransmit flag */
-    SEDGE_ALERT_SYNCH = 4,     /* a report asks for repetition of nothing, or no longer asks for it too early */
+    SEDGE_ALERT_SYNCH = 4,     /* a report asks to repeat what was not sent, or stops asking before it got any of it */
     SEDGE_ALERT_LIMIT = 5,     /* a report asks for units again, and the transmission limit is 1 */
     SEDGE_ALERT_TIMER = 6,     /* the timer has ended, and units may not be sent again */
     SEDGE_ALERT_TERMINATED = 7 /* sedge_fop_terminate */
