@@ -206,6 +206,13 @@ register_entry r x xs fits few small smalls =
     ∙ apart entry (r % 256 * 256) xs (steps_fit 8 (place * 256) (omega arith)) (omega arith) smalls
     ∙ ap (λ (k : ℕ). bit_xor k (after_octets (r % 256 * 256) xs)) (sym (entry_later (length xs) place few in_table))
 
+-- sums may be taken from the last on
+turned : (a b c d : ℕ) → bit_xor (bit_xor (bit_xor d c) b) a ≡ bit_xor (bit_xor (bit_xor a b) c) d
+turned a b c d =
+    xor_comm (bit_xor (bit_xor d c) b) a
+    ∙ ap (bit_xor a) (xor_comm (bit_xor d c) b ∙ ap (bit_xor b) (xor_comm d c))
+    ∙ sym (xor_assoc a b (bit_xor c d)) ∙ sym (xor_assoc (bit_xor a b) c d)
+
 -- sums of pairs are sums from the right
 from_the_right : (a b c d e f g h : ℕ)
     → bit_xor (bit_xor (bit_xor (bit_xor a b) (bit_xor c d)) (bit_xor e f)) (bit_xor g h)
@@ -246,7 +253,9 @@ eight_after r a b c d e f g h fits (sa, (sb, (sc, (sd, (se, (sf, (sg, (sh, end))
     (sc, (sd, (se, (sf, (sg, (sh, tt))))))
     ∙ ap (bit_xor (t 6 (bit_xor (r % 256) b))) from_c in
     let first : ℕ = t 7 (bit_xor (r / 256) a) in
-    from_the_right first (t 6 (bit_xor (r % 256) b)) (t 5 c) (t 4 d) (t 3 e) (t 2 f) (t 1 g) (t 0 h)
+    turned (bit_xor first (t 6 (bit_xor (r % 256) b))) (bit_xor (t 5 c) (t 4 d)) (bit_xor (t 3 e) (t 2 f))
+    (bit_xor (t 1 g) (t 0 h))
+    ∙ from_the_right first (t 6 (bit_xor (r % 256) b)) (t 5 c) (t 4 d) (t 3 e) (t 2 f) (t 1 g) (t 0 h)
     ∙ sym (register_entry r a (b ∷ c ∷ d ∷ e ∷ f ∷ g ∷ h ∷ []) fits (omega arith) sa
     (sb, (sc, (sd, (se, (sf, (sg, (sh, tt)))))))
     ∙ ap (bit_xor first) from_b)

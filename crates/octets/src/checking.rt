@@ -41,7 +41,7 @@ fn after_one(register: u32, octet: u8) -> u32
 }
 
 // The register after eight octets. What each adds is looked up as it stands after the last, so that
-// no look waits for another.
+// no look waits for another, and what needs the register comes last.
 #[inline(always)]
 fn after_eight(register: u32, octets: &[u8; 8]) -> u32
     requires { register < 2 ^ 16 }
@@ -52,10 +52,10 @@ fn after_eight(register: u32, octets: &[u8; 8]) -> u32
     let [a, b, c, d, e, f, g, h] = *octets;
     let first = (register / 256) ^ u32::from(a);
     let second = (register % 256) ^ u32::from(b);
-    two_entries(6, first, second)
-        ^ two_entries(4, u32::from(c), u32::from(d))
+    two_entries(0, u32::from(g), u32::from(h))
         ^ two_entries(2, u32::from(e), u32::from(f))
-        ^ two_entries(0, u32::from(g), u32::from(h))
+        ^ two_entries(4, u32::from(c), u32::from(d))
+        ^ two_entries(6, first, second)
 }
 
 // What two octets add, `later` octets after the second.
