@@ -35,16 +35,8 @@ after_ad s Expected false Open e is =
 after_ad s InPositiveWindow free Open e is = record { asks = λ w. refl; state = is.state }
 after_ad s OutsideWindows free Open e is = record { asks = is.asks; state = refl }
 after_ad s OutsideWindows free Wait e is = record { asks = is.asks; state = refl }
-after_ad s Expected true Wait e is = is
-after_ad s Expected true Lockout e is = is
-after_ad s Expected false Wait e is = is
-after_ad s Expected false Lockout e is = is
-after_ad s InPositiveWindow free Wait e is = is
-after_ad s InPositiveWindow free Lockout e is = is
 after_ad s InNegativeWindow free Open e is = is
-after_ad s InNegativeWindow free Wait e is = is
-after_ad s InNegativeWindow free Lockout e is = is
-after_ad s OutsideWindows free Lockout e is = is
+after_ad s _ free _ e is = is
 
 after_unlocking : (s : FarmState) (mode : FarmMode) → mode ≡ s.state → FlagsAgree s → FlagsAgree (after_unlock s mode)
 after_unlocking s Open e is =

@@ -216,12 +216,9 @@ module _ {U : Type 0} where
 
   following-nothing_new : (s : SenderFields) (q : Queues U) (mode : FopMode) → Fits s q
       → Follows s.room q (nothing_new s mode) (reports.nothing_new (with_queues s q) mode)
-  following-nothing_new s q S1 fits = kept s q s.room _ fits refl
   following-nothing_new s q S2 fits = given_up s q q s.room _ refl refl
   following-nothing_new s q S3 fits = given_up s q q s.room _ refl refl
-  following-nothing_new s q S4 fits = kept s q s.room _ fits refl
-  following-nothing_new s q S5 fits = kept s q s.room _ fits refl
-  following-nothing_new s q S6 fits = kept s q s.room _ fits refl
+  following-nothing_new s q _ fits = kept s q s.room _ fits refl
 
   for_repeats : (s : SenderFields) (q : Queues U) (repeats wait : Bool) → Fits s q
       → Follows s.room q (ask_again s wait (retransmits s repeats))
@@ -233,11 +230,8 @@ module _ {U : Type 0} where
       → Follows s.room q (ask_again s wait (goes_back_again s mode))
       (reports.ask_again (with_queues s q) wait (reports.goes_back_again (with_queues s q) mode))
   for_all s q S1 wait fits = for_repeats s q (nat_lt s.count s.limit) wait fits
-  for_all s q S2 wait fits = asked_again s s _ q wait fits refl refl refl refl
   for_all s q S3 wait fits = for_repeats s q (nat_lt s.count s.limit) wait fits
-  for_all s q S4 wait fits = asked_again s s _ q wait fits refl refl refl refl
-  for_all s q S5 wait fits = asked_again s s _ q wait fits refl refl refl refl
-  for_all s q S6 wait fits = asked_again s s _ q wait fits refl refl refl refl
+  for_all s q _ wait fits = asked_again s s _ q wait fits refl refl refl refl
 
   while_active : (s : SenderFields) (q : Queues U) (c : Clcw) → Fits s q → ahead_by s.vs s.nn ≡ s.sent → s.due ≤ s.sent
       → Follows s.room q (report_while_active s c) (reports.report_while_active (with_queues s q) c)
@@ -270,12 +264,10 @@ module _ {U : Type 0} where
   report_in-follows : (s : SenderFields) (q : Queues U) (c : Clcw) (mode : FopMode) → mode ≡ s.state → IsSender s
       → Fits s q
       → Follows s.room q (report_in s c mode) (reports.report_in (with_queues s q) c mode)
-  report_in-follows s q c S1 e is fits = while_active s q c fits (is.agrees.numbered (λ h. cc (e, h))) is.ranges.due
-  report_in-follows s q c S2 e is fits = while_active s q c fits (is.agrees.numbered (λ h. cc (e, h))) is.ranges.due
-  report_in-follows s q c S3 e is fits = while_active s q c fits (is.agrees.numbered (λ h. cc (e, h))) is.ranges.due
   report_in-follows s q c S4 e is fits = in_S4 s q c fits
   report_in-follows s q c S5 e is fits = in_S5 s q c fits
   report_in-follows s q c S6 e is fits = kept s q s.room _ fits refl
+  report_in-follows s q c _ e is fits = while_active s q c fits (is.agrees.numbered (λ h. cc (e, h))) is.ranges.due
 
   pub report-follows : (s : SenderFields) (q : Queues U) (c : Clcw) → IsSender s → Fits s q
       → Follows s.room q (report_step s c) (reports.clcw_step (with_queues s q) c)
@@ -332,22 +324,14 @@ module _ {U : Type 0} where
   initiates : (s t : SenderFields) (q : Queues U) (g : FopState U) (mode : FopMode) → mode ≡ s.state → Fits s q
       → t.sent ≡ s.sent → t.waiting ≡ s.waiting → t.room ≡ s.room → (S6 ≡ s.state → g ≡ with_queues t q)
       → Follows s.room q (from_S6 s mode t) (directives.from_S6 (with_queues s q) mode g)
-  initiates s t q g S1 e fits sent waiting room is = kept s q s.room _ fits refl
-  initiates s t q g S2 e fits sent waiting room is = kept s q s.room _ fits refl
-  initiates s t q g S3 e fits sent waiting room is = kept s q s.room _ fits refl
-  initiates s t q g S4 e fits sent waiting room is = kept s q s.room _ fits refl
-  initiates s t q g S5 e fits sent waiting room is = kept s q s.room _ fits refl
   initiates s t q g S6 e fits sent waiting room is = rw (is e)
       (kept t q s.room _ (unchanged s t q fits sent waiting) room)
+  initiates s t q g _ e fits sent waiting room is = kept s q s.room _ fits refl
 
   terminated : (s : SenderFields) (q : Queues U) (mode : FopMode) → Fits s q
       → Follows s.room q (terminate_in s mode) (directives.terminate_in (with_queues s q) mode)
-  terminated s q S1 fits = given_up s q q s.room _ refl refl
-  terminated s q S2 fits = given_up s q q s.room _ refl refl
-  terminated s q S3 fits = given_up s q q s.room _ refl refl
-  terminated s q S4 fits = given_up s q q s.room _ refl refl
-  terminated s q S5 fits = given_up s q q s.room _ refl refl
   terminated s q S6 fits = kept s q s.room _ fits refl
+  terminated s q _ fits = given_up s q q s.room _ refl refl
 
   ranged : (s t : SenderFields) (q : Queues U) (refused : Bool) (fault : CopFault) → Fits s q → Fits t q
       → t.room ≡ s.room
@@ -386,12 +370,8 @@ module _ {U : Type 0} where
 
   submitted_in : (s : SenderFields) (q : Queues U) (u : U) (mode : FopMode) → Fits s q
       → units.submit_in (with_queues s q) u mode ≡ submitted q u (submit_in s mode).after (submit_in s mode).answer
-  submitted_in s q u S1 fits = waited s q u q.waiting s.waiting fits.waiting
-  submitted_in s q u S2 fits = waited s q u q.waiting s.waiting fits.waiting
-  submitted_in s q u S3 fits = waited s q u q.waiting s.waiting fits.waiting
-  submitted_in s q u S4 fits = waited s q u q.waiting s.waiting fits.waiting
-  submitted_in s q u S5 fits = waited s q u q.waiting s.waiting fits.waiting
   submitted_in s q u S6 fits = refl
+  submitted_in s q u _ fits = waited s q u q.waiting s.waiting fits.waiting
 
   -- ---- units that go
 
@@ -496,10 +476,7 @@ module _ {U : Type 0} where
       → Goes s q (next_in s mode) (pulls.pull_in (with_queues s q) mode)
   in_state_goes s q S1 e is fits = sequence_goes s q is fits (is.agrees.numbered (λ h. cc (e, h)))
   in_state_goes s q S2 e is fits = sequence_goes s q is fits (is.agrees.numbered (λ h. cc (e, h)))
-  in_state_goes s q S3 e is fits = nothing_goes s q fits
-  in_state_goes s q S4 e is fits = nothing_goes s q fits
-  in_state_goes s q S5 e is fits = nothing_goes s q fits
-  in_state_goes s q S6 e is fits = nothing_goes s q fits
+  in_state_goes s q _ e is fits = nothing_goes s q fits
 
   -- what goes where no bypass unit goes before it
   control_goes : (s : SenderFields) (q : Queues U) (control : Control) (bypass : List U)

@@ -5,7 +5,7 @@ use Rattle.std.specs.Prelude.{Option, Some, None}
 use Rattle.tc_frame.specs.declared.frame.Command.{Command}
 use Rattle.cop1.specs.Modulo.{ahead_by}
 use Rattle.cop1.specs.declared.fop.FopMode.{FopMode}
-use Rattle.cop1.specs.declared.fop.FopMode.TheVariants.{S1, S2, S3, S4, S5, S6}
+use Rattle.cop1.specs.declared.fop.FopMode.TheVariants.{S1, S2}
 use Rattle.cop1.specs.declared.fop.Control.{Control}
 use Rattle.cop1.specs.declared.fop.Control.TheVariants.{Idle, Due, Sent}
 use Rattle.cop1.specs.FopState.{FopState, SentUnit}
@@ -74,10 +74,7 @@ module _ {U : Type 0} where
   abbrev pub pull_in : FopState U → FopMode → FopOutcome U (PulledUnit U)
   pull_in s S1 = next_sequence s
   pull_in s S2 = next_sequence s
-  pull_in s S3 = pulls s NothingPulled
-  pull_in s S4 = pulls s NothingPulled
-  pull_in s S5 = pulls s NothingPulled
-  pull_in s S6 = pulls s NothingPulled
+  pull_in s _ = pulls s NothingPulled
 
   -- the oldest bypass unit, in any state
   abbrev pub pull_bypass : FopState U → List U → FopOutcome U (PulledUnit U)

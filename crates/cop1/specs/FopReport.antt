@@ -49,12 +49,9 @@ module _ {U : Type 0} where
 
   -- rule 5: nothing is acknowledged, and nothing asked for
   abbrev pub nothing_new : FopState U → FopMode → FopOutcome U (Option Alert)
-  nothing_new s S1 = goes_on s
   nothing_new s S2 = alerts s Synch
   nothing_new s S3 = alerts s Synch
-  nothing_new s S4 = goes_on s
-  nothing_new s S5 = goes_on s
-  nothing_new s S6 = goes_on s
+  nothing_new s _ = goes_on s
 
   -- the timer once units have left the sent queue
   abbrev pub ticks_for : List (SentUnit U) → ℕ → Option ℕ
@@ -93,11 +90,8 @@ module _ {U : Type 0} where
 
   abbrev pub goes_back_again : FopState U → FopMode → FopState U
   goes_back_again s S1 = retransmits s (nat_lt s.count s.limit)
-  goes_back_again s S2 = s
   goes_back_again s S3 = retransmits s (nat_lt s.count s.limit)
-  goes_back_again s S4 = s
-  goes_back_again s S5 = s
-  goes_back_again s S6 = s
+  goes_back_again s _ = s
 
   -- rule 8: nothing is acknowledged, and all that was sent asked for
   abbrev pub ask_for_all : FopState U → Bool → FopOutcome U (Option Alert)

@@ -3,7 +3,7 @@
 use Rattle.std.specs.Prelude.{◌≡◌, ◌≢◌, ◌≤◌, ℕ, ◌/◌, Bool, List, [], length, Option, None, IfSome}
 use Rattle.cop1.specs.Modulo.{ahead_by}
 use Rattle.cop1.specs.declared.fop.FopMode.{FopMode}
-use Rattle.cop1.specs.declared.fop.FopMode.TheVariants.{S1, S2, S3, S4, S5, S6}
+use Rattle.cop1.specs.declared.fop.FopMode.TheVariants.{S1, S2, S3, S5, S6}
 use Rattle.cop1.specs.declared.fop.Control.{Control}
 use Rattle.cop1.specs.declared.fop.Control.TheVariants.{Idle}
 
@@ -12,9 +12,7 @@ abbrev pub IsActive : FopMode → Type 0
 IsActive S1 = Unit {0}
 IsActive S2 = Unit {0}
 IsActive S3 = Unit {0}
-IsActive S4 = ⊥
-IsActive S5 = ⊥
-IsActive S6 = ⊥
+IsActive _ = ⊥
 
 -- a unit of the sent queue, and whether it is marked to be sent again
 pub record SentUnit (U : Type 0) : Type 0 where

@@ -3,7 +3,7 @@ use Rattle.std.specs.Prelude.{[], ◌∷◌, ◌++◌, Option, Some, None, Resul
 use Rattle.cop1.specs.declared.fault.CopFault.{CopFault}
 use Rattle.cop1.specs.declared.fault.CopFault.TheVariants.{NotOpen, Busy}
 use Rattle.cop1.specs.declared.fop.FopMode.{FopMode}
-use Rattle.cop1.specs.declared.fop.FopMode.TheVariants.{S1, S2, S3, S4, S5, S6}
+use Rattle.cop1.specs.declared.fop.FopMode.TheVariants.{S6}
 use Rattle.cop1.specs.FopState.{FopState}
 use Rattle.cop1.specs.FopWords.{FopOutcome}
 
@@ -23,12 +23,8 @@ module _ {U : Type 0} where
   waits_behind s u (Some before) = comes_back s Busy u
 
   abbrev pub submit_in : FopState U → U → FopMode → FopOutcome U (Result (Unit {0}) (CopFault × U))
-  submit_in s u S1 = waits_behind s u s.waiting
-  submit_in s u S2 = waits_behind s u s.waiting
-  submit_in s u S3 = waits_behind s u s.waiting
-  submit_in s u S4 = waits_behind s u s.waiting
-  submit_in s u S5 = waits_behind s u s.waiting
   submit_in s u S6 = comes_back s NotOpen u
+  submit_in s u _ = waits_behind s u s.waiting
 
   abbrev pub submit_step : FopState U → U → FopOutcome U (Result (Unit {0}) (CopFault × U))
   submit_step s u = submit_in s u s.state

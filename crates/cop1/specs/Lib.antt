@@ -1,3 +1,4 @@
+pub mod Directives
 pub mod Farm
 pub mod FarmFields
 pub mod FarmRuns

@@ -6,7 +6,7 @@ use Rattle.tc_frame.specs.declared.frame.Command.TheVariants.{Unlock, SetVr}
 use Rattle.cop1.specs.declared.fault.CopFault.{CopFault}
 use Rattle.cop1.specs.declared.fault.CopFault.TheVariants.{Window, Limit, Timer, WrongState}
 use Rattle.cop1.specs.declared.fop.FopMode.{FopMode}
-use Rattle.cop1.specs.declared.fop.FopMode.TheVariants.{S1, S2, S3, S4, S5, S6}
+use Rattle.cop1.specs.declared.fop.FopMode.TheVariants.{S1, S4, S5, S6}
 use Rattle.cop1.specs.declared.fop.Alert.{Alert}
 use Rattle.cop1.specs.declared.fop.Alert.TheVariants.{Terminated}
 use Rattle.cop1.specs.declared.fop.Control.{Control}
@@ -36,20 +36,12 @@ after_begin s x state control =
 -- what is obeyed in S6 alone
 abbrev pub from_S6 : SenderFields → FopMode → SenderFields
     → SenderOutcome (Result (Option Alert) CopFault)
-from_S6 s S1 next = refuses s WrongState
-from_S6 s S2 next = refuses s WrongState
-from_S6 s S3 next = refuses s WrongState
-from_S6 s S4 next = refuses s WrongState
-from_S6 s S5 next = refuses s WrongState
 from_S6 s S6 next = obeys next
+from_S6 s _ next = refuses s WrongState
 
 abbrev pub terminate_in : SenderFields → FopMode → SenderOutcome (Result (Option Alert) CopFault)
-terminate_in s S1 = terminates s
-terminate_in s S2 = terminates s
-terminate_in s S3 = terminates s
-terminate_in s S4 = terminates s
-terminate_in s S5 = terminates s
 terminate_in s S6 = refuses s WrongState
+terminate_in s _ = terminates s
 
 abbrev pub directive_step : SenderFields → Directive
     → SenderOutcome (Result (Option Alert) CopFault)

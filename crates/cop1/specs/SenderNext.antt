@@ -3,7 +3,7 @@
 use Rattle.std.specs.Prelude.{ℕ, ◌+◌, ◌-◌, ◌%◌, ◌==◌, Bool, true, false, nat_lt, if◌then◌else◌}
 use Rattle.cop1.specs.Modulo.{ahead_by}
 use Rattle.cop1.specs.declared.fop.FopMode.{FopMode}
-use Rattle.cop1.specs.declared.fop.FopMode.TheVariants.{S1, S2, S3, S4, S5, S6}
+use Rattle.cop1.specs.declared.fop.FopMode.TheVariants.{S1, S2}
 use Rattle.cop1.specs.declared.fop.Control.{Control}
 use Rattle.cop1.specs.declared.fop.Control.TheVariants.{Idle, Due, Sent}
 use Rattle.cop1.specs.declared.sender.SenderFields.{SenderFields}
@@ -51,10 +51,7 @@ next_sequence s =
 abbrev pub next_in : SenderFields → FopMode → SenderOutcome SenderNext
 next_in s S1 = next_sequence s
 next_in s S2 = next_sequence s
-next_in s S3 = gives s next.Nothing
-next_in s S4 = gives s next.Nothing
-next_in s S5 = gives s next.Nothing
-next_in s S6 = gives s next.Nothing
+next_in s _ = gives s next.Nothing
 
 -- the control command of S5, where it is due
 abbrev pub next_control : SenderFields → Control → SenderOutcome SenderNext

@@ -43,12 +43,9 @@ report_in_S4 s c =
 
 -- rule 5: nothing is acknowledged, and nothing asked for
 abbrev pub nothing_new : SenderFields → FopMode → SenderOutcome (Option Alert)
-nothing_new s S1 = goes_on s
 nothing_new s S2 = alerts s Synch
 nothing_new s S3 = alerts s Synch
-nothing_new s S4 = goes_on s
-nothing_new s S5 = goes_on s
-nothing_new s S6 = goes_on s
+nothing_new s _ = goes_on s
 
 -- the timer once units are acknowledged
 abbrev pub ticks_for : SenderFields → Option ℕ
@@ -86,11 +83,8 @@ ask_for_others s v wait = after_gone (ahead_by v s.nn) (goes_back (after_new_val
 
 abbrev pub goes_back_again : SenderFields → FopMode → SenderFields
 goes_back_again s S1 = retransmits s (nat_lt s.count s.limit)
-goes_back_again s S2 = s
 goes_back_again s S3 = retransmits s (nat_lt s.count s.limit)
-goes_back_again s S4 = s
-goes_back_again s S5 = s
-goes_back_again s S6 = s
+goes_back_again s _ = s
 
 -- rule 8: nothing is acknowledged, and all that was sent asked for
 abbrev pub ask_for_all : SenderFields → Bool → SenderOutcome (Option Alert)

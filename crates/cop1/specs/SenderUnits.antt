@@ -3,7 +3,7 @@ use Rattle.std.specs.Prelude.{Bool, true, false, Result, Ok, Err}
 use Rattle.cop1.specs.declared.fault.CopFault.{CopFault}
 use Rattle.cop1.specs.declared.fault.CopFault.TheVariants.{NotOpen, Busy}
 use Rattle.cop1.specs.declared.fop.FopMode.{FopMode}
-use Rattle.cop1.specs.declared.fop.FopMode.TheVariants.{S1, S2, S3, S4, S5, S6}
+use Rattle.cop1.specs.declared.fop.FopMode.TheVariants.{S6}
 use Rattle.cop1.specs.declared.sender.SenderFields.{SenderFields}
 use Rattle.cop1.specs.SenderWords.{SenderOutcome}
 
@@ -16,12 +16,8 @@ waits_behind s false = record { after = record s { waiting = true }; answer = Ok
 waits_behind s true = comes_back s Busy
 
 abbrev pub submit_in : SenderFields → FopMode → SenderOutcome (Result (Unit {0}) CopFault)
-submit_in s S1 = waits_behind s s.waiting
-submit_in s S2 = waits_behind s s.waiting
-submit_in s S3 = waits_behind s s.waiting
-submit_in s S4 = waits_behind s s.waiting
-submit_in s S5 = waits_behind s s.waiting
 submit_in s S6 = comes_back s NotOpen
+submit_in s _ = waits_behind s s.waiting
 
 abbrev pub submit_step : SenderFields → SenderOutcome (Result (Unit {0}) CopFault)
 submit_step s = submit_in s s.state
