@@ -4,12 +4,14 @@ use Rattle.std.proofs.Common.{take, drop, Some, None, refl, sym, ap, ◌∙◌, 
 use Rattle.std.proofs.Common.{length-append}
 use Rattle.std.specs.List.{AllByRecursion, concat}
 use Rattle.std.proofs.lemmas.Bool.{cases_lt, lt-ltb, le-ltb, ne_eqb}
-use Rattle.std.proofs.lemmas.List.{take_at, drop_at, append-nil, take-append-drop}
+use Rattle.std.proofs.lemmas.List.{take_at, drop_at, drop_all, append-nil, take-append-drop}
+use Rattle.std.proofs.Math.Seq.{take-length}
 use Rattle.std.proofs.lemmas.List.Folds.{concat-append}
 use Rattle.octets.specs.Records.{IsRecord, IsSplit}
 use Rattle.octets.proofs.Streams.{split_of, only_split}
 use Rattle.space_packet.specs.Laws.{extent_has_header}
 use Rattle.space_packet.specs.Reading.{extent_at}
+use Rattle.tc_frame.specs.Layout.{SegmentView}
 use Rattle.map_service.specs.Cutting.{longest_run, first_group, groups_within, groups_of, parts_of, segments_of}
 use Rattle.map_service.specs.Packets.{first_packet, packets_in, rest_in}
 use Rattle.space_packet.proofs.WholePackets.{one_more-by_len, no_more}
@@ -187,6 +189,34 @@ pub groups-cut : (part m n : ℕ) (octets group behind : List ℕ) → rest_in o
 groups-cut part m n octets group behind none some len front back =
     let has = groups-more part m octets none some in
     rw (front, back, len) (has.segments, has.whole)
+
+run-all : (room : ℕ) (packets : List (List ℕ)) → length (concat packets) ≤ room → longest_run room packets ≡ packets
+run-all room [] le = refl
+run-all room (p ∷ ps) le =
+    let sum : length (concat (p ∷ ps)) ≡ length p + length (concat ps) = length-append p (concat ps) in
+    rw (le-ltb room (length p) (omega (arith, sum)))
+    (ap (λ (xs : List (List ℕ)). p ∷ xs) (run-all (room - length p) ps (omega (arith, sum))))
+
+group-all : (part : ℕ) (packets : List (List ℕ)) → length (concat packets) ≤ part → first_group part packets ≡ packets
+group-all part [] le = refl
+group-all part (p ∷ ps) le =
+    let sum : length (concat (p ∷ ps)) ≡ length p + length (concat ps) = length-append p (concat ps) in
+    rw (le-ltb part (length p) (omega (arith, sum)))
+    (ap (λ (xs : List (List ℕ)). p ∷ xs) (run-all (part - length p) ps (omega (arith, sum))))
+
+-- packets that have at most `part` octets together are one group
+pub in-one : (part m : ℕ) (octets : List ℕ) → rest_in octets ≡ [] → 1 ≤ length octets → length octets ≤ part
+    → segments_of part m octets ≡ parts_of part m octets
+in-one part m octets none some le =
+    let whole : octets ≡ concat (packets_in octets) = all_of octets none in
+    let len : length octets ≡ length (concat (first_group part (packets_in octets))) =
+    ap length whole
+    ∙ ap (λ (ps : List (List ℕ)). length (concat ps))
+    (sym (group-all part (packets_in octets) (omega (arith, ap length whole)))) in
+    (groups-cut part m (length octets) octets octets [] none some len (sym (take-length octets))
+    (sym (drop_all (length octets) octets (omega arith)))).0
+    ∙ ap (λ (ss : List SegmentView). parts_of part m octets ++ ss) (groups-none part m)
+    ∙ append-nil (parts_of part m octets)
 
 -- octets whose number is 0
 pub none_from : (octets : List ℕ) → true ≡ eqb (length octets) 0 → octets ≡ []

@@ -35,13 +35,13 @@ one_whole limits octets =
     (λ (o : Option Dropped). o ≡ None → is_packet octets ≡ true)
     (λ t e. absurd (cc e)) (λ t e. is_so (is_packet octets) t))
 
-lone_whole : (p : List ℕ) → IsWhole (p ∷ []) → is_packet p ≡ true
+pub lone_whole : (p : List ℕ) → IsWhole (p ∷ []) → is_packet p ≡ true
 lone_whole p h =
     let only = subst (λ (xs : List ℕ). (p ∷ [] ≡ packets_in xs) × ([] ≡ rest_in xs)) (append-nil p) (again (p ∷ []) h)
     in
     rw (← only.0, ← only.1) refl
 
-each_whole : (packets : List (List ℕ)) → IsWhole packets → AreWhole packets
+pub each_whole : (packets : List (List ℕ)) → IsWhole packets → AreWhole packets
 each_whole [] h = tt
 each_whole (p ∷ ps) h = (lone_whole p (h.0, tt), each_whole ps h.1)
 

@@ -3,6 +3,8 @@ pub mod Groups
 pub mod Joining
 pub mod Pieces
 pub mod Places
+mod AtOnce
+mod Rooms
 pub mod Steps
 pub mod Whole
 pub mod Parts

@@ -3,12 +3,13 @@ use Rattle.std.proofs.Common.{◌≡◌, ◌<◌, ℕ, List, [], length, map, re
 use Rattle.std.proofs.Common.{refl, ap, sym, ◌∙◌, get_or, set, arith, inl, inr}
 use Rattle.std.specs.declared.vec.Vec.{Vec}
 use Rattle.std.proofs.lemmas.Bool.{cases_lt}
-use Rattle.std.proofs.lemmas.List.{map-set, get_or-map, set-get_or, get_or-replicate, get_or_past, length-replicate}
+use Rattle.std.proofs.lemmas.List.{map-set, get_or-map, get_or-replicate, get_or_past, length-replicate}
 use Rattle.tc_frame.specs.Layout.{SegmentView}
 use Rattle.map_service.specs.declared.limits.Limits.{Limits}
 use Rattle.map_service.specs.Assembly.{is_open, open_part}
-use Rattle.map_service.specs.Taking.{cell, take_step}
-use Rattle.map_service.specs.Exactness.{AssemblerState, after_step}
+use Rattle.map_service.specs.declared.prepared.Change.{Change}
+use Rattle.map_service.specs.Exactness.{AssemblerState, part_on_map, step_at, after_step}
+use Rattle.map_service.specs.Preparing.{part_after}
 use Rattle.map_service.specs.Views.{part_view}
 use Rattle.map_service.proofs.Steps.{no_such_map}
 
@@ -46,23 +47,15 @@ module _ {Z : Type 0} (limits : Limits) (parts : List (Option (Vec ℕ Z))) (s :
       ap (λ (m : ℕ). get_or (map part_view parts) m None) (sym at)
       ∙ get_or-map part_view parts place old None (omega arith)
 
-  -- the part of the segment's MAP is that of the table's cell
-  pub set_part : place ≡ s.header.map → length parts ≡ 64 → is_open limits s.header.map ≡ true
-      → part_view part ≡ (cell limits s.header.flags (part_view (get_or parts place old)) s.payload).part
+  -- the part of the segment's MAP is that of the step, where the change that was put gives it
+  pub put_part : place ≡ s.header.map → length parts ≡ 64 → is_open limits s.header.map ≡ true → (change : Change)
+      → part_view part ≡ part_after change (part_view (get_or parts place old)) s.payload
+      → part_after change (part_on_map (state_with parts) s.header.map) s.payload
+      ≡ (step_at (state_with parts) s).part
       → state_with (set parts place part) ≡ after_step (state_with parts) s
-  set_part at count opened cell_is =
-      let new : part_view part ≡ (take_step limits (get_or (map part_view parts) s.header.map None) s).part =
-      rw (opened, viewed_at at count opened) cell_is in
+  put_part at count opened change put prepared =
+      let new : part_view part ≡ (step_at (state_with parts) s).part =
+      put ∙ ap (λ (p : Option (List ℕ)). part_after change p s.payload) (sym (viewed_at at count opened)) ∙ prepared in
       ap (λ (ps : List (Option (List ℕ))). let a : AssemblerState = record { limits = limits; parts = ps } in a)
       (map-set part_view parts place part ∙ ap (λ (m : ℕ). set (map part_view parts) m (part_view part)) at
       ∙ ap (set (map part_view parts) s.header.map) new)
-
-  -- the part is as it was
-  pub same_parts : place ≡ s.header.map → length parts ≡ 64 → is_open limits s.header.map ≡ true
-      → part_view part ≡ part_view (get_or parts place old) → state_with (set parts place part) ≡ state_with parts
-  same_parts at count opened same =
-      let lt = is_map opened in
-      ap (λ (ps : List (Option (List ℕ))). let a : AssemblerState = record { limits = limits; parts = ps } in a)
-      (map-set part_view parts place part
-      ∙ ap (set (map part_view parts) place) (same ∙ sym (get_or-map part_view parts place old None (omega arith)))
-      ∙ set-get_or (map part_view parts) place None)

@@ -1,4 +1,5 @@
 pub mod Adding
+pub mod AssemblerFields
 pub mod Assembly
 pub mod AtOnce
 pub mod Causes
@@ -7,6 +8,7 @@ pub mod Exactness
 pub mod Faults
 pub mod LonePacket
 pub mod Packets
+pub mod Preparing
 pub mod Taking
 pub mod Views
 pub mod History

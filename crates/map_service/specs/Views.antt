@@ -1,10 +1,9 @@
 -- What is kept and handed out, without where it lies in memory.
 use Rattle.std.specs.Prelude.{ℕ, List, map, Option, None, Some, option_map}
 use Rattle.std.specs.declared.vec.Vec.{Vec}
+use Rattle.smallvec.specs.SmallVec.{SmallVec}
 use Rattle.map_service.specs.declared.dropped.Dropped.{Dropped}
 use Rattle.map_service.specs.declared.dropped.Dropped.TheVariants.{Interrupted}
-use Rattle.map_service.specs.declared.dropped.Taken.{Taken}
-use Rattle.map_service.specs.Taking.{TakeOutcome}
 
 abbrev pub part_view : {Z : Type 0} → Option (Vec ℕ Z) → Option (List ℕ)
 part_view part = option_map (λ v. v.items) part
@@ -12,12 +11,11 @@ part_view part = option_map (λ v. v.items) part
 abbrev pub packets_view : {Y Z : Type 0} → Vec (Vec ℕ Y) Z → List (List ℕ)
 packets_view packets = map (λ v. v.items) packets.items
 
+-- the same of packets that are handed out
+abbrev pub ready_view : {Y : Type 0} → SmallVec (Vec ℕ Y) → List (List ℕ)
+ready_view packets = map (λ v. v.items) packets.items
+
 -- what is dropped where a first or an alone segment comes
 abbrev pub interruption : Option (List ℕ) → Option Dropped
 interruption None = None
 interruption (Some part) = Some Interrupted
-
--- an answer, and the part that is open then, as an outcome of the table
-abbrev pub outcome_of : {Z : Type 0} → Taken → Option (Vec ℕ Z) → TakeOutcome
-outcome_of taken part =
-    record { dropped = taken.dropped; packets = packets_view taken.packets; part = part_view part }

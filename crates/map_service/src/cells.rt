@@ -1,36 +1,35 @@
 // The table of the assembler: a segment of an open MAP against the part that is open there.
 
-ghost use Rattle.std.specs.Prelude.{◌≡◌, [], false, IfOk, OnErr};
+ghost use Rattle.std.specs.Prelude.{◌≡◌, ◌≤◌, [], false, IfOk};
+ghost use Rattle.std.specs.Vec.{vec_capacity};
 ghost use Rattle.map_service.specs.Assembly.{is_too_long};
 ghost use Rattle.tc_frame.specs.declared.frame.SegmentFlags.TheVariants as flags;
 ghost use Rattle.tc_frame.specs.Layout.{segment_view};
 ghost use Rattle.map_service.specs.Adding.{adding_fault};
 ghost use Rattle.map_service.specs.AtOnce.{IsSureAtOnce};
+ghost use Rattle.map_service.specs.Preparing.{outcome_of, HasRoom};
 ghost use Rattle.map_service.specs.Taking.{drop_outcome, cell, cell_at};
-ghost use Rattle.map_service.specs.Views.{part_view, packets_view, interruption, outcome_of};
+ghost use Rattle.map_service.specs.Views.{part_view, ready_view, interruption};
 
-use crate::dropped::{Dropped, Taken};
+use crate::dropped::Dropped;
 use crate::judging::{copied_alone, fault_of_alone, fault_of_one};
 use crate::limits::Limits;
+use crate::prepared::{Change, Prepared};
+use smallvec::SmallVec;
 use std::alloc::{AllocError, Global};
 use tc_frame::{Segment, SegmentFlags};
 
-pub(crate) fn no_packets(alloc: Global, dropped: Option<Dropped>) -> Taken
+// No packet is handed out.
+pub(crate) fn no_packets(alloc: Global, dropped: Option<Dropped>, change: Change) -> Prepared
     ensures dropped { result.dropped ≡ dropped }
-    ensures packets { packets_view result.packets ≡ [] }
+    ensures packets { ready_view result.packets ≡ [] }
+    ensures change { result.change ≡ change }
 {
-    Taken {
+    Prepared {
         dropped,
-        packets: Vec::new(alloc),
+        packets: SmallVec::new(alloc),
+        change,
     }
-}
-
-// Nothing is open then, and nothing handed out.
-fn dropped_for(alloc: Global, cause: Dropped, part: &mut Option<Vec<u8>>) -> Taken
-    ensures { outcome_of result part.new ≡ drop_outcome cause }
-{
-    *part = None;
-    no_packets(alloc, Some(cause))
 }
 
 // What a first or an alone segment drops: the part that is open.
@@ -43,57 +42,60 @@ fn interruption(part: &Option<Vec<u8>>) -> Option<Dropped>
     }
 }
 
-// The cells of an alone segment. Each growth comes before any change, in all cells.
-fn take_alone(
+// The cells of an alone segment.
+fn alone_cell(
     alloc: Global,
     limits: &Limits,
-    part: &mut Option<Vec<u8>>,
+    part: &Option<Vec<u8>>,
     octets: &[u8],
-) -> Result<Taken, AllocError>
-    ensures ok { IfOk result (λ t. outcome_of t part.new
-        ≡ cell limits.now flags.Alone (part_view part.old) octets.now) }
-    ensures err { OnErr result (part_view part.new ≡ part_view part.old) }
+) -> Result<Prepared, AllocError>
+    ensures outcome { IfOk result (λ p. outcome_of p (part_view part.now) octets.now
+        ≡ cell limits.now flags.Alone (part_view part.now) octets.now) }
+    ensures room { IfOk result (λ p. HasRoom
+        limits.now.max_packet p.change (part_view part.now) octets.now) }
     ensures none { IsSureAtOnce
-        (cell limits.now flags.Alone (part_view part.old) octets.now) result }
+        (cell limits.now flags.Alone (part_view part.now) octets.now) result }
 {
-    let dropped = interruption(part);
     if let Some(cause) = fault_of_alone(limits, octets) {
-        return Ok(dropped_for(alloc, cause, part));
+        return Ok(no_packets(alloc, Some(cause), Change::Closed));
     }
-    let packets = copied_alone(alloc, limits, octets)?;
-    *part = None;
-    Ok(Taken { dropped, packets })
+    Ok(Prepared {
+        dropped: interruption(part),
+        packets: copied_alone(alloc, limits, octets)?,
+        change: Change::Closed,
+    })
 }
 
-// The part that a first segment opens, with room for three segments more of its size.
+// The part that a first segment opens, with room for the longest packet.
 fn begun(alloc: Global, limits: &Limits, octets: &[u8]) -> Result<Vec<u8>, AllocError>
     requires { is_too_long limits.now octets.now ≡ false }
-    ensures { IfOk result (λ part. part.items ≡ octets.now) }
+    ensures octets { IfOk result (λ part. part.items ≡ octets.now) }
+    ensures room { IfOk result (λ part. limits.now.max_packet ≤ vec_capacity part) }
 {
-    let mut part = Vec::with_capacity(alloc, 4 * octets.len())?;
+    let mut part = Vec::with_capacity(alloc, limits.max_packet as usize)?;
     part.extend_from_slice(octets)?;
     Ok(part)
 }
 
 // The cells of a first segment.
-fn take_first(
+fn first_cell(
     alloc: Global,
     limits: &Limits,
-    part: &mut Option<Vec<u8>>,
+    part: &Option<Vec<u8>>,
     octets: &[u8],
-) -> Result<Taken, AllocError>
-    ensures ok { IfOk result (λ t. outcome_of t part.new
-        ≡ cell limits.now flags.First (part_view part.old) octets.now) }
-    ensures err { OnErr result (part_view part.new ≡ part_view part.old) }
+) -> Result<Prepared, AllocError>
+    ensures outcome { IfOk result (λ p. outcome_of p (part_view part.now) octets.now
+        ≡ cell limits.now flags.First (part_view part.now) octets.now) }
+    ensures room { IfOk result (λ p. HasRoom
+        limits.now.max_packet p.change (part_view part.now) octets.now) }
     ensures none { IsSureAtOnce
-        (cell limits.now flags.First (part_view part.old) octets.now) result }
+        (cell limits.now flags.First (part_view part.now) octets.now) result }
 {
-    let dropped = interruption(part);
     if limits.is_too_long(octets.len()) {
-        return Ok(dropped_for(alloc, Dropped::TooLong, part));
+        return Ok(no_packets(alloc, Some(Dropped::TooLong), Change::Closed));
     }
-    *part = Some(begun(alloc, limits, octets)?);
-    Ok(no_packets(alloc, dropped))
+    let part_begun = begun(alloc, limits, octets)?;
+    Ok(no_packets(alloc, interruption(part), Change::Opened(part_begun)))
 }
 
 // Why a continuing or a last segment is not added to the part that is open.
@@ -112,75 +114,75 @@ fn fault_of_adding(limits: &Limits, part: &Option<Vec<u8>>, octets: &[u8]) -> Op
 }
 
 // The cells of a continuing segment.
-fn take_continuing(
+fn continuing_cell(
     alloc: Global,
     limits: &Limits,
-    part: &mut Option<Vec<u8>>,
+    part: &Option<Vec<u8>>,
     octets: &[u8],
-) -> Result<Taken, AllocError>
-    ensures ok { IfOk result (λ t. outcome_of t part.new
-        ≡ cell limits.now flags.Continuing (part_view part.old) octets.now) }
-    ensures err { OnErr result (part_view part.new ≡ part_view part.old) }
-    ensures none { IsSureAtOnce
-        (cell limits.now flags.Continuing (part_view part.old) octets.now) result }
+) -> Prepared
+    ensures outcome { outcome_of result (part_view part.now) octets.now
+        ≡ cell limits.now flags.Continuing (part_view part.now) octets.now }
+    ensures room { HasRoom
+        limits.now.max_packet result.change (part_view part.now) octets.now }
 {
-    if let Some(cause) = fault_of_adding(limits, part, octets) {
-        return Ok(dropped_for(alloc, cause, part));
+    match fault_of_adding(limits, part, octets) {
+        Some(cause) => no_packets(alloc, Some(cause), Change::Closed),
+        None => no_packets(alloc, None, Change::Grown),
     }
-    let Some(joined) = part else { unreachable!() };
-    joined.extend_from_slice(octets)?;
-    Ok(no_packets(alloc, None))
 }
 
 // The cells of a last segment.
-fn take_last(
+fn last_cell(
     alloc: Global,
     limits: &Limits,
-    part: &mut Option<Vec<u8>>,
+    part: &Option<Vec<u8>>,
     octets: &[u8],
-) -> Result<Taken, AllocError>
-    ensures ok { IfOk result (λ t. outcome_of t part.new
-        ≡ cell limits.now flags.Last (part_view part.old) octets.now) }
-    ensures err { OnErr result (part_view part.new ≡ part_view part.old) }
+) -> Result<Prepared, AllocError>
+    ensures outcome { IfOk result (λ p. outcome_of p (part_view part.now) octets.now
+        ≡ cell limits.now flags.Last (part_view part.now) octets.now) }
+    ensures room { IfOk result (λ p. HasRoom
+        limits.now.max_packet p.change (part_view part.now) octets.now) }
     ensures none { IsSureAtOnce
-        (cell limits.now flags.Last (part_view part.old) octets.now) result }
+        (cell limits.now flags.Last (part_view part.now) octets.now) result }
 {
     if let Some(cause) = fault_of_adding(limits, part, octets) {
-        return Ok(dropped_for(alloc, cause, part));
+        return Ok(no_packets(alloc, Some(cause), Change::Closed));
     }
-    let Some(joined) = part else { unreachable!() };
-    let mut packets = Vec::with_capacity(alloc, 1)?;
+    let Some(begun) = part else { unreachable!() };
+    let mut packets = SmallVec::new(alloc);
+    let mut joined = Vec::with_capacity(alloc, begun.len() + octets.len())?;
+    joined.extend_from_slice(begun)?;
     joined.extend_from_slice(octets)?;
-    let fault = fault_of_one(limits, joined);
-    if let Some(whole) = part.take() {
-        if fault.is_none() {
-            let _ = packets.push(whole);
-        }
+    let dropped = fault_of_one(limits, &joined);
+    if dropped.is_none() {
+        packets.push_reserved(joined);
     }
-    Ok(Taken {
-        dropped: fault,
+    Ok(Prepared {
+        dropped,
         packets,
+        change: Change::Closed,
     })
 }
 
 // A segment comes on an open MAP.
-pub(crate) fn take_cell(
+pub(crate) fn prepared_cell(
     alloc: Global,
     limits: &Limits,
-    part: &mut Option<Vec<u8>>,
+    part: &Option<Vec<u8>>,
     segment: &Segment,
-) -> Result<Taken, AllocError>
-    ensures ok { IfOk result (λ t. outcome_of t part.new
-        ≡ cell_at limits.now (part_view part.old) (segment_view segment.now)) }
-    ensures err { OnErr result (part_view part.new ≡ part_view part.old) }
+) -> Result<Prepared, AllocError>
+    ensures outcome { IfOk result (λ p. outcome_of p (part_view part.now) segment.now.payload.now
+        ≡ cell_at limits.now (part_view part.now) (segment_view segment.now)) }
+    ensures room { IfOk result (λ p. HasRoom
+        limits.now.max_packet p.change (part_view part.now) segment.now.payload.now) }
     ensures none { IsSureAtOnce
-        (cell_at limits.now (part_view part.old) (segment_view segment.now)) result }
+        (cell_at limits.now (part_view part.now) (segment_view segment.now)) result }
 {
     let octets = segment.payload;
     match segment.header.flags {
-        SegmentFlags::Alone => take_alone(alloc, limits, part, octets),
-        SegmentFlags::First => take_first(alloc, limits, part, octets),
-        SegmentFlags::Continuing => take_continuing(alloc, limits, part, octets),
-        SegmentFlags::Last => take_last(alloc, limits, part, octets),
+        SegmentFlags::Alone => alone_cell(alloc, limits, part, octets),
+        SegmentFlags::First => first_cell(alloc, limits, part, octets),
+        SegmentFlags::Continuing => Ok(continuing_cell(alloc, limits, part, octets)),
+        SegmentFlags::Last => last_cell(alloc, limits, part, octets),
     }
 }

@@ -38,8 +38,26 @@ pub fn cut<'a>(
     if has_packet_over(octets, limits.max_packet as usize) {
         return Err(MapFault::TooLong);
     }
+    cut_packets(octets, map, limits.part as usize, segments)
+}
+
+/// Adds the segments of whole packets, as `cut` does, where it is known that the octets are these.
+/// The fault is 3 `Memory`; and then the segments are as they were.
+pub fn cut_packets<'a>(
+    octets: &'a [u8],
+    map: u8,
+    part: usize,
+    segments: &mut Vec<Segment<'a>>,
+) -> Result<(), MapFault>
+    requires some_part { 1 ≤ part }
+    requires whole { rest_in octets.now ≡ [] }
+    ensures ok { OnOk result (segment_views segments.new.items
+        ≡ segment_views segments.old.items ++ segments_of part map octets.now) }
+    ensures err { OnErr result (segments.new.items ≡ segments.old.items) }
+    ensures memory { IsOkUnless result MapFault.Memory }
+{
     let before = segments.len();
-    if append_groups(octets, map, limits.part as usize, segments).is_err() {
+    if append_groups(octets, map, part, segments).is_err() {
         segments.truncate(before);
         return Err(MapFault::Memory);
     }

@@ -3,11 +3,12 @@
 ghost use Rattle.std.specs.Prelude.{◌≡◌, [], ◌∷◌, IfOk};
 ghost use Rattle.map_service.specs.Packets.{packets_in};
 ghost use Rattle.map_service.specs.Taking.{one_fault, several_fault, alone_fault, alone_packets};
-ghost use Rattle.map_service.specs.Views.{packets_view};
+ghost use Rattle.map_service.specs.Views.{ready_view};
 
 use crate::dropped::Dropped;
 use crate::limits::Limits;
 use crate::packets::{are_whole_packets, has_packet_over};
+use smallvec::SmallVec;
 use space_packet::{is_packet, packet_len};
 use std::alloc::{AllocError, Global};
 
@@ -49,11 +50,11 @@ pub fn fault_of_alone(limits: &Limits, octets: &[u8]) -> Option<Dropped>
     }
 }
 
-/// The packets that octets are, one after another, as far as they are whole, each copied.
-pub fn copied_packets(alloc: Global, octets: &[u8]) -> Result<Vec<Vec<u8>>, AllocError>
-    ensures { IfOk result (λ v. packets_view v ≡ packets_in octets.now) }
+// The packets that octets are, one after another, as far as they are whole, each copied.
+fn copied_packets(alloc: Global, octets: &[u8]) -> Result<SmallVec<Vec<u8>, 1>, AllocError>
+    ensures { IfOk result (λ v. ready_view v ≡ packets_in octets.now) }
 {
-    let mut packets = Vec::new(alloc);
+    let mut packets = SmallVec::new(alloc);
     let mut rest = octets;
     'packets: while let Some(len) = packet_len(rest) {
         let (packet, behind) = rest.split_at(len);
@@ -64,11 +65,11 @@ pub fn copied_packets(alloc: Global, octets: &[u8]) -> Result<Vec<Vec<u8>>, Allo
 }
 
 // The packet that octets are, copied.
-fn copied_packet(alloc: Global, octets: &[u8]) -> Result<Vec<Vec<u8>>, AllocError>
-    ensures { IfOk result (λ v. packets_view v ≡ octets.now ∷ []) }
+fn copied_packet(alloc: Global, octets: &[u8]) -> Result<SmallVec<Vec<u8>, 1>, AllocError>
+    ensures { IfOk result (λ v. ready_view v ≡ octets.now ∷ []) }
 {
-    let mut packets = Vec::with_capacity(alloc, 1)?;
-    packets.push(Vec::from_slice(alloc, octets)?)?;
+    let mut packets = SmallVec::new(alloc);
+    packets.push_reserved(Vec::from_slice(alloc, octets)?);
     Ok(packets)
 }
 
@@ -77,8 +78,8 @@ pub(crate) fn copied_alone(
     alloc: Global,
     limits: &Limits,
     octets: &[u8],
-) -> Result<Vec<Vec<u8>>, AllocError>
-    ensures { IfOk result (λ v. packets_view v ≡ alone_packets limits.now octets.now) }
+) -> Result<SmallVec<Vec<u8>, 1>, AllocError>
+    ensures { IfOk result (λ v. ready_view v ≡ alone_packets limits.now octets.now) }
 {
     if limits.blocking {
         copied_packets(alloc, octets)

@@ -15,15 +15,17 @@ mod judging;
 mod laws;
 mod limits;
 mod packets;
+mod prepared;
 
 pub use assembling::Assembler;
 pub use counting::segment_count;
-pub use cutting::{cut, group_len};
+pub use cutting::{cut, cut_packets, group_len};
 pub use cutting_laws::{
     law_of_groups, law_of_histories, law_of_parts, law_of_passage, law_of_segments,
 };
 pub use dropped::{Dropped, Taken};
 pub use fault::MapFault;
-pub use judging::{copied_packets, fault_of_alone, fault_of_one};
+pub use judging::{fault_of_alone, fault_of_one};
 pub use laws::{law_of_beginnings, law_of_packets, law_of_steps};
 pub use limits::Limits;
+pub use prepared::Prepared;

@@ -1,10 +1,10 @@
 use Rattle.std.proofs.Common.{◌≡◌, ◌++◌, length}
 use Rattle.map_service.specs.Packets.{packets_in}
-use Rattle.map_service.specs.Views.{packets_view}
+use Rattle.map_service.specs.Views.{ready_view}
 use Rattle.map_service.proofs.judging.copied_packets.Given as goal
 
 abbrev pub invariant-packets : goal.invariant-packets
-invariant-packets l = packets_in l.fn.octets ≡ packets_view l.packets ++ packets_in l.rest
+invariant-packets l = packets_in l.fn.octets ≡ ready_view l.packets ++ packets_in l.rest
 
 abbrev pub decreases-packets : goal.decreases-packets
 decreases-packets l = length l.rest

@@ -1,8 +1,22 @@
-use Rattle.std.proofs.Common.{rules, ◌≡◌, ℕ, ◌<◌, ◌∙◌, List, Option, None, sym, ap, get_or, length, arith}
+use Rattle.std.proofs.Common.{rules, ◌≡◌, ◌≤◌, ℕ, ◌<◌, ◌∙◌, List, Option, None, IfSome, subst, sym, ap, get_or, length}
+use Rattle.std.proofs.Common.{arith}
 use Rattle.std.proofs.lemmas.List.{ext_get_or, get_or-map, get_or-replicate, length-map, length-replicate}
+use Rattle.std.specs.Vec.{vec_capacity}
 use Rattle.map_service.specs.Views.{part_view}
 use Rattle.map_service.proofs.Places.{no_parts}
+use Rattle.map_service.proofs.Rooms.{all_by_places}
 use Rattle.map_service.proofs.assembling.Assembler.new.Goals as goal
+
+pub invariant_of-result : goal.invariant_of-result
+invariant_of-result c = record {
+  maps = c.from_fn.ensures.items.long;
+  room = all_by_places (λ part. IfSome part (λ v. c.args.limits.max_packet ≤ vec_capacity v)) c.from_fn.result None
+      (λ i lt.
+      let within : i < 64 = omega (arith, c.from_fn.ensures.items.long) in
+      let none : get_or c.from_fn.result i None ≡ None =
+      let called = (c.from_fn.ensures.items.at i None within).2 in search (rules, called) in
+      subst (λ part. IfSome part (λ v. c.args.limits.max_packet ≤ vec_capacity v)) (sym none) tt);
+}
 
 pub returns-clause-parts : goal.returns-clause-parts
 returns-clause-parts c =
