@@ -3,4 +3,6 @@ pub mod Commanding
 pub mod Counting
 pub mod Delivering
 pub mod InRange
+pub mod Reported
+mod Short
 pub mod Submitting

@@ -1,6 +1,7 @@
 -- What is known of packets that the ground does not refuse: their segments fit into frames.
 use Rattle.std.proofs.Common.{◌≡◌, ◌≤◌, ◌<◌, ℕ, zero, suc, get_or, Bool, true, false, not, cond, List, [], ◌∷◌, length}
-use Rattle.std.proofs.Common.{Option, Some, None, refl, arith}
+use Rattle.std.proofs.Common.{Option, Some, None, refl, ◌∙◌, arith}
+use Rattle.std.specs.Prelude.{◌==◌}
 use Rattle.std.specs.List.{AllByRecursion}
 use Rattle.std.proofs.lemmas.Bool.{ltb-true, ltb-false, and_parts, not-false}
 use Rattle.tc_frame.specs.declared.frame.SegmentFlags.TheVariants.{Alone}
@@ -8,14 +9,17 @@ use Rattle.tc_frame.specs.declared.frame.Segment.{Segment}
 use Rattle.tc_frame.specs.Layout.{SegmentView, segment_view}
 use Rattle.map_service.specs.Assembly.{is_open}
 use Rattle.map_service.specs.Cutting.{segment_with, segment_views, segments_of, IsPart}
-use Rattle.map_service.specs.Packets.{is_packet}
+use Rattle.map_service.specs.Packets.{is_packet, packets_in, are_taken, is_some_over}
 use Rattle.map_service.specs.declared.limits.Limits.{Limits}
 use Rattle.map_service.proofs.Parts.{segments-parts}
-use Rattle.map_service.proofs.Passage.{one-from}
+use Rattle.map_service.proofs.Groups.{in-one}
+use Rattle.map_service.proofs.Passage.{one-from, IsCuttable, cuttable_from}
+use Rattle.map_service.proofs.Pieces.{parts-fit}
 use Rattle.space_packet.proofs.WholePackets.{no_more}
 use Rattle.nodes.specs.declared.fault.LinkFault.{LinkFault}
+use Rattle.nodes.specs.Commands.{are_commands, commands_fault}
 use Rattle.nodes.specs.Parameters.{IsConfig, limits_of}
-use Rattle.nodes.specs.Ground.{GroundState, submit_fault, bypass_fault}
+use Rattle.nodes.specs.Ground.{GroundState, is_closed, is_over_slots, submit_fault, bypass_fault}
 use Rattle.nodes.specs.OwnedFields.{FitsFrame}
 
 -- a test that refused nothing
@@ -62,6 +66,40 @@ pub segments_fit : (part m : ℕ) (octets : List ℕ) → 1 ≤ part → part �
     → AllByRecursion FitsFrame (segments_of part m octets)
 segments_fit part m octets one le lt =
     all_fit part m (segments_of part m octets) le lt (segments-parts part m octets one)
+
+-- ---- what is known of commands
+
+pub cuttable : (limits : Limits) (octets : List ℕ) → commands_fault limits octets ≡ None → IsCuttable limits octets
+cuttable limits octets h =
+    let command = passed _ _ _ h in
+    let taken : are_taken limits.blocking octets ≡ true = (and_parts _ _ (not-false _ command.0)).0 in
+    let over : is_some_over limits.max_packet (packets_in octets) ≡ false = (passed _ _ _ command.1).0 in
+    cuttable_from limits octets (rw (taken, over) refl)
+
+-- those that fit into one segment
+pub in_one_segment : (limits : Limits) (m : ℕ) (octets : List ℕ) → commands_fault limits octets ≡ None
+    → length octets ≤ limits.part
+    → segments_of limits.part m octets ≡ segment_with Alone m octets ∷ []
+in_one_segment limits m octets h le =
+    let is = cuttable limits octets h in
+    in-one limits.part m octets is.whole is.some le ∙ parts-fit m limits.part octets is.some le
+
+pub alone_fits : (limits : Limits) (m : ℕ) (octets : List ℕ) → commands_fault limits octets ≡ None → m < 64
+    → limits.part ≤ 1016
+    → length octets ≤ limits.part → FitsFrame (segment_with Alone m octets)
+alone_fits limits m octets h lt most le =
+    record { map = lt; least = (cuttable limits octets h).some; most = omega arith }
+
+-- what the ground does not refuse
+pub not_refused : (s : GroundState) (m : ℕ) (octets : List ℕ) → is_closed s.fop.state ≡ false
+    → is_open (limits_of s.config) m ≡ true
+    → commands_fault (limits_of s.config) octets ≡ None → is_over_slots s m octets ≡ false
+    → submit_fault s m octets ≡ None
+not_refused s m octets closed opened h over =
+    let command = passed _ _ _ h in
+    let all : are_commands (s.config.blocking == 1) octets ≡ true = not-false _ command.0 in
+    let short : is_some_over s.config.max_packet (packets_in octets) ≡ false = (passed _ _ _ command.1).0 in
+    rw (closed, opened, all, short, over) refl
 
 -- one of several
 pub fits_at : (segments : List Segment) (i : ℕ) (d : Segment) → AllByRecursion FitsFrame (segment_views segments)

@@ -2,13 +2,10 @@
 use Rattle.std.specs.Prelude.{List, ℕ, if◌then◌else◌, Option, Some, None, Result, Ok, Err}
 use Rattle.tc_frame.specs.declared.frame.Check.TheVariants.{On}
 use Rattle.tc_frame.specs.declared.fault.TcFault.{TcFault}
-use Rattle.tc_frame.specs.Layout.{SegmentView, BodyView, Ad, Bd, Bc, FrameView, segment_octets}
+use Rattle.tc_frame.specs.Layout.{SegmentView, BodyView, Ad, Bd, Bc, FrameView}
 use Rattle.tc_frame.specs.Reading.{frame_at}
 use Rattle.cop1.specs.Farm.{verdict_of}
-use Rattle.map_service.specs.Views.{packets_view}
-use Rattle.nodes.specs.declared.spacecraft.acceptance.Acceptance.{Acceptance}
 use Rattle.nodes.specs.Spacecraft.{SpacecraftState, is_free, is_own_frame, is_accepted}
-use Rattle.nodes.specs.Spacecraft.{assemble_step}
 
 abbrev pub segment_in_body : SpacecraftState → BodyView → Option SegmentView
 segment_in_body s (Ad n segment) =
@@ -26,24 +23,3 @@ segment_in_frame s (Ok frame) =
 -- the segment that will be accepted
 abbrev pub segment_to_accept : SpacecraftState → List ℕ → Option SegmentView
 segment_to_accept s octets = segment_in_frame s (frame_at On octets)
-
--- what a segment that is accepted adds to the records: a data field, and on its MAP the packets
--- that are ready with it
-pub record AcceptanceView : Type 0 where
-  pub field : List ℕ
-  pub on_map : ℕ
-  pub packets : List (List ℕ)
-
-abbrev pub acceptance_with : SpacecraftState → SegmentView → AcceptanceView
-acceptance_with s segment = record {
-  field = segment_octets segment;
-  on_map = segment.header.map;
-  packets = (assemble_step s segment).packets;
-}
-
-abbrev pub acceptance_view : Acceptance → AcceptanceView
-acceptance_view f = record {
-  field = f.field.items;
-  on_map = f.map;
-  packets = packets_view f.packets;
-}

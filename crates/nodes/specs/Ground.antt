@@ -12,7 +12,7 @@ use Rattle.map_service.specs.Cutting.{segment_with, segments_of}
 use Rattle.map_service.specs.Packets.{packets_in, is_some_over}
 use Rattle.cop1.specs.declared.fault.CopFault.{CopFault}
 use Rattle.cop1.specs.declared.fop.FopMode.{FopMode}
-use Rattle.cop1.specs.declared.fop.FopMode.TheVariants.{S1, S2, S3, S4, S5, S6}
+use Rattle.cop1.specs.declared.fop.FopMode.TheVariants.{S6}
 use Rattle.cop1.specs.declared.fop.Alert.{Alert}
 use Rattle.cop1.specs.declared.fop.Directive.{Directive}
 use Rattle.cop1.specs.FopState.{FopState, new_fop}
@@ -69,17 +69,16 @@ after_moving_up s None [] = s
 after_moving_up s None (segment ∷ pending) =
     record s { fop = record s.fop { waiting = Some segment }; pending = pending }
 
--- nothing is pending in S6, where an alert leads; in the other states the oldest moves up
-abbrev pub settle_in : GroundState → FopMode → GroundState
-settle_in s S1 = after_moving_up s s.fop.waiting s.pending
-settle_in s S2 = after_moving_up s s.fop.waiting s.pending
-settle_in s S3 = after_moving_up s s.fop.waiting s.pending
-settle_in s S4 = after_moving_up s s.fop.waiting s.pending
-settle_in s S5 = after_moving_up s s.fop.waiting s.pending
-settle_in s S6 = record s { pending = [] }
+-- S6, in which packets are not taken, and where an alert leads
+abbrev pub is_closed : FopMode → Bool
+is_closed S6 = true
+is_closed _ = false
 
+-- nothing is pending in S6; in the other states the oldest moves up
 abbrev pub settle_step : GroundState → GroundState
-settle_step s = settle_in s s.fop.state
+settle_step s =
+    if is_closed s.fop.state then record s { pending = [] }
+    else after_moving_up s s.fop.waiting s.pending
 
 -- the ground, where its sender is so
 abbrev pub with_fop : GroundState → FopState SegmentView → GroundState
@@ -93,14 +92,6 @@ abbrev pub outstanding : GroundState → List SegmentView
 outstanding s = map (λ u. u.unit) s.fop.sent ++ unsent_segments s
 
 -- ---- packets are submitted
-
-abbrev pub is_closed : FopMode → Bool
-is_closed S1 = false
-is_closed S2 = false
-is_closed S3 = false
-is_closed S4 = false
-is_closed S5 = false
-is_closed S6 = true
 
 abbrev pub segments_on : GroundState → ℕ → List ℕ → List SegmentView
 segments_on s m octets = segments_of s.config.part m octets

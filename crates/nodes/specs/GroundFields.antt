@@ -1,6 +1,9 @@
 -- How a ground's fields stand for its state.
-use Rattle.std.specs.Prelude.{◌++◌}
+use Rattle.std.specs.Prelude.{◌≡◌, ◌≤◌, ◌++◌, true}
+use Rattle.std.specs.List.{AllByRecursion}
+use Rattle.std.specs.VecDeque.{deque_capacity}
 use Rattle.tm_link.specs.Extraction.{octets_of}
+use Rattle.map_service.specs.Packets.{is_packet}
 use Rattle.nodes.specs.declared.ground_node.Ground.TheInside.{Inside}
 use Rattle.nodes.specs.Parameters.{IsConfig}
 use Rattle.nodes.specs.Ground.{GroundState}
@@ -15,5 +18,11 @@ state_of s = record {
 }
 
 -- what the fields keep to
-abbrev pub IsSound : Inside → Type 0
-IsSound s = IsConfig s.config
+pub record IsSound (s : Inside) : Type 0 where
+  pub config : IsConfig s.config
+  -- all segments that may wait have room
+  pub room : s.config.queue_slots ≤ deque_capacity s.pending
+  -- what waits to be taken is packets, each exactly one
+  pub packets :
+      AllByRecursion (λ p. is_packet p ≡ true)
+      (octets_of s.waiting.items ++ octets_of s.finished.items)

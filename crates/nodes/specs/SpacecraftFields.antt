@@ -1,5 +1,6 @@
 -- How a spacecraft's fields stand for its state.
-use Rattle.std.specs.Prelude.{◌≡◌, ◌<◌}
+use Rattle.std.specs.Prelude.{◌≡◌, ◌<◌, ◌≤◌, ◌+◌}
+use Rattle.std.specs.VecDeque.{deque_capacity}
 use Rattle.map_service.specs.Exactness.{HasPartsOf}
 use Rattle.tm_link.specs.Building.{BuilderState}
 use Rattle.nodes.specs.declared.config.Config.{Config}
@@ -30,4 +31,6 @@ pub record IsSound (s : Inside) : Type 0 where
   -- the assembler keeps the open parts of the segments that were accepted
   pub parts : HasPartsOf s.assembler s.accepted.segments
   pub slots : s.bypass.capacity ≡ s.config.bypass_slots
+  -- one more frame's packets have room where the buffer is free
+  pub room : s.config.ready_slots + 170 ≤ deque_capacity s.ready
   pub frames : IsBuilderOf s.config s.builder

@@ -2,6 +2,7 @@
 
 mod pulling;
 mod receiving;
+mod submission;
 mod submitting;
 
 use crate::config::Config;
@@ -12,6 +13,7 @@ use std::alloc::Global;
 use std::collections::VecDeque;
 use std::marker::Model;
 use std::mem;
+pub use submission::Submission;
 use tm_link::Extractor;
 
 /// The node on the ground: it cuts packets into segments, sends these in telecommand frames until
@@ -41,15 +43,29 @@ impl Model for Ground {
 }
 
 impl Ground {
-    ghost use Rattle.std.specs.Prelude.{◌≡◌, length, option_map, IfOk, OnErr, IsOkUnless};
+    ghost use Rattle.std.specs.Prelude.{◌≡◌, ◌≤◌, ◌/◌, ◌%◌, true, length, option_map, IfOk, IfSome, OnErr, IsOkUnless};
+    ghost use Rattle.map_service.specs.Packets.{is_packet};
     ghost use Rattle.cop1.specs.FopState.{IsFop};
-    ghost use Rattle.nodes.specs.Parameters.{IsConfig};
     ghost use Rattle.nodes.specs.Ground.{new_ground, ground_step, Direct, Tick, TakeTelemetry, settle_step, outstanding};
 
     /// A ground that has sent nothing, its sender in S6, with each field of the configuration in its
     /// range. The fault is 6 `Memory`.
     pub fn new(alloc: Global, config: &Config) -> Result<Ground, LinkFault>
-        requires { IsConfig config.now }
+        requires scid { config.now.scid ≤ 1023 }
+        requires vcid { config.now.vcid ≤ 63 }
+        requires tm_vcid { config.now.tm_vcid ≤ 7 }
+        requires even { config.now.width % 2 ≡ 0 }
+        requires width { (2 ≤ config.now.width) × (config.now.width ≤ 254) }
+        requires window { (1 ≤ config.now.window) × (config.now.window ≤ config.now.width / 2) }
+        requires limit { (1 ≤ config.now.limit) × (config.now.limit ≤ 255) }
+        requires timer { (1 ≤ config.now.timer) × (config.now.timer ≤ 65535) }
+        requires part { (1 ≤ config.now.part) × (config.now.part ≤ 1016) }
+        requires max_packet { (7 ≤ config.now.max_packet) × (config.now.max_packet ≤ 65542) }
+        requires ready_slots { (1 ≤ config.now.ready_slots) × (config.now.ready_slots ≤ 64) }
+        requires bypass_slots { (1 ≤ config.now.bypass_slots) × (config.now.bypass_slots ≤ 64) }
+        requires queue_slots { (1 ≤ config.now.queue_slots) × (config.now.queue_slots ≤ 65535) }
+        requires frame_length { (16 ≤ config.now.frame_length) × (config.now.frame_length ≤ 2048) }
+        requires blocking { config.now.blocking ≤ 1 }
         ensures made { IfOk result (λ g. g ≡ new_ground config.now) }
         ensures fault { IsOkUnless result LinkFault.Memory }
     {
@@ -65,11 +81,14 @@ impl Ground {
         let Ok(extractor) = Extractor::new(alloc) else {
             return Err(LinkFault::Memory);
         };
+        let Ok(pending) = VecDeque::with_capacity(alloc, config.queue_slots as usize) else {
+            return Err(LinkFault::Memory);
+        };
         Ok(Ground {
             alloc,
             config: *config,
             fop,
-            pending: VecDeque::new(alloc),
+            pending,
             extractor,
             waiting: VecDeque::new(alloc),
             finished: Vec::new(alloc),
@@ -141,6 +160,9 @@ impl Ground {
         ensures answer { option_map (λ v. v.items) result
             ≡ (ground_step self.old TakeTelemetry).answer }
         ensures after { self.new ≡ (ground_step self.old TakeTelemetry).after }
+
+        // It is exactly one packet, so at least 7 octets.
+        ensures packet { IfSome result (λ v. is_packet v.items ≡ true) }
     {
         if self.waiting.is_empty() {
             let finished = mem::replace(&mut self.finished, Vec::new(self.alloc));

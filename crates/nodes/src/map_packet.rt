@@ -3,10 +3,11 @@
 ghost use Rattle.std.specs.Prelude.{◌≡◌, ◌≤◌, ◌+◌, ◌++◌, length};
 ghost use Rattle.std.specs.List.{AllByRecursion};
 ghost use Rattle.std.specs.VecDeque.{deque_len, deque_capacity};
-ghost use Rattle.map_service.specs.Views.{packets_view};
+ghost use Rattle.map_service.specs.Views.{ready_view};
 ghost use Rattle.nodes.specs.Packets.{put_on_map};
 ghost use Rattle.nodes.specs.PacketFields.{IsPacketOn};
 
+use smallvec::SmallVec;
 use std::collections::VecDeque;
 use std::marker::Model;
 
@@ -53,10 +54,11 @@ impl MapPacket {
 }
 
 // Puts the packets of a MAP, for which there is room, after those that are ready.
-pub(crate) fn make_ready(ready: &mut VecDeque<MapPacket>, on_map: u8, packets: Vec<Vec<u8>>)
-    requires whole { AllByRecursion IsPacketOn (put_on_map on_map (packets_view packets)) }
-    requires room { deque_len ready.old + length (packets_view packets) ≤ deque_capacity ready.old }
-    ensures { ready.new.items ≡ ready.old.items ++ put_on_map on_map (packets_view packets) }
+pub(crate) fn make_ready(ready: &mut VecDeque<MapPacket>, on_map: u8, packets: SmallVec<Vec<u8>, 1>)
+    requires whole { AllByRecursion IsPacketOn (put_on_map on_map (ready_view packets)) }
+    requires room { deque_len ready.old + length (ready_view packets) ≤ deque_capacity ready.old }
+    ensures items { ready.new.items ≡ ready.old.items ++ put_on_map on_map (ready_view packets) }
+    ensures capacity { deque_capacity ready.new ≡ deque_capacity ready.old }
 {
     for octets in packets {
         ready.push_back_reserved(MapPacket::new(on_map, octets));

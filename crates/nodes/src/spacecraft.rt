@@ -1,13 +1,14 @@
 // The node on board.
 
-mod acceptance;
+mod accepted;
+mod arrival;
 mod receiving;
 
 use crate::config::Config;
 use crate::fault::LinkFault;
 use crate::map_packet::MapPacket;
 use crate::segment_log::SegmentLog;
-pub use acceptance::Acceptance;
+pub use arrival::Arrival;
 use circular_buffer::HeapCircularBuffer;
 use clcw::{Clcw, encode};
 use cop1::Farm;
@@ -16,6 +17,9 @@ use std::alloc::Global;
 use std::collections::VecDeque;
 use std::marker::Model;
 use tm_link::{TmBuilder, TmFault};
+
+// More packets than one frame may make ready: its segment has at most 1,016 octets of data, and a packet more than 6.
+const MOST_PACKETS: usize = 170;
 
 /// The node on board: it receives telecommand frames, keeps the packets that they carry until they
 /// are taken, and sends telemetry frames that report on the receiver.
@@ -44,21 +48,34 @@ impl Model for Spacecraft {
 }
 
 impl Spacecraft {
-    ghost use Rattle.std.specs.Prelude.{◌≡◌, ◌<◌, ◌++◌, drop, take, true, Ok, option_map, IfOk, IfSome, IfErr, OnOk, OnErr, IsOkUnless, IsTrue};
+    ghost use Rattle.std.specs.Prelude.{◌≡◌, ◌<◌, ◌≤◌, ◌/◌, ◌%◌, ◌++◌, drop, take, true, Ok, option_map, IfOk, IfSome, IfErr, OnOk, OnErr, IsOkUnless, IsTrue};
     ghost use Rattle.clcw.specs.Writing.{fits};
     ghost use Rattle.cop1.specs.Report.{report_of};
     ghost use Rattle.map_service.specs.Packets.{is_packet};
     ghost use Rattle.tm_link.specs.Building.{queue_fault};
     ghost use Rattle.tm_link.specs.Layout.{IsTmFrame};
     ghost use Rattle.tm_link.specs.Writing.{spelling};
-    ghost use Rattle.nodes.specs.Parameters.{IsConfig};
     ghost use Rattle.nodes.specs.Spacecraft.{new_spacecraft, spacecraft_step, Take, TakeBypass, Telemetry, Report, IsOwnFrame};
     ghost use Rattle.nodes.specs.Packets.{packet_view};
 
     /// A spacecraft that has received nothing, with each field of the configuration in its range. The
     /// fault is 6 `Memory`.
     pub fn new(alloc: Global, config: &Config) -> Result<Spacecraft, LinkFault>
-        requires { IsConfig config.now }
+        requires scid { config.now.scid ≤ 1023 }
+        requires vcid { config.now.vcid ≤ 63 }
+        requires tm_vcid { config.now.tm_vcid ≤ 7 }
+        requires even { config.now.width % 2 ≡ 0 }
+        requires width { (2 ≤ config.now.width) × (config.now.width ≤ 254) }
+        requires window { (1 ≤ config.now.window) × (config.now.window ≤ config.now.width / 2) }
+        requires limit { (1 ≤ config.now.limit) × (config.now.limit ≤ 255) }
+        requires timer { (1 ≤ config.now.timer) × (config.now.timer ≤ 65535) }
+        requires part { (1 ≤ config.now.part) × (config.now.part ≤ 1016) }
+        requires max_packet { (7 ≤ config.now.max_packet) × (config.now.max_packet ≤ 65542) }
+        requires ready_slots { (1 ≤ config.now.ready_slots) × (config.now.ready_slots ≤ 64) }
+        requires bypass_slots { (1 ≤ config.now.bypass_slots) × (config.now.bypass_slots ≤ 64) }
+        requires queue_slots { (1 ≤ config.now.queue_slots) × (config.now.queue_slots ≤ 65535) }
+        requires frame_length { (16 ≤ config.now.frame_length) × (config.now.frame_length ≤ 2048) }
+        requires blocking { config.now.blocking ≤ 1 }
         ensures made { IfOk result (λ spacecraft. spacecraft ≡ new_spacecraft config.now) }
         ensures fault { IsOkUnless result LinkFault.Memory }
     {
@@ -70,6 +87,10 @@ impl Spacecraft {
         let Ok(builder) = TmBuilder::new(alloc, scid, config.tm_vcid as u8, total) else {
             unreachable!()
         };
+        let most = config.ready_slots as usize + MOST_PACKETS;
+        let Ok(ready) = VecDeque::with_capacity(alloc, most) else {
+            return Err(LinkFault::Memory);
+        };
         let slots = config.bypass_slots as usize;
         let Ok(bypass) = HeapCircularBuffer::with_capacity(alloc, slots) else {
             return Err(LinkFault::Memory);
@@ -80,7 +101,7 @@ impl Spacecraft {
             farm,
             assembler: Assembler::new(alloc, config.limits()),
             accepted: SegmentLog::new(),
-            ready: VecDeque::new(alloc),
+            ready,
             bypass,
             builder,
         })

@@ -7,7 +7,7 @@ use Rattle.tc_frame.specs.declared.fault.TcFault.{TcFault}
 use Rattle.tc_frame.specs.Layout.{SegmentView, BodyView, Ad, Bd, Bc, FrameView, segment_octets}
 use Rattle.tc_frame.specs.Reading.{frame_at}
 use Rattle.cop1.specs.declared.farm.Verdict.{Verdict}
-use Rattle.cop1.specs.declared.farm.Verdict.TheVariants.{Accepted, Ahead, NoBuffer, Behind, Outside, Discarded}
+use Rattle.cop1.specs.declared.farm.Verdict.TheVariants.{Accepted}
 use Rattle.cop1.specs.Farm.{verdict_of}
 use Rattle.nodes.specs.declared.received.Received.{Received}
 use Rattle.nodes.specs.declared.received.Received.TheVariants.{Foreign}
@@ -24,11 +24,7 @@ in_sequence : (s : SpacecraftState) (n : ℕ) (segment : SegmentView) (verdict :
     → (sequence_outcome s n segment verdict).after.accepted ≡ s.accepted
     ++ option_to_list (if is_accepted verdict then Some segment else None)
 in_sequence s n segment Accepted = refl
-in_sequence s n segment Ahead = same s.accepted
-in_sequence s n segment NoBuffer = same s.accepted
-in_sequence s n segment Behind = same s.accepted
-in_sequence s n segment Outside = same s.accepted
-in_sequence s n segment Discarded = same s.accepted
+in_sequence s n segment _ = same s.accepted
 
 in_bypass : (s : SpacecraftState) (segment : SegmentView) (kept : Bool)
     → (bypass_outcome s segment kept).after.accepted ≡ s.accepted ++ []

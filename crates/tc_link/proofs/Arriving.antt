@@ -1,6 +1,6 @@
 -- A frame that arrives, or doesn't, keeps what holds late in a session.
 use Rattle.std.proofs.Common.{◌≡◌, ℕ, ◌+◌, ◌*◌, ◌/◌, ◌%◌, ◌<◌, ◌≤◌, ◌⊎◌, inl, inr, max, Bool, true, false, List, []}
-use Rattle.std.proofs.Common.{◌∷◌, ◌++◌, take, drop, Some, Result, Ok, Err, refl, ap, sym, subst, ◌∙◌, arith}
+use Rattle.std.proofs.Common.{◌∷◌, ◌++◌, take, drop, Some, Result, Ok, refl, ap, sym, subst, ◌∙◌, arith}
 use Rattle.std.specs.Prelude.{slice_get}
 use Rattle.std.proofs.lemmas.Bool.{eq-eqb}
 use Rattle.std.proofs.lemmas.List.{drop-append-le}
@@ -13,10 +13,9 @@ use Rattle.tc_frame.specs.Reading.{frame_at}
 use Rattle.cop1.specs.declared.farm.FarmMode.{FarmMode}
 use Rattle.cop1.specs.declared.farm.FarmMode.TheVariants.{Open, Wait, Lockout}
 use Rattle.cop1.specs.declared.farm.Verdict.{Verdict}
-use Rattle.cop1.specs.declared.farm.Verdict.TheVariants.{Accepted, Ahead, NoBuffer, Behind, Outside, Discarded}
+use Rattle.cop1.specs.declared.farm.Verdict.TheVariants.{Accepted, Ahead, NoBuffer, Outside}
 use Rattle.cop1.specs.declared.fop.Directive.{Directive}
-use Rattle.cop1.specs.declared.fop.Directive.TheVariants.{InitWithoutCheck, InitWithCheck, InitUnlock, InitSetVr}
-use Rattle.cop1.specs.declared.fop.Directive.TheVariants.{Terminate, SetVs, SetWindow, SetLimit, SetTimer}
+use Rattle.cop1.specs.declared.fop.Directive.TheVariants.{InitUnlock, InitSetVr}
 use Rattle.cop1.specs.Farm.{FarmState, verdict_of, after_verdict, after_unlock, after_set_vr, after_type_b}
 use Rattle.nodes.specs.declared.config.Config.{Config}
 use Rattle.nodes.specs.Parameters.{limits_of}
@@ -24,7 +23,7 @@ use Rattle.nodes.specs.BypassSegments.{is_kept}
 use Rattle.nodes.specs.Spacecraft.{SpacecraftState, frame_outcome, body_outcome, sequence_outcome, bypass_outcome}
 use Rattle.nodes.specs.Spacecraft.{after_segment, is_free}
 use Rattle.nodes.specs.Ground.{frame_of}
-use Rattle.tc_link.specs.World.{World, up_deliver_step, up_lose_step, up_damage_outcome, up_damage_step}
+use Rattle.tc_link.specs.World.{World, up_deliver_step}
 use Rattle.tc_link.specs.PlainLink.{takes, leaves}
 use Rattle.tc_link.specs.Confirmation.{IsChecked}
 use Rattle.tc_link.proofs.Lists.{take_next}
@@ -47,11 +46,7 @@ own_arrives s c f r is reads =
 
 abbrev accepted_by : SpacecraftState → SegmentView → Verdict → SpacecraftState
 accepted_by s u Accepted = after_segment s u
-accepted_by s u Ahead = s
-accepted_by s u NoBuffer = s
-accepted_by s u Behind = s
-accepted_by s u Outside = s
-accepted_by s u Discarded = s
+accepted_by s u _ = s
 
 abbrev judged : SpacecraftState → SegmentView → Verdict → SpacecraftState
 judged s u v = record (accepted_by s u v) { farm = after_verdict s.farm v }
@@ -59,11 +54,7 @@ judged s u v = record (accepted_by s u v) { farm = after_verdict s.farm v }
 judged_is : (s : SpacecraftState) (n : ℕ) (u : SegmentView) (v : Verdict) → verdict_of s.farm n (is_free s) ≡ v
     → (sequence_outcome s n u v).after ≡ judged s u v
 judged_is s n u Accepted e = ap (λ v. record (after_segment s u) { farm = after_verdict s.farm v }) e
-judged_is s n u Ahead e = ap (λ v. record s { farm = after_verdict s.farm v }) e
-judged_is s n u NoBuffer e = ap (λ v. record s { farm = after_verdict s.farm v }) e
-judged_is s n u Behind e = ap (λ v. record s { farm = after_verdict s.farm v }) e
-judged_is s n u Outside e = ap (λ v. record s { farm = after_verdict s.farm v }) e
-judged_is s n u Discarded e = ap (λ v. record s { farm = after_verdict s.farm v }) e
+judged_is s n u _ e = ap (λ v. record s { farm = after_verdict s.farm v }) e
 
 module _ (c : Config) (d : Directive) (base : ℕ) (w : World) (k : Steady c w) (g : Late c d base w) (bs : List (List ℕ))
     (fs : List BodyView) (rest : Carries c bs fs) where
@@ -143,9 +134,7 @@ module _ (c : Config) (d : Directive) (base : ℕ) (w : World) (k : Steady c w) 
   judged_keeps i x u qs NoBuffer also same up fit here =
       left_keeps i x qs (after_verdict w.spacecraft.farm NoBuffer) also up fit refl refl
       (inr (refl, omega (arith, fit.1)))
-  judged_keeps i x u qs Behind also same up fit here =
-      left_keeps i x qs w.spacecraft.farm also up fit refl refl (inl refl)
-  judged_keeps i x u qs Discarded also same up fit here =
+  judged_keeps i x u qs _ also same up fit here =
       left_keeps i x qs w.spacecraft.farm also up fit refl refl (inl refl)
 
   -- ---- a control frame, while no unit was accepted, and a frame past the sequence control
@@ -217,13 +206,7 @@ module _ (c : Config) (d : Directive) (base : ℕ) (w : World) (k : Steady c w) 
   control_keeps Unlock e is front fits up = unlock_keeps w.spacecraft.farm.state front up
   control_keeps (SetVr y) InitUnlock is front fits up = elim fits [ ]
   control_keeps (SetVr y) (InitSetVr x) is front fits up = set_keeps y w.spacecraft.farm.state front fits up
-  control_keeps (SetVr y) InitWithoutCheck is front fits up = elim fits [ ]
-  control_keeps (SetVr y) InitWithCheck is front fits up = elim fits [ ]
-  control_keeps (SetVr y) Terminate is front fits up = elim fits [ ]
-  control_keeps (SetVr y) (SetVs x) is front fits up = elim fits [ ]
-  control_keeps (SetVr y) (SetWindow x) is front fits up = elim fits [ ]
-  control_keeps (SetVr y) (SetLimit x) is front fits up = elim fits [ ]
-  control_keeps (SetVr y) (SetTimer x) is front fits up = elim fits [ ]
+  control_keeps (SetVr y) _ is front fits up = elim fits [ ]
 
   bypass_keeps : (s : SegmentView) (kept : Bool) → UpIs d base g.front fs g.plain.up
       → Next c d base g.plain (record w { up = bs; spacecraft = (bypass_outcome w.spacecraft s kept).after })
@@ -274,28 +257,13 @@ module _ (c : Config) (d : Directive) (base : ℕ) (w : World) (k : Steady c w) 
       (sym (own_arrives w.spacecraft c f (frame_at On b) k.spacecraft_config carries.0))
       (body_keeps c d base w k g bs fs carries.1 f g.plain.up refl up g.linked.fits)
 
-  lose_keeps : (bs : List (List ℕ)) (fs : List BodyView) → Carries c bs fs → UpIs d base g.front fs g.plain.up
-      → Next c d base g.plain (up_lose_step w bs).after
-  lose_keeps [] fs carries up = stays g
-  lose_keeps (b ∷ bs) [] carries up = elim carries [ ]
-  lose_keeps (b ∷ bs) (f ∷ fs) carries up = lost_keeps c d base w k g bs fs carries.1 f g.plain.up refl up g.linked.fits
+  lost_first : (b : List ℕ) (bs : List (List ℕ)) (fs : List BodyView) → Carries c (b ∷ bs) fs
+      → UpIs d base g.front fs g.plain.up → Next c d base g.plain (record w { up = bs })
+  lost_first b bs [] carries up = elim carries [ ]
+  lost_first b bs (f ∷ fs) carries up = lost_keeps c d base w k g bs fs carries.1 f g.plain.up refl up g.linked.fits
 
-  detect_keeps : (b : List ℕ) (bs : List (List ℕ)) (r : Result FrameView TcFault)
-      → Next c d base g.plain (up_lose_step w (b ∷ bs)).after → Next c d base g.plain (up_damage_outcome w bs r).after
-  detect_keeps b bs (Ok frame) lost = stays g
-  detect_keeps b bs (Err fault) lost = lost
-
-  damage_keeps : (bs : List (List ℕ)) (fs : List BodyView) (damaged : List ℕ) → Carries c bs fs
-      → UpIs d base g.front fs g.plain.up → Next c d base g.plain (up_damage_step w bs damaged).after
-  damage_keeps [] fs damaged carries up = stays g
-  damage_keeps (b ∷ bs) fs damaged carries up =
-      detect_keeps b bs (frame_at On damaged) (lose_keeps (b ∷ bs) fs carries up)
+  pub late_up_lost : (b : List ℕ) (bs : List (List ℕ)) → w.up ≡ b ∷ bs → Next c d base g.plain (record w { up = bs })
+  late_up_lost b bs is = lost_first b bs g.frames (rw is at g.linked.carries) g.linked.up_is
 
   pub up_deliver_keeps : Next c d base g.plain (up_deliver_step w w.up).after
   up_deliver_keeps = deliver_keeps w.up g.frames refl g.linked.carries g.linked.up_is
-
-  pub up_lose_keeps : Next c d base g.plain (up_lose_step w w.up).after
-  up_lose_keeps = lose_keeps w.up g.frames g.linked.carries g.linked.up_is
-
-  pub up_damage_keeps : (damaged : List ℕ) → Next c d base g.plain (up_damage_step w w.up damaged).after
-  up_damage_keeps damaged = damage_keeps w.up g.frames damaged g.linked.carries g.linked.up_is

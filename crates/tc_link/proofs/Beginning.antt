@@ -4,21 +4,16 @@ use Rattle.std.proofs.Common.{arith}
 use Rattle.std.specs.Prelude.{◌==◌}
 use Rattle.std.proofs.lemmas.Bool.{and_parts, eqb-true}
 use Rattle.std.proofs.lemmas.List.{drop_all}
-use Rattle.tc_frame.specs.declared.frame.Command.TheVariants.{Unlock, SetVr}
 use Rattle.tc_frame.specs.Layout.{SegmentView}
-use Rattle.cop1.specs.declared.fop.Control.TheVariants.{Idle, Due}
+use Rattle.cop1.specs.declared.fop.Control.TheVariants.{Idle}
 use Rattle.cop1.specs.declared.fop.Directive.{Directive}
 use Rattle.cop1.specs.declared.fop.Directive.TheVariants.{InitWithoutCheck, InitWithCheck, InitUnlock, InitSetVr}
-use Rattle.cop1.specs.declared.fop.Directive.TheVariants.{Terminate, SetVs, SetWindow, SetLimit, SetTimer}
-use Rattle.cop1.specs.declared.fop.FopMode.{FopMode}
-use Rattle.cop1.specs.declared.fop.FopMode.TheVariants.{S1, S2, S3, S4, S5, S6}
-use Rattle.cop1.specs.FopDirective.{from_S6, after_begin}
+use Rattle.cop1.specs.declared.fop.FopMode.TheVariants.{S1, S6}
+use Rattle.cop1.specs.FopDirective.{after_begin}
 use Rattle.cop1.specs.FopState.{FopState}
-use Rattle.cop1.specs.FopWords.{after_restart}
 use Rattle.nodes.specs.declared.config.Config.{Config}
-use Rattle.tc_link.specs.declared.event.Event.TheVariants as events
 use Rattle.nodes.specs.Ground.{is_closed, directive_outcome}
-use Rattle.tc_link.specs.World.{World, world_step, world_after_directive, session_begun_by, begins_clean, is_quiet}
+use Rattle.tc_link.specs.World.{World, world_after_directive, session_begun_by, begins_clean, is_quiet}
 use Rattle.tc_link.specs.World.{is_none}
 use Rattle.tc_link.specs.PlainLink.{new_link, none}
 use Rattle.tc_link.specs.Reached.{IsDirective}
@@ -26,6 +21,16 @@ use Rattle.tc_link.proofs.Early.{Begun, early_settled}
 use Rattle.tc_link.proofs.Linked.{Commanded, Late, Carries, Reporting}
 use Rattle.tc_link.proofs.Settled.{late_settled}
 use Rattle.tc_link.proofs.SteadyWorld.{Sound}
+use Rattle.cop1.proofs.Obeying.{obeyed, begun}
+use Rattle.tc_link.proofs.Closed.{closed_is}
+use Rattle.cop1.specs.Directives.{is_initiation}
+use Rattle.cop1.specs.FopDirective.{obeys, directive_step}
+use Rattle.cop1.specs.FopWords.{FopOutcome}
+use Rattle.cop1.specs.declared.fop.Alert.{Alert}
+use Rattle.cop1.specs.declared.fault.CopFault.{CopFault}
+use Rattle.std.proofs.Common.{Option, None, Result, option_to_list, ◌++◌}
+use Rattle.tc_link.specs.Confirmation.{IsChecked}
+use Rattle.tc_link.proofs.Early.{IsEarly, ControlFits, HeldEarly}
 
 pub record Clean (c : Config) (w : World) : Type 0 where
   pub directive : Directive
@@ -72,7 +77,7 @@ module _ (c : Config) (w : World) (k : Sound c w) where
           reports = [];
           linked = record {
             opened = ap (λ b. Some (record { directive = InitWithoutCheck; clean = b })) clean;
-            confirmed_is = λ checked. elim checked [ ];
+            confirmed_is = λ checked. absurd (checked.1 refl);
             confirmed_so = λ is. absurd cc;
             base_octet = k.ground_node.fop.vs_octet;
             vr_is = omega (
@@ -108,159 +113,94 @@ module _ (c : Config) (w : World) (k : Sound c w) where
             fits = tt;
             rises = omega arith;
           };
-          calm = λ checked. elim checked [ ];
+          calm = λ checked. absurd (checked.1 refl);
         }
 
-    with_check : begins_clean w InitWithCheck ≡ true
-        → Begun c InitWithCheck w.ground_node.fop.vs
-        (begun_with InitWithCheck (record (after_restart (after_begin w.ground_node.fop))
-        { nn = w.ground_node.fop.vs; state = S4 }))
-    with_check clean = record {
-      frames = [];
-      reports = [];
-      early = record {
-        opened = ap (λ b. Some (record { directive = InitWithCheck; clean = b })) clean;
-        base_octet = k.ground_node.fop.vs_octet;
-        checked = tt;
-        nn_octet = k.ground_node.fop.vs_octet;
-        early = refl;
-        held = record { vs_is = refl; nn_is = refl; sent_is = refl; rest_is = pending };
-        given = tt;
-        units_fit = tt;
-        sent_none = refl;
-        accepted_none = none_after;
-        acked_none = refl;
-        command_is = rw idle tt;
-        carries = carries clean;
-        reporting = reporting clean;
-        up_is = tt;
-        lasts = tt;
-        same = λ e. tt;
-        confirmed_not = refl;
-      };
-    }
+    -- where it has to be confirmed
+    checked_begins : (d : Directive) (base : ℕ) (f : FopState SegmentView) → base < 256 → IsChecked d
+        → begins_clean w d ≡ true → is_quiet w ≡ true → IsEarly d f.state → is_closed f.state ≡ false → f.vs ≡ base
+        → f.nn ≡ base → f.sent ≡ [] → f.waiting ≡ None → ControlFits d base f.control → Begun c d base (begun_with d f)
+    checked_begins d base f octet checked clean still early on vs nn sent waiting control =
+        let rest : option_to_list f.waiting ++ w.ground_node.pending ≡ [] = rw waiting pending in
+        let held : HeldEarly (is_closed f.state) base f.vs f.nn f.sent (option_to_list f.waiting
+        ++ w.ground_node.pending) [] = rw on (record { vs_is = vs; nn_is = nn; sent_is = sent; rest_is = rest }) in
+        record {
+          frames = [];
+          reports = [];
+          early = record {
+            opened = ap (λ b. Some (record { directive = d; clean = b })) clean;
+            base_octet = octet;
+            checked = checked;
+            nn_octet = rw nn octet;
+            early = early;
+            held = held;
+            given = tt;
+            units_fit = tt;
+            sent_none = refl;
+            accepted_none = none_after;
+            acked_none = refl;
+            command_is = control;
+            carries = carries still;
+            reporting = reporting still;
+            up_is = tt;
+            lasts = tt;
+            same = λ e. tt;
+            confirmed_not = refl;
+          };
+        }
 
-    with_unlock : begins_clean w InitUnlock ≡ true
-        → Begun c InitUnlock w.ground_node.fop.vs
-        (begun_with InitUnlock (record (after_begin w.ground_node.fop)
-        { nn = w.ground_node.fop.vs; control = Due Unlock; state = S5 }))
-    with_unlock clean = record {
-      frames = [];
-      reports = [];
-      early = record {
-        opened = ap (λ b. Some (record { directive = InitUnlock; clean = b })) clean;
-        base_octet = k.ground_node.fop.vs_octet;
-        checked = tt;
-        nn_octet = k.ground_node.fop.vs_octet;
-        early = λ e. absurd cc;
-        held = record { vs_is = refl; nn_is = refl; sent_is = refl; rest_is = pending };
-        given = tt;
-        units_fit = tt;
-        sent_none = refl;
-        accepted_none = none_after;
-        acked_none = refl;
-        command_is = tt;
-        carries = carries clean;
-        reporting = reporting clean;
-        up_is = tt;
-        lasts = tt;
-        same = λ e. tt;
-        confirmed_not = refl;
-      };
-    }
+    begun_clean : (d : Directive) → is_initiation d ≡ true → IsDirective d → begins_clean w d ≡ true
+        → Clean c (world_after_directive w d
+        (directive_outcome w.ground_node (obeys (begun w.ground_node.fop d)))).after
+    begun_clean InitWithoutCheck is fits clean =
+        let f : FopState SegmentView = begun w.ground_node.fop InitWithoutCheck in
+        let session = without_check clean in
+        record {
+          directive = InitWithoutCheck;
+          base = f.vs;
+          session = inr (late_settled c InitWithoutCheck f.vs (begun_with InitWithoutCheck f) session);
+        }
+    begun_clean InitWithCheck is fits clean =
+        let f : FopState SegmentView = begun w.ground_node.fop InitWithCheck in
+        let session = checked_begins InitWithCheck f.vs f k.ground_node.fop.vs_octet (refl, λ e. absurd cc) clean clean
+        refl refl refl refl refl refl (rw idle tt) in
+        record {
+          directive = InitWithCheck;
+          base = f.vs;
+          session = inl (early_settled c InitWithCheck f.vs (begun_with InitWithCheck f) session);
+        }
+    begun_clean InitUnlock is fits clean =
+        let f : FopState SegmentView = begun w.ground_node.fop InitUnlock in
+        let session = checked_begins InitUnlock f.vs f k.ground_node.fop.vs_octet (refl, λ e. absurd cc) clean clean
+        (λ e. absurd cc) refl refl refl refl refl tt in
+        record {
+          directive = InitUnlock;
+          base = f.vs;
+          session = inl (early_settled c InitUnlock f.vs (begun_with InitUnlock f) session);
+        }
+    begun_clean (InitSetVr x) is fits clean =
+        let f : FopState SegmentView = begun w.ground_node.fop (InitSetVr x) in
+        let session = checked_begins (InitSetVr x) x f fits (refl, λ e. absurd cc) clean clean (λ e. absurd cc) refl
+        refl refl refl refl refl in
+        record {
+          directive = InitSetVr x;
+          base = x;
+          session = inl (early_settled c (InitSetVr x) x (begun_with (InitSetVr x) f) session);
+        }
+    begun_clean _ is fits clean = absurd cc
 
-    with_set_vr : (x : ℕ) → x < 256 → begins_clean w (InitSetVr x) ≡ true
-        → Begun c (InitSetVr x) x (begun_with (InitSetVr x)
-        (record (after_begin w.ground_node.fop) { vs = x; nn = x; control = Due (SetVr x); state = S5 }))
-    with_set_vr x lt clean = record {
-      frames = [];
-      reports = [];
-      early = record {
-        opened = ap (λ b. Some (record { directive = InitSetVr x; clean = b })) clean;
-        base_octet = lt;
-        checked = tt;
-        nn_octet = lt;
-        early = λ e. absurd cc;
-        held = record { vs_is = refl; nn_is = refl; sent_is = refl; rest_is = pending };
-        given = tt;
-        units_fit = tt;
-        sent_none = refl;
-        accepted_none = none_after;
-        acked_none = refl;
-        command_is = refl;
-        carries = carries clean;
-        reporting = reporting clean;
-        up_is = tt;
-        lasts = tt;
-        same = λ e. tt;
-        confirmed_not = refl;
-      };
-    }
+  abbrev Begins : Directive → FopOutcome SegmentView (Result (Option Alert) CopFault) → Type 0
+  Begins d o = is_initiation d ≡ true → IsDirective d → is_closed w.ground_node.fop.state ≡ true
+      → begins_clean w d ≡ true → Clean c (world_after_directive w d (directive_outcome w.ground_node o)).after
 
   -- only in S6 does an initiation begin a session
-  begins_in : (d : Directive) (next : FopState SegmentView) (m : FopMode) → is_closed m ≡ true
-      → w.ground_node.fop.state ≡ m
-      → (w.ground_node.fop.state ≡ S6
-      → Clean c (world_after_directive w d (directive_outcome w.ground_node (from_S6 w.ground_node.fop S6 next))).after)
-      → Clean c (world_after_directive w d (directive_outcome w.ground_node (from_S6 w.ground_node.fop m next))).after
-  begins_in d next S1 off is so = absurd cc
-  begins_in d next S2 off is so = absurd cc
-  begins_in d next S3 off is so = absurd cc
-  begins_in d next S4 off is so = absurd cc
-  begins_in d next S5 off is so = absurd cc
-  begins_in d next S6 off is so = so is
-
-  pub begins : (d : Directive) → IsDirective d → is_closed w.ground_node.fop.state ≡ true → begins_clean w d ≡ true
-      → Clean c (world_step w (events.Directive d)).after
-  begins InitWithoutCheck fits off clean =
-      let f : FopState SegmentView = record (after_begin w.ground_node.fop) { nn = w.ground_node.fop.vs; state = S1 } in
-      begins_in InitWithoutCheck f w.ground_node.fop.state off refl
-      (λ is. record {
-        directive =
-            InitWithoutCheck;
-        base =
-            w.ground_node.fop.vs;
-        session =
-            inr (late_settled c InitWithoutCheck w.ground_node.fop.vs (begun_with InitWithoutCheck f)
-            (without_check is clean));
-      })
-  begins InitWithCheck fits off clean =
-      let f : FopState SegmentView =
-      record (after_restart (after_begin w.ground_node.fop)) { nn = w.ground_node.fop.vs; state = S4 } in
-      begins_in InitWithCheck f w.ground_node.fop.state off refl
-      (λ is. record {
-        directive =
-            InitWithCheck;
-        base =
-            w.ground_node.fop.vs;
-        session =
-            inl (early_settled c InitWithCheck w.ground_node.fop.vs (begun_with InitWithCheck f) (with_check is clean));
-      })
-  begins InitUnlock fits off clean =
-      let f : FopState SegmentView =
-      record (after_begin w.ground_node.fop) { nn = w.ground_node.fop.vs; control = Due Unlock; state = S5 } in
-      begins_in InitUnlock f w.ground_node.fop.state off refl
-      (λ is. record {
-        directive =
-            InitUnlock;
-        base =
-            w.ground_node.fop.vs;
-        session =
-            inl (early_settled c InitUnlock w.ground_node.fop.vs (begun_with InitUnlock f) (with_unlock is clean));
-      })
-  begins (InitSetVr x) fits off clean =
-      let f : FopState SegmentView =
-      record (after_begin w.ground_node.fop) { vs = x; nn = x; control = Due (SetVr x); state = S5 } in
-      begins_in (InitSetVr x) f w.ground_node.fop.state off refl
-      (λ is. record {
-        directive =
-            InitSetVr x;
-        base =
-            x;
-        session = inl (early_settled c (InitSetVr x) x (begun_with (InitSetVr x) f) (with_set_vr is x fits clean));
-      })
-  begins Terminate fits off clean = absurd cc
-  begins (SetVs x) fits off clean = absurd cc
-  begins (SetWindow n) fits off clean = absurd cc
-  begins (SetLimit n) fits off clean = absurd cc
-  begins (SetTimer n) fits off clean = absurd cc
+  pub begins : (d : Directive) → Begins d (directive_step w.ground_node.fop d)
+  begins = obeyed w.ground_node.fop Begins (record {
+    refused = λ d fault on is fits off clean. absurd (on is (closed_is w.ground_node.fop.state off));
+    begins = λ d is off same fits closed clean. begun_clean off d is fits clean;
+    terminated = λ is fits off clean. absurd cc;
+    numbers = λ x so is fits off clean. absurd cc;
+    windows = λ n small is fits off clean. absurd cc;
+    limits = λ n is fits off clean. absurd cc;
+    times = λ n is fits off clean. absurd cc;
+  })

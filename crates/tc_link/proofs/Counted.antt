@@ -2,7 +2,7 @@
 use Rattle.std.proofs.Common.{◌≡◌, ◌≢◌, ◌≤◌, ◌<◌, ℕ, suc, ◌+◌, true, false, not, List, [], ◌∷◌, ◌++◌, length, map, drop}
 use Rattle.std.proofs.Common.{Option, Some, None, Result, Ok, Err, option_map, refl, ap, ◌∙◌, arith, length-append}
 use Rattle.std.proofs.Common.{length-drop}
-use Rattle.std.specs.Prelude.{◌==◌, ◌&&◌, ◌||◌, nat_lt}
+use Rattle.std.specs.Prelude.{◌==◌}
 use Rattle.std.proofs.lemmas.Bool.{cond_both, ltb-false, eq-eqb}
 use Rattle.std.proofs.lemmas.List.{length-map}
 use Rattle.clcw.specs.Reading.{clcw_at}
@@ -15,22 +15,20 @@ use Rattle.cop1.specs.Modulo.{ahead_by}
 use Rattle.cop1.specs.declared.fault.CopFault.{CopFault}
 use Rattle.cop1.specs.declared.fop.Alert.{Alert}
 use Rattle.cop1.specs.declared.fop.Alert.TheVariants as alert
-use Rattle.cop1.specs.declared.fop.Control.{Control}
-use Rattle.cop1.specs.declared.fop.Control.TheVariants.{Idle, Due, Sent}
+use Rattle.cop1.specs.declared.fop.Control.TheVariants.{Idle}
 use Rattle.cop1.specs.declared.fop.Directive.{Directive}
 use Rattle.cop1.specs.declared.fop.Directive.TheVariants.{InitWithoutCheck, InitWithCheck, InitUnlock, InitSetVr}
-use Rattle.cop1.specs.declared.fop.Directive.TheVariants.{Terminate, SetVs, SetWindow, SetLimit, SetTimer}
 use Rattle.cop1.specs.declared.fop.FopMode.{FopMode}
 use Rattle.cop1.specs.declared.fop.FopMode.TheVariants.{S1, S2, S3, S4, S5, S6}
-use Rattle.cop1.specs.FopDirective.{from_S6, terminate_in, directive_step}
-use Rattle.cop1.specs.FopPull.{PulledUnit, SequencePulled, pulls, pull_step, pull_control, pull_bypass, pull_in}
-use Rattle.cop1.specs.FopPull.{pull_marked, pull_waiting, oldest_marked, without_oldest_mark, after_send_first}
+use Rattle.cop1.specs.FopDirective.{directive_step}
+use Rattle.cop1.specs.FopPull.{PulledUnit, pull_step}
+use Rattle.cop1.specs.FopPull.{without_oldest_mark}
 use Rattle.cop1.specs.FopReport.{locks, waits, asks, clcw_step, report_in, report_while_active, report_in_S4, confirms}
-use Rattle.cop1.specs.FopReport.{nothing_new, after_move_on, goes_back, goes_back_again, after_new_value}
+use Rattle.cop1.specs.FopReport.{after_move_on, after_new_value}
 use Rattle.cop1.specs.FopState.{FopState, SentUnit, IsFop}
-use Rattle.cop1.specs.FopTick.{tick_step, tick_with, timer_ended, after_count, due_again}
+use Rattle.cop1.specs.FopTick.{tick_step}
 use Rattle.cop1.specs.FopWords.{FopOutcome, is_outside, after_acknowledge, after_repeat, after_alert, after_stop}
-use Rattle.cop1.specs.FopWords.{alerts, goes_on, after_gone, marked_unit, unmarked_unit}
+use Rattle.cop1.specs.FopWords.{alerts, goes_on, marked_unit, unmarked_unit}
 use Rattle.tm_link.specs.declared.fault.TmFault.{TmFault}
 use Rattle.tm_link.specs.Extraction.{Extracted, extract_step}
 use Rattle.tm_link.specs.Layout as telemetry
@@ -41,8 +39,15 @@ use Rattle.nodes.specs.Ground.{GroundState, GroundOutcome, settle_step, with_fop
 use Rattle.nodes.specs.Ground.{after_bypass, directive_outcome, after_extraction, own_frame_outcome, telemetry_outcome}
 use Rattle.nodes.specs.Ground.{frame_to_send}
 use Rattle.nodes.specs.Ground as ground
-use Rattle.tc_link.specs.World.{first_in, is_initiation}
+use Rattle.cop1.specs.Directives.{is_initiation}
+use Rattle.tc_link.specs.World.{first_in}
 use Rattle.tc_link.proofs.Settled.{settled_keeps}
+use Rattle.cop1.proofs.Obeying.{obeyed, begun}
+use Rattle.cop1.proofs.Ticking.{ticked}
+use Rattle.cop1.proofs.Pulling.{pulled_out}
+use Rattle.cop1.proofs.Hearing.{heard_active}
+use Rattle.cop1.specs.FopReport.{retransmits}
+use Rattle.std.proofs.Common.{Bool}
 
 -- ---- the sender's queue
 
@@ -57,86 +62,49 @@ module _ (f : FopState SegmentView) where
   no_longer : (g : FopState SegmentView) → g.sent ≡ map marked_unit f.sent → length g.sent ≤ length f.sent
   no_longer g is = omega (arith, ap length is, length-map f.sent marked_unit)
 
-  timer_shorter : (m : FopMode) → IsShorter f (timer_ended (after_stop f) m)
-  timer_shorter S1 =
-      cond_both (nat_lt f.count f.limit) (goes_on (after_repeat (after_stop f))) _ (λ o. IsShorter f o)
-      (λ t. no_longer (after_repeat (after_stop f)) refl) (λ t. omega arith)
-  timer_shorter S2 =
-      cond_both (nat_lt f.count f.limit) (goes_on (after_repeat (after_stop f))) _ (λ o. IsShorter f o)
-      (λ t. no_longer (after_repeat (after_stop f)) refl) (λ t. omega arith)
-  timer_shorter S3 =
-      cond_both (nat_lt f.count f.limit) (goes_on (after_count (after_stop f))) _ (λ o. IsShorter f o)
-      (λ t. omega arith) (λ t. omega arith)
-  timer_shorter S4 = omega arith
-  timer_shorter S5 =
-      cond_both (nat_lt f.count f.limit) (goes_on
-      (record (after_count (after_stop f)) { control = due_again f.control })) _ (λ o. IsShorter f o) (λ t. omega arith)
-      (λ t. omega arith)
-  timer_shorter S6 = omega arith
+  ticked_shorter : IsShorter f (tick_step f)
+  ticked_shorter = ticked f (λ o. IsShorter f o) (record {
+    off = omega arith;
+    runs = λ left. omega arith;
+    stops = omega arith;
+    repeats = λ active. no_longer (after_repeat (after_stop f)) refl;
+    counts = omega arith;
+    commands = λ is. omega arith;
+    gives_up = omega arith;
+  })
 
-  ticking_shorter : (ticks : Option ℕ) → IsShorter f (tick_with f ticks)
-  ticking_shorter None = omega arith
-  ticking_shorter (Some left) =
-      cond_both (left == 1) (timer_ended (after_stop f) f.state) _ (λ o. IsShorter f o) (λ t. timer_shorter f.state)
-      (λ t. omega arith)
-
-  from_shorter : (m : FopMode) (next : FopState SegmentView) → length next.sent ≤ length f.sent
-      → IsShorter f (from_S6 f m next)
-  from_shorter S1 next le = omega arith
-  from_shorter S2 next le = omega arith
-  from_shorter S3 next le = omega arith
-  from_shorter S4 next le = omega arith
-  from_shorter S5 next le = omega arith
-  from_shorter S6 next le = le
-
-  terminated_shorter : (m : FopMode) → IsShorter f (terminate_in f m)
-  terminated_shorter S1 = omega arith
-  terminated_shorter S2 = omega arith
-  terminated_shorter S3 = omega arith
-  terminated_shorter S4 = omega arith
-  terminated_shorter S5 = omega arith
-  terminated_shorter S6 = omega arith
+  -- an initiation leaves the queue empty
+  begun_sent : (d : Directive) → is_initiation d ≡ true → (begun f d).sent ≡ []
+  begun_sent InitWithoutCheck is = refl
+  begun_sent InitWithCheck is = refl
+  begun_sent InitUnlock is = refl
+  begun_sent (InitSetVr x) is = refl
+  begun_sent _ is = absurd cc
 
   directed_shorter : (d : Directive) → IsShorter f (directive_step f d)
-  directed_shorter InitWithoutCheck = from_shorter f.state _ (omega arith)
-  directed_shorter InitWithCheck = from_shorter f.state _ (omega arith)
-  directed_shorter InitUnlock = from_shorter f.state _ (omega arith)
-  directed_shorter (InitSetVr x) = from_shorter f.state _ (omega arith)
-  directed_shorter Terminate = terminated_shorter f.state
-  directed_shorter (SetVs x) = from_shorter f.state _ (omega arith)
-  directed_shorter (SetWindow k) =
-      cond_both ((k == 0) || nat_lt f.room k) _ _
-      (λ (o : FopOutcome SegmentView (Result (Option Alert) CopFault)). IsShorter f o) (λ t. omega arith)
-      (λ t. omega arith)
-  directed_shorter (SetLimit n) =
-      cond_both (n == 0) _ _ (λ (o : FopOutcome SegmentView (Result (Option Alert) CopFault)). IsShorter f o)
-      (λ t. omega arith) (λ t. omega arith)
-  directed_shorter (SetTimer t) =
-      cond_both (t == 0) _ _ (λ (o : FopOutcome SegmentView (Result (Option Alert) CopFault)). IsShorter f o)
-      (λ t. omega arith) (λ t. omega arith)
+  directed_shorter = obeyed f (λ d o. IsShorter f o) (record {
+    refused = λ d fault on. omega arith;
+    begins = λ d is off. omega (arith, ap length (begun_sent d is));
+    terminated = omega arith;
+    numbers = λ x off. omega arith;
+    windows = λ k small. omega arith;
+    limits = λ n. omega arith;
+    times = λ n. omega arith;
+  })
 
-  -- an initiation that is obeyed leaves the queue empty
-  abbrev IsBegun : FopOutcome SegmentView (Result (Option Alert) CopFault) → Type 0
-  IsBegun o = (a : Option Alert) → o.answer ≡ Ok a → o.after.sent ≡ []
+  abbrev IsBegun : Directive → FopOutcome SegmentView (Result (Option Alert) CopFault) → Type 0
+  IsBegun d o = is_initiation d ≡ true → (a : Option Alert) → o.answer ≡ Ok a → o.after.sent ≡ []
 
-  begun_from : (m : FopMode) (next : FopState SegmentView) → next.sent ≡ [] → IsBegun (from_S6 f m next)
-  begun_from S1 next none a is = absurd cc
-  begun_from S2 next none a is = absurd cc
-  begun_from S3 next none a is = absurd cc
-  begun_from S4 next none a is = absurd cc
-  begun_from S5 next none a is = absurd cc
-  begun_from S6 next none a is = none
-
-  begun_empty : (d : Directive) → is_initiation d ≡ true → IsBegun (directive_step f d)
-  begun_empty InitWithoutCheck is = begun_from f.state _ refl
-  begun_empty InitWithCheck is = begun_from f.state _ refl
-  begun_empty InitUnlock is = begun_from f.state _ refl
-  begun_empty (InitSetVr x) is = begun_from f.state _ refl
-  begun_empty Terminate is = absurd cc
-  begun_empty (SetVs x) is = absurd cc
-  begun_empty (SetWindow k) is = absurd cc
-  begun_empty (SetLimit n) is = absurd cc
-  begun_empty (SetTimer t) is = absurd cc
+  begun_empty : (d : Directive) → IsBegun d (directive_step f d)
+  begun_empty = obeyed f IsBegun (record {
+    refused = λ d fault on is a ok. absurd cc;
+    begins = λ d is off same a ok. begun_sent d is;
+    terminated = λ is. absurd cc;
+    numbers = λ x off is. absurd cc;
+    windows = λ k small is. absurd cc;
+    limits = λ n is. absurd cc;
+    times = λ n is. absurd cc;
+  })
 
 -- ---- a pull: the queue gains at most the unit that is first sent
 
@@ -149,33 +117,15 @@ module _ (c : Config) (f : FopState SegmentView) where
   without_mark (u ∷ us) =
       cond_both u.marked _ _ (λ (xs : Units). length xs ≡ suc (length us)) (λ t. refl) (λ t. ap suc (without_mark us))
 
-  waiting_first : (o : Option SegmentView) → IsPutFirst (pull_waiting f o)
-  waiting_first None = omega arith
-  waiting_first (Some u) =
-      cond_both (nat_lt (ahead_by f.vs f.nn) f.window) (pulls (after_send_first f u) (SequencePulled f.vs u)) _
-      (λ o. IsPutFirst o)
-      (λ t. rw (eq-eqb f.vs f.vs refl) (omega (arith, length-append f.sent (unmarked_unit u ∷ [])))) (λ t. omega arith)
-
-  marked_first : (o : Option (ℕ × SegmentView)) → IsPutFirst (pull_marked f o)
-  marked_first None = waiting_first f.waiting
-  marked_first (Some x) = omega (arith, without_mark f.sent)
-
-  in_first : (m : FopMode) → IsPutFirst (pull_in f m)
-  in_first S1 = marked_first (oldest_marked 0 f.sent)
-  in_first S2 = marked_first (oldest_marked 0 f.sent)
-  in_first S3 = omega arith
-  in_first S4 = omega arith
-  in_first S5 = omega arith
-  in_first S6 = omega arith
-
-  bypass_first : (us : List SegmentView) → IsPutFirst (pull_bypass f us)
-  bypass_first [] = in_first f.state
-  bypass_first (u ∷ us) = omega arith
-
-  control_first : (control : Control) → IsPutFirst (pull_control f control)
-  control_first Idle = bypass_first f.bypass
-  control_first (Sent command) = bypass_first f.bypass
-  control_first (Due command) = omega arith
+  put_first : IsPutFirst (pull_step f)
+  put_first = pulled_out f IsPutFirst (record {
+    none = omega arith;
+    command = λ command is. omega arith;
+    bypass = λ u us is. omega arith;
+    again = λ active x is. omega (arith, without_mark f.sent);
+    first = λ active u is room.
+        rw (eq-eqb f.vs f.vs refl) (omega (arith, length-append f.sent (unmarked_unit u ∷ [])));
+  })
 
 -- ---- a report: as many units leave the queue at least as NN(R) moves
 
@@ -202,58 +152,31 @@ module _ (f : FopState SegmentView) (fop : IsFop f) (octet : f.nn < 256) (r : Cl
         length-drop (ahead_by r.value f.nn) f.sent,
       ))
 
-  back_shorter : (m : FopMode) → (length (goes_back_again f m).sent ≤ length f.sent) × ((goes_back_again f m).nn ≡ f.nn)
-  back_shorter S1 =
-      cond_both (nat_lt f.count f.limit) (after_repeat f) f
-      (λ (g : FopState SegmentView). (length g.sent ≤ length f.sent) × (g.nn ≡ f.nn))
-      (λ t. (no_longer f (after_repeat f) refl, refl)) (λ t. (omega arith, refl))
-  back_shorter S2 = (omega arith, refl)
-  back_shorter S3 =
-      cond_both (nat_lt f.count f.limit) (after_repeat f) f
-      (λ (g : FopState SegmentView). (length g.sent ≤ length f.sent) × (g.nn ≡ f.nn))
-      (λ t. (no_longer f (after_repeat f) refl, refl)) (λ t. (omega arith, refl))
-  back_shorter S4 = (omega arith, refl)
-  back_shorter S5 = (omega arith, refl)
-  back_shorter S6 = (omega arith, refl)
-
-  nothing_gone : (m : FopMode) → IsGone (nothing_new f m)
-  nothing_gone S1 = stays f refl (omega arith)
-  nothing_gone S2 = stays (after_alert f) refl (omega arith)
-  nothing_gone S3 = stays (after_alert f) refl (omega arith)
-  nothing_gone S4 = stays f refl (omega arith)
-  nothing_gone S5 = stays f refl (omega arith)
-  nothing_gone S6 = stays f refl (omega arith)
+  again_gone : (repeats : Bool) → IsGone (goes_on (retransmits f repeats))
+  again_gone true = stays (record (after_repeat f) { state = S2 }) refl (no_longer f (after_repeat f) refl)
+  again_gone false = stays (record f { state = S2 }) refl (omega arith)
 
   active_gone : f.state ≢ S6 → IsGone (report_while_active f r)
   active_gone active =
       let left : Units = drop (ahead_by r.value f.nn) f.sent in
-      cond_both (locks r) (alerts f alert.Lockout) _ (λ o. IsGone o) (λ t. stays (after_alert f) refl (omega arith))
-      (λ l. cond_both (is_outside f r.value) (alerts f alert.NnR) _ (λ o. IsGone o)
-      (λ t. stays (after_alert f) refl (omega arith))
-      (λ inside. cond_both (not (asks r) && waits r) (alerts f alert.Clcw) _ (λ o. IsGone o)
-      (λ t. stays (after_alert f) refl (omega arith))
-      (λ w. cond_both (asks r && (r.value == f.vs)) (alerts f alert.Synch) _ (λ o. IsGone o)
-      (λ t. stays (after_alert f) refl (omega arith))
-      (λ y. cond_both (not (asks r) && (r.value == f.nn)) (nothing_new f f.state) _ (λ o. IsGone o)
-      (λ t. nothing_gone f.state)
-      (λ n. cond_both (not (asks r)) (after_gone (ahead_by r.value f.nn)
-      (goes_on (after_move_on (after_acknowledge f r.value)))) _ (λ o. IsGone o)
-      (λ t. goes (after_move_on (after_acknowledge f r.value)) active inside refl (omega arith))
-      (λ t. cond_both (not (r.value == f.nn))
-      (after_gone (ahead_by r.value f.nn) (goes_back (after_new_value f r.value) (waits r))) _ (λ o. IsGone o)
-      (λ t. cond_both (f.limit == 1) (alerts (after_new_value f r.value) alert.Limit) _
-      (λ o. IsGone (after_gone (ahead_by r.value f.nn) o))
-      (λ t. goes (after_alert (after_new_value f r.value)) active inside refl (omega arith))
-      (λ t. cond_both (waits r) (goes_on (record (after_new_value f r.value) { state = S3 })) _
-      (λ o. IsGone (after_gone (ahead_by r.value f.nn) o))
-      (λ t. goes (record (after_new_value f r.value) { state = S3 }) active inside refl (omega arith))
-      (λ t. goes (record (after_repeat (after_new_value f r.value)) { state = S2 }) active inside refl
-      (omega (arith, length-map left marked_unit)))))
-      (λ t. cond_both (f.limit == 1) (alerts f alert.Limit) _ (λ o. IsGone o)
-      (λ t. stays (after_alert f) refl (omega arith))
-      (λ t. cond_both (waits r) (goes_on (record f { state = S3 })) _ (λ o. IsGone o)
-      (λ t. stays (record f { state = S3 }) refl (omega arith))
-      (λ t. let back = back_shorter f.state in stays (goes_back_again f f.state) back.1 back.0)))))))))
+      heard_active f r IsGone (record {
+        locked = λ t. stays (after_alert f) refl (omega arith);
+        outside = λ t. stays (after_alert f) refl (omega arith);
+        waiting = λ none waiting. stays (after_alert f) refl (omega arith);
+        asks_none = λ asking at. stays (after_alert f) refl (omega arith);
+        same = stays f refl (omega arith);
+        ceases = λ none at were. stays (after_alert f) refl (omega arith);
+        moves = λ inside. goes (after_move_on (after_acknowledge f r.value)) active inside refl (omega arith);
+        others_over = λ inside asking one. goes (after_alert (after_new_value f r.value)) active inside refl
+            (omega arith);
+        others_wait = λ inside asking. goes (record (after_new_value f r.value) { state = S3 }) active inside refl
+            (omega arith);
+        others_again = λ inside asking. goes (record (after_repeat (after_new_value f r.value)) { state = S2 }) active
+            inside refl (omega (arith, length-map left marked_unit));
+        all_over = λ asking one. stays (after_alert f) refl (omega arith);
+        all_wait = λ asking. stays (record f { state = S3 }) refl (omega arith);
+        all_again = λ asking. again_gone;
+      })
 
   in_S4_gone : IsGone (report_in_S4 f r)
   in_S4_gone =
@@ -265,15 +188,13 @@ module _ (f : FopState SegmentView) (fop : IsFop f) (octet : f.nn < 256) (r : Cl
       (λ t. stays (record f { state = S1; ticks = None }) refl (omega arith)))))
 
   report_gone : (m : FopMode) → f.state ≡ m → IsGone (report_in f r m)
-  report_gone S1 is = active_gone (λ e. absurd cc)
-  report_gone S2 is = active_gone (λ e. absurd cc)
-  report_gone S3 is = active_gone (λ e. absurd cc)
   report_gone S4 is = in_S4_gone
   report_gone S5 is =
       cond_both (confirms f r) (goes_on (record f { state = S1; ticks = None; control = Idle })) (goes_on f)
       (λ o. IsGone o) (λ t. stays (record f { state = S1; ticks = None; control = Idle }) refl (omega arith))
       (λ t. stays f refl (omega arith))
   report_gone S6 is = stays f refl (omega arith)
+  report_gone _ is = active_gone (λ e. absurd cc)
 
 -- ---- the ground
 
@@ -296,13 +217,13 @@ bypass_same s m octets None = refl
 bypass_same s m octets (Some fault) = refl
 
 pub tick_shorter : (s : GroundState) → length (ground.ground_tick s).after.fop.sent ≤ length s.fop.sent
-tick_shorter s = omega (arith, ap length (with_sent s (tick_step s.fop).after), ticking_shorter s.fop s.fop.ticks)
+tick_shorter s = omega (arith, ap length (with_sent s (tick_step s.fop).after), ticked_shorter s.fop)
 
 pub pull_first : (s : GroundState)
     → length (ground.ground_pull s).after.fop.sent ≤ length s.fop.sent
     + length (first_in s.fop.vs (ground.ground_pull s).answer)
 pull_first s =
-    omega (arith, ap length (with_sent s (pull_step s.fop).after), control_first s.config s.fop s.fop.control)
+    omega (arith, ap length (with_sent s (pull_step s.fop).after), put_first s.config s.fop)
 
 directed_sent : (s : GroundState) (o : FopOutcome SegmentView (Result (Option Alert) CopFault)) (a : Option Alert)
     → o.answer ≡ Ok a → (directive_outcome s o).after.fop.sent ≡ o.after.sent

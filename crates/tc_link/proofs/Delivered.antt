@@ -31,12 +31,13 @@ use Rattle.tc_link.specs.InOrder.{IsInOrder}
 use Rattle.tc_link.specs.InTransit.{units_up, report_carried}
 use Rattle.tc_link.proofs.Beginning.{Clean}
 use Rattle.tc_link.proofs.Early.{Begun, IsEarly}
-use Rattle.tc_link.proofs.Linked.{LateBy, IsGiven, units_of_all, Holds, Held}
+use Rattle.tc_link.proofs.Linked.{LateBy, IsGiven, units_of_all}
 use Rattle.tc_link.proofs.SteadyWorld.{Sound}
 use Rattle.tc_link.proofs.Transit.{Fits}
-use Rattle.tc_link.proofs.Windows.{units_in, values_in, reports_are, late_on, directive_is}
+use Rattle.tc_link.proofs.Closed.{active_on}
+use Rattle.tc_link.proofs.Windows.{units_in, values_in, reports_are, directive_is}
 use Rattle.tc_link.specs.Confirmation.{IsChecking}
-use Rattle.nodes.specs.Ground.{is_closed}
+use Rattle.tc_link.proofs.Linked.{holds_late}
 
 -- ---- packets that were given are assembled, whatever came before
 
@@ -109,7 +110,7 @@ unsettled c d base w g settled = elim settled [
   | inr without ↦ (
       let is : Some d ≡ Some InitWithoutCheck = sym (directive_is w d g.early.opened) ∙ without in
       let it : IsChecking (Some InitWithoutCheck) = subst IsChecking is g.early.checked in
-      it)
+      it.1 refl)
 ]
 
 all_near : (h : ℕ) (p : PlainLink) (r : ℕ) (qs : List (ℕ × SegmentView)) → p.r ≤ r
@@ -123,19 +124,11 @@ module _ {Reached : PlainLink → Type 0} (c : Config) (d : Directive) (base : �
   abbrev p : PlainLink
   p = g.plain
 
-  was : is_closed w.ground_node.fop.state ≡ false
-      → Holds base w.ground_node.fop.vs w.ground_node.fop.nn w.ground_node.fop.sent
-      (unsent_segments w.ground_node) p.a p.n p.units
-  was on =
-      let it : Held false base w.ground_node.fop.vs w.ground_node.fop.nn w.ground_node.fop.sent
-      (unsent_segments w.ground_node) p.a p.n p.units = rw on at g.linked.held in
-      it
-
   late_complete : w.ground_node.fop.state ≡ S1 → outstanding w.ground_node ≡ []
       → length p.units ≤ p.r
   late_complete on nothing =
       let l = g.linked in
-      let held = was (rw on refl) in
+      let held = holds_late g.linked (rw on refl) in
       let none_left : length (units_of w.ground_node.fop.sent) + length (unsent_segments w.ground_node) ≡ 0 =
       sym (length-append (units_of w.ground_node.fop.sent) (unsent_segments w.ground_node))
       ∙ ap length nothing in
@@ -159,7 +152,7 @@ module _ {Reached : PlainLink → Type 0} (c : Config) (d : Directive) (base : �
   late_ends : IsActive w.ground_node.fop.state
       → (w.ground_node.fop.vs ≡ number_of base p.n) × (w.ground_node.fop.nn ≡ number_of base p.a)
   late_ends active =
-      let held = was (late_on w.ground_node.fop.state active) in
+      let held = holds_late g.linked (active_on w.ground_node.fop.state active) in
       (held.vs_is, held.nn_is)
 
   pub late_history : History c w base g.plain

@@ -9,9 +9,9 @@ use Rattle.cop1.specs.declared.fop.Control.TheVariants.{Idle, Due, Sent}
 use Rattle.cop1.specs.declared.fop.Directive.{Directive}
 use Rattle.cop1.specs.declared.fop.Directive.TheVariants.{InitWithCheck}
 use Rattle.cop1.specs.declared.fop.FopMode.{FopMode}
-use Rattle.cop1.specs.declared.fop.FopMode.TheVariants.{S1, S2, S3, S4, S5, S6}
+use Rattle.cop1.specs.declared.fop.FopMode.TheVariants.{S1, S4, S5, S6}
 use Rattle.cop1.specs.FopReport.{locks, waits, asks}
-use Rattle.cop1.specs.FopState.{SentUnit}
+use Rattle.cop1.specs.FopState.{SentUnit, IsActive}
 use Rattle.nodes.specs.declared.config.Config.{Config}
 use Rattle.nodes.specs.OwnedFields.{FitsFrame}
 use Rattle.nodes.specs.Ground.{GroundState, is_closed, unsent_segments, settle_step}
@@ -111,12 +111,16 @@ zeros_rank base (c ∷ cs) l all = (
 
 -- where a session waits for it, or has ended before
 abbrev pub IsEarly : Directive → FopMode → Type 0
-IsEarly d S1 = ⊥
-IsEarly d S2 = ⊥
-IsEarly d S3 = ⊥
 IsEarly d S4 = d ≡ InitWithCheck
 IsEarly d S5 = d ≡ InitWithCheck → ⊥
 IsEarly d S6 = Unit {0}
+IsEarly d _ = ⊥
+
+pub early_off : (d : Directive) (m : FopMode) → IsEarly d m → IsActive m → ⊥
+early_off d S4 early active = active
+early_off d S5 early active = active
+early_off d S6 early active = active
+early_off d _ early active = early
 
 abbrev pub ControlFits : Directive → ℕ → Control → Type 0
 ControlFits d base Idle = Unit {0}
@@ -171,6 +175,16 @@ pub record Early (c : Config) (d : Directive) (base : ℕ) (w : World) (frames :
       → AllSame reports w.spacecraft.farm.lockout w.spacecraft.farm.retransmit w.spacecraft.farm.vr
   pub confirmed_not : w.session.confirmed ≡ false
 
+-- where the sender is on
+pub holds_early : {c : Config} {d : Directive} {base : ℕ} {w : World} {frames : List BodyView} {reports : List Clcw}
+    → Early c d base w frames reports → is_closed w.ground_node.fop.state ≡ false
+    → HoldsEarly base w.ground_node.fop.vs w.ground_node.fop.nn w.ground_node.fop.sent (unsent_segments w.ground_node)
+    (units_of_all c w.session.submissions)
+holds_early {c} {d} {base} {w} l on =
+    let it : HeldEarly false base w.ground_node.fop.vs w.ground_node.fop.nn w.ground_node.fop.sent
+    (unsent_segments w.ground_node) (units_of_all c w.session.submissions) = rw on at l.held in
+    it
+
 pub record Begun (c : Config) (d : Directive) (base : ℕ) (w : World) : Type 0 where
   pub frames : List BodyView
   pub reports : List Clcw
@@ -218,10 +232,7 @@ module _ (c : Config) (d : Directive) (base : ℕ) where
       let l = g.early in
       let good = last_good base rs (WouldConfirm base w.spacecraft) all in
       let units : List SegmentView = units_of_all c w.session.submissions in
-      let was : HoldsEarly base w.ground_node.fop.vs w.ground_node.fop.nn w.ground_node.fop.sent
-      (unsent_segments w.ground_node) units =
-      let it : HeldEarly false base w.ground_node.fop.vs w.ground_node.fop.nn w.ground_node.fop.sent
-      (unsent_segments w.ground_node) units = rw on at l.held in it in
+      let was = holds_early l on in
       let held : Held (is_closed ground_node.fop.state) base ground_node.fop.vs ground_node.fop.nn ground_node.fop.sent
       (unsent_segments ground_node) 0 0 units =
       rw state_is (record {

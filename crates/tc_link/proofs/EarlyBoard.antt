@@ -1,20 +1,18 @@
 -- Before the confirmation: what happens on board, and on the way there, keeps what holds.
-use Rattle.std.proofs.Common.{◌≡◌, ℕ, Bool, true, false, List, [], ◌∷◌, ◌++◌, length, drop, Result, Ok, Err, refl, sym}
+use Rattle.std.proofs.Common.{◌≡◌, ℕ, Bool, true, false, List, [], ◌∷◌, ◌++◌, length, drop, refl, sym}
 use Rattle.std.proofs.Common.{subst, ◌∙◌}
 use Rattle.std.specs.Prelude.{nat_lt}
 use Rattle.std.proofs.lemmas.Bool.{cond_both}
 use Rattle.clcw.specs.declared.word.Clcw.{Clcw}
-use Rattle.tc_frame.specs.declared.fault.TcFault.{TcFault}
 use Rattle.tc_frame.specs.declared.frame.Check.TheVariants.{On}
 use Rattle.tc_frame.specs.declared.frame.Command.{Command}
 use Rattle.tc_frame.specs.declared.frame.Command.TheVariants.{Unlock, SetVr}
-use Rattle.tc_frame.specs.Layout.{SegmentView, BodyView, Ad, Bd, Bc, FrameView}
+use Rattle.tc_frame.specs.Layout.{SegmentView, BodyView, Ad, Bd, Bc}
 use Rattle.tc_frame.specs.Reading.{frame_at}
 use Rattle.cop1.specs.declared.farm.FarmMode.{FarmMode}
 use Rattle.cop1.specs.declared.farm.FarmMode.TheVariants.{Open, Wait, Lockout}
 use Rattle.cop1.specs.declared.fop.Directive.{Directive}
-use Rattle.cop1.specs.declared.fop.Directive.TheVariants.{InitWithoutCheck, InitWithCheck, InitUnlock, InitSetVr}
-use Rattle.cop1.specs.declared.fop.Directive.TheVariants.{Terminate, SetVs, SetWindow, SetLimit, SetTimer}
+use Rattle.cop1.specs.declared.fop.Directive.TheVariants.{InitWithCheck, InitUnlock, InitSetVr}
 use Rattle.cop1.specs.Farm.{FarmState, after_unlock, after_set_vr, after_release, after_type_b, farm_step}
 use Rattle.cop1.specs.Farm.{BufferReleased}
 use Rattle.cop1.specs.FopReport.{locks, waits, asks}
@@ -28,7 +26,6 @@ use Rattle.nodes.specs.BypassSegments.{is_kept}
 use Rattle.nodes.specs.Packets.{PacketOn}
 use Rattle.nodes.specs.Parameters.{limits_of}
 use Rattle.tc_link.specs.World.{World, world_after_take, world_after_queueing, world_after_report, up_deliver_step}
-use Rattle.tc_link.specs.World.{up_lose_step, up_damage_outcome, up_damage_step}
 use Rattle.tc_link.proofs.Arriving.{own_arrives}
 use Rattle.tc_link.proofs.Early.{WouldConfirm, Confirming, Lasts, lasts_on, lasts_push, AllSame, same_push, Begun}
 use Rattle.tc_link.proofs.Linked.{Steady, Carries, Reporting, reporting_push}
@@ -106,15 +103,7 @@ module _ (c : Config) (d : Directive) (base : ℕ) (w : World) (k : Steady c w) 
         → Begun c d base (record w { up = bs; spacecraft = (body_outcome w.spacecraft (Bc command)).after })
     control_early Unlock InitUnlock is fits = unlocks w.spacecraft.farm.state (λ x. absurd (cc (is, x)))
     control_early (SetVr y) (InitSetVr x) is fits = sets y w.spacecraft.farm.state (λ x. absurd (cc (is, x))) fits
-    control_early Unlock (InitSetVr x) is fits = elim fits [ ]
-    control_early (SetVr y) InitUnlock is fits = elim fits [ ]
-    control_early command InitWithoutCheck is fits = elim fits [ ]
-    control_early command InitWithCheck is fits = elim fits [ ]
-    control_early command Terminate is fits = elim fits [ ]
-    control_early command (SetVs x) is fits = elim fits [ ]
-    control_early command (SetWindow x) is fits = elim fits [ ]
-    control_early command (SetLimit x) is fits = elim fits [ ]
-    control_early command (SetTimer x) is fits = elim fits [ ]
+    control_early _ _ is fits = elim fits [ ]
 
     bypass_early : (s : SegmentView) (kept : Bool)
         → Begun c d base (record w { up = bs; spacecraft = (bypass_outcome w.spacecraft s kept).after })
@@ -156,31 +145,16 @@ module _ (c : Config) (d : Directive) (base : ℕ) (w : World) (k : Steady c w) 
       (sym (own_arrives w.spacecraft c f (frame_at On b) k.spacecraft_config carries.0))
       (body_early f bs fs carries.1 up)
 
-  lose_early : (bs : List (List ℕ)) (fs : List BodyView) → Carries c bs fs → UpIs d base true fs []
-      → Begun c d base (up_lose_step w bs).after
-  lose_early [] fs carries up = g
-  lose_early (b ∷ bs) [] carries up = elim carries [ ]
-  lose_early (b ∷ bs) (f ∷ fs) carries up = lost_early f bs fs carries.1 up
+  lost_first : (b : List ℕ) (bs : List (List ℕ)) (fs : List BodyView) → Carries c (b ∷ bs) fs → UpIs d base true fs []
+      → Begun c d base (record w { up = bs })
+  lost_first b bs [] carries up = elim carries [ ]
+  lost_first b bs (f ∷ fs) carries up = lost_early f bs fs carries.1 up
 
-  detect_early : (b : List ℕ) (bs : List (List ℕ)) (r : Result FrameView TcFault)
-      → Begun c d base (up_lose_step w (b ∷ bs)).after → Begun c d base (up_damage_outcome w bs r).after
-  detect_early b bs (Ok frame) lost = g
-  detect_early b bs (Err fault) lost = lost
-
-  damage_early : (bs : List (List ℕ)) (fs : List BodyView) (damaged : List ℕ) → Carries c bs fs → UpIs d base true fs []
-      → Begun c d base (up_damage_step w bs damaged).after
-  damage_early [] fs damaged carries up = g
-  damage_early (b ∷ bs) fs damaged carries up =
-      detect_early b bs (frame_at On damaged) (lose_early (b ∷ bs) fs carries up)
+  pub early_up_lost : (b : List ℕ) (bs : List (List ℕ)) → w.up ≡ b ∷ bs → Begun c d base (record w { up = bs })
+  early_up_lost b bs is = lost_first b bs g.frames (rw is at g.early.carries) g.early.up_is
 
   pub early_up_deliver : Begun c d base (up_deliver_step w w.up).after
   early_up_deliver = deliver_early w.up g.frames g.early.carries g.early.up_is
-
-  pub early_up_lose : Begun c d base (up_lose_step w w.up).after
-  early_up_lose = lose_early w.up g.frames g.early.carries g.early.up_is
-
-  pub early_up_damage : (damaged : List ℕ) → Begun c d base (up_damage_step w w.up damaged).after
-  early_up_damage damaged = damage_early w.up g.frames damaged g.early.carries g.early.up_is
 
   take_early : (packets : List PacketOn)
       → Begun c d base (world_after_take w (spacecraft_take w.spacecraft packets)).after

@@ -1,43 +1,47 @@
 -- Before the confirmation: what the ground takes and sends keeps what holds.
-use Rattle.std.proofs.Common.{◌≡◌, ℕ, ◌-◌, ◌<◌, Bool, true, false, List, [], ◌∷◌, ◌++◌, Option, Some, None}
+use Rattle.std.proofs.Common.{◌≡◌, ℕ, ◌<◌, Bool, true, false, List, [], ◌∷◌, ◌++◌, Option, Some, None}
 use Rattle.std.proofs.Common.{option_to_list, refl, ap, sym, subst, ◌∙◌, append_assoc, arith}
-use Rattle.std.specs.Prelude.{◌==◌, ◌||◌, nat_lt}
 use Rattle.std.specs.List.{AllByRecursion}
-use Rattle.std.proofs.lemmas.Bool.{cond_both}
 use Rattle.std.proofs.lemmas.List.{append-nil}
 use Rattle.tc_frame.specs.declared.frame.Check.TheVariants.{On}
 use Rattle.tc_frame.specs.Layout.{SegmentView, BodyView, Bd, Bc}
 use Rattle.tc_frame.specs.Writing.{spelling}
 use Rattle.map_service.specs.Cutting.{segments_of}
-use Rattle.cop1.specs.declared.fault.CopFault.TheVariants as faults
 use Rattle.cop1.specs.declared.fop.Control.{Control}
 use Rattle.cop1.specs.declared.fop.Control.TheVariants.{Idle, Due, Sent}
 use Rattle.cop1.specs.declared.fop.Directive.{Directive}
-use Rattle.cop1.specs.declared.fop.Directive.TheVariants.{InitWithoutCheck, InitWithCheck, InitUnlock, InitSetVr}
-use Rattle.cop1.specs.declared.fop.Directive.TheVariants.{Terminate, SetVs, SetWindow, SetLimit, SetTimer}
-use Rattle.cop1.specs.declared.fop.FopMode.{FopMode}
-use Rattle.cop1.specs.declared.fop.FopMode.TheVariants.{S1, S2, S3, S4, S5, S6}
-use Rattle.cop1.specs.FopDirective.{obeys, refuses, from_S6, terminate_in}
-use Rattle.cop1.specs.FopPull.{PulledUnit, NothingPulled, pulls, pull_step, pull_control, pull_bypass, pull_in}
+use Rattle.cop1.specs.declared.fop.FopMode.TheVariants.{S6}
+use Rattle.cop1.specs.FopPull.{PulledUnit, pull_step}
 use Rattle.cop1.specs.FopState.{FopState}
-use Rattle.cop1.specs.FopTick.{tick_with, timer_ended, after_count, due_again}
-use Rattle.cop1.specs.FopWords.{FopOutcome, after_alert, after_stop, after_restart, goes_on}
+use Rattle.cop1.specs.FopTick.{after_count, due_again}
+use Rattle.cop1.specs.FopWords.{FopOutcome, after_alert, after_stop, after_restart}
 use Rattle.nodes.specs.declared.config.Config.{Config}
-use Rattle.tc_link.specs.declared.event.Event.TheVariants as events
 use Rattle.nodes.specs.declared.fault.LinkFault.{LinkFault}
 use Rattle.nodes.specs.OwnedFields.{FitsFrame}
 use Rattle.nodes.specs.Packets.{PacketOn, packet_on}
 use Rattle.nodes.specs.Ground.{is_closed, unsent_segments, with_fop, frame_of, frame_to_send, directive_outcome}
 use Rattle.nodes.specs.Ground.{segments_on, submit_fault, after_submission, bypass_fault, after_bypass, unless_refused}
-use Rattle.tc_link.specs.World.{World, is_initiation, world_step, world_after_directive, world_after_pull}
+use Rattle.cop1.specs.Directives.{is_initiation}
+use Rattle.tc_link.specs.World.{World, world_after_directive, world_after_pull}
 use Rattle.tc_link.specs.World.{world_after_submission, world_after_bypass}
 use Rattle.nodes.proofs.Submitting.{segments_fit}
 use Rattle.tc_link.specs.Reached.{IsDirective}
-use Rattle.tc_link.proofs.Early.{IsEarly, ControlFits, HoldsEarly, HeldEarly, Begun, early_settled}
+use Rattle.tc_link.proofs.Early.{IsEarly, ControlFits, HeldEarly, Begun, early_settled}
 use Rattle.tc_link.proofs.Linked.{Steady, IsGiven, units_of_all, Carries, carries_push}
 use Rattle.tc_link.proofs.Spelled.{Goes, reads_back}
 use Rattle.tc_link.proofs.LateSubmitting.{taken_is, all_push, all_append, units-push}
 use Rattle.tc_link.proofs.Transit.{UpIs, up_push_bypass, up_push_control}
+use Rattle.cop1.proofs.Obeying.{obeyed}
+use Rattle.tc_link.proofs.Closed.{closed_not}
+use Rattle.cop1.proofs.Ticking.{ticked}
+use Rattle.cop1.specs.declared.fop.Alert.{Alert}
+use Rattle.cop1.specs.declared.fault.CopFault.{CopFault}
+use Rattle.std.proofs.Common.{Result}
+use Rattle.cop1.specs.FopDirective.{directive_step}
+use Rattle.cop1.specs.FopTick.{tick_step}
+use Rattle.tc_link.proofs.Early.{early_off}
+use Rattle.tc_link.proofs.Early.{holds_early}
+use Rattle.cop1.proofs.Pulling.{pulled_out}
 
 module _ (c : Config) (d : Directive) (base : ℕ) (w : World) (k : Steady c w) (g : Begun c d base w) where
   -- ---- the ground
@@ -88,99 +92,40 @@ module _ (c : Config) (d : Directive) (base : ℕ) (w : World) (k : Steady c w) 
   abbrev Leaves : {A : Type 0} → FopOutcome SegmentView A → Type 0
   Leaves o = Begun c d base (record w { ground_node = with_fop w.ground_node o.after })
 
-  timer_early : (m : FopMode) → w.ground_node.fop.state ≡ m → Leaves (timer_ended (after_stop w.ground_node.fop) m)
-  timer_early S1 is = absurd (let no : IsEarly d S1 = rw is at g.early.early in no)
-  timer_early S2 is = absurd (let no : IsEarly d S2 = rw is at g.early.early in no)
-  timer_early S3 is = absurd (let no : IsEarly d S3 = rw is at g.early.early in no)
-  timer_early S4 is = off_early (after_alert (after_stop w.ground_node.fop)) refl g.early.nn_octet tt
-  timer_early S5 is =
-      cond_both (nat_lt w.ground_node.fop.count w.ground_node.fop.limit)
-      (goes_on (record (after_count (after_stop w.ground_node.fop)) { control = due_again w.ground_node.fop.control }))
-      _ (λ o. Leaves o)
-      (λ t. same_early (record (after_count (after_stop w.ground_node.fop))
-      { control = due_again w.ground_node.fop.control }) refl refl refl refl refl
-      (due_fits w.ground_node.fop.control g.early.command_is))
-      (λ t. off_early (after_alert (after_stop w.ground_node.fop)) refl g.early.nn_octet tt)
-  timer_early S6 is = same_early (after_stop w.ground_node.fop) refl refl refl refl refl g.early.command_is
-
-  tick_early : (ticks : Option ℕ) → Leaves (tick_with w.ground_node.fop ticks)
-  tick_early None = same_early w.ground_node.fop refl refl refl refl refl g.early.command_is
-  tick_early (Some left) =
-      cond_both (left == 1) (timer_ended (after_stop w.ground_node.fop) w.ground_node.fop.state) _ (λ o. Leaves o)
-      (λ t. timer_early w.ground_node.fop.state refl)
-      (λ t. same_early (record w.ground_node.fop { ticks = Some (left - 1) }) refl refl refl refl refl
-      g.early.command_is)
-
-  pub early_tick : Begun c d base (record w
-      { ground_node = with_fop w.ground_node (tick_with w.ground_node.fop w.ground_node.fop.ticks).after })
-  early_tick = tick_early w.ground_node.fop.ticks
+  pub early_tick : Leaves (tick_step w.ground_node.fop)
+  early_tick =
+      let s = w.ground_node.fop in
+      let command_is = g.early.command_is in
+      ticked s (λ o. Leaves o) (record {
+        off = same_early s refl refl refl refl refl command_is;
+        runs = λ left. same_early (record s { ticks = Some left }) refl refl refl refl refl command_is;
+        stops = same_early (after_stop s) refl refl refl refl refl command_is;
+        repeats = λ active. absurd (early_off d s.state g.early.early active);
+        counts = same_early (after_count (after_stop s)) refl refl refl refl refl command_is;
+        commands = λ is. same_early (record (after_count (after_stop s)) { control = due_again s.control }) refl refl
+            refl refl refl (due_fits s.control command_is);
+        gives_up = off_early (after_alert (after_stop s)) refl g.early.nn_octet tt;
+      })
 
   -- ---- a directive that begins no session
 
-  terminate_early : (m : FopMode)
-      → Begun c d base (world_after_directive w Terminate
-      (directive_outcome w.ground_node (terminate_in w.ground_node.fop m))).after
-  terminate_early S1 = off_early (after_alert w.ground_node.fop) refl g.early.nn_octet tt
-  terminate_early S2 = off_early (after_alert w.ground_node.fop) refl g.early.nn_octet tt
-  terminate_early S3 = off_early (after_alert w.ground_node.fop) refl g.early.nn_octet tt
-  terminate_early S4 = off_early (after_alert w.ground_node.fop) refl g.early.nn_octet tt
-  terminate_early S5 = off_early (after_alert w.ground_node.fop) refl g.early.nn_octet tt
-  terminate_early S6 = g
+  abbrev Keeps : Directive → FopOutcome SegmentView (Result (Option Alert) CopFault) → Type 0
+  Keeps e o = IsDirective e → (is_initiation e ≡ true → is_closed w.ground_node.fop.state ≡ false)
+      → Begun c d base (world_after_directive w e (directive_outcome w.ground_node o)).after
 
-  set_vs_early : (x : ℕ) → x < 256 → (m : FopMode) → w.ground_node.fop.state ≡ m
-      → Begun c d base (world_after_directive w (SetVs x)
-      (directive_outcome w.ground_node (from_S6 w.ground_node.fop m
-      (record w.ground_node.fop { vs = x; nn = x })))).after
-  set_vs_early x lt S1 is = g
-  set_vs_early x lt S2 is = g
-  set_vs_early x lt S3 is = g
-  set_vs_early x lt S4 is = g
-  set_vs_early x lt S5 is = g
-  set_vs_early x lt S6 is = off_early (record w.ground_node.fop { vs = x; nn = x }) is lt g.early.command_is
-
-  refused_early : (e : Directive) (next : FopState SegmentView) (m : FopMode) → is_closed m ≡ false
-      → Begun c d base (world_after_directive w e
-      (directive_outcome w.ground_node (from_S6 w.ground_node.fop m next))).after
-  refused_early e next S1 on = g
-  refused_early e next S2 on = g
-  refused_early e next S3 on = g
-  refused_early e next S4 on = g
-  refused_early e next S5 on = g
-  refused_early e next S6 on = absurd cc
-
-  pub open_early : (e : Directive) → IsDirective e → is_initiation e ≡ false
-      → Begun c d base (world_step w (events.Directive e)).after
-  open_early Terminate fits other = terminate_early w.ground_node.fop.state
-  open_early (SetVs x) fits other = set_vs_early x fits w.ground_node.fop.state refl
-  open_early (SetWindow n) fits other =
-      cond_both ((n == 0) || nat_lt w.ground_node.fop.room n) (refuses w.ground_node.fop faults.Window)
-      (obeys (record w.ground_node.fop { window = n }))
-      (λ o. Begun c d base (world_after_directive w (SetWindow n) (directive_outcome w.ground_node o)).after) (λ t. g)
-      (λ t. same_early (record w.ground_node.fop { window = n }) refl refl refl refl refl g.early.command_is)
-  open_early (SetLimit n) fits other =
-      cond_both (n == 0) (refuses w.ground_node.fop faults.Limit) (obeys (record w.ground_node.fop { limit = n }))
-      (λ o. Begun c d base (world_after_directive w (SetLimit n) (directive_outcome w.ground_node o)).after) (λ t. g)
-      (λ t. same_early (record w.ground_node.fop { limit = n }) refl refl refl refl refl g.early.command_is)
-  open_early (SetTimer n) fits other =
-      cond_both (n == 0) (refuses w.ground_node.fop faults.Timer) (obeys (record w.ground_node.fop { timer = n }))
-      (λ o. Begun c d base (world_after_directive w (SetTimer n) (directive_outcome w.ground_node o)).after) (λ t. g)
-      (λ t. same_early (record w.ground_node.fop { timer = n }) refl refl refl refl refl g.early.command_is)
-  open_early InitWithoutCheck fits other = absurd cc
-  open_early InitWithCheck fits other = absurd cc
-  open_early InitUnlock fits other = absurd cc
-  open_early (InitSetVr x) fits other = absurd cc
-
-  pub on_early : (e : Directive) → is_closed w.ground_node.fop.state ≡ false → is_initiation e ≡ true
-      → Begun c d base (world_step w (events.Directive e)).after
-  on_early InitWithoutCheck on is = refused_early InitWithoutCheck _ w.ground_node.fop.state on
-  on_early InitWithCheck on is = refused_early InitWithCheck _ w.ground_node.fop.state on
-  on_early InitUnlock on is = refused_early InitUnlock _ w.ground_node.fop.state on
-  on_early (InitSetVr x) on is = refused_early (InitSetVr x) _ w.ground_node.fop.state on
-  on_early Terminate on is = absurd cc
-  on_early (SetVs x) on is = absurd cc
-  on_early (SetWindow n) on is = absurd cc
-  on_early (SetLimit n) on is = absurd cc
-  on_early (SetTimer n) on is = absurd cc
+  pub early_directive : (e : Directive) → Keeps e (directive_step w.ground_node.fop e)
+  early_directive =
+      let s = w.ground_node.fop in
+      let command_is = g.early.command_is in
+      obeyed s Keeps (record {
+        refused = λ e fault on fits goes. g;
+        begins = λ e is off fits goes. absurd (closed_not s.state off (goes is));
+        terminated = λ fits goes. off_early (after_alert s) refl g.early.nn_octet tt;
+        numbers = λ x is fits goes. off_early (record s { vs = x; nn = x }) is fits command_is;
+        windows = λ k small fits goes. same_early (record s { window = k }) refl refl refl refl refl command_is;
+        limits = λ n fits goes. same_early (record s { limit = n }) refl refl refl refl refl command_is;
+        times = λ n fits goes. same_early (record s { timer = n }) refl refl refl refl refl command_is;
+      })
 
   -- ---- a submission
 
@@ -199,10 +144,7 @@ module _ (c : Config) (d : Directive) (base : ℕ) (w : World) (k : Steady c w) 
       let cut : segments_on w.ground_node m octets ≡ new = ap (λ x. segments_of x.part m octets) k.ground_config in
       let units_are : units_of_all c all ≡ units_of_all c w.session.submissions ++ new =
       units-push c w.session.submissions (packet_on m octets) in
-      let was : HoldsEarly base w.ground_node.fop.vs w.ground_node.fop.nn w.ground_node.fop.sent
-      (unsent_segments w.ground_node) (units_of_all c w.session.submissions) =
-      let it : HeldEarly false base w.ground_node.fop.vs w.ground_node.fop.nn w.ground_node.fop.sent
-      (unsent_segments w.ground_node) (units_of_all c w.session.submissions) = rw t.on at l.held in it in
+      let was = holds_early l t.on in
       let rest : option_to_list w.ground_node.fop.waiting
       ++ (w.ground_node.pending ++ segments_on w.ground_node m octets) ≡ units_of_all c all =
       sym (append_assoc (option_to_list w.ground_node.fop.waiting) w.ground_node.pending
@@ -297,30 +239,19 @@ module _ (c : Config) (d : Directive) (base : ℕ) (w : World) (k : Steady c w) 
         early = assumption (up, up_is, held, early, nn_octet, sent_none, command_is, l);
       })
 
-  pull_none : Pulls (pulls w.ground_node.fop NothingPulled)
-  pull_none = same_early w.ground_node.fop refl refl refl refl refl g.early.command_is
-
-  state_pulls : (m : FopMode) → w.ground_node.fop.state ≡ m → Pulls (pull_in w.ground_node.fop m)
-  state_pulls S1 is = absurd (let no : IsEarly d S1 = rw is at g.early.early in no)
-  state_pulls S2 is = absurd (let no : IsEarly d S2 = rw is at g.early.early in no)
-  state_pulls S3 is = pull_none
-  state_pulls S4 is = pull_none
-  state_pulls S5 is = pull_none
-  state_pulls S6 is = pull_none
-
-  bypass_pulls : (us : List SegmentView) → w.ground_node.fop.bypass ≡ us → Pulls (pull_bypass w.ground_node.fop us)
-  bypass_pulls [] is = state_pulls w.ground_node.fop.state refl
-  bypass_pulls (u ∷ us) is =
-      let fit : AllByRecursion FitsFrame (u ∷ us) = rw is at k.bypass_fits in
-      sends (Bd u) (record w.ground_node.fop { bypass = us }) refl refl refl refl refl g.early.command_is fit.0
-      (up_push_bypass d base u true g.frames [] g.early.up_is)
-
-  control_pulls : (control : Control) → ControlFits d base control → Pulls (pull_control w.ground_node.fop control)
-  control_pulls Idle fits = bypass_pulls w.ground_node.fop.bypass refl
-  control_pulls (Sent command) fits = bypass_pulls w.ground_node.fop.bypass refl
-  control_pulls (Due command) fits =
-      sends (Bc command) (record (after_restart w.ground_node.fop) { control = Sent command }) refl refl refl refl refl
-      fits tt (up_push_control d base command g.frames fits g.early.up_is)
-
   pub early_send : Pulls (pull_step w.ground_node.fop)
-  early_send = control_pulls w.ground_node.fop.control g.early.command_is
+  early_send =
+      let s = w.ground_node.fop in
+      pulled_out s Pulls (record {
+        none = same_early s refl refl refl refl refl g.early.command_is;
+        command = λ command is.
+            let fits : ControlFits d base (Due command) = rw is at g.early.command_is in
+            sends (Bc command) (record (after_restart s) { control = Sent command }) refl refl refl refl refl fits tt
+            (up_push_control d base command g.frames fits g.early.up_is);
+        bypass = λ u us is.
+            let fit : AllByRecursion FitsFrame (u ∷ us) = rw is at k.bypass_fits in
+            sends (Bd u) (record s { bypass = us }) refl refl refl refl refl g.early.command_is fit.0
+            (up_push_bypass d base u true g.frames [] g.early.up_is);
+        again = λ active x is. absurd (early_off d s.state g.early.early active);
+        first = λ active u is room. absurd (early_off d s.state g.early.early active);
+      })

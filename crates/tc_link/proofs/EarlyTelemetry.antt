@@ -1,6 +1,6 @@
 -- Before the confirmation: telemetry that arrives keeps what holds, or confirms.
 use Rattle.std.proofs.Common.{◌≡◌, ℕ, ◌+◌, ◌<◌, ◌⊎◌, inl, inr, Bool, true, false, not, List, [], ◌∷◌, ◌++◌, Option}
-use Rattle.std.proofs.Common.{None, option_to_list, Result, Ok, Err, refl, ap, sym, subst, ◌∙◌, arith}
+use Rattle.std.proofs.Common.{None, option_to_list, refl, ap, sym, subst, ◌∙◌, arith}
 use Rattle.std.specs.Prelude.{◌==◌, ◌&&◌, ◌||◌}
 use Rattle.std.proofs.lemmas.Bool.{cond_both, eqb-true, not-true, not-false, and_parts}
 use Rattle.clcw.specs.declared.word.Clcw.{Clcw}
@@ -12,32 +12,28 @@ use Rattle.cop1.specs.declared.fop.Control.TheVariants.{Idle}
 use Rattle.cop1.specs.declared.fop.Directive.{Directive}
 use Rattle.cop1.specs.declared.fop.Directive.TheVariants.{InitWithCheck}
 use Rattle.cop1.specs.declared.fop.FopMode.{FopMode}
-use Rattle.cop1.specs.declared.fop.FopMode.TheVariants.{S1, S2, S3, S4, S5, S6}
+use Rattle.cop1.specs.declared.fop.FopMode.TheVariants.{S1, S4, S5, S6}
 use Rattle.cop1.specs.FopReport.{locks, waits, asks, report_in, confirms}
 use Rattle.cop1.specs.FopState.{FopState}
 use Rattle.cop1.specs.FopWords.{FopOutcome, after_alert, alerts, goes_on}
-use Rattle.tm_link.specs.declared.fault.TmFault.{TmFault}
 use Rattle.tm_link.specs.Extraction.{Extracted, extract_step}
-use Rattle.tm_link.specs.Layout as telemetry
-use Rattle.tm_link.specs.Reading as telemetry_reading
 use Rattle.nodes.specs.declared.config.Config.{Config}
 use Rattle.nodes.specs.declared.heard.Heard.{Heard}
-use Rattle.nodes.specs.Ground.{GroundState, GroundOutcome, is_closed, unsent_segments, with_fop, after_extraction}
-use Rattle.tc_link.specs.World.{World, is_confirmation, is_initialising, down_deliver_step, down_lose_step}
-use Rattle.tc_link.specs.World.{down_damage_outcome, down_damage_step, session_after_report}
-use Rattle.tc_link.proofs.Early.{WouldConfirm, Good, AllGood, Lasts, IsEarly, ControlFits, HoldsEarly, HeldEarly}
+use Rattle.nodes.specs.Ground.{GroundState, GroundOutcome, is_closed, with_fop, after_extraction}
+use Rattle.tc_link.specs.World.{World, is_confirmation, is_initialising, down_deliver_step}
+use Rattle.tc_link.specs.World.{session_after_report}
+use Rattle.tc_link.proofs.Early.{WouldConfirm, Good, AllGood, Lasts, IsEarly, ControlFits, HeldEarly}
 use Rattle.tc_link.proofs.Early.{AllSame, Begun, held_early_again, last_good, Confirmed, confirmed}
 use Rattle.tc_link.proofs.LateTelemetry.{used_is}
 use Rattle.tc_link.proofs.Linked.{Steady, units_of_all, Reporting}
 use Rattle.tc_link.proofs.Settled.{settled_keeps, queued_as}
+use Rattle.tc_link.proofs.Early.{holds_early}
 
 confirms_not : (d : Directive) (old new : FopMode) → IsEarly d new → is_confirmation old new ≡ false
-confirms_not d old S1 early = elim early [ ]
-confirms_not d old S2 early = elim early [ ]
-confirms_not d old S3 early = elim early [ ]
 confirms_not d old S4 early = refl
 confirms_not d old S5 early = refl
 confirms_not d old S6 early = refl
+confirms_not d old _ early = elim early [ ]
 
 confirms_now : (was : Bool) (old new : FopMode) → new ≡ S1 → is_initialising old ≡ true
     → was || is_confirmation old new ≡ true
@@ -105,14 +101,8 @@ module _ (c : Config) (d : Directive) (base : ℕ) (w : World) (k : Steady c w) 
     goes_on_early : Hears (goes_on w.ground_node.fop)
     goes_on_early = inl (stays w.ground_node.fop g.early.early refl g.early.command_is g.early.held)
 
-    held_on : is_closed w.ground_node.fop.state ≡ false
-        → HoldsEarly base w.ground_node.fop.vs w.ground_node.fop.nn w.ground_node.fop.sent
-        (unsent_segments w.ground_node) (units_of_all c w.session.submissions)
-    held_on on = let it : HeldEarly false base w.ground_node.fop.vs w.ground_node.fop.nn w.ground_node.fop.sent
-        (unsent_segments w.ground_node) (units_of_all c w.session.submissions) = rw on at g.early.held in it
-
     vs_of : is_closed w.ground_node.fop.state ≡ false → w.ground_node.fop.vs ≡ base
-    vs_of on = (held_on on).vs_is
+    vs_of on = (holds_early g.early on).vs_is
 
     -- the report confirms
     goes_late : (f : FopState SegmentView) → is_closed w.ground_node.fop.state ≡ false
@@ -122,7 +112,7 @@ module _ (c : Config) (d : Directive) (base : ℕ) (w : World) (k : Steady c w) 
     goes_late f on waits_for state vs nn sent waiting good =
         inr (settled_keeps (λ t. Confirmed c d base (with_heard t bs))
         (record (after_extraction w.ground_node x) { fop = f }) (λ wait pending so off.
-        let was = held_on on in
+        let was = holds_early g.early on in
         let all = last_good base rs (WouldConfirm base w.spacecraft) (on_good good) in
         record {
           exact =
@@ -137,9 +127,6 @@ module _ (c : Config) (d : Directive) (base : ℕ) (w : World) (k : Steady c w) 
         }))
 
     hears_in : (m : FopMode) → w.ground_node.fop.state ≡ m → Hears (report_in w.ground_node.fop r m)
-    hears_in S1 is = absurd (let no : IsEarly d S1 = rw is at g.early.early in no)
-    hears_in S2 is = absurd (let no : IsEarly d S2 = rw is at g.early.early in no)
-    hears_in S3 is = absurd (let no : IsEarly d S3 = rw is at g.early.early in no)
     hears_in S6 is = goes_on_early
     hears_in S4 is =
         let s = w.ground_node.fop in
@@ -167,6 +154,7 @@ module _ (c : Config) (d : Directive) (base : ℕ) (w : World) (k : Steady c w) 
               ∙ vs_of on,
         ))
         (λ t. goes_on_early)
+    hears_in _ is = absurd (let no : IsEarly d S1 = rw is at g.early.early in no)
 
   down_early : (bs : List (List ℕ)) (rs : List Clcw) → Reporting c bs rs
       → Lasts base rs (WouldConfirm base w.spacecraft)
@@ -180,36 +168,21 @@ module _ (c : Config) (d : Directive) (base : ℕ) (w : World) (k : Steady c w) 
       ⊎ Confirmed c d base (with_heard o.after bs)) (sym (used_is c w.ground_node b r k.ground_config rest.0))
       (hears_in x r bs rs rest.1 lasts.0 lasts.1 (λ e. (same e).4) w.ground_node.fop.state refl)
 
-  down_lose_early : (bs : List (List ℕ)) (rs : List Clcw) → Reporting c bs rs
+  lost_first : (b : List ℕ) (bs : List (List ℕ)) (rs : List Clcw) → Reporting c (b ∷ bs) rs
       → Lasts base rs (WouldConfirm base w.spacecraft)
       → (d ≡ InitWithCheck → AllSame rs w.spacecraft.farm.lockout w.spacecraft.farm.retransmit w.spacecraft.farm.vr)
-      → Begun c d base (down_lose_step w bs).after
-  down_lose_early [] rs rest lasts same = g
-  down_lose_early (b ∷ bs) [] rest lasts same = elim rest [ ]
-  down_lose_early (b ∷ bs) (r ∷ rs) rest lasts same =
+      → Begun c d base (record w { down = bs })
+  lost_first b bs [] rest lasts same = elim rest [ ]
+  lost_first b bs (r ∷ rs) rest lasts same =
       let left = rest.1 in
       let lasts_left = lasts.1 in
       let same_left : d ≡ InitWithCheck
       → AllSame rs w.spacecraft.farm.lockout w.spacecraft.farm.retransmit w.spacecraft.farm.vr = λ e. (same e).4 in
       record { frames = g.frames; reports = rs; early = assumption (left, lasts_left, same_left, g.early) }
 
-  down_detect_early : (b : List ℕ) (bs : List (List ℕ)) (r : Result telemetry.FrameView TmFault)
-      → Begun c d base (down_lose_step w (b ∷ bs)).after → Begun c d base (down_damage_outcome w bs r).after
-  down_detect_early b bs (Ok frame) lost = g
-  down_detect_early b bs (Err fault) lost = lost
-
-  down_damage_early : (bs : List (List ℕ)) (damaged : List ℕ) → Begun c d base (down_lose_step w bs).after
-      → Begun c d base (down_damage_step w bs damaged).after
-  down_damage_early [] damaged lost = g
-  down_damage_early (b ∷ bs) damaged lost =
-      down_detect_early b bs (telemetry_reading.frame_at w.ground_node.config.frame_length damaged) lost
+  pub early_down_lost : (b : List ℕ) (bs : List (List ℕ)) → w.down ≡ b ∷ bs → Begun c d base (record w { down = bs })
+  early_down_lost b bs is = lost_first b bs g.reports (rw is at g.early.reporting) g.early.lasts g.early.same
 
   pub early_down_deliver : Begun c d base (down_deliver_step w w.down).after
       ⊎ Confirmed c d base (down_deliver_step w w.down).after
   early_down_deliver = down_early w.down g.reports g.early.reporting g.early.lasts g.early.same
-
-  pub early_down_lose : Begun c d base (down_lose_step w w.down).after
-  early_down_lose = down_lose_early w.down g.reports g.early.reporting g.early.lasts g.early.same
-
-  pub early_down_damage : (damaged : List ℕ) → Begun c d base (down_damage_step w w.down damaged).after
-  early_down_damage damaged = down_damage_early w.down damaged early_down_lose

@@ -13,12 +13,13 @@ use Rattle.map_service.specs.Assembly.{assembled}
 use Rattle.map_service.proofs.Beginnings.{assembled_begins}
 use Rattle.map_service.proofs.Steps.{assembled-push, assembled-other}
 use Rattle.cop1.specs.declared.farm.Verdict.{Verdict}
-use Rattle.cop1.specs.declared.farm.Verdict.TheVariants.{Accepted, Ahead, NoBuffer, Behind, Outside, Discarded}
+use Rattle.cop1.specs.declared.farm.Verdict.TheVariants.{Accepted}
 use Rattle.cop1.specs.Farm.{verdict_of}
 use Rattle.nodes.specs.declared.config.Config.{Config}
 use Rattle.nodes.specs.Spacecraft.{SpacecraftState, spacecraft_receive, frame_outcome, body_outcome, sequence_outcome}
 use Rattle.nodes.specs.Spacecraft.{bypass_outcome, is_free, is_own_frame}
-use Rattle.nodes.specs.Acceptance.{segment_to_accept, acceptance_with}
+use Rattle.nodes.specs.Acceptance.{segment_to_accept}
+use Rattle.tc_link.specs.Acceptance.{acceptance_with}
 use Rattle.nodes.specs.BypassSegments.{is_kept}
 use Rattle.tc_link.specs.WorldFields.{packets_accepted_on}
 use Rattle.nodes.specs.Parameters.{limits_of}
@@ -29,11 +30,7 @@ use Rattle.tc_link.proofs.AcceptedSegments.{accepts_segment, foreign}
 in_sequence : (s : SpacecraftState) (n : ℕ) (segment : SegmentView) (verdict : Verdict)
     → (sequence_outcome s n segment verdict).after.config ≡ s.config
 in_sequence s n segment Accepted = refl
-in_sequence s n segment Ahead = refl
-in_sequence s n segment NoBuffer = refl
-in_sequence s n segment Behind = refl
-in_sequence s n segment Outside = refl
-in_sequence s n segment Discarded = refl
+in_sequence s n segment _ = refl
 
 in_bypass : (s : SpacecraftState) (segment : SegmentView) (kept : Bool)
     → (bypass_outcome s segment kept).after.config ≡ s.config

@@ -1,9 +1,9 @@
 -- The ground sends a frame late in a session.
 use Rattle.std.proofs.Common.{◌≡◌, ℕ, ◌+◌, ◌*◌, ◌/◌, ◌%◌, ◌<◌, ◌≤◌, true, false, List, [], ◌∷◌, ◌++◌, length, take}
-use Rattle.std.proofs.Common.{drop, map, Option, Some, None, option_to_list, refl, ap, sym, subst, ◌∙◌, arith, inl, inr}
+use Rattle.std.proofs.Common.{drop, map, Some, option_to_list, refl, ap, sym, ◌∙◌, arith, inl, inr}
 use Rattle.std.specs.Prelude.{slice_get, nat_lt, ◌==◌}
 use Rattle.std.specs.List.{AllByRecursion}
-use Rattle.std.proofs.lemmas.Bool.{cond_both, ltb-true, eq-eqb, ne_eqb}
+use Rattle.std.proofs.lemmas.Bool.{ltb-true, eq-eqb, ne_eqb}
 use Rattle.std.proofs.lemmas.List.{append-nil, map-append, drop-append-le, length-take-le}
 use Rattle.tc_frame.specs.declared.frame.Check.TheVariants.{On}
 use Rattle.tc_frame.specs.Layout.{SegmentView, BodyView, Ad, Bd, segment_octets}
@@ -12,10 +12,10 @@ use Rattle.cop1.specs.Modulo.{ahead_by}
 use Rattle.cop1.specs.declared.fop.Control.TheVariants.{Idle}
 use Rattle.cop1.specs.declared.fop.Directive.{Directive}
 use Rattle.cop1.specs.declared.fop.FopMode.{FopMode}
-use Rattle.cop1.specs.declared.fop.FopMode.TheVariants.{S1, S2, S3, S4, S5, S6}
+use Rattle.cop1.specs.declared.fop.FopMode.TheVariants.{S5}
 use Rattle.cop1.specs.FopNext.{units_of}
-use Rattle.cop1.specs.FopPull.{PulledUnit, NothingPulled, BypassPulled, SequencePulled, pulls, pull_step, pull_control}
-use Rattle.cop1.specs.FopPull.{pull_bypass, pull_in, pull_marked, pull_waiting, oldest_marked, without_oldest_mark}
+use Rattle.cop1.specs.FopPull.{PulledUnit, BypassPulled, SequencePulled, pulls, pull_step}
+use Rattle.cop1.specs.FopPull.{oldest_marked, without_oldest_mark}
 use Rattle.cop1.specs.FopPull.{after_send_first}
 use Rattle.cop1.specs.FopWords.{FopOutcome, after_restart, unmarked_unit}
 use Rattle.nodes.specs.declared.config.Config.{Config}
@@ -27,17 +27,17 @@ use Rattle.tc_link.proofs.Lists.{drop_cons_get, drop_cons_rest, take_next, get_w
 use Rattle.tc_link.proofs.Queue.{units-push, units-without, oldest_stands}
 use Rattle.tc_link.proofs.Reports.{IsLate}
 use Rattle.tc_link.proofs.Transit.{UpIs, Fits, bit, up_push, up_push_bypass, fits_push, fits_further}
-use Rattle.tc_link.proofs.Linked.{Steady, Late, Carries, Commanded, Holds, Held, carries_push, Next}
+use Rattle.tc_link.proofs.Linked.{Steady, Late, Carries, Commanded, Held, carries_push, Next}
 use Rattle.tc_link.proofs.Settled.{same_keeps, late_settled}
 use Rattle.tc_link.proofs.Spelled.{Goes, reads_back, fits_at}
+use Rattle.tc_link.proofs.Linked.{holds_late}
+use Rattle.cop1.proofs.Pulling.{pulled_out}
+use Rattle.tc_link.proofs.Closed.{active_on}
 
 module _ (c : Config) (d : Directive) (base : ℕ) (w : World) (k : Steady c w) (g : Late c d base w) where
   abbrev Leaves : FopOutcome SegmentView (PulledUnit SegmentView) → Type 0
   Leaves o = Next c d base g.plain (world_after_pull w (with_fop w.ground_node o.after)
       (frame_to_send w.ground_node.config o.answer)).after
-
-  none_keeps : Leaves (pulls w.ground_node.fop NothingPulled)
-  none_keeps = same_keeps c d base w g w.ground_node.fop refl refl refl refl refl
 
   carries : (f : BodyView) → Goes f
       → Carries c (w.up ++ spelling On (frame_of w.ground_node.config f) ∷ []) (g.frames ++ f ∷ [])
@@ -76,11 +76,6 @@ module _ (c : Config) (d : Directive) (base : ℕ) (w : World) (k : Steady c w) 
       })
 
   module _ (on : is_closed w.ground_node.fop.state ≡ false) where
-    holds : Holds base w.ground_node.fop.vs w.ground_node.fop.nn w.ground_node.fop.sent (unsent_segments w.ground_node)
-        g.plain.a g.plain.n g.plain.units
-    holds = let held : Held false base w.ground_node.fop.vs w.ground_node.fop.nn w.ground_node.fop.sent
-        (unsent_segments w.ground_node) g.plain.a g.plain.n g.plain.units = rw on at g.linked.held in held
-
     -- a unit is sent for the first time
     first_keeps : (u : SegmentView) → w.ground_node.fop.waiting ≡ Some u
         → nat_lt (ahead_by w.ground_node.fop.vs w.ground_node.fop.nn) w.ground_node.fop.window ≡ true
@@ -88,7 +83,7 @@ module _ (c : Config) (d : Directive) (base : ℕ) (w : World) (k : Steady c w) 
     first_keeps u is room =
         let p = g.plain in
         let l = g.linked in
-        let was = holds in
+        let was = holds_late l on in
         let s = w.ground_node.fop in
         let below : ahead_by s.vs s.nn < s.window = ltb-true (ahead_by s.vs s.nn) s.window room in
         let rest : u ∷ w.ground_node.pending ≡ drop p.n p.units =
@@ -141,20 +136,15 @@ module _ (c : Config) (d : Directive) (base : ℕ) (w : World) (k : Steady c w) 
               omega (arith, m.rank_most) in assumption (rank_most, m);
         })
 
-    waiting_keeps : (o : Option SegmentView) → w.ground_node.fop.waiting ≡ o → Leaves (pull_waiting w.ground_node.fop o)
-    waiting_keeps None is = none_keeps
-    waiting_keeps (Some u) is =
-        cond_both (nat_lt (ahead_by w.ground_node.fop.vs w.ground_node.fop.nn) w.ground_node.fop.window)
-        (pulls (after_send_first w.ground_node.fop u) (SequencePulled w.ground_node.fop.vs u))
-        (pulls w.ground_node.fop NothingPulled) (λ o. Leaves o) (λ t. first_keeps u is t) (λ t. none_keeps)
-
-    marked_keeps : (o : Option (ℕ × SegmentView)) → oldest_marked 0 w.ground_node.fop.sent ≡ o
-        → Leaves (pull_marked w.ground_node.fop o)
-    marked_keeps None is = waiting_keeps w.ground_node.fop.waiting refl
-    marked_keeps (Some x) is =
+    -- a unit is sent again
+    again_keeps : (x : ℕ × SegmentView) → oldest_marked 0 w.ground_node.fop.sent ≡ Some x
+        → Leaves (pulls (record (after_restart w.ground_node.fop)
+        { sent = without_oldest_mark w.ground_node.fop.sent })
+        (SequencePulled ((w.ground_node.fop.nn + x.0) % 256) x.1))
+    again_keeps x is =
         let p = g.plain in
         let l = g.linked in
-        let was = holds in
+        let was = holds_late l on in
         let s = w.ground_node.fop in
         let stands = oldest_stands 0 s.sent x is in
         let within : slice_get (drop p.a (take p.n p.units)) x.0 ≡ Some x.1 =
@@ -203,26 +193,19 @@ module _ (c : Config) (d : Directive) (base : ℕ) (w : World) (k : Steady c w) 
           calm = λ checked. let m = g.calm checked in assumption m;
         })
 
-  state_keeps : (m : FopMode) → w.ground_node.fop.state ≡ m → Leaves (pull_in w.ground_node.fop m)
-  state_keeps S1 is = marked_keeps (rw is refl) (oldest_marked 0 w.ground_node.fop.sent) refl
-  state_keeps S2 is = marked_keeps (rw is refl) (oldest_marked 0 w.ground_node.fop.sent) refl
-  state_keeps S3 is = none_keeps
-  state_keeps S4 is = none_keeps
-  state_keeps S5 is = none_keeps
-  state_keeps S6 is = none_keeps
-
-  queue_keeps : (us : List SegmentView) → w.ground_node.fop.bypass ≡ us → Leaves (pull_bypass w.ground_node.fop us)
-  queue_keeps [] is = state_keeps w.ground_node.fop.state refl
-  queue_keeps (u ∷ us) is = bypass_keeps u us is
-
   idle : (m : FopMode) → IsLate m → Commanded m w.ground_node.fop.control → w.ground_node.fop.control ≡ Idle
-  idle S1 late is = is
-  idle S2 late is = is
-  idle S3 late is = is
-  idle S4 late is = is
   idle S5 late is = elim late [ ]
-  idle S6 late is = is
+  idle _ late is = is
 
   pub late_send : Leaves (pull_step w.ground_node.fop)
-  late_send = subst (λ control. Leaves (pull_control w.ground_node.fop control))
-      (sym (idle w.ground_node.fop.state g.linked.late k.commanded)) (queue_keeps w.ground_node.fop.bypass refl)
+  late_send =
+      let s = w.ground_node.fop in
+      pulled_out s Leaves (record {
+        none = same_keeps c d base w g s refl refl refl refl refl;
+        command = λ command is. absurd (
+            let none : s.control ≡ Idle = idle s.state g.linked.late k.commanded in cc (none, is)
+            );
+        bypass = bypass_keeps;
+        again = λ active x is. again_keeps (active_on s.state active) x is;
+        first = λ active u is room. first_keeps (active_on s.state active) u is room;
+      })

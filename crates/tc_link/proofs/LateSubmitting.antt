@@ -14,14 +14,15 @@ use Rattle.nodes.specs.declared.config.Config.{Config}
 use Rattle.nodes.specs.declared.fault.LinkFault.{LinkFault}
 use Rattle.nodes.specs.OwnedFields.{FitsFrame}
 use Rattle.nodes.specs.Packets.{PacketOn, packet_on}
-use Rattle.nodes.specs.Ground.{GroundState, is_closed, unsent_segments, segments_on, submit_fault, after_submission}
+use Rattle.nodes.specs.Ground.{GroundState, is_closed, segments_on, submit_fault, after_submission}
 use Rattle.nodes.specs.Ground.{bypass_fault, after_bypass, unless_refused}
 use Rattle.tc_link.specs.World.{World, world_after_submission, world_after_bypass}
 use Rattle.nodes.proofs.Submitting.{segments_fit, submit_map}
 use Rattle.tc_link.specs.PlainLink.{adds}
 use Rattle.tc_link.proofs.Transit.{Fits, fits_longer}
-use Rattle.tc_link.proofs.Linked.{Steady, Late, IsGiven, units_of_all, Holds, Held, Next, stays}
+use Rattle.tc_link.proofs.Linked.{Steady, Late, IsGiven, units_of_all, Held, Next, stays}
 use Rattle.tc_link.proofs.Settled.{late_settled}
+use Rattle.tc_link.proofs.Linked.{holds_late}
 
 passed : (b : Bool) (fault : LinkFault) (rest : Option LinkFault) → cond b (Some fault) rest ≡ None
     → (b ≡ false) × (rest ≡ None)
@@ -85,10 +86,7 @@ module _ (c : Config) (d : Directive) (base : ℕ) (w : World) (k : Steady c w) 
       let t = taken_is c w.ground_node m octets k.ground_config none in
       let new : List SegmentView = segments_of c.part m octets in
       let cut : segments_on w.ground_node m octets ≡ new = ap (λ x. segments_of x.part m octets) k.ground_config in
-      let was : Holds base w.ground_node.fop.vs w.ground_node.fop.nn w.ground_node.fop.sent
-      (unsent_segments w.ground_node) p.a p.n p.units =
-      let it : Held false base w.ground_node.fop.vs w.ground_node.fop.nn w.ground_node.fop.sent
-      (unsent_segments w.ground_node) p.a p.n p.units = rw t.on at l.held in it in
+      let was = holds_late l t.on in
       let r_most : p.r ≤ length p.units = omega (arith, l.r_n, l.n_most) in
       let shorter : take p.n (p.units ++ new) ≡ take p.n p.units = take-append-le p.n p.units new l.n_most in
       let rest : option_to_list w.ground_node.fop.waiting

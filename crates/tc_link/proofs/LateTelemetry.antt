@@ -1,6 +1,6 @@
 -- Telemetry that is sent, arrives or doesn't keeps what holds late in a session.
 use Rattle.std.proofs.Common.{◌≡◌, ℕ, ◌+◌, ◌*◌, ◌/◌, ◌%◌, ◌<◌, ◌≤◌, ◌⊎◌, inl, inr, Bool, true, false, List, [], ◌∷◌}
-use Rattle.std.proofs.Common.{◌++◌, length, Option, option_to_list, Result, Ok, Err, refl, ap, sym, subst, ◌∙◌, arith}
+use Rattle.std.proofs.Common.{◌++◌, length, Option, option_to_list, Ok, refl, ap, sym, subst, ◌∙◌, arith}
 use Rattle.std.specs.Prelude.{◌||◌}
 use Rattle.std.proofs.lemmas.Bool.{eq-eqb}
 use Rattle.std.proofs.lemmas.List.{drop-drop}
@@ -10,14 +10,12 @@ use Rattle.cop1.specs.Modulo.{ahead_by}
 use Rattle.cop1.specs.declared.fop.Alert.{Alert}
 use Rattle.cop1.specs.declared.fop.Directive.{Directive}
 use Rattle.cop1.specs.declared.fop.FopMode.{FopMode}
-use Rattle.cop1.specs.declared.fop.FopMode.TheVariants.{S1, S2, S3, S4, S5, S6}
-use Rattle.cop1.specs.FopReport.{locks, waits, asks, clcw_step, report_in}
+use Rattle.cop1.specs.declared.fop.FopMode.TheVariants.{S1, S4, S5, S6}
+use Rattle.cop1.specs.FopReport.{locks, waits, asks, clcw_step, report_in, report_while_active}
 use Rattle.cop1.specs.FopState.{FopState}
 use Rattle.cop1.specs.FopWords.{FopOutcome}
 use Rattle.cop1.specs.Report.{report_of}
-use Rattle.tm_link.specs.declared.fault.TmFault.{TmFault}
 use Rattle.tm_link.specs.Extraction.{Extracted, extract_step}
-use Rattle.tm_link.specs.Layout as telemetry
 use Rattle.tm_link.specs.Reading as telemetry_reading
 use Rattle.tm_link.specs.Writing as telemetry_writing
 use Rattle.nodes.specs.declared.config.Config.{Config}
@@ -28,11 +26,11 @@ use Rattle.nodes.specs.Spacecraft.{spacecraft_step, Report, spacecraft_report}
 use Rattle.nodes.specs.Ground.{GroundState, GroundOutcome, is_closed, unsent_segments, with_fop, after_extraction}
 use Rattle.nodes.specs.Ground.{ground_telemetry, telemetry_outcome, own_frame_outcome}
 use Rattle.tc_link.specs.World.{World, is_confirmation, is_initialising, session_after_report, world_after_report}
-use Rattle.tc_link.specs.World.{down_deliver_step, down_lose_step, down_damage_outcome, down_damage_step}
+use Rattle.tc_link.specs.World.{down_deliver_step}
 use Rattle.tc_link.specs.PlainLink.{PlainLink, AtMostOneStep, reports as tells, loses_down, hears, ignores}
 use Rattle.tc_link.specs.Confirmation.{IsChecked}
 use Rattle.tc_link.proofs.Reports as rules
-use Rattle.tc_link.proofs.Reports.{IsLate, IsRunning, asked, HeldBy, Leads, Led, active_led}
+use Rattle.tc_link.proofs.Reports.{IsLate, asked, HeldBy, Leads, Led, active_led}
 use Rattle.tc_link.specs.History.{Rises}
 use Rattle.tc_link.proofs.Transit.{DownIs, Ranks, bit, down_push, rises_push, rises_lower, rises_to, ranks_push}
 use Rattle.tc_link.proofs.Transit.{ranks_lower, ranks_to}
@@ -135,15 +133,6 @@ module _ (base h : ℕ) (checked : Type 0) (s : FopState SegmentView) (a n : ℕ
       )
 
   pub goes_in : (m : FopMode) → s.state ≡ m → Going base checked s a c v (report_in s c m).after
-  goes_in S1 is =
-      let on : is_closed s.state ≡ false =
-      rw is refl in running (report_in s c S1) on (active_led base h checked s a n c v (report_comes on) (rw is tt))
-  goes_in S2 is =
-      let on : is_closed s.state ≡ false =
-      rw is refl in running (report_in s c S2) on (active_led base h checked s a n c v (report_comes on) (rw is tt))
-  goes_in S3 is =
-      let on : is_closed s.state ≡ false =
-      rw is refl in running (report_in s c S3) on (active_led base h checked s a n c v (report_comes on) (rw is tt))
   goes_in S4 is = absurd (let no : IsLate S4 = rw is at k.late in no)
   goes_in S5 is = absurd (let no : IsLate S5 = rw is at k.late in no)
   goes_in S6 is = (
@@ -157,24 +146,20 @@ module _ (base h : ℕ) (checked : Type 0) (s : FopState SegmentView) (a n : ℕ
       rank_is = λ t. omega (arith, k.rank_low t);
     },
   )
+  goes_in _ is =
+      let on : is_closed s.state ≡ false = rw is refl in
+      running (report_while_active s c) on (active_led base h checked s a n c v (report_comes on) (rw is tt))
 
 -- ---- the world
 
 not_waiting : (m : FopMode) → IsLate m → is_initialising m ≡ false
-not_waiting S1 late = refl
-not_waiting S2 late = refl
-not_waiting S3 late = refl
 not_waiting S4 late = elim late [ ]
 not_waiting S5 late = elim late [ ]
-not_waiting S6 late = refl
+not_waiting _ late = refl
 
 confirms_no_more : (old new : FopMode) → IsLate old → is_confirmation old new ≡ false
 confirms_no_more old S1 late = not_waiting old late
-confirms_no_more old S2 late = refl
-confirms_no_more old S3 late = refl
-confirms_no_more old S4 late = refl
-confirms_no_more old S5 late = refl
-confirms_no_more old S6 late = refl
+confirms_no_more old _ late = refl
 
 was_confirmed : (was : Bool) (old new : FopMode) → IsLate old → was || is_confirmation old new ≡ true → was ≡ true
 was_confirmed true old new late is = refl
@@ -298,15 +283,14 @@ module _ (c : Config) (d : Directive) (base : ℕ) (w : World) (k : Steady c w) 
       (heard_keeps x bs rs v vs (2 * v + bit (asks r)) (clcw_step w.ground_node.fop r).after goes.0 also rest.1
       down_is.1 up.0 up.1 (λ t. (ranks t).3) goes.1)
 
-  lose_keeps : (bs : List (List ℕ)) (rs : List Clcw) (vs : List ℕ) → g.plain.down ≡ vs → Reporting c bs rs
-      → DownIs base rs vs → Rises g.plain.a vs g.plain.r
+  lost_first : (b : List ℕ) (bs : List (List ℕ)) (rs : List Clcw) (vs : List ℕ) → g.plain.down ≡ vs
+      → Reporting c (b ∷ bs) rs → DownIs base rs vs → Rises g.plain.a vs g.plain.r
       → (IsChecked d
       → Ranks (2 * g.plain.a + asked w.ground_node.fop.state) rs vs (2 * g.plain.r + bit w.spacecraft.farm.retransmit))
-      → Next c d base g.plain (down_lose_step w bs).after
-  lose_keeps [] rs vs also rest down_is up ranks = stays g
-  lose_keeps (b ∷ bs) [] vs also rest down_is up ranks = elim rest [ ]
-  lose_keeps (b ∷ bs) (r ∷ rs) [] also rest down_is up ranks = elim down_is [ ]
-  lose_keeps (b ∷ bs) (r ∷ rs) (v ∷ vs) also rest down_is up ranks =
+      → Next c d base g.plain (record w { down = bs })
+  lost_first b bs [] vs also rest down_is up ranks = elim rest [ ]
+  lost_first b bs (r ∷ rs) [] also rest down_is up ranks = elim down_is [ ]
+  lost_first b bs (r ∷ rs) (v ∷ vs) also rest down_is up ranks =
       let p = g.plain in
       let rises : Rises p.a vs p.r = rises_lower v p.a p.r vs up.0 up.1 in
       let left = rest.1 in
@@ -328,31 +312,16 @@ module _ (c : Config) (d : Directive) (base : ℕ) (w : World) (k : Steady c w) 
             assumption (lower, m);
       }
 
-  detect_keeps : (b : List ℕ) (bs : List (List ℕ)) (r : Result telemetry.FrameView TmFault)
-      → Next c d base g.plain (down_lose_step w (b ∷ bs)).after
-      → Next c d base g.plain (down_damage_outcome w bs r).after
-  detect_keeps b bs (Ok frame) lost = stays g
-  detect_keeps b bs (Err fault) lost = lost
-
-  damage_keeps : (bs : List (List ℕ)) (damaged : List ℕ)
-      → ((b : List ℕ) (more : List (List ℕ)) → bs ≡ b ∷ more → Next c d base g.plain (down_lose_step w bs).after)
-      → Next c d base g.plain (down_damage_step w bs damaged).after
-  damage_keeps [] damaged lost = stays g
-  damage_keeps (b ∷ bs) damaged lost =
-      detect_keeps b bs (telemetry_reading.frame_at w.ground_node.config.frame_length damaged) (lost b bs refl)
+  pub late_down_lost : (b : List ℕ) (bs : List (List ℕ)) → w.down ≡ b ∷ bs
+      → Next c d base g.plain (record w { down = bs })
+  late_down_lost b bs is =
+      lost_first b bs g.reports g.plain.down refl (rw is at g.linked.reporting) g.linked.down_is g.linked.rises
+      (λ t. (g.calm t).ranks)
 
   pub late_down_deliver : Next c d base g.plain (down_deliver_step w w.down).after
   late_down_deliver =
       deliver_keeps w.down g.reports g.plain.down refl g.linked.reporting g.linked.down_is g.linked.rises
       (λ t. (g.calm t).ranks)
-
-  pub late_down_lose : Next c d base g.plain (down_lose_step w w.down).after
-  late_down_lose =
-      lose_keeps w.down g.reports g.plain.down refl g.linked.reporting g.linked.down_is g.linked.rises
-      (λ t. (g.calm t).ranks)
-
-  pub late_down_damage : (damaged : List ℕ) → Next c d base g.plain (down_damage_step w w.down damaged).after
-  late_down_damage damaged = damage_keeps w.down damaged (λ b bs e. late_down_lose)
 
   -- ---- a telemetry frame is sent
 

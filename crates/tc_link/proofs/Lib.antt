@@ -1,8 +1,10 @@
 pub mod AcceptedSegments
 pub mod Alerts
+pub mod Arrived
 pub mod Arriving
 pub mod Beginning
 pub mod Board
+pub mod Closed
 pub mod Counted
 pub mod Delivered
 pub mod Directing
@@ -16,6 +18,7 @@ pub mod Invariant
 pub mod LateSending
 pub mod LateSubmitting
 pub mod LateTelemetry
+pub mod Leaving
 pub mod Linked
 pub mod Lists
 pub mod Locks

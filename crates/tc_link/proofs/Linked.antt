@@ -13,7 +13,7 @@ use Rattle.cop1.specs.declared.fop.Control.{Control}
 use Rattle.cop1.specs.declared.fop.Control.TheVariants.{Idle}
 use Rattle.cop1.specs.declared.fop.Directive.{Directive}
 use Rattle.cop1.specs.declared.fop.FopMode.{FopMode}
-use Rattle.cop1.specs.declared.fop.FopMode.TheVariants.{S1, S2, S3, S4, S5, S6}
+use Rattle.cop1.specs.declared.fop.FopMode.TheVariants.{S5}
 use Rattle.cop1.specs.FarmRuns.{FlagsAgree}
 use Rattle.cop1.specs.FopState.{SentUnit}
 use Rattle.cop1.specs.FopNext.{units_of}
@@ -59,12 +59,8 @@ Reporting c (b ∷ bs) (r ∷ rs) = Tells c b r × Reporting c bs rs
 
 -- a control command is there in S5 alone
 abbrev pub Commanded : FopMode → Control → Type 0
-Commanded S1 control = control ≡ Idle
-Commanded S2 control = control ≡ Idle
-Commanded S3 control = control ≡ Idle
-Commanded S4 control = control ≡ Idle
 Commanded S5 control = Unit {0}
-Commanded S6 control = control ≡ Idle
+Commanded _ control = control ≡ Idle
 
 pub record Steady (c : Config) (w : World) : Type 0 where
   pub ranges : IsConfig c
@@ -138,6 +134,17 @@ pub record Linked (c : Config) (d : Directive) (base : ℕ) (w : World) (p : Pla
   pub down_is : DownIs base reports p.down
   pub fits : Fits (c.width / 2) p.n p.units p.r p.up
   pub rises : Rises p.a p.down p.r
+
+-- where the sender is on
+pub holds_late : {c : Config} {d : Directive} {base : ℕ} {w : World} {p : PlainLink} {front : Bool}
+    {frames : List BodyView} {reports : List Clcw} → Linked c d base w p front frames reports
+    → is_closed w.ground_node.fop.state ≡ false
+    → Holds base w.ground_node.fop.vs w.ground_node.fop.nn w.ground_node.fop.sent (unsent_segments w.ground_node)
+    p.a p.n p.units
+holds_late {c} {d} {base} {w} {p} l on =
+    let it : Held false base w.ground_node.fop.vs w.ground_node.fop.nn w.ground_node.fop.sent
+    (unsent_segments w.ground_node) p.a p.n p.units = rw on at l.held in
+    it
 
 -- no false alarm is on its way
 pub record Calm (w : World) (p : PlainLink) (front : Bool) (reports : List Clcw) : Type 0 where

@@ -1,13 +1,12 @@
 -- The receiver doesn't enter Lockout, and a confirmation is exact, in a clean session begun by check, Unlock or Set
 -- V(R).
-use Rattle.std.proofs.Common.{◌≡◌, ◌≢◌, ℕ, ◌⊎◌, inl, inr, Bool, true, false, List, [], ◌∷◌, length, Option, Some, None}
+use Rattle.std.proofs.Common.{◌≡◌, ◌≢◌, ℕ, ◌⊎◌, inl, inr, Bool, true, false, List, [], ◌∷◌, length, Option, Some}
 use Rattle.std.proofs.Common.{Result, Ok, Err, refl, ap, sym, subst, ◌∙◌}
 use Rattle.std.specs.Prelude.{nat_lt}
 use Rattle.std.proofs.lemmas.Bool.{cond_both}
-use Rattle.tc_frame.specs.declared.fault.TcFault.{TcFault}
 use Rattle.tc_frame.specs.declared.frame.Check.TheVariants.{On}
 use Rattle.tc_frame.specs.declared.frame.Command.TheVariants.{Unlock, SetVr}
-use Rattle.tc_frame.specs.Layout.{SegmentView, BodyView, Ad, Bd, Bc, FrameView}
+use Rattle.tc_frame.specs.Layout.{SegmentView, BodyView, Ad, Bd, Bc}
 use Rattle.tc_frame.specs.Reading.{frame_at}
 use Rattle.cop1.specs.declared.fault.CopFault.{CopFault}
 use Rattle.cop1.specs.declared.farm.FarmMode.{FarmMode}
@@ -17,11 +16,8 @@ use Rattle.cop1.specs.declared.fop.Directive.{Directive}
 use Rattle.cop1.specs.FarmRuns.{FlagsAgree}
 use Rattle.cop1.specs.Farm.{state_of, FarmState, after_unlock, after_set_vr, after_release, farm_step, BufferReleased}
 use Rattle.cop1.specs.FopDirective.{directive_step}
-use Rattle.cop1.specs.FopPull.{pull_step}
 use Rattle.tm_link.specs.Building.{is_to_send}
 use Rattle.tm_link.specs.declared.fault.TmFault.{TmFault}
-use Rattle.tm_link.specs.Layout as telemetry
-use Rattle.tm_link.specs.Reading as telemetry_reading
 use Rattle.nodes.specs.declared.config.Config.{Config}
 use Rattle.tc_link.specs.declared.event.Event.{Event}
 use Rattle.tc_link.specs.declared.event.Event.TheVariants as events
@@ -30,10 +26,11 @@ use Rattle.nodes.specs.Packets.{PacketOn}
 use Rattle.nodes.specs.Parameters.{limits_of}
 use Rattle.nodes.specs.Spacecraft.{SpacecraftState, SpacecraftOutcome, body_outcome, bypass_outcome, spacecraft_take}
 use Rattle.nodes.specs.Spacecraft.{spacecraft_take_bypass, spacecraft_telemetry}
-use Rattle.nodes.specs.Ground.{GroundState, with_fop, frame_to_send, directive_outcome}
-use Rattle.tc_link.specs.World.{World, world_step, is_initiation, session_begun_by, session_after_directive}
-use Rattle.tc_link.specs.World.{world_after_pull, up_deliver_step, up_lose_step, up_damage_outcome, up_damage_step}
-use Rattle.tc_link.specs.World.{down_deliver_step, down_lose_step, down_damage_outcome, down_damage_step, directive_of}
+use Rattle.nodes.specs.Ground.{directive_outcome}
+use Rattle.cop1.specs.Directives.{is_initiation}
+use Rattle.tc_link.specs.World.{World, WorldOutcome, world_step, session_begun_by, session_after_directive}
+use Rattle.tc_link.specs.World.{up_deliver_step}
+use Rattle.tc_link.specs.World.{directive_of}
 use Rattle.tc_link.specs.Confirmation.{ConfirmsExactly, IsChecked, IsChecking}
 use Rattle.tc_link.specs.FalseAlarms.{HasNoFalseAlarm}
 use Rattle.tc_link.specs.Reached.{IsEvent}
@@ -41,51 +38,15 @@ use Rattle.tc_link.proofs.Alerts.{cause}
 use Rattle.tc_link.proofs.Arriving.{own_arrives}
 use Rattle.tc_link.proofs.Beginning.{Clean}
 use Rattle.tc_link.proofs.Early.{Begun}
-use Rattle.tc_link.proofs.EarlyBoard.{early_up_deliver, early_up_lose, early_up_damage}
-use Rattle.tc_link.proofs.EarlyGround.{early_tick, early_send}
-use Rattle.tc_link.proofs.EarlyTelemetry.{early_down_deliver, early_down_lose, early_down_damage}
+use Rattle.tc_link.proofs.EarlyTelemetry.{early_down_deliver}
 use Rattle.tc_link.proofs.Invariant.{late_step}
 use Rattle.tc_link.proofs.Linked.{Steady, Late, Carries}
 use Rattle.tc_link.proofs.SteadyWorld.{Sound, steady_of, step_sound}
 use Rattle.tc_link.proofs.Transit.{UpIs}
 use Rattle.tc_link.proofs.Windows.{directive_is, state_by}
+use Rattle.tc_link.proofs.Leaving.{AtEachLoss, lost, pulled, up_arrives, down_arrives}
 
 -- ---- what leaves the receiver as it is
-
-abbrev SameFarm : World → World → Type 0
-SameFarm old new = new.spacecraft.farm ≡ old.spacecraft.farm
-
-module _ (w : World) where
-  pull_same : (ground_node : GroundState) (frame : Option FrameView)
-      → SameFarm w (world_after_pull w ground_node frame).after
-  pull_same ground_node None = refl
-  pull_same ground_node (Some frame) = refl
-
-  lost_same : (bs : List (List ℕ)) → SameFarm w (up_lose_step w bs).after
-  lost_same [] = refl
-  lost_same (b ∷ bs) = refl
-
-  detected_same : (bs : List (List ℕ)) (r : Result FrameView TcFault) → SameFarm w (up_damage_outcome w bs r).after
-  detected_same bs (Ok frame) = refl
-  detected_same bs (Err fault) = refl
-
-  damaged_same : (bs : List (List ℕ)) (octets : List ℕ) → SameFarm w (up_damage_step w bs octets).after
-  damaged_same [] octets = refl
-  damaged_same (b ∷ bs) octets = detected_same bs (frame_at On octets)
-
-  down_same : (bs : List (List ℕ)) → SameFarm w (down_deliver_step w bs).after × SameFarm w (down_lose_step w bs).after
-  down_same [] = (refl, refl)
-  down_same (b ∷ bs) = (refl, refl)
-
-  down_detected_same : (bs : List (List ℕ)) (r : Result telemetry.FrameView TmFault)
-      → SameFarm w (down_damage_outcome w bs r).after
-  down_detected_same bs (Ok frame) = refl
-  down_detected_same bs (Err fault) = refl
-
-  down_damaged_same : (bs : List (List ℕ)) (octets : List ℕ) → SameFarm w (down_damage_step w bs octets).after
-  down_damaged_same [] octets = refl
-  down_damaged_same (b ∷ bs) octets =
-      down_detected_same bs (telemetry_reading.frame_at w.ground_node.config.frame_length octets)
 
 bypass_same : (s : SpacecraftState) (ps : List PacketOn) → (spacecraft_take_bypass s ps).after.farm ≡ s.farm
 bypass_same s [] = refl
@@ -147,25 +108,30 @@ module _ (c : Config) (d : Directive) (base : ℕ) (w : World) (k : Steady c w) 
     | inr g ↦ ((late_step c d base w k g events.UpDeliver tt (λ x same begins. absurd (cc same))).calm checked).unlocked
   ]
 
+  abbrev IsUnlocked : WorldOutcome → Type 0
+  IsUnlocked o = o.after.spacecraft.farm.lockout ≡ false
+
+  unlocked_losses : w.spacecraft.farm.lockout ≡ false → AtEachLoss w IsUnlocked
+  unlocked_losses is = record {
+    refused = λ fault. is;
+    up = λ b bs same reply silent. is;
+    down = λ b bs same reply silent. is;
+  }
+
   not_locked : IsChecked d → Begun c d base w ⊎ Late c d base w → (e : Event) → w.spacecraft.farm.lockout ≡ false
-      → (world_step w e).after.spacecraft.farm.lockout ≡ false
-  not_locked checked s (events.Submit m octets) is = is
-  not_locked checked s (events.Bypass m octets) is = is
-  not_locked checked s (events.Directive e) is = is
-  not_locked checked s events.Send is =
-      ap (λ f. f.lockout) (pull_same w (with_fop w.ground_node (pull_step w.ground_node.fop).after)
-      (frame_to_send w.ground_node.config (pull_step w.ground_node.fop).answer)) ∙ is
+      → IsUnlocked (world_step w e)
+  not_locked checked s events.Send is = pulled w IsUnlocked (λ reply up sent silent. is)
   not_locked checked s events.UpDeliver is = up_unlocked checked s is
-  not_locked checked s events.UpLose is = ap (λ f. f.lockout) (lost_same w w.up) ∙ is
-  not_locked checked s (events.UpDamage octets) is = ap (λ f. f.lockout) (damaged_same w w.up octets.now) ∙ is
-  not_locked checked s events.Report is = is
-  not_locked checked s events.DownDeliver is = ap (λ f. f.lockout) (down_same w w.down).0 ∙ is
-  not_locked checked s events.DownLose is = ap (λ f. f.lockout) (down_same w w.down).1 ∙ is
-  not_locked checked s (events.DownDamage octets) is = ap (λ f. f.lockout) (down_damaged_same w w.down octets.now) ∙ is
-  not_locked checked s events.Tick is = is
+  not_locked checked s events.DownDeliver is = down_arrives w IsUnlocked is (λ b bs same. is)
   not_locked checked s events.Take is = taken_same w.spacecraft w.spacecraft.ready ∙ is
   not_locked checked s events.TakeBypass is = ap (λ f. f.lockout) (bypass_same w.spacecraft w.spacecraft.bypass) ∙ is
   not_locked checked s (events.Telemetry octets) is = ap (λ f. f.lockout) (queued_same w.spacecraft octets.now) ∙ is
+  not_locked checked s events.UpLose is = lost w IsUnlocked (unlocked_losses is) events.UpLose tt
+  not_locked checked s (events.UpDamage octets) is = lost w IsUnlocked (unlocked_losses is) (events.UpDamage octets) tt
+  not_locked checked s events.DownLose is = lost w IsUnlocked (unlocked_losses is) events.DownLose tt
+  not_locked checked s (events.DownDamage octets) is =
+      lost w IsUnlocked (unlocked_losses is) (events.DownDamage octets) tt
+  not_locked checked s _ is = is
 
   unlocked : IsChecked d → Begun c d base w ⊎ Late c d base w → w.session.confirmed ≡ true
       → w.spacecraft.farm.lockout ≡ false
@@ -182,33 +148,40 @@ module _ (c : Config) (d : Directive) (base : ℕ) (w : World) (k : Steady c w) 
   confirmed_by e (Ok alert) not_yet =
       cond_both (is_initiation e) (session_begun_by w e) w.session (λ s. s.confirmed ≡ false) (λ t. refl) (λ t. not_yet)
 
+  abbrev IsUnconfirmed : WorldOutcome → Type 0
+  IsUnconfirmed o = o.after.session.confirmed ≡ false
+
+  unconfirmed_losses : w.session.confirmed ≡ false → AtEachLoss w IsUnconfirmed
+  unconfirmed_losses not_yet = record {
+    refused = λ fault. not_yet;
+    up = λ b bs is reply silent. not_yet;
+    down = λ b bs is reply silent. not_yet;
+  }
+
   exactly : (g : Begun c d base w) (e : Event) → w.session.confirmed ≡ false
       → (world_step w e).after.session.confirmed ≡ true
       → ((world_step w e).after.spacecraft.farm.vr ≡ (world_step w e).after.ground_node.fop.vs)
       × ((world_step w e).after.ground_node.fop.nn ≡ (world_step w e).after.ground_node.fop.vs)
-  exactly g (events.Submit m octets) not_yet now = absurd cc
-  exactly g (events.Bypass m octets) not_yet now = absurd cc
   exactly g (events.Directive e) not_yet now =
       absurd (cc (
         confirmed_by e (directive_outcome w.ground_node (directive_step w.ground_node.fop e)).answer not_yet,
         now,
       ))
-  exactly g events.Send not_yet now = absurd (cc ((early_send c d base w k g).early.confirmed_not, now))
-  exactly g events.UpDeliver not_yet now = absurd (cc ((early_up_deliver c d base w k g).early.confirmed_not, now))
-  exactly g events.UpLose not_yet now = absurd (cc ((early_up_lose c d base w k g).early.confirmed_not, now))
-  exactly g (events.UpDamage octets) not_yet now =
-      absurd (cc ((early_up_damage c d base w k g octets.now).early.confirmed_not, now))
-  exactly g events.Report not_yet now = absurd cc
+  exactly g events.Send not_yet now =
+      absurd (cc (pulled w IsUnconfirmed (λ reply up sent silent. not_yet), now))
+  exactly g events.UpDeliver not_yet now = absurd (cc (up_arrives w IsUnconfirmed not_yet (λ b bs is. not_yet), now))
   exactly g events.DownDeliver not_yet now =
       elim (early_down_deliver c d base w k g)
       [ inl t ↦ absurd (let no = t.early.confirmed_not in cc (no, now)) | inr t ↦ t.exact ]
-  exactly g events.DownLose not_yet now = absurd (cc ((early_down_lose c d base w k g).early.confirmed_not, now))
+  exactly g events.UpLose not_yet now =
+      absurd (cc (lost w IsUnconfirmed (unconfirmed_losses not_yet) events.UpLose tt, now))
+  exactly g (events.UpDamage octets) not_yet now =
+      absurd (cc (lost w IsUnconfirmed (unconfirmed_losses not_yet) (events.UpDamage octets) tt, now))
+  exactly g events.DownLose not_yet now =
+      absurd (cc (lost w IsUnconfirmed (unconfirmed_losses not_yet) events.DownLose tt, now))
   exactly g (events.DownDamage octets) not_yet now =
-      absurd (cc ((early_down_damage c d base w k g octets.now).early.confirmed_not, now))
-  exactly g events.Tick not_yet now = absurd (cc ((early_tick c d base w k g).early.confirmed_not, now))
-  exactly g events.Take not_yet now = absurd cc
-  exactly g events.TakeBypass not_yet now = absurd cc
-  exactly g (events.Telemetry octets) not_yet now = absurd cc
+      absurd (cc (lost w IsUnconfirmed (unconfirmed_losses not_yet) (events.DownDamage octets) tt, now))
+  exactly g _ not_yet now = absurd (cc (not_yet, now))
 
   confirms_so : IsChecked d → Begun c d base w ⊎ Late c d base w → (e : Event)
       → ConfirmsExactly w (world_step w e).after

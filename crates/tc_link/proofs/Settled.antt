@@ -1,14 +1,14 @@
 -- What is pending moves up, and what is known of the ground is still so.
 use Rattle.std.proofs.Common.{◌≡◌, ℕ, ◌+◌, ◌*◌, ◌<◌, Bool, true, false, List, [], ◌∷◌, ◌++◌, drop, Option, Some, None}
 use Rattle.std.proofs.Common.{option_to_list, refl, ◌∙◌, arith, inl}
+use Rattle.std.proofs.lemmas.Bool.{cond_both}
 use Rattle.tc_frame.specs.Layout.{SegmentView}
 use Rattle.cop1.specs.declared.fop.Directive.{Directive}
-use Rattle.cop1.specs.declared.fop.FopMode.{FopMode}
-use Rattle.cop1.specs.declared.fop.FopMode.TheVariants.{S1, S2, S3, S4, S5, S6}
+use Rattle.cop1.specs.declared.fop.FopMode.TheVariants.{S6}
 use Rattle.cop1.specs.FopState.{FopState, SentUnit}
 use Rattle.cop1.specs.FopNext.{units_of}
 use Rattle.nodes.specs.declared.config.Config.{Config}
-use Rattle.nodes.specs.Ground.{GroundState, is_closed, unsent_segments, after_moving_up, settle_in, settle_step}
+use Rattle.nodes.specs.Ground.{GroundState, is_closed, unsent_segments, after_moving_up, settle_step}
 use Rattle.nodes.specs.Ground.{with_fop}
 use Rattle.tc_link.specs.PlainLink.{PlainLink}
 use Rattle.tc_link.specs.World.{World}
@@ -30,16 +30,11 @@ module _ (P : GroundState → Type 0) (s : GroundState)
   moved None [] has is on = each s.fop.waiting s.pending (λ e. refl) (λ e. absurd cc)
   moved None (u ∷ ps) has is on = each (Some u) ps (λ e. rw (has, is) refl) (λ e. absurd cc)
 
-  moved_in : (m : FopMode) → s.fop.state ≡ m → P (settle_in s m)
-  moved_in S1 is = moved s.fop.waiting s.pending refl refl (rw is refl)
-  moved_in S2 is = moved s.fop.waiting s.pending refl refl (rw is refl)
-  moved_in S3 is = moved s.fop.waiting s.pending refl refl (rw is refl)
-  moved_in S4 is = moved s.fop.waiting s.pending refl refl (rw is refl)
-  moved_in S5 is = moved s.fop.waiting s.pending refl refl (rw is refl)
-  moved_in S6 is = each s.fop.waiting [] (λ e. absurd (let no : true ≡ false = rw is at e in cc)) (λ e. (refl, refl))
-
   pub settled_keeps : P (settle_step s)
-  settled_keeps = moved_in s.fop.state refl
+  settled_keeps =
+      cond_both (is_closed s.fop.state) (record s { pending = [] }) (after_moving_up s s.fop.waiting s.pending) P
+      (λ off. each s.fop.waiting [] (λ on. absurd (cc (off, on))) (λ e. (refl, refl)))
+      (λ on. moved s.fop.waiting s.pending refl refl on)
 
 pub held_again : (off : Bool) (base vs nn : ℕ) (sent : List (SentUnit SegmentView)) (rest new : List SegmentView)
     (a n : ℕ) (units : List SegmentView) → (off ≡ false → new ≡ rest) → Held off base vs nn sent rest a n units

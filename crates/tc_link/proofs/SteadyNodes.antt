@@ -1,19 +1,18 @@
 -- What holds of each node at every moment, in any session.
-use Rattle.std.proofs.Common.{◌≡◌, ℕ, ◌-◌, ◌/◌, ◌<◌, ◌≤◌, true, false, not, List, [], ◌∷◌, Option, Some, None, refl}
-use Rattle.std.proofs.Common.{◌∙◌, arith}
-use Rattle.std.specs.Prelude.{◌==◌, ◌&&◌, nat_lt}
+use Rattle.std.proofs.Common.{◌≡◌, ℕ, ◌/◌, ◌<◌, ◌≤◌, true, false, not, [], ◌∷◌, Some, None, refl}
+use Rattle.std.proofs.Common.{◌∙◌, arith, ◌+◌, ◌%◌, ◌++◌}
+use Rattle.std.specs.Prelude.{◌==◌}
 use Rattle.std.specs.List.{AllByRecursion}
 use Rattle.std.proofs.lemmas.Bool.{cond_both}
 use Rattle.clcw.specs.declared.word.Clcw.{Clcw}
 use Rattle.tc_frame.specs.Layout.{SegmentView}
-use Rattle.cop1.specs.Modulo.{ahead_by}
 use Rattle.cop1.specs.declared.farm.FarmMode.{FarmMode}
 use Rattle.cop1.specs.declared.farm.FarmMode.TheVariants.{Open, Wait, Lockout}
 use Rattle.cop1.specs.declared.farm.Verdict.{Verdict}
-use Rattle.cop1.specs.declared.farm.Verdict.TheVariants.{Accepted, Ahead, NoBuffer, Behind, Outside, Discarded}
+use Rattle.cop1.specs.declared.farm.Verdict.TheVariants.{Accepted}
 use Rattle.cop1.specs.declared.fop.Alert.TheVariants as alert
 use Rattle.cop1.specs.declared.fop.Control.{Control}
-use Rattle.cop1.specs.declared.fop.Control.TheVariants.{Idle, Due, Sent}
+use Rattle.cop1.specs.declared.fop.Control.TheVariants.{Idle, Sent}
 use Rattle.cop1.specs.declared.fop.FopMode.{FopMode}
 use Rattle.cop1.specs.declared.fop.FopMode.TheVariants.{S1, S2, S3, S4, S5, S6}
 use Rattle.cop1.specs.Farm.{FarmState, FarmEvent, AdArrives, BdArrives, UnlockArrives, SetVrArrives, InvalidArrives}
@@ -21,19 +20,24 @@ use Rattle.cop1.specs.Farm.{BufferReleased, farm_step, after_verdict, after_unlo
 use Rattle.cop1.specs.Farm.{verdict_of}
 use Rattle.cop1.specs.FarmRuns.{FlagsAgree}
 use Rattle.cop1.proofs.Agreeing.{FlagsAgree-step}
-use Rattle.cop1.specs.FopPull.{NothingPulled, SequencePulled, pulls, pull_step, pull_control, pull_bypass, pull_in}
-use Rattle.cop1.specs.FopPull.{pull_marked, pull_waiting, oldest_marked, without_oldest_mark, after_send_first}
+use Rattle.cop1.specs.FopPull.{pull_step}
+use Rattle.cop1.specs.FopPull.{without_oldest_mark, after_send_first}
 use Rattle.cop1.specs.FopReport.{locks, waits, asks, clcw_step, report_in, report_while_active, report_in_S4, confirms}
-use Rattle.cop1.specs.FopReport.{nothing_new, after_move_on, goes_back, retransmits, goes_back_again, after_new_value}
+use Rattle.cop1.specs.FopReport.{after_move_on, retransmits, after_new_value}
 use Rattle.cop1.specs.FopState.{FopState}
-use Rattle.cop1.specs.FopTick.{tick_step, tick_with, timer_ended, after_count, due_again}
-use Rattle.cop1.specs.FopWords.{FopOutcome, is_outside, after_acknowledge, after_repeat, after_alert, after_stop}
-use Rattle.cop1.specs.FopWords.{after_restart, alerts, goes_on, after_gone}
+use Rattle.cop1.specs.FopTick.{tick_step, after_count, due_again}
+use Rattle.cop1.specs.FopWords.{FopOutcome, after_acknowledge, after_repeat, after_alert, after_stop}
+use Rattle.cop1.specs.FopWords.{after_restart, alerts, goes_on, unmarked_unit}
 use Rattle.nodes.specs.declared.config.Config.{Config}
 use Rattle.nodes.specs.OwnedFields.{FitsFrame}
 use Rattle.nodes.specs.Ground.{GroundState, is_closed, settle_step}
 use Rattle.tc_link.proofs.Linked.{Commanded}
 use Rattle.tc_link.proofs.Settled.{settled_keeps}
+use Rattle.tc_link.proofs.Closed.{active_on}
+use Rattle.cop1.proofs.Ticking.{ticked}
+use Rattle.cop1.proofs.Pulling.{pulled_out}
+use Rattle.cop1.proofs.Hearing.{heard_active}
+use Rattle.std.proofs.Common.{Bool}
 
 -- ---- the sender
 
@@ -114,56 +118,28 @@ module _ (c : Config) (s : FopState SegmentView) (k : FopSteady c s) where
   -- ---- a report
 
   module _ (r : Clcw) (idle : s.control ≡ Idle) where
-    again_so : FopSteady c (retransmits s (nat_lt s.count s.limit))
-    again_so = cond_both (nat_lt s.count s.limit) (after_repeat s) s
-        (λ (f : FopState SegmentView). FopSteady c (record f { state = S2 }))
-        (λ t. goes_so (record (after_repeat s) { state = S2 }) refl refl refl refl refl idle)
-        (λ t. goes_so (record s { state = S2 }) refl refl refl refl refl idle)
-
-    back_again_so : (m : FopMode) → FopSteady c (goes_back_again s m)
-    back_again_so S1 = again_so
-    back_again_so S2 = k
-    back_again_so S3 = again_so
-    back_again_so S4 = k
-    back_again_so S5 = k
-    back_again_so S6 = k
-
-    nothing_so : (m : FopMode) → Steadily (nothing_new s m)
-    nothing_so S1 = k
-    nothing_so S2 = gives_up s refl refl refl refl
-    nothing_so S3 = gives_up s refl refl refl refl
-    nothing_so S4 = k
-    nothing_so S5 = k
-    nothing_so S6 = k
+    again_so : (repeats : Bool) → FopSteady c (retransmits s repeats)
+    again_so true = goes_so (record (after_repeat s) { state = S2 }) refl refl refl refl refl idle
+    again_so false = goes_so (record s { state = S2 }) refl refl refl refl refl idle
 
     active_so : Steadily (report_while_active s r)
-    active_so =
-        cond_both (locks r) (alerts s alert.Lockout) _ (λ o. Steadily o) (λ t. gives_up s refl refl refl refl)
-        (λ l. cond_both (is_outside s r.value) (alerts s alert.NnR) _ (λ o. Steadily o)
-        (λ t. gives_up s refl refl refl refl)
-        (λ o. cond_both (not (asks r) && waits r) (alerts s alert.Clcw) _ (λ o. Steadily o)
-        (λ t. gives_up s refl refl refl refl)
-        (λ w. cond_both (asks r && (r.value == s.vs)) (alerts s alert.Synch) _ (λ o. Steadily o)
-        (λ t. gives_up s refl refl refl refl)
-        (λ y. cond_both (not (asks r) && (r.value == s.nn)) (nothing_new s s.state) _ (λ o. Steadily o)
-        (λ t. nothing_so s.state)
-        (λ n. cond_both (not (asks r)) (after_gone (ahead_by r.value s.nn)
-        (goes_on (after_move_on (after_acknowledge s r.value)))) _ (λ o. Steadily o)
-        (λ t. goes_so (after_move_on (after_acknowledge s r.value)) refl refl refl refl refl idle)
-        (λ t. cond_both (not (r.value == s.nn))
-        (after_gone (ahead_by r.value s.nn) (goes_back (after_new_value s r.value) (waits r))) _ (λ o. Steadily o)
-        (λ t. cond_both (s.limit == 1) (alerts (after_new_value s r.value) alert.Limit) _
-        (λ o. Steadily (after_gone (ahead_by r.value s.nn) o))
-        (λ t. gives_up (after_new_value s r.value) refl refl refl refl)
-        (λ f. cond_both (waits r) (goes_on (record (after_new_value s r.value) { state = S3 })) _
-        (λ o. Steadily (after_gone (ahead_by r.value s.nn) o))
-        (λ t. goes_so (record (after_new_value s r.value) { state = S3 }) refl refl refl refl refl idle)
-        (λ t. goes_so (record (after_repeat (after_new_value s r.value)) { state = S2 }) refl refl refl refl refl
-        idle)))
-        (λ t. cond_both (s.limit == 1) (alerts s alert.Limit) _ (λ o. Steadily o) (λ t. gives_up s refl refl refl refl)
-        (λ f. cond_both (waits r) (goes_on (record s { state = S3 })) _ (λ o. Steadily o)
-        (λ t. goes_so (record s { state = S3 }) refl refl refl refl refl idle)
-        (λ t. back_again_so s.state)))))))))
+    active_so = heard_active s r (λ o. Steadily o) (record {
+      locked = λ t. gives_up s refl refl refl refl;
+      outside = λ t. gives_up s refl refl refl refl;
+      waiting = λ none waiting. gives_up s refl refl refl refl;
+      asks_none = λ asking at. gives_up s refl refl refl refl;
+      same = k;
+      ceases = λ none at were. gives_up s refl refl refl refl;
+      moves = λ inside. goes_so (after_move_on (after_acknowledge s r.value)) refl refl refl refl refl idle;
+      others_over = λ inside asking one. gives_up (after_new_value s r.value) refl refl refl refl;
+      others_wait = λ inside asking. goes_so (record (after_new_value s r.value) { state = S3 }) refl refl refl refl
+          refl idle;
+      others_again = λ inside asking. goes_so (record (after_repeat (after_new_value s r.value)) { state = S2 }) refl
+          refl refl refl refl idle;
+      all_over = λ asking one. gives_up s refl refl refl refl;
+      all_wait = λ asking. goes_so (record s { state = S3 }) refl refl refl refl refl idle;
+      all_again = λ asking. again_so;
+    })
 
     in_S4_so : Steadily (report_in_S4 s r)
     in_S4_so =
@@ -175,53 +151,31 @@ module _ (c : Config) (s : FopState SegmentView) (k : FopSteady c s) where
         (λ t. goes_so (record s { state = S1; ticks = None }) refl refl refl refl refl idle))))
 
   report_in_so : (r : Clcw) (m : FopMode) → s.state ≡ m → Commanded m s.control → Steadily (report_in s r m)
-  report_in_so r S1 is idle = active_so r idle
-  report_in_so r S2 is idle = active_so r idle
-  report_in_so r S3 is idle = active_so r idle
   report_in_so r S4 is idle = in_S4_so r idle
   report_in_so r S5 is idle =
       cond_both (confirms s r) (goes_on (record s { state = S1; ticks = None; control = Idle })) (goes_on s)
       (λ o. Steadily o) (λ t. goes_so (record s { state = S1; ticks = None; control = Idle }) refl refl refl refl refl
       refl) (λ t. k)
   report_in_so r S6 is idle = k
+  report_in_so r _ is idle = active_so r idle
 
   pub report_so : (r : Clcw) → FopSteady c (clcw_step s r).after
   report_so r = report_in_so r s.state refl k.commanded
 
   -- ---- a tick
 
-  due_so : (m : FopMode) → s.state ≡ m → m ≡ S5 → Commanded s.state (due_again s.control)
-  due_so m is five = rw (is, five) tt
-
-  timer_so : (m : FopMode) → s.state ≡ m → Steadily (timer_ended (after_stop s) m)
-  timer_so S1 is =
-      cond_both (nat_lt s.count s.limit) (goes_on (after_repeat (after_stop s))) _ (λ o. Steadily o)
-      (λ t. goes_same (after_repeat (after_stop s)) refl refl refl refl refl refl
-      (λ e. absurd (let no : false ≡ true = rw is at e in cc)) refl) (λ t. gives_up (after_stop s) refl refl refl refl)
-  timer_so S2 is =
-      cond_both (nat_lt s.count s.limit) (goes_on (after_repeat (after_stop s))) _ (λ o. Steadily o)
-      (λ t. goes_same (after_repeat (after_stop s)) refl refl refl refl refl refl
-      (λ e. absurd (let no : false ≡ true = rw is at e in cc)) refl) (λ t. gives_up (after_stop s) refl refl refl refl)
-  timer_so S3 is =
-      cond_both (nat_lt s.count s.limit) (goes_on (after_count (after_stop s))) _ (λ o. Steadily o)
-      (λ t. goes_same (after_count (after_stop s)) refl refl refl refl refl refl (λ e. refl) refl)
-      (λ t. gives_up (after_stop s) refl refl refl refl)
-  timer_so S4 is = gives_up (after_stop s) refl refl refl refl
-  timer_so S5 is =
-      cond_both (nat_lt s.count s.limit) (goes_on
-      (record (after_count (after_stop s)) { control = due_again s.control })) _ (λ o. Steadily o)
-      (λ t. goes_so (record (after_count (after_stop s)) { control = due_again s.control }) refl refl refl refl
-      (rw is refl) (due_so S5 is refl)) (λ t. gives_up (after_stop s) refl refl refl refl)
-  timer_so S6 is = goes_same (after_stop s) refl refl refl refl refl refl (λ e. refl) refl
-
-  ticking_so : (ticks : Option ℕ) → Steadily (tick_with s ticks)
-  ticking_so None = k
-  ticking_so (Some left) =
-      cond_both (left == 1) (timer_ended (after_stop s) s.state) _ (λ o. Steadily o) (λ t. timer_so s.state refl)
-      (λ t. goes_same (record s { ticks = Some (left - 1) }) refl refl refl refl refl refl (λ e. refl) refl)
-
-  pub tick_so : FopSteady c (tick_step s).after
-  tick_so = ticking_so s.ticks
+  pub tick_so : Steadily (tick_step s)
+  tick_so = ticked s (λ o. Steadily o) (record {
+    off = k;
+    runs = λ left. goes_same (record s { ticks = Some left }) refl refl refl refl refl refl (λ e. refl) refl;
+    stops = goes_same (after_stop s) refl refl refl refl refl refl (λ e. refl) refl;
+    repeats = λ active. goes_same (after_repeat (after_stop s)) refl refl refl refl refl refl
+        (λ e. absurd (cc (e, active_on s.state active))) refl;
+    counts = goes_same (after_count (after_stop s)) refl refl refl refl refl refl (λ e. refl) refl;
+    commands = λ is. goes_so (record (after_count (after_stop s)) { control = due_again s.control }) refl refl refl refl
+        (rw is refl) (rw is tt);
+    gives_up = gives_up (after_stop s) refl refl refl refl;
+  })
 
   -- ---- a directive
 
@@ -246,92 +200,31 @@ module _ (c : Config) (s : FopState SegmentView) (k : FopSteady c s) where
 
   -- ---- a pull
 
-  pull_waiting_so : (m : FopMode) → s.state ≡ m → is_closed m ≡ false → Commanded m s.control → (o : Option SegmentView)
-      → Steadily (pull_waiting s o)
-  pull_waiting_so m is on commanded None = k
-  pull_waiting_so m is on commanded (Some u) =
-      cond_both (nat_lt (ahead_by s.vs s.nn) s.window) (pulls (after_send_first s u) (SequencePulled s.vs u))
-      (pulls s NothingPulled) (λ o. Steadily o)
-      (λ t. record {
-        room =
-            k.room;
-        window =
-            k.window;
-        vs_octet =
-            omega arith;
-        sent_none =
-            λ e. absurd (let no : is_closed m ≡ true = rw is at e in cc (no, on));
-        waiting_none =
-            λ e. refl;
-        commanded = k.commanded;
-        bypass_fits = k.bypass_fits;
-      }) (λ t. k)
-
-  pull_marked_so : (m : FopMode) → s.state ≡ m → is_closed m ≡ false → Commanded m s.control
-      → (o : Option (ℕ × SegmentView)) → Steadily (pull_marked s o)
-  pull_marked_so m is on commanded None = pull_waiting_so m is on commanded s.waiting
-  pull_marked_so m is on commanded (Some x) =
-      goes_same (record (after_restart s) { sent = without_oldest_mark s.sent }) refl refl refl refl refl refl
-      (λ e. absurd (let no : is_closed m ≡ true = rw is at e in cc (no, on))) refl
-
-  pull_in_so : (m : FopMode) → s.state ≡ m → Commanded m s.control → Steadily (pull_in s m)
-  pull_in_so S1 is commanded = pull_marked_so S1 is refl commanded (oldest_marked 0 s.sent)
-  pull_in_so S2 is commanded = pull_marked_so S2 is refl commanded (oldest_marked 0 s.sent)
-  pull_in_so S3 is commanded = k
-  pull_in_so S4 is commanded = k
-  pull_in_so S5 is commanded = k
-  pull_in_so S6 is commanded = k
-
-  pull_bypass_so : (us : List SegmentView) → s.bypass ≡ us → Steadily (pull_bypass s us)
-  pull_bypass_so [] is = pull_in_so s.state refl k.commanded
-  pull_bypass_so (u ∷ us) is =
-      let fit : AllByRecursion FitsFrame (u ∷ us) = rw is at k.bypass_fits in
-      let bypass_fits : AllByRecursion FitsFrame us = fit.1 in
-      record {
-        room =
-            k.room;
-        window =
-            k.window;
-        vs_octet =
-            k.vs_octet;
-        sent_none =
-            k.sent_none;
-        waiting_none = k.waiting_none;
-        commanded = k.commanded;
-        bypass_fits = bypass_fits;
-      }
-
   sent_so : (command : Control) (m : FopMode) (new : Control) → Commanded m command → (command ≡ Idle → ⊥)
       → Commanded m new
-  sent_so command S1 new is not_idle = absurd (not_idle is)
-  sent_so command S2 new is not_idle = absurd (not_idle is)
-  sent_so command S3 new is not_idle = absurd (not_idle is)
-  sent_so command S4 new is not_idle = absurd (not_idle is)
   sent_so command S5 new is not_idle = tt
-  sent_so command S6 new is not_idle = absurd (not_idle is)
+  sent_so command _ new is not_idle = absurd (not_idle is)
 
-  pull_control_so : (control : Control) → s.control ≡ control → Steadily (pull_control s control)
-  pull_control_so Idle is = pull_bypass_so s.bypass refl
-  pull_control_so (Sent command) is = pull_bypass_so s.bypass refl
-  pull_control_so (Due command) is =
-      let commanded : Commanded s.state (Sent command) =
-      sent_so s.control s.state (Sent command) k.commanded (λ e. absurd (cc (e, is))) in
-      record {
-        room =
-            k.room;
-        window =
-            k.window;
-        vs_octet =
-            k.vs_octet;
-        sent_none =
-            k.sent_none;
-        waiting_none = k.waiting_none;
-        commanded = commanded;
-        bypass_fits = k.bypass_fits;
-      }
-
-  pub pull_so : FopSteady c (pull_step s).after
-  pull_so = pull_control_so s.control refl
+  pub pull_so : Steadily (pull_step s)
+  pull_so = pulled_out s (λ o. Steadily o) (record {
+    none = k;
+    command = λ command is.
+        let commanded : Commanded s.state (Sent command) =
+        sent_so s.control s.state (Sent command) k.commanded (λ e. absurd (cc (e, is))) in
+        assumption (commanded, k);
+    bypass = λ u us is.
+        let fit : AllByRecursion FitsFrame (u ∷ us) = rw is at k.bypass_fits in
+        let bypass_fits : AllByRecursion FitsFrame us = fit.1 in
+        assumption (bypass_fits, k);
+    again = λ active x is. goes_same (record (after_restart s) { sent = without_oldest_mark s.sent }) refl refl refl
+        refl refl refl (λ e. absurd (cc (e, active_on s.state active))) refl;
+    first = λ active u is room.
+        let vs_octet : (s.vs + 1) % 256 < 256 = omega arith in
+        let sent_none : is_closed s.state ≡ true → s.sent ++ unmarked_unit u ∷ [] ≡ [] =
+        λ e. absurd (cc (e, active_on s.state active)) in
+        let waiting_none : is_closed s.state ≡ true → (after_send_first s u).waiting ≡ None = λ e. refl in
+        assumption (vs_octet, sent_none, waiting_none, k);
+  })
 
 -- ---- the ground
 
@@ -356,11 +249,7 @@ pub record FarmSteady (c : Config) (s : FarmState) : Type 0 where
 verdict_so : (s : FarmState) (v : Verdict)
     → ((after_verdict s v).width ≡ s.width) × ((after_verdict s v).farm_b ≡ s.farm_b)
 verdict_so s Accepted = (refl, refl)
-verdict_so s Ahead = (refl, refl)
-verdict_so s NoBuffer = (refl, refl)
-verdict_so s Behind = (refl, refl)
-verdict_so s Outside = (refl, refl)
-verdict_so s Discarded = (refl, refl)
+verdict_so s _ = (refl, refl)
 
 unlock_so : (s : FarmState) (m : FarmMode) → ((after_unlock s m).width ≡ s.width) × ((after_unlock s m).farm_b < 4)
 unlock_so s Open = (refl, omega arith)

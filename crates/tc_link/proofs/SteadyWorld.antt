@@ -1,6 +1,6 @@
 -- What holds of the world at every moment, in any session.
-use Rattle.std.proofs.Common.{◌≡◌, ℕ, ◌+◌, ◌-◌, ◌%◌, ◌<◌, ◌≤◌, Bool, true, false, List, [], ◌∷◌, ◌++◌, length, Option}
-use Rattle.std.proofs.Common.{Some, None, Result, Ok, Err, refl, arith, length-append}
+use Rattle.std.proofs.Common.{◌≡◌, ℕ, ◌+◌, ◌-◌, ◌/◌, ◌∙◌, ◌%◌, ◌<◌, ◌≤◌, Bool, true, false, List, [], ◌∷◌}
+use Rattle.std.proofs.Common.{◌++◌, length, Option, Some, None, Result, Ok, Err, refl, arith, length-append}
 use Rattle.std.specs.Prelude.{◌==◌, ◌||◌, nat_lt}
 use Rattle.std.specs.List.{AllByRecursion}
 use Rattle.std.proofs.lemmas.Bool.{cond_both, ltb-false, eqb-false, or_parts}
@@ -10,28 +10,24 @@ use Rattle.clcw.specs.Reading.{clcw_at}
 use Rattle.tc_frame.specs.declared.fault.TcFault.{TcFault}
 use Rattle.tc_frame.specs.declared.frame.Check.TheVariants.{On}
 use Rattle.tc_frame.specs.declared.frame.SegmentFlags.TheVariants.{Alone}
-use Rattle.tc_frame.specs.declared.frame.Command.TheVariants.{Unlock, SetVr}
 use Rattle.tc_frame.specs.Layout.{SegmentView, BodyView, Ad, Bd, Bc, FrameView}
 use Rattle.tc_frame.specs.Reading.{frame_at}
 use Rattle.map_service.specs.Cutting.{segment_with}
 use Rattle.cop1.specs.declared.fault.CopFault.{CopFault}
-use Rattle.cop1.specs.declared.fault.CopFault.TheVariants as faults
 use Rattle.cop1.specs.declared.farm.Verdict.{Verdict}
-use Rattle.cop1.specs.declared.farm.Verdict.TheVariants.{Accepted, Ahead, NoBuffer, Behind, Outside, Discarded}
+use Rattle.cop1.specs.declared.farm.Verdict.TheVariants.{Accepted}
 use Rattle.cop1.specs.declared.fop.Alert.{Alert}
-use Rattle.cop1.specs.declared.fop.Control.TheVariants.{Idle, Due}
+use Rattle.cop1.specs.declared.fop.Control.TheVariants.{Idle}
 use Rattle.cop1.specs.declared.fop.Directive.{Directive}
 use Rattle.cop1.specs.declared.fop.Directive.TheVariants.{InitWithoutCheck, InitWithCheck, InitUnlock, InitSetVr}
-use Rattle.cop1.specs.declared.fop.Directive.TheVariants.{Terminate, SetVs, SetWindow, SetLimit, SetTimer}
-use Rattle.cop1.specs.declared.fop.FopMode.{FopMode}
-use Rattle.cop1.specs.declared.fop.FopMode.TheVariants.{S1, S2, S3, S4, S5, S6}
-use Rattle.cop1.specs.Farm.{FarmState, AdArrives, BdArrives, BufferReleased, farm_step, verdict_of}
-use Rattle.cop1.specs.FopDirective.{obeys, refuses, from_S6, terminate_in, after_begin, directive_step}
+use Rattle.cop1.specs.declared.fop.FopMode.TheVariants.{S6}
+use Rattle.cop1.specs.Farm.{FarmState, FarmEvent, AdArrives, BdArrives, BufferReleased, farm_step, verdict_of}
+use Rattle.cop1.specs.FopDirective.{directive_step}
 use Rattle.cop1.specs.FopPull.{pull_step}
 use Rattle.cop1.specs.FopReport.{clcw_step}
 use Rattle.cop1.specs.FopState.{FopState}
 use Rattle.cop1.specs.FopTick.{tick_step}
-use Rattle.cop1.specs.FopWords.{FopOutcome, after_alert, after_restart}
+use Rattle.cop1.specs.FopWords.{FopOutcome, after_alert}
 use Rattle.tm_link.specs.Building.{BuilderState, is_to_send, after_send, data_size, is_at_rest, room_left, idle_after}
 use Rattle.tm_link.specs.declared.fault.TmFault.{TmFault}
 use Rattle.tm_link.specs.Extraction.{Extracted, extract_step}
@@ -54,15 +50,18 @@ use Rattle.nodes.specs.Ground.{GroundState, is_closed, unsent_segments, settle_s
 use Rattle.nodes.specs.Ground.{directive_outcome, submit_fault, after_submission, bypass_fault, after_bypass}
 use Rattle.nodes.specs.Ground.{unless_refused, after_extraction, ground_telemetry, telemetry_outcome, own_frame_outcome}
 use Rattle.nodes.specs.Ground as ground
-use Rattle.tc_link.specs.World.{World, new_world, world_step, world_after_pull, up_deliver_step, up_lose_step}
-use Rattle.tc_link.specs.World.{up_damage_outcome, up_damage_step, down_deliver_step, down_lose_step}
-use Rattle.tc_link.specs.World.{down_damage_outcome, down_damage_step, session_after_directive, is_initiation}
+use Rattle.tc_link.specs.World.{World, WorldOutcome, new_world, world_step, up_deliver_step}
+use Rattle.tc_link.specs.World.{down_deliver_step}
+use Rattle.cop1.specs.Directives.{is_initiation}
+use Rattle.tc_link.specs.World.{session_after_directive}
 use Rattle.nodes.proofs.Submitting.{bypass_fits}
 use Rattle.tc_link.specs.Reached.{IsDirective, IsEvent}
 use Rattle.tc_link.proofs.Linked.{Steady, Commanded}
 use Rattle.tc_link.proofs.SteadyNodes.{FopSteady, GroundNodeSteady, FarmSteady, settled_so, farm_so, report_so, tick_so}
 use Rattle.tc_link.proofs.SteadyNodes.{pull_so, gives_up, goes_same, off_so}
 use Rattle.tc_link.proofs.LateSubmitting.{all_push}
+use Rattle.cop1.proofs.Obeying.{obeyed, begun}
+use Rattle.tc_link.proofs.Leaving.{AtEachLoss, lost, pulled, up_arrives, down_arrives}
 
 pub record SpacecraftSteady (c : Config) (s : SpacecraftState) : Type 0 where
   pub config : s.config ≡ c
@@ -107,133 +106,42 @@ record Grows (c : Config) (s t : SpacecraftState) : Type 0 where
   accepted : length s.accepted ≤ length t.accepted
 
 module _ (c : Config) (s : SpacecraftState) (k : SpacecraftSteady c s) where
+  -- the receiver steps, and the spacecraft is as it was but for what no field speaks of
+  steps_so : (e : FarmEvent) (t : SpacecraftState) → t.config ≡ s.config → t.farm ≡ farm_step s.farm e
+      → t.builder ≡ s.builder → SpacecraftSteady c t
+  steps_so e t config farm builder =
+      record {
+        config =
+            config ∙ k.config;
+        farm = rw farm (farm_so c s.farm e k.farm);
+        builder = rw builder k.builder;
+        idle_left = rw builder k.idle_left;
+      }
+
   sequence_so : (n : ℕ) (u : SegmentView) (v : Verdict) → Grows c s (sequence_outcome s n u v).after
   sequence_so n u Accepted =
       record {
-        steady =
-            record {
-              config =
-                  k.config;
-              farm =
-                  farm_so c s.farm (AdArrives n (is_free s)) k.farm;
-              builder = k.builder;
-              idle_left = k.idle_left;
-            };
-        accepted =
-            omega (arith, length-append s.accepted (u ∷ []));
+        steady = steps_so (AdArrives n (is_free s)) (sequence_outcome s n u Accepted).after refl refl refl;
+        accepted = omega (arith, length-append s.accepted (u ∷ []));
       }
-  sequence_so n u Ahead =
+  sequence_so n u v =
       record {
-        steady =
-            record {
-              config =
-                  k.config;
-              farm =
-                  farm_so c s.farm (AdArrives n (is_free s)) k.farm;
-              builder = k.builder;
-              idle_left = k.idle_left;
-            };
-        accepted =
-            omega arith;
-      }
-  sequence_so n u NoBuffer =
-      record {
-        steady =
-            record {
-              config =
-                  k.config;
-              farm =
-                  farm_so c s.farm (AdArrives n (is_free s)) k.farm;
-              builder = k.builder;
-              idle_left = k.idle_left;
-            };
-        accepted =
-            omega arith;
-      }
-  sequence_so n u Behind =
-      record {
-        steady =
-            record {
-              config =
-                  k.config;
-              farm =
-                  farm_so c s.farm (AdArrives n (is_free s)) k.farm;
-              builder = k.builder;
-              idle_left = k.idle_left;
-            };
-        accepted =
-            omega arith;
-      }
-  sequence_so n u Outside =
-      record {
-        steady =
-            record {
-              config =
-                  k.config;
-              farm =
-                  farm_so c s.farm (AdArrives n (is_free s)) k.farm;
-              builder = k.builder;
-              idle_left = k.idle_left;
-            };
-        accepted =
-            omega arith;
-      }
-  sequence_so n u Discarded =
-      record {
-        steady =
-            record {
-              config =
-                  k.config;
-              farm =
-                  farm_so c s.farm (AdArrives n (is_free s)) k.farm;
-              builder = k.builder;
-              idle_left = k.idle_left;
-            };
-        accepted =
-            omega arith;
+        steady = steps_so (AdArrives n (is_free s)) (sequence_outcome s n u v).after refl refl refl;
+        accepted = omega arith;
       }
 
   bypass_so : (u : SegmentView) (kept : Bool) → Grows c s (bypass_outcome s u kept).after
   bypass_so u true =
-      record {
-        steady =
-            record {
-              config =
-                  k.config;
-              farm = farm_so c s.farm BdArrives k.farm;
-              builder = k.builder;
-              idle_left = k.idle_left;
-            };
-        accepted =
-            omega arith;
-      }
+      record { steady = steps_so BdArrives (bypass_outcome s u true).after refl refl refl; accepted = omega arith }
   bypass_so u false =
-      record {
-        steady =
-            record {
-              config =
-                  k.config;
-              farm = farm_so c s.farm BdArrives k.farm;
-              builder = k.builder;
-              idle_left = k.idle_left;
-            };
-        accepted =
-            omega arith;
-      }
+      record { steady = steps_so BdArrives (bypass_outcome s u false).after refl refl refl; accepted = omega arith }
 
   body_so : (f : BodyView) → Grows c s (body_outcome s f).after
   body_so (Ad n u) = sequence_so n u (verdict_of s.farm n (is_free s))
   body_so (Bd u) = bypass_so u (is_kept (limits_of s.config) u)
   body_so (Bc command) =
       record {
-        steady =
-            record {
-              config =
-                  k.config;
-              farm = farm_so c s.farm (command_event command) k.farm;
-              builder = k.builder;
-              idle_left = k.idle_left;
-            };
+        steady = steps_so (command_event command) (body_outcome s (Bc command)).after refl refl refl;
         accepted = omega arith;
       }
 
@@ -248,18 +156,12 @@ module _ (c : Config) (s : SpacecraftState) (k : SpacecraftSteady c s) where
   taken_so (p ∷ left) =
       cond_both (nat_lt (length left) s.config.ready_slots) (farm_step s.farm BufferReleased) s.farm
       (λ (farm : FarmState). SpacecraftSteady c (record s { ready = left; farm = farm }))
-      (λ t. record {
-        config =
-            k.config;
-        farm = farm_so c s.farm BufferReleased k.farm;
-        builder = k.builder;
-        idle_left = k.idle_left;
-      })
-      (λ t. record { config = k.config; farm = k.farm; builder = k.builder; idle_left = k.idle_left })
+      (λ t. steps_so BufferReleased (record s { ready = left; farm = farm_step s.farm BufferReleased }) refl refl refl)
+      (λ t. assumption k)
 
   bypass_taken_so : (ps : List PacketOn) → SpacecraftSteady c (spacecraft_take_bypass s ps).after
   bypass_taken_so [] = k
-  bypass_taken_so (p ∷ left) = record { config = k.config; farm = k.farm; builder = k.builder; idle_left = k.idle_left }
+  bypass_taken_so (p ∷ left) = assumption k
 
   queued_so : (octets : List ℕ) → SpacecraftSteady c (spacecraft_telemetry s octets).after
   queued_so octets =
@@ -311,90 +213,43 @@ module _ (c : Config) (s : GroundState) (k : GroundNodeSteady c s) where
   with_so : (f : FopState SegmentView) → FopSteady c f → GroundNodeSteady c (with_fop s f)
   with_so f so = settled_so c (record s { fop = f }) k.config so
 
-  abbrev Directed : FopOutcome SegmentView (Result (Option Alert) CopFault) → Type 0
-  Directed o = GroundNodeSteady c (directive_outcome s o).after
-
-  from_so : (next : FopState SegmentView) → (s.fop.state ≡ S6 → FopSteady c next) → (m : FopMode) → s.fop.state ≡ m
-      → Directed (from_S6 s.fop m next)
-  from_so next so S1 is = k
-  from_so next so S2 is = k
-  from_so next so S3 is = k
-  from_so next so S4 is = k
-  from_so next so S5 is = k
-  from_so next so S6 is = with_so next (so is)
-
-  terminated_so : (m : FopMode) → Directed (terminate_in s.fop m)
-  terminated_so S1 = with_so (after_alert s.fop) (gives_up c s.fop k.fop s.fop refl refl refl refl)
-  terminated_so S2 = with_so (after_alert s.fop) (gives_up c s.fop k.fop s.fop refl refl refl refl)
-  terminated_so S3 = with_so (after_alert s.fop) (gives_up c s.fop k.fop s.fop refl refl refl refl)
-  terminated_so S4 = with_so (after_alert s.fop) (gives_up c s.fop k.fop s.fop refl refl refl refl)
-  terminated_so S5 = with_so (after_alert s.fop) (gives_up c s.fop k.fop s.fop refl refl refl refl)
-  terminated_so S6 = k
-
   idle_off : s.fop.state ≡ S6 → s.fop.control ≡ Idle
   idle_off is = let idle : Commanded S6 s.fop.control = rw is at k.fop.commanded in idle
 
   set_vs_so : (x : ℕ) → x < 256 → FopSteady c (record s.fop { vs = x; nn = x })
-  set_vs_so x lt =
-      let f = k.fop in record {
-        room =
-            f.room;
-        window =
-            f.window;
-        vs_octet =
-            lt;
-        sent_none = f.sent_none;
-        waiting_none = f.waiting_none;
-        commanded = f.commanded;
-        bypass_fits = f.bypass_fits;
-      }
+  set_vs_so x lt = assumption (lt, k.fop)
 
   set_window_so : (n : ℕ) → ((n == 0) || nat_lt s.fop.room n) ≡ false → FopSteady c (record s.fop { window = n })
   set_window_so n small =
-      let f = k.fop in let most : n ≤ s.fop.room =
-      ltb-false s.fop.room n (or_parts (n == 0) (nat_lt s.fop.room n) small).1 in record {
-        room = f.room;
-        window =
-            omega (arith, most, f.room);
-        vs_octet =
-            f.vs_octet;
-        sent_none =
-            f.sent_none;
-        waiting_none = f.waiting_none;
-        commanded = f.commanded;
-        bypass_fits = f.bypass_fits;
-      }
+      let most : n ≤ s.fop.room = ltb-false s.fop.room n (or_parts (n == 0) (nat_lt s.fop.room n) small).1 in
+      let window : n ≤ c.width / 2 = omega (arith, most, k.fop.room) in
+      assumption (window, k.fop)
 
-  directive_so : (d : Directive) → IsDirective d → Directed (directive_step s.fop d)
-  directive_so InitWithoutCheck fits =
-      from_so (record (after_begin s.fop) { nn = s.fop.vs; state = S1 })
-      (λ is. off_so c s.fop k.fop (record (after_begin s.fop) { nn = s.fop.vs; state = S1 }) is refl refl k.fop.vs_octet
-      refl refl (idle_off is)) s.fop.state refl
-  directive_so InitWithCheck fits =
-      from_so (record (after_restart (after_begin s.fop)) { nn = s.fop.vs; state = S4 })
-      (λ is. off_so c s.fop k.fop (record (after_restart (after_begin s.fop)) { nn = s.fop.vs; state = S4 }) is refl
-      refl k.fop.vs_octet refl refl (idle_off is)) s.fop.state refl
-  directive_so InitUnlock fits =
-      from_so (record (after_begin s.fop) { nn = s.fop.vs; control = Due Unlock; state = S5 })
-      (λ is. off_so c s.fop k.fop (record (after_begin s.fop) { nn = s.fop.vs; control = Due Unlock; state = S5 }) is
-      refl refl k.fop.vs_octet refl refl tt) s.fop.state refl
-  directive_so (InitSetVr x) fits =
-      from_so (record (after_begin s.fop) { vs = x; nn = x; control = Due (SetVr x); state = S5 })
-      (λ is. off_so c s.fop k.fop (record (after_begin s.fop) { vs = x; nn = x; control = Due (SetVr x); state = S5 })
-      is refl refl fits refl refl tt) s.fop.state refl
-  directive_so Terminate fits = terminated_so s.fop.state
-  directive_so (SetVs x) fits = from_so (record s.fop { vs = x; nn = x }) (λ is. set_vs_so x fits) s.fop.state refl
-  directive_so (SetWindow n) fits =
-      cond_both ((n == 0) || nat_lt s.fop.room n) (refuses s.fop faults.Window) (obeys (record s.fop { window = n }))
-      (λ o. Directed o) (λ t. k) (λ t. with_so (record s.fop { window = n }) (set_window_so n t))
-  directive_so (SetLimit n) fits =
-      cond_both (n == 0) (refuses s.fop faults.Limit) (obeys (record s.fop { limit = n })) (λ o. Directed o) (λ t. k)
-      (λ t. with_so (record s.fop { limit = n })
-      (goes_same c s.fop k.fop (record s.fop { limit = n }) refl refl refl refl refl refl (λ e. refl) refl))
-  directive_so (SetTimer n) fits =
-      cond_both (n == 0) (refuses s.fop faults.Timer) (obeys (record s.fop { timer = n })) (λ o. Directed o) (λ t. k)
-      (λ t. with_so (record s.fop { timer = n })
-      (goes_same c s.fop k.fop (record s.fop { timer = n }) refl refl refl refl refl refl (λ e. refl) refl))
+  begun_so : (d : Directive) → is_initiation d ≡ true → IsDirective d → s.fop.state ≡ S6 → FopSteady c (begun s.fop d)
+  begun_so InitWithoutCheck is fits off =
+      off_so c s.fop k.fop (begun s.fop InitWithoutCheck) off refl refl k.fop.vs_octet refl refl (idle_off off)
+  begun_so InitWithCheck is fits off =
+      off_so c s.fop k.fop (begun s.fop InitWithCheck) off refl refl k.fop.vs_octet refl refl (idle_off off)
+  begun_so InitUnlock is fits off =
+      off_so c s.fop k.fop (begun s.fop InitUnlock) off refl refl k.fop.vs_octet refl refl tt
+  begun_so (InitSetVr x) is fits off = off_so c s.fop k.fop (begun s.fop (InitSetVr x)) off refl refl fits refl refl tt
+  begun_so _ is fits off = absurd cc
+
+  abbrev Directed : Directive → FopOutcome SegmentView (Result (Option Alert) CopFault) → Type 0
+  Directed d o = IsDirective d → GroundNodeSteady c (directive_outcome s o).after
+
+  directive_so : (d : Directive) → Directed d (directive_step s.fop d)
+  directive_so = obeyed s.fop Directed (record {
+    refused = λ d fault on fits. k;
+    begins = λ d is off fits. with_so (begun s.fop d) (begun_so d is fits off);
+    terminated = λ fits. with_so (after_alert s.fop) (gives_up c s.fop k.fop s.fop refl refl refl refl);
+    numbers = λ x is fits. with_so (record s.fop { vs = x; nn = x }) (set_vs_so x fits);
+    windows = λ n small fits. with_so (record s.fop { window = n }) (set_window_so n small);
+    limits = λ n fits. with_so (record s.fop { limit = n })
+        (goes_same c s.fop k.fop (record s.fop { limit = n }) refl refl refl refl refl refl (λ e. refl) refl);
+    times = λ n fits. with_so (record s.fop { timer = n })
+        (goes_same c s.fop k.fop (record s.fop { timer = n }) refl refl refl refl refl refl (λ e. refl) refl);
+  })
 
   submitted_so : (m : ℕ) (octets : List ℕ) (o : Option LinkFault)
       → GroundNodeSteady c (unless_refused o s (after_submission s m octets)).after
@@ -410,27 +265,7 @@ module _ (c : Config) (s : GroundState) (k : GroundNodeSteady c s) where
       let fits : AllByRecursion FitsFrame (s.fop.bypass ++ segment_with Alone m octets ∷ []) =
       all_push FitsFrame s.fop.bypass (segment_with Alone m octets) k.fop.bypass_fits
       (bypass_fits s m octets own is) in
-      let f = k.fop in
-      record {
-        config =
-            k.config;
-        fop =
-            record {
-              room =
-                  f.room;
-              window =
-                  f.window;
-              vs_octet =
-                  f.vs_octet;
-              sent_none =
-                  f.sent_none;
-              waiting_none = f.waiting_none;
-              commanded = f.commanded;
-              bypass_fits = fits;
-            };
-        pending_none =
-            k.pending_none;
-      }
+      record { config = k.config; fop = assumption (fits, k.fop); pending_none = k.pending_none }
 
   extracted_so : (x : Extracted) → GroundNodeSteady c (after_extraction s x)
   extracted_so x = record { config = k.config; fop = k.fop; pending_none = k.pending_none }
@@ -469,16 +304,8 @@ module _ (c : Config) (w : World) (k : Sound c w) where
       cond_both (is_initiation d) _ w.session (λ x. x.before ≤ length w.spacecraft.accepted) (λ t. omega arith)
       (λ t. k.before)
 
-  pulled_so : (ground_node : GroundState) → GroundNodeSteady c ground_node → (frame : Option FrameView)
-      → Sound c (world_after_pull w ground_node frame).after
-  pulled_so ground_node so None =
-      record { ranges = k.ranges; ground_node = so; spacecraft = k.spacecraft; before = k.before }
-  pulled_so ground_node so (Some frame) =
-      record { ranges = k.ranges; ground_node = so; spacecraft = k.spacecraft; before = k.before }
-
-  delivered_so : (bs : List (List ℕ)) → Sound c (up_deliver_step w bs).after
-  delivered_so [] = k
-  delivered_so (b ∷ bs) =
+  delivered_so : (b : List ℕ) (bs : List (List ℕ)) → Sound c (up_deliver_step w (b ∷ bs)).after
+  delivered_so b bs =
       let t = arrived_so c w.spacecraft k.spacecraft (frame_at On b) in record {
         ranges = k.ranges;
         ground_node =
@@ -487,23 +314,8 @@ module _ (c : Config) (w : World) (k : Sound c w) where
         before = omega (arith, k.before, t.accepted);
       }
 
-  lost_so : (bs : List (List ℕ)) → Sound c (up_lose_step w bs).after
-  lost_so [] = k
-  lost_so (b ∷ bs) =
-      record { ranges = k.ranges; ground_node = k.ground_node; spacecraft = k.spacecraft; before = k.before }
-
-  detected_so : (bs : List (List ℕ)) (r : Result FrameView TcFault) → Sound c (up_damage_outcome w bs r).after
-  detected_so bs (Ok frame) = k
-  detected_so bs (Err fault) =
-      record { ranges = k.ranges; ground_node = k.ground_node; spacecraft = k.spacecraft; before = k.before }
-
-  damaged_so : (bs : List (List ℕ)) (octets : List ℕ) → Sound c (up_damage_step w bs octets).after
-  damaged_so [] octets = k
-  damaged_so (b ∷ bs) octets = detected_so bs (frame_at On octets)
-
-  heard_so : (bs : List (List ℕ)) → Sound c (down_deliver_step w bs).after
-  heard_so [] = k
-  heard_so (b ∷ bs) =
+  heard_so : (b : List ℕ) (bs : List (List ℕ)) → Sound c (down_deliver_step w (b ∷ bs)).after
+  heard_so b bs =
       record {
         ranges =
             k.ranges;
@@ -513,21 +325,15 @@ module _ (c : Config) (w : World) (k : Sound c w) where
         before = k.before;
       }
 
-  down_lost_so : (bs : List (List ℕ)) → Sound c (down_lose_step w bs).after
-  down_lost_so [] = k
-  down_lost_so (b ∷ bs) =
-      record { ranges = k.ranges; ground_node = k.ground_node; spacecraft = k.spacecraft; before = k.before }
+  abbrev IsSound : WorldOutcome → Type 0
+  IsSound o = Sound c o.after
 
-  down_detected_so : (bs : List (List ℕ)) (r : Result telemetry.FrameView TmFault)
-      → Sound c (down_damage_outcome w bs r).after
-  down_detected_so bs (Ok frame) = k
-  down_detected_so bs (Err fault) =
-      record { ranges = k.ranges; ground_node = k.ground_node; spacecraft = k.spacecraft; before = k.before }
-
-  down_damaged_so : (bs : List (List ℕ)) (octets : List ℕ) → Sound c (down_damage_step w bs octets).after
-  down_damaged_so [] octets = k
-  down_damaged_so (b ∷ bs) octets =
-      down_detected_so bs (telemetry_reading.frame_at w.ground_node.config.frame_length octets)
+  losses : AtEachLoss w IsSound
+  losses = record {
+    refused = λ fault. k;
+    up = λ b bs is reply silent. assumption k;
+    down = λ b bs is reply silent. assumption k;
+  }
 
   taken_accepted : (ps : List PacketOn) → (spacecraft_take w.spacecraft ps).after.accepted ≡ w.spacecraft.accepted
   taken_accepted [] = refl
@@ -571,13 +377,15 @@ module _ (c : Config) (w : World) (k : Sound c w) where
             session_so d (directive_outcome w.ground_node (directive_step w.ground_node.fop d)).answer;
       }
   step_sound events.Send fits =
-      pulled_so (with_fop w.ground_node (pull_step w.ground_node.fop).after)
-      (with_so c w.ground_node k.ground_node (pull_step w.ground_node.fop).after
-      (pull_so c w.ground_node.fop k.ground_node.fop))
-      (frame_to_send w.ground_node.config (pull_step w.ground_node.fop).answer)
-  step_sound events.UpDeliver fits = delivered_so w.up
-  step_sound events.UpLose fits = lost_so w.up
-  step_sound (events.UpDamage octets) fits = damaged_so w.up octets.now
+      pulled w IsSound (λ reply up sent silent. record {
+        ranges = k.ranges;
+        ground_node =
+            with_so c w.ground_node k.ground_node (pull_step w.ground_node.fop).after
+            (pull_so c w.ground_node.fop k.ground_node.fop);
+        spacecraft = k.spacecraft;
+        before = k.before;
+      })
+  step_sound events.UpDeliver fits = up_arrives w IsSound k (λ b bs is. delivered_so b bs)
   step_sound events.Report fits =
       record {
         ranges =
@@ -586,9 +394,7 @@ module _ (c : Config) (w : World) (k : Sound c w) where
         spacecraft = reported_so c w.spacecraft k.spacecraft;
         before = k.before;
       }
-  step_sound events.DownDeliver fits = heard_so w.down
-  step_sound events.DownLose fits = down_lost_so w.down
-  step_sound (events.DownDamage octets) fits = down_damaged_so w.down octets.now
+  step_sound events.DownDeliver fits = down_arrives w IsSound k (λ b bs is. heard_so b bs)
   step_sound events.Tick fits =
       ground_so (with_fop w.ground_node (tick_step w.ground_node.fop).after)
       (with_so c w.ground_node k.ground_node (tick_step w.ground_node.fop).after
@@ -602,6 +408,7 @@ module _ (c : Config) (w : World) (k : Sound c w) where
   step_sound (events.Telemetry octets) fits =
       spacecraft_so (spacecraft_telemetry w.spacecraft octets.now).after
       (queued_so c w.spacecraft k.spacecraft octets.now) (queued_accepted octets.now)
+  step_sound e fits = lost w IsSound losses e tt
 
 pub new_sound : (c : Config) → IsConfig c → Sound c (new_world c)
 new_sound c ranges = record {

@@ -7,25 +7,16 @@ use Rattle.tc_frame.specs.declared.frame.Command.{Command}
 use Rattle.tc_frame.specs.declared.frame.Command.TheVariants.{Unlock, SetVr}
 use Rattle.tc_frame.specs.Layout.{SegmentView, BodyView, Ad, Bd, Bc}
 use Rattle.cop1.specs.declared.fop.Directive.{Directive}
-use Rattle.cop1.specs.declared.fop.Directive.TheVariants.{InitWithoutCheck, InitWithCheck, InitUnlock, InitSetVr}
-use Rattle.cop1.specs.declared.fop.Directive.TheVariants.{Terminate, SetVs, SetWindow, SetLimit, SetTimer}
+use Rattle.cop1.specs.declared.fop.Directive.TheVariants.{InitUnlock, InitSetVr}
 use Rattle.cop1.specs.FopReport.{locks, waits, asks}
 use Rattle.tc_link.specs.History.{Rises}
 use Rattle.tc_link.proofs.Lists.{get_append}
 
 -- the control command of a session that a directive begins and that counts from `base` on
 abbrev pub CommandFits : Directive → ℕ → Command → Type 0
-CommandFits InitWithoutCheck base command = ⊥
-CommandFits InitWithCheck base command = ⊥
 CommandFits InitUnlock base Unlock = Unit {0}
-CommandFits InitUnlock base (SetVr y) = ⊥
-CommandFits (InitSetVr x) base Unlock = ⊥
 CommandFits (InitSetVr x) base (SetVr y) = y ≡ base
-CommandFits Terminate base command = ⊥
-CommandFits (SetVs x) base command = ⊥
-CommandFits (SetWindow k) base command = ⊥
-CommandFits (SetLimit n) base command = ⊥
-CommandFits (SetTimer t) base command = ⊥
+CommandFits _ base _ = ⊥
 
 -- the frames are the pairs; control frames stand before the first of them alone, where `front` says so
 abbrev pub UpIs : Directive → ℕ → Bool → List BodyView → List (ℕ × SegmentView) → Type 0

@@ -16,25 +16,23 @@ use Rattle.cop1.specs.Farm.{state_of, FarmState}
 use Rattle.cop1.specs.FarmRuns.{FlagsAgree}
 use Rattle.cop1.specs.declared.farm.FarmMode.TheVariants.{Lockout}
 use Rattle.cop1.specs.declared.fop.Directive.{Directive}
-use Rattle.cop1.specs.declared.fop.Directive.TheVariants.{InitWithoutCheck, InitWithCheck, InitUnlock, InitSetVr}
-use Rattle.cop1.specs.declared.fop.Directive.TheVariants.{Terminate, SetVs, SetWindow, SetLimit, SetTimer}
-use Rattle.cop1.specs.declared.fop.FopMode.{FopMode}
-use Rattle.cop1.specs.declared.fop.FopMode.TheVariants.{S1, S2, S3, S4, S5, S6}
+use Rattle.cop1.specs.declared.fop.Directive.TheVariants.{InitSetVr}
 use Rattle.nodes.specs.declared.config.Config.{Config}
 use Rattle.tc_link.specs.declared.sim.opening.Opening.{Opening}
-use Rattle.nodes.specs.Ground.{is_closed, unsent_segments}
+use Rattle.nodes.specs.Ground.{is_closed}
 use Rattle.tc_link.specs.World.{World, directive_of}
 use Rattle.tc_link.specs.History.{number_of, numbered}
 use Rattle.tc_link.specs.Confirmation.{LeavesVr, IsChecking, IsConfirmedExactly}
-use Rattle.cop1.specs.FopState.{IsActive}
 use Rattle.tc_link.specs.InTransit.{number_in, command_in, unit_in, in_frame, report_read, report_of_frame}
 use Rattle.tc_link.specs.InTransit.{report_carried, reports_down, IsInWindow, IsRising, KeepsToWindow}
 use Rattle.tc_link.proofs.Beginning.{Clean}
-use Rattle.tc_link.proofs.Early.{Begun, IsEarly}
-use Rattle.tc_link.proofs.Linked.{Late, Carries, Tells, Reporting, Holds, Held}
+use Rattle.tc_link.proofs.Early.{Begun, early_off}
+use Rattle.tc_link.proofs.Linked.{Late, Carries, Tells, Reporting}
 use Rattle.tc_link.proofs.SteadyWorld.{Sound}
 use Rattle.tc_link.specs.History.{Rises}
 use Rattle.tc_link.proofs.Transit.{CommandFits, UpIs, DownIs, Fits, rises_to}
+use Rattle.tc_link.proofs.Closed.{active_on}
+use Rattle.tc_link.proofs.Linked.{holds_late}
 
 -- ---- what octets on their way tell
 
@@ -152,34 +150,11 @@ pub directive_is : (w : World) (d : Directive) → w.session.opening ≡ Some (r
     → directive_of w ≡ Some d
 directive_is w d is = ap (option_map (λ (o : Opening). o.directive)) is
 
-pub late_on : (m : FopMode) → IsActive m → is_closed m ≡ false
-late_on S1 active = refl
-late_on S2 active = refl
-late_on S3 active = refl
-late_on S4 active = refl
-late_on S5 active = refl
-late_on S6 active = elim active [ ]
-
-early_off : (d : Directive) (m : FopMode) → IsEarly d m → IsActive m → ⊥
-early_off d S1 early active = early
-early_off d S2 early active = early
-early_off d S3 early active = early
-early_off d S4 early active = active
-early_off d S5 early active = active
-early_off d S6 early active = active
-
 leaves : (d : Directive) (base vr : ℕ) (command : Command) → CommandFits d base command → vr ≡ base
     → LeavesVr vr command
 leaves d base vr Unlock fits is = tt
-leaves InitUnlock base vr (SetVr y) fits is = elim fits [ ]
 leaves (InitSetVr x) base vr (SetVr y) fits is = fits ∙ sym is
-leaves InitWithoutCheck base vr (SetVr y) fits is = elim fits [ ]
-leaves InitWithCheck base vr (SetVr y) fits is = elim fits [ ]
-leaves Terminate base vr (SetVr y) fits is = elim fits [ ]
-leaves (SetVs x) base vr (SetVr y) fits is = elim fits [ ]
-leaves (SetWindow x) base vr (SetVr y) fits is = elim fits [ ]
-leaves (SetLimit x) base vr (SetVr y) fits is = elim fits [ ]
-leaves (SetTimer x) base vr (SetVr y) fits is = elim fits [ ]
+leaves _ base vr (SetVr y) fits is = elim fits [ ]
 
 flag_locked : (lockout wait : Bool) → lockout ≡ false → state_of lockout wait ≢ Lockout
 flag_locked true wait is e = absurd cc
@@ -207,11 +182,8 @@ module _ (c : Config) (w : World) (k : Sound c w) (d : Directive) (base : ℕ) w
         up = numbers_in c d base h p.n p.units (IsInWindow (w.spacecraft.farm.width / 2) w.spacecraft.farm.vr) p.r
             g.front w.up g.frames p.up p.r each (omega arith) l.carries l.up_is l.fits;
         down = λ settled active.
-            let on : is_closed w.ground_node.fop.state ≡ false = late_on w.ground_node.fop.state active in
-            let was : Holds base w.ground_node.fop.vs w.ground_node.fop.nn w.ground_node.fop.sent
-            (unsent_segments w.ground_node) p.a p.n p.units =
-            let it : Held false base w.ground_node.fop.vs w.ground_node.fop.nn w.ground_node.fop.sent
-            (unsent_segments w.ground_node) p.a p.n p.units = rw on at l.held in it in
+            let on : is_closed w.ground_node.fop.state ≡ false = active_on w.ground_node.fop.state active in
+            let was = holds_late l on in
             let most : h ≤ 127 = omega (arith, k.ranges.width) in
             let rising : IsRising w.ground_node.fop.nn (p.a - p.a) g.reports w.spacecraft.farm.vr =
             rising_in base w.ground_node.fop.nn p.a p.a p.r w.spacecraft.farm.vr h g.reports p.down was.nn_is
@@ -244,11 +216,8 @@ module _ (c : Config) (w : World) (k : Sound c w) (d : Directive) (base : ℕ) w
             cc
             );
         exact = λ confirmed active nothing.
-            let on : is_closed w.ground_node.fop.state ≡ false = late_on w.ground_node.fop.state active in
-            let was : Holds base w.ground_node.fop.vs w.ground_node.fop.nn w.ground_node.fop.sent
-            (unsent_segments w.ground_node) p.a p.n p.units =
-            let it : Held false base w.ground_node.fop.vs w.ground_node.fop.nn w.ground_node.fop.sent
-            (unsent_segments w.ground_node) p.a p.n p.units = rw on at l.held in it in
+            let on : is_closed w.ground_node.fop.state ≡ false = active_on w.ground_node.fop.state active in
+            let was = holds_late l on in
             let none : p.n ≡ 0 =
             sym (length-take-le p.n p.units l.n_most) ∙ sym (length-map (take p.n p.units) segment_octets)
             ∙ sym (ap length l.sent_is) ∙ ap length nothing in

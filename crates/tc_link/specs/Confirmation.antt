@@ -5,24 +5,15 @@ use Rattle.tc_frame.specs.declared.frame.Command.{Command}
 use Rattle.tc_frame.specs.declared.frame.Command.TheVariants.{Unlock, SetVr}
 use Rattle.cop1.specs.declared.farm.FarmMode.TheVariants.{Lockout}
 use Rattle.cop1.specs.declared.fop.Directive.{Directive}
-use Rattle.cop1.specs.declared.fop.Directive.TheVariants.{InitWithoutCheck, InitWithCheck}
-use Rattle.cop1.specs.declared.fop.Directive.TheVariants.{InitUnlock, InitSetVr, Terminate, SetVs}
-use Rattle.cop1.specs.declared.fop.Directive.TheVariants.{SetWindow, SetLimit, SetTimer}
+use Rattle.cop1.specs.declared.fop.Directive.TheVariants.{InitWithoutCheck}
+use Rattle.cop1.specs.Directives.{is_initiation}
 use Rattle.cop1.specs.FopState.{IsActive}
 use Rattle.tc_link.specs.InTransit.{commands_up}
 use Rattle.tc_link.specs.World.{World, accepted, directive_of}
 
 -- a session that this directive begins has to be confirmed: by check, Unlock or Set V(R)
 abbrev pub IsChecked : Directive → Type 0
-IsChecked InitWithoutCheck = ⊥
-IsChecked InitWithCheck = Unit {0}
-IsChecked InitUnlock = Unit {0}
-IsChecked (InitSetVr x) = Unit {0}
-IsChecked Terminate = ⊥
-IsChecked (SetVs x) = ⊥
-IsChecked (SetWindow k) = ⊥
-IsChecked (SetLimit n) = ⊥
-IsChecked (SetTimer t) = ⊥
+IsChecked directive = (is_initiation directive ≡ true) × (directive ≢ InitWithoutCheck)
 
 abbrev pub IsChecking : Option Directive → Type 0
 IsChecking None = ⊥

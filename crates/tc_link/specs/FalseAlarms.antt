@@ -15,28 +15,20 @@ use Rattle.nodes.specs.declared.heard.Heard.{Heard}
 use Rattle.nodes.specs.declared.heard.Heard.TheVariants as heard_cases
 use Rattle.tc_link.specs.declared.sim.fault.SimFault.{SimFault}
 use Rattle.tc_link.specs.InTransit.{report_carried}
-use Rattle.tc_link.specs.Replies.{ReplyView, Done, Nothing, Lost, Refused, Alerted, Sent, Reported}
-use Rattle.tc_link.specs.Replies.{Up, Down, Packet}
+use Rattle.tc_link.specs.Replies.{ReplyView, Alerted}
+use Rattle.tc_link.specs.Replies.{Down}
 use Rattle.tc_link.specs.World.{World, world_step, directive_of}
 
 -- ---- the alert that is answered
 
 abbrev pub heard_alert : Heard → Option Alert
-heard_alert (heard_cases.Invalid fault) = None
-heard_alert heard_cases.Foreign = None
 heard_alert (heard_cases.Frame gap packets report alert) = alert
+heard_alert _ = None
 
 abbrev pub replied_alert : ReplyView → Option Alert
-replied_alert Done = None
-replied_alert Nothing = None
-replied_alert Lost = None
-replied_alert (Refused fault) = None
 replied_alert (Alerted alert) = Some alert
-replied_alert (Sent octets) = None
-replied_alert (Reported report) = None
-replied_alert (Up received) = None
 replied_alert (Down heard) = heard_alert heard
-replied_alert (Packet packet) = None
+replied_alert _ = None
 
 abbrev pub alert_in : Result ReplyView SimFault → Option Alert
 alert_in (Ok reply) = replied_alert reply

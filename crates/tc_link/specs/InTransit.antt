@@ -75,7 +75,8 @@ values_down w = map (λ (report : Clcw). report.value) (reports_down w)
 abbrev pub IsInWindow : ℕ → ℕ → ℕ → Type 0
 IsInWindow half vr n = (ahead_by n vr < half) ⊎ (ahead_by vr n ≤ half)
 
--- the values lie within NN(R) to a last one, in rising order
+-- the values lie within NN(R) to a last one, in rising order; `low` is how far from NN(R) the one
+-- before lies, 0 at first
 abbrev pub IsRising : (nn low : ℕ) → List Clcw → ℕ → Type 0
 IsRising nn low [] last = low ≤ ahead_by last nn
 IsRising nn low (report ∷ reports) last =

@@ -1,3 +1,4 @@
+pub mod Acceptance
 pub mod Confirmation
 pub mod FalseAlarms
 pub mod History

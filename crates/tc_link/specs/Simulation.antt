@@ -43,10 +43,8 @@ run_from s (event ∷ more) = run_from (record_step s event) more
 
 -- the field of the configuration for which a call was refused
 abbrev pub field_of : SimFault → Option (List ℕ)
-field_of faults.Memory = None
-field_of faults.NothingInTransit = None
-field_of faults.NotDetectable = None
 field_of (faults.Config field) = Some field.now
+field_of _ = None
 
 abbrev pub refused_field : {A : Type 0} → Result A SimFault → Option (List ℕ)
 refused_field (Ok made) = None
@@ -66,19 +64,12 @@ IfFirst (octets ∷ more) P = P octets
 abbrev pub TakesNone : World → Event → Type 0
 TakesNone w (events.Submit m octets) = IsSome (submit_fault w.ground_node m octets.now)
 TakesNone w (events.Bypass m octets) = IsSome (bypass_fault w.ground_node m octets.now)
-TakesNone w (events.Directive directive) = Unit {0}
 TakesNone w events.Send = ⊥
 TakesNone w events.UpDeliver =
     IfFirst w.up (λ octets. HandsNothingOn w.spacecraft (command.frame_at On octets))
-TakesNone w events.UpLose = Unit {0}
-TakesNone w (events.UpDamage octets) = Unit {0}
 TakesNone w events.Report = ⊥
 TakesNone w events.DownDeliver =
     IfFirst w.down (λ octets. FinishesNothing w.ground_node
     (telemetry.frame_at w.ground_node.config.frame_length octets))
-TakesNone w events.DownLose = Unit {0}
-TakesNone w (events.DownDamage octets) = Unit {0}
-TakesNone w events.Tick = Unit {0}
-TakesNone w events.Take = Unit {0}
-TakesNone w events.TakeBypass = Unit {0}
 TakesNone w (events.Telemetry octets) = is_to_send octets.now ≡ false
+TakesNone w _ = Unit {0}

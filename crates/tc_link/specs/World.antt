@@ -15,11 +15,10 @@ use Rattle.cop1.specs.Report.{report_of}
 use Rattle.cop1.specs.declared.fault.CopFault.{CopFault}
 use Rattle.cop1.specs.declared.fop.Alert.{Alert}
 use Rattle.cop1.specs.declared.fop.Directive.{Directive}
-use Rattle.cop1.specs.declared.fop.Directive.TheVariants.{InitWithoutCheck, InitWithCheck}
-use Rattle.cop1.specs.declared.fop.Directive.TheVariants.{InitUnlock, InitSetVr, Terminate, SetVs}
-use Rattle.cop1.specs.declared.fop.Directive.TheVariants.{SetWindow, SetLimit, SetTimer}
+use Rattle.cop1.specs.declared.fop.Directive.TheVariants.{InitWithoutCheck}
 use Rattle.cop1.specs.declared.fop.FopMode.{FopMode}
-use Rattle.cop1.specs.declared.fop.FopMode.TheVariants.{S1, S2, S3, S4, S5, S6}
+use Rattle.cop1.specs.declared.fop.FopMode.TheVariants.{S1, S4, S5}
+use Rattle.cop1.specs.Directives.{is_initiation}
 use Rattle.tm_link.specs.declared.fault.TmFault.{TmFault}
 use Rattle.tm_link.specs.Layout as telemetry
 use Rattle.tm_link.specs.Reading as telemetry_reading
@@ -139,25 +138,7 @@ is_quiet w = is_none w.up && is_none w.down
 -- an initiation begins a clean session in a quiet world, and without a check only where V(R) = V(S)
 abbrev pub begins_clean : World → Directive → Bool
 begins_clean w InitWithoutCheck = is_quiet w && (w.spacecraft.farm.vr == w.ground_node.fop.vs)
-begins_clean w InitWithCheck = is_quiet w
-begins_clean w InitUnlock = is_quiet w
-begins_clean w (InitSetVr x) = is_quiet w
-begins_clean w Terminate = false
-begins_clean w (SetVs x) = false
-begins_clean w (SetWindow k) = false
-begins_clean w (SetLimit n) = false
-begins_clean w (SetTimer t) = false
-
-abbrev pub is_initiation : Directive → Bool
-is_initiation InitWithoutCheck = true
-is_initiation InitWithCheck = true
-is_initiation InitUnlock = true
-is_initiation (InitSetVr x) = true
-is_initiation Terminate = false
-is_initiation (SetVs x) = false
-is_initiation (SetWindow k) = false
-is_initiation (SetLimit n) = false
-is_initiation (SetTimer t) = false
+begins_clean w directive = is_initiation directive && is_quiet w
 
 -- no session begins with an event: it is no initiation, or it comes while the sender is not in S6
 abbrev pub BeginsNoSession : World → Event → Type 0
@@ -182,21 +163,14 @@ session_begun_by w directive =
     session_begun w (record { directive = directive; clean = begins_clean w directive })
 
 abbrev pub is_initialising : FopMode → Bool
-is_initialising S1 = false
-is_initialising S2 = false
-is_initialising S3 = false
 is_initialising S4 = true
 is_initialising S5 = true
-is_initialising S6 = false
+is_initialising _ = false
 
 -- a report takes the ground from S4 or S5 to S1
 abbrev pub is_confirmation : FopMode → FopMode → Bool
 is_confirmation old S1 = is_initialising old
-is_confirmation old S2 = false
-is_confirmation old S3 = false
-is_confirmation old S4 = false
-is_confirmation old S5 = false
-is_confirmation old S6 = false
+is_confirmation old _ = false
 
 -- ---- events
 

@@ -7,8 +7,8 @@ use Rattle.tc_frame.specs.Layout.{segment_octets}
 use Rattle.tm_link.specs.Extraction.{octets_of}
 use Rattle.tc_link.specs.declared.world.World.TheInside.{Inside}
 use Rattle.tc_link.specs.declared.session.Session.{Session as SessionFields}
-use Rattle.nodes.specs.declared.spacecraft.acceptance.Acceptance.{Acceptance}
-use Rattle.nodes.specs.Acceptance.{AcceptanceView}
+use Rattle.tc_link.specs.declared.acceptance.Acceptance.{Acceptance}
+use Rattle.tc_link.specs.Acceptance.{AcceptanceView}
 use Rattle.tc_link.specs.MapLists.{packets_at, HasRoom}
 use Rattle.nodes.specs.Packets.{packet_view}
 use Rattle.tc_link.specs.World.{Session, World, submitted, delivered}

@@ -4,6 +4,7 @@
 //! session. What is promised of a session is said of these records, by `run` and by each step.
 #![tactic(auto)]
 
+mod acceptance;
 mod copying;
 mod event;
 mod map_lists;

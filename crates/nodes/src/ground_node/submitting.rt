@@ -1,19 +1,25 @@
 // Packets to be sent.
 
 use super::Ground;
-use crate::commands::are_commands;
+use super::submission::{Segments, Submission};
+use crate::commands::{commands_in, is_one_command};
 use crate::fault::LinkFault;
 use crate::owned_segment::{OwnedSegment, own};
 use cop1::FopMode;
-use map_service::{cut, segment_count};
-use tc_frame::{Segment, SegmentFlags, SegmentHeader};
+use map_service::{cut_packets, segment_count};
 
 impl Ground {
-    ghost use Rattle.std.specs.Prelude.{◌≡◌, Err, None, Ok, IfSome, OnOk, OnErr, IsOkUnless};
-    ghost use Rattle.nodes.specs.Ground.{ground_step, Submit, Bypass, submit_fault, after_submission, bypass_fault};
+    ghost use Rattle.std.specs.Prelude.{◌≡◌, ◌<◌, ◌⊎◌, ℕ, ◌+◌, length, true, false, not, nat_lt, if◌then◌else◌};
+    ghost use Rattle.std.specs.Prelude.{Err, None, Ok, Some, IfOk, IfErr, IfSome, OnOk, OnErr, IsOkUnless};
+    ghost use Rattle.nodes.specs.Commands.{commands_fault};
+    ghost use Rattle.nodes.specs.Ground.{ground_step, Submit, Bypass, submit_fault, bypass_fault};
+    ghost use Rattle.nodes.specs.Ground.{is_closed, unsent_segments, segments_on, is_over_slots};
+    ghost use Rattle.nodes.specs.Parameters.{limits_of};
+    ghost use Rattle.nodes.specs.Submissions.{IsSubmissionAt, HasPlaces, segments_held, after_commit};
 
     /// Submits command packets on a MAP, to be sent under sequence control: exactly one packet, or
-    /// with blocking one or more, one after another (CCSDS 232.0-B-4, 4.3). The first that applies:
+    /// with blocking one or more, one after another (CCSDS 232.0-B-4, 4.3). It is `prepare` and then
+    /// `commit`. The first that applies:
     /// 1 `NotOpen` (in S6), 2 `ClosedMap`, 3 `NotCommand`, 4 `TooLong`, 5 `QueueFull` (more
     /// segments than the queue slots would wait to be sent), 6 `Memory`; and then the ground is as
     /// it was.
@@ -28,54 +34,111 @@ impl Ground {
             → IsOkUnless result LinkFault.Memory }
         ensures err { OnErr result (self.new ≡ self.old) }
     {
-        if let Some(fault) = self.submit_fault(map, octets) {
-            return Err(fault);
-        }
-        self.enqueue(map, octets)
-    }
-
-    // Submits packets that are not refused. The fault is 6 `Memory`; and then the ground is as it was.
-    fn enqueue(&mut self, map: u8, octets: &[u8]) -> Result<(), LinkFault>
-        requires { submit_fault self.old map octets.now ≡ None }
-        ensures after { OnOk result (self.new ≡ after_submission self.old map octets.now) }
-        ensures memory { IsOkUnless result LinkFault.Memory }
-        ensures err { OnErr result (self.new ≡ self.old) }
-    {
-        let mut segments = Vec::new(self.alloc);
-        if cut(octets, map, &self.config.limits(), &mut segments).is_err() {
-            return Err(LinkFault::Memory);
-        }
-        let mut owned = own(self.alloc, segments.as_slice())?;
-        if self.pending.append(&mut owned).is_err() {
-            return Err(LinkFault::Memory);
-        }
-        self.settle();
+        let submission = self.prepare(map, octets)?;
+        self.commit(submission);
         Ok(())
     }
 
-    /// Why these packets are refused on a MAP, memory aside: the first of the faults 1 to 5 of `submit`.
-    pub fn submit_fault(&self, map: u8, octets: &[u8]) -> Option<LinkFault>
-        ensures { result ≡ submit_fault self.now map octets.now }
+    /// Judges and cuts the packets that are to be submitted, and takes the memory that this needs.
+    /// Nothing changes. Refuses as `submit` does, in the same order.
+    pub fn prepare<'a>(&self, map: u8, octets: &'a [u8]) -> Result<Submission<'a>, LinkFault>
+        ensures submission { IfOk result (IsSubmissionAt self.now map octets.now) }
+        ensures places { IfOk result (HasPlaces self.now) }
+        ensures refused { IfSome (submit_fault self.now map octets.now)
+            (λ fault. result ≡ Err fault) }
+        ensures memory { submit_fault self.now map octets.now ≡ None
+            → IsOkUnless result LinkFault.Memory }
+        ensures faults { IfErr result
+            (λ e. (e ≡ LinkFault.Memory) ⊎ (submit_fault self.now map octets.now ≡ Some e)) }
     {
-        if self.fop.state() == FopMode::S6 {
-            return Some(LinkFault::NotOpen);
+        if self.is_closed() {
+            return Err(LinkFault::NotOpen);
         }
         let limits = self.config.limits();
         if !limits.is_open(map) {
-            return Some(LinkFault::ClosedMap);
+            return Err(LinkFault::ClosedMap);
         }
-        if !are_commands(octets, limits.blocking) {
-            return Some(LinkFault::NotCommand);
-        }
-        let Ok(count) = segment_count(octets, &limits) else {
-            return Some(LinkFault::TooLong);
+        let Some(packets) = commands_in(self.alloc, octets, &limits)? else {
+            return Err(self.lack_of(octets));
         };
+        let Some(segments) = self.segments_of(map, octets) else {
+            return Err(self.lack_of(octets));
+        };
+        Ok(Submission { packets, segments })
+    }
+
+    /// Takes the packets that were prepared, since when nothing has changed. It takes no memory.
+    pub fn commit(&mut self, submission: Submission<'_>)
+        requires { HasPlaces self.old submission }
+        ensures { self.new ≡ after_commit self.old submission.entry }
+    {
+        let segments = submission.segments;
+        match segments {
+            Segments::One(segment) => self.pending.push_back_reserved(segment),
+            Segments::Several(mut segments) => {
+                let _ = self.pending.append(&mut segments);
+            }
+        }
+        self.settle();
+    }
+
+    // The segments of packets, copied. None where they have no place in the queue, or no memory.
+    fn segments_of(&self, map: u8, octets: &[u8]) -> Option<Segments>
+        requires map { map < 64 }
+        requires commands { commands_fault (limits_of self.now.config) octets.now ≡ None }
+        ensures segments { IfSome result (λ cut. segments_held cut ≡ segments_on self.now map octets.now) }
+        ensures places { IfSome result (λ _. is_over_slots self.now map octets.now ≡ false) }
+    {
+        let part = self.config.part as usize;
+        if octets.len() <= part {
+            if !self.has_places(1) {
+                return None;
+            }
+            return match OwnedSegment::alone(self.alloc, map, octets) {
+                Ok(segment) => Some(Segments::One(segment)),
+                Err(_) => None,
+            };
+        }
+        let mut segments = Vec::new(self.alloc);
+        if cut_packets(octets, map, part, &mut segments).is_err() {
+            return None;
+        }
+        if !self.has_places(segments.len()) {
+            return None;
+        }
+        match own(self.alloc, segments.as_slice()) {
+            Ok(segments) => Some(Segments::Several(segments)),
+            Err(_) => None,
+        }
+    }
+
+    // Whether there is no session (S6).
+    fn is_closed(&self) -> bool
+        ensures { result ≡ is_closed self.now.fop.state }
+    {
+        self.fop.state() == FopMode::S6
+    }
+
+    // Whether as many segments more have a place in the queue.
+    fn has_places(&self, more: usize) -> bool
+        ensures { result ≡ not (nat_lt self.now.config.queue_slots
+            (length (unsent_segments self.now) + more)) }
+    {
         let slots = self.config.queue_slots as usize;
         let unsent = usize::from(self.fop.waiting()) + self.pending.len();
-        if count > slots || unsent + count > slots {
-            return Some(LinkFault::QueueFull);
+        more <= slots && unsent + more <= slots
+    }
+
+    // What packets lack that could not be cut: 5 `QueueFull`, places in the queue, or else 6 `Memory`.
+    fn lack_of(&self, octets: &[u8]) -> LinkFault
+        requires { commands_fault (limits_of self.now.config) octets.now ≡ None }
+        ensures { (m : ℕ) → result
+            ≡ (if is_over_slots self.now m octets.now then LinkFault.QueueFull else LinkFault.Memory) }
+    {
+        match segment_count(octets, &self.config.limits()) {
+            Ok(count) if self.has_places(count) => LinkFault::Memory,
+            _ => LinkFault::QueueFull,
         }
-        None
     }
 
     /// Submits one command packet on a MAP, to be sent past the sequence control, in any state
@@ -96,15 +159,7 @@ impl Ground {
         if let Some(fault) = self.bypass_fault(map, octets) {
             return Err(fault);
         }
-        let header = SegmentHeader {
-            flags: SegmentFlags::Alone,
-            map,
-        };
-        let segment = Segment {
-            header,
-            payload: octets,
-        };
-        let copied = OwnedSegment::new(self.alloc, &segment)?;
+        let copied = OwnedSegment::alone(self.alloc, map, octets)?;
         if self.fop.bypass(copied).is_err() {
             return Err(LinkFault::Memory);
         }
@@ -118,7 +173,7 @@ impl Ground {
         if !limits.is_open(map) {
             return Some(LinkFault::ClosedMap);
         }
-        if !are_commands(octets, false) {
+        if !is_one_command(octets) {
             return Some(LinkFault::NotCommand);
         }
         if limits.is_too_long(octets.len()) || octets.len() > limits.part as usize {

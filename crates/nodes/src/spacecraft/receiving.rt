@@ -1,26 +1,29 @@
 // What comes from the ground.
 
 use super::Spacecraft;
+use super::arrival::Arrival;
 use crate::bypass_segments::is_kept;
 use crate::fault::LinkFault;
 use crate::map_packet::{MapPacket, make_ready};
 use crate::received::Received;
 use cop1::Verdict;
-use map_service::Dropped;
+use map_service::Prepared;
 use tc_frame::{Body, Check, Command, Segment, TcFrame, decode};
 
 impl Spacecraft {
-    ghost use Rattle.std.specs.Prelude.{◌≡◌, length, false, IsOk, IfOk, IfErr, OnOk, OnErr};
+    ghost use Rattle.std.specs.Prelude.{◌≡◌, ◌≤◌, ◌<◌, length, false, None, IsOk, IfOk, IfErr, IfSome, OnOk, OnErr, option_map};
     ghost use Rattle.cop1.specs.Farm.{verdict_of};
     ghost use Rattle.tc_frame.specs.declared.frame.Check.TheVariants.{On};
-    ghost use Rattle.tc_frame.specs.Layout.{frame_view, segment_view};
+    ghost use Rattle.tc_frame.specs.Layout.{Ad, Bc, frame_view, segment_view};
     ghost use Rattle.tc_frame.specs.Reading.{frame_at};
     ghost use Rattle.nodes.specs.BypassSegments.{is_kept};
     ghost use Rattle.nodes.specs.Parameters.{limits_of};
-    ghost use Rattle.nodes.specs.Spacecraft.{spacecraft_step, Receive, is_free, is_own_frame, is_accepted, HandsNothingOn, assemble_step, after_segment, after_farm, command_event, receive_sequence_step, receive_bypass_step};
+    ghost use Rattle.nodes.specs.Acceptance.{segment_in_body};
+    ghost use Rattle.nodes.specs.Arriving.{accepted_of, IsAcceptable, IsArrivalOf, IsArrivalAt, after_accepting, after_keeping};
+    ghost use Rattle.nodes.specs.Spacecraft.{spacecraft_step, Receive, is_free, is_own_frame, is_accepted, HandsNothingOn, after_segment, body_outcome, receive_sequence_step, receive_bypass_step};
 
     /// Takes octets that came from the ground: exactly one telecommand frame, with its check (CCSDS
-    /// 232.0-B-4, 4.1). The fault is 6 `Memory`; all growths are made first, so that the spacecraft is
+    /// 232.0-B-4, 4.1). It is `prepare` and then `commit`. The fault is 6 `Memory`; the spacecraft is
     /// as it was then.
     pub fn receive(&mut self, octets: &[u8]) -> Result<Received, LinkFault>
         ensures answer { IfOk result
@@ -33,24 +36,79 @@ impl Spacecraft {
         // It takes no memory for octets of which nothing is handed on.
         ensures none { HandsNothingOn self.old (frame_at On octets.now) → IsOk result }
     {
+        let arrival = self.prepare(octets)?;
+        Ok(self.commit(arrival))
+    }
+
+    /// Finds out what comes of octets, and takes the memory that this needs. Nothing changes. The
+    /// fault is 6 `Memory`.
+    pub fn prepare<'a>(&self, octets: &'a [u8]) -> Result<Arrival<'a>, LinkFault>
+        ensures octets { IfOk result (λ a. a.octets.now ≡ octets.now) }
+        ensures arrival { IfOk result (IsArrivalAt self.now) }
+        ensures fault { IfErr result (λ e. e ≡ LinkFault.Memory) }
+
+        // It takes no memory for octets of which nothing is handed on.
+        ensures none { HandsNothingOn self.now (frame_at On octets.now) → IsOk result }
+        ensures nothing { HandsNothingOn self.now (frame_at On octets.now)
+            → IfOk result (λ a. accepted_of a ≡ None) }
+    {
         let frame = match decode(octets, Check::On) {
             Ok(frame) => frame,
-            Err(fault) => return Ok(Received::Invalid(fault)),
+            Err(fault) => return Ok(self.unchanged(octets, Received::Invalid(fault))),
         };
         if !self.is_own_frame(&frame) {
-            return Ok(Received::Foreign);
+            return Ok(self.unchanged(octets, Received::Foreign));
         }
         match frame.body {
-            Body::Ad { n, segment } => self.receive_sequence(n, &segment),
-            Body::Bd { segment } => self.receive_bypass(&segment),
-            Body::Bc(command) => {
-                self.execute(command);
-                Ok(Received::Control(command))
-            }
+            Body::Ad { n, segment } => self.prepare_sequence(octets, n, segment),
+            Body::Bd { segment } => self.prepare_bypass(octets, segment),
+            Body::Bc(command) => Ok(self.prepare_command(octets, command)),
         }
     }
 
-    pub(super) fn is_own_frame(&self, frame: &TcFrame<'_>) -> bool
+    /// Takes the octets of which this was prepared, since when nothing has changed. It takes no
+    /// memory.
+    pub fn commit(&mut self, arrival: Arrival<'_>) -> Received
+        requires { IsArrivalAt self.old arrival }
+        ensures answer { result ≡ (spacecraft_step self.old (Receive arrival.entry.octets.now)).answer }
+        ensures after { self.new ≡ (spacecraft_step self.old (Receive arrival.entry.octets.now)).after }
+    {
+        self.accept(arrival.accepted);
+        self.keep(arrival.kept);
+        self.farm = arrival.farm;
+        arrival.received
+    }
+
+    // Hands on the segment that is accepted, where one is.
+    fn accept(&mut self, accepted: Option<(Segment<'_>, Prepared)>)
+        requires { IfSome accepted (λ p. IsAcceptable self.old (segment_view p.0) p.1) }
+        ensures { self.new
+            ≡ after_accepting self.old (option_map (λ p. segment_view p.0) accepted.entry) }
+    {
+        if let Some((segment, prepared)) = accepted {
+            self.hand_on(&segment, prepared);
+        }
+    }
+
+    fn hand_on(&mut self, segment: &Segment<'_>, prepared: Prepared)
+        requires { IsAcceptable self.old (segment_view segment.now) prepared }
+        ensures { self.new ≡ after_segment self.old (segment_view segment.now) }
+    {
+        let packets = self.assembler.commit(segment, prepared);
+        self.accepted = self.accepted.then(segment);
+        make_ready(&mut self.ready, segment.header.map, packets);
+    }
+
+    // Keeps a packet, where there is one; the oldest goes where as many wait as there are slots.
+    fn keep(&mut self, kept: Option<MapPacket>)
+        ensures { self.new ≡ after_keeping self.old kept }
+    {
+        if let Some(packet) = kept {
+            let _oldest = self.bypass.push_back(packet);
+        }
+    }
+
+    fn is_own_frame(&self, frame: &TcFrame<'_>) -> bool
         ensures { result ≡ is_own_frame self.now.config (frame_view frame.now) }
     {
         u32::from(frame.scid) == self.config.scid && u32::from(frame.vcid) == self.config.vcid
@@ -62,99 +120,124 @@ impl Spacecraft {
         self.ready.len() < self.config.ready_slots as usize
     }
 
-    // Whether a Type-AD frame with this number will be accepted.
-    pub(super) fn will_accept(&self, n: u8) -> bool
-        ensures { result ≡ is_accepted (verdict_of self.now.farm n (is_free self.now)) }
+    // The octets are no frame, or none of this channel.
+    fn unchanged<'a>(&self, octets: &'a [u8], received: Received) -> Arrival<'a>
+        ensures octets { result.octets.now ≡ octets.now }
+        ensures arrival { IsArrivalOf
+            self.now (record { answer = received; after = self.now }) None result }
+        ensures nothing { accepted_of result ≡ None }
     {
-        match self.farm.verdict(n, self.is_free()) {
-            Verdict::Accepted => true,
-            _ => false,
+        Arrival {
+            octets,
+            received,
+            farm: self.farm,
+            accepted: None,
+            kept: None,
         }
     }
 
-    fn receive_sequence(&mut self, n: u8, segment: &Segment<'_>) -> Result<Received, LinkFault>
-        ensures answer { IfOk result
-            (λ r. r ≡ (receive_sequence_step self.old n (segment_view segment.now)).answer) }
-        ensures after { OnOk result
-            (self.new ≡ (receive_sequence_step self.old n (segment_view segment.now)).after) }
-        ensures err { OnErr result (self.new ≡ self.old) }
+    fn prepare_sequence<'a>(
+        &self,
+        octets: &'a [u8],
+        n: u8,
+        segment: Segment<'a>,
+    ) -> Result<Arrival<'a>, LinkFault>
+        requires short { length segment.payload.now ≤ 1016 }
+        requires map { segment.header.map < 64 }
+        ensures octets { IfOk result (λ a. a.octets.now ≡ octets.now) }
+        ensures arrival { IfOk result (IsArrivalOf
+            self.now
+            (receive_sequence_step self.now n (segment_view segment.entry))
+            (segment_in_body self.now (Ad n (segment_view segment.entry)))) }
         ensures fault { IfErr result (λ e. e ≡ LinkFault.Memory) }
-        ensures none { is_accepted (verdict_of self.old.farm n (is_free self.old)) ≡ false
+        ensures none { is_accepted (verdict_of self.now.farm n (is_free self.now)) ≡ false
             → IsOk result }
+        ensures nothing { is_accepted (verdict_of self.now.farm n (is_free self.now)) ≡ false
+            → IfOk result (λ a. accepted_of a ≡ None) }
     {
-        let free = self.is_free();
-        if !self.will_accept(n) {
-            let verdict = self.farm.ad(n, free);
-            return Ok(Received::Sequence {
+        let mut farm = self.farm;
+        let verdict = farm.ad(n, self.is_free());
+        let Verdict::Accepted = verdict else {
+            let received = Received::Sequence {
                 n,
                 verdict,
                 ready: 0,
                 dropped: None,
+            };
+            return Ok(Arrival {
+                octets,
+                received,
+                farm,
+                accepted: None,
+                kept: None,
             });
-        }
-        let (ready, dropped) = self.assemble(segment)?;
-        let verdict = self.farm.ad(n, free);
-        Ok(Received::Sequence {
-            n,
-            verdict,
-            ready,
-            dropped,
+        };
+        let Ok(prepared) = self.assembler.prepare(&segment) else {
+            return Err(LinkFault::Memory);
+        };
+        Ok(Arrival {
+            octets,
+            received: Received::Sequence {
+                n,
+                verdict,
+                ready: prepared.packets.len(),
+                dropped: prepared.dropped,
+            },
+            farm,
+            accepted: Some((segment, prepared)),
+            kept: None,
         })
     }
 
-    // Hands on the segment of a frame that is accepted: says how many packets are ready with it, and
-    // why octets were dropped. Each packet has more than 6 octets.
-    fn assemble(&mut self, segment: &Segment<'_>) -> Result<(usize, Option<Dropped>), LinkFault>
-        ensures ready { IfOk result
-            (λ r. r.0 ≡ length (assemble_step self.old (segment_view segment.now)).packets) }
-        ensures dropped { IfOk result
-            (λ r. r.1 ≡ (assemble_step self.old (segment_view segment.now)).dropped) }
-        ensures after { OnOk result (self.new ≡ after_segment self.old (segment_view segment.now)) }
-        ensures err { OnErr result (self.new ≡ self.old) }
+    fn prepare_bypass<'a>(
+        &self,
+        octets: &'a [u8],
+        segment: Segment<'a>,
+    ) -> Result<Arrival<'a>, LinkFault>
+        ensures octets { IfOk result (λ a. a.octets.now ≡ octets.now) }
+        ensures arrival { IfOk result (IsArrivalOf
+            self.now (receive_bypass_step self.now (segment_view segment.entry)) None) }
+        ensures nothing { IfOk result (λ a. accepted_of a ≡ None) }
         ensures fault { IfErr result (λ e. e ≡ LinkFault.Memory) }
-    {
-        let most = segment.payload.len() / 6 + 1;
-        if self.ready.try_reserve(most).is_err() {
-            return Err(LinkFault::Memory);
-        }
-        let Ok(taken) = self.assembler.take(segment) else {
-            return Err(LinkFault::Memory);
-        };
-        self.accepted = self.accepted.then(segment);
-        let count = taken.packets.len();
-        make_ready(&mut self.ready, segment.header.map, taken.packets);
-        Ok((count, taken.dropped))
-    }
-
-    fn receive_bypass(&mut self, segment: &Segment<'_>) -> Result<Received, LinkFault>
-        ensures answer { IfOk result
-            (λ r. r ≡ (receive_bypass_step self.old (segment_view segment.now)).answer) }
-        ensures after { OnOk result
-            (self.new ≡ (receive_bypass_step self.old (segment_view segment.now)).after) }
-        ensures err { OnErr result (self.new ≡ self.old) }
-        ensures fault { IfErr result (λ e. e ≡ LinkFault.Memory) }
-        ensures none { is_kept (limits_of self.old.config) (segment_view segment.now) ≡ false
+        ensures none { is_kept (limits_of self.now.config) (segment_view segment.entry) ≡ false
             → IsOk result }
     {
-        if !is_kept(&self.config.limits(), segment) {
-            self.farm.bd();
-            return Ok(Received::Bypass { kept: false });
+        let mut farm = self.farm;
+        farm.bd();
+        let mut kept = None;
+        if is_kept(&self.config.limits(), &segment) {
+            let Ok(packet) = Vec::from_slice(self.alloc, segment.payload) else {
+                return Err(LinkFault::Memory);
+            };
+            kept = Some(MapPacket::new(segment.header.map, packet));
         }
-        let Ok(octets) = Vec::from_slice(self.alloc, segment.payload) else {
-            return Err(LinkFault::Memory);
-        };
-        self.farm.bd();
-        let packet = MapPacket::new(segment.header.map, octets);
-        let _oldest = self.bypass.push_back(packet);
-        Ok(Received::Bypass { kept: true })
+        Ok(Arrival {
+            octets,
+            received: Received::Bypass {
+                kept: kept.is_some(),
+            },
+            farm,
+            accepted: None,
+            kept,
+        })
     }
 
-    fn execute(&mut self, command: Command)
-        ensures { self.new ≡ after_farm self.old (command_event command) }
+    fn prepare_command<'a>(&self, octets: &'a [u8], command: Command) -> Arrival<'a>
+        ensures octets { result.octets.now ≡ octets.now }
+        ensures arrival { IsArrivalOf self.now (body_outcome self.now (Bc command)) None result }
+        ensures nothing { accepted_of result ≡ None }
     {
+        let mut farm = self.farm;
         match command {
-            Command::Unlock => self.farm.unlock(),
-            Command::SetVr(vr) => self.farm.set_vr(vr),
+            Command::Unlock => farm.unlock(),
+            Command::SetVr(vr) => farm.set_vr(vr),
+        }
+        Arrival {
+            octets,
+            received: Received::Control(command),
+            farm,
+            accepted: None,
+            kept: None,
         }
     }
 }

@@ -2,12 +2,12 @@
 
 ghost use Rattle.std.specs.Prelude.{◌≡◌, ◌≤◌, ◌<◌, ◌++◌, ℕ, length, option_map, option_to_list, None, IsOk, OnOk, IfSome};
 ghost use Rattle.tm_link.specs.Extraction.{octets_of};
-ghost use Rattle.nodes.specs.Acceptance.{acceptance_view};
+ghost use Rattle.tc_link.specs.Acceptance.{acceptance_view};
 ghost use Rattle.tc_link.specs.WorldFields.{HasRoomFor, packets_accepted_on};
 ghost use Rattle.tc_link.specs.MapLists.{packets_at};
 
+use crate::acceptance::Acceptance;
 use crate::map_lists::{append_on, make_room};
-use nodes::Acceptance;
 use std::alloc::AllocError;
 
 // Makes room for what will be accepted: its data field, and its packets.

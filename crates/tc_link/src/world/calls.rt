@@ -3,7 +3,7 @@
 ghost use Rattle.std.specs.Prelude.{◌≡◌, option_map};
 ghost use Rattle.nodes.specs.Packets.{packet_view};
 ghost use Rattle.tc_link.specs.Replies.{reply_view, reply_to_alert, reply_to_taking};
-ghost use Rattle.tc_link.specs.World.{is_initiation};
+ghost use Rattle.cop1.specs.Directives.{is_initiation};
 
 use super::World;
 use crate::event::Event;
@@ -83,10 +83,7 @@ impl World {
             Directive::InitWithoutCheck => {
                 self.is_quiet() && self.spacecraft.control_word().value == self.ground_node.vs()
             }
-            Directive::InitWithCheck | Directive::InitUnlock | Directive::InitSetVr(_) => {
-                self.is_quiet()
-            }
-            _ => false,
+            _ => is_initiation(directive) && self.is_quiet(),
         }
     }
 

@@ -2,17 +2,20 @@
 
 ghost use Rattle.std.specs.Prelude.{◌≡◌, ◌≢◌, ◌<◌, ◌++◌, IfOk, IsOkUnless, option_to_list, option_map};
 ghost use Rattle.std.specs.Vec.{vec_len, vec_capacity};
+ghost use Rattle.map_service.specs.Views.{packets_view};
+ghost use Rattle.nodes.specs.Commands.{slices_view};
 ghost use Rattle.tm_link.specs.Extraction.{octets_of};
 
 use super::World;
 use super::accepting::{make_room_for, record_accepted};
+use crate::acceptance::acceptance_of;
 use crate::event::Event;
 use crate::map_lists::{append_on, make_room};
 use crate::outgoing::next_frame;
 use crate::reply::{NodeFault, Reply};
 use crate::sim::SimFault;
-use map_service::copied_packets;
 use nodes::LinkFault;
+use std::alloc::{AllocError, Global};
 
 impl World {
     ghost use Rattle.std.specs.Prelude.{Ok, Err, IfErr, OnOk, OnErr};
@@ -27,21 +30,23 @@ impl World {
         ensures memory { IsOkUnless result SimFault.Memory }
         ensures none { TakesNone self.old (Event.Submit map octets.entry) → result ≢ Err SimFault.Memory }
     {
-        if let Some(fault) = self.ground_node.submit_fault(map, octets) {
-            return Ok(Reply::Refused(NodeFault::Link(fault)));
-        }
+        let submission = match self.ground_node.prepare(map, octets) {
+            Ok(submission) => submission,
+            Err(LinkFault::Memory) => return Err(SimFault::Memory),
+            Err(fault) => return Ok(Reply::Refused(NodeFault::Link(fault))),
+        };
         let Ok(copy) = Vec::from_slice(self.alloc, octets) else {
             return Err(SimFault::Memory);
         };
-        let Ok(packets) = copied_packets(self.alloc, octets) else {
+        let Ok(packets) = copied(self.alloc, submission.packets()) else {
             return Err(SimFault::Memory);
         };
         if self.session.submissions.try_reserve(1).is_err()
             || make_room(&mut self.session.submitted, map, packets.len()).is_err()
-            || self.ground_node.submit(map, octets).is_err()
         {
             return Err(SimFault::Memory);
         }
+        self.ground_node.commit(submission);
         self.session.submissions.push_reserved((map, copy));
         append_on(&mut self.session.submitted, map, packets);
         Ok(Reply::Done)
@@ -93,19 +98,31 @@ impl World {
         let Some(octets) = self.up.front() else {
             return Err(SimFault::NothingInTransit);
         };
-        let Ok(acceptance) = self.spacecraft.acceptance_of(octets) else {
+        let Ok(arrival) = self.spacecraft.prepare(octets) else {
+            return Err(SimFault::Memory);
+        };
+        let Ok(acceptance) = acceptance_of(self.alloc, &arrival) else {
             return Err(SimFault::Memory);
         };
         if make_room_for(&mut self.accepted, &mut self.session.delivered, &acceptance).is_err() {
             return Err(SimFault::Memory);
         }
-        let Ok(received) = self.spacecraft.receive(octets) else {
-            return Err(SimFault::Memory);
-        };
+        let received = self.spacecraft.commit(arrival);
         let _ = self.up.pop_front();
         record_accepted(&mut self.accepted, &mut self.session.delivered, acceptance);
         Ok(Reply::Up(received))
     }
+}
+
+// Packets, each copied.
+fn copied(alloc: Global, packets: &[&[u8]]) -> Result<Vec<Vec<u8>>, AllocError>
+    ensures { IfOk result (λ copies. packets_view copies ≡ slices_view packets.now) }
+{
+    let mut copies = Vec::with_capacity(alloc, packets.len())?;
+    for packet in packets {
+        copies.push(Vec::from_slice(alloc, packet)?)?;
+    }
+    Ok(copies)
 }
 
 // Puts a field, where there is one, after those that there are.

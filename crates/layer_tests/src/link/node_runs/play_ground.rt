@@ -88,6 +88,17 @@ impl Play {
         }
     }
 
+    // What `prepare` refuses. Where memory is refused the call made again answers as ever.
+    fn fault_of(&self, rt: &(impl Abort + Eprint), map: u8, octets: &[u8]) -> Option<LinkFault> {
+        match self.ground.prepare(map, octets) {
+            Err(LinkFault::Memory) => {
+                says_refused(rt, LinkFault::Memory.number(), 6);
+                self.ground.prepare(map, octets).err()
+            }
+            prepared => prepared.err(),
+        }
+    }
+
     // Submits. Where memory is refused nothing has changed, and the call made again answers as ever.
     fn submit(
         &mut self,
@@ -96,7 +107,7 @@ impl Play {
         octets: &[u8],
     ) -> Result<(), AllocError> {
         let before = self.seen();
-        let fault = self.ground.submit_fault(map, octets);
+        let fault = self.fault_of(rt, map, octets);
         let answer = match self.ground.submit(map, octets) {
             Err(LinkFault::Memory) => {
                 says_refused(rt, LinkFault::Memory.number(), 6);

@@ -101,20 +101,21 @@ impl Play {
     // How many packets octets will make ready when they arrive. Where memory is refused the call made
     // again answers as ever. Octets that are no frame take none.
     fn ready_ahead(&self, rt: &(impl Abort + Eprint), octets: &[u8]) -> usize {
-        let ahead = match self.spacecraft.acceptance_of(octets) {
+        let ahead = match self.spacecraft.prepare(octets) {
             Err(fault) if tc_frame::decode(octets, Check::On).is_ok() => {
                 says_refused(rt, fault.number(), 6);
-                self.spacecraft.acceptance_of(octets)
+                self.spacecraft.prepare(octets)
             }
             ahead => ahead,
         };
-        match ahead {
-            Ok(Some(acceptance)) => {
+        let Ok(arrival) = ahead else { return 0 };
+        match arrival.accepted() {
+            Some((segment, packets)) => {
                 let end = octets.len().wrapping_sub(2);
-                assert!(rt; octets.get(5..end) == Some(acceptance.field.as_slice()));
-                acceptance.packets.len()
+                assert!(rt; octets.get(6..end) == Some(segment.payload));
+                packets.len()
             }
-            _ => 0,
+            None => 0,
         }
     }
 

@@ -1,8 +1,10 @@
-use Rattle.std.proofs.Common.{◌≡◌, ◌+◌, ◌++◌, ℕ, List, length, ap, arith, length-append}
-use Rattle.std.proofs.lemmas.List.{length-map}
+use Rattle.std.proofs.Common.{◌≡◌, ◌+◌, ◌++◌, ℕ, List, length, ap, sym, subst, ◌∙◌, arith, length-append}
+use Rattle.std.proofs.lemmas.List.{length-map, append_assoc}
+use Rattle.map_service.proofs.Handed.{AreWhole}
 use Rattle.tm_link.specs.Extraction.{octets_of, extract_step}
 use Rattle.tm_link.specs.Layout.{FrameView, frame_view}
 use Rattle.nodes.specs.Ground.{GroundState}
+use Rattle.nodes.proofs.Reported.{whole_append, extracted_whole}
 use Rattle.nodes.proofs.ground_node.Ground.extract.Goals as goal
 
 pub returns-clause-count : goal.returns-clause-count
@@ -21,3 +23,20 @@ returns-clause-count c =
     let is : length packets ≡ length (extract_step c.args.self.now.extractor frame).packets =
     ap (λ (s : GroundState). length (extract_step s.extractor frame).packets) c.self.view_is in
     omega arith
+
+pub invariant_of-self-2 : goal.invariant_of-self-2
+invariant_of-self-2 c =
+    let frame : FrameView = frame_view c.args.frame.now in
+    let packets : List (List ℕ) = (extract_step c.self.inside.extractor frame).packets in
+    let waiting : List (List ℕ) = octets_of c.self.inside.waiting.items in
+    let old : List (List ℕ) = octets_of c.self.inside.finished.items in
+    let all : AreWhole ((waiting ++ old) ++ packets) =
+    whole_append (waiting ++ old) packets c.self.invariant.packets (extracted_whole c.self.inside.extractor frame) in
+    record {
+      config = c.self.invariant.config;
+      room = c.self.invariant.room;
+      packets =
+          subst AreWhole
+          (append_assoc waiting old packets ∙ ap (λ (ps : List (List ℕ)). waiting ++ ps) (sym c.in-Ok.ensures.packets))
+          all;
+    }

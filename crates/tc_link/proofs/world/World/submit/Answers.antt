@@ -1,21 +1,17 @@
-use Rattle.std.proofs.Common.{◌≡◌, ◌++◌, ◌∷◌, [], ℕ, List, map, filter, length, Bool, true, false, Result, Ok, Err}
-use Rattle.std.proofs.Common.{OnOk, refl, ap, sym, ◌∙◌, arith, append-nil}
+use Rattle.std.proofs.Common.{◌≡◌, ◌++◌, ◌∷◌, [], ℕ, List, map, filter, length, Bool, true, false}
+use Rattle.std.proofs.Common.{None, refl, ap, sym, ◌∙◌, arith, append-nil}
 use Rattle.std.specs.Prelude.{◌==◌, if◌then◌else◌}
 use Rattle.std.specs.List.{flat_map}
-use Rattle.std.specs.Result.{is_err}
 use Rattle.std.proofs.lemmas.Grind.{flat_map-append}
 use Rattle.std.proofs.lemmas.List.{map_push}
 use Rattle.std.proofs.lemmas.List.Elements.{filter-append}
 use Rattle.map_service.specs.Packets.{packets_in}
 use Rattle.map_service.specs.Views.{packets_view}
-use Rattle.nodes.specs.Ground.{GroundState, submit_fault}
+use Rattle.tc_frame.specs.Layout.{SegmentView}
+use Rattle.nodes.specs.Ground.{GroundState, submit_fault, segments_on, settle_step}
 use Rattle.nodes.specs.Packets.{PacketOn, packet_on, packet_view}
 use Rattle.tc_link.proofs.Counted.{submit_same}
 use Rattle.tc_link.proofs.world.World.submit.Goals as goal
-
-where_ok : {A E P : Type 0} (r : Result A E) → is_err r ≡ false → OnOk r P → P
-where_ok (Ok x) ok p = p
-where_ok (Err e) ok p = absurd cc
 
 -- the packets of these submissions that are on MAP m
 abbrev packets_on : ℕ → List PacketOn → List (List ℕ)
@@ -38,18 +34,21 @@ pub invariant_of-self-2 : goal.invariant_of-self-2
 invariant_of-self-2 c =
     let s : GroundState = c.self.inside.ground_node in
     let octets : List ℕ = c.args.octets.now in
-    let after = where_ok c.submit.result (sym c.is_err-else-is_err-2.ensures.value ∙ c.if-is_err-3.false)
-    c.submit.ensures.after in
-    let same : length c.submit.new.self.fop.sent ≡ length s.fop.sent =
+    let with_segments : List SegmentView → GroundState = λ ss. settle_step (record s { pending = s.pending ++ ss }) in
+    let after : c.commit.new.self ≡ with_segments (segments_on s c.args.map octets) =
+    c.commit.ensures ∙ ap with_segments c.in-Ok.ensures.submission.segments in
+    let same : length c.commit.new.self.fop.sent ≡ length s.fop.sent =
     ap (λ (t : GroundState). length t.fop.sent) after
-    ∙ ap length (submit_same s c.args.map octets (submit_fault s c.args.map octets)) in
+    ∙ ap length (submit_same s c.args.map octets None) in
+    let copies : packets_view c.in-Ok-copied.packets ≡ packets_in octets =
+    c.in-Ok-copied.ensures ∙ c.packets.ensures ∙ c.in-Ok.ensures.submission.packets in
     let submissions : map packet_view c.push_reserved.new.self.items
     ≡ map packet_view c.self.inside.session.submissions.items ++ packet_on c.args.map octets ∷ [] =
     ap (map packet_view) (c.push_reserved.ensures.items
-    ∙ ap (λ xs. xs ++ (c.args.map, c.in-Ok.copy) ∷ []) c.try_reserve.ensures.items)
-    ∙ map_push packet_view c.self.inside.session.submissions.items (c.args.map, c.in-Ok.copy)
+    ∙ ap (λ xs. xs ++ (c.args.map, c.in-Ok-from_slice.copy) ∷ []) c.try_reserve.ensures.items)
+    ∙ map_push packet_view c.self.inside.session.submissions.items (c.args.map, c.in-Ok-from_slice.copy)
     ∙ ap (λ (o : List ℕ). map packet_view c.self.inside.session.submissions.items ++ packet_on c.args.map o ∷ [])
-    c.in-Ok.ensures.items in
+    c.in-Ok-from_slice.ensures.items in
     record {
       accepted = c.self.invariant.accepted;
       before = c.self.invariant.before;
@@ -57,10 +56,10 @@ invariant_of-self-2 c =
       submitted_on = λ m.
           c.append_on.ensures m
           ∙ ap (λ (xs : List (List ℕ)). xs
-          ++ (if c.args.map == m then packets_view c.in-Ok-copied_packets.packets else []))
+          ++ (if c.args.map == m then packets_view c.in-Ok-copied.packets else []))
           (c.make_room.ensures.same m ∙ c.self.invariant.submitted_on m)
           ∙ ap (λ (xs : List (List ℕ)). packets_on m (map packet_view c.self.inside.session.submissions.items)
-          ++ (if c.args.map == m then xs else [])) c.in-Ok-copied_packets.ensures
+          ++ (if c.args.map == m then xs else [])) copies
           ∙ sym (one_more m (map packet_view c.self.inside.session.submissions.items) (packet_on c.args.map octets))
           ∙ ap (packets_on m) (sym submissions);
       delivered_on = c.self.invariant.delivered_on;

@@ -3,11 +3,13 @@ use Rattle.std.proofs.Common.{arith}
 use Rattle.std.proofs.lemmas.List.{length-map}
 use Rattle.tc_frame.specs.Layout.{SegmentView, segment_octets}
 use Rattle.tm_link.specs.Extraction.{octets_of}
-use Rattle.nodes.specs.declared.spacecraft.acceptance.Acceptance.{Acceptance}
-use Rattle.nodes.specs.Spacecraft.{SpacecraftState}
-use Rattle.nodes.specs.Acceptance.{AcceptanceView, acceptance_with, segment_to_accept, acceptance_view}
+use Rattle.tc_link.specs.declared.acceptance.Acceptance.{Acceptance}
+use Rattle.nodes.specs.Spacecraft.{SpacecraftState, spacecraft_receive}
+use Rattle.nodes.specs.Acceptance.{segment_to_accept}
+use Rattle.tc_link.specs.Acceptance.{AcceptanceView, acceptance_with, acceptance_view}
 use Rattle.tc_link.specs.WorldFields.{packets_accepted_on}
 use Rattle.tc_link.proofs.AcceptedSegments.{field_behind}
+use Rattle.tc_link.proofs.Arrived.{arrival_accepts}
 use Rattle.tc_link.proofs.Gained.{delivered_by, gained}
 use Rattle.tc_link.proofs.world.World.up_deliver.Goals as goal
 
@@ -25,22 +27,27 @@ field_of_gain s (Some segment) = refl
 pub invariant_of-self-2 : goal.invariant_of-self-2
 invariant_of-self-2 c =
     let spacecraft : SpacecraftState = c.self.inside.spacecraft in
-    let octets : List ℕ = c.deref-2.result.now in
-    let same : c.deref.result.now ≡ octets = c.deref.ensures.value ∙ sym c.deref-2.ensures.value in
-    let seen : option_map acceptance_view c.in-Ok.acceptance
-    ≡ option_map (acceptance_with spacecraft) (segment_to_accept spacecraft octets) =
-    c.in-Ok.ensures.accepted
-    ∙ ap (λ (o : List ℕ). option_map (acceptance_with spacecraft) (segment_to_accept spacecraft o)) same in
-    let field : option_map (λ (f : Acceptance). f.field.items) c.in-Ok.acceptance
-    ≡ option_map segment_octets (segment_to_accept spacecraft octets) =
-    sym (field_of_view c.in-Ok.acceptance) ∙ ap (option_map (λ (g : AcceptanceView). g.field)) seen
-    ∙ field_of_gain spacecraft (segment_to_accept spacecraft octets) in
+    let octets : List ℕ = c.deref.result.now in
+    let accepts : Option SegmentView = segment_to_accept spacecraft octets in
+    let seen : option_map acceptance_view c.in-Ok-acceptance_of.acceptance
+    ≡ option_map (acceptance_with spacecraft) accepts =
+    c.in-Ok-acceptance_of.ensures.accepted
+    ∙ arrival_accepts spacecraft c.in-Ok.arrival c.in-Ok.ensures.arrival
+    ∙ ap (λ (o : List ℕ). option_map (acceptance_with spacecraft) (segment_to_accept spacecraft o))
+    c.in-Ok.ensures.octets in
+    let field : option_map (λ (f : Acceptance). f.field.items) c.in-Ok-acceptance_of.acceptance
+    ≡ option_map segment_octets accepts =
+    sym (field_of_view c.in-Ok-acceptance_of.acceptance) ∙ ap (option_map (λ (g : AcceptanceView). g.field)) seen
+    ∙ field_of_gain spacecraft accepts in
+    let after : c.commit-received.new.self ≡ (spacecraft_receive spacecraft octets).after =
+    c.commit-received.ensures.after
+    ∙ ap (λ (o : List ℕ). (spacecraft_receive spacecraft o).after) c.in-Ok.ensures.octets in
     record {
       accepted = c.record_accepted.ensures.accepted
           ∙ field_behind spacecraft octets (octets_of c.make_room_for.new.accepted.items)
-          (option_map (λ (f : Acceptance). f.field.items) c.in-Ok.acceptance)
+          (option_map (λ (f : Acceptance). f.field.items) c.in-Ok-acceptance_of.acceptance)
           (ap octets_of c.make_room_for.ensures.accepted ∙ c.self.invariant.accepted) field
-          ∙ ap (λ (s : SpacecraftState). map segment_octets s.accepted) (sym c.in-Ok-receive.ensures.after);
+          ∙ ap (λ (s : SpacecraftState). map segment_octets s.accepted) (sym after);
       before = omega (
         arith,
         c.self.invariant.before,
@@ -51,7 +58,8 @@ invariant_of-self-2 c =
       submitted_on = c.self.invariant.submitted_on;
       delivered_on = λ m.
           c.record_accepted.ensures.delivered m
-          ∙ ap (λ (xs : List (List ℕ)). xs ++ packets_accepted_on m (option_map acceptance_view c.in-Ok.acceptance))
+          ∙ ap (λ (xs : List (List ℕ)). xs
+          ++ packets_accepted_on m (option_map acceptance_view c.in-Ok-acceptance_of.acceptance))
           (c.make_room_for.ensures.delivered m ∙ c.self.invariant.delivered_on m)
           ∙ ap (λ (o : Option AcceptanceView). delivered_by spacecraft.config m c.self.inside.session.before
           spacecraft.accepted ++ packets_accepted_on m o) seen
@@ -64,6 +72,5 @@ invariant_of-self-2 c =
                 c.self.inside.accepted.items (λ v. v.items),
             length-map spacecraft.accepted segment_octets,
           )))
-          ∙ ap (λ (s : SpacecraftState). delivered_by s.config m c.self.inside.session.before s.accepted)
-          (sym c.in-Ok-receive.ensures.after);
+          ∙ ap (λ (s : SpacecraftState). delivered_by s.config m c.self.inside.session.before s.accepted) (sym after);
     }

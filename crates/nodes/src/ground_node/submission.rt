@@ -1,0 +1,36 @@
+// Packets that are to be submitted, cut before anything changes.
+
+ghost use Rattle.std.specs.Prelude.{◌≡◌};
+ghost use Rattle.nodes.specs.Commands.{slices_view};
+ghost use Rattle.nodes.specs.Submissions.{packets_held};
+
+use crate::commands::Packets;
+use crate::owned_segment::OwnedSegment;
+use std::collections::VecDeque;
+
+// The segments of packets.
+#[derive(Drop)]
+pub(crate) enum Segments {
+    One(OwnedSegment),
+    Several(VecDeque<OwnedSegment>),
+}
+
+/// Packets that are to be submitted and their segments, with all the memory that these need:
+/// `Ground::prepare` makes it, and `Ground::commit` takes it.
+#[derive(Drop)]
+pub struct Submission<'a> {
+    pub(crate) packets: Packets<'a>,
+    pub(crate) segments: Segments,
+}
+
+impl<'a> Submission<'a> {
+    /// The packets, in order, each as its octets.
+    pub fn packets(&self) -> &[&'a [u8]]
+        ensures { slices_view result.now ≡ packets_held self.now.packets }
+    {
+        match &self.packets.several {
+            Some(packets) => packets.as_slice(),
+            None => &self.packets.whole,
+        }
+    }
+}

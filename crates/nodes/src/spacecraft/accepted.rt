@@ -1,0 +1,23 @@
+// What is accepted of octets that have come.
+
+ghost use Rattle.std.specs.Prelude.{◌≡◌, ◌<◌, IfSome, option_map};
+ghost use Rattle.tc_frame.specs.Layout.{segment_view};
+ghost use Rattle.tm_link.specs.Extraction.{octets_of};
+ghost use Rattle.nodes.specs.Arriving.{accepted_of};
+
+use super::arrival::Arrival;
+use tc_frame::Segment;
+
+impl<'a> Arrival<'a> {
+    /// The segment that is accepted, where one is, and the packets that are ready with it, in order.
+    pub fn accepted(&self) -> Option<(Segment<'a>, &[Vec<u8>])>
+        ensures accepted { option_map (λ p. (segment_view p.0, octets_of p.1.now)) result
+            ≡ accepted_of self.now }
+        ensures map { IfSome result (λ p. p.0.header.map < 64) }
+    {
+        match &self.accepted {
+            Some((segment, prepared)) => Some((*segment, prepared.packets.as_slice())),
+            None => None,
+        }
+    }
+}

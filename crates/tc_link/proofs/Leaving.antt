@@ -1,0 +1,120 @@
+-- What each event leaves as it is.
+use Rattle.std.proofs.Common.{◌≡◌, ℕ, List, [], ◌∷◌, Option, Some, None, Result, Ok, Err, refl}
+use Rattle.tc_frame.specs.declared.frame.Check.TheVariants.{On}
+use Rattle.tc_frame.specs.declared.fault.TcFault.{TcFault}
+use Rattle.tc_frame.specs.Layout.{FrameView}
+use Rattle.tc_frame.specs.Reading as command
+use Rattle.tm_link.specs.declared.fault.TmFault.{TmFault}
+use Rattle.tm_link.specs.Layout as telemetry
+use Rattle.tm_link.specs.Reading as telemetry_reading
+use Rattle.nodes.specs.Ground.{GroundState, ground_step}
+use Rattle.nodes.specs.Ground as ground
+use Rattle.nodes.specs.declared.heard.Heard.TheVariants as heard_cases
+use Rattle.nodes.specs.declared.received.Received.TheVariants as received_cases
+use Rattle.tc_link.specs.declared.event.Event.{Event}
+use Rattle.tc_link.specs.declared.event.Event.TheVariants as events
+use Rattle.tc_link.specs.declared.sim.fault.SimFault.{SimFault}
+use Rattle.tc_link.specs.declared.sim.fault.SimFault.TheVariants.{NothingInTransit, NotDetectable}
+use Rattle.tc_link.specs.FalseAlarms.{replied_alert}
+use Rattle.tc_link.specs.Replies.{ReplyView, Nothing, Lost, Up, Down}
+use Rattle.tc_link.specs.World.{World, WorldOutcome, world_refusal, world_reply, world_step, world_after_pull}
+use Rattle.tc_link.specs.World.{up_deliver_step, up_lose_step, up_damage_outcome, up_damage_step, down_deliver_step}
+use Rattle.tc_link.specs.World.{down_lose_step, down_damage_outcome, down_damage_step}
+
+-- ---- frames that are lost or damaged
+
+abbrev pub IsLoss : Event → Type 0
+IsLoss events.UpLose = Unit {0}
+IsLoss (events.UpDamage octets) = Unit {0}
+IsLoss events.DownLose = Unit {0}
+IsLoss (events.DownDamage octets) = Unit {0}
+IsLoss _ = ⊥
+
+-- it is refused, or the first frame on its way is there no more, and nothing else changes
+pub record AtEachLoss (w : World) (P : WorldOutcome → Type 0) : Type 0 where
+  pub refused : (fault : SimFault) → P (world_refusal w fault)
+  pub up : (b : List ℕ) (bs : List (List ℕ)) → w.up ≡ b ∷ bs → (reply : ReplyView) → replied_alert reply ≡ None
+      → P (world_reply reply (record w { up = bs }))
+  pub down : (b : List ℕ) (bs : List (List ℕ)) → w.down ≡ b ∷ bs → (reply : ReplyView) → replied_alert reply ≡ None
+      → P (world_reply reply (record w { down = bs }))
+
+module _ (w : World) (P : WorldOutcome → Type 0) (each : AtEachLoss w P) where
+  up_lost : (bs : List (List ℕ)) → w.up ≡ bs → P (up_lose_step w bs)
+  up_lost [] is = each.refused NothingInTransit
+  up_lost (b ∷ bs) is = each.up b bs is Lost refl
+
+  up_seen : (b : List ℕ) (bs : List (List ℕ)) → w.up ≡ b ∷ bs → (r : Result FrameView TcFault)
+      → P (up_damage_outcome w bs r)
+  up_seen b bs is (Ok frame) = each.refused NotDetectable
+  up_seen b bs is (Err fault) = each.up b bs is (Up (received_cases.Invalid fault)) refl
+
+  up_damaged : (octets : List ℕ) (bs : List (List ℕ)) → w.up ≡ bs → P (up_damage_step w bs octets)
+  up_damaged octets [] is = each.refused NothingInTransit
+  up_damaged octets (b ∷ bs) is = up_seen b bs is (command.frame_at On octets)
+
+  down_lost : (bs : List (List ℕ)) → w.down ≡ bs → P (down_lose_step w bs)
+  down_lost [] is = each.refused NothingInTransit
+  down_lost (b ∷ bs) is = each.down b bs is Lost refl
+
+  down_seen : (b : List ℕ) (bs : List (List ℕ)) → w.down ≡ b ∷ bs → (r : Result telemetry.FrameView TmFault)
+      → P (down_damage_outcome w bs r)
+  down_seen b bs is (Ok frame) = each.refused NotDetectable
+  down_seen b bs is (Err fault) = each.down b bs is (Down (heard_cases.Invalid fault)) refl
+
+  down_damaged : (octets : List ℕ) (bs : List (List ℕ)) → w.down ≡ bs → P (down_damage_step w bs octets)
+  down_damaged octets [] is = each.refused NothingInTransit
+  down_damaged octets (b ∷ bs) is =
+      down_seen b bs is (telemetry_reading.frame_at w.ground_node.config.frame_length octets)
+
+  pub lost : (e : Event) → IsLoss e → P (world_step w e)
+  lost events.UpLose loss = up_lost w.up refl
+  lost (events.UpDamage octets) loss = up_damaged octets.now w.up refl
+  lost events.DownLose loss = down_lost w.down refl
+  lost (events.DownDamage octets) loss = down_damaged octets.now w.down refl
+  lost _ loss = elim loss [ ]
+
+-- ---- frames that are sent or arrive
+
+module _ (w : World) (P : WorldOutcome → Type 0) where
+  pulled_as : (next : GroundState) (frame : Option FrameView)
+      → ((reply : ReplyView) (up : List (List ℕ)) (sent : List (List ℕ)) → replied_alert reply ≡ None
+      → P (world_reply reply (record w {
+        ground_node = next;
+        up = up;
+        session = record w.session { sent = sent };
+      })))
+      → P (world_after_pull w next frame)
+  pulled_as next None each = each Nothing w.up w.session.sent refl
+  pulled_as next (Some frame) each = each _ _ _ refl
+
+  -- the ground is as a pull leaves it, and the records but for what is sent
+  pub pulled : ((reply : ReplyView) (up : List (List ℕ)) (sent : List (List ℕ)) → replied_alert reply ≡ None
+      → P (world_reply reply (record w {
+        ground_node = (ground_step w.ground_node ground.Pull).after;
+        up = up;
+        session = record w.session { sent = sent };
+      })))
+      → P (world_step w events.Send)
+  pulled each =
+      pulled_as (ground_step w.ground_node ground.Pull).after (ground_step w.ground_node ground.Pull).answer each
+
+  up_arrives_from : (bs : List (List ℕ)) → w.up ≡ bs → P (world_refusal w NothingInTransit)
+      → ((b : List ℕ) (bs : List (List ℕ)) → w.up ≡ b ∷ bs → P (up_deliver_step w (b ∷ bs))) → P (up_deliver_step w bs)
+  up_arrives_from [] is none each = none
+  up_arrives_from (b ∷ bs) is none each = each b bs is
+
+  pub up_arrives : P (world_refusal w NothingInTransit)
+      → ((b : List ℕ) (bs : List (List ℕ)) → w.up ≡ b ∷ bs → P (up_deliver_step w (b ∷ bs)))
+      → P (world_step w events.UpDeliver)
+  up_arrives none each = up_arrives_from w.up refl none each
+
+  down_arrives_from : (bs : List (List ℕ)) → w.down ≡ bs → P (world_refusal w NothingInTransit)
+      → ((b : List ℕ) (bs : List (List ℕ)) → w.down ≡ b ∷ bs → P (down_deliver_step w (b ∷ bs)))
+      → P (down_deliver_step w bs)
+  down_arrives_from [] is none each = none
+  down_arrives_from (b ∷ bs) is none each = each b bs is
+
+  pub down_arrives : P (world_refusal w NothingInTransit)
+      → ((b : List ℕ) (bs : List (List ℕ)) → w.down ≡ b ∷ bs → P (down_deliver_step w (b ∷ bs)))
+      → P (world_step w events.DownDeliver)
+  down_arrives none each = down_arrives_from w.down refl none each

@@ -1,0 +1,7 @@
+use Rattle.std.proofs.Common.{◌≡◌, take}
+use Rattle.map_service.specs.Views.{packets_view}
+use Rattle.tm_link.specs.Extraction.{octets_of}
+use Rattle.tc_link.proofs.acceptance.copies_of.Given as goal
+
+abbrev pub invariant-loop-packet : goal.invariant-loop-packet
+invariant-loop-packet l = packets_view l.copies ≡ octets_of (take l.packet-index l.packets)
