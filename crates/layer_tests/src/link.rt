@@ -8,6 +8,7 @@ mod refused;
 mod refusing;
 mod sessions;
 
+use nodes::{PARAMETERS, Parameter};
 use tc_link::{Config, LinkFault};
 
 const P0: [u8; 7] = [0x10, 0x05, 0xc0, 0x00, 0x00, 0x00, 0xaa];
@@ -30,4 +31,22 @@ fn config_ranges(rt: HostRuntime) {
     assert_eq!(rt; odd.fault(), Some("width"));
     assert_eq!(rt; LinkFault::Memory.number(), 6);
     assert_eq!(rt; LinkFault::Memory.name(), "Memory");
+}
+
+#[test]
+fn parameters_by_name(rt: HostRuntime) {
+    let mut config = Config::default();
+    for parameter in PARAMETERS {
+        let found = Parameter::named(parameter.name().as_bytes());
+        assert_eq!(rt; found, Some(parameter));
+        config.set(parameter, parameter.most());
+        assert_eq!(rt; config.value(parameter), parameter.most());
+    }
+    assert_eq!(rt; config.fault(), None);
+    assert_eq!(rt; config.frame_length, 2048);
+    config.set(Parameter::Blocking, 2);
+    assert_eq!(rt; config.fault(), Some("blocking"));
+    config.set(Parameter::TmVcid, 8);
+    assert_eq!(rt; config.fault(), Some("tm_vcid"));
+    assert_eq!(rt; Parameter::named(b"colour"), None);
 }

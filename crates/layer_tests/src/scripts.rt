@@ -1,6 +1,7 @@
 // Scripts played by hand, and each of their growths refused in turn.
 
-use script::{Carrier, Field, Line, Program, ScriptFault, Step, open, play_some, read_line};
+use nodes::Parameter;
+use script::{Carrier, Line, Program, ScriptFault, Step, open, play_some, read_line};
 use std::alloc::Global;
 use std::process::Abort;
 use tc_link::Sim;
@@ -126,7 +127,7 @@ fn lines_one_by_one(rt: HostRuntime) {
     assert!(rt;
         matches!(
             read_line(b"config maps 18446744073709551615"),
-            Line::Setting(Field::Maps, u64::MAX)
+            Line::Setting(Parameter::Maps, u64::MAX)
         )
     );
     assert!(rt; matches!(read_line(b"submit 4 0F "), Line::Unreadable));

@@ -1,93 +1,94 @@
 -- No field is reported as out of its range exactly where each is in it.
-use Rattle.std.proofs.Common.{◌≡◌, ◌≤◌, ℕ, ◌/◌, ◌%◌, List, Bool, true, false, not, cond, eqb, Option, Some, None, refl}
-use Rattle.std.specs.Prelude.{◌&&◌}
-use Rattle.std.proofs.lemmas.Bool.{ltb-false, le-ltb, leb-true, le-leb, eqb-true, eq-eqb, and_parts, not-false}
+use Rattle.std.proofs.Common.{◌≡◌, ◌≤◌, ℕ, List, [], ◌∷◌, Bool, true, false, not, cond, Option, Some, None}
+use Rattle.std.proofs.Common.{refl, ap, subst, arith}
+use Rattle.std.specs.Prelude.{option_map}
+use Rattle.std.specs.List.{find}
+use Rattle.std.specs.Option.{unwrap_or}
+use Rattle.std.specs.Str.{bytes_eq}
+use Rattle.std.proofs.lemmas.Bool.{leb-true, le-leb, eqb-true, eq-eqb, and_parts}
 use Rattle.nodes.specs.declared.config.Config.{Config}
-use Rattle.nodes.specs.Parameters.{is_within, channel_fault, cop_fault, node_fault, config_fault, first_of, IsConfig}
+use Rattle.nodes.specs.declared.parameter.Parameter.{Parameter}
+use Rattle.nodes.specs.declared.parameter.Parameter.TheVariants as parameters
+use Rattle.nodes.specs.Parameters.{all_in_order, row_of, parameter_named, value_of, is_within, is_in_range}
+use Rattle.nodes.specs.Parameters.{out_of_range, config_fault, IsConfig}
 
--- a test that reported nothing
-passed : (b : Bool) (field : List ℕ) (rest : Option (List ℕ)) → cond b (Some field) rest ≡ None
-    → (b ≡ false) × (rest ≡ None)
-passed true field rest h = absurd cc
-passed false field rest h = (refl, h)
+-- ---- all parameters are looked at
 
-neither : (a b : Option (List ℕ)) → first_of a b ≡ None → (a ≡ None) × (b ≡ None)
-neither None b h = (refl, h)
-neither (Some field) b h = absurd cc
+pub named : (p : Parameter) → parameter_named (row_of p).name ≡ Some p
+named parameters.Maps = refl
+named p = refl
 
-within_from : (n least most : ℕ) → not (is_within n least most) ≡ false → (least ≤ n) × (n ≤ most)
-within_from n least most h =
-    let both = and_parts _ _ (not-false _ h) in
-    (leb-true _ _ both.0, leb-true _ _ both.1)
+module _ (c : Config) where
+  abbrev first_out : List Parameter → Option Parameter
+  first_out all = find (λ p. not (is_in_range c p)) all
 
-not_outside : (n least most : ℕ) → least ≤ n → n ≤ most → not (is_within n least most) ≡ false
-not_outside n least most low high = rw (le-leb _ _ low, le-leb _ _ high) refl
+  looked_at : (name : List ℕ) (one : Parameter) (more : List Parameter) (p : Parameter) (inside is : Bool)
+      → is_in_range c one ≡ inside → cond (not inside) (Some one) (first_out more) ≡ None
+      → cond is (Some one) (find (λ q. bytes_eq name (row_of q).name) more) ≡ Some p
+      → (first_out more ≡ None → find (λ q. bytes_eq name (row_of q).name) more ≡ Some p → is_in_range c p ≡ true)
+      → is_in_range c p ≡ true
+  looked_at name one more p true true at none found rest = subst (λ (q : Parameter). is_in_range c q ≡ true)
+      (ap (λ (o : Option Parameter). unwrap_or o one) found) at
+  looked_at name one more p true false at none found rest = rest none found
+  looked_at name one more p false is at none found rest = absurd cc
 
-even_within : (n : ℕ) → not (is_within n 2 254 && eqb (n % 2) 0) ≡ false → (n % 2 ≡ 0) × ((2 ≤ n) × (n ≤ 254))
-even_within n h =
-    let both = and_parts _ _ (not-false _ h) in
-    let bounds = and_parts _ _ both.0 in
-    (eqb-true _ _ both.1, (leb-true _ _ bounds.0, leb-true _ _ bounds.1))
+  each_of : (name : List ℕ) (all : List Parameter) (p : Parameter) → first_out all ≡ None
+      → find (λ q. bytes_eq name (row_of q).name) all ≡ Some p → is_in_range c p ≡ true
+  each_of name [] p none found = absurd cc
+  each_of name (one ∷ more) p none found =
+      looked_at name one more p (is_in_range c one) (bytes_eq name (row_of one).name) refl none found
+      (each_of name more p)
+
+  each : out_of_range c ≡ None → (p : Parameter) → is_in_range c p ≡ true
+  each none p = each_of (row_of p).name all_in_order p none (named p)
+
+  none_of : ((p : Parameter) → is_in_range c p ≡ true) → (all : List Parameter) → first_out all ≡ None
+  none_of inside [] = refl
+  none_of inside (one ∷ more) = rw (inside one) (none_of inside more)
+
+none_named : (o : Option Parameter) → option_map (λ p. (row_of p).name) o ≡ None → o ≡ None
+none_named None h = refl
+none_named (Some p) h = absurd cc
+
+-- ---- a parameter is in its range as arithmetic says
+
+within : (c : Config) (p : Parameter) → is_within (value_of c p) (row_of p) ≡ true
+    → ((row_of p).least ≤ value_of c p) × (value_of c p ≤ (row_of p).most)
+within c p h = let both = and_parts _ _ h in (leb-true _ _ both.0, leb-true _ _ both.1)
+
+inside : (c : Config) (p : Parameter) → (row_of p).least ≤ value_of c p → value_of c p ≤ (row_of p).most
+    → is_within (value_of c p) (row_of p) ≡ true
+inside c p low high = rw (le-leb _ _ low, le-leb _ _ high) refl
+
+in_range : (c : Config) → IsConfig c → (p : Parameter) → is_in_range c p ≡ true
+in_range c h parameters.Maps = refl
+in_range c h parameters.Width = rw (inside c parameters.Width h.width.0 h.width.1, eq-eqb _ _ h.even) refl
+in_range c h parameters.Window =
+    rw (inside c parameters.Window h.window.0 (omega (arith, h.window, h.width)), le-leb _ _ h.window.1) refl
+in_range c h p = inside c p (omega (arith, h)) (omega (arith, h))
 
 pub config_is : (c : Config) → config_fault c ≡ None → IsConfig c
 config_is c h =
-    let parts = neither (channel_fault c) (first_of (cop_fault c) (node_fault c)) h in
-    let more = neither (cop_fault c) (node_fault c) parts.1 in
-    let scid = passed _ _ _ parts.0 in
-    let vcid = passed _ _ _ scid.1 in
-    let tm_vcid = passed _ _ _ vcid.1 in
-    let width = passed _ _ _ more.0 in
-    let window = passed _ _ _ width.1 in
-    let limit = passed _ _ _ window.1 in
-    let timer = passed _ _ _ limit.1 in
-    let part = passed _ _ _ more.1 in
-    let max_packet = passed _ _ _ part.1 in
-    let ready_slots = passed _ _ _ max_packet.1 in
-    let bypass_slots = passed _ _ _ ready_slots.1 in
-    let queue_slots = passed _ _ _ bypass_slots.1 in
-    let frame_length = passed _ _ _ queue_slots.1 in
-    let blocking = passed _ _ _ frame_length.1 in
+    let at = each c (none_named (out_of_range c) h) in
+    let width = and_parts _ _ (at parameters.Width) in
+    let window = and_parts _ _ (at parameters.Window) in
     record {
-      scid = ltb-false _ _ scid.0;
-      vcid = ltb-false _ _ vcid.0;
-      tm_vcid = ltb-false _ _ tm_vcid.0;
-      even = (even_within _ width.0).0;
-      width = (even_within _ width.0).1;
-      window = within_from _ _ _ window.0;
-      limit = within_from _ _ _ limit.0;
-      timer = within_from _ _ _ timer.0;
-      part = within_from _ _ _ part.0;
-      max_packet = within_from _ _ _ max_packet.0;
-      ready_slots = within_from _ _ _ ready_slots.0;
-      bypass_slots = within_from _ _ _ bypass_slots.0;
-      queue_slots = within_from _ _ _ queue_slots.0;
-      frame_length = within_from _ _ _ frame_length.0;
-      blocking = ltb-false _ _ blocking.0;
+      scid = (within c parameters.Scid (at parameters.Scid)).1;
+      vcid = (within c parameters.Vcid (at parameters.Vcid)).1;
+      tm_vcid = (within c parameters.TmVcid (at parameters.TmVcid)).1;
+      even = eqb-true _ _ width.1;
+      width = within c parameters.Width width.0;
+      window = ((within c parameters.Window window.0).0, leb-true _ _ window.1);
+      limit = within c parameters.Limit (at parameters.Limit);
+      timer = within c parameters.Timer (at parameters.Timer);
+      part = within c parameters.Part (at parameters.Part);
+      max_packet = within c parameters.MaxPacket (at parameters.MaxPacket);
+      ready_slots = within c parameters.ReadySlots (at parameters.ReadySlots);
+      bypass_slots = within c parameters.BypassSlots (at parameters.BypassSlots);
+      queue_slots = within c parameters.QueueSlots (at parameters.QueueSlots);
+      frame_length = within c parameters.FrameLength (at parameters.FrameLength);
+      blocking = (within c parameters.Blocking (at parameters.Blocking)).1;
     }
 
-channel_none : (c : Config) → IsConfig c → channel_fault c ≡ None
-channel_none c h = rw (le-ltb 1023 c.scid h.scid, le-ltb 63 c.vcid h.vcid, le-ltb 7 c.tm_vcid h.tm_vcid) refl
-
-cop_none : (c : Config) → IsConfig c → cop_fault c ≡ None
-cop_none c h =
-    rw (le-leb 2 c.width h.width.0, le-leb c.width 254 h.width.1, eq-eqb (c.width % 2) 0 h.even)
-    (rw (
-      not_outside c.window 1 (c.width / 2) h.window.0 h.window.1,
-      not_outside c.limit 1 255 h.limit.0 h.limit.1,
-      not_outside c.timer 1 65535 h.timer.0 h.timer.1,
-    ) refl)
-
-node_none : (c : Config) → IsConfig c → node_fault c ≡ None
-node_none c h =
-    rw (
-      not_outside c.part 1 1016 h.part.0 h.part.1,
-      not_outside c.max_packet 7 65542 h.max_packet.0 h.max_packet.1,
-      not_outside c.ready_slots 1 64 h.ready_slots.0 h.ready_slots.1,
-      not_outside c.bypass_slots 1 64 h.bypass_slots.0 h.bypass_slots.1,
-      not_outside c.queue_slots 1 65535 h.queue_slots.0 h.queue_slots.1,
-      not_outside c.frame_length 16 2048 h.frame_length.0 h.frame_length.1,
-      le-ltb 1 c.blocking h.blocking,
-    ) refl
-
 pub no_fault : (c : Config) → IsConfig c → config_fault c ≡ None
-no_fault c h = rw (channel_none c h, cop_none c h, node_none c h) refl
+no_fault c h = rw (none_of c (in_range c h) all_in_order) refl

@@ -1,4 +1,5 @@
 pub mod Acceptance
+pub mod Arriving
 pub mod BypassSegments
 pub mod Commands
 pub mod Delivery
@@ -13,3 +14,4 @@ pub mod Parameters
 pub mod SegmentCode
 pub mod Spacecraft
 pub mod SpacecraftFields
+pub mod Submissions

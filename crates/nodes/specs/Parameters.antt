@@ -1,12 +1,144 @@
--- The managed parameters: their ranges in their order, their default values, and what the
--- segmentation service keeps to.
-use Rattle.std.specs.Prelude.{◌≡◌, ◌≤◌, ℕ, ◌/◌, ◌%◌, ◌^◌, ◌-◌, List, codes, Bool, not, ◌&&◌, ◌==◌}
-use Rattle.std.specs.Prelude.{nat_lt, nat_le, if◌then◌else◌, Option, Some, None}
+-- The managed parameters: the table of their names, ranges and default values; a parameter of a
+-- configuration; the first that is out of its range; what the segmentation service keeps to.
+use Rattle.std.specs.Prelude.{◌≡◌, ◌≤◌, ℕ, ◌/◌, ◌%◌, ◌^◌, ◌-◌, nat_le, List, [], ◌∷◌, codes}
+use Rattle.std.specs.Prelude.{Bool, true, not, ◌&&◌, ◌==◌, Option, option_map}
+use Rattle.std.specs.List.{find}
+use Rattle.std.specs.Str.{bytes_eq}
 use Rattle.map_service.specs.declared.limits.Limits.{Limits}
 use Rattle.nodes.specs.declared.config.Config.{Config}
+use Rattle.nodes.specs.declared.parameter.Parameter.{Parameter}
+use Rattle.nodes.specs.declared.parameter.Parameter.TheVariants.{Scid, Vcid, TmVcid, Width}
+use Rattle.nodes.specs.declared.parameter.Parameter.TheVariants.{Window, Limit, Timer, Part}
+use Rattle.nodes.specs.declared.parameter.Parameter.TheVariants.{MaxPacket, Maps, ReadySlots}
+use Rattle.nodes.specs.declared.parameter.Parameter.TheVariants.{BypassSlots, QueueSlots}
+use Rattle.nodes.specs.declared.parameter.Parameter.TheVariants.{FrameLength, Blocking}
 
-abbrev pub is_within : ℕ → ℕ → ℕ → Bool
-is_within number least most = nat_le least number && nat_le number most
+-- ---- the table
+
+-- a parameter's name, its least and its greatest value, and its default
+pub record Row : Type 0 where
+  pub name : List ℕ
+  pub least : ℕ
+  pub most : ℕ
+  pub default : ℕ
+
+abbrev pub row : List ℕ → ℕ → ℕ → ℕ → Row
+row name least most default = record {
+  name = name;
+  least = least;
+  most = most;
+  default = default;
+}
+
+-- besides, `width` is even, and `window` no more than half of `width`; `maps` is any 64 bits
+abbrev pub row_of : Parameter → Row
+row_of Scid = row (codes "scid") 0 1023 1
+row_of Vcid = row (codes "vcid") 0 63 2
+row_of TmVcid = row (codes "tm_vcid") 0 7 0
+row_of Width = row (codes "width") 2 254 254
+row_of Window = row (codes "window") 1 127 127
+row_of Limit = row (codes "limit") 1 255 3
+row_of Timer = row (codes "timer") 1 65535 10
+row_of Part = row (codes "part") 1 1016 1016
+row_of MaxPacket = row (codes "max_packet") 7 65542 65542
+row_of Maps = row (codes "maps") 0 (2 ^ 64 - 1) (2 ^ 64 - 1)
+row_of ReadySlots = row (codes "ready_slots") 1 64 64
+row_of BypassSlots = row (codes "bypass_slots") 1 64 4
+row_of QueueSlots = row (codes "queue_slots") 1 65535 1000
+row_of FrameLength = row (codes "frame_length") 16 2048 64
+row_of Blocking = row (codes "blocking") 0 1 0
+
+-- all of them, in the order in which they are judged
+abbrev pub all_in_order : List Parameter
+all_in_order =
+    Scid ∷ Vcid ∷ TmVcid ∷ Width ∷ Window ∷ Limit ∷ Timer ∷ Part ∷ MaxPacket ∷ Maps ∷ ReadySlots
+    ∷ BypassSlots ∷ QueueSlots ∷ FrameLength ∷ Blocking ∷ []
+
+-- the parameter that has this name
+abbrev pub parameter_named : List ℕ → Option Parameter
+parameter_named name = find (λ parameter. bytes_eq name (row_of parameter).name) all_in_order
+
+-- ---- a parameter of a configuration
+
+abbrev pub value_of : Config → Parameter → ℕ
+value_of c Scid = c.scid
+value_of c Vcid = c.vcid
+value_of c TmVcid = c.tm_vcid
+value_of c Width = c.width
+value_of c Window = c.window
+value_of c Limit = c.limit
+value_of c Timer = c.timer
+value_of c Part = c.part
+value_of c MaxPacket = c.max_packet
+value_of c Maps = c.maps
+value_of c ReadySlots = c.ready_slots
+value_of c BypassSlots = c.bypass_slots
+value_of c QueueSlots = c.queue_slots
+value_of c FrameLength = c.frame_length
+value_of c Blocking = c.blocking
+
+-- the greatest number that its field holds
+abbrev pub greatest_of : Parameter → ℕ
+greatest_of Maps = 2 ^ 64 - 1
+greatest_of parameter = 2 ^ 32 - 1
+
+abbrev pub with_value : Config → Parameter → ℕ → Config
+with_value c Scid n = record c { scid = n }
+with_value c Vcid n = record c { vcid = n }
+with_value c TmVcid n = record c { tm_vcid = n }
+with_value c Width n = record c { width = n }
+with_value c Window n = record c { window = n }
+with_value c Limit n = record c { limit = n }
+with_value c Timer n = record c { timer = n }
+with_value c Part n = record c { part = n }
+with_value c MaxPacket n = record c { max_packet = n }
+with_value c Maps n = record c { maps = n }
+with_value c ReadySlots n = record c { ready_slots = n }
+with_value c BypassSlots n = record c { bypass_slots = n }
+with_value c QueueSlots n = record c { queue_slots = n }
+with_value c FrameLength n = record c { frame_length = n }
+with_value c Blocking n = record c { blocking = n }
+
+-- ---- the default values
+
+abbrev pub default_config : Config
+default_config = record {
+  scid = (row_of Scid).default;
+  vcid = (row_of Vcid).default;
+  tm_vcid = (row_of TmVcid).default;
+  width = (row_of Width).default;
+  window = (row_of Window).default;
+  limit = (row_of Limit).default;
+  timer = (row_of Timer).default;
+  part = (row_of Part).default;
+  max_packet = (row_of MaxPacket).default;
+  maps = (row_of Maps).default;
+  ready_slots = (row_of ReadySlots).default;
+  bypass_slots = (row_of BypassSlots).default;
+  queue_slots = (row_of QueueSlots).default;
+  frame_length = (row_of FrameLength).default;
+  blocking = (row_of Blocking).default;
+}
+
+-- ---- the ranges
+
+abbrev pub is_within : ℕ → Row → Bool
+is_within n bounds = nat_le bounds.least n && nat_le n bounds.most
+
+-- a row says a parameter's range, but for what is said here besides
+abbrev pub is_in_range : Config → Parameter → Bool
+is_in_range c Width = is_within c.width (row_of Width) && (c.width % 2 == 0)
+is_in_range c Window = is_within c.window (row_of Window) && nat_le c.window (c.width / 2)
+is_in_range c Maps = true
+is_in_range c parameter = is_within (value_of c parameter) (row_of parameter)
+
+-- the first parameter that is out of its range
+abbrev pub out_of_range : Config → Option Parameter
+out_of_range c = find (λ parameter. not (is_in_range c parameter)) all_in_order
+
+-- its name
+abbrev pub config_fault : Config → Option (List ℕ)
+config_fault c = option_map (λ parameter. (row_of parameter).name) (out_of_range c)
 
 -- each field is in its range; `maps` is any 64 bits
 pub record IsConfig (c : Config) : Type 0 where
@@ -25,62 +157,6 @@ pub record IsConfig (c : Config) : Type 0 where
   pub queue_slots : (1 ≤ c.queue_slots) × (c.queue_slots ≤ 65535)
   pub frame_length : (16 ≤ c.frame_length) × (c.frame_length ≤ 2048)
   pub blocking : c.blocking ≤ 1
-
--- ---- the first field that is out of its range, by its name
-
-abbrev pub channel_fault : Config → Option (List ℕ)
-channel_fault c =
-    if nat_lt 1023 c.scid then Some (codes "scid")
-    else if nat_lt 63 c.vcid then Some (codes "vcid")
-    else if nat_lt 7 c.tm_vcid then Some (codes "tm_vcid")
-    else None
-
-abbrev pub cop_fault : Config → Option (List ℕ)
-cop_fault c =
-    if not (is_within c.width 2 254 && (c.width % 2 == 0)) then Some (codes "width")
-    else if not (is_within c.window 1 (c.width / 2)) then Some (codes "window")
-    else if not (is_within c.limit 1 255) then Some (codes "limit")
-    else if not (is_within c.timer 1 65535) then Some (codes "timer")
-    else None
-
-abbrev pub node_fault : Config → Option (List ℕ)
-node_fault c =
-    if not (is_within c.part 1 1016) then Some (codes "part")
-    else if not (is_within c.max_packet 7 65542) then Some (codes "max_packet")
-    else if not (is_within c.ready_slots 1 64) then Some (codes "ready_slots")
-    else if not (is_within c.bypass_slots 1 64) then Some (codes "bypass_slots")
-    else if not (is_within c.queue_slots 1 65535) then Some (codes "queue_slots")
-    else if not (is_within c.frame_length 16 2048) then Some (codes "frame_length")
-    else if nat_lt 1 c.blocking then Some (codes "blocking")
-    else None
-
-abbrev pub first_of : Option (List ℕ) → Option (List ℕ) → Option (List ℕ)
-first_of None later = later
-first_of (Some field) later = Some field
-
-abbrev pub config_fault : Config → Option (List ℕ)
-config_fault c = first_of (channel_fault c) (first_of (cop_fault c) (node_fault c))
-
--- ---- the default values
-
-abbrev pub default_config : Config
-default_config = record {
-  scid = 1;
-  vcid = 2;
-  tm_vcid = 0;
-  width = 254;
-  window = 127;
-  limit = 3;
-  timer = 10;
-  part = 1016;
-  max_packet = 65542;
-  maps = 2 ^ 64 - 1;
-  ready_slots = 64;
-  bypass_slots = 4;
-  queue_slots = 1000;
-  frame_length = 64;
-  blocking = 0;
-}
 
 -- ---- the limits of cutting and assembly
 

@@ -1,9 +1,9 @@
 // The managed parameters of the link.
 
-ghost use Rattle.std.specs.Prelude.{◌≡◌, ◌↔◌, IsNone};
+ghost use Rattle.std.specs.Prelude.{◌≡◌, ◌≤◌, ◌↔◌, IsNone};
 ghost use Rattle.std.specs.Option.{option_copied};
-ghost use Rattle.nodes.specs.Parameters.{is_within};
 
+use crate::parameter::{PARAMETERS, Parameter};
 use map_service::Limits;
 
 /// The managed parameters, which both nodes keep to. V(R) and V(S) start at 0.
@@ -17,7 +17,7 @@ pub struct Config {
     pub tm_vcid: u32,
     /// The width of the receiver's window, even, 2 to 254.
     pub width: u32,
-    /// The sender's window K, 1 to half the width.
+    /// The sender's window K, 1 to width/2.
     pub window: u32,
     /// The transmission limit, 1 to 255.
     pub limit: u32,
@@ -27,7 +27,7 @@ pub struct Config {
     pub part: u32,
     /// The most octets of a packet, 7 to 65,542.
     pub max_packet: u32,
-    /// Bit m, which counts 2 to the power of m, says that MAP m is open.
+    /// Any 64 bits: bit m, which counts 2 to the power of m, says that MAP m is open.
     pub maps: u64,
     /// The number of packets waiting to be taken at which the buffer on board is full, 1 to 64.
     pub ready_slots: u32,
@@ -37,7 +37,7 @@ pub struct Config {
     pub queue_slots: u32,
     /// The octets of a telemetry frame, 16 to 2,048.
     pub frame_length: u32,
-    /// 1 where a segment may hold several packets, otherwise 0.
+    /// 0 to 1: 1 where a segment may hold several packets.
     pub blocking: u32,
 }
 
@@ -68,20 +68,62 @@ impl Default for Config {
 }
 
 impl Config {
-    ghost use Rattle.nodes.specs.Parameters.{channel_fault, cop_fault, node_fault, config_fault, IsConfig, limits_of};
+    ghost use Rattle.nodes.specs.Parameters.{value_of, greatest_of, with_value, is_in_range, out_of_range, config_fault, IsConfig, limits_of};
 
     /// The name of the first field that is out of its range.
     pub fn fault(&self) -> Option<&'static str>
         ensures fault { option_copied result ≡ config_fault self.now }
         ensures none { IsNone result ↔ IsConfig self.now }
     {
-        if let Some(field) = self.channel_fault() {
-            return Some(field);
+        let parameter = self.out_of_range()?;
+        Some(parameter.name())
+    }
+
+    /// The value of a parameter.
+    pub fn value(&self, parameter: Parameter) -> u64
+        ensures { result ≡ value_of self.now parameter }
+    {
+        match parameter {
+            Parameter::Scid => u64::from(self.scid),
+            Parameter::Vcid => u64::from(self.vcid),
+            Parameter::TmVcid => u64::from(self.tm_vcid),
+            Parameter::Width => u64::from(self.width),
+            Parameter::Window => u64::from(self.window),
+            Parameter::Limit => u64::from(self.limit),
+            Parameter::Timer => u64::from(self.timer),
+            Parameter::Part => u64::from(self.part),
+            Parameter::MaxPacket => u64::from(self.max_packet),
+            Parameter::Maps => self.maps,
+            Parameter::ReadySlots => u64::from(self.ready_slots),
+            Parameter::BypassSlots => u64::from(self.bypass_slots),
+            Parameter::QueueSlots => u64::from(self.queue_slots),
+            Parameter::FrameLength => u64::from(self.frame_length),
+            Parameter::Blocking => u64::from(self.blocking),
         }
-        if let Some(field) = self.cop_fault() {
-            return Some(field);
+    }
+
+    /// Gives a parameter this value, in its range or not; it has to fit the parameter's field.
+    pub fn set(&mut self, parameter: Parameter, value: u64)
+        requires { value ≤ greatest_of parameter }
+        ensures { self.new ≡ with_value self.old parameter value }
+    {
+        match parameter {
+            Parameter::Scid => self.scid = value as u32,
+            Parameter::Vcid => self.vcid = value as u32,
+            Parameter::TmVcid => self.tm_vcid = value as u32,
+            Parameter::Width => self.width = value as u32,
+            Parameter::Window => self.window = value as u32,
+            Parameter::Limit => self.limit = value as u32,
+            Parameter::Timer => self.timer = value as u32,
+            Parameter::Part => self.part = value as u32,
+            Parameter::MaxPacket => self.max_packet = value as u32,
+            Parameter::Maps => self.maps = value,
+            Parameter::ReadySlots => self.ready_slots = value as u32,
+            Parameter::BypassSlots => self.bypass_slots = value as u32,
+            Parameter::QueueSlots => self.queue_slots = value as u32,
+            Parameter::FrameLength => self.frame_length = value as u32,
+            Parameter::Blocking => self.blocking = value as u32,
         }
-        self.node_fault()
     }
 
     // What the segmentation service keeps to.
@@ -96,69 +138,25 @@ impl Config {
         }
     }
 
-    fn channel_fault(&self) -> Option<&'static str>
-        ensures { option_copied result ≡ channel_fault self.now }
+    // The first parameter that is out of its range.
+    fn out_of_range(&self) -> Option<Parameter>
+        ensures { result ≡ out_of_range self.now }
     {
-        if self.scid > 1023 {
-            return Some("scid");
-        }
-        if self.vcid > 63 {
-            return Some("vcid");
-        }
-        if self.tm_vcid > 7 {
-            return Some("tm_vcid");
-        }
-        None
+        PARAMETERS
+            .iter()
+            .find(|parameter| !self.is_in_range(**parameter))
+            .copied()
     }
 
-    fn cop_fault(&self) -> Option<&'static str>
-        ensures { option_copied result ≡ cop_fault self.now }
+    fn is_in_range(&self, parameter: Parameter) -> bool
+        ensures { result ≡ is_in_range self.now parameter }
     {
-        if !is_within(self.width, 2, 254) || self.width % 2 != 0 {
-            return Some("width");
+        let is_within = parameter.has(self.value(parameter));
+        match parameter {
+            Parameter::Width => is_within && self.width % 2 == 0,
+            Parameter::Window => is_within && self.window <= self.width / 2,
+            Parameter::Maps => true,
+            _ => is_within,
         }
-        if !is_within(self.window, 1, self.width / 2) {
-            return Some("window");
-        }
-        if !is_within(self.limit, 1, 255) {
-            return Some("limit");
-        }
-        if !is_within(self.timer, 1, 65535) {
-            return Some("timer");
-        }
-        None
     }
-
-    fn node_fault(&self) -> Option<&'static str>
-        ensures { option_copied result ≡ node_fault self.now }
-    {
-        if !is_within(self.part, 1, 1016) {
-            return Some("part");
-        }
-        if !is_within(self.max_packet, 7, 65542) {
-            return Some("max_packet");
-        }
-        if !is_within(self.ready_slots, 1, 64) {
-            return Some("ready_slots");
-        }
-        if !is_within(self.bypass_slots, 1, 64) {
-            return Some("bypass_slots");
-        }
-        if !is_within(self.queue_slots, 1, 65535) {
-            return Some("queue_slots");
-        }
-        if !is_within(self.frame_length, 16, 2048) {
-            return Some("frame_length");
-        }
-        if self.blocking > 1 {
-            return Some("blocking");
-        }
-        None
-    }
-}
-
-fn is_within(number: u32, least: u32, most: u32) -> bool
-    ensures { result ≡ is_within number least most }
-{
-    least <= number && number <= most
 }

@@ -1,7 +1,7 @@
 -- A line that is read is spelled so.
 use Rattle.std.proofs.Common.{◌≡◌, ◌∙◌, ◌≤◌, ◌<◌, ◌^◌, ◌==◌, ◌&&◌, ◌++◌, ℕ, Bool, true, false, cond, List, [], ◌∷◌}
-use Rattle.std.proofs.Common.{Option, Some, None, refl, sym, ap, subst, arith}
-use Rattle.std.specs.Prelude.{codes, decimal, ◌↔◌, option_map, option_and_then}
+use Rattle.std.proofs.Common.{Option, Some, None, inl, inr, refl, sym, ap, subst, arith}
+use Rattle.std.specs.Prelude.{codes, decimal, ◌↔◌, ◌⊎◌, option_map, option_and_then}
 use Rattle.std.specs.List.{find, join_with_byte}
 use Rattle.std.specs.Option.{unwrap_or}
 use Rattle.std.specs.Str.{bytes_eq}
@@ -10,15 +10,14 @@ use Rattle.std.proofs.lemmas.List.Splits.{join_with_byte-slice_split}
 use Rattle.std.proofs.lemmas.Slice.Eq.{bytes_eq-Decides}
 use denote.Bor.{Bor}
 use Rattle.cop1.specs.declared.fop.Directive.TheVariants as directives
+use Rattle.nodes.specs.declared.parameter.Parameter.{Parameter}
+use Rattle.nodes.specs.declared.parameter.Parameter.TheVariants as parameters
+use Rattle.nodes.specs.Parameters.{all_in_order, row_of, parameter_named}
 use Rattle.tc_link.specs.declared.event.Event.{Event}
 use Rattle.tc_link.specs.declared.event.Event.TheVariants as events
-use Rattle.script.specs.declared.field.Field.{Field}
-use Rattle.script.specs.declared.field.Field.TheVariants as fields
-use Rattle.script.specs.declared.field.TheConstants.{FIELDS}
-use Rattle.script.specs.Fields.{field_name, field_named, most_for}
 use Rattle.script.specs.Lines.{ScriptLine, Skipped, Setting, Happening, Unreadable, borrow_of, line_of_one_word}
 use Rattle.script.specs.Lines.{initiation, up_event, down_event, numbered_directive, line_of_two_words, submission_line}
-use Rattle.script.specs.Lines.{setting_line, line_of_three_words, line_of_words, line_in}
+use Rattle.script.specs.Lines.{most_for, setting_line, line_of_three_words, line_of_words, line_in}
 use Rattle.script.specs.Words.{words_in, number_in_word, octets_in_word}
 use Rattle.script.specs.Spelling as spelling
 use Rattle.script.specs.Spelling.{Spells, IsHex}
@@ -165,17 +164,16 @@ module _ (name word : List ℕ) where
 
 -- ---- lines of three words
 
-spells_setting : (field : Field) (n : ℕ) → n ≤ most_for field
-    → Spells (Setting field n) (codes "config" ++ 32 ∷ (field_name field ++ 32 ∷ decimal n))
-spells_setting fields.Maps n le = spelling.maps n (omega (arith, le))
-spells_setting field n le = spelling.config field n le
+small_or_in_range : (p : Parameter) (n : ℕ) → n ≤ most_for p → (n ≤ 65542) ⊎ (n ≤ (row_of p).most)
+small_or_in_range parameters.Maps n le = inr le
+small_or_in_range p n le = inl le
 
-named : (word : List ℕ) (all : List Field) (field : Field)
-    → find (λ one. bytes_eq word (field_name one)) all ≡ Some field → word ≡ field_name field
-named word [] field e = cc e
-named word (one ∷ more) field e =
-    tested (λ (f : Field). word ≡ field_name f) e (λ is same. is ∙ ap field_name (some_is one field same))
-    (named word more field)
+named : (word : List ℕ) (all : List Parameter) (p : Parameter)
+    → find (λ one. bytes_eq word (row_of one).name) all ≡ Some p → word ≡ (row_of p).name
+named word [] p e = cc e
+named word (one ∷ more) p e =
+    tested (λ (q : Parameter). word ≡ (row_of q).name) e
+    (λ is same. is ∙ ap (λ (q : Parameter). (row_of q).name) (some_is one p same)) (named word more p)
 
 module _ (name first second : List ℕ) where
   abbrev Three : ScriptLine → Type 0
@@ -183,11 +181,12 @@ module _ (name first second : List ℕ) where
 
   set : (what : ScriptLine) → name ≡ codes "config" → setting_line first second ≡ Some what → Three what
   set what is e =
-      let f = chained (λ field. option_map (λ n. Setting field n) (number_in_word (most_for field) second))
-      (field_named first) what e in
-      let n = mapped (λ x. Setting f.0 x) (number_in_word (most_for f.0) second) what f.2 in
-      let number = read (most_for f.0) n.0 second (most_small f.0) n.1 in
-      moved (spells_setting f.0 n.0 number.1) n.2 (one_more is (one_more (named first FIELDS f.0 f.1) number.0))
+      let p = chained (λ q. option_map (λ n. Setting q n) (number_in_word (most_for q) second)) (parameter_named first)
+      what e in
+      let n = mapped (λ x. Setting p.0 x) (number_in_word (most_for p.0) second) what p.2 in
+      let number = read (most_for p.0) n.0 second (most_small p.0) n.1 in
+      moved (spelling.config p.0 n.0 (small_or_in_range p.0 n.0 number.1)) n.2
+      (one_more is (one_more (named first all_in_order p.0 p.1) number.0))
 
   submitted : (text : List ℕ) (event : ℕ → Bor (List ℕ) → Event) (what : ScriptLine)
       → ((map : ℕ) (octets hex : List ℕ) → map ≤ 255 → IsHex octets hex

@@ -1,11 +1,12 @@
 -- A line that is spelled is read so.
 use Rattle.std.proofs.Common.{◌≡◌, ◌∙◌, ◌≤◌, ◌<◌, ◌^◌, ℕ, true, List, Option, Some, refl, ap, arith}
-use Rattle.std.specs.Prelude.{codes, decimal}
+use Rattle.std.specs.Prelude.{◌⊎◌, codes, decimal}
 use Rattle.std.specs.Option.{unwrap_or}
-use Rattle.script.specs.declared.field.Field.{Field}
-use Rattle.script.specs.declared.field.Field.TheVariants as fields
-use Rattle.script.specs.Fields.{field_name, field_named, most_for}
-use Rattle.script.specs.Lines.{ScriptLine, Setting, Unreadable, setting_line, line_of_words, line_in}
+use Rattle.nodes.specs.declared.parameter.Parameter.{Parameter}
+use Rattle.nodes.specs.declared.parameter.Parameter.TheVariants as parameters
+use Rattle.nodes.specs.Parameters.{row_of}
+use Rattle.nodes.proofs.InRange.{named}
+use Rattle.script.specs.Lines.{ScriptLine, Setting, Unreadable, most_for, setting_line, line_of_words, line_in}
 use Rattle.script.specs.Spelling as spelling
 use Rattle.script.specs.Spelling.{Spells}
 use Rattle.script.proofs.HexWords.{spelled_octets}
@@ -17,42 +18,31 @@ meant words = unwrap_or (line_of_words words) Unreadable
 
 -- ---- settings
 
-name_word : (field : Field) → is_word (field_name field) ≡ true
-name_word fields.Maps = refl
-name_word field = refl
+name_word : (p : Parameter) → is_word (row_of p).name ≡ true
+name_word parameters.Maps = refl
+name_word p = refl
 
-named : (field : Field) → field_named (field_name field) ≡ Some field
-named fields.Maps = refl
-named field = refl
+pub most_small : (p : Parameter) → most_for p < 2 ^ 64
+most_small parameters.Maps = omega arith
+most_small p = omega arith
 
-pub most_small : (field : Field) → most_for field < 2 ^ 64
-most_small fields.Maps = omega arith
-most_small field = omega arith
+least_most : (p : Parameter) (n : ℕ) → (n ≤ 65542) ⊎ (n ≤ (row_of p).most) → n ≤ most_for p
+least_most parameters.Maps n fits = omega (arith, fits)
+least_most p n fits = omega (arith, fits)
 
-least_most : (field : Field) (n : ℕ) → n ≤ 65542 → n ≤ most_for field
-least_most fields.Maps n le = omega (arith, le)
-least_most field n le = le
-
-set : (field : Field) (n : ℕ) → n ≤ most_for field
-    → setting_line (field_name field) (decimal n) ≡ Some (Setting field n)
-set field n le =
-    let number = printed (most_for field) n (most_small field) le in
-    rw (named field, number) refl
+set : (p : Parameter) (n : ℕ) → n ≤ most_for p → setting_line (row_of p).name (decimal n) ≡ Some (Setting p n)
+set p n le = let number = printed (most_for p) n (most_small p) le in rw (named p, number) refl
 
 -- ---- lines
 
 pub spelled : {line : List ℕ} {what : ScriptLine} → Spells what line → line_in line ≡ what
 spelled spelling.empty = refl
 spelled (spelling.note text) = refl
-spelled (spelling.config field n le) =
-    let read = set field n (least_most field n le) in
-    ap meant (three_words (codes "config") (field_name field) (decimal n) refl (name_word field)
-    (number_word n (omega arith)))
-    ∙ ap (λ (o : Option ScriptLine). unwrap_or o Unreadable) read
-spelled (spelling.maps n less) =
-    let read = set fields.Maps n (omega arith) in
-    ap meant (three_words (codes "config") (codes "maps") (decimal n) refl refl (number_word n less))
-    ∙ ap (λ (o : Option ScriptLine). unwrap_or o Unreadable) read
+spelled (spelling.config p n fits) =
+    let le = least_most p n fits in
+    let below : n < 2 ^ 64 = omega (arith, le, most_small p) in
+    ap meant (three_words (codes "config") (row_of p).name (decimal n) refl (name_word p) (number_word n below))
+    ∙ ap (λ (o : Option ScriptLine). unwrap_or o Unreadable) (set p n le)
 spelled (spelling.submit map octets hex le is) =
     let number = printed 255 map (omega arith) le in
     let read = spelled_octets octets hex is in

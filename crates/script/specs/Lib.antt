@@ -1,5 +1,4 @@
 pub mod Words
-pub mod Fields
 pub mod Lines
 pub mod Spelling
 pub mod Scripts

@@ -1,11 +1,10 @@
 -- How each line of a script is spelled.
-use Rattle.std.specs.Prelude.{◌≡◌, ◌≤◌, ◌<◌, ◌^◌, ◌/◌, ◌%◌, ◌⊎◌, ℕ, List, [], ◌∷◌, ◌++◌, codes}
+use Rattle.std.specs.Prelude.{◌≡◌, ◌≤◌, ◌<◌, ◌/◌, ◌%◌, ◌⊎◌, ℕ, List, [], ◌∷◌, ◌++◌, codes}
 use Rattle.std.specs.Prelude.{decimal, slice_index}
 use Rattle.cop1.specs.declared.fop.Directive.TheVariants as directives
+use Rattle.nodes.specs.declared.parameter.Parameter.{Parameter}
+use Rattle.nodes.specs.Parameters.{row_of}
 use Rattle.tc_link.specs.declared.event.Event.TheVariants as events
-use Rattle.script.specs.declared.field.Field.{Field}
-use Rattle.script.specs.declared.field.Field.TheVariants as fields
-use Rattle.script.specs.Fields.{field_name}
 use Rattle.script.specs.Lines.{ScriptLine, Skipped, Setting, Happening, Showing, borrow_of}
 
 -- ---- HEX
@@ -31,13 +30,14 @@ pub data IsHex : List ℕ → List ℕ → Type 0 where
 
 -- ---- lines
 
--- The lines that say a thing. Numbers are spelled as they are printed.
+-- The lines that say a thing. Numbers are spelled as they are printed; each parameter has those up
+-- to 65,542 and those of its range.
 pub data Spells : ScriptLine → List ℕ → Type 0 where
   empty : Spells Skipped []
   note : (text : List ℕ) → Spells Skipped (codes "#" ++ text)
-  config : (field : Field) (n : ℕ) → n ≤ 65542
-      → Spells (Setting field n) (codes "config " ++ (field_name field ++ (codes " " ++ decimal n)))
-  maps : (n : ℕ) → n < 2 ^ 64 → Spells (Setting fields.Maps n) (codes "config maps " ++ decimal n)
+  config : (parameter : Parameter) (n : ℕ) → (n ≤ 65542) ⊎ (n ≤ (row_of parameter).most)
+      → Spells (Setting parameter n)
+      (codes "config " ++ ((row_of parameter).name ++ (codes " " ++ decimal n)))
   submit : (map : ℕ) (octets hex : List ℕ) → map ≤ 255 → IsHex octets hex
       → Spells (Happening (events.Submit map (borrow_of octets)))
       (codes "submit " ++ (decimal map ++ (codes " " ++ hex)))

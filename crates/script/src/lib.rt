@@ -8,7 +8,6 @@
 
 mod answer;
 mod cutting;
-mod field;
 mod laws;
 mod line;
 mod opening;
@@ -18,7 +17,6 @@ mod reading;
 mod showing;
 mod words;
 
-pub use field::Field;
 pub use laws::{law_of_commands, law_of_numbers, law_of_octets};
 pub use line::{Carrier, Line, Step};
 pub use opening::{ScriptFault, open};

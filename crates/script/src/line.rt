@@ -3,8 +3,8 @@
 ghost use Rattle.std.specs.Prelude.{◌≡◌};
 ghost use Rattle.script.specs.Lines.{carrier_of, plain_event};
 
-use crate::field::Field;
 use cop1::Directive;
+use nodes::Parameter;
 use std::mem::size_of;
 use tc_link::Event;
 
@@ -13,8 +13,8 @@ use tc_link::Event;
 pub enum Line<'a> {
     /// It is empty, or a note.
     Skipped,
-    /// A field of the configuration gets this value.
-    Setting(Field, u64),
+    /// A managed parameter gets this value.
+    Setting(Parameter, u64),
     /// A step, and the digits of the octets that it carries, where it carries any.
     Played(Step, &'a [u8]),
     /// It is none of these.

@@ -52,11 +52,11 @@ impl<'a> Reading<'a> {
     {
         match line {
             Line::Skipped => false,
-            Line::Setting(field, number) => {
+            Line::Setting(parameter, number) => {
                 if self.begun {
                     return true;
                 }
-                field.set(&mut self.config, number);
+                self.config.set(parameter, number);
                 false
             }
             Line::Played(step, digits) => {
