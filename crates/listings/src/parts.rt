@@ -1,6 +1,7 @@
 // Parts of a line, each put in place after the one before it. Each call answers the place after what it put.
 
-ghost use Rattle.std.specs.Prelude.{◌≡◌, ◌+◌, ◌*◌, ◌<◌, ◌≤◌, ◌%◌, ◌++◌, [], ◌∷◌, codes, decimal, length, take, slice_index};
+ghost use Rattle.std.specs.Prelude.{◌≡◌, ◌+◌, ◌*◌, ◌<◌, ◌≤◌, ◌%◌, ◌++◌, [], ◌∷◌};
+ghost use Rattle.std.specs.Prelude.{codes, decimal, length, take, slice_index};
 ghost use Rattle.hex.specs.Hex.{encode_upper, upper_digits};
 ghost use Rattle.listings.specs.FourDigits.{four_digits};
 

@@ -2,11 +2,12 @@
 -- lines, outcome and end.
 use Rattle.std.specs.Prelude.{List, ℕ, Result}
 use Rattle.tc_frame.specs.declared.frame.Check.TheVariants.{On}
+use Rattle.tc_frame.specs.Splitting.{check_if}
 use Rattle.cop1.specs.Farm.{new_farm}
 use Rattle.tm_link.specs.Extraction.{new_extractor}
 use Rattle.script.specs.Ending.{script_ending, script_text}
-use Rattle.tctool.specs.declared.task.Task.{Task}
-use Rattle.tctool.specs.declared.task.Task.TheVariants as tasks
+use Rattle.command_line.specs.declared.task.Task.{Task}
+use Rattle.command_line.specs.declared.task.Task.TheVariants as tasks
 use Rattle.listings.specs.FarmLines.{farm_lines}
 use Rattle.listings.specs.FrameLines.{frame_lines}
 use Rattle.listings.specs.MapLines.{map_lines, map_opened}
@@ -32,10 +33,12 @@ pub data Work : Type 1 where
 -- the table of commands
 abbrev pub work_of : Task → Work
 work_of (tasks.Farm check width vr) =
-    Lists (frame_layout check) (farm_lines check) (new_farm width vr)
+    Lists (frame_layout (check_if check)) (farm_lines (check_if check)) (new_farm width vr)
 work_of (tasks.Map check width vr blocking) =
-    Lists (frame_layout check) (map_lines check) (map_opened width vr blocking)
-work_of (tasks.Tc check) = Lists (frame_layout check) (frame_lines check) tt
+    Lists (frame_layout (check_if check)) (map_lines (check_if check))
+    (map_opened width vr blocking)
+work_of (tasks.Tc check) =
+    Lists (frame_layout (check_if check)) (frame_lines (check_if check)) tt
 work_of (tasks.Tm size) = Lists (telemetry_layout size) (telemetry_lines size) new_extractor
 work_of tasks.Check = Lists (frame_layout On) refusal_lines tt
 work_of tasks.Packets = Lists packet_layout packet_lines none_seen

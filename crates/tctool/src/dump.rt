@@ -8,15 +8,15 @@ ghost use Rattle.listings.specs.Devices.{HasEnded};
 ghost use Rattle.listings.specs.Failures.{reads_failed_in, writes_failed_in};
 ghost use Rattle.listings.specs.Gained.{gained};
 ghost use Rattle.tctool.specs.Outcome.{outcome_if, outcome_view};
-ghost use Rattle.tctool.specs.Ranges.{IsInRange};
+ghost use Rattle.command_line.specs.Ranges.{IsInRange};
 ghost use Rattle.listings.specs.Layouts.{rest_by, IsRefused};
 ghost use Rattle.listings.specs.Listing.{fresh, text_of, is_all_good};
 ghost use Rattle.listings.specs.Writing.{BeginsToWrite, Writes};
-ghost use Rattle.tctool.specs.declared.task.Task.TheVariants as tasks;
+ghost use Rattle.command_line.specs.declared.task.Task.TheVariants as tasks;
 
 use crate::outcome::Outcome;
 use crate::simulation::simulate;
-use crate::task::{Options, Task};
+use command_line::{Options, Task};
 use cop1::Farm;
 use listings::{
     FrameCutter, FrameLength, FrameListing, Listing, ListingFault, MOST_OCTETS, MapListing,
@@ -26,7 +26,7 @@ use octets::{Splitter, Wire};
 use space_packet::Packets;
 use std::alloc::Global;
 use std::marker::Brand;
-use tc_frame::{Check, Checked, Unchecked};
+use tc_frame::{Checked, Unchecked};
 
 /// Reads the input to its end, in pieces, and writes the lines that the words ask for: of each piece
 /// before the next is read, but of a script once all of it is read.
@@ -63,9 +63,10 @@ pub fn dump<R: Source, W: Sink>(
     match options.task {
         Task::Farm { check, width, vr } => {
             let farm = Farm::new(width, vr).unwrap();
-            match check {
-                Check::On => list_file::<Checked, Farm, R, W>(alloc, reader, writer, farm),
-                Check::Off => list_file::<Unchecked, Farm, R, W>(alloc, reader, writer, farm),
+            if check {
+                list_file::<Checked, Farm, R, W>(alloc, reader, writer, farm)
+            } else {
+                list_file::<Unchecked, Farm, R, W>(alloc, reader, writer, farm)
             }
         }
         Task::Map {
@@ -75,22 +76,17 @@ pub fn dump<R: Source, W: Sink>(
             blocking,
         } => {
             let packets = MapListing::new(alloc, width, vr, blocking);
-            match check {
-                Check::On => list_file::<Checked, MapListing, R, W>(alloc, reader, writer, packets),
-                Check::Off => list_file::<Unchecked, MapListing, R, W>(
-                    alloc, reader, writer, packets,
-                ),
+            if check {
+                list_file::<Checked, MapListing, R, W>(alloc, reader, writer, packets)
+            } else {
+                list_file::<Unchecked, MapListing, R, W>(alloc, reader, writer, packets)
             }
         }
         Task::Tc { check } => {
-            let frames = FrameListing;
-            match check {
-                Check::On => list_file::<Checked, FrameListing, R, W>(
-                    alloc, reader, writer, frames,
-                ),
-                Check::Off => list_file::<Unchecked, FrameListing, R, W>(
-                    alloc, reader, writer, frames,
-                ),
+            if check {
+                list_file::<Checked, FrameListing, R, W>(alloc, reader, writer, FrameListing)
+            } else {
+                list_file::<Unchecked, FrameListing, R, W>(alloc, reader, writer, FrameListing)
             }
         }
         Task::Tm { length } => list_frames::<Brand, R, W>(alloc, reader, writer, length),

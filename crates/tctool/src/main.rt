@@ -3,18 +3,17 @@
 //! link answer.
 #![tactic(auto)]
 
-ghost use Rattle.tctool.specs.Ranges.{IsInRange};
+ghost use Rattle.command_line.specs.Ranges.{IsInRange};
 
 mod dump;
 mod ending;
 mod given;
 mod outcome;
 mod simulation;
-mod task;
-mod words;
 
 use clap::Error;
 use clap::error::ErrorKind;
+use command_line::{Options, UsageFault};
 use ending::ending;
 use given::GivenWords;
 use listings::{ListingFault, Reader, Writer};
@@ -22,7 +21,6 @@ use std::fs::File;
 use std::io;
 use std::io::Read;
 use std::process::ExitCode;
-use task::{Options, UsageFault};
 
 fn main(rt: HostRuntime) -> ExitCode {
     ExitCode::from(match GivenWords::read(&rt, rt.alloc()) {
@@ -40,7 +38,7 @@ fn status_for(rt: &HostRuntime, given: &GivenWords) -> u8 {
     let Ok(texts) = given.texts(rt.alloc()) else {
         return fails(rt, ListingFault::Memory);
     };
-    match words::options(rt.alloc(), texts.as_slice()) {
+    match command_line::options(rt.alloc(), texts.as_slice()) {
         Ok(options) if given.is_unicode() => run(rt, &options),
         Ok(options) => cannot_open(rt, options.file),
         Err(UsageFault::Words(error)) => answer(rt, &error),

@@ -1,6 +1,6 @@
 // What the tool writes of files, over devices in memory.
 
-ghost use Rattle.tctool.specs.Ranges.{IsInRange};
+ghost use Rattle.command_line.specs.Ranges.{IsInRange};
 
 mod beginnings;
 mod carrying;
@@ -9,12 +9,11 @@ mod given;
 mod map_rows;
 mod rows;
 mod scripts;
-mod usage;
 
 use crate::dump::dump;
 use crate::ending::ending;
 use crate::outcome::Outcome;
-use crate::task::{Options, Task};
+use command_line::{Options, Task};
 use devices::{Store, Supply, WriteFault};
 use listings::{ListingFault, Reader, Sink, Source, Writer};
 use rows::{
@@ -23,7 +22,6 @@ use rows::{
 use std::alloc::{AllocError, Global};
 use std::io::ErrorKind;
 use std::process::Abort;
-use tc_frame::Check;
 
 fn is_in_range(rt: &impl Abort, task: Task)
     ensures { IsInRange task }
@@ -206,7 +204,7 @@ fn stops_at(rt: &impl Abort, alloc: Global, task: Task, octets: &'static [u8], l
 fn nothing_is_read_behind_a_refused_length(rt: HostRuntime) {
     let frames = b"\x00\x01\x08\x03\x00\x30\x01\x08\x05\x00\x00\x30";
     let packets = b"\x20\x05\xc0\x00\x00\x00\xaa\x10\x05\xc0\x00\x00\x00\xaa";
-    for check in [Check::Off, Check::On] {
+    for check in [false, true] {
         let farm = Task::Farm {
             check,
             width: 254,

@@ -4,7 +4,7 @@ use super::devices::Supply;
 use super::writes_all;
 use crate::dump::dump;
 use crate::outcome::Outcome;
-use crate::task::{Options, Task};
+use command_line::{Options, Task};
 use listings::{Reader, Writer};
 use std::alloc::Global;
 use std::process::Abort;

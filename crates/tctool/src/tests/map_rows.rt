@@ -2,18 +2,17 @@
 
 use crate::dump::dump;
 use crate::outcome::Outcome;
-use crate::task::{Options, Task};
 use crate::tests::devices::Supply;
 use crate::tests::rows::{Row, faulty, good};
 use crate::tests::{
     dumps_again, fails_with_each_call, is_in_range, is_written_in_pieces, writes_all,
 };
+use command_line::{Options, Task};
 use listings::{Reader, Writer};
 use std::alloc::{AllocError, Global};
 use std::process::Abort;
-use tc_frame::Check;
 
-fn map(check: Check, width: u8, vr: u8, blocking: bool) -> Task {
+fn map(check: bool, width: u8, vr: u8, blocking: bool) -> Task {
     Task::Map {
         check,
         width,
@@ -28,7 +27,7 @@ fn map(check: Check, width: u8, vr: u8, blocking: bool) -> Task {
 fn map_rows() -> [Row; 8] {
     [
         good(
-            map(Check::Off, 254, 0, false),
+            map(false, 254, 0, false),
             b"\x00\x01\x08\x08\x00\x44\x10\x05\xc0\
               \x00\x01\x08\x08\x01\x04\x00\x00\x00\
               \x00\x01\x08\x06\x02\x84\xaa\
@@ -36,25 +35,25 @@ fn map_rows() -> [Row; 8] {
             "packet 4 1005C0000000AA\n",
         ),
         good(
-            map(Check::Off, 254, 0, false),
+            map(false, 254, 0, false),
             b"\x00\x01\x08\x08\x00\x44\x10\x05\xc0\
               \x00\x01\x08\x06\x02\x84\xaa\
               \x00\x01\x08\x06\x02\x84\xaa",
             "",
         ),
         good(
-            map(Check::Off, 254, 0, true),
+            map(false, 254, 0, true),
             b"\x00\x01\x08\x13\x00\xc4\x10\x05\xc0\x00\x00\x00\xaa\x10\x05\xc0\x01\x00\x00\xab",
             "packet 4 1005C0000000AA\n\
              packet 4 1005C0010000AB\n",
         ),
         good(
-            map(Check::Off, 254, 0, false),
+            map(false, 254, 0, false),
             b"\x00\x01\x08\x13\x00\xc4\x10\x05\xc0\x00\x00\x00\xaa\x10\x05\xc0\x01\x00\x00\xab",
             "1 dropped NotAPacket\n",
         ),
         good(
-            map(Check::On, 254, 0, false),
+            map(true, 254, 0, false),
             b"\x00\x01\x08\x0a\x00\x44\x10\x05\xc0\x8b\xb9\
               \x00\x01\x08\x0a\x01\x04\x00\x00\x00\x2a\xae\
               \x00\x01\x08\x08\x02\x84\xaa\x9e\x1c\
@@ -62,20 +61,20 @@ fn map_rows() -> [Row; 8] {
             "packet 4 1005C0000000AA\n",
         ),
         good(
-            map(Check::On, 254, 0, false),
+            map(true, 254, 0, false),
             b"\x00\x01\x08\x0a\x00\x44\x10\x05\xc0\x8b\xb9\
               \x00\x01\x08\x08\x02\x84\xaa\x9e\x1c\
               \x00\x01\x08\x08\x02\x84\xaa\x9e\x1c",
             "",
         ),
         good(
-            map(Check::On, 254, 0, true),
+            map(true, 254, 0, true),
             b"\x00\x01\x08\x15\x00\xc4\x10\x05\xc0\x00\x00\x00\xaa\x10\x05\xc0\x01\x00\x00\xab\xa2\xb0",
             "packet 4 1005C0000000AA\n\
              packet 4 1005C0010000AB\n",
         ),
         good(
-            map(Check::On, 254, 0, false),
+            map(true, 254, 0, false),
             b"\x00\x01\x08\x15\x00\xc4\x10\x05\xc0\x00\x00\x00\xaa\x10\x05\xc0\x01\x00\x00\xab\xa2\xb0",
             "1 dropped NotAPacket\n",
         ),
@@ -87,7 +86,7 @@ fn map_rows() -> [Row; 8] {
 fn further_map_rows() -> [Row; 6] {
     [
         good(
-            map(Check::Off, 254, 0, true),
+            map(false, 254, 0, true),
             b"\x20\x01\x08\x0c\x00\xc4\x10\x05\xc0\x00\x00\x00\xaa\
               \x20\x01\x08\x0c\x00\x44\x10\x05\xc0\x00\x00\x00\xaa\
               \x20\x01\x08\x0c\x00\x04\x10\x05\xc0\x00\x00\x00\xaa\
@@ -104,7 +103,7 @@ fn further_map_rows() -> [Row; 6] {
              bypass 63 07FFC000000055\n",
         ),
         good(
-            map(Check::Off, 254, 0, false),
+            map(false, 254, 0, false),
             b"\x00\x01\x08\x08\x00\x44\x10\x05\xc0\
               \x20\x01\x08\x0c\x00\xc4\x10\x05\xc0\x01\x00\x00\xab\
               \x20\x01\x08\x09\x00\x84\x00\x00\x00\xab\
@@ -114,7 +113,7 @@ fn further_map_rows() -> [Row; 6] {
              packet 4 1005C0000000AA\n",
         ),
         good(
-            map(Check::Off, 254, 0, false),
+            map(false, 254, 0, false),
             b"\x00\x01\x08\x08\x00\x44\x10\x05\xc0\
               \x00\x01\x08\x09\x01\x45\x10\x05\xc0\x01\
               \x00\x01\x08\x09\x02\x84\x00\x00\x00\xaa\
@@ -125,7 +124,7 @@ fn further_map_rows() -> [Row; 6] {
              packet 5 1005C0010000AB\n",
         ),
         good(
-            map(Check::Off, 254, 254, false),
+            map(false, 254, 254, false),
             b"\x00\x01\x08\x08\xfe\x44\x10\x05\xc0\
               \x00\x01\x08\x0c\xff\xc4\x10\x05\xc0\x00\x00\x00\xaa\
               \x00\x01\x08\x06\x00\x84\xaa\
@@ -139,7 +138,7 @@ fn further_map_rows() -> [Row; 6] {
              6 dropped NotAPacket\n",
         ),
         good(
-            map(Check::Off, 2, 0, false),
+            map(false, 2, 0, false),
             b"\x00\x01\x08\x0c\x01\xc4\x10\x05\xc0\x01\x00\x00\xab\
               \x00\x01\x08\x0c\x00\xc4\x10\x05\xc0\x00\x00\x00\xaa\
               \x20\x01\x08\x0c\x00\xc5\x10\x05\xc0\x02\x00\x00\xac\
@@ -151,14 +150,14 @@ fn further_map_rows() -> [Row; 6] {
              packet 4 1005C0000000AA\n\
              packet 0 1005C0010000AB\n",
         ),
-        good(map(Check::On, 254, 0, false), b"", ""),
+        good(map(true, 254, 0, false), b"", ""),
     ]
 }
 
 fn faulty_map_rows() -> [Row; 5] {
     [
         faulty(
-            map(Check::Off, 254, 0, false),
+            map(false, 254, 0, false),
             b"\x40\x01\x08\x0c\x00\xc4\x10\x05\xc0\x00\x00\x00\xaa\
               \x00\x01\x08\x0c\x00\xc4\x10\x05\xc0\x00\x00\x00\xaa\
               \x00\x01\x08\x06\x01\x84\xaa",
@@ -167,28 +166,28 @@ fn faulty_map_rows() -> [Row; 5] {
              3 dropped NoBeginning\n",
         ),
         faulty(
-            map(Check::Off, 254, 0, false),
+            map(false, 254, 0, false),
             b"\x00\x01\x08\x0c\x00\xc4\x10\x05\xc0\x00\x00\x00\xaa\
               \x30",
             "packet 4 1005C0000000AA\n\
              2 invalid 1 Short\n",
         ),
         faulty(
-            map(Check::Off, 254, 0, false),
+            map(false, 254, 0, false),
             b"\x20\x01\x08\x0c\x00\x44\x10\x05\xc0\x00\x00\x00\xaa\
               \x20\x01\x08\x0c\x00\xc4\x10\x05\xc0\x00\x00\x00",
             "1 dropped Bypass\n\
              2 invalid 1 Short\n",
         ),
         faulty(
-            map(Check::On, 254, 0, false),
+            map(true, 254, 0, false),
             b"\x00\x01\x08\x0a\x00\x44\x10\x05\xc0\x8b\xb9\
               \x00\x01\x08\x0a\x01\x04\x00\x00\x00\x2a\xaf\
               \x00\x01\x08\x08\x02\x84\xaa\x9e\x1c",
             "2 invalid 6 Check\n",
         ),
         faulty(
-            map(Check::Off, 254, 0, false),
+            map(false, 254, 0, false),
             b"\x00\x01\x08\x03\x00\
               \x00\x01\x08\x0c\x00\xc4\x10\x05\xc0\x00\x00\x00\xaa",
             "1 invalid 5 Length\n",
@@ -230,7 +229,7 @@ struct Told {
 }
 
 fn is_told(rt: &impl Abort, alloc: Global, octets: &[u8], text: &str, outcome: Outcome) {
-    let task = map(Check::Off, 254, 0, false);
+    let task = map(false, 254, 0, false);
     is_in_range(rt, task);
     let mut reader = Reader::new(Supply::new(octets, 4096, usize::MAX));
     let mut store = writes_all(alloc, 4096);

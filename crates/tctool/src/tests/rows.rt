@@ -1,8 +1,7 @@
 // Files, and what the tool writes of them.
 
 use crate::outcome::Outcome;
-use crate::task::Task;
-use tc_frame::Check;
+use command_line::Task;
 
 /// What is written of a file.
 #[derive(Clone, Copy, Drop)]
@@ -13,7 +12,7 @@ pub struct Row {
     pub outcome: Outcome,
 }
 
-fn farm(check: Check, width: u8, vr: u8) -> Task {
+fn farm(check: bool, width: u8, vr: u8) -> Task {
     Task::Farm { check, width, vr }
 }
 
@@ -36,7 +35,7 @@ pub fn faulty(task: Task, octets: &'static [u8], text: &'static str) -> Row {
 pub fn good_farm_rows() -> [Row; 4] {
     [
         good(
-            farm(Check::Off, 254, 255),
+            farm(false, 254, 255),
             b"\x00\x01\x08\x0c\xff\xc4\x10\x05\xc0\x00\x00\x00\xaa\
               \x00\x01\x08\x0c\xff\xc4\x10\x05\xc0\x00\x00\x00\xaa\
               \x30\x01\x08\x05\x00\x00",
@@ -45,7 +44,7 @@ pub fn good_farm_rows() -> [Row; 4] {
              3 BC unlock Open vr=0 l=0 w=0 t=0 b=1\n",
         ),
         good(
-            farm(Check::Off, 10, 0),
+            farm(false, 10, 0),
             b"\x00\x01\x08\x0c\x04\xc4\x10\x05\xc0\x00\x00\x00\xaa\
               \x00\x01\x08\x0c\xfb\xc4\x10\x05\xc0\x00\x00\x00\xaa\
               \x00\x01\x08\x0c\x05\xc4\x10\x05\xc0\x00\x00\x00\xaa\
@@ -62,43 +61,43 @@ pub fn good_farm_rows() -> [Row; 4] {
              7 AD 0 accepted Open vr=1 l=0 w=0 t=0 b=2\n",
         ),
         good(
-            farm(Check::Off, 254, 0),
+            farm(false, 254, 0),
             b"\x20\x01\x08\x0c\x00\xc4\x10\x05\xc0\x00\x00\x00\xaa",
             "1 BD Open vr=0 l=0 w=0 t=0 b=1\n",
         ),
-        good(farm(Check::On, 254, 0), b"", ""),
+        good(farm(true, 254, 0), b"", ""),
     ]
 }
 
 pub fn faulty_farm_rows() -> [Row; 6] {
     [
-        faulty(farm(Check::Off, 254, 0), b"\x30", "1 invalid 1 Short\n"),
+        faulty(farm(false, 254, 0), b"\x30", "1 invalid 1 Short\n"),
         faulty(
-            farm(Check::Off, 254, 0),
+            farm(false, 254, 0),
             b"\x30\x01\x08\x05\x00\x00\x30\x01\x08\x05\x00",
             "1 BC unlock Open vr=0 l=0 w=0 t=0 b=1\n\
              2 invalid 1 Short\n",
         ),
         faulty(
-            farm(Check::Off, 254, 0),
+            farm(false, 254, 0),
             b"\x30\x01\x08\x05\x01\x00\x30\x01\x08\x05\x00\x00",
             "1 invalid 7 BypassNumber\n\
              2 BC unlock Open vr=0 l=0 w=0 t=0 b=1\n",
         ),
         faulty(
-            farm(Check::On, 254, 0),
+            farm(true, 254, 0),
             b"\x30\x01\x08\x05\x00\x00\x30\x01\x08\x05\x00\x00",
             "1 invalid 5 Length\n",
         ),
         faulty(
-            farm(Check::On, 254, 0),
+            farm(true, 254, 0),
             b"\x30\x01\x08\x07\x00\x00\x8b\x9e\
               \x30\x01\x08\x07\x00\x00\x8b\x9f",
             "1 BC unlock Open vr=0 l=0 w=0 t=0 b=1\n\
              2 invalid 6 Check\n",
         ),
         faulty(
-            farm(Check::Off, 254, 0),
+            farm(false, 254, 0),
             b"\x00\x01\x08\x03\x00\x30\x01\x08\x05\x00\x00",
             "1 invalid 5 Length\n",
         ),
@@ -109,7 +108,7 @@ pub fn faulty_farm_rows() -> [Row; 6] {
 pub fn tc_rows() -> [Row; 8] {
     [
         good(
-            Task::Tc { check: Check::Off },
+            Task::Tc { check: false },
             b"\x00\x01\x08\x0c\x03\xc4\x10\x05\xc0\x00\x00\x00\xaa\
               \x20\x01\x08\x0c\x00\xc4\x10\x05\xc0\x00\x00\x00\xaa\
               \x30\x01\x08\x05\x00\x00\
@@ -120,29 +119,25 @@ pub fn tc_rows() -> [Row; 8] {
              4 BC scid=1 vcid=2 set 7\n",
         ),
         good(
-            Task::Tc { check: Check::On },
+            Task::Tc { check: true },
             b"\x30\x01\x08\x07\x00\x00\x8b\x9e",
             "1 BC scid=1 vcid=2 unlock\n",
         ),
-        good(Task::Tc { check: Check::Off }, b"", ""),
-        good(Task::Tc { check: Check::On }, b"", ""),
+        good(Task::Tc { check: false }, b"", ""),
+        good(Task::Tc { check: true }, b"", ""),
+        faulty(Task::Tc { check: false }, b"\x30", "1 invalid 1 Short\n"),
         faulty(
-            Task::Tc { check: Check::Off },
-            b"\x30",
-            "1 invalid 1 Short\n",
-        ),
-        faulty(
-            Task::Tc { check: Check::Off },
+            Task::Tc { check: false },
             b"\x00\x01\x08\x03\x00",
             "1 invalid 5 Length\n",
         ),
         faulty(
-            Task::Tc { check: Check::On },
+            Task::Tc { check: true },
             b"\x30\x01\x08\x05\x00\x00",
             "1 invalid 5 Length\n",
         ),
         faulty(
-            Task::Tc { check: Check::Off },
+            Task::Tc { check: false },
             b"\x40\x01\x08\x05\x00\x00\x30\x01\x08\x05\x00\x00",
             "1 invalid 2 Version\n\
              2 BC scid=1 vcid=2 unlock\n",
@@ -204,9 +199,10 @@ pub fn packets_rows() -> [Row; 5] {
     ]
 }
 
-/// Frames that carry packets of 7 octets: with the second lost, whole, with one of only idle data in the second's place,
-/// and with idle packets after the one packet. Then a packet of 24 octets over three frames, the last of another channel,
-/// a frame of the least length, no octets, and octets that are refused, at last between other frames.
+/// Frames that carry packets of 7 octets: with the second lost, whole, with one of only idle data in the
+/// second's place, and with idle packets after the one packet. Then a packet of 24 octets over three frames,
+/// the last of another channel, a frame of the least length, no octets, and octets that are refused, at last
+/// between other frames.
 pub fn tm_rows() -> [Row; 11] {
     [
         good(

@@ -3,7 +3,7 @@
 use super::rows::Row;
 use super::{dumped, dumps_again, fails_with_each_call, is_written, is_written_in_pieces};
 use crate::outcome::Outcome;
-use crate::task::Task;
+use command_line::Task;
 use std::alloc::Global;
 use std::process::Abort;
 

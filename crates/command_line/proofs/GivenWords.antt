@@ -1,0 +1,408 @@
+-- What the parser of words says of a value that it hands out: the value passed the parser of its argument.
+use Rattle.std.proofs.Common.{codes, zero, suc, ◌≡◌, ◌∙◌, ◌++◌, subst, ◌<◌, ◌≤◌, ap, ◌||◌, ◌&&◌, not, eqb, ◌^◌, ℕ, Bool}
+use Rattle.std.proofs.Common.{true, false, List, [], ◌∷◌, length, is_some, Option, Some, None, refl, sym, inl, inr}
+use Rattle.std.proofs.Common.{arith}
+use Rattle.std.specs.List.{All, slice_index_or}
+use Rattle.std.specs.Prelude.{slice_index}
+use Rattle.std.specs.Str.{bytes_eq}
+use Rattle.std.specs.Prelude.{option_map, option_and_then, slice_get, pos, Result, IfSome}
+use Rattle.std.specs.Borrow.{Bor}
+use Rattle.std.specs.Str.Parse.{ParsesUnsigned}
+use Rattle.std.proofs.lemmas.List.Elements.{All-get_or, All-nil}
+use Rattle.std.proofs.lemmas.List.{append-nil, append_assoc}
+use Rattle.std.proofs.lemmas.Bool.{eq-eqb}
+use Rattle.std.proofs.lemmas.Slice.Eq.{bytes_eq-Decides}
+use Rattle.clap.specs.Facts.{args_of, Entry, EntryPasses, PassesArg, HasReading, parser_of, parser_of_value}
+use Rattle.clap.specs.Built.{AddsArg, AddsInTurn, HasDistinctIds, FitsChain, TakesValue, IsPlain, IsPlainArg}
+use Rattle.clap.specs.Built.{IsParsedFrom, IsAuto, SameRules, KeepsList}
+use Rattle.clap.specs.Matches.{matched_of, first_value, one_text, found_of, ReadsOne}
+use Rattle.clap.specs.Values.{Accepts, read_as, reading_of}
+use Rattle.clap.specs.declared.builder.value_parser.Reading.{Reading}
+use Rattle.clap.specs.declared.builder.arg.Arg.{Arg}
+use Rattle.clap.specs.declared.builder.command.Command.{Command}
+use Rattle.clap.specs.declared.builder.command.Command.TheViews.{out-Command}
+use Rattle.clap.specs.declared.builder.value_parser.ValueParser.{ValueParser}
+use Rattle.clap.specs.declared.builder.value_parser.ValueParser.TheVariants as vp
+use Rattle.clap.specs.declared.parser.matches.ArgMatches.{ArgMatches}
+use Rattle.clap.specs.declared.parser.matches.MatchedArg.{MatchedArg}
+use Rattle.clap.proofs.CallerLemmas.{added_plain, entry_by_id, required_in_chain, same_rules_by_id, some_of_text}
+use Rattle.clap.proofs.CallerReads.{signed_reads}
+use Rattle.command_line.specs.Commands.{IsBare}
+
+-- a command that these arguments made, one after another
+pub record IsMadeOf (xs : List Arg) (cmd : Command) : Type 0 where
+  pub start : Command
+  pub chain : AddsInTurn AddsArg start xs cmd
+  pub bare : IsBare start
+  pub fit : All FitsChain xs
+  pub distinct : HasDistinctIds xs
+
+-- what a command keeps of the arguments that were added
+record Kept (before : List Arg) (xs : List Arg) (cmd : Command) : Type 0 where
+  pub added : List Arg
+  pub args : args_of cmd ≡ before ++ added
+  pub rules : KeepsList xs added
+  pub plain : IsPlain cmd
+  pub globals : (out-Command cmd).has_globals ≡ false
+
+all_rest : {X : Type 0} (P : X → Type 0) (x : X) (xs : List X) → All P (x ∷ xs) → All P xs
+all_rest P x xs h = λ k d lt. h (suc k) d (omega arith)
+
+first_kept : (x y : Arg) (xs ys : List Arg) → SameRules x y → KeepsList xs ys → KeepsList (x ∷ xs) (y ∷ ys)
+first_kept x y xs ys first rest = (ap suc rest.0, at)
+  where
+    at : (k : ℕ) (d e : Arg) → k < length (x ∷ xs)
+        → SameRules (slice_index_or (x ∷ xs) k d) (slice_index_or (y ∷ ys) k e)
+    at zero d e lt = first
+    at (suc n) d e lt = rest.1 n d e (omega arith)
+
+kept : (c cmd : Command) (xs : List Arg) → AddsInTurn AddsArg c xs cmd → All FitsChain xs → IsPlain c
+    → (out-Command c).has_globals ≡ false → Kept (args_of c) xs cmd
+kept c cmd [] chain fit plain globals = record {
+  added = [];
+  args = ap args_of (sym chain) ∙ sym (append-nil (args_of c));
+  rules = (refl, (λ k d e lt. absurd (omega arith)));
+  plain = subst IsPlain chain plain;
+  globals = ap (λ (x : Command). (out-Command x).has_globals) (sym chain) ∙ globals;
+}
+kept c cmd (x ∷ xs) chain fit plain globals =
+    let added = chain.1 in
+    let fits = fit 0 x (omega arith) in
+    let globals2 = added.globals ∙ (ap (λ (b : Bool). b || x.global) globals ∙ ap (λ (b : Bool). false || b) fits.1) in
+    let more = kept chain.0 cmd xs chain.2 (all_rest FitsChain x xs fit) (added_plain c chain.0 x added plain fits.0)
+    globals2 in
+    record {
+      added = added.arg ∷ more.added;
+      args = more.args
+          ∙ (ap (λ (l : List Arg). l ++ more.added) added.args ∙ append_assoc (args_of c) (added.arg ∷ []) more.added);
+      rules = first_kept x added.arg xs more.added added.rules more.rules;
+      plain = more.plain;
+      globals = more.globals;
+    }
+
+-- a text that an argument gives, as its parser reads it, and that the parser accepts
+record IsAccepted (a : Arg) (q : ValueParser) (text : List ℕ) : Type 0 where
+  pub given : List ℕ
+  pub read : text ≡ read_as (reading_of q) given
+  pub accepted : Accepts a.ignore_case q given
+
+accepts_of : (a y : Arg) (q : ValueParser) (t : List ℕ) → SameRules a y → a.value_parser ≡ Some q
+    → Accepts y.ignore_case (parser_of y) t → Accepts a.ignore_case q t
+accepts_of a y q t s parser h =
+    let is_q : parser_of y ≡ q = ap parser_of_value (s.parser q parser) in
+    let as_q : Accepts y.ignore_case q t = subst (λ (w : ValueParser). Accepts y.ignore_case w t) is_q h in
+    subst (λ (b : Bool). Accepts b q t) s.ignore_case as_q
+
+-- the first value of an entry whose values all pass
+first_passes : (P : Bor (List ℕ) → Type 0) (how : Reading) (vs : List (Bor (List ℕ))) (t : List ℕ) → All P vs
+    → option_map (λ s. read_as how s.now) (slice_get vs 0) ≡ Some t → (v : Bor (List ℕ)) × (t ≡ read_as how v.now) × P v
+first_passes P how [] t h e = absurd cc
+first_passes P how (v ∷ vs) t h e = (v, cc, All-get_or P (v ∷ vs) 0 v (omega arith) h)
+
+module _ (cmd : Command) (m : ArgMatches) (p : IsParsedFrom cmd m) (plain : IsPlain cmd)
+    (globals : (out-Command cmd).has_globals ≡ false)
+    (k : ℕ) (d : Arg) (lt : k < length (args_of cmd))
+    (unique : (j : ℕ) (e : Arg) → j < length (args_of cmd)
+    → bytes_eq (slice_index_or (args_of cmd) j e).id.now (slice_index_or (args_of cmd) k d).id.now ≡ true → j ≡ k)
+    (named : (slice_index_or (args_of cmd) k d).id.now ≡ [] → ⊥) (own : IsAuto (slice_index_or (args_of cmd) k d) → ⊥)
+    (q : ValueParser) (parser : (slice_index_or (args_of cmd) k d).value_parser ≡ Some q) where
+  abbrev arg : Arg
+  arg = slice_index_or (args_of cmd) k d
+
+  passes : (w : List ℕ) (v : Bor (List ℕ)) → w ≡ arg.id.now → PassesArg p.built w v.now
+      → Accepts arg.ignore_case q v.now
+  passes w v key pass =
+      let same : bytes_eq pass.1.id.now arg.id.now ≡ true =
+      subst (λ (u : List ℕ). bytes_eq pass.1.id.now u ≡ true) key pass.4.0 in
+      accepts_of arg pass.1 q v.now (same_rules_by_id cmd m p k d lt unique own pass.0 pass.1 pass.2 pass.3 same) parser
+      pass.4.1
+
+  reads : (w : List ℕ) (r : Reading) → w ≡ arg.id.now → HasReading p.built w r → r ≡ reading_of q
+  reads w r key any =
+      let same : bytes_eq any.1.id.now arg.id.now ≡ true =
+      subst (λ (u : List ℕ). bytes_eq any.1.id.now u ≡ true) key any.4.0 in
+      let s = same_rules_by_id cmd m p k d lt unique own any.0 any.1 any.2 any.3 same in
+      sym any.4.1 ∙ ap (λ (o : Option ValueParser). reading_of (parser_of_value o)) (s.parser q parser)
+
+  entry_accepted : (x : MatchedArg) (t : List ℕ) (e : Entry) → e.1 ≡ x → e.0.now ≡ arg.id.now → EntryPasses p.built e
+      → option_map (λ s. read_as x.reading s.now) (slice_get x.vals.items 0) ≡ Some t → IsAccepted arg q t
+  entry_accepted x t e is key pass first =
+      let no_group : e.1.is_group ≡ true → ⊥ = λ g. elim (pass.3 g) [
+        | inl empty ↦ named (sym key ∙ empty)
+        | inr some ↦ let bad : 0 < 0 =
+            subst (λ (l : List _). 0 < length l) (p.from.plain plain).1 some in absurd (omega arith)
+      ] in
+      let all : All (λ v. PassesArg p.built e.0.now v.now) e.1.vals.items =
+      elim pass.0 [ inl g ↦ absurd (no_group g) | inr vals ↦ vals ] in
+      let how : e.1.reading ≡ reading_of q =
+      elim pass.4 [ inl g ↦ absurd (no_group g) | inr h ↦ reads e.0.now e.1.reading key h ] in
+      let first2 : option_map (λ s. read_as e.1.reading s.now) (slice_get e.1.vals.items 0) ≡ Some t =
+      ap (λ (y : MatchedArg). option_map (λ s. read_as y.reading s.now) (slice_get y.vals.items 0)) is ∙ first in
+      let v = first_passes (λ v. PassesArg p.built e.0.now v.now) e.1.reading e.1.vals.items t all first2 in
+      record {
+        given = v.0.now;
+        read = v.1 ∙ ap (λ (r : Reading). read_as r v.0.now) how;
+        accepted = passes e.0.now v.0 key v.2;
+      }
+
+  accepted_of : (o : Option MatchedArg) (t : List ℕ) → matched_of (found_of m) arg.id.now ≡ o
+      → option_and_then (λ a. option_map (λ s. read_as a.reading s.now) (slice_get a.vals.items 0)) o ≡ Some t
+      → IsAccepted arg q t
+  accepted_of None t found one = absurd cc
+  accepted_of (Some x) t found one =
+      let parsed = p.parsed (p.from.globals ∙ globals) in
+      let got = entry_by_id (EntryPasses p.built) (found_of m).entries.items arg.id.now x parsed.values found in
+      entry_accepted x t got.0 got.1 ((bytes_eq-Decides got.0.0.now arg.id.now).0 got.2) got.3 one
+
+  accepted_at : (t : List ℕ) → one_text (found_of m) arg.id.now ≡ Some t → IsAccepted arg q t
+  accepted_at t one = accepted_of (matched_of (found_of m) arg.id.now) t refl one
+
+-- a first value is read as some text
+text_of_value : (o : Option MatchedArg)
+    → is_some (option_and_then (λ a. option_map (λ s. s.now) (slice_get a.vals.items 0)) o) ≡ true
+    → (t : List ℕ)
+    × (option_and_then (λ a. option_map (λ s. read_as a.reading s.now) (slice_get a.vals.items 0)) o ≡ Some t)
+text_of_value None h = cc
+text_of_value (Some x) h = go (slice_get x.vals.items 0) h
+  where
+    go : (v : Option (Bor (List ℕ))) → is_some (option_map (λ s. s.now) v) ≡ true
+        → (t : List ℕ) × (option_map (λ s. read_as x.reading s.now) v ≡ Some t)
+    go None some = cc
+    go (Some v) some = (read_as x.reading v.now, refl)
+
+-- ---- a command that is made of arguments
+
+module _ (xs : List Arg) (cmd : Command) (made : IsMadeOf xs cmd) (m : ArgMatches) (p : IsParsedFrom cmd m) (k : ℕ)
+    (d : Arg) (lt : k < length xs) where
+  has : Kept (args_of made.start) xs cmd
+  has = kept made.start cmd xs made.chain made.fit
+      (subst (All IsPlainArg) (sym made.bare.0) (All-nil IsPlainArg), made.bare.1) made.bare.2
+
+  list : args_of cmd ≡ has.added
+  list = has.args ∙ ap (λ (l : List Arg). l ++ has.added) made.bare.0
+
+  abbrev pub given : Arg
+  given = slice_index_or xs k d
+
+  abbrev pub kept_arg : Arg
+  kept_arg = slice_index_or (args_of cmd) k d
+
+  in_cmd : k < length (args_of cmd)
+  in_cmd = let e : length (args_of cmd) ≡ length xs = ap length list ∙ has.rules.0 in omega arith
+
+  same : SameRules given kept_arg
+  same = subst (λ (l : List Arg). SameRules (slice_index_or xs k d) (slice_index_or l k d)) (sym list)
+      (has.rules.1 k d d lt)
+
+  only_one : (j : ℕ) (e : Arg) → j < length (args_of cmd)
+      → bytes_eq (slice_index_or (args_of cmd) j e).id.now kept_arg.id.now ≡ true → j ≡ k
+  only_one j e low eq =
+      let there : j < length xs =
+      (let l : length (args_of cmd) ≡ length xs = ap length list ∙ has.rules.0 in omega arith) in
+      let other : SameRules (slice_index_or xs j e) (slice_index_or (args_of cmd) j e) =
+      subst (λ (l : List Arg). SameRules (slice_index_or xs j e) (slice_index_or l j e)) (sym list)
+      (has.rules.1 j e e there) in
+      made.distinct j k d e there lt (subst (λ (u : List ℕ). bytes_eq (slice_index_or xs j e).id.now u ≡ true)
+      (ap (λ (a : Bor (List ℕ)). a.now) same.id)
+      (subst (λ (u : List ℕ). bytes_eq u kept_arg.id.now ≡ true) (ap (λ (a : Bor (List ℕ)). a.now) other.id) eq))
+
+  -- a text that the argument gives is one that its parser accepts
+  pub gives : (q : ValueParser) → given.value_parser ≡ Some q → (t : List ℕ)
+      → one_text (found_of m) given.id.now ≡ Some t
+      → (u : List ℕ) × (t ≡ read_as (reading_of q) u) × Accepts kept_arg.ignore_case q u
+  gives q parser t one =
+      let fit = made.fit k d lt in
+      let same_now : kept_arg.id.now ≡ given.id.now = ap (λ (a : Bor (List ℕ)). a.now) same.id in
+      let a = accepted_at cmd m p has.plain has.globals k d in_cmd only_one
+      (λ e. fit.2 (sym same_now ∙ e))
+      (λ auto. fit.3 (elim auto [ inl h ↦ inl (sym same_now ∙ h) | inr h ↦ inr (sym same_now ∙ h) ]))
+      q (same.parser q parser) t (subst (λ (u : List ℕ). one_text (found_of m) u ≡ Some t) (sym same_now) one) in
+      (a.given, a.read, a.accepted)
+
+  -- a required argument gives a value
+  value_given : TakesValue given → is_some (first_value (found_of m) given.id.now) ≡ true
+  value_given takes =
+      required_in_chain made.start cmd xs k d m made.chain made.bare.0 made.bare.1 made.bare.2 made.bare.3 made.fit
+      made.distinct lt takes p
+
+  -- and so the text of that value is handed out
+  pub text_given : TakesValue given → (id : List ℕ) → given.id.now ≡ id → (text : Option (Bor (List ℕ)))
+      → option_map (λ s. s.now) text ≡ first_value (found_of m) id → is_some text ≡ true
+  text_given takes id is text shown =
+      some_of_text _ text _ shown (ap (λ (t : List ℕ). is_some (first_value (found_of m) t)) (sym is)
+      ∙ value_given takes)
+
+  -- the number of a text that the argument gives is in the range of its parser
+  number_read : (E : Type 0) (G : List ℕ → Result ℕ E → Type 0) (bits low high : ℕ) (t : List ℕ) (r : Option ℕ)
+      → given.value_parser ≡ Some (vp.Signed (pos low) (pos high))
+      → one_text (found_of m) given.id.now ≡ Some t → ReadsOne G t r
+      → ((u : List ℕ) (x : Result ℕ E) → G u x → ParsesUnsigned bits 10 u x) → high < 2 ^ bits
+      → (n : ℕ) × (r ≡ Some n) × (low ≤ n) × (n ≤ high)
+  number_read E G bits low high t r parser one reads only fits =
+      let g = gives (vp.Signed (pos low) (pos high)) parser t one in
+      signed_reads E G bits low high g.0 r (subst (λ (w : List ℕ). ReadsOne G w r) g.1 reads) only fits g.2
+
+  -- a required argument gives a number in the range of its parser
+  pub required_number : (E : Type 0) (G : List ℕ → Result ℕ E → Type 0) (bits low high : ℕ) (r : Option ℕ)
+      → given.value_parser ≡ Some (vp.Signed (pos low) (pos high)) → TakesValue given
+      → ((t : List ℕ) → one_text (found_of m) given.id.now ≡ Some t → ReadsOne G t r)
+      → ((u : List ℕ) (x : Result ℕ E) → G u x → ParsesUnsigned bits 10 u x) → high < 2 ^ bits
+      → (n : ℕ) × (r ≡ Some n) × (low ≤ n) × (n ≤ high)
+  required_number E G bits low high r parser takes some only fits =
+      let t = text_of_value (matched_of (found_of m) given.id.now) (value_given takes) in
+      number_read E G bits low high t.0 r parser t.1 (some t.0 t.1) only fits
+
+  -- a number that the argument gives is in the range of its parser
+  pub number_given : (E : Type 0) (G : List ℕ → Result ℕ E → Type 0) (bits low high : ℕ) (r : Option ℕ)
+      → given.value_parser ≡ Some (vp.Signed (pos low) (pos high))
+      → (one_text (found_of m) given.id.now ≡ None → r ≡ None)
+      → ((t : List ℕ) → one_text (found_of m) given.id.now ≡ Some t → ReadsOne G t r)
+      → ((u : List ℕ) (x : Result ℕ E) → G u x → ParsesUnsigned bits 10 u x) → high < 2 ^ bits
+      → IfSome r (λ n. (low ≤ n) × (n ≤ high))
+  number_given E G bits low high r parser none some only fits = go (one_text (found_of m) given.id.now) refl
+    where
+      go : (o : Option (List ℕ)) → one_text (found_of m) given.id.now ≡ o → IfSome r (λ n. (low ≤ n) × (n ≤ high))
+      go None e = subst (λ (x : Option ℕ). IfSome x (λ n. (low ≤ n) × (n ≤ high))) (sym (none e)) tt
+      go (Some t) e =
+          let n = number_read E G bits low high t r parser e (some t e) only fits in
+          subst (λ (x : Option ℕ). IfSome x (λ n. (low ≤ n) × (n ≤ high))) (sym n.1) (n.2, n.3)
+
+-- ---- a command of arguments that have names of their own
+
+-- an argument that can stand in a chain, whose name begins with this letter
+pub record IsNamed (a : Arg) (letter : ℕ) : Type 0 where
+  pub plain : IsPlainArg a
+  pub is_local : a.global ≡ false
+  pub begins : slice_index a.id.now 0 ≡ letter
+  pub is_own : IsAuto a → ⊥
+
+fits : (a : Arg) (letter : ℕ) → IsNamed a letter → 0 < letter → FitsChain a
+fits a letter h some = (
+  h.plain,
+  h.is_local,
+  (λ e. let bad : 0 ≡ letter =
+      ap (λ (l : List ℕ). slice_index l 0) (sym e) ∙ h.begins in absurd (omega arith)),
+  h.is_own,
+)
+
+same_letter : (a b : Arg) (x y : ℕ) → IsNamed a x → IsNamed b y → bytes_eq a.id.now b.id.now ≡ true → x ≡ y
+same_letter a b x y p q e =
+    sym p.begins ∙ ap (λ (l : List ℕ). slice_index l 0) ((bytes_eq-Decides a.id.now b.id.now).0 e) ∙ q.begins
+
+-- arguments by the letters that their names begin with
+abbrev pub AreNamed : List Arg → List ℕ → Type 0
+AreNamed [] [] = Unit {0}
+AreNamed [] (w ∷ ws) = ⊥
+AreNamed (a ∷ xs) [] = ⊥
+AreNamed (a ∷ xs) (w ∷ ws) = IsNamed a w × AreNamed xs ws
+
+abbrev is_none_of : ℕ → List ℕ → Bool
+is_none_of w [] = true
+is_none_of w (x ∷ ws) = not (eqb w x) && is_none_of w ws
+
+-- letters of which no two are the same
+abbrev pub are_letters : List ℕ → Bool
+are_letters [] = true
+are_letters (w ∷ ws) = not (eqb w 0) && (is_none_of w ws && are_letters ws)
+
+both : (a b : Bool) → a && b ≡ true → (a ≡ true) × (b ≡ true)
+both true b h = (refl, h)
+both false b h = absurd cc
+
+apart : (w x : ℕ) → not (eqb w x) ≡ true → w ≡ x → ⊥
+apart w x h e = let bad : not true ≡ true = subst (λ (b : Bool). not b ≡ true) (eq-eqb w x e) h in absurd cc
+
+some_letter : (w : ℕ) → not (eqb w 0) ≡ true → 0 < w
+some_letter zero h = absurd (apart 0 0 h refl)
+some_letter (suc n) h = omega arith
+
+parted : (w : ℕ) (ws : List ℕ) → are_letters (w ∷ ws) ≡ true
+    → (not (eqb w 0) ≡ true) × (is_none_of w ws ≡ true) × (are_letters ws ≡ true)
+parted w ws h =
+    let some = both (not (eqb w 0)) (is_none_of w ws && are_letters ws) h in
+    let others = both (is_none_of w ws) (are_letters ws) some.1 in
+    (some.0, others.0, others.1)
+
+fit_all : (xs : List Arg) (ws : List ℕ) → AreNamed xs ws → are_letters ws ≡ true → All FitsChain xs
+fit_all [] ws named letters k d lt = absurd (omega arith)
+fit_all (a ∷ xs) [] named letters k d lt = absurd named
+fit_all (a ∷ xs) (w ∷ ws) named letters zero d lt = fits a w named.0 (some_letter w (parted w ws letters).0)
+fit_all (a ∷ xs) (w ∷ ws) named letters (suc k) d lt = fit_all xs ws named.1 (parted w ws letters).2 k d (omega arith)
+
+other_name : (a : Arg) (w : ℕ) (xs : List Arg) (ws : List ℕ) → IsNamed a w → AreNamed xs ws → is_none_of w ws ≡ true
+    → (k : ℕ) (d : Arg) → k < length xs
+    → bytes_eq a.id.now (slice_index_or xs k d).id.now ≡ true → ⊥
+other_name a w [] ws own named none k d lt same = absurd (omega arith)
+other_name a w (b ∷ xs) [] own named none k d lt same = named
+other_name a w (b ∷ xs) (x ∷ ws) own named none zero d lt same =
+    apart w x (both (not (eqb w x)) (is_none_of w ws) none).0 (same_letter a b w x own named.0 same)
+other_name a w (b ∷ xs) (x ∷ ws) own named none (suc k) d lt same =
+    other_name a w xs ws own named.1 (both (not (eqb w x)) (is_none_of w ws) none).1 k d (omega arith) same
+
+turned : (a b : List ℕ) → bytes_eq a b ≡ true → bytes_eq b a ≡ true
+turned a b e = (bytes_eq-Decides b a).1 (sym ((bytes_eq-Decides a b).0 e))
+
+distinct_all : (xs : List Arg) (ws : List ℕ) → AreNamed xs ws → are_letters ws ≡ true → HasDistinctIds xs
+distinct_all [] ws named letters j k d f l m t = absurd (omega arith)
+distinct_all (a ∷ xs) [] named letters j k d f l m t = absurd named
+distinct_all (a ∷ xs) (w ∷ ws) named letters zero zero d f l m t = refl
+distinct_all (a ∷ xs) (w ∷ ws) named letters zero (suc k) d f l m t =
+    absurd (other_name a w xs ws named.0 named.1 (parted w ws letters).1 k d (omega arith) t)
+distinct_all (a ∷ xs) (w ∷ ws) named letters (suc j) zero d f l m t =
+    absurd (other_name a w xs ws named.0 named.1 (parted w ws letters).1 j f (omega arith)
+    (turned (slice_index_or xs j f).id.now a.id.now t))
+distinct_all (a ∷ xs) (w ∷ ws) named letters (suc j) (suc k) d f l m t =
+    ap suc (distinct_all xs ws named.1 (parted w ws letters).2 j k d f (omega arith) (omega arith) t)
+
+-- a command that these made, one after another
+pub made_of : (xs : List Arg) (ws : List ℕ) → AreNamed xs ws → are_letters ws ≡ true → (start cmd : Command)
+    → AddsInTurn AddsArg start xs cmd → IsBare start → IsMadeOf xs cmd
+made_of xs ws named letters start cmd chain bare = record {
+  start = start;
+  chain = chain;
+  bare = bare;
+  fit = fit_all xs ws named letters;
+  distinct = distinct_all xs ws named letters;
+}
+
+-- ---- the arguments of the commands
+
+-- a name of another length is none of the flags that building adds
+option_named : (a : Arg) (name : List ℕ) → a.id.now ≡ name → (length name ≡ 4 → ⊥) → (length name ≡ 7 → ⊥)
+    → IsPlainArg a × (a.global ≡ false) → IsNamed a (slice_index name 0)
+option_named a name id help version h = record {
+  plain = h.0;
+  is_local = h.1;
+  begins = ap (λ (l : List ℕ). slice_index l 0) id;
+  is_own = λ auto. elim auto [
+    | inl e ↦ help (ap length (sym id ∙ e))
+    | inr e ↦ version (ap length (sym id ∙ e))
+  ];
+}
+
+pub check_named : (a : Arg) → a.id.now ≡ codes "check" → IsPlainArg a × (a.global ≡ false) → IsNamed a 99
+check_named a id h = option_named a (codes "check") id (λ e. omega arith) (λ e. omega arith) h
+
+pub width_named : (a : Arg) → a.id.now ≡ codes "width" → IsPlainArg a × (a.global ≡ false) → IsNamed a 119
+width_named a id h = option_named a (codes "width") id (λ e. omega arith) (λ e. omega arith) h
+
+pub blocking_named : (a : Arg) → a.id.now ≡ codes "blocking" → IsPlainArg a × (a.global ≡ false) → IsNamed a 98
+blocking_named a id h = option_named a (codes "blocking") id (λ e. omega arith) (λ e. omega arith) h
+
+pub vr_named : (a : Arg) → a.id.now ≡ codes "vr" → IsPlainArg a × (a.global ≡ false) → IsNamed a 118
+vr_named a id h = option_named a (codes "vr") id (λ e. omega arith) (λ e. omega arith) h
+
+pub length_named : (a : Arg) → a.id.now ≡ codes "length" → IsPlainArg a × (a.global ≡ false) → IsNamed a 108
+length_named a id h = option_named a (codes "length") id (λ e. omega arith) (λ e. omega arith) h
+
+-- and so is one with another first letter
+pub file_named : (a : Arg) → a.id.now ≡ codes "FILE" → IsPlainArg a × (a.global ≡ false) → IsNamed a 70
+file_named a id h = record {
+  plain = h.0;
+  is_local = h.1;
+  begins = ap (λ (l : List ℕ). slice_index l 0) id;
+  is_own = λ auto. elim auto [
+    | inl e ↦ let bad : 70 ≡ 104 = ap (λ (l : List ℕ). slice_index l 0) (sym id ∙ e) in absurd (omega arith)
+    | inr e ↦ let bad : 4 ≡ 7 = ap length (sym id ∙ e) in absurd (omega arith)
+  ];
+}

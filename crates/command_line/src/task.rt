@@ -1,0 +1,66 @@
+// What the words of a command line ask for.
+
+use clap::Error;
+
+/// What is to be done with the file. Where there is `check`, it says whether frames end with their check.
+#[derive(Clone, Copy, Debug, Drop, PartialEq, Eq)]
+pub enum Task {
+    /// Lists what a receiver makes of each frame: one of this window width, even, 2 to 254, that
+    /// expects the number `vr` first.
+    Farm {
+        check: bool,
+        width: u8,
+        vr: u8,
+    },
+    /// Lists the packets out of the frames that such a receiver accepts, where a segment may hold
+    /// several packets or, with no blocking, one.
+    Map {
+        check: bool,
+        width: u8,
+        vr: u8,
+        blocking: bool,
+    },
+    /// Lists the fields of each telecommand frame.
+    Tc {
+        check: bool,
+    },
+    /// Lists the fields of each telemetry frame, of frames of this length, 16 to 2,048 octets, and the
+    /// packets that are finished with it.
+    Tm {
+        length: u16,
+    },
+    /// Lists the frames that are refused, of frames that end with their check.
+    Check,
+    /// Lists the fields of each space packet.
+    Packets,
+    /// Plays a script of the simulated link.
+    Sim,
+}
+
+/// What the words ask for.
+#[derive(Clone, Copy, Debug, Drop, PartialEq, Eq)]
+pub struct Options<'a> {
+    pub task: Task,
+    /// The name of the file, as it was given.
+    pub file: &'a str,
+}
+
+/// Why the words ask for nothing.
+#[derive(Debug, Drop)]
+pub enum UsageFault {
+    /// What the parser of the words answers, a text of help that was asked for among it.
+    Words(Error),
+    /// The width of the window is odd.
+    OddWidth { width: u8 },
+}
+
+impl From<Error> for UsageFault {
+    ghost use Rattle.std.specs.Prelude.{◌≡◌};
+    ghost use Rattle.command_line.specs.declared.task.UsageFault.TheVariants as faults;
+
+    ghost from_gives = { λ error fault. fault ≡ faults.Words error };
+
+    fn from(error: Error) -> UsageFault {
+        UsageFault::Words(error)
+    }
+}
