@@ -1,5 +1,31 @@
-/* The rules of FOP-1 in plain C (docs/PROFILE.md), over the struct of the library, for a sender in S1 to S6. */
+/* The rules of FOP-1 in plain C (docs/PROFILE.md), over the struct of the library, for a sender in S1 to S6. With TESTED each
+ * call tests first, as the header says, that the fields are those of a sender; without, it takes them as they are. */
 #include "sender.h"
+
+#ifdef TESTED
+#define CALL(name) tested_fop_##name
+#define TEST(fop) if (!is_sender(fop)) return SEDGE_DAMAGED
+
+static bool is_sender(const struct sedge_fop *fop)
+{
+    if (fop->state < SEDGE_FOP_S1 || fop->state > SEDGE_FOP_S6 || fop->waiting > 1 || fop->control > SEDGE_CONTROL_SET_VR_SENT)
+        return false;
+    if (fop->room > 127 || fop->sent > fop->room || fop->due > fop->sent || fop->window < 1 || fop->window > fop->room)
+        return false;
+    if (fop->limit < 1 || fop->timer < 1 || fop->count < 1)
+        return false;
+    if (fop->control < SEDGE_CONTROL_SET_VR_DUE && fop->vr != 0)
+        return false;
+    if (fop->control != SEDGE_CONTROL_IDLE && fop->state != SEDGE_FOP_S5)
+        return false;
+    if (fop->state == SEDGE_FOP_S6)
+        return fop->sent == 0 && fop->waiting == 0 && fop->ticks == 0;
+    return (uint8_t)(fop->vs - fop->nn) == fop->sent;
+}
+#else
+#define CALL(name) plain_fop_##name
+#define TEST(fop)
+#endif
 
 static void restart(struct sedge_fop *fop)
 {
@@ -26,8 +52,9 @@ static void repeat(struct sedge_fop *fop)
     restart(fop);
 }
 
-uint8_t plain_fop_submit(struct sedge_fop *fop)
+uint8_t CALL(submit)(struct sedge_fop *fop)
 {
+    TEST(fop);
     if (fop->state == SEDGE_FOP_S6)
         return SEDGE_COP_NOT_OPEN;
     if (fop->waiting)
@@ -36,8 +63,9 @@ uint8_t plain_fop_submit(struct sedge_fop *fop)
     return SEDGE_OK;
 }
 
-uint8_t plain_fop_next(struct sedge_fop *fop, uint8_t *number)
+uint8_t CALL(next)(struct sedge_fop *fop, uint8_t *number)
 {
+    TEST(fop);
     *number = 0;
     if (fop->control == SEDGE_CONTROL_UNLOCK_DUE) {
         fop->control = SEDGE_CONTROL_UNLOCK_SENT;
@@ -138,8 +166,9 @@ static uint8_t report_in_s4(struct sedge_fop *fop, const struct sedge_clcw *word
     return SEDGE_NO_ALERT;
 }
 
-uint8_t plain_fop_report(struct sedge_fop *fop, const struct sedge_clcw *word, uint8_t *released)
+uint8_t CALL(report)(struct sedge_fop *fop, const struct sedge_clcw *word, uint8_t *released)
 {
+    TEST(fop);
     *released = 0;
     switch (fop->state) {
     case SEDGE_FOP_S1:
@@ -159,8 +188,9 @@ uint8_t plain_fop_report(struct sedge_fop *fop, const struct sedge_clcw *word, u
     return SEDGE_NO_ALERT;
 }
 
-uint8_t plain_fop_tick(struct sedge_fop *fop)
+uint8_t CALL(tick)(struct sedge_fop *fop)
 {
+    TEST(fop);
     if (fop->ticks == 0)
         return SEDGE_NO_ALERT;
     if (--fop->ticks > 0)
