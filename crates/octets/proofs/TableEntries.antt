@@ -4,14 +4,15 @@ use Rattle.std.proofs.Common.{◌++◌, length, get_or, take, drop, refl, sym, a
 use Rattle.std.specs.Prelude.{◌&&◌, bit_xor}
 use Rattle.std.specs.Int.Bits.{xor_zero_r, xor_assoc, xor_block, xor_shifted}
 use Rattle.std.proofs.lemmas.Nat.{shr_split, xor_comm, xor_lt}
-use Rattle.std.proofs.lemmas.List.{drop_more, get_or-drop, length-take-le, take-append-drop}
+use Rattle.std.proofs.lemmas.List.{drop_more, get_or-drop, length-drop, length-take-le, take-append-drop}
+use Rattle.std.proofs.Math.ListN.{drop_of_length-le}
 use Rattle.octets.proofs.Outcomes.{both_true}
 use Rattle.octets.proofs.Division.{divided, takes_octet, takes_bit}
 use Rattle.octets.proofs.Register.{register_step, register_after, after-xor, step-fits}
 use Rattle.std.proofs.lemmas.Bool.{eqb-true, cases_lt}
 use Rattle.octets.specs.declared.table.TheConstants.{TABLES}
 use Rattle.octets.specs.Number.{IsOctets}
-use Rattle.octets.specs.Table.{eight_entries}
+use Rattle.octets.specs.Table.{entries, entries_after}
 
 -- ---- each entry
 
@@ -63,7 +64,7 @@ later-after : (n r : ℕ) → later n (register_after 8 r) ≡ register_after 8 
 later-after zero r = refl
 later-after (suc n) r = later-after n (register_after 8 r)
 
-entry_later : (n place : ℕ) → n < 8 → place < 256
+entry_later : (n place : ℕ) → n < 16 → place < 256
     → get_or TABLES (n * 256 + place) 0 ≡ later n (register_after 8 (place * 256))
 entry_later zero place few small =
     let start : 0 * 256 + place ≡ place = omega arith in
@@ -145,31 +146,46 @@ abbrev after_octets : ℕ → List ℕ → ℕ
 after_octets r [] = r
 after_octets r (x ∷ xs) = after_octets (register_after 8 (bit_xor r (x * 2 ^ 8))) xs
 
-abbrev AllSmall : List ℕ → Type 0
-AllSmall [] = Unit {0}
-AllSmall (x ∷ xs) = (x < 256) × AllSmall xs
+-- the octets after the first
+abbrev after_first : (x : ℕ) (xs : List ℕ) → IsOctets (x ∷ xs) → IsOctets xs
+after_first x xs small = λ i. small (suc i)
 
-takes_octets : (r : ℕ) (xs rest : List ℕ) → r < 2 ^ 16 → AllSmall xs
+no_octets : IsOctets []
+no_octets i = omega arith
+
+one_octet : (x : ℕ) → x < 256 → IsOctets (x ∷ [])
+one_octet x small zero = small
+one_octet x small (suc i) = omega arith
+
+from_place : (n : ℕ) (octets : List ℕ) → IsOctets octets → IsOctets (drop n octets)
+from_place n octets small i = subst (λ x. x < 256) (sym (get_or-drop n octets i 0)) (small (n + i))
+
+octets_fit : (r : ℕ) (xs : List ℕ) → r < 2 ^ 16 → IsOctets xs → after_octets r xs < 2 ^ 16
+octets_fit r [] fits small = fits
+octets_fit r (x ∷ xs) fits small =
+    octets_fit (register_after 8 (bit_xor r (x * 2 ^ 8))) xs (octet_fits r x fits (small 0)) (after_first x xs small)
+
+takes_octets : (r : ℕ) (xs rest : List ℕ) → r < 2 ^ 16 → IsOctets xs
     → divided (after_octets r xs) 0 rest ≡ divided r 0 (xs ++ rest)
 takes_octets r [] rest fits small = refl
 takes_octets r (x ∷ xs) rest fits small =
-    takes_octets (register_after 8 (bit_xor r (x * 2 ^ 8))) xs rest (octet_fits r x fits small.0) small.1
-    ∙ takes_whole_octet r x (xs ++ rest) fits small.0
+    takes_octets (register_after 8 (bit_xor r (x * 2 ^ 8))) xs rest (octet_fits r x fits (small 0))
+    (after_first x xs small) ∙ takes_whole_octet r x (xs ++ rest) fits (small 0)
 
 -- what stands in the register and what octets add come together at the end
-apart : (a b : ℕ) (xs : List ℕ) → a < 2 ^ 16 → b < 2 ^ 16 → AllSmall xs
+apart : (a b : ℕ) (xs : List ℕ) → a < 2 ^ 16 → b < 2 ^ 16 → IsOctets xs
     → after_octets (bit_xor a b) xs ≡ bit_xor (later (length xs) a) (after_octets b xs)
 apart a b [] a-fits b-fits small = refl
 apart a b (x ∷ xs) a-fits b-fits small =
     let with_octet : ℕ = bit_xor b (x * 2 ^ 8) in
-    let with-fits : with_octet < 2 ^ 16 = xor_lt 16 b (x * 2 ^ 8) b-fits (omega (arith, small.0)) in
+    let with-fits : with_octet < 2 ^ 16 = xor_lt 16 b (x * 2 ^ 8) b-fits (omega (arith, small 0)) in
     ap (λ (r : ℕ). after_octets (register_after 8 r) xs) (xor_assoc a b (x * 2 ^ 8))
     ∙ ap (λ (r : ℕ). after_octets r xs) (after-xor 8 a with_octet a-fits with-fits)
     ∙ apart (register_after 8 a) (register_after 8 with_octet) xs (steps_fit 8 a a-fits)
-    (steps_fit 8 with_octet with-fits) small.1
+    (steps_fit 8 with_octet with-fits) (after_first x xs small)
 
 -- an octet over an empty register is an entry
-first_entry : (x : ℕ) (xs : List ℕ) → length xs < 8 → x < 256 → AllSmall xs
+first_entry : (x : ℕ) (xs : List ℕ) → length xs < 16 → x < 256 → IsOctets xs
     → after_octets 0 (x ∷ xs) ≡ bit_xor (get_or TABLES (length xs * 256 + x) 0) (after_octets 0 xs)
 first_entry x xs few small smalls =
     let entry : ℕ = register_after 8 (x * 2 ^ 8) in
@@ -179,7 +195,7 @@ first_entry x xs few small smalls =
     ∙ ap (λ (r : ℕ). bit_xor r (after_octets 0 xs)) (sym (entry_later (length xs) x few small))
 
 -- the octet in the register's second half waits for the next one
-second_entry : (low y : ℕ) (xs : List ℕ) → low < 256 → length xs < 8 → y < 256 → AllSmall xs
+second_entry : (low y : ℕ) (xs : List ℕ) → low < 256 → length xs < 16 → y < 256 → IsOctets xs
     → after_octets (low * 256) (y ∷ xs)
     ≡ bit_xor (get_or TABLES (length xs * 256 + bit_xor low y) 0) (after_octets 0 xs)
 second_entry low y xs low-small few small smalls =
@@ -195,7 +211,7 @@ second_entry low y xs low-small few small smalls =
     ∙ first_entry (bit_xor low y) xs few (xor_lt 8 low y low-small small) smalls
 
 -- the first of octets over a register
-register_entry : (r x : ℕ) (xs : List ℕ) → r < 2 ^ 16 → length xs < 8 → x < 256 → AllSmall xs
+register_entry : (r x : ℕ) (xs : List ℕ) → r < 2 ^ 16 → length xs < 16 → x < 256 → IsOctets xs
     → after_octets r (x ∷ xs)
     ≡ bit_xor (get_or TABLES (length xs * 256 + bit_xor (r / 256) x) 0) (after_octets (r % 256 * 256) xs)
 register_entry r x xs fits few small smalls =
@@ -206,59 +222,51 @@ register_entry r x xs fits few small smalls =
     ∙ apart entry (r % 256 * 256) xs (steps_fit 8 (place * 256) (omega arith)) (omega arith) smalls
     ∙ ap (λ (k : ℕ). bit_xor k (after_octets (r % 256 * 256) xs)) (sym (entry_later (length xs) place few in_table))
 
--- sums may be taken from the last on
-turned : (a b c d : ℕ) → bit_xor (bit_xor (bit_xor d c) b) a ≡ bit_xor (bit_xor (bit_xor a b) c) d
-turned a b c d =
-    xor_comm (bit_xor (bit_xor d c) b) a
-    ∙ ap (bit_xor a) (xor_comm (bit_xor d c) b ∙ ap (bit_xor b) (xor_comm d c))
-    ∙ sym (xor_assoc a b (bit_xor c d)) ∙ sym (xor_assoc (bit_xor a b) c d)
+-- the entries of the octets from a place on are the register after them
+entries_are : (n i : ℕ) (octets : List ℕ) → n < 16 → length octets ≡ i + (n + 1) → IsOctets octets
+    → entries n i (λ k. get_or octets k 0) ≡ after_octets 0 (drop i octets)
+entries_are zero i octets few long small =
+    let x : ℕ = get_or octets i 0 in
+    let last : drop (i + 1) octets ≡ [] = drop_of_length-le octets (omega arith) in
+    sym (ap (after_octets 0) (drop_more octets i 0 (omega arith) ∙ ap (λ xs. x ∷ xs) last)
+    ∙ first_entry x [] (omega arith) (small i) no_octets
+    ∙ xor_zero_r (get_or TABLES (0 * 256 + x) 0))
+entries_are (suc n) i octets few long small =
+    let x : ℕ = get_or octets i 0 in
+    let rest : List ℕ = drop (i + 1) octets in
+    let t : ℕ → ℕ = λ k. get_or TABLES (k * 256 + x) 0 in
+    let count : length rest ≡ suc n = omega (arith, length-drop (i + 1) octets) in
+    sym (ap (after_octets 0) (drop_more octets i 0 (omega arith))
+    ∙ first_entry x rest (omega arith) (small i) (from_place (i + 1) octets small)
+    ∙ ap (λ k. bit_xor (t k) (after_octets 0 rest)) count
+    ∙ xor_comm (t (suc n)) (after_octets 0 rest)
+    ∙ ap (λ k. bit_xor k (t (suc n))) (sym (entries_are n (i + 1) octets (omega arith) (omega arith) small)))
 
--- sums of pairs are sums from the right
-from_the_right : (a b c d e f g h : ℕ)
-    → bit_xor (bit_xor (bit_xor (bit_xor a b) (bit_xor c d)) (bit_xor e f)) (bit_xor g h)
-    ≡ bit_xor a (bit_xor b (bit_xor c (bit_xor d (bit_xor e (bit_xor f (bit_xor g h))))))
-from_the_right a b c d e f g h =
-    let from_e : bit_xor (bit_xor e f) (bit_xor g h) ≡ bit_xor e (bit_xor f (bit_xor g h)) =
-    xor_assoc e f (bit_xor g h) in
-    xor_assoc (bit_xor (bit_xor a b) (bit_xor c d)) (bit_xor e f) (bit_xor g h)
-    ∙ xor_assoc (bit_xor a b) (bit_xor c d) (bit_xor (bit_xor e f) (bit_xor g h))
-    ∙ ap (λ (k : ℕ). bit_xor (bit_xor a b) (bit_xor (bit_xor c d) k)) from_e
-    ∙ ap (bit_xor (bit_xor a b)) (xor_assoc c d (bit_xor e (bit_xor f (bit_xor g h))))
-    ∙ xor_assoc a b (bit_xor c (bit_xor d (bit_xor e (bit_xor f (bit_xor g h)))))
-
-eight_after : (r a b c d e f g h : ℕ) → r < 2 ^ 16
-    → AllSmall (a ∷ b ∷ c ∷ d ∷ e ∷ f ∷ g ∷ h ∷ [])
-    → eight_entries r (a ∷ b ∷ c ∷ d ∷ e ∷ f ∷ g ∷ h ∷ [])
-    ≡ after_octets r (a ∷ b ∷ c ∷ d ∷ e ∷ f ∷ g ∷ h ∷ [])
-eight_after r a b c d e f g h fits (sa, (sb, (sc, (sd, (se, (sf, (sg, (sh, end)))))))) =
-    let t : ℕ → ℕ → ℕ = λ n place. get_or TABLES (n * 256 + place) 0 in
-    let last : after_octets 0 (h ∷ []) ≡ t 0 h =
-    first_entry h [] (omega arith) sh tt ∙ xor_zero_r (t 0 h) in
-    let from_g : after_octets 0 (g ∷ h ∷ []) ≡ bit_xor (t 1 g) (t 0 h) =
-    first_entry g (h ∷ []) (omega arith) sg (sh, tt) ∙ ap (bit_xor (t 1 g)) last in
-    let from_f : after_octets 0 (f ∷ g ∷ h ∷ []) ≡ bit_xor (t 2 f) (bit_xor (t 1 g) (t 0 h)) =
-    first_entry f (g ∷ h ∷ []) (omega arith) sf (sg, (sh, tt)) ∙ ap (bit_xor (t 2 f)) from_g in
-    let tail_e : ℕ = bit_xor (t 3 e) (bit_xor (t 2 f) (bit_xor (t 1 g) (t 0 h))) in
-    let from_e : after_octets 0 (e ∷ f ∷ g ∷ h ∷ []) ≡ tail_e =
-    first_entry e (f ∷ g ∷ h ∷ []) (omega arith) se (sf, (sg, (sh, tt))) ∙ ap (bit_xor (t 3 e)) from_f in
-    let from_d : after_octets 0 (d ∷ e ∷ f ∷ g ∷ h ∷ []) ≡ bit_xor (t 4 d) tail_e =
-    first_entry d (e ∷ f ∷ g ∷ h ∷ []) (omega arith) sd (se, (sf, (sg, (sh, tt))))
-    ∙ ap (bit_xor (t 4 d)) from_e in
-    let from_c : after_octets 0 (c ∷ d ∷ e ∷ f ∷ g ∷ h ∷ []) ≡ bit_xor (t 5 c) (bit_xor (t 4 d) tail_e) =
-    first_entry c (d ∷ e ∷ f ∷ g ∷ h ∷ []) (omega arith) sc (sd, (se, (sf, (sg, (sh, tt)))))
-    ∙ ap (bit_xor (t 5 c)) from_d in
-    let from_b : after_octets (r % 256 * 256) (b ∷ c ∷ d ∷ e ∷ f ∷ g ∷ h ∷ [])
-    ≡ bit_xor (t 6 (bit_xor (r % 256) b)) (bit_xor (t 5 c) (bit_xor (t 4 d) tail_e)) =
-    second_entry (r % 256) b (c ∷ d ∷ e ∷ f ∷ g ∷ h ∷ []) (omega arith) (omega arith) sb
-    (sc, (sd, (se, (sf, (sg, (sh, tt))))))
-    ∙ ap (bit_xor (t 6 (bit_xor (r % 256) b))) from_c in
-    let first : ℕ = t 7 (bit_xor (r / 256) a) in
-    turned (bit_xor first (t 6 (bit_xor (r % 256) b))) (bit_xor (t 5 c) (t 4 d)) (bit_xor (t 3 e) (t 2 f))
-    (bit_xor (t 1 g) (t 0 h))
-    ∙ from_the_right first (t 6 (bit_xor (r % 256) b)) (t 5 c) (t 4 d) (t 3 e) (t 2 f) (t 1 g) (t 0 h)
-    ∙ sym (register_entry r a (b ∷ c ∷ d ∷ e ∷ f ∷ g ∷ h ∷ []) fits (omega arith) sa
-    (sb, (sc, (sd, (se, (sf, (sg, (sh, tt)))))))
-    ∙ ap (bit_xor first) from_b)
+-- the register over octets, by their entries
+entries_after_are : (n r : ℕ) (octets : List ℕ) → n < 14 → length octets ≡ n + 3 → r < 2 ^ 16 → IsOctets octets
+    → entries_after n r (λ k. get_or octets k 0) ≡ after_octets r octets
+entries_after_are n r octets few long fits small =
+    let x : ℕ → ℕ = λ k. get_or octets k 0 in
+    let rest : List ℕ = drop 2 octets in
+    let t : ℕ → ℕ → ℕ = λ k place. get_or TABLES (k * 256 + place) 0 in
+    let high : ℕ = bit_xor (r / 256) (x 0) in
+    let low : ℕ = bit_xor (r % 256) (x 1) in
+    let count : length rest ≡ n + 1 = omega (arith, length-drop 2 octets) in
+    let one_less : length (x 1 ∷ rest) ≡ n + 2 = omega (arith, count) in
+    let places : octets ≡ x 0 ∷ x 1 ∷ rest =
+    drop_more octets 0 0 (omega arith) ∙ ap (λ xs. x 0 ∷ xs) (drop_more octets 1 0 (omega arith)) in
+    let smalls : IsOctets (x 1 ∷ rest) = after_first (x 0) (x 1 ∷ rest) (subst IsOctets places small) in
+    let second : after_octets (r % 256 * 256) (x 1 ∷ rest) ≡ bit_xor (t (n + 1) low) (after_octets 0 rest) =
+    second_entry (r % 256) (x 1) rest (omega arith) (omega arith) (small 1) (after_first (x 1) rest smalls)
+    ∙ ap (λ k. bit_xor (t k low) (after_octets 0 rest)) count in
+    let first : after_octets r (x 0 ∷ x 1 ∷ rest) ≡ bit_xor (t (n + 2) high) (after_octets (r % 256 * 256) (x 1 ∷ rest)) =
+    register_entry r (x 0) (x 1 ∷ rest) fits (omega arith) (small 0) smalls
+    ∙ ap (λ k. bit_xor (t k high) (after_octets (r % 256 * 256) (x 1 ∷ rest))) one_less in
+    let sum : ℕ = entries n 2 x in
+    let added : after_octets 0 rest ≡ sum = sym (entries_are n 2 octets (omega arith) (omega arith) small) in
+    sym (ap (after_octets r) places ∙ first
+    ∙ ap (bit_xor (t (n + 2) high)) (second ∙ ap (bit_xor (t (n + 1) low)) added ∙ xor_comm (t (n + 1) low) sum)
+    ∙ xor_comm (t (n + 2) high) (bit_xor sum (t (n + 1) low)))
 
 -- ---- the octets at a place
 
@@ -269,40 +277,21 @@ takes_octet_at r s i octets fits lt small is =
     let x : ℕ = get_or octets i 0 in
     let entry : ℕ = get_or TABLES (0 * 256 + bit_xor (r / 256) x) 0 in
     let after : s ≡ after_octets r (x ∷ []) =
-    is ∙ xor_comm (r % 256 * 256) entry ∙ sym (register_entry r x [] fits (omega arith) small tt) in
+    is ∙ xor_comm (r % 256 * 256) entry ∙ sym (register_entry r x [] fits (omega arith) small no_octets) in
     ap (λ (k : ℕ). divided k 0 (drop (i + 1) octets)) after
-    ∙ takes_octets r (x ∷ []) (drop (i + 1) octets) fits (small, tt)
+    ∙ takes_octets r (x ∷ []) (drop (i + 1) octets) fits (one_octet x small)
     ∙ sym (ap (divided r 0) (drop_more octets i 0 lt))
 
--- a list of eight is its eight places
-eight_places : (xs : List ℕ) → length xs ≡ 8
-    → xs ≡ get_or xs 0 0 ∷ get_or xs 1 0 ∷ get_or xs 2 0 ∷ get_or xs 3 0 ∷ get_or xs 4 0 ∷ get_or xs 5 0 ∷ get_or xs 6 0
-    ∷ get_or xs 7 0 ∷ []
-eight_places (a ∷ b ∷ c ∷ d ∷ e ∷ f ∷ g ∷ h ∷ []) long = refl
-eight_places [] long = absurd (omega arith)
-eight_places (a ∷ []) long = absurd (omega arith)
-eight_places (a ∷ b ∷ []) long = absurd (omega arith)
-eight_places (a ∷ b ∷ c ∷ []) long = absurd (omega arith)
-eight_places (a ∷ b ∷ c ∷ d ∷ []) long = absurd (omega arith)
-eight_places (a ∷ b ∷ c ∷ d ∷ e ∷ []) long = absurd (omega arith)
-eight_places (a ∷ b ∷ c ∷ d ∷ e ∷ f ∷ []) long = absurd (omega arith)
-eight_places (a ∷ b ∷ c ∷ d ∷ e ∷ f ∷ g ∷ []) long = absurd (omega arith)
-eight_places (a ∷ b ∷ c ∷ d ∷ e ∷ f ∷ g ∷ h ∷ i ∷ xs) long = absurd (omega arith)
-
--- a turn of the loop over eight octets
-pub takes_eight : (r s : ℕ) (octets eight rest : List ℕ) → 8 ≤ length octets → r < 2 ^ 16 → eight ≡ take 8 octets
-    → rest ≡ drop 8 octets → IsOctets eight → s ≡ eight_entries r eight
-    → divided s 0 rest ≡ divided r 0 octets
-takes_eight r s octets eight rest long fits front back small is =
-    let count : length eight ≡ 8 = ap length front ∙ length-take-le 8 octets long in
-    let x : ℕ → ℕ = λ i. get_or eight i 0 in
-    let whole = eight_places eight count in
-    let smalls : AllSmall (x 0 ∷ x 1 ∷ x 2 ∷ x 3 ∷ x 4 ∷ x 5 ∷ x 6 ∷ x 7 ∷ []) =
-    (small 0, (small 1, (small 2, (small 3, (small 4, (small 5, (small 6, (small 7, tt)))))))) in
-    let after : s ≡ after_octets r eight =
-    is ∙ eight_after r (x 0) (x 1) (x 2) (x 3) (x 4) (x 5) (x 6) (x 7) fits smalls
-    ∙ sym (ap (after_octets r) whole) in
-    ap (λ (k : ℕ). divided k 0 rest) after
-    ∙ takes_octets r eight rest fits (subst AllSmall (sym whole) smalls)
-    ∙ ap (divided r 0) (ap (λ (xs : List ℕ). xs ++ rest) front
-    ∙ ap (λ (xs : List ℕ). take 8 octets ++ xs) back ∙ take-append-drop 8 octets)
+-- a turn of a loop over octets
+pub takes_some : (n r s : ℕ) (octets some rest : List ℕ) → n < 14 → n + 3 ≤ length octets → r < 2 ^ 16
+    → some ≡ take (n + 3) octets → rest ≡ drop (n + 3) octets → IsOctets some
+    → s ≡ entries_after n r (λ k. get_or some k 0)
+    → (s < 2 ^ 16) × (divided s 0 rest ≡ divided r 0 octets)
+takes_some n r s octets some rest few long fits front back small is =
+    let count : length some ≡ n + 3 = ap length front ∙ length-take-le (n + 3) octets long in
+    let after : s ≡ after_octets r some = is ∙ entries_after_are n r some few count fits small in (
+      subst (λ k. k < 2 ^ 16) (sym after) (octets_fit r some fits small),
+      ap (λ k. divided k 0 rest) after ∙ takes_octets r some rest fits small
+          ∙ ap (divided r 0) (ap (λ xs. xs ++ rest) front ∙ ap (λ xs. take (n + 3) octets ++ xs) back
+          ∙ take-append-drop (n + 3) octets),
+    )

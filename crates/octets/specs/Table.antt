@@ -1,20 +1,19 @@
 -- The tables of the check.
-use Rattle.std.specs.Prelude.{ℕ, ◌+◌, ◌*◌, ◌/◌, ◌%◌, List, slice_index, bit_xor}
+use Rattle.std.specs.Prelude.{ℕ, zero, suc, ◌+◌, ◌*◌, ◌/◌, ◌%◌, slice_index, bit_xor}
 use Rattle.octets.specs.declared.table.TheConstants.{TABLES}
 
+-- what an octet in this place has become `later` octets later
 abbrev pub entry_at : ℕ → ℕ → ℕ
 entry_at later place = slice_index TABLES (later * 256 + place)
 
--- the entries of two places, the second an octet later
-abbrev pub two_entries : (later first second : ℕ) → ℕ
-two_entries later first second = bit_xor (entry_at (later + 1) first) (entry_at later second)
+-- the entries of the octets from place i on, n of them after the first
+abbrev pub entries : (n i : ℕ) → (ℕ → ℕ) → ℕ
+entries zero i x = entry_at 0 (x i)
+entries (suc n) i x = bit_xor (entries n (i + 1) x) (entry_at (suc n) (x i))
 
--- the entries of eight octets, the last first, those of the first two with the register
-abbrev pub eight_entries : ℕ → List ℕ → ℕ
-eight_entries register octets =
-    let x : ℕ → ℕ = λ i. slice_index octets i in
-    bit_xor (bit_xor (bit_xor
-    (two_entries 0 (x 6) (x 7))
-    (two_entries 2 (x 4) (x 5)))
-    (two_entries 4 (x 2) (x 3)))
-    (two_entries 6 (bit_xor (register / 256) (x 0)) (bit_xor (register % 256) (x 1)))
+-- the register after octets, n + 1 of them after the first two, which it stands over
+abbrev pub entries_after : (n register : ℕ) → (ℕ → ℕ) → ℕ
+entries_after n register x =
+    bit_xor (bit_xor (entries n 2 x)
+    (entry_at (n + 1) (bit_xor (register % 256) (x 1))))
+    (entry_at (n + 2) (bit_xor (register / 256) (x 0)))

@@ -4,7 +4,7 @@ ghost use Rattle.std.specs.Prelude.{◌≡◌, ◌≤◌, ◌<◌, ◌-◌, ◌*
 ghost use Rattle.byteorder.specs.Endian.{big_bytes};
 ghost use Rattle.octets.specs.Check.{check_of, HoldsCheck};
 ghost use Rattle.octets.specs.Number.{IsOctets};
-ghost use Rattle.octets.specs.Table.{entry_at, two_entries, eight_entries};
+ghost use Rattle.octets.specs.Table.{entry_at, entries_after};
 
 use crate::number::first_two;
 use crate::table::entry;
@@ -18,6 +18,10 @@ pub fn check(octets: &[u8]) -> u16
 {
     let mut register: u32 = 0xffff;
     let mut left = octets;
+    while let Some((sixteen, rest)) = left.split_first_chunk::<16>() {
+        register = after_sixteen(register, sixteen);
+        left = rest;
+    }
     while let Some((eight, rest)) = left.split_first_chunk::<8>() {
         register = after_eight(register, eight);
         left = rest;
@@ -40,33 +44,49 @@ fn after_one(register: u32, octet: u8) -> u32
     ((register & 0xff) << 8) ^ entry(0, (register >> 8) ^ u32::from(octet))
 }
 
-// The register after eight octets. What each adds is looked up as it stands after the last, so that
-// no look waits for another, and what needs the register comes last.
+// The register after sixteen octets. What each adds is looked up as it stands after the last, so
+// that no look waits for another, and what needs the register comes last.
+#[inline(always)]
+fn after_sixteen(register: u32, octets: &[u8; 16]) -> u32
+    requires { register < 2 ^ 16 }
+    ensures after { result ≡ entries_after 13 register (slice_index octets.now) }
+    ensures octets { IsOctets octets.now }
+{
+    let [a, b, c, d, e, f, g, h, i, j, k, l, m, n, o, p] = *octets;
+    entry(0, u32::from(p))
+        ^ entry(1, u32::from(o))
+        ^ entry(2, u32::from(n))
+        ^ entry(3, u32::from(m))
+        ^ entry(4, u32::from(l))
+        ^ entry(5, u32::from(k))
+        ^ entry(6, u32::from(j))
+        ^ entry(7, u32::from(i))
+        ^ entry(8, u32::from(h))
+        ^ entry(9, u32::from(g))
+        ^ entry(10, u32::from(f))
+        ^ entry(11, u32::from(e))
+        ^ entry(12, u32::from(d))
+        ^ entry(13, u32::from(c))
+        ^ entry(14, (register % 256) ^ u32::from(b))
+        ^ entry(15, (register / 256) ^ u32::from(a))
+}
+
+// The register after eight octets, as after sixteen.
 #[inline(always)]
 fn after_eight(register: u32, octets: &[u8; 8]) -> u32
     requires { register < 2 ^ 16 }
-    ensures after { result ≡ eight_entries register octets.now }
+    ensures after { result ≡ entries_after 5 register (slice_index octets.now) }
     ensures octets { IsOctets octets.now }
-    ensures fits { result < 2 ^ 16 }
 {
     let [a, b, c, d, e, f, g, h] = *octets;
-    let first = (register / 256) ^ u32::from(a);
-    let second = (register % 256) ^ u32::from(b);
-    two_entries(0, u32::from(g), u32::from(h))
-        ^ two_entries(2, u32::from(e), u32::from(f))
-        ^ two_entries(4, u32::from(c), u32::from(d))
-        ^ two_entries(6, first, second)
-}
-
-// What two octets add, `later` octets after the second.
-#[inline(always)]
-fn two_entries(later: usize, first: u32, second: u32) -> u32
-    requires later { later < 7 }
-    requires places { (first < 256) × (second < 256) }
-    ensures entries { result ≡ two_entries later first second }
-    ensures fits { result < 2 ^ 16 }
-{
-    entry(later + 1, first) ^ entry(later, second)
+    entry(0, u32::from(h))
+        ^ entry(1, u32::from(g))
+        ^ entry(2, u32::from(f))
+        ^ entry(3, u32::from(e))
+        ^ entry(4, u32::from(d))
+        ^ entry(5, u32::from(c))
+        ^ entry(6, (register % 256) ^ u32::from(b))
+        ^ entry(7, (register / 256) ^ u32::from(a))
 }
 
 /// Sets the last two octets to the check of those before them.

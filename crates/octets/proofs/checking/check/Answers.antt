@@ -1,18 +1,25 @@
 use Rattle.std.proofs.Common.{◌∙◌, arith}
 use Rattle.octets.proofs.Division.{check_from}
-use Rattle.octets.proofs.TableEntries.{takes_octet_at, takes_eight}
+use Rattle.octets.proofs.TableEntries.{takes_octet_at, takes_some}
 use Rattle.octets.proofs.checking.check.Goals as goal
+
+pub loop-sixteen-preserved : goal.loop-sixteen-preserved
+loop-sixteen-preserved c =
+    let cut = c.in-Some.ensures.cases in
+    let next = c.after_sixteen-register.ensures in
+    let turn = takes_some 13 c.loop-sixteen.register c.after_sixteen-register.result c.loop-sixteen.left.now
+    c.in-Some.sixteen.now c.in-Some.rest.now (omega arith) (omega (arith, cut.2)) c.loop-sixteen.invariant.0
+    cut.0 cut.1 next.octets next.after in
+    (turn.0, turn.1 ∙ c.loop-sixteen.invariant.1)
 
 pub loop-eight-preserved : goal.loop-eight-preserved
 loop-eight-preserved c =
-    let cut = c.in-Some.ensures.cases in
-    let next = c.after_eight-register.ensures in (
-      next.fits,
-      takes_eight c.loop-eight.register c.after_eight-register.result c.loop-eight.left.now c.in-Some.eight.now
-          c.in-Some.rest.now
-          (omega (arith, cut.2)) c.loop-eight.invariant.0 cut.0 cut.1 next.octets next.after
-          ∙ c.loop-eight.invariant.1,
-    )
+    let cut = c.in-Some-split_first_chunk.ensures.cases in
+    let next = c.after_eight-register.ensures in
+    let turn = takes_some 5 c.loop-eight.register c.after_eight-register.result c.loop-eight.left.now
+    c.in-Some-split_first_chunk.eight.now c.in-Some-split_first_chunk.rest.now (omega arith) (omega (arith, cut.2)) c.loop-eight.invariant.0
+    cut.0 cut.1 next.octets next.after in
+    (turn.0, turn.1 ∙ c.loop-eight.invariant.1)
 
 pub loop-octet-preserved : goal.loop-octet-preserved
 loop-octet-preserved c =

@@ -2,6 +2,12 @@ use Rattle.std.proofs.Common.{◌≡◌, ◌<◌, drop, length}
 use Rattle.octets.proofs.Division.{divided}
 use Rattle.octets.proofs.checking.check.Given as goal
 
+abbrev pub invariant-loop-sixteen : goal.invariant-loop-sixteen
+invariant-loop-sixteen l = (l.register < 65536) × (divided l.register 0 l.left ≡ divided 0xffff 0 l.octets)
+
+abbrev pub decreases-loop-sixteen : goal.decreases-loop-sixteen
+decreases-loop-sixteen l = length l.left
+
 abbrev pub invariant-loop-eight : goal.invariant-loop-eight
 invariant-loop-eight l = (l.register < 65536) × (divided l.register 0 l.left ≡ divided 0xffff 0 l.octets)
 
