@@ -1,19 +1,12 @@
--- The numbers and names of the refusals.
+-- The refusals of a control word: a row each.
 use Rattle.std.specs.Prelude.{ℕ, List, codes}
 use Rattle.clcw.specs.declared.fault.ClcwFault.{ClcwFault}
 use Rattle.clcw.specs.declared.fault.ClcwFault.TheVariants.{Kind, Version, Cop, Spare, Range}
 
-abbrev pub fault_number : ClcwFault → ℕ
-fault_number Kind = 1
-fault_number Version = 2
-fault_number Cop = 3
-fault_number Spare = 4
-fault_number Range = 5
-
--- the name, in ASCII
-abbrev pub fault_name : ClcwFault → List ℕ
-fault_name Kind = codes "Kind"
-fault_name Version = codes "Version"
-fault_name Cop = codes "Cop"
-fault_name Spare = codes "Spare"
-fault_name Range = codes "Range"
+-- the number, and the name in ASCII
+abbrev pub fault_row : ClcwFault → ℕ × List ℕ
+fault_row Kind = (1, codes "Kind")
+fault_row Version = (2, codes "Version")
+fault_row Cop = (3, codes "Cop")
+fault_row Spare = (4, codes "Spare")
+fault_row Range = (5, codes "Range")

@@ -18,18 +18,18 @@ pub enum ClcwFault {
 }
 
 impl ClcwFault {
-    ghost use Rattle.clcw.specs.Faults.{fault_number, fault_name};
+    ghost use Rattle.clcw.specs.Faults.{fault_row};
 
     /// The fault's number, 1 to 5.
     pub fn number(self) -> u8
-        ensures { result ≡ fault_number self }
+        ensures { result ≡ (fault_row self).0 }
     {
         self as u8
     }
 
     /// The fault's name, as it is written here.
     pub fn name(self) -> &'static str
-        ensures { result.now ≡ fault_name self }
+        ensures { result.now ≡ (fault_row self).1 }
     {
         match self {
             ClcwFault::Kind => "Kind",

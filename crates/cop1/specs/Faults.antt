@@ -1,28 +1,17 @@
--- The numbers and names of the refusals.
+-- The refusals of the receiver and the sender: a row each.
 use Rattle.std.specs.Prelude.{ℕ, List, codes}
 use Rattle.cop1.specs.declared.fault.CopFault.{CopFault}
 use Rattle.cop1.specs.declared.fault.CopFault.TheVariants.{Width, Window, Limit, Timer, Memory}
 use Rattle.cop1.specs.declared.fault.CopFault.TheVariants.{NotOpen, Busy, WrongState, State}
 
-abbrev pub fault_number : CopFault → ℕ
-fault_number Width = 1
-fault_number Window = 2
-fault_number Limit = 3
-fault_number Timer = 4
-fault_number Memory = 5
-fault_number NotOpen = 6
-fault_number Busy = 7
-fault_number WrongState = 8
-fault_number State = 9
-
--- the name, in ASCII
-abbrev pub fault_name : CopFault → List ℕ
-fault_name Width = codes "Width"
-fault_name Window = codes "Window"
-fault_name Limit = codes "Limit"
-fault_name Timer = codes "Timer"
-fault_name Memory = codes "Memory"
-fault_name NotOpen = codes "NotOpen"
-fault_name Busy = codes "Busy"
-fault_name WrongState = codes "WrongState"
-fault_name State = codes "State"
+-- the number, and the name in ASCII
+abbrev pub fault_row : CopFault → ℕ × List ℕ
+fault_row Width = (1, codes "Width")
+fault_row Window = (2, codes "Window")
+fault_row Limit = (3, codes "Limit")
+fault_row Timer = (4, codes "Timer")
+fault_row Memory = (5, codes "Memory")
+fault_row NotOpen = (6, codes "NotOpen")
+fault_row Busy = (7, codes "Busy")
+fault_row WrongState = (8, codes "WrongState")
+fault_row State = (9, codes "State")

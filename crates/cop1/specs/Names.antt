@@ -1,24 +1,27 @@
--- The words for what the receiver does with a Type-AD frame, and for why the sender has given up.
+-- What the receiver does with a Type-AD frame, and why the sender has given up: a row each.
 use Rattle.std.specs.Prelude.{ℕ, List, codes}
 use Rattle.cop1.specs.declared.fop.Alert.{Alert}
-use Rattle.cop1.specs.declared.fop.Alert.TheVariants as alerts
+use Rattle.cop1.specs.declared.fop.Alert.TheVariants.{Lockout, NnR, Clcw, Synch, Limit, Timer}
+use Rattle.cop1.specs.declared.fop.Alert.TheVariants.{Terminated}
 use Rattle.cop1.specs.declared.farm.Verdict.{Verdict}
 use Rattle.cop1.specs.declared.farm.Verdict.TheVariants.{Accepted, Ahead, NoBuffer, Behind, Outside}
 use Rattle.cop1.specs.declared.farm.Verdict.TheVariants.{Discarded}
 
-abbrev pub verdict_name : Verdict → List ℕ
-verdict_name Accepted = codes "accepted"
-verdict_name Ahead = codes "ahead"
-verdict_name NoBuffer = codes "nobuffer"
-verdict_name Behind = codes "behind"
-verdict_name Outside = codes "outside"
-verdict_name Discarded = codes "discarded"
+-- the number, and the name in ASCII
+abbrev pub verdict_row : Verdict → ℕ × List ℕ
+verdict_row Accepted = (0, codes "accepted")
+verdict_row Ahead = (1, codes "ahead")
+verdict_row NoBuffer = (2, codes "nobuffer")
+verdict_row Behind = (3, codes "behind")
+verdict_row Outside = (4, codes "outside")
+verdict_row Discarded = (5, codes "discarded")
 
-abbrev pub alert_name : Alert → List ℕ
-alert_name alerts.Lockout = codes "Lockout"
-alert_name alerts.NnR = codes "NnR"
-alert_name alerts.Clcw = codes "Clcw"
-alert_name alerts.Synch = codes "Synch"
-alert_name alerts.Limit = codes "Limit"
-alert_name alerts.Timer = codes "Timer"
-alert_name alerts.Terminated = codes "Terminated"
+-- the number, and the name in ASCII
+abbrev pub alert_row : Alert → ℕ × List ℕ
+alert_row Lockout = (1, codes "Lockout")
+alert_row NnR = (2, codes "NnR")
+alert_row Clcw = (3, codes "Clcw")
+alert_row Synch = (4, codes "Synch")
+alert_row Limit = (5, codes "Limit")
+alert_row Timer = (6, codes "Timer")
+alert_row Terminated = (7, codes "Terminated")

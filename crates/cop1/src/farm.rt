@@ -36,11 +36,11 @@ pub enum Verdict {
 }
 
 impl Verdict {
-    ghost use Rattle.cop1.specs.Names.{verdict_name};
+    ghost use Rattle.cop1.specs.Names.{verdict_row};
 
     /// The verdict in a word, as lines have it.
     pub fn name(self) -> &'static str
-        ensures { result.now ≡ verdict_name self }
+        ensures { result.now ≡ (verdict_row self).1 }
     {
         match self {
             Verdict::Accepted => "accepted",

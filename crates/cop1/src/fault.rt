@@ -26,18 +26,18 @@ pub enum CopFault {
 }
 
 impl CopFault {
-    ghost use Rattle.cop1.specs.Faults.{fault_number, fault_name};
+    ghost use Rattle.cop1.specs.Faults.{fault_row};
 
     /// The fault's number, 1 to 9.
     pub fn number(self) -> u8
-        ensures { result ≡ fault_number self }
+        ensures { result ≡ (fault_row self).0 }
     {
         self as u8
     }
 
     /// The fault's name, as it is written here.
     pub fn name(self) -> &'static str
-        ensures { result.now ≡ fault_name self }
+        ensures { result.now ≡ (fault_row self).1 }
     {
         match self {
             CopFault::Width => "Width",

@@ -10,7 +10,7 @@ use Rattle.cop1.specs.Farm.{FarmState, farm_step, verdict_of, AdArrives, BdArriv
 use Rattle.cop1.specs.Farm.{SetVrArrives}
 use Rattle.cop1.specs.declared.farm.FarmMode.{FarmMode}
 use Rattle.cop1.specs.declared.farm.FarmMode.TheVariants.{Open, Wait, Lockout}
-use Rattle.cop1.specs.Names.{verdict_name}
+use Rattle.cop1.specs.Names.{verdict_row}
 use Rattle.listings.specs.FaultLines.{frame_fault_line}
 use Rattle.listings.specs.Listing.{Lines}
 use Rattle.listings.specs.Text.{line_end}
@@ -46,7 +46,7 @@ after_body s (Bc (SetVr x)) = farm_step s (SetVrArrives x)
 -- what came, and what the receiver made of it
 abbrev pub body_text : FarmState → BodyView → List ℕ
 body_text s (Ad n segment) =
-    codes "AD " ++ (decimal n ++ (codes " " ++ (verdict_name (verdict_of s n true) ++ codes " ")))
+    codes "AD " ++ (decimal n ++ (codes " " ++ ((verdict_row (verdict_of s n true)).1 ++ codes " ")))
 body_text s (Bd segment) = codes "BD "
 body_text s (Bc Unlock) = codes "BC unlock "
 body_text s (Bc (SetVr x)) = codes "BC set " ++ (decimal x ++ codes " ")

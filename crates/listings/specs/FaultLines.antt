@@ -9,10 +9,10 @@ use Rattle.tm_link.specs.Faults as telemetry
 use Rattle.listings.specs.Text.{invalid_line}
 
 abbrev pub frame_fault_line : ℕ → TcFault → List ℕ
-frame_fault_line i e = invalid_line i (frames.fault_number e) (frames.fault_name e)
+frame_fault_line i e = invalid_line i (frames.fault_row e)
 
 abbrev pub packet_fault_line : ℕ → PacketFault → List ℕ
-packet_fault_line i e = invalid_line i (packets.fault_number e) (packets.fault_name e)
+packet_fault_line i e = invalid_line i (packets.fault_row e)
 
 abbrev pub telemetry_fault_line : ℕ → TmFault → List ℕ
-telemetry_fault_line i e = invalid_line i (telemetry.fault_number e) (telemetry.fault_name e)
+telemetry_fault_line i e = invalid_line i (telemetry.fault_row e)

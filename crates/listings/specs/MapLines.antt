@@ -15,7 +15,7 @@ use Rattle.cop1.specs.declared.farm.Verdict.TheVariants.{Accepted, Ahead, NoBuff
 use Rattle.cop1.specs.declared.farm.Verdict.TheVariants.{Discarded}
 use Rattle.map_service.specs.declared.dropped.Dropped.{Dropped}
 use Rattle.map_service.specs.declared.limits.Limits.{Limits}
-use Rattle.map_service.specs.Causes.{cause_name}
+use Rattle.map_service.specs.Causes.{cause_row}
 use Rattle.map_service.specs.Exactness.{AssemblerState, step_at, after_step}
 use Rattle.map_service.specs.Packets.{is_packet}
 use Rattle.map_service.specs.Taking.{TakeOutcome}
@@ -90,7 +90,7 @@ on_map_line word m octets = word ++ (decimal m ++ (codes " " ++ octets_line octe
 
 abbrev pub cause_text : ℕ → Option Dropped → List ℕ
 cause_text i None = []
-cause_text i (Some cause) = dropped_line i (cause_name cause)
+cause_text i (Some cause) = dropped_line i (cause_row cause).1
 
 abbrev pub map_packets_text : ℕ → List (List ℕ) → List ℕ
 map_packets_text m packets = concat (map (on_map_line (codes "packet ") m) packets)

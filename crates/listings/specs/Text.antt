@@ -6,9 +6,9 @@ use Rattle.hex.specs.Hex.{encode_upper}
 abbrev pub line_end : List ℕ
 line_end = 10 ∷ []
 
--- the line of a refused record, or of a rest
-abbrev pub invalid_line : ℕ → ℕ → List ℕ → List ℕ
-invalid_line i number name =
+-- the line of a refused record, or of a rest, with its fault
+abbrev pub invalid_line : ℕ → ℕ × List ℕ → List ℕ
+invalid_line i (number, name) =
     decimal i ++ (codes " invalid " ++ (decimal number ++ (codes " " ++ (name ++ line_end))))
 
 -- octets as upper-case hexadecimal digits, at the end of a line

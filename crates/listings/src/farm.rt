@@ -4,7 +4,7 @@ ghost use Rattle.std.specs.Prelude.{◌≡◌, ◌+◌, ◌<◌, ◌≤◌, ◌+
 ghost use Rattle.tc_frame.specs.Layout.{body_view, frame_view};
 ghost use Rattle.tc_frame.specs.Reading.{frame_at};
 ghost use Rattle.tc_frame.specs.Splitting.{check_if};
-ghost use Rattle.cop1.specs.Names.{verdict_name};
+ghost use Rattle.cop1.specs.Names.{verdict_row};
 ghost use Rattle.listings.specs.Written.{Appends};
 ghost use Rattle.listings.specs.FarmLines.{state_word, flag_number, flags_text, state_text, body_text, after_body, farm_line, after_record, farm_lines};
 
@@ -32,7 +32,7 @@ fn put_state(room: &mut [u8], at: usize, state: FarmMode) -> usize
 
 fn put_verdict(room: &mut [u8], at: usize, verdict: Verdict) -> usize
     requires { at + 9 ≤ length room.old }
-    ensures put { take result room.new ≡ take at room.old ++ verdict_name verdict }
+    ensures put { take result room.new ≡ take at room.old ++ (verdict_row verdict).1 }
     ensures room { length room.new ≡ length room.old }
     ensures next { result ≤ at + 9 }
 {
@@ -91,7 +91,7 @@ fn put_receiver(room: &mut [u8], at: usize, farm: &Farm) -> usize
 fn put_ad(room: &mut [u8], at: usize, n: u8, verdict: Verdict) -> usize
     requires { at + 32 ≤ length room.old }
     ensures put { take result room.new ≡ take at room.old
-        ++ (codes "AD " ++ (decimal n ++ (codes " " ++ (verdict_name verdict ++ codes " ")))) }
+        ++ (codes "AD " ++ (decimal n ++ (codes " " ++ ((verdict_row verdict).1 ++ codes " ")))) }
     ensures room { length room.new ≡ length room.old }
     ensures next { result ≤ at + 32 }
 {

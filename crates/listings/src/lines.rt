@@ -10,7 +10,7 @@ use std::alloc::AllocError;
 
 /// Appends the line of a record that was refused, or of a rest.
 pub fn push_invalid(text: &mut Text, index: u64, number: u8, name: &str) -> Result<(), AllocError>
-    ensures { Appends result text.old text.new (invalid_line index number name.now) }
+    ensures { Appends result text.old text.new (invalid_line index (number, name.now)) }
 {
     text.make_room(64)?;
     text.len = put_invalid(text.octets.as_mut_slice(), text.len, index, number);

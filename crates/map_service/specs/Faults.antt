@@ -1,14 +1,10 @@
--- The faults of cutting and assembling by number and by name.
+-- The refusals of cutting and assembling: a row each.
 use Rattle.std.specs.Prelude.{ℕ, List, codes}
 use Rattle.map_service.specs.declared.fault.MapFault.{MapFault}
 use Rattle.map_service.specs.declared.fault.MapFault.TheVariants.{NotAPacket, TooLong, Memory}
 
-abbrev pub fault_number : MapFault → ℕ
-fault_number NotAPacket = 1
-fault_number TooLong = 2
-fault_number Memory = 3
-
-abbrev pub fault_name : MapFault → List ℕ
-fault_name NotAPacket = codes "NotAPacket"
-fault_name TooLong = codes "TooLong"
-fault_name Memory = codes "Memory"
+-- the number, and the name in ASCII
+abbrev pub fault_row : MapFault → ℕ × List ℕ
+fault_row NotAPacket = (1, codes "NotAPacket")
+fault_row TooLong = (2, codes "TooLong")
+fault_row Memory = (3, codes "Memory")

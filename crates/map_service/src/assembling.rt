@@ -27,11 +27,11 @@ pub struct Assembler {
 }
 
 impl Model for Assembler {
-    ghost use Rattle.std.specs.Prelude.{◌≡◌, length, map};
     ghost use Rattle.map_service.specs.Exactness.{AssemblerState};
-    ghost use Rattle.map_service.specs.AssemblerFields.{state_of, IsSound};
 
     ghost Value = { AssemblerState };
+
+    ghost use Rattle.map_service.specs.AssemblerFields.{state_of, IsSound};
 
     ghost view = { state_of };
 

@@ -20,11 +20,11 @@ pub enum Dropped {
 }
 
 impl Dropped {
-    ghost use Rattle.map_service.specs.Causes.{cause_name};
+    ghost use Rattle.map_service.specs.Causes.{cause_row};
 
     /// The cause's name, as it is written here.
     pub fn name(self) -> &'static str
-        ensures { result.now ≡ cause_name self }
+        ensures { result.now ≡ (cause_row self).1 }
     {
         match self {
             Dropped::ClosedMap => "ClosedMap",

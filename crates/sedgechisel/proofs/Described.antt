@@ -35,9 +35,9 @@ use Rattle.sedgechisel.specs.Commands.{fields_with, part_with}
 use Rattle.sedgechisel.specs.Telemetry as telemetry
 
 -- a crate's answer Ok
-read_ok : {A F : Type 0} (number : F → ℕ) (r : Result A F) (x : A) → numbered number r ≡ Ok x → r ≡ Ok x
-read_ok number (Ok y) x h = cc
-read_ok number (Err e) x h = absurd cc
+read_ok : {A F : Type 0} (row : F → ℕ × List ℕ) (r : Result A F) (x : A) → numbered row r ≡ Ok x → r ≡ Ok x
+read_ok row (Ok y) x h = cc
+read_ok row (Err e) x h = absurd cc
 
 -- a beginning of what stands from place k on, before place n
 none_again : (p r xs : List ℕ) → [] ≡ p ++ r → take (length p) xs ≡ p
@@ -102,7 +102,7 @@ pub command_again : (checked : Bool) (b : List ℕ) (view : tc.FrameView) → Is
     → commands.frame_described (commands.fields_of view)
     (take (commands.part_of view).count (drop (commands.part_of view).from b)) ≡ Ok view
 command_again checked b view octets h =
-    let is = tc_frames.frame_is (check_if checked) b view octets (read_ok _ _ view h) in
+    let is = tc_frames.frame_is (check_if checked) b view octets (read_ok tc_faults.fault_row _ view h) in
     body_again view.scid view.vcid (length b - check_length (check_if checked)) b view.body is.rest
 
 found_describes : (checked : Bool) (b : List ℕ) (found : tc.FrameView) → IsOctets b
@@ -121,8 +121,8 @@ pub command_describes : (checked : Bool) (check : Check) (b : List ℕ) (r : Res
     → commands.DescribesFrame checked b fields part
 command_describes checked check b r f fields part octets on answer is same there =
     let read : commands.frame_read checked b ≡ Ok (tc.frame_view f) =
-    ap (λ (c : Check). numbered tc_faults.fault_number (tc_reading.frame_at c b)) (sym on)
-    ∙ ap (numbered tc_faults.fault_number) (sym answer ∙ ap (map_ok tc.frame_view) is) in
+    ap (λ (c : Check). numbered tc_faults.fault_row (tc_reading.frame_at c b)) (sym on)
+    ∙ ap (numbered tc_faults.fault_row) (sym answer ∙ ap (map_ok tc.frame_view) is) in
     rw (same, there) (found_describes checked b (tc.frame_view f) octets read)
 
 -- ---- telemetry frames
@@ -130,7 +130,7 @@ command_describes checked check b r f fields part octets on answer is same there
 found_reports : (total : ℕ) (b : List ℕ) (found : tm.FrameView) → IsOctets b → telemetry.frame_read total b ≡ Ok found
     → telemetry.DescribesFrame total b (telemetry.fields_of found) (telemetry.part_of found)
 found_reports total b found octets h view k =
-    let is = tm_frames.frame_is total b found octets (read_ok _ _ found h) in
+    let is = tm_frames.frame_is total b found octets (read_ok tm_faults.fault_row _ found h) in
     let again = tm_frames.pointer_again found.pointer (total - 12) (omega (arith, is.most)) is.pointer in
     let part : take (length found.payload) (drop 6 b) ≡ found.payload =
     front_again 6 (total - 2) b found.payload found.ocf is.rest in
@@ -143,5 +143,5 @@ pub report_describes : (total : ℕ) (b : List ℕ) (r : Result TmFrame TmFault)
     → telemetry.DescribesFrame total b fields (telemetry.part_of (tm.frame_view f))
 report_describes total b r f fields octets answer is same =
     let read : telemetry.frame_read total b ≡ Ok (tm.frame_view f) =
-    ap (numbered tm_faults.fault_number) (sym answer ∙ ap (map_ok tm.frame_view) is) in
+    ap (numbered tm_faults.fault_row) (sym answer ∙ ap (map_ok tm.frame_view) is) in
     rw same (found_reports total b (tm.frame_view f) octets read)

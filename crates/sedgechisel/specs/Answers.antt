@@ -1,6 +1,6 @@
 -- What a caller in C is answered: 0, or the number of the first fault; and what a call leaves in a
 -- struct of the caller's.
-use Rattle.std.specs.Prelude.{ℕ, Result, Ok, Err}
+use Rattle.std.specs.Prelude.{ℕ, List, Result, Ok, Err}
 
 -- a struct has a value that no such value of a crate has
 abbrev pub damaged : ℕ
@@ -10,10 +10,10 @@ damaged = 255
 abbrev pub wrong_count : ℕ
 wrong_count = 254
 
--- a crate's answer, with its fault's number
-abbrev pub numbered : {A F : Type 0} → (F → ℕ) → Result A F → Result A ℕ
-numbered number (Ok x) = Ok x
-numbered number (Err e) = Err (number e)
+-- a crate's answer, with the number of its fault, which has this row
+abbrev pub numbered : {A F : Type 0} → (F → ℕ × List ℕ) → Result A F → Result A ℕ
+numbered row (Ok x) = Ok x
+numbered row (Err e) = Err (row e).0
 
 abbrev pub status_of : {A : Type 0} → Result A ℕ → ℕ
 status_of (Ok x) = 0

@@ -3,7 +3,7 @@ use Rattle.std.specs.Prelude.{◌≡◌, ℕ, List, length, take, drop, Bool, �
 use Rattle.std.specs.Prelude.{Result, Ok, Err}
 use Rattle.octets.specs.Outcome.{map_ok}
 use Rattle.tc_frame.specs.declared.frame.Command.TheVariants.{Unlock, SetVr}
-use Rattle.tc_frame.specs.Faults.{fault_number}
+use Rattle.tc_frame.specs.Faults.{fault_row}
 use Rattle.tc_frame.specs.Layout.{SegmentView, BodyView, Ad, Bd, Bc, FrameView, flags_code}
 use Rattle.tc_frame.specs.Reading.{flags_at, frame_with, frame_at}
 use Rattle.tc_frame.specs.Splitting.{check_if, total_at}
@@ -91,19 +91,19 @@ part_of f = part_with f.body
 -- ---- the calls
 
 abbrev pub frame_read : Bool → List ℕ → Result FrameView ℕ
-frame_read checked octets = numbered fault_number (frame_at (check_if checked) octets)
+frame_read checked octets = numbered fault_row (frame_at (check_if checked) octets)
 
 -- the frame that is written where there is so much room
 abbrev pub frame_taken : Bool → CommandFrame → List ℕ → ℕ → Result FrameView ℕ
 frame_taken checked f payload room =
     and_then (frame_described f payload) (λ view. if_ok
-    (numbered fault_number (encode_answer (check_if checked) view room)) view)
+    (numbered fault_row (encode_answer (check_if checked) view room)) view)
 
 -- the declared length of the record that octets begin; 1 Short for fewer than 5
 abbrev pub total_declared : Bool → List ℕ → Result ℕ ℕ
 total_declared checked octets =
     if nat_lt (length octets) 5 then Err 1
-    else numbered fault_number (total_at (check_if checked) (take 5 octets))
+    else numbered fault_row (total_at (check_if checked) (take 5 octets))
 
 -- what the fields and the octets at the place describe is the frame that was read
 abbrev pub DescribesFrame : Bool → List ℕ → CommandFrame → Part → Type 0

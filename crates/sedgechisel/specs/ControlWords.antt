@@ -1,7 +1,7 @@
 -- Control words as C has them.
 use Rattle.std.specs.Prelude.{ℕ, List, length, ◌==◌, if◌then◌else◌, Result, Err}
 use Rattle.clcw.specs.declared.word.Clcw.{Clcw}
-use Rattle.clcw.specs.Faults.{fault_number}
+use Rattle.clcw.specs.Faults.{fault_row}
 use Rattle.clcw.specs.Flags.{flags_number, flags_from}
 use Rattle.clcw.specs.Reading.{clcw_at}
 use Rattle.clcw.specs.Writing as writing
@@ -34,9 +34,9 @@ fields_of w =
 -- the word that octets spell, which are to be four
 abbrev pub word_read : List ℕ → Result Clcw ℕ
 word_read octets =
-    if length octets == 4 then numbered fault_number (clcw_at octets) else Err wrong_count
+    if length octets == 4 then numbered fault_row (clcw_at octets) else Err wrong_count
 
 -- the octets that spell the word of the fields, where there is room for exactly four
 abbrev pub word_written : ControlWord → ℕ → Result (List ℕ) ℕ
 word_written w room =
-    if room == 4 then numbered fault_number (writing.encode_answer (word_of w)) else Err wrong_count
+    if room == 4 then numbered fault_row (writing.encode_answer (word_of w)) else Err wrong_count

@@ -5,7 +5,7 @@ use Rattle.tc_frame.specs.Layout.{SegmentView}
 use Rattle.map_service.specs.declared.fault.MapFault.{MapFault}
 use Rattle.map_service.specs.declared.limits.Limits.{Limits}
 use Rattle.map_service.specs.Cutting.{segment_with, segments_of, cut_fault}
-use Rattle.map_service.specs.Faults.{fault_number}
+use Rattle.map_service.specs.Faults.{fault_row}
 use Rattle.sedgechisel.specs.declared.cutting.CutLimits.{CutLimits}
 use Rattle.sedgechisel.specs.declared.cutting.Place.{Place}
 use Rattle.sedgechisel.specs.Answers.{damaged, and_then}
@@ -29,7 +29,7 @@ limits_described l =
 
 abbrev pub unless_fault : Option MapFault → List SegmentView → Result (List SegmentView) ℕ
 unless_fault None segments = Ok segments
-unless_fault (Some fault) segments = Err (fault_number fault)
+unless_fault (Some fault) segments = Err (fault_row fault).0
 
 -- the segments of the octets
 abbrev pub segments_described : CutLimits → List ℕ → Result (List SegmentView) ℕ

@@ -6,7 +6,7 @@ use Rattle.clcw.specs.Faults as clcw_faults
 use Rattle.cop1.specs.declared.fault.CopFault.TheVariants as cop
 use Rattle.cop1.specs.Faults as cop_faults
 use Rattle.cop1.specs.declared.farm.Verdict.TheVariants as verdicts
-use Rattle.cop1.specs.Names.{verdict_name, alert_name}
+use Rattle.cop1.specs.Names.{verdict_row, alert_row}
 use Rattle.cop1.specs.declared.fop.Alert.TheVariants as alerts
 use Rattle.tc_frame.specs.declared.fault.TcFault.TheVariants as tc
 use Rattle.tc_frame.specs.Faults as tc_faults
@@ -17,7 +17,7 @@ use Rattle.tm_link.specs.Faults as tm_faults
 use Rattle.map_service.specs.declared.fault.MapFault.TheVariants as map
 use Rattle.map_service.specs.Faults as map_faults
 use Rattle.map_service.specs.declared.dropped.Dropped.TheVariants as dropped
-use Rattle.map_service.specs.Causes.{cause_name}
+use Rattle.map_service.specs.Causes.{cause_row}
 use Rattle.sedgechisel.specs.Receivers.{verdict_number}
 use Rattle.sedgechisel.specs.Numbers.{alert_number, cause_number}
 
@@ -26,52 +26,52 @@ abbrev pub text_of : List ℕ → List ℕ
 text_of word = word ++ replicate (20 - length word) 0
 
 -- the name of the one of these that has the number, and "?" where none has it
-abbrev pub name_by : {A : Type 0} → (A → ℕ) → (A → List ℕ) → List A → ℕ → List ℕ
-name_by number name [] n = codes "?"
-name_by number name (x ∷ xs) n = if n == number x then name x else name_by number name xs n
+abbrev pub name_by : {A : Type 0} → (A → ℕ × List ℕ) → List A → ℕ → List ℕ
+name_by row [] n = codes "?"
+name_by row (x ∷ xs) n = if n == (row x).0 then (row x).1 else name_by row xs n
 
 abbrev pub clcw_fault_word : ℕ → List ℕ
 clcw_fault_word n =
-    name_by clcw_faults.fault_number clcw_faults.fault_name
+    name_by clcw_faults.fault_row
     (clcw.Kind ∷ clcw.Version ∷ clcw.Cop ∷ clcw.Spare ∷ clcw.Range ∷ []) n
 
 abbrev pub cop_fault_word : ℕ → List ℕ
-cop_fault_word n = name_by cop_faults.fault_number cop_faults.fault_name
+cop_fault_word n = name_by cop_faults.fault_row
     (cop.Width ∷ cop.Window ∷ cop.Limit ∷ cop.Timer ∷ cop.Memory ∷ cop.NotOpen ∷ cop.Busy
     ∷ cop.WrongState ∷ cop.State ∷ []) n
 
 abbrev pub verdict_word : ℕ → List ℕ
-verdict_word n = name_by verdict_number verdict_name
+verdict_word n = name_by (λ x. (verdict_number x, (verdict_row x).1))
     (verdicts.Accepted ∷ verdicts.Ahead ∷ verdicts.NoBuffer ∷ verdicts.Behind ∷ verdicts.Outside
     ∷ verdicts.Discarded ∷ []) n
 
 abbrev pub alert_word : ℕ → List ℕ
-alert_word n = name_by alert_number alert_name
+alert_word n = name_by (λ x. (alert_number x, (alert_row x).1))
     (alerts.Lockout ∷ alerts.NnR ∷ alerts.Clcw ∷ alerts.Synch ∷ alerts.Limit ∷ alerts.Timer
     ∷ alerts.Terminated ∷ []) n
 
 abbrev pub tc_fault_word : ℕ → List ℕ
-tc_fault_word n = name_by tc_faults.fault_number tc_faults.fault_name
+tc_fault_word n = name_by tc_faults.fault_row
     (tc.Short ∷ tc.Version ∷ tc.ReservedType ∷ tc.Spare ∷ tc.Length ∷ tc.Check ∷ tc.BypassNumber
     ∷ tc.EmptyData ∷ tc.Command
     ∷ tc.Room ∷ tc.FieldRange ∷ tc.Memory ∷ []) n
 
 abbrev pub packet_fault_word : ℕ → List ℕ
-packet_fault_word n = name_by packet_faults.fault_number packet_faults.fault_name
+packet_fault_word n = name_by packet_faults.fault_row
     (packet.Truncated ∷ packet.Version ∷ packet.IdleWithSecondary ∷ packet.Room ∷ packet.FieldRange
     ∷ packet.Memory ∷ []) n
 
 abbrev pub tm_fault_word : ℕ → List ℕ
-tm_fault_word n = name_by tm_faults.fault_number tm_faults.fault_name
+tm_fault_word n = name_by tm_faults.fault_row
     (tm.Length ∷ tm.Version ∷ tm.Check ∷ tm.Status ∷ tm.Pointer ∷ tm.NoOcf ∷ tm.Memory
     ∷ tm.NotAPacket ∷ tm.Room ∷ tm.FieldRange ∷ []) n
 
 abbrev pub map_fault_word : ℕ → List ℕ
 map_fault_word n =
-    name_by map_faults.fault_number map_faults.fault_name
+    name_by map_faults.fault_row
     (map.NotAPacket ∷ map.TooLong ∷ map.Memory ∷ []) n
 
 abbrev pub dropped_word : ℕ → List ℕ
-dropped_word n = name_by cause_number cause_name
+dropped_word n = name_by (λ x. (cause_number x, (cause_row x).1))
     (dropped.ClosedMap ∷ dropped.Interrupted ∷ dropped.NoBeginning ∷ dropped.NotAPacket
     ∷ dropped.TooLong ∷ []) n

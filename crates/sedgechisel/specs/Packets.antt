@@ -1,7 +1,7 @@
 -- Space packets as C has them.
 use Rattle.std.specs.Prelude.{◌≡◌, ℕ, List, length, take, drop, ◌&&◌, ◌==◌, nat_lt, if◌then◌else◌}
 use Rattle.std.specs.Prelude.{Result, Ok, Err}
-use Rattle.space_packet.specs.Faults.{fault_number}
+use Rattle.space_packet.specs.Faults.{fault_row}
 use Rattle.space_packet.specs.Layout.{PacketView, type_bit, secondary_bit}
 use Rattle.space_packet.specs.Reading.{kind_at, extent_at, packet_at}
 use Rattle.space_packet.specs.Writing.{encode_answer}
@@ -40,19 +40,19 @@ part_of p = record { from = 6; count = length p.payload }
 
 -- the packet that octets begin with, and how many octets it has
 abbrev pub packet_read : List ℕ → Result (PacketView × ℕ) ℕ
-packet_read octets = numbered fault_number (packet_at octets)
+packet_read octets = numbered fault_row (packet_at octets)
 
 -- the packet that is written where there is so much room
 abbrev pub packet_taken : PacketFields → List ℕ → ℕ → Result PacketView ℕ
 packet_taken p payload room =
     and_then (packet_described p payload) (λ view. if_ok
-    (numbered fault_number (encode_answer view room)) view)
+    (numbered fault_row (encode_answer view room)) view)
 
 -- the declared length of the packet that octets begin; 1 Truncated for fewer than 6
 abbrev pub total_declared : List ℕ → Result ℕ ℕ
 total_declared octets =
     if nat_lt (length octets) 6 then Err 1
-    else numbered fault_number (extent_at (take 6 octets))
+    else numbered fault_row (extent_at (take 6 octets))
 
 -- what the fields and the octets at the place describe is the packet that was read
 abbrev pub DescribesPacket : List ℕ → PacketFields → Part → Type 0

@@ -12,7 +12,7 @@ use Rattle.cop1.specs.declared.fop.FopMode.TheVariants.{S1, S2, S3, S4, S5, S6}
 use Rattle.cop1.specs.declared.sender.SenderFields.{SenderFields}
 use Rattle.cop1.specs.declared.sender.sending.SenderNext.{SenderNext}
 use Rattle.cop1.specs.declared.sender.sending.SenderNext.TheVariants as next
-use Rattle.cop1.specs.Faults.{fault_number}
+use Rattle.cop1.specs.Faults.{fault_row}
 use Rattle.cop1.specs.FopNew.{new_fault}
 use Rattle.cop1.specs.Modulo.{ahead_by}
 use Rattle.cop1.specs.SenderState.{new_sender}
@@ -167,7 +167,7 @@ AreDescribed k (Err number) = Unit {0}
 
 abbrev pub unless_refused : Option CopFault → SenderFields → Result SenderFields ℕ
 unless_refused None s = Ok s
-unless_refused (Some fault) s = Err (fault_number fault)
+unless_refused (Some fault) s = Err (fault_row fault).0
 
 -- a new sender
 abbrev pub sender_opened : ℕ → ℕ → ℕ → ℕ → Result SenderFields ℕ
@@ -186,7 +186,7 @@ after_step k input = map_ok (λ o. o.after) (stepped k input)
 -- the sender after what may be refused
 abbrev pub unless_fault : {A : Type 0} → SenderFields → Result A CopFault → Result SenderFields ℕ
 unless_fault s (Ok answer) = Ok s
-unless_fault s (Err fault) = Err (fault_number fault)
+unless_fault s (Err fault) = Err (fault_row fault).0
 
 abbrev pub submitted : KeptSender → Result SenderFields ℕ
 submitted k = and_then (stepped k Submit) (λ o. unless_fault o.after o.answer)

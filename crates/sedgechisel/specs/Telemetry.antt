@@ -1,6 +1,6 @@
 -- Telemetry frames as C has them.
 use Rattle.std.specs.Prelude.{◌≡◌, ℕ, List, length, take, drop, Result, Ok}
-use Rattle.tm_link.specs.Faults.{fault_number}
+use Rattle.tm_link.specs.Faults.{fault_row}
 use Rattle.tm_link.specs.Layout.{FrameView, pointer_number}
 use Rattle.tm_link.specs.Reading.{pointer_at, frame_at}
 use Rattle.tm_link.specs.Writing.{encode_answer}
@@ -38,12 +38,12 @@ part_of f = record { from = 6; count = length f.payload }
 -- ---- the calls
 
 abbrev pub frame_read : ℕ → List ℕ → Result FrameView ℕ
-frame_read total octets = numbered fault_number (frame_at total octets)
+frame_read total octets = numbered fault_row (frame_at total octets)
 
 -- the frame that is written where there is so much room
 abbrev pub frame_taken : ReportFrame → List ℕ → ℕ → Result FrameView ℕ
 frame_taken f payload room =
-    if_ok (numbered fault_number (encode_answer (frame_described f payload) room))
+    if_ok (numbered fault_row (encode_answer (frame_described f payload) room))
     (frame_described f payload)
 
 -- what the fields and the octets at the place describe is the frame that was read

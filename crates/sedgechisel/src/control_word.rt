@@ -1,7 +1,6 @@
 // The communications link control word.
 
 ghost use Rattle.std.specs.Prelude.{◌≡◌, length};
-ghost use Rattle.clcw.specs.Faults.{fault_number};
 ghost use Rattle.sedgechisel.specs.Answers.{status_of, left_by};
 ghost use Rattle.sedgechisel.specs.ControlWords.{fields_of, word_of, word_read, word_written};
 

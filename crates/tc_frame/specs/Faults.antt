@@ -1,4 +1,4 @@
--- The faults of telecommand frames by number and by name.
+-- The refusals of telecommand frames: a row each.
 use Rattle.std.specs.Prelude.{ℕ, List, codes}
 use Rattle.tc_frame.specs.declared.fault.TcFault.{TcFault}
 use Rattle.tc_frame.specs.declared.fault.TcFault.TheVariants.{Short, Version, ReservedType, Spare}
@@ -6,30 +6,17 @@ use Rattle.tc_frame.specs.declared.fault.TcFault.TheVariants.{Length, Check, Byp
 use Rattle.tc_frame.specs.declared.fault.TcFault.TheVariants.{EmptyData, Command, Room, FieldRange}
 use Rattle.tc_frame.specs.declared.fault.TcFault.TheVariants.{Memory}
 
-abbrev pub fault_number : TcFault → ℕ
-fault_number Short = 1
-fault_number Version = 2
-fault_number ReservedType = 3
-fault_number Spare = 4
-fault_number Length = 5
-fault_number Check = 6
-fault_number BypassNumber = 7
-fault_number EmptyData = 8
-fault_number Command = 9
-fault_number Room = 10
-fault_number FieldRange = 11
-fault_number Memory = 12
-
-abbrev pub fault_name : TcFault → List ℕ
-fault_name Short = codes "Short"
-fault_name Version = codes "Version"
-fault_name ReservedType = codes "ReservedType"
-fault_name Spare = codes "Spare"
-fault_name Length = codes "Length"
-fault_name Check = codes "Check"
-fault_name BypassNumber = codes "BypassNumber"
-fault_name EmptyData = codes "EmptyData"
-fault_name Command = codes "Command"
-fault_name Room = codes "Room"
-fault_name FieldRange = codes "FieldRange"
-fault_name Memory = codes "Memory"
+-- the number, and the name in ASCII
+abbrev pub fault_row : TcFault → ℕ × List ℕ
+fault_row Short = (1, codes "Short")
+fault_row Version = (2, codes "Version")
+fault_row ReservedType = (3, codes "ReservedType")
+fault_row Spare = (4, codes "Spare")
+fault_row Length = (5, codes "Length")
+fault_row Check = (6, codes "Check")
+fault_row BypassNumber = (7, codes "BypassNumber")
+fault_row EmptyData = (8, codes "EmptyData")
+fault_row Command = (9, codes "Command")
+fault_row Room = (10, codes "Room")
+fault_row FieldRange = (11, codes "FieldRange")
+fault_row Memory = (12, codes "Memory")

@@ -4,11 +4,11 @@ use super::Alert;
 
 impl Alert {
     ghost use Rattle.std.specs.Prelude.{◌≡◌};
-    ghost use Rattle.cop1.specs.Names.{alert_name};
+    ghost use Rattle.cop1.specs.Names.{alert_row};
 
     /// The alert's name, as it is written here.
     pub fn name(self) -> &'static str
-        ensures { result.now ≡ alert_name self }
+        ensures { result.now ≡ (alert_row self).1 }
     {
         match self {
             Alert::Lockout => "Lockout",

@@ -16,11 +16,11 @@ pub enum SimFault {
 }
 
 impl SimFault {
-    ghost use Rattle.tc_link.specs.SimFaults.{fault_number, fault_name};
+    ghost use Rattle.tc_link.specs.SimFaults.{fault_row};
 
     /// The fault's number, 6 to 9.
     pub fn number(self) -> u8
-        ensures { result ≡ fault_number self }
+        ensures { result ≡ (fault_row self).0 }
     {
         match self {
             SimFault::Memory => 6,
@@ -32,7 +32,7 @@ impl SimFault {
 
     /// The fault's name, as it is written here.
     pub fn name(self) -> &'static str
-        ensures { result.now ≡ fault_name self }
+        ensures { result.now ≡ (fault_row self).1 }
     {
         match self {
             SimFault::Memory => "Memory",
