@@ -7,7 +7,7 @@ use Rattle.tc_frame.specs.declared.frame.Command.TheVariants.{Unlock, SetVr}
 use Rattle.cop1.specs.declared.fop.Control.{Control}
 use Rattle.cop1.specs.declared.fop.Control.TheVariants.{Idle, Due, Sent}
 use Rattle.cop1.specs.declared.fop.FopMode.{FopMode}
-use Rattle.cop1.specs.declared.fop.FopMode.TheVariants.{S1, S2, S3, S4, S5, S6}
+use Rattle.cop1.specs.declared.fop.FopMode.TheVariants.{S1}
 use Rattle.cop1.specs.declared.sender.SenderFields.{SenderFields}
 use Rattle.cop1.specs.SenderState.{IsSender, HasRanges, AgreesWithState}
 use Rattle.sedgechisel.specs.declared.sender.KeptSender.{KeptSender}
@@ -22,11 +22,7 @@ use Rattle.sedgechisel.specs.Senders.{sender_described}
 
 mode_again : (m : FopMode) → mode_at (mode_number m) ≡ Some m
 mode_again S1 = refl
-mode_again S2 = refl
-mode_again S3 = refl
-mode_again S4 = refl
-mode_again S5 = refl
-mode_again S6 = refl
+mode_again _ = refl
 
 flag_again : (b : Bool) → flag_at (flag_number b) ≡ Some b
 flag_again true = refl
@@ -60,11 +56,7 @@ ranges_hold s h =
 
 agreement_holds : (s : SenderFields) (m : FopMode) → s.state ≡ m → AgreesWithState s → agrees_in s m ≡ true
 agreement_holds s S1 is h = grind (arith, h)
-agreement_holds s S2 is h = grind (arith, h)
-agreement_holds s S3 is h = grind (arith, h)
-agreement_holds s S4 is h = grind (arith, h)
-agreement_holds s S5 is h = grind (arith, h)
-agreement_holds s S6 is h = grind (arith, h)
+agreement_holds s _ is h = grind (arith, h)
 
 is_sure : (s : SenderFields) → IsSender s → is_sender s ≡ true
 is_sure s h = and_from _ _ (ranges_hold s h.ranges) (agreement_holds s s.state refl h.agrees)
@@ -97,11 +89,7 @@ ranges_are s vs nn ticks h = grind (arith, vs, nn, ticks, h)
 
 agreement_is : (s : SenderFields) (m : FopMode) → s.state ≡ m → agrees_in s m ≡ true → AgreesWithState s
 agreement_is s S1 is h = grind (arith, is, h)
-agreement_is s S2 is h = grind (arith, is, h)
-agreement_is s S3 is h = grind (arith, is, h)
-agreement_is s S4 is h = grind (arith, is, h)
-agreement_is s S5 is h = grind (arith, is, h)
-agreement_is s S6 is h = grind (arith, is, h)
+agreement_is s _ is h = grind (arith, is, h)
 
 sender_is : (s : SenderFields) → s.vs < 256 → s.nn < 256 → IfSome s.ticks (λ left. 1 ≤ left) → is_sender s ≡ true
     → IsSender s

@@ -14,7 +14,8 @@ use Rattle.sedgechisel.specs.declared.assembly.KeptMap.{KeptMap}
 use Rattle.sedgechisel.specs.declared.assembly.TakenSegment.{TakenSegment}
 use Rattle.sedgechisel.specs.declared.part.Part.{Part}
 use Rattle.sedgechisel.specs.Answers.{damaged}
-use Rattle.sedgechisel.specs.Numbers.{cause_number}
+use Rattle.map_service.specs.Causes.{cause_row}
+use Rattle.sedgechisel.specs.Numbers.{found_by}
 
 -- ---- what the structs describe
 
@@ -35,17 +36,13 @@ limits_of m room =
 
 abbrev pub cause_at : ℕ → Option Dropped
 cause_at n =
-    if n == 1 then Some ClosedMap
-    else if n == 2 then Some Interrupted
-    else if n == 3 then Some NoBeginning
-    else if n == 4 then Some NotAPacket
-    else if n == 5 then Some TooLong
-    else None
+    found_by (λ cause. (cause_row cause).0)
+    (ClosedMap ∷ Interrupted ∷ NoBeginning ∷ NotAPacket ∷ TooLong ∷ []) n
 
 -- a cause's number, and 0 for none
 abbrev pub cause_answer : Option Dropped → ℕ
 cause_answer None = 0
-cause_answer (Some cause) = cause_number cause
+cause_answer (Some cause) = (cause_row cause).0
 
 -- the packets that are whole now: one at the beginning of the memory, or those of the segment's
 -- data

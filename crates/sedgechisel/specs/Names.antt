@@ -1,6 +1,6 @@
 -- The words for numbers, which are those of the crates.
-use Rattle.std.specs.Prelude.{ℕ, List, [], ◌∷◌, ◌++◌, ◌-◌, length, replicate, codes, ◌==◌}
-use Rattle.std.specs.Prelude.{if◌then◌else◌}
+use Rattle.std.specs.Prelude.{ℕ, List, [], ◌∷◌, ◌++◌, ◌-◌, length, replicate, codes, Option, Some}
+use Rattle.std.specs.Prelude.{None}
 use Rattle.clcw.specs.declared.fault.ClcwFault.TheVariants as clcw
 use Rattle.clcw.specs.Faults as clcw_faults
 use Rattle.cop1.specs.declared.fault.CopFault.TheVariants as cop
@@ -16,19 +16,22 @@ use Rattle.tm_link.specs.declared.fault.TmFault.TheVariants as tm
 use Rattle.tm_link.specs.Faults as tm_faults
 use Rattle.map_service.specs.declared.fault.MapFault.TheVariants as map
 use Rattle.map_service.specs.Faults as map_faults
-use Rattle.map_service.specs.declared.dropped.Dropped.TheVariants as dropped
 use Rattle.map_service.specs.Causes.{cause_row}
-use Rattle.sedgechisel.specs.Receivers.{verdict_number}
-use Rattle.sedgechisel.specs.Numbers.{alert_number, cause_number}
+use Rattle.sedgechisel.specs.Maps.{cause_at}
+use Rattle.sedgechisel.specs.Numbers.{found_by}
 
 -- a word, and zeros up to 20 octets
 abbrev pub text_of : List ℕ → List ℕ
 text_of word = word ++ replicate (20 - length word) 0
 
--- the name of the one of these that has the number, and "?" where none has it
+-- the name, and "?" for none
+abbrev pub name_if : {A : Type 0} → (A → ℕ × List ℕ) → Option A → List ℕ
+name_if row None = codes "?"
+name_if row (Some x) = (row x).1
+
+-- the name of the one of these that has the number
 abbrev pub name_by : {A : Type 0} → (A → ℕ × List ℕ) → List A → ℕ → List ℕ
-name_by row [] n = codes "?"
-name_by row (x ∷ xs) n = if n == (row x).0 then (row x).1 else name_by row xs n
+name_by row xs n = name_if row (found_by (λ x. (row x).0) xs n)
 
 abbrev pub clcw_fault_word : ℕ → List ℕ
 clcw_fault_word n =
@@ -41,12 +44,12 @@ cop_fault_word n = name_by cop_faults.fault_row
     ∷ cop.WrongState ∷ cop.State ∷ []) n
 
 abbrev pub verdict_word : ℕ → List ℕ
-verdict_word n = name_by (λ x. (verdict_number x, (verdict_row x).1))
+verdict_word n = name_by verdict_row
     (verdicts.Accepted ∷ verdicts.Ahead ∷ verdicts.NoBuffer ∷ verdicts.Behind ∷ verdicts.Outside
     ∷ verdicts.Discarded ∷ []) n
 
 abbrev pub alert_word : ℕ → List ℕ
-alert_word n = name_by (λ x. (alert_number x, (alert_row x).1))
+alert_word n = name_by alert_row
     (alerts.Lockout ∷ alerts.NnR ∷ alerts.Clcw ∷ alerts.Synch ∷ alerts.Limit ∷ alerts.Timer
     ∷ alerts.Terminated ∷ []) n
 
@@ -72,6 +75,4 @@ map_fault_word n =
     (map.NotAPacket ∷ map.TooLong ∷ map.Memory ∷ []) n
 
 abbrev pub dropped_word : ℕ → List ℕ
-dropped_word n = name_by (λ x. (cause_number x, (cause_row x).1))
-    (dropped.ClosedMap ∷ dropped.Interrupted ∷ dropped.NoBeginning ∷ dropped.NotAPacket
-    ∷ dropped.TooLong ∷ []) n
+dropped_word n = name_if cause_row (cause_at n)

@@ -5,9 +5,8 @@ use Rattle.clcw.specs.declared.word.Clcw.{Clcw}
 use Rattle.cop1.specs.declared.farm.FarmMode.{FarmMode}
 use Rattle.cop1.specs.declared.farm.FarmMode.TheVariants.{Open, Wait, Lockout}
 use Rattle.cop1.specs.declared.farm.Verdict.{Verdict}
-use Rattle.cop1.specs.declared.farm.Verdict.TheVariants.{Accepted, Ahead, NoBuffer, Behind, Outside}
-use Rattle.cop1.specs.declared.farm.Verdict.TheVariants.{Discarded}
 use Rattle.cop1.specs.Farm.{FarmState, FarmEvent, state_of, farm_step, new_farm}
+use Rattle.cop1.specs.Names.{verdict_row}
 use Rattle.cop1.specs.Report.{report_of}
 use Rattle.octets.specs.Outcome.{map_ok}
 use Rattle.sedgechisel.specs.declared.receiver.Receiver.{Receiver}
@@ -78,14 +77,7 @@ answer_of number (Ok x) = number x
 answer_of number (Err fault) = fault
 
 abbrev pub verdict_number : Verdict → ℕ
-verdict_number Accepted = 0
-verdict_number Ahead = 1
-verdict_number NoBuffer = 2
-verdict_number Behind = 3
-verdict_number Outside = 4
-verdict_number Discarded = 5
+verdict_number verdict = (verdict_row verdict).0
 
 abbrev pub mode_number : FarmMode → ℕ
-mode_number Open = 0
-mode_number Wait = 1
-mode_number Lockout = 2
+mode_number mode = elim mode [ Open ↦ 0 | Wait ↦ 1 | Lockout ↦ 2 ]

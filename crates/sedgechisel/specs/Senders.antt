@@ -1,6 +1,6 @@
 -- The sender as C keeps it.
-use Rattle.std.specs.Prelude.{◌≡◌, ℕ, Bool, true, false, not, ◌&&◌, ◌==◌, nat_le, if◌then◌else◌}
-use Rattle.std.specs.Prelude.{Option, Some, None, is_some, Result, Ok, Err}
+use Rattle.std.specs.Prelude.{◌≡◌, ℕ, Bool, true, false, not, [], ◌∷◌, ◌&&◌, ◌==◌, nat_le}
+use Rattle.std.specs.Prelude.{if◌then◌else◌, Option, Some, None, is_some, Result, Ok, Err}
 use Rattle.tc_frame.specs.declared.frame.Command.TheVariants.{Unlock, SetVr}
 use Rattle.cop1.specs.declared.fault.CopFault.{CopFault}
 use Rattle.cop1.specs.declared.fop.Alert.{Alert}
@@ -15,24 +15,20 @@ use Rattle.cop1.specs.declared.sender.sending.SenderNext.TheVariants as next
 use Rattle.cop1.specs.Faults.{fault_row}
 use Rattle.cop1.specs.FopNew.{new_fault}
 use Rattle.cop1.specs.Modulo.{ahead_by}
+use Rattle.cop1.specs.Names.{alert_row}
 use Rattle.cop1.specs.SenderState.{new_sender}
 use Rattle.cop1.specs.SenderStep.{SenderInput, SenderAnswer, Submit, Direct, sender_step}
 use Rattle.cop1.specs.SenderWords.{SenderOutcome}
 use Rattle.octets.specs.Outcome.{map_ok}
 use Rattle.sedgechisel.specs.declared.sender.KeptSender.{KeptSender}
 use Rattle.sedgechisel.specs.Answers.{damaged, and_then}
-use Rattle.sedgechisel.specs.Numbers.{alert_number}
+use Rattle.sedgechisel.specs.Numbers.{found_by}
 use Rattle.sedgechisel.specs.Receivers.{flag_number}
 
 -- ---- from a sender to fields
 
 abbrev pub mode_number : FopMode → ℕ
-mode_number S1 = 1
-mode_number S2 = 2
-mode_number S3 = 3
-mode_number S4 = 4
-mode_number S5 = 5
-mode_number S6 = 6
+mode_number mode = elim mode [ S1 ↦ 1 | S2 ↦ 2 | S3 ↦ 3 | S4 ↦ 4 | S5 ↦ 5 | S6 ↦ 6 ]
 
 -- the ticks that are left, and 0 where the timer is off
 abbrev pub ticks_number : Option ℕ → ℕ
@@ -75,14 +71,7 @@ kept_of s = record {
 -- ---- from fields to a sender
 
 abbrev pub mode_at : ℕ → Option FopMode
-mode_at n =
-    if n == 1 then Some S1
-    else if n == 2 then Some S2
-    else if n == 3 then Some S3
-    else if n == 4 then Some S4
-    else if n == 5 then Some S5
-    else if n == 6 then Some S6
-    else None
+mode_at n = found_by mode_number (S1 ∷ S2 ∷ S3 ∷ S4 ∷ S5 ∷ S6 ∷ []) n
 
 abbrev pub ticks_at : ℕ → Option ℕ
 ticks_at n = if n == 0 then None else Some n
@@ -143,12 +132,9 @@ is_numbered s = ahead_by s.vs s.nn == s.sent
 
 -- in S6 nothing is there, and a control command is there in S5 alone
 abbrev pub agrees_in : SenderFields → FopMode → Bool
-agrees_in s S1 = is_numbered s && is_idle s.control
-agrees_in s S2 = is_numbered s && is_idle s.control
-agrees_in s S3 = is_numbered s && is_idle s.control
-agrees_in s S4 = is_numbered s && is_idle s.control
 agrees_in s S5 = is_numbered s
 agrees_in s S6 = (s.sent == 0) && not s.waiting && not (is_some s.ticks) && is_idle s.control
+agrees_in s _ = is_numbered s && is_idle s.control
 
 -- a sender has such numbers
 abbrev pub is_sender : SenderFields → Bool
@@ -197,7 +183,7 @@ directed k directive = and_then (stepped k (Direct directive)) (λ o. unless_fau
 -- an alert's number, and 0 for none
 abbrev pub alert_answer : Option Alert → ℕ
 alert_answer None = 0
-alert_answer (Some alert) = alert_number alert
+alert_answer (Some alert) = (alert_row alert).0
 
 abbrev pub next_answer : SenderNext → ℕ
 next_answer next.Nothing = 0
