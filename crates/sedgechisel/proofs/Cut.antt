@@ -18,28 +18,32 @@ times_suc k part = omega arith
 behind : (t part : ℕ) (xs : List ℕ) → drop t (drop part xs) ≡ drop (part + t) xs
 behind t part xs = drop-drop t part xs
 
--- a part that is not the last of those after a first
-later_continuing : (k part m : ℕ) (xs : List ℕ) → 1 ≤ part → k * part + part < length xs
-    → slice_get (later_segments m (pieces_of part xs)) k
-    ≡ Some (segment_with Continuing m (take part (drop (k * part) xs)))
+-- part k of those after the first, which is not the last of them, or is the last
+later_continuing : (k part m : ℕ) (xs : List ℕ) → 1 ≤ part → suc k * part + part < length xs
+    → slice_get (later_segments m (pieces_of part (drop part xs))) k
+    ≡ Some (segment_with Continuing m (take part (drop (suc k * part) xs)))
 later_continuing zero part m xs one more =
-    let here : zero * part ≡ 0 = omega arith in
-    rw (here, later_segments-more m part xs one (omega arith)) refl
+    let size = length-drop part xs in
+    let here : suc zero * part ≡ part = omega arith in
+    rw (here, later_segments-more m part (drop part xs) one (omega arith)) refl
 later_continuing (suc k) part m xs one more =
     let size = length-drop part xs in
-    let step = times_suc k part in
-    rw (later_segments-more m part xs one (omega arith), step, sym (behind (k * part) part xs))
+    let step = times_suc (suc k) part in
+    rw (later_segments-more m part (drop part xs) one (omega arith), step, sym (behind (suc k * part) part xs))
     (later_continuing k part m (drop part xs) one (omega arith))
 
-later_last : (k part m : ℕ) (xs : List ℕ) → 1 ≤ part → k * part < length xs → length xs ≤ k * part + part
-    → slice_get (later_segments m (pieces_of part xs)) k ≡ Some (segment_with Last m (take part (drop (k * part) xs)))
+later_last : (k part m : ℕ) (xs : List ℕ) → 1 ≤ part → suc k * part < length xs → length xs ≤ suc k * part + part
+    → slice_get (later_segments m (pieces_of part (drop part xs))) k
+    ≡ Some (segment_with Last m (take part (drop (suc k * part) xs)))
 later_last zero part m xs one some last =
-    let here : zero * part ≡ 0 = omega arith in
-    rw (here, later_segments-last m part xs (omega arith) (omega arith), take_all part xs (omega arith)) refl
+    let size = length-drop part xs in
+    let here : suc zero * part ≡ part = omega arith in
+    rw (here, later_segments-last m part (drop part xs) (omega arith) (omega arith))
+    (ap (λ (p : List ℕ). Some (segment_with Last m p)) (sym (take_all part (drop part xs) (omega arith))))
 later_last (suc k) part m xs one some last =
     let size = length-drop part xs in
-    let step = times_suc k part in
-    rw (later_segments-more m part xs one (omega arith), step, sym (behind (k * part) part xs))
+    let step = times_suc (suc k) part in
+    rw (later_segments-more m part (drop part xs) one (omega arith), step, sym (behind (suc k * part) part xs))
     (later_last k part m (drop part xs) one (omega arith) (omega arith))
 
 -- ---- parts of a packet among octets: from a place on, as many as the packet has
@@ -98,22 +102,25 @@ first_at octets from len part m zero fits one here lt =
     ∙ ap (λ (p : List ℕ). Some (segment_with First m p)) (take-take part len (drop from octets) (omega arith)))
 first_at octets from len part m (suc k) fits one here lt = absurd (omega arith)
 
+-- the parts after the first
+after_first : (octets : List ℕ) (from len part m k : ℕ) → from + len ≤ length octets → 1 ≤ part → part < len
+    → slice_get (parts_of part m (packet_at octets from len)) (suc k)
+    ≡ slice_get (later_segments m (pieces_of part (drop part (packet_at octets from len)))) k
+after_first octets from len part m k fits one more =
+    let size = packet-length octets from len fits in
+    ap (λ (l : List SegmentView). slice_get l (suc k)) (parts-more m part (packet_at octets from len) one (omega arith))
+
 pub continuing_at : (octets : List ℕ) (from len part m k : ℕ) → from + len ≤ length octets → 1 ≤ part → k ≢ 0
     → k * part < len → part < len - k * part
     → slice_get (parts_of part m (packet_at octets from len)) k
     ≡ Some (segment_with Continuing m (take part (drop (from + k * part) octets)))
 continuing_at octets from len part m zero fits one some there more = absurd (some refl)
 continuing_at octets from len part m (suc k) fits one some there more =
-    let xs : List ℕ = packet_at octets from len in
     let size = packet-length octets from len fits in
-    let less = length-drop part xs in
-    let step = times_suc k part in
-    rw step
-    (ap (λ (l : List SegmentView). slice_get l (suc k)) (parts-more m part xs one (omega arith))
-    ∙ later_continuing k part m (drop part xs) one (omega arith)
+    after_first octets from len part m k fits one (omega arith)
+    ∙ later_continuing k part m (packet_at octets from len) one (omega arith)
     ∙ ap (λ (p : List ℕ). Some (segment_with Continuing m p))
-    (ap (take part) (behind (k * part) part xs)
-    ∙ full_part octets from len (part + k * part) part (omega arith) (omega arith)))
+    (full_part octets from len (suc k * part) part (omega arith) (omega arith))
 
 pub last_at : (octets : List ℕ) (from len part m k : ℕ) → from + len ≤ length octets → 1 ≤ part → k ≢ 0 → k * part < len
     → len - k * part ≤ part
@@ -121,16 +128,11 @@ pub last_at : (octets : List ℕ) (from len part m k : ℕ) → from + len ≤ l
     ≡ Some (segment_with Last m (take (len - k * part) (drop (from + k * part) octets)))
 last_at octets from len part m zero fits one some there last = absurd (some refl)
 last_at octets from len part m (suc k) fits one some there last =
-    let xs : List ℕ = packet_at octets from len in
     let size = packet-length octets from len fits in
-    let less = length-drop part xs in
-    let step = times_suc k part in
-    rw step
-    (ap (λ (l : List SegmentView). slice_get l (suc k)) (parts-more m part xs one (omega arith))
-    ∙ later_last k part m (drop part xs) one (omega arith) (omega arith)
+    after_first octets from len part m k fits one (omega arith)
+    ∙ later_last k part m (packet_at octets from len) one (omega arith) (omega arith)
     ∙ ap (λ (p : List ℕ). Some (segment_with Last m p))
-    (ap (take part) (behind (k * part) part xs)
-    ∙ short_part octets from len (part + k * part) part (omega arith) (omega arith)))
+    (short_part octets from len (suc k * part) part (omega arith) (omega arith))
 
 -- ---- one group of packets after another
 
