@@ -2,6 +2,7 @@
 use Rattle.std.specs.Prelude.{◌≡◌, ℕ, ◌+◌, true, false, List, [], ◌∷◌, length, take, drop, min}
 use Rattle.std.specs.Prelude.{Bool, ◌&&◌, ◌||◌, ◌==◌, nat_lt, nat_le, if◌then◌else◌, Option, Some}
 use Rattle.std.specs.Prelude.{None, Result, Ok, Err}
+use Rattle.tc_frame.specs.declared.frame.SegmentFlags.{SegmentFlags}
 use Rattle.tc_frame.specs.Reading.{flags_at}
 use Rattle.map_service.specs.declared.dropped.Dropped.{Dropped}
 use Rattle.map_service.specs.declared.dropped.Dropped.TheVariants.{ClosedMap, Interrupted}
@@ -9,7 +10,7 @@ use Rattle.map_service.specs.declared.dropped.Dropped.TheVariants.{NoBeginning, 
 use Rattle.map_service.specs.declared.limits.Limits.{Limits}
 use Rattle.map_service.specs.Cutting.{segment_with}
 use Rattle.map_service.specs.Packets.{first_packet, packets_in}
-use Rattle.map_service.specs.Taking.{TakeOutcome, take_step}
+use Rattle.map_service.specs.Taking.{TakeOutcome, cell, take_step}
 use Rattle.sedgechisel.specs.declared.assembly.KeptMap.{KeptMap}
 use Rattle.sedgechisel.specs.declared.assembly.TakenSegment.{TakenSegment}
 use Rattle.sedgechisel.specs.declared.part.Part.{Part}
@@ -33,6 +34,10 @@ part_of m memory = if m.is_open == 1 then Some (take m.count memory) else None
 abbrev pub limits_of : KeptMap → ℕ → Limits
 limits_of m room =
     record { part = 1; max_packet = min room 4294967295; maps = 1; blocking = m.blocking == 1 }
+
+-- what a segment with these flags and data leads to on this MAP
+abbrev pub cell_for : KeptMap → SegmentFlags → List ℕ → List ℕ → TakeOutcome
+cell_for m flags octets memory = cell (limits_of m (length memory)) flags (part_of m memory) octets
 
 abbrev pub cause_at : ℕ → Option Dropped
 cause_at n =

@@ -3,9 +3,8 @@
 ghost use Rattle.std.specs.Prelude.{◌≡◌, ◌+◌, ◌≤◌, ◌++◌, length, take, true, None, OnOk, OnErr, is_some};
 ghost use Rattle.tc_frame.specs.declared.frame.SegmentFlags.TheVariants as flags;
 ghost use Rattle.map_service.specs.Adding.{adding_fault};
-ghost use Rattle.map_service.specs.Taking.{cell};
 ghost use Rattle.sedgechisel.specs.Answers.{status_of};
-ghost use Rattle.sedgechisel.specs.Maps.{is_map, interrupted, part_of, limits_of, cause_answer, closed, no_packets, outcome_described, taken_at, DescribesOutcome, next_packet, part_or, DescribesPackets};
+ghost use Rattle.sedgechisel.specs.Maps.{is_map, interrupted, part_of, limits_of, cell_for, cause_answer, closed, no_packets, outcome_described, taken_at, DescribesOutcome, next_packet, part_or, DescribesPackets};
 
 use crate::numbers::DAMAGED;
 use crate::part::Part;
@@ -84,8 +83,7 @@ fn take_cell(
 ) -> TakenSegment
     requires whole { is_map map.old (length memory.old) ≡ true }
     ensures describes { outcome_described map.new result memory.new octets.now
-        ≡ cell (limits_of map.old (length memory.old)) flags (part_of map.old memory.old)
-        octets.now }
+        ≡ cell_for map.old flags octets.now memory.old }
     ensures map { is_map map.new (length memory.old) ≡ true }
 {
     match flags {
@@ -128,11 +126,14 @@ fn number_of(dropped: Option<Dropped>) -> u8
     }
 }
 
-// What a first or an alone segment drops: the part that is open.
-fn interruption(map: &KeptMap) -> Option<Dropped>
-    ensures { result ≡ interrupted map.now }
+// A first or an alone segment drops the part that is open.
+fn interrupt(map: &mut KeptMap) -> Option<Dropped>
+    ensures dropped { result ≡ interrupted map.old }
+    ensures map { map.new ≡ closed map.old }
 {
-    if map.is_open == 1 {
+    let was_open = map.is_open == 1;
+    close(map);
+    if was_open {
         return Some(Dropped::Interrupted);
     }
     None
@@ -141,13 +142,11 @@ fn interruption(map: &KeptMap) -> Option<Dropped>
 fn take_alone(map: &mut KeptMap, octets: &[u8], memory: &[u8]) -> TakenSegment
     requires whole { is_map map.old (length memory.now) ≡ true }
     ensures describes { outcome_described map.new result memory.now octets.now
-        ≡ cell (limits_of map.old (length memory.now)) flags.Alone (part_of map.old memory.now)
-        octets.now }
+        ≡ cell_for map.old flags.Alone octets.now memory.now }
     ensures map { is_map map.new (length memory.now) ≡ true }
 {
     let limits = limits_for(map, memory.len());
-    let earlier = interruption(map);
-    close(map);
+    let earlier = interrupt(map);
     if let Some(cause) = fault_of_alone(&limits, octets) {
         return no_packets(Some(cause));
     }
@@ -161,14 +160,11 @@ fn take_alone(map: &mut KeptMap, octets: &[u8], memory: &[u8]) -> TakenSegment
 fn take_first(map: &mut KeptMap, octets: &[u8], memory: &mut [u8]) -> TakenSegment
     requires whole { is_map map.old (length memory.old) ≡ true }
     ensures describes { outcome_described map.new result memory.new octets.now
-        ≡ cell (limits_of map.old (length memory.old)) flags.First (part_of map.old memory.old)
-        octets.now }
+        ≡ cell_for map.old flags.First octets.now memory.old }
     ensures map { is_map map.new (length memory.old) ≡ true }
 {
-    let limits = limits_for(map, memory.len());
-    let earlier = interruption(map);
-    close(map);
-    if limits.is_too_long(octets.len()) {
+    let earlier = interrupt(map);
+    if limits_for(map, memory.len()).is_too_long(octets.len()) {
         return no_packets(Some(Dropped::TooLong));
     }
     map.count = add(0, octets, memory);
@@ -208,8 +204,7 @@ fn fault_of_adding(map: &KeptMap, octets: &[u8], memory: &[u8]) -> Option<Droppe
 fn take_continuing(map: &mut KeptMap, octets: &[u8], memory: &mut [u8]) -> TakenSegment
     requires whole { is_map map.old (length memory.old) ≡ true }
     ensures describes { outcome_described map.new result memory.new octets.now
-        ≡ cell (limits_of map.old (length memory.old)) flags.Continuing (part_of map.old memory.old)
-        octets.now }
+        ≡ cell_for map.old flags.Continuing octets.now memory.old }
     ensures map { is_map map.new (length memory.old) ≡ true }
 {
     if let Some(cause) = fault_of_adding(map, octets, memory) {
@@ -223,8 +218,7 @@ fn take_continuing(map: &mut KeptMap, octets: &[u8], memory: &mut [u8]) -> Taken
 fn take_last(map: &mut KeptMap, octets: &[u8], memory: &mut [u8]) -> TakenSegment
     requires whole { is_map map.old (length memory.old) ≡ true }
     ensures describes { outcome_described map.new result memory.new octets.now
-        ≡ cell (limits_of map.old (length memory.old)) flags.Last (part_of map.old memory.old)
-        octets.now }
+        ≡ cell_for map.old flags.Last octets.now memory.old }
     ensures map { is_map map.new (length memory.old) ≡ true }
 {
     let limits = limits_for(map, memory.len());

@@ -10,5 +10,5 @@ returns-clause-describes c =
     let none : alone_fault (limits_of c.args.map.now (length c.args.memory.now)) c.args.octets.now ≡ None =
     ap (λ (l : Limits). alone_fault l c.args.octets.now) (sym c.limits_for-limits.ensures)
     ∙ sym c.fault_of_alone.ensures ∙ c.in_default.is in
-    rw (c.close.ensures, c.number_of.ensures, c.interruption-earlier.ensures)
+    rw (c.interrupt-earlier.ensures.map, c.number_of.ensures, c.interrupt-earlier.ensures.dropped)
     (alone_described c.args.map.now c.args.memory.now c.args.octets.now none)
