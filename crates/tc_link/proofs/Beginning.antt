@@ -18,7 +18,7 @@ use Rattle.tc_link.specs.World.{is_none}
 use Rattle.tc_link.specs.PlainLink.{new_link, none}
 use Rattle.tc_link.specs.Reached.{IsDirective}
 use Rattle.tc_link.proofs.Early.{Begun, early_settled}
-use Rattle.tc_link.proofs.Linked.{Commanded, Late, Carries, Reporting}
+use Rattle.tc_link.proofs.Linked.{Commanded, Held, Late, Carries, Reporting}
 use Rattle.tc_link.proofs.Settled.{late_settled}
 use Rattle.tc_link.proofs.SteadyWorld.{Sound}
 use Rattle.cop1.proofs.Obeying.{obeyed, begun}
@@ -30,7 +30,7 @@ use Rattle.cop1.specs.declared.fop.Alert.{Alert}
 use Rattle.cop1.specs.declared.fault.CopFault.{CopFault}
 use Rattle.std.proofs.Common.{Option, None, Result, option_to_list, ◌++◌}
 use Rattle.tc_link.specs.Confirmation.{IsChecked}
-use Rattle.tc_link.proofs.Early.{IsEarly, ControlFits, HeldEarly}
+use Rattle.tc_link.proofs.Early.{IsEarly, ControlFits}
 
 pub record Clean (c : Config) (w : World) : Type 0 where
   pub directive : Directive
@@ -57,6 +57,10 @@ module _ (c : Config) (w : World) (k : Sound c w) where
   none_after : drop (length w.spacecraft.accepted) w.spacecraft.accepted ≡ []
   none_after = drop_all (length w.spacecraft.accepted) w.spacecraft.accepted (omega arith)
 
+  opened : (d : Directive) → begins_clean w d ≡ true
+      → (session_begun_by w d).opening ≡ Some (record { directive = d; clean = true })
+  opened d clean = ap (λ b. Some (record { directive = d; clean = b })) clean
+
   module _ (off : w.ground_node.fop.state ≡ S6) where
     pending : w.ground_node.pending ≡ []
     pending = k.ground_node.pending_none (rw off refl)
@@ -76,7 +80,7 @@ module _ (c : Config) (w : World) (k : Sound c w) where
           frames = [];
           reports = [];
           linked = record {
-            opened = ap (λ b. Some (record { directive = InitWithoutCheck; clean = b })) clean;
+            opened = opened InitWithoutCheck clean;
             confirmed_is = λ checked. absurd (checked.1 refl);
             confirmed_so = λ is. absurd cc;
             base_octet = k.ground_node.fop.vs_octet;
@@ -122,13 +126,18 @@ module _ (c : Config) (w : World) (k : Sound c w) where
         → f.nn ≡ base → f.sent ≡ [] → f.waiting ≡ None → ControlFits d base f.control → Begun c d base (begun_with d f)
     checked_begins d base f octet checked clean still early on vs nn sent waiting control =
         let rest : option_to_list f.waiting ++ w.ground_node.pending ≡ [] = rw waiting pending in
-        let held : HeldEarly (is_closed f.state) base f.vs f.nn f.sent (option_to_list f.waiting
-        ++ w.ground_node.pending) [] = rw on (record { vs_is = vs; nn_is = nn; sent_is = sent; rest_is = rest }) in
+        let held : Held (is_closed f.state) base f.vs f.nn f.sent (option_to_list f.waiting ++ w.ground_node.pending)
+        0 0 [] = rw on (record {
+          vs_is = omega (arith, vs, octet);
+          nn_is = omega (arith, nn, octet);
+          sent_is = rw sent refl;
+          rest_is = rest;
+        }) in
         record {
           frames = [];
           reports = [];
           early = record {
-            opened = ap (λ b. Some (record { directive = d; clean = b })) clean;
+            opened = opened d clean;
             base_octet = octet;
             checked = checked;
             nn_octet = rw nn octet;

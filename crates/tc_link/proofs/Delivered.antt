@@ -158,26 +158,14 @@ module _ {Reached : PlainLink → Type 0} (c : Config) (d : Directive) (base : �
   pub late_history : History c w base g.plain
   late_history =
       let l = g.linked in
-      record {
-        given = l.given;
-        units_are = l.units_are;
-        sent_is = l.sent_is;
-        accepted_is = l.accepted_is;
-        acked_is = l.acked_is;
-        n_most = l.n_most;
-        a_r = l.a_r;
-        r_n = l.r_n;
-        complete = late_complete;
-        window = l.n_a;
-        up_is = units_in c d base g.front w.up g.frames p.up l.carries l.up_is;
-        near = all_near (c.width / 2) p p.r p.up (omega arith) l.fits;
-        down_is = λ settled.
-            ap (map (λ (r : Clcw). r.value)) (reports_are c w.down g.reports l.reporting)
-            ∙ values_in base g.reports p.down l.down_is;
-        rises = l.rises;
-        vr_is = λ settled. l.vr_is;
-        ends = λ settled active. late_ends active;
-      }
+      let up_is = units_in c d base g.front w.up g.frames p.up l.carries l.up_is in
+      let near = all_near (c.width / 2) p p.r p.up (omega arith) l.fits in
+      let down_is : IsSettled w
+      → map (λ (r : Clcw). r.value) (flat_map (report_carried c) w.down) ≡ map (number_of base) p.down =
+      λ settled. ap (map (λ (r : Clcw). r.value)) (reports_are c w.down g.reports l.reporting)
+      ∙ values_in base g.reports p.down l.down_is in
+      let ends = λ (settled : IsSettled w). late_ends in
+      assumption (late_complete, up_is, near, down_is, ends, l)
 
 -- before the confirmation nothing was sent
 abbrev unsent_link : Config → World → PlainLink

@@ -11,7 +11,7 @@ use Rattle.cop1.specs.declared.fop.Directive.TheVariants.{InitWithCheck}
 use Rattle.cop1.specs.declared.fop.FopMode.{FopMode}
 use Rattle.cop1.specs.declared.fop.FopMode.TheVariants.{S1, S4, S5, S6}
 use Rattle.cop1.specs.FopReport.{locks, waits, asks}
-use Rattle.cop1.specs.FopState.{SentUnit, IsActive}
+use Rattle.cop1.specs.FopState.{IsActive}
 use Rattle.nodes.specs.declared.config.Config.{Config}
 use Rattle.nodes.specs.OwnedFields.{FitsFrame}
 use Rattle.nodes.specs.Ground.{GroundState, is_closed, unsent_segments, settle_step}
@@ -21,8 +21,8 @@ use Rattle.tc_link.specs.PlainLink.{PlainLink, PlainRun, new_link, none, more, a
 use Rattle.tc_link.specs.Confirmation.{IsChecked}
 use Rattle.tc_link.specs.History.{Rises}
 use Rattle.tc_link.proofs.Transit.{CommandFits, UpIs, DownIs, Ranks}
-use Rattle.tc_link.proofs.Linked.{Late, IsGiven, units_of_all, Carries, Reporting, Held}
-use Rattle.tc_link.proofs.Settled.{settled_keeps}
+use Rattle.tc_link.proofs.Linked.{Late, IsGiven, units_of_all, Carries, Reporting, Holds, Held, holds_where}
+use Rattle.tc_link.proofs.Settled.{settled_keeps, held_again}
 
 -- ---- reports that confirm
 
@@ -127,17 +127,6 @@ ControlFits d base Idle = Unit {0}
 ControlFits d base (Due command) = CommandFits d base command
 ControlFits d base (Sent command) = CommandFits d base command
 
-pub record HoldsEarly (base vs nn : ℕ) (sent : List (SentUnit SegmentView)) (rest units : List SegmentView) : Type 0
-  where
-    pub vs_is : vs ≡ base
-    pub nn_is : nn ≡ base
-    pub sent_is : sent ≡ []
-    pub rest_is : rest ≡ units
-
-abbrev pub HeldEarly : Bool → (base vs nn : ℕ) → List (SentUnit SegmentView) → (rest units : List SegmentView) → Type 0
-HeldEarly true base vs nn sent rest units = Unit {0}
-HeldEarly false base vs nn sent rest units = HoldsEarly base vs nn sent rest units
-
 -- each report has the receiver's lockout flag, retransmit flag and V(R), and one that waits asks for repetition
 abbrev pub AllSame : List Clcw → (lockout retransmit : Bool) (vr : ℕ) → Type 0
 AllSame [] lockout retransmit vr = Unit {0}
@@ -159,8 +148,8 @@ pub record Early (c : Config) (d : Directive) (base : ℕ) (w : World) (frames :
   pub checked : IsChecked d
   pub nn_octet : w.ground_node.fop.nn < 256
   pub early : IsEarly d w.ground_node.fop.state
-  pub held : HeldEarly (is_closed w.ground_node.fop.state) base w.ground_node.fop.vs w.ground_node.fop.nn
-      w.ground_node.fop.sent (unsent_segments w.ground_node) (units_of_all c w.session.submissions)
+  pub held : Held (is_closed w.ground_node.fop.state) base w.ground_node.fop.vs w.ground_node.fop.nn
+      w.ground_node.fop.sent (unsent_segments w.ground_node) 0 0 (units_of_all c w.session.submissions)
   pub given : AllByRecursion (IsGiven c) w.session.submissions
   pub units_fit : AllByRecursion FitsFrame (units_of_all c w.session.submissions)
   pub sent_none : w.session.sent ≡ []
@@ -178,12 +167,9 @@ pub record Early (c : Config) (d : Directive) (base : ℕ) (w : World) (frames :
 -- where the sender is on
 pub holds_early : {c : Config} {d : Directive} {base : ℕ} {w : World} {frames : List BodyView} {reports : List Clcw}
     → Early c d base w frames reports → is_closed w.ground_node.fop.state ≡ false
-    → HoldsEarly base w.ground_node.fop.vs w.ground_node.fop.nn w.ground_node.fop.sent (unsent_segments w.ground_node)
+    → Holds base w.ground_node.fop.vs w.ground_node.fop.nn w.ground_node.fop.sent (unsent_segments w.ground_node) 0 0
     (units_of_all c w.session.submissions)
-holds_early {c} {d} {base} {w} l on =
-    let it : HeldEarly false base w.ground_node.fop.vs w.ground_node.fop.nn w.ground_node.fop.sent
-    (unsent_segments w.ground_node) (units_of_all c w.session.submissions) = rw on at l.held in
-    it
+holds_early l on = holds_where on l.held
 
 pub record Begun (c : Config) (d : Directive) (base : ℕ) (w : World) : Type 0 where
   pub frames : List BodyView
@@ -195,23 +181,16 @@ pub record Confirmed (c : Config) (d : Directive) (base : ℕ) (w : World) : Typ
   pub late : Late c d base w
   pub exact : (w.spacecraft.farm.vr ≡ w.ground_node.fop.vs) × (w.ground_node.fop.nn ≡ w.ground_node.fop.vs)
 
-pub held_early_again : (off : Bool) (base vs nn : ℕ) (sent : List (SentUnit SegmentView))
-    (rest new units : List SegmentView) → (off ≡ false → new ≡ rest) → HeldEarly off base vs nn sent rest units
-    → HeldEarly off base vs nn sent new units
-held_early_again true base vs nn sent rest new units same held = tt
-held_early_again false base vs nn sent rest new units same held =
-    let rest_is : new ≡ units = same refl ∙ held.rest_is in assumption (rest_is, held)
-
 module _ (c : Config) (d : Directive) (base : ℕ) where
   pub early_settled : (w : World) → Begun c d base w
       → Begun c d base (record w { ground_node = settle_step w.ground_node })
   early_settled w g =
       settled_keeps (λ s. Begun c d base (record w { ground_node = s })) w.ground_node (λ waiting pending on off.
       let l = g.early in
-      let held : HeldEarly (is_closed w.ground_node.fop.state) base w.ground_node.fop.vs w.ground_node.fop.nn
-      w.ground_node.fop.sent (option_to_list waiting ++ pending) (units_of_all c w.session.submissions) =
-      held_early_again (is_closed w.ground_node.fop.state) base w.ground_node.fop.vs w.ground_node.fop.nn
-      w.ground_node.fop.sent (unsent_segments w.ground_node) (option_to_list waiting ++ pending)
+      let held : Held (is_closed w.ground_node.fop.state) base w.ground_node.fop.vs w.ground_node.fop.nn
+      w.ground_node.fop.sent (option_to_list waiting ++ pending) 0 0 (units_of_all c w.session.submissions) =
+      held_again (is_closed w.ground_node.fop.state) base w.ground_node.fop.vs w.ground_node.fop.nn
+      w.ground_node.fop.sent (unsent_segments w.ground_node) (option_to_list waiting ++ pending) 0 0
       (units_of_all c w.session.submissions) on l.held in
       record { frames = g.frames; reports = g.reports; early = assumption (held, l) })
 
@@ -236,12 +215,9 @@ module _ (c : Config) (d : Directive) (base : ℕ) where
       let held : Held (is_closed ground_node.fop.state) base ground_node.fop.vs ground_node.fop.nn ground_node.fop.sent
       (unsent_segments ground_node) 0 0 units =
       rw state_is (record {
-        vs_is =
-            omega (arith, vs, was.vs_is, l.base_octet);
-        nn_is =
-            omega (arith, nn, was.nn_is, l.base_octet);
-        sent_is =
-            rw (sent, was.sent_is) refl;
+        vs_is = vs ∙ was.vs_is;
+        nn_is = nn ∙ was.nn_is;
+        sent_is = rw sent was.sent_is;
         rest_is = waiting ∙ was.rest_is;
       }) in
       record {

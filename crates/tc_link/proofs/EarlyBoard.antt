@@ -28,10 +28,10 @@ use Rattle.nodes.specs.Parameters.{limits_of}
 use Rattle.tc_link.specs.World.{World, world_after_take, world_after_queueing, world_after_report, up_deliver_step}
 use Rattle.tc_link.proofs.Arriving.{own_arrives}
 use Rattle.tc_link.proofs.Early.{WouldConfirm, Confirming, Lasts, lasts_on, lasts_push, AllSame, same_push, Begun}
-use Rattle.tc_link.proofs.Linked.{Steady, Carries, Reporting, reporting_push}
-use Rattle.tc_link.proofs.ReportFrames.{tells_now}
+use Rattle.tc_link.proofs.Linked.{Steady, Carries}
+use Rattle.tc_link.proofs.ReportFrames.{reporting_now}
 use Rattle.tc_link.proofs.Transit.{CommandFits, UpIs}
-use Rattle.tc_link.proofs.Words.{locks_is, waits_is, asks_is}
+use Rattle.tc_link.proofs.Words.{flags_are}
 
 module _ (c : Config) (d : Directive) (base : ℕ) (w : World) (k : Steady c w) (g : Begun c d base w) where
   -- ---- the spacecraft
@@ -192,21 +192,13 @@ module _ (c : Config) (d : Directive) (base : ℕ) (w : World) (k : Steady c w) 
       let l = g.early in
       let farm = w.spacecraft.farm in
       let r : Clcw = report_of farm w.spacecraft.config.vcid in
-      let asks_so : asks r ≡ farm.retransmit =
-      asks_is farm farm.lockout farm.wait farm.retransmit refl refl refl w.spacecraft.config.vcid in
-      let waits_so : waits r ≡ farm.wait =
-      waits_is farm farm.lockout farm.wait farm.retransmit refl refl refl w.spacecraft.config.vcid in
-      let locks_so : locks r ≡ farm.lockout =
-      locks_is farm farm.lockout farm.wait farm.retransmit refl refl refl w.spacecraft.config.vcid in
-      let reporting : Reporting c (w.down ++ telemetry_writing.spelling (spacecraft_report w.spacecraft).answer ∷ [])
-      (g.reports ++ r ∷ []) =
-      reporting_push c (telemetry_writing.spelling (spacecraft_report w.spacecraft).answer) r w.down g.reports
-      (tells_now c w k) l.reporting in
+      let says = flags_are farm w.spacecraft.config.vcid in
+      let reporting = reporting_now c w k g.reports l.reporting in
       let lasts : Lasts base (g.reports ++ r ∷ []) (WouldConfirm base w.spacecraft) =
       lasts_push base r g.reports (WouldConfirm base w.spacecraft)
-      (λ good. (locks_so ∙ good.0, waits_so ∙ good.1, asks_so ∙ good.2, good.3))
-      (λ good. (sym locks_so ∙ good.0, sym waits_so ∙ good.1, sym asks_so ∙ good.2, good.3)) l.lasts in
+      (λ good. (says.0 ∙ good.0, says.1 ∙ good.1, says.2 ∙ good.2, good.3))
+      (λ good. (sym says.0 ∙ good.0, sym says.1 ∙ good.1, sym says.2 ∙ good.2, good.3)) l.lasts in
       let same : d ≡ InitWithCheck → AllSame (g.reports ++ r ∷ []) farm.lockout farm.retransmit farm.vr =
-      λ e. same_push r g.reports farm.lockout farm.retransmit farm.vr locks_so asks_so refl
-      (λ t. asks_so ∙ k.flags.asks (sym waits_so ∙ t)) (l.same e) in
+      λ e. same_push r g.reports farm.lockout farm.retransmit farm.vr says.0 says.2 refl
+      (λ t. says.2 ∙ k.flags.asks (sym says.1 ∙ t)) (l.same e) in
       record { frames = g.frames; reports = g.reports ++ r ∷ []; early = assumption (reporting, lasts, same, l) }

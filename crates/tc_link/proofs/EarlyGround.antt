@@ -11,6 +11,7 @@ use Rattle.cop1.specs.declared.fop.Control.{Control}
 use Rattle.cop1.specs.declared.fop.Control.TheVariants.{Idle, Due, Sent}
 use Rattle.cop1.specs.declared.fop.Directive.{Directive}
 use Rattle.cop1.specs.declared.fop.FopMode.TheVariants.{S6}
+use Rattle.cop1.specs.FopNext.{units_of}
 use Rattle.cop1.specs.FopPull.{PulledUnit, pull_step}
 use Rattle.cop1.specs.FopState.{FopState}
 use Rattle.cop1.specs.FopTick.{after_count, due_again}
@@ -26,8 +27,9 @@ use Rattle.tc_link.specs.World.{World, world_after_directive, world_after_pull}
 use Rattle.tc_link.specs.World.{world_after_submission, world_after_bypass}
 use Rattle.nodes.proofs.Submitting.{segments_fit}
 use Rattle.tc_link.specs.Reached.{IsDirective}
-use Rattle.tc_link.proofs.Early.{IsEarly, ControlFits, HeldEarly, Begun, early_settled}
-use Rattle.tc_link.proofs.Linked.{Steady, IsGiven, units_of_all, Carries, carries_push}
+use Rattle.tc_link.proofs.Early.{IsEarly, ControlFits, Begun, early_settled}
+use Rattle.tc_link.proofs.Linked.{Steady, IsGiven, units_of_all, Held, Carries, carries_push}
+use Rattle.tc_link.proofs.Settled.{held_same}
 use Rattle.tc_link.proofs.Spelled.{Goes, reads_back}
 use Rattle.tc_link.proofs.LateSubmitting.{taken_is, all_push, all_append, units-push}
 use Rattle.tc_link.proofs.Transit.{UpIs, up_push_bypass, up_push_control}
@@ -46,43 +48,34 @@ use Rattle.cop1.proofs.Pulling.{pulled_out}
 module _ (c : Config) (d : Directive) (base : ℕ) (w : World) (k : Steady c w) (g : Begun c d base w) where
   -- ---- the ground
 
-  held_same : (off : Bool) (f : FopState SegmentView) → f.vs ≡ w.ground_node.fop.vs → f.nn ≡ w.ground_node.fop.nn
-      → f.sent ≡ w.ground_node.fop.sent → f.waiting ≡ w.ground_node.fop.waiting → (units : List SegmentView)
-      → HeldEarly off base w.ground_node.fop.vs w.ground_node.fop.nn w.ground_node.fop.sent
-      (unsent_segments w.ground_node) units
-      → HeldEarly off base f.vs f.nn f.sent (option_to_list f.waiting ++ w.ground_node.pending) units
-  held_same true f vs nn sent waiting units held = tt
-  held_same false f vs nn sent waiting units held =
-      record {
-        vs_is =
-            vs ∙ held.vs_is;
-        nn_is = nn ∙ held.nn_is;
-        sent_is = sent ∙ held.sent_is;
-        rest_is = rw waiting held.rest_is;
-      }
+  goes_early : (f : FopState SegmentView)
+      → Held (is_closed f.state) base f.vs f.nn f.sent (option_to_list f.waiting ++ w.ground_node.pending) 0 0
+      (units_of_all c w.session.submissions)
+      → IsEarly d f.state → f.nn < 256 → ControlFits d base f.control
+      → Begun c d base (record w { ground_node = with_fop w.ground_node f })
+  goes_early f held early nn_octet command_is =
+      let l = g.early in
+      early_settled c d base (record w { ground_node = record w.ground_node { fop = f } })
+      (record { frames = g.frames; reports = g.reports; early = assumption (held, early, nn_octet, command_is, l) })
+
+  held_same_early : (f : FopState SegmentView) → f.vs ≡ w.ground_node.fop.vs → f.nn ≡ w.ground_node.fop.nn
+      → f.state ≡ w.ground_node.fop.state → f.sent ≡ w.ground_node.fop.sent → f.waiting ≡ w.ground_node.fop.waiting
+      → Held (is_closed f.state) base f.vs f.nn f.sent (option_to_list f.waiting ++ w.ground_node.pending) 0 0
+      (units_of_all c w.session.submissions)
+  held_same_early f vs nn state sent waiting =
+      held_same base w.ground_node f 0 0 (units_of_all c w.session.submissions) vs nn state (ap units_of sent) waiting
+      g.early.held
 
   same_early : (f : FopState SegmentView) → f.vs ≡ w.ground_node.fop.vs → f.nn ≡ w.ground_node.fop.nn
       → f.state ≡ w.ground_node.fop.state → f.sent ≡ w.ground_node.fop.sent → f.waiting ≡ w.ground_node.fop.waiting
       → ControlFits d base f.control → Begun c d base (record w { ground_node = with_fop w.ground_node f })
   same_early f vs nn state sent waiting command_is =
-      let l = g.early in
-      let units : List SegmentView = units_of_all c w.session.submissions in
-      let held : HeldEarly (is_closed f.state) base f.vs f.nn f.sent (option_to_list f.waiting ++ w.ground_node.pending)
-      units = rw state (held_same (is_closed w.ground_node.fop.state) f vs nn sent waiting units l.held) in
-      let early : IsEarly d f.state = rw state l.early in
-      let nn_octet : f.nn < 256 = omega (arith, nn, l.nn_octet) in
-      early_settled c d base (record w { ground_node = record w.ground_node { fop = f } })
-      (record { frames = g.frames; reports = g.reports; early = assumption (held, early, nn_octet, command_is, l) })
+      goes_early f (held_same_early f vs nn state sent waiting) (rw state g.early.early) (rw nn g.early.nn_octet)
+      command_is
 
   off_early : (f : FopState SegmentView) → f.state ≡ S6 → f.nn < 256 → ControlFits d base f.control
       → Begun c d base (record w { ground_node = with_fop w.ground_node f })
-  off_early f state nn_octet command_is =
-      let l = g.early in
-      let held : HeldEarly (is_closed f.state) base f.vs f.nn f.sent (option_to_list f.waiting ++ w.ground_node.pending)
-      (units_of_all c w.session.submissions) = rw state tt in
-      let early : IsEarly d f.state = rw state tt in
-      early_settled c d base (record w { ground_node = record w.ground_node { fop = f } })
-      (record { frames = g.frames; reports = g.reports; early = assumption (held, early, nn_octet, command_is, l) })
+  off_early f state nn_octet command_is = goes_early f (rw state tt) (rw state tt) nn_octet command_is
 
   due_fits : (control : Control) → ControlFits d base control → ControlFits d base (due_again control)
   due_fits Idle fits = fits
@@ -150,9 +143,9 @@ module _ (c : Config) (d : Directive) (base : ℕ) (w : World) (k : Steady c w) 
       sym (append_assoc (option_to_list w.ground_node.fop.waiting) w.ground_node.pending
       (segments_on w.ground_node m octets)) ∙ ap (λ xs. xs ++ segments_on w.ground_node m octets) was.rest_is
       ∙ ap (λ xs. units_of_all c w.session.submissions ++ xs) cut ∙ sym units_are in
-      let held : HeldEarly (is_closed w.ground_node.fop.state) base w.ground_node.fop.vs w.ground_node.fop.nn
+      let held : Held (is_closed w.ground_node.fop.state) base w.ground_node.fop.vs w.ground_node.fop.nn
       w.ground_node.fop.sent (option_to_list w.ground_node.fop.waiting
-      ++ (w.ground_node.pending ++ segments_on w.ground_node m octets)) (units_of_all c all) =
+      ++ (w.ground_node.pending ++ segments_on w.ground_node m octets)) 0 0 (units_of_all c all) =
       rw t.on (record { vs_is = was.vs_is; nn_is = was.nn_is; sent_is = was.sent_is; rest_is = rest }) in
       let given : AllByRecursion (IsGiven c) all =
       all_push (IsGiven c) w.session.submissions (packet_on m octets) l.given t.given in
@@ -213,15 +206,12 @@ module _ (c : Config) (d : Directive) (base : ℕ) (w : World) (k : Steady c w) 
       })
   sends f fop vs nn state sent waiting command_is goes up_is =
       let l = g.early in
-      let units : List SegmentView = units_of_all c w.session.submissions in
       let up : Carries c (w.up ++ spelling On (frame_of w.ground_node.config f) ∷ []) (g.frames ++ f ∷ []) =
       carries_push c (spelling On (frame_of w.ground_node.config f)) f w.up g.frames
       (rw k.ground_config (reads_back c f k.ranges goes)) l.carries in
-      let held : HeldEarly (is_closed fop.state) base fop.vs fop.nn fop.sent
-      (option_to_list fop.waiting ++ w.ground_node.pending) units =
-      rw state (held_same (is_closed w.ground_node.fop.state) fop vs nn sent waiting units l.held) in
+      let held = held_same_early fop vs nn state sent waiting in
       let early : IsEarly d fop.state = rw state l.early in
-      let nn_octet : fop.nn < 256 = omega (arith, nn, l.nn_octet) in
+      let nn_octet : fop.nn < 256 = rw nn l.nn_octet in
       let sent_none : w.session.sent ++ [] ≡ [] = append-nil w.session.sent ∙ l.sent_none in
       early_settled c d base (record w {
         ground_node =

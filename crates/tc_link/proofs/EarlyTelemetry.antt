@@ -22,11 +22,11 @@ use Rattle.nodes.specs.declared.heard.Heard.{Heard}
 use Rattle.nodes.specs.Ground.{GroundState, GroundOutcome, is_closed, with_fop, after_extraction}
 use Rattle.tc_link.specs.World.{World, is_confirmation, is_initialising, down_deliver_step}
 use Rattle.tc_link.specs.World.{session_after_report}
-use Rattle.tc_link.proofs.Early.{WouldConfirm, Good, AllGood, Lasts, IsEarly, ControlFits, HeldEarly}
-use Rattle.tc_link.proofs.Early.{AllSame, Begun, held_early_again, last_good, Confirmed, confirmed}
+use Rattle.tc_link.proofs.Early.{WouldConfirm, Good, AllGood, Lasts, IsEarly, ControlFits}
+use Rattle.tc_link.proofs.Early.{AllSame, Begun, last_good, Confirmed, confirmed}
 use Rattle.tc_link.proofs.LateTelemetry.{used_is}
-use Rattle.tc_link.proofs.Linked.{Steady, units_of_all, Reporting}
-use Rattle.tc_link.proofs.Settled.{settled_keeps, queued_as}
+use Rattle.tc_link.proofs.Linked.{Steady, units_of_all, Held, Reporting}
+use Rattle.tc_link.proofs.Settled.{settled_keeps, held_again, queued_as}
 use Rattle.tc_link.proofs.Early.{holds_early}
 
 confirms_not : (d : Directive) (old new : FopMode) → IsEarly d new → is_confirmation old new ≡ false
@@ -61,7 +61,7 @@ module _ (c : Config) (d : Directive) (base : ℕ) (w : World) (k : Steady c w) 
 
     -- the sender stays early
     stays : (f : FopState SegmentView) → IsEarly d f.state → f.nn ≡ w.ground_node.fop.nn → ControlFits d base f.control
-        → HeldEarly (is_closed f.state) base f.vs f.nn f.sent (option_to_list f.waiting ++ w.ground_node.pending)
+        → Held (is_closed f.state) base f.vs f.nn f.sent (option_to_list f.waiting ++ w.ground_node.pending) 0 0
         (units_of_all c w.session.submissions)
         → Begun c d base (with_heard (with_fop (after_extraction w.ground_node x) f) bs)
     stays f early nn command_is held_f =
@@ -69,9 +69,9 @@ module _ (c : Config) (d : Directive) (base : ℕ) (w : World) (k : Steady c w) 
         (λ waiting pending on off.
         let l = g.early in
         let units : List SegmentView = units_of_all c w.session.submissions in
-        let held : HeldEarly (is_closed f.state) base f.vs f.nn f.sent (option_to_list waiting ++ pending) units =
-        held_early_again (is_closed f.state) base f.vs f.nn f.sent
-        (option_to_list f.waiting ++ w.ground_node.pending) (option_to_list waiting ++ pending) units on held_f in
+        let held : Held (is_closed f.state) base f.vs f.nn f.sent (option_to_list waiting ++ pending) 0 0 units =
+        held_again (is_closed f.state) base f.vs f.nn f.sent
+        (option_to_list f.waiting ++ w.ground_node.pending) (option_to_list waiting ++ pending) 0 0 units on held_f in
         let nn_octet : f.nn < 256 = omega (arith, nn, l.nn_octet) in
         let acked_none : w.session.acknowledged + ahead_by f.nn w.ground_node.fop.nn ≡ 0 = rw nn acked_same in
         let confirmed_not : w.session.confirmed || is_confirmation w.ground_node.fop.state f.state ≡ false =
@@ -102,7 +102,7 @@ module _ (c : Config) (d : Directive) (base : ℕ) (w : World) (k : Steady c w) 
     goes_on_early = inl (stays w.ground_node.fop g.early.early refl g.early.command_is g.early.held)
 
     vs_of : is_closed w.ground_node.fop.state ≡ false → w.ground_node.fop.vs ≡ base
-    vs_of on = (holds_early g.early on).vs_is
+    vs_of on = omega (arith, (holds_early g.early on).vs_is, g.early.base_octet)
 
     -- the report confirms
     goes_late : (f : FopState SegmentView) → is_closed w.ground_node.fop.state ≡ false
@@ -116,7 +116,7 @@ module _ (c : Config) (d : Directive) (base : ℕ) (w : World) (k : Steady c w) 
         let all = last_good base rs (WouldConfirm base w.spacecraft) (on_good good) in
         record {
           exact =
-              (all.3 ∙ sym was.vs_is ∙ sym vs, nn ∙ was.nn_is ∙ sym was.vs_is ∙ sym vs);
+              (all.3 ∙ sym (vs_of on) ∙ sym vs, nn ∙ was.nn_is ∙ sym was.vs_is ∙ sym vs);
           late =
               confirmed c d base w g on bs rs rest (on_good good)
               (queued_as (record (after_extraction w.ground_node x) { fop = f }) wait pending) state vs nn sent

@@ -20,7 +20,7 @@ use Rattle.tc_link.specs.World.{World, world_after_submission, world_after_bypas
 use Rattle.nodes.proofs.Submitting.{segments_fit, submit_map}
 use Rattle.tc_link.specs.PlainLink.{adds}
 use Rattle.tc_link.proofs.Transit.{Fits, fits_longer}
-use Rattle.tc_link.proofs.Linked.{Steady, Late, IsGiven, units_of_all, Held, Next, stays}
+use Rattle.tc_link.proofs.Linked.{Steady, Late, IsGiven, units_of_all, Held, Next, stays, beside}
 use Rattle.tc_link.proofs.Settled.{late_settled}
 use Rattle.tc_link.proofs.Linked.{holds_late}
 
@@ -157,20 +157,9 @@ module _ (c : Config) (d : Directive) (base : ℕ) (w : World) (k : Steady c w) 
       (unless_refused o w.ground_node (after_bypass w.ground_node m octets))).after
   bypass_keeps (Some fault) = stays g
   bypass_keeps None =
-      record {
-        plain =
-            g.plain;
-        ran =
-            inl refl;
-        front =
-            g.front;
-        frames =
-            g.frames;
-        reports =
-            g.reports;
-        linked = assumption g.linked;
-        calm = λ checked. let i = g.calm checked in assumption i;
-      }
+      beside g
+      (world_after_bypass w (unless_refused None w.ground_node (after_bypass w.ground_node m octets))).after (inl refl)
+      (assumption g.linked) (λ checked. let i = g.calm checked in assumption i)
 
   pub late_bypass : Next c d base g.plain (world_after_bypass w
       (unless_refused (bypass_fault w.ground_node m octets) w.ground_node (after_bypass w.ground_node m octets))).after

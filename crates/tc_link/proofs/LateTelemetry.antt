@@ -34,10 +34,10 @@ use Rattle.tc_link.proofs.Reports.{IsLate, asked, HeldBy, Leads, Led, active_led
 use Rattle.tc_link.specs.History.{Rises}
 use Rattle.tc_link.proofs.Transit.{DownIs, Ranks, bit, down_push, rises_push, rises_lower, rises_to, ranks_push}
 use Rattle.tc_link.proofs.Transit.{ranks_lower, ranks_to}
-use Rattle.tc_link.proofs.Linked.{Steady, Late, Tells, Reporting, Holds, Held, reporting_push, Next, stays}
+use Rattle.tc_link.proofs.Linked.{Steady, Late, Tells, Reporting, Holds, Held, Next, holds_where, stays}
 use Rattle.tc_link.proofs.Settled.{settled_keeps, held_again}
-use Rattle.tc_link.proofs.ReportFrames.{tells_now}
-use Rattle.tc_link.proofs.Words.{locks_is, waits_is, asks_is}
+use Rattle.tc_link.proofs.ReportFrames.{reporting_now}
+use Rattle.tc_link.proofs.Words.{flags_are}
 
 -- ---- octets that tell a report lead to its use
 
@@ -93,7 +93,7 @@ pub record Coming (base h : ℕ) (checked : Type 0) (s : FopState SegmentView) (
 module _ (base h : ℕ) (checked : Type 0) (s : FopState SegmentView) (a n : ℕ) (units rest : List SegmentView) (c : Clcw)
     (v : ℕ) (k : Coming base h checked s a n units rest c v) where
   held_on : is_closed s.state ≡ false → Holds base s.vs s.nn s.sent rest a n units
-  held_on on = let it : Held false base s.vs s.nn s.sent rest a n units = rw on at k.held in it
+  held_on on = holds_where on k.held
 
   pub report_comes : is_closed s.state ≡ false → rules.ReportComes base h checked s a n c v
   report_comes on =
@@ -331,16 +331,8 @@ module _ (c : Config) (d : Directive) (base : ℕ) (w : World) (k : Steady c w) 
       let l = g.linked in
       let farm = w.spacecraft.farm in
       let r : Clcw = report_of farm w.spacecraft.config.vcid in
-      let asks_so : asks r ≡ farm.retransmit =
-      asks_is farm farm.lockout farm.wait farm.retransmit refl refl refl w.spacecraft.config.vcid in
-      let waits_so : waits r ≡ farm.wait =
-      waits_is farm farm.lockout farm.wait farm.retransmit refl refl refl w.spacecraft.config.vcid in
-      let locks_so : locks r ≡ farm.lockout =
-      locks_is farm farm.lockout farm.wait farm.retransmit refl refl refl w.spacecraft.config.vcid in
-      let reporting : Reporting c (w.down ++ telemetry_writing.spelling (spacecraft_report w.spacecraft).answer ∷ [])
-      (g.reports ++ r ∷ []) =
-      reporting_push c (telemetry_writing.spelling (spacecraft_report w.spacecraft).answer) r w.down g.reports
-      (tells_now c w k) l.reporting in
+      let says = flags_are farm w.spacecraft.config.vcid in
+      let reporting = reporting_now c w k g.reports l.reporting in
       let down_is : DownIs base (g.reports ++ r ∷ []) (p.down ++ p.r ∷ []) =
       down_push base p.r r g.reports p.down l.vr_is l.down_is in
       let rises : Rises p.a (p.down ++ p.r ∷ []) p.r = rises_push p.a p.r p.down l.rises in
@@ -356,7 +348,7 @@ module _ (c : Config) (d : Directive) (base : ℕ) (w : World) (k : Steady c w) 
             let ranks : Ranks (2 * p.a + asked w.ground_node.fop.state) (g.reports ++ r ∷ []) (p.down ++ p.r ∷ [])
             (2 * p.r + bit farm.retransmit) =
             ranks_push (2 * p.a + asked w.ground_node.fop.state) (2 * p.r + bit farm.retransmit) p.r r g.reports
-            p.down (locks_so ∙ m.unlocked) (λ t. asks_so ∙ k.flags.asks (sym waits_so ∙ t)) (rw asks_so refl)
+            p.down (says.0 ∙ m.unlocked) (λ t. says.2 ∙ k.flags.asks (sym says.1 ∙ t)) (rw says.2 refl)
             m.ranks in
             assumption (ranks, m);
       }

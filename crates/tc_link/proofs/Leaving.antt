@@ -38,39 +38,33 @@ pub record AtEachLoss (w : World) (P : WorldOutcome → Type 0) : Type 0 where
   pub down : (b : List ℕ) (bs : List (List ℕ)) → w.down ≡ b ∷ bs → (reply : ReplyView) → replied_alert reply ≡ None
       → P (world_reply reply (record w { down = bs }))
 
-module _ (w : World) (P : WorldOutcome → Type 0) (each : AtEachLoss w P) where
-  up_lost : (bs : List (List ℕ)) → w.up ≡ bs → P (up_lose_step w bs)
-  up_lost [] is = each.refused NothingInTransit
-  up_lost (b ∷ bs) is = each.up b bs is Lost refl
+-- the first frame on a way, or none
+first_on : (P : WorldOutcome → Type 0) (step : List (List ℕ) → WorldOutcome) (way : List (List ℕ)) → P (step [])
+    → ((b : List ℕ) (bs : List (List ℕ)) → way ≡ b ∷ bs → P (step (b ∷ bs))) → P (step way)
+first_on P step [] none each = none
+first_on P step (b ∷ bs) none each = each b bs refl
 
+module _ (w : World) (P : WorldOutcome → Type 0) (each : AtEachLoss w P) where
   up_seen : (b : List ℕ) (bs : List (List ℕ)) → w.up ≡ b ∷ bs → (r : Result FrameView TcFault)
       → P (up_damage_outcome w bs r)
   up_seen b bs is (Ok frame) = each.refused NotDetectable
   up_seen b bs is (Err fault) = each.up b bs is (Up (received_cases.Invalid fault)) refl
-
-  up_damaged : (octets : List ℕ) (bs : List (List ℕ)) → w.up ≡ bs → P (up_damage_step w bs octets)
-  up_damaged octets [] is = each.refused NothingInTransit
-  up_damaged octets (b ∷ bs) is = up_seen b bs is (command.frame_at On octets)
-
-  down_lost : (bs : List (List ℕ)) → w.down ≡ bs → P (down_lose_step w bs)
-  down_lost [] is = each.refused NothingInTransit
-  down_lost (b ∷ bs) is = each.down b bs is Lost refl
 
   down_seen : (b : List ℕ) (bs : List (List ℕ)) → w.down ≡ b ∷ bs → (r : Result telemetry.FrameView TmFault)
       → P (down_damage_outcome w bs r)
   down_seen b bs is (Ok frame) = each.refused NotDetectable
   down_seen b bs is (Err fault) = each.down b bs is (Down (heard_cases.Invalid fault)) refl
 
-  down_damaged : (octets : List ℕ) (bs : List (List ℕ)) → w.down ≡ bs → P (down_damage_step w bs octets)
-  down_damaged octets [] is = each.refused NothingInTransit
-  down_damaged octets (b ∷ bs) is =
-      down_seen b bs is (telemetry_reading.frame_at w.ground_node.config.frame_length octets)
+  none : P (world_refusal w NothingInTransit)
+  none = each.refused NothingInTransit
 
   pub lost : (e : Event) → IsLoss e → P (world_step w e)
-  lost events.UpLose loss = up_lost w.up refl
-  lost (events.UpDamage octets) loss = up_damaged octets.now w.up refl
-  lost events.DownLose loss = down_lost w.down refl
-  lost (events.DownDamage octets) loss = down_damaged octets.now w.down refl
+  lost events.UpLose loss = first_on P (up_lose_step w) w.up none (λ b bs is. each.up b bs is Lost refl)
+  lost (events.UpDamage octets) loss = first_on P (λ bs. up_damage_step w bs octets.now) w.up none
+      (λ b bs is. up_seen b bs is (command.frame_at On octets.now))
+  lost events.DownLose loss = first_on P (down_lose_step w) w.down none (λ b bs is. each.down b bs is Lost refl)
+  lost (events.DownDamage octets) loss = first_on P (λ bs. down_damage_step w bs octets.now) w.down none
+      (λ b bs is. down_seen b bs is (telemetry_reading.frame_at w.ground_node.config.frame_length octets.now))
   lost _ loss = elim loss [ ]
 
 -- ---- frames that are sent or arrive
@@ -98,23 +92,12 @@ module _ (w : World) (P : WorldOutcome → Type 0) where
   pulled each =
       pulled_as (ground_step w.ground_node ground.Pull).after (ground_step w.ground_node ground.Pull).answer each
 
-  up_arrives_from : (bs : List (List ℕ)) → w.up ≡ bs → P (world_refusal w NothingInTransit)
-      → ((b : List ℕ) (bs : List (List ℕ)) → w.up ≡ b ∷ bs → P (up_deliver_step w (b ∷ bs))) → P (up_deliver_step w bs)
-  up_arrives_from [] is none each = none
-  up_arrives_from (b ∷ bs) is none each = each b bs is
-
   pub up_arrives : P (world_refusal w NothingInTransit)
       → ((b : List ℕ) (bs : List (List ℕ)) → w.up ≡ b ∷ bs → P (up_deliver_step w (b ∷ bs)))
       → P (world_step w events.UpDeliver)
-  up_arrives none each = up_arrives_from w.up refl none each
-
-  down_arrives_from : (bs : List (List ℕ)) → w.down ≡ bs → P (world_refusal w NothingInTransit)
-      → ((b : List ℕ) (bs : List (List ℕ)) → w.down ≡ b ∷ bs → P (down_deliver_step w (b ∷ bs)))
-      → P (down_deliver_step w bs)
-  down_arrives_from [] is none each = none
-  down_arrives_from (b ∷ bs) is none each = each b bs is
+  up_arrives none each = first_on P (up_deliver_step w) w.up none each
 
   pub down_arrives : P (world_refusal w NothingInTransit)
       → ((b : List ℕ) (bs : List (List ℕ)) → w.down ≡ b ∷ bs → P (down_deliver_step w (b ∷ bs)))
       → P (world_step w events.DownDeliver)
-  down_arrives none each = down_arrives_from w.down refl none each
+  down_arrives none each = first_on P (down_deliver_step w) w.down none each

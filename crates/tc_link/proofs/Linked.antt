@@ -104,6 +104,12 @@ abbrev pub Held : Bool → (base vs nn : ℕ) → List (SentUnit SegmentView) �
 Held true base vs nn sent rest a n units = Unit {0}
 Held false base vs nn sent rest a n units = Holds base vs nn sent rest a n units
 
+pub holds_where : {off : Bool} {base vs nn : ℕ} {sent : List (SentUnit SegmentView)} {rest : List SegmentView}
+    {a n : ℕ} {units : List SegmentView} → off ≡ false → Held off base vs nn sent rest a n units
+    → Holds base vs nn sent rest a n units
+holds_where {off} {base} {vs} {nn} {sent} {rest} {a} {n} {units} on held =
+    let it : Held false base vs nn sent rest a n units = rw on at held in it
+
 -- ---- once the session is confirmed, or begun without a check
 
 pub record Linked (c : Config) (d : Directive) (base : ℕ) (w : World) (p : PlainLink) (front : Bool)
@@ -141,10 +147,7 @@ pub holds_late : {c : Config} {d : Directive} {base : ℕ} {w : World} {p : Plai
     → is_closed w.ground_node.fop.state ≡ false
     → Holds base w.ground_node.fop.vs w.ground_node.fop.nn w.ground_node.fop.sent (unsent_segments w.ground_node)
     p.a p.n p.units
-holds_late {c} {d} {base} {w} {p} l on =
-    let it : Held false base w.ground_node.fop.vs w.ground_node.fop.nn w.ground_node.fop.sent
-    (unsent_segments w.ground_node) p.a p.n p.units = rw on at l.held in
-    it
+holds_late l on = holds_where on l.held
 
 -- no false alarm is on its way
 pub record Calm (w : World) (p : PlainLink) (front : Bool) (reports : List Clcw) : Type 0 where
@@ -172,16 +175,23 @@ Late c d base w = LateBy (PlainRun new_link) c d base w
 abbrev pub Next : Config → Directive → ℕ → PlainLink → World → Type 0
 Next c d base p w = LateBy (AtMostOneStep p) c d base w
 
-pub stays : {c : Config} {d : Directive} {base : ℕ} {w : World} (g : Late c d base w) → Next c d base g.plain w
-stays g = record {
+-- what stands beside one world stands beside another
+pub beside : {Was Reached : PlainLink → Type 0} {c : Config} {d : Directive} {base : ℕ} {w : World}
+    (g : LateBy Was c d base w) (new : World) → Reached g.plain
+    → Linked c d base new g.plain g.front g.frames g.reports → (IsChecked d → Calm new g.plain g.front g.reports)
+    → LateBy Reached c d base new
+beside g new ran linked calm = record {
   plain = g.plain;
-  ran = inl refl;
+  ran = ran;
   front = g.front;
   frames = g.frames;
   reports = g.reports;
-  linked = g.linked;
-  calm = g.calm;
+  linked = linked;
+  calm = calm;
 }
+
+pub stays : {c : Config} {d : Directive} {base : ℕ} {w : World} (g : Late c d base w) → Next c d base g.plain w
+stays {c} {d} {base} {w} g = beside g w (inl refl) g.linked g.calm
 
 pub run_on : (p q : PlainLink) → PlainRun new_link p → AtMostOneStep p q → PlainRun new_link q
 run_on p q ran (inl same) = subst (PlainRun new_link) (sym same) ran
@@ -189,15 +199,7 @@ run_on p q ran (inr step) = more ran step
 
 pub late_of : {c : Config} {d : Directive} {base : ℕ} {w new : World} (g : Late c d base w) → Next c d base g.plain new
     → Late c d base new
-late_of g s = record {
-  plain = s.plain;
-  ran = run_on g.plain s.plain g.ran s.ran;
-  front = s.front;
-  frames = s.frames;
-  reports = s.reports;
-  linked = s.linked;
-  calm = s.calm;
-}
+late_of {c} {d} {base} {w} {new} g s = beside s new (run_on g.plain s.plain g.ran s.ran) s.linked s.calm
 
 -- ---- what keeps the octets
 

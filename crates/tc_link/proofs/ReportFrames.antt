@@ -1,7 +1,9 @@
 -- A telemetry frame that is sent is read with its report.
-use Rattle.std.proofs.Common.{◌≡◌, ℕ, ◌+◌, ◌≤◌, max, List, ◌++◌, length, replicate, Ok, refl, ap, arith, length-append}
+use Rattle.std.proofs.Common.{◌≡◌, ℕ, ◌+◌, ◌≤◌, max, List, [], ◌∷◌, ◌++◌, length, replicate, Ok, refl}
+use Rattle.std.proofs.Common.{ap, arith, length-append}
 use Rattle.std.proofs.lemmas.Bool.{cond_both}
 use Rattle.std.proofs.lemmas.List.{length-replicate, length-take-le}
+use Rattle.clcw.specs.declared.word.Clcw.{Clcw}
 use Rattle.cop1.specs.Report.{report_of}
 use Rattle.tm_link.specs.Building.{BuilderState, idle_tail, idle_packet, data_size, data_from, data_built, is_at_rest}
 use Rattle.tm_link.specs.Building.{room_left, frame_built}
@@ -14,7 +16,7 @@ use Rattle.tm_link.proofs.IdlePackets.{length-idle, length-tail}
 use Rattle.nodes.specs.declared.config.Config.{Config}
 use Rattle.nodes.specs.Spacecraft.{report_octets, spacecraft_report}
 use Rattle.tc_link.specs.World.{World}
-use Rattle.tc_link.proofs.Linked.{Steady, Tells}
+use Rattle.tc_link.proofs.Linked.{Steady, Tells, Reporting, reporting_push}
 use Rattle.tc_link.proofs.Words.{report_reads}
 
 data_length : (s : BuilderState) → s.idle_left ≤ 6 → length (data_built s) ≡ data_size s
@@ -41,7 +43,7 @@ data_length s least =
     length-take-le (data_size s) all enough)
 
 module _ (c : Config) (w : World) (k : Steady c w) where
-  pub tells_now : Tells c (telemetry_writing.spelling (spacecraft_report w.spacecraft).answer)
+  tells_now : Tells c (telemetry_writing.spelling (spacecraft_report w.spacecraft).answer)
       (report_of w.spacecraft.farm w.spacecraft.config.vcid)
   tells_now =
       let b : BuilderState = w.spacecraft.builder in
@@ -62,3 +64,11 @@ module _ (c : Config) (w : World) (k : Steady c w) where
         word = report_reads w.spacecraft.farm w.spacecraft.config.vcid k.farm_b;
         own = ap (λ x. x.vcid) k.spacecraft_config;
       }
+
+  -- the frame that is sent is the last on its way
+  pub reporting_now : (reports : List Clcw) → Reporting c w.down reports
+      → Reporting c (w.down ++ telemetry_writing.spelling (spacecraft_report w.spacecraft).answer ∷ [])
+      (reports ++ report_of w.spacecraft.farm w.spacecraft.config.vcid ∷ [])
+  reporting_now reports so =
+      reporting_push c (telemetry_writing.spelling (spacecraft_report w.spacecraft).answer)
+      (report_of w.spacecraft.farm w.spacecraft.config.vcid) w.down reports tells_now so

@@ -12,7 +12,7 @@ use Rattle.nodes.specs.Ground.{GroundState, is_closed, unsent_segments, after_mo
 use Rattle.nodes.specs.Ground.{with_fop}
 use Rattle.tc_link.specs.PlainLink.{PlainLink}
 use Rattle.tc_link.specs.World.{World}
-use Rattle.tc_link.proofs.Linked.{Late, Held, Next, LateBy}
+use Rattle.tc_link.proofs.Linked.{Late, Held, Next, LateBy, Calm, beside}
 use Rattle.tc_link.proofs.Reports.{IsLate, asked}
 use Rattle.tc_link.proofs.Transit.{Ranks, bit, ranks_lower}
 
@@ -43,6 +43,28 @@ held_again true base vs nn sent rest new a n units same held = tt
 held_again false base vs nn sent rest new a n units same held =
     let rest_is : new ≡ drop n units = same refl ∙ held.rest_is in assumption (rest_is, held)
 
+-- the sender holds the same
+held_same_where : (off : Bool) (base : ℕ) (s : GroundState) (f : FopState SegmentView) (a n : ℕ)
+    (units : List SegmentView)
+    → f.vs ≡ s.fop.vs → f.nn ≡ s.fop.nn → units_of f.sent ≡ units_of s.fop.sent → f.waiting ≡ s.fop.waiting
+    → Held off base s.fop.vs s.fop.nn s.fop.sent (unsent_segments s) a n units
+    → Held off base f.vs f.nn f.sent (option_to_list f.waiting ++ s.pending) a n units
+held_same_where true base s f a n units vs nn sent waiting held = tt
+held_same_where false base s f a n units vs nn sent waiting held = record {
+  vs_is = vs ∙ held.vs_is;
+  nn_is = nn ∙ held.nn_is;
+  sent_is = sent ∙ held.sent_is;
+  rest_is = rw waiting held.rest_is;
+}
+
+pub held_same : (base : ℕ) (s : GroundState) (f : FopState SegmentView) (a n : ℕ) (units : List SegmentView)
+    → f.vs ≡ s.fop.vs → f.nn ≡ s.fop.nn → f.state ≡ s.fop.state → units_of f.sent ≡ units_of s.fop.sent
+    → f.waiting ≡ s.fop.waiting
+    → Held (is_closed s.fop.state) base s.fop.vs s.fop.nn s.fop.sent (unsent_segments s) a n units
+    → Held (is_closed f.state) base f.vs f.nn f.sent (option_to_list f.waiting ++ s.pending) a n units
+held_same base s f a n units vs nn state sent waiting held =
+    rw state (held_same_where (is_closed s.fop.state) base s f a n units vs nn sent waiting held)
+
 module _ (c : Config) (d : Directive) (base : ℕ) where
   -- the ground may be settled
   pub late_settled : {Reached : PlainLink → Type 0} (w : World) → LateBy Reached c d base w
@@ -56,37 +78,28 @@ module _ (c : Config) (d : Directive) (base : ℕ) where
       held_again (is_closed w.ground_node.fop.state) base w.ground_node.fop.vs w.ground_node.fop.nn
       w.ground_node.fop.sent (unsent_segments w.ground_node) (option_to_list waiting ++ pending) g.plain.a g.plain.n
       g.plain.units on l.held in
-      record {
-        plain =
-            g.plain;
-        ran =
-            g.ran;
-        front =
-            g.front;
-        frames =
-            g.frames;
-        reports =
-            g.reports;
-        linked = assumption (held, l);
-        calm = λ checked. let m = g.calm checked in assumption m;
-      })
+      beside g (record w { ground_node = queued_as w.ground_node waiting pending }) g.ran (assumption (held, l))
+      (λ checked. let m = g.calm checked in assumption m))
 
   module _ (w : World) (g : Late c d base w) where
-    held_same : (off : Bool) (f : FopState SegmentView) → f.vs ≡ w.ground_node.fop.vs → f.nn ≡ w.ground_node.fop.nn
-        → units_of f.sent ≡ units_of w.ground_node.fop.sent → f.waiting ≡ w.ground_node.fop.waiting
-        → Held off base w.ground_node.fop.vs w.ground_node.fop.nn w.ground_node.fop.sent (unsent_segments w.ground_node)
-        g.plain.a g.plain.n g.plain.units
-        → Held off base f.vs f.nn f.sent (option_to_list f.waiting ++ w.ground_node.pending) g.plain.a g.plain.n
-        g.plain.units
-    held_same true f vs nn sent waiting held = tt
-    held_same false f vs nn sent waiting held =
-        record {
-          vs_is =
-              vs ∙ held.vs_is;
-          nn_is = nn ∙ held.nn_is;
-          sent_is = sent ∙ held.sent_is;
-          rest_is = rw waiting held.rest_is;
-        }
+    -- the sender is as it was but for what it holds
+    goes_keeps : (f : FopState SegmentView)
+        → Held (is_closed f.state) base f.vs f.nn f.sent (option_to_list f.waiting ++ w.ground_node.pending) g.plain.a
+        g.plain.n g.plain.units
+        → IsLate f.state → f.nn < 256
+        → (Calm w g.plain g.front g.reports
+        → Ranks (2 * g.plain.a + asked f.state) g.reports g.plain.down
+        (2 * g.plain.r + bit w.spacecraft.farm.retransmit))
+        → Next c d base g.plain (record w { ground_node = with_fop w.ground_node f })
+    goes_keeps f held late nn_octet ranked =
+        let l = g.linked in
+        late_settled (record w { ground_node = record w.ground_node { fop = f } })
+        (beside g (record w { ground_node = record w.ground_node { fop = f } }) (inl refl)
+        (assumption (held, late, nn_octet, l))
+        (λ checked.
+        let m = g.calm checked in
+        let ranks = ranked m in
+        assumption (ranks, m)))
 
     -- the sender holds the same
     pub same_keeps : (f : FopState SegmentView) → f.vs ≡ w.ground_node.fop.vs → f.nn ≡ w.ground_node.fop.nn
@@ -94,46 +107,15 @@ module _ (c : Config) (d : Directive) (base : ℕ) where
         → f.waiting ≡ w.ground_node.fop.waiting
         → Next c d base g.plain (record w { ground_node = with_fop w.ground_node f })
     same_keeps f vs nn state sent waiting =
-        let p = g.plain in
         let l = g.linked in
-        let held : Held (is_closed f.state) base f.vs f.nn f.sent (option_to_list f.waiting ++ w.ground_node.pending)
-        p.a p.n p.units = rw state (held_same (is_closed w.ground_node.fop.state) f vs nn sent waiting l.held) in
-        let late : IsLate f.state = rw state l.late in
-        let nn_octet : f.nn < 256 = omega (arith, nn, l.nn_octet) in
-        late_settled (record w { ground_node = record w.ground_node { fop = f } }) (record {
-          plain = p;
-          ran = inl refl;
-          front = g.front;
-          frames = g.frames;
-          reports = g.reports;
-          linked = assumption (held, late, nn_octet, l);
-          calm = λ checked.
-              let m = g.calm checked in
-              let ranks : Ranks (2 * p.a + asked f.state) g.reports p.down (2 * p.r + bit w.spacecraft.farm.retransmit)
-              = rw state m.ranks in
-              assumption (ranks, m);
-        })
+        goes_keeps f (held_same base w.ground_node f g.plain.a g.plain.n g.plain.units vs nn state sent waiting l.held)
+        (rw state l.late) (rw nn l.nn_octet) (λ m. rw state m.ranks)
 
     -- the sender is off
     pub off_keeps : (f : FopState SegmentView) → f.state ≡ S6 → f.nn < 256
         → Next c d base g.plain (record w { ground_node = with_fop w.ground_node f })
     off_keeps f state nn_octet =
         let p = g.plain in
-        let l = g.linked in
-        let held : Held (is_closed f.state) base f.vs f.nn f.sent (option_to_list f.waiting ++ w.ground_node.pending)
-        p.a p.n p.units = rw state tt in
-        let late : IsLate f.state = rw state tt in
-        late_settled (record w { ground_node = record w.ground_node { fop = f } }) (record {
-          plain = p;
-          ran = inl refl;
-          front = g.front;
-          frames = g.frames;
-          reports = g.reports;
-          linked = assumption (held, late, nn_octet, l);
-          calm = λ checked.
-              let m = g.calm checked in
-              let ranks : Ranks (2 * p.a + asked f.state) g.reports p.down (2 * p.r + bit w.spacecraft.farm.retransmit)
-              = rw state (ranks_lower (2 * p.a + asked w.ground_node.fop.state) (2 * p.a + 0)
-              (2 * p.r + bit w.spacecraft.farm.retransmit) g.reports p.down (omega arith) m.ranks) in
-              assumption (ranks, m);
-        })
+        goes_keeps f (rw state tt) (rw state tt) nn_octet
+        (λ m. rw state (ranks_lower (2 * p.a + asked w.ground_node.fop.state) (2 * p.a + 0)
+        (2 * p.r + bit w.spacecraft.farm.retransmit) g.reports p.down (omega arith) m.ranks))

@@ -1,11 +1,11 @@
 -- What is put on the link is read from it.
-use Rattle.std.proofs.Common.{◌≡◌, ℕ, zero, suc, true, List, [], ◌∷◌, length, Some, Ok, refl, subst, arith}
+use Rattle.std.proofs.Common.{◌≡◌, ◌≤◌, ℕ, zero, suc, true, List, [], ◌∷◌, length, Some, Ok, refl, subst, arith}
 use Rattle.std.specs.Prelude.{slice_get}
 use Rattle.std.specs.List.{AllByRecursion}
 use Rattle.std.proofs.lemmas.Bool.{lt-ltb, le-leb}
 use Rattle.tc_frame.specs.declared.frame.Check.TheVariants.{On}
 use Rattle.tc_frame.specs.declared.frame.Command.TheVariants.{Unlock, SetVr}
-use Rattle.tc_frame.specs.Layout.{SegmentView, BodyView, Ad, Bd, Bc}
+use Rattle.tc_frame.specs.Layout.{SegmentView, BodyView, Ad, Bd, Bc, body_fits}
 use Rattle.tc_frame.specs.Reading.{frame_at}
 use Rattle.tc_frame.specs.Writing.{frame_fits, spelling, total_of}
 use Rattle.tc_frame.proofs.Frames.{frame_again}
@@ -21,31 +21,27 @@ Goes (Ad n s) = FitsFrame s
 Goes (Bd s) = FitsFrame s
 Goes (Bc command) = Unit {0}
 
+body_goes : (f : BodyView) → Goes f → body_fits f ≡ true
+body_goes (Ad n s) h = rw (lt-ltb s.header.map 64 h.map, lt-ltb 0 (length s.payload) h.least) refl
+body_goes (Bd s) h = rw (lt-ltb s.header.map 64 h.map, lt-ltb 0 (length s.payload) h.least) refl
+body_goes (Bc Unlock) h = refl
+body_goes (Bc (SetVr x)) h = refl
+
+total_goes : (c : Config) (f : BodyView) → Goes f → total_of On (frame_of c f) ≤ 1024
+total_goes c (Ad n s) h = omega (arith, h.most)
+total_goes c (Bd s) h = omega (arith, h.most)
+total_goes c (Bc Unlock) h = omega arith
+total_goes c (Bc (SetVr x)) h = omega arith
+
 goes_fits : (c : Config) (f : BodyView) → IsConfig c → Goes f → frame_fits On (frame_of c f) ≡ true
-goes_fits c (Ad n s) is h =
+goes_fits c f is h =
     rw (
       lt-ltb c.scid 1024 (omega (arith, is.scid)),
       lt-ltb c.vcid 64 (omega (arith, is.vcid)),
-      lt-ltb s.header.map 64
-          h.map,
-      lt-ltb 0 (length s.payload) h.least,
-      le-leb (total_of On (frame_of c (Ad n s))) 1024 (omega (arith, h.most)),
+      body_goes f h,
+      le-leb (total_of On (frame_of c f)) 1024 (total_goes c f h),
     )
     refl
-goes_fits c (Bd s) is h =
-    rw (
-      lt-ltb c.scid 1024 (omega (arith, is.scid)),
-      lt-ltb c.vcid 64 (omega (arith, is.vcid)),
-      lt-ltb s.header.map 64
-          h.map,
-      lt-ltb 0 (length s.payload) h.least,
-      le-leb (total_of On (frame_of c (Bd s))) 1024 (omega (arith, h.most)),
-    )
-    refl
-goes_fits c (Bc Unlock) is h =
-    rw (lt-ltb c.scid 1024 (omega (arith, is.scid)), lt-ltb c.vcid 64 (omega (arith, is.vcid))) refl
-goes_fits c (Bc (SetVr x)) is h =
-    rw (lt-ltb c.scid 1024 (omega (arith, is.scid)), lt-ltb c.vcid 64 (omega (arith, is.vcid))) refl
 
 pub reads_back : (c : Config) (f : BodyView) → IsConfig c → Goes f
     → frame_at On (spelling On (frame_of c f)) ≡ Ok (frame_of c f)

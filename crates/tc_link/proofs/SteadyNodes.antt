@@ -54,66 +54,44 @@ module _ (c : Config) (s : FopState SegmentView) (k : FopSteady c s) where
   abbrev Steadily : {A : Type 0} → FopOutcome SegmentView A → Type 0
   Steadily o = FopSteady c o.after
 
-  pub gives_up : (f : FopState SegmentView) → f.room ≡ s.room → f.window ≡ s.window → f.vs ≡ s.vs → f.bypass ≡ s.bypass
-      → FopSteady c (after_alert f)
-  gives_up f room window vs bypass =
+  steady_so : (f : FopState SegmentView) → f.room ≡ s.room → f.window ≡ s.window → f.vs < 256 → f.bypass ≡ s.bypass
+      → (is_closed f.state ≡ true → f.sent ≡ []) → (is_closed f.state ≡ true → f.waiting ≡ None)
+      → Commanded f.state f.control → FopSteady c f
+  steady_so f room window vs_octet bypass sent_none waiting_none commanded =
       let bypass_fits : AllByRecursion FitsFrame f.bypass = rw bypass k.bypass_fits in
       record {
-        room =
-            room ∙ k.room;
-        window =
-            omega (arith, window, k.window);
-        vs_octet =
-            omega (arith, vs, k.vs_octet);
-        sent_none =
-            λ e. refl;
-        waiting_none = λ e. refl;
-        commanded = refl;
-        bypass_fits = bypass_fits;
-      }
-
-  goes_so : (f : FopState SegmentView) → f.room ≡ s.room → f.window ≡ s.window → f.vs ≡ s.vs → f.bypass ≡ s.bypass
-      → is_closed f.state ≡ false → Commanded f.state f.control → FopSteady c f
-  goes_so f room window vs bypass on commanded =
-      let bypass_fits : AllByRecursion FitsFrame f.bypass = rw bypass k.bypass_fits in
-      record {
-        room =
-            room ∙ k.room;
-        window =
-            omega (arith, window, k.window);
-        vs_octet =
-            omega (arith, vs, k.vs_octet);
-        sent_none =
-            λ e. absurd (cc (e, on));
-        waiting_none =
-            λ e. absurd (cc (e, on));
+        room = room ∙ k.room;
+        window = omega (arith, window, k.window);
+        vs_octet = vs_octet;
+        sent_none = sent_none;
+        waiting_none = waiting_none;
         commanded = commanded;
         bypass_fits = bypass_fits;
       }
+
+  pub gives_up : (f : FopState SegmentView) → f.room ≡ s.room → f.window ≡ s.window → f.vs ≡ s.vs → f.bypass ≡ s.bypass
+      → FopSteady c (after_alert f)
+  gives_up f room window vs bypass =
+      steady_so (after_alert f) room window (rw vs k.vs_octet) bypass (λ e. refl) (λ e. refl) refl
+
+  -- the sender is on, with another number for V(S)
+  pub begins_so : (f : FopState SegmentView) → f.room ≡ s.room → f.window ≡ s.window → f.vs < 256
+      → f.bypass ≡ s.bypass → is_closed f.state ≡ false → Commanded f.state f.control → FopSteady c f
+  begins_so f room window vs_octet bypass on commanded =
+      steady_so f room window vs_octet bypass (λ e. absurd (cc (e, on))) (λ e. absurd (cc (e, on))) commanded
+
+  goes_so : (f : FopState SegmentView) → f.room ≡ s.room → f.window ≡ s.window → f.vs ≡ s.vs → f.bypass ≡ s.bypass
+      → is_closed f.state ≡ false → Commanded f.state f.control → FopSteady c f
+  goes_so f room window vs bypass on commanded = begins_so f room window (rw vs k.vs_octet) bypass on commanded
 
   -- the sender is as it was but for what no field speaks of
   pub goes_same : (f : FopState SegmentView) → f.room ≡ s.room → f.window ≡ s.window → f.vs ≡ s.vs → f.bypass ≡ s.bypass
       → f.state ≡ s.state → f.control ≡ s.control → (is_closed s.state ≡ true → f.sent ≡ s.sent) → f.waiting ≡ s.waiting
       → FopSteady c f
   goes_same f room window vs bypass state control sent waiting =
-      let bypass_fits : AllByRecursion FitsFrame f.bypass = rw bypass k.bypass_fits in
-      let commanded : Commanded f.state f.control = rw (state, control) k.commanded in
-      record {
-        room =
-            room ∙ k.room;
-        window =
-            omega (arith, window, k.window);
-        vs_octet =
-            omega (arith, vs, k.vs_octet);
-        sent_none =
-            λ e. let off : is_closed s.state ≡ true =
-            rw state at e in sent off ∙ k.sent_none off;
-        waiting_none =
-            λ e. let off : is_closed s.state ≡ true =
-            rw state at e in waiting ∙ k.waiting_none off;
-        commanded = commanded;
-        bypass_fits = bypass_fits;
-      }
+      steady_so f room window (rw vs k.vs_octet) bypass
+      (λ e. let off : is_closed s.state ≡ true = rw state at e in sent off ∙ k.sent_none off)
+      (λ e. waiting ∙ k.waiting_none (rw state at e)) (rw (state, control) k.commanded)
 
   -- ---- a report
 
@@ -176,27 +154,6 @@ module _ (c : Config) (s : FopState SegmentView) (k : FopSteady c s) where
         (rw is refl) (rw is tt);
     gives_up = gives_up (after_stop s) refl refl refl refl;
   })
-
-  -- ---- a directive
-
-  pub off_so : (f : FopState SegmentView) → s.state ≡ S6 → f.room ≡ s.room → f.window ≡ s.window → f.vs < 256
-      → f.bypass ≡ s.bypass → is_closed f.state ≡ false → Commanded f.state f.control → FopSteady c f
-  off_so f is room window vs bypass on commanded =
-      let bypass_fits : AllByRecursion FitsFrame f.bypass = rw bypass k.bypass_fits in
-      record {
-        room =
-            room ∙ k.room;
-        window =
-            omega (arith, window, k.window);
-        vs_octet =
-            vs;
-        sent_none =
-            λ e. absurd (cc (e, on));
-        waiting_none =
-            λ e. absurd (cc (e, on));
-        commanded = commanded;
-        bypass_fits = bypass_fits;
-      }
 
   -- ---- a pull
 

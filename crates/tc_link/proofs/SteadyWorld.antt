@@ -28,7 +28,8 @@ use Rattle.cop1.specs.FopReport.{clcw_step}
 use Rattle.cop1.specs.FopState.{FopState}
 use Rattle.cop1.specs.FopTick.{tick_step}
 use Rattle.cop1.specs.FopWords.{FopOutcome, after_alert}
-use Rattle.tm_link.specs.Building.{BuilderState, is_to_send, after_send, data_size, is_at_rest, room_left, idle_after}
+use Rattle.tm_link.specs.Building.{BuilderState, is_to_send, after_queue, after_send, data_size, is_at_rest, room_left}
+use Rattle.tm_link.specs.Building.{idle_after, with_next_count}
 use Rattle.tm_link.specs.declared.fault.TmFault.{TmFault}
 use Rattle.tm_link.specs.Extraction.{Extracted, extract_step}
 use Rattle.tm_link.specs.Layout as telemetry
@@ -58,7 +59,7 @@ use Rattle.nodes.proofs.Submitting.{bypass_fits}
 use Rattle.tc_link.specs.Reached.{IsDirective, IsEvent}
 use Rattle.tc_link.proofs.Linked.{Steady, Commanded}
 use Rattle.tc_link.proofs.SteadyNodes.{FopSteady, GroundNodeSteady, FarmSteady, settled_so, farm_so, report_so, tick_so}
-use Rattle.tc_link.proofs.SteadyNodes.{pull_so, gives_up, goes_same, off_so}
+use Rattle.tc_link.proofs.SteadyNodes.{pull_so, gives_up, goes_same, begins_so}
 use Rattle.tc_link.proofs.LateSubmitting.{all_push}
 use Rattle.cop1.proofs.Obeying.{obeyed, begun}
 use Rattle.tc_link.proofs.Leaving.{AtEachLoss, lost, pulled, up_arrives, down_arrives}
@@ -163,19 +164,22 @@ module _ (c : Config) (s : SpacecraftState) (k : SpacecraftSteady c s) where
   bypass_taken_so [] = k
   bypass_taken_so (p ∷ left) = assumption k
 
+  -- the telemetry is another
+  builder_so : (b : BuilderState) → b.scid ≡ s.builder.scid → b.vcid ≡ s.builder.vcid → b.total ≡ s.builder.total
+      → b.idle_left ≤ 6 → SpacecraftSteady c (record s { builder = b })
+  builder_so b scid vcid total idle_left =
+      record {
+        config = k.config;
+        farm = k.farm;
+        builder =
+            record { scid = scid ∙ k.builder.scid; vcid = vcid ∙ k.builder.vcid; total = total ∙ k.builder.total };
+        idle_left = idle_left;
+      }
+
   queued_so : (octets : List ℕ) → SpacecraftSteady c (spacecraft_telemetry s octets).after
   queued_so octets =
       cond_both (is_to_send octets) _ _ (λ (o : SpacecraftOutcome (Result (Unit {0}) TmFault)). SpacecraftSteady c
-      o.after) (λ t. record {
-        config =
-            k.config;
-        farm =
-            k.farm;
-        builder =
-            record { scid = k.builder.scid; vcid = k.builder.vcid; total = k.builder.total };
-        idle_left = k.idle_left;
-      })
-      (λ t. k)
+      o.after) (λ t. builder_so (after_queue s.builder octets) refl refl refl k.idle_left) (λ t. k)
 
   idle_so : (size left count : ℕ) → left ≤ 6 → idle_after size left count ≤ 6
   idle_so size left count least =
@@ -186,26 +190,10 @@ module _ (c : Config) (s : SpacecraftState) (k : SpacecraftSteady c s) where
   reported_so =
       let b : BuilderState = s.builder in
       cond_both (is_at_rest b) b (after_send b (data_size b))
-      (λ (t : BuilderState). SpacecraftSteady c (record s { builder = record t { count = (t.count + 1) % 256 } }))
-      (λ t. record {
-        config =
-            k.config;
-        farm =
-            k.farm;
-        builder =
-            record { scid = k.builder.scid; vcid = k.builder.vcid; total = k.builder.total };
-        idle_left = k.idle_left;
-      })
-      (λ t. record {
-        config =
-            k.config;
-        farm =
-            k.farm;
-        builder =
-            record { scid = k.builder.scid; vcid = k.builder.vcid; total = k.builder.total };
-        idle_left =
-            idle_so (data_size b) b.idle_left (length b.pending) k.idle_left;
-      })
+      (λ (t : BuilderState). SpacecraftSteady c (record s { builder = with_next_count t }))
+      (λ t. builder_so (with_next_count b) refl refl refl k.idle_left)
+      (λ t. builder_so (with_next_count (after_send b (data_size b))) refl refl refl
+      (idle_so (data_size b) b.idle_left (length b.pending) k.idle_left))
 
 -- ---- the ground
 
@@ -227,12 +215,12 @@ module _ (c : Config) (s : GroundState) (k : GroundNodeSteady c s) where
 
   begun_so : (d : Directive) → is_initiation d ≡ true → IsDirective d → s.fop.state ≡ S6 → FopSteady c (begun s.fop d)
   begun_so InitWithoutCheck is fits off =
-      off_so c s.fop k.fop (begun s.fop InitWithoutCheck) off refl refl k.fop.vs_octet refl refl (idle_off off)
+      begins_so c s.fop k.fop (begun s.fop InitWithoutCheck) refl refl k.fop.vs_octet refl refl (idle_off off)
   begun_so InitWithCheck is fits off =
-      off_so c s.fop k.fop (begun s.fop InitWithCheck) off refl refl k.fop.vs_octet refl refl (idle_off off)
+      begins_so c s.fop k.fop (begun s.fop InitWithCheck) refl refl k.fop.vs_octet refl refl (idle_off off)
   begun_so InitUnlock is fits off =
-      off_so c s.fop k.fop (begun s.fop InitUnlock) off refl refl k.fop.vs_octet refl refl tt
-  begun_so (InitSetVr x) is fits off = off_so c s.fop k.fop (begun s.fop (InitSetVr x)) off refl refl fits refl refl tt
+      begins_so c s.fop k.fop (begun s.fop InitUnlock) refl refl k.fop.vs_octet refl refl tt
+  begun_so (InitSetVr x) is fits off = begins_so c s.fop k.fop (begun s.fop (InitSetVr x)) refl refl fits refl refl tt
   begun_so _ is fits off = absurd cc
 
   abbrev Directed : Directive → FopOutcome SegmentView (Result (Option Alert) CopFault) → Type 0

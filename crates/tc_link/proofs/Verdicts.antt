@@ -33,22 +33,20 @@ judged base h r i d free mode most low high e here ahead behind =
     (λ t. behind (omega (arith, leb-true (256 - h) d t)))
     (λ k. absurd (omega (arith, apart, ltb-false d h g, leb-false (256 - h) d k)))))
 
-in_mode : (base h r i d : ℕ) (free : Bool) (mode : FarmMode) → h ≤ 127 → r ≤ i + h → i + 1 ≤ r + h
-    → d ≡ ahead_by ((base + i) % 256) ((base + r) % 256) → VerdictFits r i (ad_verdict (place_at h d) free mode)
-in_mode base h r i d true Open most low high e =
-    judged base h r i d true Open most low high e (λ x. x) (λ x. x) (λ x. x)
-in_mode base h r i d true Wait most low high e =
-    judged base h r i d true Wait most low high e (λ x. tt) (λ x. tt) (λ x. tt)
-in_mode base h r i d true Lockout most low high e =
-    judged base h r i d true Lockout most low high e (λ x. tt) (λ x. tt) (λ x. tt)
-in_mode base h r i d false Open most low high e =
-    judged base h r i d false Open most low high e (λ x. x) (λ x. x) (λ x. x)
-in_mode base h r i d false Wait most low high e =
-    judged base h r i d false Wait most low high e (λ x. tt) (λ x. tt) (λ x. tt)
-in_mode base h r i d false Lockout most low high e =
-    judged base h r i d false Lockout most low high e (λ x. tt) (λ x. tt) (λ x. tt)
+-- the table's row for a number that is the expected one, ahead of it or behind it
+in_mode : (r i : ℕ) (free : Bool) (mode : FarmMode)
+    → (i ≡ r → VerdictFits r i (ad_verdict (place_at 127 0) free mode))
+    × (r < i → VerdictFits r i (ad_verdict (place_at 127 1) free mode))
+    × (i < r → VerdictFits r i (ad_verdict (place_at 127 255) free mode))
+in_mode r i true Open = (λ x. x, λ x. x, λ x. x)
+in_mode r i true Wait = (λ x. tt, λ x. tt, λ x. tt)
+in_mode r i true Lockout = (λ x. tt, λ x. tt, λ x. tt)
+in_mode r i false Open = (λ x. x, λ x. x, λ x. x)
+in_mode r i false Wait = (λ x. tt, λ x. tt, λ x. tt)
+in_mode r i false Lockout = (λ x. tt, λ x. tt, λ x. tt)
 
 pub verdict_in_window : (s : FarmState) (base h r i n : ℕ) (free : Bool) → s.width / 2 ≡ h → h ≤ 127
     → s.vr ≡ (base + r) % 256 → n ≡ (base + i) % 256 → r ≤ i + h → i + 1 ≤ r + h → VerdictFits r i (verdict_of s n free)
 verdict_in_window s base h r i n free half most vr number low high =
-    rw half (in_mode base h r i (ahead_by n s.vr) free s.state most low high (rw (vr, number) refl))
+    let row = in_mode r i free s.state in
+    rw half (judged base h r i (ahead_by n s.vr) free s.state most low high (rw (vr, number) refl) row.0 row.1 row.2)

@@ -19,38 +19,20 @@ flags_multiple false true false = refl
 flags_multiple false false true = refl
 flags_multiple false false false = refl
 
-pub locks_is : (s : FarmState) (l w t : Bool) → s.lockout ≡ l → s.wait ≡ w → s.retransmit ≡ t → (vcid : ℕ)
-    → locks (report_of s vcid) ≡ l
-locks_is s true true true e f g vcid = rw (e, f, g) refl
-locks_is s true true false e f g vcid = rw (e, f, g) refl
-locks_is s true false true e f g vcid = rw (e, f, g) refl
-locks_is s true false false e f g vcid = rw (e, f, g) refl
-locks_is s false true true e f g vcid = rw (e, f, g) refl
-locks_is s false true false e f g vcid = rw (e, f, g) refl
-locks_is s false false true e f g vcid = rw (e, f, g) refl
-locks_is s false false false e f g vcid = rw (e, f, g) refl
+flags_in : (s : FarmState) (vcid : ℕ) (l w t : Bool) → s.lockout ≡ l → s.wait ≡ w → s.retransmit ≡ t
+    → (locks (report_of s vcid) ≡ l) × (waits (report_of s vcid) ≡ w) × (asks (report_of s vcid) ≡ t)
+flags_in s vcid true true true e f g = rw (e, f, g) (refl, refl, refl)
+flags_in s vcid true true false e f g = rw (e, f, g) (refl, refl, refl)
+flags_in s vcid true false true e f g = rw (e, f, g) (refl, refl, refl)
+flags_in s vcid true false false e f g = rw (e, f, g) (refl, refl, refl)
+flags_in s vcid false true true e f g = rw (e, f, g) (refl, refl, refl)
+flags_in s vcid false true false e f g = rw (e, f, g) (refl, refl, refl)
+flags_in s vcid false false true e f g = rw (e, f, g) (refl, refl, refl)
+flags_in s vcid false false false e f g = rw (e, f, g) (refl, refl, refl)
 
-pub waits_is : (s : FarmState) (l w t : Bool) → s.lockout ≡ l → s.wait ≡ w → s.retransmit ≡ t → (vcid : ℕ)
-    → waits (report_of s vcid) ≡ w
-waits_is s true true true e f g vcid = rw (e, f, g) refl
-waits_is s true true false e f g vcid = rw (e, f, g) refl
-waits_is s true false true e f g vcid = rw (e, f, g) refl
-waits_is s true false false e f g vcid = rw (e, f, g) refl
-waits_is s false true true e f g vcid = rw (e, f, g) refl
-waits_is s false true false e f g vcid = rw (e, f, g) refl
-waits_is s false false true e f g vcid = rw (e, f, g) refl
-waits_is s false false false e f g vcid = rw (e, f, g) refl
-
-pub asks_is : (s : FarmState) (l w t : Bool) → s.lockout ≡ l → s.wait ≡ w → s.retransmit ≡ t → (vcid : ℕ)
-    → asks (report_of s vcid) ≡ t
-asks_is s true true true e f g vcid = rw (e, f, g) refl
-asks_is s true true false e f g vcid = rw (e, f, g) refl
-asks_is s true false true e f g vcid = rw (e, f, g) refl
-asks_is s true false false e f g vcid = rw (e, f, g) refl
-asks_is s false true true e f g vcid = rw (e, f, g) refl
-asks_is s false true false e f g vcid = rw (e, f, g) refl
-asks_is s false false true e f g vcid = rw (e, f, g) refl
-asks_is s false false false e f g vcid = rw (e, f, g) refl
+pub flags_are : (s : FarmState) (vcid : ℕ) → (locks (report_of s vcid) ≡ s.lockout)
+    × (waits (report_of s vcid) ≡ s.wait) × (asks (report_of s vcid) ≡ s.retransmit)
+flags_are s vcid = flags_in s vcid s.lockout s.wait s.retransmit refl refl refl
 
 read_again : (word : Clcw) → word.status ≡ 0 → flags_number word.flags % 8 ≡ 0 → word.farm_b < 4
     → clcw_at (spelling word) ≡ Ok word

@@ -2,19 +2,25 @@ use Rattle.std.proofs.Common.{subst}
 use Rattle.tc_link.specs.Confirmation.{IsChecking, ConfirmsExactly}
 use Rattle.tc_link.specs.FalseAlarms.{HasNoFalseAlarm}
 use Rattle.tc_link.specs.History.{GoesOnByAStep}
-use Rattle.tc_link.specs.Promises.{IsPromised}
+use Rattle.tc_link.specs.Promises.{IsPromised, IsPromisedOf}
 use Rattle.tc_link.specs.Reached.{IsReached}
 use Rattle.tc_link.specs.Simulation.{SimState}
-use Rattle.tc_link.specs.World.{IsClean, IsSettled, BeginsNoSession, directive_of}
+use Rattle.tc_link.specs.World.{World, IsClean, IsSettled, BeginsNoSession, directive_of}
 use Rattle.tc_link.proofs.Promised.{promised, promised_of, reached_after, confirmed_after, stepped_after}
 use Rattle.tc_link.proofs.sim.Sim.step.Goals as goal
 
+abbrev old : goal.After-step → World
+old c = c.self.inside.world
+
 reached : (c : goal.After-step) → IsReached c.step.new.self
-reached c = reached_after c.self.inside.world c.step.new.self c.args.event c.step.result c.self.invariant
+reached c = reached_after (old c) c.step.new.self c.args.event c.step.result c.self.invariant
     c.keeps_octets.ensures c.step.ensures.after c.step.ensures.err
 
 kept : (c : goal.After-step) → IsClean c.step.new.self → IsPromised c.step.new.self
 kept c is = promised c.step.new.self (reached c) is
+
+kept_of : (c : goal.After-step) → IsClean (old c) → IsPromisedOf (old c) c.args.event
+kept_of c is = promised_of (old c) c.args.event c.self.invariant c.keeps_octets.ensures is
 
 pub invariant_of-self : goal.invariant_of-self
 invariant_of-self c = reached c
@@ -27,13 +33,10 @@ returns-clause-history c is = (kept c is).history
 
 pub returns-clause-one_step : goal.returns-clause-one_step
 returns-clause-one_step c =
-    let old = c.self.inside.world in
-    let so : IsClean old → IsSettled old → BeginsNoSession old c.args.event → GoesOnByAStep old c.step.new.self =
-    λ is settled goes. stepped_after old c.step.new.self c.args.event c.step.result c.step.ensures.after
-    c.step.ensures.err (promised old c.self.invariant is).history
-    ((promised_of old c.args.event c.self.invariant c.keeps_octets.ensures is).history settled goes) in
     subst (λ (s : SimState). IsClean s.world → IsSettled s.world → BeginsNoSession s.world c.args.event
-    → GoesOnByAStep s.world c.step.new.self) c.self.view_is so
+    → GoesOnByAStep s.world c.step.new.self) c.self.view_is
+    (λ is settled goes. stepped_after (old c) c.step.new.self c.args.event c.step.result c.step.ensures.after
+    c.step.ensures.err (promised (old c) c.self.invariant is).history ((kept_of c is).history settled goes))
 
 pub returns-clause-window : goal.returns-clause-window
 returns-clause-window c is = (kept c is).window
@@ -43,19 +46,12 @@ returns-clause-confirmed c is = (kept c is).confirmed
 
 pub returns-clause-confirms : goal.returns-clause-confirms
 returns-clause-confirms c =
-    let old = c.self.inside.world in
-    let so : IsClean old → IsChecking (directive_of old) → ConfirmsExactly old c.step.new.self =
-    λ is checking. confirmed_after old c.step.new.self c.args.event c.step.result c.step.ensures.after
-    c.step.ensures.err ((promised_of old c.args.event c.self.invariant c.keeps_octets.ensures is).confirms checking)
-    in
     subst (λ (s : SimState). IsClean s.world → IsChecking (directive_of s.world)
-    → ConfirmsExactly s.world c.step.new.self) c.self.view_is so
+    → ConfirmsExactly s.world c.step.new.self) c.self.view_is
+    (λ is checking. confirmed_after (old c) c.step.new.self c.args.event c.step.result c.step.ensures.after
+    c.step.ensures.err ((kept_of c is).confirms checking))
 
 pub returns-clause-no_false_alarm : goal.returns-clause-no_false_alarm
 returns-clause-no_false_alarm c =
-    let old = c.self.inside.world in
-    let so : IsClean old → IsChecking (directive_of old) → HasNoFalseAlarm old c.args.event =
-    λ is checking. ((promised_of old c.args.event c.self.invariant c.keeps_octets.ensures is).no_false_alarm checking)
-    in
     subst (λ (s : SimState). IsClean s.world → IsChecking (directive_of s.world) → HasNoFalseAlarm s.world c.args.event)
-    c.self.view_is so
+    c.self.view_is (λ is. (kept_of c is).no_false_alarm)
