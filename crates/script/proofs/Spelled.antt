@@ -1,5 +1,5 @@
 -- A line that is spelled is read so.
-use Rattle.std.proofs.Common.{◌≡◌, ◌∙◌, ◌≤◌, ◌<◌, ◌^◌, ℕ, true, List, Option, Some, refl, ap, arith}
+use Rattle.std.proofs.Common.{◌≡◌, ◌∙◌, ◌≤◌, ◌<◌, ◌^◌, ℕ, true, List, [], ◌∷◌, ◌++◌, Option, Some, refl, ap, arith}
 use Rattle.std.specs.Prelude.{◌⊎◌, codes, decimal}
 use Rattle.std.specs.Option.{unwrap_or}
 use Rattle.nodes.specs.declared.parameter.Parameter.{Parameter}
@@ -7,6 +7,7 @@ use Rattle.nodes.specs.declared.parameter.Parameter.TheVariants as parameters
 use Rattle.nodes.specs.Parameters.{row_of}
 use Rattle.nodes.proofs.InRange.{named}
 use Rattle.script.specs.Lines.{ScriptLine, Setting, Unreadable, most_for, setting_line, line_of_words, line_in}
+use Rattle.script.specs.Words.{words_in}
 use Rattle.script.specs.Spelling as spelling
 use Rattle.script.specs.Spelling.{Spells}
 use Rattle.script.proofs.HexWords.{spelled_octets}
@@ -34,6 +35,11 @@ set : (p : Parameter) (n : ℕ) → n ≤ most_for p → setting_line (row_of p)
 set p n le = let number = printed (most_for p) n (most_small p) le in rw (named p, number) refl
 
 -- ---- lines
+
+-- a name and a number
+numbered : (name : List ℕ) (x : ℕ) → is_word name ≡ true → x < 2 ^ 64
+    → meant (words_in (name ++ 32 ∷ decimal x)) ≡ meant (name ∷ decimal x ∷ [])
+numbered name x is small = ap meant (two_words name (decimal x) is (number_word x small))
 
 pub spelled : {line : List ℕ} {what : ScriptLine} → Spells what line → line_in line ≡ what
 spelled spelling.empty = refl
@@ -64,17 +70,13 @@ spelled (spelling.init_set x le) =
     ap meant (three_words (codes "init") (codes "set") (decimal x) refl refl (number_word x (omega arith)))
     ∙ rw number refl
 spelled (spelling.vs x le) =
-    let number = printed 255 x (omega arith) le in
-    ap meant (two_words (codes "vs") (decimal x) refl (number_word x (omega arith))) ∙ rw number refl
+    numbered (codes "vs") x refl (omega arith) ∙ rw (printed 255 x (omega arith) le) refl
 spelled (spelling.window x le) =
-    let number = printed 255 x (omega arith) le in
-    ap meant (two_words (codes "window") (decimal x) refl (number_word x (omega arith))) ∙ rw number refl
+    numbered (codes "window") x refl (omega arith) ∙ rw (printed 255 x (omega arith) le) refl
 spelled (spelling.limit x le) =
-    let number = printed 255 x (omega arith) le in
-    ap meant (two_words (codes "limit") (decimal x) refl (number_word x (omega arith))) ∙ rw number refl
+    numbered (codes "limit") x refl (omega arith) ∙ rw (printed 255 x (omega arith) le) refl
 spelled (spelling.timer x le) =
-    let number = printed 65535 x (omega arith) le in
-    ap meant (two_words (codes "timer") (decimal x) refl (number_word x (omega arith))) ∙ rw number refl
+    numbered (codes "timer") x refl (omega arith) ∙ rw (printed 65535 x (omega arith) le) refl
 spelled spelling.terminate = refl
 spelled spelling.send = refl
 spelled spelling.report = refl
