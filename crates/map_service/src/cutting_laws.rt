@@ -61,6 +61,7 @@ pub fn law_of_passage()
         ≡ open_part limits k segments) }
 {}
 
+#[tactic(auto, using(crate::proofs::Histories::all_assembled, crate::proofs::Histories::all_closed, crate::proofs::Histories::some_assembled))]
 /// What calls handed over is assembled again, whatever MAPs they were on: of all their segments, on
 /// each MAP, just its packets in their order, with no part open; of a beginning of the segments, a
 /// beginning of the packets.

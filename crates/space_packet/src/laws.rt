@@ -24,6 +24,7 @@ pub fn law_of_reading()
         → first_record 6 extent_at (octets ++ more) ≡ Some (Ok octets) }
 {}
 
+#[tactic(auto, using(crate::proofs::Readings::record_is, crate::proofs::Readings::record_again, crate::proofs::Readings::records_are))]
 /// The records of a stream are its packets: octets are a record exactly where they spell a packet,
 /// idle or not. So it is for all records that stand one after another.
 pub fn law_of_records()

@@ -1,11 +1,5 @@
-use Rattle.map_service.proofs.Spelled.{one_is, one_again, several_are, several_again}
+use Rattle.map_service.proofs.Spelled.{several_are, several_again}
 use Rattle.map_service.proofs.laws.law_of_packets.Goals as goal
-
-pub returns-clause-one : goal.returns-clause-one
-returns-clause-one c = one_is
-
-pub returns-clause-one_only : goal.returns-clause-one_only
-returns-clause-one_only c = one_again
 
 pub returns-clause-several : goal.returns-clause-several
 returns-clause-several c = several_are
