@@ -3,7 +3,8 @@ use Rattle.std.proofs.Common.{◌≡◌, ◌≤◌, ◌<◌, ℕ, zero, suc, tru
 use Rattle.std.proofs.Common.{take, drop, Some, None, refl, sym, ap, ◌∙◌, arith, inl, inr, length-take, length-drop}
 use Rattle.std.proofs.Common.{length-append}
 use Rattle.std.specs.List.{AllByRecursion, concat}
-use Rattle.std.proofs.lemmas.Bool.{cases_lt, lt-ltb, le-ltb, ne_eqb}
+use Rattle.std.specs.Prelude.{nat_lt}
+use Rattle.std.proofs.lemmas.Bool.{cases_lt, cond_both, lt-ltb, le-ltb, ltb-true, ne_eqb}
 use Rattle.std.proofs.lemmas.List.{take_at, drop_at, drop_all, append-nil, take-append-drop}
 use Rattle.std.proofs.Math.Seq.{take-length}
 use Rattle.std.proofs.lemmas.List.Folds.{concat-append}
@@ -72,10 +73,8 @@ pub group-front : (part : ℕ) (packets : List (List ℕ))
     → take (length (first_group part packets)) packets ≡ first_group part packets
 group-front part [] = refl
 group-front part (p ∷ ps) =
-    elim (cases_lt part (length p)) [
-      | inl lt ↦ rw (lt-ltb part (length p) lt) refl
-      | inr ge ↦ rw (le-ltb part (length p) ge) (ap (λ (xs : List (List ℕ)). p ∷ xs) (run-front (part - length p) ps))
-    ]
+    cond_both (nat_lt part (length p)) (p ∷ []) (longest_run part (p ∷ ps))
+    (λ (g : List (List ℕ)). take (length g) (p ∷ ps) ≡ g) (λ t. refl) (λ t. run-front part (p ∷ ps))
 
 -- a group has a packet
 pub group-some : (part : ℕ) (p : List ℕ) (ps : List (List ℕ)) → 1 ≤ length (first_group part (p ∷ ps))
@@ -200,9 +199,9 @@ run-all room (p ∷ ps) le =
 group-all : (part : ℕ) (packets : List (List ℕ)) → length (concat packets) ≤ part → first_group part packets ≡ packets
 group-all part [] le = refl
 group-all part (p ∷ ps) le =
-    let sum : length (concat (p ∷ ps)) ≡ length p + length (concat ps) = length-append p (concat ps) in
-    rw (le-ltb part (length p) (omega (arith, sum)))
-    (ap (λ (xs : List (List ℕ)). p ∷ xs) (run-all (part - length p) ps (omega (arith, sum))))
+    cond_both (nat_lt part (length p)) (p ∷ []) (longest_run part (p ∷ ps)) (λ (g : List (List ℕ)). g ≡ p ∷ ps)
+    (λ t. absurd (omega (arith, ltb-true part (length p) t, length-append p (concat ps), le)))
+    (λ t. run-all part (p ∷ ps) le)
 
 -- packets that have at most `part` octets together are one group
 pub in-one : (part m : ℕ) (octets : List ℕ) → rest_in octets ≡ [] → 1 ≤ length octets → length octets ≤ part
