@@ -86,7 +86,7 @@ own_extent_of p b h =
     (omega arith, rw (front, size, version, apid, flag, secondary.0, h.idle, total) refl)
 
 -- two octets from a place on are those of their number
-two_at : (b : List ℕ) (k : ℕ) → k + 2 ≤ length b → IsOctets b
+pub two_at : (b : List ℕ) (k : ℕ) → k + 2 ≤ length b → IsOctets b
     → take 2 (drop k b) ≡ big_bytes 2 (number_of (take 2 (drop k b)))
 two_at b k long octets =
     two_octets (take 2 (drop k b)) (omega (arith, length-take 2 (drop k b), length-drop k b))

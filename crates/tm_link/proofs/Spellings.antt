@@ -3,14 +3,13 @@ use Rattle.std.proofs.Common.{◌≡◌, ◌<◌, ◌≤◌, ℕ, ◌+◌, ◌-�
 use Rattle.std.proofs.Common.{sym, ap, subst, ◌∙◌, arith, length-append}
 use Rattle.std.specs.Prelude.{IsTrue}
 use Rattle.std.proofs.lemmas.Bool.{ltb-true}
-use Rattle.std.proofs.lemmas.List.{take_at, take-append-drop, take-take, drop-take, drop-drop, length-take, length-drop}
+use Rattle.std.proofs.lemmas.List.{take_at, take-append-drop, take-take, drop-take, drop-drop}
 use Rattle.byteorder.specs.Endian.{big_bytes}
-use Rattle.octets.specs.Number.{number_of, IsOctets}
 use Rattle.octets.specs.Check.{check_of}
 use Rattle.octets.proofs.Checked.{holds_check, checked_are}
-use Rattle.octets.proofs.Cuts.{take_fits, drop_fits}
-use Rattle.octets.proofs.Numbers.{number_of_two, two_octets}
+use Rattle.octets.proofs.Numbers.{number_of_two}
 use Rattle.octets.proofs.Outcomes.{both_true, le_true}
+use Rattle.space_packet.specs.Laws.{two_at}
 use Rattle.tm_link.specs.Layout.{FrameView, pointer_fits, IsTmFrame, IsSpelling}
 use Rattle.tm_link.specs.Writing.{total_of, first_number, status_number, header_octets, front_octets, spelling}
 use Rattle.tm_link.specs.Writing.{frame_fits}
@@ -61,13 +60,6 @@ pub written_is : (n : ℕ) (f : FrameView) (out rest : List ℕ) → out ≡ spe
 written_is n f out rest is h =
     let front : take n (out ++ rest) ≡ out = take_at out rest n (ap length is ∙ h.count) in
     subst (IsTmFrame n f) (sym (front ∙ is)) h
-
--- two octets from a place on are those of their number
-two_at : (b : List ℕ) (k : ℕ) → k + 2 ≤ length b → IsOctets b
-    → take 2 (drop k b) ≡ big_bytes 2 (number_of (take 2 (drop k b)))
-two_at b k long octets =
-    two_octets (take 2 (drop k b)) (omega (arith, length-take 2 (drop k b), length-drop k b))
-    (take_fits (drop k b) 2 (drop_fits b k octets))
 
 -- two octets from place 2 on, one by one
 counts_at : (b : List ℕ) (x y : ℕ) → 4 ≤ length b → get_or b 2 0 ≡ x → get_or b 3 0 ≡ y → take 2 (drop 2 b) ≡ x ∷ y ∷ []
