@@ -2,6 +2,7 @@
 
 ghost use Rattle.std.specs.Prelude.{◌<◌};
 
+use crate::refusing::says_refused;
 use octets::Wire;
 use std::process::Abort;
 use std::test::Fail;
@@ -137,8 +138,7 @@ fn feed<C: Wire<Fault = TcFault>>(
     octets: &[u8],
 ) {
     if let Err(fault) = splitter.feed(octets) {
-        let _ = eprintln!(rt; "refused a growth");
-        assert_eq!(rt; fault, TcFault::Memory);
+        says_refused(rt, fault, TcFault::Memory);
         assert_eq!(rt; splitter.feed(octets), Ok(()));
     }
 }

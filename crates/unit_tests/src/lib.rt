@@ -10,6 +10,8 @@ mod packets;
 #[cfg(test)]
 mod receiver;
 #[cfg(test)]
+mod refusing;
+#[cfg(test)]
 mod segments;
 #[cfg(test)]
 mod sender;

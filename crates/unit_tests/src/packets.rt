@@ -3,6 +3,7 @@
 ghost use Rattle.std.specs.Prelude.{◌≡◌, ◌<◌, ◌+◌, ◌%◌, IfOk, Some, vec_len};
 ghost use Rattle.space_packet.specs.Counters.{gap_between};
 
+use crate::refusing::says_refused;
 use space_packet::*;
 use std::alloc::{AllocError, Global};
 use std::process::Abort;
@@ -75,8 +76,7 @@ fn faults_by_number_and_name(rt: HostRuntime) {
 // Feeds. Where memory is refused nothing has changed, and the call made again answers as ever.
 fn feed(rt: &(impl Abort + Eprint), splitter: &mut PacketSplitter, octets: &[u8]) {
     if let Err(fault) = splitter.feed(octets) {
-        let _ = eprintln!(rt; "refused a growth");
-        assert_eq!(rt; fault, PacketFault::Memory);
+        says_refused(rt, fault, PacketFault::Memory);
         assert_eq!(rt; splitter.feed(octets), Ok(()));
     }
 }

@@ -5,6 +5,7 @@ ghost use Rattle.std.specs.Prelude.{◌≡◌, ◌≤◌};
 mod assembling;
 
 use map_service::*;
+use std::alloc::Global;
 use std::process::Abort;
 use tc_frame::{Segment, SegmentFlags, SegmentHeader};
 
@@ -60,6 +61,22 @@ fn cut_on<'a>(
     answer
 }
 
+// These octets are cut so; the segments.
+fn cuts<'a>(
+    rt: &(impl Abort + Eprint),
+    alloc: Global,
+    octets: &'a [u8],
+    limits: &Limits,
+    parts: &[Segment<'a>],
+) -> Vec<Segment<'a>>
+    requires { 1 ≤ limits.now.part }
+{
+    let mut segments = Vec::new(alloc);
+    assert_eq!(rt; cut_on(rt, octets, limits, &mut segments, &[]), Ok(()));
+    assert!(rt; segments.as_slice() == parts);
+    segments
+}
+
 #[test]
 fn a_packet_in_parts(rt: HostRuntime) {
     let parts = [
@@ -67,23 +84,14 @@ fn a_packet_in_parts(rt: HostRuntime) {
         segment(SegmentFlags::Continuing, 4, &[0, 0, 0]),
         segment(SegmentFlags::Last, 4, &[0xaa]),
     ];
-    let mut segments = Vec::new(rt.alloc());
-    assert_eq!(rt;
-        cut_on(&rt, &P0, &limits(3, false), &mut segments, &[]),
-        Ok(())
-    );
-    assert!(rt; segments.as_slice() == parts.as_slice());
+    cuts(&rt, rt.alloc(), &P0, &limits(3, false), &parts);
 }
 
 #[test]
 fn a_packet_that_fits(rt: HostRuntime) {
     for blocking in [false, true] {
-        let mut segments = Vec::new(rt.alloc());
-        assert_eq!(rt;
-            cut_on(&rt, &P0, &limits(7, blocking), &mut segments, &[]),
-            Ok(())
-        );
-        assert!(rt; segments.as_slice() == [segment(SegmentFlags::Alone, 4, &P0)].as_slice());
+        let whole = [segment(SegmentFlags::Alone, 4, &P0)];
+        cuts(&rt, rt.alloc(), &P0, &limits(7, blocking), &whole);
     }
 }
 
@@ -93,12 +101,7 @@ fn packets_joined(rt: HostRuntime) {
         segment(SegmentFlags::Alone, 4, &THREE[..14]),
         segment(SegmentFlags::Alone, 4, &THREE[14..]),
     ];
-    let mut segments = Vec::new(rt.alloc());
-    assert_eq!(rt;
-        cut_on(&rt, &THREE, &limits(20, true), &mut segments, &[]),
-        Ok(())
-    );
-    assert!(rt; segments.as_slice() == joined.as_slice());
+    let mut segments = cuts(&rt, rt.alloc(), &THREE, &limits(20, true), &joined);
     assert_eq!(rt;
         cut_on(&rt, &THREE, &limits(20, false), &mut segments, &joined),
         Err(MapFault::NotAPacket)
@@ -113,23 +116,14 @@ fn a_long_packet_between_two_short_ones(rt: HostRuntime) {
         segment(SegmentFlags::Last, 4, &LONG_BETWEEN[17..19]),
         segment(SegmentFlags::Alone, 4, &LONG_BETWEEN[19..]),
     ];
-    let mut segments = Vec::new(rt.alloc());
-    assert_eq!(rt;
-        cut_on(&rt, &LONG_BETWEEN, &limits(10, true), &mut segments, &[]),
-        Ok(())
-    );
-    assert!(rt; segments.as_slice() == parts.as_slice());
+    cuts(&rt, rt.alloc(), &LONG_BETWEEN, &limits(10, true), &parts);
 }
 
 // Two growths of the list, the second of them within a packet and after a segment that was there.
 #[test]
 fn a_packet_octet_by_octet(rt: HostRuntime) {
     let whole = segment(SegmentFlags::Alone, 4, &P0);
-    let mut segments = Vec::new(rt.alloc());
-    assert_eq!(rt;
-        cut_on(&rt, &P0, &limits(7, false), &mut segments, &[]),
-        Ok(())
-    );
+    let mut segments = cuts(&rt, rt.alloc(), &P0, &limits(7, false), &[whole]);
     assert_eq!(rt;
         cut_on(&rt, &P0, &limits(1, false), &mut segments, &[whole]),
         Ok(())
@@ -152,9 +146,8 @@ fn refused_octets(rt: HostRuntime) {
         max_packet: 7,
         ..limits(20, true)
     };
-    let mut segments = Vec::new(rt.alloc());
-    assert_eq!(rt; cut_on(&rt, &P0, &short, &mut segments, &[]), Ok(()));
     let before = [segment(SegmentFlags::Alone, 4, &P0)];
+    let mut segments = cuts(&rt, rt.alloc(), &P0, &short, &before);
     assert_eq!(rt;
         cut_on(&rt, &LONG_BETWEEN, &short, &mut segments, &before),
         Err(MapFault::TooLong)

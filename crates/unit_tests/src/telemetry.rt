@@ -1,13 +1,28 @@
 // Frames in octets, worked by hand.
 
+use crate::refusing::says_refused;
 use std::alloc::{AllocError, Global};
 use std::process::Abort;
 use std::test::Fail;
+use tm_link::Gap::{First, Lost};
 use tm_link::*;
 
 // The frame of only idle data with 16 octets, before its check.
 const IDLE: [u8; 14] = [
     0x00, 0x11, 0x00, 0x00, 0x1f, 0xfe, 0x55, 0x55, 0x55, 0x55, 0x01, 0x08, 0x00, 0x00,
+];
+
+// Packets of 7 octets, with the sequence counts 0 to 3.
+const FOUR: [&[u8]; 4] = [
+    &[0x00, 0x05, 0xc0, 0x00, 0x00, 0x00, 0xaa],
+    &[0x00, 0x05, 0xc0, 0x01, 0x00, 0x00, 0xbb],
+    &[0x00, 0x05, 0xc0, 0x02, 0x00, 0x00, 0xcc],
+    &[0x00, 0x05, 0xc0, 0x03, 0x00, 0x00, 0xdd],
+];
+
+// A packet of 16 octets.
+const LONG: [u8; 16] = [
+    0x00, 0x05, 0xc0, 0x00, 0x00, 0x09, 0xaa, 0xaa, 0xaa, 0xaa, 0xaa, 0xaa, 0xaa, 0xaa, 0xaa, 0xaa,
 ];
 
 fn frame(pointer: Pointer) -> TmFrame<'static> {
@@ -93,17 +108,27 @@ fn refusals(rt: HostRuntime) {
     );
 }
 
+// A builder of frames of 20 octets, with these packets queued.
+fn builder_of(
+    rt: &(impl Abort + Eprint),
+    alloc: Global,
+    packets: &[&[u8]],
+) -> Result<TmBuilder, Fail> {
+    let mut builder = TmBuilder::new(alloc, 1, 0, 20)?;
+    for packet in packets {
+        queue(rt, &mut builder, packet);
+    }
+    Ok(builder)
+}
+
 // The data field and the pointer of each frame that a builder of frames of 20 octets makes of packets.
 fn builds(
     rt: &(impl Abort + Eprint),
     alloc: Global,
     packets: &[&[u8]],
-    frames: &[([u8; 8], Pointer)],
+    frames: &[(&[u8; 8], Pointer)],
 ) -> Result<(), Fail> {
-    let mut builder = TmBuilder::new(alloc, 1, 0, 20)?;
-    for packet in packets {
-        queue(rt, &mut builder, packet);
-    }
+    let mut builder = builder_of(rt, alloc, packets)?;
     let ocf = [0x01, 0x08, 0x00, 0x00];
     for (number, (payload, pointer)) in frames.iter().enumerate() {
         let mut out = [0xee; 2048];
@@ -124,76 +149,39 @@ fn builds(
 // Queues. Where memory is refused nothing has changed, and the call made again answers as ever.
 fn queue(rt: &(impl Abort + Eprint), builder: &mut TmBuilder, packet: &[u8]) {
     if let Err(fault) = builder.queue(packet) {
-        let _ = eprintln!(rt; "refused a growth");
-        assert_eq!(rt; fault, TmFault::Memory);
+        says_refused(rt, fault, TmFault::Memory);
         assert_eq!(rt; builder.queue(packet), Ok(()));
     }
 }
 
+// The frames of FOUR: the last ends in an idle packet, which goes on in a next one.
+const FRAMES_OF_FOUR: [(&[u8; 8], Pointer); 4] = [
+    (b"\x00\x05\xc0\x00\x00\x00\xaa\x00", Pointer::At(0)),
+    (b"\x05\xc0\x01\x00\x00\xbb\x00\x05", Pointer::At(6)),
+    (b"\xc0\x02\x00\x00\xcc\x00\x05\xc0", Pointer::At(5)),
+    (b"\x03\x00\x00\xdd\x07\xff\xc0\x00", Pointer::At(4)),
+];
+
+// The frames of the first of them, with idle packets behind it.
+const FRAMES_OF_ONE: [(&[u8; 8], Pointer); 8] = [
+    (b"\x00\x05\xc0\x00\x00\x00\xaa\x07", Pointer::At(0)),
+    (b"\xff\xc0\x00\x00\x00\x55\x07\xff", Pointer::At(6)),
+    (b"\xc0\x00\x00\x00\x55\x07\xff\xc0", Pointer::At(5)),
+    (b"\x00\x00\x00\x55\x07\xff\xc0\x00", Pointer::At(4)),
+    (b"\x00\x00\x55\x07\xff\xc0\x00\x00", Pointer::At(3)),
+    (b"\x00\x55\x07\xff\xc0\x00\x00\x00", Pointer::At(2)),
+    (b"\x55\x07\xff\xc0\x00\x00\x00\x55", Pointer::At(1)),
+    (b"\x55\x55\x55\x55\x55\x55\x55\x55", Pointer::OnlyIdle),
+];
+
 #[test]
 fn packets_in_frames(rt: HostRuntime) -> Result<(), Fail> {
-    let packets: [&[u8]; 4] = [
-        &[0x00, 0x05, 0xc0, 0x00, 0x00, 0x00, 0xaa],
-        &[0x00, 0x05, 0xc0, 0x01, 0x00, 0x00, 0xbb],
-        &[0x00, 0x05, 0xc0, 0x02, 0x00, 0x00, 0xcc],
-        &[0x00, 0x05, 0xc0, 0x03, 0x00, 0x00, 0xdd],
-    ];
-    let frames = [
-        (
-            [0x00, 0x05, 0xc0, 0x00, 0x00, 0x00, 0xaa, 0x00],
-            Pointer::At(0),
-        ),
-        (
-            [0x05, 0xc0, 0x01, 0x00, 0x00, 0xbb, 0x00, 0x05],
-            Pointer::At(6),
-        ),
-        (
-            [0xc0, 0x02, 0x00, 0x00, 0xcc, 0x00, 0x05, 0xc0],
-            Pointer::At(5),
-        ),
-        (
-            [0x03, 0x00, 0x00, 0xdd, 0x07, 0xff, 0xc0, 0x00],
-            Pointer::At(4),
-        ),
-    ];
-    builds(&rt, rt.alloc(), &packets, &frames)
+    builds(&rt, rt.alloc(), &FOUR, &FRAMES_OF_FOUR)
 }
 
 #[test]
 fn idle_packets_in_frames(rt: HostRuntime) -> Result<(), Fail> {
-    let packets: [&[u8]; 1] = [&[0x00, 0x05, 0xc0, 0x00, 0x00, 0x00, 0xaa]];
-    let frames = [
-        (
-            [0x00, 0x05, 0xc0, 0x00, 0x00, 0x00, 0xaa, 0x07],
-            Pointer::At(0),
-        ),
-        (
-            [0xff, 0xc0, 0x00, 0x00, 0x00, 0x55, 0x07, 0xff],
-            Pointer::At(6),
-        ),
-        (
-            [0xc0, 0x00, 0x00, 0x00, 0x55, 0x07, 0xff, 0xc0],
-            Pointer::At(5),
-        ),
-        (
-            [0x00, 0x00, 0x00, 0x55, 0x07, 0xff, 0xc0, 0x00],
-            Pointer::At(4),
-        ),
-        (
-            [0x00, 0x00, 0x55, 0x07, 0xff, 0xc0, 0x00, 0x00],
-            Pointer::At(3),
-        ),
-        (
-            [0x00, 0x55, 0x07, 0xff, 0xc0, 0x00, 0x00, 0x00],
-            Pointer::At(2),
-        ),
-        (
-            [0x55, 0x07, 0xff, 0xc0, 0x00, 0x00, 0x00, 0x55],
-            Pointer::At(1),
-        ),
-        ([0x55; 8], Pointer::OnlyIdle),
-    ];
-    builds(&rt, rt.alloc(), &packets, &frames)
+    builds(&rt, rt.alloc(), &FOUR[..1], &FRAMES_OF_ONE)
 }
 
 #[test]
@@ -233,37 +221,38 @@ fn take(
     match extractor.frame(&frame, packets) {
         Ok(gap) => Ok(gap),
         Err(fault) => {
-            let _ = eprintln!(rt; "refused a growth");
-            assert_eq!(rt; fault, TmFault::Memory);
+            says_refused(rt, fault, TmFault::Memory);
             assert_eq!(rt; packets.len(), count);
             Ok(extractor.frame(&frame, packets)?)
         }
     }
 }
 
-// The gap and the number of packets after each of these frames of a builder.
+// The gap and the number of packets after each of these frames of a builder, and the packets in the end.
 fn extracts(
     rt: &(impl Abort + Eprint),
     alloc: Global,
     packets: &[&[u8]],
     chosen: &[(u8, Gap, usize)],
-    found: &mut Vec<Vec<u8>>,
+    wanted: &[&[u8]],
 ) -> Result<(), Fail> {
-    let mut builder = TmBuilder::new(alloc, 1, 0, 20)?;
-    for packet in packets {
-        queue(rt, &mut builder, packet);
-    }
+    let mut builder = builder_of(rt, alloc, packets)?;
     let mut extractor = extractor(rt, alloc)?;
+    let mut found = Vec::new(alloc);
     let mut out = [0; 2048];
     for number in 0..8 {
         builder.build([0x01, 0x08, 0x00, 0x00], &mut out);
         for (count, gap, packets) in chosen {
             if *count == number {
-                let behind = take(rt, &mut extractor, &out[..20], found)?;
+                let behind = take(rt, &mut extractor, &out[..20], &mut found)?;
                 assert_eq!(rt; behind, *gap);
                 assert_eq!(rt; found.len(), *packets);
             }
         }
+    }
+    assert_eq!(rt; found.len(), wanted.len());
+    for (packet, is) in found.iter().zip(wanted) {
+        assert!(rt; packet.as_slice() == *is);
     }
     Ok(())
 }
@@ -273,8 +262,7 @@ fn extractor(rt: &(impl Abort + Eprint), alloc: Global) -> Result<Extractor, Fai
     match Extractor::new(alloc) {
         Ok(extractor) => Ok(extractor),
         Err(fault) => {
-            let _ = eprintln!(rt; "refused a growth");
-            assert_eq!(rt; fault, TmFault::Memory);
+            says_refused(rt, fault, TmFault::Memory);
             Ok(Extractor::new(alloc)?)
         }
     }
@@ -282,23 +270,9 @@ fn extractor(rt: &(impl Abort + Eprint), alloc: Global) -> Result<Extractor, Fai
 
 #[test]
 fn a_lost_frame(rt: HostRuntime) -> Result<(), Fail> {
-    let packets: [&[u8]; 4] = [
-        &[0x00, 0x05, 0xc0, 0x00, 0x00, 0x00, 0xaa],
-        &[0x00, 0x05, 0xc0, 0x01, 0x00, 0x00, 0xbb],
-        &[0x00, 0x05, 0xc0, 0x02, 0x00, 0x00, 0xcc],
-        &[0x00, 0x05, 0xc0, 0x03, 0x00, 0x00, 0xdd],
-    ];
-    let chosen = [
-        (0, Gap::First, 1),
-        (2, Gap::Lost(1), 1),
-        (3, Gap::Lost(0), 2),
-    ];
-    let mut found = Vec::new(rt.alloc());
-    extracts(&rt, rt.alloc(), &packets, &chosen, &mut found)?;
-    for (packet, is) in found.iter().zip([packets[0], packets[3]]) {
-        assert!(rt; packet.as_slice() == is);
-    }
-    Ok(())
+    let chosen = [(0, First, 1), (2, Lost(1), 1), (3, Lost(0), 2)];
+    let found = [FOUR[0], FOUR[3]];
+    extracts(&rt, rt.alloc(), &FOUR, &chosen, &found)
 }
 
 #[test]
@@ -307,59 +281,42 @@ fn a_frame_that_finishes_two_packets(rt: HostRuntime) -> Result<(), Fail> {
         &[0x00, 0x05, 0xc0, 0x00, 0x00, 0x02, 0xaa, 0xab, 0xac],
         &[0x00, 0x05, 0xc0, 0x01, 0x00, 0x00, 0xbb],
     ];
-    let chosen = [(0, Gap::First, 0), (1, Gap::Lost(0), 2)];
-    let mut found = Vec::new(rt.alloc());
-    extracts(&rt, rt.alloc(), &packets, &chosen, &mut found)?;
-    for (packet, is) in found.iter().zip(packets) {
-        assert!(rt; packet.as_slice() == is);
-    }
-    Ok(())
+    let chosen = [(0, First, 0), (1, Lost(0), 2)];
+    extracts(&rt, rt.alloc(), &packets, &chosen, &packets)
 }
 
 #[test]
 fn idle_packets_are_not_handed_out(rt: HostRuntime) -> Result<(), Fail> {
-    let packets: [&[u8]; 1] = [&[0x00, 0x05, 0xc0, 0x00, 0x00, 0x00, 0xaa]];
     let chosen = [
-        (0, Gap::First, 1),
-        (1, Gap::Lost(0), 1),
-        (2, Gap::Lost(0), 1),
-        (3, Gap::Lost(0), 1),
-        (4, Gap::Lost(0), 1),
-        (5, Gap::Lost(0), 1),
-        (6, Gap::Lost(0), 1),
-        (7, Gap::Lost(0), 1),
+        (0, First, 1),
+        (1, Lost(0), 1),
+        (2, Lost(0), 1),
+        (3, Lost(0), 1),
+        (4, Lost(0), 1),
+        (5, Lost(0), 1),
+        (6, Lost(0), 1),
+        (7, Lost(0), 1),
     ];
-    let mut found = Vec::new(rt.alloc());
-    extracts(&rt, rt.alloc(), &packets, &chosen, &mut found)
+    extracts(&rt, rt.alloc(), &FOUR[..1], &chosen, &FOUR[..1])
 }
 
 #[test]
 fn parts_across_a_gap(rt: HostRuntime) -> Result<(), Fail> {
-    let packet = [
-        0x00, 0x05, 0xc0, 0x00, 0x00, 0x09, 0xaa, 0xaa, 0xaa, 0xaa, 0xaa, 0xaa, 0xaa, 0xaa, 0xaa,
-        0xaa,
-    ];
-    let packets: [&[u8]; 2] = [&packet, &packet];
-    let chosen = [(0, Gap::First, 0), (3, Gap::Lost(2), 0)];
-    let mut found = Vec::new(rt.alloc());
-    extracts(&rt, rt.alloc(), &packets, &chosen, &mut found)
+    let chosen = [(0, First, 0), (3, Lost(2), 0)];
+    extracts(&rt, rt.alloc(), &[&LONG, &LONG], &chosen, &[])
 }
 
 #[test]
 fn a_frame_of_only_idle_data_between_halves(rt: HostRuntime) -> Result<(), Fail> {
-    let packet = [
-        0x00, 0x05, 0xc0, 0x00, 0x00, 0x09, 0xaa, 0xaa, 0xaa, 0xaa, 0xaa, 0xaa, 0xaa, 0xaa, 0xaa,
-        0xaa,
-    ];
     let mut extractor = extractor(&rt, rt.alloc())?;
     let mut found = Vec::new(rt.alloc());
     let mut out = [0; 20];
     for (vc_count, pointer, payload, packets) in [
-        (0, Pointer::At(0), &packet[..8], 0),
+        (0, Pointer::At(0), &LONG[..8], 0),
         (1, Pointer::OnlyIdle, &[0x55; 8], 0),
-        (2, Pointer::NoStart, &packet[8..], 0),
-        (3, Pointer::At(0), &packet[..8], 0),
-        (4, Pointer::NoStart, &packet[8..], 1),
+        (2, Pointer::NoStart, &LONG[8..], 0),
+        (3, Pointer::At(0), &LONG[..8], 0),
+        (4, Pointer::NoStart, &LONG[8..], 1),
     ] {
         let frame = TmFrame {
             vc_count,

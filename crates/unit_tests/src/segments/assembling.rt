@@ -1,6 +1,7 @@
 // Segments joined: the rows of the table.
 
 use super::*;
+use crate::refusing::says_refused;
 
 const P1: [u8; 7] = [0x10, 0x05, 0xc0, 0x01, 0x00, 0x00, 0xab];
 
@@ -14,8 +15,7 @@ fn takes(
 ) {
     let mut answer = assembler.take(segment);
     if let Err(fault) = answer {
-        let _ = eprintln!(rt; "refused a growth");
-        assert_eq!(rt; fault, MapFault::Memory);
+        says_refused(rt, fault, MapFault::Memory);
         answer = assembler.take(segment);
     }
     match answer {
@@ -217,21 +217,20 @@ fn parts_too_long(rt: HostRuntime) {
 // whole.
 #[test]
 fn alone_too_long(rt: HostRuntime) {
-    let mut single = Assembler::new(rt.alloc(), short(false));
-    let rows = [
-        (SegmentFlags::Alone, 4, (7, 19), Some(Dropped::TooLong)),
-        (SegmentFlags::Alone, 4, (0, 20), Some(Dropped::TooLong)),
-    ];
-    drops(&rt, &mut single, &LONG_BETWEEN, &rows);
-    let mut several = Assembler::new(rt.alloc(), short(true));
-    let rows = [
-        (SegmentFlags::Alone, 4, (7, 19), Some(Dropped::TooLong)),
-        (SegmentFlags::Alone, 4, (0, 20), Some(Dropped::NotAPacket)),
-    ];
-    drops(&rt, &mut several, &LONG_BETWEEN, &rows);
-    let two = segment(SegmentFlags::Alone, 4, &THREE[..14]);
-    takes(&rt, &mut single, &two, Some(Dropped::TooLong), &[]);
-    takes(&rt, &mut several, &two, None, &[&P0, &P1]);
+    let both: [&[u8]; 2] = [&P0, &P1];
+    for (blocking, of_rest, of_both, packets) in [
+        (false, Dropped::TooLong, Some(Dropped::TooLong), &both[..0]),
+        (true, Dropped::NotAPacket, None, &both[..]),
+    ] {
+        let mut assembler = Assembler::new(rt.alloc(), short(blocking));
+        let rows = [
+            (SegmentFlags::Alone, 4, (7, 19), Some(Dropped::TooLong)),
+            (SegmentFlags::Alone, 4, (0, 20), Some(of_rest)),
+        ];
+        drops(&rt, &mut assembler, &LONG_BETWEEN, &rows);
+        let two = segment(SegmentFlags::Alone, 4, &THREE[..14]);
+        takes(&rt, &mut assembler, &two, of_both, packets);
+    }
 }
 
 #[test]
