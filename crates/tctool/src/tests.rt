@@ -17,7 +17,7 @@ use command_line::{Options, Task};
 use devices::{Store, Supply, WriteFault};
 use listings::{ListingFault, Reader, Sink, Source, Writer};
 use rows::{
-    Row, check_rows, faulty, faulty_farm_rows, good, good_farm_rows, packets_rows, tc_rows, tm_rows,
+    Row, all_rows, check_rows, faulty, good, good_farm_rows, packets_rows, tc_rows, tm_rows,
 };
 use std::alloc::{AllocError, Global};
 use std::io::ErrorKind;
@@ -120,48 +120,28 @@ fn fails_with_each_call(rt: &impl Abort, alloc: Global, row: &Row) {
     fails_with_each_write(rt, alloc, row, WriteFault::Nothing);
 }
 
-#[test]
-fn files(rt: HostRuntime) {
-    for row in &good_farm_rows() {
-        is_written_in_pieces(&rt, rt.alloc(), row);
+fn are_written_in_pieces(rt: &impl Abort, alloc: Global, rows: &[Row]) {
+    for row in rows {
+        is_written_in_pieces(rt, alloc, row);
     }
-    for row in &faulty_farm_rows() {
-        is_written_in_pieces(&rt, rt.alloc(), row);
-    }
-    for row in &tc_rows() {
-        is_written_in_pieces(&rt, rt.alloc(), row);
-    }
-    for row in &check_rows() {
-        is_written_in_pieces(&rt, rt.alloc(), row);
-    }
-    for row in &tm_rows() {
-        is_written_in_pieces(&rt, rt.alloc(), row);
-    }
-    for row in &packets_rows() {
-        is_written_in_pieces(&rt, rt.alloc(), row);
+}
+
+fn fail_with_each_call(rt: &impl Abort, alloc: Global, rows: &[Row]) {
+    for row in rows {
+        fails_with_each_call(rt, alloc, row);
     }
 }
 
 #[test]
-fn failing_devices(rt: HostRuntime) {
-    for row in &good_farm_rows() {
-        fails_with_each_call(&rt, rt.alloc(), row);
-    }
-    for row in &faulty_farm_rows() {
-        fails_with_each_call(&rt, rt.alloc(), row);
-    }
-    for row in &tc_rows() {
-        fails_with_each_call(&rt, rt.alloc(), row);
-    }
-    for row in &check_rows() {
-        fails_with_each_call(&rt, rt.alloc(), row);
-    }
-    for row in &tm_rows() {
-        fails_with_each_call(&rt, rt.alloc(), row);
-    }
-    for row in &packets_rows() {
-        fails_with_each_call(&rt, rt.alloc(), row);
-    }
+fn files(rt: HostRuntime) -> Result<(), AllocError> {
+    are_written_in_pieces(&rt, rt.alloc(), &all_rows(rt.alloc())?);
+    Ok(())
+}
+
+#[test]
+fn failing_devices(rt: HostRuntime) -> Result<(), AllocError> {
+    fail_with_each_call(&rt, rt.alloc(), &all_rows(rt.alloc())?);
+    Ok(())
 }
 
 #[test]

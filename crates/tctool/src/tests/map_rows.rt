@@ -5,7 +5,7 @@ use crate::outcome::Outcome;
 use crate::tests::devices::Supply;
 use crate::tests::rows::{Row, faulty, good};
 use crate::tests::{
-    dumps_again, fails_with_each_call, is_in_range, is_written_in_pieces, writes_all,
+    are_written_in_pieces, dumps_again, fail_with_each_call, is_in_range, writes_all,
 };
 use command_line::{Options, Task};
 use listings::{Reader, Writer};
@@ -21,63 +21,56 @@ fn map(check: bool, width: u8, vr: u8, blocking: bool) -> Task {
     }
 }
 
-/// The packet 1005C0000000AA on MAP 4 in three frames, the last of them sent again; the same without
-/// the second frame; and two packets in one segment, with blocking and without it. Then all of these
-/// with the check.
-fn map_rows() -> [Row; 8] {
+// What is told of frames without a check, and of the same frames with it.
+fn both(
+    blocking: bool,
+    octets: &'static [u8],
+    checked: &'static [u8],
+    text: &'static str,
+) -> [Row; 2] {
     [
-        good(
-            map(false, 254, 0, false),
+        good(map(false, 254, 0, blocking), octets, text),
+        good(map(true, 254, 0, blocking), checked, text),
+    ]
+}
+
+/// The packet 1005C0000000AA on MAP 4 in three frames, the last of them sent again; the same without
+/// the second frame; and two packets in one segment, with blocking and without it.
+fn map_rows() -> [[Row; 2]; 4] {
+    let two = b"\x00\x01\x08\x13\x00\xc4\x10\x05\xc0\x00\x00\x00\xaa\x10\x05\xc0\x01\x00\x00\xab";
+    let two_checked =
+        b"\x00\x01\x08\x15\x00\xc4\x10\x05\xc0\x00\x00\x00\xaa\x10\x05\xc0\x01\x00\x00\xab\xa2\xb0";
+    [
+        both(
+            false,
             b"\x00\x01\x08\x08\x00\x44\x10\x05\xc0\
               \x00\x01\x08\x08\x01\x04\x00\x00\x00\
               \x00\x01\x08\x06\x02\x84\xaa\
               \x00\x01\x08\x06\x02\x84\xaa",
-            "packet 4 1005C0000000AA\n",
-        ),
-        good(
-            map(false, 254, 0, false),
-            b"\x00\x01\x08\x08\x00\x44\x10\x05\xc0\
-              \x00\x01\x08\x06\x02\x84\xaa\
-              \x00\x01\x08\x06\x02\x84\xaa",
-            "",
-        ),
-        good(
-            map(false, 254, 0, true),
-            b"\x00\x01\x08\x13\x00\xc4\x10\x05\xc0\x00\x00\x00\xaa\x10\x05\xc0\x01\x00\x00\xab",
-            "packet 4 1005C0000000AA\n\
-             packet 4 1005C0010000AB\n",
-        ),
-        good(
-            map(false, 254, 0, false),
-            b"\x00\x01\x08\x13\x00\xc4\x10\x05\xc0\x00\x00\x00\xaa\x10\x05\xc0\x01\x00\x00\xab",
-            "1 dropped NotAPacket\n",
-        ),
-        good(
-            map(true, 254, 0, false),
             b"\x00\x01\x08\x0a\x00\x44\x10\x05\xc0\x8b\xb9\
               \x00\x01\x08\x0a\x01\x04\x00\x00\x00\x2a\xae\
               \x00\x01\x08\x08\x02\x84\xaa\x9e\x1c\
               \x00\x01\x08\x08\x02\x84\xaa\x9e\x1c",
             "packet 4 1005C0000000AA\n",
         ),
-        good(
-            map(true, 254, 0, false),
+        both(
+            false,
+            b"\x00\x01\x08\x08\x00\x44\x10\x05\xc0\
+              \x00\x01\x08\x06\x02\x84\xaa\
+              \x00\x01\x08\x06\x02\x84\xaa",
             b"\x00\x01\x08\x0a\x00\x44\x10\x05\xc0\x8b\xb9\
               \x00\x01\x08\x08\x02\x84\xaa\x9e\x1c\
               \x00\x01\x08\x08\x02\x84\xaa\x9e\x1c",
             "",
         ),
-        good(
-            map(true, 254, 0, true),
-            b"\x00\x01\x08\x15\x00\xc4\x10\x05\xc0\x00\x00\x00\xaa\x10\x05\xc0\x01\x00\x00\xab\xa2\xb0",
+        both(
+            true,
+            two,
+            two_checked,
             "packet 4 1005C0000000AA\n\
              packet 4 1005C0010000AB\n",
         ),
-        good(
-            map(true, 254, 0, false),
-            b"\x00\x01\x08\x15\x00\xc4\x10\x05\xc0\x00\x00\x00\xaa\x10\x05\xc0\x01\x00\x00\xab\xa2\xb0",
-            "1 dropped NotAPacket\n",
-        ),
+        both(false, two, two_checked, "1 dropped NotAPacket\n"),
     ]
 }
 
@@ -197,28 +190,16 @@ fn faulty_map_rows() -> [Row; 5] {
 
 #[test]
 fn frames_with_packets(rt: HostRuntime) {
-    for row in &map_rows() {
-        is_written_in_pieces(&rt, rt.alloc(), row);
-    }
-    for row in &further_map_rows() {
-        is_written_in_pieces(&rt, rt.alloc(), row);
-    }
-    for row in &faulty_map_rows() {
-        is_written_in_pieces(&rt, rt.alloc(), row);
-    }
+    are_written_in_pieces(&rt, rt.alloc(), map_rows().as_flattened());
+    are_written_in_pieces(&rt, rt.alloc(), &further_map_rows());
+    are_written_in_pieces(&rt, rt.alloc(), &faulty_map_rows());
 }
 
 #[test]
 fn frames_with_packets_and_failing_devices(rt: HostRuntime) {
-    for row in &map_rows() {
-        fails_with_each_call(&rt, rt.alloc(), row);
-    }
-    for row in &further_map_rows() {
-        fails_with_each_call(&rt, rt.alloc(), row);
-    }
-    for row in &faulty_map_rows() {
-        fails_with_each_call(&rt, rt.alloc(), row);
-    }
+    fail_with_each_call(&rt, rt.alloc(), map_rows().as_flattened());
+    fail_with_each_call(&rt, rt.alloc(), &further_map_rows());
+    fail_with_each_call(&rt, rt.alloc(), &faulty_map_rows());
 }
 
 /// A frame, and its lines.
@@ -336,7 +317,7 @@ fn a_part_that_grows_too_long(rt: HostRuntime) -> Result<(), AllocError> {
 
 #[test]
 fn refused_growths_of_packets(rt: HostRuntime) {
-    let [parts, _, packets, ..] = map_rows();
+    let [[parts, _], _, [packets, _], ..] = map_rows();
     dumps_again(&rt, rt.alloc(), &parts);
     dumps_again(&rt, rt.alloc(), &packets);
 }

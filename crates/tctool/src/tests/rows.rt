@@ -2,6 +2,7 @@
 
 use crate::outcome::Outcome;
 use command_line::Task;
+use std::alloc::{AllocError, Global};
 
 /// What is written of a file.
 #[derive(Clone, Copy, Drop)]
@@ -69,7 +70,7 @@ pub fn good_farm_rows() -> [Row; 4] {
     ]
 }
 
-pub fn faulty_farm_rows() -> [Row; 6] {
+fn faulty_farm_rows() -> [Row; 6] {
     [
         faulty(farm(false, 254, 0), b"\x30", "1 invalid 1 Short\n"),
         faulty(
@@ -325,4 +326,15 @@ pub fn tm_rows() -> [Row; 11] {
              6 invalid 1 Length\n",
         ),
     ]
+}
+
+/// The rows of each command on files of frames, packets and telemetry, but for those of `tctool map`.
+pub fn all_rows(alloc: Global) -> Result<Vec<Row>, AllocError> {
+    let mut rows = Vec::from_slice(alloc, &good_farm_rows())?;
+    rows.extend_from_slice(&faulty_farm_rows())?;
+    rows.extend_from_slice(&tc_rows())?;
+    rows.extend_from_slice(&check_rows())?;
+    rows.extend_from_slice(&tm_rows())?;
+    rows.extend_from_slice(&packets_rows())?;
+    Ok(rows)
 }

@@ -66,185 +66,159 @@ fn refused_growths_of_a_script(rt: HostRuntime) {
 
 #[test]
 fn a_stale_report_confirms_a_session_that_is_not_clean(rt: HostRuntime) {
-    plays(
-        &rt,
-        rt.alloc(),
-        "init none\nreport\n\
-         submit 4 1005C0000000AA\nsubmit 4 1005C0000000AA\nsubmit 4 1005C0000000AA\n\
-         submit 4 1005C0000000AA\nsubmit 4 1005C0000000AA\n\
-         send\nsend\nsend\nsend\nsend\n\
-         up deliver\nup deliver\nup deliver\nup deliver\nup deliver\n\
-         terminate\ninit set 0\nsend\nup lose\ndown deliver\n\
-         submit 4 1005C0000000AA\nsubmit 4 1005C0000000AA\nsubmit 4 1005C0000000AA\n\
-         submit 4 1005C0000000AA\nsubmit 4 1005C0000000AA\n\
-         send\nsend\nsend\nsend\nsend\n\
-         up deliver\nup deliver\nup deliver\nup deliver\nup deliver\n\
-         report\ndown deliver\nshow\n",
-        "ok\nreport 01080000\nok\nok\nok\nok\nok\n\
-         sent 0001080E00C41005C0000000AAE75D\n\
-         sent 0001080E01C41005C0000000AA0C7E\n\
-         sent 0001080E02C41005C0000000AA213A\n\
-         sent 0001080E03C41005C0000000AACA19\n\
-         sent 0001080E04C41005C0000000AA7BB2\n\
-         AD 0 accepted ready\nAD 1 accepted ready\nAD 2 accepted ready\n\
-         AD 3 accepted ready\nAD 4 accepted ready\n\
-         alert Terminated\nok\nsent 30010809008200003F87\nlost\ngap=- packets=0\n\
-         ok\nok\nok\nok\nok\n\
-         sent 0001080E00C41005C0000000AAE75D\n\
-         sent 0001080E01C41005C0000000AA0C7E\n\
-         sent 0001080E02C41005C0000000AA213A\n\
-         sent 0001080E03C41005C0000000AACA19\n\
-         sent 0001080E04C41005C0000000AA7BB2\n\
-         AD 0 behind\nAD 1 behind\nAD 2 behind\nAD 3 behind\nAD 4 behind\n\
-         report 01080005\ngap=0 packets=0\n\
-         clean=no state=S1 submitted=5 delivered=0 sent=5 accepted=0 acknowledged=5 outstanding=0\n",
-    );
+    let script = "init none\nreport\n\
+        submit 4 1005C0000000AA\nsubmit 4 1005C0000000AA\nsubmit 4 1005C0000000AA\n\
+        submit 4 1005C0000000AA\nsubmit 4 1005C0000000AA\n\
+        send\nsend\nsend\nsend\nsend\n\
+        up deliver\nup deliver\nup deliver\nup deliver\nup deliver\n\
+        terminate\ninit set 0\nsend\nup lose\ndown deliver\n\
+        submit 4 1005C0000000AA\nsubmit 4 1005C0000000AA\nsubmit 4 1005C0000000AA\n\
+        submit 4 1005C0000000AA\nsubmit 4 1005C0000000AA\n\
+        send\nsend\nsend\nsend\nsend\n\
+        up deliver\nup deliver\nup deliver\nup deliver\nup deliver\n\
+        report\ndown deliver\nshow\n";
+    let text = "ok\nreport 01080000\nok\nok\nok\nok\nok\n\
+        sent 0001080E00C41005C0000000AAE75D\n\
+        sent 0001080E01C41005C0000000AA0C7E\n\
+        sent 0001080E02C41005C0000000AA213A\n\
+        sent 0001080E03C41005C0000000AACA19\n\
+        sent 0001080E04C41005C0000000AA7BB2\n\
+        AD 0 accepted ready\nAD 1 accepted ready\nAD 2 accepted ready\n\
+        AD 3 accepted ready\nAD 4 accepted ready\n\
+        alert Terminated\nok\nsent 30010809008200003F87\nlost\ngap=- packets=0\n\
+        ok\nok\nok\nok\nok\n\
+        sent 0001080E00C41005C0000000AAE75D\n\
+        sent 0001080E01C41005C0000000AA0C7E\n\
+        sent 0001080E02C41005C0000000AA213A\n\
+        sent 0001080E03C41005C0000000AACA19\n\
+        sent 0001080E04C41005C0000000AA7BB2\n\
+        AD 0 behind\nAD 1 behind\nAD 2 behind\nAD 3 behind\nAD 4 behind\n\
+        report 01080005\ngap=0 packets=0\n\
+        clean=no state=S1 submitted=5 delivered=0 sent=5 accepted=0 acknowledged=5 outstanding=0\n";
+    plays(&rt, rt.alloc(), script, text);
 }
 
 #[test]
 fn a_full_buffer_is_waited_for(rt: HostRuntime) {
-    plays(
-        &rt,
-        rt.alloc(),
-        "config ready_slots 1\ninit none\n\
-         submit 4 1005C0000000AA\nsubmit 4 1005C0010000AB\n\
-         send\nsend\nup deliver\nup deliver\nreport\ndown deliver\ntake\nreport\ndown deliver\n\
-         send\nup deliver\nreport\ndown deliver\nshow\n",
-        "ok\nok\nok\n\
-         sent 0001080E00C41005C0000000AAE75D\n\
-         sent 0001080E01C41005C0010000AB6AEB\n\
-         AD 0 accepted ready\nAD 1 nobuffer\nreport 01081801\ngap=- packets=0\n\
-         packet 4 1005C0000000AA\nreport 01080801\ngap=0 packets=0\n\
-         sent 0001080E01C41005C0010000AB6AEB\n\
-         AD 1 accepted ready\nreport 01080002\ngap=0 packets=0\n\
-         clean=yes state=S1 submitted=2 delivered=2 sent=2 accepted=2 acknowledged=2 outstanding=0\n",
-    );
+    let script = "config ready_slots 1\ninit none\n\
+        submit 4 1005C0000000AA\nsubmit 4 1005C0010000AB\n\
+        send\nsend\nup deliver\nup deliver\nreport\ndown deliver\ntake\nreport\ndown deliver\n\
+        send\nup deliver\nreport\ndown deliver\nshow\n";
+    let text = "ok\nok\nok\n\
+        sent 0001080E00C41005C0000000AAE75D\n\
+        sent 0001080E01C41005C0010000AB6AEB\n\
+        AD 0 accepted ready\nAD 1 nobuffer\nreport 01081801\ngap=- packets=0\n\
+        packet 4 1005C0000000AA\nreport 01080801\ngap=0 packets=0\n\
+        sent 0001080E01C41005C0010000AB6AEB\n\
+        AD 1 accepted ready\nreport 01080002\ngap=0 packets=0\n\
+        clean=yes state=S1 submitted=2 delivered=2 sent=2 accepted=2 acknowledged=2 outstanding=0\n";
+    plays(&rt, rt.alloc(), script, text);
 }
 
 #[test]
 fn refusals_are_answers(rt: HostRuntime) {
-    plays(
-        &rt,
-        rt.alloc(),
-        "submit 4 1005C0000000AA\nup deliver\nwindow 128\nterminate\ninit unlock\nsend\n\
-         up damage 3001080700008B9E\nup damage 3001080700008B9F\nshow\n",
+    let script = "submit 4 1005C0000000AA\nup deliver\nwindow 128\nterminate\ninit unlock\nsend\n\
+        up damage 3001080700008B9E\nup damage 3001080700008B9F\nshow\n";
+    let text =
         "refused 1 NotOpen\nrefused 7 NothingInTransit\nrefused 2 Window\nrefused 8 WrongState\n\
-         ok\nsent 3001080700008B9E\nrefused 8 NotDetectable\ninvalid 6 Check\n\
-         clean=yes state=S5 submitted=0 delivered=0 sent=0 accepted=0 acknowledged=0 outstanding=0\n",
-    );
+        ok\nsent 3001080700008B9E\nrefused 8 NotDetectable\ninvalid 6 Check\n\
+        clean=yes state=S5 submitted=0 delivered=0 sent=0 accepted=0 acknowledged=0 outstanding=0\n";
+    plays(&rt, rt.alloc(), script, text);
 }
 
 #[test]
 fn the_oldest_bypass_packet_is_overwritten(rt: HostRuntime) {
-    plays(
-        &rt,
-        rt.alloc(),
-        "config bypass_slots 1\nbypass 4 1005C0000000AA\nbypass 4 1005C0010000AB\n\
-         send\nsend\nup deliver\nup deliver\ntakebypass\ntakebypass\nreport\nshow\n",
-        "ok\nok\n\
-         sent 2001080E00C41005C0000000AACA35\n\
-         sent 2001080E00C41005C0010000ABACA0\n\
-         BD kept\nBD kept\npacket 4 1005C0010000AB\nnothing\nreport 01080400\n\
-         clean=none state=S6 submitted=0 delivered=0 sent=0 accepted=0 acknowledged=0 outstanding=0\n",
-    );
+    let script = "config bypass_slots 1\nbypass 4 1005C0000000AA\nbypass 4 1005C0010000AB\n\
+        send\nsend\nup deliver\nup deliver\ntakebypass\ntakebypass\nreport\nshow\n";
+    let text = "ok\nok\n\
+        sent 2001080E00C41005C0000000AACA35\n\
+        sent 2001080E00C41005C0010000ABACA0\n\
+        BD kept\nBD kept\npacket 4 1005C0010000AB\nnothing\nreport 01080400\n\
+        clean=none state=S6 submitted=0 delivered=0 sent=0 accepted=0 acknowledged=0 outstanding=0\n";
+    plays(&rt, rt.alloc(), script, text);
 }
 
 #[test]
 fn frame_numbers_wrap(rt: HostRuntime) {
-    plays(
-        &rt,
-        rt.alloc(),
-        "init set 255\nsend\nup deliver\nreport\ndown deliver\n\
-         submit 4 1005C0000000AA\nsend\nup deliver\nreport\ndown deliver\nshow\n",
-        "ok\nsent 30010809008200FF2177\nBC set 255\nreport 010802FF\ngap=- packets=0\n\
-         ok\nsent 0001080EFFC41005C0000000AA6B60\nAD 255 accepted ready\n\
-         report 01080200\ngap=0 packets=0\n\
-         clean=yes state=S1 submitted=1 delivered=1 sent=1 accepted=1 acknowledged=1 outstanding=0\n",
-    );
+    let script = "init set 255\nsend\nup deliver\nreport\ndown deliver\n\
+        submit 4 1005C0000000AA\nsend\nup deliver\nreport\ndown deliver\nshow\n";
+    let text = "ok\nsent 30010809008200FF2177\nBC set 255\nreport 010802FF\ngap=- packets=0\n\
+        ok\nsent 0001080EFFC41005C0000000AA6B60\nAD 255 accepted ready\n\
+        report 01080200\ngap=0 packets=0\n\
+        clean=yes state=S1 submitted=1 delivered=1 sent=1 accepted=1 acknowledged=1 outstanding=0\n";
+    plays(&rt, rt.alloc(), script, text);
 }
 
 #[test]
 fn a_loss_at_the_limit_is_an_alert(rt: HostRuntime) {
-    plays(
-        &rt,
-        rt.alloc(),
-        "config limit 1\ninit check\nreport\ndown deliver\n\
-         submit 4 1005C0000000AA\nsubmit 4 1005C0010000AB\n\
-         send\nsend\nup lose\nup deliver\nreport\ndown deliver\nshow\n",
-        "ok\nreport 01080000\ngap=- packets=0\nok\nok\n\
-         sent 0001080E00C41005C0000000AAE75D\n\
-         sent 0001080E01C41005C0010000AB6AEB\n\
-         lost\nAD 1 ahead\nreport 01080800\ngap=0 packets=0 alert Limit\n\
-         clean=yes state=S6 submitted=2 delivered=0 sent=2 accepted=0 acknowledged=0 outstanding=0\n",
-    );
+    let script = "config limit 1\ninit check\nreport\ndown deliver\n\
+        submit 4 1005C0000000AA\nsubmit 4 1005C0010000AB\n\
+        send\nsend\nup lose\nup deliver\nreport\ndown deliver\nshow\n";
+    let text = "ok\nreport 01080000\ngap=- packets=0\nok\nok\n\
+        sent 0001080E00C41005C0000000AAE75D\n\
+        sent 0001080E01C41005C0010000AB6AEB\n\
+        lost\nAD 1 ahead\nreport 01080800\ngap=0 packets=0 alert Limit\n\
+        clean=yes state=S6 submitted=2 delivered=0 sent=2 accepted=0 acknowledged=0 outstanding=0\n";
+    plays(&rt, rt.alloc(), script, text);
 }
 
 #[test]
 fn packets_share_a_segment(rt: HostRuntime) {
-    plays(
-        &rt,
-        rt.alloc(),
-        "config blocking 1\nconfig part 20\nconfig ready_slots 1\ninit none\n\
-         submit 4 1005C0000000AA1005C0010000AB1005C0020000AC\n\
-         send\nsend\nup deliver\nup deliver\ntake\nreport\ntake\nreport\n\
-         down deliver\ndown deliver\nsend\nup deliver\nreport\ndown deliver\nshow\n",
-        "ok\nok\n\
-         sent 0001081500C41005C0000000AA1005C0010000ABA2B0\n\
-         sent 0001080E01C41005C0020000AC81D0\n\
-         AD 0 accepted ready 2\nAD 1 nobuffer\n\
-         packet 4 1005C0000000AA\nreport 01081801\n\
-         packet 4 1005C0010000AB\nreport 01080801\n\
-         gap=- packets=0\ngap=0 packets=0\n\
-         sent 0001080E01C41005C0020000AC81D0\n\
-         AD 1 accepted ready\nreport 01080002\ngap=0 packets=0\n\
-         clean=yes state=S1 submitted=3 delivered=3 sent=2 accepted=2 acknowledged=2 outstanding=0\n",
-    );
-    plays(
-        &rt,
-        rt.alloc(),
-        "config part 20\nconfig ready_slots 1\ninit none\n\
-         submit 4 1005C0000000AA1005C0010000AB1005C0020000AC\n",
-        "ok\nrefused 3 NotCommand\n",
-    );
+    let script = "config blocking 1\nconfig part 20\nconfig ready_slots 1\ninit none\n\
+        submit 4 1005C0000000AA1005C0010000AB1005C0020000AC\n\
+        send\nsend\nup deliver\nup deliver\ntake\nreport\ntake\nreport\n\
+        down deliver\ndown deliver\nsend\nup deliver\nreport\ndown deliver\nshow\n";
+    let text = "ok\nok\n\
+        sent 0001081500C41005C0000000AA1005C0010000ABA2B0\n\
+        sent 0001080E01C41005C0020000AC81D0\n\
+        AD 0 accepted ready 2\nAD 1 nobuffer\n\
+        packet 4 1005C0000000AA\nreport 01081801\n\
+        packet 4 1005C0010000AB\nreport 01080801\n\
+        gap=- packets=0\ngap=0 packets=0\n\
+        sent 0001080E01C41005C0020000AC81D0\n\
+        AD 1 accepted ready\nreport 01080002\ngap=0 packets=0\n\
+        clean=yes state=S1 submitted=3 delivered=3 sent=2 accepted=2 acknowledged=2 outstanding=0\n";
+    plays(&rt, rt.alloc(), script, text);
+    let script = "config part 20\nconfig ready_slots 1\ninit none\n\
+        submit 4 1005C0000000AA1005C0010000AB1005C0020000AC\n";
+    let text = "ok\nrefused 3 NotCommand\n";
+    plays(&rt, rt.alloc(), script, text);
 }
 
 #[test]
 fn every_line_is_read(rt: HostRuntime) {
-    plays(
-        &rt,
-        rt.alloc(),
-        "# the configuration\n\n\
-         config scid 1023\nconfig scid 1\nconfig vcid 2\nconfig tm_vcid 0\nconfig width 254\n\
-         config window 127\nconfig limit 3\nconfig timer 10\nconfig part 1016\n\
-         config max_packet 65542\nconfig maps 18446744073709551615\nconfig ready_slots 64\n\
-         config bypass_slots 4\nconfig queue_slots 1000\nconfig frame_length 64\n\
-         config blocking 0\n\
-         #config colour 1\n\
-         submit 255 -\nbypass 255 -\ntelemetry -\n\
-         vs 0\ninit none\ninit check\ninit unlock\ninit set 255\nvs 255\n\
-         submit 4 1005c0000000aA\nbypass 4 1005C0000000Aa\ntelemetry 0005c0000000AA\n\
-         window 0\nlimit 0\ntimer 0\nwindow 127\nlimit 255\ntimer 65535\n\
-         send\nsend\nsend\n\
-         up deliver\nup damage -\nup lose\ntick\n\
-         report\nreport\nreport\n\
-         down deliver\ndown damage -\ndown deliver\ndown lose\n\
-         take\ntakebypass\n\
-         show\nterminate\nshow\n",
-        "refused 1 NotOpen\nrefused 2 ClosedMap\nrefused 8 NotAPacket\n\
-         ok\nok\nrefused 8 WrongState\nrefused 8 WrongState\nrefused 8 WrongState\nrefused 8 WrongState\n\
-         ok\nok\nok\n\
-         refused 2 Window\nrefused 3 Limit\nrefused 4 Timer\nok\nok\nok\n\
-         sent 2001080E00C41005C0000000AACA35\n\
-         sent 0001080E00C41005C0000000AAE75D\n\
-         nothing\n\
-         BD kept\ninvalid 1 Short\nrefused 7 NothingInTransit\nok\n\
-         report 01080200\nreport 01080200\nreport 01080200\n\
-         gap=- packets=1\ninvalid 1 Length\ngap=1 packets=0\nrefused 7 NothingInTransit\n\
-         nothing\npacket 4 1005C0000000AA\n\
-         clean=yes state=S1 submitted=1 delivered=0 sent=1 accepted=0 acknowledged=0 outstanding=1\n\
-         alert Terminated\n\
-         clean=yes state=S6 submitted=1 delivered=0 sent=1 accepted=0 acknowledged=0 outstanding=0\n",
-    );
+    let script = "# the configuration\n\n\
+        config scid 1023\nconfig scid 1\nconfig vcid 2\nconfig tm_vcid 0\nconfig width 254\n\
+        config window 127\nconfig limit 3\nconfig timer 10\nconfig part 1016\n\
+        config max_packet 65542\nconfig maps 18446744073709551615\nconfig ready_slots 64\n\
+        config bypass_slots 4\nconfig queue_slots 1000\nconfig frame_length 64\n\
+        config blocking 0\n\
+        #config colour 1\n\
+        submit 255 -\nbypass 255 -\ntelemetry -\n\
+        vs 0\ninit none\ninit check\ninit unlock\ninit set 255\nvs 255\n\
+        submit 4 1005c0000000aA\nbypass 4 1005C0000000Aa\ntelemetry 0005c0000000AA\n\
+        window 0\nlimit 0\ntimer 0\nwindow 127\nlimit 255\ntimer 65535\n\
+        send\nsend\nsend\n\
+        up deliver\nup damage -\nup lose\ntick\n\
+        report\nreport\nreport\n\
+        down deliver\ndown damage -\ndown deliver\ndown lose\n\
+        take\ntakebypass\n\
+        show\nterminate\nshow\n";
+    let text = "refused 1 NotOpen\nrefused 2 ClosedMap\nrefused 8 NotAPacket\n\
+        ok\nok\nrefused 8 WrongState\nrefused 8 WrongState\nrefused 8 WrongState\nrefused 8 WrongState\n\
+        ok\nok\nok\n\
+        refused 2 Window\nrefused 3 Limit\nrefused 4 Timer\nok\nok\nok\n\
+        sent 2001080E00C41005C0000000AACA35\n\
+        sent 0001080E00C41005C0000000AAE75D\n\
+        nothing\n\
+        BD kept\ninvalid 1 Short\nrefused 7 NothingInTransit\nok\n\
+        report 01080200\nreport 01080200\nreport 01080200\n\
+        gap=- packets=1\ninvalid 1 Length\ngap=1 packets=0\nrefused 7 NothingInTransit\n\
+        nothing\npacket 4 1005C0000000AA\n\
+        clean=yes state=S1 submitted=1 delivered=0 sent=1 accepted=0 acknowledged=0 outstanding=1\n\
+        alert Terminated\n\
+        clean=yes state=S6 submitted=1 delivered=0 sent=1 accepted=0 acknowledged=0 outstanding=0\n";
+    plays(&rt, rt.alloc(), script, text);
 }
 
 // The first line of each of these scripts is unreadable.
@@ -335,22 +309,16 @@ fn the_first_field_out_of_range_is_told(rt: HostRuntime) {
     ] {
         ends_unplayed(&rt, rt.alloc(), script, Outcome::OutOfRange(field));
     }
-    plays(
-        &rt,
-        rt.alloc(),
-        "config width 3\nconfig width 254\nsend",
-        "nothing\n",
-    );
+    let script = "config width 3\nconfig width 254\nsend";
+    plays(&rt, rt.alloc(), script, "nothing\n");
 }
 
 #[test]
 fn scripts_that_end_in_other_ways(rt: HostRuntime) {
+    for script in ["", "\n", "\n\n", "#", "# \u{fc}ber\r\n"] {
+        plays(&rt, rt.alloc(), script, "");
+    }
     for (script, text) in [
-        ("", ""),
-        ("\n", ""),
-        ("\n\n", ""),
-        ("#", ""),
-        ("# \u{fc}ber\r\n", ""),
         ("send", "nothing\n"),
         ("send\n\n", "nothing\n"),
         ("send\nreport", "nothing\nreport 01080000\n"),
