@@ -1,16 +1,17 @@
-use Rattle.std.proofs.Common.{◌≡◌, ◌++◌, ◌∷◌, [], true, false, ℕ, List, Bool, Bor, take, drop, refl, sym, ap}
-use Rattle.std.proofs.Common.{◌∙◌, arith, length-take}
+use Rattle.std.proofs.Common.{◌≡◌, ◌++◌, ◌∷◌, [], true, ℕ, List, Bool, Bor, take, drop, refl, sym, ap}
+use Rattle.std.proofs.Common.{◌∙◌, arith, length-take, cond, Some, None}
 use Rattle.std.specs.Prelude.{◌||◌, ◌&&◌, nat_lt}
 use Rattle.std.specs.List.{list_all}
 use Rattle.std.proofs.Math.Bool.{or_assoc}
 use Rattle.std.proofs.lemmas.List.{append_assoc, append-nil}
 use Rattle.map_service.specs.Packets.{packets_in, rest_in, is_some_over}
 use Rattle.space_packet.specs.Layout.{PacketView, packet_view, IsFirstPacket}
-use Rattle.nodes.specs.Commands.{is_command_packet, is_command, slices_view}
+use Rattle.nodes.specs.declared.fault.LinkFault.TheVariants.{TooLong}
+use Rattle.nodes.specs.Commands.{is_command_packet, is_command, commands_fault, slices_view}
 use Rattle.nodes.proofs.Commanding.{one_more, all_more, over_more, refused_here, none_there, not_whole}
 use Rattle.nodes.proofs.Commanding.{not_commands, judged, no_more_read}
 use Rattle.nodes.proofs.commands.several_commands.Goals as goal
-use Rattle.nodes.proofs.commands.several_commands.Goals.{then-is_empty-via-then-is_empty}
+use Rattle.nodes.proofs.commands.several_commands.Goals.{Else-not-is_empty, then-is_empty-via-then-is_empty}
 use Rattle.nodes.proofs.commands.several_commands.Goals.{then-is_empty-via-else-is_empty+then-not-is_empty}
 
 pub packets-init : goal.packets-init
@@ -89,14 +90,21 @@ returns-then-is_empty-clause-err c =
           c.packets.invariant.rest (sym w.is_empty-else-is_empty.ensures ∙ w.if-not-is_empty.true)
     ])
 
-pub returns-then-too_long-clause-err : goal.returns-then-too_long-clause-err
-returns-then-too_long-clause-err c =
-    judged c.args.limits.now c.args.octets.now c.packets.rest.now c.in_default.field-0 c.packets.too_long true
-    c.requires c.in_default.ensures.answer c.packets.invariant.rest c.packets.invariant.commands
+-- no packet is left, nor anything else
+judged_whole : (c : Else-not-is_empty)
+    → commands_fault c.args.limits.now c.args.octets.now ≡ cond c.packets.too_long (Some TooLong) None
+judged_whole c =
+    judged c.args.limits.now c.args.octets.now c.packets.rest.now c.in_default.field-0 c.packets.too_long
+    c.packets.too_long c.requires c.in_default.ensures.answer c.packets.invariant.rest c.packets.invariant.commands
     c.packets.invariant.over
     (sym c.is_empty.ensures ∙ c.if-is_empty.false)
     (sym c.is_empty-else-is_empty.ensures ∙ c.if-not-is_empty.false)
-    c.if-too_long.true
+    refl
+
+pub returns-then-too_long-clause-err : goal.returns-then-too_long-clause-err
+returns-then-too_long-clause-err c =
+    judged_whole (goal.at.returns-then-too_long-clause-err c).Else-not-is_empty
+    ∙ ap (λ (t : Bool). cond t (Some TooLong) None) c.if-too_long.true
 
 pub returns-then-kept-clause-packets : goal.returns-then-kept-clause-packets
 returns-then-kept-clause-packets c =
@@ -107,18 +115,10 @@ returns-then-kept-clause-packets c =
 
 pub returns-then-kept-clause-ok : goal.returns-then-kept-clause-ok
 returns-then-kept-clause-ok c =
-    judged c.args.limits.now c.args.octets.now c.packets.rest.now c.in_default.field-0 c.packets.too_long false
-    c.requires c.in_default.ensures.answer c.packets.invariant.rest c.packets.invariant.commands
-    c.packets.invariant.over
-    (sym c.is_empty.ensures ∙ c.if-is_empty.false)
-    (sym c.is_empty-else-is_empty.ensures ∙ c.if-not-is_empty.false)
-    c.if-too_long.false
+    judged_whole (goal.at.returns-then-kept-clause-ok c).Else-not-is_empty
+    ∙ ap (λ (t : Bool). cond t (Some TooLong) None) c.if-too_long.false
 
 pub returns-clause-ok : goal.returns-clause-ok
 returns-clause-ok c =
-    judged c.args.limits.now c.args.octets.now c.packets.rest.now c.in_default.field-0 c.packets.too_long false
-    c.requires c.in_default.ensures.answer c.packets.invariant.rest c.packets.invariant.commands
-    c.packets.invariant.over
-    (sym c.is_empty.ensures ∙ c.if-is_empty.false)
-    (sym c.is_empty-else-is_empty.ensures ∙ c.if-not-is_empty.false)
-    c.if-too_long.false
+    judged_whole (goal.at.returns-clause-ok c).Else-not-is_empty
+    ∙ ap (λ (t : Bool). cond t (Some TooLong) None) c.if-too_long.false
