@@ -12,7 +12,7 @@ use Rattle.cop1.specs.declared.fop.FopMode.TheVariants.{S1, S6}
 use Rattle.cop1.specs.FopDirective.{after_begin}
 use Rattle.cop1.specs.FopState.{FopState}
 use Rattle.nodes.specs.declared.config.Config.{Config}
-use Rattle.nodes.specs.Ground.{is_closed, directive_outcome}
+use Rattle.nodes.specs.Ground.{is_closed, directive_outcome, settle_step}
 use Rattle.tc_link.specs.World.{World, world_after_directive, session_begun_by, begins_clean, is_quiet}
 use Rattle.tc_link.specs.World.{is_none}
 use Rattle.tc_link.specs.PlainLink.{new_link, none}
@@ -73,57 +73,26 @@ module _ (c : Config) (w : World) (k : Sound c w) where
         (begun_with InitWithoutCheck (record (after_begin w.ground_node.fop) { nn = w.ground_node.fop.vs; state = S1 }))
     without_check clean =
         let both = and_parts (is_quiet w) (w.spacecraft.farm.vr == w.ground_node.fop.vs) clean in
+        let same : w.spacecraft.farm.vr ≡ w.ground_node.fop.vs = eqb-true _ _ both.1 in
+        let octet : w.ground_node.fop.vs < 256 = k.ground_node.fop.vs_octet in
+        let began = opened InitWithoutCheck clean in
+        let carried = carries both.0 in
+        let reported = reporting both.0 in
         record {
           plain = new_link;
           ran = none;
           front = false;
           frames = [];
           reports = [];
-          linked = record {
-            opened = opened InitWithoutCheck clean;
-            confirmed_is = λ checked. absurd (checked.1 refl);
-            confirmed_so = λ is. absurd cc;
-            base_octet = k.ground_node.fop.vs_octet;
-            vr_is = omega (
-              arith,
-              eqb-true w.spacecraft.farm.vr w.ground_node.fop.vs both.1,
-              k.ground_node.fop.vs_octet,
-            );
-            nn_octet = k.ground_node.fop.vs_octet;
-            late = tt;
-            held = record {
-              vs_is =
-                  omega (arith, k.ground_node.fop.vs_octet);
-              nn_is =
-                  omega (arith, k.ground_node.fop.vs_octet);
-              sent_is = refl;
-              rest_is = pending;
-            };
-            given = tt;
-            units_are = refl;
-            units_fit = tt;
-            sent_is = refl;
-            accepted_is = none_after;
-            acked_is = refl;
-            n_most = omega arith;
-            a_r = omega arith;
-            r_n = omega arith;
-            n_a = omega arith;
-            first = λ e. refl;
-            carries = carries both.0;
-            reporting = reporting both.0;
-            up_is = tt;
-            down_is = tt;
-            fits = tt;
-            rises = omega arith;
-          };
+          linked = grind (arith, began, same, octet, pending, none_after, carried, reported);
           calm = λ checked. absurd (checked.1 refl);
         }
 
     -- where it has to be confirmed
     checked_begins : (d : Directive) (base : ℕ) (f : FopState SegmentView) → base < 256 → IsChecked d
         → begins_clean w d ≡ true → is_quiet w ≡ true → IsEarly d f.state → is_closed f.state ≡ false → f.vs ≡ base
-        → f.nn ≡ base → f.sent ≡ [] → f.waiting ≡ None → ControlFits d base f.control → Begun c d base (begun_with d f)
+        → f.nn ≡ base → f.sent ≡ [] → f.waiting ≡ None → ControlFits d base f.control
+        → Clean c (record (begun_with d f) { ground_node = settle_step (record w.ground_node { fop = f }) })
     checked_begins d base f octet checked clean still early on vs nn sent waiting control =
         let rest : option_to_list f.waiting ++ w.ground_node.pending ≡ [] = rw waiting pending in
         let held : Held (is_closed f.state) base f.vs f.nn f.sent (option_to_list f.waiting ++ w.ground_node.pending)
@@ -133,30 +102,15 @@ module _ (c : Config) (w : World) (k : Sound c w) where
           sent_is = rw sent refl;
           rest_is = rest;
         }) in
-        record {
+        let began = opened d clean in
+        let carried = carries still in
+        let reported = reporting still in
+        let session : Begun c d base (begun_with d f) = record {
           frames = [];
           reports = [];
-          early = record {
-            opened = opened d clean;
-            base_octet = octet;
-            checked = checked;
-            nn_octet = rw nn octet;
-            early = early;
-            held = held;
-            given = tt;
-            units_fit = tt;
-            sent_none = refl;
-            accepted_none = none_after;
-            acked_none = refl;
-            command_is = control;
-            carries = carries still;
-            reporting = reporting still;
-            up_is = tt;
-            lasts = tt;
-            same = λ e. tt;
-            confirmed_not = refl;
-          };
-        }
+          early = grind (arith, began, octet, checked, early, nn, held, none_after, control, carried, reported);
+        } in
+        record { directive = d; base = base; session = inl (early_settled c d base (begun_with d f) session) }
 
     begun_clean : (d : Directive) → is_initiation d ≡ true → IsDirective d → begins_clean w d ≡ true
         → Clean c (world_after_directive w d
@@ -170,32 +124,14 @@ module _ (c : Config) (w : World) (k : Sound c w) where
           session = inr (late_settled c InitWithoutCheck f.vs (begun_with InitWithoutCheck f) session);
         }
     begun_clean InitWithCheck is fits clean =
-        let f : FopState SegmentView = begun w.ground_node.fop InitWithCheck in
-        let session = checked_begins InitWithCheck f.vs f k.ground_node.fop.vs_octet (refl, λ e. absurd cc) clean clean
-        refl refl refl refl refl refl (rw idle tt) in
-        record {
-          directive = InitWithCheck;
-          base = f.vs;
-          session = inl (early_settled c InitWithCheck f.vs (begun_with InitWithCheck f) session);
-        }
+        checked_begins InitWithCheck w.ground_node.fop.vs (begun w.ground_node.fop InitWithCheck)
+        k.ground_node.fop.vs_octet (refl, λ e. absurd cc) clean clean refl refl refl refl refl refl (rw idle tt)
     begun_clean InitUnlock is fits clean =
-        let f : FopState SegmentView = begun w.ground_node.fop InitUnlock in
-        let session = checked_begins InitUnlock f.vs f k.ground_node.fop.vs_octet (refl, λ e. absurd cc) clean clean
-        (λ e. absurd cc) refl refl refl refl refl tt in
-        record {
-          directive = InitUnlock;
-          base = f.vs;
-          session = inl (early_settled c InitUnlock f.vs (begun_with InitUnlock f) session);
-        }
+        checked_begins InitUnlock w.ground_node.fop.vs (begun w.ground_node.fop InitUnlock)
+        k.ground_node.fop.vs_octet (refl, λ e. absurd cc) clean clean (λ e. absurd cc) refl refl refl refl refl tt
     begun_clean (InitSetVr x) is fits clean =
-        let f : FopState SegmentView = begun w.ground_node.fop (InitSetVr x) in
-        let session = checked_begins (InitSetVr x) x f fits (refl, λ e. absurd cc) clean clean (λ e. absurd cc) refl
-        refl refl refl refl refl in
-        record {
-          directive = InitSetVr x;
-          base = x;
-          session = inl (early_settled c (InitSetVr x) x (begun_with (InitSetVr x) f) session);
-        }
+        checked_begins (InitSetVr x) x (begun w.ground_node.fop (InitSetVr x)) fits (refl, λ e. absurd cc) clean clean
+        (λ e. absurd cc) refl refl refl refl refl refl
     begun_clean _ is fits clean = absurd cc
 
   abbrev Begins : Directive → FopOutcome SegmentView (Result (Option Alert) CopFault) → Type 0

@@ -21,6 +21,7 @@ use Rattle.tc_link.specs.PlainLink.{PlainLink, PlainRun, new_link, none, more, a
 use Rattle.tc_link.specs.Confirmation.{IsChecked}
 use Rattle.tc_link.specs.History.{Rises}
 use Rattle.tc_link.proofs.Transit.{CommandFits, UpIs, DownIs, Ranks}
+use Rattle.tc_link.proofs.Reports.{IsLate}
 use Rattle.tc_link.proofs.Linked.{Late, IsGiven, units_of_all, Carries, Reporting, Holds, Held, holds_where}
 use Rattle.tc_link.proofs.Settled.{settled_keeps, held_again}
 
@@ -220,39 +221,37 @@ module _ (c : Config) (d : Directive) (base : ℕ) where
         sent_is = rw sent was.sent_is;
         rest_is = waiting ∙ was.rest_is;
       }) in
+      let late : IsLate ground_node.fop.state = rw state_is tt in
+      let down_is = zeros_down base rs (WouldConfirm base w.spacecraft) l.base_octet all in
+      let rises = zeros_rise rs in
       record {
         plain = zeros_plain units (zeros rs);
         ran = zeros_run units rs;
         front = true;
         frames = g.frames;
         reports = rs;
-        linked = record {
-          opened = l.opened;
-          confirmed_is = λ t. now_is;
-          confirmed_so = λ t. l.checked;
-          base_octet = l.base_octet;
-          vr_is = omega (arith, good.3, l.base_octet);
-          nn_octet = omega (arith, nn, l.nn_octet);
-          late = rw state_is tt;
-          held = held;
-          given = l.given;
-          units_are = refl;
-          units_fit = l.units_fit;
-          sent_is = l.sent_none;
-          accepted_is = l.accepted_none;
-          acked_is = acked_is;
-          n_most = omega arith;
-          a_r = omega arith;
-          r_n = omega arith;
-          n_a = omega arith;
-          first = λ e. refl;
-          carries = l.carries;
-          reporting = rest;
-          up_is = l.up_is;
-          down_is = zeros_down base rs (WouldConfirm base w.spacecraft) l.base_octet all;
-          fits = tt;
-          rises = zeros_rise rs;
-        };
+        linked = grind (
+          arith,
+          l.opened,
+          l.checked,
+          l.base_octet,
+          l.nn_octet,
+          l.given,
+          l.units_fit,
+          l.sent_none,
+          l.accepted_none,
+          l.carries,
+          l.up_is,
+          good,
+          nn,
+          now_is,
+          acked_is,
+          late,
+          held,
+          rest,
+          down_is,
+          rises,
+        );
         calm = λ t. record {
           unlocked = good.0;
           clear = λ e. good.2;

@@ -15,12 +15,10 @@ use Rattle.cop1.specs.declared.fop.Directive.{Directive}
 use Rattle.cop1.specs.declared.fop.Directive.TheVariants.{InitWithCheck, InitUnlock, InitSetVr}
 use Rattle.cop1.specs.Farm.{FarmState, after_unlock, after_set_vr, after_release, after_type_b, farm_step}
 use Rattle.cop1.specs.Farm.{BufferReleased}
-use Rattle.cop1.specs.FopReport.{locks, waits, asks}
 use Rattle.cop1.specs.Report.{report_of}
 use Rattle.tm_link.specs.Building.{is_to_send, after_queue}
-use Rattle.tm_link.specs.Writing as telemetry_writing
 use Rattle.nodes.specs.declared.config.Config.{Config}
-use Rattle.nodes.specs.Spacecraft.{SpacecraftState, spacecraft_step, Report, spacecraft_report, body_outcome}
+use Rattle.nodes.specs.Spacecraft.{SpacecraftState, spacecraft_step, Report, body_outcome}
 use Rattle.nodes.specs.Spacecraft.{bypass_outcome, spacecraft_take, spacecraft_take_bypass, spacecraft_telemetry}
 use Rattle.nodes.specs.BypassSegments.{is_kept}
 use Rattle.nodes.specs.Packets.{PacketOn}

@@ -1,6 +1,6 @@
 -- Before the confirmation: what the ground takes and sends keeps what holds.
-use Rattle.std.proofs.Common.{◌≡◌, ℕ, ◌<◌, Bool, true, false, List, [], ◌∷◌, ◌++◌, Option, Some, None}
-use Rattle.std.proofs.Common.{option_to_list, refl, ap, sym, subst, ◌∙◌, append_assoc, arith}
+use Rattle.std.proofs.Common.{◌≡◌, ℕ, ◌<◌, true, false, List, [], ◌∷◌, ◌++◌, Option, Some, None}
+use Rattle.std.proofs.Common.{option_to_list, refl, ap, sym, subst, ◌∙◌, append_assoc}
 use Rattle.std.specs.List.{AllByRecursion}
 use Rattle.std.proofs.lemmas.List.{append-nil}
 use Rattle.tc_frame.specs.declared.frame.Check.TheVariants.{On}
@@ -20,7 +20,7 @@ use Rattle.nodes.specs.declared.config.Config.{Config}
 use Rattle.nodes.specs.declared.fault.LinkFault.{LinkFault}
 use Rattle.nodes.specs.OwnedFields.{FitsFrame}
 use Rattle.nodes.specs.Packets.{PacketOn, packet_on}
-use Rattle.nodes.specs.Ground.{is_closed, unsent_segments, with_fop, frame_of, frame_to_send, directive_outcome}
+use Rattle.nodes.specs.Ground.{is_closed, with_fop, frame_of, frame_to_send, directive_outcome}
 use Rattle.nodes.specs.Ground.{segments_on, submit_fault, after_submission, bypass_fault, after_bypass, unless_refused}
 use Rattle.cop1.specs.Directives.{is_initiation}
 use Rattle.tc_link.specs.World.{World, world_after_directive, world_after_pull}

@@ -17,12 +17,11 @@ use Rattle.cop1.specs.FopWords.{FopOutcome}
 use Rattle.cop1.specs.Report.{report_of}
 use Rattle.tm_link.specs.Extraction.{Extracted, extract_step}
 use Rattle.tm_link.specs.Reading as telemetry_reading
-use Rattle.tm_link.specs.Writing as telemetry_writing
 use Rattle.nodes.specs.declared.config.Config.{Config}
 use Rattle.nodes.specs.declared.heard.Heard.{Heard}
 use Rattle.nodes.specs.declared.heard.Heard.TheVariants.{Frame}
 use Rattle.nodes.specs.declared.heard.HeardReport.TheVariants.{Used}
-use Rattle.nodes.specs.Spacecraft.{spacecraft_step, Report, spacecraft_report}
+use Rattle.nodes.specs.Spacecraft.{spacecraft_step, Report}
 use Rattle.nodes.specs.Ground.{GroundState, GroundOutcome, is_closed, unsent_segments, with_fop, after_extraction}
 use Rattle.nodes.specs.Ground.{ground_telemetry, telemetry_outcome, own_frame_outcome}
 use Rattle.tc_link.specs.World.{World, is_confirmation, is_initialising, session_after_report, world_after_report}

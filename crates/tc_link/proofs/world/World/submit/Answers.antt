@@ -8,7 +8,7 @@ use Rattle.std.proofs.lemmas.List.Elements.{filter-append}
 use Rattle.map_service.specs.Packets.{packets_in}
 use Rattle.map_service.specs.Views.{packets_view}
 use Rattle.tc_frame.specs.Layout.{SegmentView}
-use Rattle.nodes.specs.Ground.{GroundState, submit_fault, segments_on, settle_step}
+use Rattle.nodes.specs.Ground.{GroundState, segments_on, settle_step}
 use Rattle.nodes.specs.Packets.{PacketOn, packet_on, packet_view}
 use Rattle.tc_link.proofs.Counted.{submit_same}
 use Rattle.tc_link.proofs.world.World.submit.Goals as goal
