@@ -7,7 +7,17 @@ use Rattle.listings.specs.Written.{written}
 use Rattle.listings.specs.Progress.{standing, where_refused}
 use Rattle.listings.proofs.Beginnings.{begins_more, begins_same}
 use Rattle.listings.proofs.Listed.{rest_line-refused}
+use Rattle.listings.proofs.stream.list_piece.Given.{Over}
 use Rattle.listings.proofs.stream.list_piece.Goals as goal
+use Rattle.listings.proofs.stream.list_piece.Goals.{In-Ok}
+
+-- where the listing stands before its next records
+begun : (g : Over) (c : In-Ok g) → standing (written c.clear.new.self) c.args.listing.now c.args.progress.now
+    (g.S.Cutter.held c.feed.new.self) ≡ standing [] c.args.listing.now c.args.progress.now
+    (g.S.Cutter.held c.args.cutter.now ++ c.args.piece.now)
+begun g c =
+    ap (λ t. standing t c.args.listing.now c.args.progress.now (g.S.Cutter.held c.feed.new.self)) c.clear.ensures
+    ∙ ap (standing [] c.args.listing.now c.args.progress.now) c.in-Ok.ensures.ok
 
 pub returns-in_default-fault-clause-beginning : goal.returns-in_default-fault-clause-beginning
 returns-in_default-fault-clause-beginning g c =
@@ -15,11 +25,8 @@ returns-in_default-fault-clause-beginning g c =
     let line = rest_line g.C.Listing.lines g.S.Cutter.layout in
     let st = standing [] c.args.listing.now c.args.progress.now (g.S.Cutter.held c.args.cutter.now ++ c.args.piece.now)
     in
-    let begun : standing (written c.clear.new.self) c.args.listing.now c.args.progress.now
-    (g.S.Cutter.held c.feed.new.self) ≡ st =
-    ap (λ t. standing t c.args.listing.now c.args.progress.now (g.S.Cutter.held c.feed.new.self)) c.clear.ensures
-    ∙ ap (standing [] c.args.listing.now c.args.progress.now) c.in-Ok.ensures.ok in
-    let same = c.in-Ok-list_records.ensures.listed ∙ ap all begun in
+    let same = c.in-Ok-list_records.ensures.listed
+    ∙ ap all (begun g (goal.at.returns-in_default-fault-clause-beginning g c).In-Ok) in
     on_err_weaker c.put.result
     (begins_more _ _ (written c.list_records.new.text) (line ((all st).count + 1) (all st).octets) _
     (ap (λ t. t ++ line ((all st).count + 1) (all st).octets) (sym (ap (λ x. x.text) same))))
@@ -31,11 +38,8 @@ returns-clause-beginning g c =
     let line = rest_line g.C.Listing.lines g.S.Cutter.layout in
     let st = standing [] c.args.listing.now c.args.progress.now (g.S.Cutter.held c.args.cutter.now ++ c.args.piece.now)
     in
-    let begun : standing (written c.clear.new.self) c.args.listing.now c.args.progress.now
-    (g.S.Cutter.held c.feed.new.self) ≡ st =
-    ap (λ t. standing t c.args.listing.now c.args.progress.now (g.S.Cutter.held c.feed.new.self)) c.clear.ensures
-    ∙ ap (standing [] c.args.listing.now c.args.progress.now) c.in-Ok.ensures.ok in
-    let same = c.in-Ok-list_records.ensures.listed ∙ ap all begun in
+    let same = c.in-Ok-list_records.ensures.listed
+    ∙ ap all (begun g (goal.at.returns-clause-beginning g c).In-Ok) in
     let first : first_by g.S.Cutter.layout (g.S.Cutter.held c.list_records.new.cutter) ≡ Some (Err c.in-Some.fault) =
     c.in-Ok-list_records.ensures.fault ∙ ap where_refused c.in-Some.is in
     let refused = rest_line-refused g.C.Listing.lines g.S.Cutter.layout g.met.S.Cutter.heads
