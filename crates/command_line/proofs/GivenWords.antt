@@ -1,21 +1,19 @@
 -- What the parser of words says of a value that it hands out: the value passed the parser of its argument.
-use Rattle.std.proofs.Common.{codes, zero, suc, ◌≡◌, ◌∙◌, ◌++◌, subst, ◌<◌, ◌≤◌, ap, ◌||◌, ◌&&◌, not, eqb, ◌^◌, ℕ, Bool}
+use Rattle.std.proofs.Common.{codes, zero, suc, ◌≡◌, ◌∙◌, ◌++◌, subst, ◌<◌, ap, ◌||◌, ◌&&◌, not, ℕ, Bool}
 use Rattle.std.proofs.Common.{true, false, List, [], ◌∷◌, length, is_some, Option, Some, None, refl, sym, inl, inr}
 use Rattle.std.proofs.Common.{arith}
 use Rattle.std.specs.List.{All, slice_index_or}
-use Rattle.std.specs.Prelude.{slice_index}
 use Rattle.std.specs.Str.{bytes_eq}
-use Rattle.std.specs.Prelude.{option_map, option_and_then, slice_get, pos, Result, IfSome}
+use Rattle.std.specs.Prelude.{option_map, option_and_then, slice_get, pos, IfSome}
 use Rattle.std.specs.Borrow.{Bor}
-use Rattle.std.specs.Str.Parse.{ParsesUnsigned}
 use Rattle.std.proofs.lemmas.List.Elements.{All-get_or, All-nil}
 use Rattle.std.proofs.lemmas.List.{append-nil, append_assoc}
-use Rattle.std.proofs.lemmas.Bool.{eq-eqb}
+use Rattle.std.proofs.lemmas.Bool.{OnTrue_at, OnTrue_from}
 use Rattle.std.proofs.lemmas.Slice.Eq.{bytes_eq-Decides}
 use Rattle.clap.specs.Facts.{args_of, Entry, EntryPasses, PassesArg, HasReading, parser_of, parser_of_value}
 use Rattle.clap.specs.Built.{AddsArg, AddsInTurn, HasDistinctIds, FitsChain, TakesValue, IsPlain, IsPlainArg}
 use Rattle.clap.specs.Built.{IsParsedFrom, IsAuto, SameRules, KeepsList}
-use Rattle.clap.specs.Matches.{matched_of, first_value, one_text, found_of, ReadsOne}
+use Rattle.clap.specs.Matches.{matched_of, first_value, one_text, found_of}
 use Rattle.clap.specs.Values.{Accepts, read_as, reading_of}
 use Rattle.clap.specs.declared.builder.value_parser.Reading.{Reading}
 use Rattle.clap.specs.declared.builder.arg.Arg.{Arg}
@@ -25,12 +23,13 @@ use Rattle.clap.specs.declared.builder.value_parser.ValueParser.{ValueParser}
 use Rattle.clap.specs.declared.builder.value_parser.ValueParser.TheVariants as vp
 use Rattle.clap.specs.declared.parser.matches.ArgMatches.{ArgMatches}
 use Rattle.clap.specs.declared.parser.matches.MatchedArg.{MatchedArg}
-use Rattle.clap.proofs.CallerLemmas.{added_plain, entry_by_id, required_in_chain, same_rules_by_id, some_of_text}
-use Rattle.clap.proofs.CallerReads.{signed_reads}
-use Rattle.command_line.specs.Commands.{IsBare}
+use Rattle.clap.proofs.CallerLemmas.{added_plain, entry_by_id, required_in_chain, same_rules_by_id}
+use Rattle.command_line.specs.declared.commands.Named.{Named}
+use Rattle.command_line.specs.declared.commands.Named.TheVariants as commands
+use Rattle.command_line.specs.Commands.{AreArguments, Gives, GivesAll, IsArgument, IsBare, IsNumberIn, Wanted, wanted_of}
 
 -- a command that these arguments made, one after another
-pub record IsMadeOf (xs : List Arg) (cmd : Command) : Type 0 where
+record IsMadeOf (xs : List Arg) (cmd : Command) : Type 0 where
   pub start : Command
   pub chain : AddsInTurn AddsArg start xs cmd
   pub bare : IsBare start
@@ -157,19 +156,6 @@ module _ (cmd : Command) (m : ArgMatches) (p : IsParsedFrom cmd m) (plain : IsPl
   accepted_at : (t : List ℕ) → one_text (found_of m) arg.id.now ≡ Some t → IsAccepted arg q t
   accepted_at t one = accepted_of (matched_of (found_of m) arg.id.now) t refl one
 
--- a first value is read as some text
-text_of_value : (o : Option MatchedArg)
-    → is_some (option_and_then (λ a. option_map (λ s. s.now) (slice_get a.vals.items 0)) o) ≡ true
-    → (t : List ℕ)
-    × (option_and_then (λ a. option_map (λ s. read_as a.reading s.now) (slice_get a.vals.items 0)) o ≡ Some t)
-text_of_value None h = cc
-text_of_value (Some x) h = go (slice_get x.vals.items 0) h
-  where
-    go : (v : Option (Bor (List ℕ))) → is_some (option_map (λ s. s.now) v) ≡ true
-        → (t : List ℕ) × (option_map (λ s. read_as x.reading s.now) v ≡ Some t)
-    go None some = cc
-    go (Some v) some = (read_as x.reading v.now, refl)
-
 -- ---- a command that is made of arguments
 
 module _ (xs : List Arg) (cmd : Command) (made : IsMadeOf xs cmd) (m : ArgMatches) (p : IsParsedFrom cmd m) (k : ℕ)
@@ -181,10 +167,10 @@ module _ (xs : List Arg) (cmd : Command) (made : IsMadeOf xs cmd) (m : ArgMatche
   list : args_of cmd ≡ has.added
   list = has.args ∙ ap (λ (l : List Arg). l ++ has.added) made.bare.0
 
-  abbrev pub given : Arg
+  abbrev given : Arg
   given = slice_index_or xs k d
 
-  abbrev pub kept_arg : Arg
+  abbrev kept_arg : Arg
   kept_arg = slice_index_or (args_of cmd) k d
 
   in_cmd : k < length (args_of cmd)
@@ -207,7 +193,7 @@ module _ (xs : List Arg) (cmd : Command) (made : IsMadeOf xs cmd) (m : ArgMatche
       (subst (λ (u : List ℕ). bytes_eq u kept_arg.id.now ≡ true) (ap (λ (a : Bor (List ℕ)). a.now) other.id) eq))
 
   -- a text that the argument gives is one that its parser accepts
-  pub gives : (q : ValueParser) → given.value_parser ≡ Some q → (t : List ℕ)
+  gives : (q : ValueParser) → given.value_parser ≡ Some q → (t : List ℕ)
       → one_text (found_of m) given.id.now ≡ Some t
       → (u : List ℕ) × (t ≡ read_as (reading_of q) u) × Accepts kept_arg.ignore_case q u
   gives q parser t one =
@@ -225,184 +211,134 @@ module _ (xs : List Arg) (cmd : Command) (made : IsMadeOf xs cmd) (m : ArgMatche
       required_in_chain made.start cmd xs k d m made.chain made.bare.0 made.bare.1 made.bare.2 made.bare.3 made.fit
       made.distinct lt takes p
 
-  -- and so the text of that value is handed out
-  pub text_given : TakesValue given → (id : List ℕ) → given.id.now ≡ id → (text : Option (Bor (List ℕ)))
-      → option_map (λ s. s.now) text ≡ first_value (found_of m) id → is_some text ≡ true
-  text_given takes id is text shown =
-      some_of_text _ text _ shown (ap (λ (t : List ℕ). is_some (first_value (found_of m) t)) (sym is)
-      ∙ value_given takes)
-
-  -- the number of a text that the argument gives is in the range of its parser
-  number_read : (E : Type 0) (G : List ℕ → Result ℕ E → Type 0) (bits low high : ℕ) (t : List ℕ) (r : Option ℕ)
-      → given.value_parser ≡ Some (vp.Signed (pos low) (pos high))
-      → one_text (found_of m) given.id.now ≡ Some t → ReadsOne G t r
-      → ((u : List ℕ) (x : Result ℕ E) → G u x → ParsesUnsigned bits 10 u x) → high < 2 ^ bits
-      → (n : ℕ) × (r ≡ Some n) × (low ≤ n) × (n ≤ high)
-  number_read E G bits low high t r parser one reads only fits =
-      let g = gives (vp.Signed (pos low) (pos high)) parser t one in
-      signed_reads E G bits low high g.0 r (subst (λ (w : List ℕ). ReadsOne G w r) g.1 reads) only fits g.2
-
-  -- a required argument gives a number in the range of its parser
-  pub required_number : (E : Type 0) (G : List ℕ → Result ℕ E → Type 0) (bits low high : ℕ) (r : Option ℕ)
-      → given.value_parser ≡ Some (vp.Signed (pos low) (pos high)) → TakesValue given
-      → ((t : List ℕ) → one_text (found_of m) given.id.now ≡ Some t → ReadsOne G t r)
-      → ((u : List ℕ) (x : Result ℕ E) → G u x → ParsesUnsigned bits 10 u x) → high < 2 ^ bits
-      → (n : ℕ) × (r ≡ Some n) × (low ≤ n) × (n ≤ high)
-  required_number E G bits low high r parser takes some only fits =
-      let t = text_of_value (matched_of (found_of m) given.id.now) (value_given takes) in
-      number_read E G bits low high t.0 r parser t.1 (some t.0 t.1) only fits
-
-  -- a number that the argument gives is in the range of its parser
-  pub number_given : (E : Type 0) (G : List ℕ → Result ℕ E → Type 0) (bits low high : ℕ) (r : Option ℕ)
-      → given.value_parser ≡ Some (vp.Signed (pos low) (pos high))
-      → (one_text (found_of m) given.id.now ≡ None → r ≡ None)
-      → ((t : List ℕ) → one_text (found_of m) given.id.now ≡ Some t → ReadsOne G t r)
-      → ((u : List ℕ) (x : Result ℕ E) → G u x → ParsesUnsigned bits 10 u x) → high < 2 ^ bits
-      → IfSome r (λ n. (low ≤ n) × (n ≤ high))
-  number_given E G bits low high r parser none some only fits = go (one_text (found_of m) given.id.now) refl
+  -- and so the argument gives what is wanted of it
+  gives_wanted : (w : Wanted) → IsArgument given w → Gives m w
+  gives_wanted w is = (OnTrue_from w.is_required _ some, in_range w.range is.4)
     where
-      go : (o : Option (List ℕ)) → one_text (found_of m) given.id.now ≡ o → IfSome r (λ n. (low ≤ n) × (n ≤ high))
-      go None e = subst (λ (x : Option ℕ). IfSome x (λ n. (low ≤ n) × (n ≤ high))) (sym (none e)) tt
-      go (Some t) e =
-          let n = number_read E G bits low high t r parser e (some t e) only fits in
-          subst (λ (x : Option ℕ). IfSome x (λ n. (low ≤ n) × (n ≤ high))) (sym n.1) (n.2, n.3)
+      some : w.is_required ≡ true → is_some (first_value (found_of m) w.name) ≡ true
+      some must = subst (λ (n : List ℕ). is_some (first_value (found_of m) n) ≡ true) is.0
+          (value_given (OnTrue_at must is.3))
 
--- ---- a command of arguments that have names of their own
+      in_range : (o : Option (ℕ × ℕ)) → IfSome o (λ r. given.value_parser ≡ Some (vp.Signed (pos r.0) (pos r.1)))
+          → IfSome o (λ r. (t : List ℕ) → one_text (found_of m) w.name ≡ Some t → IsNumberIn r t)
+      in_range None h = tt
+      in_range (Some r) h =
+          λ t one. gives (vp.Signed (pos r.0) (pos r.1)) h t
+          (subst (λ (n : List ℕ). one_text (found_of m) n ≡ Some t) (sym is.0) one)
 
--- an argument that can stand in a chain, whose name begins with this letter
-pub record IsNamed (a : Arg) (letter : ℕ) : Type 0 where
-  pub plain : IsPlainArg a
-  pub is_local : a.global ≡ false
-  pub begins : slice_index a.id.now 0 ≡ letter
-  pub is_own : IsAuto a → ⊥
+-- ---- arguments whose names are their own
 
-fits : (a : Arg) (letter : ℕ) → IsNamed a letter → 0 < letter → FitsChain a
-fits a letter h some = (
-  h.plain,
-  h.is_local,
-  (λ e. let bad : 0 ≡ letter =
-      ap (λ (l : List ℕ). slice_index l 0) (sym e) ∙ h.begins in absurd (omega arith)),
-  h.is_own,
-)
+-- a name that building adds to no command
+abbrev is_own : List ℕ → Bool
+is_own name =
+    not (bytes_eq name []) && (not (bytes_eq name (codes "help")) && not (bytes_eq name (codes "version")))
 
-same_letter : (a b : Arg) (x y : ℕ) → IsNamed a x → IsNamed b y → bytes_eq a.id.now b.id.now ≡ true → x ≡ y
-same_letter a b x y p q e =
-    sym p.begins ∙ ap (λ (l : List ℕ). slice_index l 0) ((bytes_eq-Decides a.id.now b.id.now).0 e) ∙ q.begins
+abbrev is_none_of : List ℕ → List Wanted → Bool
+is_none_of name [] = true
+is_none_of name (w ∷ ws) = not (bytes_eq name w.name) && is_none_of name ws
 
--- arguments by the letters that their names begin with
-abbrev pub AreNamed : List Arg → List ℕ → Type 0
-AreNamed [] [] = Unit {0}
-AreNamed [] (w ∷ ws) = ⊥
-AreNamed (a ∷ xs) [] = ⊥
-AreNamed (a ∷ xs) (w ∷ ws) = IsNamed a w × AreNamed xs ws
-
-abbrev is_none_of : ℕ → List ℕ → Bool
-is_none_of w [] = true
-is_none_of w (x ∷ ws) = not (eqb w x) && is_none_of w ws
-
--- letters of which no two are the same
-abbrev pub are_letters : List ℕ → Bool
-are_letters [] = true
-are_letters (w ∷ ws) = not (eqb w 0) && (is_none_of w ws && are_letters ws)
+-- no two of the names are the same
+abbrev have_own_names : List Wanted → Bool
+have_own_names [] = true
+have_own_names (w ∷ ws) = is_own w.name && (is_none_of w.name ws && have_own_names ws)
 
 both : (a b : Bool) → a && b ≡ true → (a ≡ true) × (b ≡ true)
 both true b h = (refl, h)
 both false b h = absurd cc
 
-apart : (w x : ℕ) → not (eqb w x) ≡ true → w ≡ x → ⊥
-apart w x h e = let bad : not true ≡ true = subst (λ (b : Bool). not b ≡ true) (eq-eqb w x e) h in absurd cc
+apart : (a b : List ℕ) → not (bytes_eq a b) ≡ true → a ≡ b → ⊥
+apart a b h e =
+    let bad : not true ≡ true = subst (λ (t : Bool). not t ≡ true) ((bytes_eq-Decides a b).1 e) h in absurd cc
 
-some_letter : (w : ℕ) → not (eqb w 0) ≡ true → 0 < w
-some_letter zero h = absurd (apart 0 0 h refl)
-some_letter (suc n) h = omega arith
+fits : (a : Arg) (w : Wanted) → IsArgument a w → is_own w.name ≡ true → FitsChain a
+fits a w is own =
+    let some = both (not (bytes_eq w.name [])) _ own in
+    let others = both (not (bytes_eq w.name (codes "help"))) _ some.1 in (
+      is.1,
+      is.2,
+      (λ e. apart w.name [] some.0 (sym is.0 ∙ e)),
+      (λ auto. elim auto [
+        | inl e ↦ apart w.name (codes "help") others.0 (sym is.0 ∙ e)
+        | inr e ↦ apart w.name (codes "version") others.1 (sym is.0 ∙ e)
+      ]),
+    )
 
-parted : (w : ℕ) (ws : List ℕ) → are_letters (w ∷ ws) ≡ true
-    → (not (eqb w 0) ≡ true) × (is_none_of w ws ≡ true) × (are_letters ws ≡ true)
+parted : (w : Wanted) (ws : List Wanted) → have_own_names (w ∷ ws) ≡ true
+    → (is_own w.name ≡ true) × (is_none_of w.name ws ≡ true) × (have_own_names ws ≡ true)
 parted w ws h =
-    let some = both (not (eqb w 0)) (is_none_of w ws && are_letters ws) h in
-    let others = both (is_none_of w ws) (are_letters ws) some.1 in
-    (some.0, others.0, others.1)
+    let own = both (is_own w.name) (is_none_of w.name ws && have_own_names ws) h in
+    let others = both (is_none_of w.name ws) (have_own_names ws) own.1 in
+    (own.0, others.0, others.1)
 
-fit_all : (xs : List Arg) (ws : List ℕ) → AreNamed xs ws → are_letters ws ≡ true → All FitsChain xs
-fit_all [] ws named letters k d lt = absurd (omega arith)
-fit_all (a ∷ xs) [] named letters k d lt = absurd named
-fit_all (a ∷ xs) (w ∷ ws) named letters zero d lt = fits a w named.0 (some_letter w (parted w ws letters).0)
-fit_all (a ∷ xs) (w ∷ ws) named letters (suc k) d lt = fit_all xs ws named.1 (parted w ws letters).2 k d (omega arith)
+fit_all : (xs : List Arg) (ws : List Wanted) → AreArguments xs ws → have_own_names ws ≡ true → All FitsChain xs
+fit_all [] ws are own k d lt = absurd (omega arith)
+fit_all (a ∷ xs) [] are own k d lt = absurd are
+fit_all (a ∷ xs) (w ∷ ws) are own zero d lt = fits a w are.0 (parted w ws own).0
+fit_all (a ∷ xs) (w ∷ ws) are own (suc k) d lt = fit_all xs ws are.1 (parted w ws own).2 k d (omega arith)
 
-other_name : (a : Arg) (w : ℕ) (xs : List Arg) (ws : List ℕ) → IsNamed a w → AreNamed xs ws → is_none_of w ws ≡ true
-    → (k : ℕ) (d : Arg) → k < length xs
+other_name : (a : Arg) (w : Wanted) (xs : List Arg) (ws : List Wanted) → IsArgument a w → AreArguments xs ws
+    → is_none_of w.name ws ≡ true → (k : ℕ) (d : Arg) → k < length xs
     → bytes_eq a.id.now (slice_index_or xs k d).id.now ≡ true → ⊥
-other_name a w [] ws own named none k d lt same = absurd (omega arith)
-other_name a w (b ∷ xs) [] own named none k d lt same = named
-other_name a w (b ∷ xs) (x ∷ ws) own named none zero d lt same =
-    apart w x (both (not (eqb w x)) (is_none_of w ws) none).0 (same_letter a b w x own named.0 same)
-other_name a w (b ∷ xs) (x ∷ ws) own named none (suc k) d lt same =
-    other_name a w xs ws own named.1 (both (not (eqb w x)) (is_none_of w ws) none).1 k d (omega arith) same
+other_name a w [] ws is are none k d lt same = absurd (omega arith)
+other_name a w (b ∷ xs) [] is are none k d lt same = are
+other_name a w (b ∷ xs) (v ∷ ws) is are none zero d lt same =
+    apart w.name v.name (both (not (bytes_eq w.name v.name)) (is_none_of w.name ws) none).0
+    (sym is.0 ∙ ((bytes_eq-Decides a.id.now b.id.now).0 same ∙ are.0.0))
+other_name a w (b ∷ xs) (v ∷ ws) is are none (suc k) d lt same =
+    other_name a w xs ws is are.1 (both (not (bytes_eq w.name v.name)) (is_none_of w.name ws) none).1 k d (omega arith)
+    same
 
 turned : (a b : List ℕ) → bytes_eq a b ≡ true → bytes_eq b a ≡ true
 turned a b e = (bytes_eq-Decides b a).1 (sym ((bytes_eq-Decides a b).0 e))
 
-distinct_all : (xs : List Arg) (ws : List ℕ) → AreNamed xs ws → are_letters ws ≡ true → HasDistinctIds xs
-distinct_all [] ws named letters j k d f l m t = absurd (omega arith)
-distinct_all (a ∷ xs) [] named letters j k d f l m t = absurd named
-distinct_all (a ∷ xs) (w ∷ ws) named letters zero zero d f l m t = refl
-distinct_all (a ∷ xs) (w ∷ ws) named letters zero (suc k) d f l m t =
-    absurd (other_name a w xs ws named.0 named.1 (parted w ws letters).1 k d (omega arith) t)
-distinct_all (a ∷ xs) (w ∷ ws) named letters (suc j) zero d f l m t =
-    absurd (other_name a w xs ws named.0 named.1 (parted w ws letters).1 j f (omega arith)
+distinct_all : (xs : List Arg) (ws : List Wanted) → AreArguments xs ws → have_own_names ws ≡ true → HasDistinctIds xs
+distinct_all [] ws are own j k d f l m t = absurd (omega arith)
+distinct_all (a ∷ xs) [] are own j k d f l m t = absurd are
+distinct_all (a ∷ xs) (w ∷ ws) are own zero zero d f l m t = refl
+distinct_all (a ∷ xs) (w ∷ ws) are own zero (suc k) d f l m t =
+    absurd (other_name a w xs ws are.0 are.1 (parted w ws own).1 k d (omega arith) t)
+distinct_all (a ∷ xs) (w ∷ ws) are own (suc j) zero d f l m t =
+    absurd (other_name a w xs ws are.0 are.1 (parted w ws own).1 j f (omega arith)
     (turned (slice_index_or xs j f).id.now a.id.now t))
-distinct_all (a ∷ xs) (w ∷ ws) named letters (suc j) (suc k) d f l m t =
-    ap suc (distinct_all xs ws named.1 (parted w ws letters).2 j k d f (omega arith) (omega arith) t)
+distinct_all (a ∷ xs) (w ∷ ws) are own (suc j) (suc k) d f l m t =
+    ap suc (distinct_all xs ws are.1 (parted w ws own).2 j k d f (omega arith) (omega arith) t)
 
--- a command that these made, one after another
-pub made_of : (xs : List Arg) (ws : List ℕ) → AreNamed xs ws → are_letters ws ≡ true → (start cmd : Command)
-    → AddsInTurn AddsArg start xs cmd → IsBare start → IsMadeOf xs cmd
-made_of xs ws named letters start cmd chain bare = record {
-  start = start;
-  chain = chain;
-  bare = bare;
-  fit = fit_all xs ws named letters;
-  distinct = distinct_all xs ws named letters;
-}
+each_gives : (m : ArgMatches) (xs : List Arg) (ws : List Wanted) → AreArguments xs ws
+    → ((k : ℕ) (d : Arg) → k < length xs → (w : Wanted) → IsArgument (slice_index_or xs k d) w → Gives m w)
+    → GivesAll m ws
+each_gives m [] [] are f = tt
+each_gives m [] (w ∷ ws) are f = absurd are
+each_gives m (a ∷ xs) [] are f = absurd are
+each_gives m (a ∷ xs) (w ∷ ws) are f =
+    (f 0 a (omega arith) w are.0, each_gives m xs ws are.1 (λ k d lt. f (suc k) d (omega arith)))
 
--- ---- the arguments of the commands
+-- ---- the words of a command
 
--- a name of another length is none of the flags that building adds
-option_named : (a : Arg) (name : List ℕ) → a.id.now ≡ name → (length name ≡ 4 → ⊥) → (length name ≡ 7 → ⊥)
-    → IsPlainArg a × (a.global ≡ false) → IsNamed a (slice_index name 0)
-option_named a name id help version h = record {
-  plain = h.0;
-  is_local = h.1;
-  begins = ap (λ (l : List ℕ). slice_index l 0) id;
-  is_own = λ auto. elim auto [
-    | inl e ↦ help (ap length (sym id ∙ e))
-    | inr e ↦ version (ap length (sym id ∙ e))
-  ];
-}
+own_names : (command : Named) → have_own_names (wanted_of command) ≡ true
+own_names commands.Farm = refl
+own_names commands.Map = refl
+own_names commands.Tc = refl
+own_names commands.Tm = refl
+own_names commands.Check = refl
+own_names commands.Packets = refl
+own_names commands.Sim = refl
 
-pub check_named : (a : Arg) → a.id.now ≡ codes "check" → IsPlainArg a × (a.global ≡ false) → IsNamed a 99
-check_named a id h = option_named a (codes "check") id (λ e. omega arith) (λ e. omega arith) h
+-- a command's words give what is wanted of its arguments
+pub words_give : (command : Named) (xs : List Arg) (start cmd : Command) → AreArguments xs (wanted_of command)
+    → IsBare start → AddsInTurn AddsArg start xs cmd → (m : ArgMatches) → IsParsedFrom cmd m
+    → GivesAll m (wanted_of command)
+words_give command xs start cmd are bare chain m p =
+    let made : IsMadeOf xs cmd =
+    record {
+      start = start;
+      chain = chain;
+      bare = bare;
+      fit = fit_all xs (wanted_of command) are (own_names command);
+      distinct = distinct_all xs (wanted_of command) are (own_names command);
+    } in
+    each_gives m xs (wanted_of command) are (λ k d lt. gives_wanted xs cmd made m p k d lt)
 
-pub width_named : (a : Arg) → a.id.now ≡ codes "width" → IsPlainArg a × (a.global ≡ false) → IsNamed a 119
-width_named a id h = option_named a (codes "width") id (λ e. omega arith) (λ e. omega arith) h
-
-pub blocking_named : (a : Arg) → a.id.now ≡ codes "blocking" → IsPlainArg a × (a.global ≡ false) → IsNamed a 98
-blocking_named a id h = option_named a (codes "blocking") id (λ e. omega arith) (λ e. omega arith) h
-
-pub vr_named : (a : Arg) → a.id.now ≡ codes "vr" → IsPlainArg a × (a.global ≡ false) → IsNamed a 118
-vr_named a id h = option_named a (codes "vr") id (λ e. omega arith) (λ e. omega arith) h
-
-pub length_named : (a : Arg) → a.id.now ≡ codes "length" → IsPlainArg a × (a.global ≡ false) → IsNamed a 108
-length_named a id h = option_named a (codes "length") id (λ e. omega arith) (λ e. omega arith) h
-
--- and so is one with another first letter
-pub file_named : (a : Arg) → a.id.now ≡ codes "FILE" → IsPlainArg a × (a.global ≡ false) → IsNamed a 70
-file_named a id h = record {
-  plain = h.0;
-  is_local = h.1;
-  begins = ap (λ (l : List ℕ). slice_index l 0) id;
-  is_own = λ auto. elim auto [
-    | inl e ↦ let bad : 70 ≡ 104 = ap (λ (l : List ℕ). slice_index l 0) (sym id ∙ e) in absurd (omega arith)
-    | inr e ↦ let bad : 4 ≡ 7 = ap length (sym id ∙ e) in absurd (omega arith)
-  ];
-}
+-- and so what they give for one that stands behind others
+pub last_given : (m : ArgMatches) (ws : List Wanted) (w : Wanted) → GivesAll m (ws ++ w ∷ []) → Gives m w
+last_given m [] w h = h.0
+last_given m (v ∷ ws) w h = last_given m ws w h.1

@@ -1,92 +1,110 @@
-// What the commands have in common.
+// The arguments of the commands.
 
-ghost use Rattle.std.specs.Prelude.{◌≡◌, false, codes, IfOk};
-ghost use Rattle.clap.specs.Built.{IsPlainArg, TakesValue};
-ghost use Rattle.command_line.specs.Commands.{IsBare};
+ghost use Rattle.std.specs.Prelude.{◌≡◌, ◌≤◌, Some, None, IfOk};
+ghost use Rattle.clap.specs.Facts.{least_values};
+ghost use Rattle.command_line.specs.Commands.{AreArguments, IsArgument, wanted_of};
+ghost use Rattle.command_line.specs.Commands.{blocking, check, file, length, named, vr, width};
 
 use crate::commands::Named;
-use clap::{Arg, ArgAction, Command};
+use clap::{Arg, ArgAction, value_parser};
 use std::alloc::{AllocError, Global};
 
-/// A command as its help describes it.
-#[derive(Clone, Copy, Debug)]
-pub struct Described<'a> {
-    pub command: Named,
-    pub name: &'a str,
-    /// The program and the command, as usage is shown.
-    pub bin_name: &'a str,
-    pub about: &'a str,
-    /// What stands at the end of its help.
-    pub ending: &'a str,
+impl Named {
+    /// The arguments that the command takes, where `help` says what its file is.
+    pub fn arguments<'a>(self, alloc: Global, help: &'a str) -> Result<Vec<Arg<'a>>, AllocError>
+        ensures { IfOk result (λ arguments. AreArguments arguments.items (wanted_of self)) }
+    {
+        Ok(match self {
+            Named::Farm => vec![in alloc;
+                width_option(alloc),
+                vr_option(alloc),
+                check_flag(alloc),
+                file_argument(alloc, help),
+            ]?,
+            Named::Map => vec![in alloc;
+                width_option(alloc),
+                vr_option(alloc),
+                check_flag(alloc),
+                blocking_flag(alloc),
+                file_argument(alloc, help),
+            ]?,
+            Named::Tc => vec![in alloc; check_flag(alloc), file_argument(alloc, help)]?,
+            Named::Tm => vec![in alloc; length_option(alloc), file_argument(alloc, help)]?,
+            Named::Check | Named::Packets | Named::Sim => {
+                vec![in alloc; file_argument(alloc, help)]?
+            }
+        })
+    }
 }
 
-/// The end of a help: a line of output, what more there is to say, and the statuses.
-macro_rules! ending_of_help {
-    ($line:literal $(, $more:literal)*) => {
-        concat!(
-            "Writes lines such as\n  ",
-            $line,
-            "\n\n",
-            $($more,)*
-            "Status: 0 where all is good, 1 for a fault in the data, 2 for usage,\n",
-            "3 where a file or memory failed or the input was too long"
-        )
-    };
-}
-
-/// The end of a help where telecommand frames are read, with their faults.
-macro_rules! ending_of_frames {
-    ($line:literal) => {
-        ending_of_help!(
-            $line,
-            "Faults of a frame, the first that applies:\n",
-            "  1 Short              fewer than 5 octets, or the file ends within the frame\n",
-            "  2 Version            the version number is not 00\n",
-            "  3 ReservedType       the control command flag without the bypass flag\n",
-            "  4 Spare              a spare bit is not 0\n",
-            "  5 Length             the declared length is not the frame's, or too small\n",
-            "  6 Check              the last two octets are not the check of the others\n",
-            "  7 BypassNumber       N(S) of a Type-BD or Type-BC frame is not 0\n",
-            "  8 EmptyData          no data, or a segment header alone\n",
-            "  9 Command            the data of a Type-BC frame are no command\n",
-            "\n"
-        )
-    };
-}
-
-pub(crate) use ending_of_frames;
-pub(crate) use ending_of_help;
-
-/// What `FILE` is for the commands that take telecommand frames.
-pub const FRAMES: &str = "Telecommand frames, one after another";
-
-/// The command as its help describes it, with no argument yet.
-pub fn bare_command<'a>(alloc: Global, described: Described<'a>) -> Result<Command<'a>, AllocError>
-    ensures { IfOk result IsBare }
+// `--width W`, the width of the window.
+fn width_option<'a>(alloc: Global) -> Arg<'a>
+    ensures { IsArgument result width }
 {
-    let named = Command::new(alloc, described.name).bin_name(described.bin_name)?;
-    Ok(named.about(described.about).after_help(described.ending))
+    let help = "Width of the window, even, 2 to 254 [default: 254]";
+    option(alloc, "width", "W", help).value_parser(value_parser!(u8).range(2..=254))
 }
 
-/// `--check`, whether frames end with their check.
-pub fn check_flag<'a>(alloc: Global) -> Arg<'a>
-    ensures id { result.id.now ≡ codes "check" }
-    ensures plain { IsPlainArg result × (result.global ≡ false) }
+// `--vr N`, the number of the first frame that is expected.
+fn vr_option<'a>(alloc: Global) -> Arg<'a>
+    ensures { IsArgument result vr }
 {
-    Arg::new(alloc, "check")
-        .long("check")
-        .help("The frames end with their check")
-        .action(ArgAction::SetTrue)
+    let help = "Number of the first frame that is expected, 0 to 255 [default: 0]";
+    option(alloc, "vr", "N", help).value_parser(value_parser!(u8))
 }
 
-/// `FILE`.
-pub fn file_argument<'a>(alloc: Global, help: &'a str) -> Arg<'a>
-    ensures id { result.id.now ≡ codes "FILE" }
-    ensures plain { IsPlainArg result × (result.global ≡ false) }
-    ensures takes { TakesValue result }
+// `--length F`, the octets of a frame.
+fn length_option<'a>(alloc: Global) -> Arg<'a>
+    ensures { IsArgument result length }
+{
+    option(alloc, "length", "F", "Octets of a frame, 16 to 2048")
+        .required(true)
+        .value_parser(value_parser!(u16).range(16..=2048))
+}
+
+// `--check`, whether frames end with their check.
+fn check_flag<'a>(alloc: Global) -> Arg<'a>
+    ensures { IsArgument result check }
+{
+    flag(alloc, "check", "The frames end with their check")
+}
+
+// `--blocking`, whether a segment may hold several packets.
+fn blocking_flag<'a>(alloc: Global) -> Arg<'a>
+    ensures { IsArgument result blocking }
+{
+    flag(alloc, "blocking", "A segment may hold several packets")
+}
+
+// `FILE`.
+fn file_argument<'a>(alloc: Global, help: &'a str) -> Arg<'a>
+    ensures { IsArgument result file }
 {
     Arg::new(alloc, "FILE")
         .required(true)
+        .help(help)
+        .action(ArgAction::Set)
+}
+
+// `--name`.
+fn flag<'a>(alloc: Global, name: &'a str, help: &'a str) -> Arg<'a>
+    ensures { IsArgument result (named name.entry.now) }
+{
+    Arg::new(alloc, name)
+        .long(name)
+        .help(help)
+        .action(ArgAction::SetTrue)
+}
+
+// `--name VALUE`.
+fn option<'a>(alloc: Global, name: &'a str, value: &'a str, help: &'a str) -> Arg<'a>
+    ensures named { IsArgument result (named name.entry.now) }
+    ensures takes { (result.action ≡ Some ArgAction.Set) × (result.val_delim ≡ None)
+        × (1 ≤ least_values result) }
+{
+    Arg::new(alloc, name)
+        .long(name)
+        .value_name(value)
         .help(help)
         .action(ArgAction::Set)
 }

@@ -1,25 +1,15 @@
 // The commands of the tool, and the words of the command line.
 
 ghost use Rattle.std.specs.Prelude.{IfOk, IfErr, IfSome};
+ghost use Rattle.command_line.specs.Commands.{GivesAll, IsBare, wanted_of};
 ghost use Rattle.command_line.specs.Ranges.{IsInRange, IsOddIfWidth};
 
-use crate::arguments::{Described, ending_of_help};
+use crate::given::file_given;
+use crate::help::{COMMANDS, Described, ending_of_help};
 use crate::task::{Options, UsageFault};
-use crate::{farm, files, map, tm};
 use clap::error::ErrorKind;
-use clap::{Command, Error};
+use clap::{ArgMatches, Command, Error};
 use std::alloc::{AllocError, Global};
-
-// The commands as their help describes them, in the order in which the help lists them.
-const COMMANDS: [Described<'static>; 7] = [
-    farm::FARM,
-    map::MAP,
-    files::TC,
-    tm::TM,
-    files::CHECK,
-    files::PACKETS,
-    files::SIM,
-];
 
 /// A command of the tool.
 #[derive(Clone, Copy, Debug)]
@@ -33,31 +23,45 @@ pub enum Named {
     Sim,
 }
 
-impl Named {
+impl<'a> Described<'a> {
     // The command of this name.
-    fn of(name: &str) -> Option<Named> {
+    fn of(name: &str) -> Option<Described<'static>> {
         for described in COMMANDS {
             if described.name == name {
-                return Some(described.command);
+                return Some(described);
             }
         }
         None
     }
 
-    // Reads the words of the command, its name first.
-    fn options<'a>(self, alloc: Global, words: &'a [&'a str]) -> Result<Options<'a>, UsageFault>
+    // The command with no argument yet.
+    fn bare(self, alloc: Global) -> Result<Command<'a>, AllocError>
+        ensures { IfOk result IsBare }
+    {
+        let named = Command::new(alloc, self.name).bin_name(self.bin_name)?;
+        Ok(named.about(self.about).after_help(self.ending))
+    }
+
+    // The words of the command, its name first, as they were given.
+    fn given(self, alloc: Global, words: &'a [&'a str]) -> Result<ArgMatches<'a>, Error>
+        ensures { IfOk result (λ given. GivesAll given (wanted_of self.entry.command)) }
+    {
+        let arguments = self.command.arguments(alloc, self.file)?;
+        let bare = self.bare(alloc)?;
+        let command = bare.args(arguments)?;
+        command.try_get_matches_from(words)
+    }
+
+    // What the words of the command ask for, its name first.
+    fn options(self, alloc: Global, words: &'a [&'a str]) -> Result<Options<'a>, UsageFault>
         ensures range { IfOk result (λ options. IsInRange options.task) }
         ensures odd { IfErr result IsOddIfWidth }
     {
-        match self {
-            Named::Farm => farm::farm_options(alloc, words),
-            Named::Map => map::map_options(alloc, words),
-            Named::Tc => files::tc_options(alloc, words),
-            Named::Tm => tm::tm_options(alloc, words),
-            Named::Check => files::check_options(alloc, words),
-            Named::Packets => files::packets_options(alloc, words),
-            Named::Sim => files::sim_options(alloc, words),
-        }
+        let given = self.given(alloc, words)?;
+        Ok(Options {
+            task: self.command.task(&given)?,
+            file: file_given(&given),
+        })
     }
 }
 
@@ -70,7 +74,7 @@ pub fn options<'a>(alloc: Global, words: &'a [&'a str]) -> Result<Options<'a>, U
     ensures odd { IfErr result IsOddIfWidth }
 {
     if let [_, name, ..] = words {
-        if let Some(command) = Named::of(name) {
+        if let Some(command) = Described::of(name) {
             return command.options(alloc, &words[1..]);
         }
     }
@@ -86,7 +90,7 @@ pub fn options<'a>(alloc: Global, words: &'a [&'a str]) -> Result<Options<'a>, U
 fn help_of(alloc: Global, name: &str) -> Option<UsageFault>
     ensures { IfSome result IsOddIfWidth }
 {
-    let command = Named::of(name)?;
+    let command = Described::of(name)?;
     command.options(alloc, &[name, "--help"]).err()
 }
 

@@ -4,11 +4,9 @@
 
 mod arguments;
 mod commands;
-mod farm;
-mod files;
-mod map;
+mod given;
+mod help;
 mod task;
-mod tm;
 
 pub use commands::options;
 pub use task::{Options, Task, UsageFault};

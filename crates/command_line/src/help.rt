@@ -1,0 +1,142 @@
+// The commands as the help describes them.
+
+use crate::commands::Named;
+
+/// A command as its help describes it.
+#[derive(Clone, Copy, Debug)]
+pub struct Described<'a> {
+    pub command: Named,
+    pub name: &'a str,
+    /// The program and the command, as usage is shown.
+    pub bin_name: &'a str,
+    pub about: &'a str,
+    /// What its `FILE` is.
+    pub file: &'a str,
+    /// What stands at the end of its help.
+    pub ending: &'a str,
+}
+
+/// The end of a help: a line of output, what more there is to say, and the statuses.
+macro_rules! ending_of_help {
+    ($line:literal $(, $more:literal)*) => {
+        concat!(
+            "Writes lines such as\n  ",
+            $line,
+            "\n\n",
+            $($more,)*
+            "Status: 0 where all is good, 1 for a fault in the data, 2 for usage,\n",
+            "3 where a file or memory failed or the input was too long"
+        )
+    };
+}
+
+/// The end of a help where telecommand frames are read, with their faults.
+macro_rules! ending_of_frames {
+    ($line:literal) => {
+        ending_of_help!(
+            $line,
+            "Faults of a frame, the first that applies:\n",
+            "  1 Short              fewer than 5 octets, or the file ends within the frame\n",
+            "  2 Version            the version number is not 00\n",
+            "  3 ReservedType       the control command flag without the bypass flag\n",
+            "  4 Spare              a spare bit is not 0\n",
+            "  5 Length             the declared length is not the frame's, or too small\n",
+            "  6 Check              the last two octets are not the check of the others\n",
+            "  7 BypassNumber       N(S) of a Type-BD or Type-BC frame is not 0\n",
+            "  8 EmptyData          no data, or a segment header alone\n",
+            "  9 Command            the data of a Type-BC frame are no command\n",
+            "\n"
+        )
+    };
+}
+
+pub(crate) use ending_of_help;
+
+// What `FILE` is for the commands that take telecommand frames.
+const FRAMES: &str = "Telecommand frames, one after another";
+
+/// The commands in the order in which the help lists them.
+pub const COMMANDS: [Described<'static>; 7] = [
+    Described {
+        command: Named::Farm,
+        name: "farm",
+        bin_name: "tctool farm",
+        about: "Lists what a receiver (FARM-1) makes of each frame",
+        file: FRAMES,
+        ending: ending_of_frames!("3 BC unlock Open vr=0 l=0 w=0 t=0 b=1"),
+    },
+    Described {
+        command: Named::Map,
+        name: "map",
+        bin_name: "tctool map",
+        about: "Lists the packets out of the frames that a receiver accepts",
+        file: FRAMES,
+        ending: ending_of_help!(
+            "packet 4 1005C0000000AA",
+            "Why octets of a segment are dropped:\n",
+            "  Interrupted          a first segment, or one flagged alone, came before a last one\n",
+            "  NoBeginning          a continuing or last segment with no packet open\n",
+            "  NotAPacket           not exactly one packet (--blocking: whole packets)\n",
+            "  TooLong              a packet is longer than 65,542 octets\n",
+            "  Bypass               a Type-BD frame without exactly one packet\n",
+            "\nFaults of a frame: tctool help tc\n\n"
+        ),
+    },
+    Described {
+        command: Named::Tc,
+        name: "tc",
+        bin_name: "tctool tc",
+        about: "Lists the fields of each telecommand frame",
+        file: FRAMES,
+        ending: ending_of_frames!("1 AD scid=1 vcid=2 n=3 seg=3 map=4 data=1005C0000000AA"),
+    },
+    Described {
+        command: Named::Tm,
+        name: "tm",
+        bin_name: "tctool tm",
+        about: "Lists the fields of each telemetry frame, and the packets that it ends",
+        file: "Telemetry frames, one after another",
+        ending: ending_of_help!(
+            "1 scid=1 vcid=0 mc=0 vc=0 pointer=0 ocf=01080000 gap=-",
+            "Faults of a frame, the first that applies:\n",
+            "  1 Length             not as many octets as --length says\n",
+            "  2 Version            the version number is not 00\n",
+            "  3 Check              the last two octets are not the check of the others\n",
+            "  4 Status             a status flag is not 0, or segment length not 11\n",
+            "  5 Pointer            the first header pointer is not within the data\n",
+            "  6 NoOcf              the frame has no operational control field\n",
+            "\n"
+        ),
+    },
+    Described {
+        command: Named::Check,
+        name: "check",
+        bin_name: "tctool check",
+        about: "Lists the telecommand frames with check that are refused",
+        file: "Telecommand frames with check, one after another",
+        ending: ending_of_frames!("2 invalid 6 Check"),
+    },
+    Described {
+        command: Named::Packets,
+        name: "packets",
+        bin_name: "tctool packets",
+        about: "Lists the fields of each space packet",
+        file: "Space packets, one after another",
+        ending: ending_of_help!(
+            "1 TC secondary=0 apid=5 flags=3 count=0 gap=- data=AA",
+            "Faults of a packet, the first that applies:\n",
+            "  1 Truncated          the file ends within the packet\n",
+            "  2 Version            the version number is not 000\n",
+            "  3 IdleWithSecondary  an idle packet with a secondary header\n",
+            "\n"
+        ),
+    },
+    Described {
+        command: Named::Sim,
+        name: "sim",
+        bin_name: "tctool sim",
+        about: "Plays a script of the simulated link",
+        file: "A script, a line for each event",
+        ending: ending_of_help!("AD 0 accepted ready"),
+    },
+];
