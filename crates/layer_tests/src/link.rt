@@ -6,6 +6,7 @@ mod node_runs;
 mod play;
 mod refused;
 mod refusing;
+mod rows;
 mod sessions;
 
 use nodes::{PARAMETERS, Parameter};

@@ -160,7 +160,7 @@ impl Carrier {
         assert!(rt; self.play.sim().accepted() == self.fields.as_slice());
         let records = "clean=yes state=S1 submitted=600 delivered=600 sent=600 accepted=600 \
             acknowledged=600 outstanding=0\n";
-        self.play.ends(rt, records)?;
+        self.play.ends(rt, &[], records)?;
         Ok(())
     }
 }

@@ -1,7 +1,7 @@
 // What the link and its nodes answer, as lines.
 
 use clcw::encode;
-use cop1::{FopMode, Verdict};
+use cop1::FopMode;
 use std::alloc::AllocError;
 use std::fmt::Write;
 use tc_frame::Command;
@@ -18,6 +18,10 @@ pub fn write_answer(line: &mut String, answer: &Result<Reply, SimFault>) -> Resu
 
 pub fn write_refusal(line: &mut String, number: u8, name: &str) -> Result<(), AllocError> {
     write!(line, "refused {number} {name}")
+}
+
+fn write_invalid(line: &mut String, number: u8, name: &str) -> Result<(), AllocError> {
+    write!(line, "invalid {number} {name}")
 }
 
 fn write_reply(line: &mut String, reply: &Reply) -> Result<(), AllocError> {
@@ -64,11 +68,7 @@ fn write_node_fault(line: &mut String, fault: NodeFault) -> Result<(), AllocErro
 
 pub fn write_received(line: &mut String, received: Received) -> Result<(), AllocError> {
     match received {
-        Received::Invalid(fault) => {
-            let number = fault.number();
-            let name = fault.name();
-            write!(line, "invalid {number} {name}")
-        }
+        Received::Invalid(fault) => write_invalid(line, fault.number(), fault.name()),
         Received::Foreign => line.push_str("foreign"),
         Received::Sequence {
             n,
@@ -76,8 +76,7 @@ pub fn write_received(line: &mut String, received: Received) -> Result<(), Alloc
             ready,
             dropped,
         } => {
-            let verdict = word_of(verdict);
-            write!(line, "AD {n} {verdict}")?;
+            write!(line, "AD {n} {}", verdict.name())?;
             match ready {
                 0 => {}
                 1 => line.push_str(" ready")?,
@@ -100,24 +99,9 @@ pub fn write_state(line: &mut String, state: FopMode) -> Result<(), AllocError> 
     write!(line, " ({state:?})")
 }
 
-fn word_of(verdict: Verdict) -> &'static str {
-    match verdict {
-        Verdict::Accepted => "accepted",
-        Verdict::Ahead => "ahead",
-        Verdict::NoBuffer => "nobuffer",
-        Verdict::Behind => "behind",
-        Verdict::Outside => "outside",
-        Verdict::Discarded => "discarded",
-    }
-}
-
 pub fn write_heard(line: &mut String, heard: Heard) -> Result<(), AllocError> {
     match heard {
-        Heard::Invalid(fault) => {
-            let number = fault.number();
-            let name = fault.name();
-            write!(line, "invalid {number} {name}")
-        }
+        Heard::Invalid(fault) => write_invalid(line, fault.number(), fault.name()),
         Heard::Foreign => line.push_str("foreign"),
         Heard::Frame {
             gap,

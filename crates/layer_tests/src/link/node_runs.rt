@@ -2,6 +2,7 @@
 // refused, and makes one more at its end.
 
 mod ground;
+mod node;
 mod play_ground;
 mod play_spacecraft;
 mod spacecraft;

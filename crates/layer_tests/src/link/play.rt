@@ -3,10 +3,29 @@
 
 use super::lines::{write_answer, write_records, write_state, write_world};
 use super::refusing::{room, says_refused};
+use super::rows::are_lines;
 use std::alloc::{AllocError, Global};
 use std::process::Abort;
 use std::test::Fail;
 use tc_link::{Config, Event, Reply, Sim, SimFault, run};
+
+/// A session: the parameters, each event with the line that it answers, and the line of the records at the end.
+#[derive(Clone, Copy, Drop)]
+pub struct Session<'a> {
+    config: Config,
+    rows: &'a [(Event<'a>, &'a str)],
+    records: &'a str,
+}
+
+impl<'a> Session<'a> {
+    pub fn new(config: Config, rows: &'a [(Event<'a>, &'a str)], records: &'a str) -> Session<'a> {
+        Session {
+            config,
+            rows,
+            records,
+        }
+    }
+}
 
 /// A simulated link, the lines that it answered, and room for what its records show.
 #[derive(Drop)]
@@ -34,13 +53,14 @@ impl Play {
     fn after_run(
         rt: &(impl Abort + Eprint),
         alloc: Global,
-        config: Config,
-        events: &[Event<'_>],
+        session: &Session,
     ) -> Result<Play, Fail> {
-        let sim = match run(alloc, config, events) {
+        let mut events = [Event::Tick; MOST_EVENTS];
+        let events = events_of(session.rows, &mut events);
+        let sim = match run(alloc, session.config, events) {
             Err(SimFault::Memory) => {
                 says_refused(rt, SimFault::Memory.number(), 6);
-                run(alloc, config, events)?
+                run(alloc, session.config, events)?
             }
             answer => answer?,
         };
@@ -84,30 +104,18 @@ impl Play {
         }
     }
 
-    // Lets the events happen, and writes a line for each answer.
+    // Lets the events happen, and writes a line for each answer. Where states are shown, that of a telemetry
+    // frame ends in the ground's.
     fn write_answers(
         &mut self,
         rt: &(impl Abort + Eprint),
-        events: &[Event<'_>],
+        rows: &[(Event<'_>, &str)],
+        shows_states: bool,
     ) -> Result<(), AllocError> {
-        for event in events {
+        for (event, _) in rows {
             let answer = self.bear(rt, *event)?;
             write_answer(&mut self.line, &answer)?;
-            self.line.push('\n')?;
-        }
-        Ok(())
-    }
-
-    // The same, where the line of each telemetry frame ends in the ground's state.
-    fn write_states(
-        &mut self,
-        rt: &(impl Abort + Eprint),
-        events: &[Event<'_>],
-    ) -> Result<(), AllocError> {
-        for event in events {
-            let answer = self.bear(rt, *event)?;
-            write_answer(&mut self.line, &answer)?;
-            if let Ok(Reply::Down(_)) = &answer {
+            if shows_states && matches!(answer, Ok(Reply::Down(_))) {
                 write_state(&mut self.line, self.sim.state())?;
             }
             self.line.push('\n')?;
@@ -120,10 +128,15 @@ impl Play {
         write_lines(&mut self.line, self.sim.answers())
     }
 
-    /// The lines are these, with that of the records after them.
-    pub fn ends(&mut self, rt: &impl Abort, want: &str) -> Result<(), AllocError> {
+    /// The lines are those of the rows, and then that of the records.
+    pub fn ends(
+        &mut self,
+        rt: &impl Abort,
+        rows: &[(Event<'_>, &str)],
+        records: &str,
+    ) -> Result<(), AllocError> {
         write_records(&mut self.line, &self.sim)?;
-        assert_eq!(rt; self.line.as_str(), want);
+        are_lines(rt, self.line.as_str(), rows, records);
         Ok(())
     }
 }
@@ -157,44 +170,49 @@ fn write_lines(line: &mut String, answers: &[Result<Reply, SimFault>]) -> Result
     Ok(())
 }
 
-/// A new link answers these events by these lines, of which the last shows the records.
-pub fn plays(
-    rt: &(impl Abort + Eprint),
-    alloc: Global,
-    config: Config,
-    events: &[Event<'_>],
-    want: &str,
-) -> Result<(), Fail> {
-    let mut play = Play::new(rt, alloc, config)?;
-    play.write_answers(rt, events)?;
-    play.ends(rt, want)?;
-    Ok(())
+const MOST_EVENTS: usize = 64;
+
+// The events of these rows.
+fn events_of<'a, 'b>(
+    rows: &[(Event<'a>, &str)],
+    events: &'b mut [Event<'a>; MOST_EVENTS],
+) -> &'b [Event<'a>] {
+    for (place, (event, _)) in events.iter_mut().zip(rows) {
+        *place = *event;
+    }
+    events.get(..rows.len()).unwrap_or_default()
+}
+
+/// A new link answers a session's events so, and has these records then.
+pub fn plays(rt: &(impl Abort + Eprint), alloc: Global, session: &Session) -> Result<(), Fail> {
+    answers(rt, alloc, session, false)
 }
 
 /// The same, where the line of each telemetry frame ends in the ground's state.
 pub fn plays_with_states(
     rt: &(impl Abort + Eprint),
     alloc: Global,
-    config: Config,
-    events: &[Event<'_>],
-    want: &str,
+    session: &Session,
 ) -> Result<(), Fail> {
-    let mut play = Play::new(rt, alloc, config)?;
-    play.write_states(rt, events)?;
-    play.ends(rt, want)?;
+    answers(rt, alloc, session, true)
+}
+
+fn answers(
+    rt: &(impl Abort + Eprint),
+    alloc: Global,
+    session: &Session,
+    shows_states: bool,
+) -> Result<(), Fail> {
+    let mut play = Play::new(rt, alloc, session.config)?;
+    play.write_answers(rt, session.rows, shows_states)?;
+    play.ends(rt, session.rows, session.records)?;
     Ok(())
 }
 
-/// A whole run of these events answers by these lines, of which the last shows the records.
-pub fn runs(
-    rt: &(impl Abort + Eprint),
-    alloc: Global,
-    config: Config,
-    events: &[Event<'_>],
-    want: &str,
-) -> Result<(), Fail> {
-    let mut play = Play::after_run(rt, alloc, config, events)?;
+/// The same of a whole run of the events.
+pub fn runs(rt: &(impl Abort + Eprint), alloc: Global, session: &Session) -> Result<(), Fail> {
+    let mut play = Play::after_run(rt, alloc, session)?;
     play.write_run()?;
-    play.ends(rt, want)?;
+    play.ends(rt, session.rows, session.records)?;
     Ok(())
 }

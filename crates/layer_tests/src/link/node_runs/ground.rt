@@ -1,10 +1,11 @@
 // A run of a ground, in octets worked by hand.
 
 use super::super::{P0, P1};
-use super::play_ground::{Call, plays};
+use super::node::plays;
+use super::play_ground::Call;
 use cop1::Directive;
 use std::test::Fail;
-use tc_link::Config;
+use tc_link::{Config, Ground};
 
 // Telemetry frames with a data field of 7 octets: one with P0, and two of only idle data, of which the
 // second reports that number 1 is expected.
@@ -38,55 +39,40 @@ const OF_CHANNEL_1: [u8; 19] = [
 // In brackets the sender's state, V(S), NN(R), and how many segments are not acknowledged.
 #[test]
 fn both_ways(rt: HostRuntime) -> Result<(), Fail> {
-    let config = Config {
-        frame_length: 19,
-        ..Config::default()
-    };
-    let calls = [
-        Call::Submit(4, &P0),
-        Call::Directive(Directive::InitWithoutCheck),
-        Call::Submit(4, &P0),
-        Call::Submit(4, &P1),
-        Call::Bypass(4, &P1),
-        Call::Pull,
-        Call::Pull,
-        Call::Tick,
-        Call::Telemetry(&WITH_P0),
-        Call::Telemetry(&OF_SPACECRAFT_2),
-        Call::Telemetry(&OF_CHANNEL_1),
-        Call::Telemetry(&IDLE),
-        Call::Telemetry(&P0),
-        Call::TakeTelemetry,
-        Call::TakeTelemetry,
-        Call::Pull,
-        Call::Telemetry(&IDLE_1),
-        Call::Pull,
-        Call::Submit(4, &P0),
-        Call::Advance,
-        Call::Directive(Directive::SetWindow(128)),
-        Call::Directive(Directive::Terminate),
+    let mut config = Config::default();
+    config.frame_length = 19;
+    let rows = [
+        (Call::Submit(4, &P0), "refused 1 NotOpen (S6 0 0 0)"),
+        (
+            Call::Directive(Directive::InitWithoutCheck),
+            "ok (S1 0 0 0)",
+        ),
+        (Call::Submit(4, &P0), "ok (S1 0 0 1)"),
+        (Call::Submit(4, &P1), "ok (S1 0 0 2)"),
+        (Call::Bypass(4, &P1), "ok (S1 0 0 2)"),
+        (Call::Pull, "sent 2001080E00C41005C0010000ABACA0 (S1 0 0 2)"),
+        (Call::Pull, "sent 0001080E00C41005C0000000AAE75D (S1 1 0 2)"),
+        (Call::Tick, "ok (S1 1 0 2)"),
+        (Call::Telemetry(&WITH_P0), "gap=- packets=1 (S1 1 0 2)"),
+        (Call::Telemetry(&OF_SPACECRAFT_2), "foreign (S1 1 0 2)"),
+        (Call::Telemetry(&OF_CHANNEL_1), "foreign (S1 1 0 2)"),
+        (Call::Telemetry(&IDLE), "gap=0 packets=0 (S1 1 0 2)"),
+        (Call::Telemetry(&P0), "invalid 1 Length (S1 1 0 2)"),
+        (Call::TakeTelemetry, "packet 1005C0000000AA (S1 1 0 2)"),
+        (Call::TakeTelemetry, "nothing (S1 1 0 2)"),
+        (Call::Pull, "sent 0001080E01C41005C0010000AB6AEB (S1 2 0 2)"),
+        (Call::Telemetry(&IDLE_1), "gap=0 packets=0 (S1 2 1 1)"),
+        (Call::Pull, "nothing (S1 2 1 1)"),
+        (Call::Submit(4, &P0), "ok (S1 2 1 2)"),
+        (Call::Advance, "ok (S1 3 1 2)"),
+        (
+            Call::Directive(Directive::SetWindow(128)),
+            "refused 2 Window (S1 3 1 2)",
+        ),
+        (
+            Call::Directive(Directive::Terminate),
+            "alert Terminated (S6 3 1 0)",
+        ),
     ];
-    let lines = "refused 1 NotOpen (S6 0 0 0)\n\
-        ok (S1 0 0 0)\n\
-        ok (S1 0 0 1)\n\
-        ok (S1 0 0 2)\n\
-        ok (S1 0 0 2)\n\
-        sent 2001080E00C41005C0010000ABACA0 (S1 0 0 2)\n\
-        sent 0001080E00C41005C0000000AAE75D (S1 1 0 2)\n\
-        ok (S1 1 0 2)\n\
-        gap=- packets=1 (S1 1 0 2)\n\
-        foreign (S1 1 0 2)\n\
-        foreign (S1 1 0 2)\n\
-        gap=0 packets=0 (S1 1 0 2)\n\
-        invalid 1 Length (S1 1 0 2)\n\
-        packet 1005C0000000AA (S1 1 0 2)\n\
-        nothing (S1 1 0 2)\n\
-        sent 0001080E01C41005C0010000AB6AEB (S1 2 0 2)\n\
-        gap=0 packets=0 (S1 2 1 1)\n\
-        nothing (S1 2 1 1)\n\
-        ok (S1 2 1 2)\n\
-        ok (S1 3 1 2)\n\
-        refused 2 Window (S1 3 1 2)\n\
-        alert Terminated (S6 3 1 0)\n";
-    plays(&rt, rt.alloc(), &config, &calls, lines)
+    plays::<Ground, _>(&rt, rt.alloc(), &config, &rows)
 }

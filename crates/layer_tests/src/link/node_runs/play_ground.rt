@@ -1,15 +1,14 @@
-// A ground under test, and what it answers as lines. No function here says what it does: so the proof
-// of a test has nothing of the node's state in it, and the run compares the lines.
+// The calls of a ground under test.
 
 use super::super::lines::{write_heard, write_octets, write_refusal};
-use super::super::refusing::{ends_growths, room, says_refused};
+use super::super::refusing::says_refused;
+use super::node::Node;
 use cop1::{Alert, CopFault, Directive, FopMode};
 use std::alloc::{AllocError, Global};
 use std::fmt::Write;
 use std::process::Abort;
-use std::test::Fail;
 use tc_frame::{Check, encode};
-use tc_link::{Config, Ground, LinkFault};
+use tc_link::{Config, Ground, Heard, LinkFault};
 use tm_link::{Pointer, decode};
 
 /// A call of a ground.
@@ -25,172 +24,141 @@ pub enum Call<'a> {
     TakeTelemetry,
 }
 
-/// A new ground answers these calls by these lines, each with its state after the call.
-pub fn plays(
-    rt: &(impl Abort + Eprint),
-    alloc: Global,
-    config: &Config,
-    calls: &[Call<'_>],
-    want: &str,
-) -> Result<(), Fail> {
-    let mut play = Play::new(rt, alloc, config)?;
-    for call in calls {
-        play.write_answer(rt, *call)?;
-        play.write_state()?;
-    }
-    assert_eq!(rt; play.line.as_str(), want);
-    ends_growths(rt, alloc);
-    Ok(())
-}
-
-// A ground, and the lines that it answered.
-#[derive(Drop)]
-struct Play {
-    ground: Ground,
-    line: String,
-}
-
-impl Play {
-    // A new ground. Where memory is refused the call made again answers as ever.
-    fn new(rt: &(impl Abort + Eprint), alloc: Global, config: &Config) -> Result<Play, Fail> {
+impl<'a> Node<Call<'a>> for Ground {
+    fn create(rt: &impl Abort, alloc: Global, config: &Config) -> Result<Ground, LinkFault> {
         assert!(rt; config.fault().is_none());
-        let ground = match Ground::new(alloc, config) {
-            Err(fault) => {
-                says_refused(rt, fault.number(), 6);
-                Ground::new(alloc, config)?
-            }
-            Ok(ground) => ground,
-        };
-        assert_eq!(rt; ground.frame_length(), config.frame_length as usize);
-        let line = room(rt, alloc)?;
-        Ok(Play { ground, line })
+        Ground::new(alloc, config)
     }
 
-    fn write_answer(
+    fn length_of_frames(&self) -> usize {
+        self.frame_length()
+    }
+
+    // The line ends in the state after the call.
+    fn answer(
         &mut self,
         rt: &(impl Abort + Eprint),
-        call: Call<'_>,
+        line: &mut String,
+        call: Call<'a>,
     ) -> Result<(), AllocError> {
         match call {
-            Call::Submit(map, octets) => self.submit(rt, map, octets),
-            Call::Bypass(map, octets) => self.bypass(rt, map, octets),
-            Call::Directive(directive) => {
-                write_directed(&mut self.line, self.ground.directive(directive))
-            }
-            Call::Pull => self.pull(rt),
+            Call::Submit(map, octets) => write_done(line, submit(rt, self, map, octets))?,
+            Call::Bypass(map, octets) => write_done(line, put(rt, self, true, map, octets))?,
+            Call::Directive(directive) => write_directed(line, self.directive(directive))?,
+            Call::Pull => write_pulled(rt, line, self)?,
             Call::Advance => {
-                self.ground.advance();
-                self.line.push_str("ok")
+                self.advance();
+                line.push_str("ok")?;
             }
-            Call::Tick => write_alert(&mut self.line, self.ground.tick()),
-            Call::Telemetry(octets) => self.telemetry(rt, octets),
-            Call::TakeTelemetry => write_packet(&mut self.line, self.ground.take_telemetry()),
+            Call::Tick => write_alert(line, self.tick())?,
+            Call::Telemetry(octets) => write_telemetry(line, telemetry(rt, self, octets))?,
+            Call::TakeTelemetry => write_packet(line, self.take_telemetry())?,
         }
+        let (state, vs, nn, outstanding) = seen(self);
+        write!(line, " ({state:?} {vs} {nn} {outstanding})")
     }
+}
 
-    // What `prepare` refuses. Where memory is refused the call made again answers as ever.
-    fn fault_of(&self, rt: &(impl Abort + Eprint), map: u8, octets: &[u8]) -> Option<LinkFault> {
-        match self.ground.prepare(map, octets) {
-            Err(LinkFault::Memory) => {
-                says_refused(rt, LinkFault::Memory.number(), 6);
-                self.ground.prepare(map, octets).err()
-            }
-            prepared => prepared.err(),
+// All that the reading calls show.
+fn seen(ground: &Ground) -> (FopMode, u8, u8, usize) {
+    (
+        ground.state(),
+        ground.vs(),
+        ground.nn(),
+        ground.outstanding(),
+    )
+}
+
+// What `prepare` refuses.
+fn fault_of(
+    rt: &(impl Abort + Eprint),
+    ground: &Ground,
+    map: u8,
+    octets: &[u8],
+) -> Option<LinkFault> {
+    match ground.prepare(map, octets) {
+        Err(LinkFault::Memory) => {
+            says_refused(rt, LinkFault::Memory.number(), 6);
+            ground.prepare(map, octets).err()
         }
+        prepared => prepared.err(),
     }
+}
 
-    // Submits. Where memory is refused nothing has changed, and the call made again answers as ever.
-    fn submit(
-        &mut self,
-        rt: &(impl Abort + Eprint),
-        map: u8,
-        octets: &[u8],
-    ) -> Result<(), AllocError> {
-        let before = self.seen();
-        let fault = self.fault_of(rt, map, octets);
-        let answer = match self.ground.submit(map, octets) {
-            Err(LinkFault::Memory) => {
-                says_refused(rt, LinkFault::Memory.number(), 6);
-                assert!(rt; self.seen() == before);
-                self.ground.submit(map, octets)
-            }
-            answer => answer,
-        };
-        assert_eq!(rt; answer.err(), fault);
-        write_done(&mut self.line, answer)
+// Submits what was prepared: the answers are the same.
+fn submit(
+    rt: &(impl Abort + Eprint),
+    ground: &mut Ground,
+    map: u8,
+    octets: &[u8],
+) -> Result<(), LinkFault> {
+    let fault = fault_of(rt, ground, map, octets);
+    let answer = put(rt, ground, false, map, octets);
+    assert_eq!(rt; answer.err(), fault);
+    answer
+}
+
+// Submits, or passes the sequence control.
+fn put_once(ground: &mut Ground, bypass: bool, map: u8, octets: &[u8]) -> Result<(), LinkFault> {
+    match bypass {
+        true => ground.bypass(map, octets),
+        false => ground.submit(map, octets),
     }
+}
 
-    // The same past the sequence control.
-    fn bypass(
-        &mut self,
-        rt: &(impl Abort + Eprint),
-        map: u8,
-        octets: &[u8],
-    ) -> Result<(), AllocError> {
-        let before = self.seen();
-        let answer = match self.ground.bypass(map, octets) {
-            Err(LinkFault::Memory) => {
-                says_refused(rt, LinkFault::Memory.number(), 6);
-                assert!(rt; self.seen() == before);
-                self.ground.bypass(map, octets)
-            }
-            answer => answer,
-        };
-        write_done(&mut self.line, answer)
-    }
-
-    // Receives. Where memory is refused nothing has changed, and the call made again answers as ever.
-    // Octets that are no frame, and frames of only idle data, take none.
-    fn telemetry(&mut self, rt: &(impl Abort + Eprint), octets: &[u8]) -> Result<(), AllocError> {
-        let before = self.seen();
-        let answer = match self.ground.telemetry(octets) {
-            Err(fault) if has_packets(octets) => {
-                says_refused(rt, fault.number(), 6);
-                assert!(rt; self.seen() == before);
-                self.ground.telemetry(octets)
-            }
-            answer => answer,
-        };
-        match answer {
-            Ok(heard) => write_heard(&mut self.line, heard),
-            Err(fault) => write_refusal(&mut self.line, fault.number(), fault.name()),
+// The same, made again where memory is refused.
+fn put(
+    rt: &(impl Abort + Eprint),
+    ground: &mut Ground,
+    bypass: bool,
+    map: u8,
+    octets: &[u8],
+) -> Result<(), LinkFault> {
+    let before = seen(ground);
+    match put_once(ground, bypass, map, octets) {
+        Err(LinkFault::Memory) => {
+            says_refused(rt, LinkFault::Memory.number(), 6);
+            assert!(rt; seen(ground) == before);
+            put_once(ground, bypass, map, octets)
         }
+        answer => answer,
     }
+}
 
-    // Pulls the frame that is peeked at before.
-    fn pull(&mut self, rt: &impl Abort) -> Result<(), AllocError> {
-        let mut peeked = [0; 1024];
-        let total = match self.ground.peek() {
-            Some(frame) => encode(&frame, Check::On, &mut peeked).ok(),
-            None => None,
-        };
-        let mut out = [0; 1024];
-        let size = self.ground.pull(&mut out);
-        assert_eq!(rt; size, total);
-        assert!(rt; out == peeked);
-        match size {
-            None => self.line.push_str("nothing"),
-            Some(size) => {
-                self.line.push_str("sent ")?;
-                write_octets(&mut self.line, out.get(..size).unwrap_or_default())
-            }
+// Receives. Octets that are no frame, and frames of only idle data, take no memory.
+fn telemetry(
+    rt: &(impl Abort + Eprint),
+    ground: &mut Ground,
+    octets: &[u8],
+) -> Result<Heard, LinkFault> {
+    let before = seen(ground);
+    match ground.telemetry(octets) {
+        Err(fault) if has_packets(octets) => {
+            says_refused(rt, fault.number(), 6);
+            assert!(rt; seen(ground) == before);
+            ground.telemetry(octets)
         }
+        answer => answer,
     }
+}
 
-    // All that the reading calls show.
-    fn seen(&self) -> (FopMode, u8, u8, usize) {
-        let ground = &self.ground;
-        (
-            ground.state(),
-            ground.vs(),
-            ground.nn(),
-            ground.outstanding(),
-        )
-    }
-
-    fn write_state(&mut self) -> Result<(), AllocError> {
-        let (state, vs, nn, outstanding) = self.seen();
-        write!(&mut self.line, " ({state:?} {vs} {nn} {outstanding})\n")
+// Pulls the frame that is peeked at before.
+fn write_pulled(rt: &impl Abort, line: &mut String, ground: &mut Ground) -> Result<(), AllocError> {
+    let mut peeked = [0; 1024];
+    let total = match ground.peek() {
+        Some(frame) => encode(&frame, Check::On, &mut peeked).ok(),
+        None => None,
+    };
+    let mut out = [0; 1024];
+    let size = ground.pull(&mut out);
+    assert_eq!(rt; size, total);
+    assert!(rt; out == peeked);
+    match size {
+        None => line.push_str("nothing"),
+        Some(size) => {
+            line.push_str("sent ")?;
+            write_octets(line, out.get(..size).unwrap_or_default())
+        }
     }
 }
 
@@ -204,6 +172,13 @@ fn has_packets(octets: &[u8]) -> bool {
 fn write_done(line: &mut String, answer: Result<(), LinkFault>) -> Result<(), AllocError> {
     match answer {
         Ok(()) => line.push_str("ok"),
+        Err(fault) => write_refusal(line, fault.number(), fault.name()),
+    }
+}
+
+fn write_telemetry(line: &mut String, answer: Result<Heard, LinkFault>) -> Result<(), AllocError> {
+    match answer {
+        Ok(heard) => write_heard(line, heard),
         Err(fault) => write_refusal(line, fault.number(), fault.name()),
     }
 }

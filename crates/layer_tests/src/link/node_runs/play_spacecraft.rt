@@ -1,14 +1,13 @@
-// A spacecraft under test, and what it answers as lines. No function here says what it does: so the
-// proof of a test has nothing of the node's state in it, and the run compares the lines.
+// The calls of a spacecraft under test.
 
 use super::super::lines::{write_octets, write_received, write_refusal};
-use super::super::refusing::{ends_growths, room, says_refused};
+use super::super::refusing::says_refused;
+use super::node::Node;
 use std::alloc::{AllocError, Global};
 use std::fmt::Write;
 use std::process::Abort;
-use std::test::Fail;
 use tc_frame::Check;
-use tc_link::{Config, Received, Spacecraft};
+use tc_link::{Config, LinkFault, Received, Spacecraft};
 use tm_link::TmFault;
 
 /// A call of a spacecraft.
@@ -21,139 +20,125 @@ pub enum Call<'a> {
     Report,
 }
 
-/// A new spacecraft answers these calls by these lines.
-pub fn plays(
-    rt: &(impl Abort + Eprint),
-    alloc: Global,
-    config: &Config,
-    calls: &[Call<'_>],
-    want: &str,
-) -> Result<(), Fail> {
-    let mut play = Play::new(rt, alloc, config)?;
-    for call in calls {
-        play.write_answer(rt, *call)?;
-        play.line.push('\n')?;
-    }
-    assert_eq!(rt; play.line.as_str(), want);
-    ends_growths(rt, alloc);
-    Ok(())
-}
-
-// A spacecraft, and the lines that it answered.
-#[derive(Drop)]
-struct Play {
-    spacecraft: Spacecraft,
-    line: String,
-}
-
-impl Play {
-    // A new spacecraft. Where memory is refused the call made again answers as ever.
-    fn new(rt: &(impl Abort + Eprint), alloc: Global, config: &Config) -> Result<Play, Fail> {
+impl<'a> Node<Call<'a>> for Spacecraft {
+    fn create(rt: &impl Abort, alloc: Global, config: &Config) -> Result<Spacecraft, LinkFault> {
         assert!(rt; config.fault().is_none());
-        let spacecraft = match Spacecraft::new(alloc, config) {
-            Err(fault) => {
-                says_refused(rt, fault.number(), 6);
-                Spacecraft::new(alloc, config)?
-            }
-            Ok(spacecraft) => spacecraft,
-        };
-        assert_eq!(rt; spacecraft.frame_length(), config.frame_length as usize);
-        let line = room(rt, alloc)?;
-        Ok(Play { spacecraft, line })
+        Spacecraft::new(alloc, config)
     }
 
-    fn write_answer(
+    fn length_of_frames(&self) -> usize {
+        self.frame_length()
+    }
+
+    fn answer(
         &mut self,
         rt: &(impl Abort + Eprint),
-        call: Call<'_>,
+        line: &mut String,
+        call: Call<'a>,
     ) -> Result<(), AllocError> {
         match call {
-            Call::Receive(octets) => self.receive(rt, octets),
-            Call::Take => write_packet(&mut self.line, self.spacecraft.take()),
-            Call::TakeBypass => write_packet(&mut self.line, self.spacecraft.take_bypass()),
-            Call::Telemetry(packet) => self.telemetry(rt, packet),
-            Call::Report => self.report(rt),
+            Call::Receive(octets) => write_receipt(line, receive(rt, self, octets)),
+            Call::Take => write_packet(line, self.take()),
+            Call::TakeBypass => write_packet(line, self.take_bypass()),
+            Call::Telemetry(packet) => write_queued(line, telemetry(rt, self, packet)),
+            Call::Report => write_report(rt, line, self),
         }
     }
+}
 
-    // Receives. Where memory is refused nothing has changed, and the call made again answers as ever.
-    // Octets that are no frame take none.
-    fn receive(&mut self, rt: &(impl Abort + Eprint), octets: &[u8]) -> Result<(), AllocError> {
-        let ahead = self.ready_ahead(rt, octets);
-        let before = self.spacecraft.control_word();
-        let answer = match self.spacecraft.receive(octets) {
-            Err(fault) if tc_frame::decode(octets, Check::On).is_ok() => {
-                says_refused(rt, fault.number(), 6);
-                assert!(rt; self.spacecraft.control_word() == before);
-                self.spacecraft.receive(octets)
-            }
-            answer => answer,
-        };
-        if let Ok(Received::Sequence { ready, .. }) = answer {
-            assert_eq!(rt; ready, ahead);
+// Receives. Octets that are no frame take no memory.
+fn receive(
+    rt: &(impl Abort + Eprint),
+    spacecraft: &mut Spacecraft,
+    octets: &[u8],
+) -> Result<Received, LinkFault> {
+    let ahead = ready_ahead(rt, spacecraft, octets);
+    let before = spacecraft.control_word();
+    let answer = match spacecraft.receive(octets) {
+        Err(fault) if tc_frame::decode(octets, Check::On).is_ok() => {
+            says_refused(rt, fault.number(), 6);
+            assert!(rt; spacecraft.control_word() == before);
+            spacecraft.receive(octets)
         }
-        match answer {
-            Ok(received) => write_received(&mut self.line, received),
-            Err(fault) => write_refusal(&mut self.line, fault.number(), fault.name()),
-        }
+        answer => answer,
+    };
+    if let Ok(Received::Sequence { ready, .. }) = answer {
+        assert_eq!(rt; ready, ahead);
     }
+    answer
+}
 
-    // How many packets octets will make ready when they arrive. Where memory is refused the call made
-    // again answers as ever. Octets that are no frame take none.
-    fn ready_ahead(&self, rt: &(impl Abort + Eprint), octets: &[u8]) -> usize {
-        let ahead = match self.spacecraft.prepare(octets) {
-            Err(fault) if tc_frame::decode(octets, Check::On).is_ok() => {
-                says_refused(rt, fault.number(), 6);
-                self.spacecraft.prepare(octets)
-            }
-            ahead => ahead,
-        };
-        let Ok(arrival) = ahead else { return 0 };
-        match arrival.accepted() {
-            Some((segment, packets)) => {
-                let end = octets.len().wrapping_sub(2);
-                assert!(rt; octets.get(6..end) == Some(segment.payload));
-                packets.len()
-            }
-            None => 0,
+// How many packets octets will make ready when they arrive. Octets that are no frame take no memory.
+fn ready_ahead(rt: &(impl Abort + Eprint), spacecraft: &Spacecraft, octets: &[u8]) -> usize {
+    let ahead = match spacecraft.prepare(octets) {
+        Err(fault) if tc_frame::decode(octets, Check::On).is_ok() => {
+            says_refused(rt, fault.number(), 6);
+            spacecraft.prepare(octets)
         }
+        ahead => ahead,
+    };
+    let Ok(arrival) = ahead else { return 0 };
+    match arrival.accepted() {
+        Some((segment, packets)) => {
+            let end = octets.len().wrapping_sub(2);
+            assert!(rt; octets.get(6..end) == Some(segment.payload));
+            packets.len()
+        }
+        None => 0,
     }
+}
 
-    // Queues a packet. Where memory is refused nothing has changed, and the call made again answers as
-    // ever.
-    fn telemetry(&mut self, rt: &(impl Abort + Eprint), packet: &[u8]) -> Result<(), AllocError> {
-        let before = self.spacecraft.control_word();
-        let answer = match self.spacecraft.telemetry(packet) {
-            Err(TmFault::Memory) => {
-                says_refused(rt, TmFault::Memory.number(), 7);
-                assert!(rt; self.spacecraft.control_word() == before);
-                self.spacecraft.telemetry(packet)
-            }
-            answer => answer,
-        };
-        match answer {
-            Ok(()) => self.line.push_str("ok"),
-            Err(fault) => write_refusal(&mut self.line, fault.number(), fault.name()),
+// Queues a packet.
+fn telemetry(
+    rt: &(impl Abort + Eprint),
+    spacecraft: &mut Spacecraft,
+    packet: &[u8],
+) -> Result<(), TmFault> {
+    let before = spacecraft.control_word();
+    match spacecraft.telemetry(packet) {
+        Err(TmFault::Memory) => {
+            says_refused(rt, TmFault::Memory.number(), 7);
+            assert!(rt; spacecraft.control_word() == before);
+            spacecraft.telemetry(packet)
         }
+        answer => answer,
     }
+}
 
-    // Sends a frame: its report, its size, its place on the channel, where a packet starts in it, and the
-    // first 7 octets of its data. Octets past it stay.
-    fn report(&mut self, rt: &impl Abort) -> Result<(), AllocError> {
-        let mut out = [0xee; 2048];
-        let size = self.spacecraft.report(&mut out);
-        let (octets, rest) = out.split_at_checked(size).unwrap_or_default();
-        assert!(rt; rest.iter().all(|octet| *octet == 0xee));
-        match tm_link::decode(octets, size) {
-            Ok(frame) => {
-                let (number, pointer) = (frame.vc_count, frame.pointer);
-                self.line.push_str("report ")?;
-                write_octets(&mut self.line, &frame.ocf)?;
-                write!(&mut self.line, " size={size} vc={number} {pointer:?} ")?;
-                write_octets(&mut self.line, frame.payload.get(..7).unwrap_or_default())
-            }
-            Err(fault) => write_refusal(&mut self.line, fault.number(), fault.name()),
+// Sends a frame: its report, its size, its place on the channel, where a packet starts in it, and the
+// first 7 octets of its data. Octets past it stay.
+fn write_report(
+    rt: &impl Abort,
+    line: &mut String,
+    spacecraft: &mut Spacecraft,
+) -> Result<(), AllocError> {
+    let mut out = [0xee; 2048];
+    let size = spacecraft.report(&mut out);
+    let (octets, rest) = out.split_at_checked(size).unwrap_or_default();
+    assert!(rt; rest.iter().all(|octet| *octet == 0xee));
+    match tm_link::decode(octets, size) {
+        Ok(frame) => {
+            let (number, pointer) = (frame.vc_count, frame.pointer);
+            line.push_str("report ")?;
+            write_octets(line, &frame.ocf)?;
+            write!(line, " size={size} vc={number} {pointer:?} ")?;
+            write_octets(line, frame.payload.get(..7).unwrap_or_default())
         }
+        Err(fault) => write_refusal(line, fault.number(), fault.name()),
+    }
+}
+
+fn write_receipt(line: &mut String, answer: Result<Received, LinkFault>) -> Result<(), AllocError> {
+    match answer {
+        Ok(received) => write_received(line, received),
+        Err(fault) => write_refusal(line, fault.number(), fault.name()),
+    }
+}
+
+fn write_queued(line: &mut String, answer: Result<(), TmFault>) -> Result<(), AllocError> {
+    match answer {
+        Ok(()) => line.push_str("ok"),
+        Err(fault) => write_refusal(line, fault.number(), fault.name()),
     }
 }
 

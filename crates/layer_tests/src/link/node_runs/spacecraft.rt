@@ -1,9 +1,10 @@
 // Runs of a spacecraft, in octets worked by hand.
 
 use super::super::{P0, P1, UNLOCK};
-use super::play_spacecraft::{Call, plays};
+use super::node::plays;
+use super::play_spacecraft::Call;
 use std::test::Fail;
-use tc_link::Config;
+use tc_link::{Config, Spacecraft};
 
 // Type-AD frames with numbers 0 and 1, which carry P0 and P1 on MAP 4.
 const AD_0: [u8; 15] = [
@@ -50,120 +51,114 @@ const FOREIGN: [u8; 15] = [
 
 #[test]
 fn frames_in_sequence(rt: HostRuntime) -> Result<(), Fail> {
-    let calls = [
-        Call::Receive(&AD_CUT),
-        Call::Receive(&FOREIGN),
-        Call::Report,
-        Call::Receive(&AD_0),
-        Call::Receive(&AD_0),
-        Call::Receive(&AD_NONE),
-        Call::Report,
-        Call::Take,
-        Call::Take,
+    let rows = [
+        (Call::Receive(&AD_CUT), "invalid 5 Length"),
+        (Call::Receive(&FOREIGN), "foreign"),
+        (
+            Call::Report,
+            "report 01080000 size=64 vc=0 OnlyIdle 55555555555555",
+        ),
+        (Call::Receive(&AD_0), "AD 0 accepted ready"),
+        (Call::Receive(&AD_0), "AD 0 behind"),
+        (Call::Receive(&AD_NONE), "AD 1 accepted dropped NotAPacket"),
+        (
+            Call::Report,
+            "report 01080002 size=64 vc=1 OnlyIdle 55555555555555",
+        ),
+        (Call::Take, "packet 4 1005C0000000AA"),
+        (Call::Take, "nothing"),
     ];
-    let lines = "invalid 5 Length\n\
-        foreign\n\
-        report 01080000 size=64 vc=0 OnlyIdle 55555555555555\n\
-        AD 0 accepted ready\n\
-        AD 0 behind\n\
-        AD 1 accepted dropped NotAPacket\n\
-        report 01080002 size=64 vc=1 OnlyIdle 55555555555555\n\
-        packet 4 1005C0000000AA\n\
-        nothing\n";
-    plays(&rt, rt.alloc(), &Config::default(), &calls, lines)
+    plays::<Spacecraft, _>(&rt, rt.alloc(), &Config::default(), &rows)
 }
 
 #[test]
 fn a_full_buffer(rt: HostRuntime) -> Result<(), Fail> {
-    let config = Config {
-        ready_slots: 1,
-        ..Config::default()
-    };
-    let calls = [
-        Call::Receive(&AD_0),
-        Call::Receive(&AD_1),
-        Call::Report,
-        Call::Take,
-        Call::Report,
-        Call::Receive(&AD_1),
-        Call::Report,
+    let mut config = Config::default();
+    config.ready_slots = 1;
+    let rows = [
+        (Call::Receive(&AD_0), "AD 0 accepted ready"),
+        (Call::Receive(&AD_1), "AD 1 nobuffer"),
+        (
+            Call::Report,
+            "report 01081801 size=64 vc=0 OnlyIdle 55555555555555",
+        ),
+        (Call::Take, "packet 4 1005C0000000AA"),
+        (
+            Call::Report,
+            "report 01080801 size=64 vc=1 OnlyIdle 55555555555555",
+        ),
+        (Call::Receive(&AD_1), "AD 1 accepted ready"),
+        (
+            Call::Report,
+            "report 01080002 size=64 vc=2 OnlyIdle 55555555555555",
+        ),
     ];
-    let lines = "AD 0 accepted ready\n\
-        AD 1 nobuffer\n\
-        report 01081801 size=64 vc=0 OnlyIdle 55555555555555\n\
-        packet 4 1005C0000000AA\n\
-        report 01080801 size=64 vc=1 OnlyIdle 55555555555555\n\
-        AD 1 accepted ready\n\
-        report 01080002 size=64 vc=2 OnlyIdle 55555555555555\n";
-    plays(&rt, rt.alloc(), &config, &calls, lines)
+    plays::<Spacecraft, _>(&rt, rt.alloc(), &config, &rows)
 }
 
 #[test]
 fn packets_in_one_segment(rt: HostRuntime) -> Result<(), Fail> {
-    let config = Config {
-        ready_slots: 1,
-        blocking: 1,
-        ..Config::default()
-    };
-    let calls = [
-        Call::Receive(&AD_BOTH),
-        Call::Receive(&AD_1),
-        Call::Take,
-        Call::Report,
-        Call::Take,
-        Call::Report,
-        Call::Receive(&AD_1),
+    let mut config = Config::default();
+    config.ready_slots = 1;
+    config.blocking = 1;
+    let rows = [
+        (Call::Receive(&AD_BOTH), "AD 0 accepted ready 2"),
+        (Call::Receive(&AD_1), "AD 1 nobuffer"),
+        (Call::Take, "packet 4 1005C0000000AA"),
+        (
+            Call::Report,
+            "report 01081801 size=64 vc=0 OnlyIdle 55555555555555",
+        ),
+        (Call::Take, "packet 4 1005C0010000AB"),
+        (
+            Call::Report,
+            "report 01080801 size=64 vc=1 OnlyIdle 55555555555555",
+        ),
+        (Call::Receive(&AD_1), "AD 1 accepted ready"),
     ];
-    let lines = "AD 0 accepted ready 2\n\
-        AD 1 nobuffer\n\
-        packet 4 1005C0000000AA\n\
-        report 01081801 size=64 vc=0 OnlyIdle 55555555555555\n\
-        packet 4 1005C0010000AB\n\
-        report 01080801 size=64 vc=1 OnlyIdle 55555555555555\n\
-        AD 1 accepted ready\n";
-    plays(&rt, rt.alloc(), &config, &calls, lines)
+    plays::<Spacecraft, _>(&rt, rt.alloc(), &config, &rows)
 }
 
 #[test]
 fn frames_past_the_sequence(rt: HostRuntime) -> Result<(), Fail> {
-    let config = Config {
-        bypass_slots: 1,
-        ..Config::default()
-    };
-    let calls = [
-        Call::Receive(&BD_0),
-        Call::Receive(&BD_1),
-        Call::Receive(&BD_FIRST),
-        Call::TakeBypass,
-        Call::TakeBypass,
-        Call::Report,
-        Call::Receive(&UNLOCK),
-        Call::Receive(&SET_9),
-        Call::Report,
+    let mut config = Config::default();
+    config.bypass_slots = 1;
+    let rows = [
+        (Call::Receive(&BD_0), "BD kept"),
+        (Call::Receive(&BD_1), "BD kept"),
+        (Call::Receive(&BD_FIRST), "BD dropped"),
+        (Call::TakeBypass, "packet 4 1005C0010000AB"),
+        (Call::TakeBypass, "nothing"),
+        (
+            Call::Report,
+            "report 01080600 size=64 vc=0 OnlyIdle 55555555555555",
+        ),
+        (Call::Receive(&UNLOCK), "BC unlock"),
+        (Call::Receive(&SET_9), "BC set 9"),
+        (
+            Call::Report,
+            "report 01080209 size=64 vc=1 OnlyIdle 55555555555555",
+        ),
     ];
-    let lines = "BD kept\n\
-        BD kept\n\
-        BD dropped\n\
-        packet 4 1005C0010000AB\n\
-        nothing\n\
-        report 01080600 size=64 vc=0 OnlyIdle 55555555555555\n\
-        BC unlock\n\
-        BC set 9\n\
-        report 01080209 size=64 vc=1 OnlyIdle 55555555555555\n";
-    plays(&rt, rt.alloc(), &config, &calls, lines)
+    plays::<Spacecraft, _>(&rt, rt.alloc(), &config, &rows)
 }
 
 #[test]
 fn telemetry(rt: HostRuntime) -> Result<(), Fail> {
-    let calls = [
-        Call::Report,
-        Call::Telemetry(&[0x10, 0x05, 0xc0, 0x00, 0x00, 0x00]),
-        Call::Telemetry(&P0),
-        Call::Report,
+    let rows = [
+        (
+            Call::Report,
+            "report 01080000 size=64 vc=0 OnlyIdle 55555555555555",
+        ),
+        (
+            Call::Telemetry(&[0x10, 0x05, 0xc0, 0x00, 0x00, 0x00]),
+            "refused 8 NotAPacket",
+        ),
+        (Call::Telemetry(&P0), "ok"),
+        (
+            Call::Report,
+            "report 01080000 size=64 vc=1 At(0) 1005C0000000AA",
+        ),
     ];
-    let lines = "report 01080000 size=64 vc=0 OnlyIdle 55555555555555\n\
-        refused 8 NotAPacket\n\
-        ok\n\
-        report 01080000 size=64 vc=1 At(0) 1005C0000000AA\n";
-    plays(&rt, rt.alloc(), &Config::default(), &calls, lines)
+    plays::<Spacecraft, _>(&rt, rt.alloc(), &Config::default(), &rows)
 }
