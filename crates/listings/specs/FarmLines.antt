@@ -46,7 +46,8 @@ after_body s (Bc (SetVr x)) = farm_step s (SetVrArrives x)
 -- what came, and what the receiver made of it
 abbrev pub body_text : FarmState → BodyView → List ℕ
 body_text s (Ad n segment) =
-    codes "AD " ++ (decimal n ++ (codes " " ++ ((verdict_row (verdict_of s n true)).1 ++ codes " ")))
+    codes "AD " ++ (decimal n
+    ++ (codes " " ++ ((verdict_row (verdict_of s n true)).1 ++ codes " ")))
 body_text s (Bd segment) = codes "BD "
 body_text s (Bc Unlock) = codes "BC unlock "
 body_text s (Bc (SetVr x)) = codes "BC set " ++ (decimal x ++ codes " ")

@@ -259,7 +259,8 @@ entries_after_are n r octets few long fits small =
     let second : after_octets (r % 256 * 256) (x 1 ∷ rest) ≡ bit_xor (t (n + 1) low) (after_octets 0 rest) =
     second_entry (r % 256) (x 1) rest (omega arith) (omega arith) (small 1) (after_first (x 1) rest smalls)
     ∙ ap (λ k. bit_xor (t k low) (after_octets 0 rest)) count in
-    let first : after_octets r (x 0 ∷ x 1 ∷ rest) ≡ bit_xor (t (n + 2) high) (after_octets (r % 256 * 256) (x 1 ∷ rest)) =
+    let first : after_octets r (x 0 ∷ x 1 ∷ rest)
+    ≡ bit_xor (t (n + 2) high) (after_octets (r % 256 * 256) (x 1 ∷ rest)) =
     register_entry r (x 0) (x 1 ∷ rest) fits (omega arith) (small 0) smalls
     ∙ ap (λ k. bit_xor (t k high) (after_octets (r % 256 * 256) (x 1 ∷ rest))) one_less in
     let sum : ℕ = entries n 2 x in

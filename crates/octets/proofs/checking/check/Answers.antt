@@ -17,7 +17,8 @@ loop-eight-preserved c =
     let cut = c.in-Some-split_first_chunk.ensures.cases in
     let next = c.after_eight-register.ensures in
     let turn = takes_some 5 c.loop-eight.register c.after_eight-register.result c.loop-eight.left.now
-    c.in-Some-split_first_chunk.eight.now c.in-Some-split_first_chunk.rest.now (omega arith) (omega (arith, cut.2)) c.loop-eight.invariant.0
+    c.in-Some-split_first_chunk.eight.now c.in-Some-split_first_chunk.rest.now
+    (omega arith) (omega (arith, cut.2)) c.loop-eight.invariant.0
     cut.0 cut.1 next.octets next.after in
     (turn.0, turn.1 ∙ c.loop-eight.invariant.1)
 
