@@ -339,7 +339,7 @@ words_give command xs start cmd are bare chain m p =
     } in
     each_gives m xs (wanted_of command) are (λ k d lt. gives_wanted xs cmd made m p k d lt)
 
--- and so what they give for one that stands behind others
+-- and so what they give for the one after all others
 pub last_given : (m : ArgMatches) (ws : List Wanted) (w : Wanted) → GivesAll m (ws ++ w ∷ []) → Gives m w
 last_given m [] w h = h.0
 last_given m (v ∷ ws) w h = last_given m ws w h.1

@@ -33,7 +33,7 @@ judged base h r i d free mode most low high e here ahead behind =
     (λ t. behind (omega (arith, leb-true (256 - h) d t)))
     (λ k. absurd (omega (arith, apart, ltb-false d h g, leb-false (256 - h) d k)))))
 
--- the table's row for a number that is the expected one, ahead of it or behind it
+-- the table's row for a number that is the expected one, or in the positive or the negative window
 in_mode : (r i : ℕ) (free : Bool) (mode : FarmMode)
     → (i ≡ r → VerdictFits r i (ad_verdict (place_at 127 0) free mode))
     × (r < i → VerdictFits r i (ad_verdict (place_at 127 1) free mode))

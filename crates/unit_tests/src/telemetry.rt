@@ -162,7 +162,7 @@ const FRAMES_OF_FOUR: [(&[u8; 8], Pointer); 4] = [
     (b"\x03\x00\x00\xdd\x07\xff\xc0\x00", Pointer::At(4)),
 ];
 
-// The frames of the first of them, with idle packets behind it.
+// The frames of the first of them, with idle packets after it.
 const FRAMES_OF_ONE: [(&[u8; 8], Pointer); 8] = [
     (b"\x00\x05\xc0\x00\x00\x00\xaa\x07", Pointer::At(0)),
     (b"\xff\xc0\x00\x00\x00\x55\x07\xff", Pointer::At(6)),
@@ -244,8 +244,8 @@ fn extracts(
         builder.build([0x01, 0x08, 0x00, 0x00], &mut out);
         for (count, gap, packets) in chosen {
             if *count == number {
-                let behind = take(rt, &mut extractor, &out[..20], &mut found)?;
-                assert_eq!(rt; behind, *gap);
+                let seen = take(rt, &mut extractor, &out[..20], &mut found)?;
+                assert_eq!(rt; seen, *gap);
                 assert_eq!(rt; found.len(), *packets);
             }
         }

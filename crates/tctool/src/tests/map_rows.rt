@@ -21,7 +21,7 @@ fn map(check: bool, width: u8, vr: u8, blocking: bool) -> Task {
     }
 }
 
-// What is told of frames without a check, and of the same frames with it.
+// What is listed of frames without a check, and of the same frames with it.
 fn both(
     blocking: bool,
     octets: &'static [u8],
