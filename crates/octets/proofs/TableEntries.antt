@@ -160,11 +160,6 @@ one_octet x small (suc i) = omega arith
 from_place : (n : ℕ) (octets : List ℕ) → IsOctets octets → IsOctets (drop n octets)
 from_place n octets small i = subst (λ x. x < 256) (sym (get_or-drop n octets i 0)) (small (n + i))
 
-octets_fit : (r : ℕ) (xs : List ℕ) → r < 2 ^ 16 → IsOctets xs → after_octets r xs < 2 ^ 16
-octets_fit r [] fits small = fits
-octets_fit r (x ∷ xs) fits small =
-    octets_fit (register_after 8 (bit_xor r (x * 2 ^ 8))) xs (octet_fits r x fits (small 0)) (after_first x xs small)
-
 takes_octets : (r : ℕ) (xs rest : List ℕ) → r < 2 ^ 16 → IsOctets xs
     → divided (after_octets r xs) 0 rest ≡ divided r 0 (xs ++ rest)
 takes_octets r [] rest fits small = refl
@@ -287,12 +282,10 @@ takes_octet_at r s i octets fits lt small is =
 pub takes_some : (n r s : ℕ) (octets some rest : List ℕ) → n < 14 → n + 3 ≤ length octets → r < 2 ^ 16
     → some ≡ take (n + 3) octets → rest ≡ drop (n + 3) octets → IsOctets some
     → s ≡ entries_after n r (λ k. get_or some k 0)
-    → (s < 2 ^ 16) × (divided s 0 rest ≡ divided r 0 octets)
+    → divided s 0 rest ≡ divided r 0 octets
 takes_some n r s octets some rest few long fits front back small is =
     let count : length some ≡ n + 3 = ap length front ∙ length-take-le (n + 3) octets long in
-    let after : s ≡ after_octets r some = is ∙ entries_after_are n r some few count fits small in (
-      subst (λ k. k < 2 ^ 16) (sym after) (octets_fit r some fits small),
-      ap (λ k. divided k 0 rest) after ∙ takes_octets r some rest fits small
-          ∙ ap (divided r 0) (ap (λ xs. xs ++ rest) front ∙ ap (λ xs. take (n + 3) octets ++ xs) back
-          ∙ take-append-drop (n + 3) octets),
-    )
+    ap (λ k. divided k 0 rest) (is ∙ entries_after_are n r some few count fits small)
+    ∙ takes_octets r some rest fits small
+    ∙ ap (divided r 0) (ap (λ xs. xs ++ rest) front ∙ ap (λ xs. take (n + 3) octets ++ xs) back
+    ∙ take-append-drop (n + 3) octets)

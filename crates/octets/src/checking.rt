@@ -16,7 +16,7 @@ use byteorder::{BigEndian, ByteOrder};
 pub fn check(octets: &[u8]) -> u16
     ensures { result ≡ check_of octets.now }
 {
-    let mut register: u32 = 0xffff;
+    let mut register: u16 = 0xffff;
     let mut left = octets;
     while let Some((sixteen, rest)) = left.split_first_chunk::<16>() {
         register = after_sixteen(register, sixteen);
@@ -29,64 +29,60 @@ pub fn check(octets: &[u8]) -> u16
     for octet in left {
         register = after_one(register, *octet);
     }
-    register as u16
+    register
 }
 
 // The register after an octet.
 #[inline(always)]
-fn after_one(register: u32, octet: u8) -> u32
-    requires { register < 2 ^ 16 }
+fn after_one(register: u16, octet: u8) -> u16
     ensures after { result
         ≡ bit_xor (register % 256 * 256) (entry_at 0 (bit_xor (register / 256) octet)) }
     ensures octet { octet < 2 ^ 8 }
-    ensures fits { result < 2 ^ 16 }
 {
-    ((register & 0xff) << 8) ^ entry(0, (register >> 8) ^ u32::from(octet))
+    ((register & 0xff) << 8) ^ entry(0, (register >> 8) as u8 ^ octet)
 }
 
 // The register after sixteen octets. What each adds is looked up as it stands after the last, so
 // that no look waits for another, and what needs the register comes last.
 #[inline(always)]
-fn after_sixteen(register: u32, octets: &[u8; 16]) -> u32
-    requires { register < 2 ^ 16 }
+fn after_sixteen(register: u16, octets: &[u8; 16]) -> u16
     ensures after { result ≡ entries_after 13 register (slice_index octets.now) }
     ensures octets { IsOctets octets.now }
 {
     let [a, b, c, d, e, f, g, h, i, j, k, l, m, n, o, p] = *octets;
-    entry(0, u32::from(p))
-        ^ entry(1, u32::from(o))
-        ^ entry(2, u32::from(n))
-        ^ entry(3, u32::from(m))
-        ^ entry(4, u32::from(l))
-        ^ entry(5, u32::from(k))
-        ^ entry(6, u32::from(j))
-        ^ entry(7, u32::from(i))
-        ^ entry(8, u32::from(h))
-        ^ entry(9, u32::from(g))
-        ^ entry(10, u32::from(f))
-        ^ entry(11, u32::from(e))
-        ^ entry(12, u32::from(d))
-        ^ entry(13, u32::from(c))
-        ^ entry(14, (register % 256) ^ u32::from(b))
-        ^ entry(15, (register / 256) ^ u32::from(a))
+    entry(0, p)
+        ^ entry(1, o)
+        ^ entry(2, n)
+        ^ entry(3, m)
+        ^ entry(4, l)
+        ^ entry(5, k)
+        ^ entry(6, j)
+        ^ entry(7, i)
+        ^ entry(8, h)
+        ^ entry(9, g)
+        ^ entry(10, f)
+        ^ entry(11, e)
+        ^ entry(12, d)
+        ^ entry(13, c)
+        ^ entry(14, (register % 256) as u8 ^ b)
+        ^ entry(15, (register / 256) as u8 ^ a)
 }
 
 // The register after eight octets, as after sixteen.
 #[inline(always)]
-fn after_eight(register: u32, octets: &[u8; 8]) -> u32
-    requires { register < 2 ^ 16 }
+fn after_eight(register: u16, octets: &[u8; 8]) -> u16
     ensures after { result ≡ entries_after 5 register (slice_index octets.now) }
     ensures octets { IsOctets octets.now }
 {
     let [a, b, c, d, e, f, g, h] = *octets;
-    entry(0, u32::from(h))
-        ^ entry(1, u32::from(g))
-        ^ entry(2, u32::from(f))
-        ^ entry(3, u32::from(e))
-        ^ entry(4, u32::from(d))
-        ^ entry(5, u32::from(c))
-        ^ entry(6, (register % 256) ^ u32::from(b))
-        ^ entry(7, (register / 256) ^ u32::from(a))
+    entry(0, h)
+        ^ entry(1, g)
+        ^ entry(2, f)
+        ^ entry(3, e)
+        ^ entry(4, d)
+        ^ entry(5, c)
+        ^ entry(6, (register % 256) as u8 ^ b)
+        ^ entry(7, (register / 256) as u8 ^ a)
 }
 
 /// Sets the last two octets to the check of those before them.

@@ -352,11 +352,9 @@ static TABLES: [u16; 4096] = [
 
 // What an octet adds to the register once `later` more octets were taken.
 #[inline(always)]
-pub fn entry(later: usize, place: u32) -> u32
-    requires later { later < 16 }
-    requires place { place < 256 }
-    ensures entry { result ≡ entry_at later place }
-    ensures fits { result < 2 ^ 16 }
+pub fn entry(later: usize, octet: u8) -> u16
+    requires { later < 16 }
+    ensures { result ≡ entry_at later octet }
 {
-    u32::from(TABLES[later * 256 + place as usize])
+    TABLES[later * 256 + usize::from(octet)]
 }
