@@ -6,9 +6,9 @@ use Rattle.std.specs.List.{All, slice_index_or}
 use Rattle.std.specs.Str.{bytes_eq}
 use Rattle.std.specs.Prelude.{option_map, option_and_then, slice_get, pos, IfSome}
 use Rattle.std.specs.Borrow.{Bor}
-use Rattle.std.proofs.lemmas.List.Elements.{All-get_or, All-nil}
+use Rattle.std.proofs.lemmas.List.Elements.{All-get_or, All-nil, All-tail}
 use Rattle.std.proofs.lemmas.List.{append-nil, append_assoc}
-use Rattle.std.proofs.lemmas.Bool.{OnTrue_at, OnTrue_from}
+use Rattle.std.proofs.lemmas.Bool.{OnTrue_at, OnTrue_from, and_parts}
 use Rattle.std.proofs.lemmas.Slice.Eq.{bytes_eq-Decides}
 use Rattle.clap.specs.Facts.{args_of, Entry, EntryPasses, PassesArg, HasReading, parser_of, parser_of_value}
 use Rattle.clap.specs.Built.{AddsArg, AddsInTurn, HasDistinctIds, FitsChain, TakesValue, IsPlain, IsPlainArg}
@@ -45,9 +45,6 @@ record Kept (before : List Arg) (xs : List Arg) (cmd : Command) : Type 0 where
   pub plain : IsPlain cmd
   pub globals : (out-Command cmd).has_globals ≡ false
 
-all_rest : {X : Type 0} (P : X → Type 0) (x : X) (xs : List X) → All P (x ∷ xs) → All P xs
-all_rest P x xs h = λ k d lt. h (suc k) d (omega arith)
-
 first_kept : (x y : Arg) (xs ys : List Arg) → SameRules x y → KeepsList xs ys → KeepsList (x ∷ xs) (y ∷ ys)
 first_kept x y xs ys first rest = (ap suc rest.0, at)
   where
@@ -69,7 +66,7 @@ kept c cmd (x ∷ xs) chain fit plain globals =
     let added = chain.1 in
     let fits = fit 0 x (omega arith) in
     let globals2 = added.globals ∙ (ap (λ (b : Bool). b || x.global) globals ∙ ap (λ (b : Bool). false || b) fits.1) in
-    let more = kept chain.0 cmd xs chain.2 (all_rest FitsChain x xs fit) (added_plain c chain.0 x added plain fits.0)
+    let more = kept chain.0 cmd xs chain.2 (All-tail FitsChain x xs fit) (added_plain c chain.0 x added plain fits.0)
     globals2 in
     record {
       added = added.arg ∷ more.added;
@@ -243,18 +240,14 @@ abbrev have_own_names : List Wanted → Bool
 have_own_names [] = true
 have_own_names (w ∷ ws) = is_own w.name && (is_none_of w.name ws && have_own_names ws)
 
-both : (a b : Bool) → a && b ≡ true → (a ≡ true) × (b ≡ true)
-both true b h = (refl, h)
-both false b h = absurd cc
-
 apart : (a b : List ℕ) → not (bytes_eq a b) ≡ true → a ≡ b → ⊥
 apart a b h e =
     let bad : not true ≡ true = subst (λ (t : Bool). not t ≡ true) ((bytes_eq-Decides a b).1 e) h in absurd cc
 
 fits : (a : Arg) (w : Wanted) → IsArgument a w → is_own w.name ≡ true → FitsChain a
 fits a w is own =
-    let some = both (not (bytes_eq w.name [])) _ own in
-    let others = both (not (bytes_eq w.name (codes "help"))) _ some.1 in (
+    let some = and_parts (not (bytes_eq w.name [])) _ own in
+    let others = and_parts (not (bytes_eq w.name (codes "help"))) _ some.1 in (
       is.1,
       is.2,
       (λ e. apart w.name [] some.0 (sym is.0 ∙ e)),
@@ -267,8 +260,8 @@ fits a w is own =
 parted : (w : Wanted) (ws : List Wanted) → have_own_names (w ∷ ws) ≡ true
     → (is_own w.name ≡ true) × (is_none_of w.name ws ≡ true) × (have_own_names ws ≡ true)
 parted w ws h =
-    let own = both (is_own w.name) (is_none_of w.name ws && have_own_names ws) h in
-    let others = both (is_none_of w.name ws) (have_own_names ws) own.1 in
+    let own = and_parts (is_own w.name) (is_none_of w.name ws && have_own_names ws) h in
+    let others = and_parts (is_none_of w.name ws) (have_own_names ws) own.1 in
     (own.0, others.0, others.1)
 
 fit_all : (xs : List Arg) (ws : List Wanted) → AreArguments xs ws → have_own_names ws ≡ true → All FitsChain xs
@@ -283,11 +276,11 @@ other_name : (a : Arg) (w : Wanted) (xs : List Arg) (ws : List Wanted) → IsArg
 other_name a w [] ws is are none k d lt same = absurd (omega arith)
 other_name a w (b ∷ xs) [] is are none k d lt same = are
 other_name a w (b ∷ xs) (v ∷ ws) is are none zero d lt same =
-    apart w.name v.name (both (not (bytes_eq w.name v.name)) (is_none_of w.name ws) none).0
+    apart w.name v.name (and_parts (not (bytes_eq w.name v.name)) (is_none_of w.name ws) none).0
     (sym is.0 ∙ ((bytes_eq-Decides a.id.now b.id.now).0 same ∙ are.0.0))
 other_name a w (b ∷ xs) (v ∷ ws) is are none (suc k) d lt same =
-    other_name a w xs ws is are.1 (both (not (bytes_eq w.name v.name)) (is_none_of w.name ws) none).1 k d (omega arith)
-    same
+    other_name a w xs ws is are.1 (and_parts (not (bytes_eq w.name v.name)) (is_none_of w.name ws) none).1 k d
+    (omega arith) same
 
 turned : (a b : List ℕ) → bytes_eq a b ≡ true → bytes_eq b a ≡ true
 turned a b e = (bytes_eq-Decides b a).1 (sym ((bytes_eq-Decides a b).0 e))

@@ -1,8 +1,8 @@
 -- What is handed out at a segment is packets, each exactly one, on a MAP that is open.
 use Rattle.std.proofs.Common.{◌≡◌, ◌<◌, ℕ, Bool, true, false, not, List, [], ◌∷◌, ◌++◌, Option, Some, None, refl, subst}
-use Rattle.std.specs.Prelude.{◌&&◌, if◌then◌else◌, nat_lt}
+use Rattle.std.specs.Prelude.{if◌then◌else◌, nat_lt}
 use Rattle.std.specs.List.{AllByRecursion}
-use Rattle.std.proofs.lemmas.Bool.{cond_both, ltb-true}
+use Rattle.std.proofs.lemmas.Bool.{cond_both, ltb-true, and_parts, not-false}
 use Rattle.std.proofs.lemmas.List.{append-nil}
 use Rattle.tc_frame.specs.declared.frame.SegmentFlags.{SegmentFlags}
 use Rattle.tc_frame.specs.declared.frame.SegmentFlags.TheVariants.{First, Continuing, Last, Alone}
@@ -19,21 +19,13 @@ use Rattle.map_service.proofs.Groups.{IsWhole, packets-split, again}
 abbrev pub AreWhole : List (List ℕ) → Type 0
 AreWhole packets = AllByRecursion (λ (p : List ℕ). is_packet p ≡ true) packets
 
-pub both : (x y : Bool) → (x && y) ≡ true → (x ≡ true) × (y ≡ true)
-both true y e = (refl, e)
-both false y e = absurd (cc e)
-
-is_so : (b : Bool) → not b ≡ false → b ≡ true
-is_so true e = refl
-is_so false e = absurd (cc e)
-
 one_whole : (limits : Limits) (octets : List ℕ) → one_fault limits octets ≡ None → is_packet octets ≡ true
 one_whole limits octets =
     cond_both (is_too_long limits octets) (Some TooLong) _ (λ (o : Option Dropped). o ≡ None → is_packet octets ≡ true)
     (λ t e. absurd (cc e))
     (λ t. cond_both (not (is_packet octets)) (Some NotAPacket) None
     (λ (o : Option Dropped). o ≡ None → is_packet octets ≡ true)
-    (λ t e. absurd (cc e)) (λ t e. is_so (is_packet octets) t))
+    (λ t e. absurd (cc e)) (λ t e. not-false (is_packet octets) t))
 
 pub lone_whole : (p : List ℕ) → IsWhole (p ∷ []) → is_packet p ≡ true
 lone_whole p h =
@@ -83,7 +75,7 @@ cell_whole limits Last (Some part) octets =
     given_whole None _ (one_fault limits (part ++ octets)) (λ e. (one_whole limits (part ++ octets) e, tt))
 
 pub open_below : (limits : Limits) (m : ℕ) → is_open limits m ≡ true → m < 64
-open_below limits m e = ltb-true m 64 (both (nat_lt m 64) _ e).0
+open_below limits m e = ltb-true m 64 (and_parts (nat_lt m 64) _ e).0
 
 -- the property of a segment's packets, where it holds of none, and of whole ones on an open MAP
 pub taken_whole : (P : List (List ℕ) → Type 0) (limits : Limits) (part : Option (List ℕ)) (s : SegmentView)

@@ -3,11 +3,11 @@ use Rattle.std.proofs.Common.{◌≡◌, ◌≢◌, ◌≤◌, ◌<◌, ◌⊎�
 use Rattle.std.proofs.Common.{true, false, cond, eqb, ltb, not, Option, Some, None, refl, sym, ap, subst, ◌∙◌, arith}
 use Rattle.std.proofs.Common.{inl, inr, append_assoc, length-drop, length-append}
 use Rattle.std.specs.List.{AllByRecursion, concat, flat_map}
-use Rattle.std.proofs.lemmas.Bool.{cases_lt, lt-ltb, le-ltb, ltb-false, ltb-true, ne_eqb, eq-eqb, eqb-true}
+use Rattle.std.proofs.lemmas.Bool.{cases_lt, lt-ltb, le-ltb, ltb-false, ltb-true, ne_eqb, eq-eqb, eqb-true, and_parts}
+use Rattle.std.proofs.lemmas.Bool.{or_parts}
 use Rattle.std.proofs.lemmas.List.{append-nil}
 use Rattle.std.proofs.lemmas.List.Elements.{filter-append}
 use Rattle.octets.specs.Records.{IsRecord}
-use Rattle.octets.proofs.Outcomes.{both_true, both_false}
 use Rattle.space_packet.specs.Reading.{extent_at}
 use Rattle.tc_frame.specs.declared.frame.SegmentFlags.{SegmentFlags}
 use Rattle.tc_frame.specs.declared.frame.SegmentFlags.TheVariants.{First, Continuing, Last, Alone}
@@ -168,7 +168,7 @@ each-taken : (most : ℕ) (packets : List (List ℕ)) → IsWhole packets → is
     → AllByRecursion (IsTaken most) packets
 each-taken most [] h e = tt
 each-taken most (p ∷ ps) h e =
-    let both = both_false (ltb most (length p)) (is_some_over most ps) e in
+    let both = or_parts (ltb most (length p)) (is_some_over most ps) e in
     ((h.0, ltb-false _ _ both.0), each-taken most ps h.1 both.1)
 
 taken-whole : (most : ℕ) (packets : List (List ℕ)) → AllByRecursion (IsTaken most) packets → IsWhole packets
@@ -341,7 +341,7 @@ length-none xs e = none_from xs (sym e)
 
 pub whole-from : (octets : List ℕ) → are_packets octets ≡ true → (1 ≤ length octets) × (rest_in octets ≡ [])
 whole-from octets h =
-    let both = both_true (ltb 0 (length octets)) (eqb (length (rest_in octets)) 0) h in
+    let both = and_parts (ltb 0 (length octets)) (eqb (length (rest_in octets)) 0) h in
     (ltb-true _ _ both.0, length-none (rest_in octets) both.1)
 
 one_of : (packets : List (List ℕ)) (octets : List ℕ) → eqb (length packets) 1 ≡ true → octets ≡ concat packets
@@ -352,7 +352,7 @@ one_of (p ∷ q ∷ ps) octets len e = let t : suc (suc (length ps)) ≡ 1 = eqb
 
 pub one-from : (octets : List ℕ) → is_packet octets ≡ true → (rest_in octets ≡ []) × (packets_in octets ≡ octets ∷ [])
 one-from octets h =
-    let both = both_true (eqb (length (packets_in octets)) 1) (eqb (length (rest_in octets)) 0) h in
+    let both = and_parts (eqb (length (packets_in octets)) 1) (eqb (length (rest_in octets)) 0) h in
     let left : rest_in octets ≡ [] = length-none (rest_in octets) both.1 in
     (left, one_of (packets_in octets) octets both.0 (all_of octets left))
 

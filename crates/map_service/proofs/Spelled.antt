@@ -2,13 +2,12 @@
 use Rattle.std.proofs.Common.{◌≡◌, ◌≤◌, ◌<◌, ℕ, true, List, [], ◌∷◌, length, refl, sym, subst, arith, length-append}
 use Rattle.std.specs.List.{AllByRecursion, concat}
 use Rattle.std.proofs.lemmas.Bool.{lt-ltb}
-use Rattle.std.proofs.lemmas.List.{append-nil}
 use Rattle.octets.specs.Number.{IsOctets}
 use Rattle.space_packet.specs.Layout.{IsSomePacket}
 use Rattle.space_packet.proofs.Readings.{records_are, record_again}
-use Rattle.map_service.specs.Packets.{packets_in, rest_in, is_packet, are_packets, ArePackets}
+use Rattle.map_service.specs.Packets.{packets_in, rest_in, are_packets, ArePackets}
 use Rattle.map_service.proofs.Groups.{IsWhole, packets-split, all_of, again}
-use Rattle.map_service.proofs.Passage.{whole-from, one-from}
+use Rattle.map_service.proofs.Passage.{whole-from}
 
 -- ---- what is found in octets
 
@@ -19,11 +18,6 @@ spelled_in octets fits none =
 some_in : (packets : List (List ℕ)) → 1 ≤ length (concat packets) → 1 ≤ length packets
 some_in [] h = absurd (omega arith)
 some_in (p ∷ ps) h = omega arith
-
-pub one_is : (octets : List ℕ) → IsOctets octets → is_packet octets ≡ true → IsSomePacket octets
-one_is octets fits h =
-    let one = one-from octets h in
-    (subst (AllByRecursion IsSomePacket) one.1 (spelled_in octets fits one.0)).0
 
 pub several_are : (octets : List ℕ) → IsOctets octets → are_packets octets ≡ true
     → ArePackets octets (packets_in octets)
@@ -46,12 +40,6 @@ some_octets : (packets : List (List ℕ)) → 1 ≤ length packets → AllByRecu
     → 0 < length (concat packets)
 some_octets [] h each = absurd (omega arith)
 some_octets (p ∷ ps) h each = omega (arith, each.0.1.least, length-append p (concat ps))
-
-pub one_again : (octets : List ℕ) → IsSomePacket octets → is_packet octets ≡ true
-one_again octets h =
-    let only = subst (λ (xs : List ℕ). (octets ∷ [] ≡ packets_in xs) × ([] ≡ rest_in xs)) (append-nil octets)
-    (again (octets ∷ []) (records_again (octets ∷ []) (h, tt))) in
-    rw (← only.0, ← only.1) refl
 
 pub several_again : (octets : List ℕ) (packets : List (List ℕ)) → ArePackets octets packets
     → (are_packets octets ≡ true) × (packets ≡ packets_in octets)

@@ -10,7 +10,6 @@ ghost use Rattle.map_service.specs.Assembly.{assembled, open_part};
 ghost use Rattle.map_service.specs.Packets.{packets_in, is_packet, are_packets, ArePackets};
 ghost use Rattle.map_service.specs.Taking.{take_step};
 
-#[tactic(auto, using(crate::proofs::Spelled::one_is, crate::proofs::Spelled::one_again))]
 /// Octets are judged to be exactly one packet, or one or more, just where they spell one, or one
 /// after another; and the packets that are found in them are the only ones.
 pub fn law_of_packets()

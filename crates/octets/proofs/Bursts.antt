@@ -116,14 +116,10 @@ no_burst (suc n) zero (true ∷ bits) e before behind h =
 -- ---- division is linear
 
 -- what is added to either part of a sum is added to the sum
-into_first : (c xs ys : List Bool)
-    → sum_without_carries (sum_without_carries c xs) ys ≡ sum_without_carries c (sum_without_carries xs ys)
-into_first c xs ys = sum-assoc c xs ys
-
 into_second : (c xs ys : List Bool)
     → sum_without_carries xs (sum_without_carries c ys) ≡ sum_without_carries c (sum_without_carries xs ys)
 into_second c xs ys =
-    sym (sum-assoc xs c ys) ∙ ap (λ (z : List Bool). sum_without_carries z ys) (sum-comm xs c) ∙ into_first c xs ys
+    sym (sum-assoc xs c ys) ∙ ap (λ (z : List Bool). sum_without_carries z ys) (sum-comm xs c) ∙ sum-assoc c xs ys
 
 -- added to both parts it is gone
 into_both : (c xs ys : List Bool) → length c ≤ length xs → length xs ≡ length ys
@@ -131,7 +127,7 @@ into_both : (c xs ys : List Bool) → length c ≤ length xs → length xs ≡ l
 into_both c xs ys long same =
     let sum : List Bool = sum_without_carries xs ys in
     let len : length sum ≡ length ys = length-sum xs ys (omega arith) in
-    into_first c xs (sum_without_carries c ys) ∙ ap (sum_without_carries c) (into_second c xs ys)
+    sum-assoc c xs (sum_without_carries c ys) ∙ ap (sum_without_carries c) (into_second c xs ys)
     ∙ sym (sum-assoc c c sum)
     ∙ ap (λ (z : List Bool). sum_without_carries z sum) (sum-self c) ∙ sum-zeros (length c) sum (omega arith)
 
@@ -144,7 +140,7 @@ remainder-sum (suc n) (x ∷ xs) [] p q = absurd (omega arith)
 remainder-sum (suc n) (false ∷ xs) (false ∷ ys) p q = remainder-sum n xs ys (omega arith) (omega arith)
 remainder-sum (suc n) (true ∷ xs) (false ∷ ys) p q =
     let len = length-sum generator_rest xs (omega arith) in
-    ap (remainder n) (sym (into_first generator_rest xs ys))
+    ap (remainder n) (sym (sum-assoc generator_rest xs ys))
     ∙ remainder-sum n (sum_without_carries generator_rest xs) ys (omega arith) (omega arith)
 remainder-sum (suc n) (false ∷ xs) (true ∷ ys) p q =
     let len = length-sum generator_rest ys (omega arith) in

@@ -1,6 +1,6 @@
 -- Steps of a reading that did not fail, and tests that came out one way.
 use Rattle.std.proofs.Common.{◌≡◌, ◌≤◌, ◌<◌, ℕ, Bool, true, false, not, cond, eqb, Result, Ok, Err, refl, arith}
-use Rattle.std.specs.Prelude.{◌&&◌, ◌||◌, nat_le}
+use Rattle.std.specs.Prelude.{nat_le}
 use Rattle.std.proofs.lemmas.Bool.Decides.{nat_tests}
 use Rattle.octets.specs.Outcome.{map_ok}
 
@@ -28,16 +28,6 @@ pub mapped : {A B F : Type 0} (f : A → B) (r : Result A F) (y : B) → map_ok 
     → (x : A) × (r ≡ Ok x) × (f x ≡ y)
 mapped f (Ok x) y h = (x, refl, cc)
 mapped f (Err e) y h = absurd cc
-
--- both tests of an && that is true
-pub both_true : (a b : Bool) → a && b ≡ true → (a ≡ true) × (b ≡ true)
-both_true true b h = (refl, h)
-both_true false b h = absurd cc
-
--- both tests of an || that is false
-pub both_false : (a b : Bool) → a || b ≡ false → (a ≡ false) × (b ≡ false)
-both_false true b h = absurd cc
-both_false false b h = (refl, h)
 
 -- numbers whose != is false
 pub equal_from : (m n : ℕ) → not (eqb m n) ≡ false → m ≡ n

@@ -5,14 +5,10 @@ use Rattle.std.proofs.Common.{inl, inr, append_assoc, length-append, length-take
 use Rattle.std.specs.List.{AllByRecursion, concat}
 use Rattle.std.proofs.lemmas.Bool.{ltb-true, ltb-false, lt-ltb, le-ltb}
 use Rattle.std.proofs.lemmas.List.{take-append-le, take_at, drop_at, take-append-drop}
+use Rattle.std.proofs.lemmas.List.Folds.{concat-append}
 use Rattle.octets.specs.Records.{IsRecord, IsCutShort, IsSplit, record_of, first_record, by_record, first_records}
 use Rattle.octets.specs.Records.{rest_behind, records_of, rest_of}
 use Rattle.octets.proofs.Outcomes.{done}
-
-concat-append : (xs ys : List (List ℕ)) → concat (xs ++ ys) ≡ concat xs ++ concat ys
-concat-append [] ys = refl
-concat-append (x ∷ xs) ys =
-    ap (λ (z : List ℕ). x ++ z) (concat-append xs ys) ∙ sym (append_assoc x (concat xs) (concat ys))
 
 all-append : {X : Type 0} (P : X → Type 0) (xs ys : List X) → AllByRecursion P xs → AllByRecursion P ys
     → AllByRecursion P (xs ++ ys)
@@ -31,11 +27,6 @@ module _ {F : Type 0} (head : ℕ) (extent : List ℕ → Result ℕ F) where
 
   abbrev handed : List ℕ → Option (Result (List ℕ) F)
   handed octets = Some (Ok octets)
-
-  record_or_none : (o : Option (Result (List ℕ) F)) → ((r : List ℕ) × (o ≡ handed r)) ⊎ IsNoRecord o
-  record_or_none None = inr tt
-  record_or_none (Some (Err e)) = inr tt
-  record_or_none (Some (Ok r)) = inl (r, refl)
 
   -- a record in front of other octets is the first
   pub is_first : (r more : List ℕ) → IsRecord head extent r → first_record head extent (r ++ more) ≡ Some (Ok r)
@@ -83,14 +74,6 @@ module _ {F : Type 0} (head : ℕ) (extent : List ℕ → Result ℕ F) where
       → IsNoRecord (record_of head extent octets x)
   no_record_of octets (Ok n) h = rw (lt-ltb _ _ h) tt
   no_record_of octets (Err e) h = tt
-
-  not_refused : (n : ℕ) (e : F) (b : Bool) (octets : List ℕ) → cond b None (handed octets) ≡ Some (Err e) → ⊥
-  not_refused n e true octets h = cc
-  not_refused n e false octets h = cc
-
-  refused_of : (octets : List ℕ) (x : Result ℕ F) (e : F) → record_of head extent octets x ≡ Some (Err e) → x ≡ Err e
-  refused_of octets (Ok n) e h = absurd (not_refused n e (ltb (length octets) n) (take n octets) h)
-  refused_of octets (Err f) e h = cc
 
   left_at : (octets : List ℕ) (b : Bool) → ltb (length octets) head ≡ b
       → IsNoRecord (cond b None (record_of head extent octets (extent (take head octets)))) → IsLeft octets
@@ -145,21 +128,6 @@ module _ {F : Type 0} (head : ℕ) (extent : List ℕ → Result ℕ F) where
       → IsSplit head extent stream others last → (records ≡ others) × (rest ≡ last)
   one_split stream rest last records others p q =
       same_split rest last records others (sym p.whole ∙ q.whole) p.each q.each p.left q.left
-
-  -- a refused extent stays refused, whatever follows
-  refused_at : (octets more : List ℕ) (e : F) (b : Bool) → ltb (length octets) head ≡ b
-      → cond b None (record_of head extent octets (extent (take head octets))) ≡ Some (Err e)
-      → first_record head extent (octets ++ more) ≡ Some (Err e)
-  refused_at octets more e true lt h = absurd cc
-  refused_at octets more e false ge h =
-      let long : head ≤ length octets = ltb-false _ _ ge in
-      let is : extent (take head octets) ≡ Err e = refused_of octets (extent (take head octets)) e h in
-      let t : ltb (length (octets ++ more)) head ≡ false = le-ltb _ _ (omega (arith, length-append octets more)) in
-      rw (t, take-append-le head octets more long, is) refl
-
-  pub refused_for_good : (octets more : List ℕ) (e : F) → first_record head extent octets ≡ Some (Err e)
-      → first_record head extent (octets ++ more) ≡ Some (Err e)
-  refused_for_good octets more e h = refused_at octets more e (ltb (length octets) head) refl h
 
 module _ {F : Type 0} (head : ℕ) (extent : List ℕ → Result ℕ F) (some_head : 1 ≤ head)
     (extent_has_head : (octets : List ℕ) (n : ℕ) → extent octets ≡ Ok n → head ≤ n) where

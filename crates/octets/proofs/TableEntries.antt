@@ -1,15 +1,14 @@
 -- The rule of the check's tables at each entry, from one test over all of them, and the register after octets.
-use Rattle.std.proofs.Common.{◌≡◌, ℕ, zero, suc, ◌+◌, ◌-◌, ◌*◌, ◌/◌, ◌%◌, ◌^◌, ◌<◌, ◌≤◌, Bool, true, eqb, List, [], ◌∷◌}
+use Rattle.std.proofs.Common.{◌≡◌, ℕ, zero, suc, ◌+◌, ◌*◌, ◌/◌, ◌%◌, ◌^◌, ◌<◌, ◌≤◌, Bool, true, eqb, List, [], ◌∷◌}
 use Rattle.std.proofs.Common.{◌++◌, length, get_or, take, drop, refl, sym, ap, subst, ◌∙◌, arith, inl, inr}
 use Rattle.std.specs.Prelude.{◌&&◌, bit_xor}
 use Rattle.std.specs.Int.Bits.{xor_zero_r, xor_assoc, xor_block, xor_shifted}
 use Rattle.std.proofs.lemmas.Nat.{shr_split, xor_comm, xor_lt}
 use Rattle.std.proofs.lemmas.List.{drop_more, get_or-drop, length-drop, length-take-le, take-append-drop}
 use Rattle.std.proofs.Math.ListN.{drop_of_length-le}
-use Rattle.octets.proofs.Outcomes.{both_true}
 use Rattle.octets.proofs.Division.{divided, takes_octet, takes_bit}
 use Rattle.octets.proofs.Register.{register_step, register_after, after-xor, step-fits}
-use Rattle.std.proofs.lemmas.Bool.{eqb-true, cases_lt}
+use Rattle.std.proofs.lemmas.Bool.{eqb-true, cases_lt, and_parts}
 use Rattle.octets.specs.declared.table.TheConstants.{TABLES}
 use Rattle.octets.specs.Number.{IsOctets}
 use Rattle.octets.specs.Table.{entries, entries_after}
@@ -28,11 +27,11 @@ entry_is zero i xs k e lt in_list = absurd (omega arith)
 entry_is (suc n) i [] k e lt in_list = absurd (omega arith)
 entry_is (suc n) i (x ∷ xs) zero e lt in_list =
     let place : i ≡ i + 0 = omega arith in
-    eqb-true x (register_after 8 (i * 256)) (both_true _ _ e).0
+    eqb-true x (register_after 8 (i * 256)) (and_parts _ _ e).0
     ∙ ap (λ (n : ℕ). register_after 8 (n * 256)) place
 entry_is (suc n) i (x ∷ xs) (suc k) e lt in_list =
     let place : (i + 1) + k ≡ i + suc k = omega arith in
-    entry_is n (i + 1) xs k (both_true _ _ e).1 (omega arith) (omega arith)
+    entry_is n (i + 1) xs k (and_parts _ _ e).1 (omega arith) (omega arith)
     ∙ ap (λ (n : ℕ). register_after 8 (n * 256)) place
 
 -- each entry of the second list is what that of the first becomes an octet later
@@ -45,9 +44,9 @@ follows_is : (xs ys : List ℕ) (k : ℕ) → follows xs ys ≡ true → k < len
     → get_or ys k 0 ≡ register_after 8 (get_or xs k 0)
 follows_is xs [] k e lt in_list = absurd (omega arith)
 follows_is [] (y ∷ ys) k e lt in_list = absurd (omega arith)
-follows_is (x ∷ xs) (y ∷ ys) zero e lt in_list = eqb-true y (register_after 8 x) (both_true _ _ e).0
+follows_is (x ∷ xs) (y ∷ ys) zero e lt in_list = eqb-true y (register_after 8 x) (and_parts _ _ e).0
 follows_is (x ∷ xs) (y ∷ ys) (suc k) e lt in_list =
-    follows_is xs ys k (both_true _ _ e).1 (omega arith) (omega arith)
+    follows_is xs ys k (and_parts _ _ e).1 (omega arith) (omega arith)
 
 table_holds : entries_hold 256 0 TABLES ≡ true
 table_holds = refl
@@ -91,8 +90,8 @@ below_is : (n : ℕ) (p : ℕ → Bool) (k : ℕ) → all_below n p ≡ true →
 below_is zero p k e lt = absurd (omega arith)
 below_is (suc n) p k e lt =
     elim (cases_lt k n) [
-      | inl low ↦ below_is n p k (both_true _ _ e).1 low
-      | inr high ↦ let same : k ≡ n = omega arith in ap p same ∙ (both_true _ _ e).0
+      | inl low ↦ below_is n p k (and_parts _ _ e).1 low
+      | inr high ↦ let same : k ≡ n = omega arith in ap p same ∙ (and_parts _ _ e).0
     ]
 
 low_holds : all_below 256 (λ x. eqb (register_after 8 x) (x * 256)) ≡ true

@@ -8,6 +8,7 @@ use Rattle.std.specs.Str.{bytes_eq}
 use Rattle.std.proofs.lemmas.Bool.{and_parts, eqb-true}
 use Rattle.std.proofs.lemmas.List.Splits.{join_with_byte-slice_split}
 use Rattle.std.proofs.lemmas.Slice.Eq.{bytes_eq-Decides}
+use Rattle.std.proofs.lemmas.Option.{same_Some}
 use denote.Bor.{Bor}
 use Rattle.cop1.specs.declared.fop.Directive.TheVariants as directives
 use Rattle.nodes.specs.declared.parameter.Parameter.{Parameter}
@@ -27,12 +28,9 @@ use Rattle.script.proofs.Spelled.{spelled, most_small}
 
 -- ---- what is found
 
-some_is : {A : Type 0} (a b : A) → Some a ≡ Some b → a ≡ b
-some_is a b e = ap (λ (o : Option _). unwrap_or o a) e
-
 mapped : {A B : Type 0} (f : A → B) (o : Option A) (b : B) → option_map f o ≡ Some b
     → (a : A) × (o ≡ Some a) × (f a ≡ b)
-mapped f (Some a) b e = (a, refl, some_is (f a) b e)
+mapped f (Some a) b e = (a, refl, same_Some (f a) b e)
 mapped f None b e = cc e
 
 chained : {A B : Type 0} (f : A → Option B) (o : Option A) (b : B) → option_and_then f o ≡ Some b
@@ -80,7 +78,7 @@ one_more {name = name} {text = text} {word = word} {spelled = spelled} is same =
 
 at : {what other : ScriptLine} {text name : List ℕ} → Spells what text → name ≡ text → Some what ≡ Some other
     → Spells other name
-at {what = what} {other = other} spells is same = moved spells (some_is what other same) is
+at {what = what} {other = other} spells is same = moved spells (same_Some what other same) is
 
 one_word : (name : List ℕ) (what : ScriptLine) → line_of_one_word name ≡ Some what → Spells what name
 one_word name what e =
@@ -116,7 +114,7 @@ module _ (name word : List ℕ) where
 
   of_kind : {event : Event} {text kind : List ℕ} → Spells (Happening event) (text ++ 32 ∷ kind) → name ≡ text
       → (a : Event) → word ≡ kind → Some event ≡ Some a → Pair (Happening a)
-  of_kind {event = event} spells is a same e = moved spells (ap Happening (some_is event a e)) (one_more is same)
+  of_kind {event = event} spells is a same e = moved spells (ap Happening (same_Some event a e)) (one_more is same)
 
   happens : (o : Option Event) (what : ScriptLine) → ((a : Event) → o ≡ Some a → Pair (Happening a))
       → option_map Happening o ≡ Some what → Pair what
@@ -173,7 +171,7 @@ named : (word : List ℕ) (all : List Parameter) (p : Parameter)
 named word [] p e = cc e
 named word (one ∷ more) p e =
     tested (λ (q : Parameter). word ≡ (row_of q).name) e
-    (λ is same. is ∙ ap (λ (q : Parameter). (row_of q).name) (some_is one p same)) (named word more p)
+    (λ is same. is ∙ ap (λ (q : Parameter). (row_of q).name) (same_Some one p same)) (named word more p)
 
 module _ (name first second : List ℕ) where
   abbrev Three : ScriptLine → Type 0

@@ -4,7 +4,7 @@ use Rattle.std.proofs.Common.{arith}
 use Rattle.std.specs.Prelude.{decimal}
 use Rattle.std.specs.Char.{is_ascii_digit}
 use Rattle.std.specs.List.{All, list_all}
-use Rattle.std.proofs.lemmas.Bool.{and_parts}
+use Rattle.std.proofs.lemmas.Bool.{and_parts, not-true}
 use Rattle.std.proofs.lemmas.List.Splits.{slice_split_at, slice_split_none}
 use Rattle.std.proofs.lemmas.List.Sums.{AllPass-from_list_all}
 use Rattle.std.proofs.lemmas.Grind.{common_steps}
@@ -20,12 +20,8 @@ no_space octet = not (octet == 32)
 abbrev pub is_word : List ℕ → Bool
 is_word word = list_all no_space word
 
-unequal : (b : Bool) → not b ≡ true → b ≡ false
-unequal false e = refl
-unequal true e = cc e
-
 passes : (word : List ℕ) → is_word word ≡ true → All (λ (octet : ℕ). (octet == 32) ≡ false) word
-passes word h = λ k d less. unequal _ (AllPass-from_list_all no_space word h k d less)
+passes word h = λ k d less. not-true _ (AllPass-from_list_all no_space word h k d less)
 
 pub one_word : (word : List ℕ) → is_word word ≡ true → words_in word ≡ word ∷ []
 one_word word h = slice_split_none (λ (octet : ℕ). octet == 32) word (passes word h)

@@ -1,17 +1,13 @@
 -- The spelling of a packet spells it, whatever follows.
-use Rattle.std.proofs.Common.{◌≡◌, ◌<◌, ◌≤◌, ℕ, Bool, true, false, not, List, [], ◌++◌, length, refl, sym, subst, arith}
+use Rattle.std.proofs.Common.{◌≡◌, ◌<◌, ◌≤◌, ℕ, true, List, [], ◌++◌, length, refl, sym, subst, arith}
 use Rattle.std.proofs.Common.{length-append}
-use Rattle.std.proofs.lemmas.Bool.{ltb-true}
+use Rattle.std.proofs.lemmas.Bool.{ltb-true, and_parts, not-true}
 use Rattle.std.proofs.lemmas.List.{take_at}
 use Rattle.octets.proofs.Numbers.{number_of_two}
-use Rattle.octets.proofs.Outcomes.{both_true, le_true}
+use Rattle.octets.proofs.Outcomes.{le_true}
 use Rattle.space_packet.specs.Laws.{kind_again, secondary_again}
 use Rattle.space_packet.specs.Layout.{PacketView, IsPacket, IsFirstPacket}
 use Rattle.space_packet.specs.Writing.{first_number, second_number, third_number, spelling, packet_fits}
-
-from_not : (b : Bool) → not b ≡ true → b ≡ false
-from_not true h = absurd cc
-from_not false h = refl
 
 -- a packet in front of other octets
 pub first_is : (p : PacketView) (b more : List ℕ) → IsPacket p b → IsFirstPacket p (length b) (b ++ more)
@@ -23,11 +19,11 @@ first_is p b more h = record {
 -- the spelling of a packet spells it
 pub spelling_is : (p : PacketView) → packet_fits p ≡ true → IsPacket p (spelling p)
 spelling_is p fits =
-    let idle = both_true _ _ fits in
-    let most = both_true _ _ idle.0 in
-    let some = both_true _ _ most.0 in
-    let count = both_true _ _ some.0 in
-    let fields = both_true _ _ count.0 in
+    let idle = and_parts _ _ fits in
+    let most = and_parts _ _ idle.0 in
+    let some = and_parts _ _ most.0 in
+    let count = and_parts _ _ some.0 in
+    let fields = and_parts _ _ count.0 in
     let apid : p.apid < 2048 = ltb-true _ _ fields.0 in
     let flags : p.flags < 4 = ltb-true _ _ fields.1 in
     let sequence : p.count < 16384 = ltb-true _ _ count.1 in
@@ -45,5 +41,5 @@ spelling_is p fits =
       count = sequence;
       least = omega arith;
       most = omega arith;
-      idle = from_not _ idle.1;
+      idle = not-true _ idle.1;
     }

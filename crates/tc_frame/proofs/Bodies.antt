@@ -2,8 +2,8 @@
 use Rattle.std.proofs.Common.{◌≡◌, ◌<◌, ◌≤◌, ℕ, zero, suc, ◌+◌, ◌*◌, ◌/◌, ◌%◌, Bool, true, false, not, eqb, List, []}
 use Rattle.std.proofs.Common.{◌∷◌, length, get_or, Ok, refl, ap, subst, ◌∙◌, arith}
 use Rattle.std.specs.Prelude.{◌&&◌, ◌==◌, IsTrue}
-use Rattle.std.proofs.lemmas.Bool.{and_from, eqb-true, ltb-true, lt-ltb}
-use Rattle.octets.proofs.Outcomes.{passed, ended, mapped, both_true, is_zero, ok_is}
+use Rattle.std.proofs.lemmas.Bool.{and_from, eqb-true, ltb-true, lt-ltb, and_parts}
+use Rattle.octets.proofs.Outcomes.{passed, ended, mapped, is_zero, ok_is}
 use Rattle.octets.specs.Outcome.{map_ok}
 use Rattle.tc_frame.specs.declared.frame.SegmentFlags.{SegmentFlags}
 use Rattle.tc_frame.specs.declared.frame.SegmentFlags.TheVariants.{First, Continuing, Last, Alone}
@@ -57,7 +57,7 @@ segment_parts_again flags map (x ∷ xs) low some =
 
 segment_again : (s : SegmentView) → IsTrue (segment_fits s) → segment_at (segment_octets s) ≡ Ok s
 segment_again s fits =
-    let both = both_true _ _ fits in
+    let both = and_parts _ _ fits in
     segment_parts_again s.header.flags s.header.map s.payload (ltb-true _ _ both.0) (ltb-true _ _ both.1)
 
 -- ---- commands
@@ -72,7 +72,7 @@ command_is (a ∷ []) c h =
 command_is (a ∷ b ∷ []) c h = absurd cc
 command_is (a ∷ b ∷ x ∷ []) c h =
     let met = ended (eqb a 0x82 && eqb b 0) faults.Command (SetVr x) c h in
-    let both = both_true (eqb a 0x82) (eqb b 0) met.0 in
+    let both = and_parts (eqb a 0x82) (eqb b 0) met.0 in
     let a-is : a ≡ 0x82 = eqb-true a 0x82 both.0 in
     let b-is : b ≡ 0 = eqb-true b 0 both.1 in
     subst (λ (k : Command). a ∷ b ∷ x ∷ [] ≡ command_octets k) met.1 (rw (a-is, b-is) refl)

@@ -3,11 +3,11 @@ use Rattle.std.proofs.Common.{◌≡◌, ◌<◌, ◌≤◌, ℕ, zero, suc, ◌
 use Rattle.std.proofs.Common.{ltb, List, ◌∷◌, length, get_or, take, drop, Result, Ok, Err, refl, sym, ap, subst, ◌∙◌}
 use Rattle.std.proofs.Common.{arith}
 use Rattle.std.specs.Prelude.{◌&&◌, ◌||◌, ◌==◌, IfOk}
-use Rattle.std.proofs.lemmas.Bool.{eqb-false, eq-eqb, ne_eqb, ltb-false, le-ltb}
+use Rattle.std.proofs.lemmas.Bool.{eqb-false, eq-eqb, ne_eqb, ltb-false, le-ltb, or_parts}
 use Rattle.std.proofs.lemmas.List.{length-take, length-drop}
 use Rattle.octets.specs.Number.{number_of}
 use Rattle.octets.specs.Outcome.{map_ok}
-use Rattle.octets.proofs.Outcomes.{passed, mapped, both_false, equal_from, flag_from}
+use Rattle.octets.proofs.Outcomes.{passed, mapped, equal_from, flag_from}
 use Rattle.octets.proofs.Numbers.{two_below}
 use Rattle.octets.proofs.Cuts.{cut_fits, cut_next, drop_fits}
 use Rattle.tc_frame.specs.declared.frame.Check.{Check}
@@ -85,7 +85,7 @@ frame_is check b f octets h =
     let checked = passed (is_check_wrong check b) faults.Check after_check f sizes.1 in
     let read = mapped make body f checked.1 in
     let long : 5 ≤ length b = ltb-false _ _ short.0 in
-    let both = both_false _ _ sizes.0 in
+    let both = or_parts _ _ sizes.0 in
     let total : second % 1024 + 1 ≡ length b = equal_from _ _ both.0 in
     let least : least_total check ≤ length b = ltb-false _ _ both.1 in
     let known : not bypass && control ≡ false =

@@ -1,13 +1,13 @@
 -- The spelling of a frame spells it.
 use Rattle.std.proofs.Common.{◌≡◌, ◌<◌, ◌≤◌, ℕ, ◌-◌, true, List, ◌++◌, length, take, drop, sym, ap, subst, ◌∙◌, arith}
 use Rattle.std.proofs.Common.{length-append}
-use Rattle.std.proofs.lemmas.Bool.{ltb-true}
+use Rattle.std.proofs.lemmas.Bool.{ltb-true, and_parts}
 use Rattle.std.proofs.lemmas.List.{take_all, take_at}
 use Rattle.byteorder.specs.Endian.{big_bytes}
 use Rattle.octets.specs.Number.{number_of}
 use Rattle.octets.specs.Check.{check_of}
 use Rattle.octets.proofs.Checked.{holds_check}
-use Rattle.octets.proofs.Outcomes.{both_true, le_true}
+use Rattle.octets.proofs.Outcomes.{le_true}
 use Rattle.tc_frame.specs.declared.frame.Check.{Check}
 use Rattle.tc_frame.specs.declared.frame.Check.TheVariants.{On, Off}
 use Rattle.tc_frame.specs.Layout.{FrameView, before_check, HoldsCheckIfOn, IsTcFrame}
@@ -41,9 +41,9 @@ second_again Off f lt = omega arith
 
 pub spelling_is : (check : Check) (f : FrameView) → frame_fits check f ≡ true → IsTcFrame check f (spelling check f)
 spelling_is check f fits =
-    let total = both_true _ _ fits in
-    let body = both_true _ _ total.0 in
-    let header = both_true _ _ body.0 in
+    let total = and_parts _ _ fits in
+    let body = and_parts _ _ total.0 in
+    let header = and_parts _ _ body.0 in
     let scid : f.scid < 1024 = ltb-true _ _ header.0 in
     let vcid : f.vcid < 64 = ltb-true _ _ header.1 in
     let short : total_of check f ≤ 1024 = le_true _ _ total.1 in

@@ -1,6 +1,6 @@
 -- What is acknowledged has left the sent queue, and what is in the sent queue was sent.
 use Rattle.std.proofs.Common.{◌≡◌, ◌≢◌, ◌≤◌, ◌<◌, ℕ, suc, ◌+◌, true, false, not, List, [], ◌∷◌, ◌++◌, length, map, drop}
-use Rattle.std.proofs.Common.{Option, Some, None, Result, Ok, Err, option_map, refl, ap, ◌∙◌, arith, length-append}
+use Rattle.std.proofs.Common.{Option, Some, None, Result, Ok, Err, option_map, refl, ap, arith, length-append}
 use Rattle.std.proofs.Common.{length-drop}
 use Rattle.std.specs.Prelude.{◌==◌}
 use Rattle.std.proofs.lemmas.Bool.{cond_both, ltb-false, eq-eqb}
@@ -36,8 +36,7 @@ use Rattle.nodes.specs.declared.config.Config.{Config}
 use Rattle.nodes.specs.declared.fault.LinkFault.{LinkFault}
 use Rattle.nodes.specs.declared.heard.Heard.{Heard}
 use Rattle.nodes.specs.Ground.{GroundState, GroundOutcome, settle_step, with_fop, unless_refused, after_submission}
-use Rattle.nodes.specs.Ground.{after_bypass, directive_outcome, after_extraction, own_frame_outcome, telemetry_outcome}
-use Rattle.nodes.specs.Ground.{frame_to_send}
+use Rattle.nodes.specs.Ground.{after_extraction, own_frame_outcome, telemetry_outcome, frame_to_send}
 use Rattle.nodes.specs.Ground as ground
 use Rattle.cop1.specs.Directives.{is_initiation}
 use Rattle.tc_link.specs.World.{first_in}
@@ -90,20 +89,6 @@ module _ (f : FopState SegmentView) where
     windows = λ k small. omega arith;
     limits = λ n. omega arith;
     times = λ n. omega arith;
-  })
-
-  abbrev IsBegun : Directive → FopOutcome SegmentView (Result (Option Alert) CopFault) → Type 0
-  IsBegun d o = is_initiation d ≡ true → (a : Option Alert) → o.answer ≡ Ok a → o.after.sent ≡ []
-
-  begun_empty : (d : Directive) → IsBegun d (directive_step f d)
-  begun_empty = obeyed f IsBegun (record {
-    refused = λ d fault on is a ok. absurd cc;
-    begins = λ d is off same a ok. begun_sent d is;
-    terminated = λ is. absurd cc;
-    numbers = λ x off is. absurd cc;
-    windows = λ k small is. absurd cc;
-    limits = λ n is. absurd cc;
-    times = λ n is. absurd cc;
   })
 
 -- ---- a pull: the queue gains at most the unit that is first sent
@@ -211,11 +196,6 @@ pub submit_same : (s : GroundState) (m : ℕ) (octets : List ℕ) (o : Option Li
 submit_same s m octets None = (settled_sent (record s { pending = s.pending ++ ground.segments_on s m octets })).0
 submit_same s m octets (Some fault) = refl
 
-pub bypass_same : (s : GroundState) (m : ℕ) (octets : List ℕ) (o : Option LinkFault)
-    → (unless_refused o s (after_bypass s m octets)).after.fop.sent ≡ s.fop.sent
-bypass_same s m octets None = refl
-bypass_same s m octets (Some fault) = refl
-
 pub tick_shorter : (s : GroundState) → length (ground.ground_tick s).after.fop.sent ≤ length s.fop.sent
 tick_shorter s = omega (arith, ap length (with_sent s (tick_step s.fop).after), ticked_shorter s.fop)
 
@@ -224,10 +204,6 @@ pub pull_first : (s : GroundState)
     + length (first_in s.fop.vs (ground.ground_pull s).answer)
 pull_first s =
     omega (arith, ap length (with_sent s (pull_step s.fop).after), put_first s.config s.fop)
-
-directed_sent : (s : GroundState) (o : FopOutcome SegmentView (Result (Option Alert) CopFault)) (a : Option Alert)
-    → o.answer ≡ Ok a → (directive_outcome s o).after.fop.sent ≡ o.after.sent
-directed_sent s o a is = rw is (with_sent s o.after)
 
 directed_short : (s : GroundState) (f : FopState SegmentView) (r : Result (Option Alert) CopFault)
     → length f.sent ≤ length s.fop.sent → length (ground.after_directive s r f).fop.sent ≤ length s.fop.sent
@@ -238,10 +214,6 @@ pub directive_shorter : (s : GroundState) (d : Directive)
     → length (ground.ground_directive s d).after.fop.sent ≤ length s.fop.sent
 directive_shorter s d =
     directed_short s (directive_step s.fop d).after (directive_step s.fop d).answer (directed_shorter s.fop d)
-
-pub directive_begins : (s : GroundState) (d : Directive) (a : Option Alert) → is_initiation d ≡ true
-    → (ground.ground_directive s d).answer ≡ Ok a → (ground.ground_directive s d).after.fop.sent ≡ []
-directive_begins s d a is ok = directed_sent s (directive_step s.fop d) a ok ∙ begun_empty s.fop d is a ok
 
 module _ (s : GroundState) (fop : IsFop s.fop) (octet : s.fop.nn < 256) where
   abbrev IsLess : GroundState → Type 0

@@ -19,12 +19,11 @@ use Rattle.cop1.specs.FopWords.{FopOutcome, after_alert, alerts, goes_on}
 use Rattle.tm_link.specs.Extraction.{Extracted, extract_step}
 use Rattle.nodes.specs.declared.config.Config.{Config}
 use Rattle.nodes.specs.declared.heard.Heard.{Heard}
-use Rattle.nodes.specs.Ground.{GroundState, GroundOutcome, is_closed, with_fop, after_extraction}
+use Rattle.nodes.specs.Ground.{GroundOutcome, is_closed, with_fop, after_extraction}
 use Rattle.tc_link.specs.World.{World, is_confirmation, is_initialising, down_deliver_step}
-use Rattle.tc_link.specs.World.{session_after_report}
 use Rattle.tc_link.proofs.Early.{WouldConfirm, Good, AllGood, Lasts, IsEarly, ControlFits}
 use Rattle.tc_link.proofs.Early.{AllSame, Begun, last_good, Confirmed, confirmed}
-use Rattle.tc_link.proofs.LateTelemetry.{used_is}
+use Rattle.tc_link.proofs.LateTelemetry.{used_is, with_heard}
 use Rattle.tc_link.proofs.Linked.{Steady, units_of_all, Held, Reporting}
 use Rattle.tc_link.proofs.Settled.{settled_keeps, held_again, queued_as}
 use Rattle.tc_link.proofs.Early.{holds_early}
@@ -43,10 +42,6 @@ confirms_now false old new is waits_for = rw is waits_for
 module _ (c : Config) (d : Directive) (base : ℕ) (w : World) (k : Steady c w) (g : Begun c d base w) where
   -- ---- telemetry arrives
 
-  abbrev with_heard : GroundState → List (List ℕ) → World
-  with_heard t down =
-      record w { ground_node = t; down = down; session = session_after_report w.session w.ground_node t }
-
   acked_same : w.session.acknowledged + ahead_by w.ground_node.fop.nn w.ground_node.fop.nn ≡ 0
   acked_same = omega (arith, g.early.nn_octet, g.early.acked_none)
 
@@ -56,16 +51,16 @@ module _ (c : Config) (d : Directive) (base : ℕ) (w : World) (k : Steady c w) 
       (same_rest : d ≡ InitWithCheck
       → AllSame rs w.spacecraft.farm.lockout w.spacecraft.farm.retransmit w.spacecraft.farm.vr) where
     abbrev Hears : FopOutcome SegmentView (Option Alert) → Type 0
-    Hears o = Begun c d base (with_heard (with_fop (after_extraction w.ground_node x) o.after) bs)
-        ⊎ Confirmed c d base (with_heard (with_fop (after_extraction w.ground_node x) o.after) bs)
+    Hears o = Begun c d base (with_heard w (with_fop (after_extraction w.ground_node x) o.after) bs)
+        ⊎ Confirmed c d base (with_heard w (with_fop (after_extraction w.ground_node x) o.after) bs)
 
     -- the sender stays early
     stays : (f : FopState SegmentView) → IsEarly d f.state → f.nn ≡ w.ground_node.fop.nn → ControlFits d base f.control
         → Held (is_closed f.state) base f.vs f.nn f.sent (option_to_list f.waiting ++ w.ground_node.pending) 0 0
         (units_of_all c w.session.submissions)
-        → Begun c d base (with_heard (with_fop (after_extraction w.ground_node x) f) bs)
+        → Begun c d base (with_heard w (with_fop (after_extraction w.ground_node x) f) bs)
     stays f early nn command_is held_f =
-        settled_keeps (λ t. Begun c d base (with_heard t bs)) (record (after_extraction w.ground_node x) { fop = f })
+        settled_keeps (λ t. Begun c d base (with_heard w t bs)) (record (after_extraction w.ground_node x) { fop = f })
         (λ waiting pending on off.
         let l = g.early in
         let units : List SegmentView = units_of_all c w.session.submissions in
@@ -110,7 +105,7 @@ module _ (c : Config) (d : Directive) (base : ℕ) (w : World) (k : Steady c w) 
         → f.nn ≡ w.ground_node.fop.nn → f.sent ≡ w.ground_node.fop.sent → f.waiting ≡ w.ground_node.fop.waiting
         → Good base r → Hears (goes_on f)
     goes_late f on waits_for state vs nn sent waiting good =
-        inr (settled_keeps (λ t. Confirmed c d base (with_heard t bs))
+        inr (settled_keeps (λ t. Confirmed c d base (with_heard w t bs))
         (record (after_extraction w.ground_node x) { fop = f }) (λ wait pending so off.
         let was = holds_early g.early on in
         let all = last_good base rs (WouldConfirm base w.spacecraft) (on_good good) in
@@ -164,8 +159,8 @@ module _ (c : Config) (d : Directive) (base : ℕ) (w : World) (k : Steady c w) 
   down_early (b ∷ bs) [] rest lasts same = elim rest [ ]
   down_early (b ∷ bs) (r ∷ rs) rest lasts same =
       let x : Extracted = extract_step w.ground_node.extractor rest.0.frame in
-      subst (λ (o : GroundOutcome Heard). Begun c d base (with_heard o.after bs)
-      ⊎ Confirmed c d base (with_heard o.after bs)) (sym (used_is c w.ground_node b r k.ground_config rest.0))
+      subst (λ (o : GroundOutcome Heard). Begun c d base (with_heard w o.after bs)
+      ⊎ Confirmed c d base (with_heard w o.after bs)) (sym (used_is c w.ground_node b r k.ground_config rest.0))
       (hears_in x r bs rs rest.1 lasts.0 lasts.1 (λ e. (same e).4) w.ground_node.fop.state refl)
 
   lost_first : (b : List ℕ) (bs : List (List ℕ)) (rs : List Clcw) → Reporting c (b ∷ bs) rs

@@ -5,6 +5,7 @@ use Rattle.std.specs.Prelude.{slice_get, nat_lt, ◌==◌}
 use Rattle.std.specs.List.{AllByRecursion}
 use Rattle.std.proofs.lemmas.Bool.{ltb-true, eq-eqb, ne_eqb}
 use Rattle.std.proofs.lemmas.List.{append-nil, map-append, drop-append-le, length-take-le}
+use Rattle.std.proofs.lemmas.Option.{slice_get_within}
 use Rattle.tc_frame.specs.declared.frame.Check.TheVariants.{On}
 use Rattle.tc_frame.specs.Layout.{SegmentView, BodyView, Ad, Bd, segment_octets}
 use Rattle.tc_frame.specs.Writing.{spelling}
@@ -23,7 +24,7 @@ use Rattle.nodes.specs.OwnedFields.{FitsFrame}
 use Rattle.nodes.specs.Ground.{is_closed, unsent_segments, with_fop, frame_of, frame_to_send}
 use Rattle.tc_link.specs.World.{World, world_after_pull, first_sent}
 use Rattle.tc_link.specs.PlainLink.{puts_next, puts_again}
-use Rattle.tc_link.proofs.Lists.{drop_cons_get, drop_cons_rest, take_next, get_within, get_drop, get_take}
+use Rattle.tc_link.proofs.Lists.{drop_cons_get, drop_cons_rest, take_next, get_drop, get_take}
 use Rattle.tc_link.proofs.Queue.{units-push, units-without, oldest_stands}
 use Rattle.tc_link.proofs.Reports.{IsLate}
 use Rattle.tc_link.proofs.Transit.{UpIs, Fits, bit, up_push, up_push_bypass, fits_push, fits_further}
@@ -90,7 +91,7 @@ module _ (c : Config) (d : Directive) (base : ℕ) (w : World) (k : Steady c w) 
         let it : option_to_list s.waiting ++ w.ground_node.pending ≡ drop p.n p.units =
         was.rest_is in rw is at it in
         let unit_is : slice_get p.units p.n ≡ Some u = drop_cons_get p.units p.n u w.ground_node.pending (sym rest) in
-        let n_most : p.n + 1 ≤ length p.units = omega (arith, get_within p.units p.n u unit_is) in
+        let n_most : p.n + 1 ≤ length p.units = omega (arith, slice_get_within p.units p.n u unit_is) in
         let n_a : p.n + 1 ≤ p.a + c.width / 2 = omega (arith, was.vs_is, was.nn_is, below, k.window, k.ranges.width) in
         let r_n : p.r ≤ p.n + 1 = omega arith in
         let vs_is : (s.vs + 1) % 256 ≡ (base + (p.n + 1)) % 256 = omega (arith, was.vs_is) in
@@ -152,7 +153,7 @@ module _ (c : Config) (d : Directive) (base : ℕ) (w : World) (k : Steady c w) 
         let in_sent : slice_get (take p.n p.units) (p.a + x.0) ≡ Some x.1 =
         get_drop (take p.n p.units) p.a x.0 x.1 within in
         let below : p.a + x.0 < p.n =
-        omega (arith, get_within (take p.n p.units) (p.a + x.0) x.1 in_sent, length-take-le p.n p.units l.n_most) in
+        omega (arith, slice_get_within _ (p.a + x.0) x.1 in_sent, length-take-le p.n p.units l.n_most) in
         let unit_is : slice_get p.units (p.a + x.0) ≡ Some x.1 = get_take p.units p.n (p.a + x.0) x.1 in_sent in
         let number_is : (s.nn + x.0) % 256 ≡ (base + (p.a + x.0)) % 256 = omega (arith, was.nn_is) in
         let held : Held (is_closed s.state) base s.vs s.nn (without_oldest_mark s.sent) (unsent_segments w.ground_node)

@@ -29,7 +29,7 @@ use Rattle.tc_link.specs.World.{down_deliver_step}
 use Rattle.tc_link.specs.PlainLink.{PlainLink, AtMostOneStep, reports as tells, loses_down, hears, ignores}
 use Rattle.tc_link.specs.Confirmation.{IsChecked}
 use Rattle.tc_link.proofs.Reports as rules
-use Rattle.tc_link.proofs.Reports.{IsLate, asked, HeldBy, Leads, Led, active_led}
+use Rattle.tc_link.proofs.Reports.{IsLate, asked, HeldBy, Led, active_led}
 use Rattle.tc_link.specs.History.{Rises}
 use Rattle.tc_link.proofs.Transit.{DownIs, Ranks, bit, down_push, rises_push, rises_lower, rises_to, ranks_push}
 use Rattle.tc_link.proofs.Transit.{ranks_lower, ranks_to}
@@ -164,20 +164,20 @@ was_confirmed : (was : Bool) (old new : FopMode) → IsLate old → was || is_co
 was_confirmed true old new late is = refl
 was_confirmed false old new late is = sym (confirms_no_more old new late) ∙ is
 
-module _ (c : Config) (d : Directive) (base : ℕ) (w : World) (k : Steady c w) (g : Late c d base w) where
-  abbrev with_heard : GroundState → List (List ℕ) → World
-  with_heard t down =
-      record w { ground_node = t; down = down; session = session_after_report w.session w.ground_node t }
+abbrev pub with_heard : World → GroundState → List (List ℕ) → World
+with_heard w t down =
+    record w { ground_node = t; down = down; session = session_after_report w.session w.ground_node t }
 
+module _ (c : Config) (d : Directive) (base : ℕ) (w : World) (k : Steady c w) (g : Late c d base w) where
   -- the first report is no longer on its way, and the sender is another
   heard_keeps : (x : Extracted) (bs : List (List ℕ)) (rs : List Clcw) (v : ℕ) (vs : List ℕ) (rank : ℕ)
       (f : FopState SegmentView) (gone : ℕ) → g.plain.down ≡ v ∷ vs → Reporting c bs rs → DownIs base rs vs
       → g.plain.a ≤ v → Rises v vs g.plain.r
       → (IsChecked d → Ranks rank rs vs (2 * g.plain.r + bit w.spacecraft.farm.retransmit))
       → Goes base (IsChecked d) w.ground_node.fop rank g.plain.a v gone f
-      → Next c d base g.plain (with_heard (with_fop (after_extraction w.ground_node x) f) bs)
+      → Next c d base g.plain (with_heard w (with_fop (after_extraction w.ground_node x) f) bs)
   heard_keeps x bs rs v vs rank f gone also rest down_is low rises_on ranks_on to =
-      settled_keeps (λ t. Next c d base g.plain (with_heard t bs))
+      settled_keeps (λ t. Next c d base g.plain (with_heard w t bs))
       (record (after_extraction w.ground_node x) { fop = f }) (λ waiting pending on off.
       let p = g.plain in
       let l = g.linked in
@@ -277,7 +277,7 @@ module _ (c : Config) (d : Directive) (base : ℕ) (w : World) (k : Steady c w) 
       let x : Extracted = extract_step w.ground_node.extractor rest.0.frame in
       let goes = goes_in base (c.width / 2) (IsChecked d) w.ground_node.fop p.a p.n p.units
       (unsent_segments w.ground_node) r v (coming r rs v vs down_is up ranks) w.ground_node.fop.state refl in
-      subst (λ (o : GroundOutcome Heard). Next c d base g.plain (with_heard o.after bs))
+      subst (λ (o : GroundOutcome Heard). Next c d base g.plain (with_heard w o.after bs))
       (sym (used_is c w.ground_node b r k.ground_config rest.0))
       (heard_keeps x bs rs v vs (2 * v + bit (asks r)) (clcw_step w.ground_node.fop r).after goes.0 also rest.1
       down_is.1 up.0 up.1 (λ t. (ranks t).3) goes.1)

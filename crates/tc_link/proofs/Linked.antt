@@ -69,12 +69,7 @@ pub record Steady (c : Config) (w : World) : Type 0 where
   pub width : w.spacecraft.farm.width ≡ c.width
   pub farm_b : w.spacecraft.farm.farm_b < 4
   pub flags : FlagsAgree w.spacecraft.farm
-  pub room : w.ground_node.fop.room ≡ c.width / 2
   pub window : w.ground_node.fop.window ≤ c.width / 2
-  pub vs_octet : w.ground_node.fop.vs < 256
-  -- nothing is queued where the sender is off
-  pub unsent_none : is_closed w.ground_node.fop.state ≡ true → unsent_segments w.ground_node ≡ []
-  pub sent_none : is_closed w.ground_node.fop.state ≡ true → w.ground_node.fop.sent ≡ []
   pub commanded : Commanded w.ground_node.fop.state w.ground_node.fop.control
   pub bypass_fits : AllByRecursion FitsFrame w.ground_node.fop.bypass
   pub before : w.session.before ≤ length w.spacecraft.accepted

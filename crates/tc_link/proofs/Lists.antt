@@ -1,5 +1,5 @@
 -- What the proofs need of lists.
-use Rattle.std.proofs.Common.{◌≡◌, ℕ, zero, suc, ◌+◌, ◌<◌, List, [], ◌∷◌, ◌++◌, length, take, drop, Some, ap, arith}
+use Rattle.std.proofs.Common.{◌≡◌, ℕ, zero, suc, ◌+◌, List, [], ◌∷◌, ◌++◌, take, drop, Some, ap, arith}
 use Rattle.std.proofs.Common.{add-one, zero-add}
 use Rattle.std.specs.Prelude.{slice_get}
 
@@ -24,11 +24,6 @@ module _ {A : Type 0} where
   take_next (x ∷ xs) (suc n) u e =
       let here : take (n + 1) xs ≡ take n xs ++ u ∷ [] =
       take_next xs n u e in rw add-one (ap (λ l. x ∷ l) (rw add-one at here))
-
-  pub get_within : (xs : List A) (n : ℕ) (u : A) → slice_get xs n ≡ Some u → n < length xs
-  get_within [] n u e = cc
-  get_within (x ∷ xs) zero u e = omega arith
-  get_within (x ∷ xs) (suc n) u e = omega (arith, get_within xs n u e)
 
   pub get_append : (xs ys : List A) (n : ℕ) (u : A) → slice_get xs n ≡ Some u → slice_get (xs ++ ys) n ≡ Some u
   get_append [] ys n u e = cc

@@ -48,9 +48,6 @@ run_push : (w : World) (events : List Event) (e : Event)
 run_push w [] e = refl
 run_push w (x ∷ xs) e = run_push (world_step w x).after xs e
 
-pub reached_new : (c : Config) → IsConfig c → IsReached (new_world c)
-reached_new c ranges = record { config = c; ranges = ranges; events = []; octets = tt; led = refl }
-
 reached_step : (w : World) (e : Event) → IsReached w → IsEvent e → IsReached (world_step w e).after
 reached_step w e r fits = record {
   config = r.config;

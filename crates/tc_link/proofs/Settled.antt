@@ -22,7 +22,7 @@ queued_as s waiting pending = record s { fop = record s.fop { waiting = waiting 
 module _ (P : GroundState → Type 0) (s : GroundState)
     (each : (waiting : Option SegmentView) (pending : List SegmentView)
     → (is_closed s.fop.state ≡ false → option_to_list waiting ++ pending ≡ unsent_segments s)
-    → (is_closed s.fop.state ≡ true → (waiting ≡ s.fop.waiting) × (pending ≡ []))
+    → (is_closed s.fop.state ≡ true → pending ≡ [])
     → P (queued_as s waiting pending)) where
   moved : (o : Option SegmentView) (ps : List SegmentView) → s.fop.waiting ≡ o → s.pending ≡ ps
       → is_closed s.fop.state ≡ false → P (after_moving_up s o ps)
@@ -33,7 +33,7 @@ module _ (P : GroundState → Type 0) (s : GroundState)
   pub settled_keeps : P (settle_step s)
   settled_keeps =
       cond_both (is_closed s.fop.state) (record s { pending = [] }) (after_moving_up s s.fop.waiting s.pending) P
-      (λ off. each s.fop.waiting [] (λ on. absurd (cc (off, on))) (λ e. (refl, refl)))
+      (λ off. each s.fop.waiting [] (λ on. absurd (cc (off, on))) (λ e. refl))
       (λ on. moved s.fop.waiting s.pending refl refl on)
 
 pub held_again : (off : Bool) (base vs nn : ℕ) (sent : List (SentUnit SegmentView)) (rest new : List SegmentView)

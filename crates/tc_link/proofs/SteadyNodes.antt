@@ -1,6 +1,6 @@
 -- What holds of each node at every moment, in any session.
 use Rattle.std.proofs.Common.{◌≡◌, ℕ, ◌/◌, ◌<◌, ◌≤◌, true, false, not, [], ◌∷◌, Some, None, refl}
-use Rattle.std.proofs.Common.{◌∙◌, arith, ◌+◌, ◌%◌, ◌++◌}
+use Rattle.std.proofs.Common.{◌∙◌, arith, ◌+◌, ◌%◌}
 use Rattle.std.specs.Prelude.{◌==◌}
 use Rattle.std.specs.List.{AllByRecursion}
 use Rattle.std.proofs.lemmas.Bool.{cond_both}
@@ -20,20 +20,18 @@ use Rattle.cop1.specs.Farm.{BufferReleased, farm_step, after_verdict, after_unlo
 use Rattle.cop1.specs.Farm.{verdict_of}
 use Rattle.cop1.specs.FarmRuns.{FlagsAgree}
 use Rattle.cop1.proofs.Agreeing.{FlagsAgree-step}
-use Rattle.cop1.specs.FopPull.{pull_step}
-use Rattle.cop1.specs.FopPull.{without_oldest_mark, after_send_first}
+use Rattle.cop1.specs.FopPull.{pull_step, without_oldest_mark}
 use Rattle.cop1.specs.FopReport.{locks, waits, asks, clcw_step, report_in, report_while_active, report_in_S4, confirms}
 use Rattle.cop1.specs.FopReport.{after_move_on, retransmits, after_new_value}
 use Rattle.cop1.specs.FopState.{FopState}
 use Rattle.cop1.specs.FopTick.{tick_step, after_count, due_again}
 use Rattle.cop1.specs.FopWords.{FopOutcome, after_acknowledge, after_repeat, after_alert, after_stop}
-use Rattle.cop1.specs.FopWords.{after_restart, alerts, goes_on, unmarked_unit}
+use Rattle.cop1.specs.FopWords.{after_restart, alerts, goes_on}
 use Rattle.nodes.specs.declared.config.Config.{Config}
 use Rattle.nodes.specs.OwnedFields.{FitsFrame}
 use Rattle.nodes.specs.Ground.{GroundState, is_closed, settle_step}
 use Rattle.tc_link.proofs.Linked.{Commanded}
 use Rattle.tc_link.proofs.Settled.{settled_keeps}
-use Rattle.tc_link.proofs.Closed.{active_on}
 use Rattle.cop1.proofs.Ticking.{ticked}
 use Rattle.cop1.proofs.Pulling.{pulled_out}
 use Rattle.cop1.proofs.Hearing.{heard_active}
@@ -45,8 +43,6 @@ pub record FopSteady (c : Config) (f : FopState SegmentView) : Type 0 where
   pub room : f.room ≡ c.width / 2
   pub window : f.window ≤ c.width / 2
   pub vs_octet : f.vs < 256
-  pub sent_none : is_closed f.state ≡ true → f.sent ≡ []
-  pub waiting_none : is_closed f.state ≡ true → f.waiting ≡ None
   pub commanded : Commanded f.state f.control
   pub bypass_fits : AllByRecursion FitsFrame f.bypass
 
@@ -54,17 +50,14 @@ module _ (c : Config) (s : FopState SegmentView) (k : FopSteady c s) where
   abbrev Steadily : {A : Type 0} → FopOutcome SegmentView A → Type 0
   Steadily o = FopSteady c o.after
 
-  steady_so : (f : FopState SegmentView) → f.room ≡ s.room → f.window ≡ s.window → f.vs < 256 → f.bypass ≡ s.bypass
-      → (is_closed f.state ≡ true → f.sent ≡ []) → (is_closed f.state ≡ true → f.waiting ≡ None)
-      → Commanded f.state f.control → FopSteady c f
-  steady_so f room window vs_octet bypass sent_none waiting_none commanded =
+  pub steady_so : (f : FopState SegmentView) → f.room ≡ s.room → f.window ≡ s.window → f.vs < 256
+      → f.bypass ≡ s.bypass → Commanded f.state f.control → FopSteady c f
+  steady_so f room window vs_octet bypass commanded =
       let bypass_fits : AllByRecursion FitsFrame f.bypass = rw bypass k.bypass_fits in
       record {
         room = room ∙ k.room;
         window = omega (arith, window, k.window);
         vs_octet = vs_octet;
-        sent_none = sent_none;
-        waiting_none = waiting_none;
         commanded = commanded;
         bypass_fits = bypass_fits;
       }
@@ -72,33 +65,23 @@ module _ (c : Config) (s : FopState SegmentView) (k : FopSteady c s) where
   pub gives_up : (f : FopState SegmentView) → f.room ≡ s.room → f.window ≡ s.window → f.vs ≡ s.vs → f.bypass ≡ s.bypass
       → FopSteady c (after_alert f)
   gives_up f room window vs bypass =
-      steady_so (after_alert f) room window (rw vs k.vs_octet) bypass (λ e. refl) (λ e. refl) refl
-
-  -- the sender is on, with another number for V(S)
-  pub begins_so : (f : FopState SegmentView) → f.room ≡ s.room → f.window ≡ s.window → f.vs < 256
-      → f.bypass ≡ s.bypass → is_closed f.state ≡ false → Commanded f.state f.control → FopSteady c f
-  begins_so f room window vs_octet bypass on commanded =
-      steady_so f room window vs_octet bypass (λ e. absurd (cc (e, on))) (λ e. absurd (cc (e, on))) commanded
+      steady_so (after_alert f) room window (rw vs k.vs_octet) bypass refl
 
   goes_so : (f : FopState SegmentView) → f.room ≡ s.room → f.window ≡ s.window → f.vs ≡ s.vs → f.bypass ≡ s.bypass
-      → is_closed f.state ≡ false → Commanded f.state f.control → FopSteady c f
-  goes_so f room window vs bypass on commanded = begins_so f room window (rw vs k.vs_octet) bypass on commanded
+      → Commanded f.state f.control → FopSteady c f
+  goes_so f room window vs bypass commanded = steady_so f room window (rw vs k.vs_octet) bypass commanded
 
   -- the sender is as it was but for what no field speaks of
   pub goes_same : (f : FopState SegmentView) → f.room ≡ s.room → f.window ≡ s.window → f.vs ≡ s.vs → f.bypass ≡ s.bypass
-      → f.state ≡ s.state → f.control ≡ s.control → (is_closed s.state ≡ true → f.sent ≡ s.sent) → f.waiting ≡ s.waiting
-      → FopSteady c f
-  goes_same f room window vs bypass state control sent waiting =
-      steady_so f room window (rw vs k.vs_octet) bypass
-      (λ e. let off : is_closed s.state ≡ true = rw state at e in sent off ∙ k.sent_none off)
-      (λ e. waiting ∙ k.waiting_none (rw state at e)) (rw (state, control) k.commanded)
+      → f.state ≡ s.state → f.control ≡ s.control → FopSteady c f
+  goes_same f room window vs bypass state control = goes_so f room window vs bypass (rw (state, control) k.commanded)
 
   -- ---- a report
 
   module _ (r : Clcw) (idle : s.control ≡ Idle) where
     again_so : (repeats : Bool) → FopSteady c (retransmits s repeats)
-    again_so true = goes_so (record (after_repeat s) { state = S2 }) refl refl refl refl refl idle
-    again_so false = goes_so (record s { state = S2 }) refl refl refl refl refl idle
+    again_so true = goes_so (record (after_repeat s) { state = S2 }) refl refl refl refl idle
+    again_so false = goes_so (record s { state = S2 }) refl refl refl refl idle
 
     active_so : Steadily (report_while_active s r)
     active_so = heard_active s r (λ o. Steadily o) (record {
@@ -108,14 +91,14 @@ module _ (c : Config) (s : FopState SegmentView) (k : FopSteady c s) where
       asks_none = λ asking at. gives_up s refl refl refl refl;
       same = k;
       ceases = λ none at were. gives_up s refl refl refl refl;
-      moves = λ inside. goes_so (after_move_on (after_acknowledge s r.value)) refl refl refl refl refl idle;
+      moves = λ inside. goes_so (after_move_on (after_acknowledge s r.value)) refl refl refl refl idle;
       others_over = λ inside asking one. gives_up (after_new_value s r.value) refl refl refl refl;
       others_wait = λ inside asking. goes_so (record (after_new_value s r.value) { state = S3 }) refl refl refl refl
-          refl idle;
+          idle;
       others_again = λ inside asking. goes_so (record (after_repeat (after_new_value s r.value)) { state = S2 }) refl
-          refl refl refl refl idle;
+          refl refl refl idle;
       all_over = λ asking one. gives_up s refl refl refl refl;
-      all_wait = λ asking. goes_so (record s { state = S3 }) refl refl refl refl refl idle;
+      all_wait = λ asking. goes_so (record s { state = S3 }) refl refl refl refl idle;
       all_again = λ asking. again_so;
     })
 
@@ -126,14 +109,14 @@ module _ (c : Config) (s : FopState SegmentView) (k : FopSteady c s) where
         (λ t. gives_up s refl refl refl refl)
         (λ v. cond_both (asks r) (alerts s alert.Synch) _ (λ o. Steadily o) (λ t. gives_up s refl refl refl refl)
         (λ a. cond_both (waits r) (alerts s alert.Clcw) _ (λ o. Steadily o) (λ t. gives_up s refl refl refl refl)
-        (λ t. goes_so (record s { state = S1; ticks = None }) refl refl refl refl refl idle))))
+        (λ t. goes_so (record s { state = S1; ticks = None }) refl refl refl refl idle))))
 
   report_in_so : (r : Clcw) (m : FopMode) → s.state ≡ m → Commanded m s.control → Steadily (report_in s r m)
   report_in_so r S4 is idle = in_S4_so r idle
   report_in_so r S5 is idle =
       cond_both (confirms s r) (goes_on (record s { state = S1; ticks = None; control = Idle })) (goes_on s)
-      (λ o. Steadily o) (λ t. goes_so (record s { state = S1; ticks = None; control = Idle }) refl refl refl refl refl
-      refl) (λ t. k)
+      (λ o. Steadily o) (λ t. goes_so (record s { state = S1; ticks = None; control = Idle }) refl refl refl refl refl)
+      (λ t. k)
   report_in_so r S6 is idle = k
   report_in_so r _ is idle = active_so r idle
 
@@ -145,13 +128,12 @@ module _ (c : Config) (s : FopState SegmentView) (k : FopSteady c s) where
   pub tick_so : Steadily (tick_step s)
   tick_so = ticked s (λ o. Steadily o) (record {
     off = k;
-    runs = λ left. goes_same (record s { ticks = Some left }) refl refl refl refl refl refl (λ e. refl) refl;
-    stops = goes_same (after_stop s) refl refl refl refl refl refl (λ e. refl) refl;
-    repeats = λ active. goes_same (after_repeat (after_stop s)) refl refl refl refl refl refl
-        (λ e. absurd (cc (e, active_on s.state active))) refl;
-    counts = goes_same (after_count (after_stop s)) refl refl refl refl refl refl (λ e. refl) refl;
+    runs = λ left. goes_same (record s { ticks = Some left }) refl refl refl refl refl refl;
+    stops = goes_same (after_stop s) refl refl refl refl refl refl;
+    repeats = λ active. goes_same (after_repeat (after_stop s)) refl refl refl refl refl refl;
+    counts = goes_same (after_count (after_stop s)) refl refl refl refl refl refl;
     commands = λ is. goes_so (record (after_count (after_stop s)) { control = due_again s.control }) refl refl refl refl
-        (rw is refl) (rw is tt);
+        (rw is tt);
     gives_up = gives_up (after_stop s) refl refl refl refl;
   })
 
@@ -174,13 +156,10 @@ module _ (c : Config) (s : FopState SegmentView) (k : FopSteady c s) where
         let bypass_fits : AllByRecursion FitsFrame us = fit.1 in
         assumption (bypass_fits, k);
     again = λ active x is. goes_same (record (after_restart s) { sent = without_oldest_mark s.sent }) refl refl refl
-        refl refl refl (λ e. absurd (cc (e, active_on s.state active))) refl;
+        refl refl refl;
     first = λ active u is room.
         let vs_octet : (s.vs + 1) % 256 < 256 = omega arith in
-        let sent_none : is_closed s.state ≡ true → s.sent ++ unmarked_unit u ∷ [] ≡ [] =
-        λ e. absurd (cc (e, active_on s.state active)) in
-        let waiting_none : is_closed s.state ≡ true → (after_send_first s u).waiting ≡ None = λ e. refl in
-        assumption (vs_octet, sent_none, waiting_none, k);
+        assumption (vs_octet, k);
   })
 
 -- ---- the ground
@@ -192,9 +171,8 @@ pub record GroundNodeSteady (c : Config) (s : GroundState) : Type 0 where
 
 pub settled_so : (c : Config) (s : GroundState) → s.config ≡ c → FopSteady c s.fop → GroundNodeSteady c (settle_step s)
 settled_so c s is k = settled_keeps (GroundNodeSteady c) s (λ waiting pending on off.
-    let waiting_none : is_closed s.fop.state ≡ true → waiting ≡ None = λ e. (off e).0 ∙ k.waiting_none e in
-    let fop : FopSteady c (record s.fop { waiting = waiting }) = assumption (waiting_none, k) in
-    record { config = is; fop = fop; pending_none = λ e. (off e).1 })
+    let fop : FopSteady c (record s.fop { waiting = waiting }) = assumption k in
+    record { config = is; fop = fop; pending_none = off })
 
 -- ---- the receiver
 

@@ -47,9 +47,9 @@ use Rattle.nodes.specs.Parameters.{IsConfig, limits_of}
 use Rattle.nodes.specs.Spacecraft.{SpacecraftState, SpacecraftOutcome, spacecraft_report, frame_outcome, body_outcome}
 use Rattle.nodes.specs.Spacecraft.{sequence_outcome, bypass_outcome, command_event, is_free, is_own_frame}
 use Rattle.nodes.specs.Spacecraft.{spacecraft_take, spacecraft_take_bypass, spacecraft_telemetry}
-use Rattle.nodes.specs.Ground.{GroundState, is_closed, unsent_segments, settle_step, with_fop, frame_to_send}
-use Rattle.nodes.specs.Ground.{directive_outcome, submit_fault, after_submission, bypass_fault, after_bypass}
-use Rattle.nodes.specs.Ground.{unless_refused, after_extraction, ground_telemetry, telemetry_outcome, own_frame_outcome}
+use Rattle.nodes.specs.Ground.{GroundState, with_fop, directive_outcome, submit_fault, after_submission}
+use Rattle.nodes.specs.Ground.{bypass_fault, after_bypass, unless_refused, after_extraction, telemetry_outcome}
+use Rattle.nodes.specs.Ground.{own_frame_outcome}
 use Rattle.nodes.specs.Ground as ground
 use Rattle.tc_link.specs.World.{World, WorldOutcome, new_world, world_step, up_deliver_step}
 use Rattle.tc_link.specs.World.{down_deliver_step}
@@ -59,7 +59,7 @@ use Rattle.nodes.proofs.Submitting.{bypass_fits}
 use Rattle.tc_link.specs.Reached.{IsDirective, IsEvent}
 use Rattle.tc_link.proofs.Linked.{Steady, Commanded}
 use Rattle.tc_link.proofs.SteadyNodes.{FopSteady, GroundNodeSteady, FarmSteady, settled_so, farm_so, report_so, tick_so}
-use Rattle.tc_link.proofs.SteadyNodes.{pull_so, gives_up, goes_same, begins_so}
+use Rattle.tc_link.proofs.SteadyNodes.{pull_so, gives_up, goes_same, steady_so}
 use Rattle.tc_link.proofs.LateSubmitting.{all_push}
 use Rattle.cop1.proofs.Obeying.{obeyed, begun}
 use Rattle.tc_link.proofs.Leaving.{AtEachLoss, lost, pulled, up_arrives, down_arrives}
@@ -76,10 +76,6 @@ pub record Sound (c : Config) (w : World) : Type 0 where
   pub spacecraft : SpacecraftSteady c w.spacecraft
   pub before : w.session.before ≤ length w.spacecraft.accepted
 
-unsent_so : (c : Config) (s : GroundState) → GroundNodeSteady c s → is_closed s.fop.state ≡ true
-    → unsent_segments s ≡ []
-unsent_so c s k off = rw (k.fop.waiting_none off, k.pending_none off) refl
-
 pub steady_of : (c : Config) (w : World) → Sound c w → Steady c w
 steady_of c w k = record {
   ranges = k.ranges;
@@ -88,11 +84,7 @@ steady_of c w k = record {
   width = k.spacecraft.farm.width;
   farm_b = k.spacecraft.farm.farm_b;
   flags = k.spacecraft.farm.flags;
-  room = k.ground_node.fop.room;
   window = k.ground_node.fop.window;
-  vs_octet = k.ground_node.fop.vs_octet;
-  unsent_none = unsent_so c w.ground_node k.ground_node;
-  sent_none = k.ground_node.fop.sent_none;
   commanded = k.ground_node.fop.commanded;
   bypass_fits = k.ground_node.fop.bypass_fits;
   before = k.before;
@@ -215,12 +207,12 @@ module _ (c : Config) (s : GroundState) (k : GroundNodeSteady c s) where
 
   begun_so : (d : Directive) → is_initiation d ≡ true → IsDirective d → s.fop.state ≡ S6 → FopSteady c (begun s.fop d)
   begun_so InitWithoutCheck is fits off =
-      begins_so c s.fop k.fop (begun s.fop InitWithoutCheck) refl refl k.fop.vs_octet refl refl (idle_off off)
+      steady_so c s.fop k.fop (begun s.fop InitWithoutCheck) refl refl k.fop.vs_octet refl (idle_off off)
   begun_so InitWithCheck is fits off =
-      begins_so c s.fop k.fop (begun s.fop InitWithCheck) refl refl k.fop.vs_octet refl refl (idle_off off)
+      steady_so c s.fop k.fop (begun s.fop InitWithCheck) refl refl k.fop.vs_octet refl (idle_off off)
   begun_so InitUnlock is fits off =
-      begins_so c s.fop k.fop (begun s.fop InitUnlock) refl refl k.fop.vs_octet refl refl tt
-  begun_so (InitSetVr x) is fits off = begins_so c s.fop k.fop (begun s.fop (InitSetVr x)) refl refl fits refl refl tt
+      steady_so c s.fop k.fop (begun s.fop InitUnlock) refl refl k.fop.vs_octet refl tt
+  begun_so (InitSetVr x) is fits off = steady_so c s.fop k.fop (begun s.fop (InitSetVr x)) refl refl fits refl tt
   begun_so _ is fits off = absurd cc
 
   abbrev Directed : Directive → FopOutcome SegmentView (Result (Option Alert) CopFault) → Type 0
@@ -234,9 +226,9 @@ module _ (c : Config) (s : GroundState) (k : GroundNodeSteady c s) where
     numbers = λ x is fits. with_so (record s.fop { vs = x; nn = x }) (set_vs_so x fits);
     windows = λ n small fits. with_so (record s.fop { window = n }) (set_window_so n small);
     limits = λ n fits. with_so (record s.fop { limit = n })
-        (goes_same c s.fop k.fop (record s.fop { limit = n }) refl refl refl refl refl refl (λ e. refl) refl);
+        (goes_same c s.fop k.fop (record s.fop { limit = n }) refl refl refl refl refl refl);
     times = λ n fits. with_so (record s.fop { timer = n })
-        (goes_same c s.fop k.fop (record s.fop { timer = n }) refl refl refl refl refl refl (λ e. refl) refl);
+        (goes_same c s.fop k.fop (record s.fop { timer = n }) refl refl refl refl refl refl);
   })
 
   submitted_so : (m : ℕ) (octets : List ℕ) (o : Option LinkFault)
@@ -410,8 +402,6 @@ new_sound c ranges = record {
           ranges.window.1;
       vs_octet =
           omega arith;
-      sent_none = λ e. refl;
-      waiting_none = λ e. refl;
       commanded = refl;
       bypass_fits = tt;
     };

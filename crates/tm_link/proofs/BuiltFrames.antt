@@ -2,9 +2,8 @@
 use Rattle.std.proofs.Common.{◌≡◌, ◌≤◌, ◌<◌, ℕ, ◌+◌, ◌-◌, max, Bool, true, false, cond, eqb, List, [], ◌∷◌, ◌++◌}
 use Rattle.std.proofs.Common.{length, take, drop, replicate, refl, sym, ap, subst, ◌∙◌, arith, inl, inr, length-append}
 use Rattle.std.specs.List.{concat}
-use Rattle.std.proofs.lemmas.Bool.{cases_lt, eq-eqb, eqb-true, ne_eqb}
+use Rattle.std.proofs.lemmas.Bool.{cases_lt, eq-eqb, eqb-true, ne_eqb, and_parts}
 use Rattle.std.proofs.lemmas.List.{append-nil, drop_all, take-append-le, take-append-drop, length-take}
-use Rattle.octets.proofs.Outcomes.{both_true}
 use Rattle.tm_link.specs.declared.frame.Pointer.TheVariants.{OnlyIdle}
 use Rattle.tm_link.specs.Building.{BuilderState, idle_packet, idle_tail, data_size, is_at_rest, room_left, data_from}
 use Rattle.tm_link.specs.Building.{first_start, idle_after, left_after, after_send, with_next_count, build_step}
@@ -55,7 +54,7 @@ idle_laid : (s : BuilderState) (ocf : List ℕ) (packets : List (List ℕ)) (fra
     → IsLaidOutBy s packets frames → IsKeptWhen true s ocf packets frames
 idle_laid s ocf packets frames rest h =
     let g : FrameView = frame_when true s ocf in
-    let both = both_true (eqb s.idle_left 0) (eqb (length s.pending) 0) rest in
+    let both = and_parts (eqb s.idle_left 0) (eqb (length s.pending) 0) rest in
     let idle : s.idle_left ≡ 0 = eqb-true _ _ both.0 in
     let none : length s.pending ≡ 0 = eqb-true _ _ both.1 in
     let place : ℕ = length (carried_octets frames) in

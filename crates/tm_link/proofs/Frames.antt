@@ -3,13 +3,13 @@ use Rattle.std.proofs.Common.{◌≡◌, ◌<◌, ◌≤◌, ℕ, ◌+◌, ◌-�
 use Rattle.std.proofs.Common.{◌∷◌, ◌++◌, length, get_or, take, drop, Result, Ok, Err, refl, sym, ap, subst, ◌∙◌, arith}
 use Rattle.std.specs.Prelude.{◌==◌, IfOk, IsTrue}
 use Rattle.std.proofs.lemmas.Bool.{cond_both, eqb-false, eqb-true, eq-eqb, ne_eqb, ltb-false, ltb-true, le-ltb, lt-ltb}
-use Rattle.std.proofs.lemmas.Bool.{lt-leb}
+use Rattle.std.proofs.lemmas.Bool.{lt-leb, or_parts}
 use Rattle.std.proofs.lemmas.Bool.Decides.{nat_tests}
 use Rattle.std.proofs.lemmas.List.{length-take, length-drop, take-append-drop, take-take, drop-append-le, drop_all}
 use Rattle.std.proofs.lemmas.List.{take_at, drop_at}
 use Rattle.octets.specs.Number.{number_of, IsOctets}
 use Rattle.octets.specs.Outcome.{map_ok}
-use Rattle.octets.proofs.Outcomes.{passed, both_false, equal_from, ok_is}
+use Rattle.octets.proofs.Outcomes.{passed, equal_from, ok_is}
 use Rattle.octets.proofs.Numbers.{two_below}
 use Rattle.octets.proofs.Cuts.{cut_next}
 use Rattle.tm_link.specs.declared.frame.Pointer.{Pointer}
@@ -113,8 +113,8 @@ frame_is total b f octets h =
     let fields = passed (not (status / 2048 == 3)) faults.Status after_status f checked.1 in
     let inside = passed (is_pointer_outside (status % 2048) (total - 12)) faults.Pointer after_pointer f fields.1 in
     let declared = passed (first % 2 == 0) faults.NoOcf (Ok made) f inside.1 in
-    let most = both_false _ _ sizes.0 in
-    let count = both_false _ _ most.0 in
+    let most = or_parts _ _ sizes.0 in
+    let count = or_parts _ _ most.0 in
     let total-is : length b ≡ total = equal_from _ _ count.0 in
     let least : 16 ≤ total = ltb-false _ _ count.1 in
     let most-is : total ≤ 2048 = ltb-false _ _ most.1 in

@@ -1,18 +1,13 @@
 -- What is queued is one packet, which isn't idle.
-use Rattle.std.proofs.Common.{◌≡◌, ◌≢◌, ℕ, ◌+◌, ◌*◌, ◌%◌, ◌<◌, Bool, true, false, not, List, take, refl, sym, ◌∙◌}
+use Rattle.std.proofs.Common.{◌≡◌, ◌≢◌, ℕ, ◌+◌, ◌*◌, ◌%◌, ◌<◌, true, false, not, List, take, refl, sym, ◌∙◌}
 use Rattle.std.proofs.Common.{arith}
-use Rattle.std.proofs.lemmas.Bool.{eqb-false, ne_eqb}
+use Rattle.std.proofs.lemmas.Bool.{eqb-false, ne_eqb, and_parts, not-true}
 use Rattle.octets.specs.Number.{number_of, IsOctets}
-use Rattle.octets.proofs.Outcomes.{both_true}
 use Rattle.space_packet.specs.Layout.{PacketView, type_bit, secondary_bit, IsPacket}
 use Rattle.space_packet.specs.Packets.{is_packet}
 use Rattle.space_packet.proofs.WholePackets.{packet_from, is_packet-again}
 use Rattle.tm_link.specs.Building.{is_to_send, IsToSend}
 use Rattle.tm_link.specs.Extraction.{is_idle}
-
-from_not : (b : Bool) → not b ≡ true → b ≡ false
-from_not true h = absurd cc
-from_not false h = refl
 
 apid_is : (p : PacketView) (octets : List ℕ) → IsPacket p octets → number_of (take 2 octets) % 2048 ≡ p.apid
 apid_is p octets h =
@@ -23,9 +18,9 @@ apid_is p octets h =
 
 pub to_send_is : (octets : List ℕ) → IsOctets octets → is_to_send octets ≡ true → (p : PacketView) × IsToSend p octets
 to_send_is octets fits h =
-    let both = both_true (is_packet octets) (not (is_idle octets)) h in
+    let both = and_parts (is_packet octets) (not (is_idle octets)) h in
     let packet = packet_from octets fits both.0 in
-    let other : number_of (take 2 octets) % 2048 ≢ 2047 = eqb-false _ _ (from_not (is_idle octets) both.1) in
+    let other : number_of (take 2 octets) % 2048 ≢ 2047 = eqb-false _ _ (not-true (is_idle octets) both.1) in
     (packet.0, record { packet = packet.1; not_idle = λ e. other (apid_is packet.0 octets packet.1 ∙ e) })
 
 pub not_idle : (p : PacketView) (octets : List ℕ) → IsToSend p octets → is_idle octets ≡ false

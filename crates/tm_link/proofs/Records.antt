@@ -1,8 +1,6 @@
 -- Packets at the beginning of octets, one by one.
 use Rattle.std.proofs.Common.{◌≡◌, ◌≤◌, ℕ, ◌-◌, not, List, [], ◌∷◌, ◌++◌, length, take, drop, Option, Some, None}
 use Rattle.std.proofs.Common.{Result, Ok, Err, refl, sym, ap, ◌∙◌, arith, append_assoc}
-use Rattle.std.specs.Prelude.{Vec}
-use Rattle.std.specs.declared.alloc.Global.{Global}
 use Rattle.std.proofs.lemmas.List.{length-drop, take_at, take_all}
 use Rattle.std.proofs.lemmas.List.Elements.{filter-append}
 use Rattle.octets.specs.Number.{IsOctets}
@@ -13,7 +11,7 @@ use Rattle.octets.proofs.Streams.{IsNoRecord, record_is, records_of-record, reco
 use Rattle.space_packet.specs.declared.fault.PacketFault.{PacketFault}
 use Rattle.space_packet.specs.Laws.{extent_is, extent_has_header}
 use Rattle.space_packet.specs.Reading.{extent_at}
-use Rattle.tm_link.specs.Extraction.{is_idle, without_idle, octets_of}
+use Rattle.tm_link.specs.Extraction.{is_idle, without_idle}
 use Rattle.tm_link.specs.Splitting.{length_view}
 
 -- ---- whole packets that stand first
@@ -97,10 +95,6 @@ handed_on before now packet more h =
     ∙ append_assoc before (without_idle (packet ∷ [])) (without_idle more)
     ∙ ap (λ (xs : List (List ℕ)). before ++ xs) (sym (without_idle-append (packet ∷ []) more))
 
-pub octets_of-append : (xs ys : List (Vec ℕ Global)) → octets_of (xs ++ ys) ≡ octets_of xs ++ octets_of ys
-octets_of-append [] ys = refl
-octets_of-append (x ∷ xs) ys = ap (λ (zs : List (List ℕ)). x.items ∷ zs) (octets_of-append xs ys)
-
 -- ---- no packet handed out
 
 none_parts : (xs ys : List (List ℕ)) → xs ++ ys ≡ [] → (xs ≡ []) × (ys ≡ [])
@@ -114,7 +108,3 @@ none_handed xs ys h = none_parts (without_idle xs) (without_idle ys) (sym (witho
 pub none_handed-first : (x : List ℕ) (ys : List (List ℕ)) → without_idle (x ∷ ys) ≡ []
     → (without_idle (x ∷ []) ≡ []) × (without_idle ys ≡ [])
 none_handed-first x ys h = none_handed (x ∷ []) ys h
-
-pub none_held : (packets : List (Vec ℕ Global)) → octets_of packets ≡ [] → length packets ≡ 0
-none_held [] h = refl
-none_held (x ∷ xs) h = absurd cc

@@ -2,13 +2,13 @@
 use Rattle.std.proofs.Common.{◌≡◌, ◌<◌, ◌≤◌, ℕ, ◌+◌, ◌-◌, true, List, [], ◌∷◌, ◌++◌, length, get_or, take, drop, refl}
 use Rattle.std.proofs.Common.{sym, ap, subst, ◌∙◌, arith, length-append}
 use Rattle.std.specs.Prelude.{IsTrue}
-use Rattle.std.proofs.lemmas.Bool.{ltb-true}
+use Rattle.std.proofs.lemmas.Bool.{ltb-true, and_parts}
 use Rattle.std.proofs.lemmas.List.{take_at, take-append-drop, take-take, drop-take, drop-drop}
 use Rattle.byteorder.specs.Endian.{big_bytes}
 use Rattle.octets.specs.Check.{check_of}
 use Rattle.octets.proofs.Checked.{holds_check, checked_are}
 use Rattle.octets.proofs.Numbers.{number_of_two}
-use Rattle.octets.proofs.Outcomes.{both_true, le_true}
+use Rattle.octets.proofs.Outcomes.{le_true}
 use Rattle.space_packet.specs.Laws.{two_at}
 use Rattle.tm_link.specs.Layout.{FrameView, pointer_fits, IsTmFrame, IsSpelling}
 use Rattle.tm_link.specs.Writing.{total_of, first_number, status_number, header_octets, front_octets, spelling}
@@ -24,10 +24,10 @@ length-spelling f ocf =
 
 pub spelling_is : (f : FrameView) → length f.ocf ≡ 4 → frame_fits f ≡ true → IsTmFrame (total_of f) f (spelling f)
 spelling_is f ocf fits =
-    let pointer = both_true _ _ fits in
-    let most = both_true _ _ pointer.0 in
-    let least = both_true _ _ most.0 in
-    let header = both_true _ _ least.0 in
+    let pointer = and_parts _ _ fits in
+    let most = and_parts _ _ pointer.0 in
+    let least = and_parts _ _ most.0 in
+    let header = and_parts _ _ least.0 in
     let scid : f.scid < 1024 = ltb-true _ _ header.0 in
     let vcid : f.vcid < 8 = ltb-true _ _ header.1 in
     let some : 4 ≤ length f.payload = le_true _ _ least.1 in

@@ -35,10 +35,6 @@ Stepped c ps tail marks pointer payload =
     (m : Moved c ps tail marks (carried_by pointer payload))
     × Told c (kept tail marks) pointer payload m.added (kept m.begun m.flags)
 
-kept-none : (b : Bool) → cond b [] [] ≡ (let none : List ℕ = [] in none)
-kept-none true = refl
-kept-none false = refl
-
 kept-set : (begun : List ℕ) (n : ℕ) → kept begun (replicate n true) ≡ begun
 kept-set begun n = ap (λ (b : Bool). cond b begun []) (all_set n)
 
