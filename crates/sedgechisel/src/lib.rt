@@ -1,4 +1,5 @@
-//! The half of the link on board for programs in C: a static library that allocates nothing and calls nothing.
+//! Both ends of the link for programs in C: a static library that allocates nothing, and calls nothing of
+//! another library but `memmove`.
 #![tactic(auto)]
 
 mod assembly;
