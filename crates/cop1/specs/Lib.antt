@@ -1,3 +1,4 @@
+pub mod Accepted
 pub mod Directives
 pub mod Farm
 pub mod FarmFields

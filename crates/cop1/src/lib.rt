@@ -2,12 +2,14 @@
 //! docs/PROFILE.md has them.
 #![tactic(auto)]
 
+mod accepted;
 mod farm;
 mod fault;
 mod fop;
 mod laws;
 mod sender;
 
+pub use accepted::accepted_beyond;
 pub use farm::{Farm, FarmFields, FarmMode, Verdict};
 pub use fault::CopFault;
 pub use fop::{Alert, Control, Directive, Fop, FopMode, Next, Peeked, Pulled};

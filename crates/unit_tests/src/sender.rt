@@ -4,7 +4,7 @@ use bitflags::Flags;
 use clcw::{Clcw, ClcwFlags};
 use cop1::{
     Alert, Control, CopFault, Directive, Fop, FopMode, Peeked, Pulled, Sender, SenderFields,
-    SenderNext,
+    SenderNext, accepted_beyond,
 };
 use std::alloc::Global;
 use std::process::Abort;
@@ -340,6 +340,50 @@ fn a_directive_has_its_states(rt: HostRuntime) -> Result<(), Fail> {
             run(&rt, &mut both, &[Call::Direct(directive, answer)]);
         }
     }
+    Ok(())
+}
+
+// NN(R), V(S), the value of a report, and how many of the units between them it says were accepted.
+const SAYS: [(u8, u8, u8, Option<u8>); 15] = [
+    (3, 7, 5, Some(2)),
+    (3, 7, 3, Some(0)),
+    (3, 7, 7, Some(4)),
+    (3, 7, 8, None),
+    (3, 7, 2, None),
+    (250, 5, 250, Some(0)),
+    (250, 5, 255, Some(5)),
+    (250, 5, 0, Some(6)),
+    (250, 5, 5, Some(11)),
+    (250, 5, 6, None),
+    (250, 5, 249, None),
+    (9, 9, 9, Some(0)),
+    (9, 9, 10, None),
+    (0, 127, 127, Some(127)),
+    (0, 127, 128, None),
+];
+
+#[test]
+fn a_report_says_what_was_accepted(rt: HostRuntime) {
+    for (nn, vs, value, accepted) in SAYS {
+        assert_eq!(rt; accepted_beyond(nn, vs, value), accepted);
+    }
+}
+
+// An alert leaves both numbers, so that later reports say what was accepted; an initiation ends this.
+#[test]
+fn a_report_after_an_alert_says_what_was_accepted(rt: HostRuntime) -> Result<(), Fail> {
+    let mut both = in_state(&rt, rt.alloc(), FopMode::S6)?;
+    let says = |fop: &Fop<u8>, value| accepted_beyond(fop.nn(), fop.vs(), value);
+    assert_eq!(rt; says(&both.fop, 0), Some(0));
+    assert_eq!(rt; says(&both.fop, 1), Some(1));
+    assert_eq!(rt; says(&both.fop, 2), None);
+    run(
+        &rt,
+        &mut both,
+        &[Call::Direct(Directive::InitWithoutCheck, Ok(None))],
+    );
+    assert_eq!(rt; says(&both.fop, 0), None);
+    assert_eq!(rt; says(&both.fop, 1), Some(0));
     Ok(())
 }
 
