@@ -45,6 +45,7 @@ impl Model for Ground {
 impl Ground {
     ghost use Rattle.std.specs.Prelude.{◌≡◌, ◌≤◌, ◌/◌, ◌%◌, true, length, option_map, IfOk, IfSome, OnErr, IsOkUnless};
     ghost use Rattle.map_service.specs.Packets.{is_packet};
+    ghost use Rattle.cop1.specs.Accepted.{accepted_beyond};
     ghost use Rattle.cop1.specs.FopState.{IsFop};
     ghost use Rattle.nodes.specs.Ground.{new_ground, ground_step, Direct, Tick, TakeTelemetry, settle_step, outstanding};
 
@@ -115,6 +116,16 @@ impl Ground {
         ensures { result ≡ self.now.fop.nn }
     {
         self.fop.nn()
+    }
+
+    /// How many of the segments that were sent and not acknowledged were accepted on board when a
+    /// report of this value was made, the oldest ones; None where the value lies beyond V(S). After an
+    /// alert too, in S6, since V(S) and NN(R) stay until V(S) is set or an initiation begins (CCSDS
+    /// 232.1-B-2, 5.1). It takes no memory.
+    pub fn accepted_beyond(&self, value: u8) -> Option<u8>
+        ensures { result ≡ accepted_beyond self.now.fop.nn self.now.fop.vs value }
+    {
+        cop1::accepted_beyond(self.nn(), self.vs(), value)
     }
 
     /// How many octets a telemetry frame has.

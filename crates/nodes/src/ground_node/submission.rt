@@ -15,10 +15,12 @@ pub(crate) enum Segments {
     Several(VecDeque<OwnedSegment>),
 }
 
-/// Packets that are to be submitted and their segments, with all the memory that these need:
+/// Packets that are to be submitted on a MAP and their segments, with all the memory that these need:
 /// `Ground::prepare` makes it, and `Ground::commit` takes it.
 #[derive(Drop)]
 pub struct Submission<'a> {
+    pub(crate) map: u8,
+    pub(crate) octets: &'a [u8],
     pub(crate) packets: Packets<'a>,
     pub(crate) segments: Segments,
 }

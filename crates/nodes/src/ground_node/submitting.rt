@@ -15,7 +15,7 @@ impl Ground {
     ghost use Rattle.nodes.specs.Ground.{ground_step, Submit, Bypass, submit_fault, bypass_fault};
     ghost use Rattle.nodes.specs.Ground.{is_closed, unsent_segments, segments_on, is_over_slots};
     ghost use Rattle.nodes.specs.Parameters.{limits_of};
-    ghost use Rattle.nodes.specs.Submissions.{IsSubmissionAt, HasPlaces, segments_held, after_commit};
+    ghost use Rattle.nodes.specs.Submissions.{IsSubmissionAt, segments_held};
 
     /// Submits command packets on a MAP, to be sent under sequence control: exactly one packet, or
     /// with blocking one or more, one after another (CCSDS 232.0-B-4, 4.3). It is `prepare` and then
@@ -42,8 +42,8 @@ impl Ground {
     /// Judges and cuts the packets that are to be submitted, and takes the memory that this needs.
     /// Nothing changes. Refuses as `submit` does, in the same order.
     pub fn prepare<'a>(&self, map: u8, octets: &'a [u8]) -> Result<Submission<'a>, LinkFault>
-        ensures submission { IfOk result (IsSubmissionAt self.now map octets.now) }
-        ensures places { IfOk result (HasPlaces self.now) }
+        ensures given { IfOk result (λ b. (b.map ≡ map) × (b.octets.now ≡ octets.now)) }
+        ensures submission { IfOk result (IsSubmissionAt self.now) }
         ensures refused { IfSome (submit_fault self.now map octets.now)
             (λ fault. result ≡ Err fault) }
         ensures memory { submit_fault self.now map octets.now ≡ None
@@ -64,13 +64,19 @@ impl Ground {
         let Some(segments) = self.segments_of(map, octets) else {
             return Err(self.lack_of(octets));
         };
-        Ok(Submission { packets, segments })
+        Ok(Submission {
+            map,
+            octets,
+            packets,
+            segments,
+        })
     }
 
     /// Takes the packets that were prepared, since when nothing has changed. It takes no memory.
     pub fn commit(&mut self, submission: Submission<'_>)
-        requires { HasPlaces self.old submission }
-        ensures { self.new ≡ after_commit self.old submission.entry }
+        requires { IsSubmissionAt self.old submission }
+        ensures { self.new
+            ≡ (ground_step self.old (Submit submission.entry.map submission.entry.octets.now)).after }
     {
         let segments = submission.segments;
         match segments {

@@ -69,10 +69,17 @@ fn both_ways(rt: HostRuntime) -> Result<(), Fail> {
             Call::Directive(Directive::SetWindow(128)),
             "refused 2 Window (S1 3 1 2)",
         ),
+        (Call::AcceptedBeyond(2), "accepted 1 (S1 3 1 2)"),
         (
             Call::Directive(Directive::Terminate),
             "alert Terminated (S6 3 1 0)",
         ),
+        (Call::AcceptedBeyond(0), "none (S6 3 1 0)"),
+        (Call::AcceptedBeyond(1), "accepted 0 (S6 3 1 0)"),
+        (Call::AcceptedBeyond(3), "accepted 2 (S6 3 1 0)"),
+        (Call::AcceptedBeyond(4), "none (S6 3 1 0)"),
+        (Call::Directive(Directive::SetVs(9)), "ok (S6 9 9 0)"),
+        (Call::AcceptedBeyond(3), "none (S6 9 9 0)"),
     ];
     plays::<Ground, _>(&rt, rt.alloc(), &config, &rows)
 }

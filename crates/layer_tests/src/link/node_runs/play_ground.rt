@@ -22,6 +22,8 @@ pub enum Call<'a> {
     Tick,
     Telemetry(&'a [u8]),
     TakeTelemetry,
+    // What a report of this value says was accepted.
+    AcceptedBeyond(u8),
 }
 
 impl<'a> Node<Call<'a>> for Ground {
@@ -53,6 +55,7 @@ impl<'a> Node<Call<'a>> for Ground {
             Call::Tick => write_alert(line, self.tick())?,
             Call::Telemetry(octets) => write_telemetry(line, telemetry(rt, self, octets))?,
             Call::TakeTelemetry => write_packet(line, self.take_telemetry())?,
+            Call::AcceptedBeyond(value) => write_accepted(line, self.accepted_beyond(value))?,
         }
         let (state, vs, nn, outstanding) = seen(self);
         write!(line, " ({state:?} {vs} {nn} {outstanding})")
@@ -197,6 +200,13 @@ fn write_alert(line: &mut String, alert: Option<Alert>) -> Result<(), AllocError
     match alert {
         None => line.push_str("ok"),
         Some(alert) => write!(line, "alert {alert:?}"),
+    }
+}
+
+fn write_accepted(line: &mut String, accepted: Option<u8>) -> Result<(), AllocError> {
+    match accepted {
+        None => line.push_str("none"),
+        Some(count) => write!(line, "accepted {count}"),
     }
 }
 

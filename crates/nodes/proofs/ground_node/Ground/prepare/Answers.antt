@@ -1,10 +1,9 @@
-use Rattle.std.proofs.Common.{◌≡◌, ◌≤◌, ◌+◌, true, false, ℕ, List, length, None, Some, IfSome, Option, sym, ap, subst}
-use Rattle.std.proofs.Common.{◌∙◌, arith}
-use Rattle.std.proofs.lemmas.Bool.{ltb-false}
+use Rattle.std.proofs.Common.{◌≡◌, true, false, ℕ, List, None, Some, IfSome, Option, sym, ap, subst}
+use Rattle.std.proofs.Common.{◌∙◌, refl}
 use Rattle.map_service.specs.Assembly.{is_open}
 use Rattle.map_service.specs.declared.limits.Limits.{Limits}
 use Rattle.nodes.specs.Commands.{commands_fault}
-use Rattle.nodes.specs.Ground.{GroundState, is_closed, unsent_segments, segments_on, submit_fault}
+use Rattle.nodes.specs.Ground.{GroundState, is_closed, submit_fault}
 use Rattle.nodes.specs.Parameters.{limits_of}
 use Rattle.nodes.proofs.Submitting.{not_refused}
 use Rattle.nodes.proofs.ground_node.Ground.prepare.Goals as goal
@@ -29,16 +28,13 @@ returns c =
     subst (λ (l : Limits). commands_fault l octets ≡ None) limits c.in_ok-packets.ensures.ok in
     let fault : submit_fault s m octets ≡ None =
     not_refused s m octets closed opened commands c.in-Some-segments_of.ensures.places in
-    let count = ap length c.in-Some-segments_of.ensures.segments in
-    let few : length (unsent_segments s) + length (segments_on s m octets) ≤ s.config.queue_slots =
-    ltb-false _ _ c.in-Some-segments_of.ensures.places in
     record {
+      given = (refl, refl);
       submission = record {
+        fault = fault;
         packets = held_by _ c.in_ok-packets.field-0 c.in-Some.packets c.in-Some.is c.in_ok-packets.ensures.packets;
         segments = c.in-Some-segments_of.ensures.segments;
-        fault = fault;
       };
-      places = omega (arith, few, count);
       refused = none_is (submit_fault s m octets) _ fault;
       memory = λ h. tt;
       faults = tt;

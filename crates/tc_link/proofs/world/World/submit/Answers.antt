@@ -1,5 +1,5 @@
 use Rattle.std.proofs.Common.{◌≡◌, ◌++◌, ◌∷◌, [], ℕ, List, map, filter, length, Bool, true, false}
-use Rattle.std.proofs.Common.{None, refl, ap, sym, ◌∙◌, arith, append-nil}
+use Rattle.std.proofs.Common.{refl, ap, sym, ◌∙◌, arith, append-nil}
 use Rattle.std.specs.Prelude.{◌==◌, if◌then◌else◌}
 use Rattle.std.specs.List.{flat_map}
 use Rattle.std.proofs.lemmas.Grind.{flat_map-append}
@@ -7,8 +7,8 @@ use Rattle.std.proofs.lemmas.List.{map_push}
 use Rattle.std.proofs.lemmas.List.Elements.{filter-append}
 use Rattle.map_service.specs.Packets.{packets_in}
 use Rattle.map_service.specs.Views.{packets_view}
-use Rattle.tc_frame.specs.Layout.{SegmentView}
-use Rattle.nodes.specs.Ground.{GroundState, segments_on, settle_step}
+use Rattle.nodes.specs.declared.ground_node.submission.Submission.{Submission}
+use Rattle.nodes.specs.Ground.{GroundState, submit_fault}
 use Rattle.nodes.specs.Packets.{PacketOn, packet_on, packet_view}
 use Rattle.tc_link.proofs.Counted.{submit_same}
 use Rattle.tc_link.proofs.world.World.submit.Goals as goal
@@ -34,14 +34,13 @@ pub invariant_of-self-2 : goal.invariant_of-self-2
 invariant_of-self-2 c =
     let s : GroundState = c.self.inside.ground_node in
     let octets : List ℕ = c.args.octets.now in
-    let with_segments : List SegmentView → GroundState = λ ss. settle_step (record s { pending = s.pending ++ ss }) in
-    let after : c.commit.new.self ≡ with_segments (segments_on s c.args.map octets) =
-    c.commit.ensures ∙ ap with_segments c.in-Ok.ensures.submission.segments in
+    let b : Submission = c.in-Ok.submission in
     let same : length c.commit.new.self.fop.sent ≡ length s.fop.sent =
-    ap (λ (t : GroundState). length t.fop.sent) after
-    ∙ ap length (submit_same s c.args.map octets None) in
+    ap (λ (t : GroundState). length t.fop.sent) c.commit.ensures
+    ∙ ap length (submit_same s b.map b.octets.now (submit_fault s b.map b.octets.now)) in
     let copies : packets_view c.in-Ok-copied.packets ≡ packets_in octets =
-    c.in-Ok-copied.ensures ∙ c.packets.ensures ∙ c.in-Ok.ensures.submission.packets in
+    c.in-Ok-copied.ensures ∙ c.packets.ensures ∙ c.in-Ok.ensures.submission.packets
+    ∙ ap packets_in c.in-Ok.ensures.given.1 in
     let submissions : map packet_view c.push_reserved.new.self.items
     ≡ map packet_view c.self.inside.session.submissions.items ++ packet_on c.args.map octets ∷ [] =
     ap (map packet_view) (c.push_reserved.ensures.items
