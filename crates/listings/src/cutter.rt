@@ -1,6 +1,6 @@
 // What cuts a stream that comes in pieces into its records.
 
-ghost use Rattle.std.specs.Prelude.{◌≡◌, ◌<◌, ◌++◌, ◌↔◌, ℕ, List, Option, length, IsNone, IsErr, IfErr, OnOk};
+ghost use Rattle.std.specs.Prelude.{◌≡◌, ◌<◌, ◌++◌, ◌↔◌, ℕ, List, Option, length, IsNone, IsErr, IfErr, OnOk, OnErr};
 ghost use Rattle.std.specs.Borrow.{sem};
 ghost use Rattle.std.specs.Io.BufRead.{Rests};
 ghost use Rattle.octets.specs.Holding.{held as octets_held, failure as failure_met, rest_after, failure_after, lent_view};
@@ -21,9 +21,14 @@ pub trait Cutter {
 
     ghost failure: { Self → Option Self.Fault };
 
-    /// Takes more octets of the stream. Its fault is want of memory.
+    // The fault of want of memory.
+    ghost memory_fault: { Self.Fault };
+
+    /// Takes more octets of the stream. Its fault is want of memory; nothing has changed then.
     fn feed(&mut self, octets: &[u8]) -> Result<(), Self::Fault>
         ensures ok { OnOk result (held self.new ≡ held self.old ++ octets.now) }
+        ensures err { OnErr result (held self.new ≡ held self.old) }
+        ensures fault { IfErr result (λ e. e ≡ memory_fault) }
         ensures failure { failure self.new ≡ failure self.old };
 
     /// The next whole record, or the fault of its extent; `None` while octets are missing.
@@ -50,6 +55,8 @@ impl<L: Wire> Cutter for Splitter<L> {
     ghost held = { octets_held };
 
     ghost failure = { failure_met };
+
+    ghost memory_fault = { L.memory_fault };
 
     fn feed(&mut self, octets: &[u8]) -> Result<(), L::Fault> {
         self.feed(octets)

@@ -72,6 +72,7 @@ impl<K: FrameLength> FrameCutter<K> {
 impl<K: FrameLength> Cutter for FrameCutter<K> {
     ghost use Rattle.listings.specs.Cutting.{frames_held};
     ghost use Rattle.listings.specs.Layouts.{telemetry_layout};
+    ghost use Rattle.tm_link.specs.declared.fault.TmFault.TheVariants.{Memory};
     ghost use Rattle.std.proofs.Common.{arith, rules};
     ghost use Rattle.std.proofs.lemmas.Grind.{common_steps};
 
@@ -82,6 +83,8 @@ impl<K: FrameLength> Cutter for FrameCutter<K> {
     ghost held = { frames_held };
 
     ghost failure = { λ c. None };
+
+    ghost memory_fault = { Memory };
 
     fn feed(&mut self, octets: &[u8]) -> Result<(), TmFault> {
         if self.start > 0 {
