@@ -8,6 +8,8 @@ mod refused;
 mod refusing;
 mod rows;
 mod sessions;
+mod several;
+mod telemetry;
 
 use nodes::{PARAMETERS, Parameter};
 use tc_link::{Config, LinkFault};

@@ -1,4 +1,4 @@
--- No alert of a clean session that was begun by check, Unlock or Set V(R) is a false one.
+-- No alert of a session that had an idle start, by check, Unlock or Set V(R), is a false one.
 use Rattle.std.proofs.Common.{◌≡◌, ℕ, ◌+◌, ◌*◌, ◌/◌, ◌⊎◌, inl, inr, true, false, not, List, [], ◌∷◌, Option, Some, None}
 use Rattle.std.proofs.Common.{Result, Ok, Err, refl, ap, sym, subst, ◌∙◌}
 use Rattle.std.specs.Prelude.{◌==◌}
@@ -41,7 +41,7 @@ use Rattle.tc_link.proofs.Linked.{Steady, Late, Tells, Reporting}
 use Rattle.tc_link.proofs.Reports.{IsLate, IsAllowed, active_led, asked}
 use Rattle.tc_link.specs.History.{Rises}
 use Rattle.tc_link.proofs.Transit.{DownIs, Ranks, bit}
-use Rattle.tc_link.proofs.Windows.{report_told, directive_is}
+use Rattle.tc_link.proofs.Windows.{report_told}
 use Rattle.cop1.proofs.Obeying.{obeyed}
 use Rattle.cop1.proofs.Ticking.{ticked}
 use Rattle.tc_link.proofs.Leaving.{AtEachLoss, lost, pulled, up_arrives}
@@ -178,7 +178,7 @@ module _ (c : Config) (d : Directive) (base : ℕ) (w : World) (k : Steady c w) 
 
   module _ (g : Begun c d base w) where
     under_check : d ≡ InitWithCheck → IsUnderCheck w
-    under_check is = (directive_is w d g.early.opened ∙ ap Some is, g.early.confirmed_not)
+    under_check is = (g.early.opened ∙ ap Some is, g.early.confirmed_not)
 
     early_cause : (r : Clcw)
         → (locks r ≡ w.spacecraft.farm.lockout) × (asks r ≡ w.spacecraft.farm.retransmit)

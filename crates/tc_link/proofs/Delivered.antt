@@ -1,9 +1,11 @@
--- In a clean session packets are delivered in order.
-use Rattle.std.proofs.Common.{◌≡◌, ◌≢◌, ℕ, ◌+◌, ◌/◌, ◌≤◌, max, inl, inr, Bool, true, false, cond, eqb, List, [], ◌∷◌}
+-- In a session that had an idle start packets are delivered in order.
+use Rattle.std.proofs.Common.{◌≡◌, ◌≢◌, ℕ, ◌+◌, ◌-◌, ◌/◌, ◌%◌, ◌≤◌, max, inl, inr, Bool, true, false, cond, eqb}
+use Rattle.std.proofs.Common.{List, [], ◌∷◌}
 use Rattle.std.proofs.Common.{◌++◌, length, take, drop, map, filter, Some, None, refl, ap, sym, subst, ◌∙◌}
 use Rattle.std.proofs.Common.{append_assoc, arith, length-append, length-drop}
+use Rattle.std.specs.Prelude.{nat_lt}
 use Rattle.std.specs.List.{AllByRecursion, flat_map}
-use Rattle.std.proofs.lemmas.Bool.{eqb-true, eqb-false}
+use Rattle.std.proofs.lemmas.Bool.{eqb-true, eqb-false, cond_both, ltb-true}
 use Rattle.std.proofs.lemmas.List.{append-nil, take-append-drop, take_all, take-take, append_cancel_left}
 use Rattle.std.proofs.lemmas.List.{length-take-le, take-map, length-map}
 use Rattle.tc_frame.specs.Layout.{SegmentView, segment_octets}
@@ -18,24 +20,25 @@ use Rattle.cop1.specs.declared.fop.Directive.{Directive}
 use Rattle.cop1.specs.declared.fop.Directive.TheVariants.{InitWithoutCheck}
 use Rattle.cop1.specs.declared.fop.FopMode.TheVariants.{S1}
 use Rattle.cop1.specs.FopNext.{units_of}
-use Rattle.cop1.specs.FopState.{IsActive}
+use Rattle.cop1.specs.Modulo.{ahead_by}
 use Rattle.nodes.specs.declared.config.Config.{Config}
 use Rattle.nodes.specs.Packets.{PacketOn}
 use Rattle.nodes.specs.Parameters.{limits_of}
-use Rattle.nodes.specs.Ground.{outstanding, unsent_segments}
+use Rattle.nodes.specs.Ground.{outstanding, unsent_segments, is_closed}
+use Rattle.tc_link.specs.Accepted.{KeepsNumbers, said_by, WereAccepted}
 use Rattle.tc_link.specs.World.{World, IsSettled, submitted, accepted, delivered}
 use Rattle.tc_link.specs.PlainLink.{PlainLink, PlainRun, new_link, none, more, adds}
 use Rattle.octets.specs.Beginning.{IsBeginning}
 use Rattle.tc_link.specs.History.{IsHistory, HasPlainHistory, IsNear, Rises, number_of, numbered}
 use Rattle.tc_link.specs.InOrder.{IsInOrder}
 use Rattle.tc_link.specs.InTransit.{units_up, report_carried}
-use Rattle.tc_link.proofs.Beginning.{Clean}
+use Rattle.tc_link.proofs.Beginning.{InSession}
 use Rattle.tc_link.proofs.Early.{Begun, IsEarly}
-use Rattle.tc_link.proofs.Linked.{LateBy, IsGiven, units_of_all}
+use Rattle.tc_link.proofs.Linked.{LateBy, IsGiven, units_of_all, kept_of}
 use Rattle.tc_link.proofs.SteadyWorld.{Sound}
-use Rattle.tc_link.proofs.Transit.{Fits}
+use Rattle.tc_link.proofs.Transit.{Fits, DownIs, rises_to}
 use Rattle.tc_link.proofs.Closed.{active_on}
-use Rattle.tc_link.proofs.Windows.{units_in, values_in, reports_are, directive_is}
+use Rattle.tc_link.proofs.Windows.{units_in, values_in, reports_are}
 use Rattle.tc_link.specs.Confirmation.{IsChecking}
 use Rattle.tc_link.proofs.Linked.{holds_late}
 
@@ -100,15 +103,18 @@ pub record History (c : Config) (w : World) (base : ℕ) (p : PlainLink) : Type 
       → map (λ (r : Clcw). r.value) (flat_map (report_carried c) w.down) ≡ map (number_of base) p.down
   pub rises : Rises p.a p.down p.r
   pub vr_is : IsSettled w → w.spacecraft.farm.vr ≡ number_of base p.r
-  pub ends : IsSettled w → IsActive w.ground_node.fop.state
+  pub ends : IsSettled w → KeepsNumbers w
       → (w.ground_node.fop.vs ≡ number_of base p.n) × (w.ground_node.fop.nn ≡ number_of base p.a)
+  pub says : IsSettled w → KeepsNumbers w
+      → map (said_by w) (map (λ (r : Clcw). r.value) (flat_map (report_carried c) w.down))
+      ≡ map (λ v. Some (v - p.a)) p.down
 
 -- not before the confirmation
 pub unsettled : (c : Config) (d : Directive) (base : ℕ) (w : World) → Begun c d base w → IsSettled w → ⊥
 unsettled c d base w g settled = elim settled [
   | inl confirmed ↦ (let no : w.session.confirmed ≡ false = g.early.confirmed_not in cc)
   | inr without ↦ (
-      let is : Some d ≡ Some InitWithoutCheck = sym (directive_is w d g.early.opened) ∙ without in
+      let is : Some d ≡ Some InitWithoutCheck = sym g.early.opened ∙ without in
       let it : IsChecking (Some InitWithoutCheck) = subst IsChecking is g.early.checked in
       it.1 refl)
 ]
@@ -149,14 +155,50 @@ module _ {Reached : PlainLink → Type 0} (c : Config) (d : Directive) (base : �
         l.n_most,
       )
 
-  late_ends : IsActive w.ground_node.fop.state
-      → (w.ground_node.fop.vs ≡ number_of base p.n) × (w.ground_node.fop.nn ≡ number_of base p.a)
-  late_ends active =
-      let held = holds_late g.linked (active_on w.ground_node.fop.state active) in
-      (held.vs_is, held.nn_is)
+  abbrev pub Ends : Type 0
+  Ends = (w.ground_node.fop.vs ≡ number_of base p.n) × (w.ground_node.fop.nn ≡ number_of base p.a)
 
-  pub late_history : History c w base g.plain
-  late_history =
+  pub late_ends : KeepsNumbers w → Ends
+  late_ends still = elim still [
+    | inl active ↦ (let held = holds_late g.linked (active_on w.ground_node.fop.state active) in
+        (held.vs_is, held.nn_is))
+    | inr two ↦ (elim (kept_of (is_closed w.ground_node.fop.state) _ _ _ _ _ _ _ _ g.linked.held) [
+      | inl both ↦ both
+      | inr one ↦ absurd (two one)
+    ])
+  ]
+
+  -- a number between those of what is acknowledged and what was sent
+  pub said_is : (half_most : c.width / 2 ≤ 127) → Ends → (value v : ℕ) → value ≡ (base + v) % 256
+      → p.a ≤ v → v ≤ p.r → said_by w value ≡ Some (v - p.a)
+  said_is half_most ends value v is low high =
+      let l = g.linked in
+      let vs_is : w.ground_node.fop.vs ≡ (base + p.n) % 256 = ends.0 in
+      let nn_is : w.ground_node.fop.nn ≡ (base + p.a) % 256 = ends.1 in
+      let ahead : ahead_by value w.ground_node.fop.nn ≡ v - p.a =
+      omega (arith, is, nn_is, low, high, l.r_n, l.n_a, half_most) in
+      let room : ahead_by w.ground_node.fop.vs w.ground_node.fop.nn ≡ p.n - p.a =
+      omega (arith, vs_is, nn_is, l.a_r, l.r_n, l.n_a, half_most) in
+      cond_both (nat_lt (ahead_by w.ground_node.fop.vs w.ground_node.fop.nn) (ahead_by value w.ground_node.fop.nn))
+      None (Some (ahead_by value w.ground_node.fop.nn)) (λ o. o ≡ Some (v - p.a))
+      (λ t. absurd (omega (arith, ltb-true _ _ t, ahead, room, low, high, l.r_n)))
+      (λ t. ap Some ahead)
+
+  said_all : (half_most : c.width / 2 ≤ 127) → Ends → (low : ℕ) → (rs : List Clcw) (vs : List ℕ)
+      → p.a ≤ low → DownIs base rs vs → Rises low vs p.r
+      → map (said_by w) (map (λ (r : Clcw). r.value) rs) ≡ map (λ v. Some (v - p.a)) vs
+  said_all half_most ends low [] [] above down up = refl
+  said_all half_most ends low [] (v ∷ vs) above down up = elim down [ ]
+  said_all half_most ends low (r ∷ rs) [] above down up = elim down [ ]
+  said_all half_most ends low (r ∷ rs) (v ∷ vs) above down up =
+      let high : v ≤ p.r = rises_to v p.r vs up.1 in
+      let first : said_by w r.value ≡ Some (v - p.a) =
+      said_is half_most ends r.value v down.0 (omega (arith, above, up.0)) high in
+      ap (λ o. o ∷ map (said_by w) (map (λ (r : Clcw). r.value) rs)) first
+      ∙ ap (λ os. Some (v - p.a) ∷ os) (said_all half_most ends v rs vs (omega (arith, above, up.0)) down.1 up.1)
+
+  pub late_history : c.width / 2 ≤ 127 → History c w base g.plain
+  late_history half_most =
       let l = g.linked in
       let up_is = units_in c d base g.front w.up g.frames p.up l.carries l.up_is in
       let near = all_near (c.width / 2) p p.r p.up (omega arith) l.fits in
@@ -165,7 +207,13 @@ module _ {Reached : PlainLink → Type 0} (c : Config) (d : Directive) (base : �
       λ settled. ap (map (λ (r : Clcw). r.value)) (reports_are c w.down g.reports l.reporting)
       ∙ values_in base g.reports p.down l.down_is in
       let ends = λ (settled : IsSettled w). late_ends in
-      assumption (late_complete, up_is, near, down_is, ends, l)
+      let says : IsSettled w → KeepsNumbers w
+      → map (said_by w) (map (λ (r : Clcw). r.value) (flat_map (report_carried c) w.down))
+      ≡ map (λ v. Some (v - p.a)) p.down =
+      λ settled still. ap (λ (rs : List Clcw). map (said_by w) (map (λ (r : Clcw). r.value) rs))
+      (reports_are c w.down g.reports l.reporting)
+      ∙ said_all half_most (late_ends still) p.a g.reports p.down (omega arith) l.down_is l.rises in
+      assumption (late_complete, up_is, near, down_is, ends, says, l)
 
 -- before the confirmation nothing was sent
 abbrev unsent_link : Config → World → PlainLink
@@ -192,17 +240,18 @@ begun_history c d base w g =
       rises = omega arith;
       vr_is = λ settled. absurd (unsettled c d base w g settled);
       ends = λ settled. absurd (unsettled c d base w g settled);
+      says = λ settled. absurd (unsettled c d base w g settled);
     }
 
 -- of a plain link that a run leads to
-pub record IsTold (c : Config) (w : World) : Type 0 where
+pub record HasHistory (c : Config) (w : World) : Type 0 where
   pub base : ℕ
   pub plain : PlainLink
   pub ran : PlainRun new_link plain
   pub history : History c w base plain
 
-pub told : (c : Config) (w : World) → Clean c w → IsTold c w
-told c w s = elim s.session [
+pub history_of : (c : Config) (w : World) → c.width / 2 ≤ 127 → InSession c w → HasHistory c w
+history_of c w half_most s = elim s.session [
   | inl g ↦ record {
     base = s.base;
     plain = unsent_link c w;
@@ -213,7 +262,7 @@ told c w s = elim s.session [
     base = s.base;
     plain = g.plain;
     ran = g.ran;
-    history = late_history c s.directive s.base w g;
+    history = late_history c s.directive s.base w g half_most;
   }
 ]
 
@@ -281,6 +330,25 @@ module _ (c : Config) (w : World) (k : Sound c w) where
     accepted_octets : accepted w ≡ map segment_octets (take p.r p.units)
     accepted_octets = ap (map segment_octets) h.accepted_is
 
+    pub accepted_length : length (accepted w) ≡ p.r
+    accepted_length =
+        ap length accepted_octets
+        ∙ length-map (take p.r p.units) segment_octets
+        ∙ length-take-le p.r p.units (omega (arith, h.r_n, h.n_most))
+
+    -- the first of those that were sent were accepted
+    pub were_accepted : (i : ℕ) → p.a + i ≤ p.r → WereAccepted w i
+    were_accepted i most =
+        let sent_i : take (p.a + i) w.session.sent ≡ map segment_octets (take (p.a + i) p.units) =
+        ap (take (p.a + i)) h.sent_is
+        ∙ take-map segment_octets (p.a + i) (take p.n p.units)
+        ∙ ap (map segment_octets) (take-take (p.a + i) p.n p.units (omega (arith, most, h.r_n))) in
+        let accepted_i : take (p.a + i) (accepted w) ≡ map segment_octets (take (p.a + i) p.units) =
+        ap (take (p.a + i)) accepted_octets
+        ∙ take-map segment_octets (p.a + i) (take p.r p.units)
+        ∙ ap (map segment_octets) (take-take (p.a + i) p.r p.units most) in
+        rw h.acked_is (omega (arith, accepted_length, most), sent_i ∙ sym accepted_i)
+
     order_of_history : IsInOrder w
     order_of_history =
         let sent_a : take p.a w.session.sent ≡ map segment_octets (take p.a p.units) =
@@ -329,12 +397,19 @@ module _ (c : Config) (w : World) (k : Sound c w) where
           rises = h.rises;
           vr = h.vr_is;
           ends = h.ends;
+          says = λ settled still.
+              ap (λ (x : Config). map (said_by w) (map (λ (r : Clcw). r.value) (flat_map (report_carried x) w.down)))
+              k.ground_node.config
+              ∙ h.says settled still;
         }
 
-  pub is_in_order : Clean c w → IsInOrder w
-  is_in_order s = let t = told c w s in order_of_history t.base t.plain t.history
+  pub half_most : c.width / 2 ≤ 127
+  half_most = omega (arith, k.ranges.width)
 
-  pub has_plain_history : Clean c w → HasPlainHistory w
+  pub is_in_order : InSession c w → IsInOrder w
+  is_in_order s = let t = history_of c w half_most s in order_of_history t.base t.plain t.history
+
+  pub has_plain_history : InSession c w → HasPlainHistory w
   has_plain_history s =
-      let t = told c w s in
+      let t = history_of c w half_most s in
       record { base = t.base; plain = t.plain; ran = t.ran; is = is_history t.base t.plain t.history }

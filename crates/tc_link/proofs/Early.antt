@@ -16,7 +16,7 @@ use Rattle.nodes.specs.declared.config.Config.{Config}
 use Rattle.nodes.specs.OwnedFields.{FitsFrame}
 use Rattle.nodes.specs.Ground.{GroundState, is_closed, unsent_segments, settle_step}
 use Rattle.nodes.specs.Spacecraft.{SpacecraftState}
-use Rattle.tc_link.specs.World.{World}
+use Rattle.tc_link.specs.World.{World, directive_of}
 use Rattle.tc_link.specs.PlainLink.{PlainLink, PlainRun, new_link, none, more, adds, reports as tells}
 use Rattle.tc_link.specs.Confirmation.{IsChecked}
 use Rattle.tc_link.specs.History.{Rises}
@@ -73,7 +73,7 @@ last_good base (c ∷ cs) l all = last_good base cs l all.1
 
 -- ---- a plain link with as many reports of 0
 
-abbrev zeros : List Clcw → List ℕ
+abbrev pub zeros : List Clcw → List ℕ
 zeros [] = []
 zeros (c ∷ cs) = 0 ∷ zeros cs
 
@@ -81,10 +81,10 @@ zeros-push : (cs : List Clcw) → zeros cs ++ 0 ∷ [] ≡ 0 ∷ zeros cs
 zeros-push [] = refl
 zeros-push (c ∷ cs) = ap (λ l. 0 ∷ l) (zeros-push cs)
 
-abbrev zeros_plain : List SegmentView → List ℕ → PlainLink
+abbrev pub zeros_plain : List SegmentView → List ℕ → PlainLink
 zeros_plain units down = record { units = units; a = 0; r = 0; n = 0; up = []; down = down }
 
-zeros_run : (units : List SegmentView) (cs : List Clcw) → PlainRun new_link (zeros_plain units (zeros cs))
+pub zeros_run : (units : List SegmentView) (cs : List Clcw) → PlainRun new_link (zeros_plain units (zeros cs))
 zeros_run units [] = more none (adds units)
 zeros_run units (c ∷ cs) =
     let one : PlainRun new_link (zeros_plain units (zeros cs ++ 0 ∷ [])) =
@@ -94,7 +94,7 @@ zeros_down : (base : ℕ) (cs : List Clcw) (l : Type 0) → base < 256 → AllGo
 zeros_down base [] l most all = tt
 zeros_down base (c ∷ cs) l most all = (omega (arith, all.0.3), zeros_down base cs l most all.1)
 
-zeros_rise : (cs : List Clcw) → Rises 0 (zeros cs) 0
+pub zeros_rise : (cs : List Clcw) → Rises 0 (zeros cs) 0
 zeros_rise [] = omega arith
 zeros_rise (c ∷ cs) = (omega arith, zeros_rise cs)
 
@@ -144,7 +144,7 @@ same_push c (x ∷ xs) lockout retransmit vr l t v w all =
 
 pub record Early (c : Config) (d : Directive) (base : ℕ) (w : World) (frames : List BodyView) (reports : List Clcw) :
     Type 0 where
-  pub opened : w.session.opening ≡ Some (record { directive = d; clean = true })
+  pub opened : directive_of w ≡ Some d
   pub base_octet : base < 256
   pub checked : IsChecked d
   pub nn_octet : w.ground_node.fop.nn < 256

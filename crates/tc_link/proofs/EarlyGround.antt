@@ -1,5 +1,5 @@
 -- Before the confirmation: what the ground takes and sends keeps what holds.
-use Rattle.std.proofs.Common.{◌≡◌, ℕ, ◌<◌, true, false, List, [], ◌∷◌, ◌++◌, Option, Some, None}
+use Rattle.std.proofs.Common.{◌≡◌, ℕ, ◌<◌, inr, true, false, List, [], ◌∷◌, ◌++◌, Option, Some, None}
 use Rattle.std.proofs.Common.{option_to_list, refl, ap, sym, subst, ◌∙◌, append_assoc}
 use Rattle.std.specs.List.{AllByRecursion}
 use Rattle.std.proofs.lemmas.List.{append-nil}
@@ -28,7 +28,7 @@ use Rattle.tc_link.specs.World.{world_after_submission, world_after_bypass}
 use Rattle.nodes.proofs.Submitting.{segments_fit}
 use Rattle.tc_link.specs.Reached.{IsDirective}
 use Rattle.tc_link.proofs.Early.{IsEarly, ControlFits, Begun, early_settled}
-use Rattle.tc_link.proofs.Linked.{Steady, IsGiven, units_of_all, Held, Carries, carries_push}
+use Rattle.tc_link.proofs.Linked.{Steady, IsGiven, units_of_all, Held, Kept, kept_of, Carries, carries_push}
 use Rattle.tc_link.proofs.Settled.{held_same}
 use Rattle.tc_link.proofs.Spelled.{Goes, reads_back}
 use Rattle.tc_link.proofs.LateSubmitting.{taken_is, all_push, all_append, units-push}
@@ -73,9 +73,12 @@ module _ (c : Config) (d : Directive) (base : ℕ) (w : World) (k : Steady c w) 
       goes_early f (held_same_early f vs nn state sent waiting) (rw state g.early.early) (rw nn g.early.nn_octet)
       command_is
 
+  kept : Kept base w.ground_node.fop.vs w.ground_node.fop.nn 0 0
+  kept = kept_of (is_closed w.ground_node.fop.state) _ _ _ _ _ _ _ _ g.early.held
+
   off_early : (f : FopState SegmentView) → f.state ≡ S6 → f.nn < 256 → ControlFits d base f.control
-      → Begun c d base (record w { ground_node = with_fop w.ground_node f })
-  off_early f state nn_octet command_is = goes_early f (rw state tt) (rw state tt) nn_octet command_is
+      → Kept base f.vs f.nn 0 0 → Begun c d base (record w { ground_node = with_fop w.ground_node f })
+  off_early f state nn_octet command_is still = goes_early f (rw state still) (rw state tt) nn_octet command_is
 
   due_fits : (control : Control) → ControlFits d base control → ControlFits d base (due_again control)
   due_fits Idle fits = fits
@@ -97,7 +100,7 @@ module _ (c : Config) (d : Directive) (base : ℕ) (w : World) (k : Steady c w) 
         counts = same_early (after_count (after_stop s)) refl refl refl refl refl command_is;
         commands = λ is. same_early (record (after_count (after_stop s)) { control = due_again s.control }) refl refl
             refl refl refl (due_fits s.control command_is);
-        gives_up = off_early (after_alert (after_stop s)) refl g.early.nn_octet tt;
+        gives_up = off_early (after_alert (after_stop s)) refl g.early.nn_octet tt kept;
       })
 
   -- ---- a directive that begins no session
@@ -113,8 +116,8 @@ module _ (c : Config) (d : Directive) (base : ℕ) (w : World) (k : Steady c w) 
       obeyed s Keeps (record {
         refused = λ e fault on fits goes. g;
         begins = λ e is off fits goes. absurd (closed_not s.state off (goes is));
-        terminated = λ fits goes. off_early (after_alert s) refl g.early.nn_octet tt;
-        numbers = λ x is fits goes. off_early (record s { vs = x; nn = x }) is fits command_is;
+        terminated = λ fits goes. off_early (after_alert s) refl g.early.nn_octet tt kept;
+        numbers = λ x is fits goes. off_early (record s { vs = x; nn = x }) is fits command_is (inr refl);
         windows = λ k small fits goes. same_early (record s { window = k }) refl refl refl refl refl command_is;
         limits = λ n fits goes. same_early (record s { limit = n }) refl refl refl refl refl command_is;
         times = λ n fits goes. same_early (record s { timer = n }) refl refl refl refl refl command_is;

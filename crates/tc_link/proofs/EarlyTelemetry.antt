@@ -24,7 +24,7 @@ use Rattle.tc_link.specs.World.{World, is_confirmation, is_initialising, down_de
 use Rattle.tc_link.proofs.Early.{WouldConfirm, Good, AllGood, Lasts, IsEarly, ControlFits}
 use Rattle.tc_link.proofs.Early.{AllSame, Begun, last_good, Confirmed, confirmed}
 use Rattle.tc_link.proofs.LateTelemetry.{used_is, with_heard}
-use Rattle.tc_link.proofs.Linked.{Steady, units_of_all, Held, Reporting}
+use Rattle.tc_link.proofs.Linked.{Steady, units_of_all, Held, kept_of, Reporting}
 use Rattle.tc_link.proofs.Settled.{settled_keeps, held_again, queued_as}
 use Rattle.tc_link.proofs.Early.{holds_early}
 
@@ -91,7 +91,9 @@ module _ (c : Config) (d : Directive) (base : ℕ) (w : World) (k : Steady c w) 
         })
 
     goes_off : (alert : Alert) → Hears (alerts w.ground_node.fop alert)
-    goes_off alert = inl (stays (after_alert w.ground_node.fop) tt refl tt tt)
+    goes_off alert =
+        inl (stays (after_alert w.ground_node.fop) tt refl tt
+        (kept_of (is_closed w.ground_node.fop.state) _ _ _ _ _ _ _ _ g.early.held))
 
     goes_on_early : Hears (goes_on w.ground_node.fop)
     goes_on_early = inl (stays w.ground_node.fop g.early.early refl g.early.command_is g.early.held)

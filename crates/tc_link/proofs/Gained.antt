@@ -51,6 +51,9 @@ in_read : (s : SpacecraftState) (r : Result FrameView TcFault) → (frame_outcom
 in_read s (Err fault) = refl
 in_read s (Ok frame) = in_any s frame (is_own_frame s.config frame)
 
+pub config_stays : (s : SpacecraftState) (octets : List ℕ) → (spacecraft_receive s octets).after.config ≡ s.config
+config_stays s octets = in_read s (frame_at On octets)
+
 -- ---- what is delivered
 
 -- on MAP m, where this many segments had been accepted when the session began
@@ -100,6 +103,6 @@ pub gained : (s : SpacecraftState) (octets : List ℕ) (m before : ℕ) → befo
     ++ packets_accepted_on m (option_map (acceptance_with s) (segment_to_accept s octets))
 gained s octets m before le =
     ap (λ (c : Config). delivered_by c m before (spacecraft_receive s octets).after.accepted)
-    (in_read s (frame_at On octets))
+    (config_stays s octets)
     ∙ ap (delivered_by s.config m before) (accepts_segment s octets)
     ∙ with_one s m before (segment_to_accept s octets) le

@@ -1,4 +1,4 @@
--- At every moment of a run the world is sound, and so is a session that began clean.
+-- At every moment of a run the world is sound, and so is a session that had an idle start.
 use Rattle.std.proofs.Common.{◌≡◌, ℕ, ◌⊎◌, inl, inr, Bool, true, false, List, [], ◌∷◌, Option, Some, Result}
 use Rattle.std.proofs.Common.{refl, ap, sym, subst, ◌∙◌}
 use Rattle.std.specs.Prelude.{option_map}
@@ -16,11 +16,15 @@ use Rattle.tc_link.specs.declared.sim.opening.Opening.{Opening}
 use Rattle.nodes.specs.Parameters.{IsConfig}
 use Rattle.nodes.specs.Ground.{is_closed, directive_outcome}
 use Rattle.cop1.specs.Directives.{is_initiation}
-use Rattle.tc_link.specs.World.{World, WorldOutcome, new_world, world_step, world_run, IsClean, BeginsNoSession}
-use Rattle.tc_link.specs.World.{begins_clean, session_begun_by, session_after_directive}
+use Rattle.tc_link.specs.World.{World, WorldOutcome, Session, new_world, world_step, world_run, IsClean, IsIdle}
+use Rattle.tc_link.specs.World.{BeginsNoSession}
+use Rattle.tc_link.specs.World.{begins_clean, begins_idle, session_begun_by, session_after_directive}
 use Rattle.tc_link.specs.Reached.{IsDirective, IsEvent, IsReached}
 use Rattle.tc_link.proofs.Arriving.{up_deliver_keeps, late_up_lost}
-use Rattle.tc_link.proofs.Beginning.{Clean, begins}
+use Rattle.tc_link.proofs.Beginning.{InSession, begins}
+use Rattle.tc_link.proofs.Carried.{Carried, step_carried}
+use Rattle.tc_link.proofs.Idle.{clean_idle}
+use Rattle.tc_link.proofs.ReportsDown.{HasReports, step_reports}
 use Rattle.tc_link.proofs.Board.{late_take, late_take_bypass, late_telemetry}
 use Rattle.tc_link.proofs.Directing.{late_tick, late_directive}
 use Rattle.tc_link.proofs.Early.{Begun}
@@ -38,11 +42,16 @@ use Rattle.tc_link.proofs.Closed.{closed_not, closed_is}
 use Rattle.cop1.specs.FopWords.{FopOutcome}
 use Rattle.tc_link.proofs.Leaving.{AtEachLoss, lost, pulled, up_arrives, down_arrives}
 
--- ---- such an event leaves the session's opening as it is
+-- ---- such an event leaves the session's opening as it is, and another begins one
+
+-- what a session keeps from its beginning to its end
+abbrev pub opened : Session → Option Opening × ℕ
+opened s = (s.opening, s.before)
 
 module _ (w : World) where
+  -- the session is still the one that began so
   abbrev StaysOpen : WorldOutcome → Type 0
-  StaysOpen o = o.after.session.opening ≡ w.session.opening
+  StaysOpen o = opened o.after.session ≡ opened w.session
 
   opening_losses : AtEachLoss w StaysOpen
   opening_losses = record {
@@ -53,7 +62,7 @@ module _ (w : World) where
 
   abbrev Opened : Directive → FopOutcome SegmentView (Result (Option Alert) CopFault) → Type 0
   Opened d o = (is_initiation d ≡ true → is_closed w.ground_node.fop.state ≡ false)
-      → (session_after_directive w d (directive_outcome w.ground_node o).answer).opening ≡ w.session.opening
+      → opened (session_after_directive w d (directive_outcome w.ground_node o).answer) ≡ opened w.session
 
   opened_directive : (d : Directive) → Opened d (directive_step w.ground_node.fop d)
   opened_directive = obeyed w.ground_node.fop Opened (record {
@@ -66,18 +75,36 @@ module _ (w : World) where
     times = λ n goes. refl;
   })
 
-  pub opening_stays : (e : Event) → BeginsNoSession w e → StaysOpen (world_step w e)
-  opening_stays (events.Directive d) goes = opened_directive d (goes d refl)
-  opening_stays events.Send goes = pulled w StaysOpen (λ reply up sent silent. refl)
-  opening_stays events.UpDeliver goes = up_arrives w StaysOpen refl (λ b bs is. refl)
-  opening_stays events.DownDeliver goes = down_arrives w StaysOpen refl (λ b bs is. refl)
-  opening_stays events.UpLose goes = lost w StaysOpen opening_losses events.UpLose tt
-  opening_stays (events.UpDamage octets) goes = lost w StaysOpen opening_losses (events.UpDamage octets) tt
-  opening_stays events.DownLose goes = lost w StaysOpen opening_losses events.DownLose tt
-  opening_stays (events.DownDamage octets) goes = lost w StaysOpen opening_losses (events.DownDamage octets) tt
-  opening_stays _ goes = refl
+  pub session_stays : (e : Event) → BeginsNoSession w e → StaysOpen (world_step w e)
+  session_stays (events.Directive d) goes = opened_directive d (goes d refl)
+  session_stays events.Send goes = pulled w StaysOpen (λ reply up sent silent. refl)
+  session_stays events.UpDeliver goes = up_arrives w StaysOpen refl (λ b bs is. refl)
+  session_stays events.DownDeliver goes = down_arrives w StaysOpen refl (λ b bs is. refl)
+  session_stays events.UpLose goes = lost w StaysOpen opening_losses events.UpLose tt
+  session_stays (events.UpDamage octets) goes = lost w StaysOpen opening_losses (events.UpDamage octets) tt
+  session_stays events.DownLose goes = lost w StaysOpen opening_losses events.DownLose tt
+  session_stays (events.DownDamage octets) goes = lost w StaysOpen opening_losses (events.DownDamage octets) tt
+  session_stays _ goes = refl
 
--- ---- a clean session stays so
+  opening_stays : (e : Event) → BeginsNoSession w e → (world_step w e).after.session.opening ≡ w.session.opening
+  opening_stays e goes = ap (λ (o : Option Opening × ℕ). o.0) (session_stays e goes)
+
+  abbrev Begins : Directive → FopOutcome SegmentView (Result (Option Alert) CopFault) → Type 0
+  Begins d o = is_initiation d ≡ true → is_closed w.ground_node.fop.state ≡ true
+      → session_after_directive w d (directive_outcome w.ground_node o).answer ≡ session_begun_by w d
+
+  pub begun_is : (d : Directive) → Begins d (directive_step w.ground_node.fop d)
+  begun_is = obeyed w.ground_node.fop Begins (record {
+    refused = λ d fault on is off. absurd (on is (closed_is w.ground_node.fop.state off));
+    begins = λ d is off so closed. rw is refl;
+    terminated = λ is off. absurd cc;
+    numbers = λ x same is off. absurd cc;
+    windows = λ k small is off. absurd cc;
+    limits = λ n is off. absurd cc;
+    times = λ n is off. absurd cc;
+  })
+
+-- ---- such a session stays so
 
 module _ (c : Config) (d : Directive) (base : ℕ) (w : World) (k : Steady c w) where
   late_losses : (g : Late c d base w) → AtEachLoss w (λ o. Next c d base g.plain o.after)
@@ -129,14 +156,24 @@ module _ (c : Config) (d : Directive) (base : ℕ) (w : World) (k : Steady c w) 
 
 pub record Holding (c : Config) (w : World) : Type 0 where
   pub sound : Sound c w
-  pub clean : IsClean w → Clean c w
+  pub reports : HasReports c w.down
+  pub carried : Carried c w
+  pub clean : IsClean w → IsIdle w
+  pub session : IsIdle w → InSession c w
+
+abbrev cleans : Option Opening → Option Bool
+cleans o = option_map (λ (o : Opening). o.clean) o
+
+abbrev idles : Option Opening → Option Bool
+idles o = option_map (λ (o : Opening). o.idle) o
 
 module _ (c : Config) (w : World) (h : Holding c w) where
-  goes_on : (e : Event) → IsEvent e → BeginsNoSession w e → IsClean (world_step w e).after
-      → Clean c (world_step w e).after
-  goes_on e fits goes is =
-      let was : IsClean w = sym (ap (option_map (λ (o : Opening). o.clean)) (opening_stays w e goes)) ∙ is in
-      let s = h.clean was in
+  -- no session begins
+  session_goes : (e : Event) → BeginsNoSession w e → IsEvent e → IsIdle (world_step w e).after
+      → InSession c (world_step w e).after
+  session_goes e goes fits is =
+      let was : IsIdle w = sym (ap idles (opening_stays w e goes)) ∙ is in
+      let s = h.session was in
       record {
         directive = s.directive;
         base = s.base;
@@ -146,50 +183,74 @@ module _ (c : Config) (w : World) (h : Holding c w) where
         ];
       }
 
+  clean_goes : (e : Event) → BeginsNoSession w e → IsClean (world_step w e).after → IsIdle (world_step w e).after
+  clean_goes e goes is =
+      let stays = opening_stays w e goes in
+      let was : IsClean w = sym (ap cleans stays) ∙ is in
+      ap idles stays ∙ h.clean was
+
   some_true : (b : Bool) → Some b ≡ Some true → b ≡ true
   some_true b e = cc
 
-  abbrev Begins : Directive → FopOutcome SegmentView (Result (Option Alert) CopFault) → Type 0
-  Begins d o = is_initiation d ≡ true → is_closed w.ground_node.fop.state ≡ true
-      → session_after_directive w d (directive_outcome w.ground_node o).answer ≡ session_begun_by w d
+  -- one begins
+  session_begins : (d : Directive) → is_initiation d ≡ true → is_closed w.ground_node.fop.state ≡ true
+      → IsDirective d → IsIdle (world_step w (events.Directive d)).after
+      → InSession c (world_step w (events.Directive d)).after
+  session_begins d is off fits start =
+      let same : idles (session_begun_by w d).opening ≡ Some true =
+      sym (ap (λ s. idles s.opening) (begun_is w d is off)) ∙ start in
+      begins c w h.sound h.reports d is fits off (some_true (begins_idle w d) same)
 
-  begun_is : (d : Directive) → Begins d (directive_step w.ground_node.fop d)
-  begun_is = obeyed w.ground_node.fop Begins (record {
-    refused = λ d fault on is off. absurd (on is (closed_is w.ground_node.fop.state off));
-    begins = λ d is off so closed. rw is refl;
-    terminated = λ is off. absurd cc;
-    numbers = λ x same is off. absurd cc;
-    windows = λ k small is off. absurd cc;
-    limits = λ n is off. absurd cc;
-    times = λ n is off. absurd cc;
-  })
+  clean_begins : (d : Directive) → is_initiation d ≡ true → is_closed w.ground_node.fop.state ≡ true
+      → IsClean (world_step w (events.Directive d)).after → IsIdle (world_step w (events.Directive d)).after
+  clean_begins d is off clean =
+      let same : cleans (session_begun_by w d).opening ≡ Some true =
+      sym (ap (λ s. cleans s.opening) (begun_is w d is off)) ∙ clean in
+      ap (λ s. idles s.opening) (begun_is w d is off)
+      ∙ ap Some (clean_idle w d (some_true (begins_clean w d) same))
 
-  begins_so : (d : Directive) → IsDirective d → is_initiation d ≡ true → is_closed w.ground_node.fop.state ≡ true
-      → IsClean (world_step w (events.Directive d)).after → Clean c (world_step w (events.Directive d)).after
-  begins_so d fits is off clean =
-      let same : option_map (λ (o : Opening). o.clean) (session_begun_by w d).opening ≡ Some true =
-      sym (ap (λ s. option_map (λ (o : Opening). o.clean) s.opening) (begun_is d is off)) ∙ clean in
-      begins c w h.sound d is fits off (some_true (begins_clean w d) same)
+  -- one begins, or none does
+  module _ (P : Event → Type 0)
+      (begun : (d : Directive) → is_initiation d ≡ true → is_closed w.ground_node.fop.state ≡ true
+      → P (events.Directive d))
+      (none : (e : Event) → BeginsNoSession w e → P e) where
+    by_directive : (d : Directive) → P (events.Directive d)
+    by_directive d = elim (cases_Bool (is_initiation d)) [
+      | inl is ↦ (elim (cases_Bool (is_closed w.ground_node.fop.state)) [
+        | inl off ↦ begun d is off
+        | inr on ↦ none (events.Directive d) (λ x same is. on)
+      ])
+      | inr other ↦ none (events.Directive d) (λ x same is. absurd (cc (same, is, other)))
+    ]
 
-  directive_so : (d : Directive) → IsDirective d → IsClean (world_step w (events.Directive d)).after
-      → Clean c (world_step w (events.Directive d)).after
-  directive_so d fits clean = elim (cases_Bool (is_initiation d)) [
-    | inl is ↦ (elim (cases_Bool (is_closed w.ground_node.fop.state)) [
-      | inl off ↦ begins_so d fits is off clean
-      | inr on ↦ goes_on (events.Directive d) fits (λ x same is. on) clean
-    ])
-    | inr other ↦ goes_on (events.Directive d) fits (λ x same is. absurd (cc (same, is, other))) clean
-  ]
+    by_event : (e : Event) → P e
+    by_event (events.Directive d) = by_directive d
+    by_event e = none e (λ x same is. absurd (cc same))
 
-  clean_so : (e : Event) → IsEvent e → IsClean (world_step w e).after → Clean c (world_step w e).after
-  clean_so (events.Directive d) fits is = directive_so d fits is
-  clean_so e fits is = goes_on e fits (λ x same begins. absurd (cc same)) is
+  session_so : (e : Event) → IsEvent e → IsIdle (world_step w e).after → InSession c (world_step w e).after
+  session_so = by_event (λ e. IsEvent e → IsIdle (world_step w e).after → InSession c (world_step w e).after)
+      session_begins session_goes
+
+  clean_so : (e : Event) → IsClean (world_step w e).after → IsIdle (world_step w e).after
+  clean_so = by_event (λ e. IsClean (world_step w e).after → IsIdle (world_step w e).after) clean_begins clean_goes
 
   pub step_holds : (e : Event) → IsEvent e → Holding c (world_step w e).after
-  step_holds e fits = record { sound = step_sound c w h.sound e fits; clean = clean_so e fits }
+  step_holds e fits = record {
+    sound = step_sound c w h.sound e fits;
+    reports = step_reports c w (steady_of c w h.sound) h.reports e;
+    carried = step_carried c w h.sound h.carried e;
+    clean = clean_so e;
+    session = session_so e fits;
+  }
 
 pub new_holds : (c : Config) → IsConfig c → Holding c (new_world c)
-new_holds c ranges = record { sound = new_sound c ranges; clean = λ is. absurd cc }
+new_holds c ranges = record {
+  sound = new_sound c ranges;
+  reports = record { reports = []; reporting = tt };
+  carried = record { frames = []; carries = tt; fits = record { sent = λ running. tt; unsent = λ running. tt } };
+  clean = λ is. absurd cc;
+  session = λ is. absurd cc;
+}
 
 pub run_holds : (c : Config) (events : List Event) (w : World) → AllByRecursion IsEvent events → Holding c w
     → Holding c (world_run w events)

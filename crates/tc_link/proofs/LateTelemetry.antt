@@ -105,7 +105,7 @@ module _ (base h : ℕ) (checked : Type 0) (s : FopState SegmentView) (a n : ℕ
       (us : List SegmentView) → o.after.vs ≡ s.vs → o.after.nn ≡ (base + (a + gone)) % 256 → HeldBy off s gone o
       → Held false base s.vs s.nn s.sent (option_to_list s.waiting ++ pending) a m us
       → Held off base o.after.vs o.after.nn o.after.sent (option_to_list o.after.waiting ++ pending) (a + gone) m us
-  held_after true gone o pending m us vs nn by was = tt
+  held_after true gone o pending m us vs nn by was = inl (vs ∙ was.vs_is, nn)
   held_after false gone o pending m us vs nn by was = record {
     vs_is = vs ∙ was.vs_is;
     nn_is = nn;
@@ -141,7 +141,7 @@ module _ (base h : ℕ) (checked : Type 0) (s : FopState SegmentView) (a n : ℕ
       nn_is = omega (arith, k.nn_octet);
       nn_octet = k.nn_octet;
       late = k.late;
-      held = λ pending m us was. let off : is_closed s.state ≡ true = rw is refl in rw off tt;
+      held = λ pending m us was. let same : a + 0 ≡ a = omega arith in rw same was;
       rank_is = λ t. omega (arith, k.rank_low t);
     },
   )

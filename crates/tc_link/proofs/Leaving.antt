@@ -39,7 +39,7 @@ pub record AtEachLoss (w : World) (P : WorldOutcome → Type 0) : Type 0 where
       → P (world_reply reply (record w { down = bs }))
 
 -- the first frame on a way, or none
-first_on : (P : WorldOutcome → Type 0) (step : List (List ℕ) → WorldOutcome) (way : List (List ℕ)) → P (step [])
+pub first_on : (P : WorldOutcome → Type 0) (step : List (List ℕ) → WorldOutcome) (way : List (List ℕ)) → P (step [])
     → ((b : List ℕ) (bs : List (List ℕ)) → way ≡ b ∷ bs → P (step (b ∷ bs))) → P (step way)
 first_on P step [] none each = none
 first_on P step (b ∷ bs) none each = each b bs refl

@@ -1,9 +1,11 @@
+pub mod Accepted
 pub mod AcceptedSegments
 pub mod Alerts
 pub mod Arrived
 pub mod Arriving
 pub mod Beginning
 pub mod Board
+pub mod Carried
 pub mod Closed
 pub mod Counted
 pub mod Delivered
@@ -13,7 +15,9 @@ pub mod EarlyBoard
 pub mod EarlyGround
 pub mod EarlyTelemetry
 pub mod FirstOctets
+pub mod Fitting
 pub mod Gained
+pub mod Idle
 pub mod Invariant
 pub mod LateSending
 pub mod LateSubmitting
@@ -23,11 +27,14 @@ pub mod Linked
 pub mod Lists
 pub mod Locks
 pub mod MapLists
+pub mod NoMore
+pub mod OneLink
 pub mod Promised
 pub mod Queue
 pub mod Refusing
 pub mod ReportFrames
 pub mod Reports
+pub mod ReportsDown
 pub mod Runs
 pub mod Sending
 pub mod Settled
@@ -35,6 +42,10 @@ pub mod Spelled
 pub mod SteadyNodes
 pub mod SteadyWorld
 pub mod Steps
+pub mod Telemetry
+pub mod TelemetryKept
+pub mod TelemetrySteps
+pub mod Taking
 pub mod Transit
 pub mod Verdicts
 pub mod Windows

@@ -1,5 +1,6 @@
--- How the nodes, what is on its way, the records and a plain link hold together in a clean session.
-use Rattle.std.proofs.Common.{◌≡◌, ℕ, ◌+◌, ◌*◌, ◌/◌, ◌%◌, ◌<◌, ◌≤◌, Bool, true, false, List, [], ◌∷◌, ◌++◌, length}
+-- How the nodes, what is on its way, the records and a plain link hold together in a session that had an
+-- idle start.
+use Rattle.std.proofs.Common.{◌≡◌, ℕ, ◌+◌, ◌*◌, ◌/◌, ◌%◌, ◌<◌, ◌≤◌, ◌⊎◌, Bool, true, false, List, [], ◌∷◌, ◌++◌, length}
 use Rattle.std.proofs.Common.{take, drop, map, Some, None, Ok, inl, inr, refl, sym, subst}
 use Rattle.std.specs.List.{AllByRecursion, flat_map}
 use Rattle.clcw.specs.declared.word.Clcw.{Clcw}
@@ -26,7 +27,7 @@ use Rattle.nodes.specs.Parameters.{IsConfig, limits_of}
 use Rattle.nodes.specs.OwnedFields.{FitsFrame}
 use Rattle.nodes.specs.Packets.{PacketOn}
 use Rattle.nodes.specs.Ground.{frame_of, is_closed, unsent_segments}
-use Rattle.tc_link.specs.World.{World}
+use Rattle.tc_link.specs.World.{World, directive_of}
 use Rattle.tc_link.specs.PlainLink.{PlainLink, PlainRun, AtMostOneStep, new_link, more}
 use Rattle.tc_link.proofs.Reports.{IsLate, asked}
 use Rattle.tc_link.specs.History.{Rises}
@@ -94,9 +95,13 @@ pub record Holds (base vs nn : ℕ) (sent : List (SentUnit SegmentView)) (rest :
   pub sent_is : units_of sent ≡ drop a (take n units)
   pub rest_is : rest ≡ drop n units
 
+-- where it is off V(S) and NN(R) are still the session's, or they were set since, and are one
+abbrev pub Kept : (base vs nn a n : ℕ) → Type 0
+Kept base vs nn a n = ((vs ≡ (base + n) % 256) × (nn ≡ (base + a) % 256)) ⊎ (vs ≡ nn)
+
 abbrev pub Held : Bool → (base vs nn : ℕ) → List (SentUnit SegmentView) → List SegmentView → (a n : ℕ)
     → List SegmentView → Type 0
-Held true base vs nn sent rest a n units = Unit {0}
+Held true base vs nn sent rest a n units = Kept base vs nn a n
 Held false base vs nn sent rest a n units = Holds base vs nn sent rest a n units
 
 pub holds_where : {off : Bool} {base vs nn : ℕ} {sent : List (SentUnit SegmentView)} {rest : List SegmentView}
@@ -105,11 +110,16 @@ pub holds_where : {off : Bool} {base vs nn : ℕ} {sent : List (SentUnit Segment
 holds_where {off} {base} {vs} {nn} {sent} {rest} {a} {n} {units} on held =
     let it : Held false base vs nn sent rest a n units = rw on at held in it
 
+pub kept_of : (off : Bool) (base vs nn : ℕ) (sent : List (SentUnit SegmentView)) (rest : List SegmentView) (a n : ℕ)
+    (units : List SegmentView) → Held off base vs nn sent rest a n units → Kept base vs nn a n
+kept_of true base vs nn sent rest a n units held = held
+kept_of false base vs nn sent rest a n units held = inl (held.vs_is, held.nn_is)
+
 -- ---- once the session is confirmed, or begun without a check
 
 pub record Linked (c : Config) (d : Directive) (base : ℕ) (w : World) (p : PlainLink) (front : Bool)
     (frames : List BodyView) (reports : List Clcw) : Type 0 where
-  pub opened : w.session.opening ≡ Some (record { directive = d; clean = true })
+  pub opened : directive_of w ≡ Some d
   pub confirmed_is : IsChecked d → w.session.confirmed ≡ true
   pub confirmed_so : w.session.confirmed ≡ true → IsChecked d
   pub base_octet : base < 256

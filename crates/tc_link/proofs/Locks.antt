@@ -1,5 +1,5 @@
--- The receiver doesn't enter Lockout, and a confirmation is exact, in a clean session begun by check, Unlock or Set
--- V(R).
+-- The receiver doesn't enter Lockout, and a confirmation is exact, in a session that had an idle start,
+-- by check, Unlock or Set V(R).
 use Rattle.std.proofs.Common.{◌≡◌, ◌≢◌, ℕ, ◌⊎◌, inl, inr, Bool, true, false, List, [], ◌∷◌, length, Option, Some}
 use Rattle.std.proofs.Common.{Result, Ok, Err, refl, ap, sym, subst, ◌∙◌}
 use Rattle.std.specs.Prelude.{nat_lt}
@@ -36,14 +36,14 @@ use Rattle.tc_link.specs.FalseAlarms.{HasNoFalseAlarm}
 use Rattle.tc_link.specs.Reached.{IsEvent}
 use Rattle.tc_link.proofs.Alerts.{cause}
 use Rattle.tc_link.proofs.Arriving.{own_arrives}
-use Rattle.tc_link.proofs.Beginning.{Clean}
+use Rattle.tc_link.proofs.Beginning.{InSession}
 use Rattle.tc_link.proofs.Early.{Begun}
 use Rattle.tc_link.proofs.EarlyTelemetry.{early_down_deliver}
 use Rattle.tc_link.proofs.Invariant.{late_step}
 use Rattle.tc_link.proofs.Linked.{Steady, Late, Carries}
 use Rattle.tc_link.proofs.SteadyWorld.{Sound, steady_of, step_sound}
 use Rattle.tc_link.proofs.Transit.{UpIs}
-use Rattle.tc_link.proofs.Windows.{directive_is, state_by}
+use Rattle.tc_link.proofs.Windows.{state_by}
 use Rattle.tc_link.proofs.Leaving.{AtEachLoss, lost, pulled, up_arrives, down_arrives}
 
 -- ---- what leaves the receiver as it is
@@ -201,15 +201,14 @@ flag_of s agree other = locked_flag s.lockout s.wait (λ e. other (agree.state �
 
 -- ---- the promises
 
-opened_as : (c : Config) (w : World) (s : Clean c w) → directive_of w ≡ Some s.directive
+opened_as : (c : Config) (w : World) (s : InSession c w) → directive_of w ≡ Some s.directive
 opened_as c w s =
     elim s.session [
-      | inl g ↦ directive_is w s.directive g.early.opened
-      | inr g ↦ directive_is w s.directive
-          g.linked.opened
+      | inl g ↦ g.early.opened
+      | inr g ↦ g.linked.opened
     ]
 
-module _ (c : Config) (w : World) (k : Sound c w) (s : Clean c w) (checking : IsChecking (directive_of w)) where
+module _ (c : Config) (w : World) (k : Sound c w) (s : InSession c w) (checking : IsChecking (directive_of w)) where
   checked : IsChecked s.directive
   checked = let it : IsChecking (Some s.directive) = rw (opened_as c w s) at checking in it
 

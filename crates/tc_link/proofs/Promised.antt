@@ -9,10 +9,13 @@ use Rattle.tc_link.specs.declared.sim.fault.SimFault.{SimFault}
 use Rattle.tc_link.specs.Confirmation.{ConfirmsExactly}
 use Rattle.tc_link.specs.History.{IsHistory, HasPlainHistory, GoesOnByAStep}
 use Rattle.nodes.specs.Parameters.{IsConfig}
-use Rattle.tc_link.specs.Promises.{IsPromised, IsPromisedOf, HoldsThroughout}
+use Rattle.tc_link.specs.Promises.{IsPromised, IsPromisedOf, HoldsAt, HoldsThroughout}
+use Rattle.tc_link.specs.Readable.{AllReadable}
 use Rattle.tc_link.specs.Reached.{IsEvent, IsReached}
 use Rattle.tc_link.specs.Simulation.{SimState, sim_run}
-use Rattle.tc_link.specs.World.{World, new_world, world_step, world_run, IsClean}
+use Rattle.tc_link.specs.World.{World, new_world, world_step, world_run, IsClean, IsIdle}
+use Rattle.tc_link.proofs.Accepted.{says_what_was_accepted}
+use Rattle.tc_link.proofs.Carried.{all_readable}
 use Rattle.tc_link.proofs.Delivered.{is_in_order, has_plain_history}
 use Rattle.tc_link.proofs.Invariant.{reached_holds}
 use Rattle.tc_link.proofs.LateSubmitting.{all_push}
@@ -20,21 +23,29 @@ use Rattle.tc_link.proofs.Locks.{has_no_false_alarm, confirms_exactly}
 use Rattle.tc_link.proofs.Steps.{goes_on_by_a_step}
 use Rattle.tc_link.proofs.Windows.{keeps_to_window, is_confirmed_exactly}
 
-pub promised : (w : World) → IsReached w → IsClean w → IsPromised w
+-- a session that began clean had an idle start
+pub idle_of : (w : World) → IsReached w → IsClean w → IsIdle w
+idle_of w r is = (reached_holds w r).clean is
+
+pub readable_of : (w : World) → IsReached w → AllReadable w
+readable_of w r = let h = reached_holds w r in all_readable r.config w h.sound h.carried h.reports
+
+pub promised : (w : World) → IsReached w → IsIdle w → IsPromised w
 promised w r is =
     let h = reached_holds w r in
-    let s = h.clean is in
+    let s = h.session is in
     record {
       in_order = is_in_order r.config w h.sound s;
       history = has_plain_history r.config w h.sound s;
       window = keeps_to_window r.config w h.sound s;
       confirmed = is_confirmed_exactly r.config w h.sound s;
+      says = says_what_was_accepted r.config w h.sound s;
     }
 
-pub promised_of : (w : World) (e : Event) → IsReached w → IsEvent e → IsClean w → IsPromisedOf w e
+pub promised_of : (w : World) (e : Event) → IsReached w → IsEvent e → IsIdle w → IsPromisedOf w e
 promised_of w e r fits is =
     let h = reached_holds w r in
-    let s = h.clean is in
+    let s = h.session is in
     record {
       history = goes_on_by_a_step r.config w h.sound s e fits;
       confirms = λ checking. confirms_exactly r.config w h.sound s checking e;
@@ -97,18 +108,24 @@ parts : (before : List Event) (e : Event) (after : List Event) → AllByRecursio
 parts [] e after all = (tt, all.0)
 parts (x ∷ xs) e after all = let t = parts xs e after all.1 in ((all.0, t.0), t.1)
 
+pub holds_at : (w : World) (e : Event) → IsReached w → IsEvent e → HoldsAt w e
+holds_at w e r fits = record {
+  clean = λ is. (promised w r (idle_of w r is), promised_of w e r fits (idle_of w r is));
+  from_idle = λ is. (promised w r is, promised_of w e r fits is);
+  clean_is_idle = idle_of w r;
+  readable = readable_of w r;
+}
+
 pub holds_throughout : (c : Config) (events : List Event) → IsConfig c → AllByRecursion IsEvent events
     → HoldsThroughout c events
-holds_throughout c events ranges all before after e split is =
+holds_throughout c events ranges all before after e split =
     let t = parts before e after (subst (AllByRecursion IsEvent) split all) in
-    let r : IsReached (world_run (new_world c) before) = reached_run c before ranges t.0 in
-    (promised (world_run (new_world c) before) r is, promised_of (world_run (new_world c) before) e r t.1 is)
+    holds_at (world_run (new_world c) before) e (reached_run c before ranges t.0) t.1
 
-pub promised_run : (c : Config) (events : List Event) (s : SimState) → s ≡ sim_run c events → IsConfig c
-    → AllByRecursion IsEvent events → IsClean s.world → IsPromised s.world
-promised_run c events s ran ranges all =
-    subst (λ (s : SimState). IsClean s.world → IsPromised s.world) (sym ran)
-    (promised (world_run (new_world c) events) (reached_run c events ranges all))
+pub reached_by : (c : Config) (events : List Event) (s : SimState) → s ≡ sim_run c events → IsConfig c
+    → AllByRecursion IsEvent events → IsReached s.world
+reached_by c events s ran ranges all =
+    subst (λ (s : SimState). IsReached s.world) (sym ran) (reached_run c events ranges all)
 
 -- one event more of a run was seen
 pub one_more : (events : List Event) (i : ℕ) (d : Event) → i < length events → AllByRecursion IsEvent (take i events)

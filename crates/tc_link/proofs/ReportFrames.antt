@@ -19,7 +19,7 @@ use Rattle.tc_link.specs.World.{World}
 use Rattle.tc_link.proofs.Linked.{Steady, Tells, Reporting, reporting_push}
 use Rattle.tc_link.proofs.Words.{report_reads}
 
-data_length : (s : BuilderState) → s.idle_left ≤ 6 → length (data_built s) ≡ data_size s
+pub data_length : (s : BuilderState) → s.idle_left ≤ 6 → length (data_built s) ≡ data_size s
 data_length s least =
     cond_both (is_at_rest s) (replicate (data_size s) 0x55) (data_from s.idle_left s.pending (data_size s))
     (λ (xs : List ℕ). length xs ≡ data_size s)
@@ -43,9 +43,10 @@ data_length s least =
     length-take-le (data_size s) all enough)
 
 module _ (c : Config) (w : World) (k : Steady c w) where
-  tells_now : Tells c (telemetry_writing.spelling (spacecraft_report w.spacecraft).answer)
-      (report_of w.spacecraft.farm w.spacecraft.config.vcid)
-  tells_now =
+  -- the frame that is sent is the one that is read
+  pub reads_now : telemetry_reading.frame_at c.frame_length
+      (telemetry_writing.spelling (spacecraft_report w.spacecraft).answer) ≡ Ok (spacecraft_report w.spacecraft).answer
+  reads_now =
       let b : BuilderState = w.spacecraft.builder in
       let ocf : List ℕ = report_octets w.spacecraft in
       let f : telemetry.FrameView = frame_built b ocf in
@@ -54,16 +55,18 @@ module _ (c : Config) (w : World) (k : Steady c w) where
       built_is b ocf (omega (arith, k.builder.scid, k.ranges.scid))
       (omega (arith, k.builder.vcid, k.ranges.tm_vcid)) (omega (arith, total, k.ranges.frame_length))
       (omega (arith, total, k.ranges.frame_length)) refl (data_length b k.idle_left) in
-      let reads : telemetry_reading.frame_at c.frame_length (telemetry_writing.spelling f) ≡ Ok f =
-      rw (← total) (frame_again b.total (telemetry_writing.spelling f) f spelled) in
-      record {
-        frame = f;
-        reads = reads;
-        scid = k.builder.scid;
-        vcid = k.builder.vcid;
-        word = report_reads w.spacecraft.farm w.spacecraft.config.vcid k.farm_b;
-        own = ap (λ x. x.vcid) k.spacecraft_config;
-      }
+      rw (← total) (frame_again b.total (telemetry_writing.spelling f) f spelled)
+
+  tells_now : Tells c (telemetry_writing.spelling (spacecraft_report w.spacecraft).answer)
+      (report_of w.spacecraft.farm w.spacecraft.config.vcid)
+  tells_now = record {
+    frame = (spacecraft_report w.spacecraft).answer;
+    reads = reads_now;
+    scid = k.builder.scid;
+    vcid = k.builder.vcid;
+    word = report_reads w.spacecraft.farm w.spacecraft.config.vcid k.farm_b;
+    own = ap (λ x. x.vcid) k.spacecraft_config;
+  }
 
   -- the frame that is sent is the last on its way
   pub reporting_now : (reports : List Clcw) → Reporting c w.down reports

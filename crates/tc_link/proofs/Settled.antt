@@ -12,7 +12,7 @@ use Rattle.nodes.specs.Ground.{GroundState, is_closed, unsent_segments, after_mo
 use Rattle.nodes.specs.Ground.{with_fop}
 use Rattle.tc_link.specs.PlainLink.{PlainLink}
 use Rattle.tc_link.specs.World.{World}
-use Rattle.tc_link.proofs.Linked.{Late, Held, Next, LateBy, Calm, beside}
+use Rattle.tc_link.proofs.Linked.{Late, Held, Kept, Next, LateBy, Calm, beside}
 use Rattle.tc_link.proofs.Reports.{IsLate, asked}
 use Rattle.tc_link.proofs.Transit.{Ranks, bit, ranks_lower}
 
@@ -39,7 +39,7 @@ module _ (P : GroundState → Type 0) (s : GroundState)
 pub held_again : (off : Bool) (base vs nn : ℕ) (sent : List (SentUnit SegmentView)) (rest new : List SegmentView)
     (a n : ℕ) (units : List SegmentView) → (off ≡ false → new ≡ rest) → Held off base vs nn sent rest a n units
     → Held off base vs nn sent new a n units
-held_again true base vs nn sent rest new a n units same held = tt
+held_again true base vs nn sent rest new a n units same held = held
 held_again false base vs nn sent rest new a n units same held =
     let rest_is : new ≡ drop n units = same refl ∙ held.rest_is in assumption (rest_is, held)
 
@@ -49,7 +49,7 @@ held_same_where : (off : Bool) (base : ℕ) (s : GroundState) (f : FopState Segm
     → f.vs ≡ s.fop.vs → f.nn ≡ s.fop.nn → units_of f.sent ≡ units_of s.fop.sent → f.waiting ≡ s.fop.waiting
     → Held off base s.fop.vs s.fop.nn s.fop.sent (unsent_segments s) a n units
     → Held off base f.vs f.nn f.sent (option_to_list f.waiting ++ s.pending) a n units
-held_same_where true base s f a n units vs nn sent waiting held = tt
+held_same_where true base s f a n units vs nn sent waiting held = rw (vs, nn) held
 held_same_where false base s f a n units vs nn sent waiting held = record {
   vs_is = vs ∙ held.vs_is;
   nn_is = nn ∙ held.nn_is;
@@ -113,9 +113,10 @@ module _ (c : Config) (d : Directive) (base : ℕ) where
 
     -- the sender is off
     pub off_keeps : (f : FopState SegmentView) → f.state ≡ S6 → f.nn < 256
+        → Kept base f.vs f.nn g.plain.a g.plain.n
         → Next c d base g.plain (record w { ground_node = with_fop w.ground_node f })
-    off_keeps f state nn_octet =
+    off_keeps f state nn_octet kept =
         let p = g.plain in
-        goes_keeps f (rw state tt) (rw state tt) nn_octet
+        goes_keeps f (rw state kept) (rw state tt) nn_octet
         (λ m. rw state (ranks_lower (2 * p.a + asked w.ground_node.fop.state) (2 * p.a + 0)
         (2 * p.r + bit w.spacecraft.farm.retransmit) g.reports p.down (omega arith) m.ranks))

@@ -1,7 +1,7 @@
--- Where the numbers on their way lie in a clean session.
+-- Where the numbers on their way lie in a session that had an idle start.
 use Rattle.std.proofs.Common.{◌≡◌, ◌≢◌, ℕ, ◌+◌, ◌-◌, ◌/◌, ◌%◌, ◌<◌, ◌≤◌, inl, inr, max, Bool, true, false, List, []}
 use Rattle.std.proofs.Common.{◌∷◌, ◌++◌, length, take, map, Some, refl, ap, sym, subst, ◌∙◌, arith}
-use Rattle.std.specs.Prelude.{option_map, flat_map}
+use Rattle.std.specs.Prelude.{flat_map}
 use Rattle.std.specs.List.{AllByRecursion}
 use Rattle.std.proofs.lemmas.Bool.{cases_lt}
 use Rattle.std.proofs.lemmas.List.{length-take-le, length-map}
@@ -18,14 +18,13 @@ use Rattle.cop1.specs.declared.farm.FarmMode.TheVariants.{Lockout}
 use Rattle.cop1.specs.declared.fop.Directive.{Directive}
 use Rattle.cop1.specs.declared.fop.Directive.TheVariants.{InitSetVr}
 use Rattle.nodes.specs.declared.config.Config.{Config}
-use Rattle.tc_link.specs.declared.sim.opening.Opening.{Opening}
 use Rattle.nodes.specs.Ground.{is_closed}
-use Rattle.tc_link.specs.World.{World, directive_of}
+use Rattle.tc_link.specs.World.{World}
 use Rattle.tc_link.specs.History.{number_of, numbered}
 use Rattle.tc_link.specs.Confirmation.{LeavesVr, IsChecking, IsConfirmedExactly}
 use Rattle.tc_link.specs.InTransit.{number_in, command_in, unit_in, in_frame, report_read, report_of_frame}
 use Rattle.tc_link.specs.InTransit.{report_carried, reports_down, IsInWindow, IsRising, KeepsToWindow}
-use Rattle.tc_link.proofs.Beginning.{Clean}
+use Rattle.tc_link.proofs.Beginning.{InSession}
 use Rattle.tc_link.proofs.Early.{Begun, early_off}
 use Rattle.tc_link.proofs.Linked.{Late, Carries, Tells, Reporting}
 use Rattle.tc_link.proofs.SteadyWorld.{Sound}
@@ -90,7 +89,7 @@ reports_are c (b ∷ bs) (r ∷ rs) h =
     ap (λ xs. xs ++ flat_map (report_carried c) bs) (report_told c b r h.0)
     ∙ ap (λ xs. r ∷ xs) (reports_are c bs rs h.1)
 
-reports_of : (c : Config) (w : World) (rs : List Clcw) → w.ground_node.config ≡ c → Reporting c w.down rs
+pub reports_of : (c : Config) (w : World) (rs : List Clcw) → w.ground_node.config ≡ c → Reporting c w.down rs
     → reports_down w ≡ rs
 reports_of c w rs is h = ap (λ (x : Config). flat_map (report_carried x) w.down) is ∙ reports_are c w.down rs h
 
@@ -145,10 +144,6 @@ values_in base (r ∷ rs) (v ∷ vs) down =
     ∙ ap (λ (xs : List ℕ). number_of base v ∷ xs) (values_in base rs vs down.1)
 
 -- ---- the promises
-
-pub directive_is : (w : World) (d : Directive) → w.session.opening ≡ Some (record { directive = d; clean = true })
-    → directive_of w ≡ Some d
-directive_is w d is = ap (option_map (λ (o : Opening). o.directive)) is
 
 leaves : (d : Directive) (base vr : ℕ) (command : Command) → CommandFits d base command → vr ≡ base
     → LeavesVr vr command
@@ -211,7 +206,7 @@ module _ (c : Config) (w : World) (k : Sound c w) (d : Directive) (base : ℕ) w
       let l = g.linked in
       record {
         nothing_before = λ checking not_yet. absurd (
-            let checks : IsChecking (Some d) = rw (directive_is w d l.opened) at checking in
+            let checks : IsChecking (Some d) = rw l.opened at checking in
             let confirmed : w.session.confirmed ≡ true = l.confirmed_is checks in
             cc
             );
@@ -239,11 +234,11 @@ module _ (c : Config) (w : World) (k : Sound c w) (d : Directive) (base : ℕ) w
         unlocked = λ confirmed. absurd (let no : w.session.confirmed ≡ false = l.confirmed_not in cc);
       }
 
-pub keeps_to_window : (c : Config) (w : World) → Sound c w → Clean c w → KeepsToWindow w
+pub keeps_to_window : (c : Config) (w : World) → Sound c w → InSession c w → KeepsToWindow w
 keeps_to_window c w k s =
     elim s.session [ inl g ↦ early_window c w k s.directive s.base g | inr g ↦ late_window c w k s.directive s.base g ]
 
-pub is_confirmed_exactly : (c : Config) (w : World) → Sound c w → Clean c w → IsConfirmedExactly w
+pub is_confirmed_exactly : (c : Config) (w : World) → Sound c w → InSession c w → IsConfirmedExactly w
 is_confirmed_exactly c w k s =
     elim s.session [
       | inl g ↦ early_confirmed c w k s.directive s.base g

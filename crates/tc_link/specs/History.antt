@@ -1,12 +1,12 @@
 -- The plain link whose history the records of a session are, and whose numbers, modulo 256, are
 -- those on the link.
-use Rattle.std.specs.Prelude.{◌≡◌, ◌<◌, ◌≤◌, ℕ, ◌+◌, ◌/◌, ◌%◌, List, [], ◌∷◌, length, take, map}
-use Rattle.std.specs.Prelude.{flat_map}
+use Rattle.std.specs.Prelude.{◌≡◌, ◌<◌, ◌≤◌, ℕ, ◌+◌, ◌-◌, ◌/◌, ◌%◌, List, [], ◌∷◌, length, take}
+use Rattle.std.specs.Prelude.{map, flat_map, Some}
 use Rattle.std.specs.List.{AllByRecursion}
 use Rattle.tc_frame.specs.Layout.{SegmentView, segment_octets}
 use Rattle.map_service.specs.Cutting.{segments_of}
-use Rattle.cop1.specs.FopState.{IsActive}
 use Rattle.nodes.specs.Packets.{PacketOn}
+use Rattle.tc_link.specs.Accepted.{KeepsNumbers, said_by}
 use Rattle.tc_link.specs.World.{World, IsSettled, accepted}
 use Rattle.tc_link.specs.InTransit.{units_up, values_down}
 use Rattle.tc_link.specs.PlainLink.{PlainLink, PlainRun, AtMostOneStep, new_link}
@@ -51,9 +51,13 @@ pub record IsHistory (w : World) (base : ℕ) (plain : PlainLink) : Type 0 where
   pub rises : Rises plain.a plain.down plain.r
   -- and so have V(R), V(S) and NN(R)
   pub vr : IsSettled w → w.spacecraft.farm.vr ≡ number_of base plain.r
-  pub ends : IsSettled w → IsActive w.ground_node.fop.state
+  pub ends : IsSettled w → KeepsNumbers w
       → (w.ground_node.fop.vs ≡ number_of base plain.n)
       × (w.ground_node.fop.nn ≡ number_of base plain.a)
+  -- a report with the plain link's number v says that v - a segments beyond the acknowledged ones
+  -- were accepted: exactly those that were when the report was made
+  pub says : IsSettled w → KeepsNumbers w
+      → map (said_by w) (values_down w) ≡ map (λ v. Some (v - plain.a)) plain.down
 
 -- They are so of one that a run leads to.
 pub record HasPlainHistory (w : World) : Type 0 where

@@ -1,23 +1,29 @@
--- What is promised at every moment of a run, in a session that began clean.
+-- What is promised at every moment of a run.
 use Rattle.std.specs.Prelude.{◌≡◌, List, ◌∷◌, ◌++◌}
+use Rattle.std.specs.List.{AllByRecursion}
 use Rattle.nodes.specs.declared.config.Config.{Config}
+use Rattle.nodes.specs.Parameters.{IsConfig}
 use Rattle.tc_link.specs.declared.event.Event.{Event}
+use Rattle.tc_link.specs.Accepted.{SaysWhatWasAccepted}
 use Rattle.tc_link.specs.Confirmation.{IsChecking, ConfirmsExactly, IsConfirmedExactly}
 use Rattle.tc_link.specs.FalseAlarms.{HasNoFalseAlarm}
 use Rattle.tc_link.specs.History.{HasPlainHistory, GoesOnByAStep}
 use Rattle.tc_link.specs.InOrder.{IsInOrder}
 use Rattle.tc_link.specs.InTransit.{KeepsToWindow}
-use Rattle.tc_link.specs.World.{World, new_world, world_step, world_run, IsClean, IsSettled}
+use Rattle.tc_link.specs.Reached.{IsEvent}
+use Rattle.tc_link.specs.Readable.{AllReadable}
+use Rattle.tc_link.specs.World.{World, new_world, world_step, world_run, IsClean, IsIdle, IsSettled}
 use Rattle.tc_link.specs.World.{BeginsNoSession, directive_of}
 
--- of a world
+-- of a world, in a session that had an idle start
 pub record IsPromised (w : World) : Type 0 where
   pub in_order : IsInOrder w
   pub history : HasPlainHistory w
   pub window : KeepsToWindow w
   pub confirmed : IsConfirmedExactly w
+  pub says : SaysWhatWasAccepted w
 
--- of an event
+-- of an event in such a session
 pub record IsPromisedOf (w : World) (event : Event) : Type 0 where
   -- once the session is settled, and while it goes on
   pub history : IsSettled w → BeginsNoSession w event → GoesOnByAStep w (world_step w event).after
@@ -25,10 +31,24 @@ pub record IsPromisedOf (w : World) (event : Event) : Type 0 where
   pub confirms : IsChecking (directive_of w) → ConfirmsExactly w (world_step w event).after
   pub no_false_alarm : IsChecking (directive_of w) → HasNoFalseAlarm w event
 
--- in the world that each prefix of a run leads to, and of the event that comes then
+-- of a world, and of the event that comes next
+pub record HoldsAt (w : World) (event : Event) : Type 0 where
+  -- in a session that began clean
+  pub clean : IsClean w → IsPromised w × IsPromisedOf w event
+  -- and in any other that had an idle start, as one that began clean had
+  pub from_idle : IsIdle w → IsPromised w × IsPromisedOf w event
+  pub clean_is_idle : IsClean w → IsIdle w
+  -- in any session each frame on its way can be read
+  pub readable : AllReadable w
+
+-- this holds in the world that each prefix of a list of events leads to, and of the next event
 abbrev pub HoldsThroughout : Config → List Event → Type 0
 HoldsThroughout c events =
     (before after : List Event) (event : Event) → events ≡ before ++ event ∷ after
-    → IsClean (world_run (new_world c) before)
-    → IsPromised (world_run (new_world c) before)
-    × IsPromisedOf (world_run (new_world c) before) event
+    → HoldsAt (world_run (new_world c) before) event
+
+-- for every configuration in its ranges and every list of events
+abbrev pub HoldsOfAllRuns : Type 0
+HoldsOfAllRuns =
+    (c : Config) (events : List Event) → IsConfig c → AllByRecursion IsEvent events
+    → HoldsThroughout c events

@@ -3,6 +3,11 @@
 use Rattle.std.specs.Prelude.{◌≡◌, ◌⊎◌, option_map, ℕ, List, [], ◌∷◌, ◌++◌, length, take, drop, map}
 use Rattle.std.specs.Prelude.{flat_map, filter, Bool, true, false, ◌&&◌, ◌||◌, ◌==◌, if◌then◌else◌}
 use Rattle.std.specs.Prelude.{◌+◌, Option, Some, None, Result, Ok, Err}
+use Rattle.std.specs.List.{list_all}
+use Rattle.clcw.specs.declared.word.Clcw.{Clcw}
+use Rattle.clcw.specs.declared.fault.ClcwFault.{ClcwFault}
+use Rattle.clcw.specs.Flags.{flags_number}
+use Rattle.clcw.specs.Reading.{clcw_at}
 use Rattle.tc_frame.specs.declared.frame.Check.TheVariants.{On}
 use Rattle.tc_frame.specs.declared.fault.TcFault.{TcFault}
 use Rattle.tc_frame.specs.Layout.{SegmentView, BodyView, Ad, Bd, Bc, FrameView, segment_octets}
@@ -56,7 +61,7 @@ pub record Session : Type 0 where
   -- ones are acknowledged
   pub sent : List (List ℕ)
   pub acknowledged : ℕ
-  -- as many segments had been accepted on board when the session began
+  -- the number of segments that had been accepted on board when the session began
   pub before : ℕ
 
 -- the two nodes, what is on its way between them, the oldest first, and the records
@@ -119,6 +124,10 @@ delivered w m =
 abbrev pub IsClean : World → Type 0
 IsClean w = option_map (λ (o : Opening). o.clean) w.session.opening ≡ Some true
 
+-- it had an idle start
+abbrev pub IsIdle : World → Type 0
+IsIdle w = option_map (λ (o : Opening). o.idle) w.session.opening ≡ Some true
+
 -- the directive that began it
 abbrev pub directive_of : World → Option Directive
 directive_of w = option_map (λ (o : Opening). o.directive) w.session.opening
@@ -140,6 +149,33 @@ abbrev pub begins_clean : World → Directive → Bool
 begins_clean w InitWithoutCheck = is_quiet w && (w.spacecraft.farm.vr == w.ground_node.fop.vs)
 begins_clean w directive = is_initiation directive && is_quiet w
 
+-- a report has the value and the flags of this one; its FARM-B may differ
+abbrev pub says_as : Clcw → Result Clcw ClcwFault → Bool
+says_as now (Ok report) =
+    (report.value == now.value) && (flags_number report.flags == flags_number now.flags)
+says_as now (Err fault) = false
+
+-- a telemetry frame carries such a report
+abbrev pub reports_as : Clcw → Result telemetry.FrameView TmFault → Bool
+reports_as now (Ok frame) = says_as now (clcw_at frame.ocf)
+reports_as now (Err fault) = false
+
+-- what the receiver would report now
+abbrev pub report_now : World → Clcw
+report_now w = report_of w.spacecraft.farm w.spacecraft.config.vcid
+
+-- nothing is on its way up, and each frame on its way down reports what the receiver would now
+abbrev pub is_idle : World → Bool
+is_idle w =
+    is_none w.up && list_all (λ (octets : List ℕ). reports_as (report_now w)
+    (telemetry_reading.frame_at w.ground_node.config.frame_length octets)) w.down
+
+-- an initiation begins a session by an idle start in such a world, and without a check only where
+-- V(R) = V(S)
+abbrev pub begins_idle : World → Directive → Bool
+begins_idle w InitWithoutCheck = is_idle w && (w.spacecraft.farm.vr == w.ground_node.fop.vs)
+begins_idle w directive = is_initiation directive && is_idle w
+
 -- no session begins with an event: it is no initiation, or it comes while the sender is not in S6
 abbrev pub BeginsNoSession : World → Event → Type 0
 BeginsNoSession w event =
@@ -160,7 +196,11 @@ session_begun w opening = record {
 -- it begins with an initiation
 abbrev pub session_begun_by : World → Directive → Session
 session_begun_by w directive =
-    session_begun w (record { directive = directive; clean = begins_clean w directive })
+    session_begun w (record {
+      directive = directive;
+      clean = begins_clean w directive;
+      idle = begins_idle w directive;
+    })
 
 abbrev pub is_initialising : FopMode → Bool
 is_initialising S4 = true
@@ -355,3 +395,9 @@ abbrev pub run_answers : World → List Event → List (Result ReplyView SimFaul
 run_answers w [] = []
 run_answers w (event ∷ more) =
     (world_step w event).answer ∷ run_answers (world_step w event).after more
+
+-- no session begins with any of these events
+abbrev pub KeepsSession : World → List Event → Type 0
+KeepsSession w [] = Unit {0}
+KeepsSession w (event ∷ more) =
+    BeginsNoSession w event × KeepsSession (world_step w event).after more

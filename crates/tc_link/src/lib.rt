@@ -7,17 +7,21 @@
 mod acceptance;
 mod copying;
 mod event;
+mod laws;
 mod map_lists;
 mod outgoing;
 mod putting;
 mod reply;
 mod session;
 mod sim;
+mod telemetry_law;
 mod world;
 
 pub use event::Event;
+pub use laws::{law_of_plain_links, law_of_sessions, law_of_taking};
 pub use nodes::{
     Config, Ground, Heard, HeardReport, LinkFault, Received, Spacecraft, law_of_delivery,
 };
 pub use reply::{NodeFault, Reply};
 pub use sim::{Sim, SimFault, run};
+pub use telemetry_law::law_of_telemetry;

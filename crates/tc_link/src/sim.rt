@@ -50,8 +50,9 @@ impl Sim {
     ghost use Rattle.tc_link.specs.History.{HasPlainHistory, GoesOnByAStep};
     ghost use Rattle.tc_link.specs.InOrder.{IsInOrder};
     ghost use Rattle.tc_link.specs.InTransit.{KeepsToWindow};
-    ghost use Rattle.tc_link.specs.Promises.{IsPromised};
-    ghost use Rattle.tc_link.specs.World.{world_step, submitted, accepted, delivered, directive_of, BeginsNoSession, IsClean, IsSettled};
+    ghost use Rattle.tc_link.specs.Promises.{IsPromised, IsPromisedOf};
+    ghost use Rattle.tc_link.specs.Readable.{AllReadable};
+    ghost use Rattle.tc_link.specs.World.{world_step, submitted, accepted, delivered, directive_of, BeginsNoSession, IsClean, IsIdle, IsSettled};
 
     /// Two new nodes, and nothing between them. The faults are 9 `Config`, with the name of the first
     /// field that is out of its range, and then 6 `Memory`.
@@ -60,6 +61,9 @@ impl Sim {
         ensures range { refused_field result ≡ config_fault config }
         ensures memory { config_fault config ≡ None → IsOkUnless result SimFault.Memory }
         ensures promised { IfOk result (λ sim. IsClean sim.world → IsPromised sim.world) }
+        ensures from_idle { IfOk result (λ sim. IsIdle sim.world → IsPromised sim.world) }
+        ensures clean { IfOk result (λ sim. IsClean sim.world → IsIdle sim.world) }
+        ensures readable { IfOk result (λ sim. AllReadable sim.world) }
     {
         if let Some(field) = config.fault() {
             return Err(SimFault::Config(field));
@@ -77,7 +81,8 @@ impl Sim {
     ///
     /// Whatever the events of a session that began clean: packets are delivered in order, each once; what
     /// the ground holds acknowledged was accepted on board; and where it was begun by check, Unlock or
-    /// Set V(R), no alert is a false one.
+    /// Set V(R), no alert is a false one. All of this holds of a session that had an idle start too, as a
+    /// clean one had (`from_idle`). In any session the node that a frame is on its way to can read it.
     pub fn step(&mut self, event: Event<'_>) -> Result<Reply, SimFault>
         ensures reply { IfOk result (IsReplyTo self.old.world event.entry) }
         ensures after { OnOk result
@@ -99,6 +104,10 @@ impl Sim {
             → ConfirmsExactly self.old.world self.new.world }
         ensures no_false_alarm { IsClean self.old.world → IsChecking (directive_of self.old.world)
             → HasNoFalseAlarm self.old.world event.entry }
+        ensures from_idle { (IsIdle self.new.world → IsPromised self.new.world)
+            × (IsIdle self.old.world → IsPromisedOf self.old.world event.entry) }
+        ensures clean { IsClean self.new.world → IsIdle self.new.world }
+        ensures readable { AllReadable self.new.world }
     {
         event.keeps_octets();
         self.world.step(event)
@@ -132,6 +141,18 @@ impl Sim {
     {
         match self.world.opening() {
             Some(opening) => Some(opening.clean),
+            None => None,
+        }
+    }
+
+    /// Whether the session had an idle start: nothing was on its way up, each frame on its way down
+    /// carried the report that the receiver would have made then (FARM-B may differ), and, for an
+    /// initiation without a check, V(R) was V(S). A clean session had one. None before any session.
+    pub fn idle(&self) -> Option<bool>
+        ensures { result ≡ option_map (λ o. o.idle) self.now.world.session.opening }
+    {
+        match self.world.opening() {
+            Some(opening) => Some(opening.idle),
             None => None,
         }
     }

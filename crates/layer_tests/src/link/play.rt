@@ -216,3 +216,15 @@ pub fn runs(rt: &(impl Abort + Eprint), alloc: Global, session: &Session) -> Res
     play.ends(rt, session.rows, session.records)?;
     Ok(())
 }
+
+/// Whether the session that a whole run of the events leads to had an idle start; None where none has begun.
+pub fn starts_idle(
+    rt: &(impl Abort + Eprint),
+    alloc: Global,
+    session: &Session,
+    idle: Option<bool>,
+) -> Result<(), Fail> {
+    let play = Play::after_run(rt, alloc, session)?;
+    assert_eq!(rt; play.sim().idle(), idle);
+    Ok(())
+}

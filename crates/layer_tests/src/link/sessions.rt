@@ -1,8 +1,8 @@
 // Sessions on a simulated link: each event and the line of its answer, and that of the records at the end.
 
-use super::play::{Session, plays, plays_with_states, runs};
+use super::play::{Session, plays, plays_with_states, runs, starts_idle};
 use super::{P0, P1, UNLOCK};
-use cop1::Directive;
+use cop1::{Directive, accepted_beyond};
 use std::test::Fail;
 use tc_link::{Config, Event};
 
@@ -102,6 +102,134 @@ fn a_stale_report(rt: HostRuntime) -> Result<(), Fail> {
         "clean=no state=S1 submitted=5 delivered=0 sent=5 accepted=0 acknowledged=5 outstanding=0\n";
     let session = Session::new(Config::default(), &A_STALE_REPORT, records);
     plays(&rt, rt.alloc(), &session)?;
+    starts_idle(&rt, rt.alloc(), &session, Some(false))?;
+    runs(&rt, rt.alloc(), &session)
+}
+
+// Four reports are on their way as the session begins, two of them with another FARM-B. Each has the value
+// and the flags that the receiver would report, so the session has an idle start.
+static FOUR_REPORTS_ON_THEIR_WAY: [(Event, &str); 26] = [
+    (Event::Report, "report 01080000"),
+    (Event::Report, "report 01080000"),
+    (Event::Bypass(4, &P0), "ok"),
+    (Event::Send, "sent 2001080E00C41005C0000000AACA35"),
+    (Event::UpDeliver, "BD kept"),
+    (Event::Report, "report 01080200"),
+    (Event::Report, "report 01080200"),
+    (Event::Directive(Directive::InitWithCheck), "ok"),
+    (Event::DownDeliver, "gap=- packets=0"),
+    (Event::Submit(4, &P0), "ok"),
+    (Event::Submit(4, &P1), "ok"),
+    (Event::Send, "sent 0001080E00C41005C0000000AAE75D"),
+    (Event::DownDeliver, "gap=0 packets=0"),
+    (Event::Send, "sent 0001080E01C41005C0010000AB6AEB"),
+    (Event::UpLose, "lost"),
+    (Event::UpDeliver, "AD 1 ahead"),
+    (Event::DownDeliver, "gap=0 packets=0"),
+    (Event::Report, "report 01080A00"),
+    (Event::DownLose, "lost"),
+    (Event::DownDeliver, "gap=1 packets=0"),
+    (Event::Send, "sent 0001080E00C41005C0000000AAE75D"),
+    (Event::Send, "sent 0001080E01C41005C0010000AB6AEB"),
+    (Event::UpDeliver, "AD 0 accepted ready"),
+    (Event::UpDeliver, "AD 1 accepted ready"),
+    (Event::Report, "report 01080202"),
+    (Event::DownDeliver, "gap=0 packets=0"),
+];
+
+#[test]
+fn four_reports_on_their_way(rt: HostRuntime) -> Result<(), Fail> {
+    let records =
+        "clean=no state=S1 submitted=2 delivered=2 sent=2 accepted=2 acknowledged=2 outstanding=0\n";
+    let session = Session::new(Config::default(), &FOUR_REPORTS_ON_THEIR_WAY, records);
+    plays(&rt, rt.alloc(), &session)?;
+    starts_idle(&rt, rt.alloc(), &session, Some(true))?;
+    runs(&rt, rt.alloc(), &session)
+}
+
+// An old report differs in its retransmit flag alone from what the receiver would report. So the session has
+// no idle start: the report confirms it, and the next one gives a false alarm.
+static AN_OLD_FLAG: [(Event, &str); 14] = [
+    (Event::Directive(Directive::InitWithoutCheck), "ok"),
+    (Event::Report, "report 01080000"),
+    (Event::Submit(4, &P0), "ok"),
+    (Event::Submit(4, &P1), "ok"),
+    (Event::Send, "sent 0001080E00C41005C0000000AAE75D"),
+    (Event::Send, "sent 0001080E01C41005C0010000AB6AEB"),
+    (Event::UpLose, "lost"),
+    (Event::UpDeliver, "AD 1 ahead"),
+    (Event::Directive(Directive::Terminate), "alert Terminated"),
+    (Event::Directive(Directive::SetVs(0)), "ok"),
+    (Event::Directive(Directive::InitWithCheck), "ok"),
+    (Event::DownDeliver, "gap=- packets=0"),
+    (Event::Report, "report 01080800"),
+    (Event::DownDeliver, "gap=0 packets=0 alert Synch"),
+];
+
+#[test]
+fn an_old_flag(rt: HostRuntime) -> Result<(), Fail> {
+    let records =
+        "clean=no state=S6 submitted=0 delivered=0 sent=0 accepted=0 acknowledged=0 outstanding=0\n";
+    let session = Session::new(Config::default(), &AN_OLD_FLAG, records);
+    plays(&rt, rt.alloc(), &session)?;
+    starts_idle(&rt, rt.alloc(), &session, Some(false))?;
+    runs(&rt, rt.alloc(), &session)
+}
+
+// One frame of three is accepted, and its report comes after the alert: V(S) is 3, NN(R) is 0, and the report's
+// value is 1. So one of the three was accepted, and the next session submits the other two. A report is on its
+// way when it begins.
+static ONE_OF_THREE_ACCEPTED: [(Event, &str); 33] = [
+    (Event::Directive(Directive::InitWithCheck), "ok"),
+    (Event::Report, "report 01080000"),
+    (Event::DownDeliver, "gap=- packets=0"),
+    (Event::Submit(4, &P0), "ok"),
+    (Event::Submit(4, &P1), "ok"),
+    (Event::Submit(4, &P2), "ok"),
+    (Event::Send, "sent 0001080E00C41005C0000000AAE75D"),
+    (Event::Send, "sent 0001080E01C41005C0010000AB6AEB"),
+    (Event::Send, "sent 0001080E02C41005C0020000ACAC94"),
+    (Event::UpDeliver, "AD 0 accepted ready"),
+    (Event::UpLose, "lost"),
+    (Event::UpLose, "lost"),
+    (Event::Tick, "alert Timer"),
+    (Event::Report, "report 01080001"),
+    (Event::Report, "report 01080001"),
+    (Event::DownDeliver, "gap=0 packets=0"),
+    (Event::Directive(Directive::InitSetVr(3)), "ok"),
+    (Event::Send, "sent 30010809008200030FE4"),
+    (Event::DownDeliver, "gap=0 packets=0"),
+    (Event::UpDeliver, "BC set 3"),
+    (Event::Report, "report 01080203"),
+    (Event::DownDeliver, "gap=0 packets=0"),
+    (Event::Submit(4, &P1), "ok"),
+    (Event::Submit(4, &P2), "ok"),
+    (Event::Send, "sent 0001080E03C41005C0010000ABAC8C"),
+    (Event::Send, "sent 0001080E04C41005C0020000ACF61C"),
+    (Event::UpDeliver, "AD 3 accepted ready"),
+    (Event::UpDeliver, "AD 4 accepted ready"),
+    (Event::Report, "report 01080205"),
+    (Event::DownDeliver, "gap=0 packets=0"),
+    (Event::Take, "packet 4 1005C0000000AA"),
+    (Event::Take, "packet 4 1005C0010000AB"),
+    (Event::Take, "packet 4 1005C0020000AC"),
+];
+
+#[test]
+fn one_of_three_accepted(rt: HostRuntime) -> Result<(), Fail> {
+    assert_eq!(rt; accepted_beyond(0, 3, 1), Some(1));
+    let mut config = Config::default();
+    config.limit = 1;
+    config.timer = 1;
+    let before = &ONE_OF_THREE_ACCEPTED[..16];
+    let records =
+        "clean=yes state=S6 submitted=3 delivered=1 sent=3 accepted=1 acknowledged=0 outstanding=0\n";
+    plays(&rt, rt.alloc(), &Session::new(config, before, records))?;
+    let records =
+        "clean=no state=S1 submitted=2 delivered=2 sent=2 accepted=2 acknowledged=2 outstanding=0\n";
+    let session = Session::new(config, &ONE_OF_THREE_ACCEPTED, records);
+    plays(&rt, rt.alloc(), &session)?;
+    starts_idle(&rt, rt.alloc(), &session, Some(true))?;
     runs(&rt, rt.alloc(), &session)
 }
 

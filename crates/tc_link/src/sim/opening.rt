@@ -9,4 +9,7 @@ pub(crate) struct Opening {
     pub(crate) directive: Directive,
     /// Nothing was on its way then, and for an initiation without a check V(R) was V(S).
     pub(crate) clean: bool,
+    /// Nothing was on its way up then, each frame on its way down carried the report that the receiver
+    /// would have made, and for an initiation without a check V(R) was V(S).
+    pub(crate) idle: bool,
 }

@@ -3,8 +3,9 @@
 ghost use Rattle.std.specs.Prelude.{◌≡◌, None, IfOk, OnOk, IsOkUnless};
 ghost use Rattle.nodes.specs.Parameters.{config_fault};
 ghost use Rattle.tc_link.specs.Promises.{IsPromised, HoldsThroughout};
+ghost use Rattle.tc_link.specs.Readable.{AllReadable};
 ghost use Rattle.tc_link.specs.Simulation.{sim_run, refused_field};
-ghost use Rattle.tc_link.specs.World.{IsClean};
+ghost use Rattle.tc_link.specs.World.{IsClean, IsIdle};
 
 use super::{Sim, SimFault};
 use crate::event::Event;
@@ -21,6 +22,9 @@ pub fn run(alloc: Global, config: Config, events: &[Event<'_>]) -> Result<Sim, S
     ensures memory { config_fault config ≡ None → IsOkUnless result SimFault.Memory }
     ensures promised { IfOk result (λ sim. IsClean sim.world → IsPromised sim.world) }
     ensures throughout { OnOk result (HoldsThroughout config events.now) }
+    ensures from_idle { IfOk result (λ sim. IsIdle sim.world → IsPromised sim.world) }
+    ensures clean { IfOk result (λ sim. IsClean sim.world → IsIdle sim.world) }
+    ensures readable { IfOk result (λ sim. AllReadable sim.world) }
 {
     let mut sim = Sim::new(alloc, config)?;
     'events: for event in events {

@@ -4,29 +4,36 @@ ghost use Rattle.std.specs.Prelude.{◌≡◌, option_map};
 ghost use Rattle.nodes.specs.Packets.{packet_view};
 ghost use Rattle.tc_link.specs.Replies.{reply_view, reply_to_alert, reply_to_taking};
 ghost use Rattle.cop1.specs.Directives.{is_initiation};
+ghost use Rattle.std.specs.List.{list_all};
+ghost use Rattle.tm_link.specs.Extraction.{octets_of};
+ghost use Rattle.tm_link.specs.Reading.{frame_at};
+ghost use Rattle.tc_link.specs.World.{reports_as};
 
 use super::World;
 use crate::event::Event;
 use crate::map_lists::no_packets;
 use crate::reply::{NodeFault, Reply};
 use crate::sim::{Opening, SimFault};
+use clcw::Clcw;
 use cop1::{Alert, Directive};
+use std::collections::VecDeque;
 use tm_link::TmFault;
 
 impl World {
     ghost use Rattle.std.specs.Prelude.{◌≡◌, ◌≢◌, [], Ok, Err, Some, IfOk, OnOk, OnErr, IsOkUnless};
     ghost use Rattle.tc_link.specs.Simulation.{IsReplyTo, TakesNone};
-    ghost use Rattle.tc_link.specs.World.{world_step, is_quiet, begins_clean, session_begun};
+    ghost use Rattle.tc_link.specs.World.{world_step, is_quiet, begins_clean, is_idle, begins_idle, session_begun};
 
     pub(crate) fn directive(&mut self, directive: Directive) -> Reply
         ensures reply { IsReplyTo self.old (Event.Directive directive) result }
         ensures after { self.new ≡ (world_step self.old (Event.Directive directive)).after }
     {
         let clean = self.begins_clean(directive);
+        let idle = self.begins_idle(directive);
         match self.ground_node.directive(directive) {
             Ok(alert) => {
                 if is_initiation(directive) {
-                    self.begin(directive, clean);
+                    self.begin(directive, clean, idle);
                 }
                 reply_to_alert(alert)
             }
@@ -87,13 +94,36 @@ impl World {
         }
     }
 
-    fn begin(&mut self, directive: Directive, clean: bool)
+    fn is_idle(&self) -> bool
+        ensures { result ≡ is_idle self.now }
+    {
+        let now = self.spacecraft.control_word();
+        self.up.is_empty() && all_report_as(&self.down, self.ground_node.frame_length(), now)
+    }
+
+    fn begins_idle(&self, directive: Directive) -> bool
+        ensures { result ≡ begins_idle self.now directive }
+    {
+        match directive {
+            Directive::InitWithoutCheck => {
+                self.is_idle() && self.spacecraft.control_word().value == self.ground_node.vs()
+            }
+            _ => is_initiation(directive) && self.is_idle(),
+        }
+    }
+
+    fn begin(&mut self, directive: Directive, clean: bool, idle: bool)
         requires { self.old.ground_node.fop.sent ≡ [] }
         ensures { self.new ≡ record self.old {
-          session = session_begun self.old (record { directive = directive; clean = clean });
+          session = session_begun self.old
+              (record { directive = directive; clean = clean; idle = idle });
         } }
     {
-        self.session.opening = Some(Opening { directive, clean });
+        self.session.opening = Some(Opening {
+            directive,
+            clean,
+            idle,
+        });
         self.session.confirmed = false;
         self.session.submissions.clear();
         self.session.submitted = no_packets(self.alloc);
@@ -101,6 +131,32 @@ impl World {
         self.session.sent.clear();
         self.session.acknowledged = 0;
         self.session.before = self.accepted.len();
+    }
+}
+
+// Whether each frame is a telemetry frame whose report has the value and the flags of this one.
+fn all_report_as(down: &VecDeque<Vec<u8>>, total: usize, now: Clcw) -> bool
+    ensures { result ≡ list_all (λ octets. reports_as now (frame_at total octets))
+        (octets_of down.now.items) }
+{
+    for octets in down {
+        if !reports_as(octets, total, now) {
+            return false;
+        }
+    }
+    true
+}
+
+// Whether the octets are a telemetry frame whose report has the value and the flags of this one.
+fn reports_as(octets: &[u8], total: usize, now: Clcw) -> bool
+    ensures { result ≡ reports_as now (frame_at total octets.now) }
+{
+    let Ok(frame) = tm_link::decode(octets, total) else {
+        return false;
+    };
+    match frame.report() {
+        Ok(report) => report.value == now.value && report.flags == now.flags,
+        Err(_) => false,
     }
 }
 

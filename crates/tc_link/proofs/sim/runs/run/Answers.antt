@@ -2,9 +2,9 @@ use Rattle.std.proofs.Common.{subst, sym, arith}
 use Rattle.std.specs.List.{AllByRecursion}
 use Rattle.std.proofs.lemmas.Grind.{common_steps}
 use Rattle.std.proofs.lemmas.List.{take_all}
-use Rattle.tc_link.specs.Reached.{IsEvent}
+use Rattle.tc_link.specs.Reached.{IsEvent, IsReached}
 use Rattle.nodes.proofs.InRange.{config_is}
-use Rattle.tc_link.proofs.Promised.{holds_throughout, one_more, promised_run}
+use Rattle.tc_link.proofs.Promised.{readable_of, idle_of, promised, holds_throughout, one_more, reached_by}
 use Rattle.tc_link.proofs.Runs.{run_ends}
 use Rattle.tc_link.proofs.sim.runs.run.Goals as goal
 
@@ -20,17 +20,28 @@ events-preserved c = record {
       c.in_ok-record_step.ensures.octets;
 }
 
+fits : (c : goal.After-events) → AllByRecursion IsEvent c.args.events.now
+fits c =
+    subst (AllByRecursion IsEvent) (take_all c.events.event-index c.args.events.now
+    (omega (arith, c.events-test.false))) c.events.invariant.octets
+
+reached : (c : goal.After-events) → IsReached c.events.sim.world
+reached c =
+    reached_by c.args.config c.args.events.now c.events.sim (returns-clause-ran c)
+    (config_is c.args.config (sym c.in_ok-sim.ensures.range)) (fits c)
+
 pub returns-clause-promised : goal.returns-clause-promised
-returns-clause-promised c =
-    let ran = run_ends c.args.config c.args.events.now c.events.sim c.events.event-index
-    (omega (arith, c.events-test.false)) c.events.invariant.ran in
-    promised_run c.args.config c.args.events.now c.events.sim ran
-    (config_is c.args.config (sym c.in_ok-sim.ensures.range))
-    (subst (AllByRecursion IsEvent) (take_all c.events.event-index c.args.events.now
-    (omega (arith, c.events-test.false))) c.events.invariant.octets)
+returns-clause-promised c is = promised c.events.sim.world (reached c) (idle_of c.events.sim.world (reached c) is)
+
+pub returns-clause-from_idle : goal.returns-clause-from_idle
+returns-clause-from_idle c = promised c.events.sim.world (reached c)
+
+pub returns-clause-clean : goal.returns-clause-clean
+returns-clause-clean c = idle_of c.events.sim.world (reached c)
+
+pub returns-clause-readable : goal.returns-clause-readable
+returns-clause-readable c = readable_of c.events.sim.world (reached c)
 
 pub returns-clause-throughout : goal.returns-clause-throughout
 returns-clause-throughout c =
-    holds_throughout c.args.config c.args.events.now (config_is c.args.config (sym c.in_ok-sim.ensures.range))
-    (subst (AllByRecursion IsEvent) (take_all c.events.event-index c.args.events.now
-    (omega (arith, c.events-test.false))) c.events.invariant.octets)
+    holds_throughout c.args.config c.args.events.now (config_is c.args.config (sym c.in_ok-sim.ensures.range)) (fits c)

@@ -1,0 +1,253 @@
+-- What the ground holds to be sent fits into frames, at every moment while its sender is on.
+use Rattle.std.proofs.Common.{◌≡◌, ℕ, zero, suc, Bool, true, false, not, List, [], ◌∷◌, ◌++◌, drop}
+use Rattle.std.proofs.Common.{Option, Some, None, Result}
+use Rattle.std.proofs.Common.{Ok, Err, option_to_list, refl, ap, sym, subst, ◌∙◌, append_assoc}
+use Rattle.std.specs.Prelude.{◌==◌}
+use Rattle.std.specs.List.{AllByRecursion}
+use Rattle.std.proofs.lemmas.Bool.{cond_both}
+use Rattle.clcw.specs.declared.word.Clcw.{Clcw}
+use Rattle.clcw.specs.declared.fault.ClcwFault.{ClcwFault}
+use Rattle.clcw.specs.Reading.{clcw_at}
+use Rattle.tc_frame.specs.Layout.{SegmentView}
+use Rattle.map_service.specs.Cutting.{segments_of}
+use Rattle.cop1.specs.Modulo.{ahead_by}
+use Rattle.cop1.specs.declared.fault.CopFault.{CopFault}
+use Rattle.cop1.specs.declared.fop.Alert.{Alert}
+use Rattle.cop1.specs.declared.fop.Alert.TheVariants as alert
+use Rattle.cop1.specs.declared.fop.Control.TheVariants.{Idle, Sent}
+use Rattle.cop1.specs.declared.fop.Directive.{Directive}
+use Rattle.cop1.specs.declared.fop.Directive.TheVariants.{InitWithoutCheck, InitWithCheck, InitUnlock, InitSetVr}
+use Rattle.cop1.specs.declared.fop.FopMode.{FopMode}
+use Rattle.cop1.specs.declared.fop.FopMode.TheVariants.{S1, S2, S3, S4, S5, S6}
+use Rattle.cop1.specs.Directives.{is_initiation}
+use Rattle.cop1.specs.FopDirective.{directive_step}
+use Rattle.cop1.specs.FopNext.{units_of}
+use Rattle.cop1.specs.FopPull.{pull_step, without_oldest_mark}
+use Rattle.cop1.specs.FopReport.{locks, waits, asks, clcw_step, report_in, report_while_active, report_in_S4, confirms}
+use Rattle.cop1.specs.FopReport.{after_move_on, retransmits, after_new_value}
+use Rattle.cop1.specs.FopState.{FopState}
+use Rattle.cop1.specs.FopTick.{tick_step, after_count, due_again}
+use Rattle.cop1.specs.FopWords.{FopOutcome, after_acknowledge, after_repeat, after_alert, after_stop, after_restart}
+use Rattle.cop1.specs.FopWords.{alerts, goes_on}
+use Rattle.cop1.proofs.Hearing.{heard_active}
+use Rattle.cop1.proofs.Obeying.{obeyed, begun}
+use Rattle.cop1.proofs.Pulling.{pulled_out}
+use Rattle.cop1.proofs.Ticking.{ticked}
+use Rattle.tm_link.specs.declared.fault.TmFault.{TmFault}
+use Rattle.tm_link.specs.Extraction.{Extracted, extract_step}
+use Rattle.tm_link.specs.Layout as telemetry
+use Rattle.nodes.specs.declared.config.Config.{Config}
+use Rattle.nodes.specs.declared.fault.LinkFault.{LinkFault}
+use Rattle.nodes.specs.declared.heard.Heard.{Heard}
+use Rattle.nodes.specs.OwnedFields.{FitsFrame}
+use Rattle.nodes.specs.Parameters.{IsConfig}
+use Rattle.nodes.specs.Ground.{GroundState, is_closed, unsent_segments, settle_step, with_fop, directive_outcome}
+use Rattle.nodes.specs.Ground.{submit_fault, after_submission, bypass_fault, after_bypass, unless_refused, segments_on}
+use Rattle.nodes.specs.Ground.{after_extraction, telemetry_outcome, own_frame_outcome, is_own_telemetry}
+use Rattle.nodes.specs.Ground as ground
+use Rattle.nodes.proofs.Submitting.{segments_fit}
+use Rattle.tc_link.proofs.Closed.{closed_not}
+use Rattle.tc_link.proofs.LateSubmitting.{taken_is, all_append}
+use Rattle.tc_link.proofs.Queue.{units-marked, units-drop, units-push, units-without}
+use Rattle.tc_link.proofs.Settled.{settled_keeps}
+use Rattle.tc_link.proofs.SteadyNodes.{GroundNodeSteady}
+
+abbrev pub All : List SegmentView → Type 0
+All us = AllByRecursion FitsFrame us
+
+all_drop : (k : ℕ) (us : List SegmentView) → All us → All (drop k us)
+all_drop zero us all = all
+all_drop (suc k) [] all = all
+all_drop (suc k) (u ∷ us) all = all_drop k us all.1
+
+pub record Fit (f : FopState SegmentView) (pending : List SegmentView) : Type 0 where
+  pub sent : is_closed f.state ≡ false → All (units_of f.sent)
+  pub unsent : is_closed f.state ≡ false → All (option_to_list f.waiting ++ pending)
+
+module _ (s : FopState SegmentView) (pending : List SegmentView) (k : Fit s pending) where
+  abbrev Fits : {A : Type 0} → FopOutcome SegmentView A → Type 0
+  Fits o = Fit o.after pending
+
+  -- the sender is off
+  off : (f : FopState SegmentView) → f.state ≡ S6 → Fit f pending
+  off f is = record { sent = λ on. closed_not f.state is on; unsent = λ on. closed_not f.state is on }
+
+  -- fewer are in the sent queue, or the same
+  fewer : (f : FopState SegmentView) (n : ℕ) → (is_closed f.state ≡ false → is_closed s.state ≡ false)
+      → units_of f.sent ≡ units_of (drop n s.sent) → f.waiting ≡ s.waiting → Fit f pending
+  fewer f n on sent waiting = record {
+    sent = λ running. subst All (sym (sent ∙ units-drop n s.sent)) (all_drop n (units_of s.sent) (k.sent (on running)));
+    unsent = λ running. rw waiting (k.unsent (on running));
+  }
+
+  same : (f : FopState SegmentView) → (is_closed f.state ≡ false → is_closed s.state ≡ false)
+      → units_of f.sent ≡ units_of s.sent → f.waiting ≡ s.waiting → Fit f pending
+  same f on sent waiting = record {
+    sent = λ running. subst All (sym sent) (k.sent (on running));
+    unsent = λ running. rw waiting (k.unsent (on running));
+  }
+
+  pub as_was : (f : FopState SegmentView) → f.state ≡ s.state → f.sent ≡ s.sent → f.waiting ≡ s.waiting → Fit f pending
+  as_was f state sent waiting = same f (λ running. rw state at running) (ap units_of sent) waiting
+
+  -- ---- a report
+
+  module _ (r : Clcw) (on : is_closed s.state ≡ false) where
+    again : (repeats : Bool) → Fit (retransmits s repeats) pending
+    again true = same (record (after_repeat s) { state = S2 }) (λ t. on) (units-marked s.sent) refl
+    again false = same (record s { state = S2 }) (λ t. on) refl refl
+
+    active : Fits (report_while_active s r)
+    active = heard_active s r (λ o. Fits o) (record {
+      locked = λ t. off (after_alert s) refl;
+      outside = λ t. off (after_alert s) refl;
+      waiting = λ none waiting. off (after_alert s) refl;
+      asks_none = λ asking at. off (after_alert s) refl;
+      same = k;
+      ceases = λ none at were. off (after_alert s) refl;
+      moves = λ inside. fewer (after_move_on (after_acknowledge s r.value)) (ahead_by r.value s.nn) (λ t. on) refl refl;
+      others_over = λ inside asking one. off (after_alert (after_new_value s r.value)) refl;
+      others_wait = λ inside asking. fewer (record (after_new_value s r.value) { state = S3 })
+          (ahead_by r.value s.nn) (λ t. on) refl refl;
+      others_again = λ inside asking. fewer (record (after_repeat (after_new_value s r.value)) { state = S2 })
+          (ahead_by r.value s.nn) (λ t. on) (units-marked (drop (ahead_by r.value s.nn) s.sent)) refl;
+      all_over = λ asking one. off (after_alert s) refl;
+      all_wait = λ asking. same (record s { state = S3 }) (λ t. on) refl refl;
+      all_again = λ asking. again;
+    })
+
+    in_S4 : Fits (report_in_S4 s r)
+    in_S4 =
+        let over : Fit (after_alert s) pending = off (after_alert s) refl in
+        cond_both (locks r) (alerts s alert.Lockout) _ (λ o. Fits o) (λ t. over)
+        (λ l. cond_both (not (r.value == s.vs)) (alerts s alert.NnR) _ (λ o. Fits o) (λ t. over)
+        (λ v. cond_both (asks r) (alerts s alert.Synch) _ (λ o. Fits o) (λ t. over)
+        (λ a. cond_both (waits r) (alerts s alert.Clcw) _ (λ o. Fits o) (λ t. over)
+        (λ t. same (record s { state = S1; ticks = None }) (λ t. on) refl refl))))
+
+  report_fits : (r : Clcw) (m : FopMode) → s.state ≡ m → Fits (report_in s r m)
+  report_fits r S4 is = in_S4 r (rw is refl)
+  report_fits r S5 is =
+      cond_both (confirms s r) (goes_on (record s { state = S1; ticks = None; control = Idle })) (goes_on s)
+      (λ o. Fits o)
+      (λ t. same (record s { state = S1; ticks = None; control = Idle }) (λ t. rw is refl) refl refl) (λ t. k)
+  report_fits r S6 is = k
+  report_fits r _ is = active r (rw is refl)
+
+  pub heard_fits : (r : Clcw) → Fits (clcw_step s r)
+  heard_fits r = report_fits r s.state refl
+
+  -- ---- a tick
+
+  pub tick_fits : Fits (tick_step s)
+  tick_fits = ticked s (λ o. Fits o) (record {
+    off = k;
+    runs = λ left. as_was (record s { ticks = Some left }) refl refl refl;
+    stops = as_was (after_stop s) refl refl refl;
+    repeats = λ active. same (after_repeat (after_stop s)) (λ t. t) (units-marked s.sent) refl;
+    counts = as_was (after_count (after_stop s)) refl refl refl;
+    commands = λ is. as_was (record (after_count (after_stop s)) { control = due_again s.control }) refl refl refl;
+    gives_up = off (after_alert (after_stop s)) refl;
+  })
+
+  -- ---- a pull
+
+  pub moved : (u : SegmentView) → s.waiting ≡ Some u → is_closed s.state ≡ false → FitsFrame u × All pending
+  moved u is on = let all : All (option_to_list (Some u) ++ pending) = rw is at (k.unsent on) in (all.0, all.1)
+
+  pub pull_fits : Fits (pull_step s)
+  pull_fits = pulled_out s (λ o. Fits o) (record {
+    none = k;
+    command = λ command is. as_was (record (after_restart s) { control = Sent command }) refl refl refl;
+    bypass = λ u us is. as_was (record s { bypass = us }) refl refl refl;
+    again = λ active x is. same (record (after_restart s) { sent = without_oldest_mark s.sent }) (λ t. t)
+        (units-without s.sent) refl;
+    first = λ active u is room. record {
+      sent = λ running. subst All (sym (units-push s.sent u))
+          (all_append FitsFrame (units_of s.sent) (u ∷ []) (k.sent running) ((moved u is running).0, tt));
+      unsent = λ running. (moved u is running).1;
+    };
+  })
+
+-- ---- the ground
+
+abbrev pub GroundFits : GroundState → Type 0
+GroundFits s = Fit s.fop s.pending
+
+pub settled_fits : (s : GroundState) → GroundFits s → GroundFits (settle_step s)
+settled_fits s k = settled_keeps GroundFits s (λ waiting pending on off. record {
+  sent = k.sent;
+  unsent = λ running. subst All (sym (on running)) (k.unsent running);
+})
+
+with_fits : (s : GroundState) (f : FopState SegmentView) → Fit f s.pending → GroundFits (with_fop s f)
+with_fits s f k = settled_fits (record s { fop = f }) k
+
+module _ (c : Config) (s : GroundState) (g : GroundNodeSteady c s) (k : GroundFits s) where
+  begun_fits : (d : Directive) → is_initiation d ≡ true → s.pending ≡ [] → Fit (begun s.fop d) s.pending
+  begun_fits InitWithoutCheck is none = record { sent = λ running. tt; unsent = λ running. rw none tt }
+  begun_fits InitWithCheck is none = record { sent = λ running. tt; unsent = λ running. rw none tt }
+  begun_fits InitUnlock is none = record { sent = λ running. tt; unsent = λ running. rw none tt }
+  begun_fits (InitSetVr x) is none = record { sent = λ running. tt; unsent = λ running. rw none tt }
+  begun_fits _ is none = absurd cc
+
+  abbrev Directed : Directive → FopOutcome SegmentView (Result (Option Alert) CopFault) → Type 0
+  Directed d o = GroundFits (directive_outcome s o).after
+
+  pub directive_fits : (d : Directive) → Directed d (directive_step s.fop d)
+  directive_fits = obeyed s.fop Directed (record {
+    refused = λ d fault on. k;
+    begins = λ d is off. with_fits s (begun s.fop d) (begun_fits d is (g.pending_none (rw off refl)));
+    terminated = with_fits s (after_alert s.fop) (off s.fop s.pending k (after_alert s.fop) refl);
+    numbers = λ x is. with_fits s (record s.fop { vs = x; nn = x })
+        (as_was s.fop s.pending k (record s.fop { vs = x; nn = x }) refl refl refl);
+    windows = λ n small. with_fits s (record s.fop { window = n })
+        (as_was s.fop s.pending k (record s.fop { window = n }) refl refl refl);
+    limits = λ n. with_fits s (record s.fop { limit = n })
+        (as_was s.fop s.pending k (record s.fop { limit = n }) refl refl refl);
+    times = λ n. with_fits s (record s.fop { timer = n })
+        (as_was s.fop s.pending k (record s.fop { timer = n }) refl refl refl);
+  })
+
+  pub tick_settled : GroundFits (with_fop s (tick_step s.fop).after)
+  tick_settled = with_fits s (tick_step s.fop).after (tick_fits s.fop s.pending k)
+
+  pub pull_settled : GroundFits (with_fop s (pull_step s.fop).after)
+  pull_settled = with_fits s (pull_step s.fop).after (pull_fits s.fop s.pending k)
+
+  pub submission_fits : IsConfig c → (m : ℕ) (octets : List ℕ) (o : Option LinkFault) → submit_fault s m octets ≡ o
+      → GroundFits (unless_refused o s (after_submission s m octets)).after
+  submission_fits ranges m octets (Some fault) is = k
+  submission_fits ranges m octets None is =
+      let t = taken_is c s m octets g.config is in
+      let new : All (segments_of c.part m octets) =
+      segments_fit c.part m octets ranges.part.0 ranges.part.1 t.on_map in
+      let cut : segments_on s m octets ≡ segments_of c.part m octets =
+      ap (λ x. segments_of x.part m octets) g.config in
+      let added : All (segments_on s m octets) = subst All (sym cut) new in
+      settled_fits (record s { pending = s.pending ++ segments_on s m octets }) (record {
+        sent = k.sent;
+        unsent = λ running. subst All (append_assoc (option_to_list s.fop.waiting) s.pending (segments_on s m octets))
+            (all_append FitsFrame (unsent_segments s) (segments_on s m octets) (k.unsent running) added);
+      })
+
+  pub bypass_settled : (m : ℕ) (octets : List ℕ) (o : Option LinkFault)
+      → GroundFits (unless_refused o s (after_bypass s m octets)).after
+  bypass_settled m octets (Some fault) = k
+  bypass_settled m octets None = record { sent = k.sent; unsent = k.unsent }
+
+  extracted : (x : Extracted) → GroundFits (after_extraction s x)
+  extracted x = record { sent = k.sent; unsent = k.unsent }
+
+  word_fits : (x : Extracted) (r : Result Clcw ClcwFault) → GroundFits (own_frame_outcome s x r).after
+  word_fits x (Err fault) = extracted x
+  word_fits x (Ok report) =
+      cond_both (report.vcid == s.config.vcid) _ _ (λ (o : ground.GroundOutcome Heard). GroundFits o.after)
+      (λ t. with_fits (after_extraction s x) (clcw_step s.fop report).after (heard_fits s.fop s.pending k report))
+      (λ t. extracted x)
+
+  pub telemetry_fits : (r : Result telemetry.FrameView TmFault) → GroundFits (telemetry_outcome s r).after
+  telemetry_fits (Err fault) = k
+  telemetry_fits (Ok frame) =
+      cond_both (is_own_telemetry s.config frame) _ _ (λ (o : ground.GroundOutcome Heard). GroundFits o.after)
+      (λ t. word_fits (extract_step s.extractor frame) (clcw_at frame.ocf)) (λ t. k)

@@ -1,0 +1,303 @@
+-- In S6, with no Type-AD frame on its way up, no more segments are accepted until a session begins.
+use Rattle.std.proofs.Common.{◌≡◌, ℕ, true, false, Bool, List, [], ◌∷◌, ◌++◌, drop, map, Option, Some, None}
+use Rattle.std.proofs.Common.{Result, Ok, Err, refl, ap, subst, ◌∙◌}
+use Rattle.std.specs.Prelude.{◌==◌, flat_map}
+use Rattle.std.specs.List.{AllByRecursion}
+use Rattle.std.proofs.lemmas.Bool.{cond_both}
+use Rattle.clcw.specs.declared.word.Clcw.{Clcw}
+use Rattle.clcw.specs.declared.fault.ClcwFault.{ClcwFault}
+use Rattle.clcw.specs.Reading.{clcw_at}
+use Rattle.tc_frame.specs.declared.fault.TcFault.{TcFault}
+use Rattle.tc_frame.specs.declared.frame.Check.TheVariants.{On}
+use Rattle.tc_frame.specs.Layout.{SegmentView, BodyView, Ad, Bd, Bc, FrameView, segment_octets}
+use Rattle.tc_frame.specs.Reading.{frame_at}
+use Rattle.tc_frame.specs.Writing.{spelling}
+use Rattle.cop1.specs.declared.fault.CopFault.{CopFault}
+use Rattle.cop1.specs.declared.fop.Alert.{Alert}
+use Rattle.cop1.specs.declared.fop.Directive.{Directive}
+use Rattle.cop1.specs.declared.fop.Control.TheVariants.{Sent}
+use Rattle.cop1.specs.declared.fop.FopMode.{FopMode}
+use Rattle.cop1.specs.declared.fop.FopMode.TheVariants.{S6}
+use Rattle.cop1.specs.FopDirective.{directive_step}
+use Rattle.cop1.specs.FopPull.{PulledUnit, pull_step}
+use Rattle.cop1.specs.FopReport.{clcw_step, report_in}
+use Rattle.cop1.specs.FopState.{FopState, IsActive}
+use Rattle.cop1.specs.FopTick.{tick_step, after_count, due_again}
+use Rattle.cop1.specs.FopWords.{FopOutcome, after_alert, after_repeat, after_restart, after_stop}
+use Rattle.cop1.proofs.Obeying.{obeyed}
+use Rattle.cop1.proofs.Pulling.{pulled_out}
+use Rattle.cop1.proofs.Ticking.{ticked}
+use Rattle.tm_link.specs.Building.{is_to_send}
+use Rattle.tm_link.specs.declared.fault.TmFault.{TmFault}
+use Rattle.tm_link.specs.Extraction.{Extracted, extract_step}
+use Rattle.tm_link.specs.Layout as telemetry
+use Rattle.tm_link.specs.Reading as telemetry_reading
+use Rattle.nodes.specs.declared.config.Config.{Config}
+use Rattle.nodes.specs.declared.fault.LinkFault.{LinkFault}
+use Rattle.nodes.specs.declared.heard.Heard.{Heard}
+use Rattle.nodes.specs.BypassSegments.{is_kept}
+use Rattle.nodes.specs.OwnedFields.{FitsFrame}
+use Rattle.nodes.specs.Packets.{PacketOn}
+use Rattle.nodes.specs.Parameters.{IsConfig, limits_of}
+use Rattle.nodes.specs.Ground.{GroundState, GroundOutcome, with_fop, directive_outcome, frame_of, frame_to_send}
+use Rattle.nodes.specs.Ground.{segments_on, submit_fault, after_submission, bypass_fault, after_bypass, unless_refused}
+use Rattle.nodes.specs.Ground.{after_extraction, own_frame_outcome, telemetry_outcome, is_own_telemetry}
+use Rattle.nodes.specs.Spacecraft.{SpacecraftState, SpacecraftOutcome, frame_outcome, body_outcome, bypass_outcome}
+use Rattle.nodes.specs.Spacecraft.{is_own_frame, spacecraft_take, spacecraft_take_bypass, spacecraft_telemetry}
+use Rattle.tc_link.specs.declared.event.Event.{Event}
+use Rattle.tc_link.specs.declared.event.Event.TheVariants as events
+use Rattle.tc_link.specs.Accepted.{AcceptsNoMore}
+use Rattle.tc_link.specs.InTransit.{number_in, in_frame, numbers_up}
+use Rattle.tc_link.specs.World.{World, WorldOutcome, world_step, world_after_pull, world_after_directive}
+use Rattle.tc_link.specs.World.{BeginsNoSession, accepted}
+use Rattle.tc_link.proofs.Closed.{closed_not, active_on}
+use Rattle.tc_link.proofs.Leaving.{AtEachLoss, lost, up_arrives, down_arrives}
+use Rattle.tc_link.proofs.Settled.{settled_keeps}
+use Rattle.tc_link.proofs.Spelled.{Goes, reads_back}
+use Rattle.tc_link.proofs.SteadyWorld.{Sound, step_sound}
+
+-- ---- no Type-AD frame on its way
+
+abbrev numbers_in : Result FrameView TcFault → List ℕ
+numbers_in r = in_frame number_in r
+
+abbrev numbers : List (List ℕ) → List ℕ
+numbers bs = flat_map (λ octets. in_frame number_in (frame_at On octets)) bs
+
+first_none : (xs ys : List ℕ) → xs ++ ys ≡ [] → xs ≡ []
+first_none [] ys e = refl
+first_none (x ∷ xs) ys e = absurd cc
+
+rest_none : (xs ys : List ℕ) → xs ++ ys ≡ [] → ys ≡ []
+rest_none [] ys e = e
+rest_none (x ∷ xs) ys e = absurd cc
+
+push_none : (bs : List (List ℕ)) (b : List ℕ) → numbers bs ≡ [] → numbers_in (frame_at On b) ≡ []
+    → numbers (bs ++ b ∷ []) ≡ []
+push_none [] b none new = ap (λ (ns : List ℕ). ns ++ []) new
+push_none (x ∷ xs) b none new =
+    ap (λ (ns : List ℕ). ns ++ numbers (xs ++ b ∷ [])) (first_none (numbers_in (frame_at On x)) (numbers xs) none)
+    ∙ push_none xs b (rest_none (numbers_in (frame_at On x)) (numbers xs) none) new
+
+-- ---- one event
+
+-- the sender stays in S6, no Type-AD frame is sent, and none is accepted
+record Over (old new : World) : Type 0 where
+  closed : new.ground_node.fop.state ≡ S6
+  none_up : numbers_up new ≡ []
+  same : accepted new ≡ accepted old
+
+-- the ground's sender, with what is pending moved up
+closed_with : (s : GroundState) (f : FopState SegmentView) → f.state ≡ S6 → (with_fop s f).fop.state ≡ S6
+closed_with s f off = settled_keeps (λ t. t.fop.state ≡ S6) (record s { fop = f }) (λ waiting pending on closed. off)
+
+submitted_closed : (s : GroundState) (m : ℕ) (octets : List ℕ) (o : Option LinkFault) → s.fop.state ≡ S6
+    → (unless_refused o s (after_submission s m octets)).after.fop.state ≡ S6
+submitted_closed s m octets (Some fault) off = off
+submitted_closed s m octets None off =
+    settled_keeps (λ t. t.fop.state ≡ S6) (record s { pending = s.pending ++ segments_on s m octets })
+    (λ waiting pending on closed. off)
+
+bypassed_closed : (s : GroundState) (m : ℕ) (octets : List ℕ) (o : Option LinkFault) → s.fop.state ≡ S6
+    → (unless_refused o s (after_bypass s m octets)).after.fop.state ≡ S6
+bypassed_closed s m octets (Some fault) off = off
+bypassed_closed s m octets None off = off
+
+heard_in : (f : FopState SegmentView) (r : Clcw) (m : FopMode) → m ≡ S6 → f.state ≡ S6
+    → (report_in f r m).after.state ≡ S6
+heard_in f r S6 is off = off
+heard_in f r _ is off = absurd cc
+
+module _ (s : GroundState) (off : s.fop.state ≡ S6) where
+  heard_closed : (x : Extracted) (r : Result Clcw ClcwFault) → (own_frame_outcome s x r).after.fop.state ≡ S6
+  heard_closed x (Err fault) = off
+  heard_closed x (Ok report) =
+      cond_both (report.vcid == s.config.vcid) _ _ (λ (o : GroundOutcome Heard). o.after.fop.state ≡ S6)
+      (λ t. closed_with (after_extraction s x) (clcw_step s.fop report).after
+      (heard_in s.fop report s.fop.state off off)) (λ t. off)
+
+  telemetry_closed : (r : Result telemetry.FrameView TmFault) → (telemetry_outcome s r).after.fop.state ≡ S6
+  telemetry_closed (Err fault) = off
+  telemetry_closed (Ok frame) =
+      cond_both (is_own_telemetry s.config frame) _ _ (λ (o : GroundOutcome Heard). o.after.fop.state ≡ S6)
+      (λ t. heard_closed (extract_step s.extractor frame) (clcw_at frame.ocf)) (λ t. off)
+
+-- on board a frame that is not of Type-AD adds no segment to those accepted
+module _ (s : SpacecraftState) where
+  bypass_same : (u : SegmentView) (kept : Bool) → (bypass_outcome s u kept).after.accepted ≡ s.accepted
+  bypass_same u true = refl
+  bypass_same u false = refl
+
+  body_same : (f : BodyView) → number_in f ≡ [] → (body_outcome s f).after.accepted ≡ s.accepted
+  body_same (Ad n u) none = absurd cc
+  body_same (Bd u) none = bypass_same u (is_kept (limits_of s.config) u)
+  body_same (Bc command) none = refl
+
+  arrived_same : (r : Result FrameView TcFault) → numbers_in r ≡ [] → (frame_outcome s r).after.accepted ≡ s.accepted
+  arrived_same (Err fault) none = refl
+  arrived_same (Ok frame) none =
+      cond_both (is_own_frame s.config frame) (body_outcome s frame.body) _ (λ o. o.after.accepted ≡ s.accepted)
+      (λ t. body_same frame.body none) (λ t. refl)
+
+  taken_same : (ps : List PacketOn) → (spacecraft_take s ps).after.accepted ≡ s.accepted
+  taken_same [] = refl
+  taken_same (p ∷ left) = refl
+
+  bypass_taken_same : (ps : List PacketOn) → (spacecraft_take_bypass s ps).after.accepted ≡ s.accepted
+  bypass_taken_same [] = refl
+  bypass_taken_same (p ∷ left) = refl
+
+  queued_same : (octets : List ℕ) → (spacecraft_telemetry s octets).after.accepted ≡ s.accepted
+  queued_same octets =
+      cond_both (is_to_send octets) _ _ (λ (o : SpacecraftOutcome (Result (Unit {0}) TmFault)). o.after.accepted
+      ≡ s.accepted) (λ t. refl) (λ t. refl)
+
+abbrev IsOff : World → Type 0
+IsOff w = w.ground_node.fop.state ≡ S6
+
+module _ (c : Config) (w : World) (k : Sound c w) (off : IsOff w) (none_up : numbers_up w ≡ []) where
+  abbrev Stays : WorldOutcome → Type 0
+  Stays o = Over w o.after
+
+  stays : Over w w
+  stays = record { closed = off; none_up = none_up; same = refl }
+
+  ground_so : (g : GroundState) → g.fop.state ≡ S6 → Over w (record w { ground_node = g })
+  ground_so g closed = record { closed = closed; none_up = none_up; same = refl }
+
+  with_so : (f : FopState SegmentView) → f.state ≡ S6 → Over w (record w { ground_node = with_fop w.ground_node f })
+  with_so f closed = ground_so (with_fop w.ground_node f) (closed_with w.ground_node f closed)
+
+  spacecraft_so : (s : SpacecraftState) → s.accepted ≡ w.spacecraft.accepted → Over w (record w { spacecraft = s })
+  spacecraft_so s same = record {
+    closed = off;
+    none_up = none_up;
+    same = ap (λ (xs : List SegmentView). map segment_octets (drop w.session.before xs)) same;
+  }
+
+  abbrev Directed : Directive → FopOutcome SegmentView (Result (Option Alert) CopFault) → Type 0
+  Directed d o = BeginsNoSession w (events.Directive d)
+      → Stays (world_after_directive w d (directive_outcome w.ground_node o))
+
+  directive_so : (d : Directive) → Directed d (directive_step w.ground_node.fop d)
+  directive_so =
+      let s = w.ground_node.fop in
+      obeyed s Directed (record {
+        refused = λ d fault on goes. stays;
+        begins = λ d is closed goes. closed_not s.state closed (goes d refl is);
+        terminated = λ goes. with_so (after_alert s) refl;
+        numbers = λ x is goes. with_so (record s { vs = x; nn = x }) off;
+        windows = λ n small goes. with_so (record s { window = n }) off;
+        limits = λ n goes. with_so (record s { limit = n }) off;
+        times = λ n goes. with_so (record s { timer = n }) off;
+      })
+
+  tick_so : Over w (record w { ground_node = with_fop w.ground_node (tick_step w.ground_node.fop).after })
+  tick_so =
+      let s = w.ground_node.fop in
+      ticked s (λ o. Over w (record w { ground_node = with_fop w.ground_node o.after })) (record {
+        off = with_so s off;
+        runs = λ left. with_so (record s { ticks = Some left }) off;
+        stops = with_so (after_stop s) off;
+        repeats = λ active. with_so (after_repeat (after_stop s)) off;
+        counts = with_so (after_count (after_stop s)) off;
+        commands = λ is. with_so (record (after_count (after_stop s)) { control = due_again s.control }) off;
+        gives_up = with_so (after_alert (after_stop s)) refl;
+      })
+
+  -- a frame that is sent is no Type-AD frame
+  abbrev Pulls : FopOutcome SegmentView (PulledUnit SegmentView) → Type 0
+  Pulls o = Stays (world_after_pull w (with_fop w.ground_node o.after) (frame_to_send w.ground_node.config o.answer))
+
+  not_active : {A : Type 0} → IsActive w.ground_node.fop.state → A
+  not_active active = closed_not w.ground_node.fop.state off (active_on w.ground_node.fop.state active)
+
+  sent_none : (f : BodyView) → Goes f → number_in f ≡ []
+      → numbers (w.up ++ spelling On (frame_of w.ground_node.config f) ∷ []) ≡ []
+  sent_none f goes none =
+      let own : IsConfig w.ground_node.config = rw k.ground_node.config k.ranges in
+      push_none w.up (spelling On (frame_of w.ground_node.config f)) none_up
+      (ap numbers_in (reads_back w.ground_node.config f own goes) ∙ none)
+
+  send_so : Pulls (pull_step w.ground_node.fop)
+  send_so =
+      let s = w.ground_node.fop in
+      pulled_out s Pulls (record {
+        none = with_so s off;
+        command = λ command is. record {
+          closed = closed_with w.ground_node (record (after_restart s) { control = Sent command }) off;
+          none_up = sent_none (Bc command) tt refl;
+          same = refl;
+        };
+        bypass = λ u us is.
+            let fit : AllByRecursion FitsFrame (u ∷ us) = rw is at k.ground_node.fop.bypass_fits in
+            record {
+              closed = closed_with w.ground_node (record s { bypass = us }) off;
+              none_up = sent_none (Bd u) fit.0 refl;
+              same = refl;
+            };
+        again = λ active x is. not_active active;
+        first = λ active u is room. not_active active;
+      })
+
+  -- a frame arrives on board
+  all_none : (bs : List (List ℕ)) → w.up ≡ bs → numbers bs ≡ []
+  all_none bs is = subst (λ (xs : List (List ℕ)). numbers xs ≡ []) is none_up
+
+  up_rest : (b : List ℕ) (bs : List (List ℕ)) → w.up ≡ b ∷ bs → numbers bs ≡ []
+  up_rest b bs is = rest_none (numbers_in (frame_at On b)) (numbers bs) (all_none (b ∷ bs) is)
+
+  up_first : (b : List ℕ) (bs : List (List ℕ)) → w.up ≡ b ∷ bs → numbers_in (frame_at On b) ≡ []
+  up_first b bs is = first_none (numbers_in (frame_at On b)) (numbers bs) (all_none (b ∷ bs) is)
+
+  losses : AtEachLoss w Stays
+  losses = record {
+    refused = λ fault. stays;
+    up = λ b bs is reply silent. record { closed = off; none_up = up_rest b bs is; same = refl };
+    down = λ b bs is reply silent. record { closed = off; none_up = none_up; same = refl };
+  }
+
+  step_over : (e : Event) → BeginsNoSession w e → Stays (world_step w e)
+  step_over (events.Submit m octets) goes = record {
+    closed = submitted_closed w.ground_node m octets.now (submit_fault w.ground_node m octets.now) off;
+    none_up = none_up;
+    same = refl;
+  }
+  step_over (events.Bypass m octets) goes = record {
+    closed = bypassed_closed w.ground_node m octets.now (bypass_fault w.ground_node m octets.now) off;
+    none_up = none_up;
+    same = refl;
+  }
+  step_over (events.Directive d) goes = directive_so d goes
+  step_over events.Send goes = send_so
+  step_over events.UpDeliver goes = up_arrives w Stays stays (λ b bs is. record {
+    closed = off;
+    none_up = up_rest b bs is;
+    same = ap (λ (xs : List SegmentView). map segment_octets (drop w.session.before xs))
+        (arrived_same w.spacecraft (frame_at On b) (up_first b bs is));
+  })
+  step_over events.Report goes = record { closed = off; none_up = none_up; same = refl }
+  step_over events.DownDeliver goes = down_arrives w Stays stays (λ b bs is. record {
+    closed = telemetry_closed w.ground_node off (telemetry_reading.frame_at w.ground_node.config.frame_length b);
+    none_up = none_up;
+    same = refl;
+  })
+  step_over events.Tick goes = tick_so
+  step_over events.Take goes =
+      spacecraft_so (spacecraft_take w.spacecraft w.spacecraft.ready).after
+      (taken_same w.spacecraft w.spacecraft.ready)
+  step_over events.TakeBypass goes =
+      spacecraft_so (spacecraft_take_bypass w.spacecraft w.spacecraft.bypass).after
+      (bypass_taken_same w.spacecraft w.spacecraft.bypass)
+  step_over (events.Telemetry octets) goes =
+      spacecraft_so (spacecraft_telemetry w.spacecraft octets.now).after (queued_same w.spacecraft octets.now)
+  step_over e goes = lost w Stays losses e tt
+
+-- ---- all events
+
+pub accepts_no_more : (c : Config) (w : World) → Sound c w → IsOff w → numbers_up w ≡ [] → AcceptsNoMore w
+accepts_no_more c w k off none_up [] fits goes = refl
+accepts_no_more c w k off none_up (e ∷ es) fits goes =
+    let new : World = (world_step w e).after in
+    let over : Over w new = step_over c w k off none_up e goes.0 in
+    accepts_no_more c new (step_sound c w k e fits.0) over.closed over.none_up es fits.1 goes.1 ∙ over.same

@@ -1,0 +1,207 @@
+-- What is taken on board since a session began is what it has delivered.
+use Rattle.std.proofs.Common.{◌≡◌, ℕ, List, [], ◌∷◌, ◌++◌, length, take, drop, map, filter, eqb, Option}
+use Rattle.std.proofs.Common.{Result, option_map, option_to_list, refl, sym, subst, ap, ◌∙◌, append-nil, append_assoc}
+use Rattle.std.proofs.lemmas.Bool.{cond_both}
+use Rattle.std.proofs.lemmas.List.{map-append}
+use Rattle.std.proofs.lemmas.List.Elements.{filter-append}
+use Rattle.std.proofs.Math.Seq.{take-append_seam, drop-append_seam}
+use Rattle.tc_frame.specs.Layout.{SegmentView}
+use Rattle.map_service.specs.Assembly.{assembled}
+use Rattle.map_service.proofs.Steps.{assembled-push, assembled-other}
+use Rattle.tm_link.specs.Building.{is_to_send}
+use Rattle.tm_link.specs.declared.fault.TmFault.{TmFault}
+use Rattle.nodes.specs.declared.config.Config.{Config}
+use Rattle.nodes.specs.Acceptance.{segment_to_accept}
+use Rattle.nodes.specs.Delivery.{packets_of_map, delivered_on}
+use Rattle.nodes.specs.Packets.{PacketOn}
+use Rattle.nodes.specs.Parameters.{limits_of}
+use Rattle.nodes.specs.Spacecraft.{SpacecraftState, SpacecraftOutcome, spacecraft_step, spacecraft_take, Receive}
+use Rattle.nodes.specs.Spacecraft.{spacecraft_take_bypass, spacecraft_telemetry}
+use Rattle.nodes.proofs.Delivering.{delivers}
+use Rattle.tc_link.specs.declared.event.Event.{Event}
+use Rattle.tc_link.specs.declared.event.Event.TheVariants as events
+use Rattle.tc_link.specs.declared.sim.opening.Opening.{Opening}
+use Rattle.tc_link.specs.World.{KeepsSession}
+use Rattle.tc_link.specs.Taken.{BeginsSession, handed_out, taken, taken_since, ready_on}
+use Rattle.tc_link.specs.Taken.{HandsOutWhatIsDelivered, HandsOutWhatIsSubmitted}
+use Rattle.tc_link.specs.World.{World, WorldOutcome, IsIdle, delivered, world_step, world_run, run_answers}
+use Rattle.tc_link.specs.World.{world_after_take}
+use Rattle.tc_link.proofs.AcceptedSegments.{accepts_segment}
+use Rattle.tc_link.proofs.Delivered.{is_in_order}
+use Rattle.tc_link.proofs.Gained.{config_stays}
+use Rattle.tc_link.proofs.Invariant.{opened, session_stays, begun_is, step_holds, run_holds, reached_holds}
+use Rattle.tc_link.proofs.Leaving.{AtEachLoss, lost, pulled, up_arrives, down_arrives}
+
+-- from the one state to the other these packets were handed out, and some more were made ready
+record Passes (old : SpacecraftState) (out : List PacketOn) (new : SpacecraftState) : Type 0 where
+  config : new.config ≡ old.config
+  segments : List SegmentView
+  accepted : new.accepted ≡ old.accepted ++ segments
+  more : List PacketOn
+  ready : out ++ new.ready ≡ old.ready ++ more
+  delivered : (m : ℕ) → delivered_on m new ≡ delivered_on m old ++ packets_of_map m more
+
+of_both : (m : ℕ) (xs ys : List PacketOn) → packets_of_map m (xs ++ ys) ≡ packets_of_map m xs ++ packets_of_map m ys
+of_both m xs ys =
+    ap (map (λ (p : PacketOn). p.octets)) (filter-append (λ (p : PacketOn). eqb p.on_map m) xs ys)
+    ∙ map-append (λ (p : PacketOn). p.octets) (filter (λ (p : PacketOn). eqb p.on_map m) xs)
+    (filter (λ (p : PacketOn). eqb p.on_map m) ys)
+
+-- nothing more is made ready
+passes_none : (old new : SpacecraftState) (out : List PacketOn) → new.config ≡ old.config
+    → new.accepted ≡ old.accepted → out ++ new.ready ≡ old.ready → Passes old out new
+passes_none old new out config accepted ready = record {
+  config = config;
+  segments = [];
+  accepted = accepted ∙ sym (append-nil old.accepted);
+  more = [];
+  ready = ready ∙ sym (append-nil old.ready);
+  delivered = λ m. rw (config, accepted) (sym (append-nil (delivered_on m old)));
+}
+
+passes_both : (s t u : SpacecraftState) (xs ys : List PacketOn) → Passes s xs t → Passes t ys u → Passes s (xs ++ ys) u
+passes_both s t u xs ys first then = record {
+  config = then.config ∙ first.config;
+  segments = first.segments ++ then.segments;
+  accepted = then.accepted ∙ ap (λ a. a ++ then.segments) first.accepted
+      ∙ append_assoc s.accepted first.segments then.segments;
+  more = first.more ++ then.more;
+  ready = append_assoc xs ys u.ready
+      ∙ ap (λ r. xs ++ r) then.ready
+      ∙ sym (append_assoc xs t.ready then.more)
+      ∙ ap (λ r. r ++ then.more) first.ready
+      ∙ append_assoc s.ready first.more then.more;
+  delivered = λ m. then.delivered m
+      ∙ ap (λ d. d ++ packets_of_map m then.more) (first.delivered m)
+      ∙ append_assoc (delivered_on m s) (packets_of_map m first.more) (packets_of_map m then.more)
+      ∙ ap (λ d. delivered_on m s ++ d) (sym (of_both m first.more then.more));
+}
+
+-- ---- each event
+
+receives : (s : SpacecraftState) (octets : List ℕ) → Passes s [] (spacecraft_step s (Receive octets)).after
+receives s octets =
+    let has = delivers (λ limits segments u. assembled-push limits segments u _ refl) assembled-other s octets in
+    record {
+      config = config_stays s octets;
+      segments = option_to_list (segment_to_accept s octets);
+      accepted = accepts_segment s octets;
+      more = has.more;
+      ready = has.ready;
+      delivered = has.delivered;
+    }
+
+module _ (w : World) where
+  takes : (ready : List PacketOn) → w.spacecraft.ready ≡ ready
+      → let o : WorldOutcome = world_after_take w (spacecraft_take w.spacecraft ready) in
+      Passes w.spacecraft (handed_out events.Take o.answer) o.after.spacecraft
+  takes [] is = passes_none w.spacecraft w.spacecraft [] refl refl refl
+  takes (p ∷ left) is = passes_none w.spacecraft _ (p ∷ []) refl refl (sym is)
+
+  takes_bypass : (bypass : List PacketOn)
+      → Passes w.spacecraft [] (spacecraft_take_bypass w.spacecraft bypass).after
+  takes_bypass [] = passes_none w.spacecraft _ [] refl refl refl
+  takes_bypass (p ∷ left) = passes_none w.spacecraft _ [] refl refl refl
+
+  queues : (packet : List ℕ) → Passes w.spacecraft [] (spacecraft_telemetry w.spacecraft packet).after
+  queues packet =
+      cond_both (is_to_send packet) _ _
+      (λ (o : SpacecraftOutcome (Result (Unit {0}) TmFault)). Passes w.spacecraft [] o.after)
+      (λ _. passes_none w.spacecraft _ [] refl refl refl) (λ _. passes_none w.spacecraft _ [] refl refl refl)
+
+  stays : Passes w.spacecraft [] w.spacecraft
+  stays = passes_none w.spacecraft w.spacecraft [] refl refl refl
+
+  abbrev HandsOutNone : WorldOutcome → Type 0
+  HandsOutNone o = Passes w.spacecraft [] o.after.spacecraft
+
+  losses : AtEachLoss w HandsOutNone
+  losses = record {
+    refused = λ fault. stays;
+    up = λ b bs is reply silent. stays;
+    down = λ b bs is reply silent. stays;
+  }
+
+  passes : (e : Event)
+      → Passes w.spacecraft (handed_out e (world_step w e).answer) (world_step w e).after.spacecraft
+  passes events.Send = pulled w HandsOutNone (λ reply up sent silent. stays)
+  passes events.UpDeliver = up_arrives w HandsOutNone stays (λ b bs is. receives w.spacecraft b)
+  passes events.DownDeliver = down_arrives w HandsOutNone stays (λ b bs is. stays)
+  passes events.UpLose = lost w HandsOutNone losses events.UpLose tt
+  passes (events.UpDamage octets) = lost w HandsOutNone losses (events.UpDamage octets) tt
+  passes events.DownLose = lost w HandsOutNone losses events.DownLose tt
+  passes (events.DownDamage octets) = lost w HandsOutNone losses (events.DownDamage octets) tt
+  passes events.Report = passes_none w.spacecraft _ [] refl refl refl
+  passes events.Take = takes w.spacecraft.ready refl
+  passes events.TakeBypass = takes_bypass w.spacecraft.bypass
+  passes (events.Telemetry octets) = queues octets.now
+  passes _ = stays
+
+-- ---- a session
+
+record Since (old : World) (out : List PacketOn) (new : World) : Type 0 where
+  passes : Passes old.spacecraft out new.spacecraft
+  same : opened new.session ≡ opened old.session
+
+since_then : (w : World) (events : List Event) → KeepsSession w events
+    → Since w (taken events (run_answers w events)) (world_run w events)
+since_then w [] keeps = record { passes = stays w; same = refl }
+since_then w (e ∷ es) keeps =
+    let rest = since_then (world_step w e).after es keeps.1 in
+    record {
+      passes = passes_both w.spacecraft (world_step w e).after.spacecraft
+          (world_run (world_step w e).after es).spacecraft (handed_out e (world_step w e).answer)
+          (taken es (run_answers (world_step w e).after es)) (passes w e) rest.passes;
+      same = rest.same ∙ session_stays w e keeps.0;
+    }
+
+module _ (old new : World) (out : List PacketOn) (m : ℕ) (s : Since old out new)
+    (begins : old.session.before ≡ length old.spacecraft.accepted) where
+  -- what the session delivered was made ready since
+  delivered_is : delivered new m ≡ packets_of_map m s.passes.more
+  delivered_is =
+      let was : List (List ℕ) = delivered_on m old.spacecraft in
+      ap (λ (c : Config). drop (length (assembled (limits_of c) m (take new.session.before new.spacecraft.accepted)))
+      (delivered_on m new.spacecraft)) s.passes.config
+      ∙ ap (λ (n : ℕ). drop (length (assembled (limits_of old.spacecraft.config) m (take n new.spacecraft.accepted)))
+      (delivered_on m new.spacecraft)) (ap (λ (o : Option Opening × ℕ). o.1) s.same ∙ begins)
+      ∙ ap (λ (xs : List SegmentView). drop (length (assembled (limits_of old.spacecraft.config) m
+      (take (length old.spacecraft.accepted) xs))) (delivered_on m new.spacecraft)) s.passes.accepted
+      ∙ ap (λ (xs : List SegmentView). drop (length (assembled (limits_of old.spacecraft.config) m xs))
+      (delivered_on m new.spacecraft)) (take-append_seam old.spacecraft.accepted s.passes.segments)
+      ∙ ap (drop (length was)) (s.passes.delivered m)
+      ∙ drop-append_seam was (packets_of_map m s.passes.more)
+
+  hands_out : packets_of_map m out ++ ready_on new m ≡ ready_on old m ++ delivered new m
+  hands_out =
+      sym (of_both m out new.spacecraft.ready)
+      ∙ ap (packets_of_map m) s.passes.ready
+      ∙ of_both m old.spacecraft.ready s.passes.more
+      ∙ ap (λ d. ready_on old m ++ d) (sym delivered_is)
+
+begins_there : (w : World) (e : Event) → BeginsSession w e
+    → (world_step w e).after.session.before ≡ length (world_step w e).after.spacecraft.accepted
+begins_there w e b =
+    subst (λ (e : Event). (world_step w e).after.session.before ≡ length (world_step w e).after.spacecraft.accepted)
+    (sym b.1) (ap (λ s. s.before) (begun_is w b.0 b.2 b.3))
+
+pub hands_out_what_is_delivered : HandsOutWhatIsDelivered
+hands_out_what_is_delivered w e since m b keeps =
+    let start : World = (world_step w e).after in
+    hands_out start (world_run start since) (taken since (run_answers start since)) m (since_then start since keeps)
+    (begins_there w e b)
+
+pub hands_out_what_is_submitted : HandsOutWhatIsSubmitted
+hands_out_what_is_submitted w e since m r b keeps fits idle =
+    let start : World = (world_step w e).after in
+    let new : World = world_run start since in
+    let s = since_then start since keeps in
+    let h = run_holds r.config since start fits.1 (step_holds r.config w (reached_holds w r) e fits.0) in
+    let still : IsIdle new = ap (λ (o : Option Opening × ℕ). option_map (λ (x : Opening). x.idle) o.0) s.same ∙ idle in
+    let order = (is_in_order r.config new h.sound (h.session still)).in_order m in (
+      ready_on new m ++ order.0,
+      ap (λ d. ready_on start m ++ d) order.1
+          ∙ sym (append_assoc (ready_on start m) (delivered new m) order.0)
+          ∙ ap (λ d. d ++ order.0) (sym (hands_out_what_is_delivered w e since m b keeps))
+          ∙ append_assoc (taken_since start since m) (ready_on new m) order.0,
+    )

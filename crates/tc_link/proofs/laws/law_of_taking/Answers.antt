@@ -1,0 +1,8 @@
+use Rattle.tc_link.proofs.Taking.{hands_out_what_is_delivered, hands_out_what_is_submitted}
+use Rattle.tc_link.proofs.laws.law_of_taking.Goals as goal
+
+pub returns-clause-delivered : goal.returns-clause-delivered
+returns-clause-delivered c = hands_out_what_is_delivered
+
+pub returns-clause-submitted : goal.returns-clause-submitted
+returns-clause-submitted c = hands_out_what_is_submitted

@@ -1,0 +1,8 @@
+use Rattle.tc_link.proofs.TelemetryKept.{comes_down, runs_as_the_link}
+use Rattle.tc_link.proofs.telemetry_law.law_of_telemetry.Goals as goal
+
+pub returns-clause-in_order : goal.returns-clause-in_order
+returns-clause-in_order c = comes_down
+
+pub returns-clause-runs : goal.returns-clause-runs
+returns-clause-runs c = runs_as_the_link

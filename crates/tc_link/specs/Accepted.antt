@@ -1,0 +1,56 @@
+-- What the reports on their way say of the segments that were sent and are not acknowledged. They
+-- say it after an alert too, when the sender obeys no report.
+use Rattle.std.specs.Prelude.{◌≡◌, ◌≢◌, ◌≤◌, ◌⊎◌, ℕ, ◌+◌, List, [], ◌∷◌, length, take, Option, Some}
+use Rattle.std.specs.Prelude.{IfSome}
+use Rattle.std.specs.List.{AllByRecursion}
+use Rattle.cop1.specs.Accepted.{accepted_beyond}
+use Rattle.cop1.specs.declared.fop.FopMode.TheVariants.{S6}
+use Rattle.cop1.specs.FopState.{IsActive}
+use Rattle.tc_link.specs.declared.event.Event.{Event}
+use Rattle.tc_link.specs.InTransit.{numbers_up, values_down}
+use Rattle.tc_link.specs.Reached.{IsEvent}
+use Rattle.tc_link.specs.World.{World, world_step, world_run, IsSettled, KeepsSession, accepted}
+
+-- V(S) and NN(R) are those of the session: the sender is Active, or they differ. (A directive that
+-- sets V(S) sets NN(R) to the same number.)
+abbrev pub KeepsNumbers : World → Type 0
+KeepsNumbers w =
+    IsActive w.ground_node.fop.state ⊎ (w.ground_node.fop.vs ≢ w.ground_node.fop.nn)
+
+-- the first k segments of those that were sent and are not acknowledged were accepted
+abbrev pub WereAccepted : World → ℕ → Type 0
+WereAccepted w k =
+    (w.session.acknowledged + k ≤ length (accepted w))
+    × (take (w.session.acknowledged + k) w.session.sent
+    ≡ take (w.session.acknowledged + k) (accepted w))
+
+-- the number of them that a report of this value says were accepted
+abbrev pub said_by : World → ℕ → Option ℕ
+said_by w value = accepted_beyond w.ground_node.fop.nn w.ground_node.fop.vs value
+
+-- if it says a number, that many were accepted
+abbrev pub SaysTrue : World → ℕ → Type 0
+SaysTrue w value = IfSome (said_by w value) (WereAccepted w)
+
+-- it says a number, and that many were accepted
+abbrev pub SaysHowMany : World → ℕ → Type 0
+SaysHowMany w value = (k : ℕ) × (said_by w value ≡ Some k) × WereAccepted w k
+
+-- whatever the events, no more segments are accepted until a session begins
+abbrev pub AcceptsNoMore : World → Type 0
+AcceptsNoMore w =
+    (events : List Event) → AllByRecursion IsEvent events → KeepsSession w events
+    → accepted (world_run w events) ≡ accepted w
+
+pub record SaysWhatWasAccepted (w : World) : Type 0 where
+  -- what a report says was accepted was: in any state, whatever the directives
+  pub never_false : IsSettled w → AllByRecursion (SaysTrue w) (values_down w)
+  -- while the numbers are the session's, each report says a number; by `HasPlainHistory` it is
+  -- exactly the number of those that were accepted when the report was made
+  pub each : IsSettled w → KeepsNumbers w → AllByRecursion (SaysHowMany w) (values_down w)
+  -- and V(R), which a report made now has, says how many are accepted now, which are all
+  pub now : IsSettled w → KeepsNumbers w
+      → (k : ℕ) × (said_by w w.spacecraft.farm.vr ≡ Some k)
+      × (w.session.acknowledged + k ≡ length (accepted w))
+  -- in S6, with no Type-AD frame on its way up, these are all that ever will be
+  pub no_more : w.ground_node.fop.state ≡ S6 → numbers_up w ≡ [] → AcceptsNoMore w

@@ -1,0 +1,69 @@
+-- What is taken on board in a session, and what it has to do with what is delivered.
+use Rattle.std.specs.Prelude.{◌≡◌, ℕ, List, [], ◌∷◌, ◌++◌, true, Result, Ok}
+use Rattle.std.specs.List.{AllByRecursion}
+use Rattle.octets.specs.Beginning.{IsBeginning}
+use Rattle.cop1.specs.declared.fop.Directive.{Directive}
+use Rattle.cop1.specs.Directives.{is_initiation}
+use Rattle.nodes.specs.Delivery.{packets_of_map}
+use Rattle.nodes.specs.Ground.{is_closed}
+use Rattle.nodes.specs.Packets.{PacketOn}
+use Rattle.tc_link.specs.declared.event.Event.{Event}
+use Rattle.tc_link.specs.declared.event.Event.TheVariants as events
+use Rattle.tc_link.specs.declared.sim.fault.SimFault.{SimFault}
+use Rattle.tc_link.specs.Reached.{IsEvent, IsReached}
+use Rattle.tc_link.specs.Replies.{ReplyView, Packet}
+use Rattle.tc_link.specs.World.{World, KeepsSession, IsIdle, submitted, delivered, world_step}
+use Rattle.tc_link.specs.World.{world_run, run_answers}
+
+-- a session begins with an event: it is an initiation, and comes while the sender is in S6
+abbrev pub BeginsSession : World → Event → Type 0
+BeginsSession w event =
+    (directive : Directive) × (event ≡ events.Directive directive)
+    × (is_initiation directive ≡ true) × (is_closed w.ground_node.fop.state ≡ true)
+
+-- the packet that an event hands out from those that are ready
+abbrev pub handed_out : Event → Result ReplyView SimFault → List PacketOn
+handed_out events.Take (Ok (Packet packet)) = packet ∷ []
+handed_out _ _ = []
+
+-- the packets that these events handed out with these answers, in order
+abbrev pub taken : List Event → List (Result ReplyView SimFault) → List PacketOn
+taken [] answers = []
+taken (event ∷ more) [] = []
+taken (event ∷ more) (answer ∷ answers) = handed_out event answer ++ taken more answers
+
+-- those that were taken since this moment on a MAP, in order
+abbrev pub taken_since : World → List Event → ℕ → List (List ℕ)
+taken_since w since m = packets_of_map m (taken since (run_answers w since))
+
+-- those that wait to be taken on a MAP, the oldest first
+abbrev pub ready_on : World → ℕ → List (List ℕ)
+ready_on w m = packets_of_map m w.spacecraft.ready
+
+-- On a MAP the packets that were taken since this moment, followed by those that are ready, are
+-- those that were ready then, followed by those that the session has delivered.
+abbrev pub HandsOut : World → List Event → ℕ → Type 0
+HandsOut w since m =
+    taken_since w since m ++ ready_on (world_run w since) m
+    ≡ ready_on w m ++ delivered (world_run w since) m
+
+-- so it is on each MAP since the moment at which a session began, whatever came before
+abbrev pub HandsOutWhatIsDelivered : Type 0
+HandsOutWhatIsDelivered =
+    (w : World) (initiation : Event) (since : List Event) (m : ℕ) → BeginsSession w initiation
+    → KeepsSession (world_step w initiation).after since
+    → HandsOut (world_step w initiation).after since m
+
+-- The packets on a MAP that were taken since this moment are a prefix of those that were ready
+-- then, followed by those that were submitted in the session.
+abbrev pub HandsOutInOrder : World → List Event → ℕ → Type 0
+HandsOutInOrder w since m =
+    IsBeginning (taken_since w since m) (ready_on w m ++ submitted (world_run w since) m)
+
+-- so it is in a run, where the session had an idle start
+abbrev pub HandsOutWhatIsSubmitted : Type 0
+HandsOutWhatIsSubmitted =
+    (w : World) (initiation : Event) (since : List Event) (m : ℕ) → IsReached w
+    → BeginsSession w initiation → KeepsSession (world_step w initiation).after since
+    → AllByRecursion IsEvent (initiation ∷ since) → IsIdle (world_step w initiation).after
+    → HandsOutInOrder (world_step w initiation).after since m

@@ -1,0 +1,30 @@
+// What holds of each run, whatever a program keeps of it.
+
+ghost use Rattle.tc_link.specs.OneLink.{EachGoesOnAsOne, EachHasOneLink};
+ghost use Rattle.tc_link.specs.Promises.{HoldsOfAllRuns};
+ghost use Rattle.tc_link.specs.Taken.{HandsOutWhatIsDelivered, HandsOutWhatIsSubmitted};
+
+/// For each configuration in its ranges and each list of events, what `run` promises of each event holds
+/// by the rules of the nodes and the link themselves. So it holds of a program with a loop of its own,
+/// whose calls of the two nodes are such events. Nothing is run, and no memory is taken.
+pub fn law_of_sessions()
+    ensures { HoldsOfAllRuns }
+{}
+
+/// Since a session began, on each MAP: the packets that `take` has handed out, followed by those
+/// that are ready, are those that were ready then, followed by those that the session has
+/// delivered. So it is in each run, whatever came before the session, until the next one begins
+/// (`delivered`). In a session that had an idle start, what `take` hands out on a MAP after the
+/// packets that were ready is therefore a prefix of what is submitted on it (`submitted`).
+pub fn law_of_taking()
+    ensures delivered { HandsOutWhatIsDelivered }
+    ensures submitted { HandsOutWhatIsSubmitted }
+{}
+
+/// The plain link whose history a settled session is, is one link: the records of the session and
+/// what is on its way leave no choice of it, and its base is one modulo 256 (`one`). While the
+/// session goes on so does that one link, at each event by at most one step (`goes_on`).
+pub fn law_of_plain_links()
+    ensures one { EachHasOneLink }
+    ensures goes_on { EachGoesOnAsOne }
+{}
