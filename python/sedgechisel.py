@@ -12,7 +12,7 @@ from os import path
 _library = ctypes.CDLL(path.join(path.dirname(path.abspath(__file__)), "libsedgechisel.so"))
 _MOST = {c_uint8: 0xFF, c_uint16: 0xFFFF, c_uint32: 0xFFFFFFFF}
 _SHARED = {253: "Absent", 254: "WrongCount", 255: "Damaged"}
-_DAMAGED = 255
+_ABSENT, _DAMAGED = 253, 255
 
 
 class _Text(ctypes.Structure):
@@ -369,6 +369,24 @@ class Fop(_Struct):
         CopFault._look_at(answer == _DAMAGED and answer)
         return Alert(answer)
 
+    def accepted_beyond(self, value):
+        """How many of the units that were sent and not acknowledged were accepted on board when a report of this value
+        was made, the oldest ones; None where the value is beyond V(S). After an alert too, in S6, until V(S) is set or
+        an initiation begins (5.1)."""
+        return _accepted_of(_fop_accepted_beyond, byref(self), value)
+
+
+def accepted_beyond(nn, vs, value):
+    """The same of a sender with these numbers for NN(R) and V(S)."""
+    return _accepted_of(_accepted_beyond, nn, vs, value)
+
+
+def _accepted_of(call, *values):
+    accepted = c_uint8()
+    answer = call(*values, byref(accepted))
+    CopFault._look_at(answer == _DAMAGED and answer)
+    return None if answer == _ABSENT else accepted.value
+
 
 _fop_open = _call("fop_open", c_uint8, POINTER(Fop), c_uint8, c_uint8, c_uint8, c_uint16)
 _fop_init_without_check = _call("fop_init_without_check", c_uint8, POINTER(Fop))
@@ -384,6 +402,8 @@ _fop_submit = _call("fop_submit", c_uint8, POINTER(Fop))
 _fop_next = _call("fop_next", c_uint8, POINTER(Fop), POINTER(c_uint8))
 _fop_report = _call("fop_report", c_uint8, POINTER(Fop), POINTER(Clcw), POINTER(c_uint8))
 _fop_tick = _call("fop_tick", c_uint8, POINTER(Fop))
+_fop_accepted_beyond = _call("fop_accepted_beyond", c_uint8, POINTER(Fop), c_uint8, POINTER(c_uint8))
+_accepted_beyond = _call("accepted_beyond", c_uint8, c_uint8, c_uint8, c_uint8, POINTER(c_uint8))
 
 # ---- Telecommand frames ----
 

@@ -47,7 +47,7 @@ struct sedge_text sedge_version(void);
 /* The numbers that all kinds of calls share. */
 enum sedge_status {
     SEDGE_OK = 0,
-    SEDGE_ABSENT = 253,      /* there are not that many segments */
+    SEDGE_ABSENT = 253,      /* there are not that many segments, or a report says nothing of the units */
     SEDGE_WRONG_COUNT = 254, /* not the number of octets that the call needs */
     SEDGE_DAMAGED = 255      /* a struct has a value that no sender, receiver or MAP has, or one out of its enum */
 };
@@ -199,7 +199,7 @@ uint8_t sedge_farm_state(const struct sedge_farm *farm);
  *
  * A report acknowledges the oldest units sent, as many as it writes to released; their places may be used again. An
  * alert (of a report, of a tick, or by sedge_fop_terminate) discards all units, the one that waits too; nothing else
- * does. ---- */
+ * does. After an alert, sedge_fop_accepted_beyond says by a later report which of them were accepted on board. ---- */
 
 /* The sender's state (5.1.2). */
 enum sedge_fop_state {
@@ -297,6 +297,15 @@ uint8_t sedge_fop_report(struct sedge_fop *fop, const struct sedge_clcw *word, u
 
 /* A tick of the clock has passed. Returns the alert, of sedge_alert, or SEDGE_DAMAGED. */
 uint8_t sedge_fop_tick(struct sedge_fop *fop);
+
+/* Writes how many of the units that were sent and not acknowledged were accepted on board when a report of this value
+ * was made: the oldest ones, those with the numbers from NN(R) to value - 1 (5.1). It does so after an alert too, until
+ * V(S) is set or an initiation begins. Returns 0, or SEDGE_DAMAGED, or SEDGE_ABSENT if the value is beyond V(S),
+ * so that the report says nothing of these units. */
+uint8_t sedge_fop_accepted_beyond(const struct sedge_fop *fop, uint8_t value, uint8_t *accepted);
+
+/* The same of a sender with these numbers for NN(R) and V(S). Returns 0, or SEDGE_ABSENT. */
+uint8_t sedge_accepted_beyond(uint8_t nn, uint8_t vs, uint8_t value, uint8_t *accepted);
 
 /* ---- Telecommand transfer frames of at most 1,024 octets (232.0-B-4, 4.1), with or without their check. ---- */
 
@@ -454,10 +463,10 @@ enum sedge_dropped {
     SEDGE_NOT_DROPPED = 0,
     SEDGE_DROPPED_INTERRUPTED = 2,  /* the part that was open: a first or an alone segment came before its last */
     SEDGE_DROPPED_NO_BEGINNING = 3, /* the segment: it continues or ends a packet, and no part is open */
-    SEDGE_DROPPED_NOT_A_PACKET = 4, /* what was joined, or stood alone: it is not exactly one packet, or with blocking
-                                     * not one or more whole packets */
-    SEDGE_DROPPED_TOO_LONG = 5      /* what was joined, or stood alone: it, or with blocking one of its packets, has
-                                     * more octets than the memory */
+    SEDGE_DROPPED_NOT_A_PACKET = 4, /* what was joined is not exactly one packet, or what stood alone is not one, or
+                                     * with blocking not one or more whole packets */
+    SEDGE_DROPPED_TOO_LONG = 5      /* what was joined or stood alone, or with blocking one of the packets that stood
+                                     * alone, has more octets than the memory */
 };
 
 /* Where the packets are that are whole now. */

@@ -160,7 +160,7 @@ static struct sedge_fop *any_sender(void) {
 static void senders(void) {
     struct sedge_fop *fop = any_sender(), kept = *fop;
     struct sedge_clcw word;
-    uint8_t *number = room_of(1), answer, which = (uint8_t)below(14), value = (uint8_t)below(256);
+    uint8_t *number = room_of(1), answer, which = (uint8_t)below(15), value = (uint8_t)below(256);
     fill((uint8_t *)&word, sizeof word);
     switch (which) {
     case 0: answer = sedge_fop_open(fop, value, (uint8_t)below(256), value, value); break;
@@ -176,10 +176,14 @@ static void senders(void) {
     case 10: answer = sedge_fop_submit(fop); break;
     case 11: answer = sedge_fop_next(fop, number); break;
     case 12: answer = sedge_fop_report(fop, &word, number); break;
+    case 13: answer = sedge_fop_accepted_beyond(fop, value, number); break;
     default: answer = sedge_fop_tick(fop); break;
     }
     if (which < 11) {
         WANT(is_answer(answer, SEDGE_COP_WRONG_STATE, fop, &kept, sizeof kept));
+    } else if (which == 13) {
+        WANT(memcmp(fop, &kept, sizeof kept) == 0 && (answer == SEDGE_ABSENT || answer == SEDGE_DAMAGED || answer == SEDGE_OK));
+        WANT(answer == SEDGE_OK ? *number == (uint8_t)(value - fop->nn) : is_kept(number));
     } else {
         WANT(answer <= SEDGE_ALERT_TERMINATED || answer == SEDGE_DAMAGED);
         WANT(answer != SEDGE_DAMAGED || (memcmp(fop, &kept, sizeof kept) == 0 && is_kept(number)));
@@ -285,7 +289,10 @@ static void maps(void) {
     answer = sedge_map_take(map, flags, octets, count, memory, room, &taken);
     WANT(answer == SEDGE_OK || (answer == SEDGE_DAMAGED && memcmp(map, &kept, sizeof kept) == 0 && taken.count == 77));
     WANT(answer == SEDGE_DAMAGED || (map->count <= room && taken.where <= SEDGE_IN_DATA && taken.dropped <= SEDGE_DROPPED_TOO_LONG));
-    if (answer == SEDGE_OK) WANT(taken.count <= (taken.where == SEDGE_IN_MEMORY ? room : count));
+    if (answer == SEDGE_OK) {
+        WANT(map->blocking == kept.blocking);
+        WANT(taken.where == SEDGE_IN_MEMORY ? taken.count <= room : taken.count == (taken.where ? count : 0));
+    }
     while (sedge_map_packet(octets, count, &packet)) WANT(packet.count >= 7 && packet.from + packet.count <= count);
 }
 

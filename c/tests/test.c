@@ -382,6 +382,29 @@ static void a_sender_gives_up(void) {
     WANT(alert == SEDGE_ALERT_TIMER && tick == 31 && fop.state == SEDGE_FOP_S6 && fop.sent == 0);
 }
 
+/* Three units are sent, and the sender gives up: a report that comes later says how many of them were accepted. */
+static void what_was_accepted(void) {
+    struct sedge_fop fop = opened_sender();
+    uint8_t number, accepted = 99, same;
+    int value;
+    WANT(sedge_fop_set_vs(&fop, 254) == SEDGE_OK && sedge_fop_init_without_check(&fop) == SEDGE_OK);
+    for (number = 254; number != 1; number++) send_first(&fop, number);
+    WANT(sedge_fop_terminate(&fop) == SEDGE_OK && fop.sent == 0 && fop.nn == 254 && fop.vs == 1);
+    WANT(sedge_fop_accepted_beyond(&fop, 253, &accepted) == SEDGE_ABSENT);
+    WANT(sedge_fop_accepted_beyond(&fop, 2, &accepted) == SEDGE_ABSENT && accepted == 99);
+    WANT(sedge_fop_accepted_beyond(&fop, 254, &accepted) == SEDGE_OK && accepted == 0);
+    WANT(sedge_fop_accepted_beyond(&fop, 0, &accepted) == SEDGE_OK && accepted == 2);
+    WANT(sedge_fop_accepted_beyond(&fop, 1, &accepted) == SEDGE_OK && accepted == 3);
+    for (value = 0; value < 256; value++) {
+        accepted = same = 99;
+        WANT(sedge_accepted_beyond(254, 1, (uint8_t)value, &same)
+             == sedge_fop_accepted_beyond(&fop, (uint8_t)value, &accepted));
+        WANT(same == accepted);
+    }
+    WANT(sedge_fop_init_without_check(&fop) == SEDGE_OK);
+    WANT(sedge_fop_accepted_beyond(&fop, 0, &accepted) == SEDGE_ABSENT);
+}
+
 static void the_directives(void) {
     struct sedge_fop fop = opened_sender();
     struct sedge_clcw word = {0, 0, 0, 0, 7};
@@ -430,6 +453,7 @@ static void is_damaged_sender(struct sedge_fop fop) {
     WANT(sedge_fop_set_timer(&fop, 1) == SEDGE_DAMAGED && sedge_fop_submit(&fop) == SEDGE_DAMAGED);
     WANT(sedge_fop_next(&fop, &number) == SEDGE_DAMAGED && sedge_fop_tick(&fop) == SEDGE_DAMAGED);
     WANT(sedge_fop_report(&fop, &word, &number) == SEDGE_DAMAGED && number == 99);
+    WANT(sedge_fop_accepted_beyond(&fop, 0, &number) == SEDGE_DAMAGED && number == 99);
     WANT(memcmp(&fop, &kept, sizeof fop) == 0);
 }
 
@@ -791,9 +815,10 @@ static const uint8_t TWO[15] = {0x10, 0x05, 0xc0, 0x00, 0x00, 0x00, 0xaa, 0x10,
 
 static struct sedge_taken take(struct sedge_map *map, uint8_t flags, const uint8_t *data, size_t count, uint8_t *memory,
                                size_t room) {
+    const uint8_t blocking = map->blocking;
     struct sedge_taken taken;
     memset(&taken, 0x55, sizeof taken);
-    WANT(sedge_map_take(map, flags, data, count, memory, room, &taken) == SEDGE_OK);
+    WANT(sedge_map_take(map, flags, data, count, memory, room, &taken) == SEDGE_OK && map->blocking == blocking);
     return taken;
 }
 
@@ -829,6 +854,8 @@ static void packets_in_blocks(void) {
     WANT(!sedge_map_packet(TWO, 15, &packet) && packet.from == 7 && packet.count == 8);
     packet.from = SIZE_MAX;
     WANT(!sedge_map_packet(TWO, 15, &packet) && !sedge_map_packet(TWO, 0, &packet));
+    WANT(is_taken(take(&map, SEDGE_SEGMENT_FIRST, FIRST_HALF, 4, memory, 8), 0, SEDGE_NO_PACKET, SEDGE_NOT_DROPPED));
+    WANT(is_taken(take(&map, SEDGE_SEGMENT_ALONE, TWO, 15, memory, 8), 15, SEDGE_IN_DATA, SEDGE_DROPPED_INTERRUPTED));
     WANT(is_taken(take(&map, SEDGE_SEGMENT_ALONE, TWO, 15, memory, 7), 0, SEDGE_NO_PACKET, SEDGE_DROPPED_TOO_LONG));
     WANT(is_taken(take(&map, SEDGE_SEGMENT_ALONE, TWO, 0, memory, 8), 0, SEDGE_NO_PACKET, SEDGE_DROPPED_NOT_A_PACKET));
 }
@@ -910,6 +937,7 @@ int main(void) {
     refusals_of_a_receiver();
     a_sender_sends_again();
     a_sender_gives_up();
+    what_was_accepted();
     the_directives();
     refusals_of_a_sender();
     damaged_senders();

@@ -1,16 +1,24 @@
 -- Part k of a packet stands at place k times the size of a part.
 use Rattle.std.proofs.Common.{◌≡◌, ◌≢◌, ◌≤◌, ◌<◌, ℕ, zero, suc, ◌+◌, ◌-◌, ◌*◌, ◌/◌, ◌++◌, List, [], ◌∷◌, length, take}
-use Rattle.std.proofs.Common.{drop, Some, refl, sym, ap, ◌∙◌, arith, length-drop, length-take}
+use Rattle.std.proofs.Common.{drop, Some, refl, sym, ap, ◌∙◌, arith, length-append, length-drop, length-take}
 use Rattle.std.specs.Prelude.{slice_get}
-use Rattle.std.proofs.lemmas.List.{drop-drop, drop-take, take_all, take-take}
+use Rattle.std.proofs.lemmas.List.{drop-drop, drop-take, map-append, take_all, take-append-le, take-take}
+use Rattle.std.proofs.lemmas.List.Folds.{concat-append}
+use Rattle.std.proofs.Math.Nat.{le-div_iff_mul-le}
+use Rattle.std.proofs.Math.Seq.{take-append-add}
 use Rattle.tc_frame.specs.declared.frame.SegmentFlags.TheVariants.{First, Continuing, Last, Alone}
 use Rattle.tc_frame.specs.Layout.{SegmentView}
 use Rattle.std.specs.List.{concat}
 use Rattle.map_service.specs.Cutting.{pieces_of, segment_with, later_segments, parts_of, first_group, segments_of}
+use Rattle.map_service.specs.Cutting.{payloads}
 use Rattle.map_service.specs.Packets.{packets_in, rest_in}
 use Rattle.map_service.proofs.Counts.{parts-count}
 use Rattle.map_service.proofs.Groups.{groups-cut}
+use Rattle.map_service.proofs.Parts.{parts-joined}
 use Rattle.map_service.proofs.Pieces.{later_segments-last, later_segments-more, parts-fit, parts-more}
+use Rattle.sedgechisel.specs.declared.cutting.Place.{Place}
+use Rattle.sedgechisel.specs.declared.part.Part.{Part}
+use Rattle.sedgechisel.specs.Cuttings.{octets_before, part_at, part_in, segment_in}
 
 times_suc : (k part : ℕ) → suc k * part ≡ part + k * part
 times_suc k part = omega arith
@@ -134,6 +142,47 @@ last_at octets from len part m (suc k) fits one some there last =
     ∙ ap (λ (p : List ℕ). Some (segment_with Last m p))
     (short_part octets from len (suc k * part) part (omega arith) (omega arith))
 
+-- ---- the octets before a part
+
+octets-append : (xs ys : List SegmentView)
+    → length (concat (payloads (xs ++ ys))) ≡ length (concat (payloads xs)) + length (concat (payloads ys))
+octets-append xs ys =
+    ap (λ (ps : List (List ℕ)). length (concat ps)) (map-append (λ (s : SegmentView). s.payload) xs ys)
+    ∙ ap length (concat-append (payloads xs) (payloads ys))
+    ∙ length-append (concat (payloads xs)) (concat (payloads ys))
+
+-- each part before the last has as many octets as a part may have
+before_later : (k part m : ℕ) (xs : List ℕ) → 1 ≤ part → k * part < length xs
+    → octets_before (later_segments m (pieces_of part xs)) k ≡ k * part
+before_later zero part m xs one there = omega arith
+before_later (suc k) part m xs one there =
+    let rest : List SegmentView = later_segments m (pieces_of part (drop part xs)) in
+    let step = times_suc k part in
+    let behind = before_later k part m (drop part xs) one (omega (arith, length-drop part xs)) in
+    rw (later_segments-more m part xs one (omega arith), step)
+    (length-append (take part xs) (concat (payloads (take k rest))) ∙ omega (arith, behind, length-take part xs))
+
+before_part : (k part m : ℕ) (xs : List ℕ) → 1 ≤ part → k * part < length xs
+    → octets_before (parts_of part m xs) k ≡ k * part
+before_part zero part m xs one there = omega arith
+before_part (suc k) part m xs one there =
+    let rest : List SegmentView = later_segments m (pieces_of part (drop part xs)) in
+    let step = times_suc k part in
+    let behind = before_later k part m (drop part xs) one (omega (arith, length-drop part xs)) in
+    rw (parts-more m part xs one (omega arith), step)
+    (length-append (take part xs) (concat (payloads (take k rest))) ∙ omega (arith, behind, length-take part xs))
+
+abbrev part_with : ℕ → ℕ → Part
+part_with from count = record { from = from; count = count }
+
+-- a place that is within the octets, after the segments before it
+pub placed : (octets : List ℕ) (segments : List SegmentView) (k : ℕ) (p : Place) → p.from ≡ octets_before segments k
+    → p.from + p.count ≤ length octets
+    → part_in p ≡ part_at segments k (segment_in octets p)
+placed octets segments k p place within =
+    ap (λ (from : ℕ). part_with from p.count) place
+    ∙ ap (part_with (octets_before segments k)) (sym (packet-length octets p.from p.count within))
+
 -- ---- one group of packets after another
 
 get_front : {X : Type 0} (xs ys : List X) (k : ℕ) → k < length xs → slice_get (xs ++ ys) k ≡ slice_get xs k
@@ -173,3 +222,30 @@ module _ (part n : ℕ) (rest : List ℕ) (none : rest_in rest ≡ []) (one : 1 
       ap (λ (l : List SegmentView). slice_get l k) cut_here
       ∙ ap (slice_get (parts_of part 0 (take n rest) ++ segments_of part 0 (drop n rest))) place
       ∙ get_behind (parts_of part 0 (take n rest)) (segments_of part 0 (drop n rest)) (k - ((n - 1) / part + 1))
+
+  pub before_here : (k : ℕ) → k < (n - 1) / part + 1 → octets_before (segments_of part 0 rest) k ≡ k * part
+  before_here k lt =
+      let size = parts_here in
+      let parts : List SegmentView = parts_of part 0 (take n rest) in
+      let later : List SegmentView = segments_of part 0 (drop n rest) in
+      let least : k * part ≤ n - 1 = (le-div_iff_mul-le one).0 (omega arith) in
+      ap (λ (l : List SegmentView). octets_before l k) cut_here
+      ∙ ap (λ (l : List SegmentView). length (concat (payloads l))) (take-append-le k parts later (omega arith))
+      ∙ before_part k part 0 (take n rest) one (omega (arith, length-take n rest))
+
+  pub before_behind : (k : ℕ) → (n - 1) / part + 1 ≤ k
+      → octets_before (segments_of part 0 rest) k
+      ≡ n + octets_before (segments_of part 0 (drop n rest)) (k - ((n - 1) / part + 1))
+  before_behind k ge =
+      let size = parts_here in
+      let parts : List SegmentView = parts_of part 0 (take n rest) in
+      let later : List SegmentView = segments_of part 0 (drop n rest) in
+      let left : ℕ = k - ((n - 1) / part + 1) in
+      let place : k ≡ length parts + left = omega arith in
+      let all : length (concat (payloads parts)) ≡ n =
+      ap length (parts-joined part 0 (take n rest) one) ∙ omega (arith, length-take n rest) in
+      ap (λ (l : List SegmentView). octets_before l k) cut_here
+      ∙ ap (octets_before (parts ++ later)) place
+      ∙ ap (λ (l : List SegmentView). length (concat (payloads l))) (take-append-add parts later left)
+      ∙ octets-append parts (take left later)
+      ∙ ap (λ (count : ℕ). count + octets_before later left) all

@@ -1,6 +1,6 @@
 -- What a caller in C is answered: 0, or the number of the first fault; and what a call leaves in a
 -- struct of the caller's.
-use Rattle.std.specs.Prelude.{ℕ, List, Result, Ok, Err}
+use Rattle.std.specs.Prelude.{ℕ, List, Option, Some, None, Result, Ok, Err}
 
 -- a struct has a value that no such value of a crate has
 abbrev pub damaged : ℕ
@@ -9,6 +9,14 @@ damaged = 255
 -- the octets are not as many as the call wants
 abbrev pub wrong_count : ℕ
 wrong_count = 254
+
+-- there is none of what is asked for
+abbrev pub absent : ℕ
+absent = 253
+
+abbrev pub if_there : {A : Type 0} → Option A → Result A ℕ
+if_there (Some x) = Ok x
+if_there None = Err absent
 
 -- a crate's answer, with the number of its fault, which has this row
 abbrev pub numbered : {A F : Type 0} → (F → ℕ × List ℕ) → Result A F → Result A ℕ

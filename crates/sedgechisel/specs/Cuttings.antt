@@ -1,18 +1,17 @@
 -- Cutting packets into segments as C asks for it.
-use Rattle.std.specs.Prelude.{◌≡◌, ℕ, List, take, drop, ◌&&◌, ◌==◌, nat_lt, if◌then◌else◌, Option}
-use Rattle.std.specs.Prelude.{Some, None, Result, Ok, Err, slice_get}
+use Rattle.std.specs.Prelude.{◌≡◌, ℕ, List, length, take, drop, ◌&&◌, ◌==◌, nat_lt, if◌then◌else◌}
+use Rattle.std.specs.Prelude.{Option, Some, None, Result, Ok, Err, slice_get}
+use Rattle.std.specs.List.{concat}
 use Rattle.tc_frame.specs.Layout.{SegmentView}
 use Rattle.map_service.specs.declared.fault.MapFault.{MapFault}
 use Rattle.map_service.specs.declared.limits.Limits.{Limits}
-use Rattle.map_service.specs.Cutting.{segment_with, segments_of, cut_fault}
+use Rattle.map_service.specs.Cutting.{segment_with, segments_of, payloads, cut_fault}
+use Rattle.octets.specs.Outcome.{map_ok}
 use Rattle.map_service.specs.Faults.{fault_row}
 use Rattle.sedgechisel.specs.declared.cutting.CutLimits.{CutLimits}
 use Rattle.sedgechisel.specs.declared.cutting.Place.{Place}
-use Rattle.sedgechisel.specs.Answers.{damaged, and_then}
-
--- there are not that many
-abbrev pub absent : ℕ
-absent = 253
+use Rattle.sedgechisel.specs.declared.part.Part.{Part}
+use Rattle.sedgechisel.specs.Answers.{damaged, and_then, if_there}
 
 -- the limits that the fields describe; any MAP will do, and it stands as MAP 0
 abbrev pub limits_described : CutLimits → Result Limits ℕ
@@ -37,13 +36,23 @@ segments_described l octets =
     and_then (limits_described l) (λ limits. unless_fault (cut_fault limits octets)
     (segments_of limits.part 0 octets))
 
-abbrev pub if_there : Option SegmentView → Result SegmentView ℕ
-if_there (Some segment) = Ok segment
-if_there None = Err absent
-
 abbrev pub segment_described : CutLimits → List ℕ → ℕ → Result SegmentView ℕ
 segment_described l octets k =
     and_then (segments_described l octets) (λ segments. if_there (slice_get segments k))
+
+-- the number of octets in the first k segments
+abbrev pub octets_before : List SegmentView → ℕ → ℕ
+octets_before segments k = length (concat (payloads (take k segments)))
+
+-- where the data of segment k are: after those of the segments before it, all of them
+abbrev pub part_at : List SegmentView → ℕ → SegmentView → Part
+part_at segments k segment =
+    record { from = octets_before segments k; count = length segment.payload }
+
+abbrev pub part_described : CutLimits → List ℕ → ℕ → Result Part ℕ
+part_described l octets k =
+    and_then (segments_described l octets)
+    (λ segments. map_ok (part_at segments k) (if_there (slice_get segments k)))
 
 -- these are the segment's data, where there is one
 abbrev pub DescribesSegment : Result SegmentView ℕ → List ℕ → Type 0
@@ -51,6 +60,9 @@ DescribesSegment (Ok segment) octets = octets ≡ segment.payload
 DescribesSegment (Err number) octets = Unit {0}
 
 -- ---- places
+
+abbrev pub part_in : Place → Part
+part_in p = record { from = p.from; count = p.count }
 
 -- the segment at a place
 abbrev pub segment_in : List ℕ → Place → SegmentView

@@ -57,6 +57,14 @@ packets_described t memory octets =
     else if t.place == 2 then packets_in (take t.count octets)
     else []
 
+-- the struct counts octets that are there: the first of the memory, all of the segment's data, or
+-- none
+abbrev pub is_counted : TakenSegment → List ℕ → List ℕ → Bool
+is_counted t memory octets =
+    if t.place == 1 then nat_le t.count (length memory)
+    else if t.place == 2 then t.count == length octets
+    else (t.place == 0) && (t.count == 0)
+
 -- the outcome that the structs and the octets describe
 abbrev pub outcome_described : KeptMap → TakenSegment → List ℕ → List ℕ → TakeOutcome
 outcome_described m t memory octets =

@@ -12,6 +12,7 @@ use Rattle.cop1.specs.declared.fop.FopMode.TheVariants.{S1, S2, S3, S4, S5, S6}
 use Rattle.cop1.specs.declared.sender.SenderFields.{SenderFields}
 use Rattle.cop1.specs.declared.sender.sending.SenderNext.{SenderNext}
 use Rattle.cop1.specs.declared.sender.sending.SenderNext.TheVariants as next
+use Rattle.cop1.specs.Accepted.{accepted_beyond}
 use Rattle.cop1.specs.Faults.{fault_row}
 use Rattle.cop1.specs.FopNew.{new_fault}
 use Rattle.cop1.specs.Modulo.{ahead_by}
@@ -21,7 +22,7 @@ use Rattle.cop1.specs.SenderStep.{SenderInput, SenderAnswer, Submit, Direct, sen
 use Rattle.cop1.specs.SenderWords.{SenderOutcome}
 use Rattle.octets.specs.Outcome.{map_ok}
 use Rattle.sedgechisel.specs.declared.sender.KeptSender.{KeptSender}
-use Rattle.sedgechisel.specs.Answers.{damaged, and_then}
+use Rattle.sedgechisel.specs.Answers.{damaged, and_then, if_there}
 use Rattle.sedgechisel.specs.Numbers.{found_by}
 use Rattle.sedgechisel.specs.Receivers.{flag_number}
 
@@ -179,6 +180,11 @@ submitted k = and_then (stepped k Submit) (λ o. unless_fault o.after o.answer)
 
 abbrev pub directed : KeptSender → Directive → Result SenderFields ℕ
 directed k directive = and_then (stepped k (Direct directive)) (λ o. unless_fault o.after o.answer)
+
+-- how many units a report's value says were accepted, where it says so
+abbrev pub accepted_by : KeptSender → ℕ → Result ℕ ℕ
+accepted_by k value =
+    and_then (sender_described k) (λ s. if_there (accepted_beyond s.nn s.vs value))
 
 -- an alert's number, and 0 for none
 abbrev pub alert_answer : Option Alert → ℕ

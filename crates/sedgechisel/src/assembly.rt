@@ -4,7 +4,7 @@ ghost use Rattle.std.specs.Prelude.{◌≡◌, ◌+◌, ◌≤◌, ◌++◌, len
 ghost use Rattle.tc_frame.specs.declared.frame.SegmentFlags.TheVariants as flags;
 ghost use Rattle.map_service.specs.Adding.{adding_fault};
 ghost use Rattle.sedgechisel.specs.Answers.{status_of};
-ghost use Rattle.sedgechisel.specs.Maps.{is_map, interrupted, part_of, limits_of, cell_for, cause_answer, closed, no_packets, outcome_described, taken_at, DescribesOutcome, next_packet, part_or, DescribesPackets};
+ghost use Rattle.sedgechisel.specs.Maps.{is_map, is_counted, interrupted, part_of, limits_of, cell_for, cause_answer, closed, no_packets, outcome_described, taken_at, DescribesOutcome, next_packet, part_or, DescribesPackets};
 
 use crate::numbers::DAMAGED;
 use crate::part::Part;
@@ -47,6 +47,9 @@ pub extern "C" fn sedge_map_take(
         (outcome_described map.new taken.new memory.new octets.now) }
     ensures map { OnOk (taken_at map.old flags octets.now memory.old)
         (is_map map.new (length memory.old) ≡ true) }
+    ensures blocking { map.new.blocking ≡ map.old.blocking }
+    ensures count { OnOk (taken_at map.old flags octets.now memory.old)
+        (is_counted taken.new memory.new octets.now ≡ true) }
     ensures unchanged { OnErr (taken_at map.old flags octets.now memory.old)
         ((map.new ≡ map.old) × (taken.new ≡ taken.old) × (memory.new ≡ memory.old)) }
 {
@@ -85,6 +88,8 @@ fn take_cell(
     ensures describes { outcome_described map.new result memory.new octets.now
         ≡ cell_for map.old flags octets.now memory.old }
     ensures map { is_map map.new (length memory.old) ≡ true }
+    ensures blocking { map.new.blocking ≡ map.old.blocking }
+    ensures count { is_counted result memory.new octets.now ≡ true }
 {
     match flags {
         SegmentFlags::Alone => take_alone(map, octets, memory),
@@ -144,6 +149,8 @@ fn take_alone(map: &mut KeptMap, octets: &[u8], memory: &[u8]) -> TakenSegment
     ensures describes { outcome_described map.new result memory.now octets.now
         ≡ cell_for map.old flags.Alone octets.now memory.now }
     ensures map { is_map map.new (length memory.now) ≡ true }
+    ensures blocking { map.new.blocking ≡ map.old.blocking }
+    ensures count { is_counted result memory.now octets.now ≡ true }
 {
     let limits = limits_for(map, memory.len());
     let earlier = interrupt(map);
@@ -162,6 +169,8 @@ fn take_first(map: &mut KeptMap, octets: &[u8], memory: &mut [u8]) -> TakenSegme
     ensures describes { outcome_described map.new result memory.new octets.now
         ≡ cell_for map.old flags.First octets.now memory.old }
     ensures map { is_map map.new (length memory.old) ≡ true }
+    ensures blocking { map.new.blocking ≡ map.old.blocking }
+    ensures count { is_counted result memory.new octets.now ≡ true }
 {
     let earlier = interrupt(map);
     if limits_for(map, memory.len()).is_too_long(octets.len()) {
@@ -206,6 +215,8 @@ fn take_continuing(map: &mut KeptMap, octets: &[u8], memory: &mut [u8]) -> Taken
     ensures describes { outcome_described map.new result memory.new octets.now
         ≡ cell_for map.old flags.Continuing octets.now memory.old }
     ensures map { is_map map.new (length memory.old) ≡ true }
+    ensures blocking { map.new.blocking ≡ map.old.blocking }
+    ensures count { is_counted result memory.new octets.now ≡ true }
 {
     if let Some(cause) = fault_of_adding(map, octets, memory) {
         close(map);
@@ -220,6 +231,8 @@ fn take_last(map: &mut KeptMap, octets: &[u8], memory: &mut [u8]) -> TakenSegmen
     ensures describes { outcome_described map.new result memory.new octets.now
         ≡ cell_for map.old flags.Last octets.now memory.old }
     ensures map { is_map map.new (length memory.old) ≡ true }
+    ensures blocking { map.new.blocking ≡ map.old.blocking }
+    ensures count { is_counted result memory.new octets.now ≡ true }
 {
     let limits = limits_for(map, memory.len());
     if let Some(cause) = fault_of_adding(map, octets, memory) {

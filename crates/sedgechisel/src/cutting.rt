@@ -1,11 +1,11 @@
 // Cutting packets into segments, each given by its place.
 
-ghost use Rattle.std.specs.Prelude.{◌≡◌, ◌≤◌, ◌<◌, ◌+◌, ◌*◌, [], length, take, drop, Some, None, IfSome, OnErr, slice_get};
+ghost use Rattle.std.specs.Prelude.{◌≡◌, ◌≤◌, ◌<◌, ◌+◌, ◌*◌, [], length, take, drop, Some, None, IfSome, slice_get};
 ghost use Rattle.tc_frame.specs.Layout.{flags_code};
 ghost use Rattle.map_service.specs.Cutting.{parts_of, segments_of};
 ghost use Rattle.map_service.specs.Packets.{rest_in};
 ghost use Rattle.sedgechisel.specs.Answers.{status_of, left_by};
-ghost use Rattle.sedgechisel.specs.Cuttings.{limits_described, segments_described, segment_described, segment_in, segment_at, DescribesSegment};
+ghost use Rattle.sedgechisel.specs.Cuttings.{limits_described, segments_described, segment_described, part_described, part_at, part_in, segment_in, segment_at, DescribesSegment};
 
 use crate::numbers::{ABSENT, DAMAGED};
 use crate::part::Part;
@@ -63,9 +63,10 @@ pub extern "C" fn sedge_map_segment(
     ensures answer { result ≡ status_of (segment_described limits.now octets.now k) }
     ensures flags { flags.new
         ≡ left_by (λ s. flags_code s.header.flags) (segment_described limits.now octets.now k) flags.old }
+    ensures place { payload.new
+        ≡ left_by (λ p. p) (part_described limits.now octets.now k) payload.old }
     ensures describes { DescribesSegment (segment_described limits.now octets.now k)
         (take payload.new.count (drop payload.new.from octets.now)) }
-    ensures unchanged { OnErr (segment_described limits.now octets.now k) (payload.new ≡ payload.old) }
 {
     match limits_from(limits) {
         Ok(described) => match segment_count(octets, &described) {
@@ -104,8 +105,10 @@ fn limits_from(limits: &CutLimits) -> Result<Limits, u8>
 fn place_in(octets: &[u8], part: usize, k: usize) -> Option<Place>
     requires some_part { 1 ≤ part }
     requires whole { rest_in octets.now ≡ [] }
-    ensures { slice_get (segments_of part 0 octets.now) k
+    ensures there { slice_get (segments_of part 0 octets.now) k
         ≡ segment_at octets.now result }
+    ensures place { IfSome result (λ p. part_in p
+        ≡ part_at (segments_of part 0 octets.now) k (segment_in octets.now p)) }
 {
     let mut rest = octets;
     let mut from = 0;
@@ -130,8 +133,10 @@ fn place_of(octets: &[u8], from: usize, len: usize, part: usize, k: usize) -> Pl
     requires some_part { 1 ≤ part }
     requires within { from + len ≤ length octets.now }
     requires there { k * part < len }
-    ensures { slice_get (parts_of part 0 (take len (drop from octets.now))) k
+    ensures there { slice_get (parts_of part 0 (take len (drop from octets.now))) k
         ≡ Some (segment_in octets.now result) }
+    ensures from { result.from ≡ from + k * part }
+    ensures within { result.from + result.count ≤ length octets.now }
 {
     let start = k * part;
     let rest = len - start;

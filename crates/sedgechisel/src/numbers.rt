@@ -6,5 +6,5 @@ pub(crate) const DAMAGED: u8 = 255;
 /// The octets are not as many as the call wants.
 pub(crate) const WRONG_COUNT: u8 = 254;
 
-/// There are not that many of what is asked for by its place.
+/// There is none of what is asked for.
 pub(crate) const ABSENT: u8 = 253;

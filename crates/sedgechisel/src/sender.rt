@@ -1,5 +1,6 @@
 // The sender, FOP-1, whose numbers the caller keeps.
 
+mod accepted;
 mod describing;
 mod directing;
 

@@ -1,0 +1,53 @@
+// What a report says of the units that are not acknowledged (CCSDS 232.1-B-2, 5.1).
+
+ghost use Rattle.std.specs.Prelude.{◌≡◌};
+ghost use Rattle.cop1.specs.Accepted.{accepted_beyond};
+ghost use Rattle.sedgechisel.specs.Answers.{status_of, left_by, if_there};
+ghost use Rattle.sedgechisel.specs.Senders.{accepted_by};
+
+use super::KeptSender;
+use super::describing::described;
+use crate::numbers::ABSENT;
+use cop1::accepted_beyond;
+
+/// How many of the units that were sent and not acknowledged were accepted on board when a report of this value was
+/// made, the oldest ones; after an alert too. Answers 0, or 255 where the sender is damaged, or 253 where the value lies
+/// beyond V(S), and nothing is written then.
+#[unsafe(no_mangle)]
+pub extern "C" fn sedge_fop_accepted_beyond(sender: &KeptSender, value: u8, accepted: &mut u8) -> u8
+    ensures answer { result ≡ status_of (accepted_by sender.now value) }
+    ensures accepted { accepted.new ≡ left_by (λ n. n) (accepted_by sender.now value) accepted.old }
+{
+    match described(sender) {
+        Ok(machine) => {
+            let fields = machine.fields();
+            write_accepted(fields.nn, fields.vs, value, accepted)
+        }
+        Err(number) => number,
+    }
+}
+
+/// The same of a sender with these numbers for NN(R) and V(S). Answers 0, or 253 where the value lies beyond V(S), and
+/// nothing is written then.
+#[unsafe(no_mangle)]
+pub extern "C" fn sedge_accepted_beyond(nn: u8, vs: u8, value: u8, accepted: &mut u8) -> u8
+    ensures answer { result ≡ status_of (if_there (accepted_beyond nn vs value)) }
+    ensures accepted { accepted.new
+        ≡ left_by (λ n. n) (if_there (accepted_beyond nn vs value)) accepted.old }
+{
+    write_accepted(nn, vs, value, accepted)
+}
+
+fn write_accepted(nn: u8, vs: u8, value: u8, accepted: &mut u8) -> u8
+    ensures answer { result ≡ status_of (if_there (accepted_beyond nn vs value)) }
+    ensures accepted { accepted.new
+        ≡ left_by (λ n. n) (if_there (accepted_beyond nn vs value)) accepted.old }
+{
+    match accepted_beyond(nn, vs, value) {
+        Some(count) => {
+            *accepted = count;
+            0
+        }
+        None => ABSENT,
+    }
+}
