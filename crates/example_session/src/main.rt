@@ -1,12 +1,14 @@
-//! A session over both nodes and a link that loses frames: packets are submitted as the queue has room, each
-//! round is a tick of the clock, and each alert is answered, until the ground holds all packets acknowledged.
+//! A session over both nodes and a link that loses frames: packets are submitted as the queue has room, and each round
+//! is a tick of the clock. After an alert a report says which packets were accepted on board, though it was not heard:
+//! a new session submits the others alone, so that each packet is delivered once.
 #![tactic(auto)]
 
 use anyhow::{Context, Error, Result};
 use cop1::{Alert, CopFault, Directive, FopMode};
 use nodes::{Config, Ground, Heard, Spacecraft};
+use tm_link::decode;
 
-// The number of packets, of 7 octets each, that are sent on MAP 4.
+// The number of packets, of 7 octets each, that are sent on MAP 4. Each is one segment.
 const PACKETS: usize = 8;
 
 // Loses every fifth frame, up or down, and once ten in a row.
@@ -18,7 +20,7 @@ struct Link {
 impl Link {
     fn carries(&mut self) -> bool {
         self.frames = self.frames.wrapping_add(1);
-        let is_dark = self.frames > 12 && self.frames <= 22;
+        let is_dark = self.frames > 7 && self.frames <= 17;
         self.frames % 5 != 0 && !is_dark
     }
 }
@@ -43,39 +45,39 @@ fn main(rt: HostRuntime) -> Result<()> {
 
 fn play(rt: &HostRuntime, ground: &mut Ground, spacecraft: &mut Spacecraft) -> Result<()> {
     let mut link = Link { frames: 0 };
+    // How many packets were submitted, and of how many the ground knows that they were accepted.
     let mut submitted = 0;
-    let mut unlocks = false;
-    begin(ground, unlocks).ok().context("begin")?;
+    let mut accepted = 0_usize;
+    begin(ground, 0).ok().context("begin")?;
     for round in 1..=100_u32 {
         submitted = submit_from(ground, submitted);
-        let initialising = ground.state() == FopMode::S5;
-        let acknowledged = submitted.saturating_sub(ground.outstanding());
         carry_up(ground, spacecraft, &mut link)?;
         deliver(rt, spacecraft)?;
-        let heard = carry_down(ground, spacecraft, &mut link)?;
-        let ticked = ground.tick();
-        if let Some(alert) = heard.or(ticked) {
-            println!(rt; "round {round}: {alert:?}; again from packet {acknowledged}")?;
-            submitted = acknowledged;
-            unlocks = alert == Alert::Lockout || initialising && !unlocks;
-            begin(ground, unlocks).ok().context("begin")?;
-        } else if submitted == PACKETS && ground.outstanding() == 0 {
+        let nn = ground.nn();
+        let (value, heard) = carry_down(ground, spacecraft, &mut link)?;
+        accepted = accepted.wrapping_add(usize::from(ground.nn().wrapping_sub(nn)));
+        if let Some(alert) = heard.or(ground.tick()) {
+            println!(rt; "round {round}: {alert:?}; {accepted} are acknowledged")?;
+        }
+        if accepted == PACKETS {
             println!(rt; "round {round}: all are acknowledged")?;
             return Ok(());
+        }
+        if let (FopMode::S6, Some(vr)) = (ground.state(), value) {
+            let more = ground.accepted_beyond(vr).context("a report beyond V(S)")?;
+            accepted = accepted.wrapping_add(usize::from(more));
+            println!(rt; "round {round}: {more} more were accepted; again from packet {accepted}")?;
+            submitted = accepted;
+            begin(ground, vr).ok().context("begin")?;
         }
     }
     Err(Error::msg("not all were acknowledged"))
 }
 
-// Begins a session. Set V(R) brings both ends to one number. A receiver in Lockout ignores it and follows Unlock, and
-// the sender in S5 does not look at its reports; so where Set V(R) was in vain, Unlock is next.
-fn begin(ground: &mut Ground, unlocks: bool) -> Result<Option<Alert>, CopFault> {
-    let directive = if unlocks {
-        Directive::InitUnlock
-    } else {
-        Directive::InitSetVr(ground.vs())
-    };
-    ground.directive(directive)
+// Begins a session at the number that the spacecraft expects. Unlock clears its flags, and ends a lockout.
+fn begin(ground: &mut Ground, vr: u8) -> Result<Option<Alert>, CopFault> {
+    ground.directive(Directive::SetVs(vr))?;
+    ground.directive(Directive::InitUnlock)
 }
 
 // Submits packets from this one on, until the queue is full, and answers the first that was not submitted.
@@ -114,20 +116,26 @@ fn deliver(rt: &HostRuntime, spacecraft: &mut Spacecraft) -> Result<()> {
     Ok(())
 }
 
-// Carries a report down, and answers why the sender has given up, where it has.
+// Carries a report down: its value, where it arrives, and why the sender has given up, where it has.
 fn carry_down(
     ground: &mut Ground,
     spacecraft: &mut Spacecraft,
     link: &mut Link,
-) -> Result<Option<Alert>> {
+) -> Result<(Option<u8>, Option<Alert>)> {
     let mut down = [0; 2048];
     let size = spacecraft.report(&mut down);
     if !link.carries() {
-        return Ok(None);
+        return Ok((None, None));
     }
     match ground.telemetry(&down[..size]) {
-        Ok(Heard::Frame { alert, .. }) => Ok(alert),
-        Ok(_) => Ok(None),
+        Ok(Heard::Frame { alert, .. }) => Ok((value_of(&down[..size]), alert)),
+        Ok(_) => Ok((None, None)),
         Err(_) => Err(Error::msg("memory")),
     }
+}
+
+// The value of the report in a telemetry frame: V(R), as it was on board.
+fn value_of(octets: &[u8]) -> Option<u8> {
+    let frame = decode(octets, octets.len()).ok()?;
+    Some(frame.report().ok()?.value)
 }
