@@ -53,6 +53,15 @@ fn words_of_map(rt: HostRuntime) {
         blocking: false,
     };
     asks_for(&rt, rt.alloc(), &["tctool", "map", "frames"], plain);
+    for (word, check, blocking) in [("--check", true, false), ("--blocking", false, true)] {
+        let one = Task::Map {
+            check,
+            width: 254,
+            vr: 0,
+            blocking,
+        };
+        asks_for(&rt, rt.alloc(), &["tctool", "map", word, "frames"], one);
+    }
     let narrow = Task::Map {
         check: true,
         width: 10,

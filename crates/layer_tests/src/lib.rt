@@ -6,6 +6,8 @@
 #[cfg(test)]
 mod link;
 #[cfg(test)]
+mod no_memory;
+#[cfg(test)]
 mod scripts;
 #[cfg(test)]
 mod streams;

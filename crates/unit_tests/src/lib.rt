@@ -4,7 +4,11 @@
 #![tactic(auto)]
 
 #[cfg(test)]
+mod as_octets;
+#[cfg(test)]
 mod frames;
+#[cfg(test)]
+mod no_memory;
 #[cfg(test)]
 mod packets;
 #[cfg(test)]

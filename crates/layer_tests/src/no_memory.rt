@@ -1,0 +1,257 @@
+// Calls of the nodes and of the simulated link that take no memory: `verify` runs these tests with all allocations
+// refused after the words 'set up'.
+
+use cop1::{Alert, CopFault, Directive};
+use nodes::{Config, Ground, Heard, LinkFault, Received, Spacecraft};
+use std::alloc::Global;
+use std::process::Abort;
+use tc_link::{Event, Reply, Sim, SimFault};
+
+const P0: [u8; 7] = [0x10, 0x05, 0xc0, 0x00, 0x00, 0x00, 0xaa];
+
+// Telemetry frames of 19 octets: one of only idle data, and the same of another spacecraft.
+const IDLE: [u8; 19] = [
+    0x00, 0x11, 0x01, 0x01, 0x1f, 0xfe, 0x55, 0x55, 0x55, 0x55, 0x55, 0x55, 0x55, 0x01, 0x08, 0x00,
+    0x00, 0x7d, 0xc0,
+];
+
+const OF_SPACECRAFT_2: [u8; 19] = [
+    0x00, 0x21, 0x05, 0x09, 0x18, 0x00, 0x10, 0x05, 0xc0, 0x01, 0x00, 0x00, 0xab, 0x01, 0x08, 0x00,
+    0x01, 0xa8, 0x2c,
+];
+
+fn config() -> Config {
+    Config {
+        frame_length: 19,
+        ready_slots: 1,
+        queue_slots: 2,
+        ..Config::default()
+    }
+}
+
+fn new_ground(rt: &impl Abort, alloc: Global) -> Result<Ground, LinkFault> {
+    let config = config();
+    assert!(rt; config.fault().is_none());
+    Ground::new(alloc, &config)
+}
+
+// A ground that has one packet to send under and one past the sequence control.
+fn ground(rt: &impl Abort, alloc: Global) -> Result<Ground, LinkFault> {
+    let mut ground = new_ground(rt, alloc)?;
+    let _ = ground.directive(Directive::InitWithoutCheck);
+    ground.submit(4, &P0)?;
+    ground.bypass(4, &P0)?;
+    Ok(ground)
+}
+
+fn refuses(rt: &impl Abort, ground: &mut Ground) {
+    assert_eq!(rt; ground.submit(64, &P0), Err(LinkFault::ClosedMap));
+    assert_eq!(rt; ground.submit(4, &[]), Err(LinkFault::NotCommand));
+    assert_eq!(rt;
+        ground.prepare(4, &P0[1..]).err(),
+        Some(LinkFault::NotCommand)
+    );
+    assert_eq!(rt; ground.bypass(64, &P0), Err(LinkFault::ClosedMap));
+    let window = ground.directive(Directive::SetWindow(0));
+    assert_eq!(rt; window, Err(CopFault::Window));
+}
+
+fn hears(rt: &impl Abort, ground: &mut Ground) {
+    let idle = ground.telemetry(&IDLE);
+    assert!(rt; matches!(idle, Ok(Heard::Frame { packets: 0, .. })));
+    assert_eq!(rt; ground.telemetry(&OF_SPACECRAFT_2), Ok(Heard::Foreign));
+    assert!(rt; matches!(ground.telemetry(&P0), Ok(Heard::Invalid(_))));
+    assert!(rt; ground.take_telemetry().is_none());
+}
+
+#[test]
+fn a_ground_that_is_made_takes_no_memory(rt: HostRuntime) {
+    let Ok(mut ground) = ground(&rt, rt.alloc()) else {
+        let _ = eprintln!(rt; "refused a growth");
+        return;
+    };
+    let _ = eprintln!(rt; "set up");
+    let mut out = [0; 1024];
+    assert_eq!(rt; ground.pull(&mut out), Some(15));
+    assert!(rt; ground.peek().is_some());
+    ground.advance();
+    assert!(rt; ground.peek().is_none());
+    hears(&rt, &mut ground);
+    refuses(&rt, &mut ground);
+    for _ in 0..10 {
+        assert_eq!(rt; ground.tick(), None);
+    }
+    assert_eq!(rt; ground.pull(&mut out), Some(15));
+    for directive in [
+        Directive::SetWindow(1),
+        Directive::SetLimit(1),
+        Directive::SetTimer(1),
+    ] {
+        assert_eq!(rt; ground.directive(directive), Ok(None));
+    }
+    let terminated = ground.directive(Directive::Terminate);
+    assert_eq!(rt; terminated, Ok(Some(Alert::Terminated)));
+    for directive in [Directive::SetVs(9), Directive::InitUnlock] {
+        assert_eq!(rt; ground.directive(directive), Ok(None));
+    }
+    assert_eq!(rt; ground.pull(&mut out), Some(8));
+}
+
+#[test]
+fn a_submission_committed_takes_no_memory(rt: HostRuntime) {
+    let Ok(mut ground) = ground(&rt, rt.alloc()) else {
+        let _ = eprintln!(rt; "refused a growth");
+        return;
+    };
+    let Ok(submission) = ground.prepare(4, &P0) else {
+        let _ = eprintln!(rt; "refused a growth");
+        return;
+    };
+    let _ = eprintln!(rt; "set up");
+    assert!(rt; submission.packets() == [&P0[..]].as_slice());
+    ground.commit(submission);
+    assert_eq!(rt; ground.outstanding(), 2);
+}
+
+// Type-AD frames with numbers 0 and 1, which carry a packet on MAP 4, and Type-BD frames, with the same packet and with
+// one octet.
+const AD_0: [u8; 15] = [
+    0x00, 0x01, 0x08, 0x0e, 0x00, 0xc4, 0x10, 0x05, 0xc0, 0x00, 0x00, 0x00, 0xaa, 0xe7, 0x5d,
+];
+
+const AD_1: [u8; 15] = [
+    0x00, 0x01, 0x08, 0x0e, 0x01, 0xc4, 0x10, 0x05, 0xc0, 0x01, 0x00, 0x00, 0xab, 0x6a, 0xeb,
+];
+
+const BD: [u8; 15] = [
+    0x20, 0x01, 0x08, 0x0e, 0x00, 0xc4, 0x10, 0x05, 0xc0, 0x00, 0x00, 0x00, 0xaa, 0xca, 0x35,
+];
+
+const BD_NONE: [u8; 9] = [0x20, 0x01, 0x08, 0x08, 0x00, 0xc4, 0xaa, 0x93, 0x46];
+
+// AD_0 on another virtual channel, and the command Unlock.
+const OF_CHANNEL_3: [u8; 15] = [
+    0x00, 0x01, 0x0c, 0x0e, 0x00, 0xc4, 0x10, 0x05, 0xc0, 0x00, 0x00, 0x00, 0xaa, 0xb6, 0x1a,
+];
+
+const UNLOCK: [u8; 8] = [0x30, 0x01, 0x08, 0x07, 0x00, 0x00, 0x8b, 0x9e];
+
+// A spacecraft that has a packet of each service, and one of telemetry.
+fn spacecraft(rt: &impl Abort, alloc: Global) -> Result<Spacecraft, LinkFault> {
+    let config = config();
+    assert!(rt; config.fault().is_none());
+    let mut spacecraft = Spacecraft::new(alloc, &config)?;
+    let _ = spacecraft.receive(&AD_0)?;
+    let _ = spacecraft.receive(&BD)?;
+    match spacecraft.telemetry(&[0x00, 0x05, 0xc0, 0x00, 0x00, 0x00, 0xaa]) {
+        Ok(()) => Ok(spacecraft),
+        Err(_) => Err(LinkFault::Memory),
+    }
+}
+
+#[test]
+fn a_spacecraft_that_is_made_takes_no_memory(rt: HostRuntime) {
+    let Ok(mut spacecraft) = spacecraft(&rt, rt.alloc()) else {
+        let _ = eprintln!(rt; "refused a growth");
+        return;
+    };
+    let _ = eprintln!(rt; "set up");
+    for octets in [&AD_0[..], &AD_1, &BD_NONE, &OF_CHANNEL_3, &UNLOCK, &P0] {
+        assert!(rt; spacecraft.receive(octets).is_ok());
+        assert!(rt; spacecraft.prepare(octets).is_ok());
+    }
+    let mut out = [0; 2048];
+    for _ in 0..3 {
+        assert_eq!(rt; spacecraft.report(&mut out), 19);
+    }
+    assert!(rt; spacecraft.telemetry(&P0[1..]).is_err());
+    assert!(rt; spacecraft.take().is_some());
+    assert!(rt; spacecraft.take().is_none());
+    assert!(rt; spacecraft.take_bypass().is_some());
+    assert!(rt; spacecraft.take_bypass().is_none());
+}
+
+#[test]
+fn an_arrival_committed_takes_no_memory(rt: HostRuntime) {
+    let config = config();
+    assert!(rt; config.fault().is_none());
+    let Ok(mut spacecraft) = Spacecraft::new(rt.alloc(), &config) else {
+        let _ = eprintln!(rt; "refused a growth");
+        return;
+    };
+    let Ok(arrival) = spacecraft.prepare(&AD_0) else {
+        let _ = eprintln!(rt; "refused a growth");
+        return;
+    };
+    let _ = eprintln!(rt; "set up");
+    let received = spacecraft.commit(arrival);
+    assert!(rt; matches!(received, Received::Sequence { ready: 1, .. }));
+    assert!(rt; spacecraft.take().is_some());
+}
+
+// A link with frames on their way in both directions, of which the first up was accepted before.
+fn link(alloc: Global) -> Result<Sim, SimFault> {
+    let mut sim = Sim::new(alloc, config())?;
+    for event in [
+        Event::Directive(Directive::InitWithoutCheck),
+        Event::Submit(4, &P0),
+        Event::Bypass(4, &P0),
+        Event::Send,
+        Event::UpDeliver,
+        Event::Send,
+        Event::UpDeliver,
+        Event::Submit(4, &P0),
+        Event::Send,
+        Event::Send,
+        Event::Report,
+        Event::Report,
+        Event::Report,
+        Event::Telemetry(&[0x00, 0x05, 0xc0, 0x00, 0x00, 0x00, 0xaa]),
+    ] {
+        let _ = sim.step(event)?;
+    }
+    Ok(sim)
+}
+
+#[test]
+fn events_of_a_link_takes_no_memory(rt: HostRuntime) {
+    let Ok(mut sim) = link(rt.alloc()) else {
+        let _ = eprintln!(rt; "refused a growth");
+        return;
+    };
+    let _ = eprintln!(rt; "set up");
+    for event in [
+        Event::UpDeliver,
+        Event::UpDamage(&[]),
+        Event::UpLose,
+        Event::DownDeliver,
+        Event::DownDamage(&[]),
+        Event::DownLose,
+        Event::Tick,
+        Event::Submit(64, &P0),
+        Event::Submit(4, &[]),
+        Event::Bypass(4, &[]),
+        Event::Telemetry(&[]),
+        Event::Directive(Directive::Terminate),
+        Event::Directive(Directive::InitSetVr(3)),
+        Event::Take,
+        Event::Take,
+        Event::TakeBypass,
+        Event::TakeBypass,
+    ] {
+        assert!(rt; !is_without_memory(&mut sim, event));
+    }
+    assert_eq!(rt; sim.step(Event::Take), Ok(Reply::Nothing));
+    for map in 0..64u8 {
+        assert!(rt; sim.submitted(map).is_empty() && sim.delivered(map).is_empty());
+    }
+    assert!(rt; sim.submissions().is_empty() && sim.sent().is_empty());
+    assert!(rt; sim.accepted().is_empty() && sim.acknowledged() == 0);
+}
+
+fn is_without_memory(sim: &mut Sim, event: Event<'_>) -> bool {
+    match sim.step(event) {
+        Ok(_) => false,
+        Err(fault) => fault == SimFault::Memory,
+    }
+}

@@ -1,0 +1,177 @@
+// A simulated link with ample memory. No function here says what it does: so the proof of a test has nothing of
+// the link's state in it, and the run compares what is answered.
+
+use cop1::{Directive, FopMode};
+use std::alloc::Global;
+use std::process::Abort;
+use std::test::Fail;
+use tc_link::{Config, Event, Reply, Sim, SimFault};
+
+// More events than one round of any run here takes.
+const MOST: usize = 70_000;
+
+/// A simulated link, and the number of packets that were taken on each MAP in the session.
+#[derive(Drop)]
+pub struct Link {
+    sim: Sim,
+    taken: [usize; 64],
+}
+
+impl Link {
+    pub fn new(alloc: Global, config: Config) -> Result<Link, Fail> {
+        let sim = Sim::new(alloc, config)?;
+        Ok(Link {
+            sim,
+            taken: [0; 64],
+        })
+    }
+
+    pub fn sim(&self) -> &Sim {
+        &self.sim
+    }
+
+    /// Lets an event happen, which may have nothing that is on its way. Want of memory fails the test.
+    pub fn meets(&mut self, event: Event<'_>) -> Result<Option<Reply>, Fail> {
+        match self.sim.step(event) {
+            Ok(reply) => Ok(Some(reply)),
+            Err(SimFault::NothingInTransit) => Ok(None),
+            Err(fault) => Err(fault.into()),
+        }
+    }
+
+    /// Lets an event happen that is done.
+    pub fn does(&mut self, rt: &impl Abort, event: Event<'_>) -> Result<(), Fail> {
+        let reply = self.meets(event)?;
+        assert_eq!(rt; reply, Some(Reply::Done));
+        Ok(())
+    }
+
+    /// Begins a session.
+    pub fn begins(&mut self, rt: &impl Abort, directive: Directive) -> Result<(), Fail> {
+        self.taken = [0; 64];
+        self.does(rt, Event::Directive(directive))
+    }
+
+    /// Submits packets, of which the session has a copy then.
+    pub fn submits(&mut self, rt: &impl Abort, map: u8, octets: &[u8]) -> Result<(), Fail> {
+        self.does(rt, Event::Submit(map, octets))?;
+        let is_kept = match self.sim.submissions().last() {
+            Some((on, copy)) => *on == map && copy.as_slice() == octets,
+            None => false,
+        };
+        assert!(rt; is_kept);
+        Ok(())
+    }
+
+    /// The ground sends frames, at most so many; the number of those that it sent.
+    pub fn sends(&mut self, most: usize) -> Result<usize, Fail> {
+        for count in 0..most {
+            if self.meets(Event::Send)? == Some(Reply::Nothing) {
+                return Ok(count);
+            }
+        }
+        Ok(most)
+    }
+
+    // Lets an event happen for each frame that is on its way; their number.
+    fn each(&mut self, event: Event<'_>) -> Result<usize, Fail> {
+        for count in 0..MOST {
+            if self.meets(event)?.is_none() {
+                return Ok(count);
+            }
+        }
+        Ok(MOST)
+    }
+
+    /// Every frame on its way up arrives; their number.
+    pub fn arrives(&mut self) -> Result<usize, Fail> {
+        self.each(Event::UpDeliver)
+    }
+
+    /// Every frame on its way down arrives; their number.
+    pub fn hears(&mut self) -> Result<usize, Fail> {
+        self.each(Event::DownDeliver)
+    }
+
+    // Whether a packet that was taken is the next of those that were delivered on its MAP.
+    fn is_next(&mut self, map: u8, octets: &[u8]) -> bool {
+        let Some(taken) = self.taken.get_mut(usize::from(map)) else {
+            return false;
+        };
+        let place = *taken;
+        *taken = place.wrapping_add(1);
+        match self.sim.delivered(map).get(place) {
+            Some(delivered) => delivered.as_slice() == octets,
+            None => false,
+        }
+    }
+
+    /// Takes the packets that are ready, in order; their number.
+    pub fn takes(&mut self, rt: &impl Abort) -> Result<usize, Fail> {
+        for count in 0..MOST {
+            match self.meets(Event::Take)? {
+                Some(Reply::Packet(map, octets)) => {
+                    assert!(rt; self.is_next(map, octets.as_slice()));
+                }
+                _ => return Ok(count),
+            }
+        }
+        Ok(MOST)
+    }
+
+    /// Takes this packet, which went past the sequence control.
+    pub fn takes_bypass(&mut self, rt: &impl Abort, map: u8, octets: &[u8]) -> Result<(), Fail> {
+        let reply = self.meets(Event::TakeBypass)?;
+        assert!(rt; is_packet(&reply, map, octets));
+        Ok(())
+    }
+
+    // Sends what may be sent, and takes it on board; the report comes down.
+    fn goes_round(&mut self, rt: &impl Abort) -> Result<(), Fail> {
+        let _ = self.sends(MOST)?;
+        let _ = self.arrives()?;
+        let _ = self.takes(rt)?;
+        let _ = self.meets(Event::Report)?;
+        let _ = self.hears()?;
+        Ok(())
+    }
+
+    /// Goes round until all is acknowledged. What was submitted has come out then, and all counts agree.
+    pub fn carries(&mut self, rt: &impl Abort) -> Result<(), Fail> {
+        for _ in 0..MOST {
+            self.goes_round(rt)?;
+            if self.sim.outstanding() == 0 {
+                break;
+            }
+        }
+        let _ = self.takes(rt)?;
+        self.agrees(rt);
+        Ok(())
+    }
+
+    fn agrees(&self, rt: &impl Abort) {
+        assert_eq!(rt; self.sim.outstanding(), 0);
+        assert!(rt; self.sim.sent() == self.sim.accepted());
+        assert_eq!(rt; self.sim.acknowledged(), self.sim.sent().len());
+        for (map, taken) in (0..64u8).zip(self.taken) {
+            assert!(rt; self.sim.submitted(map) == self.sim.delivered(map));
+            assert_eq!(rt; self.sim.delivered(map).len(), taken);
+        }
+    }
+
+    /// Begins a session, and confirms it, so that the ground is in S1.
+    pub fn opens(&mut self, rt: &impl Abort, directive: Directive) -> Result<(), Fail> {
+        self.begins(rt, directive)?;
+        self.goes_round(rt)?;
+        assert_eq!(rt; self.sim.state(), FopMode::S1);
+        Ok(())
+    }
+}
+
+// Whether a packet on this MAP was taken, with these octets.
+fn is_packet(reply: &Option<Reply>, map: u8, octets: &[u8]) -> bool {
+    match reply {
+        Some(Reply::Packet(on, taken)) => *on == map && taken.as_slice() == octets,
+        _ => false,
+    }
+}

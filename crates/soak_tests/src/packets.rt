@@ -1,0 +1,35 @@
+// Packets of any size, each of which differs from the one before it.
+
+use std::alloc::{AllocError, Global};
+
+// A packet of so many octets, from 7 to 65,542, with this first octet and this sequence count.
+fn packet(alloc: Global, kind: u8, size: usize, count: usize) -> Result<Vec<u8>, AllocError> {
+    let [.., high, low] = count.to_be_bytes();
+    let [.., long, short] = size.wrapping_sub(7).to_be_bytes();
+    let mut octets = vec![in alloc; low; size]?;
+    let head = [kind, 0x05, 0xc0 | high, low, long, short];
+    for (octet, is) in octets.iter_mut().zip(head) {
+        *octet = is;
+    }
+    Ok(octets)
+}
+
+/// A command packet.
+pub fn command(alloc: Global, size: usize, count: usize) -> Result<Vec<u8>, AllocError> {
+    packet(alloc, 0x10, size, count)
+}
+
+/// A packet of telemetry.
+pub fn measurement(alloc: Global, size: usize, count: usize) -> Result<Vec<u8>, AllocError> {
+    packet(alloc, 0x00, size, count)
+}
+
+/// Command packets of this size, one after another.
+pub fn commands(alloc: Global, size: usize, number: usize) -> Result<Vec<u8>, AllocError> {
+    let mut octets = Vec::new(alloc);
+    for count in 0..number {
+        let one = command(alloc, size, count)?;
+        octets.extend_from_slice(one.as_slice())?;
+    }
+    Ok(octets)
+}

@@ -1,0 +1,137 @@
+// Calls that take no memory: `verify` runs these tests with all allocations refused after the words 'set up', and
+// tools/accounts looks that none is asked for.
+
+ghost use Rattle.std.specs.Prelude.{◌≡◌, ◌≤◌};
+
+use map_service::{Assembler, Dropped, Limits, segment_count};
+use space_packet::{GapCheck, PacketSplitter, SequenceCounters, is_packet, packet_len};
+use std::process::Abort;
+use std::test::Fail;
+use tc_frame::{Check, Segment, SegmentFlags, SegmentHeader, TcSplitter, Unchecked};
+use tm_link::{Pointer, TmFrame};
+
+const P0: [u8; 7] = [0x10, 0x05, 0xc0, 0x00, 0x00, 0x00, 0xaa];
+
+const DATA: [u8; 13] = [
+    0x00, 0x01, 0x08, 0x0c, 0x03, 0xc4, 0x10, 0x05, 0xc0, 0x00, 0x00, 0x00, 0xaa,
+];
+
+fn codes_packets(rt: &impl Abort) -> Result<(), Fail> {
+    let (packet, len) = space_packet::decode(&P0)?;
+    let mut out = [0; 7];
+    assert_eq!(rt; space_packet::encode(&packet, &mut out)?, len);
+    assert_eq!(rt; out, P0);
+    assert_eq!(rt; packet_len(&P0), Some(7));
+    assert!(rt; is_packet(&P0) && !is_packet(&P0[1..]));
+    Ok(())
+}
+
+fn codes_frames(rt: &impl Abort) -> Result<(), Fail> {
+    let frame = tc_frame::decode(&DATA, Check::Off)?;
+    let mut out = [0; 13];
+    assert_eq!(rt; tc_frame::encode(&frame, Check::Off, &mut out)?, 13);
+    assert_eq!(rt; out, DATA);
+    assert!(rt; tc_frame::decode(&DATA, Check::On).is_err());
+    let word = clcw::decode([0x01, 0x08, 0x08, 0x02])?;
+    assert_eq!(rt; clcw::encode(&word)?, [0x01, 0x08, 0x08, 0x02]);
+    Ok(())
+}
+
+fn codes_telemetry(rt: &impl Abort) -> Result<(), Fail> {
+    let frame = TmFrame {
+        scid: 1,
+        vcid: 0,
+        mc_count: 0,
+        vc_count: 0,
+        pointer: Pointer::OnlyIdle,
+        payload: &[0x55; 8],
+        ocf: [0x01, 0x08, 0x00, 0x00],
+    };
+    let mut out = [0; 20];
+    assert_eq!(rt; tm_link::encode(&frame, &mut out)?, 20);
+    assert_eq!(rt; tm_link::decode(&out, 20)?, frame);
+    assert!(rt; tm_link::decode(&out, 19).is_err());
+    Ok(())
+}
+
+#[test]
+fn reading_and_writing_takes_no_memory(rt: HostRuntime) -> Result<(), Fail> {
+    let _ = eprintln!(rt; "set up");
+    codes_packets(&rt)?;
+    codes_frames(&rt)?;
+    codes_telemetry(&rt)?;
+    let mut counters = SequenceCounters::new();
+    let mut gaps = GapCheck::new();
+    for _ in 0..3 {
+        let _ = gaps.see(5, counters.next(5));
+    }
+    Ok(())
+}
+
+#[test]
+fn records_handed_out_takes_no_memory(rt: HostRuntime) {
+    let mut packets = PacketSplitter::new(rt.alloc());
+    let mut frames = TcSplitter::<Unchecked>::new(rt.alloc());
+    if packets.feed(&P0).is_err() || frames.feed(&DATA).is_err() {
+        let _ = eprintln!(rt; "refused a growth");
+        return;
+    }
+    let _ = eprintln!(rt; "set up");
+    assert_eq!(rt; packets.next(), Some(Ok(&P0[..])));
+    assert_eq!(rt; packets.next(), None);
+    assert_eq!(rt; packets.finish(), Ok(()));
+    assert_eq!(rt; frames.next(), Some(Ok(&DATA[..])));
+    assert_eq!(rt; frames.next(), None);
+    assert_eq!(rt; frames.finish(), Ok(()));
+}
+
+const LIMITS: Limits = Limits {
+    part: 3,
+    max_packet: 7,
+    maps: 1,
+    blocking: false,
+};
+
+fn segment(flags: SegmentFlags, map: u8, payload: &[u8]) -> Segment<'_> {
+    let header = SegmentHeader { flags, map };
+    Segment { header, payload }
+}
+
+// The segment hands out nothing, and something is dropped.
+fn drops(rt: &impl Abort, assembler: &mut Assembler, segment: &Segment<'_>, dropped: Dropped) {
+    match assembler.take(segment) {
+        Ok(taken) => {
+            assert_eq!(rt; taken.dropped, Some(dropped));
+            assert!(rt; taken.packets.is_empty());
+        }
+        Err(_) => assert!(rt; false),
+    }
+}
+
+#[test]
+fn segments_that_are_dropped_takes_no_memory(rt: HostRuntime) {
+    let mut assembler = Assembler::new(rt.alloc(), LIMITS);
+    if assembler
+        .take(&segment(SegmentFlags::First, 0, &P0[..3]))
+        .is_err()
+    {
+        let _ = eprintln!(rt; "refused a growth");
+        return;
+    }
+    let _ = eprintln!(rt; "set up");
+    assert_eq!(rt; segment_count(&P0, &LIMITS), Ok(3));
+    assert!(rt;
+        assembler
+            .lone_packet(&segment(SegmentFlags::Alone, 0, &P0))
+            .is_none()
+    );
+    let continuing = segment(SegmentFlags::Continuing, 0, &P0[3..6]);
+    assert!(rt; matches!(assembler.take(&continuing), Ok(taken) if taken.dropped.is_none()));
+    let closed = segment(SegmentFlags::Alone, 1, &P0);
+    drops(&rt, &mut assembler, &closed, Dropped::ClosedMap);
+    let long = segment(SegmentFlags::Last, 0, &P0[..3]);
+    drops(&rt, &mut assembler, &long, Dropped::TooLong);
+    drops(&rt, &mut assembler, &long, Dropped::NoBeginning);
+    let none = segment(SegmentFlags::Alone, 0, &P0[..3]);
+    drops(&rt, &mut assembler, &none, Dropped::NotAPacket);
+}
