@@ -1,0 +1,4 @@
+pub mod Answered
+pub mod GroundHandleValues
+pub mod SpacecraftHandleValues
+mod Named

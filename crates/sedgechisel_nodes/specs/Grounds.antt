@@ -1,0 +1,84 @@
+-- The ground of a program in C: what a call answers, and what the program holds then.
+use Rattle.std.specs.Prelude.{◌≡◌, ℕ, ◌⊎◌, length, Option, Some, None, Result, Ok, Err}
+use Rattle.nodes.specs.declared.config.Config.{Config}
+use Rattle.cop1.specs.declared.fop.Directive.{Directive}
+use Rattle.cop1.specs.declared.fop.FopMode.{FopMode}
+use Rattle.cop1.specs.declared.fop.FopMode.TheVariants.{S1, S2, S3, S4, S5, S6}
+use Rattle.cop1.specs.declared.fop.Alert.{Alert}
+use Rattle.cop1.specs.declared.fault.CopFault.{CopFault}
+use Rattle.cop1.specs.Faults.{fault_row as cop_row}
+use Rattle.nodes.specs.Ground.{GroundState, GroundEvent, Direct, ground_step, outstanding}
+use Rattle.nodes.specs.declared.fault.LinkFault.{LinkFault}
+use Rattle.nodes.specs.Faults.{fault_row}
+use Rattle.nodes.specs.Parameters.{IsConfig}
+use Rattle.sedgechisel_nodes.specs.declared.ground.KeptConfig.{KeptConfig}
+use Rattle.sedgechisel_nodes.specs.declared.reading.GroundReading.{GroundReading}
+
+-- there is no ground
+abbrev pub closed : ℕ
+closed = 255
+
+-- the ground after a call, where there is one
+abbrev pub stepped : Option GroundState → GroundEvent → Option GroundState
+stepped None event = None
+stepped (Some s) event = Some (ground_step s event).after
+
+abbrev pub number_of : Result (Unit {0}) LinkFault → ℕ
+number_of (Ok x) = 0
+number_of (Err fault) = (fault_row fault).0
+
+-- the refusal's number; where there is none 0, or 6 where there was no memory
+abbrev pub IsAnswer : Option LinkFault → ℕ → Type 0
+IsAnswer None answer = (answer ≡ 0) ⊎ (answer ≡ 6)
+IsAnswer (Some fault) answer = answer ≡ (fault_row fault).0
+
+abbrev pub config_of : KeptConfig → Config
+config_of k = record {
+  scid = k.scid;
+  vcid = k.vcid;
+  tm_vcid = k.tm_vcid;
+  width = k.width;
+  window = k.window;
+  limit = k.limit;
+  timer = k.timer;
+  part = k.part;
+  max_packet = k.max_packet;
+  maps = k.maps;
+  ready_slots = k.ready_slots;
+  bypass_slots = k.bypass_slots;
+  queue_slots = k.queue_slots;
+  frame_length = k.frame_length;
+  blocking = k.blocking;
+}
+
+-- 254 where a parameter is out of its range, and else 0, or 6 where there was no memory
+pub record IsOpenAnswer (c : Config) (answer : ℕ) : Type 0 where
+  pub sound : IsConfig c → (answer ≡ 0) ⊎ (answer ≡ 6)
+  pub unsound : (IsConfig c → ⊥) → answer ≡ 254
+
+-- what a directive is answered: 0, or the number of the sender's refusal
+abbrev pub directed_number : Result (Option Alert) CopFault → ℕ
+directed_number (Ok alert) = 0
+directed_number (Err fault) = (cop_row fault).0
+
+abbrev pub directive_answer : Option GroundState → Directive → ℕ
+directive_answer None directive = closed
+directive_answer (Some s) directive = directed_number (ground_step s (Direct directive)).answer
+
+-- the sender's state (CCSDS 232.1-B-2, 5.1)
+abbrev pub mode_number : FopMode → ℕ
+mode_number S1 = 1
+mode_number S2 = 2
+mode_number S3 = 3
+mode_number S4 = 4
+mode_number S5 = 5
+mode_number S6 = 6
+
+abbrev pub reading_of : GroundState → GroundReading
+reading_of s = record {
+  outstanding = length (outstanding s);
+  frame_length = s.config.frame_length;
+  state = mode_number s.fop.state;
+  vs = s.fop.vs;
+  nn = s.fop.nn;
+}

@@ -1,0 +1,4 @@
+pub mod Grounds
+pub mod Boards
+pub mod Hearing
+pub mod ParameterNumbers

@@ -1,0 +1,52 @@
+// The managed parameters of a program in C.
+
+ghost use Rattle.std.specs.Prelude.{◌≡◌};
+ghost use Rattle.nodes.specs.Parameters.{out_of_range};
+ghost use Rattle.sedgechisel_nodes.specs.Grounds.{config_of};
+ghost use Rattle.sedgechisel_nodes.specs.ParameterNumbers.{parameter_number, first_number};
+
+use crate::ground::{KeptConfig, config_from};
+use nodes::{Config, Parameter};
+
+fn number_of_parameter(parameter: Parameter) -> u8
+    ensures { result ≡ parameter_number parameter }
+{
+    match parameter {
+        Parameter::Scid => 1,
+        Parameter::Vcid => 2,
+        Parameter::TmVcid => 3,
+        Parameter::Width => 4,
+        Parameter::Window => 5,
+        Parameter::Limit => 6,
+        Parameter::Timer => 7,
+        Parameter::Part => 8,
+        Parameter::MaxPacket => 9,
+        Parameter::Maps => 10,
+        Parameter::ReadySlots => 11,
+        Parameter::BypassSlots => 12,
+        Parameter::QueueSlots => 13,
+        Parameter::FrameLength => 14,
+        Parameter::Blocking => 15,
+    }
+}
+
+#[tactic(auto, using(crate::proofs::Named::named_again, crate::proofs::Named::none_again))]
+fn first_out_of_range(config: &Config) -> Option<Parameter>
+    ensures { result ≡ out_of_range config.now }
+{
+    match config.fault() {
+        Some(name) => Parameter::named(name.as_bytes()),
+        None => None,
+    }
+}
+
+/// The number of the first parameter that is out of its range, from 1, in the order of the fields; 0 for none.
+#[unsafe(no_mangle)]
+pub extern "C" fn sedge_config_fault(config: &KeptConfig) -> u8
+    ensures { result ≡ first_number (out_of_range (config_of config.now)) }
+{
+    match first_out_of_range(&config_from(config)) {
+        Some(parameter) => number_of_parameter(parameter),
+        None => 0,
+    }
+}

@@ -1,0 +1,115 @@
+// What a program in C reads of its nodes.
+
+ghost use Rattle.std.specs.Prelude.{◌≡◌, Some, None, IfSome};
+ghost use Rattle.sedgechisel_nodes.specs.Boards.{board_reading_of};
+ghost use Rattle.sedgechisel_nodes.specs.Grounds.{closed, mode_number, reading_of};
+
+use crate::ground::{CLOSED, GroundHandle};
+use crate::spacecraft::SpacecraftHandle;
+use bitflags::Flags;
+use cop1::FopMode;
+use nodes::{Ground, Spacecraft};
+use std::alloc::Global;
+
+/// What is read of a ground.
+#[repr(C)]
+#[derive(Clone, Copy)]
+pub struct GroundReading {
+    pub outstanding: usize,
+    pub frame_length: usize,
+    pub state: u8,
+    pub vs: u8,
+    pub nn: u8,
+}
+
+fn number_of_mode(mode: FopMode) -> u8
+    ensures { result ≡ mode_number mode }
+{
+    match mode {
+        FopMode::S1 => 1,
+        FopMode::S2 => 2,
+        FopMode::S3 => 3,
+        FopMode::S4 => 4,
+        FopMode::S5 => 5,
+        FopMode::S6 => 6,
+    }
+}
+
+fn reading(node: &Ground) -> GroundReading
+    ensures { result ≡ reading_of node.now }
+{
+    GroundReading {
+        outstanding: node.outstanding(),
+        frame_length: node.frame_length(),
+        state: number_of_mode(node.state()),
+        vs: node.vs(),
+        nn: node.nn(),
+    }
+}
+
+/// Reads the sender's state (CCSDS 232.1-B-2, 5.1), V(S) and NN(R), how many segments were submitted and are not
+/// acknowledged, and how many octets a telemetry frame has. Answers 0, or 255 where there is no ground.
+#[unsafe(no_mangle)]
+pub extern "C" fn sedge_ground_read(
+    alloc: Global,
+    ground: &mut GroundHandle,
+    read: &mut GroundReading,
+) -> u8
+    ensures none { ground.old.value ≡ None → (result ≡ closed) × (read.new ≡ read.old) }
+    ensures answer { IfSome ground.old.value (λ s. (result ≡ 0) × (read.new ≡ reading_of s)) }
+    ensures unchanged { ground.new.value ≡ ground.old.value }
+{
+    let Some(node) = ground.take(alloc) else {
+        return CLOSED;
+    };
+    *read = reading(&node);
+    ground.put(alloc, node);
+    0
+}
+
+/// What is read of a spacecraft: the octets of a telemetry frame, and the report that the next one carries, its flags as
+/// the bits of the third octet (CCSDS 232.0-B-4, 4.2.1).
+#[repr(C)]
+#[derive(Clone, Copy)]
+pub struct BoardReading {
+    pub frame_length: usize,
+    pub status: u8,
+    pub vcid: u8,
+    pub flags: u8,
+    pub farm_b: u8,
+    pub value: u8,
+}
+
+fn board_reading(node: &Spacecraft) -> BoardReading
+    ensures { result ≡ board_reading_of node.now }
+{
+    let word = node.control_word();
+    BoardReading {
+        frame_length: node.frame_length(),
+        status: word.status,
+        vcid: word.vcid,
+        flags: word.flags.bits(),
+        farm_b: word.farm_b,
+        value: word.value,
+    }
+}
+
+/// Reads how many octets a telemetry frame has, and the report that the next one carries. Answers 0, or 255 where there
+/// is no spacecraft.
+#[unsafe(no_mangle)]
+pub extern "C" fn sedge_spacecraft_read(
+    alloc: Global,
+    spacecraft: &mut SpacecraftHandle,
+    read: &mut BoardReading,
+) -> u8
+    ensures none { spacecraft.old.value ≡ None → (result ≡ closed) × (read.new ≡ read.old) }
+    ensures answer { IfSome spacecraft.old.value (λ s. (result ≡ 0) × (read.new ≡ board_reading_of s)) }
+    ensures unchanged { spacecraft.new.value ≡ spacecraft.old.value }
+{
+    let Some(node) = spacecraft.take(alloc) else {
+        return CLOSED;
+    };
+    *read = board_reading(&node);
+    spacecraft.put(alloc, node);
+    0
+}

@@ -1,0 +1,382 @@
+// The spacecraft of a program in C.
+
+ghost use Rattle.std.specs.Prelude.{◌≡◌, ◌≢◌, ◌≤◌, ◌⊎◌, ◌++◌, drop, take, true, length, Option, Some, None, option_map, IfSome, Ok};
+ghost use Rattle.nodes.specs.Parameters.{IsConfig};
+ghost use Rattle.nodes.specs.Spacecraft.{SpacecraftState, Receive, Take, TakeBypass, Telemetry, Report, spacecraft_step, new_spacecraft};
+ghost use Rattle.map_service.specs.Packets.{is_packet};
+ghost use Rattle.nodes.specs.Packets.{packet_view};
+ghost use Rattle.tm_link.specs.Building.{queue_fault};
+ghost use Rattle.tm_link.specs.Faults.{fault_row};
+ghost use Rattle.tm_link.specs.Writing.{spelling};
+ghost use Rattle.sedgechisel_nodes.specs.Grounds.{closed, config_of, IsOpenAnswer};
+ghost use Rattle.sedgechisel_nodes.specs.Boards.{stepped, IsHandedOut, verdict_number, dropped_number, received_kept};
+
+use crate::ground::{CLOSED, KeptConfig, MEMORY, OUT_OF_RANGE, config_from};
+use cop1::Verdict;
+use kept::Kept;
+use map_service::Dropped;
+use nodes::{Config, Received, Spacecraft};
+use std::alloc::Global;
+use std::marker::Model;
+use std::mem;
+use tc_frame::Command;
+
+/// A spacecraft, or none, which is null.
+#[repr(C)]
+pub struct SpacecraftHandle {
+    at: *mut u8,
+    pub ghost value: { Option SpacecraftState },
+}
+
+impl Model for SpacecraftHandle {
+    ghost use Rattle.kept.specs.Keeping.{kept_owns, heap_token};
+    ghost use Rattle.nodes.specs.contracts.spacecraft.Spacecraft.{the_row};
+
+    ghost also_owns = { λ h. kept_owns heap_token the_row h.at h.value };
+}
+
+impl SpacecraftHandle {
+    fn of(kept: Kept<Spacecraft, Global>) -> SpacecraftHandle
+        ensures { result.value ≡ kept.value }
+    {
+        let Kept { at, alloc: _ } = kept;
+        SpacecraftHandle { at: at as *mut u8 }
+    }
+
+    fn into_kept(self, alloc: Global) -> Kept<Spacecraft, Global>
+        ensures { result.value ≡ self.value }
+    {
+        let SpacecraftHandle { at } = self;
+        Kept {
+            at: at as *mut Spacecraft,
+            alloc,
+        }
+    }
+
+    // Takes the spacecraft out, and leaves none.
+    pub(crate) fn take(&mut self, alloc: Global) -> Option<Box<Spacecraft>>
+        ensures taken { option_map (λ b. b.value) result ≡ self.old.value }
+        ensures none { self.new.value ≡ None }
+    {
+        let none = SpacecraftHandle::of(Kept::none(alloc));
+        mem::replace(self, none).into_kept(alloc).into_option()
+    }
+
+    // Puts a spacecraft in; one that was there is freed.
+    pub(crate) fn put(&mut self, alloc: Global, node: Box<Spacecraft>)
+        ensures { self.new.value ≡ Some node.value }
+    {
+        let full = SpacecraftHandle::of(Kept::of(node));
+        drop(mem::replace(self, full).into_kept(alloc).into_option());
+    }
+}
+
+/// What came of octets.
+#[repr(C)]
+#[derive(Clone, Copy)]
+pub struct KeptReceived {
+    pub ready: usize,
+    pub kind: u8,
+    pub fault: u8,
+    pub n: u8,
+    pub verdict: u8,
+    pub dropped: u8,
+    pub kept: bool,
+    pub command: u8,
+    pub vr: u8,
+}
+
+const NO_RECEIVED: KeptReceived = KeptReceived {
+    ready: 0,
+    kind: 0,
+    fault: 0,
+    n: 0,
+    verdict: 0,
+    dropped: 0,
+    kept: false,
+    command: 0,
+    vr: 0,
+};
+
+fn number_of_verdict(verdict: Verdict) -> u8
+    ensures { result ≡ verdict_number verdict }
+{
+    match verdict {
+        Verdict::Accepted => 0,
+        Verdict::Ahead => 1,
+        Verdict::NoBuffer => 2,
+        Verdict::Behind => 3,
+        Verdict::Outside => 4,
+        Verdict::Discarded => 5,
+    }
+}
+
+fn number_of_dropped(dropped: Option<Dropped>) -> u8
+    ensures { result ≡ dropped_number dropped }
+{
+    match dropped {
+        None => 0,
+        Some(Dropped::ClosedMap) => 1,
+        Some(Dropped::Interrupted) => 2,
+        Some(Dropped::NoBeginning) => 3,
+        Some(Dropped::NotAPacket) => 4,
+        Some(Dropped::TooLong) => 5,
+    }
+}
+
+fn kept_received(received: Received) -> KeptReceived
+    ensures { result ≡ received_kept received }
+{
+    let none = NO_RECEIVED;
+    match received {
+        Received::Invalid(fault) => KeptReceived {
+            kind: 1,
+            fault: fault.number(),
+            ..none
+        },
+        Received::Foreign => KeptReceived { kind: 2, ..none },
+        Received::Sequence {
+            n,
+            verdict,
+            ready,
+            dropped,
+        } => KeptReceived {
+            kind: 3,
+            n,
+            verdict: number_of_verdict(verdict),
+            ready,
+            dropped: number_of_dropped(dropped),
+            ..none
+        },
+        Received::Bypass { kept } => KeptReceived {
+            kind: 4,
+            kept,
+            ..none
+        },
+        Received::Control(Command::Unlock) => KeptReceived { kind: 5, ..none },
+        Received::Control(Command::SetVr(vr)) => KeptReceived {
+            kind: 5,
+            command: 1,
+            vr,
+            ..none
+        },
+    }
+}
+
+fn boxed(alloc: Global, config: &Config) -> Option<Box<Spacecraft>>
+    requires { IsConfig config.now }
+    ensures { IfSome result (λ b. b.value ≡ new_spacecraft config.now) }
+{
+    let Ok(node) = Spacecraft::new(alloc, config) else {
+        return None;
+    };
+    match Box::new(alloc, node) {
+        Ok(node) => Some(node),
+        Err(_) => None,
+    }
+}
+
+#[unsafe(no_mangle)]
+pub extern "C" fn sedge_spacecraft_open(
+    alloc: Global,
+    config: &KeptConfig,
+    spacecraft: &mut SpacecraftHandle,
+) -> u8
+    ensures answer { IsOpenAnswer (config_of config.now) result }
+    ensures opened { result ≡ 0
+        → spacecraft.new.value ≡ Some (new_spacecraft (config_of config.now)) }
+    ensures unchanged { result ≢ 0 → spacecraft.new.value ≡ spacecraft.old.value }
+{
+    let config = config_from(config);
+    if config.fault().is_some() {
+        return OUT_OF_RANGE;
+    }
+    match boxed(alloc, &config) {
+        Some(node) => {
+            spacecraft.put(alloc, node);
+            0
+        }
+        None => MEMORY,
+    }
+}
+
+#[unsafe(no_mangle)]
+pub extern "C" fn sedge_spacecraft_close(alloc: Global, spacecraft: &mut SpacecraftHandle)
+    ensures { spacecraft.new.value ≡ None }
+{
+    drop(spacecraft.take(alloc));
+}
+
+/// Takes octets that came from the ground. Answers 0, or 6 where there was no memory, or 255.
+#[unsafe(no_mangle)]
+pub extern "C" fn sedge_spacecraft_receive(
+    alloc: Global,
+    spacecraft: &mut SpacecraftHandle,
+    octets: &[u8],
+    received: &mut KeptReceived,
+) -> u8
+    ensures answers { (result ≡ 0) ⊎ (result ≡ 6) ⊎ (result ≡ closed) }
+    ensures none { spacecraft.old.value ≡ None → result ≡ closed }
+    ensures after { result ≡ 0
+        → spacecraft.new.value ≡ stepped spacecraft.old.value (Receive octets.now) }
+    ensures received { result ≡ 0 → IfSome spacecraft.old.value
+        (λ s. received.new ≡ received_kept (spacecraft_step s (Receive octets.now)).answer) }
+    ensures unchanged { result ≢ 0
+        → (spacecraft.new.value ≡ spacecraft.old.value) × (received.new ≡ received.old) }
+{
+    let Some(mut node) = spacecraft.take(alloc) else {
+        return CLOSED;
+    };
+    let answer = match node.receive(octets) {
+        Ok(outcome) => {
+            *received = kept_received(outcome);
+            0
+        }
+        Err(_) => MEMORY,
+    };
+    spacecraft.put(alloc, node);
+    answer
+}
+
+// Copies a packet to the beginning of the room.
+pub(crate) fn hand_out(packet: &[u8], out: &mut [u8; 65542])
+    requires { is_packet packet.now ≡ true }
+    ensures { out.new ≡ packet.now ++ drop (length packet.now) out.old }
+{
+    out[..packet.len()].copy_from_slice(packet);
+}
+
+// Hands out a packet that was taken, if any, with its MAP.
+fn hand_out_taken(
+    taken: Option<(u8, Vec<u8>)>,
+    map: &mut u8,
+    out: &mut [u8; 65542],
+    count: &mut usize,
+)
+    requires { IfSome taken (λ p. is_packet p.1.items ≡ true) }
+    ensures { IsHandedOut (option_map packet_view taken) map.old map.new count.new out.old out.new }
+{
+    match taken {
+        Some((on_map, packet)) => {
+            *map = on_map;
+            *count = packet.len();
+            hand_out(packet.as_slice(), out);
+        }
+        None => *count = 0,
+    }
+}
+
+/// Takes the oldest packet, and copies it to the beginning of the room, which is 65,542 octets.
+#[unsafe(no_mangle)]
+pub extern "C" fn sedge_spacecraft_take(
+    alloc: Global,
+    spacecraft: &mut SpacecraftHandle,
+    map: &mut u8,
+    out: &mut [u8; 65542],
+    count: &mut usize,
+) -> u8
+    ensures none { spacecraft.old.value ≡ None → (result ≡ closed) × (map.new ≡ map.old)
+        × (count.new ≡ count.old) × (out.new ≡ out.old) }
+    ensures answer { IfSome spacecraft.old.value (λ s. result ≡ 0) }
+    ensures after { spacecraft.new.value ≡ stepped spacecraft.old.value Take }
+    ensures packet { IfSome spacecraft.old.value (λ s. IsHandedOut (spacecraft_step s Take).answer
+        map.old map.new count.new out.old out.new) }
+{
+    let Some(mut node) = spacecraft.take(alloc) else {
+        return CLOSED;
+    };
+    let taken = node.take();
+    spacecraft.put(alloc, node);
+    hand_out_taken(taken, map, out, count);
+    0
+}
+
+/// Takes the oldest packet that came past the sequence control, and copies it to the beginning of the room, which is
+/// 65,542 octets.
+#[unsafe(no_mangle)]
+pub extern "C" fn sedge_spacecraft_take_bypass(
+    alloc: Global,
+    spacecraft: &mut SpacecraftHandle,
+    map: &mut u8,
+    out: &mut [u8; 65542],
+    count: &mut usize,
+) -> u8
+    ensures none { spacecraft.old.value ≡ None → (result ≡ closed) × (map.new ≡ map.old)
+        × (count.new ≡ count.old) × (out.new ≡ out.old) }
+    ensures answer { IfSome spacecraft.old.value (λ s. result ≡ 0) }
+    ensures after { spacecraft.new.value ≡ stepped spacecraft.old.value TakeBypass }
+    ensures packet { IfSome spacecraft.old.value (λ s. IsHandedOut (spacecraft_step s TakeBypass).answer
+        map.old map.new count.new out.old out.new) }
+{
+    let Some(mut node) = spacecraft.take(alloc) else {
+        return CLOSED;
+    };
+    let taken = node.take_bypass();
+    spacecraft.put(alloc, node);
+    hand_out_taken(taken, map, out, count);
+    0
+}
+
+// What queueing a packet answers: 0, or 8 for what is no packet to send, or 7 where there was no memory.
+fn queued(node: &mut Spacecraft, packet: &[u8]) -> u8
+    ensures taken { result ≡ 0
+        → (spacecraft_step node.old (Telemetry packet.now)).answer ≡ Ok tt }
+    ensures fault { result ≢ 0 → result ≡ (fault_row (queue_fault packet.now)).0 }
+    ensures after { result ≡ 0
+        → node.new ≡ (spacecraft_step node.old (Telemetry packet.now)).after }
+    ensures unchanged { result ≢ 0 → node.new ≡ node.old }
+{
+    match node.telemetry(packet) {
+        Ok(()) => 0,
+        Err(fault) => fault.number(),
+    }
+}
+
+/// Queues a packet to be sent as telemetry (CCSDS 132.0-B-3, 4.2.2). Answers 0, or 8 `NotAPacket` for octets that are
+/// not exactly one packet, or an idle packet, or 7 `Memory`, or 255 where there is no spacecraft.
+#[unsafe(no_mangle)]
+pub extern "C" fn sedge_spacecraft_telemetry(
+    alloc: Global,
+    spacecraft: &mut SpacecraftHandle,
+    packet: &[u8],
+) -> u8
+    ensures none { spacecraft.old.value ≡ None → result ≡ closed }
+    ensures taken { result ≡ 0 → IfSome spacecraft.old.value
+        (λ s. (spacecraft_step s (Telemetry packet.now)).answer ≡ Ok tt) }
+    ensures fault { result ≢ 0 → IfSome spacecraft.old.value
+        (λ s. result ≡ (fault_row (queue_fault packet.now)).0) }
+    ensures after { result ≡ 0
+        → spacecraft.new.value ≡ stepped spacecraft.old.value (Telemetry packet.now) }
+    ensures unchanged { result ≢ 0 → spacecraft.new.value ≡ spacecraft.old.value }
+{
+    let Some(mut node) = spacecraft.take(alloc) else {
+        return CLOSED;
+    };
+    let answer = queued(&mut node, packet);
+    spacecraft.put(alloc, node);
+    answer
+}
+
+/// Writes the next telemetry frame, and says how many octets it has.
+#[unsafe(no_mangle)]
+pub extern "C" fn sedge_spacecraft_report(
+    alloc: Global,
+    spacecraft: &mut SpacecraftHandle,
+    out: &mut [u8; 2048],
+    count: &mut usize,
+) -> u8
+    ensures none { spacecraft.old.value ≡ None
+        → (result ≡ closed) × (count.new ≡ count.old) × (out.new ≡ out.old) }
+    ensures answer { IfSome spacecraft.old.value (λ s. result ≡ 0) }
+    ensures after { spacecraft.new.value ≡ stepped spacecraft.old.value Report }
+    ensures count { IfSome spacecraft.old.value (λ s. count.new ≡ s.config.frame_length) }
+    ensures frame { IfSome spacecraft.old.value (λ s. out.new
+        ≡ spelling (spacecraft_step s Report).answer ++ drop count.new out.old) }
+{
+    let Some(mut node) = spacecraft.take(alloc) else {
+        return CLOSED;
+    };
+    *count = node.report(out);
+    spacecraft.put(alloc, node);
+    0
+}
