@@ -1,0 +1,104 @@
+//! A receiver on board of spacecraft 1, virtual channel 2: it cuts the octets of standard input into telecommand
+//! frames, gives those of its channel to FARM-1, joins the packets of its two MAPs, and writes these, and after each
+//! frame the control word for the ground. With the word `--check` each frame ends with its check, as on a link. The
+//! receiver takes no memory but what is set aside at the start.
+
+use sedgechisel::{packets, Body, Command, Farm, Map, Segment, SegmentFlags, TcFault, TcFrame, Verdict};
+use std::error::Error;
+use std::io::{stdin, Read};
+
+const SPACECRAFT: u16 = 1;
+const CHANNEL: u8 = 2;
+const MAPS: [u8; 2] = [4, 5];
+const WIDTH: u8 = 10;
+const LONGEST_PACKET: usize = 4096;
+
+struct Board<'m> {
+    checked: bool,
+    farm: Farm,
+    maps: [Map<'m>; 2],
+}
+
+impl Board<'_> {
+    /// Takes a frame from the link, and writes what becomes of it.
+    fn take(&mut self, octets: &[u8]) -> Result<(), Box<dyn Error>> {
+        match TcFrame::decode(octets, self.checked) {
+            Err(fault) => println!("no frame: {fault}"),
+            Ok(TcFrame { scid: SPACECRAFT, vcid: CHANNEL, body }) => self.receive(body),
+            Ok(_) => {}
+        }
+        println!("report{}", spelled(&self.farm.report(CHANNEL)?.encode()?));
+        Ok(())
+    }
+
+    /// Gives the receiver a frame that is its own. Packets are handed on at once, so there is always room.
+    fn receive(&mut self, body: Body) {
+        match body {
+            Body::Ad { n, segment } => match self.farm.ad(n, true) {
+                Verdict::Accepted => self.assemble(segment),
+                verdict => println!("no acceptance: {verdict}"),
+            },
+            Body::Bd { segment } => {
+                self.farm.bd();
+                pass_by(segment);
+            }
+            Body::Bc(Command::Unlock) => self.farm.unlock(),
+            Body::Bc(Command::SetVr(vr)) => self.farm.set_vr(vr),
+        }
+    }
+
+    fn assemble(&mut self, segment: Segment) {
+        let Some(place) = MAPS.iter().position(|it| *it == segment.map) else {
+            return println!("dropped: MAP {} is closed", segment.map);
+        };
+        let taken = self.maps[place].take(segment.flags, segment.data);
+        if let Some(cause) = taken.dropped {
+            println!("dropped: {cause}");
+        }
+        taken.packets.for_each(|it| println!("packet{}", spelled(it)));
+    }
+}
+
+/// What bypasses the sequence control is one packet in one segment, and no part of another one.
+fn pass_by(segment: Segment) {
+    match packets(segment.data).next() {
+        Some(packet) if packet == segment.data && segment.flags == SegmentFlags::Alone => {
+            println!("bypass{}", spelled(packet));
+        }
+        _ => println!("dropped: it bypasses, and is not one packet"),
+    }
+}
+
+fn spelled(octets: &[u8]) -> String {
+    octets.iter().map(|it| format!(" {it:02X}")).collect()
+}
+
+/// The length of the frame that the octets begin with, if they have all of it.
+fn next_frame(octets: &[u8], checked: bool) -> Result<Option<usize>, TcFault> {
+    match TcFrame::declared(octets, checked) {
+        Err(TcFault::Short) => Ok(None),
+        total => total.map(|it| (it <= octets.len()).then_some(it)),
+    }
+}
+
+fn main() -> Result<(), Box<dyn Error>> {
+    let checked = std::env::args().any(|it| it == "--check");
+    let (mut first, mut second) = ([0; LONGEST_PACKET], [0; LONGEST_PACKET]);
+    let maps = [Map::new(&mut first, false), Map::new(&mut second, true)];
+    let mut board = Board { checked, farm: Farm::new(WIDTH, 0)?, maps };
+    let (mut room, mut held) = ([0; TcFrame::LONGEST], 0);
+    loop {
+        match stdin().read(&mut room[held..])? {
+            0 if held == 0 => return Ok(()),
+            0 => return Err("octets of a frame are left".into()),
+            more => held += more,
+        }
+        let mut from = 0;
+        while let Some(total) = next_frame(&room[from..held], checked)? {
+            board.take(&room[from..][..total])?;
+            from += total;
+        }
+        room.copy_within(from..held, 0);
+        held -= from;
+    }
+}

@@ -1,0 +1,328 @@
+//! The library's calls as c/include/sedgechisel.h declares them: the one module that has unsafe code. `rust/check`
+//! compares each number, struct and call with the header.
+//!
+//! What the header asks of a caller holds of all calls here:
+//! - each pointer is made of a reference or of a slice, so it is not null, is aligned, and may be read or written;
+//! - the count after a pointer to octets is that of the same slice, and Rust's octets are always written;
+//! - what is written is behind a `&mut`, so nothing else overlaps it;
+//! - a `bool` is false or true.
+#![allow(unsafe_code, dead_code)]
+
+pub const SEDGE_OK: u8 = 0;
+pub const SEDGE_ABSENT: u8 = 253;
+pub const SEDGE_WRONG_COUNT: u8 = 254;
+pub const SEDGE_DAMAGED: u8 = 255;
+
+pub const SEDGE_CLCW_RETRANSMIT: u8 = 0x08;
+pub const SEDGE_CLCW_WAIT: u8 = 0x10;
+pub const SEDGE_CLCW_LOCKOUT: u8 = 0x20;
+pub const SEDGE_CLCW_NO_BIT_LOCK: u8 = 0x40;
+pub const SEDGE_CLCW_NO_RF: u8 = 0x80;
+
+pub const SEDGE_CONTROL_IDLE: u8 = 0;
+pub const SEDGE_CONTROL_UNLOCK_DUE: u8 = 1;
+pub const SEDGE_CONTROL_UNLOCK_SENT: u8 = 2;
+pub const SEDGE_CONTROL_SET_VR_DUE: u8 = 3;
+pub const SEDGE_CONTROL_SET_VR_SENT: u8 = 4;
+
+pub const SEDGE_NO_ALERT: u8 = 0;
+
+pub const SEDGE_NEXT_NOTHING: u8 = 0;
+pub const SEDGE_NEXT_UNLOCK: u8 = 1;
+pub const SEDGE_NEXT_SET_VR: u8 = 2;
+pub const SEDGE_NEXT_FIRST: u8 = 3;
+pub const SEDGE_NEXT_AGAIN: u8 = 4;
+
+pub const SEDGE_TC_AD: u8 = 0;
+pub const SEDGE_TC_BD: u8 = 1;
+pub const SEDGE_TC_BC: u8 = 2;
+
+pub const SEDGE_UNLOCK: u8 = 0;
+pub const SEDGE_SET_VR: u8 = 1;
+
+pub const SEDGE_POINTER_ONLY_IDLE: u16 = 2046;
+pub const SEDGE_POINTER_NO_START: u16 = 2047;
+
+pub const SEDGE_NOT_DROPPED: u8 = 0;
+
+pub const SEDGE_NO_PACKET: u8 = 0;
+pub const SEDGE_IN_MEMORY: u8 = 1;
+pub const SEDGE_IN_DATA: u8 = 2;
+
+#[repr(C)]
+#[derive(Clone, Copy)]
+pub struct Text {
+    pub text: [u8; 20],
+}
+
+impl Text {
+    /// The characters before the first zero.
+    pub fn as_str(&self) -> &str {
+        let word = self.text.split(|it| *it == 0).next();
+        word.and_then(|it| core::str::from_utf8(it).ok()).unwrap_or("?")
+    }
+}
+
+#[repr(C)]
+#[derive(Clone, Copy, Debug, Default)]
+pub struct Part {
+    pub from: usize,
+    pub count: usize,
+}
+
+impl Part {
+    /// The octets that the part is of these.
+    pub fn of(self, octets: &[u8]) -> &[u8] {
+        &octets[self.from..][..self.count]
+    }
+}
+
+#[repr(C)]
+#[derive(Clone, Copy, Debug, Default)]
+pub struct Clcw {
+    pub status: u8,
+    pub vcid: u8,
+    pub flags: u8,
+    pub farm_b: u8,
+    pub value: u8,
+}
+
+#[repr(C)]
+#[derive(Clone, Copy, Debug, Default, PartialEq, Eq)]
+pub struct Farm {
+    pub width: u8,
+    pub vr: u8,
+    pub lockout: u8,
+    pub wait: u8,
+    pub retransmit: u8,
+    pub farm_b: u8,
+}
+
+#[repr(C)]
+#[derive(Clone, Copy, Debug, Default, PartialEq, Eq)]
+pub struct Fop {
+    pub timer: u16,
+    pub ticks: u16,
+    pub room: u8,
+    pub state: u8,
+    pub vs: u8,
+    pub nn: u8,
+    pub waiting: u8,
+    pub sent: u8,
+    pub due: u8,
+    pub window: u8,
+    pub limit: u8,
+    pub count: u8,
+    pub control: u8,
+    pub vr: u8,
+}
+
+#[repr(C)]
+#[derive(Clone, Copy, Debug, Default)]
+pub struct TcFrame {
+    pub scid: u16,
+    pub vcid: u8,
+    pub kind: u8,
+    pub n: u8,
+    pub flags: u8,
+    pub map: u8,
+    pub command: u8,
+    pub vr: u8,
+}
+
+#[repr(C)]
+#[derive(Clone, Copy, Debug, Default)]
+pub struct Packet {
+    pub apid: u16,
+    pub count: u16,
+    pub kind: u8,
+    pub secondary: u8,
+    pub flags: u8,
+}
+
+#[repr(C)]
+#[derive(Clone, Copy, Debug, Default)]
+pub struct TmFrame {
+    pub scid: u16,
+    pub pointer: u16,
+    pub vcid: u8,
+    pub mc_count: u8,
+    pub vc_count: u8,
+    pub ocf: [u8; 4],
+}
+
+#[repr(C)]
+#[derive(Clone, Copy, Debug, Default)]
+pub struct Map {
+    pub count: usize,
+    pub open: u8,
+    pub blocking: u8,
+}
+
+#[repr(C)]
+#[derive(Clone, Copy, Debug, Default)]
+pub struct Taken {
+    pub count: usize,
+    pub where_: u8,
+    pub dropped: u8,
+}
+
+#[repr(C)]
+#[derive(Clone, Copy, Debug, Default)]
+pub struct Limits {
+    pub part: u32,
+    pub max_packet: u32,
+    pub blocking: u8,
+}
+
+// SAFETY: these are the header's declarations, which `rust/check` compares. A call without a pointer to octets asks
+// nothing of its caller but references, and so is safe.
+unsafe extern "C" {
+    pub safe fn sedge_version() -> Text;
+
+    fn sedge_check(octets: *const u8, count: usize) -> u16;
+    fn sedge_check_append(octets: *mut u8, count: usize) -> bool;
+    fn sedge_check_holds(octets: *const u8, count: usize) -> bool;
+
+    fn sedge_clcw_decode(octets: *const u8, count: usize, word: &mut Clcw) -> u8;
+    fn sedge_clcw_encode(word: &Clcw, out: *mut u8, room: usize) -> u8;
+
+    pub safe fn sedge_farm_open(farm: &mut Farm, width: u8, vr: u8) -> u8;
+    pub safe fn sedge_farm_ad(farm: &mut Farm, n: u8, buffer_free: bool) -> u8;
+    pub safe fn sedge_farm_bd(farm: &mut Farm) -> u8;
+    pub safe fn sedge_farm_unlock(farm: &mut Farm) -> u8;
+    pub safe fn sedge_farm_set_vr(farm: &mut Farm, vr: u8) -> u8;
+    pub safe fn sedge_farm_released(farm: &mut Farm) -> u8;
+    pub safe fn sedge_farm_report(farm: &Farm, vcid: u8, word: &mut Clcw) -> u8;
+    pub safe fn sedge_farm_state(farm: &Farm) -> u8;
+
+    pub safe fn sedge_fop_open(fop: &mut Fop, width: u8, window: u8, limit: u8, timer: u16) -> u8;
+    pub safe fn sedge_fop_init_without_check(fop: &mut Fop) -> u8;
+    pub safe fn sedge_fop_init_with_check(fop: &mut Fop) -> u8;
+    pub safe fn sedge_fop_init_unlock(fop: &mut Fop) -> u8;
+    pub safe fn sedge_fop_init_set_vr(fop: &mut Fop, vr: u8) -> u8;
+    pub safe fn sedge_fop_terminate(fop: &mut Fop) -> u8;
+    pub safe fn sedge_fop_set_vs(fop: &mut Fop, vs: u8) -> u8;
+    pub safe fn sedge_fop_set_window(fop: &mut Fop, window: u8) -> u8;
+    pub safe fn sedge_fop_set_limit(fop: &mut Fop, limit: u8) -> u8;
+    pub safe fn sedge_fop_set_timer(fop: &mut Fop, timer: u16) -> u8;
+    pub safe fn sedge_fop_submit(fop: &mut Fop) -> u8;
+    pub safe fn sedge_fop_next(fop: &mut Fop, number: &mut u8) -> u8;
+    pub safe fn sedge_fop_report(fop: &mut Fop, word: &Clcw, released: &mut u8) -> u8;
+    pub safe fn sedge_fop_tick(fop: &mut Fop) -> u8;
+    pub safe fn sedge_fop_accepted_beyond(fop: &Fop, value: u8, accepted: &mut u8) -> u8;
+    pub safe fn sedge_accepted_beyond(nn: u8, vs: u8, value: u8, accepted: &mut u8) -> u8;
+
+    fn sedge_tc_decode(
+        octets: *const u8, count: usize, checked: bool, frame: &mut TcFrame, data: &mut Part,
+    ) -> u8;
+    fn sedge_tc_encode(
+        frame: &TcFrame, data: *const u8, data_count: usize, checked: bool, out: *mut u8, room: usize,
+        total: &mut usize,
+    ) -> u8;
+    fn sedge_tc_declared(octets: *const u8, count: usize, checked: bool, total: &mut usize) -> u8;
+
+    fn sedge_packet_decode(octets: *const u8, count: usize, packet: &mut Packet, data: &mut Part) -> u8;
+    fn sedge_packet_encode(
+        packet: &Packet, data: *const u8, data_count: usize, out: *mut u8, room: usize, total: &mut usize,
+    ) -> u8;
+    fn sedge_packet_declared(octets: *const u8, count: usize, total: &mut usize) -> u8;
+
+    fn sedge_tm_decode(
+        octets: *const u8, count: usize, length: usize, frame: &mut TmFrame, data: &mut Part,
+    ) -> u8;
+    fn sedge_tm_encode(
+        frame: &TmFrame, data: *const u8, data_count: usize, out: *mut u8, room: usize, total: &mut usize,
+    ) -> u8;
+
+    fn sedge_map_take(
+        map: &mut Map, flags: u8, data: *const u8, data_count: usize, memory: *mut u8, room: usize,
+        taken: &mut Taken,
+    ) -> u8;
+    fn sedge_map_packet(octets: *const u8, count: usize, packet: &mut Part) -> bool;
+    fn sedge_map_count(octets: *const u8, count: usize, limits: &Limits, segments: &mut usize) -> u8;
+    fn sedge_map_segment(
+        octets: *const u8, count: usize, limits: &Limits, k: usize, flags: &mut u8, data: &mut Part,
+    ) -> u8;
+
+    pub safe fn sedge_clcw_fault_name(fault: u8) -> Text;
+    pub safe fn sedge_cop_fault_name(fault: u8) -> Text;
+    pub safe fn sedge_verdict_name(verdict: u8) -> Text;
+    pub safe fn sedge_alert_name(alert: u8) -> Text;
+    pub safe fn sedge_tc_fault_name(fault: u8) -> Text;
+    pub safe fn sedge_packet_fault_name(fault: u8) -> Text;
+    pub safe fn sedge_tm_fault_name(fault: u8) -> Text;
+    pub safe fn sedge_map_fault_name(fault: u8) -> Text;
+    pub safe fn sedge_dropped_name(cause: u8) -> Text;
+}
+
+// SAFETY, of all calls below: each pointer to octets and the count after it are those of one slice, and the other
+// pointers are references.
+
+pub fn check(octets: &[u8]) -> u16 {
+    unsafe { sedge_check(octets.as_ptr(), octets.len()) }
+}
+
+pub fn check_append(octets: &mut [u8]) -> bool {
+    unsafe { sedge_check_append(octets.as_mut_ptr(), octets.len()) }
+}
+
+pub fn check_holds(octets: &[u8]) -> bool {
+    unsafe { sedge_check_holds(octets.as_ptr(), octets.len()) }
+}
+
+pub fn clcw_decode(octets: &[u8], word: &mut Clcw) -> u8 {
+    unsafe { sedge_clcw_decode(octets.as_ptr(), octets.len(), word) }
+}
+
+pub fn clcw_encode(word: &Clcw, out: &mut [u8]) -> u8 {
+    unsafe { sedge_clcw_encode(word, out.as_mut_ptr(), out.len()) }
+}
+
+pub fn tc_decode(octets: &[u8], checked: bool, frame: &mut TcFrame, data: &mut Part) -> u8 {
+    unsafe { sedge_tc_decode(octets.as_ptr(), octets.len(), checked, frame, data) }
+}
+
+pub fn tc_encode(frame: &TcFrame, data: &[u8], checked: bool, out: &mut [u8], total: &mut usize) -> u8 {
+    unsafe { sedge_tc_encode(frame, data.as_ptr(), data.len(), checked, out.as_mut_ptr(), out.len(), total) }
+}
+
+pub fn tc_declared(octets: &[u8], checked: bool, total: &mut usize) -> u8 {
+    unsafe { sedge_tc_declared(octets.as_ptr(), octets.len(), checked, total) }
+}
+
+pub fn packet_decode(octets: &[u8], packet: &mut Packet, data: &mut Part) -> u8 {
+    unsafe { sedge_packet_decode(octets.as_ptr(), octets.len(), packet, data) }
+}
+
+pub fn packet_encode(packet: &Packet, data: &[u8], out: &mut [u8], total: &mut usize) -> u8 {
+    unsafe { sedge_packet_encode(packet, data.as_ptr(), data.len(), out.as_mut_ptr(), out.len(), total) }
+}
+
+pub fn packet_declared(octets: &[u8], total: &mut usize) -> u8 {
+    unsafe { sedge_packet_declared(octets.as_ptr(), octets.len(), total) }
+}
+
+pub fn tm_decode(octets: &[u8], length: usize, frame: &mut TmFrame, data: &mut Part) -> u8 {
+    unsafe { sedge_tm_decode(octets.as_ptr(), octets.len(), length, frame, data) }
+}
+
+pub fn tm_encode(frame: &TmFrame, data: &[u8], out: &mut [u8], total: &mut usize) -> u8 {
+    unsafe { sedge_tm_encode(frame, data.as_ptr(), data.len(), out.as_mut_ptr(), out.len(), total) }
+}
+
+pub fn map_take(map: &mut Map, flags: u8, data: &[u8], memory: &mut [u8], taken: &mut Taken) -> u8 {
+    unsafe { sedge_map_take(map, flags, data.as_ptr(), data.len(), memory.as_mut_ptr(), memory.len(), taken) }
+}
+
+pub fn map_packet(octets: &[u8], packet: &mut Part) -> bool {
+    unsafe { sedge_map_packet(octets.as_ptr(), octets.len(), packet) }
+}
+
+pub fn map_count(octets: &[u8], limits: &Limits, segments: &mut usize) -> u8 {
+    unsafe { sedge_map_count(octets.as_ptr(), octets.len(), limits, segments) }
+}
+
+pub fn map_segment(octets: &[u8], limits: &Limits, k: usize, flags: &mut u8, data: &mut Part) -> u8 {
+    unsafe { sedge_map_segment(octets.as_ptr(), octets.len(), limits, k, flags, data) }
+}

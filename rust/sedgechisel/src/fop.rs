@@ -1,0 +1,327 @@
+//! The sender FOP-1 of one virtual channel (CCSDS 232.1-B-2, section 5, in the profile of docs/PROFILE.md).
+
+use crate::clcw::Clcw;
+use crate::farm::CopFault;
+use crate::ffi;
+use crate::numbers::never;
+use crate::tc::Command;
+
+numbers! {
+    /// The sender's state (CCSDS 232.1-B-2, 5.1.2).
+    FopState {
+        /// Active.
+        S1 = 1,
+        /// Retransmit without wait.
+        S2 = 2,
+        /// Retransmit with wait.
+        S3 = 3,
+        /// Initialising without a control command.
+        S4 = 4,
+        /// Initialising with a control command.
+        S5 = 5,
+        /// Initial.
+        S6 = 6,
+    }
+}
+
+reasons! {
+    /// Why the sender has given up (CCSDS 232.1-B-2, 5.2.5). An alert discards all units, the one that waits too;
+    /// nothing else does.
+    Alert {
+        Lockout = 1, "a report has the lockout flag";
+        NnR = 2, "a report's value is not from NN(R) to V(S)";
+        Clcw = 3, "a report has the wait flag without the retransmit flag";
+        Synch = 4, "a report asks to repeat what was not sent, or stops asking before it got any of it";
+        Limit = 5, "a report asks for units again, and the transmission limit is 1";
+        Timer = 6, "the timer has ended, and units may not be sent again";
+        Terminated = 7, "the directive Terminate";
+    }
+}
+
+/// The control command of the state S5, and whether it has to be sent.
+#[derive(Clone, Copy, Debug, PartialEq, Eq, Hash)]
+pub enum Control {
+    /// None, as in all other states.
+    Idle,
+    /// It has to be sent.
+    Due(Command),
+    /// It is sent.
+    Sent(Command),
+}
+
+/// What goes on the link next.
+#[derive(Clone, Copy, Debug, PartialEq, Eq, Hash)]
+pub enum Next {
+    /// The control command Unlock, in a Type-BC frame.
+    Unlock,
+    /// The control command Set V(R) with the number, in a Type-BC frame.
+    SetVr(u8),
+    /// The unit that waits, in a Type-AD frame with the number; keep it under that number.
+    First(u8),
+    /// The unit kept under the number, in a Type-AD frame with it.
+    Again(u8),
+}
+
+/// What a report did.
+#[derive(Clone, Copy, Debug, PartialEq, Eq, Hash)]
+pub struct Reported {
+    /// The number of units that are acknowledged, the oldest of those sent; their places may be used again.
+    pub released: u8,
+    /// Why the sender has given up, if it has.
+    pub alert: Option<Alert>,
+}
+
+/// The numbers that make a sender (CCSDS 232.1-B-2, 5.1), which a program may keep and go on from.
+///
+/// In S1 to S5 the number of units sent is V(S) - NN(R), modulo 256; in S6 no unit is sent or waits, and the timer is
+/// off; only S5 has a control command.
+#[derive(Clone, Copy, Debug, PartialEq, Eq, Hash)]
+pub struct FopFields {
+    /// The timer's value in ticks, at least 1.
+    pub timer: u16,
+    /// The ticks that are left while the timer runs, and 0 while it is off.
+    pub ticks: u16,
+    /// Half the receiver's window width, 1 to 127: the most units sent and not acknowledged.
+    pub room: u8,
+    /// The state.
+    pub state: FopState,
+    /// V(S), the number of the next unit to be sent for the first time.
+    pub vs: u8,
+    /// NN(R), the number that the receiver was last known to expect.
+    pub nn: u8,
+    /// Whether a unit waits to be sent for the first time.
+    pub waiting: bool,
+    /// The number of units sent and not acknowledged, at most `room`.
+    pub sent: u8,
+    /// The number of these, the last ones, that are due to be sent again.
+    pub due: u8,
+    /// The window K, 1 to `room`.
+    pub window: u8,
+    /// The transmission limit, at least 1.
+    pub limit: u8,
+    /// The transmission count, at least 1.
+    pub count: u8,
+    /// The control command of S5.
+    pub control: Control,
+}
+
+/// The sender FOP-1 of one virtual channel (CCSDS 232.1-B-2, section 5, in the profile of docs/PROFILE.md).
+///
+/// The sender keeps numbers; its caller keeps the units, which are the data of frames. One unit waits to be sent for
+/// the first time, and those that are sent and not acknowledged have the numbers from NN(R) to V(S) - 1, modulo 256,
+/// at most 127 of them. So 256 places, one for each number, always serve:
+///
+/// ```
+/// use sedgechisel::{Clcw, Fop, Next, Reported};
+///
+/// let mut fop = Fop::new(20, 10, 3, 50)?;
+/// let (mut waiting, mut sent) = ("", [""; 256]);
+/// fop.init_without_check()?;
+/// if fop.submit().is_ok() {
+///     waiting = "a unit";
+/// }
+/// match fop.next() {
+///     Some(Next::First(number)) => sent[usize::from(number)] = waiting, // and send it in a Type-AD frame
+///     Some(Next::Again(number)) => println!("send {} again", sent[usize::from(number)]),
+///     Some(Next::Unlock | Next::SetVr(_)) => println!("send a Type-BC frame"),
+///     None => {}
+/// }
+/// let word = Clcw { vcid: 2, value: 1, ..Clcw::default() };
+/// assert_eq!(fop.report(2, &word), Some(Reported { released: 1, alert: None }));
+/// # Ok::<(), sedgechisel::CopFault>(())
+/// ```
+#[derive(Clone, Debug, PartialEq, Eq)]
+pub struct Fop(ffi::Fop);
+
+impl Fop {
+    /// A sender in its state S6 with V(S) and NN(R) 0, to a receiver of this window width, with the window K, the
+    /// transmission limit and the timer's value in ticks. Refused with the first of
+    /// 1 [`Width`](CopFault::Width) (not even, 2 to 254), 2 [`Window`](CopFault::Window) (not 1 to half the width),
+    /// 3 [`Limit`](CopFault::Limit) (0) and 4 [`Timer`](CopFault::Timer) (0).
+    pub fn new(width: u8, window: u8, limit: u8, timer: u16) -> Result<Self, CopFault> {
+        let mut fop = ffi::Fop::default();
+        CopFault::judge(ffi::sedge_fop_open(&mut fop, width, window, limit, timer))?;
+        Ok(Self(fop))
+    }
+
+    /// A sender of fields that [`fields`](Fop::fields) returned. Refused with 255 [`Damaged`](CopFault::Damaged) where
+    /// no sender has them.
+    pub fn restore(fields: FopFields) -> Result<Self, CopFault> {
+        let (control, vr) = fields.control.raw();
+        let mut fop = ffi::Fop {
+            timer: fields.timer,
+            ticks: fields.ticks,
+            room: fields.room,
+            state: fields.state.number(),
+            vs: fields.vs,
+            nn: fields.nn,
+            waiting: fields.waiting.into(),
+            sent: fields.sent,
+            due: fields.due,
+            window: fields.window,
+            limit: fields.limit,
+            count: fields.count,
+            control,
+            vr,
+        };
+        // To set the limit that it has changes nothing of a sender, and is refused of fields that are none.
+        CopFault::judge(ffi::sedge_fop_set_limit(&mut fop, fields.limit))?;
+        Ok(Self(fop))
+    }
+
+    /// The sender's fields as they are.
+    #[must_use]
+    pub fn fields(&self) -> FopFields {
+        FopFields {
+            timer: self.0.timer,
+            ticks: self.0.ticks,
+            room: self.0.room,
+            state: FopState::of(self.0.state),
+            vs: self.0.vs,
+            nn: self.0.nn,
+            waiting: self.0.waiting != 0,
+            sent: self.0.sent,
+            due: self.0.due,
+            window: self.0.window,
+            limit: self.0.limit,
+            count: self.0.count,
+            control: Control::from_raw(self.0.control, self.0.vr),
+        }
+    }
+
+    /// The sender's state.
+    #[must_use]
+    pub fn state(&self) -> FopState {
+        FopState::of(self.0.state)
+    }
+
+    /// The directive to initiate without CLCW check (5.2.4): S6 to S1. The four initiations and
+    /// [`set_vs`](Fop::set_vs) are refused with 8 [`WrongState`](CopFault::WrongState) in any other state than S6.
+    pub fn init_without_check(&mut self) -> Result<(), CopFault> {
+        CopFault::judge(ffi::sedge_fop_init_without_check(&mut self.0))
+    }
+
+    /// The directive to initiate with CLCW check: S6 to S4, until a report agrees.
+    pub fn init_with_check(&mut self) -> Result<(), CopFault> {
+        CopFault::judge(ffi::sedge_fop_init_with_check(&mut self.0))
+    }
+
+    /// The directive to initiate with Unlock: S6 to S5, and Unlock is sent.
+    pub fn init_unlock(&mut self) -> Result<(), CopFault> {
+        CopFault::judge(ffi::sedge_fop_init_unlock(&mut self.0))
+    }
+
+    /// The directive to initiate with Set V(R): S6 to S5, V(S) and NN(R) to this number, and Set V(R) is sent.
+    pub fn init_set_vr(&mut self, vr: u8) -> Result<(), CopFault> {
+        CopFault::judge(ffi::sedge_fop_init_set_vr(&mut self.0, vr))
+    }
+
+    /// The directive Terminate: from S1 to S5 to S6. It is the alert [`Terminated`](Alert::Terminated): all units are
+    /// discarded. Refused with 8 [`WrongState`](CopFault::WrongState) in S6.
+    pub fn terminate(&mut self) -> Result<(), CopFault> {
+        CopFault::judge(ffi::sedge_fop_terminate(&mut self.0))
+    }
+
+    /// The directive Set V(S), which sets NN(R) too; in S6 alone.
+    pub fn set_vs(&mut self, vs: u8) -> Result<(), CopFault> {
+        CopFault::judge(ffi::sedge_fop_set_vs(&mut self.0, vs))
+    }
+
+    /// Sets the window K, in any state. Refused with 2 [`Window`](CopFault::Window) unless it is 1 to half the width.
+    pub fn set_window(&mut self, window: u8) -> Result<(), CopFault> {
+        CopFault::judge(ffi::sedge_fop_set_window(&mut self.0, window))
+    }
+
+    /// Sets the transmission limit, in any state. Refused with 3 [`Limit`](CopFault::Limit) if it is 0.
+    pub fn set_limit(&mut self, limit: u8) -> Result<(), CopFault> {
+        CopFault::judge(ffi::sedge_fop_set_limit(&mut self.0, limit))
+    }
+
+    /// Sets the timer's value in ticks, in any state. Refused with 4 [`Timer`](CopFault::Timer) if it is 0.
+    pub fn set_timer(&mut self, timer: u16) -> Result<(), CopFault> {
+        CopFault::judge(ffi::sedge_fop_set_timer(&mut self.0, timer))
+    }
+
+    /// Submits a unit, to be sent under sequence control: it waits, and the caller keeps it. Refused with
+    /// 6 [`NotOpen`](CopFault::NotOpen) in S6, and 7 [`Busy`](CopFault::Busy) while another one waits.
+    pub fn submit(&mut self) -> Result<(), CopFault> {
+        CopFault::judge(ffi::sedge_fop_submit(&mut self.0))
+    }
+
+    /// Takes what goes on the link next, if there is anything.
+    #[must_use]
+    #[allow(clippy::should_implement_trait)] // the header's name; a sender that has nothing now may have more later
+    pub fn next(&mut self) -> Option<Next> {
+        let mut number = 0;
+        match ffi::sedge_fop_next(&mut self.0, &mut number) {
+            ffi::SEDGE_NEXT_NOTHING => None,
+            ffi::SEDGE_NEXT_UNLOCK => Some(Next::Unlock),
+            ffi::SEDGE_NEXT_SET_VR => Some(Next::SetVr(number)),
+            ffi::SEDGE_NEXT_FIRST => Some(Next::First(number)),
+            ffi::SEDGE_NEXT_AGAIN => Some(Next::Again(number)),
+            _ => never(),
+        }
+    }
+
+    /// A control word has arrived, and this sender is that of the virtual channel `vcid`. Nothing is returned, and
+    /// nothing changes, for a word that reports on another channel.
+    #[must_use]
+    pub fn report(&mut self, vcid: u8, word: &Clcw) -> Option<Reported> {
+        if word.vcid != vcid {
+            return None;
+        }
+        let mut released = 0;
+        let alert = alert_of(ffi::sedge_fop_report(&mut self.0, &word.raw(), &mut released));
+        Some(Reported { released, alert })
+    }
+
+    /// A tick of the clock has passed: the alert, if there is one.
+    #[must_use]
+    pub fn tick(&mut self) -> Option<Alert> {
+        alert_of(ffi::sedge_fop_tick(&mut self.0))
+    }
+
+    /// The number of units, of those sent and not acknowledged, that were accepted on board when a report of this
+    /// value was made: the oldest ones, those with the numbers from NN(R) to `value` - 1 (CCSDS 232.1-B-2, 5.1). It
+    /// says so after an alert too, until V(S) is set or an initiation begins. `None` if the value is beyond V(S), so
+    /// that the report says nothing of these units.
+    #[must_use]
+    pub fn accepted_beyond(&self, value: u8) -> Option<u8> {
+        let mut accepted = 0;
+        (ffi::sedge_fop_accepted_beyond(&self.0, value, &mut accepted) == ffi::SEDGE_OK).then_some(accepted)
+    }
+}
+
+/// The same as [`Fop::accepted_beyond`], of a sender with these numbers for NN(R) and V(S).
+#[must_use]
+pub fn accepted_beyond(nn: u8, vs: u8, value: u8) -> Option<u8> {
+    let mut accepted = 0;
+    (ffi::sedge_accepted_beyond(nn, vs, value, &mut accepted) == ffi::SEDGE_OK).then_some(accepted)
+}
+
+fn alert_of(number: u8) -> Option<Alert> {
+    (number != ffi::SEDGE_NO_ALERT).then(|| Alert::of(number))
+}
+
+impl Control {
+    fn from_raw(control: u8, vr: u8) -> Self {
+        match control {
+            ffi::SEDGE_CONTROL_IDLE => Self::Idle,
+            ffi::SEDGE_CONTROL_UNLOCK_DUE => Self::Due(Command::Unlock),
+            ffi::SEDGE_CONTROL_UNLOCK_SENT => Self::Sent(Command::Unlock),
+            ffi::SEDGE_CONTROL_SET_VR_DUE => Self::Due(Command::SetVr(vr)),
+            ffi::SEDGE_CONTROL_SET_VR_SENT => Self::Sent(Command::SetVr(vr)),
+            _ => never(),
+        }
+    }
+
+    fn raw(self) -> (u8, u8) {
+        match self {
+            Self::Idle => (ffi::SEDGE_CONTROL_IDLE, 0),
+            Self::Due(Command::Unlock) => (ffi::SEDGE_CONTROL_UNLOCK_DUE, 0),
+            Self::Sent(Command::Unlock) => (ffi::SEDGE_CONTROL_UNLOCK_SENT, 0),
+            Self::Due(Command::SetVr(vr)) => (ffi::SEDGE_CONTROL_SET_VR_DUE, vr),
+            Self::Sent(Command::SetVr(vr)) => (ffi::SEDGE_CONTROL_SET_VR_SENT, vr),
+        }
+    }
+}

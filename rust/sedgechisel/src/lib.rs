@@ -1,0 +1,57 @@
+//! The CCSDS telecommand link with COP-1, both ends, for programs without heap: the frame check, telecommand
+//! frames, space packets, control words, telemetry frames, the receiver FARM-1, the sender FOP-1, and packets in
+//! segments. The books are CCSDS 133.0-B-2 (space packets), 132.0-B-3 (telemetry), 232.0-B-4 (telecommand) and
+//! 232.1-B-2 (COP-1).
+//!
+//! This crate gives safe types to the library for C, of which each call is proved to do what its contract says. The
+//! crate itself is tested, not proved. It allocates nothing, keeps no state of its own, and needs no `std`.
+//!
+//! - A codec is a type with `decode` and `encode`: [`TcFrame`], [`Packet`], [`Clcw`], [`TmFrame`]. What is decoded
+//!   borrows its data from the octets.
+//! - A machine is a type that is begun by `new` and has a call for each event: [`Farm`], [`Fop`], [`Map`].
+//! - What is refused is an `Err` of a small enum of faults, with the number and the name that sedgechisel.h has.
+//!
+//! ```
+//! use sedgechisel::{Body, Farm, SegmentFlags, TcFrame, Verdict};
+//!
+//! let octets = [0x00, 0x01, 0x08, 0x0e, 0x00, 0xc4, 0x10, 0x05, 0xc0, 0x00, 0x00, 0x00, 0xaa, 0xe7, 0x5d];
+//! let mut farm = Farm::new(10, 0)?;
+//! let frame = TcFrame::decode(&octets, true)?;
+//! if let Body::Ad { n, segment } = frame.body {
+//!     assert_eq!(farm.ad(n, true), Verdict::Accepted);
+//!     assert_eq!((segment.flags, segment.map, segment.data.len()), (SegmentFlags::Alone, 4, 7));
+//! }
+//! assert_eq!(farm.report(frame.vcid)?.encode()?, [0x01, 0x08, 0x00, 0x01]);
+//! # Ok::<(), Box<dyn std::error::Error>>(())
+//! ```
+//!
+//! No call panics, unless the library that is linked is not the one that this crate was made for.
+#![no_std]
+#![deny(unsafe_code, missing_docs)]
+
+#[cfg(test)]
+extern crate std;
+
+#[macro_use]
+mod numbers;
+
+mod check;
+mod clcw;
+mod farm;
+mod ffi;
+mod fop;
+mod map;
+mod packet;
+mod tc;
+mod tm;
+mod version;
+
+pub use check::{check, check_append, check_holds, CheckFault};
+pub use clcw::{Clcw, ClcwFault};
+pub use farm::{CopFault, Farm, FarmFields, FarmMode, Verdict};
+pub use fop::{accepted_beyond, Alert, Control, Fop, FopFields, FopState, Next, Reported};
+pub use map::{packets, segments, Dropped, Limits, Map, MapFault, Packets, Segments, Taken};
+pub use packet::{Packet, PacketFault, PacketKind, SequenceFlags};
+pub use tc::{Body, Command, Segment, SegmentFlags, TcFault, TcFrame};
+pub use tm::{Pointer, TmFault, TmFrame};
+pub use version::{version, Version};

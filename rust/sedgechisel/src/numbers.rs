@@ -1,0 +1,129 @@
+//! Enums whose numbers are those of sedgechisel.h. `rust/check` compares their numbers, names and texts with it.
+
+/// An enum with the numbers of the header.
+macro_rules! numbers {
+    ($(#[$notes:meta])* $name:ident { $($(#[$note:meta])* $case:ident = $number:literal,)* }) => {
+        $(#[$notes])*
+        #[derive(Clone, Copy, Debug, PartialEq, Eq, Hash)]
+        #[repr(u8)]
+        pub enum $name { $($(#[$note])* $case = $number,)* }
+
+        impl $name {
+            /// The number that sedgechisel.h has.
+            #[must_use]
+            pub const fn number(self) -> u8 {
+                self as u8
+            }
+
+            /// What has this number, or nothing.
+            #[must_use]
+            pub const fn from_number(number: u8) -> Option<Self> {
+                match number {
+                    $($number => Some(Self::$case),)*
+                    _ => None,
+                }
+            }
+
+            /// What has the number that the library returned.
+            #[allow(dead_code)]
+            pub(crate) const fn of(number: u8) -> Self {
+                match Self::from_number(number) {
+                    Some(it) => it,
+                    None => $crate::numbers::never(),
+                }
+            }
+        }
+    };
+}
+
+/// An enum of reasons, which are errors: each has a number, a name, and a text that says what it means.
+macro_rules! reasons {
+    ($(#[$notes:meta])* $name:ident { $($case:ident = $number:literal, $text:literal;)* }) => {
+        numbers! { $(#[$notes])* $name { $(#[doc = $text] $case = $number,)* } }
+
+        impl $name {
+            /// The name, as `tctool` writes it.
+            #[must_use]
+            pub const fn name(self) -> &'static str {
+                match self {
+                    $(Self::$case => stringify!($case),)*
+                }
+            }
+
+            /// What it means.
+            #[must_use]
+            pub const fn meaning(self) -> &'static str {
+                match self {
+                    $(Self::$case => $text,)*
+                }
+            }
+        }
+
+        impl core::fmt::Display for $name {
+            fn fmt(&self, out: &mut core::fmt::Formatter<'_>) -> core::fmt::Result {
+                write!(out, "{} {}: {}", self.number(), self.name(), self.meaning())
+            }
+        }
+
+        impl core::error::Error for $name {}
+    };
+}
+
+/// Enums of faults: besides, 0 is none.
+macro_rules! faults {
+    ($(#[$notes:meta])* $name:ident { $($rest:tt)* }) => {
+        reasons! { $(#[$notes])* $name { $($rest)* } }
+
+        impl $name {
+            /// The fault that the library returned, if it is one.
+            pub(crate) const fn judge(number: u8) -> Result<(), Self> {
+                match number {
+                    $crate::ffi::SEDGE_OK => Ok(()),
+                    _ => Err(Self::of(number)),
+                }
+            }
+        }
+    };
+}
+
+/// The library has returned a number that it is proved not to return here.
+#[cold]
+pub(crate) const fn never() -> ! {
+    panic!("sedgechisel: the library linked is not that of this crate")
+}
+
+/// A call that is refused only where its struct is damaged, which those of this crate never are.
+pub(crate) fn done(answer: u8) {
+    if answer != crate::ffi::SEDGE_OK {
+        never()
+    }
+}
+
+#[cfg(test)]
+mod tests {
+    use crate::*;
+
+    /// Each name is the word of the library. Those from 253 on are the numbers that all kinds of calls share, which
+    /// have no word.
+    #[test]
+    fn names_are_those_of_the_library() {
+        macro_rules! compare {
+            ($($name:ident $word:ident,)*) => {
+                $(for it in (0..253).filter_map($name::from_number) {
+                    assert_eq!(it.name(), ffi::$word(it.number()).as_str());
+                })*
+            };
+        }
+        compare! {
+            ClcwFault sedge_clcw_fault_name,
+            CopFault sedge_cop_fault_name,
+            Verdict sedge_verdict_name,
+            Alert sedge_alert_name,
+            TcFault sedge_tc_fault_name,
+            PacketFault sedge_packet_fault_name,
+            TmFault sedge_tm_fault_name,
+            MapFault sedge_map_fault_name,
+            Dropped sedge_dropped_name,
+        }
+    }
+}

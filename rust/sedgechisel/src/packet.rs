@@ -1,0 +1,101 @@
+//! Space packets of 7 to 65,542 octets (CCSDS 133.0-B-2, 4.1).
+
+use crate::ffi;
+
+faults! {
+    /// Why a space packet is refused (CCSDS 133.0-B-2).
+    PacketFault {
+        Truncated = 1, "fewer than the 6 octets of the header, or fewer than it declares";
+        Version = 2, "the version number is not 000 (4.1.3.2)";
+        IdleWithSecondary = 3, "an idle packet with a secondary header (4.1.3.3.3)";
+        Room = 4, "there is too little room for the packet";
+        FieldRange = 5, "a field out of its range, no data or more than 65,536 octets of them, or an idle packet \
+            with a secondary header";
+    }
+}
+
+numbers! {
+    /// The packet type (CCSDS 133.0-B-2, 4.1.3.3.2).
+    PacketKind {
+        /// A telemetry packet.
+        Telemetry = 0,
+        /// A telecommand packet.
+        Telecommand = 1,
+    }
+}
+
+numbers! {
+    /// The sequence flags (CCSDS 133.0-B-2, 4.1.3.4.2).
+    SequenceFlags {
+        /// A continuation of user data.
+        Continuation = 0,
+        /// The first part of user data.
+        First = 1,
+        /// The last part of user data.
+        Last = 2,
+        /// Unsegmented user data.
+        Unsegmented = 3,
+    }
+}
+
+/// A space packet of 7 to 65,542 octets (CCSDS 133.0-B-2, 4.1).
+#[derive(Clone, Copy, Debug, PartialEq, Eq, Hash)]
+pub struct Packet<'a> {
+    /// The packet type.
+    pub kind: PacketKind,
+    /// Whether the data field begins with a secondary header (4.1.3.3.3).
+    pub secondary: bool,
+    /// The application process identifier, below 2,048; 2,047 is that of idle packets (4.1.3.3.4).
+    pub apid: u16,
+    /// The sequence flags.
+    pub flags: SequenceFlags,
+    /// The sequence count or the packet's name, below 16,384 (4.1.3.4.3).
+    pub count: u16,
+    /// The data field, 1 to 65,536 octets.
+    pub data: &'a [u8],
+}
+
+impl<'a> Packet<'a> {
+    /// The most octets of a packet.
+    pub const LONGEST: usize = 65_542;
+
+    /// Reads the packet at the beginning of the octets; the packet ends where its data end, and octets after it are
+    /// ignored. Refused with the first of [`PacketFault`] 1 to 3 (1 [`Truncated`](PacketFault::Truncated) for fewer
+    /// octets than declared comes last).
+    pub fn decode(octets: &'a [u8]) -> Result<Self, PacketFault> {
+        let (mut packet, mut part) = (ffi::Packet::default(), ffi::Part::default());
+        PacketFault::judge(ffi::packet_decode(octets, &mut packet, &mut part))?;
+        Ok(Self {
+            kind: PacketKind::of(packet.kind),
+            secondary: packet.secondary != 0,
+            apid: packet.apid,
+            flags: SequenceFlags::of(packet.flags),
+            count: packet.count,
+            data: part.of(octets),
+        })
+    }
+
+    /// Writes the packet to the beginning of `out`, and returns its octets, 6 more than its data. Refused with the
+    /// first of 5 [`FieldRange`](PacketFault::FieldRange) and 4 [`Room`](PacketFault::Room), with nothing written.
+    pub fn encode<'o>(&self, out: &'o mut [u8]) -> Result<&'o mut [u8], PacketFault> {
+        let packet = ffi::Packet {
+            apid: self.apid,
+            count: self.count,
+            kind: self.kind.number(),
+            secondary: self.secondary.into(),
+            flags: self.flags.number(),
+        };
+        let mut total = 0;
+        PacketFault::judge(ffi::packet_encode(&packet, self.data, out, &mut total))?;
+        Ok(&mut out[..total])
+    }
+
+    /// The length in octets of the packet that begins with these octets, by its first 6 octets alone; for cutting a
+    /// stream (CCSDS 133.0-B-2, 4.1.3.5). Refused with 1 [`Truncated`](PacketFault::Truncated) for fewer than 6 octets,
+    /// or 2 [`Version`](PacketFault::Version), or 3 [`IdleWithSecondary`](PacketFault::IdleWithSecondary).
+    pub fn declared(octets: &[u8]) -> Result<usize, PacketFault> {
+        let mut total = 0;
+        PacketFault::judge(ffi::packet_declared(octets, &mut total))?;
+        Ok(total)
+    }
+}

@@ -1,0 +1,166 @@
+//! Telecommand transfer frames of at most 1,024 octets (CCSDS 232.0-B-4, 4.1), with or without their check.
+
+use crate::ffi;
+use crate::numbers::never;
+
+faults! {
+    /// Why a telecommand frame is refused (CCSDS 232.0-B-4).
+    TcFault {
+        Short = 1, "fewer than the 5 octets of the header";
+        Version = 2, "the version number is not 00 (4.1.2.2)";
+        ReservedType = 3, "the control command flag without the bypass flag (4.1.2.3)";
+        Spare = 4, "the spare bits are not 00 (4.1.2.4)";
+        Length = 5, "the declared total is not the number of octets, or too small (4.1.2.7)";
+        Check = 6, "the last two octets are not the check of those before them (4.1.4)";
+        BypassNumber = 7, "a frame with the bypass flag has a number other than 0 (4.1.2.8)";
+        EmptyData = 8, "no octet in the data field, or a segment header alone";
+        Command = 9, "the data of a control frame are neither Unlock nor Set V(R) (4.1.3.3)";
+        Room = 10, "there is too little room for the frame";
+        FieldRange = 11, "a field out of its range, no data, or more than 1,024 octets";
+    }
+}
+
+numbers! {
+    /// Where a segment stands in what it is a part of (CCSDS 232.0-B-4, 4.1.3.2.2.2).
+    SegmentFlags {
+        /// Neither the first nor the last.
+        Continuing = 0,
+        /// The first of several.
+        First = 1,
+        /// The last of several.
+        Last = 2,
+        /// The only one.
+        Alone = 3,
+    }
+}
+
+/// A segment: its header, and the data after it (CCSDS 232.0-B-4, 4.1.3.2.2).
+#[derive(Clone, Copy, Debug, PartialEq, Eq, Hash)]
+pub struct Segment<'a> {
+    /// Where it stands in what it is a part of.
+    pub flags: SegmentFlags,
+    /// The MAP identifier, below 64.
+    pub map: u8,
+    /// The data after the segment header, at least one octet.
+    pub data: &'a [u8],
+}
+
+/// The control commands (CCSDS 232.0-B-4, 4.1.3.3).
+#[derive(Clone, Copy, Debug, PartialEq, Eq, Hash)]
+pub enum Command {
+    /// End a lockout: the octet 00.
+    Unlock,
+    /// Expect this number next: the octets 82 00 and the number.
+    SetVr(u8),
+}
+
+/// What a frame carries, by its type (CCSDS 232.0-B-4, 4.1.2.3).
+#[derive(Clone, Copy, Debug, PartialEq, Eq, Hash)]
+pub enum Body<'a> {
+    /// Sequence-controlled data, with the sequence number N(S).
+    Ad {
+        /// The sequence number N(S).
+        n: u8,
+        /// The data field.
+        segment: Segment<'a>,
+    },
+    /// Data that bypass the sequence control.
+    Bd {
+        /// The data field.
+        segment: Segment<'a>,
+    },
+    /// A control command, which bypasses it too.
+    Bc(Command),
+}
+
+/// A telecommand transfer frame of at most 1,024 octets (CCSDS 232.0-B-4, 4.1).
+#[derive(Clone, Copy, Debug, PartialEq, Eq, Hash)]
+pub struct TcFrame<'a> {
+    /// The spacecraft identifier, below 1,024.
+    pub scid: u16,
+    /// The virtual channel identifier, below 64.
+    pub vcid: u8,
+    /// The frame's type, and what it carries.
+    pub body: Body<'a>,
+}
+
+impl<'a> TcFrame<'a> {
+    /// The most octets of a frame.
+    pub const LONGEST: usize = 1024;
+
+    /// Reads all of the octets as one frame, which ends with its check if `checked` is true. Refused with the first of
+    /// [`TcFault`] 1 to 9.
+    pub fn decode(octets: &'a [u8], checked: bool) -> Result<Self, TcFault> {
+        let (mut frame, mut part) = (ffi::TcFrame::default(), ffi::Part::default());
+        TcFault::judge(ffi::tc_decode(octets, checked, &mut frame, &mut part))?;
+        let segment =
+            || Segment { flags: SegmentFlags::of(frame.flags), map: frame.map, data: part.of(octets) };
+        let body = match frame.kind {
+            ffi::SEDGE_TC_AD => Body::Ad { n: frame.n, segment: segment() },
+            ffi::SEDGE_TC_BD => Body::Bd { segment: segment() },
+            ffi::SEDGE_TC_BC => Body::Bc(Command::from_raw(frame.command, frame.vr)),
+            _ => never(),
+        };
+        Ok(Self { scid: frame.scid, vcid: frame.vcid, body })
+    }
+
+    /// Writes the frame to the beginning of `out`, with its check if `checked` is true, and returns its octets, 6 to
+    /// 1,024. Refused with the first of 11 [`FieldRange`](TcFault::FieldRange) and 10 [`Room`](TcFault::Room), with
+    /// nothing written.
+    pub fn encode<'o>(&self, checked: bool, out: &'o mut [u8]) -> Result<&'o mut [u8], TcFault> {
+        let mut frame = ffi::TcFrame { scid: self.scid, vcid: self.vcid, ..ffi::TcFrame::default() };
+        let data = match self.body {
+            Body::Ad { n, segment } => {
+                (frame.kind, frame.n) = (ffi::SEDGE_TC_AD, n);
+                segment.put(&mut frame)
+            }
+            Body::Bd { segment } => {
+                frame.kind = ffi::SEDGE_TC_BD;
+                segment.put(&mut frame)
+            }
+            Body::Bc(command) => {
+                frame.kind = ffi::SEDGE_TC_BC;
+                (frame.command, frame.vr) = command.raw();
+                &[]
+            }
+        };
+        let mut total = 0;
+        TcFault::judge(ffi::tc_encode(&frame, data, checked, out, &mut total))?;
+        Ok(&mut out[..total])
+    }
+
+    /// The length in octets of the frame that begins with these octets, by its first 5 octets alone; for cutting a
+    /// stream (CCSDS 232.0-B-4, 4.1.2.7). Refused with 1 [`Short`](TcFault::Short) for fewer than 5 octets, and
+    /// 5 [`Length`](TcFault::Length) if it declares fewer than 5, or with the check fewer than 7.
+    pub fn declared(octets: &[u8], checked: bool) -> Result<usize, TcFault> {
+        let mut total = 0;
+        TcFault::judge(ffi::tc_declared(octets, checked, &mut total))?;
+        Ok(total)
+    }
+}
+
+impl<'a> Segment<'a> {
+    /// Puts the header into the frame, and returns the data.
+    fn put(self, frame: &mut ffi::TcFrame) -> &'a [u8] {
+        frame.flags = self.flags.number();
+        frame.map = self.map;
+        self.data
+    }
+}
+
+impl Command {
+    fn from_raw(command: u8, vr: u8) -> Self {
+        match command {
+            ffi::SEDGE_UNLOCK => Self::Unlock,
+            ffi::SEDGE_SET_VR => Self::SetVr(vr),
+            _ => never(),
+        }
+    }
+
+    fn raw(self) -> (u8, u8) {
+        match self {
+            Self::Unlock => (ffi::SEDGE_UNLOCK, 0),
+            Self::SetVr(vr) => (ffi::SEDGE_SET_VR, vr),
+        }
+    }
+}

@@ -1,0 +1,104 @@
+//! Telemetry transfer frames of 16 to 2,048 octets, with an operational control field and a check (CCSDS 132.0-B-3,
+//! 4.1).
+
+use crate::ffi;
+
+faults! {
+    /// Why a telemetry frame is refused (CCSDS 132.0-B-3).
+    TmFault {
+        Length = 1, "not length octets, or a length outside 16 to 2,048";
+        Version = 2, "the version number is not 00 (4.1.2.2)";
+        Check = 3, "the last two octets are not the check of those before them (4.1.6)";
+        Status = 4, "a flag of the data field status is 1, or its identifier is not 11 (4.1.2.7)";
+        Pointer = 5, "a first header pointer at or after the data field's end (4.1.2.7.6)";
+        NoOcf = 6, "the frame declares no operational control field (4.1.2.4)";
+        Room = 9, "there is too little room for the frame";
+        FieldRange = 10, "a field out of its range, a pointer after the data, or not 4 to 2,036 octets of data";
+    }
+}
+
+/// The first header pointer (CCSDS 132.0-B-3, 4.1.2.7.6).
+#[derive(Clone, Copy, Debug, PartialEq, Eq, Hash)]
+pub enum Pointer {
+    /// The place in the data, from 0, where the first packet starts.
+    At(u16),
+    /// There are only idle data in the data field.
+    OnlyIdle,
+    /// No packet starts in the data field.
+    NoStart,
+}
+
+/// A telemetry transfer frame of 16 to 2,048 octets (CCSDS 132.0-B-3, 4.1).
+#[derive(Clone, Copy, Debug, PartialEq, Eq, Hash)]
+pub struct TmFrame<'a> {
+    /// The spacecraft identifier, below 1,024.
+    pub scid: u16,
+    /// The virtual channel identifier, below 8.
+    pub vcid: u8,
+    /// The master channel frame count.
+    pub mc_count: u8,
+    /// The virtual channel frame count.
+    pub vc_count: u8,
+    /// Where the first packet starts.
+    pub pointer: Pointer,
+    /// The operational control field, as [`Clcw::encode`](crate::Clcw::encode) writes it (4.1.5).
+    pub ocf: [u8; 4],
+    /// The data field, 4 to 2,036 octets.
+    pub data: &'a [u8],
+}
+
+impl<'a> TmFrame<'a> {
+    /// The most octets of a frame.
+    pub const LONGEST: usize = 2048;
+
+    /// Reads all of the octets as one frame of this length. Refused with the first of [`TmFault`] 1 to 6.
+    pub fn decode(octets: &'a [u8], length: usize) -> Result<Self, TmFault> {
+        let (mut frame, mut part) = (ffi::TmFrame::default(), ffi::Part::default());
+        TmFault::judge(ffi::tm_decode(octets, length, &mut frame, &mut part))?;
+        Ok(Self {
+            scid: frame.scid,
+            vcid: frame.vcid,
+            mc_count: frame.mc_count,
+            vc_count: frame.vc_count,
+            pointer: Pointer::from_raw(frame.pointer),
+            ocf: frame.ocf,
+            data: part.of(octets),
+        })
+    }
+
+    /// Writes the frame and its check to the beginning of `out`, and returns its octets, 12 more than its data.
+    /// Refused with the first of 10 [`FieldRange`](TmFault::FieldRange) and 9 [`Room`](TmFault::Room), with nothing
+    /// written.
+    pub fn encode<'o>(&self, out: &'o mut [u8]) -> Result<&'o mut [u8], TmFault> {
+        let frame = ffi::TmFrame {
+            scid: self.scid,
+            pointer: self.pointer.raw(),
+            vcid: self.vcid,
+            mc_count: self.mc_count,
+            vc_count: self.vc_count,
+            ocf: self.ocf,
+        };
+        let mut total = 0;
+        TmFault::judge(ffi::tm_encode(&frame, self.data, out, &mut total))?;
+        Ok(&mut out[..total])
+    }
+}
+
+impl Pointer {
+    fn from_raw(pointer: u16) -> Self {
+        match pointer {
+            ffi::SEDGE_POINTER_ONLY_IDLE => Self::OnlyIdle,
+            ffi::SEDGE_POINTER_NO_START => Self::NoStart,
+            place => Self::At(place),
+        }
+    }
+
+    /// A place whose number means something else is after all data, and so is the one before these.
+    fn raw(self) -> u16 {
+        match self {
+            Self::At(place) => place.min(ffi::SEDGE_POINTER_ONLY_IDLE - 1),
+            Self::OnlyIdle => ffi::SEDGE_POINTER_ONLY_IDLE,
+            Self::NoStart => ffi::SEDGE_POINTER_NO_START,
+        }
+    }
+}

@@ -1,0 +1,314 @@
+//! The check, control words, frames and packets: rows worked by hand, vectors from outside, and each refusal.
+
+use crate::common::octets_of;
+use sedgechisel::*;
+use std::error::Error;
+
+/// The vectors of CCSDS and of ECSS-E-ST-70-41C, annex B.
+#[test]
+fn known_checks() {
+    assert_eq!(check(b"123456789"), 0x29b1);
+    assert_eq!(check(&[]), 0xffff);
+    assert_eq!(check(&[0, 0]), 0x1d0f);
+    assert_eq!(check(&[0, 0, 0]), 0xcc9c);
+    assert_eq!(check(&octets_of("abcdef01")), 0x04a2);
+    assert_eq!(check(&octets_of("1456f89a0001")), 0x7fd5);
+}
+
+#[test]
+fn a_check_is_set_and_holds() {
+    let mut octets = *b"123456789..";
+    assert!(!check_holds(&octets));
+    assert_eq!(check_append(&mut octets), Ok(()));
+    assert_eq!(&octets, b"123456789\x29\xb1");
+    assert!(check_holds(&octets) && !check_holds(&octets[..10]) && !check_holds(b"1") && !check_holds(b""));
+    assert_eq!(check_append(&mut []), Err(CheckFault::WrongCount));
+    let mut one = *b"1";
+    assert_eq!((check_append(&mut one), one), (Err(CheckFault::WrongCount), *b"1"));
+}
+
+#[test]
+fn faults_are_errors() {
+    fn refused() -> Result<(), Box<dyn Error>> {
+        Clcw::decode(&[0x01, 0x09, 0x0a, 0x07])?;
+        Ok(())
+    }
+    assert_eq!(refused().unwrap_err().to_string(), "4 Spare: a spare bit is not 0");
+    assert_eq!((TcFault::BypassNumber.number(), TcFault::BypassNumber.name()), (7, "BypassNumber"));
+    assert_eq!(TcFault::from_number(7), Some(TcFault::BypassNumber));
+    assert_eq!(TcFault::from_number(0), None);
+    assert_eq!(TcFault::from_number(12), None);
+    assert_eq!(TmFault::Version.to_string(), "2 Version: the version number is not 00 (4.1.2.2)");
+    assert_eq!((Verdict::NoBuffer.to_string(), Alert::NnR.name()), ("nobuffer".into(), "NnR"));
+}
+
+#[test]
+fn the_version() {
+    let numbers: Vec<u8> = version().as_str().split('.').map(|it| it.parse().unwrap()).collect();
+    assert_eq!(numbers.len(), 3);
+    assert_eq!(version().to_string(), version().as_str());
+}
+
+#[test]
+fn control_words() {
+    let octets = [0x01, 0x08, 0x0a, 0x07];
+    let word = Clcw { vcid: 2, retransmit: true, farm_b: 1, value: 7, ..Clcw::default() };
+    assert_eq!(Clcw::decode(&octets), Ok(word));
+    assert_eq!(word.encode(), Ok(octets));
+    let largest = Clcw {
+        status: 7,
+        vcid: 63,
+        no_rf: true,
+        no_bit_lock: true,
+        lockout: true,
+        wait: true,
+        retransmit: true,
+        farm_b: 3,
+        value: 255,
+    };
+    assert_eq!(largest.encode().and_then(|it| Clcw::decode(&it)), Ok(largest));
+    for wrong in [Clcw { status: 8, ..word }, Clcw { vcid: 64, ..word }, Clcw { farm_b: 4, ..word }] {
+        assert_eq!(wrong.encode(), Err(ClcwFault::Range));
+    }
+}
+
+/// Each bit of a control word, turned.
+#[test]
+fn bits_of_a_control_word() {
+    for bit in 0..32 {
+        let mut octets = [0x01, 0x08, 0x0a, 0x07];
+        octets[bit / 8] ^= 0x80 >> (bit % 8);
+        let refused = match bit {
+            0 => Some(ClcwFault::Kind),
+            1 | 2 => Some(ClcwFault::Version),
+            6 | 7 => Some(ClcwFault::Cop),
+            14 | 15 | 23 => Some(ClcwFault::Spare),
+            _ => None,
+        };
+        match Clcw::decode(&octets) {
+            Ok(word) => assert_eq!((None, Ok(octets)), (refused, word.encode())),
+            Err(fault) => assert_eq!(Some(fault), refused),
+        }
+    }
+}
+
+/// The frame has these octets, and is read again of them; octets after it stay.
+fn is_spelled(frame: TcFrame, digits: &str, checked: bool) {
+    let octets = octets_of(digits);
+    let mut out = [0x55; 16];
+    assert_eq!(frame.encode(checked, &mut out).map(|it| &*it), Ok(&octets[..]));
+    assert!(out[octets.len()..].iter().all(|it| *it == 0x55));
+    assert_eq!(TcFrame::decode(&octets, checked), Ok(frame));
+    assert_eq!(TcFrame::declared(&octets[..5], checked), Ok(octets.len()));
+}
+
+#[test]
+fn telecommand_frames() {
+    let packet = octets_of("1005c0000000aa");
+    let segment = Segment { flags: SegmentFlags::Alone, map: 4, data: &packet };
+    let frame = |body| TcFrame { scid: 1, vcid: 2, body };
+    is_spelled(frame(Body::Ad { n: 3, segment }), "0001080c03c41005c0000000aa", false);
+    is_spelled(frame(Body::Ad { n: 0, segment }), "0001080e00c41005c0000000aae75d", true);
+    is_spelled(frame(Body::Bd { segment }), "2001080c00c41005c0000000aa", false);
+    is_spelled(frame(Body::Bc(Command::SetVr(7))), "3001080700820007", false);
+    is_spelled(frame(Body::Bc(Command::Unlock)), "300108050000", false);
+    is_spelled(frame(Body::Bc(Command::Unlock)), "3001080700008b9e", true);
+}
+
+#[test]
+fn refused_telecommand_frames() {
+    let refused = |digits: &str, checked| TcFrame::decode(&octets_of(digits), checked).unwrap_err();
+    assert_eq!(refused("30010805", false), TcFault::Short);
+    assert_eq!(refused("", false), TcFault::Short);
+    assert_eq!(refused("4001080c03c41005c0000000aa", false), TcFault::Version);
+    assert_eq!(refused("1001080c03c41005c0000000aa", false), TcFault::ReservedType);
+    assert_eq!(refused("0401080c03c41005c0000000aa", false), TcFault::Spare);
+    assert_eq!(refused("30010805000000", false), TcFault::Length);
+    assert_eq!(refused("300108050000", true), TcFault::Length);
+    assert_eq!(refused("3001080700008b9f", true), TcFault::Check);
+    assert_eq!(refused("300108050100", false), TcFault::BypassNumber);
+    assert_eq!(refused("0001080503c4", false), TcFault::EmptyData);
+    assert_eq!(refused("0001080403", false), TcFault::EmptyData);
+    assert_eq!(refused("300108050001", false), TcFault::Command);
+    assert_eq!(TcFrame::declared(&octets_of("00010803"), false), Err(TcFault::Short));
+    assert_eq!(TcFrame::declared(&octets_of("0001080303"), false), Err(TcFault::Length));
+    assert_eq!(TcFrame::declared(&octets_of("300108050000"), true), Err(TcFault::Length));
+}
+
+/// Each frame that differs from one in one octet is refused.
+#[test]
+fn a_wrong_octet() {
+    let whole = octets_of("0001080e00c41005c0000000aae75d");
+    for place in 0..whole.len() {
+        for value in 0..=255 {
+            let mut octets = whole.clone();
+            octets[place] = value;
+            assert_eq!(TcFrame::decode(&octets, true).is_ok(), octets == whole);
+        }
+    }
+}
+
+#[test]
+fn unwritten_telecommand_frames() {
+    fn encoded(scid: u16, vcid: u8, map: u8, count: usize, room: usize) -> Result<usize, TcFault> {
+        let (data, mut out) = ([0; 1017], [0x55; 1100]);
+        let segment = Segment { flags: SegmentFlags::Last, map, data: &data[..count] };
+        let frame = TcFrame { scid, vcid, body: Body::Ad { n: 255, segment } };
+        let total = frame.encode(true, &mut out[..room]).map(|it| it.len());
+        assert!(total.is_ok() || out.iter().all(|it| *it == 0x55));
+        total
+    }
+    assert_eq!(encoded(1023, 63, 63, 1, 9), Ok(9));
+    assert_eq!(encoded(1023, 63, 63, 1016, 1024), Ok(TcFrame::LONGEST));
+    assert_eq!(encoded(1023, 63, 63, 1, 8), Err(TcFault::Room));
+    assert_eq!(encoded(1023, 63, 63, 1016, 1023), Err(TcFault::Room));
+    assert_eq!(encoded(1023, 63, 63, 0, 1100), Err(TcFault::FieldRange));
+    assert_eq!(encoded(1023, 63, 63, 1017, 1100), Err(TcFault::FieldRange));
+    assert_eq!(encoded(1024, 63, 63, 1, 0), Err(TcFault::FieldRange));
+    assert_eq!(encoded(1023, 64, 63, 1, 1100), Err(TcFault::FieldRange));
+    assert_eq!(encoded(1023, 63, 64, 1, 1100), Err(TcFault::FieldRange));
+}
+
+#[test]
+fn space_packets() {
+    let octets = octets_of("1005c0000000aa");
+    let packet = Packet {
+        kind: PacketKind::Telecommand,
+        secondary: false,
+        apid: 5,
+        flags: SequenceFlags::Unsegmented,
+        count: 0,
+        data: &[0xaa],
+    };
+    assert_eq!(Packet::decode(&octets), Ok(packet));
+    assert_eq!(Packet::decode(&octets_of("1005c0000000aa77")), Ok(packet));
+    let mut out = [0x55; 9];
+    assert_eq!(packet.encode(&mut out).map(|it| &*it), Ok(&octets[..]));
+    assert_eq!(out[7..], [0x55; 2]);
+    assert_eq!(Packet::declared(&octets[..6]), Ok(7));
+    let mut octets = vec![0x5a; 65543];
+    octets[..6].copy_from_slice(&octets_of("08057fffffff"));
+    let longest = Packet::decode(&octets).unwrap();
+    assert_eq!((longest.kind, longest.secondary), (PacketKind::Telemetry, true));
+    assert_eq!((longest.flags, longest.count), (SequenceFlags::First, 16383));
+    let mut out = vec![0; Packet::LONGEST];
+    assert_eq!(longest.encode(&mut out).map(|it| &*it), Ok(&octets[..65542]));
+    assert_eq!(Packet::decode(&octets[..65541]), Err(PacketFault::Truncated));
+}
+
+#[test]
+fn refused_packets() {
+    let refused = |digits: &str| Packet::decode(&octets_of(digits)).unwrap_err();
+    assert_eq!(refused("1005c00000"), PacketFault::Truncated);
+    assert_eq!(refused("1005c0000000"), PacketFault::Truncated);
+    assert_eq!(refused("2005c0000000aa"), PacketFault::Version);
+    assert_eq!(refused("0fffc000000055"), PacketFault::IdleWithSecondary);
+    assert_eq!(Packet::declared(&octets_of("1005c00000")), Err(PacketFault::Truncated));
+    assert_eq!(Packet::declared(&octets_of("2005c0000000")), Err(PacketFault::Version));
+    assert_eq!(Packet::declared(&octets_of("0fffc0000000")), Err(PacketFault::IdleWithSecondary));
+}
+
+#[test]
+fn unwritten_packets() {
+    let data = vec![0; 65537];
+    let good = Packet {
+        kind: PacketKind::Telecommand,
+        secondary: false,
+        apid: 2047,
+        flags: SequenceFlags::Unsegmented,
+        count: 16383,
+        data: &data[..1],
+    };
+    let encoded = |packet: Packet, room: usize| packet.encode(&mut vec![0; room]).map(|it| it.len());
+    assert_eq!(encoded(good, 7), Ok(7));
+    assert_eq!(encoded(good, 6), Err(PacketFault::Room));
+    for wrong in [
+        Packet { data: &[], ..good },
+        Packet { data: &data, ..good },
+        Packet { secondary: true, ..good },
+        Packet { apid: 2048, ..good },
+        Packet { count: 16384, ..good },
+    ] {
+        assert_eq!(encoded(wrong, 65543), Err(PacketFault::FieldRange));
+    }
+}
+
+const IDLE: TmFrame = TmFrame {
+    scid: 1,
+    vcid: 0,
+    mc_count: 0,
+    vc_count: 0,
+    pointer: Pointer::OnlyIdle,
+    ocf: [0x01, 0x08, 0x00, 0x00],
+    data: b"UUUU",
+};
+
+#[test]
+fn telemetry_frames() {
+    for (pointer, spelled) in [
+        (Pointer::At(0), "1800"),
+        (Pointer::At(3), "1803"),
+        (Pointer::OnlyIdle, "1ffe"),
+        (Pointer::NoStart, "1fff"),
+    ] {
+        let mut out = [0xee; 20];
+        let frame = TmFrame { pointer, ..IDLE };
+        let octets = frame.encode(&mut out).unwrap();
+        assert_eq!(octets[..14], octets_of(&format!("00110000{spelled}5555555501080000")));
+        assert_eq!((octets.len(), check_holds(octets)), (16, true));
+        assert_eq!(TmFrame::decode(octets, 16), Ok(frame));
+        assert_eq!(Clcw::decode(&frame.ocf), Ok(Clcw { vcid: 2, ..Clcw::default() }));
+        assert_eq!(out[16..], [0xee; 4]);
+    }
+    let (data, mut out) = ([0x5a; 2036], [0; TmFrame::LONGEST]);
+    let largest = TmFrame { scid: 1023, vcid: 7, mc_count: 254, vc_count: 253, data: &data, ..IDLE };
+    let octets = largest.encode(&mut out).unwrap();
+    assert_eq!((octets.len(), TmFrame::decode(octets, 2048)), (2048, Ok(largest)));
+}
+
+#[test]
+fn refused_telemetry_frames() {
+    let mut octets = [0; 16];
+    TmFrame { pointer: Pointer::At(0), ..IDLE }.encode(&mut octets).unwrap();
+    assert_eq!(TmFrame::decode(&octets, 17), Err(TmFault::Length));
+    assert_eq!(TmFrame::decode(&octets[..15], 15), Err(TmFault::Length));
+    assert_eq!(TmFrame::decode(&[], 16), Err(TmFault::Length));
+    assert_eq!(TmFrame::decode(&[0; 2049], 2049), Err(TmFault::Length));
+    for (place, octet, fault) in [
+        (0, 0x40, TmFault::Version),
+        (4, 0x98, TmFault::Status),
+        (4, 0x10, TmFault::Status),
+        (5, 0x04, TmFault::Pointer),
+        (1, 0x10, TmFault::NoOcf),
+    ] {
+        let mut damaged = octets;
+        damaged[place] = octet;
+        let first = if place == 0 { TmFault::Version } else { TmFault::Check };
+        assert_eq!(TmFrame::decode(&damaged, 16), Err(first));
+        check_append(&mut damaged).unwrap();
+        assert_eq!(TmFrame::decode(&damaged, 16), Err(fault));
+    }
+}
+
+#[test]
+fn unwritten_telemetry_frames() {
+    let data = [0; 2037];
+    let good = TmFrame { scid: 1023, vcid: 7, pointer: Pointer::At(3), data: &data[..4], ..IDLE };
+    let encoded = |frame: TmFrame, room: usize| frame.encode(&mut vec![0; room]).map(|it| it.len());
+    assert_eq!(encoded(good, 16), Ok(16));
+    assert_eq!(encoded(good, 15), Err(TmFault::Room));
+    assert_eq!(encoded(TmFrame { pointer: Pointer::At(4), data: &data[..5], ..good }, 100), Ok(17));
+    for wrong in [
+        TmFrame { data: &data[..3], ..good },
+        TmFrame { data: &data, ..good },
+        TmFrame { scid: 1024, ..good },
+        TmFrame { vcid: 8, ..good },
+        TmFrame { pointer: Pointer::At(4), ..good },
+    ] {
+        assert_eq!(encoded(wrong, 3000), Err(TmFault::FieldRange));
+    }
+    for place in 2036..=65535 {
+        let frame = TmFrame { pointer: Pointer::At(place), data: &data[..2036], ..good };
+        assert_eq!(encoded(frame, 2048), Err(TmFault::FieldRange));
+    }
+}
