@@ -268,11 +268,11 @@ ALWAYS void put_packet(uint8_t map, const uint8_t *octets, uint32_t len) {
     *out++ = '\n';
 }
 
-static void end_part(uint8_t map, const uint8_t *octets, uint32_t len, int interrupted) {
+static void end_part(uint8_t map, const uint8_t *octets, uint32_t len, int interrupted, int several) {
     uint32_t at = 0, count = 0;
     for (; len - at >= 7 && begins_packet(octets + at) && len - at >= packet_len(octets + at); count++)
         at += packet_len(octets + at);
-    if (at < len || count == 0 || (!blocking && count > 1)) {
+    if (at < len || count == 0 || (!several && count > 1)) {
         put_dropped("NotAPacket");
         return;
     }
@@ -287,7 +287,7 @@ static void assemble(const struct frame *frame) {
     int was_open = parts[map].open;
     if (frame->flags == 3) {
         parts[map].open = 0;
-        end_part(map, frame->payload, frame->len, was_open);
+        end_part(map, frame->payload, frame->len, was_open, blocking);
         return;
     }
     if (frame->flags == 1) {
@@ -313,7 +313,7 @@ static void assemble(const struct frame *frame) {
     parts[map].len += frame->len;
     if (frame->flags == 2) {
         parts[map].open = 0;
-        end_part(map, parts[map].octets, parts[map].len, 0);
+        end_part(map, parts[map].octets, parts[map].len, 0, 0);
     }
 }
 

@@ -308,9 +308,12 @@ struct Map {
 }
 
 impl Map {
-    // Writes the packets that octets are, and why something was dropped, where it was.
-    fn judge(&mut self, line: &mut Vec<u8>, index: u64, map: u8, octets: &[u8], is_interrupted: bool) -> io::Result<()> {
-        if !cut_packets(octets, &mut self.lengths) || !self.blocking && self.lengths.len() != 1 {
+    // Writes the packets that octets are, and why something was dropped, where it was. Only a segment that stands alone may be
+    // several packets.
+    fn judge(&mut self, line: &mut Vec<u8>, index: u64, map: u8, octets: &[u8], alone: Option<bool>) -> io::Result<()> {
+        let is_several = self.blocking && alone.is_some();
+        let is_interrupted = alone == Some(true);
+        if !cut_packets(octets, &mut self.lengths) || !is_several && self.lengths.len() != 1 {
             return push_dropped(line, index, "NotAPacket");
         }
         if is_interrupted {
@@ -329,7 +332,7 @@ impl Map {
     fn take(&mut self, line: &mut Vec<u8>, index: u64, flags: u8, map: u8, data: &[u8]) -> io::Result<()> {
         let place = usize::from(map);
         match (flags, self.parts[place].take()) {
-            (3, open) => self.judge(line, index, map, data, open.is_some()),
+            (3, open) => self.judge(line, index, map, data, Some(open.is_some())),
             (1, open) => {
                 self.parts[place] = Some(data.to_vec());
                 if open.is_some() { push_dropped(line, index, "Interrupted") } else { Ok(()) }
@@ -339,7 +342,7 @@ impl Map {
             (_, Some(mut part)) => {
                 part.extend_from_slice(data);
                 if flags == 2 {
-                    return self.judge(line, index, map, &part, false);
+                    return self.judge(line, index, map, &part, None);
                 }
                 self.parts[place] = Some(part);
                 Ok(())
