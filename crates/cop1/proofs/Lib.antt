@@ -1,4 +1,6 @@
 pub mod Agreeing
+pub mod Alike
+pub mod Both
 mod Following
 pub mod Hearing
 pub mod Marks

@@ -1,12 +1,11 @@
 -- The sent queue as bare units, of which the last are marked.
-use Rattle.std.proofs.Common.{◌≡◌, ◌≤◌, ◌<◌, ℕ, zero, suc, ◌+◌, ◌-◌, true, false, List, [], ◌∷◌, ◌++◌, length, drop}
-use Rattle.std.proofs.Common.{map, min, Option, Some, None, inl, inr, refl, ap, arith, ltb, add-zero, length-drop}
-use Rattle.std.specs.Prelude.{slice_get, option_map, option_copied, is_some}
-use Rattle.std.proofs.lemmas.Bool.{cases_lt, lt-ltb, le-ltb}
+use Rattle.std.proofs.Common.{◌≡◌, ◌≤◌, ◌<◌, ℕ, zero, suc, ◌+◌, ◌-◌, true, List, [], ◌∷◌, ◌++◌, length, drop}
+use Rattle.std.proofs.Common.{map, Option, Some, None, inl, inr, refl, ap, arith}
+use Rattle.std.specs.Prelude.{slice_get, option_copied, is_some}
+use Rattle.std.proofs.lemmas.Bool.{cases_lt}
 use denote.Bor.{Bor}
-use Rattle.cop1.specs.FopWords.{marked_unit, unmarked_unit}
-use Rattle.cop1.specs.FopPull.{oldest_marked, without_oldest_mark}
-use Rattle.cop1.specs.FopQueues.{marked_last}
+use Rattle.cop1.specs.Units.{marked_unit, unmarked_unit, oldest_marked, without_oldest_mark}
+use Rattle.cop1.specs.Queues.{marked_last}
 
 module _ {U : Type 0} where
   pub length-marked_last : (due : ℕ) (us : List U) → length (marked_last due us) ≡ length us
@@ -24,36 +23,24 @@ module _ {U : Type 0} where
       → marked_last due us ≡ marked_last more us
   marked_last-all due more [] all all' = refl
   marked_last-all due more (u ∷ us) all all' =
-      let here : ltb (length us) due ≡ true = lt-ltb _ _ (omega arith) in
-      let here' : ltb (length us) more ≡ true = lt-ltb _ _ (omega arith) in
-      rw (here, here', marked_last-all due more us (omega arith) (omega arith)) refl
+      grind (arith, all, all', marked_last-all due more us (omega arith) (omega arith))
 
   pub map-marked_unit-marked_last : (due : ℕ) (us : List U)
       → map marked_unit (marked_last due us) ≡ marked_last (length us) us
   map-marked_unit-marked_last due [] = refl
   map-marked_unit-marked_last due (u ∷ us) =
-      let here : ltb (length us) (suc (length us)) ≡ true = lt-ltb _ _ (omega arith) in
-      rw (
-        here,
-        map-marked_unit-marked_last due us,
-        marked_last-all (length us) (suc (length us)) us (omega arith)
-            (omega arith),
-      ) refl
+      let more = marked_last-all (length us) (suc (length us)) us (omega arith) (omega arith) in
+      grind (arith, map-marked_unit-marked_last due us, more)
 
   -- where none is marked, a unit comes after
   pub marked_last-push : (us : List U) (u : U) → marked_last 0 (us ++ u ∷ []) ≡ marked_last 0 us ++ unmarked_unit u ∷ []
   marked_last-push [] u = refl
-  marked_last-push (x ∷ us) u =
-      let here : ltb (length us) 0 ≡ false = le-ltb _ _ (omega arith) in
-      let there : ltb (length (us ++ u ∷ [])) 0 ≡ false = le-ltb _ _ (omega arith) in
-      rw (there, here, marked_last-push us u) refl
+  marked_last-push (x ∷ us) u = grind (arith, marked_last-push us u)
 
   -- the oldest marked unit is the first of the last `due`
   pub oldest_marked-none : (place : ℕ) (us : List U) → oldest_marked place (marked_last 0 us) ≡ None
   oldest_marked-none place [] = refl
-  oldest_marked-none place (u ∷ us) =
-      let here : ltb (length us) 0 ≡ false = le-ltb _ _ (omega arith) in
-      rw here (oldest_marked-none (place + 1) us)
+  oldest_marked-none place (u ∷ us) = grind (arith, oldest_marked-none (place + 1) us)
 
   pub oldest_marked-last : (place due : ℕ) (us : List U) (u : U) → 0 < due → due ≤ length us
       → slice_get us (length us - due) ≡ Some u
@@ -62,44 +49,20 @@ module _ {U : Type 0} where
   oldest_marked-last place due (x ∷ us) u some within found =
       elim (cases_lt (length us) due) [
         | inl lt ↦
-            let here : ltb (length us) due ≡ true = lt-ltb _ _ lt in
             let first : suc (length us) - due ≡ 0 = omega arith in
             let unit : Some x ≡ Some u = rw first at found in
-            rw (here, first, add-zero) (ap (λ (o : Option U). option_map (λ v. (place, v)) o) unit)
+            grind (arith, lt, first, unit)
         | inr le ↦
-            let here : ltb (length us) due ≡ false = le-ltb _ _ le in
             let behind : suc (length us) - due ≡ suc (length us - due) = omega arith in
             let unit : slice_get us (length us - due) ≡ Some u = rw behind at found in
-            let further : place + 1 + (length us - due) ≡ place + suc (length us - due) = omega arith in
-            rw (here, behind, ← further) (oldest_marked-last (place + 1) due us u some le unit)
+            grind (arith, le, behind, oldest_marked-last (place + 1) due us u some le unit)
       ]
 
   pub without_oldest_mark-last : (due : ℕ) (us : List U) → 0 < due → due ≤ length us
       → without_oldest_mark (marked_last due us) ≡ marked_last (due - 1) us
   without_oldest_mark-last due [] some within = absurd (omega arith)
   without_oldest_mark-last due (x ∷ us) some within =
-      elim (cases_lt (length us) due) [
-        | inl lt ↦
-            let here : ltb (length us) due ≡ true = lt-ltb _ _ lt in
-            let there : ltb (length us) (due - 1) ≡ false = le-ltb _ _ (omega arith) in
-            rw (here, there) (ap (λ us. record { unit = x; marked = false } ∷ us)
-            (marked_last-all due (due - 1) us (omega arith) (omega arith)))
-        | inr le ↦
-            let here : ltb (length us) due ≡ false = le-ltb _ _ le in
-            let there : ltb (length us) (due - 1) ≡ false = le-ltb _ _ (omega arith) in
-            rw (here, there, without_oldest_mark-last due us some le) refl
-      ]
-
-  -- where the first units have left, as many are marked as were, or all that are left
-  pub marked_last-keep : (due gone left : ℕ) (us : List U) → left + gone ≡ length us → due ≤ length us
-      → marked_last (min due left) (drop (length us - left) us) ≡ drop gone (marked_last due us)
-  marked_last-keep due gone left us whole within =
-      let front : length us - left ≡ gone = omega arith in
-      let kept : length (drop gone us) ≡ left = omega (arith, length-drop gone us) in
-      rw (front, drop-marked_last due gone us) (elim (cases_lt left due) [
-        | inl lt ↦ marked_last-all (min due left) due (drop gone us) (omega arith) (omega arith)
-        | inr le ↦ let same : min due left ≡ due = omega arith in ap (λ k. marked_last k (drop gone us)) same
-      ])
+      grind (arith, some, within, marked_last-all due (due - 1) us, without_oldest_mark-last due us some)
 
   pub map-unit-marked_last : (due : ℕ) (us : List U) → map (λ u. u.unit) (marked_last due us) ≡ us
   map-unit-marked_last due [] = refl

@@ -4,15 +4,15 @@ use Rattle.std.specs.Prelude.{nat_lt}
 use Rattle.std.proofs.lemmas.Bool.{cond_both}
 use Rattle.tc_frame.specs.declared.frame.Command.{Command}
 use Rattle.cop1.specs.Modulo.{ahead_by}
-use Rattle.cop1.specs.declared.fop.Control.{Control}
-use Rattle.cop1.specs.declared.fop.Control.TheVariants.{Idle, Due, Sent}
-use Rattle.cop1.specs.declared.fop.FopMode.{FopMode}
-use Rattle.cop1.specs.declared.fop.FopMode.TheVariants.{S1, S2}
-use Rattle.cop1.specs.FopPull.{PulledUnit, NothingPulled, ControlPulled, BypassPulled, SequencePulled, pulls}
-use Rattle.cop1.specs.FopPull.{pull_step, pull_control, pull_bypass, pull_in, pull_marked, pull_waiting}
-use Rattle.cop1.specs.FopPull.{oldest_marked, without_oldest_mark, after_send_first}
-use Rattle.cop1.specs.FopState.{FopState, IsActive}
-use Rattle.cop1.specs.FopWords.{FopOutcome, after_restart}
+use Rattle.cop1.specs.declared.vocabulary.Control.{Control}
+use Rattle.cop1.specs.declared.vocabulary.Control.TheVariants.{Idle, Due, Sent}
+use Rattle.cop1.specs.declared.vocabulary.FopMode.{FopMode}
+use Rattle.cop1.specs.declared.vocabulary.FopMode.TheVariants.{S1, S2}
+use Rattle.cop1.specs.FopPull.{PulledUnit, NothingPulled, ControlPulled, BypassPulled, SequencePulled, pulls, pull_step}
+use Rattle.cop1.specs.FopPull.{pull_control, pull_bypass, pull_in, pull_marked, pull_waiting, after_send_first}
+use Rattle.cop1.specs.Units.{FopState, oldest_marked, without_oldest_mark, oldest_of, FopOutcome}
+use Rattle.cop1.specs.FopVariables.{IsActive}
+use Rattle.cop1.specs.FopWords.{after_restart}
 
 pub record AtEachPull {U : Type 0} (s : FopState U) (P : FopOutcome U (PulledUnit U) → Type 0) : Type 0 where
   pub none : P (pulls s NothingPulled)
@@ -42,7 +42,7 @@ module _ {U : Type 0} (s : FopState U) (P : FopOutcome U (PulledUnit U) → Type
   in_state S2 is = in_sent (rw is tt) (oldest_marked 0 s.sent) refl
   in_state _ is = each.none
 
-  in_bypass : (us : List U) → s.bypass ≡ us → P (pull_bypass s us)
+  in_bypass : (us : List U) → s.bypass ≡ us → P (pull_bypass s (oldest_of us))
   in_bypass [] is = in_state s.state refl
   in_bypass (u ∷ us) is = each.bypass u us is
 

@@ -2,13 +2,10 @@
 use Rattle.std.proofs.Common.{◌≡◌, Option, refl, sym, ap, subst, ◌∙◌, arith}
 use Rattle.circular_buffer.specs.Buffer.{Buffer, buffer, keep_last}
 use Rattle.cop1.specs.declared.fop.Fop.TheInside.{Inside}
-use Rattle.cop1.specs.declared.sender.SenderFields.{SenderFields}
-use Rattle.cop1.specs.FopState.{IsFop}
-use Rattle.cop1.specs.FopWords.{FopOutcome}
-use Rattle.cop1.specs.FopQueues.{Fits, marked_last, still_waiting, settled}
+use Rattle.cop1.specs.Units.{IsFop, FopOutcome}
+use Rattle.cop1.specs.Queues.{Fits, marked_last, still_waiting, settled}
 use Rattle.cop1.specs.FopFields.{queues_of, fop_state_of, IsSound}
-use Rattle.cop1.specs.SenderState.{IsSender}
-use Rattle.cop1.specs.SenderWords.{SenderOutcome}
+use Rattle.cop1.specs.Numbers.{IsSender, SenderNumbers, SenderOutcome}
 use Rattle.cop1.proofs.Marks.{length-marked_last}
 use Rattle.cop1.proofs.Following.{Follows, no_units, no_unit}
 
@@ -16,12 +13,13 @@ module _ {U : Type 0} where
   pub IsFop-fop_state_of : (f : Inside U) → IsSound f → IsFop (fop_state_of f)
   IsFop-fop_state_of f is =
       let s = f.sender in
-      let sent = length-marked_last s.due f.sent.items in
+      let sent = length-marked_last s.sent.due f.sent.items in
       record {
         numbered = λ h. is.sender.agrees.numbered h ∙ sym (sent ∙ is.fits.units);
         within = omega (arith, sent, is.fits.units, is.sender.ranges.within);
         window = is.sender.ranges.window;
-        unsent = λ h. ap (marked_last s.due) (no_units f.sent.items s.sent is.fits.units (is.sender.agrees.unsent h));
+        unsent = λ h. ap (marked_last s.sent.due)
+            (no_units f.sent.items s.sent.count is.fits.units (is.sender.agrees.unsent h));
         unsubmitted = λ h. no_unit f.waiting s.waiting is.fits.waiting (is.sender.agrees.unsubmitted h);
         untimed = is.sender.agrees.untimed;
         commanded = is.sender.agrees.commanded;
@@ -31,11 +29,11 @@ module _ {U : Type 0} where
       }
 
   -- once the queues are settled
-  module _ {A : Type 0} (f : Inside U) (o : SenderOutcome A) (r : FopOutcome U A) (s : SenderFields) (w : Option U)
-      (b : Buffer U)
+  module _ {A : Type 0} (f : Inside U) {o : SenderOutcome A} {r : FopOutcome U A} {s : SenderNumbers} {w : Option U}
+      {b : Buffer U}
       (follows : Follows f.sender.room (queues_of f) o r) (numbers : s ≡ o.after)
       (waiting : w ≡ still_waiting s.waiting f.waiting)
-      (sent : b ≡ buffer (keep_last s.sent f.sent.items) f.sent.capacity) where
+      (sent : b ≡ buffer (keep_last s.sent.count f.sent.items) f.sent.capacity) where
     abbrev ending : Inside U
     ending = record f { sender = s; waiting = w; sent = b }
 
@@ -46,6 +44,6 @@ module _ {U : Type 0} where
     settled-sound is was =
         rw (sent, waiting) (record {
           sender = is;
-          fits = subst (λ (t : SenderFields). Fits t (settled t (queues_of f))) (sym numbers) follows.fits;
-          room = omega (arith, ap (λ (t : SenderFields). t.room) numbers, follows.same_room, was.room);
+          fits = subst (λ (t : SenderNumbers). Fits t (settled t (queues_of f))) (sym numbers) follows.fits;
+          room = omega (arith, ap (λ (t : SenderNumbers). t.room) numbers, follows.same_room, was.room);
         })

@@ -1,8 +1,8 @@
 -- The classes of directives (this project's profile of CCSDS 232.1-B-2, 5.2.4).
 use Rattle.std.specs.Prelude.{ℕ, Bool, true, false, Option, Some, None}
-use Rattle.cop1.specs.declared.fop.Directive.{Directive}
-use Rattle.cop1.specs.declared.fop.Directive.TheVariants.{InitWithoutCheck, InitWithCheck}
-use Rattle.cop1.specs.declared.fop.Directive.TheVariants.{InitUnlock, InitSetVr, SetVs}
+use Rattle.cop1.specs.declared.vocabulary.Directive.{Directive}
+use Rattle.cop1.specs.declared.vocabulary.Directive.TheVariants.{InitWithoutCheck, InitWithCheck}
+use Rattle.cop1.specs.declared.vocabulary.Directive.TheVariants.{InitUnlock, InitSetVr, SetVs}
 
 -- an initiation: a directive that leads from S6 to another state
 abbrev pub is_initiation : Directive → Bool

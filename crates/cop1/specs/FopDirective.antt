@@ -1,47 +1,48 @@
 -- What a directive does at the sender (this project's profile of CCSDS 232.1-B-2, 5.2.4 and table
 -- 5-1).
-use Rattle.std.specs.Prelude.{◌==◌, ◌||◌, nat_lt, if◌then◌else◌, [], Option, Some, None, Result, Ok}
+use Rattle.std.specs.Prelude.{◌==◌, ◌||◌, nat_lt, if◌then◌else◌, Option, Some, None, Result, Ok}
 use Rattle.std.specs.Prelude.{Err}
 use Rattle.tc_frame.specs.declared.frame.Command.TheVariants.{Unlock, SetVr}
 use Rattle.cop1.specs.declared.fault.CopFault.{CopFault}
 use Rattle.cop1.specs.declared.fault.CopFault.TheVariants.{Window, Limit, Timer, WrongState}
-use Rattle.cop1.specs.declared.fop.FopMode.{FopMode}
-use Rattle.cop1.specs.declared.fop.FopMode.TheVariants.{S1, S4, S5, S6}
-use Rattle.cop1.specs.declared.fop.Alert.{Alert}
-use Rattle.cop1.specs.declared.fop.Alert.TheVariants.{Terminated}
-use Rattle.cop1.specs.declared.fop.Control.TheVariants.{Due}
-use Rattle.cop1.specs.declared.fop.Directive.{Directive}
-use Rattle.cop1.specs.declared.fop.Directive.TheVariants.{InitWithoutCheck, InitWithCheck}
-use Rattle.cop1.specs.declared.fop.Directive.TheVariants.{InitUnlock, InitSetVr, Terminate, SetVs}
-use Rattle.cop1.specs.declared.fop.Directive.TheVariants.{SetWindow, SetLimit, SetTimer}
-use Rattle.cop1.specs.FopState.{FopState}
-use Rattle.cop1.specs.FopWords.{FopOutcome, after_restart, after_alert}
+use Rattle.cop1.specs.declared.vocabulary.FopMode.{FopMode}
+use Rattle.cop1.specs.declared.vocabulary.FopMode.TheVariants.{S1, S4, S5, S6}
+use Rattle.cop1.specs.declared.vocabulary.Alert.{Alert}
+use Rattle.cop1.specs.declared.vocabulary.Alert.TheVariants.{Terminated}
+use Rattle.cop1.specs.declared.vocabulary.Control.TheVariants.{Due}
+use Rattle.cop1.specs.declared.vocabulary.Directive.{Directive}
+use Rattle.cop1.specs.declared.vocabulary.Directive.TheVariants.{InitWithoutCheck, InitWithCheck}
+use Rattle.cop1.specs.declared.vocabulary.Directive.TheVariants.{InitUnlock, InitSetVr, Terminate}
+use Rattle.cop1.specs.declared.vocabulary.Directive.TheVariants.{SetVs}
+use Rattle.cop1.specs.declared.vocabulary.Directive.TheVariants.{SetWindow, SetLimit, SetTimer}
+use Rattle.cop1.specs.FopVariables.{Holding, SenderOf, OutcomeOf}
+use Rattle.cop1.specs.FopWords.{after_restart, after_alert}
 
-module _ {U : Type 0} where
-  abbrev pub obeys : FopState U → FopOutcome U (Result (Option Alert) CopFault)
+module _ {H : Holding} where
+  abbrev pub obeys : SenderOf H → OutcomeOf H (Result (Option Alert) CopFault)
   obeys s = record { after = s; answer = Ok None; gone = 0 }
 
-  abbrev pub refuses : FopState U → CopFault → FopOutcome U (Result (Option Alert) CopFault)
+  abbrev pub refuses : SenderOf H → CopFault → OutcomeOf H (Result (Option Alert) CopFault)
   refuses s fault = record { after = s; answer = Err fault; gone = 0 }
 
-  abbrev pub terminates : FopState U → FopOutcome U (Result (Option Alert) CopFault)
+  abbrev pub terminates : SenderOf H → OutcomeOf H (Result (Option Alert) CopFault)
   terminates s = record { after = after_alert s; answer = Ok (Some Terminated); gone = 0 }
 
   -- an initiation begins with nothing queued to be numbered, and with the first transmission
-  abbrev pub after_begin : FopState U → FopState U
-  after_begin s = record s { sent = []; waiting = None; count = 1 }
+  abbrev pub after_begin : SenderOf H → SenderOf H
+  after_begin s = record s { sent = H.no_units; waiting = H.no_unit; count = 1 }
 
   -- what is obeyed in S6 alone
-  abbrev pub from_S6 : FopState U → FopMode → FopState U
-      → FopOutcome U (Result (Option Alert) CopFault)
+  abbrev pub from_S6 : SenderOf H → FopMode → SenderOf H
+      → OutcomeOf H (Result (Option Alert) CopFault)
   from_S6 s S6 next = obeys next
   from_S6 s _ next = refuses s WrongState
 
-  abbrev pub terminate_in : FopState U → FopMode → FopOutcome U (Result (Option Alert) CopFault)
+  abbrev pub terminate_in : SenderOf H → FopMode → OutcomeOf H (Result (Option Alert) CopFault)
   terminate_in s S6 = refuses s WrongState
   terminate_in s _ = terminates s
 
-  abbrev pub directive_step : FopState U → Directive → FopOutcome U (Result (Option Alert) CopFault)
+  abbrev pub directive_step : SenderOf H → Directive → OutcomeOf H (Result (Option Alert) CopFault)
   directive_step s InitWithoutCheck =
       from_S6 s s.state (record (after_begin s) { nn = s.vs; state = S1 })
   directive_step s InitWithCheck =

@@ -1,9 +1,9 @@
 -- How a sender's fields stand for its state: its numbers with its queues.
 use Rattle.std.specs.Prelude.{◌≤◌}
 use Rattle.cop1.specs.declared.fop.Fop.TheInside.{Inside}
-use Rattle.cop1.specs.FopState.{FopState}
-use Rattle.cop1.specs.FopQueues.{Queues, Fits, with_queues}
-use Rattle.cop1.specs.SenderState.{IsSender}
+use Rattle.cop1.specs.Units.{FopState}
+use Rattle.cop1.specs.Queues.{Queues, Fits, with_queues}
+use Rattle.cop1.specs.Numbers.{IsSender}
 
 module _ {U : Type 0} where
   abbrev pub queues_of : Inside U → Queues U

@@ -1,18 +1,19 @@
 -- What a report does at the sender, state by state and rule by rule (this project's profile of
 -- CCSDS 232.1-B-2, table 5-1).
-use Rattle.std.specs.Prelude.{ℕ, Bool, true, not, ◌&&◌, ◌==◌, nat_lt, if◌then◌else◌, List, [], ◌∷◌}
+use Rattle.std.specs.Prelude.{ℕ, Bool, true, not, ◌&&◌, ◌==◌, nat_lt, if◌then◌else◌}
 use Rattle.std.specs.Prelude.{Option, Some, None}
 use Rattle.clcw.specs.declared.word.Clcw.{Clcw}
 use Rattle.clcw.specs.Flags.{has_lockout, has_wait, has_retransmit}
 use Rattle.cop1.specs.Modulo.{ahead_by}
-use Rattle.cop1.specs.declared.fop.FopMode.{FopMode}
-use Rattle.cop1.specs.declared.fop.FopMode.TheVariants.{S1, S2, S3, S4, S5, S6}
-use Rattle.cop1.specs.declared.fop.Alert.{Alert}
-use Rattle.cop1.specs.declared.fop.Alert.TheVariants.{Lockout, NnR, Clcw as ClcwAlert, Synch, Limit}
-use Rattle.cop1.specs.declared.fop.Control.TheVariants.{Idle}
-use Rattle.cop1.specs.FopState.{FopState, SentUnit}
-use Rattle.cop1.specs.FopWords.{FopOutcome, is_outside, after_acknowledge, after_repeat, alerts}
-use Rattle.cop1.specs.FopWords.{goes_on, after_gone}
+use Rattle.cop1.specs.declared.vocabulary.FopMode.{FopMode}
+use Rattle.cop1.specs.declared.vocabulary.FopMode.TheVariants.{S1, S2, S3, S4, S5, S6}
+use Rattle.cop1.specs.declared.vocabulary.Alert.{Alert}
+use Rattle.cop1.specs.declared.vocabulary.Alert.TheVariants.{Lockout, NnR, Clcw as ClcwAlert, Synch}
+use Rattle.cop1.specs.declared.vocabulary.Alert.TheVariants.{Limit}
+use Rattle.cop1.specs.declared.vocabulary.Control.TheVariants.{Idle}
+use Rattle.cop1.specs.FopVariables.{Holding, SenderOf, OutcomeOf}
+use Rattle.cop1.specs.FopWords.{is_outside, after_acknowledge, after_repeat, alerts, goes_on}
+use Rattle.cop1.specs.FopWords.{after_gone}
 
 -- the flags L, w and t of a report
 abbrev pub locks : Clcw → Bool
@@ -24,20 +25,20 @@ waits c = has_wait c.flags
 abbrev pub asks : Clcw → Bool
 asks c = has_retransmit c.flags
 
-module _ {U : Type 0} where
+module _ {H : Holding} where
   -- ---- S5: a report without flags whose value is V(S) confirms the control command
 
-  abbrev pub confirms : FopState U → Clcw → Bool
+  abbrev pub confirms : SenderOf H → Clcw → Bool
   confirms s c = not (locks c) && not (waits c) && not (asks c) && (c.value == s.vs)
 
-  abbrev pub report_in_S5 : FopState U → Clcw → FopOutcome U (Option Alert)
+  abbrev pub report_in_S5 : SenderOf H → Clcw → OutcomeOf H (Option Alert)
   report_in_S5 s c =
       if confirms s c then goes_on (record s { state = S1; ticks = None; control = Idle })
       else goes_on s
 
   -- ---- S4, the first that applies
 
-  abbrev pub report_in_S4 : FopState U → Clcw → FopOutcome U (Option Alert)
+  abbrev pub report_in_S4 : SenderOf H → Clcw → OutcomeOf H (Option Alert)
   report_in_S4 s c =
       if locks c then alerts s Lockout
       else (if not (c.value == s.vs) then alerts s NnR
@@ -48,57 +49,56 @@ module _ {U : Type 0} where
   -- ---- S1 to S3: eight rules, of which the first that applies decides
 
   -- rule 5: nothing is acknowledged, and nothing asked for
-  abbrev pub nothing_new : FopState U → FopMode → FopOutcome U (Option Alert)
+  abbrev pub nothing_new : SenderOf H → FopMode → OutcomeOf H (Option Alert)
   nothing_new s S2 = alerts s Synch
   nothing_new s S3 = alerts s Synch
   nothing_new s _ = goes_on s
 
   -- the timer once units have left the sent queue
-  abbrev pub ticks_for : List (SentUnit U) → ℕ → Option ℕ
-  ticks_for [] timer = None
-  ticks_for (unit ∷ units) timer = Some timer
+  abbrev pub ticks_for : SenderOf H → Option ℕ
+  ticks_for s = if H.is_empty s.sent then None else Some s.timer
 
-  abbrev pub after_move_on : FopState U → FopState U
-  after_move_on s = record s { state = S1; count = 1; ticks = ticks_for s.sent s.timer }
+  abbrev pub after_move_on : SenderOf H → SenderOf H
+  after_move_on s = record s { state = S1; count = 1; ticks = ticks_for s }
 
   -- rule 6: units are acknowledged, and nothing asked for
-  abbrev pub move_on : FopState U → ℕ → FopOutcome U (Option Alert)
+  abbrev pub move_on : SenderOf H → ℕ → OutcomeOf H (Option Alert)
   move_on s v = after_gone (ahead_by v s.nn) (goes_on (after_move_on (after_acknowledge s v)))
 
   -- the sender with the units before a number acknowledged, counting anew
-  abbrev pub after_new_value : FopState U → ℕ → FopState U
+  abbrev pub after_new_value : SenderOf H → ℕ → SenderOf H
   after_new_value s v = record (after_acknowledge s v) { count = 1 }
 
   -- units are asked for again, which leads to a sender unless they may be sent once alone, or the
   -- receiver waits
-  abbrev pub ask_again : FopState U → Bool → FopState U → FopOutcome U (Option Alert)
+  abbrev pub ask_again : SenderOf H → Bool → SenderOf H → OutcomeOf H (Option Alert)
   ask_again s wait next =
       if s.limit == 1 then alerts s Limit
       else (if wait then goes_on (record s { state = S3 })
       else goes_on next)
 
   -- S2, with all that was sent repeated or not
-  abbrev pub retransmits : FopState U → Bool → FopState U
+  abbrev pub retransmits : SenderOf H → Bool → SenderOf H
   retransmits s repeats = record (if repeats then after_repeat s else s) { state = S2 }
 
-  abbrev pub goes_back : FopState U → Bool → FopOutcome U (Option Alert)
+  abbrev pub goes_back : SenderOf H → Bool → OutcomeOf H (Option Alert)
   goes_back s wait = ask_again s wait (retransmits s true)
 
   -- rule 7: units are acknowledged, and the others asked for
-  abbrev pub ask_for_others : FopState U → ℕ → Bool → FopOutcome U (Option Alert)
+  abbrev pub ask_for_others : SenderOf H → ℕ → Bool → OutcomeOf H (Option Alert)
   ask_for_others s v wait = after_gone (ahead_by v s.nn) (goes_back (after_new_value s v) wait)
 
-  abbrev pub goes_back_again : FopState U → FopMode → FopState U
+  abbrev pub goes_back_again : SenderOf H → FopMode → SenderOf H
   goes_back_again s S1 = retransmits s (nat_lt s.count s.limit)
   goes_back_again s S3 = retransmits s (nat_lt s.count s.limit)
   goes_back_again s _ = s
 
   -- rule 8: nothing is acknowledged, and all that was sent asked for
-  abbrev pub ask_for_all : FopState U → Bool → FopOutcome U (Option Alert)
+  abbrev pub ask_for_all : SenderOf H → Bool → OutcomeOf H (Option Alert)
   ask_for_all s wait = ask_again s wait (goes_back_again s s.state)
 
   -- rules 1 to 8, a line each
-  abbrev pub report_while_active : FopState U → Clcw → FopOutcome U (Option Alert)
+  abbrev pub report_while_active : SenderOf H → Clcw → OutcomeOf H (Option Alert)
   report_while_active s c =
       if locks c then alerts s Lockout
       else (if is_outside s c.value then alerts s NnR
@@ -111,7 +111,7 @@ module _ {U : Type 0} where
 
   -- ---- all states
 
-  abbrev pub report_in : FopState U → Clcw → FopMode → FopOutcome U (Option Alert)
+  abbrev pub report_in : SenderOf H → Clcw → FopMode → OutcomeOf H (Option Alert)
   report_in s c S1 = report_while_active s c
   report_in s c S2 = report_while_active s c
   report_in s c S3 = report_while_active s c
@@ -119,5 +119,5 @@ module _ {U : Type 0} where
   report_in s c S5 = report_in_S5 s c
   report_in s c S6 = goes_on s
 
-  abbrev pub clcw_step : FopState U → Clcw → FopOutcome U (Option Alert)
+  abbrev pub clcw_step : SenderOf H → Clcw → OutcomeOf H (Option Alert)
   clcw_step s c = report_in s c s.state

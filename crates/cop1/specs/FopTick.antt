@@ -1,30 +1,29 @@
 -- What a tick of the clock does at the sender (this project's profile).
 use Rattle.std.specs.Prelude.{ℕ, ◌+◌, ◌-◌, ◌==◌, nat_lt, if◌then◌else◌, Option, Some, None}
-use Rattle.cop1.specs.declared.fop.FopMode.{FopMode}
-use Rattle.cop1.specs.declared.fop.FopMode.TheVariants.{S1, S2, S3, S4, S5, S6}
-use Rattle.cop1.specs.declared.fop.Alert.{Alert}
-use Rattle.cop1.specs.declared.fop.Alert.TheVariants.{Timer}
-use Rattle.cop1.specs.declared.fop.Control.{Control}
-use Rattle.cop1.specs.declared.fop.Control.TheVariants.{Idle, Due, Sent}
-use Rattle.cop1.specs.FopState.{FopState}
-use Rattle.cop1.specs.FopWords.{FopOutcome, after_restart, after_stop, after_repeat, alerts}
-use Rattle.cop1.specs.FopWords.{goes_on}
+use Rattle.cop1.specs.declared.vocabulary.FopMode.{FopMode}
+use Rattle.cop1.specs.declared.vocabulary.FopMode.TheVariants.{S1, S2, S3, S4, S5, S6}
+use Rattle.cop1.specs.declared.vocabulary.Alert.{Alert}
+use Rattle.cop1.specs.declared.vocabulary.Alert.TheVariants.{Timer}
+use Rattle.cop1.specs.declared.vocabulary.Control.{Control}
+use Rattle.cop1.specs.declared.vocabulary.Control.TheVariants.{Idle, Due, Sent}
+use Rattle.cop1.specs.FopVariables.{Holding, SenderOf, OutcomeOf}
+use Rattle.cop1.specs.FopWords.{after_restart, after_stop, after_repeat, alerts, goes_on}
 
 abbrev pub due_again : Control → Control
 due_again Idle = Idle
 due_again (Due command) = Due command
 due_again (Sent command) = Due command
 
-module _ {U : Type 0} where
-  abbrev pub after_count : FopState U → FopState U
+module _ {H : Holding} where
+  abbrev pub after_count : SenderOf H → SenderOf H
   after_count s = record (after_restart s) { count = s.count + 1 }
 
   -- the sender while the count is below the limit, and otherwise the alert
-  abbrev pub while_below : FopState U → FopState U → FopOutcome U (Option Alert)
+  abbrev pub while_below : SenderOf H → SenderOf H → OutcomeOf H (Option Alert)
   while_below s next = if nat_lt s.count s.limit then goes_on next else alerts s Timer
 
   -- the timer has ended
-  abbrev pub timer_ended : FopState U → FopMode → FopOutcome U (Option Alert)
+  abbrev pub timer_ended : SenderOf H → FopMode → OutcomeOf H (Option Alert)
   timer_ended s S1 = while_below s (after_repeat s)
   timer_ended s S2 = while_below s (after_repeat s)
   timer_ended s S3 = while_below s (after_count s)
@@ -32,11 +31,11 @@ module _ {U : Type 0} where
   timer_ended s S5 = while_below s (record (after_count s) { control = due_again s.control })
   timer_ended s S6 = goes_on s
 
-  abbrev pub tick_with : FopState U → Option ℕ → FopOutcome U (Option Alert)
+  abbrev pub tick_with : SenderOf H → Option ℕ → OutcomeOf H (Option Alert)
   tick_with s None = goes_on s
   tick_with s (Some left) =
       if left == 1 then timer_ended (after_stop s) s.state
       else goes_on (record s { ticks = Some (left - 1) })
 
-  abbrev pub tick_step : FopState U → FopOutcome U (Option Alert)
+  abbrev pub tick_step : SenderOf H → OutcomeOf H (Option Alert)
   tick_step s = tick_with s s.ticks

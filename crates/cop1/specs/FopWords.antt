@@ -1,55 +1,44 @@
 -- The words in which the sender's rules are said (this project's profile of CCSDS 232.1-B-2, 5.2).
-use Rattle.std.specs.Prelude.{ℕ, ◌+◌, Bool, true, false, nat_lt, [], map, drop, Option, Some, None}
+use Rattle.std.specs.Prelude.{ℕ, ◌+◌, Bool, nat_lt, Option, Some, None}
 use Rattle.cop1.specs.Modulo.{ahead_by}
-use Rattle.cop1.specs.declared.fop.FopMode.TheVariants.{S6}
-use Rattle.cop1.specs.declared.fop.Alert.{Alert}
-use Rattle.cop1.specs.declared.fop.Control.TheVariants.{Idle}
-use Rattle.cop1.specs.FopState.{FopState, SentUnit}
+use Rattle.cop1.specs.declared.vocabulary.FopMode.TheVariants.{S6}
+use Rattle.cop1.specs.declared.vocabulary.Alert.{Alert}
+use Rattle.cop1.specs.declared.vocabulary.Control.TheVariants.{Idle}
+use Rattle.cop1.specs.FopVariables.{Holding, SenderOf, OutcomeOf}
 
--- what an input leads to: the sender afterwards, the answer, and how many units were acknowledged
-pub record FopOutcome (U A : Type 0) : Type 0 where
-  pub after : FopState U
-  pub answer : A
-  pub gone : ℕ
-
-module _ {U : Type 0} where
-  abbrev pub unmarked_unit : U → SentUnit U
-  unmarked_unit u = record { unit = u; marked = false }
-
-  abbrev pub marked_unit : SentUnit U → SentUnit U
-  marked_unit u = record u { marked = true }
-
+module _ {H : Holding} where
   -- a value is outside where it is further above NN(R) than V(S) is
-  abbrev pub is_outside : FopState U → ℕ → Bool
+  abbrev pub is_outside : SenderOf H → ℕ → Bool
   is_outside s v = nat_lt (ahead_by s.vs s.nn) (ahead_by v s.nn)
 
   -- Restart: the timer's value is the ticks left
-  abbrev pub after_restart : FopState U → FopState U
+  abbrev pub after_restart : SenderOf H → SenderOf H
   after_restart s = record s { ticks = Some s.timer }
 
-  abbrev pub after_stop : FopState U → FopState U
+  abbrev pub after_stop : SenderOf H → SenderOf H
   after_stop s = record s { ticks = None }
 
   -- Acknowledge: the units before a number leave the sent queue, and it is NN(R)
-  abbrev pub after_acknowledge : FopState U → ℕ → FopState U
-  after_acknowledge s v = record s { sent = drop (ahead_by v s.nn) s.sent; nn = v }
+  abbrev pub after_acknowledge : SenderOf H → ℕ → SenderOf H
+  after_acknowledge s v = record s { sent = H.left (ahead_by v s.nn) s.sent; nn = v }
 
   -- Repeat: the whole sent queue is marked and counted, and the timer starts again
-  abbrev pub after_repeat : FopState U → FopState U
+  abbrev pub after_repeat : SenderOf H → SenderOf H
   after_repeat s =
-      record s { sent = map marked_unit s.sent; count = s.count + 1; ticks = Some s.timer }
+      record s { sent = H.repeated s.sent; count = s.count + 1; ticks = Some s.timer }
 
   -- Alert: nothing is kept but the bypass queue and the numbers
-  abbrev pub after_alert : FopState U → FopState U
-  after_alert s = record s { state = S6; sent = []; waiting = None; ticks = None; control = Idle }
+  abbrev pub after_alert : SenderOf H → SenderOf H
+  after_alert s =
+      record s { state = S6; sent = H.no_units; waiting = H.no_unit; ticks = None; control = Idle }
 
-  abbrev pub alerts : FopState U → Alert → FopOutcome U (Option Alert)
+  abbrev pub alerts : SenderOf H → Alert → OutcomeOf H (Option Alert)
   alerts s x = record { after = after_alert s; answer = Some x; gone = 0 }
 
   -- no alert
-  abbrev pub goes_on : FopState U → FopOutcome U (Option Alert)
+  abbrev pub goes_on : SenderOf H → OutcomeOf H (Option Alert)
   goes_on s = record { after = s; answer = None; gone = 0 }
 
   -- an outcome that follows an acknowledgement
-  abbrev pub after_gone : {A : Type 0} → ℕ → FopOutcome U A → FopOutcome U A
+  abbrev pub after_gone : {A : Type 0} → ℕ → OutcomeOf H A → OutcomeOf H A
   after_gone n o = record o { gone = n }

@@ -1,8 +1,9 @@
 -- What the receiver does with a Type-AD frame, and why the sender has given up: a row each.
 use Rattle.std.specs.Prelude.{ℕ, List, codes}
-use Rattle.cop1.specs.declared.fop.Alert.{Alert}
-use Rattle.cop1.specs.declared.fop.Alert.TheVariants.{Lockout, NnR, Clcw, Synch, Limit, Timer}
-use Rattle.cop1.specs.declared.fop.Alert.TheVariants.{Terminated}
+use Rattle.cop1.specs.declared.vocabulary.Alert.{Alert}
+use Rattle.cop1.specs.declared.vocabulary.Alert.TheVariants.{Lockout, NnR, Clcw, Synch, Limit}
+use Rattle.cop1.specs.declared.vocabulary.Alert.TheVariants.{Timer}
+use Rattle.cop1.specs.declared.vocabulary.Alert.TheVariants.{Terminated}
 use Rattle.cop1.specs.declared.farm.Verdict.{Verdict}
 use Rattle.cop1.specs.declared.farm.Verdict.TheVariants.{Accepted, Ahead, NoBuffer, Behind, Outside}
 use Rattle.cop1.specs.declared.farm.Verdict.TheVariants.{Discarded}

@@ -2,8 +2,11 @@
 
 ghost use Rattle.std.specs.Prelude.{◌≡◌};
 
+use thiserror::Error;
+
 /// Why a call of `Farm`, `Sender` or `Fop` was refused.
-#[derive(Clone, Copy, Debug, PartialEq, Eq)]
+#[derive(Clone, Copy, Debug, Error, PartialEq, Eq)]
+#[error("{} {}", self.number(), self.name())]
 pub enum CopFault {
     /// The receiver's window width is not an even number from 2 to 254.
     Width = 1,

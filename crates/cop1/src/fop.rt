@@ -1,6 +1,5 @@
 // The sender, FOP-1: its state.
 
-mod alerting;
 mod directing;
 mod peeking;
 mod pulling;
@@ -11,81 +10,13 @@ mod ticking;
 
 use crate::fault::CopFault;
 use crate::sender::Sender;
+use crate::vocabulary::FopMode;
 use circular_buffer::HeapCircularBuffer;
 pub use peeking::Peeked;
 pub use pulling::{Next, Pulled};
 use std::alloc::Global;
 use std::collections::VecDeque;
 use std::marker::Model;
-use tc_frame::Command;
-
-/// The sender's state (CCSDS 232.1-B-2, 5.1.2).
-#[derive(Clone, Copy, Debug, PartialEq, Eq)]
-pub enum FopMode {
-    /// Active.
-    S1,
-    /// Retransmit without wait.
-    S2,
-    /// Retransmit with wait.
-    S3,
-    /// Initialising without a control command.
-    S4,
-    /// Initialising with a control command.
-    S5,
-    /// Initial.
-    S6,
-}
-
-/// Why the sender has given up (CCSDS 232.1-B-2, 5.2.5).
-#[derive(Clone, Copy, Debug, PartialEq, Eq)]
-pub enum Alert {
-    /// A report has the lockout flag.
-    Lockout,
-    /// A report's value is no number from NN(R) to V(S).
-    NnR,
-    /// A report has the wait flag without the retransmit flag.
-    Clcw,
-    /// A report asks for repetition where nothing is to be repeated, or no longer asks for it before
-    /// anything was acknowledged.
-    Synch,
-    /// A report asks for units again, and each may be sent once.
-    Limit,
-    /// The timer has ended, and units may not be sent again.
-    Timer,
-    /// The directive Terminate.
-    Terminated,
-}
-
-/// A directive to the sender (CCSDS 232.1-B-2, 5.2.4).
-#[derive(Clone, Copy, Debug, PartialEq, Eq)]
-pub enum Directive {
-    /// Initiate without a check of the report.
-    InitWithoutCheck,
-    /// Initiate once a report has the value V(S).
-    InitWithCheck,
-    /// Initiate by the control command Unlock.
-    InitUnlock,
-    /// Initiate by the control command Set V(R), with this number.
-    InitSetVr(u8),
-    /// Give up.
-    Terminate,
-    /// Set V(S), and NN(R) to it.
-    SetVs(u8),
-    /// Set the window K, 1 to half the receiver's window width.
-    SetWindow(u8),
-    /// Set the transmission limit, 1 to 255.
-    SetLimit(u8),
-    /// Set the timer's value, 1 to 65,535 ticks.
-    SetTimer(u16),
-}
-
-/// The control command of S5, and whether it has to be sent.
-#[derive(Clone, Copy, Debug, PartialEq, Eq)]
-pub enum Control {
-    Idle,
-    Due(Command),
-    Sent(Command),
-}
 
 /// The sender of one virtual channel, FOP-1 (CCSDS 232.1-B-2, section 5, in this project's
 /// profile), over units of any type: the rules over numbers, and the queues. Nothing but `new` and
@@ -99,7 +30,7 @@ pub struct Fop<U> {
 }
 
 impl<U> Model for Fop<U> {
-    ghost use Rattle.cop1.specs.FopState.{FopState};
+    ghost use Rattle.cop1.specs.Units.{FopState};
 
     ghost Value = { FopState U };
 
@@ -112,7 +43,7 @@ impl<U> Model for Fop<U> {
 
 impl<U: Drop> Fop<U> {
     ghost use Rattle.std.specs.Prelude.{◌≡◌, ◌≤◌, ◌/◌, ◌-◌, ◌*◌, None, IfOk, IfErr, IfSome, IsOkUnless, Err, length, is_some};
-    ghost use Rattle.cop1.specs.FopState.{new_fop, IsFop};
+    ghost use Rattle.cop1.specs.Units.{new_fop, IsFop};
     ghost use Rattle.cop1.specs.FopNew.{new_fault};
 
     /// A sender in its state S6 with V(S) and NN(R) 0, to a receiver of this window width, with the

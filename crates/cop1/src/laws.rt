@@ -1,7 +1,7 @@
 // What holds of the state tables themselves, whatever comes.
 
 ghost use Rattle.cop1.specs.FarmRuns.{FlagsAlwaysAgree};
-ghost use Rattle.cop1.specs.FopQueues.{FollowsTheRules};
+ghost use Rattle.cop1.specs.Queues.{FollowsTheRules};
 
 /// Of the receiver's table: after any events at a new receiver the wait flag comes with the
 /// retransmit flag, the state is Lockout exactly where the lockout flag stands, and Wait exactly

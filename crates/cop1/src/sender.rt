@@ -9,7 +9,7 @@ mod ticking;
 mod words;
 
 use crate::fault::CopFault;
-use crate::fop::{Control, FopMode};
+use crate::vocabulary::{Control, FopMode};
 pub use reporting::ReportAnswer;
 pub use sending::SenderNext;
 use std::marker::Model;
@@ -54,22 +54,23 @@ pub struct Sender {
 }
 
 impl Model for Sender {
-    ghost use Rattle.cop1.specs.declared.sender.SenderFields.{SenderFields};
+    ghost use Rattle.cop1.specs.Numbers.{SenderNumbers};
 
-    ghost Value = { SenderFields };
+    ghost Value = { SenderNumbers };
 
-    ghost use Rattle.cop1.specs.SenderState.{IsSender};
+    ghost use Rattle.cop1.specs.Numbers.{IsSender};
+    ghost use Rattle.cop1.specs.SenderFields.{numbers_of, fields_of};
 
-    ghost view = { λ s. s.fields };
+    ghost view = { λ s. numbers_of s.fields };
 
-    ghost invariant = { λ s. IsSender s.fields };
+    ghost invariant = { λ s. IsSender (numbers_of s.fields) };
 
-    ghost inverse = { λ fields. record { fields = fields } };
+    ghost inverse = { λ s. record { fields = fields_of s } };
 }
 
 impl Sender {
     ghost use Rattle.std.specs.Prelude.{◌≡◌, IfSome, Ok, Err, None};
-    ghost use Rattle.cop1.specs.SenderState.{new_sender};
+    ghost use Rattle.cop1.specs.Numbers.{new_sender};
     ghost use Rattle.cop1.specs.FopNew.{new_fault};
 
     /// A sender in its state S6 with V(S) and NN(R) 0, to a receiver of this window width, with the

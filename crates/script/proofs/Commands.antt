@@ -10,7 +10,7 @@ use Rattle.std.proofs.lemmas.List.Splits.{join_with_byte-slice_split}
 use Rattle.std.proofs.lemmas.Slice.Eq.{bytes_eq-Decides}
 use Rattle.std.proofs.lemmas.Option.{same_Some}
 use denote.Bor.{Bor}
-use Rattle.cop1.specs.declared.fop.Directive.TheVariants as directives
+use Rattle.cop1.specs.declared.vocabulary.Directive.TheVariants as directives
 use Rattle.nodes.specs.declared.parameter.Parameter.{Parameter}
 use Rattle.nodes.specs.declared.parameter.Parameter.TheVariants as parameters
 use Rattle.nodes.specs.Parameters.{all_in_order, row_of, parameter_named}

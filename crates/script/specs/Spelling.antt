@@ -1,7 +1,7 @@
 -- How each line of a script is spelled.
 use Rattle.std.specs.Prelude.{◌≡◌, ◌≤◌, ◌<◌, ◌/◌, ◌%◌, ◌⊎◌, ℕ, List, [], ◌∷◌, ◌++◌, codes}
 use Rattle.std.specs.Prelude.{decimal, slice_index}
-use Rattle.cop1.specs.declared.fop.Directive.TheVariants as directives
+use Rattle.cop1.specs.declared.vocabulary.Directive.TheVariants as directives
 use Rattle.nodes.specs.declared.parameter.Parameter.{Parameter}
 use Rattle.nodes.specs.Parameters.{row_of}
 use Rattle.tc_link.specs.declared.event.Event.TheVariants as events

@@ -16,15 +16,19 @@ use crate::program::Program;
 use crate::reading::read_line;
 use std::alloc::Global;
 use tc_link::{Config, Sim, SimFault};
+use thiserror::Error;
 
 /// Why a script is not played.
-#[derive(Clone, Copy, Debug, Drop, PartialEq, Eq)]
+#[derive(Clone, Copy, Debug, Drop, Error, PartialEq, Eq)]
 pub enum ScriptFault {
     /// There was no memory.
+    #[error("no memory")]
     Memory,
     /// This line is the first that is unreadable, counted from 1.
+    #[error("line {0}: unreadable")]
     Unreadable(u64),
     /// This field of the configuration is the first that is out of its range.
+    #[error("config out of range: {0}")]
     OutOfRange(&'static str),
 }
 

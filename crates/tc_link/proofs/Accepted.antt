@@ -6,7 +6,7 @@ use Rattle.std.specs.List.{AllByRecursion}
 use Rattle.std.proofs.lemmas.Bool.{cond_both, ltb-false}
 use Rattle.clcw.specs.declared.word.Clcw.{Clcw}
 use Rattle.cop1.specs.Modulo.{ahead_by}
-use Rattle.cop1.specs.declared.fop.Directive.{Directive}
+use Rattle.cop1.specs.declared.vocabulary.Directive.{Directive}
 use Rattle.nodes.specs.declared.config.Config.{Config}
 use Rattle.nodes.specs.Ground.{is_closed}
 use Rattle.tc_link.specs.Accepted.{WereAccepted, SaysTrue, SaysHowMany, SaysWhatWasAccepted}

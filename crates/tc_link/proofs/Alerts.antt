@@ -6,19 +6,21 @@ use Rattle.std.proofs.lemmas.Bool.{cond_both, eqb-false, not-true}
 use Rattle.clcw.specs.declared.word.Clcw.{Clcw}
 use Rattle.tc_frame.specs.Layout.{SegmentView}
 use Rattle.cop1.specs.declared.fault.CopFault.{CopFault}
-use Rattle.cop1.specs.declared.fop.Alert.{Alert}
-use Rattle.cop1.specs.declared.fop.Alert.TheVariants.{Lockout, NnR, Clcw as ClcwAlert, Synch, Limit, Timer, Terminated}
-use Rattle.cop1.specs.declared.fop.Control.TheVariants.{Idle}
-use Rattle.cop1.specs.declared.fop.Directive.{Directive}
-use Rattle.cop1.specs.declared.fop.Directive.TheVariants.{InitWithCheck}
-use Rattle.cop1.specs.declared.fop.FopMode.{FopMode}
-use Rattle.cop1.specs.declared.fop.FopMode.TheVariants.{S1, S2, S3, S4, S5, S6}
+use Rattle.cop1.specs.declared.vocabulary.Alert.{Alert}
+use Rattle.cop1.specs.declared.vocabulary.Alert.TheVariants.{Lockout, NnR, Clcw as ClcwAlert, Synch, Limit, Timer}
+use Rattle.cop1.specs.declared.vocabulary.Alert.TheVariants.{Terminated}
+use Rattle.cop1.specs.declared.vocabulary.Control.TheVariants.{Idle}
+use Rattle.cop1.specs.declared.vocabulary.Directive.{Directive}
+use Rattle.cop1.specs.declared.vocabulary.Directive.TheVariants.{InitWithCheck}
+use Rattle.cop1.specs.declared.vocabulary.FopMode.{FopMode}
+use Rattle.cop1.specs.declared.vocabulary.FopMode.TheVariants.{S1, S2, S3, S4, S5, S6}
 use Rattle.cop1.specs.Farm.{state_of}
 use Rattle.cop1.specs.FopDirective.{directive_step}
 use Rattle.cop1.specs.FopReport.{locks, waits, asks, clcw_step, report_in, report_while_active, report_in_S4, confirms}
-use Rattle.cop1.specs.FopState.{FopState, IsActive}
+use Rattle.cop1.specs.Units.{FopState, FopOutcome}
+use Rattle.cop1.specs.FopVariables.{IsActive}
 use Rattle.cop1.specs.FopTick.{tick_step}
-use Rattle.cop1.specs.FopWords.{FopOutcome, alerts, goes_on}
+use Rattle.cop1.specs.FopWords.{alerts, goes_on}
 use Rattle.tm_link.specs.declared.fault.TmFault.{TmFault}
 use Rattle.nodes.specs.declared.config.Config.{Config}
 use Rattle.tc_link.specs.declared.event.Event.{Event}

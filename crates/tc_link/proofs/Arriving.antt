@@ -14,8 +14,8 @@ use Rattle.cop1.specs.declared.farm.FarmMode.{FarmMode}
 use Rattle.cop1.specs.declared.farm.FarmMode.TheVariants.{Open, Wait, Lockout}
 use Rattle.cop1.specs.declared.farm.Verdict.{Verdict}
 use Rattle.cop1.specs.declared.farm.Verdict.TheVariants.{Accepted, Ahead, NoBuffer, Outside}
-use Rattle.cop1.specs.declared.fop.Directive.{Directive}
-use Rattle.cop1.specs.declared.fop.Directive.TheVariants.{InitUnlock, InitSetVr}
+use Rattle.cop1.specs.declared.vocabulary.Directive.{Directive}
+use Rattle.cop1.specs.declared.vocabulary.Directive.TheVariants.{InitUnlock, InitSetVr}
 use Rattle.cop1.specs.Farm.{FarmState, verdict_of, after_verdict, after_unlock, after_set_vr, after_type_b}
 use Rattle.nodes.specs.declared.config.Config.{Config}
 use Rattle.nodes.specs.Parameters.{limits_of}

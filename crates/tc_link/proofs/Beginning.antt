@@ -5,12 +5,12 @@ use Rattle.std.specs.Prelude.{◌==◌}
 use Rattle.std.proofs.lemmas.Bool.{and_parts, eqb-true}
 use Rattle.std.proofs.lemmas.List.{drop_all}
 use Rattle.tc_frame.specs.Layout.{SegmentView}
-use Rattle.cop1.specs.declared.fop.Control.TheVariants.{Idle}
-use Rattle.cop1.specs.declared.fop.Directive.{Directive}
-use Rattle.cop1.specs.declared.fop.Directive.TheVariants.{InitWithoutCheck, InitWithCheck, InitUnlock, InitSetVr}
-use Rattle.cop1.specs.declared.fop.FopMode.TheVariants.{S1, S6}
-use Rattle.cop1.specs.FopDirective.{after_begin}
-use Rattle.cop1.specs.FopState.{FopState}
+use Rattle.cop1.specs.declared.vocabulary.Control.TheVariants.{Idle}
+use Rattle.cop1.specs.declared.vocabulary.Directive.{Directive}
+use Rattle.cop1.specs.declared.vocabulary.Directive.TheVariants.{InitWithoutCheck, InitWithCheck, InitUnlock, InitSetVr}
+use Rattle.cop1.specs.declared.vocabulary.FopMode.TheVariants.{S1, S6}
+use Rattle.cop1.specs.FopDirective.{after_begin, obeys, directive_step}
+use Rattle.cop1.specs.Units.{FopState, FopOutcome}
 use Rattle.nodes.specs.declared.config.Config.{Config}
 use Rattle.nodes.specs.Ground.{is_closed, directive_outcome, settle_step}
 use Rattle.tc_link.specs.World.{World, world_after_directive, session_begun_by, begins_idle, is_idle}
@@ -22,9 +22,7 @@ use Rattle.tc_link.proofs.SteadyWorld.{Sound}
 use Rattle.cop1.proofs.Obeying.{obeyed, begun}
 use Rattle.tc_link.proofs.Closed.{closed_is}
 use Rattle.cop1.specs.Directives.{is_initiation}
-use Rattle.cop1.specs.FopDirective.{obeys, directive_step}
-use Rattle.cop1.specs.FopWords.{FopOutcome}
-use Rattle.cop1.specs.declared.fop.Alert.{Alert}
+use Rattle.cop1.specs.declared.vocabulary.Alert.{Alert}
 use Rattle.cop1.specs.declared.fault.CopFault.{CopFault}
 use Rattle.std.proofs.Common.{Option, None, Result, option_to_list, ◌++◌}
 use Rattle.tc_link.specs.Confirmation.{IsChecked}

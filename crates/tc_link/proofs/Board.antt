@@ -4,7 +4,7 @@ use Rattle.std.specs.Prelude.{nat_lt}
 use Rattle.std.proofs.lemmas.Bool.{cond_both}
 use Rattle.cop1.specs.declared.farm.FarmMode.{FarmMode}
 use Rattle.cop1.specs.declared.farm.FarmMode.TheVariants.{Open, Wait, Lockout}
-use Rattle.cop1.specs.declared.fop.Directive.{Directive}
+use Rattle.cop1.specs.declared.vocabulary.Directive.{Directive}
 use Rattle.cop1.specs.Farm.{FarmState, after_release, farm_step, BufferReleased}
 use Rattle.tm_link.specs.Building.{is_to_send, after_queue}
 use Rattle.nodes.specs.declared.config.Config.{Config}

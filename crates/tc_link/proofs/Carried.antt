@@ -9,9 +9,9 @@ use Rattle.clcw.specs.declared.word.Clcw.{Clcw}
 use Rattle.tc_frame.specs.declared.frame.Check.TheVariants.{On}
 use Rattle.tc_frame.specs.Layout.{SegmentView, BodyView, Ad, Bd, Bc}
 use Rattle.tc_frame.specs.Writing.{spelling}
-use Rattle.cop1.specs.FopNext.{units_of}
+use Rattle.cop1.specs.UnitsNext.{units_of}
 use Rattle.cop1.specs.FopPull.{PulledUnit, pull_step}
-use Rattle.cop1.specs.FopWords.{FopOutcome}
+use Rattle.cop1.specs.Units.{FopOutcome}
 use Rattle.cop1.proofs.Pulling.{pulled_out}
 use Rattle.tm_link.specs.declared.fault.TmFault.{TmFault}
 use Rattle.tm_link.specs.declared.fault.TmFault.TheVariants as faults

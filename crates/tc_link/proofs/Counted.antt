@@ -13,22 +13,20 @@ use Rattle.tc_frame.specs.Layout.{SegmentView, FrameView}
 use Rattle.tc_frame.specs.Writing.{spelling}
 use Rattle.cop1.specs.Modulo.{ahead_by}
 use Rattle.cop1.specs.declared.fault.CopFault.{CopFault}
-use Rattle.cop1.specs.declared.fop.Alert.{Alert}
-use Rattle.cop1.specs.declared.fop.Alert.TheVariants as alert
-use Rattle.cop1.specs.declared.fop.Control.TheVariants.{Idle}
-use Rattle.cop1.specs.declared.fop.Directive.{Directive}
-use Rattle.cop1.specs.declared.fop.Directive.TheVariants.{InitWithoutCheck, InitWithCheck, InitUnlock, InitSetVr}
-use Rattle.cop1.specs.declared.fop.FopMode.{FopMode}
-use Rattle.cop1.specs.declared.fop.FopMode.TheVariants.{S1, S2, S3, S4, S5, S6}
+use Rattle.cop1.specs.declared.vocabulary.Alert.{Alert}
+use Rattle.cop1.specs.declared.vocabulary.Alert.TheVariants as alert
+use Rattle.cop1.specs.declared.vocabulary.Control.TheVariants.{Idle}
+use Rattle.cop1.specs.declared.vocabulary.Directive.{Directive}
+use Rattle.cop1.specs.declared.vocabulary.Directive.TheVariants.{InitWithoutCheck, InitWithCheck, InitUnlock, InitSetVr}
+use Rattle.cop1.specs.declared.vocabulary.FopMode.{FopMode}
+use Rattle.cop1.specs.declared.vocabulary.FopMode.TheVariants.{S1, S2, S3, S4, S5, S6}
 use Rattle.cop1.specs.FopDirective.{directive_step}
 use Rattle.cop1.specs.FopPull.{PulledUnit, pull_step}
-use Rattle.cop1.specs.FopPull.{without_oldest_mark}
+use Rattle.cop1.specs.Units.{without_oldest_mark, FopState, SentUnit, IsFop, unmarked_unit, marked_unit, FopOutcome}
 use Rattle.cop1.specs.FopReport.{locks, waits, asks, clcw_step, report_in, report_while_active, report_in_S4, confirms}
-use Rattle.cop1.specs.FopReport.{after_move_on, after_new_value}
-use Rattle.cop1.specs.FopState.{FopState, SentUnit, IsFop}
+use Rattle.cop1.specs.FopReport.{after_move_on, after_new_value, retransmits}
 use Rattle.cop1.specs.FopTick.{tick_step}
-use Rattle.cop1.specs.FopWords.{FopOutcome, is_outside, after_acknowledge, after_repeat, after_alert, after_stop}
-use Rattle.cop1.specs.FopWords.{alerts, goes_on, marked_unit, unmarked_unit}
+use Rattle.cop1.specs.FopWords.{is_outside, after_acknowledge, after_repeat, after_alert, after_stop, alerts, goes_on}
 use Rattle.tm_link.specs.declared.fault.TmFault.{TmFault}
 use Rattle.tm_link.specs.Extraction.{Extracted, extract_step}
 use Rattle.tm_link.specs.Layout as telemetry
@@ -45,7 +43,6 @@ use Rattle.cop1.proofs.Obeying.{obeyed, begun}
 use Rattle.cop1.proofs.Ticking.{ticked}
 use Rattle.cop1.proofs.Pulling.{pulled_out}
 use Rattle.cop1.proofs.Hearing.{heard_active}
-use Rattle.cop1.specs.FopReport.{retransmits}
 use Rattle.std.proofs.Common.{Bool}
 
 -- ---- the sender's queue

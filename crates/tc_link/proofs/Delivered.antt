@@ -16,10 +16,10 @@ use Rattle.map_service.specs.Packets.{packets_in}
 use Rattle.map_service.proofs.Beginnings.{assembled_begins}
 use Rattle.map_service.proofs.Passage.{given-passed, other-append}
 use Rattle.clcw.specs.declared.word.Clcw.{Clcw}
-use Rattle.cop1.specs.declared.fop.Directive.{Directive}
-use Rattle.cop1.specs.declared.fop.Directive.TheVariants.{InitWithoutCheck}
-use Rattle.cop1.specs.declared.fop.FopMode.TheVariants.{S1}
-use Rattle.cop1.specs.FopNext.{units_of}
+use Rattle.cop1.specs.declared.vocabulary.Directive.{Directive}
+use Rattle.cop1.specs.declared.vocabulary.Directive.TheVariants.{InitWithoutCheck}
+use Rattle.cop1.specs.declared.vocabulary.FopMode.TheVariants.{S1}
+use Rattle.cop1.specs.UnitsNext.{units_of}
 use Rattle.cop1.specs.Modulo.{ahead_by}
 use Rattle.nodes.specs.declared.config.Config.{Config}
 use Rattle.nodes.specs.Packets.{PacketOn}

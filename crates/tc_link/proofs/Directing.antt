@@ -1,9 +1,10 @@
 -- A tick and a directive within a session keep what holds late in it.
 use Rattle.std.proofs.Common.{◌≡◌, ℕ, inr, true, false, Option, Some, refl}
 use Rattle.tc_frame.specs.Layout.{SegmentView}
-use Rattle.cop1.specs.declared.fop.Directive.{Directive}
-use Rattle.cop1.specs.FopTick.{after_count}
-use Rattle.cop1.specs.FopWords.{FopOutcome, after_alert, after_repeat, after_stop}
+use Rattle.cop1.specs.declared.vocabulary.Directive.{Directive}
+use Rattle.cop1.specs.FopTick.{after_count, tick_step, due_again}
+use Rattle.cop1.specs.Units.{FopOutcome}
+use Rattle.cop1.specs.FopWords.{after_alert, after_repeat, after_stop}
 use Rattle.nodes.specs.declared.config.Config.{Config}
 use Rattle.nodes.specs.Ground.{is_closed, with_fop, directive_outcome}
 use Rattle.cop1.specs.Directives.{is_initiation}
@@ -15,11 +16,10 @@ use Rattle.tc_link.proofs.Settled.{same_keeps, off_keeps}
 use Rattle.cop1.proofs.Obeying.{obeyed}
 use Rattle.tc_link.proofs.Closed.{closed_not}
 use Rattle.cop1.proofs.Ticking.{ticked}
-use Rattle.cop1.specs.declared.fop.Alert.{Alert}
+use Rattle.cop1.specs.declared.vocabulary.Alert.{Alert}
 use Rattle.cop1.specs.declared.fault.CopFault.{CopFault}
 use Rattle.std.proofs.Common.{Result}
 use Rattle.cop1.specs.FopDirective.{directive_step}
-use Rattle.cop1.specs.FopTick.{tick_step, due_again}
 
 module _ (c : Config) (d : Directive) (base : ℕ) (w : World) (g : Late c d base w) where
   abbrev Leaves : {A : Type 0} → FopOutcome SegmentView A → Type 0

@@ -4,14 +4,14 @@ use Rattle.std.proofs.Common.{◌∙◌, arith}
 use Rattle.std.specs.List.{AllByRecursion}
 use Rattle.clcw.specs.declared.word.Clcw.{Clcw}
 use Rattle.tc_frame.specs.Layout.{SegmentView, BodyView}
-use Rattle.cop1.specs.declared.fop.Control.{Control}
-use Rattle.cop1.specs.declared.fop.Control.TheVariants.{Idle, Due, Sent}
-use Rattle.cop1.specs.declared.fop.Directive.{Directive}
-use Rattle.cop1.specs.declared.fop.Directive.TheVariants.{InitWithCheck}
-use Rattle.cop1.specs.declared.fop.FopMode.{FopMode}
-use Rattle.cop1.specs.declared.fop.FopMode.TheVariants.{S1, S4, S5, S6}
+use Rattle.cop1.specs.declared.vocabulary.Control.{Control}
+use Rattle.cop1.specs.declared.vocabulary.Control.TheVariants.{Idle, Due, Sent}
+use Rattle.cop1.specs.declared.vocabulary.Directive.{Directive}
+use Rattle.cop1.specs.declared.vocabulary.Directive.TheVariants.{InitWithCheck}
+use Rattle.cop1.specs.declared.vocabulary.FopMode.{FopMode}
+use Rattle.cop1.specs.declared.vocabulary.FopMode.TheVariants.{S1, S4, S5, S6}
 use Rattle.cop1.specs.FopReport.{locks, waits, asks}
-use Rattle.cop1.specs.FopState.{IsActive}
+use Rattle.cop1.specs.FopVariables.{IsActive}
 use Rattle.nodes.specs.declared.config.Config.{Config}
 use Rattle.nodes.specs.OwnedFields.{FitsFrame}
 use Rattle.nodes.specs.Ground.{GroundState, is_closed, unsent_segments, settle_step}

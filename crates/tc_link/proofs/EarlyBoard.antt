@@ -11,8 +11,8 @@ use Rattle.tc_frame.specs.Layout.{SegmentView, BodyView, Ad, Bd, Bc}
 use Rattle.tc_frame.specs.Reading.{frame_at}
 use Rattle.cop1.specs.declared.farm.FarmMode.{FarmMode}
 use Rattle.cop1.specs.declared.farm.FarmMode.TheVariants.{Open, Wait, Lockout}
-use Rattle.cop1.specs.declared.fop.Directive.{Directive}
-use Rattle.cop1.specs.declared.fop.Directive.TheVariants.{InitWithCheck, InitUnlock, InitSetVr}
+use Rattle.cop1.specs.declared.vocabulary.Directive.{Directive}
+use Rattle.cop1.specs.declared.vocabulary.Directive.TheVariants.{InitWithCheck, InitUnlock, InitSetVr}
 use Rattle.cop1.specs.Farm.{FarmState, after_unlock, after_set_vr, after_release, after_type_b, farm_step}
 use Rattle.cop1.specs.Farm.{BufferReleased}
 use Rattle.cop1.specs.Report.{report_of}

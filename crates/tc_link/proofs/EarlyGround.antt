@@ -7,15 +7,15 @@ use Rattle.tc_frame.specs.declared.frame.Check.TheVariants.{On}
 use Rattle.tc_frame.specs.Layout.{SegmentView, BodyView, Bd, Bc}
 use Rattle.tc_frame.specs.Writing.{spelling}
 use Rattle.map_service.specs.Cutting.{segments_of}
-use Rattle.cop1.specs.declared.fop.Control.{Control}
-use Rattle.cop1.specs.declared.fop.Control.TheVariants.{Idle, Due, Sent}
-use Rattle.cop1.specs.declared.fop.Directive.{Directive}
-use Rattle.cop1.specs.declared.fop.FopMode.TheVariants.{S6}
-use Rattle.cop1.specs.FopNext.{units_of}
+use Rattle.cop1.specs.declared.vocabulary.Control.{Control}
+use Rattle.cop1.specs.declared.vocabulary.Control.TheVariants.{Idle, Due, Sent}
+use Rattle.cop1.specs.declared.vocabulary.Directive.{Directive}
+use Rattle.cop1.specs.declared.vocabulary.FopMode.TheVariants.{S6}
+use Rattle.cop1.specs.UnitsNext.{units_of}
 use Rattle.cop1.specs.FopPull.{PulledUnit, pull_step}
-use Rattle.cop1.specs.FopState.{FopState}
-use Rattle.cop1.specs.FopTick.{after_count, due_again}
-use Rattle.cop1.specs.FopWords.{FopOutcome, after_alert, after_stop, after_restart}
+use Rattle.cop1.specs.Units.{FopState, FopOutcome}
+use Rattle.cop1.specs.FopTick.{after_count, due_again, tick_step}
+use Rattle.cop1.specs.FopWords.{after_alert, after_stop, after_restart}
 use Rattle.nodes.specs.declared.config.Config.{Config}
 use Rattle.nodes.specs.declared.fault.LinkFault.{LinkFault}
 use Rattle.nodes.specs.OwnedFields.{FitsFrame}
@@ -36,11 +36,10 @@ use Rattle.tc_link.proofs.Transit.{UpIs, up_push_bypass, up_push_control}
 use Rattle.cop1.proofs.Obeying.{obeyed}
 use Rattle.tc_link.proofs.Closed.{closed_not}
 use Rattle.cop1.proofs.Ticking.{ticked}
-use Rattle.cop1.specs.declared.fop.Alert.{Alert}
+use Rattle.cop1.specs.declared.vocabulary.Alert.{Alert}
 use Rattle.cop1.specs.declared.fault.CopFault.{CopFault}
 use Rattle.std.proofs.Common.{Result}
 use Rattle.cop1.specs.FopDirective.{directive_step}
-use Rattle.cop1.specs.FopTick.{tick_step}
 use Rattle.tc_link.proofs.Early.{early_off}
 use Rattle.tc_link.proofs.Early.{holds_early}
 use Rattle.cop1.proofs.Pulling.{pulled_out}

@@ -6,16 +6,16 @@ use Rattle.std.proofs.lemmas.Bool.{cond_both, eqb-true, not-true, not-false, and
 use Rattle.clcw.specs.declared.word.Clcw.{Clcw}
 use Rattle.tc_frame.specs.Layout.{SegmentView}
 use Rattle.cop1.specs.Modulo.{ahead_by}
-use Rattle.cop1.specs.declared.fop.Alert.{Alert}
-use Rattle.cop1.specs.declared.fop.Alert.TheVariants as alert
-use Rattle.cop1.specs.declared.fop.Control.TheVariants.{Idle}
-use Rattle.cop1.specs.declared.fop.Directive.{Directive}
-use Rattle.cop1.specs.declared.fop.Directive.TheVariants.{InitWithCheck}
-use Rattle.cop1.specs.declared.fop.FopMode.{FopMode}
-use Rattle.cop1.specs.declared.fop.FopMode.TheVariants.{S1, S4, S5, S6}
+use Rattle.cop1.specs.declared.vocabulary.Alert.{Alert}
+use Rattle.cop1.specs.declared.vocabulary.Alert.TheVariants as alert
+use Rattle.cop1.specs.declared.vocabulary.Control.TheVariants.{Idle}
+use Rattle.cop1.specs.declared.vocabulary.Directive.{Directive}
+use Rattle.cop1.specs.declared.vocabulary.Directive.TheVariants.{InitWithCheck}
+use Rattle.cop1.specs.declared.vocabulary.FopMode.{FopMode}
+use Rattle.cop1.specs.declared.vocabulary.FopMode.TheVariants.{S1, S4, S5, S6}
 use Rattle.cop1.specs.FopReport.{locks, waits, asks, report_in, confirms}
-use Rattle.cop1.specs.FopState.{FopState}
-use Rattle.cop1.specs.FopWords.{FopOutcome, after_alert, alerts, goes_on}
+use Rattle.cop1.specs.Units.{FopState, FopOutcome}
+use Rattle.cop1.specs.FopWords.{after_alert, alerts, goes_on}
 use Rattle.tm_link.specs.Extraction.{Extracted, extract_step}
 use Rattle.nodes.specs.declared.config.Config.{Config}
 use Rattle.nodes.specs.declared.heard.Heard.{Heard}

@@ -12,23 +12,23 @@ use Rattle.tc_frame.specs.Layout.{SegmentView}
 use Rattle.map_service.specs.Cutting.{segments_of}
 use Rattle.cop1.specs.Modulo.{ahead_by}
 use Rattle.cop1.specs.declared.fault.CopFault.{CopFault}
-use Rattle.cop1.specs.declared.fop.Alert.{Alert}
-use Rattle.cop1.specs.declared.fop.Alert.TheVariants as alert
-use Rattle.cop1.specs.declared.fop.Control.TheVariants.{Idle, Sent}
-use Rattle.cop1.specs.declared.fop.Directive.{Directive}
-use Rattle.cop1.specs.declared.fop.Directive.TheVariants.{InitWithoutCheck, InitWithCheck, InitUnlock, InitSetVr}
-use Rattle.cop1.specs.declared.fop.FopMode.{FopMode}
-use Rattle.cop1.specs.declared.fop.FopMode.TheVariants.{S1, S2, S3, S4, S5, S6}
+use Rattle.cop1.specs.declared.vocabulary.Alert.{Alert}
+use Rattle.cop1.specs.declared.vocabulary.Alert.TheVariants as alert
+use Rattle.cop1.specs.declared.vocabulary.Control.TheVariants.{Idle, Sent}
+use Rattle.cop1.specs.declared.vocabulary.Directive.{Directive}
+use Rattle.cop1.specs.declared.vocabulary.Directive.TheVariants.{InitWithoutCheck, InitWithCheck, InitUnlock, InitSetVr}
+use Rattle.cop1.specs.declared.vocabulary.FopMode.{FopMode}
+use Rattle.cop1.specs.declared.vocabulary.FopMode.TheVariants.{S1, S2, S3, S4, S5, S6}
 use Rattle.cop1.specs.Directives.{is_initiation}
 use Rattle.cop1.specs.FopDirective.{directive_step}
-use Rattle.cop1.specs.FopNext.{units_of}
-use Rattle.cop1.specs.FopPull.{pull_step, without_oldest_mark}
+use Rattle.cop1.specs.UnitsNext.{units_of}
+use Rattle.cop1.specs.FopPull.{pull_step}
+use Rattle.cop1.specs.Units.{without_oldest_mark, FopState, FopOutcome}
 use Rattle.cop1.specs.FopReport.{locks, waits, asks, clcw_step, report_in, report_while_active, report_in_S4, confirms}
 use Rattle.cop1.specs.FopReport.{after_move_on, retransmits, after_new_value}
-use Rattle.cop1.specs.FopState.{FopState}
 use Rattle.cop1.specs.FopTick.{tick_step, after_count, due_again}
-use Rattle.cop1.specs.FopWords.{FopOutcome, after_acknowledge, after_repeat, after_alert, after_stop, after_restart}
-use Rattle.cop1.specs.FopWords.{alerts, goes_on}
+use Rattle.cop1.specs.FopWords.{after_acknowledge, after_repeat, after_alert, after_stop, after_restart, alerts}
+use Rattle.cop1.specs.FopWords.{goes_on}
 use Rattle.cop1.proofs.Hearing.{heard_active}
 use Rattle.cop1.proofs.Obeying.{obeyed, begun}
 use Rattle.cop1.proofs.Pulling.{pulled_out}

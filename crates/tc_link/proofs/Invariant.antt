@@ -6,8 +6,8 @@ use Rattle.std.specs.List.{AllByRecursion}
 use Rattle.std.proofs.lemmas.Bool.{cases_Bool}
 use Rattle.tc_frame.specs.Layout.{SegmentView}
 use Rattle.cop1.specs.declared.fault.CopFault.{CopFault}
-use Rattle.cop1.specs.declared.fop.Alert.{Alert}
-use Rattle.cop1.specs.declared.fop.Directive.{Directive}
+use Rattle.cop1.specs.declared.vocabulary.Alert.{Alert}
+use Rattle.cop1.specs.declared.vocabulary.Directive.{Directive}
 use Rattle.cop1.specs.FopDirective.{directive_step}
 use Rattle.nodes.specs.declared.config.Config.{Config}
 use Rattle.tc_link.specs.declared.event.Event.{Event}
@@ -39,7 +39,7 @@ use Rattle.tc_link.proofs.SteadyWorld.{Sound, steady_of, step_sound, new_sound}
 use Rattle.tc_link.proofs.LateSubmitting.{late_submit, late_bypass}
 use Rattle.cop1.proofs.Obeying.{obeyed}
 use Rattle.tc_link.proofs.Closed.{closed_not, closed_is}
-use Rattle.cop1.specs.FopWords.{FopOutcome}
+use Rattle.cop1.specs.Units.{FopOutcome}
 use Rattle.tc_link.proofs.Leaving.{AtEachLoss, lost, pulled, up_arrives, down_arrives}
 
 -- ---- such an event leaves the session's opening as it is, and another begins one

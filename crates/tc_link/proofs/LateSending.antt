@@ -10,15 +10,14 @@ use Rattle.tc_frame.specs.declared.frame.Check.TheVariants.{On}
 use Rattle.tc_frame.specs.Layout.{SegmentView, BodyView, Ad, Bd, segment_octets}
 use Rattle.tc_frame.specs.Writing.{spelling}
 use Rattle.cop1.specs.Modulo.{ahead_by}
-use Rattle.cop1.specs.declared.fop.Control.TheVariants.{Idle}
-use Rattle.cop1.specs.declared.fop.Directive.{Directive}
-use Rattle.cop1.specs.declared.fop.FopMode.{FopMode}
-use Rattle.cop1.specs.declared.fop.FopMode.TheVariants.{S5}
-use Rattle.cop1.specs.FopNext.{units_of}
-use Rattle.cop1.specs.FopPull.{PulledUnit, BypassPulled, SequencePulled, pulls, pull_step}
-use Rattle.cop1.specs.FopPull.{oldest_marked, without_oldest_mark}
-use Rattle.cop1.specs.FopPull.{after_send_first}
-use Rattle.cop1.specs.FopWords.{FopOutcome, after_restart, unmarked_unit}
+use Rattle.cop1.specs.declared.vocabulary.Control.TheVariants.{Idle}
+use Rattle.cop1.specs.declared.vocabulary.Directive.{Directive}
+use Rattle.cop1.specs.declared.vocabulary.FopMode.{FopMode}
+use Rattle.cop1.specs.declared.vocabulary.FopMode.TheVariants.{S5}
+use Rattle.cop1.specs.UnitsNext.{units_of}
+use Rattle.cop1.specs.FopPull.{PulledUnit, BypassPulled, SequencePulled, pulls, pull_step, after_send_first}
+use Rattle.cop1.specs.Units.{oldest_marked, without_oldest_mark, unmarked_unit, FopOutcome}
+use Rattle.cop1.specs.FopWords.{after_restart}
 use Rattle.nodes.specs.declared.config.Config.{Config}
 use Rattle.nodes.specs.OwnedFields.{FitsFrame}
 use Rattle.nodes.specs.Ground.{is_closed, unsent_segments, with_fop, frame_of, frame_to_send}

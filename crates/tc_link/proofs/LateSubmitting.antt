@@ -9,7 +9,7 @@ use Rattle.std.proofs.lemmas.List.{take-append-le, drop-append-le, append-nil}
 use Rattle.tc_frame.specs.Layout.{SegmentView, segment_octets}
 use Rattle.map_service.specs.Cutting.{segments_of}
 use Rattle.map_service.specs.Packets.{packets_in, are_taken, is_some_over}
-use Rattle.cop1.specs.declared.fop.Directive.{Directive}
+use Rattle.cop1.specs.declared.vocabulary.Directive.{Directive}
 use Rattle.nodes.specs.declared.config.Config.{Config}
 use Rattle.nodes.specs.declared.fault.LinkFault.{LinkFault}
 use Rattle.nodes.specs.OwnedFields.{FitsFrame}

@@ -10,14 +10,14 @@ use Rattle.tc_frame.specs.Layout.{SegmentView, BodyView, segment_octets}
 use Rattle.tc_frame.specs.Reading as command
 use Rattle.map_service.specs.Assembly.{is_open}
 use Rattle.map_service.specs.Cutting.{segments_of, cut_fault}
-use Rattle.cop1.specs.declared.fop.Control.{Control}
-use Rattle.cop1.specs.declared.fop.Control.TheVariants.{Idle}
-use Rattle.cop1.specs.declared.fop.Directive.{Directive}
-use Rattle.cop1.specs.declared.fop.FopMode.{FopMode}
-use Rattle.cop1.specs.declared.fop.FopMode.TheVariants.{S5}
+use Rattle.cop1.specs.declared.vocabulary.Control.{Control}
+use Rattle.cop1.specs.declared.vocabulary.Control.TheVariants.{Idle}
+use Rattle.cop1.specs.declared.vocabulary.Directive.{Directive}
+use Rattle.cop1.specs.declared.vocabulary.FopMode.{FopMode}
+use Rattle.cop1.specs.declared.vocabulary.FopMode.TheVariants.{S5}
 use Rattle.cop1.specs.FarmRuns.{FlagsAgree}
-use Rattle.cop1.specs.FopState.{SentUnit}
-use Rattle.cop1.specs.FopNext.{units_of}
+use Rattle.cop1.specs.Units.{SentUnit}
+use Rattle.cop1.specs.UnitsNext.{units_of}
 use Rattle.tm_link.specs.Layout as telemetry
 use Rattle.tm_link.specs.Reading as telemetry_reading
 use Rattle.nodes.specs.declared.config.Config.{Config}

@@ -13,17 +13,18 @@ use Rattle.tc_frame.specs.Layout.{SegmentView, BodyView, Ad, Bd, Bc, FrameView, 
 use Rattle.tc_frame.specs.Reading.{frame_at}
 use Rattle.tc_frame.specs.Writing.{spelling}
 use Rattle.cop1.specs.declared.fault.CopFault.{CopFault}
-use Rattle.cop1.specs.declared.fop.Alert.{Alert}
-use Rattle.cop1.specs.declared.fop.Directive.{Directive}
-use Rattle.cop1.specs.declared.fop.Control.TheVariants.{Sent}
-use Rattle.cop1.specs.declared.fop.FopMode.{FopMode}
-use Rattle.cop1.specs.declared.fop.FopMode.TheVariants.{S6}
+use Rattle.cop1.specs.declared.vocabulary.Alert.{Alert}
+use Rattle.cop1.specs.declared.vocabulary.Directive.{Directive}
+use Rattle.cop1.specs.declared.vocabulary.Control.TheVariants.{Sent}
+use Rattle.cop1.specs.declared.vocabulary.FopMode.{FopMode}
+use Rattle.cop1.specs.declared.vocabulary.FopMode.TheVariants.{S6}
 use Rattle.cop1.specs.FopDirective.{directive_step}
 use Rattle.cop1.specs.FopPull.{PulledUnit, pull_step}
 use Rattle.cop1.specs.FopReport.{clcw_step, report_in}
-use Rattle.cop1.specs.FopState.{FopState, IsActive}
+use Rattle.cop1.specs.Units.{FopState, FopOutcome}
+use Rattle.cop1.specs.FopVariables.{IsActive}
 use Rattle.cop1.specs.FopTick.{tick_step, after_count, due_again}
-use Rattle.cop1.specs.FopWords.{FopOutcome, after_alert, after_repeat, after_restart, after_stop}
+use Rattle.cop1.specs.FopWords.{after_alert, after_repeat, after_restart, after_stop}
 use Rattle.cop1.proofs.Obeying.{obeyed}
 use Rattle.cop1.proofs.Pulling.{pulled_out}
 use Rattle.cop1.proofs.Ticking.{ticked}

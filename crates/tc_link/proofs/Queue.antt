@@ -2,10 +2,8 @@
 use Rattle.std.proofs.Common.{◌≡◌, ℕ, zero, suc, ◌+◌, Bool, true, false, List, [], ◌∷◌, ◌++◌, map, drop, Some, refl, ap}
 use Rattle.std.proofs.Common.{arith, if◌then◌else◌}
 use Rattle.std.specs.Prelude.{slice_get}
-use Rattle.cop1.specs.FopState.{SentUnit}
-use Rattle.cop1.specs.FopNext.{units_of}
-use Rattle.cop1.specs.FopPull.{oldest_marked, without_oldest_mark}
-use Rattle.cop1.specs.FopWords.{marked_unit, unmarked_unit}
+use Rattle.cop1.specs.Units.{SentUnit, oldest_marked, without_oldest_mark, unmarked_unit, marked_unit}
+use Rattle.cop1.specs.UnitsNext.{units_of}
 
 module _ {U : Type 0} where
   pub units-marked : (xs : List (SentUnit U)) → units_of (map marked_unit xs) ≡ units_of xs

@@ -5,15 +5,15 @@ use Rattle.std.proofs.lemmas.Bool.{ltb-true}
 use Rattle.clcw.specs.declared.word.Clcw.{Clcw}
 use Rattle.tc_frame.specs.Layout.{SegmentView}
 use Rattle.cop1.specs.Modulo.{ahead_by}
-use Rattle.cop1.specs.declared.fop.FopMode.{FopMode}
-use Rattle.cop1.specs.declared.fop.FopMode.TheVariants.{S2, S3, S4, S5}
-use Rattle.cop1.specs.declared.fop.Alert.{Alert}
-use Rattle.cop1.specs.declared.fop.Alert.TheVariants.{Lockout, Clcw as ClcwAlert, Synch, Limit}
-use Rattle.cop1.specs.FopState.{FopState, IsActive}
-use Rattle.cop1.specs.FopNext.{units_of}
-use Rattle.cop1.specs.FopReport.{locks, waits, asks, report_while_active, after_move_on}
-use Rattle.cop1.specs.FopReport.{retransmits, after_new_value}
-use Rattle.cop1.specs.FopWords.{FopOutcome, after_acknowledge, after_repeat, alerts, goes_on, after_gone}
+use Rattle.cop1.specs.declared.vocabulary.FopMode.{FopMode}
+use Rattle.cop1.specs.declared.vocabulary.FopMode.TheVariants.{S2, S3, S4, S5}
+use Rattle.cop1.specs.declared.vocabulary.Alert.{Alert}
+use Rattle.cop1.specs.declared.vocabulary.Alert.TheVariants.{Lockout, Clcw as ClcwAlert, Synch, Limit}
+use Rattle.cop1.specs.Units.{FopState, FopOutcome}
+use Rattle.cop1.specs.FopVariables.{IsActive}
+use Rattle.cop1.specs.UnitsNext.{units_of}
+use Rattle.cop1.specs.FopReport.{locks, waits, asks, report_while_active, after_move_on, retransmits, after_new_value}
+use Rattle.cop1.specs.FopWords.{after_acknowledge, after_repeat, alerts, goes_on, after_gone}
 use Rattle.nodes.specs.Ground.{is_closed}
 use Rattle.tc_link.proofs.Queue.{units-marked, units-drop}
 use Rattle.tc_link.proofs.Transit.{bit}

@@ -3,10 +3,10 @@ use Rattle.std.proofs.Common.{◌≡◌, ℕ, ◌+◌, ◌*◌, ◌<◌, Bool, t
 use Rattle.std.proofs.Common.{option_to_list, refl, ◌∙◌, arith, inl}
 use Rattle.std.proofs.lemmas.Bool.{cond_both}
 use Rattle.tc_frame.specs.Layout.{SegmentView}
-use Rattle.cop1.specs.declared.fop.Directive.{Directive}
-use Rattle.cop1.specs.declared.fop.FopMode.TheVariants.{S6}
-use Rattle.cop1.specs.FopState.{FopState, SentUnit}
-use Rattle.cop1.specs.FopNext.{units_of}
+use Rattle.cop1.specs.declared.vocabulary.Directive.{Directive}
+use Rattle.cop1.specs.declared.vocabulary.FopMode.TheVariants.{S6}
+use Rattle.cop1.specs.Units.{FopState, SentUnit}
+use Rattle.cop1.specs.UnitsNext.{units_of}
 use Rattle.nodes.specs.declared.config.Config.{Config}
 use Rattle.nodes.specs.Ground.{GroundState, is_closed, unsent_segments, after_moving_up, settle_step}
 use Rattle.nodes.specs.Ground.{with_fop}

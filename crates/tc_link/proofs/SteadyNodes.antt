@@ -10,23 +10,23 @@ use Rattle.cop1.specs.declared.farm.FarmMode.{FarmMode}
 use Rattle.cop1.specs.declared.farm.FarmMode.TheVariants.{Open, Wait, Lockout}
 use Rattle.cop1.specs.declared.farm.Verdict.{Verdict}
 use Rattle.cop1.specs.declared.farm.Verdict.TheVariants.{Accepted}
-use Rattle.cop1.specs.declared.fop.Alert.TheVariants as alert
-use Rattle.cop1.specs.declared.fop.Control.{Control}
-use Rattle.cop1.specs.declared.fop.Control.TheVariants.{Idle, Sent}
-use Rattle.cop1.specs.declared.fop.FopMode.{FopMode}
-use Rattle.cop1.specs.declared.fop.FopMode.TheVariants.{S1, S2, S3, S4, S5, S6}
+use Rattle.cop1.specs.declared.vocabulary.Alert.TheVariants as alert
+use Rattle.cop1.specs.declared.vocabulary.Control.{Control}
+use Rattle.cop1.specs.declared.vocabulary.Control.TheVariants.{Idle, Sent}
+use Rattle.cop1.specs.declared.vocabulary.FopMode.{FopMode}
+use Rattle.cop1.specs.declared.vocabulary.FopMode.TheVariants.{S1, S2, S3, S4, S5, S6}
 use Rattle.cop1.specs.Farm.{FarmState, FarmEvent, AdArrives, BdArrives, UnlockArrives, SetVrArrives, InvalidArrives}
 use Rattle.cop1.specs.Farm.{BufferReleased, farm_step, after_verdict, after_unlock, after_set_vr, after_release}
 use Rattle.cop1.specs.Farm.{verdict_of}
 use Rattle.cop1.specs.FarmRuns.{FlagsAgree}
 use Rattle.cop1.proofs.Agreeing.{FlagsAgree-step}
-use Rattle.cop1.specs.FopPull.{pull_step, without_oldest_mark}
+use Rattle.cop1.specs.Units.{without_oldest_mark, FopState, FopOutcome}
+use Rattle.cop1.specs.FopPull.{pull_step}
 use Rattle.cop1.specs.FopReport.{locks, waits, asks, clcw_step, report_in, report_while_active, report_in_S4, confirms}
 use Rattle.cop1.specs.FopReport.{after_move_on, retransmits, after_new_value}
-use Rattle.cop1.specs.FopState.{FopState}
 use Rattle.cop1.specs.FopTick.{tick_step, after_count, due_again}
-use Rattle.cop1.specs.FopWords.{FopOutcome, after_acknowledge, after_repeat, after_alert, after_stop}
-use Rattle.cop1.specs.FopWords.{after_restart, alerts, goes_on}
+use Rattle.cop1.specs.FopWords.{after_acknowledge, after_repeat, after_alert, after_stop, after_restart, alerts}
+use Rattle.cop1.specs.FopWords.{goes_on}
 use Rattle.nodes.specs.declared.config.Config.{Config}
 use Rattle.nodes.specs.OwnedFields.{FitsFrame}
 use Rattle.nodes.specs.Ground.{GroundState, is_closed, settle_step}

@@ -16,18 +16,18 @@ use Rattle.map_service.specs.Cutting.{segment_with}
 use Rattle.cop1.specs.declared.fault.CopFault.{CopFault}
 use Rattle.cop1.specs.declared.farm.Verdict.{Verdict}
 use Rattle.cop1.specs.declared.farm.Verdict.TheVariants.{Accepted}
-use Rattle.cop1.specs.declared.fop.Alert.{Alert}
-use Rattle.cop1.specs.declared.fop.Control.TheVariants.{Idle}
-use Rattle.cop1.specs.declared.fop.Directive.{Directive}
-use Rattle.cop1.specs.declared.fop.Directive.TheVariants.{InitWithoutCheck, InitWithCheck, InitUnlock, InitSetVr}
-use Rattle.cop1.specs.declared.fop.FopMode.TheVariants.{S6}
+use Rattle.cop1.specs.declared.vocabulary.Alert.{Alert}
+use Rattle.cop1.specs.declared.vocabulary.Control.TheVariants.{Idle}
+use Rattle.cop1.specs.declared.vocabulary.Directive.{Directive}
+use Rattle.cop1.specs.declared.vocabulary.Directive.TheVariants.{InitWithoutCheck, InitWithCheck, InitUnlock, InitSetVr}
+use Rattle.cop1.specs.declared.vocabulary.FopMode.TheVariants.{S6}
 use Rattle.cop1.specs.Farm.{FarmState, FarmEvent, AdArrives, BdArrives, BufferReleased, farm_step, verdict_of}
 use Rattle.cop1.specs.FopDirective.{directive_step}
 use Rattle.cop1.specs.FopPull.{pull_step}
 use Rattle.cop1.specs.FopReport.{clcw_step}
-use Rattle.cop1.specs.FopState.{FopState}
+use Rattle.cop1.specs.Units.{FopState, FopOutcome}
 use Rattle.cop1.specs.FopTick.{tick_step}
-use Rattle.cop1.specs.FopWords.{FopOutcome, after_alert}
+use Rattle.cop1.specs.FopWords.{after_alert}
 use Rattle.tm_link.specs.Building.{BuilderState, is_to_send, after_queue, after_send, data_size, is_at_rest, room_left}
 use Rattle.tm_link.specs.Building.{idle_after, with_next_count}
 use Rattle.tm_link.specs.declared.fault.TmFault.{TmFault}

@@ -17,9 +17,9 @@ use Rattle.tc_frame.specs.Layout.{SegmentView, BodyView, Ad, Bd, Bc, FrameView}
 use Rattle.cop1.specs.declared.fault.CopFault.{CopFault}
 use Rattle.cop1.specs.declared.farm.Verdict.{Verdict}
 use Rattle.cop1.specs.declared.farm.Verdict.TheVariants.{Accepted}
-use Rattle.cop1.specs.declared.fop.Alert.{Alert}
+use Rattle.cop1.specs.declared.vocabulary.Alert.{Alert}
 use Rattle.cop1.specs.FopReport.{clcw_step}
-use Rattle.cop1.specs.FopState.{FopState}
+use Rattle.cop1.specs.Units.{FopState}
 use Rattle.tm_link.specs.Building.{BuilderState, is_to_send, after_queue, idle_tail}
 use Rattle.tm_link.specs.Extraction.{Extracted, is_idle, without_idle}
 use Rattle.tm_link.specs.Laying.{held_by, IsLaidOutBy}

@@ -15,8 +15,8 @@ use Rattle.cop1.specs.Modulo.{ahead_by}
 use Rattle.cop1.specs.Farm.{state_of, FarmState}
 use Rattle.cop1.specs.FarmRuns.{FlagsAgree}
 use Rattle.cop1.specs.declared.farm.FarmMode.TheVariants.{Lockout}
-use Rattle.cop1.specs.declared.fop.Directive.{Directive}
-use Rattle.cop1.specs.declared.fop.Directive.TheVariants.{InitSetVr}
+use Rattle.cop1.specs.declared.vocabulary.Directive.{Directive}
+use Rattle.cop1.specs.declared.vocabulary.Directive.TheVariants.{InitSetVr}
 use Rattle.nodes.specs.declared.config.Config.{Config}
 use Rattle.nodes.specs.Ground.{is_closed}
 use Rattle.tc_link.specs.World.{World}

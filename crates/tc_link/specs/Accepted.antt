@@ -1,15 +1,15 @@
 -- What the reports on their way say of the segments that were sent and are not acknowledged. They
 -- say it after an alert too, when the sender obeys no report.
-use Rattle.std.specs.Prelude.{◌≡◌, ◌≢◌, ◌≤◌, ◌⊎◌, ℕ, ◌+◌, List, [], ◌∷◌, length, take, Option, Some}
+use Rattle.std.specs.Prelude.{◌≡◌, ◌≢◌, ◌≤◌, ◌⊎◌, ℕ, ◌+◌, List, [], length, take, Option, Some}
 use Rattle.std.specs.Prelude.{IfSome}
 use Rattle.std.specs.List.{AllByRecursion}
 use Rattle.cop1.specs.Accepted.{accepted_beyond}
-use Rattle.cop1.specs.declared.fop.FopMode.TheVariants.{S6}
-use Rattle.cop1.specs.FopState.{IsActive}
+use Rattle.cop1.specs.declared.vocabulary.FopMode.TheVariants.{S6}
+use Rattle.cop1.specs.FopVariables.{IsActive}
 use Rattle.tc_link.specs.declared.event.Event.{Event}
 use Rattle.tc_link.specs.InTransit.{numbers_up, values_down}
 use Rattle.tc_link.specs.Reached.{IsEvent}
-use Rattle.tc_link.specs.World.{World, world_step, world_run, IsSettled, KeepsSession, accepted}
+use Rattle.tc_link.specs.World.{World, world_run, IsSettled, KeepsSession, accepted}
 
 -- V(S) and NN(R) are those of the session: the sender is Active, or they differ. (A directive that
 -- sets V(S) sets NN(R) to the same number.)

@@ -4,10 +4,10 @@ use Rattle.std.specs.List.{AllByRecursion}
 use Rattle.tc_frame.specs.declared.frame.Command.{Command}
 use Rattle.tc_frame.specs.declared.frame.Command.TheVariants.{Unlock, SetVr}
 use Rattle.cop1.specs.declared.farm.FarmMode.TheVariants.{Lockout}
-use Rattle.cop1.specs.declared.fop.Directive.{Directive}
-use Rattle.cop1.specs.declared.fop.Directive.TheVariants.{InitWithoutCheck}
+use Rattle.cop1.specs.declared.vocabulary.Directive.{Directive}
+use Rattle.cop1.specs.declared.vocabulary.Directive.TheVariants.{InitWithoutCheck}
 use Rattle.cop1.specs.Directives.{is_initiation}
-use Rattle.cop1.specs.FopState.{IsActive}
+use Rattle.cop1.specs.FopVariables.{IsActive}
 use Rattle.tc_link.specs.InTransit.{commands_up}
 use Rattle.tc_link.specs.World.{World, accepted, directive_of}
 

@@ -3,10 +3,11 @@ use Rattle.std.specs.Prelude.{◌≡◌, ◌≢◌, ℕ, List, [], ◌∷◌, tr
 use Rattle.std.specs.Prelude.{Ok, Err}
 use Rattle.clcw.specs.declared.word.Clcw.{Clcw}
 use Rattle.cop1.specs.declared.farm.FarmMode.TheVariants as farm
-use Rattle.cop1.specs.declared.fop.Alert.{Alert}
-use Rattle.cop1.specs.declared.fop.Alert.TheVariants.{Lockout, NnR, Clcw as ClcwAlert, Synch, Limit}
-use Rattle.cop1.specs.declared.fop.Alert.TheVariants.{Timer, Terminated}
-use Rattle.cop1.specs.declared.fop.Directive.TheVariants.{InitWithCheck, Terminate}
+use Rattle.cop1.specs.declared.vocabulary.Alert.{Alert}
+use Rattle.cop1.specs.declared.vocabulary.Alert.TheVariants.{Lockout, NnR, Clcw as ClcwAlert, Synch}
+use Rattle.cop1.specs.declared.vocabulary.Alert.TheVariants.{Limit}
+use Rattle.cop1.specs.declared.vocabulary.Alert.TheVariants.{Timer, Terminated}
+use Rattle.cop1.specs.declared.vocabulary.Directive.TheVariants.{InitWithCheck, Terminate}
 use Rattle.cop1.specs.FopReport.{asks}
 use Rattle.nodes.specs.declared.config.Config.{Config}
 use Rattle.tc_link.specs.declared.event.Event.{Event}

@@ -1,7 +1,7 @@
 -- Delivery in order.
 use Rattle.std.specs.Prelude.{◌≡◌, ◌≤◌, ℕ, [], length, take}
 use Rattle.octets.specs.Beginning.{IsBeginning}
-use Rattle.cop1.specs.declared.fop.FopMode.TheVariants.{S1}
+use Rattle.cop1.specs.declared.vocabulary.FopMode.TheVariants.{S1}
 use Rattle.nodes.specs.Ground.{outstanding}
 use Rattle.tc_link.specs.World.{World, submitted, accepted, delivered}
 

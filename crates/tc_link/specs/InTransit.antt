@@ -10,7 +10,7 @@ use Rattle.tc_frame.specs.declared.frame.Command.{Command}
 use Rattle.tc_frame.specs.Layout.{SegmentView, BodyView, Ad, Bd, Bc, FrameView}
 use Rattle.tc_frame.specs.Reading as command
 use Rattle.cop1.specs.Modulo.{ahead_by}
-use Rattle.cop1.specs.FopState.{IsActive}
+use Rattle.cop1.specs.FopVariables.{IsActive}
 use Rattle.tm_link.specs.declared.fault.TmFault.{TmFault}
 use Rattle.tm_link.specs.Layout as telemetry
 use Rattle.tm_link.specs.Reading as telemetry_reading

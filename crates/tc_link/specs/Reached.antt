@@ -1,7 +1,7 @@
 -- The worlds that a run leads to.
 use Rattle.std.specs.Prelude.{◌≡◌, ◌<◌, List, IfSome}
 use Rattle.std.specs.List.{AllByRecursion}
-use Rattle.cop1.specs.declared.fop.Directive.{Directive}
+use Rattle.cop1.specs.declared.vocabulary.Directive.{Directive}
 use Rattle.cop1.specs.Directives.{vs_carried}
 use Rattle.nodes.specs.declared.config.Config.{Config}
 use Rattle.tc_link.specs.declared.event.Event.{Event}

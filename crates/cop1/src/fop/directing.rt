@@ -1,12 +1,13 @@
 // What a directive does at the sender.
 
+use super::Fop;
 use super::settling::settle;
-use super::{Alert, Directive, Fop};
 use crate::fault::CopFault;
+use crate::vocabulary::{Alert, Directive};
 
 impl<U: Drop> Fop<U> {
     ghost use Rattle.std.specs.Prelude.{◌≡◌};
-    ghost use Rattle.cop1.specs.FopStep.{fop_step, Direct};
+    ghost use Rattle.cop1.specs.UnitsStep.{fop_step, Direct};
 
     /// Follows a directive; the alert is that of `Terminate` (CCSDS 232.1-B-2, table 5-1). 2
     /// Window, 3 Limit, 4 Timer for a value out of its range, and 8 WrongState: an initiation and

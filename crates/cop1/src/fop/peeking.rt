@@ -1,12 +1,13 @@
 // What would go on the link next.
 
 ghost use Rattle.std.specs.Prelude.{◌≡◌, option_copied};
-ghost use Rattle.cop1.specs.FopNext.{peeked_view, peeked_at};
-ghost use Rattle.cop1.specs.FopQueues.{first_bypass};
-ghost use Rattle.cop1.specs.SenderNext.{is_due};
+ghost use Rattle.cop1.specs.UnitsNext.{peeked_view};
+ghost use Rattle.cop1.specs.Queues.{first_bypass, peeked_at};
+ghost use Rattle.cop1.specs.NumbersStep.{is_due};
 
-use super::{Control, Fop};
+use super::Fop;
 use crate::sender::{Sender, SenderNext};
+use crate::vocabulary::Control;
 use circular_buffer::HeapCircularBuffer;
 use std::collections::VecDeque;
 use tc_frame::Command;
@@ -26,8 +27,8 @@ pub enum Peeked<'a, U> {
 
 impl<U: Drop> Fop<U> {
     ghost use Rattle.std.specs.Prelude.{◌≡◌};
-    ghost use Rattle.cop1.specs.FopNext.{peeked_view};
-    ghost use Rattle.cop1.specs.FopStep.{fop_step, Pull};
+    ghost use Rattle.cop1.specs.UnitsNext.{peeked_view};
+    ghost use Rattle.cop1.specs.UnitsStep.{fop_step, Pull};
 
     /// What goes on the link next, as `next` would take it; the sender stays as it is.
     pub fn peek(&self) -> Peeked<'_, U>

@@ -2,11 +2,12 @@
 
 ghost use Rattle.std.specs.Prelude.{◌≡◌, ◌≤◌, if◌then◌else◌, is_some, length, drop};
 ghost use Rattle.circular_buffer.specs.Buffer.{buffer};
-ghost use Rattle.cop1.specs.FopQueues.{first_bypass, units_after, waiting_after, next_at};
-ghost use Rattle.cop1.specs.SenderNext.{is_due};
+ghost use Rattle.cop1.specs.Queues.{first_bypass, units_after, waiting_after, next_at};
+ghost use Rattle.cop1.specs.NumbersStep.{is_due};
 
-use super::{Control, Fop};
+use super::Fop;
 use crate::sender::{Sender, SenderNext};
+use crate::vocabulary::Control;
 use circular_buffer::HeapCircularBuffer;
 use std::collections::VecDeque;
 use tc_frame::Command;
@@ -40,10 +41,10 @@ pub enum Next<U> {
 
 impl<U: Drop> Fop<U> {
     ghost use Rattle.std.specs.Prelude.{◌≡◌, slice_get, option_copied};
-    ghost use Rattle.cop1.specs.FopNext.{units_of, seen_at, pulled_view, IsPlaced};
+    ghost use Rattle.cop1.specs.UnitsNext.{units_of, seen_at, pulled_view, IsPlaced};
     ghost use Rattle.std.specs.Borrow.{sem};
-    ghost use Rattle.cop1.specs.FopLends.{EndsAs};
-    ghost use Rattle.cop1.specs.FopStep.{fop_step, Pull};
+    ghost use Rattle.cop1.specs.UnitsLent.{EndsAs};
+    ghost use Rattle.cop1.specs.UnitsStep.{fop_step, Pull};
 
     /// Takes what goes on the link next, by the first rule that applies: the control command of S5,
     /// where it is due; the oldest bypass unit; in S1 and S2 the oldest unit that is marked to be

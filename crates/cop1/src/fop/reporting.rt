@@ -1,12 +1,13 @@
 // What a report does at the sender.
 
+use super::Fop;
 use super::settling::settle;
-use super::{Alert, Fop};
+use crate::vocabulary::Alert;
 use clcw::Clcw;
 
 impl<U: Drop> Fop<U> {
     ghost use Rattle.std.specs.Prelude.{◌≡◌};
-    ghost use Rattle.cop1.specs.FopStep.{fop_step, Report};
+    ghost use Rattle.cop1.specs.UnitsStep.{fop_step, Report};
 
     /// The control word of a report has come; an alert where the sender gives up (CCSDS 232.1-B-2,
     /// table 5-1).

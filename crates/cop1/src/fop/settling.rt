@@ -2,8 +2,8 @@
 
 ghost use Rattle.std.specs.Prelude.{◌≡◌};
 ghost use Rattle.circular_buffer.specs.Buffer.{buffer, keep_last};
-ghost use Rattle.cop1.specs.FopQueues.{still_waiting};
-ghost use Rattle.cop1.specs.SenderState.{IsSender};
+ghost use Rattle.cop1.specs.Queues.{still_waiting};
+ghost use Rattle.cop1.specs.Numbers.{IsSender};
 
 use crate::sender::Sender;
 use circular_buffer::HeapCircularBuffer;
@@ -16,7 +16,7 @@ pub(super) fn settle<U: Drop>(
     ensures holds { IsSender sender.now }
     ensures waiting { waiting.new ≡ still_waiting sender.now.waiting waiting.old }
     ensures sent { sent.new
-        ≡ buffer (keep_last sender.now.sent sent.old.items) sent.old.capacity }
+        ≡ buffer (keep_last sender.now.sent.count sent.old.items) sent.old.capacity }
 {
     let fields = sender.fields();
     if !fields.waiting {

@@ -5,7 +5,7 @@ use crate::fault::CopFault;
 
 impl<U: Drop> Fop<U> {
     ghost use Rattle.std.specs.Prelude.{◌≡◌, OnOk, OnErr, IfErr};
-    ghost use Rattle.cop1.specs.FopStep.{fop_step, Submit, Bypass};
+    ghost use Rattle.cop1.specs.UnitsStep.{fop_step, Submit, Bypass};
 
     /// A unit to be sent under sequence control (CCSDS 232.1-B-2, table 5-1). It comes back with
     /// the fault: 6 NotOpen in S6, and 7 Busy where the wait queue's one place is taken.

@@ -1,11 +1,12 @@
 // What a tick of the clock does at the sender.
 
+use super::Fop;
 use super::settling::settle;
-use super::{Alert, Fop};
+use crate::vocabulary::Alert;
 
 impl<U: Drop> Fop<U> {
     ghost use Rattle.std.specs.Prelude.{◌≡◌};
-    ghost use Rattle.cop1.specs.FopStep.{fop_step, Tick};
+    ghost use Rattle.cop1.specs.UnitsStep.{fop_step, Tick};
 
     /// A tick of the clock has passed; an alert where the sender gives up (CCSDS 232.1-B-2, table
     /// 5-1).

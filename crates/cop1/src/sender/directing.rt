@@ -2,16 +2,16 @@
 
 use super::Sender;
 use crate::fault::CopFault;
-use crate::fop::{Alert, Control, Directive, FopMode};
+use crate::vocabulary::{Alert, Control, Directive, FopMode};
 use tc_frame::Command;
 
 impl Sender {
     ghost use Rattle.std.specs.Prelude.{◌≡◌, ◌≢◌};
-    ghost use Rattle.cop1.specs.declared.fop.FopMode.{FopMode};
-    ghost use Rattle.cop1.specs.declared.fop.Control.{Control};
-    ghost use Rattle.cop1.specs.declared.fop.Directive.{Directive};
-    ghost use Rattle.cop1.specs.SenderDirective.{after_begin};
-    ghost use Rattle.cop1.specs.SenderStep.{sender_step, Direct};
+    ghost use Rattle.cop1.specs.declared.vocabulary.FopMode.{FopMode};
+    ghost use Rattle.cop1.specs.declared.vocabulary.Control.{Control};
+    ghost use Rattle.cop1.specs.declared.vocabulary.Directive.{Directive};
+    ghost use Rattle.cop1.specs.FopDirective.{after_begin};
+    ghost use Rattle.cop1.specs.NumbersStep.{sender_step, Direct};
 
     /// Follows a directive; the alert is that of `Terminate`, and all units are let go of (CCSDS
     /// 232.1-B-2, table 5-1). 2 Window, 3 Limit, 4 Timer for a value out of its range, and 8
@@ -49,7 +49,12 @@ impl Sender {
     fn begin(&mut self, number: u8, state: FopMode, control: Control)
         requires initial { self.old.state ≡ FopMode.S6 }
         requires commanded { state ≢ FopMode.S5 → control ≡ Control.Idle }
-        ensures { self.new ≡ after_begin self.old number state control }
+        ensures { self.new ≡ record (after_begin self.old) {
+          vs = number;
+          nn = number;
+          state = state;
+          control = control;
+        } }
     {
         self.fields.vs = number;
         self.fields.nn = number;

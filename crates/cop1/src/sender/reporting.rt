@@ -3,7 +3,7 @@
 ghost use Rattle.std.specs.Prelude.{◌≡◌};
 
 use super::Sender;
-use crate::fop::{Alert, Control, FopMode};
+use crate::vocabulary::{Alert, Control, FopMode};
 use bitflags::Flags;
 use clcw::{Clcw, ClcwFlags};
 
@@ -18,12 +18,11 @@ pub struct ReportAnswer {
 
 impl Sender {
     ghost use Rattle.std.specs.Prelude.{◌≡◌, ◌<◌, true, false};
-    ghost use Rattle.cop1.specs.declared.fop.FopMode.{FopMode};
-    ghost use Rattle.cop1.specs.SenderReport.{report_answer, report_while_active, report_in_S4, report_in_S5, ticks_for};
-    ghost use Rattle.cop1.specs.SenderReport.{nothing_new, move_on, ask_again, retransmits, ask_for_others, ask_for_all};
-    ghost use Rattle.cop1.specs.FopState.{IsActive};
-    ghost use Rattle.cop1.specs.SenderStep.{sender_step, Report};
-    ghost use Rattle.cop1.specs.SenderWords.{is_outside, alerts};
+    ghost use Rattle.cop1.specs.declared.vocabulary.FopMode.{FopMode};
+    ghost use Rattle.cop1.specs.NumbersStep.{report_answer, sender_step, Report};
+    ghost use Rattle.cop1.specs.FopReport.{report_while_active, report_in_S4, report_in_S5, nothing_new, move_on, ask_again, retransmits, ask_for_others, ask_for_all};
+    ghost use Rattle.cop1.specs.FopVariables.{IsActive};
+    ghost use Rattle.cop1.specs.FopWords.{is_outside, alerts};
 
     /// The control word of a report has come (CCSDS 232.1-B-2, table 5-1).
     pub fn report(&mut self, report: &Clcw) -> ReportAnswer

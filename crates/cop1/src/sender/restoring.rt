@@ -1,17 +1,18 @@
 // A sender from what was kept of it.
 
 ghost use Rattle.std.specs.Prelude.{◌≡◌, ◌↔◌, IsTrue, IsOk, IfOk, IfErr};
-ghost use Rattle.cop1.specs.SenderState.{IsSender, HasRanges, AgreesWithState};
+ghost use Rattle.cop1.specs.Numbers.{IsSender, HasRanges, AgreesWithState};
+ghost use Rattle.cop1.specs.SenderFields.{numbers_of};
 
 use super::{Sender, SenderFields};
 use crate::fault::CopFault;
-use crate::fop::{Control, FopMode};
+use crate::vocabulary::{Control, FopMode};
 
 impl Sender {
     /// The sender with these numbers, which `fields` gave; 9 State where no sender has them.
     pub fn restore(fields: SenderFields) -> Result<Sender, CopFault>
-        ensures fields { IfOk result (λ s. s ≡ fields) }
-        ensures kept { IsOk result ↔ IsSender fields }
+        ensures fields { IfOk result (λ s. s ≡ numbers_of fields) }
+        ensures kept { IsOk result ↔ IsSender (numbers_of fields) }
         ensures fault { IfErr result (λ e. e ≡ CopFault.State) }
     {
         if has_ranges(fields) && agrees_with_state(fields) {
@@ -23,7 +24,7 @@ impl Sender {
 
     /// The numbers as they are.
     pub fn fields(&self) -> SenderFields
-        ensures fields { result ≡ self.now }
+        ensures fields { numbers_of result ≡ self.now }
         ensures holds { IsSender self.now }
     {
         self.fields
@@ -31,7 +32,7 @@ impl Sender {
 }
 
 fn has_ranges(fields: SenderFields) -> bool
-    ensures { IsTrue result ↔ HasRanges fields }
+    ensures { IsTrue result ↔ HasRanges (numbers_of fields) }
 {
     fields.room <= 127
         && fields.window >= 1
@@ -45,7 +46,7 @@ fn has_ranges(fields: SenderFields) -> bool
 }
 
 fn agrees_with_state(fields: SenderFields) -> bool
-    ensures { IsTrue result ↔ AgreesWithState fields }
+    ensures { IsTrue result ↔ AgreesWithState (numbers_of fields) }
 {
     let is_numbered = fields.sent == fields.vs.wrapping_sub(fields.nn);
     match fields.state {

@@ -1,7 +1,7 @@
 // What goes on the link next.
 
 use super::Sender;
-use crate::fop::{Control, FopMode};
+use crate::vocabulary::{Control, FopMode};
 use tc_frame::Command;
 
 /// What goes on the link next, a unit by its number.
@@ -20,9 +20,10 @@ pub enum SenderNext {
 
 impl Sender {
     ghost use Rattle.std.specs.Prelude.{◌≡◌, ◌≢◌, ◌<◌};
-    ghost use Rattle.cop1.specs.declared.fop.FopMode.{FopMode};
-    ghost use Rattle.cop1.specs.SenderNext.{next_sequence, next_waiting, count_behind, after_send_first};
-    ghost use Rattle.cop1.specs.SenderStep.{sender_step, Next};
+    ghost use Rattle.cop1.specs.declared.vocabulary.FopMode.{FopMode};
+    ghost use Rattle.cop1.specs.FopPull.{next_sequence, next_waiting, after_send_first};
+    ghost use Rattle.cop1.specs.Numbers.{TheWaiting};
+    ghost use Rattle.cop1.specs.NumbersStep.{next_of, sender_step, Next};
 
     /// Takes what goes on the link next, by the first rule that applies: the control command of S5,
     /// where it is due; in S1 and S2 the oldest unit that is due to be sent again; in S1 and S2 the
@@ -45,7 +46,7 @@ impl Sender {
     fn next_sequence(&mut self) -> SenderNext
         requires { self.old.state ≢ FopMode.S6 }
         ensures after { self.new ≡ (next_sequence self.old).after }
-        ensures answer { result ≡ (next_sequence self.old).answer }
+        ensures answer { result ≡ next_of (next_sequence self.old).answer }
     {
         if self.fields.due == 0 {
             return self.next_waiting();
@@ -59,8 +60,8 @@ impl Sender {
 
     fn next_waiting(&mut self) -> SenderNext
         requires { self.old.state ≢ FopMode.S6 }
-        ensures after { self.new ≡ (next_waiting self.old self.old.waiting).after }
-        ensures answer { result ≡ (next_waiting self.old self.old.waiting).answer }
+        ensures after { self.new ≡ (next_waiting self.old).after }
+        ensures answer { result ≡ next_of (next_waiting self.old).answer }
     {
         if !self.fields.waiting || self.fields.sent >= self.fields.window {
             return SenderNext::Nothing;
@@ -73,8 +74,8 @@ impl Sender {
     // The unit that waits is sent, and there is room for it.
     fn send_first(&mut self)
         requires active { self.old.state ≢ FopMode.S6 }
-        requires room { self.old.sent < self.old.room }
-        ensures { self.new ≡ after_send_first self.old }
+        requires room { self.old.sent.count < self.old.room }
+        ensures { self.new ≡ after_send_first self.old TheWaiting }
     {
         if self.fields.sent == 0 {
             self.fields.count = 1;

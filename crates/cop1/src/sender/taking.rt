@@ -2,12 +2,12 @@
 
 use super::Sender;
 use crate::fault::CopFault;
-use crate::fop::FopMode;
+use crate::vocabulary::FopMode;
 
 impl Sender {
     ghost use Rattle.std.specs.Prelude.{◌≡◌};
-    ghost use Rattle.cop1.specs.SenderState.{IsSender};
-    ghost use Rattle.cop1.specs.SenderStep.{sender_step, Submit};
+    ghost use Rattle.cop1.specs.Numbers.{IsSender};
+    ghost use Rattle.cop1.specs.NumbersStep.{sender_step, Submit};
 
     /// A unit has come to be sent under sequence control, and waits: the caller keeps it (CCSDS
     /// 232.1-B-2, table 5-1). It is refused with 6 NotOpen in S6, and with 7 Busy where one waits

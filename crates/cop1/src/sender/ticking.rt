@@ -1,13 +1,13 @@
 // What a tick of the clock does at the sender.
 
 use super::Sender;
-use crate::fop::{Alert, Control, FopMode};
+use crate::vocabulary::{Alert, Control, FopMode};
 
 impl Sender {
     ghost use Rattle.std.specs.Prelude.{◌≡◌, ◌≢◌};
-    ghost use Rattle.cop1.specs.declared.fop.FopMode.{FopMode};
-    ghost use Rattle.cop1.specs.SenderTick.{timer_ended};
-    ghost use Rattle.cop1.specs.SenderStep.{sender_step, Tick};
+    ghost use Rattle.cop1.specs.declared.vocabulary.FopMode.{FopMode};
+    ghost use Rattle.cop1.specs.FopTick.{timer_ended};
+    ghost use Rattle.cop1.specs.NumbersStep.{sender_step, Tick};
 
     /// A tick of the clock has passed; an alert where the sender gives up, and all units are let go
     /// of (CCSDS 232.1-B-2, table 5-1).

@@ -1,12 +1,12 @@
 // The words of the sender's rules: restart, acknowledge, repeat, alert.
 
 use super::Sender;
-use crate::fop::{Alert, Control, FopMode};
+use crate::vocabulary::{Alert, Control, FopMode};
 
 impl Sender {
     ghost use Rattle.std.specs.Prelude.{◌≡◌, ◌<◌, ◌≢◌, false};
-    ghost use Rattle.cop1.specs.declared.fop.FopMode.{FopMode};
-    ghost use Rattle.cop1.specs.SenderWords.{after_restart, after_acknowledge, after_repeat, alerts, is_outside};
+    ghost use Rattle.cop1.specs.declared.vocabulary.FopMode.{FopMode};
+    ghost use Rattle.cop1.specs.FopWords.{after_restart, after_acknowledge, after_repeat, alerts, is_outside};
 
     pub(super) fn is_outside(&self, value: u8) -> bool
         ensures { result ≡ is_outside self.now value }

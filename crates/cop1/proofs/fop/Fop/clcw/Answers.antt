@@ -1,30 +1,21 @@
 use Rattle.std.proofs.Common.{sym, ap, ◌∙◌}
 use Rattle.cop1.specs.FopReport.{clcw_step}
-use Rattle.cop1.specs.FopFields.{queues_of}
 use Rattle.cop1.proofs.Following.{report-follows}
 use Rattle.cop1.proofs.Queued.{settled-state, settled-sound}
 use Rattle.cop1.proofs.fop.Fop.clcw.Goals as goal
 
 pub invariant_of-self : goal.invariant_of-self
 invariant_of-self g c =
-    let f = c.self.inside in
-    let follows = report-follows f.sender (queues_of f) c.args.report.now c.self.invariant.sender
-    c.self.invariant.fits in
-    settled-sound f _ _ _ _ _ follows c.report-heard.ensures.after c.settle.ensures.waiting c.settle.ensures.sent
-    c.settle.ensures.holds c.self.invariant
+    settled-sound c.self.inside (report-follows c.self.invariant.fits c.args.report.now) c.report-heard.ensures.after
+    c.settle.ensures.waiting c.settle.ensures.sent c.settle.ensures.holds c.self.invariant
 
 pub returns-clause-after : goal.returns-clause-after
 returns-clause-after g c =
-    let f = c.self.inside in
-    let follows = report-follows f.sender (queues_of f) c.args.report.now c.self.invariant.sender
-    c.self.invariant.fits in
-    settled-state f _ _ _ _ _ follows c.report-heard.ensures.after c.settle.ensures.waiting c.settle.ensures.sent
-    ∙ ap (λ s. (clcw_step s c.args.report.now).after) c.self.view_is
+    settled-state c.self.inside (report-follows c.self.invariant.fits c.args.report.now) c.report-heard.ensures.after
+    c.settle.ensures.waiting c.settle.ensures.sent ∙ ap (λ s. (clcw_step s c.args.report.now).after) c.self.view_is
 
 pub returns-clause-alert : goal.returns-clause-alert
 returns-clause-alert g c =
-    let f = c.self.inside in
-    let follows = report-follows f.sender (queues_of f) c.args.report.now c.self.invariant.sender
-    c.self.invariant.fits in
-    ap (λ heard. heard.alert) c.report-heard.ensures.answer ∙ sym (ap (λ o. o.answer) follows.same)
+    ap (λ heard. heard.alert) c.report-heard.ensures.answer
+    ∙ sym (ap (λ o. o.answer) (report-follows c.self.invariant.fits c.args.report.now).same)
     ∙ ap (λ s. (clcw_step s c.args.report.now).answer) c.self.view_is

@@ -1,30 +1,23 @@
 use Rattle.std.proofs.Common.{sym, ap, ◌∙◌}
 use Rattle.cop1.specs.FopDirective.{directive_step}
-use Rattle.cop1.specs.FopFields.{queues_of}
 use Rattle.cop1.proofs.Following.{directive-follows}
 use Rattle.cop1.proofs.Queued.{settled-state, settled-sound}
 use Rattle.cop1.proofs.fop.Fop.directive.Goals as goal
 
 pub invariant_of-self : goal.invariant_of-self
 invariant_of-self g c =
-    let f = c.self.inside in
-    let follows = directive-follows f.sender (queues_of f) c.args.directive c.self.invariant.sender
-    c.self.invariant.fits in
-    settled-sound f _ _ _ _ _ follows c.directive-answer.ensures.after c.settle.ensures.waiting c.settle.ensures.sent
-    c.settle.ensures.holds c.self.invariant
+    settled-sound c.self.inside (directive-follows c.self.invariant.fits c.args.directive)
+    c.directive-answer.ensures.after c.settle.ensures.waiting c.settle.ensures.sent c.settle.ensures.holds
+    c.self.invariant
 
 pub returns-clause-after : goal.returns-clause-after
 returns-clause-after g c =
-    let f = c.self.inside in
-    let follows = directive-follows f.sender (queues_of f) c.args.directive c.self.invariant.sender
-    c.self.invariant.fits in
-    settled-state f _ _ _ _ _ follows c.directive-answer.ensures.after c.settle.ensures.waiting c.settle.ensures.sent
+    settled-state c.self.inside (directive-follows c.self.invariant.fits c.args.directive)
+    c.directive-answer.ensures.after c.settle.ensures.waiting c.settle.ensures.sent
     ∙ ap (λ s. (directive_step s c.args.directive).after) c.self.view_is
 
 pub returns-clause-answer : goal.returns-clause-answer
 returns-clause-answer g c =
-    let f = c.self.inside in
-    let follows = directive-follows f.sender (queues_of f) c.args.directive c.self.invariant.sender
-    c.self.invariant.fits in
-    c.directive-answer.ensures.answer ∙ sym (ap (λ o. o.answer) follows.same)
+    c.directive-answer.ensures.answer
+    ∙ sym (ap (λ o. o.answer) (directive-follows c.self.invariant.fits c.args.directive).same)
     ∙ ap (λ s. (directive_step s c.args.directive).answer) c.self.view_is

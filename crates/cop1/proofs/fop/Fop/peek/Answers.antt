@@ -1,13 +1,12 @@
 use Rattle.std.proofs.Common.{option_copied, sym, ap, ◌∙◌}
 use Rattle.cop1.specs.FopPull.{pull_step}
-use Rattle.cop1.specs.FopFields.{queues_of}
 use Rattle.cop1.proofs.Following.{next-goes}
 use Rattle.cop1.proofs.fop.Fop.peek.Goals as goal
 
 pub returns : goal.returns
 returns g c =
-    let f = c.self.inside in
     let none = sym c.oldest_bypass.ensures ∙ ap option_copied c.in_default.is in
-    let goes = next-goes f.sender (queues_of f) c.self.invariant.sender c.self.invariant.fits none in
-    rw (c.unit_at.ensures, c.fields.ensures.fields, c.next-next.ensures.answer, c.next-next.ensures.after)
-    (sym goes.seen ∙ sym (ap (λ o. o.answer) goes.same) ∙ ap (λ s. (pull_step s).answer) c.self.view_is)
+    let goes = next-goes c.self.invariant.sender c.self.invariant.fits none in
+    rw (c.unit_at.ensures, ap (λ s. s.nn) c.fields.ensures.fields)
+    (rw (c.next-next.ensures.answer, c.next-next.ensures.after)
+    (sym goes.seen ∙ sym (ap (λ o. o.answer) goes.same) ∙ ap (λ s. (pull_step s).answer) c.self.view_is))

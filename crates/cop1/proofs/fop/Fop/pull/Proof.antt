@@ -51,10 +51,10 @@ use denote.Triple.Table.{entered}
 use denote.Triple.Walked.{says, Stays, stay_dropped, walk_of, ends_at, walked, Goes-spent_ref, walk_Meets}
 use borrow.Rule.Reshare.{ref_Share}
 use borrow.Table.Owned as owned
-use Rattle.cop1.specs.FopState.{FopState}
-use Rattle.cop1.specs.FopNext.{units_of, seen_at, pulled_view, IsPlaced}
-use Rattle.cop1.specs.FopStep.{fop_step, Pull}
-use Rattle.cop1.specs.FopLends.{EndsAs}
+use Rattle.cop1.specs.Units.{FopState}
+use Rattle.cop1.specs.UnitsNext.{units_of, seen_at, pulled_view, IsPlaced}
+use Rattle.cop1.specs.UnitsStep.{fop_step, Pull}
+use Rattle.cop1.specs.UnitsLent.{EndsAs}
 use Rattle.cop1.specs.declared.fop.pulling.Next.{Next}
 use Rattle.cop1.specs.contracts.fop.Fop as fop-type
 use Rattle.cop1.specs.contracts.fop.pulling.Next as next-type

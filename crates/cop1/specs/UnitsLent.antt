@@ -2,7 +2,7 @@
 use Rattle.std.specs.Prelude.{◌≡◌, ⊤}
 use Rattle.std.specs.Borrow.{Fml, RattleType, MutBor, follows_so}
 use mathlib.Core.Option.{none}
-use Rattle.cop1.specs.FopState.{FopState}
+use Rattle.cop1.specs.Units.{FopState}
 use Rattle.cop1.specs.contracts.fop.Fop.{the_row}
 
 -- the sender s ends in this state

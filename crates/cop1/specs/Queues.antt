@@ -1,29 +1,27 @@
 -- A sender of units is the sender's numbers and three queues: each input is put to the rules over
 -- numbers, and what is done to the queues follows from their answer.
 use Rattle.std.specs.Prelude.{◌≡◌, ℕ, Bool, true, false, nat_lt, List, [], ◌∷◌, ◌++◌, length, drop}
-use Rattle.std.specs.Prelude.{is_some, Option, Some, None, Result, Ok, Err}
+use Rattle.std.specs.Prelude.{is_some, slice_get, Option, Some, None, Result, Ok}
+use Rattle.std.specs.Prelude.{Err}
 use Rattle.circular_buffer.specs.Buffer.{keep_last}
 use Rattle.cop1.specs.Modulo.{ahead_by}
 use Rattle.cop1.specs.declared.fault.CopFault.{CopFault}
-use Rattle.cop1.specs.declared.sender.SenderFields.{SenderFields}
 use Rattle.cop1.specs.declared.sender.sending.SenderNext.{SenderNext}
 use Rattle.cop1.specs.declared.sender.sending.SenderNext.TheVariants as sends
 use Rattle.cop1.specs.declared.fop.pulling.Next.{Next}
 use Rattle.cop1.specs.declared.fop.pulling.Next.TheVariants as next
-use Rattle.cop1.specs.FopState.{FopState, SentUnit}
-use Rattle.cop1.specs.FopWords.{FopOutcome}
-use Rattle.cop1.specs.FopUnits.{comes_back, taking_outcome}
-use Rattle.cop1.specs.FopPull.{PulledUnit, BypassPulled, pulls}
-use Rattle.cop1.specs.FopNext.{seen_at}
-use Rattle.cop1.specs.FopStep as fop
-use Rattle.cop1.specs.FopStep.{FopInput, Answer, fop_step}
-use Rattle.cop1.specs.SenderState.{IsSender}
-use Rattle.cop1.specs.SenderWords.{SenderOutcome}
-use Rattle.cop1.specs.SenderUnits.{submit_step}
-use Rattle.cop1.specs.SenderDirective.{directive_step}
-use Rattle.cop1.specs.SenderNext.{is_due, next_step}
-use Rattle.cop1.specs.SenderReport.{report_step}
-use Rattle.cop1.specs.SenderTick.{tick_step}
+use Rattle.cop1.specs.FopVariables.{held_by}
+use Rattle.cop1.specs.FopSubmit.{takes, comes_back, submit_step}
+use Rattle.cop1.specs.FopDirective.{directive_step}
+use Rattle.cop1.specs.FopPull.{PulledUnit, NothingPulled, ControlPulled, BypassPulled, pulls}
+use Rattle.cop1.specs.FopReport.{clcw_step}
+use Rattle.cop1.specs.FopTick.{tick_step}
+use Rattle.cop1.specs.Units.{SentUnit, units, FopState, FopOutcome}
+use Rattle.cop1.specs.UnitsNext.{seen_at, sequence_at}
+use Rattle.cop1.specs.UnitsStep as fop
+use Rattle.cop1.specs.UnitsStep.{FopInput, Answer, handing_back, bypass_step, fop_step}
+use Rattle.cop1.specs.Numbers.{TheWaiting, SenderNumbers, SenderOutcome, IsSender}
+use Rattle.cop1.specs.NumbersStep.{is_due, next_step}
 
 -- the wait queue of one unit, the units that are sent and those of the bypass queue, the oldest
 -- first
@@ -40,36 +38,15 @@ module _ {U : Type 0} where
       record { unit = u; marked = nat_lt (length us) due } ∷ marked_last due us
 
   -- the sender of units that numbers and queues make
-  abbrev pub with_queues : SenderFields → Queues U → FopState U
-  with_queues s q =
-      record {
-        room =
-            s.room;
-        state =
-            s.state;
-        vs =
-            s.vs;
-        nn = s.nn;
-        waiting =
-            q.waiting;
-        sent =
-            marked_last s.due q.units;
-        bypass =
-            q.bypass;
-        window =
-            s.window;
-        limit =
-            s.limit;
-        timer = s.timer;
-        ticks = s.ticks;
-        count = s.count;
-        control = s.control;
-      }
+  abbrev pub with_queues : SenderNumbers → Queues U → FopState U
+  with_queues s q = held_by (units U) s q.waiting (marked_last s.sent.due q.units) q.bypass
 
   -- a unit waits where the numbers say so, and as many units are sent as they say
-  pub record Fits (s : SenderFields) (q : Queues U) : Type 0 where
+  pub record Fits (s : SenderNumbers) (q : Queues U) : Type 0 where
     pub waiting : is_some q.waiting ≡ s.waiting
-    pub units : length q.units ≡ s.sent
+    pub units : length q.units ≡ s.sent.count
+
+  -- ---- after a report, a tick or a directive
 
   -- the unit that waits, where one still does
   abbrev pub still_waiting : Bool → Option U → Option U
@@ -77,19 +54,18 @@ module _ {U : Type 0} where
   still_waiting false waiting = None
 
   -- the queues, once what the numbers no longer count is let go of
-  abbrev pub settled : SenderFields → Queues U → Queues U
+  abbrev pub settled : SenderNumbers → Queues U → Queues U
   settled s q =
-      record q { waiting = still_waiting s.waiting q.waiting; units = keep_last s.sent q.units }
+      record q {
+        waiting = still_waiting s.waiting q.waiting;
+        units = keep_last s.sent.count q.units;
+      }
 
   abbrev pub settles : {A : Type 0} → Queues U → SenderOutcome A → FopOutcome U A
   settles q o =
       record { after = with_queues o.after (settled o.after q); answer = o.answer; gone = o.gone }
 
-  -- a unit comes: it waits, unless the numbers refuse it
-  abbrev pub submitted : Queues U → U → SenderFields → Result (Unit {0}) CopFault
-      → FopOutcome U (Result (Unit {0}) (CopFault × U))
-  submitted q u s (Ok x) = taking_outcome (with_queues s (record q { waiting = Some u }))
-  submitted q u s (Err fault) = comes_back (with_queues s q) fault u
+  -- ---- once something goes on the link
 
   -- the oldest bypass unit, but where a control command is due, which goes first
   abbrev pub first_bypass : Bool → List U → Option U
@@ -104,22 +80,17 @@ module _ {U : Type 0} where
 
   -- the queues, once this goes on the link
   abbrev pub waiting_after : SenderNext → Option U → Option U
-  waiting_after sends.Nothing waiting = waiting
-  waiting_after (sends.Control command) waiting = waiting
   waiting_after (sends.First number) waiting = None
-  waiting_after (sends.Again number) waiting = waiting
+  waiting_after _ waiting = waiting
 
   abbrev pub units_after : SenderNext → Option U → List U → List U
-  units_after sends.Nothing waiting units = units
-  units_after (sends.Control command) waiting units = units
   units_after (sends.First number) waiting units = with_first waiting units
-  units_after (sends.Again number) waiting units = units
+  units_after _ waiting units = units
 
   abbrev pub taken_from : SenderNext → Queues U → Queues U
   taken_from sends q =
       record q {
-        waiting =
-            waiting_after sends q.waiting;
+        waiting = waiting_after sends q.waiting;
         units = units_after sends q.waiting q.units;
       }
 
@@ -130,27 +101,45 @@ module _ {U : Type 0} where
   next_at nn (sends.First number) = next.Sequence number (ahead_by number nn)
   next_at nn (sends.Again number) = next.Sequence number (ahead_by number nn)
 
-  abbrev pub pulled_with : SenderFields → SenderNext → Queues U → FopOutcome U (PulledUnit U)
-  pulled_with s sends q = pulls (with_queues s q) (seen_at q.units (next_at s.nn sends))
-
   abbrev pub pulled : SenderOutcome SenderNext → Queues U → FopOutcome U (PulledUnit U)
-  pulled o q = pulled_with o.after o.answer (taken_from o.answer q)
+  pulled o q =
+      pulls (with_queues o.after (taken_from o.answer q))
+      (seen_at (taken_from o.answer q).units (next_at o.after.nn o.answer))
 
-  abbrev pub pulled_by : SenderFields → Queues U → Option U → FopOutcome U (PulledUnit U)
+  -- what would be pulled, where this unit waits and these were sent: a unit that was sent stands as
+  -- far from the oldest as its number is from NN(R)
+  abbrev pub peeked_at : ℕ → SenderNext → Option U → List U → PulledUnit U
+  peeked_at nn sends.Nothing waiting units = NothingPulled
+  peeked_at nn (sends.Control command) waiting units = ControlPulled command
+  peeked_at nn (sends.First number) waiting units = sequence_at number waiting
+  peeked_at nn (sends.Again number) waiting units =
+      sequence_at number (slice_get units (ahead_by number nn))
+
+  -- ---- whatever comes
+
+  -- a unit comes: it waits, unless the numbers refuse it
+  abbrev pub submitted : Queues U → U → SenderNumbers → Result (Unit {0}) CopFault
+      → FopOutcome U (Result (Unit {0}) (CopFault × U))
+  submitted q u s (Ok x) = handing_back u (takes (with_queues s (record q { waiting = Some u })))
+  submitted q u s (Err fault) = handing_back u (comes_back (with_queues s q) fault)
+
+  abbrev pub pulled_by : SenderNumbers → Queues U → Option U → FopOutcome U (PulledUnit U)
   pulled_by s q None = pulled (next_step s) q
   pulled_by s q (Some u) =
       pulls (with_queues s (record q { bypass = drop 1 q.bypass })) (BypassPulled u)
 
-  abbrev pub by_rules : SenderFields → Queues U → (input : FopInput U) → FopOutcome U (Answer input)
-  by_rules s q (fop.Submit unit) = submitted q unit (submit_step s).after (submit_step s).answer
-  by_rules s q (fop.Bypass unit) =
-      taking_outcome (with_queues s (record q { bypass = q.bypass ++ unit ∷ [] }))
+  abbrev pub by_rules : SenderNumbers → Queues U → (input : FopInput U)
+      → FopOutcome U (Answer input)
+  by_rules s q (fop.Submit unit) =
+      submitted q unit (submit_step s TheWaiting).after (submit_step s TheWaiting).answer
+  by_rules s q (fop.Bypass unit) = bypass_step (with_queues s q) unit
   by_rules s q (fop.Direct directive) = settles q (directive_step s directive)
   by_rules s q fop.Pull = pulled_by s q (first_bypass (is_due s.control) q.bypass)
-  by_rules s q (fop.Report report) = settles q (report_step s report)
+  by_rules s q (fop.Report report) = settles q (clcw_step s report)
   by_rules s q fop.Tick = settles q (tick_step s)
 
--- there is one set of rules: a sender of units follows those over numbers, whatever comes to it
+-- numbers are enough: whatever comes, a sender of units does as they say, and to its queues what
+-- their answer says
 abbrev pub FollowsTheRules : Type 0 → Type 0
-FollowsTheRules U = (s : SenderFields) (q : Queues U) → IsSender s → Fits s q
+FollowsTheRules U = (s : SenderNumbers) (q : Queues U) → IsSender s → Fits s q
     → (input : FopInput U) → fop_step (with_queues s q) input ≡ by_rules s q input

@@ -1,17 +1,14 @@
 -- What is pulled, as the code hands it out.
 use Rattle.std.specs.Prelude.{ℕ, ◌<◌, List, length, map, slice_get, Option, Some, None}
-use Rattle.cop1.specs.FopState.{SentUnit}
+use Rattle.cop1.specs.Units.{SentUnit}
 use Rattle.cop1.specs.FopPull.{PulledUnit, NothingPulled, ControlPulled, BypassPulled}
 use Rattle.cop1.specs.FopPull.{SequencePulled}
-use Rattle.cop1.specs.Modulo.{ahead_by}
 use Rattle.cop1.specs.declared.fop.peeking.Peeked.{Peeked}
 use Rattle.cop1.specs.declared.fop.peeking.Peeked.TheVariants as peeked
 use Rattle.cop1.specs.declared.fop.pulling.Next.{Next}
 use Rattle.cop1.specs.declared.fop.pulling.Next.TheVariants as next
 use Rattle.cop1.specs.declared.fop.pulling.Pulled.{Pulled}
 use Rattle.cop1.specs.declared.fop.pulling.Pulled.TheVariants as pulled
-use Rattle.cop1.specs.declared.sender.sending.SenderNext.{SenderNext}
-use Rattle.cop1.specs.declared.sender.sending.SenderNext.TheVariants as sends
 
 module _ {U : Type 0} where
   -- the units of a sent queue
@@ -49,12 +46,3 @@ module _ {U : Type 0} where
   peeked_view (peeked.Control command) = ControlPulled command
   peeked_view (peeked.Bypass unit) = BypassPulled unit.now
   peeked_view (peeked.Sequence number unit) = SequencePulled number unit.now
-
-  -- what would be pulled, where this unit waits and these were sent: a unit that was sent stands as
-  -- far from the oldest as its number is from NN(R)
-  abbrev pub peeked_at : ℕ → SenderNext → Option U → List U → PulledUnit U
-  peeked_at nn sends.Nothing waiting units = NothingPulled
-  peeked_at nn (sends.Control command) waiting units = ControlPulled command
-  peeked_at nn (sends.First number) waiting units = sequence_at number waiting
-  peeked_at nn (sends.Again number) waiting units =
-      sequence_at number (slice_get units (ahead_by number nn))

@@ -1,0 +1,91 @@
+// What the rules of the sender, FOP-1, speak of: states, alerts, directives, the control command.
+
+use tc_frame::Command;
+
+/// The sender's state (CCSDS 232.1-B-2, 5.1.2).
+#[derive(Clone, Copy, Debug, PartialEq, Eq)]
+pub enum FopMode {
+    /// Active.
+    S1,
+    /// Retransmit without wait.
+    S2,
+    /// Retransmit with wait.
+    S3,
+    /// Initialising without a control command.
+    S4,
+    /// Initialising with a control command.
+    S5,
+    /// Initial.
+    S6,
+}
+
+/// Why the sender has given up (CCSDS 232.1-B-2, 5.2.5).
+#[derive(Clone, Copy, Debug, PartialEq, Eq)]
+pub enum Alert {
+    /// A report has the lockout flag.
+    Lockout,
+    /// A report's value is no number from NN(R) to V(S).
+    NnR,
+    /// A report has the wait flag without the retransmit flag.
+    Clcw,
+    /// A report asks for repetition where nothing is to be repeated, or no longer asks for it before
+    /// anything was acknowledged.
+    Synch,
+    /// A report asks for units again, and each may be sent once.
+    Limit,
+    /// The timer has ended, and units may not be sent again.
+    Timer,
+    /// The directive Terminate.
+    Terminated,
+}
+
+/// A directive to the sender (CCSDS 232.1-B-2, 5.2.4).
+#[derive(Clone, Copy, Debug, PartialEq, Eq)]
+pub enum Directive {
+    /// Initiate without a check of the report.
+    InitWithoutCheck,
+    /// Initiate once a report has the value V(S).
+    InitWithCheck,
+    /// Initiate by the control command Unlock.
+    InitUnlock,
+    /// Initiate by the control command Set V(R), with this number.
+    InitSetVr(u8),
+    /// Give up.
+    Terminate,
+    /// Set V(S), and NN(R) to it.
+    SetVs(u8),
+    /// Set the window K, 1 to half the receiver's window width.
+    SetWindow(u8),
+    /// Set the transmission limit, 1 to 255.
+    SetLimit(u8),
+    /// Set the timer's value, 1 to 65,535 ticks.
+    SetTimer(u16),
+}
+
+/// The control command of S5, and whether it has to be sent.
+#[derive(Clone, Copy, Debug, PartialEq, Eq)]
+pub enum Control {
+    Idle,
+    Due(Command),
+    Sent(Command),
+}
+
+impl Alert {
+    ghost use Rattle.std.specs.Prelude.{◌≡◌};
+    ghost use Rattle.cop1.specs.Names.{alert_row};
+
+    /// The alert's name, as it is written here.
+    pub fn name(self) -> &'static str
+        ensures { result.now ≡ (alert_row self).1 }
+    {
+        match self {
+            Alert::Lockout => "Lockout",
+            Alert::NnR => "NnR",
+            Alert::Clcw => "Clcw",
+            Alert::Synch => "Synch",
+            Alert::Limit => "Limit",
+            Alert::Timer => "Timer",
+            Alert::Terminated => "Terminated",
+        }
+    }
+}
