@@ -1,14 +1,14 @@
 //! One command packet from the ground to a spacecraft, and the report on it back.
 #![tactic(auto)]
 
-use anyhow::{Context, Result};
+use anyhow::Result;
 use cop1::Directive;
 use nodes::{Config, Ground, Spacecraft};
 
 fn main(rt: HostRuntime) -> Result<()> {
     let config = Config::default();
-    let mut ground = Ground::new(rt.alloc(), &config).ok().context("memory")?;
-    let mut spacecraft = Spacecraft::new(rt.alloc(), &config).ok().context("memory")?;
+    let mut ground = Ground::new(rt.alloc(), &config)?;
+    let mut spacecraft = Spacecraft::new(rt.alloc(), &config)?;
     exchange(&rt, &mut ground, &mut spacecraft)
 }
 

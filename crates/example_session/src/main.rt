@@ -38,8 +38,8 @@ fn main(rt: HostRuntime) -> Result<()> {
         println!(rt; "{field} is out of its range")?;
         return Ok(());
     }
-    let mut ground = Ground::new(rt.alloc(), &config).ok().context("memory")?;
-    let mut spacecraft = Spacecraft::new(rt.alloc(), &config).ok().context("memory")?;
+    let mut ground = Ground::new(rt.alloc(), &config)?;
+    let mut spacecraft = Spacecraft::new(rt.alloc(), &config)?;
     play(&rt, &mut ground, &mut spacecraft)
 }
 
@@ -48,7 +48,7 @@ fn play(rt: &HostRuntime, ground: &mut Ground, spacecraft: &mut Spacecraft) -> R
     // How many packets were submitted, and of how many the ground knows that they were accepted.
     let mut submitted = 0;
     let mut accepted = 0_usize;
-    begin(ground, 0).ok().context("begin")?;
+    begin(ground, 0)?;
     for round in 1..=100_u32 {
         submitted = submit_from(ground, submitted);
         carry_up(ground, spacecraft, &mut link)?;
@@ -68,7 +68,7 @@ fn play(rt: &HostRuntime, ground: &mut Ground, spacecraft: &mut Spacecraft) -> R
             accepted = accepted.wrapping_add(usize::from(more));
             println!(rt; "round {round}: {more} more were accepted; again from packet {accepted}")?;
             submitted = accepted;
-            begin(ground, vr).ok().context("begin")?;
+            begin(ground, vr)?;
         }
     }
     Err(Error::msg("not all were acknowledged"))
@@ -99,7 +99,7 @@ fn carry_up(ground: &mut Ground, spacecraft: &mut Spacecraft, link: &mut Link) -
             break;
         };
         if link.carries() {
-            spacecraft.receive(&up[..size]).ok().context("memory")?;
+            spacecraft.receive(&up[..size])?;
         }
     }
     Ok(())
@@ -127,10 +127,9 @@ fn carry_down(
     if !link.carries() {
         return Ok((None, None));
     }
-    match ground.telemetry(&down[..size]) {
-        Ok(Heard::Frame { alert, .. }) => Ok((value_of(&down[..size]), alert)),
-        Ok(_) => Ok((None, None)),
-        Err(_) => Err(Error::msg("memory")),
+    match ground.telemetry(&down[..size])? {
+        Heard::Frame { alert, .. } => Ok((value_of(&down[..size]), alert)),
+        _ => Ok((None, None)),
     }
 }
 

@@ -5,9 +5,11 @@ ghost use Rattle.octets.specs.Beginning.{IsBeginning};
 ghost use Rattle.listings.specs.Failures.{failed_in};
 
 use crate::sink::Sink;
+use thiserror::Error;
 
 /// A sink took less than the text.
-#[derive(Clone, Copy, Debug, Drop, PartialEq, Eq)]
+#[derive(Clone, Copy, Debug, Drop, Error, PartialEq, Eq)]
+#[error("write failed")]
 pub struct WriteFailed;
 
 /// Writes the text, in as many calls as the sink needs. Where one of them fails the sink has taken a

@@ -2,8 +2,11 @@
 
 ghost use Rattle.std.specs.Prelude.{◌≡◌};
 
+use thiserror::Error;
+
 /// Why octets were not cut (1 to 3), or a segment was not taken (3).
-#[derive(Clone, Copy, Debug, PartialEq, Eq)]
+#[derive(Clone, Copy, Debug, Error, PartialEq, Eq)]
+#[error("{} {}", self.number(), self.name())]
 pub enum MapFault {
     /// The octets are not exactly one packet, or with blocking not one or more whole packets.
     NotAPacket = 1,

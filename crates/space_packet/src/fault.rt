@@ -2,8 +2,11 @@
 
 ghost use Rattle.std.specs.Prelude.{◌≡◌};
 
+use thiserror::Error;
+
 /// Why octets were refused as a packet (1 to 3), or a packet or octets were not taken (4 to 6).
-#[derive(Clone, Copy, Debug, PartialEq, Eq)]
+#[derive(Clone, Copy, Debug, Error, PartialEq, Eq)]
+#[error("{} {}", self.number(), self.name())]
 pub enum PacketFault {
     /// Fewer than the 6 octets of the header, or fewer octets than it declares.
     Truncated = 1,

@@ -3,6 +3,7 @@
 use clcw::Clcw;
 use cop1::{Alert, CopFault};
 use nodes::{Heard, LinkFault, Received};
+use thiserror::Error;
 use tm_link::TmFault;
 
 /// What a simulated link answers to an event.
@@ -31,12 +32,15 @@ pub enum Reply {
 }
 
 /// Why a node refused a call, as the part of it that refused.
-#[derive(Clone, Copy, Debug, PartialEq, Eq)]
+#[derive(Clone, Copy, Debug, Error, PartialEq, Eq)]
 pub enum NodeFault {
     /// The node itself.
+    #[error(transparent)]
     Link(LinkFault),
     /// The ground's sender.
+    #[error(transparent)]
     Cop(CopFault),
     /// The builder of telemetry frames.
+    #[error(transparent)]
     Tm(TmFault),
 }
