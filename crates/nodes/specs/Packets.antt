@@ -1,5 +1,6 @@
 -- Packets, with the MAPs that they are on.
 use Rattle.std.specs.Prelude.{ℕ, List, map}
+use Rattle.std.specs.Borrow.{Bor}
 use Rattle.std.specs.declared.vec.Vec.{Vec}
 
 -- a packet on a MAP
@@ -16,3 +17,7 @@ put_on_map m packets = map (packet_on m) packets
 -- as it is handed out, without where it lies in memory
 abbrev pub packet_view : {Z : Type 0} → ℕ × Vec ℕ Z → PacketOn
 packet_view p = packet_on p.0 p.1.items
+
+-- as it is lent
+abbrev pub lent_packet : ℕ × Bor (List ℕ) → PacketOn
+lent_packet p = packet_on p.0 p.1.now

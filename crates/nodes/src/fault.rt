@@ -2,8 +2,11 @@
 
 ghost use Rattle.std.specs.Prelude.{◌≡◌};
 
+use thiserror::Error;
+
 /// Why a node of the link refused a call.
-#[derive(Clone, Copy, Debug, PartialEq, Eq)]
+#[derive(Clone, Copy, Debug, Error, PartialEq, Eq)]
+#[error("{} {}", self.number(), self.name())]
 pub enum LinkFault {
     /// The sender is in its state Initial (S6).
     NotOpen = 1,

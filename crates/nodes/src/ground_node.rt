@@ -43,10 +43,10 @@ impl Model for Ground {
 }
 
 impl Ground {
-    ghost use Rattle.std.specs.Prelude.{◌≡◌, ◌≤◌, ◌/◌, ◌%◌, true, length, option_map, IfOk, IfSome, OnErr, IsOkUnless};
+    ghost use Rattle.std.specs.Prelude.{◌≡◌, ◌≤◌, ◌/◌, ◌%◌, true, length, option_map, option_copied, IfOk, IfSome, OnErr, IsOkUnless};
     ghost use Rattle.map_service.specs.Packets.{is_packet};
     ghost use Rattle.cop1.specs.Accepted.{accepted_beyond};
-    ghost use Rattle.cop1.specs.FopState.{IsFop};
+    ghost use Rattle.cop1.specs.Units.{IsFop};
     ghost use Rattle.nodes.specs.Ground.{new_ground, ground_step, Direct, Tick, TakeTelemetry, settle_step, outstanding};
 
     /// A ground that has sent nothing, its sender in S6, with each field of the configuration in its
@@ -164,6 +164,19 @@ impl Ground {
         let alert = self.fop.tick();
         self.settle();
         alert
+    }
+
+    /// The packet that `take_telemetry` takes next, lent; the ground stays as it is.
+    pub fn peek_telemetry(&self) -> Option<&[u8]>
+        ensures { option_copied result ≡ (ground_step self.now TakeTelemetry).answer }
+    {
+        if let Some(packet) = self.waiting.front() {
+            return Some(packet.as_slice());
+        }
+        match self.finished.first() {
+            Some(packet) => Some(packet.as_slice()),
+            None => None,
+        }
     }
 
     /// Takes the oldest packet that telemetry frames carried (CCSDS 132.0-B-3, 4.3.2).

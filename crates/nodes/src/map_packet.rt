@@ -33,7 +33,7 @@ impl Model for MapPacket {
 impl MapPacket {
     ghost use Rattle.std.specs.Prelude.{◌<◌, true};
     ghost use Rattle.map_service.specs.Packets.{is_packet};
-    ghost use Rattle.nodes.specs.Packets.{packet_on, packet_view};
+    ghost use Rattle.nodes.specs.Packets.{packet_on, packet_view, lent_packet};
     ghost use Rattle.nodes.specs.PacketFields.{IsPacketOn};
 
     pub(crate) fn new(map: u8, octets: Vec<u8>) -> MapPacket
@@ -41,6 +41,13 @@ impl MapPacket {
         ensures { result ≡ packet_on map octets.items }
     {
         MapPacket { map, octets }
+    }
+
+    // Its MAP, and its octets lent.
+    pub(crate) fn parts(&self) -> (u8, &[u8])
+        ensures { lent_packet result ≡ self.now }
+    {
+        (self.map, self.octets.as_slice())
     }
 
     pub(crate) fn into_parts(self) -> (u8, Vec<u8>)

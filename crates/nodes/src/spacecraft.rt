@@ -11,7 +11,7 @@ use crate::segment_log::SegmentLog;
 pub use arrival::Arrival;
 use circular_buffer::HeapCircularBuffer;
 use clcw::{Clcw, encode};
-use cop1::Farm;
+use cop1::{Farm, FarmMode};
 use map_service::Assembler;
 use std::alloc::Global;
 use std::collections::VecDeque;
@@ -56,7 +56,7 @@ impl Spacecraft {
     ghost use Rattle.tm_link.specs.Layout.{IsTmFrame};
     ghost use Rattle.tm_link.specs.Writing.{spelling};
     ghost use Rattle.nodes.specs.Spacecraft.{new_spacecraft, spacecraft_step, Take, TakeBypass, Telemetry, Report, IsOwnFrame};
-    ghost use Rattle.nodes.specs.Packets.{packet_view};
+    ghost use Rattle.nodes.specs.Packets.{packet_view, lent_packet};
 
     /// A spacecraft that has received nothing, with each field of the configuration in its range. The
     /// fault is 6 `Memory`.
@@ -105,6 +105,26 @@ impl Spacecraft {
             bypass,
             builder,
         })
+    }
+
+    /// The packet that `take` takes next, lent, with its MAP; the spacecraft stays as it is.
+    pub fn peek(&self) -> Option<(u8, &[u8])>
+        ensures { option_map lent_packet result ≡ (spacecraft_step self.now Take).answer }
+    {
+        match self.ready.front() {
+            Some(packet) => Some(packet.parts()),
+            None => None,
+        }
+    }
+
+    /// The packet that `take_bypass` takes next, lent, with its MAP; the spacecraft stays as it is.
+    pub fn peek_bypass(&self) -> Option<(u8, &[u8])>
+        ensures { option_map lent_packet result ≡ (spacecraft_step self.now TakeBypass).answer }
+    {
+        match self.bypass.front() {
+            Some(packet) => Some(packet.parts()),
+            None => None,
+        }
     }
 
     /// Takes the oldest packet that sequence-controlled frames carried, with its MAP (CCSDS
@@ -163,6 +183,13 @@ impl Spacecraft {
         ensures { result ≡ self.now.config.frame_length }
     {
         self.config.frame_length as usize
+    }
+
+    /// The receiver's state (CCSDS 232.1-B-2, 6.1.2).
+    pub fn state(&self) -> FarmMode
+        ensures { result ≡ self.now.farm.state }
+    {
+        self.farm.state()
     }
 
     /// The report on the receiver that the next telemetry frame carries (CCSDS 232.0-B-4, 4.2).
