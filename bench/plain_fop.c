@@ -166,8 +166,10 @@ static uint8_t report_in_s4(struct sedge_fop *fop, const struct sedge_clcw *word
     return SEDGE_NO_ALERT;
 }
 
-uint8_t CALL(report)(struct sedge_fop *fop, const struct sedge_clcw *word, uint8_t *released)
+uint8_t CALL(report)(struct sedge_fop *fop, uint8_t vcid, const struct sedge_clcw *word, uint8_t *released)
 {
+    if (word->vcid != vcid)
+        return SEDGE_ABSENT;
     TEST(fop);
     *released = 0;
     switch (fop->state) {

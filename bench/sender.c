@@ -16,7 +16,7 @@ enum { ROUNDS = 4000000, TURNS = 9 };
 struct calls {
     uint8_t (*submit)(struct sedge_fop *);
     uint8_t (*next)(struct sedge_fop *, uint8_t *);
-    uint8_t (*report)(struct sedge_fop *, const struct sedge_clcw *, uint8_t *);
+    uint8_t (*report)(struct sedge_fop *, uint8_t, const struct sedge_clcw *, uint8_t *);
     uint8_t (*tick)(struct sedge_fop *);
 };
 
@@ -67,7 +67,7 @@ static struct run run_of(const struct calls *volatile which)
         sum = sum * 31 + calls->next(&fop, &number) + number;
         if (i % 4 == 3) {
             struct sedge_clcw word = word_of(&fop, chances[i]);
-            alert = calls->report(&fop, &word, &released);
+            alert = calls->report(&fop, word.vcid, &word, &released);
         } else {
             alert = calls->tick(&fop);
         }

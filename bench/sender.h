@@ -8,7 +8,7 @@ uint8_t plain_fop_submit(struct sedge_fop *fop);
 
 uint8_t plain_fop_next(struct sedge_fop *fop, uint8_t *number);
 
-uint8_t plain_fop_report(struct sedge_fop *fop, const struct sedge_clcw *word, uint8_t *released);
+uint8_t plain_fop_report(struct sedge_fop *fop, uint8_t vcid, const struct sedge_clcw *word, uint8_t *released);
 
 uint8_t plain_fop_tick(struct sedge_fop *fop);
 
@@ -16,7 +16,7 @@ uint8_t tested_fop_submit(struct sedge_fop *fop);
 
 uint8_t tested_fop_next(struct sedge_fop *fop, uint8_t *number);
 
-uint8_t tested_fop_report(struct sedge_fop *fop, const struct sedge_clcw *word, uint8_t *released);
+uint8_t tested_fop_report(struct sedge_fop *fop, uint8_t vcid, const struct sedge_clcw *word, uint8_t *released);
 
 uint8_t tested_fop_tick(struct sedge_fop *fop);
 

@@ -1,10 +1,12 @@
 /* Sedgechisel for programs in C: the check of frames, telecommand frames, space packets, control words, telemetry
- * frames, the receiver FARM-1, the sender FOP-1, and packets in segments. For C99 and later, and for C++.
+ * frames, the receiver FARM-1, the sender FOP-1, packets in segments, and packets in telemetry frames. For C99 and
+ * later, and for C++.
  *
- * Nothing here allocates, keeps a state of its own, or calls a function of another library but memmove; so each may be
- * called anywhere, from two threads at once too, where they do not share what they write. Each is proved to do what
- * its crate's contract says, for every value of its arguments and of the structs behind its pointers. The books are
- * CCSDS 133.0-B-2 (space packets), 132.0-B-3 (telemetry), 232.0-B-4 (telecommand) and 232.1-B-2 (COP-1).
+ * Nothing here allocates, keeps a state of its own, or calls a function of another library but memcpy, memmove and
+ * memset; so each may be called anywhere, from two threads at once too, where they do not share what they write. Each
+ * is proved to do what its crate's contract says, for every value of its arguments and of the structs behind its
+ * pointers. The books are CCSDS 133.0-B-2 (space packets), 132.0-B-3 (telemetry), 232.0-B-4 (telecommand) and 232.1-B-2
+ * (COP-1).
  *
  * What a caller has to ensure, since nothing can check it:
  * - No pointer is null, and each is aligned for its type; this holds of a pointer to no octets too.
@@ -14,9 +16,11 @@
  * - What is written overlaps nothing else that the call is given.
  * - A bool is false or true, as it is wherever C or C++ makes it of another value.
  *
- * Most functions return 0, SEDGE_OK, or the number of the first fault that applies, by the enum before them. A call
- * that returns anything but 0 has written nothing, except where the number is not a fault: a verdict (sedge_farm_ad),
- * what goes on the link next (sedge_fop_next), or an alert (sedge_fop_report, sedge_fop_tick). */
+ * Most functions return 0, SEDGE_OK, or the number of the first fault that applies, by the enum before them. Such a
+ * call that returns anything but 0 has written nothing, except where the number is not a fault: a verdict
+ * (sedge_farm_ad), what goes on the link next (sedge_fop_next), or an alert (sedge_fop_report, sedge_fop_tick). A call
+ * that returns a bool and writes (sedge_check_append, sedge_map_packet, sedge_tm_packet) has written if it returns
+ * true, and nothing if it returns false. */
 #ifndef SEDGECHISEL_H
 #define SEDGECHISEL_H
 
@@ -30,9 +34,9 @@
 extern "C" {
 #endif
 
-/* The version of this header; sedge_version() gives that of the library, as "0.1.0". */
+/* The version of this header; sedge_version() gives that of the library, as "0.2.0". */
 #define SEDGE_VERSION_MAJOR 0
-#define SEDGE_VERSION_MINOR 1
+#define SEDGE_VERSION_MINOR 2
 #define SEDGE_VERSION_PATCH 0
 
 /* A word of at most 19 characters, with zeros after it. To print one, keep it in a variable of your own first:
@@ -195,7 +199,7 @@ uint8_t sedge_farm_state(const struct sedge_farm *farm);
  *     }
  *     ...
  *     uint8_t released;
- *     uint8_t alert = sedge_fop_report(&fop, &word, &released);
+ *     uint8_t alert = sedge_fop_report(&fop, CHANNEL, &word, &released);
  *
  * A report acknowledges the oldest units sent, as many as it writes to released; their places may be used again. An
  * alert (of a report, of a tick, or by sedge_fop_terminate) discards all units, the one that waits too; nothing else
@@ -291,9 +295,10 @@ uint8_t sedge_fop_submit(struct sedge_fop *fop);
  * SEDGE_DAMAGED, with nothing written. */
 uint8_t sedge_fop_next(struct sedge_fop *fop, uint8_t *number);
 
-/* The control word of a report has arrived. Returns the alert, of sedge_alert, and writes the number of units that are
- * acknowledged, the oldest of those sent; or returns SEDGE_DAMAGED, with nothing written. */
-uint8_t sedge_fop_report(struct sedge_fop *fop, const struct sedge_clcw *word, uint8_t *released);
+/* A control word has arrived, and the sender is that of the virtual channel vcid. Returns the alert, of sedge_alert,
+ * and writes the number of units that are acknowledged, the oldest of those sent; or with nothing written and nothing
+ * changed it returns the first of SEDGE_ABSENT, if the word reports on another channel, and SEDGE_DAMAGED. */
+uint8_t sedge_fop_report(struct sedge_fop *fop, uint8_t vcid, const struct sedge_clcw *word, uint8_t *released);
 
 /* A tick of the clock has passed. Returns the alert, of sedge_alert, or SEDGE_DAMAGED. */
 uint8_t sedge_fop_tick(struct sedge_fop *fop);
@@ -426,8 +431,11 @@ enum sedge_tm_fault {
     SEDGE_TM_STATUS = 4,      /* a flag of the data field status is 1, or its identifier is not 11 (4.1.2.7) */
     SEDGE_TM_POINTER = 5,     /* a first header pointer at or after the data field's end (4.1.2.7.6) */
     SEDGE_TM_NO_OCF = 6,      /* the frame declares no operational control field (4.1.2.4) */
+    SEDGE_TM_MEMORY = 7,      /* the caller's memory is too short for what would be kept in it */
+    SEDGE_TM_NOT_A_PACKET = 8, /* not exactly one packet, or an idle packet */
     SEDGE_TM_ROOM = 9,        /* there is too little room for the frame */
-    SEDGE_TM_FIELD_RANGE = 10 /* a field out of its range, a pointer after the data, or not 4 to 2,036 octets of data */
+    SEDGE_TM_FIELD_RANGE = 10 /* a field out of its range, a pointer after the data, not 4 to 2,036 octets of data, or
+                               * a length outside 16 to 2,048 */
 };
 
 /* The first header pointers that are no place (4.1.2.7.6). */
@@ -455,6 +463,81 @@ uint8_t sedge_tm_decode(const uint8_t *octets, size_t count, size_t length, stru
  * data, to total. Returns 0, or the first of SEDGE_TM_FIELD_RANGE and SEDGE_TM_ROOM. */
 uint8_t sedge_tm_encode(const struct sedge_tm_frame *frame, const uint8_t *data, size_t data_count, uint8_t *out,
                         size_t room, size_t *total);
+
+/* ---- Packets in telemetry frames, for one virtual channel (132.0-B-3, 4.2 and 4.3): built into frames and extracted
+ * from them. The caller keeps a struct and its memory, which no other struct uses. ---- */
+
+/* A builder of the frames of one virtual channel, all of one length. Begin it with sedge_tm_builder_open; its fields
+ * may be read at any time. The memory holds the octets that are to be sent: the rest of the packet that was begun, and
+ * then the packets that are queued. Each call checks that the fields are those of a builder and that these octets are
+ * in the memory and end with a packet; if not, it returns SEDGE_DAMAGED and changes nothing. So a call takes time in
+ * proportion to the number of packets that are queued. */
+struct sedge_tm_builder {
+    size_t from;        /* where the octets that are to be sent are in the memory */
+    size_t count;       /* the number of octets that are to be sent */
+    size_t begun;       /* the number of these that are left of the packet that was begun, the first ones */
+    uint16_t scid;      /* the spacecraft identifier, below 1,024 */
+    uint16_t length;    /* the octets of a frame, 16 to 2,048 */
+    uint8_t vcid;       /* the virtual channel identifier, below 8 */
+    uint8_t next_count; /* the frame count of the next frame, on the master and on the virtual channel */
+    uint8_t idle_left;  /* the octets left of an idle packet, at most 6, which are sent first */
+};
+
+/* Begins a builder whose frame counts begin at 0, with nothing to be sent. Returns 0, or SEDGE_TM_FIELD_RANGE if scid
+ * is not below 1,024, vcid not below 8, or length not from 16 to 2,048. */
+uint8_t sedge_tm_builder_open(struct sedge_tm_builder *builder, uint16_t scid, uint8_t vcid, size_t length);
+
+/* Queues a packet, all of its octets, after those that are to be sent. Returns 0, or the first of SEDGE_DAMAGED,
+ * SEDGE_TM_NOT_A_PACKET (not exactly one packet, or an idle one) and SEDGE_TM_MEMORY (the octets to be sent and the
+ * packet are more than the memory has). */
+uint8_t sedge_tm_builder_queue(struct sedge_tm_builder *builder, const uint8_t *packet, size_t count, uint8_t *memory,
+                               size_t room);
+
+/* Writes the next frame to the beginning of out, with this operational control field, of four octets as
+ * sedge_clcw_encode writes them, and its length, that of all the builder's frames, to total. Where packets run out
+ * within the frame, an idle packet fills it; where nothing is to be sent, the frame has only idle data. Returns 0, or
+ * the first of SEDGE_DAMAGED, SEDGE_WRONG_COUNT (the field is not four octets) and SEDGE_TM_ROOM. */
+uint8_t sedge_tm_builder_build(struct sedge_tm_builder *builder, const uint8_t *ocf, size_t ocf_count,
+                               const uint8_t *memory, size_t memory_count, uint8_t *out, size_t room, size_t *total);
+
+/* An extractor of the packets of one virtual channel. Begin it as {0, 0, 0, 0}; its fields may be read at any time.
+ * The memory holds the part of a packet whose end is to come, and after a frame also the packet that it ended. As many
+ * octets as the longest packet, idle ones included, and the data of a frame have together are enough; 67,578 are enough
+ * for all packets. SEDGE_DAMAGED is returned for a seen above 1, a part that is not in the memory, and a part where no
+ * frame was seen. */
+struct sedge_tm_extractor {
+    size_t from;  /* where the part is in the memory */
+    size_t count; /* the octets of the part, and 0 if there is none */
+    uint8_t last; /* the virtual channel frame count of the last frame, if one was seen */
+    uint8_t seen; /* whether a frame was seen, 0 or 1 */
+};
+
+/* What came of a frame: the packets whose last octets it has, but for idle ones. First comes the packet that began in
+ * earlier frames, if there is one: the first octets of the memory. Those after it are in the frame's data. */
+struct sedge_tm_extracted {
+    size_t joined;             /* the octets of the packet at the beginning of the memory, and 0 if there is none */
+    struct sedge_part packets; /* where sedge_tm_packet begins in the frame's data */
+    uint8_t first;             /* whether this is the first frame, 0 or 1 */
+    uint8_t lost;              /* the number of frames missing before it, modulo 256, and 0 for the first (4.1.2.6) */
+};
+
+/* Takes the next frame that came, its fields and its data as sedge_tm_decode gives them. Hand its packets on before the
+ * next call:
+ *
+ *     if (extracted.joined > 0) hand_on(memory, extracted.joined);
+ *     struct sedge_part packet = extracted.packets;
+ *     while (sedge_tm_packet(data, data_count, &packet)) hand_on(data + packet.from, packet.count);
+ *
+ * Where frames are missing, the part before them is dropped. Returns 0, or the first of SEDGE_DAMAGED,
+ * SEDGE_TM_FIELD_RANGE (the pointer is after the data) and SEDGE_TM_MEMORY (the packet that the frame ends and the part
+ * that it leaves are more than the memory has). The frame after a refused one shows that one as missing. */
+uint8_t sedge_tm_extractor_frame(struct sedge_tm_extractor *extractor, const struct sedge_tm_frame *frame,
+                                 const uint8_t *data, size_t data_count, uint8_t *memory, size_t room,
+                                 struct sedge_tm_extracted *extracted);
+
+/* Goes on to the packet after this part of a frame's data that is not idle. Returns true, and the part is that packet;
+ * or false, with nothing written, if there is none. */
+bool sedge_tm_packet(const uint8_t *data, size_t data_count, struct sedge_part *packet);
 
 /* ---- Packets in segments, for one MAP (232.0-B-4, 4.1.3.2.2), with blocking or without it. ---- */
 

@@ -1,6 +1,7 @@
-/* Random structs and octets, given to every call that reads them: `random COUNT`. Each returns one of its numbers; a call
- * that refuses has written nothing, and one that writes octets has written those that it says. Octets and structs end
- * where a page begins that may not be touched. Ends with 0 where all is as wanted, and says what is not. */
+/* Random structs and octets, given to every call that reads them: `random COUNT`. Each returns one of its numbers; a
+ * call that refuses has written nothing, and one that writes octets has written those that it says. Octets and
+ * structs end where a page begins that may not be touched. Ends with 0 where all is as wanted, and says what is not.
+ * */
 #define _DEFAULT_SOURCE
 #include <sedgechisel.h>
 #include <stdio.h>
@@ -9,7 +10,7 @@
 #include <sys/mman.h>
 #include <unistd.h>
 
-enum { MOST = 4096, REGIONS = 4, KINDS = 9 };
+enum { MOST = 4096, REGIONS = 4, KINDS = 11 };
 
 static int failures;
 
@@ -162,6 +163,7 @@ static void senders(void) {
     struct sedge_clcw word;
     uint8_t *number = room_of(1), answer, which = (uint8_t)below(15), value = (uint8_t)below(256);
     fill((uint8_t *)&word, sizeof word);
+    const uint8_t vcid = value % 2 ? word.vcid : value;
     switch (which) {
     case 0: answer = sedge_fop_open(fop, value, (uint8_t)below(256), value, value); break;
     case 1: answer = sedge_fop_init_without_check(fop); break;
@@ -175,7 +177,7 @@ static void senders(void) {
     case 9: answer = sedge_fop_set_timer(fop, value); break;
     case 10: answer = sedge_fop_submit(fop); break;
     case 11: answer = sedge_fop_next(fop, number); break;
-    case 12: answer = sedge_fop_report(fop, &word, number); break;
+    case 12: answer = sedge_fop_report(fop, vcid, &word, number); break;
     case 13: answer = sedge_fop_accepted_beyond(fop, value, number); break;
     default: answer = sedge_fop_tick(fop); break;
     }
@@ -184,6 +186,9 @@ static void senders(void) {
     } else if (which == 13) {
         WANT(memcmp(fop, &kept, sizeof kept) == 0 && (answer == SEDGE_ABSENT || answer == SEDGE_DAMAGED || answer == SEDGE_OK));
         WANT(answer == SEDGE_OK ? *number == (uint8_t)(value - fop->nn) : is_kept(number));
+    } else if (which == 12 && word.vcid != vcid) {
+        WANT(answer == SEDGE_ABSENT && memcmp(fop, &kept, sizeof kept) == 0 && is_kept(number));
+        return;
     } else {
         WANT(answer <= SEDGE_ALERT_TERMINATED || answer == SEDGE_DAMAGED);
         WANT(answer != SEDGE_DAMAGED || (memcmp(fop, &kept, sizeof kept) == 0 && is_kept(number)));
@@ -273,6 +278,72 @@ static void telemetry_frames(void) {
     WANT(answer == SEDGE_OK ? data.from == 6 && data.count == count - 12 : data.from == 11 && data.count == 22);
 }
 
+static void builders(void) {
+    size_t count = any_count(), size = any_count(), room = any_count(), total = 99;
+    uint8_t *octets = octets_of(0, count), *memory = octets_of(3, size), *out = room_of(room), answer;
+    struct sedge_tm_builder *builder = ANY(struct sedge_tm_builder), kept;
+    if (below(4) != 0) {
+        builder->scid = (uint16_t)below(1025);
+        builder->vcid = (uint8_t)below(9);
+        builder->length = (uint16_t)(below(8) == 0 ? below(2100) : 16 + below(40));
+        builder->idle_left = (uint8_t)below(8);
+        builder->from = below((uint32_t)size + 1);
+        builder->count = size - builder->from;
+        builder->begun = below(4) == 0 ? below((uint32_t)size + 1) : builder->count;
+        if (below(2)) {
+            make_packet(memory, size);
+            builder->from = builder->begun = 0;
+            builder->count = size;
+        }
+    }
+    kept = *builder;
+    if (count >= 4 && below(4) != 0) count = 4;
+    answer = sedge_tm_builder_build(builder, octets, count, memory, size, out, room, &total);
+    WANT(is_answer(answer, SEDGE_TM_ROOM, builder, &kept, sizeof kept) && (answer != SEDGE_WRONG_COUNT || count != 4));
+    look_at_written(answer == SEDGE_WRONG_COUNT ? SEDGE_DAMAGED : answer, SEDGE_TM_ROOM, out, room, total);
+    WANT(answer != SEDGE_OK || (total == kept.length && sedge_check_holds(out, total) && builder->idle_left <= 6));
+    count = any_count();
+    octets = octets_of(0, count);
+    make_packet(octets, count);
+    kept = *builder;
+    answer = sedge_tm_builder_queue(builder, octets, count, memory, size);
+    WANT(is_answer(answer, SEDGE_TM_NOT_A_PACKET, builder, &kept, sizeof kept));
+    WANT(answer != SEDGE_OK || (builder->from + builder->count <= size && builder->count == kept.count + count));
+}
+
+static void extractors(void) {
+    size_t count = any_count(), size = any_count();
+    uint8_t *octets = octets_of(0, count), *memory = octets_of(3, size), answer;
+    struct sedge_tm_frame *frame = ANY(struct sedge_tm_frame);
+    struct sedge_tm_extractor extractor, kept;
+    struct sedge_tm_extracted extracted = {77, {7, 7}, 7, 7};
+    make_packet(octets, count);
+    fill((uint8_t *)&extractor, sizeof extractor);
+    if (below(4) != 0) {
+        frame->pointer = (uint16_t)(below(2) ? below((uint32_t)count + 1) : SEDGE_POINTER_ONLY_IDLE + below(2));
+        extractor.seen = (uint8_t)below(2);
+        extractor.from = below((uint32_t)size + 1);
+        extractor.count = extractor.seen ? below((uint32_t)(size - extractor.from) + 2) : 0;
+        if (below(2)) extractor.last = (uint8_t)(frame->vc_count - 1);
+        if (extractor.count >= 6 && extractor.count <= size - extractor.from) {
+            const size_t whole = extractor.count + (frame->pointer < count ? frame->pointer : count);
+            memory[extractor.from] &= 0x17;
+            memory[extractor.from + 4] = (uint8_t)((whole - 7) >> 8);
+            memory[extractor.from + 5] = (uint8_t)(whole - 7);
+        }
+    }
+    kept = extractor;
+    answer = sedge_tm_extractor_frame(&extractor, frame, octets, count, memory, size, &extracted);
+    WANT(is_answer(answer, SEDGE_TM_FIELD_RANGE, &extractor, &kept, sizeof kept));
+    WANT(answer == SEDGE_OK || (extracted.joined == 77 && extracted.packets.from == 7 && extracted.lost == 7));
+    if (answer != SEDGE_OK) return;
+    WANT(extracted.joined <= size && extractor.from + extractor.count <= size && extracted.packets.count == 0);
+    WANT(extractor.seen == 1 && extractor.last == frame->vc_count && extracted.first == (kept.seen == 0));
+    while (sedge_tm_packet(octets, count, &extracted.packets)) {
+        WANT(extracted.packets.count >= 7 && extracted.packets.from + extracted.packets.count <= count);
+    }
+}
+
 static void maps(void) {
     size_t count = any_count(), room = any_count();
     uint8_t *octets = octets_of(0, count), *memory = octets_of(3, room), answer, flags = (uint8_t)below(5);
@@ -322,7 +393,7 @@ static void cuttings(void) {
 
 int main(int count, char **words) {
     static void (*const kinds[KINDS])(void) = {checks, control_words, receivers, senders, telecommand_frames,
-                                               packets, telemetry_frames, maps, cuttings};
+                                               packets, telemetry_frames, builders, extractors, maps, cuttings};
     if (count != 2 || make_regions() != 0) return 2;
     for (unsigned long left = strtoul(words[1], NULL, 10); left > 0; left--) kinds[below(KINDS)]();
     printf(failures ? "%d failed\n" : "all as wanted\n", failures);

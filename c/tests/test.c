@@ -360,16 +360,18 @@ static void a_sender_sends_again(void) {
     WANT(sedge_fop_next(&fop, &number) == SEDGE_NEXT_NOTHING && number == 0);
     for (number = 0; number < 3; number++) send_first(&fop, number);
     WANT(fop.vs == 3 && fop.nn == 0 && fop.sent == 3 && fop.ticks == 10);
-    WANT(sedge_fop_report(&fop, &word, &released) == SEDGE_NO_ALERT && released == 1);
+    released = 99;
+    WANT(sedge_fop_report(&fop, word.vcid + 1, &word, &released) == SEDGE_ABSENT && released == 99 && fop.nn == 0);
+    WANT(sedge_fop_report(&fop, word.vcid, &word, &released) == SEDGE_NO_ALERT && released == 1);
     WANT(fop.state == SEDGE_FOP_S2 && fop.nn == 1 && fop.sent == 2 && fop.due == 2);
     WANT(sedge_fop_next(&fop, &number) == SEDGE_NEXT_AGAIN && number == 1 && fop.due == 1);
     WANT(sedge_fop_next(&fop, &number) == SEDGE_NEXT_AGAIN && number == 2 && fop.due == 0);
     word.flags = 0;
     word.value = 3;
-    WANT(sedge_fop_report(&fop, &word, &released) == SEDGE_NO_ALERT && released == 2);
+    WANT(sedge_fop_report(&fop, word.vcid, &word, &released) == SEDGE_NO_ALERT && released == 2);
     WANT(fop.state == SEDGE_FOP_S1 && fop.sent == 0 && fop.ticks == 0);
     word.value = 4;
-    WANT(sedge_fop_report(&fop, &word, &released) == SEDGE_ALERT_NNR && released == 0 && fop.state == SEDGE_FOP_S6);
+    WANT(sedge_fop_report(&fop, word.vcid, &word, &released) == SEDGE_ALERT_NNR && released == 0 && fop.state == SEDGE_FOP_S6);
 }
 
 /* The timer ends three times, and then the sender gives up. */
@@ -417,7 +419,7 @@ static void the_directives(void) {
     WANT(sedge_fop_set_timer(&fop, 0) == SEDGE_COP_TIMER && fop.window == 5 && fop.timer == 300);
     WANT(sedge_fop_set_vs(&fop, 7) == SEDGE_OK && fop.vs == 7 && fop.nn == 7);
     WANT(sedge_fop_init_with_check(&fop) == SEDGE_OK && fop.state == SEDGE_FOP_S4 && fop.ticks == 300);
-    WANT(sedge_fop_report(&fop, &word, &released) == SEDGE_NO_ALERT && fop.state == SEDGE_FOP_S1);
+    WANT(sedge_fop_report(&fop, word.vcid, &word, &released) == SEDGE_NO_ALERT && fop.state == SEDGE_FOP_S1);
     WANT(sedge_fop_set_vs(&fop, 8) == SEDGE_COP_WRONG_STATE && sedge_fop_init_unlock(&fop) == SEDGE_COP_WRONG_STATE);
     WANT(sedge_fop_terminate(&fop) == SEDGE_OK && fop.state == SEDGE_FOP_S6);
     WANT(sedge_fop_init_unlock(&fop) == SEDGE_OK && fop.state == SEDGE_FOP_S5);
@@ -427,7 +429,7 @@ static void the_directives(void) {
     WANT(fop.control == SEDGE_CONTROL_SET_VR_DUE && fop.vr == 200 && fop.vs == 200 && fop.nn == 200);
     WANT(sedge_fop_next(&fop, &number) == SEDGE_NEXT_SET_VR && number == 200);
     word.value = 200;
-    WANT(sedge_fop_report(&fop, &word, &released) == SEDGE_NO_ALERT && fop.state == SEDGE_FOP_S1 && fop.vr == 0);
+    WANT(sedge_fop_report(&fop, word.vcid, &word, &released) == SEDGE_NO_ALERT && fop.state == SEDGE_FOP_S1 && fop.vr == 0);
 }
 
 static void refusals_of_a_sender(void) {
@@ -452,7 +454,7 @@ static void is_damaged_sender(struct sedge_fop fop) {
     WANT(sedge_fop_set_window(&fop, 1) == SEDGE_DAMAGED && sedge_fop_set_limit(&fop, 1) == SEDGE_DAMAGED);
     WANT(sedge_fop_set_timer(&fop, 1) == SEDGE_DAMAGED && sedge_fop_submit(&fop) == SEDGE_DAMAGED);
     WANT(sedge_fop_next(&fop, &number) == SEDGE_DAMAGED && sedge_fop_tick(&fop) == SEDGE_DAMAGED);
-    WANT(sedge_fop_report(&fop, &word, &number) == SEDGE_DAMAGED && number == 99);
+    WANT(sedge_fop_report(&fop, word.vcid, &word, &number) == SEDGE_DAMAGED && number == 99);
     WANT(sedge_fop_accepted_beyond(&fop, 0, &number) == SEDGE_DAMAGED && number == 99);
     WANT(memcmp(&fop, &kept, sizeof fop) == 0);
 }

@@ -4,12 +4,13 @@ use Rattle.std.proofs.Common.{arith}
 use Rattle.std.specs.Prelude.{IfSome, if◌then◌else◌}
 use Rattle.std.proofs.lemmas.Bool.{and_from, and_parts, le-leb}
 use Rattle.tc_frame.specs.declared.frame.Command.TheVariants.{Unlock, SetVr}
-use Rattle.cop1.specs.declared.fop.Control.{Control}
-use Rattle.cop1.specs.declared.fop.Control.TheVariants.{Idle, Due, Sent}
-use Rattle.cop1.specs.declared.fop.FopMode.{FopMode}
-use Rattle.cop1.specs.declared.fop.FopMode.TheVariants.{S1}
+use Rattle.cop1.specs.declared.vocabulary.Control.{Control}
+use Rattle.cop1.specs.declared.vocabulary.Control.TheVariants.{Idle, Due, Sent}
+use Rattle.cop1.specs.declared.vocabulary.FopMode.{FopMode}
+use Rattle.cop1.specs.declared.vocabulary.FopMode.TheVariants.{S1}
 use Rattle.cop1.specs.declared.sender.SenderFields.{SenderFields}
-use Rattle.cop1.specs.SenderState.{IsSender, HasRanges, AgreesWithState}
+use Rattle.cop1.specs.Numbers.{IsSender, HasRanges, AgreesWithState, SenderNumbers}
+use Rattle.cop1.specs.SenderFields.{numbers_of}
 use Rattle.sedgechisel.specs.declared.sender.KeptSender.{KeptSender}
 use Rattle.sedgechisel.specs.Answers.{damaged, and_then}
 use Rattle.sedgechisel.specs.Receivers.{flag_number}
@@ -41,7 +42,7 @@ ticks_again (Some left) h = grind arith
 
 -- ---- the ranges
 
-ranges_hold : (s : SenderFields) → HasRanges s → has_ranges s ≡ true
+ranges_hold : (s : SenderNumbers) → HasRanges s → has_ranges s ≡ true
 ranges_hold s h =
     rw (
       le-leb _ _ h.within,
@@ -54,14 +55,14 @@ ranges_hold s h =
       le-leb _ _ h.count,
     ) refl
 
-agreement_holds : (s : SenderFields) (m : FopMode) → s.state ≡ m → AgreesWithState s → agrees_in s m ≡ true
+agreement_holds : (s : SenderNumbers) (m : FopMode) → s.state ≡ m → AgreesWithState s → agrees_in s m ≡ true
 agreement_holds s S1 is h = grind (arith, h)
 agreement_holds s _ is h = grind (arith, h)
 
-is_sure : (s : SenderFields) → IsSender s → is_sender s ≡ true
+is_sure : (s : SenderNumbers) → IsSender s → is_sender s ≡ true
 is_sure s h = and_from _ _ (ranges_hold s h.ranges) (agreement_holds s s.state refl h.agrees)
 
-fields_again : (s : SenderFields) → IfSome s.ticks (λ left. 1 ≤ left) → fields_described (kept_of s) ≡ Ok s
+fields_again : (s : SenderNumbers) → IfSome s.ticks (λ left. 1 ≤ left) → fields_described (kept_of s) ≡ Ok s
 fields_again s h =
     ap (λ (m : Option FopMode). fields_with (kept_of s) m (flag_at (flag_number s.waiting))
     (control_at (control_number s.control) (control_vr s.control)))
@@ -72,36 +73,36 @@ fields_again s h =
     ∙ ap (λ (c : Option Control). fields_with (kept_of s) (Some s.state) (Some s.waiting) c) (control_again s.control)
     ∙ ap (λ (t : Option ℕ). Ok (record s { ticks = t })) (ticks_again s.ticks h)
 
-pub described_again : (s : SenderFields) → IsSender s → sender_described (kept_of s) ≡ Ok s
+pub described_again : (s : SenderNumbers) → IsSender s → sender_described (kept_of s) ≡ Ok s
 described_again s h =
-    ap (λ (r : Result SenderFields ℕ). and_then r (λ t. if is_sender t then Ok t else Err damaged))
+    ap (λ (r : Result SenderNumbers ℕ). and_then r (λ t. if is_sender t then Ok t else Err damaged))
     (fields_again s h.ranges.ticks)
     ∙ ap (λ (b : Bool). if b then Ok s else Err damaged) (is_sure s h)
 
-pub kept_describes : (k : KeptSender) (s : SenderFields) → k ≡ kept_of s → IsSender s → sender_described k ≡ Ok s
+pub kept_describes : (k : KeptSender) (s : SenderNumbers) → k ≡ kept_of s → IsSender s → sender_described k ≡ Ok s
 kept_describes k s is h = rw is (described_again s h)
 
 -- ---- fields that no sender has
 
-ranges_are : (s : SenderFields) → s.vs < 256 → s.nn < 256 → IfSome s.ticks (λ left. 1 ≤ left) → has_ranges s ≡ true
+ranges_are : (s : SenderNumbers) → s.vs < 256 → s.nn < 256 → IfSome s.ticks (λ left. 1 ≤ left) → has_ranges s ≡ true
     → HasRanges s
 ranges_are s vs nn ticks h = grind (arith, vs, nn, ticks, h)
 
-agreement_is : (s : SenderFields) (m : FopMode) → s.state ≡ m → agrees_in s m ≡ true → AgreesWithState s
+agreement_is : (s : SenderNumbers) (m : FopMode) → s.state ≡ m → agrees_in s m ≡ true → AgreesWithState s
 agreement_is s S1 is h = grind (arith, is, h)
 agreement_is s _ is h = grind (arith, is, h)
 
-sender_is : (s : SenderFields) → s.vs < 256 → s.nn < 256 → IfSome s.ticks (λ left. 1 ≤ left) → is_sender s ≡ true
+sender_is : (s : SenderNumbers) → s.vs < 256 → s.nn < 256 → IfSome s.ticks (λ left. 1 ≤ left) → is_sender s ≡ true
     → IsSender s
 sender_is s vs nn ticks h =
     let parts = and_parts _ _ h in
     record { ranges = ranges_are s vs nn ticks parts.0; agrees = agreement_is s s.state refl parts.1 }
 
-if_err : (b : Bool) (s : SenderFields) → (b ≡ true → ⊥) → (if b then Ok s else Err damaged) ≡ Err damaged
+if_err : (b : Bool) (s : SenderNumbers) → (b ≡ true → ⊥) → (if b then Ok s else Err damaged) ≡ Err damaged
 if_err true s h = absurd (h refl)
 if_err false s h = refl
 
-same_ticks : (k : KeptSender) (m : Option FopMode) (f : Option Bool) (c : Option Control) (s : SenderFields)
+same_ticks : (k : KeptSender) (m : Option FopMode) (f : Option Bool) (c : Option Control) (s : SenderNumbers)
     → fields_with k m f c ≡ Ok s → s.ticks ≡ ticks_at k.ticks
 same_ticks k (Some m) (Some f) (Some c) s h = grind arith
 same_ticks k (Some m) (Some f) None s h = absurd cc
@@ -111,10 +112,11 @@ same_ticks k None f c s h = absurd cc
 ticks_run : (n : ℕ) → IfSome (ticks_at n) (λ left. 1 ≤ left)
 ticks_run n = grind arith
 
-pub described_none : (k : KeptSender) (s : SenderFields) → s.vs < 256 → s.nn < 256 → fields_described k ≡ Ok s
-    → (IsSender s → ⊥)
+pub described_none : (k : KeptSender) (f : SenderFields) → f.vs < 256 → f.nn < 256
+    → fields_described k ≡ Ok (numbers_of f) → (IsSender (numbers_of f) → ⊥)
     → sender_described k ≡ Err damaged
-described_none k s vs nn is h =
+described_none k f vs nn is h =
+    let s : SenderNumbers = numbers_of f in
     let ticks : IfSome s.ticks (λ left. 1 ≤ left) = rw (same_ticks k _ _ _ s is) (ticks_run k.ticks) in
-    ap (λ (r : Result SenderFields ℕ). and_then r (λ t. if is_sender t then Ok t else Err damaged)) is
+    ap (λ (r : Result SenderNumbers ℕ). and_then r (λ t. if is_sender t then Ok t else Err damaged)) is
     ∙ if_err (is_sender s) s (λ (sure : is_sender s ≡ true). h (sender_is s vs nn ticks sure))

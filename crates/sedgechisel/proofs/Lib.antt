@@ -2,3 +2,5 @@ mod Assembling
 mod Cut
 mod Kept
 mod Described
+mod Building
+mod Extracting

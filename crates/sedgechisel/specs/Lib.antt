@@ -1,7 +1,10 @@
 pub mod Answers
+pub mod Builders
 pub mod Commands
 pub mod ControlWords
 pub mod Cuttings
+pub mod Extractors
+pub mod Fields
 pub mod Maps
 pub mod Names
 pub mod Numbers

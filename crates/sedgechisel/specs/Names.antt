@@ -7,7 +7,7 @@ use Rattle.cop1.specs.declared.fault.CopFault.TheVariants as cop
 use Rattle.cop1.specs.Faults as cop_faults
 use Rattle.cop1.specs.declared.farm.Verdict.TheVariants as verdicts
 use Rattle.cop1.specs.Names.{verdict_row, alert_row}
-use Rattle.cop1.specs.declared.fop.Alert.TheVariants as alerts
+use Rattle.cop1.specs.declared.vocabulary.Alert.TheVariants as alerts
 use Rattle.tc_frame.specs.declared.fault.TcFault.TheVariants as tc
 use Rattle.tc_frame.specs.Faults as tc_faults
 use Rattle.space_packet.specs.declared.fault.PacketFault.TheVariants as packet

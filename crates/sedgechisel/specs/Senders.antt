@@ -1,15 +1,15 @@
 -- The sender as C keeps it.
 use Rattle.std.specs.Prelude.{◌≡◌, ℕ, Bool, true, false, not, [], ◌∷◌, ◌&&◌, ◌==◌, nat_le}
 use Rattle.std.specs.Prelude.{if◌then◌else◌, Option, Some, None, is_some, Result, Ok, Err}
+use Rattle.clcw.specs.declared.word.Clcw.{Clcw}
 use Rattle.tc_frame.specs.declared.frame.Command.TheVariants.{Unlock, SetVr}
 use Rattle.cop1.specs.declared.fault.CopFault.{CopFault}
-use Rattle.cop1.specs.declared.fop.Alert.{Alert}
-use Rattle.cop1.specs.declared.fop.Control.{Control}
-use Rattle.cop1.specs.declared.fop.Control.TheVariants.{Idle, Due, Sent}
-use Rattle.cop1.specs.declared.fop.Directive.{Directive}
-use Rattle.cop1.specs.declared.fop.FopMode.{FopMode}
-use Rattle.cop1.specs.declared.fop.FopMode.TheVariants.{S1, S2, S3, S4, S5, S6}
-use Rattle.cop1.specs.declared.sender.SenderFields.{SenderFields}
+use Rattle.cop1.specs.declared.vocabulary.Alert.{Alert}
+use Rattle.cop1.specs.declared.vocabulary.Control.{Control}
+use Rattle.cop1.specs.declared.vocabulary.Control.TheVariants.{Idle, Due, Sent}
+use Rattle.cop1.specs.declared.vocabulary.Directive.{Directive}
+use Rattle.cop1.specs.declared.vocabulary.FopMode.{FopMode}
+use Rattle.cop1.specs.declared.vocabulary.FopMode.TheVariants.{S1, S2, S3, S4, S5, S6}
 use Rattle.cop1.specs.declared.sender.sending.SenderNext.{SenderNext}
 use Rattle.cop1.specs.declared.sender.sending.SenderNext.TheVariants as next
 use Rattle.cop1.specs.Accepted.{accepted_beyond}
@@ -17,12 +17,11 @@ use Rattle.cop1.specs.Faults.{fault_row}
 use Rattle.cop1.specs.FopNew.{new_fault}
 use Rattle.cop1.specs.Modulo.{ahead_by}
 use Rattle.cop1.specs.Names.{alert_row}
-use Rattle.cop1.specs.SenderState.{new_sender}
-use Rattle.cop1.specs.SenderStep.{SenderInput, SenderAnswer, Submit, Direct, sender_step}
-use Rattle.cop1.specs.SenderWords.{SenderOutcome}
+use Rattle.cop1.specs.Numbers.{SenderNumbers, SenderOutcome, new_sender}
+use Rattle.cop1.specs.NumbersStep.{SenderInput, SenderAnswer, Submit, Report, Direct, sender_step}
 use Rattle.octets.specs.Outcome.{map_ok}
 use Rattle.sedgechisel.specs.declared.sender.KeptSender.{KeptSender}
-use Rattle.sedgechisel.specs.Answers.{damaged, and_then, if_there}
+use Rattle.sedgechisel.specs.Answers.{damaged, absent, and_then, if_there}
 use Rattle.sedgechisel.specs.Numbers.{found_by}
 use Rattle.sedgechisel.specs.Receivers.{flag_number}
 
@@ -51,7 +50,7 @@ control_vr (Due (SetVr vr)) = vr
 control_vr (Sent (SetVr vr)) = vr
 
 -- the fields that describe a sender
-abbrev pub kept_of : SenderFields → KeptSender
+abbrev pub kept_of : SenderNumbers → KeptSender
 kept_of s = record {
   timer = s.timer;
   ticks = ticks_number s.ticks;
@@ -60,8 +59,8 @@ kept_of s = record {
   vs = s.vs;
   nn = s.nn;
   waiting = flag_number s.waiting;
-  sent = s.sent;
-  due = s.due;
+  sent = s.sent.count;
+  due = s.sent.due;
   window = s.window;
   limit = s.limit;
   count = s.count;
@@ -92,15 +91,15 @@ abbrev pub flag_at : ℕ → Option Bool
 flag_at n = if n == 0 then Some false else if n == 1 then Some true else None
 
 abbrev pub fields_with : KeptSender → Option FopMode → Option Bool → Option Control
-    → Result SenderFields ℕ
+    → Result SenderNumbers ℕ
 fields_with k (Some state) (Some waiting) (Some control) = Ok (record {
   room = k.room;
   state = state;
   vs = k.vs;
   nn = k.nn;
   waiting = waiting;
-  sent = k.sent;
-  due = k.due;
+  sent = record { count = k.sent; due = k.due };
+  bypass = tt;
   window = k.window;
   limit = k.limit;
   timer = k.timer;
@@ -113,14 +112,14 @@ fields_with k (Some state) None control = Err damaged
 fields_with k None waiting control = Err damaged
 
 -- the numbers that the fields describe
-abbrev pub fields_described : KeptSender → Result SenderFields ℕ
+abbrev pub fields_described : KeptSender → Result SenderNumbers ℕ
 fields_described k = fields_with k (mode_at k.state) (flag_at k.waiting) (control_at k.control k.vr)
 
 -- the ranges of a sender's numbers
-abbrev pub has_ranges : SenderFields → Bool
+abbrev pub has_ranges : SenderNumbers → Bool
 has_ranges s =
-    nat_le s.sent s.room && nat_le s.room 127 && nat_le 1 s.window && nat_le s.window s.room
-    && nat_le s.due s.sent && nat_le 1 s.limit && nat_le 1 s.timer && nat_le 1 s.count
+    nat_le s.sent.count s.room && nat_le s.room 127 && nat_le 1 s.window && nat_le s.window s.room
+    && nat_le s.sent.due s.sent.count && nat_le 1 s.limit && nat_le 1 s.timer && nat_le 1 s.count
 
 abbrev pub is_idle : Control → Bool
 is_idle Idle = true
@@ -128,36 +127,36 @@ is_idle (Due command) = false
 is_idle (Sent command) = false
 
 -- in S1 to S5 the units that are sent have the numbers from NN(R) to V(S) - 1
-abbrev pub is_numbered : SenderFields → Bool
-is_numbered s = ahead_by s.vs s.nn == s.sent
+abbrev pub is_numbered : SenderNumbers → Bool
+is_numbered s = ahead_by s.vs s.nn == s.sent.count
 
 -- in S6 nothing is there, and a control command is there in S5 alone
-abbrev pub agrees_in : SenderFields → FopMode → Bool
+abbrev pub agrees_in : SenderNumbers → FopMode → Bool
 agrees_in s S5 = is_numbered s
-agrees_in s S6 = (s.sent == 0) && not s.waiting && not (is_some s.ticks) && is_idle s.control
+agrees_in s S6 = (s.sent.count == 0) && not s.waiting && not (is_some s.ticks) && is_idle s.control
 agrees_in s _ = is_numbered s && is_idle s.control
 
 -- a sender has such numbers
-abbrev pub is_sender : SenderFields → Bool
+abbrev pub is_sender : SenderNumbers → Bool
 is_sender s = has_ranges s && agrees_in s s.state
 
 -- the sender that the fields describe
-abbrev pub sender_described : KeptSender → Result SenderFields ℕ
+abbrev pub sender_described : KeptSender → Result SenderNumbers ℕ
 sender_described k = and_then (fields_described k) (λ s. if is_sender s then Ok s else Err damaged)
 
 -- the fields describe this sender, where there is one
-abbrev pub AreDescribed : KeptSender → Result SenderFields ℕ → Type 0
+abbrev pub AreDescribed : KeptSender → Result SenderNumbers ℕ → Type 0
 AreDescribed k (Ok s) = sender_described k ≡ Ok s
 AreDescribed k (Err number) = Unit {0}
 
 -- ---- the calls
 
-abbrev pub unless_refused : Option CopFault → SenderFields → Result SenderFields ℕ
+abbrev pub unless_refused : Option CopFault → SenderNumbers → Result SenderNumbers ℕ
 unless_refused None s = Ok s
 unless_refused (Some fault) s = Err (fault_row fault).0
 
 -- a new sender
-abbrev pub sender_opened : ℕ → ℕ → ℕ → ℕ → Result SenderFields ℕ
+abbrev pub sender_opened : ℕ → ℕ → ℕ → ℕ → Result SenderNumbers ℕ
 sender_opened width window limit timer =
     unless_refused (new_fault width window limit timer) (new_sender width window limit timer)
 
@@ -167,19 +166,27 @@ abbrev pub stepped : (k : KeptSender) (input : SenderInput)
 stepped k input = map_ok (λ s. sender_step s input) (sender_described k)
 
 -- the sender after an input
-abbrev pub after_step : KeptSender → SenderInput → Result SenderFields ℕ
+abbrev pub after_step : KeptSender → SenderInput → Result SenderNumbers ℕ
 after_step k input = map_ok (λ o. o.after) (stepped k input)
 
 -- the sender after what may be refused
-abbrev pub unless_fault : {A : Type 0} → SenderFields → Result A CopFault → Result SenderFields ℕ
+abbrev pub unless_fault : {A : Type 0} → SenderNumbers → Result A CopFault → Result SenderNumbers ℕ
 unless_fault s (Ok answer) = Ok s
 unless_fault s (Err fault) = Err (fault_row fault).0
 
-abbrev pub submitted : KeptSender → Result SenderFields ℕ
+abbrev pub submitted : KeptSender → Result SenderNumbers ℕ
 submitted k = and_then (stepped k Submit) (λ o. unless_fault o.after o.answer)
 
-abbrev pub directed : KeptSender → Directive → Result SenderFields ℕ
+abbrev pub directed : KeptSender → Directive → Result SenderNumbers ℕ
 directed k directive = and_then (stepped k (Direct directive)) (λ o. unless_fault o.after o.answer)
+
+-- what a control word leads to at the sender of a virtual channel: one of another channel is no
+-- report
+abbrev pub reported : KeptSender → ℕ → Clcw → Result (SenderOutcome (Option Alert)) ℕ
+reported k vcid word = if word.vcid == vcid then stepped k (Report word) else Err absent
+
+abbrev pub after_report : KeptSender → ℕ → Clcw → Result SenderNumbers ℕ
+after_report k vcid word = map_ok (λ o. o.after) (reported k vcid word)
 
 -- how many units a report's value says were accepted, where it says so
 abbrev pub accepted_by : KeptSender → ℕ → Result ℕ ℕ

@@ -182,7 +182,7 @@ fn take_first(map: &mut KeptMap, octets: &[u8], memory: &mut [u8]) -> TakenSegme
 }
 
 // Puts octets into the memory after this many, and says how many are there then.
-fn add(count: usize, octets: &[u8], memory: &mut [u8]) -> usize
+pub(crate) fn add(count: usize, octets: &[u8], memory: &mut [u8]) -> usize
     requires room { count + length octets.now ≤ length memory.old }
     ensures joined { take result memory.new ≡ take count memory.old ++ octets.now }
     ensures count { result ≡ count + length octets.now }

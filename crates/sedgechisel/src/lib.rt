@@ -1,5 +1,5 @@
 //! Both ends of the link for programs in C: a static library that allocates nothing, and calls nothing of
-//! another library but `memmove`.
+//! another library but `memcpy`, `memmove` and `memset`.
 #![tactic(auto)]
 
 mod assembly;
@@ -14,4 +14,6 @@ mod part;
 mod receiver;
 mod report_frame;
 mod sender;
+mod telemetry_builder;
+mod telemetry_extractor;
 mod text;

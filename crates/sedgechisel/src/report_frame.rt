@@ -90,7 +90,7 @@ fn frame_from<'a>(fields: &ReportFrame, payload: &'a [u8]) -> TmFrame<'a>
     }
 }
 
-fn pointer_from(number: u16) -> Pointer
+pub(crate) fn pointer_from(number: u16) -> Pointer
     ensures { result ≡ pointer_at number }
 {
     match number {

@@ -5,13 +5,14 @@ mod describing;
 mod directing;
 
 ghost use Rattle.std.specs.Prelude.{◌≡◌};
-ghost use Rattle.cop1.specs.SenderStep.{Submit, Next, Report, Tick};
+ghost use Rattle.cop1.specs.NumbersStep.{Submit, Next, Tick};
 ghost use Rattle.sedgechisel.specs.Answers.{status_of, left_by};
 ghost use Rattle.sedgechisel.specs.ControlWords.{word_of};
 ghost use Rattle.sedgechisel.specs.Receivers.{answer_of};
-ghost use Rattle.sedgechisel.specs.Senders.{kept_of, sender_opened, stepped, after_step, submitted, alert_answer, next_answer, next_number, AreDescribed};
+ghost use Rattle.sedgechisel.specs.Senders.{kept_of, sender_opened, stepped, after_step, submitted, reported, after_report, alert_answer, next_answer, next_number, AreDescribed};
 
 use crate::control_word::{ControlWord, word_from};
+use crate::numbers::ABSENT;
 use cop1::{Alert, Sender, SenderNext};
 use describing::{described, kept};
 use tc_frame::Command;
@@ -102,22 +103,27 @@ pub extern "C" fn sedge_fop_next(sender: &mut KeptSender, number: &mut u8) -> u8
     }
 }
 
-/// The control word of a report has come. Answers the alert's number, 0 for none, and how many units are acknowledged;
-/// or 255 where the sender is damaged.
+/// A control word has come, and the sender is that of the virtual channel `vcid`. Answers the alert's number, 0 for none,
+/// and how many units are acknowledged; or 253 where the word reports on another channel, or 255 where the sender is
+/// damaged.
 #[unsafe(no_mangle)]
 pub extern "C" fn sedge_fop_report(
     sender: &mut KeptSender,
+    vcid: u8,
     word: &ControlWord,
     released: &mut u8,
 ) -> u8
     ensures answer { result ≡ answer_of
-        (λ o. alert_answer o.answer) (stepped sender.old (Report (word_of word.now))) }
+        (λ o. alert_answer o.answer) (reported sender.old vcid (word_of word.now)) }
     ensures released { released.new
-        ≡ left_by (λ o. o.gone) (stepped sender.old (Report (word_of word.now))) released.old }
+        ≡ left_by (λ o. o.gone) (reported sender.old vcid (word_of word.now)) released.old }
     ensures sender { sender.new
-        ≡ left_by kept_of (after_step sender.old (Report (word_of word.now))) sender.old }
-    ensures describes { AreDescribed sender.new (after_step sender.old (Report (word_of word.now))) }
+        ≡ left_by kept_of (after_report sender.old vcid (word_of word.now)) sender.old }
+    ensures describes { AreDescribed sender.new (after_report sender.old vcid (word_of word.now)) }
 {
+    if word.vcid != vcid {
+        return ABSENT;
+    }
     match described(sender) {
         Ok(mut machine) => {
             let answer = machine.report(&word_from(word));

@@ -13,9 +13,9 @@ pub struct Text {
 /// The version of the library.
 #[unsafe(no_mangle)]
 pub extern "C" fn sedge_version() -> Text
-    ensures { result.text ≡ text_of (codes "0.1.0") }
+    ensures { result.text ≡ text_of (codes "0.2.0") }
 {
-    spelled("0.1.0")
+    spelled("0.2.0")
 }
 
 pub(crate) fn spelled(word: &str) -> Text

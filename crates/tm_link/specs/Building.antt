@@ -9,6 +9,7 @@ use Rattle.tm_link.specs.declared.frame.Pointer.{Pointer}
 use Rattle.tm_link.specs.declared.frame.Pointer.TheVariants.{At, NoStart, OnlyIdle}
 use Rattle.tm_link.specs.declared.fault.TmFault.{TmFault}
 use Rattle.tm_link.specs.declared.fault.TmFault.TheVariants as faults
+use Rattle.tm_link.specs.declared.turn.Turn.{Turn}
 use Rattle.tm_link.specs.Extraction.{is_idle}
 use Rattle.tm_link.specs.Layout.{FrameView}
 
@@ -82,8 +83,11 @@ abbrev pub data_size : BuilderState → ℕ
 data_size s = s.total - 12
 
 -- the stream stands at a packet's end, and nothing is queued
+abbrev pub is_nothing : ℕ → List ℕ → Bool
+is_nothing idle_left pending = (idle_left == 0) && (length pending == 0)
+
 abbrev pub is_at_rest : BuilderState → Bool
-is_at_rest s = (s.idle_left == 0) && (length s.pending == 0)
+is_at_rest s = is_nothing s.idle_left s.pending
 
 -- the room where packets run out, in a field of this many octets
 abbrev pub room_left : ℕ → ℕ → ℕ → ℕ
@@ -95,18 +99,37 @@ data_from idle_left pending size =
     take size (idle_tail idle_left ++ pending
     ++ idle_packet (max (room_left size idle_left (length pending)) 7))
 
+-- where nothing is to be sent it has only idle data
+abbrev pub field_with : ℕ → List ℕ → ℕ → List ℕ
+field_with idle_left pending size =
+    if is_nothing idle_left pending then replicate size 0x55 else data_from idle_left pending size
+
 abbrev pub data_built : BuilderState → List ℕ
-data_built s =
-    if is_at_rest s then replicate (data_size s) 0x55 else data_from s.idle_left s.pending
-    (data_size s)
+data_built s = field_with s.idle_left s.pending (data_size s)
 
 -- the least place where a packet starts: after what is left of one, in a field of this many octets
 abbrev pub first_start : ℕ → ℕ → Pointer
 first_start left size = if nat_lt left size then At left else NoStart
 
+abbrev pub pointer_with : ℕ → ℕ → List ℕ → ℕ → Pointer
+pointer_with idle_left begun pending size =
+    if is_nothing idle_left pending then OnlyIdle else first_start (idle_left + begun) size
+
 abbrev pub pointer_built : BuilderState → Pointer
-pointer_built s =
-    if is_at_rest s then OnlyIdle else first_start (s.idle_left + s.begun) (data_size s)
+pointer_built s = pointer_with s.idle_left s.begun s.pending (data_size s)
+
+-- the state whose frame is built, which has nothing to do with the packets after the first
+abbrev pub state_with : Turn → ℕ → List ℕ → BuilderState
+state_with t total pending = record {
+  scid = t.scid;
+  vcid = t.vcid;
+  total = total;
+  count = t.count;
+  idle_left = t.idle_left;
+  pending = pending;
+  begun = t.begun;
+  sizes = [];
+}
 
 abbrev pub frame_built : BuilderState → List ℕ → FrameView
 frame_built s ocf =

@@ -1,16 +1,16 @@
 // Building frames of a stream of packets.
 
-ghost use Rattle.std.specs.Prelude.{◌≡◌, ◌≤◌, ◌++◌, ◌↔◌, ℕ, List, [], ◌∷◌, length, take, drop, IsTrue, IsOk, IfOk, IfErr, OnOk, OnErr};
-ghost use Rattle.tm_link.specs.Building.{new_builder, builder_fits, after_queue, queue_fault, is_to_send, data_size, is_at_rest, first_start, data_built, pointer_built, idle_after, after_send, after_fill, build_step};
+ghost use Rattle.std.specs.Prelude.{◌≡◌, ◌≤◌, ◌<◌, ◌^◌, ◌++◌, ◌↔◌, ℕ, List, [], ◌∷◌, length, take, drop, IsTrue, IsOk, IfOk, IfErr, OnOk, OnErr};
+ghost use Rattle.tm_link.specs.Building.{new_builder, builder_fits, after_queue, queue_fault, is_to_send, is_at_rest, first_start, idle_after, after_send, after_fill, with_next_count, build_step, state_with};
 ghost use Rattle.tm_link.specs.Layout.{FrameView, IsTmFrame};
 ghost use Rattle.tm_link.specs.Laying.{IsLaidOutBy};
 ghost use Rattle.tm_link.specs.Writing.{spelling};
 
-use crate::encoding::put_frame;
 use crate::ending::is_idle_with;
 use crate::fault::TmFault;
-use crate::filling::{pass, put_data};
-use crate::frame::{Pointer, TmFrame};
+use crate::filling::pass;
+use crate::frame::Pointer;
+use crate::turn::{Turn, put_next};
 use octets::remove_front;
 use space_packet::is_packet;
 use std::alloc::Global;
@@ -59,7 +59,7 @@ impl TmBuilder {
         // Nothing is laid out yet, and nothing is held.
         ensures laid { IfOk result (λ b. IsLaidOutBy b [] []) }
     {
-        if !is_in_range(scid, vcid, length) {
+        if !can_build(scid, vcid, length) {
             return Err(TmFault::FieldRange);
         }
         Ok(TmBuilder {
@@ -89,7 +89,7 @@ impl TmBuilder {
             → IsLaidOutBy self.old packets frames
             → IsLaidOutBy self.new (packets ++ packet.now ∷ []) frames) }
     {
-        if !is_whole_packet(packet) {
+        if !can_queue(packet) {
             return Err(TmFault::NotAPacket);
         }
         self.drop_sent();
@@ -119,38 +119,38 @@ impl TmBuilder {
             → IsLaidOutBy self.old packets frames
             → IsLaidOutBy self.new packets (frames ++ (build_step self.old ocf).0 ∷ []) }
     {
-        let mut field = [0; 2036];
-        let size = self.total - 12;
-        let pointer = self.fill(&mut field[..size]);
-        let frame = TmFrame {
-            scid: self.scid,
-            vcid: self.vcid,
-            mc_count: self.count,
-            vc_count: self.count,
-            pointer,
-            payload: &field[..size],
+        put_next(
+            &self.turn(),
+            &self.octets[self.start..],
             ocf,
-        };
-        self.count = self.count.wrapping_add(1);
-        put_frame(&frame, &mut out[..self.total]);
+            &mut out[..self.total],
+        );
+        self.pass();
         self.total
     }
 
-    fn fill(&mut self, field: &mut [u8]) -> Pointer
-        requires { length field.old ≡ data_size self.old }
-        ensures field { field.new ≡ data_built self.old }
-        ensures size { length field.new ≡ data_size self.old }
-        ensures pointer { result ≡ pointer_built self.old }
-        ensures after { self.new ≡ after_fill self.old }
+    fn turn(&self) -> Turn
+        ensures state { state_with result self.now.total self.now.pending
+            ≡ record self.now { sizes = [] } }
+        ensures begun { result.begun < 2 ^ 63 }
     {
-        if self.is_at_rest() {
-            field.fill(0x55);
-            return Pointer::OnlyIdle;
+        Turn {
+            scid: self.scid,
+            vcid: self.vcid,
+            count: self.count,
+            idle_left: self.idle_left,
+            begun: self.begun as usize,
         }
-        let pointer = start_behind(self.idle_left + self.begun as usize, field.len());
-        put_data(self.idle_left, &self.octets[self.start..], field);
-        self.send(field.len());
-        pointer
+    }
+
+    // Passes a frame.
+    fn pass(&mut self)
+        ensures { self.new ≡ with_next_count (after_fill self.old) }
+    {
+        if !self.is_at_rest() {
+            self.send(self.total - 12);
+        }
+        self.count = self.count.wrapping_add(1);
     }
 
     fn is_at_rest(&self) -> bool
@@ -182,20 +182,23 @@ impl TmBuilder {
     }
 }
 
-fn is_in_range(scid: u16, vcid: u8, total: usize) -> bool
+/// Whether a builder's frames have these identifiers and this many octets: below 1,024, below 8, and
+/// 16 to 2,048.
+pub fn can_build(scid: u16, vcid: u8, total: usize) -> bool
     ensures { result ≡ builder_fits scid vcid total }
 {
     scid < 1024 && vcid < 8 && 16 <= total && total <= 2048
 }
 
-fn is_whole_packet(octets: &[u8]) -> bool
+/// Whether a builder queues the octets: they are exactly one packet, which is not idle.
+pub fn can_queue(octets: &[u8]) -> bool
     ensures value { result ≡ is_to_send octets.now }
     ensures most { IsTrue result → length octets.now ≤ 65542 }
 {
     is_packet(octets) && !is_idle_with(octets, &[])
 }
 
-fn start_behind(left: usize, size: usize) -> Pointer
+pub(crate) fn start_behind(left: usize, size: usize) -> Pointer
     requires { size ≤ 2036 }
     ensures { result ≡ first_start left size }
 {
@@ -206,7 +209,9 @@ fn start_behind(left: usize, size: usize) -> Pointer
     }
 }
 
-fn idle_behind(size: usize, idle_left: usize, count: usize) -> usize
+/// The octets left of an idle packet after a data field of `size` octets, where `idle_left` of one
+/// and then `count` octets of packets were to be sent before it.
+pub fn idle_behind(size: usize, idle_left: usize, count: usize) -> usize
     requires { idle_left ≤ 6 }
     ensures value { result ≡ idle_after size idle_left count }
     ensures most { result ≤ 6 }

@@ -73,7 +73,7 @@ fn put_front(frame: &TmFrame, out: &mut [u8])
     ocf.copy_from_slice(&frame.ocf);
 }
 
-fn put_header(frame: &TmFrame, out: &mut [u8])
+pub(crate) fn put_header(frame: &TmFrame, out: &mut [u8])
     requires fits { frame_fits (frame_view frame.now) ≡ true }
     requires room { length out.old ≡ 6 }
     ensures { out.new ≡ header_octets (frame_view frame.now) }

@@ -12,7 +12,7 @@ use space_packet::Packets;
 
 /// Where octets end that begin with the start of a packet.
 #[derive(Clone, Copy, Debug, PartialEq, Eq)]
-pub(crate) enum Ending {
+pub enum Ending {
     /// With the packet.
     Whole,
     /// Before its end.
@@ -21,8 +21,9 @@ pub(crate) enum Ending {
     Wrong,
 }
 
-// How the part, and more octets after it, end.
-pub(crate) fn ending_with(part: &[u8], more: &[u8]) -> Ending
+/// How the part of a packet, and more octets after it, compare with the length that the packet
+/// declares.
+pub fn ending_with(part: &[u8], more: &[u8]) -> Ending
     ensures value { result ≡ ending_of (part.now ++ more.now) }
     ensures short { result ≡ Ending.Short → length part.now + length more.now < 65542 }
 {
@@ -54,8 +55,9 @@ fn ending_for(header: &[u8], count: usize) -> Ending
     }
 }
 
-// Whether the part, and more octets after it, are an idle packet.
-pub(crate) fn is_idle_with(part: &[u8], more: &[u8]) -> bool
+/// Whether the packet that begins with the part, and more octets after it, is idle: of APID 2047
+/// (CCSDS 133.0-B-2, 4.1.3.3.4).
+pub fn is_idle_with(part: &[u8], more: &[u8]) -> bool
     requires { 2 ≤ length part.now + length more.now }
     ensures { result ≡ is_idle (part.now ++ more.now) }
 {
@@ -94,8 +96,8 @@ pub(crate) fn first_len(octets: &[u8]) -> Option<usize>
     }
 }
 
-// What stands after the whole packets.
-pub(crate) fn rest_behind(octets: &[u8]) -> &[u8]
+/// What is left after the whole packets that octets begin with.
+pub fn rest_behind(octets: &[u8]) -> &[u8]
     ensures { result.now ≡ rest_of 6 extent_at octets.now }
 {
     let mut rest = octets;

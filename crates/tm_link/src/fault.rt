@@ -2,8 +2,11 @@
 
 ghost use Rattle.std.specs.Prelude.{◌≡◌};
 
+use thiserror::Error;
+
 /// Why octets were refused as a frame (1 to 6), or a packet or a frame was not taken (7 to 10).
-#[derive(Clone, Copy, Debug, PartialEq, Eq)]
+#[derive(Clone, Copy, Debug, Error, PartialEq, Eq)]
+#[error("{} {}", self.number(), self.name())]
 pub enum TmFault {
     /// Not as many octets as a frame of the channel has, or a frame's length outside 16 to 2,048.
     Length = 1,

@@ -12,7 +12,8 @@ pub enum Gap {
     Lost(u8),
 }
 
-pub(crate) fn gap_behind(last: Option<u8>, count: u8) -> Gap
+/// The gap before a frame of this count, where the last one's count is known.
+pub fn gap_behind(last: Option<u8>, count: u8) -> Gap
     ensures { result ≡ gap_of last count }
 {
     match last {
@@ -21,7 +22,8 @@ pub(crate) fn gap_behind(last: Option<u8>, count: u8) -> Gap
     }
 }
 
-pub(crate) fn is_lost(gap: Gap) -> bool
+/// Whether frames are missing.
+pub fn is_lost(gap: Gap) -> bool
     ensures { result ≡ is_any_lost gap }
 {
     match gap {

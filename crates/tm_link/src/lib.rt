@@ -17,14 +17,17 @@ mod gap;
 mod handing;
 mod laws;
 mod part;
+mod turn;
 
-pub use builder::TmBuilder;
+pub use builder::{TmBuilder, can_build, can_queue, idle_behind};
 pub use decoding::decode;
 pub use encoding::encode;
+pub use ending::{Ending, ending_with, is_idle_with, rest_behind};
 pub use extractor::Extractor;
 pub use fault::TmFault;
 pub use frame::{Pointer, TmFrame};
-pub use gap::Gap;
+pub use gap::{Gap, gap_behind, is_lost};
 pub use laws::{
     law_of_extraction, law_of_queueing, law_of_reading, law_of_spelling, law_of_stream,
 };
+pub use turn::{Turn, put_next};

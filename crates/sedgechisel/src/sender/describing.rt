@@ -1,6 +1,8 @@
 // The sender that fields describe, and the fields that describe a sender.
 
 ghost use Rattle.std.specs.Prelude.{◌≡◌, Ok};
+ghost use Rattle.octets.specs.Outcome.{map_ok};
+ghost use Rattle.cop1.specs.SenderFields.{numbers_of};
 ghost use Rattle.sedgechisel.specs.Receivers.{flag_number};
 ghost use Rattle.sedgechisel.specs.Senders.{mode_number, ticks_number, control_number, control_vr, kept_of, mode_at, ticks_at, control_at, flag_at, fields_described, sender_described};
 
@@ -35,7 +37,7 @@ pub(super) fn kept(machine: &Sender) -> KeptSender
 }
 
 fn fields_with(fields: SenderFields) -> KeptSender
-    ensures { result ≡ kept_of fields }
+    ensures { result ≡ kept_of (numbers_of fields) }
 {
     KeptSender {
         timer: fields.timer,
@@ -56,7 +58,7 @@ fn fields_with(fields: SenderFields) -> KeptSender
 }
 
 fn fields_from(sender: &KeptSender) -> Result<SenderFields, u8>
-    ensures { result ≡ fields_described sender.now }
+    ensures { map_ok numbers_of result ≡ fields_described sender.now }
 {
     let Some(state) = mode_from(sender.state) else {
         return Err(DAMAGED);

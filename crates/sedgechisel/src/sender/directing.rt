@@ -1,7 +1,7 @@
 // The directives to the sender (CCSDS 232.1-B-2, 5.2.4).
 
 ghost use Rattle.std.specs.Prelude.{◌≡◌};
-ghost use Rattle.cop1.specs.declared.fop.Directive.{Directive};
+ghost use Rattle.cop1.specs.declared.vocabulary.Directive.{Directive};
 ghost use Rattle.sedgechisel.specs.Answers.{status_of, left_by};
 ghost use Rattle.sedgechisel.specs.Senders.{kept_of, directed, AreDescribed};
 

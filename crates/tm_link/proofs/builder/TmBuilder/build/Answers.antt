@@ -1,29 +1,32 @@
-use Rattle.std.proofs.Common.{◌≡◌, ◌<◌, ◌≤◌, ℕ, [], ◌∷◌, ◌++◌, length, rules, sym, ap, ◌∙◌, subst, arith}
+use Rattle.std.proofs.Common.{◌≡◌, ◌≤◌, ◌-◌, ℕ, [], ◌∷◌, ◌++◌, length, take, drop, length-take, rules, sym, subst}
+use Rattle.std.proofs.Common.{arith, ◌∙◌, List}
+use Rattle.std.proofs.lemmas.List.{take_at}
 use Rattle.std.proofs.lemmas.Grind.{common_steps}
-use Rattle.tm_link.specs.Building.{BuilderState, data_built, data_size, frame_built}
-use Rattle.tm_link.specs.Laying.{IsLaidOutBy}
+use Rattle.tm_link.specs.Building.{BuilderState, frame_built, state_with}
 use Rattle.tm_link.specs.Layout.{IsTmFrame}
-use Rattle.tm_link.specs.Writing.{spelling}
-use Rattle.tm_link.proofs.Fields.{built_is}
+use Rattle.tm_link.specs.Laying.{IsLaidOutBy}
 use Rattle.tm_link.proofs.BuiltFrames.{build_laid}
-use Rattle.tm_link.proofs.Spellings.{written_is}
 use Rattle.tm_link.proofs.builder.TmBuilder.build.Goals as goal
 
 pub returns-clause-spells : goal.returns-clause-spells
 returns-clause-spells c =
     let s : BuilderState = c.args.self.now in
-    let total : c.self-2.inside.total ≡ s.total = search rules in
-    let written : c.put_frame.new.out ≡ spelling (frame_built s c.args.ocf) = grind (arith, common_steps) in
-    let scid : s.scid < 1024 = subst (λ (b : BuilderState). b.scid < 1024) c.self.view_is c.self.invariant.scid in
-    let vcid : s.vcid < 8 = subst (λ (b : BuilderState). b.vcid < 8) c.self.view_is c.self.invariant.vcid in
-    let least : 16 ≤ s.total = subst (λ (b : BuilderState). 16 ≤ b.total) c.self.view_is c.self.invariant.least in
-    let most : s.total ≤ 2048 = subst (λ (b : BuilderState). b.total ≤ 2048) c.self.view_is c.self.invariant.most in
-    let size : length (data_built s) ≡ data_size s =
-    ap length (sym c.fill-pointer.ensures.field) ∙ c.fill-pointer.ensures.size in
-    let spells = built_is s c.args.ocf scid vcid least most (omega arith) size in
-    written_is _ (frame_built s c.args.ocf) c.put_frame.new.out _ written
-    (subst (λ (n : ℕ). IsTmFrame n (frame_built s c.args.ocf) (spelling (frame_built s c.args.ocf))) (sym total)
-    spells)
+    let total : c.self-2.inside.total ≡ c.self.inside.total = search rules in
+    let all : length (take c.self.inside.total c.args.out.now) ≡ c.self.inside.total =
+    omega (arith, length-take c.self.inside.total c.args.out.now, c.self.invariant.most) in
+    let state : state_with c.turn.result (length (take c.self.inside.total c.args.out.now)) s.pending
+    ≡ record s { sizes = [] } = grind (arith, common_steps) in
+    let pending : take (length c.deref.result.now - c.self.inside.start) (drop c.self.inside.start c.deref.result.now)
+    ≡ s.pending = grind (arith, common_steps) in
+    let n : ℕ = length (take c.self.inside.total c.args.out.now) in
+    let one : IsTmFrame n (frame_built (state_with c.turn.result n s.pending) c.args.ocf) c.put_next.new.out =
+    subst (λ (p : List ℕ). IsTmFrame n (frame_built (state_with c.turn.result n p) c.args.ocf) c.put_next.new.out)
+    pending c.put_next.ensures.spells in
+    let two : IsTmFrame n (frame_built s c.args.ocf) c.put_next.new.out =
+    subst (λ (b : BuilderState). IsTmFrame n (frame_built b c.args.ocf) c.put_next.new.out) state one in
+    let front = take_at c.put_next.new.out _ c.self-2.inside.total (two.count ∙ all ∙ sym total) in
+    subst (IsTmFrame c.self-2.inside.total (frame_built s c.args.ocf)) (sym front)
+    (subst (λ (k : ℕ). IsTmFrame k (frame_built s c.args.ocf) c.put_next.new.out) (all ∙ sym total) two)
 
 pub returns-clause-after : goal.returns-clause-after
 returns-clause-after c = search rules

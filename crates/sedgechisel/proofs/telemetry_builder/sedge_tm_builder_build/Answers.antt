@@ -1,0 +1,40 @@
+use Rattle.std.proofs.Common.{◌≡◌, ◌≤◌, ℕ, List, length, take, drop, ◌++◌, Result, sym, ap, subst, ◌∙◌, true, arith}
+use Rattle.std.proofs.Common.{length-take}
+use Rattle.std.specs.Prelude.{◌==◌, IfOk, is_some}
+use Rattle.std.proofs.lemmas.List.{take_at}
+use Rattle.tm_link.specs.declared.turn.Turn.{Turn}
+use Rattle.tm_link.specs.Building.{BuilderState, frame_built, state_with}
+use Rattle.tm_link.specs.Layout.{FrameView, IsTmFrame}
+use Rattle.sedgechisel.specs.declared.telemetry_builder.KeptBuilder.{KeptBuilder}
+use Rattle.sedgechisel.specs.Builders.{is_builder, state_of, turn_of, pending_of}
+use Rattle.sedgechisel.proofs.Building.{build_taken}
+use Rattle.sedgechisel.proofs.telemetry_builder.sedge_tm_builder_build.Goals as goal
+
+pub returns-clause-spells : goal.returns-clause-spells
+returns-clause-spells c =
+    let b : KeptBuilder = c.args.builder.now in
+    let memory : List ℕ = c.args.memory.now in
+    let out : List ℕ = c.put_next.new.out in
+    let is : is_builder b memory ≡ true = sym c.is_builder.ensures ∙ c.if-not-is_builder.false in
+    let four : (length c.args.ocf.now == 4) ≡ true = sym c.four_of.ensures.some ∙ ap (λ o. is_some o) c.in-Some.is in
+    let long : b.length ≤ length c.args.out.now = omega (arith, c.if-out-len.false) in
+    let n : ℕ = length (take b.length c.args.out.now) in
+    let all : n ≡ b.length = omega (arith, length-take b.length c.args.out.now, long) in
+    let frame : frame_built (state_with c.turn_for.result n c.pending.result.now) c.in-Some.four
+    ≡ frame_built (state_of b memory) c.args.ocf.now =
+    ap (λ (t : Turn). frame_built (state_with t n c.pending.result.now) c.in-Some.four) c.turn_for.ensures
+    ∙ ap (λ (k : ℕ). frame_built (state_with (turn_of b) k c.pending.result.now) c.in-Some.four) all
+    ∙ ap (λ (p : List ℕ). frame_built (state_with (turn_of b) b.length p) c.in-Some.four) c.pending.ensures
+    ∙ ap (λ (o : List ℕ). frame_built (state_with (turn_of b) b.length (pending_of b memory)) o)
+    c.in-Some.ensures.four in
+    let one : IsTmFrame n (frame_built (state_of b memory) c.args.ocf.now) out =
+    subst (λ (f : FrameView). IsTmFrame n f out) frame c.put_next.ensures.spells in
+    let front : take b.length (out ++ drop b.length c.args.out.now) ≡ out =
+    take_at out (drop b.length c.args.out.now) b.length (one.count ∙ all) in
+    let spells : IsTmFrame b.length (frame_built (state_of b memory) c.args.ocf.now)
+    (take b.length (out ++ drop b.length c.args.out.now)) =
+    subst (IsTmFrame b.length (frame_built (state_of b memory) c.args.ocf.now)) (sym front)
+    (subst (λ (k : ℕ). IsTmFrame k (frame_built (state_of b memory) c.args.ocf.now) out) all one) in
+    subst (λ (r : Result (FrameView × BuilderState) ℕ). IfOk r
+    (λ x. IsTmFrame b.length x.0 (take b.length (out ++ drop b.length c.args.out.now))))
+    (sym (build_taken b c.args.ocf.now memory (length c.args.out.now) is four long)) spells

@@ -1,0 +1,12 @@
+use Rattle.std.proofs.Common.{◌≡◌, sym, ◌∙◌, true}
+use Rattle.tm_link.specs.Building.{builder_fits, new_builder}
+use Rattle.sedgechisel.proofs.Building.{open_described, if_taken}
+use Rattle.sedgechisel.proofs.telemetry_builder.sedge_tm_builder_open.Goals as goal
+
+pub returns-clause-describes : goal.returns-clause-describes
+returns-clause-describes c = λ memory.
+    let fits : builder_fits c.args.scid c.args.vcid c.args.length ≡ true =
+    sym c.can_build.ensures ∙ c.if-not-can_build.false in
+    if_taken (builder_fits c.args.scid c.args.vcid c.args.length)
+    (new_builder c.args.scid c.args.vcid c.args.length) 10 _ fits
+    (open_described c.args.scid c.args.vcid c.args.length memory fits)

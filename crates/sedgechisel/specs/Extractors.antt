@@ -1,0 +1,150 @@
+-- An extractor of packets as C keeps it, and what C is given of a telemetry frame.
+use Rattle.std.specs.Prelude.{◌≡◌, ◌≤◌, ℕ, ◌+◌, ◌-◌, true, false, List, [], ◌∷◌, ◌++◌, length}
+use Rattle.std.specs.Prelude.{take, drop}
+use Rattle.std.specs.Prelude.{Bool, not, ◌&&◌, ◌||◌, ◌==◌, nat_lt, nat_le, if◌then◌else◌, Option}
+use Rattle.std.specs.Prelude.{Some, None, Result, Ok, Err}
+use Rattle.std.specs.List.{concat}
+use Rattle.space_packet.specs.Packets.{packets_in}
+use Rattle.tm_link.specs.declared.frame.Pointer.{Pointer}
+use Rattle.tm_link.specs.declared.frame.Pointer.TheVariants.{At, NoStart, OnlyIdle}
+use Rattle.tm_link.specs.declared.gap.Gap.{Gap}
+use Rattle.tm_link.specs.declared.gap.Gap.TheVariants.{First, Lost}
+use Rattle.tm_link.specs.declared.fault.TmFault.TheVariants.{Memory, FieldRange}
+use Rattle.tm_link.specs.Faults.{fault_row}
+use Rattle.tm_link.specs.Extraction.{ExtractorState, Extracted, extract_step, completed_packet}
+use Rattle.tm_link.specs.Extraction.{part_after, is_any_lost, ending_of}
+use Rattle.tm_link.specs.declared.ending.Ending.{Ending}
+use Rattle.tm_link.specs.declared.ending.Ending.TheVariants.{Wrong}
+use Rattle.tm_link.specs.Extraction.{gap_of, part_behind, without_idle}
+use Rattle.tm_link.specs.Layout.{FrameView, pointer_fits}
+use Rattle.sedgechisel.specs.declared.part.Part.{Part}
+use Rattle.sedgechisel.specs.declared.report_frame.ReportFrame.{ReportFrame}
+use Rattle.sedgechisel.specs.declared.telemetry_extractor.KeptExtractor.{KeptExtractor}
+use Rattle.sedgechisel.specs.declared.telemetry_extractor.TakenFrame.{TakenFrame}
+use Rattle.sedgechisel.specs.Answers.{damaged}
+use Rattle.sedgechisel.specs.Telemetry.{frame_described}
+
+-- ---- what the structs describe
+
+-- an extractor has such fields, with this many octets of memory
+abbrev pub is_extractor : KeptExtractor → ℕ → Bool
+is_extractor x room =
+    nat_lt x.seen 2 && nat_le x.from room && nat_le x.count (room - x.from)
+    && ((x.seen == 1) || (x.count == 0))
+
+-- the octets at a place
+abbrev pub octets_at : Part → List ℕ → List ℕ
+octets_at place octets = take place.count (drop place.from octets)
+
+abbrev pub last_of : KeptExtractor → Option ℕ
+last_of x = if x.seen == 1 then Some x.last else None
+
+-- the part of a packet whose end is to come
+abbrev pub state_of : KeptExtractor → List ℕ → ExtractorState
+state_of x memory = record { last = last_of x; part = take x.count (drop x.from memory) }
+
+abbrev pub extractor_described : KeptExtractor → List ℕ → Result ExtractorState ℕ
+extractor_described x memory =
+    if is_extractor x (length memory) then Ok (state_of x memory) else Err damaged
+
+-- how many frames are missing
+abbrev pub gap_at : TakenFrame → Gap
+gap_at t = if t.first == 1 then First else Lost t.lost
+
+-- the packet at the beginning of the memory, if one is there
+abbrev pub joined_at : ℕ → List ℕ → List (List ℕ)
+joined_at joined memory = if joined == 0 then [] else take joined memory ∷ []
+
+-- and those of the frame's data from the place on, but for idle ones
+abbrev pub packets_described : TakenFrame → List ℕ → List ℕ → List (List ℕ)
+packets_described t memory payload =
+    joined_at t.joined memory
+    ++ without_idle (packets_in (drop (t.packets.from + t.packets.count) payload))
+
+-- what is counted is there: in the memory, and in a data field of this many octets
+abbrev pub is_extracted : TakenFrame → ℕ → ℕ → Bool
+is_extracted t room size =
+    nat_le t.joined room && nat_le t.packets.from size && (t.packets.count == 0)
+    && nat_lt t.first 2
+    && ((t.first == 0) || (t.lost == 0))
+
+abbrev pub extracted_described : KeptExtractor → TakenFrame → List ℕ → List ℕ → Extracted
+extracted_described x t memory payload = record {
+  gap = gap_at t;
+  packets = packets_described t memory payload;
+  after = state_of x memory;
+}
+
+-- ---- how much memory a frame needs
+
+-- the packet that the part is with the octets before the first start, unless it is idle
+abbrev pub joined_by : List ℕ → Pointer → List ℕ → List (List ℕ)
+joined_by part OnlyIdle payload = []
+joined_by part NoStart payload = without_idle (completed_packet part payload)
+joined_by part (At p) payload = without_idle (completed_packet part (take p payload))
+
+-- the octets of that packet and of the part that the frame leaves
+abbrev pub need_of : List ℕ → Pointer → List ℕ → ℕ
+need_of part pointer payload =
+    length (concat (joined_by part pointer payload)) + length (part_after part pointer payload)
+
+-- ---- the calls
+
+-- what a frame leads to, where the memory has room for it
+abbrev pub extracted_from : ExtractorState → FrameView → ℕ → Result Extracted ℕ
+extracted_from s f room =
+    let part : List ℕ = part_behind (gap_of s.last f.vc_count) s.part in
+    if nat_lt room (need_of part f.pointer f.payload) then Err (fault_row Memory).0
+    else Ok (extract_step s f)
+
+abbrev pub extracted_at : KeptExtractor → ReportFrame → List ℕ → List ℕ → Result Extracted ℕ
+extracted_at x f payload memory =
+    if not (is_extractor x (length memory)) then Err damaged
+    else if not (pointer_fits (frame_described f payload).pointer (length payload))
+    then Err (fault_row FieldRange).0
+    else extracted_from (state_of x memory) (frame_described f payload) (length memory)
+
+-- the structs, the memory and the data describe what the frame leads to, where it is taken
+abbrev pub DescribesExtracted : Result Extracted ℕ → Extracted → Type 0
+DescribesExtracted (Ok e) described = described ≡ e
+DescribesExtracted (Err number) described = Unit {0}
+
+-- ---- parts of the calls
+
+-- where the part stands, if no frame is missing after it
+abbrev pub place_behind : Gap → KeptExtractor → Part
+place_behind gap x =
+    if is_any_lost gap then record { from = 0; count = 0 }
+    else record { from = x.from; count = x.count }
+
+-- how a part and octets after it end, where there is a part
+abbrev pub ending_behind : List ℕ → List ℕ → Ending
+ending_behind part octets = if length part == 0 then Wrong else ending_of (part ++ octets)
+
+-- the octets of the packet that they are, unless it is idle
+abbrev pub joined_len : List ℕ → List ℕ → ℕ
+joined_len part octets = length (concat (without_idle (completed_packet part octets)))
+
+-- where whole packets begin in a data field of this many octets
+abbrev pub packets_from : Pointer → ℕ → ℕ
+packets_from (At p) size = p
+packets_from NoStart size = size
+packets_from OnlyIdle size = size
+
+-- this is the first packet from a place on that isn't idle
+abbrev pub StandsBehind : List ℕ → ℕ → Option Part → Type 0
+StandsBehind octets place None = without_idle (packets_in (drop place octets)) ≡ []
+StandsBehind octets place (Some p) =
+    (without_idle (packets_in (drop place octets))
+    ≡ octets_at p octets ∷ without_idle (packets_in (drop (p.from + p.count) octets)))
+    × (p.from + p.count ≤ length octets)
+
+-- the packet after a part that isn't idle, and those after it, are the packets after the part that
+-- aren't idle
+abbrev pub GoesOn : List ℕ → Part → Part → Bool → Type 0
+GoesOn octets old new true =
+    (without_idle (packets_in (drop (old.from + old.count) octets))
+    ≡ octets_at new octets ∷ without_idle (packets_in (drop (new.from + new.count) octets)))
+    × (new.from + new.count ≤ length octets)
+GoesOn octets old new false =
+    (without_idle (packets_in (drop (old.from + old.count) octets)) ≡ []) × (new ≡ old)

@@ -1,0 +1,276 @@
+// Building telemetry frames of packets in the caller's memory.
+
+ghost use Rattle.std.specs.Prelude.{◌≡◌, ◌≤◌, ◌+◌, ◌-◌, ◌++◌, ◌==◌, ℕ, List, [], length, take, drop, map, true, Ok, IfOk, OnErr, IfSome, is_some};
+ghost use Rattle.space_packet.specs.Packets.{packets_in};
+ghost use Rattle.tm_link.specs.Building.{left_after, after_send, after_fill, with_next_count};
+ghost use Rattle.tm_link.specs.Layout.{IsTmFrame};
+ghost use Rattle.tm_link.specs.Writing.{spelling};
+ghost use Rattle.sedgechisel.specs.Answers.{status_of, left_by};
+ghost use Rattle.sedgechisel.specs.Builders.{pending_of, has_numbers, is_builder, state_of, builder_described, builder_opened, queued_at, built_at, turn_of};
+
+use crate::assembly::add;
+use crate::numbers::{DAMAGED, WRONG_COUNT};
+use space_packet::packet_len;
+use tm_link::{TmFault, Turn, can_build, can_queue, idle_behind, put_next, rest_behind};
+
+/// A builder of telemetry frames (CCSDS 132.0-B-3, 4.2): where the octets that are to be sent stand in the memory, how
+/// many of them are left of the packet that was begun, the identifiers, the octets of a frame, the next frame's count,
+/// and the octets left of an idle packet, which are sent first.
+#[repr(C)]
+#[derive(Clone, Copy)]
+pub struct KeptBuilder {
+    pub from: usize,
+    pub count: usize,
+    pub begun: usize,
+    pub scid: u16,
+    pub length: u16,
+    pub vcid: u8,
+    pub next_count: u8,
+    pub idle_left: u8,
+}
+
+/// Opens a builder of frames of `length` octets whose counts start at 0, and answers 0, or 10 `FieldRange`.
+#[unsafe(no_mangle)]
+pub extern "C" fn sedge_tm_builder_open(
+    builder: &mut KeptBuilder,
+    scid: u16,
+    vcid: u8,
+    length: usize,
+) -> u8
+    ensures answer { result ≡ status_of (builder_opened scid vcid length) }
+
+    // It is a new builder with any memory.
+    ensures describes { (memory : List ℕ) → IfOk (builder_opened scid vcid length)
+        (λ s. builder_described builder.new memory ≡ Ok s) }
+    ensures unchanged { OnErr (builder_opened scid vcid length) (builder.new ≡ builder.old) }
+{
+    if !can_build(scid, vcid, length) {
+        return TmFault::FieldRange.number();
+    }
+    *builder = KeptBuilder {
+        from: 0,
+        count: 0,
+        begun: 0,
+        scid,
+        length: length as u16,
+        vcid,
+        next_count: 0,
+        idle_left: 0,
+    };
+    0
+}
+
+/// Queues a packet after those that are to be sent. Answers 0, or 255 where the builder or its memory is damaged, or 8
+/// `NotAPacket` for octets that are not exactly one packet or an idle one, or 7 `Memory` where it has no room.
+#[unsafe(no_mangle)]
+pub extern "C" fn sedge_tm_builder_queue(
+    builder: &mut KeptBuilder,
+    packet: &[u8],
+    memory: &mut [u8],
+) -> u8
+    ensures answer { result ≡ status_of (queued_at builder.old packet.now memory.old) }
+    ensures after { IfOk (queued_at builder.old packet.now memory.old)
+        (λ s. builder_described builder.new memory.new ≡ Ok s) }
+    ensures unchanged { OnErr (queued_at builder.old packet.now memory.old)
+        ((builder.new ≡ builder.old) × (memory.new ≡ memory.old)) }
+{
+    if !is_builder(builder, memory) {
+        return DAMAGED;
+    }
+    if !can_queue(packet) {
+        return TmFault::NotAPacket.number();
+    }
+    if memory.len() - builder.count < packet.len() {
+        return TmFault::Memory.number();
+    }
+    queue(builder, packet, memory);
+    0
+}
+
+/// Writes the next frame with this operational control field, of four octets, at the beginning of `out`, and says how
+/// many octets it has. Answers 0, or 255 where the builder or its memory is damaged, or 254 where the field is not four
+/// octets, or 9 `Room`.
+#[unsafe(no_mangle)]
+pub extern "C" fn sedge_tm_builder_build(
+    builder: &mut KeptBuilder,
+    ocf: &[u8],
+    memory: &[u8],
+    out: &mut [u8],
+    total: &mut usize,
+) -> u8
+    ensures answer { result
+        ≡ status_of (built_at builder.old ocf.now memory.now (length out.old)) }
+    ensures total { total.new ≡ left_by (λ r. builder.old.length)
+        (built_at builder.old ocf.now memory.now (length out.old)) total.old }
+    ensures out { out.new ≡ left_by (λ r. spelling r.0 ++ drop builder.old.length out.old)
+        (built_at builder.old ocf.now memory.now (length out.old)) out.old }
+
+    // So `sedge_tm_decode` reads this frame.
+    ensures spells { IfOk (built_at builder.old ocf.now memory.now (length out.old))
+        (λ r. IsTmFrame builder.old.length r.0 (take builder.old.length out.new)) }
+    ensures after { IfOk (built_at builder.old ocf.now memory.now (length out.old))
+        (λ r. builder_described builder.new memory.now ≡ Ok r.1) }
+    ensures unchanged { OnErr (built_at builder.old ocf.now memory.now (length out.old))
+        (builder.new ≡ builder.old) }
+{
+    if !is_builder(builder, memory) {
+        return DAMAGED;
+    }
+    let Some(four) = four_of(ocf) else {
+        return WRONG_COUNT;
+    };
+    let len = builder.length as usize;
+    if out.len() < len {
+        return TmFault::Room.number();
+    }
+    put_next(
+        &turn_for(builder),
+        pending(builder, memory),
+        four,
+        &mut out[..len],
+    );
+    pass(builder, memory);
+    *total = len;
+    0
+}
+
+fn four_of(octets: &[u8]) -> Option<[u8; 4]>
+    ensures some { is_some result ≡ (length octets.now == 4) }
+    ensures four { IfSome result (λ four. four ≡ octets.now) }
+{
+    match octets {
+        [first, second, third, fourth] => Some([*first, *second, *third, *fourth]),
+        _ => None,
+    }
+}
+
+fn is_builder(builder: &KeptBuilder, memory: &[u8]) -> bool
+    ensures { result ≡ is_builder builder.now memory.now }
+{
+    has_numbers(builder, memory.len())
+        && rest_behind(&pending(builder, memory)[builder.begun..]).is_empty()
+}
+
+fn has_numbers(builder: &KeptBuilder, room: usize) -> bool
+    ensures { result ≡ has_numbers builder.now room }
+{
+    can_build(builder.scid, builder.vcid, builder.length as usize)
+        && builder.idle_left <= 6
+        && builder.from <= room
+        && builder.count <= room - builder.from
+        && builder.begun <= builder.count
+}
+
+// The octets that are to be sent.
+fn pending<'a>(builder: &KeptBuilder, memory: &'a [u8]) -> &'a [u8]
+    requires { has_numbers builder.now (length memory.now) ≡ true }
+    ensures { result.now ≡ pending_of builder.now memory.now }
+{
+    &memory[builder.from..builder.from + builder.count]
+}
+
+fn turn_for(builder: &KeptBuilder) -> Turn
+    ensures { result ≡ turn_of builder.now }
+{
+    Turn {
+        scid: builder.scid,
+        vcid: builder.vcid,
+        count: builder.next_count,
+        idle_left: builder.idle_left as usize,
+        begun: builder.begun,
+    }
+}
+
+// Puts a packet after the octets that are to be sent, which move to the beginning of the memory where there is too
+// little room after them.
+fn queue(builder: &mut KeptBuilder, packet: &[u8], memory: &mut [u8])
+    requires numbers { has_numbers builder.old (length memory.old) ≡ true }
+    requires room { builder.old.count + length packet.now ≤ length memory.old }
+    ensures pending { pending_of builder.new memory.new
+        ≡ pending_of builder.old memory.old ++ packet.now }
+    ensures from { builder.new.from + builder.new.count ≤ length memory.old }
+    ensures builder { builder.new ≡ record builder.old {
+      from = builder.new.from;
+      count = builder.old.count + length packet.now;
+    } }
+{
+    if memory.len() - builder.from - builder.count < packet.len() {
+        move_front(builder, memory);
+    }
+    put(builder, packet, memory);
+}
+
+// Moves the octets that are to be sent to the beginning of the memory.
+fn move_front(builder: &mut KeptBuilder, memory: &mut [u8])
+    requires { builder.old.from + builder.old.count ≤ length memory.old }
+    ensures pending { pending_of builder.new memory.new ≡ pending_of builder.old memory.old }
+    ensures builder { builder.new ≡ record builder.old { from = 0 } }
+{
+    memory.copy_within(builder.from..builder.from + builder.count, 0);
+    builder.from = 0;
+}
+
+// Puts a packet after the octets that are to be sent.
+fn put(builder: &mut KeptBuilder, packet: &[u8], memory: &mut [u8])
+    requires { builder.old.from + builder.old.count + length packet.now ≤ length memory.old }
+    ensures pending { pending_of builder.new memory.new
+        ≡ pending_of builder.old memory.old ++ packet.now }
+    ensures builder { builder.new
+        ≡ record builder.old { count = builder.old.count + length packet.now } }
+{
+    builder.count = add(builder.count, packet, &mut memory[builder.from..]);
+}
+
+// Passes a frame.
+fn pass(builder: &mut KeptBuilder, memory: &[u8])
+    requires { is_builder builder.old memory.now ≡ true }
+    ensures { builder_described builder.new memory.now
+        ≡ Ok (with_next_count (after_fill (state_of builder.old memory.now))) }
+{
+    if builder.idle_left != 0 || builder.count != 0 {
+        send(builder, memory);
+    }
+    builder.next_count = builder.next_count.wrapping_add(1);
+}
+
+// Passes the octets of a data field.
+fn send(builder: &mut KeptBuilder, memory: &[u8])
+    requires { is_builder builder.old memory.now ≡ true }
+    ensures { builder_described builder.new memory.now
+        ≡ Ok (after_send (state_of builder.old memory.now) (builder.old.length - 12)) }
+{
+    let size = builder.length as usize - 12;
+    let idle_left = builder.idle_left as usize;
+    let room = size - idle_left.min(size);
+    let passed = room.min(builder.count);
+    let left = idle_behind(size, idle_left, builder.count);
+    builder.begun = begun_behind(
+        &pending(builder, memory)[builder.begun..],
+        builder.begun,
+        room,
+    );
+    builder.from += passed;
+    builder.count -= passed;
+    builder.idle_left = left as u8;
+}
+
+// How many octets are left of the packet that is begun, once this many octets were sent of the packet that was begun
+// and of those after it.
+fn begun_behind(packets: &[u8], begun: usize, count: usize) -> usize
+    ensures { result ≡ (left_after count begun (map length (packets_in packets.now))).0 }
+{
+    let mut rest = packets;
+    let mut left = begun;
+    let mut room = count;
+    while left < room {
+        room -= left;
+        match packet_len(rest) {
+            Some(len) => {
+                left = len;
+                rest = rest.split_at(len).1;
+            }
+            None => return 0,
+        }
+    }
+    left - room
+}
