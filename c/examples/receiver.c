@@ -1,83 +1,61 @@
-/* A receiver on board: it cuts the octets of standard input into telecommand frames, gives those of its virtual channel
- * to FARM-1, joins the packets of its MAP, and writes these, and after each frame the control word for the ground. */
-#include <sedgechisel.h>
+/* A receiver on board, over the calls of the spacecraft: it cuts the octets of standard input into telecommand frames,
+ * and writes what came of each and the report that it leads to. It is for files, since it waits for 1,024 octets. */
+#include <sedgechisel_nodes.h>
 #include <stdio.h>
 #include <string.h>
 
-enum { SPACECRAFT = 1, CHANNEL = 2, MAP = 4, WIDTH = 10, LONGEST_FRAME = 1024, LONGEST_PACKET = 4096 };
+/* MAPs 4 and 5 are open; what concerns the ground alone has any value in its range. */
+static const struct sedge_config config = {
+    .scid = 1, .vcid = 2, .width = 10, .window = 5, .limit = 1, .timer = 1, .part = 1016, .max_packet = 4096,
+    .maps = 3 << 4, .ready_slots = 2, .bypass_slots = 4, .queue_slots = 1, .frame_length = 64};
 
-/* The MAP, for Type-AD frames and for Type-BD frames by itself. */
-static struct sedge_map maps[2];
-static uint8_t memories[2][LONGEST_PACKET];
+typedef uint8_t take(struct sedge_spacecraft *, uint8_t *, uint8_t *, size_t, size_t *);
+
+static void hand_on(struct sedge_spacecraft *spacecraft, take *take, const char *how) {
+    static uint8_t packet[4096];
+    uint8_t map;
+    size_t count;
+    while (take(spacecraft, &map, packet, sizeof packet, &count) == SEDGE_NODE_OK && count > 0) {
+        printf("packet %s on MAP %d:", how, map);
+        for (size_t i = 0; i < count; i++) printf(" %02X", packet[i]);
+        puts("");
+    }
+}
 
 static void tell(const char *what, struct sedge_text name) {
     printf("%s: %s\n", what, name.text);
 }
 
-static void hand_on(const struct sedge_tc_frame *frame, const uint8_t *data, size_t count) {
-    struct sedge_taken taken;
-    uint8_t *memory = memories[frame->kind];
-    if (frame->map != MAP) return;
-    if (sedge_map_take(&maps[frame->kind], frame->flags, data, count, memory, LONGEST_PACKET, &taken) != SEDGE_OK) return;
-    if (taken.dropped != SEDGE_NOT_DROPPED) tell("dropped", sedge_dropped_name(taken.dropped));
-    if (taken.where != SEDGE_NO_PACKET) {
-        const uint8_t *packet = taken.where == SEDGE_IN_MEMORY ? memory : data;
-        printf("packet");
-        for (size_t i = 0; i < taken.count; i++) printf(" %02X", packet[i]);
-        puts("");
-    }
-}
-
-/* Gives the receiver a frame that is its own. */
-static void receive(struct sedge_farm *farm, const struct sedge_tc_frame *frame, const uint8_t *data, size_t count) {
-    if (frame->kind == SEDGE_TC_BD) {
-        sedge_farm_bd(farm);
-        hand_on(frame, data, count);
-    } else if (frame->kind == SEDGE_TC_AD) {
-        uint8_t verdict = sedge_farm_ad(farm, frame->n, true);
-        if (verdict == SEDGE_ACCEPTED)
-            hand_on(frame, data, count);
-        else
-            tell("no acceptance", sedge_verdict_name(verdict));
-    } else if (frame->command == SEDGE_UNLOCK) {
-        sedge_farm_unlock(farm);
-    } else {
-        sedge_farm_set_vr(farm, frame->vr);
-    }
-}
-
-static void report(const struct sedge_farm *farm) {
-    struct sedge_clcw word;
-    uint8_t octets[4];
-    if (sedge_farm_report(farm, CHANNEL, &word) == SEDGE_OK && sedge_clcw_encode(&word, octets, 4) == SEDGE_OK)
-        printf("report %02X%02X%02X%02X\n", octets[0], octets[1], octets[2], octets[3]);
-}
-
-static void take(struct sedge_farm *farm, const uint8_t *octets, size_t count) {
-    struct sedge_tc_frame frame;
-    struct sedge_part data;
-    uint8_t fault = sedge_tc_decode(octets, count, false, &frame, &data);
-    if (fault != SEDGE_OK)
-        tell("no frame", sedge_tc_fault_name(fault));
-    else if (frame.scid == SPACECRAFT && frame.vcid == CHANNEL)
-        receive(farm, &frame, octets + data.from, data.count);
-    report(farm);
+/* What came of a frame, and the report. */
+static int receive(struct sedge_spacecraft *spacecraft, const uint8_t *octets, size_t count) {
+    struct sedge_received received;
+    struct sedge_spacecraft_reading read;
+    if (sedge_spacecraft_receive(spacecraft, octets, count, &received) != SEDGE_NODE_OK) return 1;
+    if (received.kind == 1) tell("no frame", sedge_tc_fault_name(received.fault));
+    if (received.kind == 3) tell("frame", sedge_verdict_name(received.verdict));
+    if (received.dropped != SEDGE_NOT_DROPPED) tell("dropped", sedge_dropped_name(received.dropped));
+    if (sedge_spacecraft_read(spacecraft, &read) != SEDGE_NODE_OK) return 1;
+    printf("report: V(R) %d, flags %02X, FARM-B %d\n", read.value, read.flags, read.farm_b);
+    return 0;
 }
 
 int main(void) {
-    uint8_t octets[LONGEST_FRAME];
+    uint8_t octets[1024];
     size_t held = 0, more, total;
-    struct sedge_farm farm;
-    if (sedge_farm_open(&farm, WIDTH, 0) != SEDGE_OK) return 1;
+    struct sedge_spacecraft spacecraft = {0};
+    if (sedge_spacecraft_open(&config, &spacecraft) != SEDGE_NODE_OK) return 1;
     while ((more = fread(octets + held, 1, sizeof octets - held, stdin)) > 0) {
         size_t from = 0;
         held += more;
-        while (sedge_tc_declared(octets + from, held - from, false, &total) == SEDGE_OK && total <= held - from) {
-            take(&farm, octets + from, total);
+        while (sedge_tc_declared(octets + from, held - from, true, &total) == SEDGE_OK && total <= held - from) {
+            if (receive(&spacecraft, octets + from, total) != 0) return 1;
             from += total;
         }
         held -= from;
         memmove(octets, octets + from, held);
+        hand_on(&spacecraft, sedge_spacecraft_take, "in sequence");
+        hand_on(&spacecraft, sedge_spacecraft_take_bypass, "past the sequence control");
     }
+    sedge_spacecraft_close(&spacecraft);
     return held > 0;
 }

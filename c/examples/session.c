@@ -40,7 +40,7 @@ static int carry_down(void) {
     if (sedge_farm_report(&farm, CHANNEL, &word) != SEDGE_OK || sedge_clcw_encode(&word, octets, 4) != SEDGE_OK) return 1;
     if (is_lost()) return 0;
     if (sedge_clcw_decode(octets, 4, &word) != SEDGE_OK) return 1;
-    if (sedge_fop_report(&fop, &word, &released) != SEDGE_NO_ALERT) return 1;
+    if (sedge_fop_report(&fop, CHANNEL, &word, &released) != SEDGE_NO_ALERT) return 1;
     acknowledged += released;
     return 0;
 }

@@ -1,26 +1,31 @@
-/* Both nodes of the telecommand link for programs in C: the ground, which sends packets until they are accepted, and the
- * spacecraft, which receives them and reports. For C99 and later, and for C++; see docs/C.md.
+/* Both nodes of the telecommand link for programs in C: the ground, which sends packets until they are accepted, and
+ * the spacecraft, which receives them and reports; and a simulated link between two such nodes. For C99 and later,
+ * and for C++; see docs/C.md. The numbers of faults, verdicts and alerts, and their names, are those of
+ * sedgechisel.h.
  *
- * A handle holds a node, or none. It begins as {0}, which holds none, and afterwards it is only ever what a call here
- * left in it: it is not copied, and not written by the program. Nothing can check that, so the caller ensures it, and
- * closes a handle before it is let go of. Each call is proved to do what its crate's contract says, for every value of
- * its arguments: the node's next state and answer are those of ground_step and spacecraft_step.
+ * A handle holds a node or a link, or none. It begins as {0}, which holds none, and afterwards it is only ever what a
+ * call here left in it: it is not copied, and not written by the program. Nothing can check that, so the caller
+ * ensures it, and closes a handle before it is let go of. Each call is proved to do what its crate's contract says,
+ * for every value of its arguments: the next state and the answer are those of ground_step, spacecraft_step and
+ * world_step.
  *
- * What a caller has to ensure besides: no pointer is null, and each is aligned for its type; at a pointer to octets, as
- * many as the count after it says may be read; what is written overlaps nothing else that the call is given; and no
- * handle is used by two threads at once.
+ * What a caller has to ensure besides: no pointer is null, and each is aligned for its type; at a pointer to octets,
+ * as many as the number after it says may be read, and written where the pointer is not to const; what is written
+ * overlaps nothing else that the call is given; and no handle is used by two threads at once.
  *
- * Every call but a tick returns 0, SEDGE_NODE_OK, or a number of the enum that it names. Where the number is not 0,
- * nothing is written and the node is as it was. SEDGE_NODE_NONE is the answer of every call to a handle that holds no
- * node. Memory comes from the functions rattle_alloc, rattle_realloc and rattle_dealloc, which c/memory/malloc.c has. */
+ * Every call but sedge_ground_tick returns 0, SEDGE_NODE_OK, or a number of the enum that it names. Where the number
+ * is not 0, nothing is written and the node is as it was. SEDGE_NODE_NONE is the answer of every call to a handle
+ * that holds none. Memory comes from the functions rattle_alloc, rattle_realloc and rattle_dealloc, which malloc.c
+ * and static.c have (docs/C.md).
+ *
+ * What is taken out is written at the beginning of the caller's room, out, which has room octets. Where it does not
+ * fit, the answer is SEDGE_NODE_ROOM, and nothing is taken out. How many octets are next is asked before, by a call
+ * that changes nothing. 65,542 octets are enough for every packet, 1,024 for every frame up, 2,048 for every frame
+ * down. */
 #ifndef SEDGECHISEL_NODES_H
 #define SEDGECHISEL_NODES_H
 
-#include <stddef.h>
-#include <stdint.h>
-#ifndef __cplusplus
-#include <stdbool.h>
-#endif
+#include "sedgechisel.h"
 
 #ifdef __cplusplus
 extern "C" {
@@ -34,6 +39,8 @@ enum sedge_node_status {
     SEDGE_NODE_TOO_LONG = 4,       /* a packet has more octets than it may have */
     SEDGE_NODE_QUEUE_FULL = 5,     /* as many units as may wait are waiting */
     SEDGE_NODE_MEMORY = 6,         /* there was no memory */
+    SEDGE_NODE_ROOM = 252,         /* the room is too short; nothing was taken out */
+    SEDGE_NODE_ABSENT = 253,       /* there is no record at this place, or a report says nothing of the segments */
     SEDGE_NODE_OUT_OF_RANGE = 254, /* a parameter is out of its range */
     SEDGE_NODE_NONE = 255          /* the handle holds no node */
 };
@@ -61,6 +68,10 @@ struct sedge_config {
  * none. width is also out of its range where it is odd, and window where it is more than half of width. */
 uint8_t sedge_config_fault(const struct sedge_config *config);
 
+/* Names, as tctool writes them; "?" for a number out of the enum. */
+struct sedge_text sedge_parameter_name(uint8_t parameter); /* of a parameter, 1 to 15 */
+struct sedge_text sedge_link_fault_name(uint8_t fault);    /* of sedge_node_status, 1 to 6 */
+
 /* ---- The ground. ---- */
 
 struct sedge_ground {
@@ -86,17 +97,21 @@ uint8_t sedge_ground_set_window(struct sedge_ground *ground, uint8_t window);
 uint8_t sedge_ground_set_limit(struct sedge_ground *ground, uint8_t limit);
 uint8_t sedge_ground_set_timer(struct sedge_ground *ground, uint16_t ticks);
 
-/* Submits packets on a MAP, to be sent under sequence control: one, or several where blocking is on. Returns 0, or the
- * first of 1 to 5 of sedge_node_status that applies, or SEDGE_NODE_MEMORY. */
+/* Submits packets on a MAP, to be sent under sequence control: one, or several where blocking is on. Returns 0, or
+ * the first of 1 to 5 of sedge_node_status that applies, or SEDGE_NODE_MEMORY. */
 uint8_t sedge_ground_submit(struct sedge_ground *ground, uint8_t map, const uint8_t *octets, size_t count);
 
 /* Submits one packet on a MAP past the sequence control. Returns 0, or the first of 2 to 5 of sedge_node_status that
  * applies, or SEDGE_NODE_MEMORY. */
 uint8_t sedge_ground_bypass(struct sedge_ground *ground, uint8_t map, const uint8_t *octets, size_t count);
 
-/* Takes the frame that goes on the link next, with its check: writes it at the beginning of out, and the number of its
- * octets; or 0 octets where nothing is to be sent. */
-uint8_t sedge_ground_pull(struct sedge_ground *ground, uint8_t out[1024], size_t *count);
+/* Writes how many octets the frame that goes on the link next has, 6 to 1,024; 0 where nothing is to be sent. Returns
+ * 0. */
+uint8_t sedge_ground_next(struct sedge_ground *ground, size_t *count);
+
+/* Takes the frame that goes on the link next, with its check: writes it, and the number of its octets; or 0 octets
+ * where nothing is to be sent. Returns 0 or SEDGE_NODE_ROOM. */
+uint8_t sedge_ground_pull(struct sedge_ground *ground, uint8_t *out, size_t room, size_t *count);
 
 /* What the ground makes of octets that it received: their kind, then what that kind has; the rest is 0. */
 struct sedge_heard {
@@ -114,9 +129,12 @@ struct sedge_heard {
 uint8_t sedge_ground_telemetry(struct sedge_ground *ground, const uint8_t *octets, size_t count,
                                struct sedge_heard *heard);
 
-/* Takes the oldest packet of telemetry: writes it at the beginning of out, and the number of its octets; or 0 octets
- * where none waits. */
-uint8_t sedge_ground_take_telemetry(struct sedge_ground *ground, uint8_t out[65542], size_t *count);
+/* Writes how many octets the oldest packet of telemetry has, 7 to 65,542; 0 where none waits. Returns 0. */
+uint8_t sedge_ground_next_telemetry(struct sedge_ground *ground, size_t *count);
+
+/* Takes the oldest packet of telemetry: writes it, and the number of its octets; or 0 octets where none waits.
+ * Returns 0 or SEDGE_NODE_ROOM. */
+uint8_t sedge_ground_take_telemetry(struct sedge_ground *ground, uint8_t *out, size_t room, size_t *count);
 
 /* A tick of the clock has passed. Returns the alert, of sedge_alert, 0 for none; or SEDGE_NODE_NONE. */
 uint8_t sedge_ground_tick(struct sedge_ground *ground);
@@ -132,13 +150,19 @@ struct sedge_ground_reading {
 /* Reads the ground; it stays as it was. */
 uint8_t sedge_ground_read(struct sedge_ground *ground, struct sedge_ground_reading *read);
 
+/* Writes how many of the segments that were sent and not acknowledged were accepted on board when a report of this
+ * value was made: the oldest ones (232.1-B-2, 5.1). It does so after an alert too, until V(S) is set or an initiation
+ * begins. Returns 0, or SEDGE_NODE_ABSENT if the value is beyond V(S), so that the report says nothing of them. */
+uint8_t sedge_ground_accepted_beyond(struct sedge_ground *ground, uint8_t value, uint8_t *accepted);
+
 /* ---- The spacecraft. ---- */
 
 struct sedge_spacecraft {
     void *node;
 };
 
-/* Opens a spacecraft, in place of one that the handle holds. Returns 0, SEDGE_NODE_OUT_OF_RANGE or SEDGE_NODE_MEMORY. */
+/* Opens a spacecraft, in place of one that the handle holds. Returns 0, SEDGE_NODE_OUT_OF_RANGE or
+ * SEDGE_NODE_MEMORY. */
 uint8_t sedge_spacecraft_open(const struct sedge_config *config, struct sedge_spacecraft *spacecraft);
 
 /* Closes the spacecraft, where there is one; the handle holds none then. */
@@ -151,7 +175,7 @@ struct sedge_received {
     uint8_t fault;   /* 1: why they are no frame, of sedge_tc_fault */
     uint8_t n;       /* 3: its number, N(S) */
     uint8_t verdict; /* 3: of sedge_verdict */
-    uint8_t dropped; /* 3: why octets on its MAP were dropped, of sedge_dropped; 0 where none were */
+    uint8_t dropped; /* 3: why octets on its MAP were dropped: 1 if it is closed, or of sedge_dropped; 0 for none */
     bool kept;       /* 4: whether it carried a packet, which is kept */
     uint8_t command; /* 5: Unlock (0) or Set V(R) (1) */
     uint8_t vr;      /* 5: the number of Set V(R) */
@@ -161,21 +185,27 @@ struct sedge_received {
 uint8_t sedge_spacecraft_receive(struct sedge_spacecraft *spacecraft, const uint8_t *octets, size_t count,
                                  struct sedge_received *received);
 
-/* Takes the oldest packet of sequence-controlled frames: writes its MAP, the packet at the beginning of out, and the
- * number of its octets; or 0 octets alone where none waits. */
-uint8_t sedge_spacecraft_take(struct sedge_spacecraft *spacecraft, uint8_t *map, uint8_t out[65542], size_t *count);
+/* Writes the MAP of the oldest packet of sequence-controlled frames, and the number of its octets, 7 to 65,542; or 0
+ * octets alone where none waits. Returns 0. */
+uint8_t sedge_spacecraft_next(struct sedge_spacecraft *spacecraft, uint8_t *map, size_t *count);
 
-/* The same of the packets that came past the sequence control. */
-uint8_t sedge_spacecraft_take_bypass(struct sedge_spacecraft *spacecraft, uint8_t *map, uint8_t out[65542],
+/* Takes that packet: writes its MAP, the packet, and the number of its octets; or 0 octets alone where none waits.
+ * Returns 0 or SEDGE_NODE_ROOM. */
+uint8_t sedge_spacecraft_take(struct sedge_spacecraft *spacecraft, uint8_t *map, uint8_t *out, size_t room,
+                              size_t *count);
+
+/* The same two of the packets that came past the sequence control. */
+uint8_t sedge_spacecraft_next_bypass(struct sedge_spacecraft *spacecraft, uint8_t *map, size_t *count);
+uint8_t sedge_spacecraft_take_bypass(struct sedge_spacecraft *spacecraft, uint8_t *map, uint8_t *out, size_t room,
                                      size_t *count);
 
-/* Queues a packet to be sent as telemetry. Returns 0, or 8 for octets that are not exactly one packet, or an idle packet,
- * or 7 where there was no memory (these numbers are of sedge_tm_fault). */
+/* Queues a packet to be sent as telemetry. Returns 0, or 8 for octets that are not exactly one packet, or an idle
+ * packet, or 7 where there was no memory (these numbers are of the telemetry's faults, sedge_tm_fault_name). */
 uint8_t sedge_spacecraft_telemetry(struct sedge_spacecraft *spacecraft, const uint8_t *packet, size_t count);
 
-/* Writes the next telemetry frame, which reports on the receiver, at the beginning of out, and the number of its
- * octets. */
-uint8_t sedge_spacecraft_report(struct sedge_spacecraft *spacecraft, uint8_t out[2048], size_t *count);
+/* Writes the next telemetry frame, which reports on the receiver, and the number of its octets, which is
+ * frame_length. Returns 0 or SEDGE_NODE_ROOM. */
+uint8_t sedge_spacecraft_report(struct sedge_spacecraft *spacecraft, uint8_t *out, size_t room, size_t *count);
 
 struct sedge_spacecraft_reading {
     size_t frame_length; /* of telemetry, in octets */
@@ -184,10 +214,146 @@ struct sedge_spacecraft_reading {
     uint8_t flags;
     uint8_t farm_b;
     uint8_t value;
+    uint8_t state;       /* of the receiver, of sedge_farm_mode */
 };
 
 /* Reads the spacecraft; it stays as it was. */
 uint8_t sedge_spacecraft_read(struct sedge_spacecraft *spacecraft, struct sedge_spacecraft_reading *read);
+
+/* ---- A simulated link between two nodes, for tests: it keeps its order in each direction, and loses or damages
+ * frames only so that the receiver sees it. ---- */
+
+struct sedge_sim {
+    void *link;
+};
+
+/* Opens a link with two new nodes, in place of one that the handle holds. Returns 0, SEDGE_NODE_OUT_OF_RANGE or
+ * SEDGE_NODE_MEMORY. */
+uint8_t sedge_sim_open(const struct sedge_config *config, struct sedge_sim *sim);
+
+/* Closes the link, where there is one; the handle holds none then. */
+void sedge_sim_close(struct sedge_sim *sim);
+
+/* Why an event does not happen. */
+enum sedge_sim_fault {
+    SEDGE_SIM_MEMORY = 6,             /* there was no memory */
+    SEDGE_SIM_NOTHING_IN_TRANSIT = 7, /* no frame is on its way in this direction */
+    SEDGE_SIM_NOT_DETECTABLE = 8      /* the receiver's decoder would accept the octets of the damaged frame */
+};
+
+struct sedge_text sedge_sim_fault_name(uint8_t fault); /* of sedge_sim_fault; "?" for another number */
+
+/* What the link answers to an event. */
+enum sedge_reply_kind {
+    SEDGE_REPLY_DONE = 0,
+    SEDGE_REPLY_NOTHING = 1,  /* there was nothing to send or to take */
+    SEDGE_REPLY_LOST = 2,     /* the frame is lost */
+    SEDGE_REPLY_REFUSED = 3,  /* a node refused the call: by, fault */
+    SEDGE_REPLY_ALERT = 4,    /* the ground's sender has given up: alert */
+    SEDGE_REPLY_SENT = 5,     /* the ground sent a frame: count */
+    SEDGE_REPLY_REPORTED = 6, /* the spacecraft sent a frame with a report: report */
+    SEDGE_REPLY_UP = 7,       /* the spacecraft received: up */
+    SEDGE_REPLY_DOWN = 8,     /* the ground received: down */
+    SEDGE_REPLY_PACKET = 9    /* a packet was taken: map, count */
+};
+
+/* The part of a node that refused a call, and of which enum its number is. */
+enum sedge_refused_by {
+    SEDGE_BY_NODE = 1,     /* of sedge_node_status */
+    SEDGE_BY_SENDER = 2,   /* of sedge_cop_fault */
+    SEDGE_BY_TELEMETRY = 3 /* of sedge_tm_fault */
+};
+
+/* A reply: its kind, then what that kind has; the rest is 0. */
+struct sedge_reply {
+    size_t count; /* the octets of the frame that was sent, or of the packet */
+    struct sedge_received up;
+    struct sedge_heard down;
+    struct sedge_clcw report;
+    uint8_t kind;  /* of sedge_reply_kind */
+    uint8_t by;    /* of sedge_refused_by */
+    uint8_t fault; /* of the enum that by names */
+    uint8_t alert; /* of sedge_alert */
+    uint8_t map;   /* of the packet */
+};
+
+/* An event happens. Each call returns 0 and writes the reply; or a number of sedge_sim_fault, and nothing happens.
+ * What a node refuses is a reply. The octets of a frame that was sent, and of a packet that was taken, stay to be
+ * read until the next event (sedge_sim_octets). */
+uint8_t sedge_sim_submit(struct sedge_sim *sim, uint8_t map, const uint8_t *octets, size_t count,
+                         struct sedge_reply *reply);
+uint8_t sedge_sim_bypass(struct sedge_sim *sim, uint8_t map, const uint8_t *octets, size_t count,
+                         struct sedge_reply *reply);
+uint8_t sedge_sim_init_without_check(struct sedge_sim *sim, struct sedge_reply *reply);
+uint8_t sedge_sim_init_with_check(struct sedge_sim *sim, struct sedge_reply *reply);
+uint8_t sedge_sim_init_unlock(struct sedge_sim *sim, struct sedge_reply *reply);
+uint8_t sedge_sim_init_set_vr(struct sedge_sim *sim, uint8_t vr, struct sedge_reply *reply);
+uint8_t sedge_sim_terminate(struct sedge_sim *sim, struct sedge_reply *reply);
+uint8_t sedge_sim_set_vs(struct sedge_sim *sim, uint8_t vs, struct sedge_reply *reply);
+uint8_t sedge_sim_set_window(struct sedge_sim *sim, uint8_t window, struct sedge_reply *reply);
+uint8_t sedge_sim_set_limit(struct sedge_sim *sim, uint8_t limit, struct sedge_reply *reply);
+uint8_t sedge_sim_set_timer(struct sedge_sim *sim, uint16_t ticks, struct sedge_reply *reply);
+uint8_t sedge_sim_send(struct sedge_sim *sim, struct sedge_reply *reply);       /* the ground sends a frame */
+uint8_t sedge_sim_up_deliver(struct sedge_sim *sim, struct sedge_reply *reply); /* the first frame on its way arrives */
+uint8_t sedge_sim_up_lose(struct sedge_sim *sim, struct sedge_reply *reply);    /* it is lost */
+uint8_t sedge_sim_up_damage(struct sedge_sim *sim, const uint8_t *octets, size_t count,
+                            struct sedge_reply *reply); /* these octets arrive in its place, which are no frame */
+uint8_t sedge_sim_report(struct sedge_sim *sim, struct sedge_reply *reply); /* the spacecraft sends a frame */
+uint8_t sedge_sim_down_deliver(struct sedge_sim *sim, struct sedge_reply *reply);
+uint8_t sedge_sim_down_lose(struct sedge_sim *sim, struct sedge_reply *reply);
+uint8_t sedge_sim_down_damage(struct sedge_sim *sim, const uint8_t *octets, size_t count, struct sedge_reply *reply);
+uint8_t sedge_sim_tick(struct sedge_sim *sim, struct sedge_reply *reply); /* a tick of the ground's clock */
+uint8_t sedge_sim_take(struct sedge_sim *sim, struct sedge_reply *reply); /* a packet is taken on board */
+uint8_t sedge_sim_take_bypass(struct sedge_sim *sim, struct sedge_reply *reply);
+uint8_t sedge_sim_telemetry(struct sedge_sim *sim, const uint8_t *packet, size_t count, struct sedge_reply *reply);
+
+/* Writes the octets of the last event's frame or packet, count of the reply, and their number; 0 octets where the
+ * reply had none. They stay. Returns 0 or SEDGE_NODE_ROOM. */
+uint8_t sedge_sim_octets(struct sedge_sim *sim, uint8_t *out, size_t room, size_t *count);
+
+/* How a session began. */
+enum sedge_begun {
+    SEDGE_BEGUN_NOT = 0, /* none has begun */
+    SEDGE_BEGUN_WITHOUT_CHECK = 1,
+    SEDGE_BEGUN_WITH_CHECK = 2,
+    SEDGE_BEGUN_UNLOCK = 3,
+    SEDGE_BEGUN_SET_VR = 4
+};
+
+/* What is known of the link and of its session, which begins with each initiation that the ground accepts. */
+struct sedge_sim_reading {
+    size_t outstanding;  /* the number of segments that were submitted and are not acknowledged */
+    size_t acknowledged; /* how many of the first ones of the frames sent the ground holds acknowledged */
+    uint8_t state;       /* of the ground's sender, of sedge_fop_state */
+    uint8_t begun;       /* of sedge_begun */
+    uint8_t vr;          /* the number of Set V(R) */
+    bool clean;          /* it began with nothing on its way, and without a check only where V(R) was V(S) */
+    bool idle;           /* it had an idle start (docs/PROMISES.md) */
+    bool confirmed;      /* a report has taken the ground from S4 or S5 to S1 */
+};
+
+/* Reads the link; it stays as it was. Returns 0. */
+uint8_t sedge_sim_read(struct sedge_sim *sim, struct sedge_sim_reading *read);
+
+/* The records of the session, each a list of octets. */
+enum sedge_record {
+    SEDGE_SUBMITTED = 1, /* the packets submitted on the MAP */
+    SEDGE_DELIVERED = 2, /* the packets that are ready on board on the MAP, taken or not */
+    SEDGE_SENT = 3,      /* the data fields of Type-AD frames, in the order in which they were first sent */
+    SEDGE_RECEIVED = 4   /* the data fields of Type-AD frames that were accepted on board */
+};
+
+/* Writes how many entries a record has; the MAP counts for the first two alone. For another number there are none.
+ * Returns 0. */
+uint8_t sedge_sim_count(struct sedge_sim *sim, uint8_t record, uint8_t map, size_t *entries);
+
+/* Writes how many octets entry k has, counted from 0. Returns 0, or SEDGE_NODE_ABSENT if there are not that many. */
+uint8_t sedge_sim_entry_length(struct sedge_sim *sim, uint8_t record, uint8_t map, size_t k, size_t *count);
+
+/* Writes the octets of entry k, and their number. Returns 0, or the first of SEDGE_NODE_ABSENT and SEDGE_NODE_ROOM.
+ * */
+uint8_t sedge_sim_entry(struct sedge_sim *sim, uint8_t record, uint8_t map, size_t k, uint8_t *out, size_t room,
+                        size_t *count);
 
 #ifdef __cplusplus
 }

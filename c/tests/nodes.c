@@ -1,6 +1,6 @@
-/* Both nodes through libsedgechisel_nodes: a session, handles that hold no node, and each allocation refused in turn.
- * The memory is malloc's, counted, with one allocation refused;
- * or, with OVER_MALLOC, that of c/memory/malloc.c. */
+/* Both nodes and the simulated link through libsedgechisel_nodes: a session, rooms that are too short, handles that
+ * hold none, and each allocation refused in turn. The memory is malloc's, counted, with one allocation refused; or,
+ * with OVER_MEMORY, that of a file of c/memory. */
 #include "sedgechisel_nodes.h"
 #include <stdio.h>
 #include <stdlib.h>
@@ -20,7 +20,7 @@ static int failures;
 
 static long tried, refused = -1, live;
 
-#ifndef OVER_MALLOC
+#ifndef OVER_MEMORY
 struct place {
     bool found;
     void *at;
@@ -62,21 +62,31 @@ static int again(uint8_t answer) {
 
 static void goes_up(struct sedge_ground *ground, struct sedge_spacecraft *spacecraft, int kind) {
     struct sedge_received received = {0};
-    size_t count = 0;
-    WANT(sedge_ground_pull(ground, up, &count) == 0 && count > 0);
+    size_t next = 0, count = 77;
+    WANT(sedge_ground_next(ground, &next) == 0 && next >= 6);
+    up[0] = 77;
+    WANT(sedge_ground_pull(ground, up, next - 1, &count) == SEDGE_NODE_ROOM && count == 77 && up[0] == 77);
+    WANT(sedge_ground_pull(ground, up, next, &count) == 0 && count == next);
     while (again(sedge_spacecraft_receive(spacecraft, up, count, &received)))
         ;
     WANT(received.kind == kind && received.verdict == 0 && received.dropped == 0);
 }
 
-static void comes_out(struct sedge_spacecraft *spacecraft,
-                      uint8_t (*take)(struct sedge_spacecraft *, uint8_t *, uint8_t *, size_t *), int on_map) {
+typedef uint8_t describe(struct sedge_spacecraft *, uint8_t *, size_t *);
+typedef uint8_t take(struct sedge_spacecraft *, uint8_t *, uint8_t *, size_t, size_t *);
+
+static void comes_out(struct sedge_spacecraft *spacecraft, describe *next, take *take, int on_map) {
     uint8_t map = 99;
-    size_t count = 0;
-    WANT(take(spacecraft, &map, out, &count) == 0);
+    size_t count = 77;
+    WANT(next(spacecraft, &map, &count) == 0 && map == on_map && count == sizeof packet);
+    map = 99, count = 77, out[0] = 77;
+    WANT(take(spacecraft, &map, out, sizeof packet - 1, &count) == SEDGE_NODE_ROOM);
+    WANT(map == 99 && count == 77 && out[0] == 77);
+    WANT(take(spacecraft, &map, out, sizeof packet, &count) == 0);
     WANT(map == on_map && count == sizeof packet && memcmp(out, packet, count) == 0);
     map = 99;
-    WANT(take(spacecraft, &map, out, &count) == 0 && map == 99 && count == 0);
+    WANT(next(spacecraft, &map, &count) == 0 && map == 99 && count == 0);
+    WANT(take(spacecraft, &map, out, 0, &count) == 0 && map == 99 && count == 0);
 }
 
 static void session(void) {
@@ -86,7 +96,7 @@ static void session(void) {
     struct sedge_spacecraft_reading board = {0};
     struct sedge_heard heard = {0};
     size_t count = 0;
-    uint8_t queued;
+    uint8_t queued, accepted = 77;
     while (again(sedge_ground_open(&config, &ground)))
         ;
     while (again(sedge_spacecraft_open(&config, &spacecraft)))
@@ -100,22 +110,31 @@ static void session(void) {
     goes_up(&ground, &spacecraft, 3);
     goes_up(&ground, &spacecraft, 3);
     goes_up(&ground, &spacecraft, 3);
-    WANT(sedge_ground_pull(&ground, up, &count) == 0 && count == 0);
-    comes_out(&spacecraft, sedge_spacecraft_take, 4);
+    WANT(sedge_ground_next(&ground, &count) == 0 && count == 0);
+    WANT(sedge_ground_pull(&ground, up, 0, &count) == 0 && count == 0);
+    comes_out(&spacecraft, sedge_spacecraft_next, sedge_spacecraft_take, 4);
+    WANT(sedge_ground_accepted_beyond(&ground, 2, &accepted) == 0 && accepted == 2);
+    WANT(sedge_ground_accepted_beyond(&ground, 4, &accepted) == SEDGE_NODE_ABSENT && accepted == 2);
     WANT(sedge_spacecraft_telemetry(&spacecraft, packet, 6) == 8);
     while ((queued = sedge_spacecraft_telemetry(&spacecraft, packet, sizeof packet)) == 7)
         ;
     WANT(queued == 0);
     WANT(sedge_spacecraft_read(&spacecraft, &board) == 0 && board.frame_length == 64 && board.value == 3);
     WANT(board.vcid == 2 && board.flags == 0 && board.status == 0 && board.farm_b == 0);
-    WANT(sedge_spacecraft_report(&spacecraft, down, &count) == 0 && count == 64);
+    WANT(board.state == SEDGE_FARM_OPEN);
+    count = 77, down[0] = 77;
+    WANT(sedge_spacecraft_report(&spacecraft, down, 63, &count) == SEDGE_NODE_ROOM && count == 77 && down[0] == 77);
+    WANT(sedge_spacecraft_report(&spacecraft, down, 64, &count) == 0 && count == 64);
     while (again(sedge_ground_telemetry(&ground, down, count, &heard)))
         ;
     WANT(heard.kind == 3 && heard.first == 1 && heard.report == 0 && heard.alert == 0 && heard.packets == 1);
     WANT(sedge_ground_read(&ground, &read) == 0 && read.outstanding == 0 && read.vs == 3 && read.nn == 3);
     WANT(sedge_ground_tick(&ground) == 0);
-    WANT(sedge_ground_take_telemetry(&ground, out, &count) == 0 && count == 7 && memcmp(out, packet, 7) == 0);
-    WANT(sedge_ground_take_telemetry(&ground, out, &count) == 0 && count == 0);
+    WANT(sedge_ground_next_telemetry(&ground, &count) == 0 && count == 7);
+    WANT(sedge_ground_take_telemetry(&ground, out, 6, &count) == SEDGE_NODE_ROOM && count == 7);
+    WANT(sedge_ground_take_telemetry(&ground, out, 7, &count) == 0 && count == 7 && memcmp(out, packet, 7) == 0);
+    WANT(sedge_ground_next_telemetry(&ground, &count) == 0 && count == 0);
+    WANT(sedge_ground_take_telemetry(&ground, out, 0, &count) == 0 && count == 0);
     sedge_ground_close(&ground);
     sedge_spacecraft_close(&spacecraft);
     WANT(ground.node == NULL && spacecraft.node == NULL && live == 0);
@@ -133,7 +152,7 @@ static void past_the_sequence_control(void) {
     while (again(sedge_ground_bypass(&ground, 5, packet, sizeof packet)))
         ;
     goes_up(&ground, &spacecraft, 4);
-    comes_out(&spacecraft, sedge_spacecraft_take_bypass, 5);
+    comes_out(&spacecraft, sedge_spacecraft_next_bypass, sedge_spacecraft_take_bypass, 5);
     sedge_ground_close(&ground);
     sedge_spacecraft_close(&spacecraft);
     WANT(live == 0);
@@ -157,31 +176,168 @@ static void handles_that_hold_none(void) {
     WANT(sedge_spacecraft_open(&wrong, &spacecraft) == SEDGE_NODE_OUT_OF_RANGE && spacecraft.node == NULL);
     WANT(sedge_ground_init_unlock(&ground) == SEDGE_NODE_NONE && sedge_ground_tick(&ground) == SEDGE_NODE_NONE);
     WANT(sedge_ground_submit(&ground, 0, packet, 7) == 255 && sedge_ground_bypass(&ground, 0, packet, 7) == 255);
-    WANT(sedge_ground_pull(&ground, up, &count) == 255 && sedge_ground_take_telemetry(&ground, out, &count) == 255);
+    WANT(sedge_ground_next(&ground, &count) == 255 && sedge_ground_pull(&ground, up, 1024, &count) == 255);
+    WANT(sedge_ground_next_telemetry(&ground, &count) == 255 && sedge_ground_accepted_beyond(&ground, 0, &map) == 255);
+    WANT(sedge_ground_take_telemetry(&ground, out, sizeof out, &count) == 255);
     WANT(sedge_ground_telemetry(&ground, down, 64, &heard) == 255 && sedge_ground_read(&ground, &read) == 255);
     WANT(sedge_spacecraft_receive(&spacecraft, up, 12, &received) == SEDGE_NODE_NONE);
-    WANT(sedge_spacecraft_take(&spacecraft, &map, out, &count) == 255);
-    WANT(sedge_spacecraft_take_bypass(&spacecraft, &map, out, &count) == 255);
+    WANT(sedge_spacecraft_next(&spacecraft, &map, &count) == 255);
+    WANT(sedge_spacecraft_next_bypass(&spacecraft, &map, &count) == 255);
+    WANT(sedge_spacecraft_take(&spacecraft, &map, out, sizeof out, &count) == 255);
+    WANT(sedge_spacecraft_take_bypass(&spacecraft, &map, out, sizeof out, &count) == 255);
     WANT(sedge_spacecraft_telemetry(&spacecraft, packet, 7) == 255);
-    WANT(sedge_spacecraft_report(&spacecraft, down, &count) == 255 && count == 77 && map == 77 && read.state == 77);
+    WANT(sedge_spacecraft_report(&spacecraft, down, 2048, &count) == 255);
+    WANT(count == 77 && map == 77 && read.state == 77);
     sedge_ground_close(&ground);
     sedge_spacecraft_close(&spacecraft);
+}
+
+/* ---- The simulated link. ---- */
+
+static void replies(uint8_t answer, const struct sedge_reply *reply, int kind) {
+    WANT(answer == 0 && reply->kind == kind);
+}
+
+/* An event that may want memory, until it has some. */
+#define HAPPENS(call, kind) \
+    do { \
+        uint8_t answer_; \
+        while (again(answer_ = (call))) \
+            ; \
+        replies(answer_, &reply, kind); \
+    } while (0)
+
+static void has_entry(struct sedge_sim *sim, int record, int map, size_t k, const uint8_t *octets, size_t count) {
+    size_t length = 77;
+    WANT(sedge_sim_entry_length(sim, record, map, k, &length) == 0 && length == count);
+    WANT(sedge_sim_entry(sim, record, map, k, out, count - 1, &length) == SEDGE_NODE_ROOM);
+    WANT(sedge_sim_entry(sim, record, map, k, out, count, &length) == 0 && memcmp(out, octets, count) == 0);
+    WANT(sedge_sim_entry(sim, record, map, k + 1, out, sizeof out, &length) == SEDGE_NODE_ABSENT && length == count);
+}
+
+static void is_read(struct sedge_sim *sim, size_t outstanding, size_t acknowledged, int state) {
+    struct sedge_sim_reading read;
+    WANT(sedge_sim_read(sim, &read) == 0 && read.outstanding == outstanding && read.acknowledged == acknowledged);
+    WANT(read.state == state && read.begun == SEDGE_BEGUN_SET_VR && read.vr == 7 && read.clean && read.idle);
+}
+
+static void link(void) {
+    struct sedge_config whole = config;
+    struct sedge_sim sim = {0};
+    struct sedge_reply reply;
+    size_t count = 0;
+    static const uint8_t field[] = {0xc4, 0x10, 0x05, 0xc0, 0x00, 0x00, 0x00, 0xaa}; /* the segment header first */
+    whole.part = 1016;
+    while (again(sedge_sim_open(&whole, &sim)))
+        ;
+    HAPPENS(sedge_sim_submit(&sim, 4, packet, sizeof packet, &reply), SEDGE_REPLY_REFUSED);
+    WANT(reply.by == SEDGE_BY_NODE && reply.fault == SEDGE_NODE_NOT_OPEN);
+    HAPPENS(sedge_sim_terminate(&sim, &reply), SEDGE_REPLY_REFUSED);
+    WANT(reply.by == SEDGE_BY_SENDER && reply.fault == SEDGE_COP_WRONG_STATE);
+    HAPPENS(sedge_sim_init_set_vr(&sim, 7, &reply), SEDGE_REPLY_DONE);
+    HAPPENS(sedge_sim_submit(&sim, 4, packet, sizeof packet, &reply), SEDGE_REPLY_DONE);
+    HAPPENS(sedge_sim_bypass(&sim, 5, packet, sizeof packet, &reply), SEDGE_REPLY_DONE);
+    HAPPENS(sedge_sim_send(&sim, &reply), SEDGE_REPLY_SENT);
+    WANT(reply.count == 10 && sedge_sim_octets(&sim, out, 9, &count) == SEDGE_NODE_ROOM);
+    WANT(sedge_sim_octets(&sim, out, sizeof out, &count) == 0 && count == 10 && out[0] == 0x30 && out[5] == 0x82);
+    HAPPENS(sedge_sim_up_deliver(&sim, &reply), SEDGE_REPLY_UP);
+    WANT(reply.up.kind == 5 && reply.up.command == SEDGE_SET_VR && reply.up.vr == 7 && reply.count == 0);
+    WANT(sedge_sim_octets(&sim, out, 0, &count) == 0 && count == 0);
+    HAPPENS(sedge_sim_report(&sim, &reply), SEDGE_REPLY_REPORTED);
+    WANT(reply.report.vcid == 2 && reply.report.value == 7 && reply.report.farm_b == 1);
+    HAPPENS(sedge_sim_down_deliver(&sim, &reply), SEDGE_REPLY_DOWN);
+    WANT(reply.down.kind == 3 && reply.down.first == 1 && reply.down.report == 0 && reply.down.packets == 0);
+    is_read(&sim, 1, 0, SEDGE_FOP_S1);
+    HAPPENS(sedge_sim_send(&sim, &reply), SEDGE_REPLY_SENT);
+    HAPPENS(sedge_sim_send(&sim, &reply), SEDGE_REPLY_SENT);
+    HAPPENS(sedge_sim_send(&sim, &reply), SEDGE_REPLY_NOTHING);
+    HAPPENS(sedge_sim_up_deliver(&sim, &reply), SEDGE_REPLY_UP);
+    WANT(reply.up.kind == 4 && reply.up.kept);
+    HAPPENS(sedge_sim_take_bypass(&sim, &reply), SEDGE_REPLY_PACKET);
+    WANT(reply.map == 5 && reply.count == 7);
+    WANT(sedge_sim_up_damage(&sim, packet, 7, &reply) == 0 && reply.kind == SEDGE_REPLY_UP && reply.up.kind == 1);
+    WANT(sedge_sim_up_lose(&sim, &reply) == SEDGE_SIM_NOTHING_IN_TRANSIT);
+    for (int i = 0; i < 10; i++) HAPPENS(sedge_sim_tick(&sim, &reply), SEDGE_REPLY_DONE);
+    HAPPENS(sedge_sim_send(&sim, &reply), SEDGE_REPLY_SENT);
+    WANT(sedge_sim_octets(&sim, out, sizeof out, &count) == 0);
+    WANT(sedge_sim_up_damage(&sim, out, count, &reply) == SEDGE_SIM_NOT_DETECTABLE);
+    HAPPENS(sedge_sim_up_deliver(&sim, &reply), SEDGE_REPLY_UP);
+    WANT(reply.up.kind == 3 && reply.up.n == 7 && reply.up.verdict == SEDGE_ACCEPTED && reply.up.ready == 1);
+    HAPPENS(sedge_sim_telemetry(&sim, packet, 6, &reply), SEDGE_REPLY_REFUSED);
+    WANT(reply.by == SEDGE_BY_TELEMETRY && reply.fault == 8);
+    HAPPENS(sedge_sim_telemetry(&sim, packet, 7, &reply), SEDGE_REPLY_DONE);
+    HAPPENS(sedge_sim_report(&sim, &reply), SEDGE_REPLY_REPORTED);
+    HAPPENS(sedge_sim_report(&sim, &reply), SEDGE_REPLY_REPORTED);
+    WANT(sedge_sim_down_damage(&sim, packet, 7, &reply) == 0 && reply.kind == SEDGE_REPLY_DOWN && reply.down.kind == 1);
+    HAPPENS(sedge_sim_down_deliver(&sim, &reply), SEDGE_REPLY_DOWN);
+    is_read(&sim, 0, 1, SEDGE_FOP_S1);
+    HAPPENS(sedge_sim_report(&sim, &reply), SEDGE_REPLY_REPORTED);
+    HAPPENS(sedge_sim_down_lose(&sim, &reply), SEDGE_REPLY_LOST);
+    HAPPENS(sedge_sim_take(&sim, &reply), SEDGE_REPLY_PACKET);
+    WANT(sedge_sim_octets(&sim, out, sizeof out, &count) == 0 && count == 7 && memcmp(out, packet, 7) == 0);
+    HAPPENS(sedge_sim_take(&sim, &reply), SEDGE_REPLY_NOTHING);
+    WANT(sedge_sim_count(&sim, SEDGE_SUBMITTED, 4, &count) == 0 && count == 1);
+    WANT(sedge_sim_count(&sim, SEDGE_DELIVERED, 5, &count) == 0 && count == 0);
+    WANT(sedge_sim_count(&sim, 5, 4, &count) == 0 && count == 0);
+    has_entry(&sim, SEDGE_SUBMITTED, 4, 0, packet, sizeof packet);
+    has_entry(&sim, SEDGE_DELIVERED, 4, 0, packet, sizeof packet);
+    has_entry(&sim, SEDGE_SENT, 0, 0, field, sizeof field);
+    has_entry(&sim, SEDGE_RECEIVED, 0, 0, field, sizeof field);
+    HAPPENS(sedge_sim_terminate(&sim, &reply), SEDGE_REPLY_ALERT);
+    WANT(reply.alert == SEDGE_ALERT_TERMINATED);
+    sedge_sim_close(&sim);
+    WANT(sim.link == NULL && live == 0);
+}
+
+static void links_that_are_none(void) {
+    struct sedge_config wrong = config;
+    struct sedge_sim sim = {0};
+    struct sedge_reply reply = {0};
+    struct sedge_sim_reading read;
+    size_t count = 77;
+    wrong.blocking = 2;
+    reply.kind = 77;
+    WANT(sedge_sim_open(&wrong, &sim) == SEDGE_NODE_OUT_OF_RANGE && sim.link == NULL);
+    WANT(sedge_sim_send(&sim, &reply) == 255 && sedge_sim_submit(&sim, 4, packet, 7, &reply) == 255);
+    WANT(reply.kind == 77);
+    WANT(sedge_sim_octets(&sim, out, 1, &count) == 255 && sedge_sim_read(&sim, &read) == 255);
+    WANT(sedge_sim_count(&sim, SEDGE_SENT, 0, &count) == 255 && count == 77);
+    WANT(sedge_sim_entry_length(&sim, SEDGE_SENT, 0, 0, &count) == 255);
+    WANT(sedge_sim_entry(&sim, SEDGE_SENT, 0, 0, out, 1, &count) == 255 && count == 77);
+    sedge_sim_close(&sim);
+}
+
+static void is_named(struct sedge_text name, const char *word) {
+    WANT(strcmp(name.text, word) == 0);
+}
+
+static void names(void) {
+    is_named(sedge_parameter_name(1), "scid");
+    is_named(sedge_parameter_name(15), "blocking");
+    is_named(sedge_parameter_name(16), "?");
+    is_named(sedge_link_fault_name(SEDGE_NODE_QUEUE_FULL), "QueueFull");
+    is_named(sedge_link_fault_name(SEDGE_NODE_ROOM), "?");
+    is_named(sedge_sim_fault_name(SEDGE_SIM_NOT_DETECTABLE), "NotDetectable");
 }
 
 int main(void) {
     long all;
     handles_that_hold_none();
+    links_that_are_none();
+    names();
     WANT(tried == 0);
     session();
     past_the_sequence_control();
+    link();
     all = tried;
-#ifndef OVER_MALLOC
+#ifndef OVER_MEMORY
     WANT(all > 0);
 #endif
     for (refused = 0; refused < all; refused++) {
         tried = 0;
         session();
         past_the_sequence_control();
+        link();
     }
     printf(failures ? "%d failed\n" : "all as wanted, %d failed of %ld allocations\n", failures, all);
     return failures != 0;

@@ -1,4 +1,6 @@
 pub mod Answered
+mod Copied
 pub mod GroundHandleValues
-pub mod SpacecraftHandleValues
 mod Named
+pub mod SimHandleValues
+pub mod SpacecraftHandleValues

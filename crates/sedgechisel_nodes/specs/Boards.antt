@@ -1,7 +1,9 @@
 -- The spacecraft of a program in C: what a call answers, and what the program holds then.
-use Rattle.std.specs.Prelude.{◌≡◌, ℕ, List, ◌++◌, drop, length, false, Option, Some, None}
+use Rattle.std.specs.Prelude.{ℕ, false, Option, Some, None}
 use Rattle.tc_frame.specs.declared.frame.Command.TheVariants.{Unlock, SetVr}
 use Rattle.tc_frame.specs.Faults.{fault_row}
+use Rattle.cop1.specs.declared.farm.FarmMode.{FarmMode}
+use Rattle.cop1.specs.declared.farm.FarmMode.TheVariants.{Open, Wait, Lockout}
 use Rattle.cop1.specs.declared.farm.Verdict.{Verdict}
 use Rattle.cop1.specs.declared.farm.Verdict.TheVariants.{Accepted, Ahead, NoBuffer, Behind, Outside}
 use Rattle.cop1.specs.declared.farm.Verdict.TheVariants.{Discarded}
@@ -11,7 +13,6 @@ use Rattle.map_service.specs.declared.dropped.Dropped.TheVariants.{NoBeginning, 
 use Rattle.nodes.specs.declared.received.Received.{Received}
 use Rattle.nodes.specs.declared.received.Received.TheVariants.{Invalid, Foreign, Sequence, Bypass}
 use Rattle.nodes.specs.declared.received.Received.TheVariants.{Control}
-use Rattle.nodes.specs.Packets.{PacketOn}
 use Rattle.nodes.specs.Spacecraft.{SpacecraftState, SpacecraftEvent, spacecraft_step}
 use Rattle.clcw.specs.Flags.{flags_number}
 use Rattle.cop1.specs.Report.{report_of}
@@ -21,13 +22,6 @@ use Rattle.sedgechisel_nodes.specs.declared.spacecraft.KeptReceived.{KeptReceive
 abbrev pub stepped : Option SpacecraftState → SpacecraftEvent → Option SpacecraftState
 stepped None event = None
 stepped (Some s) event = Some (spacecraft_step s event).after
-
--- a packet is handed out: its MAP, the number of its octets, and the octets at the beginning of the
--- room; where there is none, 0 octets alone
-abbrev pub IsHandedOut : Option PacketOn → ℕ → ℕ → ℕ → List ℕ → List ℕ → Type 0
-IsHandedOut None map map' count out out' = (count ≡ 0) × (map' ≡ map) × (out' ≡ out)
-IsHandedOut (Some p) map map' count out out' =
-    (count ≡ length p.octets) × (map' ≡ p.on_map) × (out' ≡ p.octets ++ drop (length p.octets) out)
 
 abbrev pub verdict_number : Verdict → ℕ
 verdict_number Accepted = 0
@@ -45,7 +39,7 @@ dropped_number (Some NoBeginning) = 3
 dropped_number (Some NotAPacket) = 4
 dropped_number (Some TooLong) = 5
 
-abbrev no_received : KeptReceived
+abbrev pub no_received : KeptReceived
 no_received = record {
   ready = 0;
   kind = 0;
@@ -73,6 +67,12 @@ received_kept (Bypass kept) = record no_received { kind = 4; kept = kept }
 received_kept (Control Unlock) = record no_received { kind = 5 }
 received_kept (Control (SetVr vr)) = record no_received { kind = 5; command = 1; vr = vr }
 
+-- the receiver's state (CCSDS 232.1-B-2, 6.1.2)
+abbrev pub farm_mode_number : FarmMode → ℕ
+farm_mode_number Open = 0
+farm_mode_number Wait = 1
+farm_mode_number Lockout = 2
+
 abbrev pub board_reading_of : SpacecraftState → BoardReading
 board_reading_of s =
     let word = report_of s.farm s.config.vcid in
@@ -83,4 +83,5 @@ board_reading_of s =
       flags = flags_number word.flags;
       farm_b = word.farm_b;
       value = word.value;
+      state = farm_mode_number s.farm.state;
     }

@@ -1,10 +1,10 @@
 -- The ground of a program in C: what a call answers, and what the program holds then.
 use Rattle.std.specs.Prelude.{◌≡◌, ℕ, ◌⊎◌, length, Option, Some, None, Result, Ok, Err}
 use Rattle.nodes.specs.declared.config.Config.{Config}
-use Rattle.cop1.specs.declared.fop.Directive.{Directive}
-use Rattle.cop1.specs.declared.fop.FopMode.{FopMode}
-use Rattle.cop1.specs.declared.fop.FopMode.TheVariants.{S1, S2, S3, S4, S5, S6}
-use Rattle.cop1.specs.declared.fop.Alert.{Alert}
+use Rattle.cop1.specs.declared.vocabulary.Directive.{Directive}
+use Rattle.cop1.specs.declared.vocabulary.FopMode.{FopMode}
+use Rattle.cop1.specs.declared.vocabulary.FopMode.TheVariants.{S1, S2, S3, S4, S5, S6}
+use Rattle.cop1.specs.declared.vocabulary.Alert.{Alert}
 use Rattle.cop1.specs.declared.fault.CopFault.{CopFault}
 use Rattle.cop1.specs.Faults.{fault_row as cop_row}
 use Rattle.nodes.specs.Ground.{GroundState, GroundEvent, Direct, ground_step, outstanding}
@@ -82,3 +82,8 @@ reading_of s = record {
   vs = s.fop.vs;
   nn = s.fop.nn;
 }
+
+-- a number is written where there is one; the answer is 253 where there is none
+abbrev pub IsNumberIfThere : Option ℕ → ℕ → ℕ → ℕ → Type 0
+IsNumberIfThere None answer n n' = (answer ≡ 253) × (n' ≡ n)
+IsNumberIfThere (Some m) answer n n' = (answer ≡ 0) × (n' ≡ m)

@@ -1,7 +1,7 @@
 -- What a program in C is told of telemetry and of the sender.
-use Rattle.std.specs.Prelude.{◌≡◌, ℕ, List, ◌++◌, drop, length, Option, Some, None}
+use Rattle.std.specs.Prelude.{ℕ, Option, Some, None}
 use Rattle.clcw.specs.Faults.{fault_row as word_row}
-use Rattle.cop1.specs.declared.fop.Alert.{Alert}
+use Rattle.cop1.specs.declared.vocabulary.Alert.{Alert}
 use Rattle.cop1.specs.Names.{alert_row}
 use Rattle.tm_link.specs.declared.gap.Gap.{Gap}
 use Rattle.tm_link.specs.declared.gap.Gap.TheVariants.{First, Lost}
@@ -25,6 +25,18 @@ abbrev pub report_kept : HeardReport → ℕ × ℕ
 report_kept Used = (0, 0)
 report_kept (Refused fault) = (1, (word_row fault).0)
 report_kept OtherChannel = (2, 0)
+
+abbrev pub no_heard : KeptHeard
+no_heard = record {
+  packets = 0;
+  kind = 0;
+  fault = 0;
+  first = 0;
+  missing = 0;
+  report = 0;
+  word_fault = 0;
+  alert = 0;
+}
 
 abbrev pub heard_kept : Heard → KeptHeard
 heard_kept (Invalid fault) = record {
@@ -57,10 +69,3 @@ heard_kept (Frame gap packets report alert) = record {
   word_fault = (report_kept report).1;
   alert = alert_number alert;
 }
-
--- a packet of telemetry is handed out: the number of its octets, and the octets at the beginning of
--- the room; where there is none, 0 octets alone
-abbrev pub IsHandedOut : Option (List ℕ) → ℕ → List ℕ → List ℕ → Type 0
-IsHandedOut None count out out' = (count ≡ 0) × (out' ≡ out)
-IsHandedOut (Some packet) count out out' =
-    (count ≡ length packet) × (out' ≡ packet ++ drop (length packet) out)

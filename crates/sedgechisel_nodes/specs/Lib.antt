@@ -1,4 +1,9 @@
-pub mod Grounds
 pub mod Boards
+pub mod Grounds
 pub mod Hearing
+pub mod LinkFields
+pub mod LinkState
+pub mod Links
 pub mod ParameterNumbers
+pub mod Rooms
+pub mod Words

@@ -1,11 +1,12 @@
 // The directives to the ground of a program in C (CCSDS 232.1-B-2, 5.2.4).
 
 ghost use Rattle.std.specs.Prelude.{◌≡◌};
-ghost use Rattle.cop1.specs.declared.fop.Directive.{Directive};
+ghost use Rattle.cop1.specs.declared.vocabulary.Directive.{Directive};
 ghost use Rattle.nodes.specs.Ground.{Direct};
 ghost use Rattle.sedgechisel_nodes.specs.Grounds.{stepped, directive_answer};
 
-use crate::ground::{CLOSED, GroundHandle};
+use crate::answers::CLOSED;
+use crate::ground::GroundHandle;
 use cop1::Directive;
 use std::alloc::Global;
 

@@ -2,11 +2,10 @@
 
 ghost use Rattle.std.specs.Prelude.{◌≡◌, ◌≢◌, ◌⊎◌, Option, Some, None, option_map, IfSome};
 ghost use Rattle.nodes.specs.Parameters.{IsConfig};
-ghost use Rattle.nodes.specs.Ground.{GroundState, Submit, Pull, ground_step, submit_fault, new_ground};
-ghost use Rattle.nodes.specs.Frames.{size_of, written_over};
-ghost use Rattle.std.specs.Option.{unwrap_or};
+ghost use Rattle.nodes.specs.Ground.{GroundState, Submit, ground_step, submit_fault, new_ground};
 ghost use Rattle.sedgechisel_nodes.specs.Grounds.{stepped, closed, number_of, config_of, IsAnswer, IsOpenAnswer};
 
+use crate::answers::{CLOSED, MEMORY, OUT_OF_RANGE};
 use kept::Kept;
 use nodes::{Config, Ground, LinkFault};
 use std::alloc::Global;
@@ -62,15 +61,6 @@ impl GroundHandle {
         drop(mem::replace(self, full).into_kept(alloc).into_option());
     }
 }
-
-/// No ground is open.
-pub(crate) const CLOSED: u8 = 255;
-
-/// A parameter is out of its range.
-pub(crate) const OUT_OF_RANGE: u8 = 254;
-
-/// There was no memory.
-pub(crate) const MEMORY: u8 = 6;
 
 /// Closes the ground, where there is one.
 #[unsafe(no_mangle)]
@@ -197,26 +187,4 @@ pub extern "C" fn sedge_ground_open(
         }
         None => MEMORY,
     }
-}
-
-/// Takes the frame that goes on the link next; 0 octets for none.
-#[unsafe(no_mangle)]
-pub extern "C" fn sedge_ground_pull(
-    alloc: Global,
-    ground: &mut GroundHandle,
-    out: &mut [u8; 1024],
-    count: &mut usize,
-) -> u8
-    ensures none { ground.old.value ≡ None → (result ≡ closed) × (out.new ≡ out.old) × (count.new ≡ count.old) }
-    ensures answer { IfSome ground.old.value (λ s. result ≡ 0) }
-    ensures after { ground.new.value ≡ stepped ground.old.value Pull }
-    ensures count { IfSome ground.old.value (λ s. count.new ≡ unwrap_or (size_of (ground_step s Pull).answer) 0) }
-    ensures frame { IfSome ground.old.value (λ s. out.new ≡ written_over out.old (ground_step s Pull).answer) }
-{
-    let Some(mut node) = ground.take(alloc) else {
-        return CLOSED;
-    };
-    *count = node.pull(out).unwrap_or(0);
-    ground.put(alloc, node);
-    0
 }

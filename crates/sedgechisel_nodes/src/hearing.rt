@@ -1,12 +1,12 @@
 // The ground of a program in C: telemetry, the clock, and packets past the sequence control.
 
 ghost use Rattle.std.specs.Prelude.{◌≡◌, ◌≢◌, ◌⊎◌, Some, None, IfSome};
-ghost use Rattle.nodes.specs.Ground.{Bypass, Telemetry, TakeTelemetry, Tick, ground_step, bypass_fault};
+ghost use Rattle.nodes.specs.Ground.{Bypass, Telemetry, Tick, ground_step, bypass_fault};
 ghost use Rattle.sedgechisel_nodes.specs.Grounds.{stepped, closed, IsAnswer};
-ghost use Rattle.sedgechisel_nodes.specs.Hearing.{alert_number, gap_kept, report_kept, heard_kept, IsHandedOut};
+ghost use Rattle.sedgechisel_nodes.specs.Hearing.{alert_number, gap_kept, report_kept, heard_kept};
 
-use crate::ground::{CLOSED, GroundHandle, MEMORY, number_of};
-use crate::spacecraft::hand_out;
+use crate::answers::{CLOSED, MEMORY};
+use crate::ground::{GroundHandle, number_of};
 use cop1::Alert;
 use nodes::{Ground, Heard, HeardReport};
 use std::alloc::Global;
@@ -26,7 +26,7 @@ pub struct KeptHeard {
     pub alert: u8,
 }
 
-fn number_of_alert(alert: Option<Alert>) -> u8
+pub(crate) fn number_of_alert(alert: Option<Alert>) -> u8
     ensures { result ≡ alert_number alert }
 {
     match alert {
@@ -60,7 +60,7 @@ fn kept_report(report: HeardReport) -> (u8, u8)
     }
 }
 
-fn nothing_heard(kind: u8, fault: u8) -> KeptHeard
+pub(crate) fn nothing_heard(kind: u8, fault: u8) -> KeptHeard
     ensures { result ≡ (record { packets = 0; kind = kind; fault = fault; first = 0; missing = 0; report = 0; word_fault = 0; alert = 0 }) }
 {
     KeptHeard {
@@ -75,7 +75,7 @@ fn nothing_heard(kind: u8, fault: u8) -> KeptHeard
     }
 }
 
-fn kept_heard(heard: Heard) -> KeptHeard
+pub(crate) fn kept_heard(heard: Heard) -> KeptHeard
     ensures { result ≡ heard_kept heard }
 {
     match heard {
@@ -132,36 +132,6 @@ pub extern "C" fn sedge_ground_telemetry(
     };
     ground.put(alloc, node);
     answer
-}
-
-/// Takes the oldest packet of telemetry, and copies it to the beginning of the room.
-#[unsafe(no_mangle)]
-pub extern "C" fn sedge_ground_take_telemetry(
-    alloc: Global,
-    ground: &mut GroundHandle,
-    out: &mut [u8; 65542],
-    count: &mut usize,
-) -> u8
-    ensures none { ground.old.value ≡ None
-        → (result ≡ closed) × (count.new ≡ count.old) × (out.new ≡ out.old) }
-    ensures answer { IfSome ground.old.value (λ s. result ≡ 0) }
-    ensures after { ground.new.value ≡ stepped ground.old.value TakeTelemetry }
-    ensures packet { IfSome ground.old.value
-        (λ s. IsHandedOut (ground_step s TakeTelemetry).answer count.new out.old out.new) }
-{
-    let Some(mut node) = ground.take(alloc) else {
-        return CLOSED;
-    };
-    let taken = node.take_telemetry();
-    ground.put(alloc, node);
-    match taken {
-        Some(packet) => {
-            *count = packet.len();
-            hand_out(packet.as_slice(), out);
-        }
-        None => *count = 0,
-    }
-    0
 }
 
 /// A tick of the clock has passed. Answers the alert's number, 0 for none; or 255.

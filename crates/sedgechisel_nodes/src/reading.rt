@@ -1,13 +1,15 @@
 // What a program in C reads of its nodes.
 
 ghost use Rattle.std.specs.Prelude.{◌≡◌, Some, None, IfSome};
-ghost use Rattle.sedgechisel_nodes.specs.Boards.{board_reading_of};
-ghost use Rattle.sedgechisel_nodes.specs.Grounds.{closed, mode_number, reading_of};
+ghost use Rattle.sedgechisel_nodes.specs.Boards.{board_reading_of, farm_mode_number};
+ghost use Rattle.cop1.specs.Accepted.{accepted_beyond};
+ghost use Rattle.sedgechisel_nodes.specs.Grounds.{closed, mode_number, reading_of, IsNumberIfThere};
 
-use crate::ground::{CLOSED, GroundHandle};
+use crate::answers::{ABSENT, CLOSED};
+use crate::ground::GroundHandle;
 use crate::spacecraft::SpacecraftHandle;
 use bitflags::Flags;
-use cop1::FopMode;
+use cop1::{FarmMode, FopMode};
 use nodes::{Ground, Spacecraft};
 use std::alloc::Global;
 
@@ -22,7 +24,7 @@ pub struct GroundReading {
     pub nn: u8,
 }
 
-fn number_of_mode(mode: FopMode) -> u8
+pub(crate) fn number_of_mode(mode: FopMode) -> u8
     ensures { result ≡ mode_number mode }
 {
     match mode {
@@ -68,7 +70,7 @@ pub extern "C" fn sedge_ground_read(
 }
 
 /// What is read of a spacecraft: the octets of a telemetry frame, and the report that the next one carries, its flags as
-/// the bits of the third octet (CCSDS 232.0-B-4, 4.2.1).
+/// the bits of the third octet (CCSDS 232.0-B-4, 4.2.1); and the receiver's state.
 #[repr(C)]
 #[derive(Clone, Copy)]
 pub struct BoardReading {
@@ -78,6 +80,17 @@ pub struct BoardReading {
     pub flags: u8,
     pub farm_b: u8,
     pub value: u8,
+    pub state: u8,
+}
+
+fn number_of_farm_mode(mode: FarmMode) -> u8
+    ensures { result ≡ farm_mode_number mode }
+{
+    match mode {
+        FarmMode::Open => 0,
+        FarmMode::Wait => 1,
+        FarmMode::Lockout => 2,
+    }
 }
 
 fn board_reading(node: &Spacecraft) -> BoardReading
@@ -91,6 +104,7 @@ fn board_reading(node: &Spacecraft) -> BoardReading
         flags: word.flags.bits(),
         farm_b: word.farm_b,
         value: word.value,
+        state: number_of_farm_mode(node.state()),
     }
 }
 
@@ -112,4 +126,41 @@ pub extern "C" fn sedge_spacecraft_read(
     *read = board_reading(&node);
     spacecraft.put(alloc, node);
     0
+}
+
+// Writes a number, if there is one; 253 where there is none.
+fn number_if_there(number: Option<u8>, out: &mut u8) -> u8
+    ensures { IsNumberIfThere number result out.old out.new }
+{
+    match number {
+        Some(number) => {
+            *out = number;
+            0
+        }
+        None => ABSENT,
+    }
+}
+
+/// Writes how many of the segments that were sent and not acknowledged were accepted on board when a report of this value
+/// was made, the oldest ones; after an alert too, until V(S) is set or an initiation begins (CCSDS 232.1-B-2, 5.1). Answers
+/// 0, or 253 where the value is beyond V(S), or 255 where there is no ground.
+#[unsafe(no_mangle)]
+pub extern "C" fn sedge_ground_accepted_beyond(
+    alloc: Global,
+    ground: &mut GroundHandle,
+    value: u8,
+    accepted: &mut u8,
+) -> u8
+    ensures none { ground.old.value ≡ None → (result ≡ closed) × (accepted.new ≡ accepted.old) }
+    ensures answer { IfSome ground.old.value
+        (λ s. IsNumberIfThere (accepted_beyond s.fop.nn s.fop.vs value) result accepted.old
+        accepted.new) }
+    ensures unchanged { ground.new.value ≡ ground.old.value }
+{
+    let Some(node) = ground.take(alloc) else {
+        return CLOSED;
+    };
+    let answer = number_if_there(node.accepted_beyond(value), accepted);
+    ground.put(alloc, node);
+    answer
 }

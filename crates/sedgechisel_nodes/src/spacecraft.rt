@@ -1,17 +1,15 @@
 // The spacecraft of a program in C.
 
-ghost use Rattle.std.specs.Prelude.{◌≡◌, ◌≢◌, ◌≤◌, ◌⊎◌, ◌++◌, drop, take, true, length, Option, Some, None, option_map, IfSome, Ok};
+ghost use Rattle.std.specs.Prelude.{◌≡◌, ◌≢◌, ◌⊎◌, Option, Some, None, option_map, IfSome, Ok};
 ghost use Rattle.nodes.specs.Parameters.{IsConfig};
-ghost use Rattle.nodes.specs.Spacecraft.{SpacecraftState, Receive, Take, TakeBypass, Telemetry, Report, spacecraft_step, new_spacecraft};
-ghost use Rattle.map_service.specs.Packets.{is_packet};
-ghost use Rattle.nodes.specs.Packets.{packet_view};
+ghost use Rattle.nodes.specs.Spacecraft.{SpacecraftState, Receive, Telemetry, spacecraft_step, new_spacecraft};
 ghost use Rattle.tm_link.specs.Building.{queue_fault};
 ghost use Rattle.tm_link.specs.Faults.{fault_row};
-ghost use Rattle.tm_link.specs.Writing.{spelling};
 ghost use Rattle.sedgechisel_nodes.specs.Grounds.{closed, config_of, IsOpenAnswer};
-ghost use Rattle.sedgechisel_nodes.specs.Boards.{stepped, IsHandedOut, verdict_number, dropped_number, received_kept};
+ghost use Rattle.sedgechisel_nodes.specs.Boards.{stepped, verdict_number, dropped_number, received_kept};
 
-use crate::ground::{CLOSED, KeptConfig, MEMORY, OUT_OF_RANGE, config_from};
+use crate::answers::{CLOSED, MEMORY, OUT_OF_RANGE};
+use crate::ground::{KeptConfig, config_from};
 use cop1::Verdict;
 use kept::Kept;
 use map_service::Dropped;
@@ -86,7 +84,7 @@ pub struct KeptReceived {
     pub vr: u8,
 }
 
-const NO_RECEIVED: KeptReceived = KeptReceived {
+pub(crate) const NO_RECEIVED: KeptReceived = KeptReceived {
     ready: 0,
     kind: 0,
     fault: 0,
@@ -124,7 +122,7 @@ fn number_of_dropped(dropped: Option<Dropped>) -> u8
     }
 }
 
-fn kept_received(received: Received) -> KeptReceived
+pub(crate) fn kept_received(received: Received) -> KeptReceived
     ensures { result ≡ received_kept received }
 {
     let none = NO_RECEIVED;
@@ -238,85 +236,6 @@ pub extern "C" fn sedge_spacecraft_receive(
     answer
 }
 
-// Copies a packet to the beginning of the room.
-pub(crate) fn hand_out(packet: &[u8], out: &mut [u8; 65542])
-    requires { is_packet packet.now ≡ true }
-    ensures { out.new ≡ packet.now ++ drop (length packet.now) out.old }
-{
-    out[..packet.len()].copy_from_slice(packet);
-}
-
-// Hands out a packet that was taken, if any, with its MAP.
-fn hand_out_taken(
-    taken: Option<(u8, Vec<u8>)>,
-    map: &mut u8,
-    out: &mut [u8; 65542],
-    count: &mut usize,
-)
-    requires { IfSome taken (λ p. is_packet p.1.items ≡ true) }
-    ensures { IsHandedOut (option_map packet_view taken) map.old map.new count.new out.old out.new }
-{
-    match taken {
-        Some((on_map, packet)) => {
-            *map = on_map;
-            *count = packet.len();
-            hand_out(packet.as_slice(), out);
-        }
-        None => *count = 0,
-    }
-}
-
-/// Takes the oldest packet, and copies it to the beginning of the room, which is 65,542 octets.
-#[unsafe(no_mangle)]
-pub extern "C" fn sedge_spacecraft_take(
-    alloc: Global,
-    spacecraft: &mut SpacecraftHandle,
-    map: &mut u8,
-    out: &mut [u8; 65542],
-    count: &mut usize,
-) -> u8
-    ensures none { spacecraft.old.value ≡ None → (result ≡ closed) × (map.new ≡ map.old)
-        × (count.new ≡ count.old) × (out.new ≡ out.old) }
-    ensures answer { IfSome spacecraft.old.value (λ s. result ≡ 0) }
-    ensures after { spacecraft.new.value ≡ stepped spacecraft.old.value Take }
-    ensures packet { IfSome spacecraft.old.value (λ s. IsHandedOut (spacecraft_step s Take).answer
-        map.old map.new count.new out.old out.new) }
-{
-    let Some(mut node) = spacecraft.take(alloc) else {
-        return CLOSED;
-    };
-    let taken = node.take();
-    spacecraft.put(alloc, node);
-    hand_out_taken(taken, map, out, count);
-    0
-}
-
-/// Takes the oldest packet that came past the sequence control, and copies it to the beginning of the room, which is
-/// 65,542 octets.
-#[unsafe(no_mangle)]
-pub extern "C" fn sedge_spacecraft_take_bypass(
-    alloc: Global,
-    spacecraft: &mut SpacecraftHandle,
-    map: &mut u8,
-    out: &mut [u8; 65542],
-    count: &mut usize,
-) -> u8
-    ensures none { spacecraft.old.value ≡ None → (result ≡ closed) × (map.new ≡ map.old)
-        × (count.new ≡ count.old) × (out.new ≡ out.old) }
-    ensures answer { IfSome spacecraft.old.value (λ s. result ≡ 0) }
-    ensures after { spacecraft.new.value ≡ stepped spacecraft.old.value TakeBypass }
-    ensures packet { IfSome spacecraft.old.value (λ s. IsHandedOut (spacecraft_step s TakeBypass).answer
-        map.old map.new count.new out.old out.new) }
-{
-    let Some(mut node) = spacecraft.take(alloc) else {
-        return CLOSED;
-    };
-    let taken = node.take_bypass();
-    spacecraft.put(alloc, node);
-    hand_out_taken(taken, map, out, count);
-    0
-}
-
 // What queueing a packet answers: 0, or 8 for what is no packet to send, or 7 where there was no memory.
 fn queued(node: &mut Spacecraft, packet: &[u8]) -> u8
     ensures taken { result ≡ 0
@@ -355,28 +274,4 @@ pub extern "C" fn sedge_spacecraft_telemetry(
     let answer = queued(&mut node, packet);
     spacecraft.put(alloc, node);
     answer
-}
-
-/// Writes the next telemetry frame, and says how many octets it has.
-#[unsafe(no_mangle)]
-pub extern "C" fn sedge_spacecraft_report(
-    alloc: Global,
-    spacecraft: &mut SpacecraftHandle,
-    out: &mut [u8; 2048],
-    count: &mut usize,
-) -> u8
-    ensures none { spacecraft.old.value ≡ None
-        → (result ≡ closed) × (count.new ≡ count.old) × (out.new ≡ out.old) }
-    ensures answer { IfSome spacecraft.old.value (λ s. result ≡ 0) }
-    ensures after { spacecraft.new.value ≡ stepped spacecraft.old.value Report }
-    ensures count { IfSome spacecraft.old.value (λ s. count.new ≡ s.config.frame_length) }
-    ensures frame { IfSome spacecraft.old.value (λ s. out.new
-        ≡ spelling (spacecraft_step s Report).answer ++ drop count.new out.old) }
-{
-    let Some(mut node) = spacecraft.take(alloc) else {
-        return CLOSED;
-    };
-    *count = node.report(out);
-    spacecraft.put(alloc, node);
-    0
 }

@@ -1,0 +1,85 @@
+/* The memory of libsedgechisel_nodes in static places, for programs without malloc: the three functions that the
+ * library calls. SEDGE_PLACES says how many places there are of each size in octets, the smallest first, each a
+ * multiple of 16:
+ *     -D'SEDGE_PLACES=PLACES(112, 40) PLACES(352, 1) PLACES(65552, 1)'
+ * docs/C.md says how many a node takes at most. What is asked for gets a free place of the first size that is enough,
+ * so where there are as many of each size as are used at once, nothing is ever refused. Each call takes time in
+ * proportion to the number of sizes. Nothing here is for two threads at once. */
+#include <stdbool.h>
+#include <stddef.h>
+#include <stdint.h>
+#include <string.h>
+
+struct place {
+    bool found;
+    void *at; /* where none was found, any address but null */
+};
+
+/* The places, each size a member of its own. */
+static union {
+    struct {
+#define PLACES(octets, count) unsigned char of_##octets[count][octets];
+        SEDGE_PLACES
+#undef PLACES
+    } all;
+    long double align; /* to 16 octets */
+} memory;
+
+/* The places of a size: where they begin, how many were ever used, and those of them that are free, each of which
+ * begins with the address of the next. */
+static struct size {
+    unsigned char *at;
+    size_t octets, count, used;
+    void *free;
+} sizes[] = {
+#define PLACES(octets, count) {memory.all.of_##octets[0], octets, count, 0, NULL},
+    SEDGE_PLACES
+#undef PLACES
+};
+
+#define END (sizes + sizeof sizes / sizeof *sizes)
+
+static struct place place_of(struct size *size)
+{
+    struct place place = {true, size->free};
+    if (size->free != NULL)
+        memcpy(&size->free, size->free, sizeof size->free);
+    else
+        place.at = size->at + size->used++ * size->octets;
+    return place;
+}
+
+struct place rattle_alloc(size_t count, size_t align)
+{
+    struct place none = {false, &memory};
+    (void)align; /* at most 16 */
+    for (struct size *size = sizes; size < END; size++)
+        if (count <= size->octets && (size->free != NULL || size->used < size->count)) return place_of(size);
+    return none;
+}
+
+/* The size of a place that is used. */
+static struct size *size_at(const void *at)
+{
+    struct size *size = sizes;
+    while ((uintptr_t)at - (uintptr_t)size->at >= size->count * size->octets) size++;
+    return size;
+}
+
+void rattle_dealloc(void *at)
+{
+    struct size *size = size_at(at);
+    memcpy(at, &size->free, sizeof size->free);
+    size->free = at;
+}
+
+struct place rattle_realloc(void *at, size_t kept, size_t count, size_t align)
+{
+    struct place place = {true, at};
+    if (count <= size_at(at)->octets) return place;
+    place = rattle_alloc(count, align);
+    if (!place.found) return place;
+    memcpy(place.at, at, kept);
+    rattle_dealloc(at);
+    return place;
+}

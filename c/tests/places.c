@@ -1,0 +1,77 @@
+/* The places of docs/C.md, in memory/static.c, of a ground, or with BOARD of a spacecraft: at full queues all are
+ * used and nothing is refused; with one place less of the size LESS, a call answers that there was no memory, and the
+ * status is 2. */
+#ifndef LESS
+#define LESS 0
+#endif
+#define BUT(octets, count) PLACES(octets, (count) - (LESS == octets))
+#ifdef BOARD
+#define SEDGE_PLACES BUT(16, 1) BUT(64, 1) BUT(208, 5) BUT(2336, 1) BUT(5504, 1)
+#else
+#define SEDGE_PLACES BUT(96, 1) BUT(112, 12) BUT(128, 2) BUT(256, 1) BUT(352, 1) BUT(65552, 1)
+#endif
+#include "../memory/static.c"
+#include "sedgechisel_nodes.h"
+#include <stdio.h>
+#include <stdlib.h>
+
+enum { WIDTH = 8, PART = 100, LONG = 200, READY = 2, BYPASS = 2, QUEUE = 8 };
+
+/* Two MAPs are open. */
+static const struct sedge_config config = {1,    2,    0, WIDTH, WIDTH / 2, 3,     10, PART,
+                                           LONG, 0x03, READY, BYPASS, QUEUE, 64, 0};
+static uint8_t packet[LONG] = {0x10, 0x05, 0xc0, 0x00, 0x00, LONG - 7}, octets[1024];
+
+/* The answer is this one, or the program ends: by 2 where there was no memory. */
+static void gives(size_t wanted, size_t answer) {
+    if (answer != wanted) exit(answer == SEDGE_NODE_MEMORY || answer == 7 ? 2 : 1);
+}
+
+#ifdef BOARD
+/* A Type-AD frame arrives, with these octets of the packet, and is accepted. */
+static size_t arrives(struct sedge_spacecraft *spacecraft, uint8_t n, uint8_t flags, uint8_t map, size_t from,
+                      size_t count) {
+    struct sedge_tc_frame frame = {1, 2, SEDGE_TC_AD, n, flags, map, 0, 0};
+    struct sedge_received received;
+    size_t total;
+    gives(0, sedge_tc_encode(&frame, packet + from, count, true, octets, sizeof octets, &total));
+    gives(0, sedge_spacecraft_receive(spacecraft, octets, total, &received));
+    gives(SEDGE_ACCEPTED, received.verdict);
+    return received.ready;
+}
+
+/* A packet of telemetry waits, a packet is ready, and on each MAP a part is open, when one of these becomes whole. */
+static void fill(void) {
+    struct sedge_spacecraft spacecraft = {0};
+    gives(0, sedge_spacecraft_open(&config, &spacecraft));
+    gives(0, sedge_spacecraft_telemetry(&spacecraft, packet, LONG));
+    gives(1, arrives(&spacecraft, 0, SEDGE_SEGMENT_ALONE, 0, 0, LONG));
+    gives(0, arrives(&spacecraft, 1, SEDGE_SEGMENT_FIRST, 0, 0, PART));
+    gives(0, arrives(&spacecraft, 2, SEDGE_SEGMENT_FIRST, 1, 0, PART));
+    gives(1, arrives(&spacecraft, 3, SEDGE_SEGMENT_LAST, 0, PART, LONG - PART));
+    sedge_spacecraft_close(&spacecraft);
+}
+#else
+/* As many segments as there are queue slots wait, while half the window width is sent. */
+static void fill(void) {
+    struct sedge_ground ground = {0};
+    size_t k, count;
+    gives(0, sedge_ground_open(&config, &ground));
+    gives(0, sedge_ground_init_without_check(&ground));
+    for (k = 0; k < QUEUE / 2; k++) gives(0, sedge_ground_submit(&ground, 0, packet, LONG));
+    gives(SEDGE_NODE_QUEUE_FULL, sedge_ground_submit(&ground, 0, packet, LONG));
+    for (k = 0; k < WIDTH / 2; k++) gives(0, sedge_ground_pull(&ground, octets, sizeof octets, &count));
+    for (k = 0; k < WIDTH / 4; k++) gives(0, sedge_ground_submit(&ground, 1, packet, LONG));
+    gives(SEDGE_NODE_QUEUE_FULL, sedge_ground_submit(&ground, 1, packet, LONG));
+    sedge_ground_close(&ground);
+}
+#endif
+
+int main(void) {
+    fill();
+    for (const struct size *size = sizes; size < END; size++)
+        if (size->used != size->count) printf("%zu of %zu of %zu octets\n", size->used, size->count, size->octets);
+    for (const struct size *size = sizes; size < END; size++)
+        if (size->used != size->count) return 3;
+    return 0;
+}

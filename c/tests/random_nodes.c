@@ -1,0 +1,356 @@
+/* Random calls of libsedgechisel_nodes: `random_nodes COUNT`. Each call answers with one of its numbers; one that
+ * refuses has written nothing and left the node as it was, as far as it is read; and one that writes octets has written
+ * those that it says. Octets end where a page begins that may not be touched. Memory is malloc's, and one allocation in
+ * some is refused. Ends with 0 where all is as wanted and all memory is given back, and says what is not. */
+#define _DEFAULT_SOURCE
+#include <sedgechisel_nodes.h>
+#include <stdio.h>
+#include <stdlib.h>
+#include <string.h>
+#include <sys/mman.h>
+#include <unistd.h>
+
+enum { MOST = 65536 + 4096, REGIONS = 2 };
+
+static int failures;
+
+#define WANT(holds)                                                                                                    \
+    do {                                                                                                               \
+        if (!(holds) && failures++ < 20) printf("%s:%d: not so: %s\n", __FILE__, __LINE__, #holds);                    \
+    } while (0)
+
+static uint64_t state = 0x9e3779b97f4a7c15u;
+
+/* A number below the limit (xorshift64*, Marsaglia and Vigna). */
+static uint32_t below(uint32_t limit) {
+    state ^= state >> 12;
+    state ^= state << 25;
+    state ^= state >> 27;
+    return (uint32_t)((state * 2685821657736338717u) >> 33) % limit;
+}
+
+/* ---- Memory. ---- */
+
+struct place {
+    bool found;
+    void *at;
+};
+
+static char nowhere;
+static long live, refused;
+
+static struct place place_at(void *at) {
+    struct place place = {at != NULL, at != NULL ? at : &nowhere};
+    return place;
+}
+
+static int is_refused(void) {
+    int is = below(64) == 0;
+    refused += is;
+    return is;
+}
+
+struct place rattle_alloc(size_t count, size_t align) {
+    struct place place = place_at(is_refused() ? NULL : malloc(count > 0 ? count : align));
+    live += place.found;
+    return place;
+}
+
+struct place rattle_realloc(void *at, size_t kept, size_t count, size_t align) {
+    (void)kept;
+    return place_at(is_refused() ? NULL : realloc(at, count > 0 ? count : align));
+}
+
+void rattle_dealloc(void *at) {
+    live--;
+    free(at);
+}
+
+/* ---- Octets. ---- */
+
+/* The first page after each region may not be touched. */
+static uint8_t *ends[REGIONS];
+
+static int make_regions(void) {
+    size_t page = (size_t)sysconf(_SC_PAGESIZE), size = (MOST + page - 1) / page * page;
+    int i;
+    for (i = 0; i < REGIONS; i++) {
+        uint8_t *at = mmap(NULL, size + page, PROT_READ | PROT_WRITE, MAP_PRIVATE | MAP_ANONYMOUS, -1, 0);
+        if (at == MAP_FAILED || mprotect(at + size, page, PROT_NONE) != 0) return 1;
+        ends[i] = at + size;
+    }
+    return 0;
+}
+
+/* Octets of anything. */
+static uint8_t *any_octets(size_t count) {
+    uint8_t *at = ends[0] - count;
+    size_t i;
+    for (i = 0; i < count; i++) at[i] = (uint8_t)(below(4) == 0 ? below(256) : below(6));
+    return at;
+}
+
+/* A packet, or several, or mostly one; rarely something else. Its type is 1 for a command. */
+static uint8_t *any_packets(int type, size_t *count) {
+    size_t many = below(8) == 0 ? 2 : 1, each = 7 + (below(64) == 0 ? below(3000) : below(60)), i;
+    uint8_t *at = any_octets(*count = many * each);
+    for (i = 0; i < many; i++) {
+        at[i * each] = (uint8_t)(type << 4);
+        at[i * each + 4] = (uint8_t)((each - 7) >> 8);
+        at[i * each + 5] = (uint8_t)(each - 7);
+    }
+    if (below(16) == 0) at[below((uint32_t)*count)] ^= (uint8_t)(1 << below(8));
+    return at;
+}
+
+/* Room to be written, each octet 0x55 so far. */
+static uint8_t *room_of(size_t room) {
+    return memset(ends[1] - room, 0x55, room);
+}
+
+/* What a call answered that writes octets of which so many are next. */
+static void look_at_written(uint8_t answer, size_t next, size_t room, size_t count, const uint8_t *out) {
+    size_t i;
+    WANT(answer == (next > room ? SEDGE_NODE_ROOM : SEDGE_NODE_OK));
+    WANT(count == (answer == SEDGE_NODE_OK ? next : 99));
+    for (i = answer == SEDGE_NODE_OK ? next : 0; i < room; i++) WANT(out[i] == 0x55);
+}
+
+static size_t any_room(size_t next) {
+    return below(8) == 0 ? below((uint32_t)next + 1) : next + below(3);
+}
+
+/* ---- The nodes. ---- */
+
+static struct sedge_config config;
+static struct sedge_ground ground;
+static struct sedge_spacecraft spacecraft;
+static struct sedge_sim sim;
+static uint8_t up[1024], down[2048];
+static size_t up_count, down_count;
+
+static void any_config(void) {
+    static const struct sedge_config usual = {1, 2, 0, 20, 8, 3, 5, 40, 2000, ~(uint64_t)0, 5, 2, 30, 64, 0};
+    config = usual;
+    config.blocking = below(2);
+    config.part = 1 + below(1016);
+    config.frame_length = below(4) == 0 ? 16 + below(2033) : 64;
+    if (below(16) == 0) ((uint32_t *)(void *)&config)[below(sizeof config / 4)] = below(70000);
+}
+
+/* What a call answered that may be refused by numbers up to this one, and by a handle that holds none. */
+static int is_answer(uint8_t answer, uint8_t most, const void *node) {
+    return node == NULL ? answer == SEDGE_NODE_NONE : answer <= most;
+}
+
+static uint8_t directs(struct sedge_reply *reply) {
+    uint8_t number = (uint8_t)(below(4) == 0 ? below(256) : below(12));
+    switch (below(9)) {
+    case 0: return reply ? sedge_sim_init_without_check(&sim, reply) : sedge_ground_init_without_check(&ground);
+    case 1: return reply ? sedge_sim_init_with_check(&sim, reply) : sedge_ground_init_with_check(&ground);
+    case 2: return reply ? sedge_sim_init_unlock(&sim, reply) : sedge_ground_init_unlock(&ground);
+    case 3: return reply ? sedge_sim_init_set_vr(&sim, number, reply) : sedge_ground_init_set_vr(&ground, number);
+    case 4:
+        if (below(16) != 0) return SEDGE_NODE_OK;
+        return reply ? sedge_sim_terminate(&sim, reply) : sedge_ground_terminate(&ground);
+    case 5: return reply ? sedge_sim_set_vs(&sim, number, reply) : sedge_ground_set_vs(&ground, number);
+    case 6: return reply ? sedge_sim_set_window(&sim, number, reply) : sedge_ground_set_window(&ground, number);
+    case 7: return reply ? sedge_sim_set_limit(&sim, number, reply) : sedge_ground_set_limit(&ground, number);
+    default: return reply ? sedge_sim_set_timer(&sim, number, reply) : sedge_ground_set_timer(&ground, number);
+    }
+}
+
+static void opens(void) {
+    any_config();
+    if (below(2)) {
+        WANT(is_answer(sedge_ground_open(&config, &ground), SEDGE_NODE_OUT_OF_RANGE, &config));
+        WANT(is_answer(sedge_spacecraft_open(&config, &spacecraft), SEDGE_NODE_OUT_OF_RANGE, &config));
+    } else {
+        uint8_t answer = sedge_sim_open(&config, &sim);
+        WANT(answer == (sedge_config_fault(&config) ? SEDGE_NODE_OUT_OF_RANGE : 0) || answer == SEDGE_NODE_MEMORY);
+    }
+    if (below(8) == 0) sedge_ground_close(&ground);
+    if (below(8) == 0) sedge_spacecraft_close(&spacecraft);
+    if (below(8) == 0) sedge_sim_close(&sim);
+}
+
+static void submits(void) {
+    struct sedge_ground_reading before = {0}, after = {0};
+    size_t count, next = 0, later = 0;
+    uint8_t *octets = any_packets(1, &count), map = (uint8_t)below(below(8) == 0 ? 256 : 64), answer;
+    sedge_ground_read(&ground, &before);
+    sedge_ground_next(&ground, &next);
+    if (below(4) == 0) {
+        answer = sedge_ground_bypass(&ground, map, octets, count);
+    } else {
+        answer = sedge_ground_submit(&ground, map, octets, count);
+    }
+    WANT(is_answer(answer, SEDGE_NODE_MEMORY, ground.node));
+    sedge_ground_read(&ground, &after);
+    sedge_ground_next(&ground, &later);
+    WANT(answer == SEDGE_NODE_OK || (after.outstanding == before.outstanding && after.vs == before.vs));
+    WANT(answer == SEDGE_NODE_OK || later == next);
+}
+
+static void pulls(void) {
+    size_t next = 0, count = 99, room;
+    uint8_t *out, answer = sedge_ground_next(&ground, &next);
+    WANT(is_answer(answer, SEDGE_NODE_OK, ground.node) && next <= 1024);
+    if (answer != SEDGE_NODE_OK) return;
+    out = room_of(room = any_room(next));
+    answer = sedge_ground_pull(&ground, out, room, &count);
+    look_at_written(answer, next, room, count, out);
+    if (answer == SEDGE_NODE_OK && count > 0) memcpy(up, out, up_count = count);
+}
+
+static void receives(void) {
+    struct sedge_received received = {77, 77, 77, 77, 77, 77, false, 77, 77};
+    uint8_t *octets, answer;
+    if (below(8) == 0) up_count = below(60);
+    octets = any_octets(up_count);
+    if (below(8) != 0) memcpy(octets, up, up_count);
+    answer = sedge_spacecraft_receive(&spacecraft, octets, up_count, &received);
+    WANT(is_answer(answer, SEDGE_NODE_MEMORY, spacecraft.node) && (answer == 0 || answer >= SEDGE_NODE_MEMORY));
+    WANT(answer == SEDGE_NODE_OK ? received.kind >= 1 && received.kind <= 5 && received.verdict <= 5
+                                 : received.kind == 77 && received.ready == 77);
+}
+
+static void takes(void) {
+    size_t next = 0, count = 99, room;
+    uint8_t map = 99, later = 99, *out, answer, is_bypass = below(4) == 0;
+    answer = (is_bypass ? sedge_spacecraft_next_bypass : sedge_spacecraft_next)(&spacecraft, &map, &next);
+    WANT(is_answer(answer, SEDGE_NODE_OK, spacecraft.node) && next <= 65542 && (next > 0) == (map < 64));
+    if (answer != SEDGE_NODE_OK) return;
+    out = room_of(room = any_room(next));
+    answer = (is_bypass ? sedge_spacecraft_take_bypass : sedge_spacecraft_take)(&spacecraft, &later, out, room, &count);
+    look_at_written(answer, next, room, count, out);
+    WANT(later == (answer == SEDGE_NODE_OK ? map : 99));
+}
+
+static void reports(void) {
+    struct sedge_spacecraft_reading read = {99, 99, 99, 99, 99, 99, 99};
+    size_t count = 99, room;
+    uint8_t *out, answer = sedge_spacecraft_read(&spacecraft, &read);
+    WANT(is_answer(answer, SEDGE_NODE_OK, spacecraft.node) && (answer == 0 || read.state == 99));
+    if (answer != SEDGE_NODE_OK) return;
+    WANT(read.frame_length >= 16 && read.frame_length <= 2048 && read.state <= 2 && read.farm_b <= 3);
+    out = room_of(room = any_room(read.frame_length));
+    answer = sedge_spacecraft_report(&spacecraft, out, room, &count);
+    look_at_written(answer, read.frame_length, room, count, out);
+    if (answer == SEDGE_NODE_OK) memcpy(down, out, down_count = count);
+}
+
+static void hears(void) {
+    struct sedge_heard heard = {77, 77, 77, 77, 77, 77, 77, 77};
+    uint8_t *octets, answer;
+    octets = any_octets(down_count);
+    if (below(16) != 0) memcpy(octets, down, down_count);
+    answer = sedge_ground_telemetry(&ground, octets, down_count, &heard);
+    WANT(is_answer(answer, SEDGE_NODE_MEMORY, ground.node) && (answer == 0 || answer >= SEDGE_NODE_MEMORY));
+    WANT(answer == SEDGE_NODE_OK ? heard.kind >= 1 && heard.kind <= 3 && heard.alert <= 7 : heard.kind == 77);
+}
+
+static void telemetry(void) {
+    size_t count, next = 0, room, given = 99;
+    uint8_t *octets = any_packets(0, &count), *out, answer;
+    answer = sedge_spacecraft_telemetry(&spacecraft, octets, count);
+    WANT(is_answer(answer, SEDGE_TM_FIELD_RANGE, spacecraft.node) && (answer == 0 || answer >= 7));
+    answer = sedge_ground_next_telemetry(&ground, &next);
+    WANT(is_answer(answer, SEDGE_NODE_OK, ground.node) && (next == 0 || next >= 7));
+    if (answer != SEDGE_NODE_OK) return;
+    out = room_of(room = any_room(next));
+    answer = sedge_ground_take_telemetry(&ground, out, room, &given);
+    look_at_written(answer, next, room, given, out);
+}
+
+static void clocks(void) {
+    struct sedge_ground_reading read = {99, 99, 99, 99, 99};
+    uint8_t accepted = 99, answer;
+    WANT(is_answer(sedge_ground_tick(&ground), 7, ground.node));
+    answer = sedge_ground_read(&ground, &read);
+    WANT(is_answer(answer, SEDGE_NODE_OK, ground.node));
+    WANT(answer == SEDGE_NODE_OK ? read.state >= 1 && read.state <= 6 : read.state == 99);
+    answer = sedge_ground_accepted_beyond(&ground, (uint8_t)below(256), &accepted);
+    WANT(ground.node == NULL ? answer == SEDGE_NODE_NONE : answer == SEDGE_NODE_OK || answer == SEDGE_NODE_ABSENT);
+    WANT(answer == SEDGE_NODE_OK ? accepted <= 127 : accepted == 99);
+    WANT(is_answer(directs(NULL), 8, ground.node) || ground.node == NULL);
+}
+
+/* ---- The link. ---- */
+
+static uint8_t happens(struct sedge_reply *reply) {
+    size_t count;
+    uint8_t *octets = any_packets(1, &count), map = (uint8_t)below(64);
+    switch (below(16)) {
+    case 0: return directs(reply);
+    case 1: return sedge_sim_submit(&sim, map, octets, count, reply);
+    case 2: return sedge_sim_bypass(&sim, map, octets, count, reply);
+    case 3: return sedge_sim_telemetry(&sim, octets, count, reply);
+    case 4: case 5: return sedge_sim_send(&sim, reply);
+    case 6: case 7: return sedge_sim_up_deliver(&sim, reply);
+    case 8: return below(4) ? sedge_sim_up_deliver(&sim, reply) : sedge_sim_up_lose(&sim, reply);
+    case 9: return sedge_sim_up_damage(&sim, octets, count, reply);
+    case 10: return sedge_sim_report(&sim, reply);
+    case 11: return sedge_sim_down_deliver(&sim, reply);
+    case 12: return below(4) ? sedge_sim_down_deliver(&sim, reply) : sedge_sim_down_lose(&sim, reply);
+    case 13: return below(4) ? sedge_sim_take(&sim, reply) : sedge_sim_down_damage(&sim, octets, count, reply);
+    case 14: return sedge_sim_take_bypass(&sim, reply);
+    default: return sedge_sim_tick(&sim, reply);
+    }
+}
+
+static void look_at_records(void) {
+    size_t entries = 99, next = 99, count = 99, room, k;
+    uint8_t record = (uint8_t)below(6), map = (uint8_t)below(70), *out, answer;
+    answer = sedge_sim_count(&sim, record, map, &entries);
+    WANT(is_answer(answer, SEDGE_NODE_OK, sim.link));
+    if (answer != SEDGE_NODE_OK) return;
+    k = entries == 0 ? 0 : below((uint32_t)entries + 1);
+    answer = sedge_sim_entry_length(&sim, record, map, k, &next);
+    WANT(answer == (k < entries ? SEDGE_NODE_OK : SEDGE_NODE_ABSENT) && (answer == SEDGE_NODE_OK || next == 99));
+    out = room_of(room = answer == SEDGE_NODE_OK ? any_room(next) : 20);
+    answer = sedge_sim_entry(&sim, record, map, k, out, room, &count);
+    if (k < entries) {
+        look_at_written(answer, next, room, count, out);
+    } else {
+        WANT(answer == SEDGE_NODE_ABSENT && count == 99);
+    }
+}
+
+static void links(void) {
+    struct sedge_reply reply = {.kind = 77};
+    struct sedge_sim_reading read = {.state = 99};
+    size_t count = 99, room;
+    uint8_t answer = happens(&reply), *out;
+    WANT(sim.link == NULL ? answer == SEDGE_NODE_NONE || answer == 0
+                          : answer == 0 || (answer >= SEDGE_SIM_MEMORY && answer <= SEDGE_SIM_NOT_DETECTABLE));
+    WANT(reply.kind <= SEDGE_REPLY_PACKET || reply.kind == 77);
+    WANT(answer == 0 || reply.kind == 77);
+    if (sim.link != NULL && answer == 0 && reply.kind != 77) {
+        WANT((reply.count > 0) == (reply.kind == SEDGE_REPLY_SENT || reply.kind == SEDGE_REPLY_PACKET));
+        out = room_of(room = any_room(reply.count));
+        answer = sedge_sim_octets(&sim, out, room, &count);
+        look_at_written(answer, reply.count, room, count, out);
+    }
+    answer = sedge_sim_read(&sim, &read);
+    WANT(is_answer(answer, SEDGE_NODE_OK, sim.link));
+    WANT(answer == SEDGE_NODE_OK ? read.state >= 1 && read.state <= 6 : read.state == 99);
+    if (below(8) == 0) look_at_records();
+}
+
+int main(int count, char **words) {
+    static void (*const kinds[])(void) = {submits, submits, pulls, pulls, receives, receives, takes, takes,
+                                          reports, hears, telemetry, clocks, links, links, links, links};
+    unsigned long left;
+    if (count != 2 || make_regions() != 0) return 2;
+    for (left = strtoul(words[1], NULL, 10); left > 0; left--) {
+        if (below(500) == 0) opens();
+        kinds[below(sizeof kinds / sizeof *kinds)]();
+    }
+    sedge_ground_close(&ground);
+    sedge_spacecraft_close(&spacecraft);
+    sedge_sim_close(&sim);
+    WANT(live == 0 && refused > 0);
+    printf(failures ? "%d failed\n" : "all as wanted\n", failures);
+    return failures != 0;
+}

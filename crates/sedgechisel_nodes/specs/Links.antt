@@ -1,0 +1,166 @@
+-- The simulated link of a program in C: what it holds, and what an event answers and leaves.
+use Rattle.std.specs.Prelude.{◌≡◌, ◌≢◌, ℕ, ◌⊎◌, List, [], length, option_map, false, ◌==◌}
+use Rattle.std.specs.Prelude.{if◌then◌else◌, slice_get, Option, Some, None, Result, Ok, Err, IfSome}
+use Rattle.std.specs.Option.{unwrap_or}
+use Rattle.clcw.specs.declared.word.Clcw.{Clcw}
+use Rattle.clcw.specs.Flags.{flags_number}
+use Rattle.cop1.specs.Faults.{fault_row as cop_row}
+use Rattle.cop1.specs.Names.{alert_row}
+use Rattle.cop1.specs.declared.vocabulary.Directive.{Directive}
+use Rattle.cop1.specs.declared.vocabulary.Directive.TheVariants as directives
+use Rattle.tm_link.specs.Faults.{fault_row as tm_row}
+use Rattle.nodes.specs.Faults.{fault_row as link_row}
+use Rattle.nodes.specs.Ground.{outstanding}
+use Rattle.nodes.specs.declared.config.Config.{Config}
+use Rattle.tc_link.specs.declared.event.Event.{Event}
+use Rattle.tc_link.specs.declared.reply.NodeFault.{NodeFault}
+use Rattle.tc_link.specs.declared.reply.NodeFault.TheVariants.{Link, Cop, Tm}
+use Rattle.tc_link.specs.declared.sim.fault.SimFault.{SimFault}
+use Rattle.tc_link.specs.SimFaults.{fault_row}
+use Rattle.tc_link.specs.Replies.{ReplyView, Done, Nothing, Lost, Refused, Alerted, Sent, Reported}
+use Rattle.tc_link.specs.Replies.{Up, Down, Packet}
+use Rattle.tc_link.specs.World.{World, new_world, world_step, submitted, delivered, accepted}
+use Rattle.sedgechisel_nodes.specs.declared.sim.reply.KeptWord.{KeptWord}
+use Rattle.sedgechisel_nodes.specs.declared.sim.reply.KeptReply.{KeptReply}
+use Rattle.sedgechisel_nodes.specs.declared.sim.reading.SimReading.{SimReading}
+use Rattle.sedgechisel_nodes.specs.Boards.{no_received, received_kept}
+use Rattle.sedgechisel_nodes.specs.Grounds.{closed, mode_number}
+use Rattle.sedgechisel_nodes.specs.Hearing.{no_heard, heard_kept}
+use Rattle.sedgechisel_nodes.specs.LinkState.{LinkState}
+use Rattle.sedgechisel_nodes.specs.Rooms.{room_answer}
+
+abbrev pub new_link : Config → LinkState
+new_link c = record { world = new_world c; octets = [] }
+
+-- ---- replies
+
+-- the octets of the frame that was sent, or of the packet that was taken
+abbrev pub reply_octets : ReplyView → List ℕ
+reply_octets (Sent octets) = octets
+reply_octets (Packet p) = p.octets
+reply_octets _ = []
+
+abbrev pub no_word : KeptWord
+no_word = record { status = 0; vcid = 0; flags = 0; farm_b = 0; value = 0 }
+
+abbrev pub word_kept : Clcw → KeptWord
+word_kept word = record {
+  status = word.status;
+  vcid = word.vcid;
+  flags = flags_number word.flags;
+  farm_b = word.farm_b;
+  value = word.value;
+}
+
+-- the part of a node that refused a call, and the fault's number there
+abbrev pub refused_by : NodeFault → ℕ × ℕ
+refused_by (Link fault) = (1, (link_row fault).0)
+refused_by (Cop fault) = (2, (cop_row fault).0)
+refused_by (Tm fault) = (3, (tm_row fault).0)
+
+abbrev pub no_reply : KeptReply
+no_reply = record {
+  count = 0;
+  up = no_received;
+  down = no_heard;
+  report = no_word;
+  kind = 0;
+  by = 0;
+  fault = 0;
+  alert = 0;
+  map = 0;
+}
+
+abbrev pub reply_kept : ReplyView → KeptReply
+reply_kept Done = no_reply
+reply_kept Nothing = record no_reply { kind = 1 }
+reply_kept Lost = record no_reply { kind = 2 }
+reply_kept (Refused fault) =
+    record no_reply { kind = 3; by = (refused_by fault).0; fault = (refused_by fault).1 }
+reply_kept (Alerted alert) = record no_reply { kind = 4; alert = (alert_row alert).0 }
+reply_kept (Sent octets) = record no_reply { kind = 5; count = length octets }
+reply_kept (Reported word) = record no_reply { kind = 6; report = word_kept word }
+reply_kept (Up received) = record no_reply { kind = 7; up = received_kept received }
+reply_kept (Down heard) = record no_reply { kind = 8; down = heard_kept heard }
+reply_kept (Packet p) = record no_reply { kind = 9; count = length p.octets; map = p.on_map }
+
+-- ---- events
+
+-- the number of a refusal; where there is none 0, or 6 where there was no memory
+abbrev pub IsStepAnswer : Result ReplyView SimFault → ℕ → Type 0
+IsStepAnswer (Ok reply) answer = (answer ≡ 0) ⊎ (answer ≡ 6)
+IsStepAnswer (Err fault) answer = answer ≡ (fault_row fault).0
+
+abbrev pub octets_after : Result ReplyView SimFault → List ℕ
+octets_after (Ok reply) = reply_octets reply
+octets_after (Err fault) = []
+
+abbrev pub link_step : LinkState → Event → LinkState
+link_step l event = record {
+  world = (world_step l.world event).after;
+  octets = octets_after (world_step l.world event).answer;
+}
+
+-- the link after an event, where there is one
+abbrev pub linked : Option LinkState → Event → Option LinkState
+linked None event = None
+linked (Some l) event = Some (link_step l event)
+
+-- the reply of the world is written
+abbrev pub IsReply : Result ReplyView SimFault → KeptReply → Type 0
+IsReply (Ok view) reply = reply ≡ reply_kept view
+IsReply (Err fault) reply = Unit {0}
+
+-- what a call with an event answers and writes, and the link before and after it
+pub record IsEventCall (event : Event) (old new : Option LinkState) (answer : ℕ)
+    (reply reply' : KeptReply) : Type 0 where
+  pub none : old ≡ None → answer ≡ closed
+  pub answer_is : IfSome old (λ l. IsStepAnswer (world_step l.world event).answer answer)
+  pub after : answer ≡ 0 → new ≡ linked old event
+  pub replied : answer ≡ 0 → IfSome old (λ l. IsReply (world_step l.world event).answer reply')
+  pub unchanged : answer ≢ 0 → (new ≡ old) × (reply' ≡ reply)
+
+-- ---- readings
+
+-- the directive that began the session, and the number of Set V(R)
+abbrev pub begun_number : Option Directive → ℕ × ℕ
+begun_number (Some directives.InitWithoutCheck) = (1, 0)
+begun_number (Some directives.InitWithCheck) = (2, 0)
+begun_number (Some directives.InitUnlock) = (3, 0)
+begun_number (Some (directives.InitSetVr vr)) = (4, vr)
+begun_number _ = (0, 0)
+
+abbrev pub link_reading_of : World → SimReading
+link_reading_of w = record {
+  outstanding = length (outstanding w.ground_node);
+  acknowledged = w.session.acknowledged;
+  state = mode_number w.ground_node.fop.state;
+  begun = (begun_number (option_map (λ o. o.directive) w.session.opening)).0;
+  vr = (begun_number (option_map (λ o. o.directive) w.session.opening)).1;
+  clean = unwrap_or (option_map (λ o. o.clean) w.session.opening) false;
+  idle = unwrap_or (option_map (λ o. o.idle) w.session.opening) false;
+  confirmed = w.session.confirmed;
+}
+
+-- ---- records: 1 submitted, 2 delivered, each on a MAP; 3 sent, 4 accepted on board
+abbrev pub record_of : World → ℕ → ℕ → List (List ℕ)
+record_of w number m =
+    if number == 1 then submitted w m
+    else if number == 2 then delivered w m
+    else if number == 3 then w.session.sent
+    else if number == 4 then accepted w
+    else []
+
+-- entry k of it
+abbrev pub entry_of : World → ℕ → ℕ → ℕ → Option (List ℕ)
+entry_of w number m k = slice_get (record_of w number m) k
+
+-- the answer to taking it: 253 where it is not there, 252 where the room is too short, and else 0
+abbrev pub entry_answer : Option (List ℕ) → ℕ → ℕ
+entry_answer None room = 253
+entry_answer (Some octets) room = room_answer (Some (length octets)) room
+
+-- how many octets it has, where it is there; the answer is 253 where it is not
+abbrev pub IsLengthIfThere : Option (List ℕ) → ℕ → ℕ → ℕ → Type 0
+IsLengthIfThere None answer count count' = (answer ≡ 253) × (count' ≡ count)
+IsLengthIfThere (Some octets) answer count count' = (answer ≡ 0) × (count' ≡ length octets)

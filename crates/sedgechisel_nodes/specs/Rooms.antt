@@ -1,0 +1,29 @@
+-- What is taken out into the caller's room.
+use Rattle.std.specs.Prelude.{◌≡◌, ℕ, List, ◌++◌, drop, length, nat_lt, if◌then◌else◌, Option}
+use Rattle.std.specs.Prelude.{Some, None, option_map}
+use Rattle.nodes.specs.Packets.{PacketOn}
+
+-- the answer where this many octets are next, if any: 252 where the room is too short, and else 0
+abbrev pub room_answer : Option ℕ → ℕ → ℕ
+room_answer None room = 0
+room_answer (Some count) room = if nat_lt room count then 252 else 0
+
+-- how many octets are next, 0 for none
+abbrev pub count_of : Option (List ℕ) → ℕ
+count_of None = 0
+count_of (Some octets) = length octets
+
+-- octets are handed out: their number, and they at the beginning of the room; where there are none,
+-- 0 octets alone
+abbrev pub IsHandedOut : Option (List ℕ) → ℕ → List ℕ → List ℕ → Type 0
+IsHandedOut None count out out' = (count ≡ 0) × (out' ≡ out)
+IsHandedOut (Some octets) count out out' =
+    (count ≡ length octets) × (out' ≡ octets ++ drop (length octets) out)
+
+abbrev pub octets_on : Option PacketOn → Option (List ℕ)
+octets_on packet = option_map (λ p. p.octets) packet
+
+-- the MAP is written where there is a packet
+abbrev pub map_left : Option PacketOn → ℕ → ℕ
+map_left None on_map = on_map
+map_left (Some p) on_map = p.on_map

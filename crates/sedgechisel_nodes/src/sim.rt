@@ -1,0 +1,8 @@
+// The simulated link of a program in C.
+
+mod events;
+mod handle;
+mod link;
+mod reading;
+mod records;
+mod reply;

@@ -1,0 +1,151 @@
+// What a program in C reads of the records of a session.
+
+ghost use Rattle.std.specs.Prelude.{◌≡◌, ◌≢◌, Some, None, IfSome, option_map, option_copied, length, []};
+ghost use Rattle.std.specs.Option.{unwrap_or};
+ghost use Rattle.tm_link.specs.Extraction.{octets_of};
+ghost use Rattle.sedgechisel_nodes.specs.Grounds.{closed};
+ghost use Rattle.sedgechisel_nodes.specs.Links.{record_of, entry_of, entry_answer, IsLengthIfThere};
+ghost use Rattle.sedgechisel_nodes.specs.Rooms.{room_answer, IsHandedOut};
+
+use crate::answers::{ABSENT, CLOSED};
+use crate::room::hand_out;
+use crate::sim::handle::SimHandle;
+use std::alloc::Global;
+use tc_link::Sim;
+
+// The entries of a record by its number; none for a number that is none.
+fn entries_of(sim: &Sim, number: u8, map: u8) -> Option<&[Vec<u8>]>
+    ensures { unwrap_or (option_map (λ r. octets_of r.now) result) []
+        ≡ record_of sim.now.world number map }
+{
+    match number {
+        1 => Some(sim.submitted(map)),
+        2 => Some(sim.delivered(map)),
+        3 => Some(sim.sent()),
+        4 => Some(sim.accepted()),
+        _ => None,
+    }
+}
+
+fn count_of_entries(sim: &Sim, number: u8, map: u8) -> usize
+    ensures { result ≡ length (record_of sim.now.world number map) }
+{
+    match entries_of(sim, number, map) {
+        Some(entries) => entries.len(),
+        None => 0,
+    }
+}
+
+// Entry k of a record, if it is there.
+fn entry_of(sim: &Sim, number: u8, map: u8, k: usize) -> Option<&[u8]>
+    ensures { option_copied result ≡ entry_of sim.now.world number map k }
+{
+    let Some(entries) = entries_of(sim, number, map) else {
+        return None;
+    };
+    match entries.get(k) {
+        Some(octets) => Some(octets.as_slice()),
+        None => None,
+    }
+}
+
+/// Writes how many entries a record has: 1 submitted and 2 delivered on a MAP, 3 sent, 4 accepted on board; 0 for another
+/// number. Answers 0, or 255 where there is no link.
+#[unsafe(no_mangle)]
+pub extern "C" fn sedge_sim_count(
+    alloc: Global,
+    sim: &mut SimHandle,
+    record_number: u8,
+    map: u8,
+    entries: &mut usize,
+) -> u8
+    ensures none { sim.old.value ≡ None → (result ≡ closed) × (entries.new ≡ entries.old) }
+    ensures answer { IfSome sim.old.value (λ l. (result ≡ 0)
+        × (entries.new ≡ length (record_of l.world record_number map))) }
+    ensures unchanged { sim.new.value ≡ sim.old.value }
+{
+    let Some(link) = sim.take(alloc) else {
+        return CLOSED;
+    };
+    *entries = count_of_entries(link.sim(), record_number, map);
+    sim.put(alloc, link);
+    0
+}
+
+// Writes how many octets there are, if they are there; 253 where they are not.
+fn length_if_there(octets: Option<&[u8]>, count: &mut usize) -> u8
+    ensures { IsLengthIfThere (option_copied octets.entry) result count.old count.new }
+{
+    match octets {
+        Some(octets) => {
+            *count = octets.len();
+            0
+        }
+        None => ABSENT,
+    }
+}
+
+/// Writes how many octets entry k of a record has, from 0. Answers 0, or 253 where there is none, or 255 where there is no
+/// link.
+#[unsafe(no_mangle)]
+pub extern "C" fn sedge_sim_entry_length(
+    alloc: Global,
+    sim: &mut SimHandle,
+    record_number: u8,
+    map: u8,
+    k: usize,
+    count: &mut usize,
+) -> u8
+    ensures none { sim.old.value ≡ None → (result ≡ closed) × (count.new ≡ count.old) }
+    ensures answer { IfSome sim.old.value (λ l. IsLengthIfThere
+        (entry_of l.world record_number map k) result count.old count.new) }
+    ensures unchanged { sim.new.value ≡ sim.old.value }
+{
+    let Some(link) = sim.take(alloc) else {
+        return CLOSED;
+    };
+    let answer = length_if_there(entry_of(link.sim(), record_number, map, k), count);
+    sim.put(alloc, link);
+    answer
+}
+
+// Hands an entry out, if it is there and fits.
+fn hand_out_entry(octets: Option<&[u8]>, out: &mut [u8], count: &mut usize) -> u8
+    ensures answer { result ≡ entry_answer (option_copied octets.entry) (length out.old) }
+    ensures handed { result ≡ 0
+        → IsHandedOut (option_copied octets.entry) count.new out.old out.new }
+    ensures unchanged { result ≢ 0 → (count.new ≡ count.old) × (out.new ≡ out.old) }
+{
+    match octets {
+        Some(octets) => hand_out(Some(octets), out, count),
+        None => ABSENT,
+    }
+}
+
+/// Writes the octets of entry k of a record, and how many they are. Answers 0, or 253 where there is none, or 252 where the
+/// room is too short, or 255 where there is no link.
+#[unsafe(no_mangle)]
+pub extern "C" fn sedge_sim_entry(
+    alloc: Global,
+    sim: &mut SimHandle,
+    record_number: u8,
+    map: u8,
+    k: usize,
+    out: &mut [u8],
+    count: &mut usize,
+) -> u8
+    ensures none { sim.old.value ≡ None → result ≡ closed }
+    ensures answer { IfSome sim.old.value
+        (λ l. result ≡ entry_answer (entry_of l.world record_number map k) (length out.old)) }
+    ensures octets { result ≡ 0 → IfSome sim.old.value
+        (λ l. IsHandedOut (entry_of l.world record_number map k) count.new out.old out.new) }
+    ensures written { result ≢ 0 → (count.new ≡ count.old) × (out.new ≡ out.old) }
+    ensures unchanged { sim.new.value ≡ sim.old.value }
+{
+    let Some(link) = sim.take(alloc) else {
+        return CLOSED;
+    };
+    let answer = hand_out_entry(entry_of(link.sim(), record_number, map, k), out, count);
+    sim.put(alloc, link);
+    answer
+}

@@ -1,0 +1,137 @@
+// What a program in C is told of an event.
+
+ghost use Rattle.std.specs.Prelude.{◌≡◌};
+ghost use Rattle.tc_link.specs.Replies.{reply_view};
+ghost use Rattle.sedgechisel_nodes.specs.Links.{no_reply, word_kept, refused_by, reply_kept, reply_octets};
+
+use crate::hearing::{KeptHeard, kept_heard, nothing_heard, number_of_alert};
+use crate::spacecraft::{KeptReceived, NO_RECEIVED, kept_received};
+use bitflags::Flags;
+use clcw::Clcw;
+use std::alloc::Global;
+use tc_link::{NodeFault, Reply};
+
+/// A control word.
+#[repr(C)]
+#[derive(Clone, Copy)]
+pub struct KeptWord {
+    pub status: u8,
+    pub vcid: u8,
+    pub flags: u8,
+    pub farm_b: u8,
+    pub value: u8,
+}
+
+/// A reply: its kind, then what that kind has; the rest is 0.
+#[repr(C)]
+#[derive(Clone, Copy)]
+pub struct KeptReply {
+    pub count: usize,
+    pub up: KeptReceived,
+    pub down: KeptHeard,
+    pub report: KeptWord,
+    pub kind: u8,
+    pub by: u8,
+    pub fault: u8,
+    pub alert: u8,
+    pub map: u8,
+}
+
+fn kept_word(word: &Clcw) -> KeptWord
+    ensures { result ≡ word_kept word.now }
+{
+    KeptWord {
+        status: word.status,
+        vcid: word.vcid,
+        flags: word.flags.bits(),
+        farm_b: word.farm_b,
+        value: word.value,
+    }
+}
+
+fn part_refusing(fault: NodeFault) -> (u8, u8)
+    ensures { result ≡ refused_by fault }
+{
+    match fault {
+        NodeFault::Link(fault) => (1, fault.number()),
+        NodeFault::Cop(fault) => (2, fault.number()),
+        NodeFault::Tm(fault) => (3, fault.number()),
+    }
+}
+
+// The reply of which nothing but the kind is known.
+fn reply_of(kind: u8) -> KeptReply
+    ensures { result ≡ record no_reply { kind = kind } }
+{
+    KeptReply {
+        count: 0,
+        up: NO_RECEIVED,
+        down: nothing_heard(0, 0),
+        report: KeptWord {
+            status: 0,
+            vcid: 0,
+            flags: 0,
+            farm_b: 0,
+            value: 0,
+        },
+        kind,
+        by: 0,
+        fault: 0,
+        alert: 0,
+        map: 0,
+    }
+}
+
+pub(crate) fn kept_reply(reply: &Reply) -> KeptReply
+    ensures { result ≡ reply_kept (reply_view reply.now) }
+{
+    match reply {
+        Reply::Done => reply_of(0),
+        Reply::Nothing => reply_of(1),
+        Reply::Lost => reply_of(2),
+        Reply::Refused(fault) => {
+            let (by, fault) = part_refusing(*fault);
+            KeptReply {
+                by,
+                fault,
+                ..reply_of(3)
+            }
+        }
+        Reply::Alert(alert) => KeptReply {
+            alert: number_of_alert(Some(*alert)),
+            ..reply_of(4)
+        },
+        Reply::Sent(octets) => KeptReply {
+            count: octets.len(),
+            ..reply_of(5)
+        },
+        Reply::Reported(word) => KeptReply {
+            report: kept_word(word),
+            ..reply_of(6)
+        },
+        Reply::Up(received) => KeptReply {
+            up: kept_received(*received),
+            ..reply_of(7)
+        },
+        Reply::Down(heard) => KeptReply {
+            down: kept_heard(*heard),
+            ..reply_of(8)
+        },
+        Reply::Packet(map, octets) => KeptReply {
+            map: *map,
+            count: octets.len(),
+            ..reply_of(9)
+        },
+    }
+}
+
+// The octets of the frame that was sent, or of the packet that was taken.
+pub(crate) fn octets_of(alloc: Global, reply: Reply) -> Vec<u8>
+    ensures { result.items ≡ reply_octets (reply_view reply) }
+{
+    match reply {
+        Reply::Sent(octets) => octets,
+        Reply::Packet(_, octets) => octets,
+        _ => Vec::new(alloc),
+    }
+}

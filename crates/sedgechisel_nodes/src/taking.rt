@@ -1,0 +1,193 @@
+// The frames that a program in C takes of its ground, and the packets of telemetry.
+
+ghost use Rattle.std.specs.Prelude.{◌≡◌, ◌≢◌, true, length, option_map, Some, None, IfSome};
+ghost use Rattle.std.specs.Option.{unwrap_or};
+ghost use Rattle.tc_frame.specs.declared.frame.Check.TheVariants.{On};
+ghost use Rattle.tc_frame.specs.Layout.{frame_view};
+ghost use Rattle.tc_frame.specs.Writing.{frame_fits};
+ghost use Rattle.nodes.specs.Frames.{size_of, written_over};
+ghost use Rattle.nodes.specs.Ground.{GroundState, Pull, TakeTelemetry, ground_step};
+ghost use Rattle.sedgechisel_nodes.specs.Grounds.{stepped, closed};
+ghost use Rattle.sedgechisel_nodes.specs.Rooms.{room_answer, count_of, IsHandedOut};
+
+use crate::answers::{CLOSED, ROOM};
+use crate::ground::GroundHandle;
+use crate::room::{count_of, hand_out};
+use nodes::Ground;
+use std::alloc::Global;
+use tc_frame::{Check, TcFrame, encode};
+
+// How many octets the frame has that goes on the link next, 0 for none.
+fn size_of_next(node: &Ground) -> usize
+    ensures { result ≡ unwrap_or (size_of (ground_step node.now Pull).answer) 0 }
+{
+    match node.peek() {
+        Some(frame) => frame.total(Check::On),
+        None => 0,
+    }
+}
+
+/// Writes how many octets the frame has that goes on the link next, 0 where nothing is to be sent. Answers 0, or 255 where
+/// there is no ground.
+#[unsafe(no_mangle)]
+pub extern "C" fn sedge_ground_next(
+    alloc: Global,
+    ground: &mut GroundHandle,
+    count: &mut usize,
+) -> u8
+    ensures none { ground.old.value ≡ None → (result ≡ closed) × (count.new ≡ count.old) }
+    ensures answer { IfSome ground.old.value (λ s. result ≡ 0) }
+    ensures count { IfSome ground.old.value
+        (λ s. count.new ≡ unwrap_or (size_of (ground_step s Pull).answer) 0) }
+    ensures unchanged { ground.new.value ≡ ground.old.value }
+{
+    let Some(node) = ground.take(alloc) else {
+        return CLOSED;
+    };
+    *count = size_of_next(&node);
+    ground.put(alloc, node);
+    0
+}
+
+// Writes a frame, with its check, if it fits.
+fn write_frame(frame: &TcFrame<'_>, out: &mut [u8], count: &mut usize) -> u8
+    requires { frame_fits On (frame_view frame.now) ≡ true }
+    ensures answer { result ≡ room_answer (size_of (Some (frame_view frame.now))) (length out.old) }
+    ensures count { result ≡ 0 → Some count.new ≡ size_of (Some (frame_view frame.now)) }
+    ensures frame { result ≡ 0 → out.new ≡ written_over out.old (Some (frame_view frame.now)) }
+    ensures unchanged { result ≢ 0 → (count.new ≡ count.old) × (out.new ≡ out.old) }
+{
+    match encode(frame, Check::On, out) {
+        Ok(total) => {
+            *count = total;
+            0
+        }
+        Err(_) => ROOM,
+    }
+}
+
+// Writes the frame that goes on the link next, if it fits.
+fn write_next(node: &Ground, out: &mut [u8], count: &mut usize) -> u8
+    ensures answer { result ≡ room_answer (size_of (ground_step node.now Pull).answer) (length out.old) }
+    ensures count { result ≡ 0 → count.new ≡ unwrap_or (size_of (ground_step node.now Pull).answer) 0 }
+    ensures frame { result ≡ 0 → out.new ≡ written_over out.old (ground_step node.now Pull).answer }
+    ensures unchanged { result ≢ 0 → (count.new ≡ count.old) × (out.new ≡ out.old) }
+{
+    match node.peek() {
+        Some(frame) => write_frame(&frame, out, count),
+        None => {
+            *count = 0;
+            0
+        }
+    }
+}
+
+// Takes that frame out of a ground, if it fits.
+fn pulled(node: &mut Ground, out: &mut [u8], count: &mut usize) -> u8
+    ensures answer { result ≡ room_answer (size_of (ground_step node.old Pull).answer) (length out.old) }
+    ensures after { result ≡ 0 → node.new ≡ (ground_step node.old Pull).after }
+    ensures count { result ≡ 0 → count.new ≡ unwrap_or (size_of (ground_step node.old Pull).answer) 0 }
+    ensures frame { result ≡ 0 → out.new ≡ written_over out.old (ground_step node.old Pull).answer }
+    ensures unchanged { result ≢ 0
+        → (node.new ≡ node.old) × (count.new ≡ count.old) × (out.new ≡ out.old) }
+{
+    let answer = write_next(node, out, count);
+    if answer == 0 {
+        node.advance();
+    }
+    answer
+}
+
+/// Takes the frame that goes on the link next, with its check (CCSDS 232.0-B-4, 4.1); 0 octets for none. Answers 0, or 252
+/// where the room is too short, or 255 where there is no ground.
+#[unsafe(no_mangle)]
+pub extern "C" fn sedge_ground_pull(
+    alloc: Global,
+    ground: &mut GroundHandle,
+    out: &mut [u8],
+    count: &mut usize,
+) -> u8
+    ensures none { ground.old.value ≡ None → result ≡ closed }
+    ensures answer { IfSome ground.old.value
+        (λ s. result ≡ room_answer (size_of (ground_step s Pull).answer) (length out.old)) }
+    ensures after { result ≡ 0 → ground.new.value ≡ stepped ground.old.value Pull }
+    ensures count { result ≡ 0 → IfSome ground.old.value
+        (λ s. count.new ≡ unwrap_or (size_of (ground_step s Pull).answer) 0) }
+    ensures frame { result ≡ 0 → IfSome ground.old.value
+        (λ s. out.new ≡ written_over out.old (ground_step s Pull).answer) }
+    ensures unchanged { result ≢ 0 → (ground.new.value ≡ ground.old.value)
+        × (count.new ≡ count.old) × (out.new ≡ out.old) }
+{
+    let Some(mut node) = ground.take(alloc) else {
+        return CLOSED;
+    };
+    let answer = pulled(&mut node, out, count);
+    ground.put(alloc, node);
+    answer
+}
+
+/// Writes how many octets the oldest packet of telemetry has, 0 where none waits. Answers 0, or 255 where there is no
+/// ground.
+#[unsafe(no_mangle)]
+pub extern "C" fn sedge_ground_next_telemetry(
+    alloc: Global,
+    ground: &mut GroundHandle,
+    count: &mut usize,
+) -> u8
+    ensures none { ground.old.value ≡ None → (result ≡ closed) × (count.new ≡ count.old) }
+    ensures answer { IfSome ground.old.value (λ s. result ≡ 0) }
+    ensures count { IfSome ground.old.value
+        (λ s. count.new ≡ count_of (ground_step s TakeTelemetry).answer) }
+    ensures unchanged { ground.new.value ≡ ground.old.value }
+{
+    let Some(node) = ground.take(alloc) else {
+        return CLOSED;
+    };
+    *count = count_of(node.peek_telemetry());
+    ground.put(alloc, node);
+    0
+}
+
+// Takes a packet of telemetry out of a ground, if it fits.
+fn telemetry_taken(node: &mut Ground, out: &mut [u8], count: &mut usize) -> u8
+    ensures answer { result
+        ≡ room_answer (option_map length (ground_step node.old TakeTelemetry).answer)
+        (length out.old) }
+    ensures after { result ≡ 0 → node.new ≡ (ground_step node.old TakeTelemetry).after }
+    ensures packet { result ≡ 0
+        → IsHandedOut (ground_step node.old TakeTelemetry).answer count.new out.old out.new }
+    ensures unchanged { result ≢ 0
+        → (node.new ≡ node.old) × (count.new ≡ count.old) × (out.new ≡ out.old) }
+{
+    let answer = hand_out(node.peek_telemetry(), out, count);
+    if answer == 0 {
+        drop(node.take_telemetry());
+    }
+    answer
+}
+
+/// Takes the oldest packet of telemetry (CCSDS 132.0-B-3, 4.3.2); 0 octets for none. Answers 0, or 252 where the room is too
+/// short, or 255 where there is no ground.
+#[unsafe(no_mangle)]
+pub extern "C" fn sedge_ground_take_telemetry(
+    alloc: Global,
+    ground: &mut GroundHandle,
+    out: &mut [u8],
+    count: &mut usize,
+) -> u8
+    ensures none { ground.old.value ≡ None → result ≡ closed }
+    ensures answer { IfSome ground.old.value (λ s. result
+        ≡ room_answer (option_map length (ground_step s TakeTelemetry).answer) (length out.old)) }
+    ensures after { result ≡ 0 → ground.new.value ≡ stepped ground.old.value TakeTelemetry }
+    ensures packet { result ≡ 0 → IfSome ground.old.value
+        (λ s. IsHandedOut (ground_step s TakeTelemetry).answer count.new out.old out.new) }
+    ensures unchanged { result ≢ 0 → (ground.new.value ≡ ground.old.value)
+        × (count.new ≡ count.old) × (out.new ≡ out.old) }
+{
+    let Some(mut node) = ground.take(alloc) else {
+        return CLOSED;
+    };
+    let answer = telemetry_taken(&mut node, out, count);
+    ground.put(alloc, node);
+    answer
+}
