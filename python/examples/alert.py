@@ -1,0 +1,59 @@
+"""Sessions over a link with a delay, which loses frames: each packet is delivered once. The steps after an alert are
+those of docs/TOUR.md, "A session with losses"; the first session begins by them too.
+Run it by PYTHONPATH=DIR/lib/python python3 python/examples/alert.py, or paste it into a notebook."""
+import collections
+import random
+
+import sedgechisel as sc
+
+DELAY, ROUND_TRIP = 3, 6  # in ticks
+SEGMENTS = 2  # of each packet
+chance, up, down = random.Random(3), collections.deque(), collections.deque()
+config = sc.Config(window=4, limit=2, timer=ROUND_TRIP + 1, part=8)
+packets = [sc.Packet(apid=5, count=k, kind=sc.PacketKind.TELECOMMAND).encode(b"command") for k in range(6)]
+
+
+def send(way, frame):
+    if chance.randrange(5) > 1:  # two of five are lost
+        way.append((now + DELAY, frame))
+
+
+def arrived(way):
+    while way and way[0][0] <= now:
+        yield way.popleft()[1]
+
+
+# The tick of the last alert; how many packets are submitted, and how many segments are known to be accepted.
+now, stopped, submitted, accepted = 0, 0, 0, 0
+with sc.Ground(config) as ground, sc.Spacecraft(config) as spacecraft:
+    while accepted < SEGMENTS * len(packets):
+        now, alert = now + 1, sc.Alert.NONE
+        for frame in arrived(up):
+            spacecraft.receive(frame)
+        while (taken := spacecraft.take()) is not None:
+            print(f"tick {now}: packet {sc.Packet.decode(taken[1])[0].count} is delivered")
+        send(down, spacecraft.report())
+        for frame in arrived(down):
+            nn, heard = ground.nn, ground.telemetry(frame)
+            accepted += (ground.nn - nn) % 256
+            alert = alert or heard.alert
+            is_quiet = ground.state == sc.State.S6 and not alert and now - stopped > ROUND_TRIP
+            if is_quiet and heard.report == sc.Report.USED:
+                value = sc.Clcw.decode(sc.TmFrame.decode(frame)[0].ocf).value
+                accepted += ground.accepted_beyond(value) or 0
+                submitted = accepted // SEGMENTS
+                print(f"tick {now}: segments accepted: {accepted}; a session begins at packet {submitted}")
+                accepted = submitted * SEGMENTS  # of a packet that is accepted in part, all segments are sent again
+                ground.set_vs(value)
+                ground.init_unlock()
+        alert = alert or ground.tick()
+        if alert:
+            stopped = now
+            print(f"tick {now}: alert {alert.word}; segments acknowledged: {accepted}")
+        if ground.state != sc.State.S6:
+            for packet in packets[submitted:]:
+                ground.submit(4, packet)
+            submitted = len(packets)
+            while (frame := ground.pull()) is not None:
+                send(up, frame)
+print(f"tick {now}: all are acknowledged")

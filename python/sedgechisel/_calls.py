@@ -1,0 +1,696 @@
+"""The calls of libsedgechisel, over numbers and octets: codecs, machines, packets in segments, and packets in telemetry
+frames."""
+from __future__ import annotations
+
+import ctypes
+from ctypes import POINTER, byref, c_bool, c_char_p, c_size_t, c_uint8, c_uint16, c_uint32
+from enum import IntEnum, IntFlag
+from typing import Any, Callable, Dict, Iterator, List, Optional, Tuple, Type
+
+from ._faults import (
+    CheckFault, ClcwFault, CopFault, Fault, MapFault, PacketFault, TcFault, Text, TmFault, word_of as _word_of)
+from ._library import FIRST, call_of, octets_of as _octets_of, within as _within
+
+_ABSENT, _DAMAGED = 253, 255
+
+
+def _call(name: str, answer: Any, *kinds: Any) -> Callable[..., Any]:
+    return call_of(FIRST, name, answer, *kinds)
+
+
+class _Struct(ctypes.Structure):
+    """A struct of the header: it compares by its fields, shows them, and holds no number that does not fit."""
+
+    def __setattr__(self, name: str, value: Any) -> None:
+        kinds: Dict[str, Any] = {it[0]: it[1] for it in self._fields_}
+        if name not in kinds and not isinstance(getattr(type(self), name, None), property):
+            raise AttributeError(f"{type(self).__name__} has no field {name}")
+        _within(name, kinds.get(name), value)
+        super().__setattr__(name, value)
+
+    def __eq__(self, other: object) -> bool:
+        return bytes(self) == bytes(other) if isinstance(other, type(self)) else NotImplemented
+
+    def __repr__(self) -> str:
+        names = (it[0].lstrip("_") for it in self._fields_)
+        return f"{type(self).__name__}({', '.join(f'{it}={getattr(self, it)!r}' for it in names)})"
+
+
+class _Part(ctypes.Structure):
+    _fields_ = [("start", c_size_t), ("count", c_size_t)]
+    start: int
+    count: int
+
+    def of(self, octets: bytes) -> bytes:
+        return octets[self.start:self.start + self.count]
+
+
+def _written(call: Callable[..., Any], fault: Type[Fault], most: int, *values: Any) -> bytes:
+    """The octets that a call writes, and says the number of, given this room."""
+    out, total = ctypes.create_string_buffer(most), c_size_t()
+    fault._look_at(call(*values, out, most, byref(total)))
+    return out.raw[:total.value]
+
+
+def _count_of(call: Callable[..., Any], fault: Type[Fault], *values: Any) -> int:
+    total = c_size_t()
+    fault._look_at(call(*values, byref(total)))
+    return total.value
+
+
+_OCTETS = (c_char_p, c_size_t)
+_ROOM = (c_char_p, c_size_t, POINTER(c_size_t))
+
+version = str(_call("version", Text)().text.decode())
+
+# ---- The check ----
+
+_check = _call("check", c_uint16, *_OCTETS)
+_check_append = _call("check_append", c_bool, *_OCTETS)
+_check_holds = _call("check_holds", c_bool, *_OCTETS)
+
+
+def check(octets: bytes) -> int:
+    """The check of the octets (232.0-B-4, 4.1.4.2)."""
+    octets = _octets_of("octets", octets)
+    return int(_check(octets, len(octets)))
+
+
+def check_append(octets: bytes) -> bytes:
+    """The octets with the last two set to the check of those before them; a CheckFault for fewer than two."""
+    octets = _octets_of("octets", octets)
+    out = ctypes.create_string_buffer(octets, len(octets)) if len(octets) > 1 else None
+    if out is None or not _check_append(out, len(octets)):
+        raise CheckFault(254)
+    return out.raw
+
+
+def check_holds(octets: bytes) -> bool:
+    """Whether the last two octets are the check of those before them; False for fewer than two."""
+    octets = _octets_of("octets", octets)
+    return bool(_check_holds(octets, len(octets)))
+
+
+# ---- Control words ----
+
+
+class Flags(IntFlag):
+    """The flags of a control word, bits of `Clcw.flags` (4.2.1.8): `Flags(word.flags)` has them all."""
+
+    RETRANSMIT, WAIT, LOCKOUT, NO_BIT_LOCK, NO_RF = 0x08, 0x10, 0x20, 0x40, 0x80
+
+
+class Clcw(_Struct):
+    """A communications link control word (232.0-B-4, 4.2).
+
+    - `status`, 0 to 7, is carried and not interpreted; `vcid`, 0 to 63, is the channel that is reported on
+    - `flags` of Flags; `farm_b`, the FARM-B counter, 0 to 3; `value`, the report value, V(R) of the receiver"""
+
+    _fields_ = [(it, c_uint8) for it in ("status", "vcid", "flags", "farm_b", "value")]
+    status: int
+    vcid: int
+    flags: int
+    farm_b: int
+    value: int
+
+    def __init__(self, status: int = 0, vcid: int = 0, flags: int = 0, farm_b: int = 0, value: int = 0) -> None:
+        super().__init__(status, vcid, flags, farm_b, value)
+
+    @classmethod
+    def decode(cls, octets: bytes) -> Clcw:
+        """Reads four octets; a ClcwFault where they are none, or not four."""
+        octets, word = _octets_of("octets", octets), cls()
+        ClcwFault._look_at(_clcw_decode(octets, len(octets), byref(word)))
+        return word
+
+    def encode(self) -> bytes:
+        """The four octets; a ClcwFault where a field is too large."""
+        out = ctypes.create_string_buffer(4)
+        ClcwFault._look_at(_clcw_encode(byref(self), out, 4))
+        return out.raw
+
+
+_clcw_decode = _call("clcw_decode", c_uint8, *_OCTETS, POINTER(Clcw))
+_clcw_encode = _call("clcw_encode", c_uint8, POINTER(Clcw), *_OCTETS)
+
+# ---- The receiver ----
+
+
+class Verdict(IntEnum):
+    """What a receiver does with a Type-AD frame. `word` is the word of tctool, such as "nobuffer" for NO_BUFFER."""
+
+    ACCEPTED, AHEAD, NO_BUFFER, BEHIND, OUTSIDE, DISCARDED = range(6)
+
+    @property
+    def word(self) -> str:
+        """The word of tctool."""
+        return _verdict_word(self)
+
+
+_verdict_word = _word_of("verdict")
+
+
+class Mode(IntEnum):
+    """A receiver's state (232.1-B-2, 6.1.2)."""
+
+    OPEN, WAIT, LOCKOUT = range(3)
+
+
+class Farm(_Struct):
+    """A receiver FARM-1 of one virtual channel (232.1-B-2, section 6). Read its fields as you like; with fields that no
+    receiver has, each call is a CopFault, 255 Damaged, and changes nothing."""
+
+    _fields_ = [(it, c_uint8) for it in ("width", "vr", "lockout", "wait", "retransmit", "farm_b")]
+    width: int
+    vr: int
+    lockout: int
+    wait: int
+    retransmit: int
+    farm_b: int
+
+    def __init__(self, width: int, vr: int = 0) -> None:
+        """An open receiver with this window width, which expects the number vr; or CopFault 1."""
+        super().__init__()
+        CopFault._look_at(_farm_open(byref(self), width, vr))
+
+    def ad(self, n: int, buffer_free: bool = True) -> Verdict:
+        """A Type-AD frame with the number n has come: its Verdict. Hand its data on where that is ACCEPTED."""
+        answer = _farm_ad(byref(self), n, buffer_free)
+        CopFault._look_at(answer == _DAMAGED and answer)
+        return Verdict(answer)
+
+    def bd(self) -> None:
+        """A Type-BD frame has come; hand its data on in every state."""
+        CopFault._look_at(_farm_bd(byref(self)))
+
+    def unlock(self) -> None:
+        """The control command Unlock has come."""
+        CopFault._look_at(_farm_unlock(byref(self)))
+
+    def set_vr(self, vr: int) -> None:
+        """The control command Set V(R) has come."""
+        CopFault._look_at(_farm_set_vr(byref(self), vr))
+
+    def released(self) -> None:
+        """There is room on board again."""
+        CopFault._look_at(_farm_released(byref(self)))
+
+    def report(self, vcid: int) -> Clcw:
+        """The Clcw that reports the receiver as it is for a virtual channel; a ClcwFault where that is not below 64."""
+        word = Clcw()
+        ClcwFault._look_at(_farm_report(byref(self), vcid, byref(word)))
+        return word
+
+    @property
+    def mode(self) -> Mode:
+        """The state, a Mode."""
+        answer = _farm_state(byref(self))
+        CopFault._look_at(answer == _DAMAGED and answer)
+        return Mode(answer)
+
+
+_farm_open = _call("farm_open", c_uint8, POINTER(Farm), ("width", c_uint8), ("vr", c_uint8))
+_farm_ad = _call("farm_ad", c_uint8, POINTER(Farm), ("n", c_uint8), c_bool)
+_farm_bd = _call("farm_bd", c_uint8, POINTER(Farm))
+_farm_unlock = _call("farm_unlock", c_uint8, POINTER(Farm))
+_farm_set_vr = _call("farm_set_vr", c_uint8, POINTER(Farm), ("vr", c_uint8))
+_farm_released = _call("farm_released", c_uint8, POINTER(Farm))
+_farm_report = _call("farm_report", c_uint8, POINTER(Farm), ("vcid", c_uint8), POINTER(Clcw))
+_farm_state = _call("farm_state", c_uint8, POINTER(Farm))
+
+# ---- The sender ----
+
+
+class Alert(IntEnum):
+    """Why a sender has given up (232.1-B-2, 5.2.5); NONE, which is false, where it has not. An alert lets go of all
+    units.
+
+    - LOCKOUT: a report has the lockout flag
+    - NNR: a report's value is not from NN(R) to V(S)
+    - CLCW: a report has the wait flag without the retransmit flag
+    - SYNCH: a report asks to repeat what was not sent, or stops asking before it got any of it
+    - LIMIT: a report asks for units again, and the transmission limit is 1
+    - TIMER: the timer has ended, and units may not be sent again
+    - TERMINATED: the directive Terminate
+
+    `word` is the word of tctool, such as "NnR" for NNR; that of NONE is empty."""
+
+    NONE, LOCKOUT, NNR, CLCW, SYNCH, LIMIT, TIMER, TERMINATED = range(8)
+
+    @property
+    def word(self) -> str:
+        """The word of tctool; of NONE an empty one."""
+        return _alert_word(self) if self else ""
+
+
+_alert_word = _word_of("alert")
+
+
+class Next(IntEnum):
+    """What goes on the link next: a control command, the unit that waits, or the one kept under the number."""
+
+    NOTHING, UNLOCK, SET_VR, FIRST, AGAIN = range(5)
+
+
+class Fop(_Struct):
+    """A sender FOP-1 of one virtual channel (232.1-B-2, section 5). It keeps numbers, and its caller the units. With
+    fields that no sender has, each call is a CopFault, 255 Damaged, and changes nothing."""
+
+    _fields_ = [("timer", c_uint16), ("ticks", c_uint16)] + [(it, c_uint8) for it in (
+        "room", "state", "vs", "nn", "waiting", "sent", "due", "window", "limit", "count", "control", "vr")]
+    timer: int
+    ticks: int
+    room: int
+    state: int
+    vs: int
+    nn: int
+    waiting: int
+    sent: int
+    due: int
+    window: int
+    limit: int
+    count: int
+    control: int
+    vr: int
+
+    def __init__(self, width: int, window: int, limit: int, timer: int) -> None:
+        """A sender in S6 to a receiver of this window width, with the window K, the transmission limit and the timer's
+        value in ticks; or CopFault 1 to 4."""
+        super().__init__()
+        CopFault._look_at(_fop_open(byref(self), width, window, limit, timer))
+
+    def init_without_check(self) -> None:
+        """Directive: S6 to S1. The four initiations and set_vs are CopFault 8 in any other state than S6."""
+        CopFault._look_at(_fop_init_without_check(byref(self)))
+
+    def init_with_check(self) -> None:
+        """Directive: S6 to S4, until a report agrees."""
+        CopFault._look_at(_fop_init_with_check(byref(self)))
+
+    def init_unlock(self) -> None:
+        """Directive: S6 to S5, with Unlock."""
+        CopFault._look_at(_fop_init_unlock(byref(self)))
+
+    def init_set_vr(self, vr: int) -> None:
+        """Directive: S6 to S5, with Set V(R)."""
+        CopFault._look_at(_fop_init_set_vr(byref(self), vr))
+
+    def terminate(self) -> None:
+        """Directive: to S6, and all units are let go of; CopFault 8 in S6."""
+        CopFault._look_at(_fop_terminate(byref(self)))
+
+    def set_vs(self, vs: int) -> None:
+        """Directive: V(S), and NN(R) to it."""
+        CopFault._look_at(_fop_set_vs(byref(self), vs))
+
+    def set_window(self, window: int) -> None:
+        """Directive: the window K; or CopFault 2."""
+        CopFault._look_at(_fop_set_window(byref(self), window))
+
+    def set_limit(self, limit: int) -> None:
+        """Directive: the transmission limit; or CopFault 3."""
+        CopFault._look_at(_fop_set_limit(byref(self), limit))
+
+    def set_timer(self, timer: int) -> None:
+        """Directive: the timer's value in ticks; or CopFault 4."""
+        CopFault._look_at(_fop_set_timer(byref(self), timer))
+
+    def submit(self) -> None:
+        """A unit has come, and waits; or CopFault 6 (not open) or 7 (one waits already)."""
+        CopFault._look_at(_fop_submit(byref(self)))
+
+    def next(self) -> Tuple[Next, int]:
+        """Takes what goes on the link next: its Next, and its number."""
+        number = c_uint8()
+        answer = _fop_next(byref(self), byref(number))
+        CopFault._look_at(answer == _DAMAGED and answer)
+        return Next(answer), number.value
+
+    def report(self, vcid: int, word: Clcw) -> Optional[Tuple[Alert, int]]:
+        """A Clcw has come, and the sender is that of the virtual channel vcid: the Alert, and how many of the oldest
+        units are acknowledged. None, and nothing changes, for a word that reports on another channel."""
+        released = c_uint8()
+        answer = _fop_report(byref(self), vcid, byref(word), byref(released))
+        if answer == _ABSENT:
+            return None
+        CopFault._look_at(answer == _DAMAGED and answer)
+        return Alert(answer), released.value
+
+    def tick(self) -> Alert:
+        """A tick of the clock has passed: the Alert."""
+        answer = _fop_tick(byref(self))
+        CopFault._look_at(answer == _DAMAGED and answer)
+        return Alert(answer)
+
+    def accepted_beyond(self, value: int) -> Optional[int]:
+        """How many of the units that were sent and not acknowledged were accepted on board when a report of this value
+        was made, the oldest ones; None where the value is beyond V(S). After an alert too, in S6, until V(S) is set or
+        an initiation begins (5.1)."""
+        return _accepted_of(_fop_accepted_beyond, byref(self), value)
+
+
+def accepted_beyond(nn: int, vs: int, value: int) -> Optional[int]:
+    """The same of a sender with these numbers for NN(R) and V(S)."""
+    return _accepted_of(_accepted_beyond, nn, vs, value)
+
+
+def _accepted_of(call: Callable[..., Any], *values: Any) -> Optional[int]:
+    accepted = c_uint8()
+    answer = call(*values, byref(accepted))
+    CopFault._look_at(answer == _DAMAGED and answer)
+    return None if answer == _ABSENT else accepted.value
+
+
+_fop_open = _call("fop_open", c_uint8, POINTER(Fop), ("width", c_uint8), ("window", c_uint8), ("limit", c_uint8),
+                  ("timer", c_uint16))
+_fop_init_without_check = _call("fop_init_without_check", c_uint8, POINTER(Fop))
+_fop_init_with_check = _call("fop_init_with_check", c_uint8, POINTER(Fop))
+_fop_init_unlock = _call("fop_init_unlock", c_uint8, POINTER(Fop))
+_fop_init_set_vr = _call("fop_init_set_vr", c_uint8, POINTER(Fop), ("vr", c_uint8))
+_fop_terminate = _call("fop_terminate", c_uint8, POINTER(Fop))
+_fop_set_vs = _call("fop_set_vs", c_uint8, POINTER(Fop), ("vs", c_uint8))
+_fop_set_window = _call("fop_set_window", c_uint8, POINTER(Fop), ("window", c_uint8))
+_fop_set_limit = _call("fop_set_limit", c_uint8, POINTER(Fop), ("limit", c_uint8))
+_fop_set_timer = _call("fop_set_timer", c_uint8, POINTER(Fop), ("timer", c_uint16))
+_fop_submit = _call("fop_submit", c_uint8, POINTER(Fop))
+_fop_next = _call("fop_next", c_uint8, POINTER(Fop), POINTER(c_uint8))
+_fop_report = _call("fop_report", c_uint8, POINTER(Fop), ("vcid", c_uint8), POINTER(Clcw), POINTER(c_uint8))
+_fop_tick = _call("fop_tick", c_uint8, POINTER(Fop))
+_fop_accepted_beyond = _call("fop_accepted_beyond", c_uint8, POINTER(Fop), ("value", c_uint8), POINTER(c_uint8))
+_accepted_beyond = _call("accepted_beyond", c_uint8, ("nn", c_uint8), ("vs", c_uint8), ("value", c_uint8),
+                         POINTER(c_uint8))
+
+# ---- Telecommand frames ----
+
+
+class Kind(IntEnum):
+    """The type of a telecommand frame (232.0-B-4, 4.1.2.3)."""
+
+    AD, BD, BC = range(3)
+
+
+class Segment(IntEnum):
+    """The part of a packet that a segment is (4.1.3.2.2.2)."""
+
+    CONTINUING, FIRST, LAST, ALONE = range(4)
+
+
+class Command(IntEnum):
+    """The control commands (4.1.3.3)."""
+
+    UNLOCK, SET_VR = range(2)
+
+
+class TcFrame(_Struct):
+    """A telecommand frame without its data (232.0-B-4, 4.1).
+
+    - `scid`, 0 to 1,023, and `vcid`, 0 to 63; the `kind`, a Kind
+    - AD: the number `n`, and the `flags`, a Segment, and `map`, 0 to 63, of its segment
+    - BD: `flags` and `map`
+    - BC: the `command`, a Command, and the number `vr` of Set V(R)"""
+
+    _fields_ = [("scid", c_uint16)] + [(it, c_uint8) for it in ("vcid", "kind", "n", "flags", "map", "command", "vr")]
+    scid: int
+    vcid: int
+    kind: int
+    n: int
+    flags: int
+    map: int
+    command: int
+    vr: int
+
+    def __init__(self, scid: int = 0, vcid: int = 0, kind: int = Kind.AD, n: int = 0, flags: int = 0, map: int = 0,
+                 command: int = 0, vr: int = 0) -> None:
+        super().__init__(scid, vcid, kind, n, flags, map, command, vr)
+
+    @classmethod
+    def decode(cls, octets: bytes, checked: bool = True) -> Tuple[TcFrame, bytes]:
+        """Reads all of the octets as one frame, which ends with its check unless `checked` is False: the frame, and the
+        data after the segment header, which a control frame lacks. A TcFault of 1 to 9 where they are none."""
+        octets, frame, part = _octets_of("octets", octets), cls(), _Part()
+        TcFault._look_at(_tc_decode(octets, len(octets), checked, byref(frame), byref(part)))
+        return frame, part.of(octets)
+
+    def encode(self, data: bytes = b"", checked: bool = True) -> bytes:
+        """The octets of the frame with these data, at most 1,024 with its check, which it lacks where `checked` is False;
+        a TcFault where a field is out of its range."""
+        data = _octets_of("data", data)
+        return _written(_tc_encode, TcFault, 1024, byref(self), data, len(data), checked)
+
+    @staticmethod
+    def declared(octets: bytes, checked: bool = True) -> int:
+        """How many octets the frame has that these begin, with its check unless `checked` is False; TcFault 1 for fewer
+        than 5, or 5."""
+        octets = _octets_of("octets", octets)
+        return _count_of(_tc_declared, TcFault, octets, len(octets), checked)
+
+
+_tc_decode = _call("tc_decode", c_uint8, *_OCTETS, c_bool, POINTER(TcFrame), POINTER(_Part))
+_tc_encode = _call("tc_encode", c_uint8, POINTER(TcFrame), *_OCTETS, c_bool, *_ROOM)
+_tc_declared = _call("tc_declared", c_uint8, *_OCTETS, c_bool, POINTER(c_size_t))
+
+# ---- Space packets ----
+
+
+class PacketKind(IntEnum):
+    """The type of a space packet (133.0-B-2, 4.1.3.3.2)."""
+
+    TELEMETRY, TELECOMMAND = range(2)
+
+
+class SequenceFlags(IntEnum):
+    """The sequence flags of a space packet (133.0-B-2, 4.1.3.4.2)."""
+
+    CONTINUATION, FIRST, LAST, UNSEGMENTED = range(4)
+
+
+class Packet(_Struct):
+    """A space packet without its data field (133.0-B-2, 4.1).
+
+    - `apid`, the application process identifier, 0 to 2,047, which is that of idle packets
+    - `count`, the sequence count or the packet's name, 0 to 16,383
+    - `kind`, a PacketKind; `secondary`, 1 where the data field begins with a secondary header, or 0
+    - `flags`, a SequenceFlags; a new packet is UNSEGMENTED"""
+
+    _fields_ = [("apid", c_uint16), ("count", c_uint16), ("kind", c_uint8), ("secondary", c_uint8), ("flags", c_uint8)]
+    apid: int
+    count: int
+    kind: int
+    secondary: int
+    flags: int
+
+    def __init__(self, apid: int = 0, count: int = 0, kind: int = PacketKind.TELEMETRY, secondary: int = 0,
+                 flags: int = SequenceFlags.UNSEGMENTED) -> None:
+        super().__init__(apid, count, kind, secondary, flags)
+
+    @classmethod
+    def decode(cls, octets: bytes) -> Tuple[Packet, bytes]:
+        """Reads the packet that the octets begin with: the packet, and its data field. A PacketFault where there is none."""
+        octets, packet, part = _octets_of("octets", octets), cls(), _Part()
+        PacketFault._look_at(_packet_decode(octets, len(octets), byref(packet), byref(part)))
+        return packet, part.of(octets)
+
+    def encode(self, data: bytes) -> bytes:
+        """The octets of the packet with this data field; a PacketFault where a field is out of its range."""
+        data = _octets_of("data", data)
+        return _written(_packet_encode, PacketFault, 65542, byref(self), data, len(data))
+
+    @staticmethod
+    def declared(octets: bytes) -> int:
+        """How many octets the packet has that these begin; a PacketFault where they begin none."""
+        octets = _octets_of("octets", octets)
+        return _count_of(_packet_declared, PacketFault, octets, len(octets))
+
+
+_packet_decode = _call("packet_decode", c_uint8, *_OCTETS, POINTER(Packet), POINTER(_Part))
+_packet_encode = _call("packet_encode", c_uint8, POINTER(Packet), *_OCTETS, *_ROOM)
+_packet_declared = _call("packet_declared", c_uint8, *_OCTETS, POINTER(c_size_t))
+
+# ---- Telemetry frames ----
+
+ONLY_IDLE, NO_START = 2046, 2047
+
+
+class TmFrame(_Struct):
+    """A telemetry frame without its data (132.0-B-3, 4.1).
+
+    - `scid`, 0 to 1,023, and `vcid`, 0 to 7; `mc_count` and `vc_count`, the frame counts
+    - `pointer`, the place in the data, from 0, where the first packet starts, or ONLY_IDLE or NO_START
+    - `ocf`, the operational control field, the four octets of a Clcw"""
+
+    _fields_ = [("scid", c_uint16), ("pointer", c_uint16), ("vcid", c_uint8), ("mc_count", c_uint8), ("vc_count", c_uint8),
+                ("_ocf", c_uint8 * 4)]
+    scid: int
+    pointer: int
+    vcid: int
+    mc_count: int
+    vc_count: int
+
+    def __init__(self, scid: int = 0, pointer: int = 0, vcid: int = 0, mc_count: int = 0, vc_count: int = 0,
+                 ocf: bytes = bytes(4)) -> None:
+        super().__init__(scid, pointer, vcid, mc_count, vc_count)
+        self.ocf = ocf
+
+    @property
+    def ocf(self) -> bytes:
+        """The operational control field, the four octets of a Clcw."""
+        return bytes(self._ocf)
+
+    @ocf.setter
+    def ocf(self, octets: bytes) -> None:
+        octets = _octets_of("ocf", octets)
+        if len(octets) != 4:
+            raise ValueError(f"ocf: {len(octets)} octets are not four")
+        self._ocf = (c_uint8 * 4)(*octets)
+
+    @classmethod
+    def decode(cls, octets: bytes, length: Optional[int] = None) -> Tuple[TmFrame, bytes]:
+        """Reads all of the octets as one frame of the channel's length, or of their own: the frame, and its data. A
+        TmFault of 1 to 6 where they are none."""
+        octets, frame, part = _octets_of("octets", octets), cls(), _Part()
+        length = len(octets) if length is None else length
+        TmFault._look_at(_tm_decode(octets, len(octets), length, byref(frame), byref(part)))
+        return frame, part.of(octets)
+
+    def encode(self, data: bytes) -> bytes:
+        """The octets of the frame with these data; a TmFault where a field is out of its range."""
+        data = _octets_of("data", data)
+        return _written(_tm_encode, TmFault, 2048, byref(self), data, len(data))
+
+
+_tm_decode = _call("tm_decode", c_uint8, *_OCTETS, ("length", c_size_t), POINTER(TmFrame), POINTER(_Part))
+_tm_encode = _call("tm_encode", c_uint8, POINTER(TmFrame), *_OCTETS, *_ROOM)
+
+# ---- Packets in telemetry frames ----
+
+
+class _TmBuilder(ctypes.Structure):
+    _fields_ = [("start", c_size_t), ("count", c_size_t), ("begun", c_size_t), ("scid", c_uint16), ("length", c_uint16),
+                ("vcid", c_uint8), ("next_count", c_uint8), ("idle_left", c_uint8)]
+
+
+class _TmExtractor(ctypes.Structure):
+    _fields_ = [("start", c_size_t), ("count", c_size_t), ("last", c_uint8), ("seen", c_uint8)]
+
+
+class _TmExtracted(ctypes.Structure):
+    _fields_ = [("joined", c_size_t), ("packets", _Part), ("first", c_uint8), ("lost", c_uint8)]
+
+
+class TmBuilder:
+    """Builds the telemetry frames of one virtual channel, all of `length` octets, 16 to 2,048, out of packets of which at
+    most `room` octets wait to be sent (132.0-B-3, 4.2). A TmFault, 10 FieldRange, for a spacecraft or a virtual channel
+    that is none, or another length."""
+
+    def __init__(self, scid: int, vcid: int, length: int, room: int = 65542) -> None:
+        self._builder, self._memory = _TmBuilder(), ctypes.create_string_buffer(room)
+        TmFault._look_at(_tm_builder_open(byref(self._builder), scid, vcid, length))
+
+    @property
+    def waiting(self) -> int:
+        """The number of octets that are to be sent."""
+        return int(self._builder.count)
+
+    def queue(self, packet: bytes) -> None:
+        """Queues a packet, all of its octets. A TmFault, 8 NotAPacket for octets that are not exactly one packet or an idle
+        one, and 7 Memory where more octets would wait than there is room for."""
+        packet = _octets_of("packet", packet)
+        TmFault._look_at(_tm_builder_queue(byref(self._builder), packet, len(packet), self._memory, len(self._memory)))
+
+    def build(self, ocf: bytes) -> bytes:
+        """The octets of the next frame, with this operational control field, the four octets of a Clcw. Where packets run
+        out it has an idle packet, and where none are left only idle data. A TmFault, 254 WrongCount, for other octets than
+        four."""
+        ocf = _octets_of("ocf", ocf)
+        return _written(_tm_builder_build, TmFault, 2048, byref(self._builder), ocf, len(ocf), self._memory, len(self._memory))
+
+
+class TmExtractor:
+    """Extracts packets from the telemetry frames of one virtual channel, of which any may be missing (132.0-B-3, 4.3).
+    It has memory for each packet of at most `longest` octets, idle ones too, 7 to 65,542; or ValueError. Of longer
+    packets it hands out those that need no more memory."""
+
+    def __init__(self, longest: int = 65542) -> None:
+        if not 7 <= longest <= 65542:
+            raise ValueError(f"longest: {longest} is not in 7 to 65542")
+        self._extractor, self._memory = _TmExtractor(), ctypes.create_string_buffer(longest + 2036)
+
+    def take(self, frame: TmFrame, data: bytes) -> Tuple[List[bytes], Optional[int]]:
+        """Takes the next frame that came, a TmFrame and its data: the packets whose last octets it has, but for idle ones,
+        and the number of frames missing before it, modulo 256, or None for the first. A TmFault, 10 FieldRange for a
+        pointer after the data, and 7 Memory where the packets need more memory; then the frame counts as missing."""
+        data, extracted = _octets_of("data", data), _TmExtracted()
+        TmFault._look_at(_tm_extractor_frame(byref(self._extractor), byref(frame), data, len(data), self._memory,
+                                             len(self._memory), byref(extracted)))
+        packets = [self._memory.raw[:extracted.joined]] if extracted.joined else []
+        while _tm_packet(data, len(data), byref(extracted.packets)):
+            packets.append(extracted.packets.of(data))
+        return packets, None if extracted.first else extracted.lost
+
+
+_tm_builder_open = _call("tm_builder_open", c_uint8, POINTER(_TmBuilder), ("scid", c_uint16), ("vcid", c_uint8),
+                         ("length", c_size_t))
+_tm_builder_queue = _call("tm_builder_queue", c_uint8, POINTER(_TmBuilder), *_OCTETS, *_OCTETS)
+_tm_builder_build = _call("tm_builder_build", c_uint8, POINTER(_TmBuilder), *_OCTETS, *_OCTETS, *_ROOM)
+_tm_extractor_frame = _call("tm_extractor_frame", c_uint8, POINTER(_TmExtractor), POINTER(TmFrame), *_OCTETS, *_OCTETS,
+                            POINTER(_TmExtracted))
+_tm_packet = _call("tm_packet", c_bool, *_OCTETS, POINTER(_Part))
+
+# ---- Packets in segments ----
+
+_dropped_word = _word_of("dropped")
+
+
+class _Map(ctypes.Structure):
+    _fields_ = [("count", c_size_t), ("open", c_uint8), ("blocking", c_uint8)]
+
+
+class _Taken(ctypes.Structure):
+    _fields_ = [("count", c_size_t), ("where", c_uint8), ("dropped", c_uint8)]
+
+
+class _Limits(ctypes.Structure):
+    _fields_ = [("part", c_uint32), ("max_packet", c_uint32), ("blocking", c_uint8)]
+
+
+def _packets_of(octets: bytes) -> Iterator[bytes]:
+    part = _Part()
+    while _map_packet(octets, len(octets), byref(part)):
+        yield part.of(octets)
+
+
+class Map:
+    """One MAP on board, which joins segments to packets of at most `longest` octets (232.0-B-4, 4.1.3.2.2). With blocking
+    an alone segment may hold several whole packets."""
+
+    def __init__(self, longest: int = 65542, blocking: bool = False) -> None:
+        self._map, self._memory = _Map(blocking=bool(blocking)), ctypes.create_string_buffer(longest)
+
+    def take(self, flags: int, data: bytes) -> Tuple[List[bytes], Optional[str]]:
+        """Takes the next segment, its Segment flags and its data: the packets that are whole now, and why something was
+        dropped, in the word of tctool, or None. A MapFault, 255 Damaged, for flags that are none."""
+        data, taken = _octets_of("data", data), _Taken()
+        MapFault._look_at(_map_take(byref(self._map), flags, data, len(data), self._memory, len(self._memory), byref(taken)))
+        whole = (b"", self._memory.raw, data)[taken.where][:taken.count]
+        return list(_packets_of(whole)), _dropped_word(taken.dropped) if taken.dropped else None
+
+
+def segments(octets: bytes, part: int, longest: int = 65542, blocking: bool = False) -> List[Tuple[Segment, bytes]]:
+    """The segments of a packet, or with blocking of packets one after another, of at most `part` octets each: for each its
+    Segment flags and its data. A MapFault where the octets are no packet, or one of more than `longest`."""
+    for name, value in (("part", part), ("longest", longest)):
+        _within(name, c_uint32, value)
+    octets, limits = _octets_of("octets", octets), _Limits(part, longest, bool(blocking))
+    flags, data = c_uint8(), _Part()
+    cut: List[Tuple[Segment, bytes]] = []
+    count = _count_of(_map_count, MapFault, octets, len(octets), byref(limits))
+    for k in range(count):
+        MapFault._look_at(_map_segment(octets, len(octets), byref(limits), k, byref(flags), byref(data)))
+        cut.append((Segment(flags.value), data.of(octets)))
+    return cut
+
+
+_map_take = _call("map_take", c_uint8, POINTER(_Map), ("flags", c_uint8), *_OCTETS, *_OCTETS, POINTER(_Taken))
+_map_packet = _call("map_packet", c_bool, *_OCTETS, POINTER(_Part))
+_map_count = _call("map_count", c_uint8, *_OCTETS, POINTER(_Limits), POINTER(c_size_t))
+_map_segment = _call("map_segment", c_uint8, *_OCTETS, POINTER(_Limits), c_size_t, POINTER(c_uint8), POINTER(_Part))

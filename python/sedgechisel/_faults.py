@@ -1,0 +1,190 @@
+"""What the libraries refuse: the kinds of faults, and what each number means. `python/check` compares the meanings with
+the headers for C, and the ranges of parameters with docs/PROFILE.md."""
+from __future__ import annotations
+
+import ctypes
+from ctypes import c_char, c_uint8
+from typing import Any, Callable, ClassVar, Dict, Tuple, Type
+
+from ._library import FIRST, NODES, call_of
+
+_SHARED = {253: "Absent", 254: "WrongCount", 255: "Damaged"}
+_WRONG_COUNT = {254: "not the number of octets that the call needs"}
+_DAMAGED = {255: "a struct has a value that no sender, receiver or MAP has, or one out of its enum"}
+
+
+class Text(ctypes.Structure):
+    _fields_ = [("text", c_char * 20)]
+
+
+def word_of(kind: str, library: ctypes.PyDLL = FIRST) -> Callable[[int], str]:
+    """What gives the words of numbers of a kind, as tctool writes them."""
+    name = call_of(library, kind + "_name", Text, ("number", c_uint8))
+    return lambda number: str(name(number).text.decode())
+
+
+class Fault(Exception):
+    """What the library refuses: its `number` and its `name`, as the headers for C have them, and its `meaning`. Its
+    text is all three."""
+
+    number: int
+    name: str
+    meaning: str
+    _word: Any = staticmethod(lambda number: "?")
+    _meanings: ClassVar[Dict[int, str]] = {}
+
+    def __init__(self, number: int) -> None:
+        self.number, self.name, self.meaning = number, self._name_of(number), self._meanings.get(number, "?")
+        super().__init__(f"{number} {self.name}: {self.meaning}")
+
+    def __init_subclass__(cls) -> None:
+        numbers = (f"- {number} {cls._name_of(number)}: {meaning}" for number, meaning in cls._meanings.items())
+        cls.__doc__ = "\n".join((f"{cls.__doc__}\n", *numbers))
+
+    def __reduce__(self) -> Tuple[Type[Fault], Tuple[int]]:
+        return type(self), (self.number,)
+
+    @classmethod
+    def _name_of(cls, number: int) -> str:
+        return _SHARED.get(number) or str(cls._word(number))
+
+    @classmethod
+    def _look_at(cls, number: int) -> None:
+        if number:
+            raise cls(number)
+
+
+class CheckFault(Fault):
+    """Fewer than two octets have no check."""
+
+    _meanings = _WRONG_COUNT
+
+
+class ClcwFault(Fault):
+    """Why a control word is refused (232.0-B-4)."""
+
+    _word = staticmethod(word_of("clcw_fault"))
+    _meanings = {
+        1: "the control word type is not 0 (4.2.1.2)",
+        2: "the version number is not 00 (4.2.1.3)",
+        3: "the COP in effect is not 01, COP-1 (4.2.1.5)",
+        4: "a spare bit is not 0",
+        5: "a field is too large for its bits, or a flag bit has no name",
+        **_WRONG_COUNT, **_DAMAGED,
+    }
+
+
+class CopFault(Fault):
+    """Why a call of a receiver or a sender is refused."""
+
+    _word = staticmethod(word_of("cop_fault"))
+    _meanings = {
+        1: "the window width is not an even number from 2 to 254",
+        2: "the sender's window K is not from 1 to half the width",
+        3: "the transmission limit is 0",
+        4: "the timer's value is 0",
+        6: "the sender is in its state S6",
+        7: "a unit waits already",
+        8: "the directive is not allowed in the sender's state",
+        **_DAMAGED,
+    }
+
+
+class TcFault(Fault):
+    """Why a telecommand frame is refused (232.0-B-4)."""
+
+    _word = staticmethod(word_of("tc_fault"))
+    _meanings = {
+        1: "fewer than the 5 octets of the header",
+        2: "the version number is not 00 (4.1.2.2)",
+        3: "the control command flag without the bypass flag (4.1.2.3)",
+        4: "the spare bits are not 00 (4.1.2.4)",
+        5: "the declared total is not the number of octets, or too small (4.1.2.7)",
+        6: "the last two octets are not the check of those before them (4.1.4)",
+        7: "a frame with the bypass flag has a number other than 0 (4.1.2.8)",
+        8: "no octet in the data field, or a segment header alone",
+        9: "the data of a control frame are neither Unlock nor Set V(R) (4.1.3.3)",
+        10: "there is too little room for the frame",
+        11: "a field out of its range, no data, or more than 1,024 octets",
+        **_DAMAGED,
+    }
+
+
+class PacketFault(Fault):
+    """Why a space packet is refused (133.0-B-2)."""
+
+    _word = staticmethod(word_of("packet_fault"))
+    _meanings = {
+        1: "fewer than the 6 octets of the header, or fewer than it declares",
+        2: "the version number is not 000 (4.1.3.2)",
+        3: "an idle packet with a secondary header (4.1.3.3.3)",
+        4: "there is too little room for the packet",
+        5: "a field out of its range, no data or more than 65,536 octets of them, or an idle packet with a secondary "
+           "header",
+        **_DAMAGED,
+    }
+
+
+class TmFault(Fault):
+    """Why a telemetry frame is refused (132.0-B-3)."""
+
+    _word = staticmethod(word_of("tm_fault"))
+    _meanings = {
+        1: "not length octets, or a length outside 16 to 2,048",
+        2: "the version number is not 00 (4.1.2.2)",
+        3: "the last two octets are not the check of those before them (4.1.6)",
+        4: "a flag of the data field status is 1, or its identifier is not 11 (4.1.2.7)",
+        5: "a first header pointer at or after the data field's end (4.1.2.7.6)",
+        6: "the frame declares no operational control field (4.1.2.4)",
+        7: "the caller's memory is too short for what would be kept in it",
+        8: "not exactly one packet, or an idle packet",
+        9: "there is too little room for the frame",
+        10: "a field out of its range, a pointer after the data, not 4 to 2,036 octets of data, or a length outside 16 "
+            "to 2,048",
+        **_WRONG_COUNT,
+    }
+
+
+class MapFault(Fault):
+    """Why octets are not cut into segments, or a MAP is refused."""
+
+    _word = staticmethod(word_of("map_fault"))
+    _meanings = {
+        1: "they are not exactly one packet, or with blocking not one or more whole packets",
+        2: "a packet has more octets than max_packet",
+        **_DAMAGED,
+    }
+
+
+class LinkFault(Fault):
+    """Why a node refuses a call."""
+
+    _word = staticmethod(word_of("link_fault", NODES))
+    _meanings = {
+        1: "the sender is in its state Initial (S6)",
+        2: "the MAP is not open",
+        3: "the octets are not command packets, or not as many as one call takes",
+        4: "a packet has more octets than it may have",
+        5: "as many units as may wait are waiting",
+        6: "there was no memory",
+    }
+
+
+class SimFault(Fault):
+    """Why an event does not happen on a simulated link."""
+
+    _word = staticmethod(word_of("sim_fault", NODES))
+    _meanings = {
+        6: "there was no memory",
+        7: "no frame is on its way in this direction",
+        8: "the receiver's decoder would accept the octets of the damaged frame",
+    }
+
+
+class ConfigFault(Fault):
+    """The first managed parameter that is out of its range: its number, its name, and the range."""
+
+    _word = staticmethod(word_of("parameter", NODES))
+    _meanings = {number: f"its range is {its}" for number, its in enumerate((
+        "0 to 1,023", "0 to 63", "0 to 7", "even, 2 to 254", "1 to width/2", "1 to 255", "1 to 65,535", "1 to 1,016",
+        "7 to 65,542", "any 64 bits", "1 to 64", "1 to 64", "1 to 65,535", "16 to 2,048", "0 to 1"), 1)}

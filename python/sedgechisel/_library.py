@@ -1,0 +1,60 @@
+"""The shared libraries, and how their calls are made."""
+from __future__ import annotations
+
+import ctypes
+from ctypes import c_uint8, c_uint16, c_uint32, c_uint64
+from os import path
+from typing import Any, Callable, Dict
+
+_LOST = """{file} cannot be loaded: {why}
+The package sedgechisel needs it beside its modules. In the repository of Sedgechisel run one of these:
+    ./install --wheel DIR      and then  pip install --no-index DIR/sedgechisel-*.whl
+    ./install --prefix DIR     and then  export PYTHONPATH=DIR/lib/python"""
+_MOST: Dict[Any, int] = {c_uint8: 0xFF, c_uint16: 0xFFFF, c_uint32: 0xFFFFFFFF, c_uint64: 0xFFFF_FFFF_FFFF_FFFF}
+
+
+def _load(name: str) -> ctypes.PyDLL:
+    """A library beside this module. Each call holds the interpreter's lock, so threads cannot call at once."""
+    file = path.join(path.dirname(path.abspath(__file__)), name)
+    try:
+        return ctypes.PyDLL(file)
+    except OSError as why:
+        raise ImportError(_LOST.format(file=file, why=why), name="sedgechisel", path=file) from None
+
+
+def within(name: str, kind: Any, value: Any) -> None:
+    """A number that its kind does not hold is an OverflowError, and what is no number a TypeError."""
+    if kind in _MOST:
+        if not isinstance(value, int):
+            raise TypeError(f"{name}: {value!r} is not a number")
+        if not 0 <= value <= _MOST[kind]:
+            raise OverflowError(f"{name}: {value} is not in 0 to {_MOST[kind]}")
+
+
+def octets_of(name: str, value: Any) -> bytes:
+    """Octets as `bytes`; a TypeError where there are none, as in a number or a str."""
+    if isinstance(value, bytes):
+        return bytes(value)
+    try:
+        return bytes(memoryview(value))
+    except TypeError:
+        raise TypeError(f"{name}: {value!r} is not bytes") from None
+
+
+def call_of(library: ctypes.PyDLL, name: str, answer: Any, *kinds: Any) -> Callable[..., Any]:
+    """A call of a library, of which each number has its name and its kind. A number that its kind does not hold is an
+    OverflowError, where ctypes would cut it."""
+    call: Any = getattr(library, "sedge_" + name)
+    named = [it if isinstance(it, tuple) else (name, it) for it in kinds]
+    call.restype, call.argtypes = answer, [kind for _, kind in named]
+
+    def checked(*values: Any) -> Any:
+        for (own, kind), value in zip(named, values):
+            within(own, kind, value)
+        return call(*values)
+
+    return checked
+
+
+FIRST = _load("libsedgechisel.so")
+NODES = _load("libsedgechisel_nodes.so")

@@ -1,0 +1,221 @@
+"""The calls of libsedgechisel_nodes for the simulated link between two nodes."""
+from __future__ import annotations
+
+import ctypes
+from ctypes import POINTER, byref, c_bool, c_size_t, c_uint8
+from enum import IntEnum
+from typing import Any, Callable, List, Optional, Tuple
+
+from ._calls import Alert, Clcw
+from ._faults import CopFault, LinkFault, SimFault, TmFault
+from ._library import octets_of
+from ._nodes import (
+    _DIRECTIVES, _GIVEN, _HANDLE, _MAP, _OCTETS, Heard, Received, Sender, State, _call, _closing, _Heard, _opening,
+    _Received)
+
+_REFUSED = 3
+_REFUSED_BY = {1: LinkFault, 2: CopFault, 3: TmFault}
+_SUBMITTED, _DELIVERED, _SENT, _ACCEPTED = range(1, 5)
+
+
+class Begun(IntEnum):
+    """How a session began; NOT where none has."""
+
+    NOT, WITHOUT_CHECK, WITH_CHECK, UNLOCK, SET_VR = range(5)
+
+
+class _Reply(ctypes.Structure):
+    _fields_ = [("count", c_size_t), ("up", _Received), ("down", _Heard), ("report", Clcw)] + [
+        (it, c_uint8) for it in ("kind", "by", "fault", "alert", "map")]
+    count: int
+    up: _Received
+    down: _Heard
+    report: Clcw
+    kind: int
+    by: int
+    fault: int
+    alert: int
+    map: int
+
+
+class _Reading(ctypes.Structure):
+    _fields_ = [("outstanding", c_size_t), ("acknowledged", c_size_t), ("state", c_uint8), ("begun", c_uint8),
+                ("vr", c_uint8), ("clean", c_bool), ("idle", c_bool), ("confirmed", c_bool)]
+
+
+def _counted(name: str, octets: bytes) -> Tuple[bytes, int]:
+    octets = octets_of(name, octets)
+    return octets, len(octets)
+
+
+class Link(Sender):
+    """A simulated link: a ground, a spacecraft of the same parameters, and the frames on their way between them, first
+    in, first out. It keeps the records of its session, which begins with each initiation that the ground accepts.
+
+    An event that a node refuses is its fault, as of `Ground` and `Spacecraft`. A LinkFault or TmFault, Memory, and a
+    SimFault say that there was no memory; each event may be one. Nothing has changed then."""
+
+    _opens, _closes = _opening("sim"), _closing("sim")
+
+    def _event(self, name: str, *values: Any) -> _Reply:
+        reply = _Reply()
+        self._asked(_events[name](byref(self._handle), *values, byref(reply)), SimFault)
+        if reply.kind == _REFUSED:
+            raise _REFUSED_BY[reply.by](reply.fault)
+        return reply
+
+    def _octets(self, reply: _Reply) -> Optional[bytes]:
+        """The frame or the packet of the event, if there is one."""
+        return self._given(_sim_octets, reply.count) if reply.count else None
+
+    def _direct(self, name: str, *values: int) -> None:
+        self._event(name, *values)
+
+    def submit(self, map: int, packets: bytes) -> None:
+        """Packets are to be sent on a MAP under sequence control, as by `Ground.submit`."""
+        self._event("submit", map, *_counted("packets", packets))
+
+    def bypass(self, map: int, packet: bytes) -> None:
+        """One packet is to be sent on a MAP past the sequence control, as by `Ground.bypass`."""
+        self._event("bypass", map, *_counted("packet", packet))
+
+    def send(self) -> Optional[bytes]:
+        """The ground sends a frame, which is on its way up then; None where nothing is to be sent."""
+        return self._octets(self._event("send"))
+
+    def up_deliver(self) -> Received:
+        """The first frame on its way up arrives; SimFault 7 where there is none, as of the five calls like it."""
+        return self._event("up_deliver").up.value()
+
+    def up_lose(self) -> None:
+        """It is lost."""
+        self._event("up_lose")
+
+    def up_damage(self, octets: bytes) -> Received:
+        """These octets arrive in its place, which are no frame; SimFault 8 where they are one."""
+        return self._event("up_damage", *_counted("octets", octets)).up.value()
+
+    def report(self) -> Clcw:
+        """The spacecraft sends a telemetry frame, which is on its way down then: the report in it."""
+        return Clcw.from_buffer_copy(self._event("report").report)
+
+    def down_deliver(self) -> Heard:
+        """The first frame on its way down arrives."""
+        return self._event("down_deliver").down.value()
+
+    def down_lose(self) -> None:
+        """It is lost."""
+        self._event("down_lose")
+
+    def down_damage(self, octets: bytes) -> Heard:
+        """These octets arrive in its place, which are no frame; SimFault 8 where they are one."""
+        return self._event("down_damage", *_counted("octets", octets)).down.value()
+
+    def tick(self) -> Alert:
+        """A tick of the ground's clock passes: the Alert."""
+        return Alert(self._event("tick").alert)
+
+    def _taken(self, name: str) -> Optional[Tuple[int, bytes]]:
+        reply = self._event(name)
+        packet = self._octets(reply)
+        return None if packet is None else (reply.map, packet)
+
+    def take(self) -> Optional[Tuple[int, bytes]]:
+        """A packet of sequence-controlled frames is taken on board, its MAP and its octets; or None."""
+        return self._taken("take")
+
+    def take_bypass(self) -> Optional[Tuple[int, bytes]]:
+        """The same of the packets that came past the sequence control."""
+        return self._taken("take_bypass")
+
+    def telemetry(self, packet: bytes) -> None:
+        """A packet is queued on board to be sent as telemetry, as by `Spacecraft.telemetry`."""
+        self._event("telemetry", *_counted("packet", packet))
+
+    # The session and its records.
+
+    def _read(self) -> _Reading:
+        read = _Reading()
+        self._asked(_sim_read(byref(self._handle), byref(read)))
+        return read
+
+    def _shown(self) -> str:
+        read = self._read()
+        return f"{State(read.state).name}, {read.outstanding} outstanding, {read.acknowledged} acknowledged"
+
+    @property
+    def state(self) -> State:
+        """The state of the ground's sender."""
+        return State(self._read().state)
+
+    @property
+    def outstanding(self) -> int:
+        """How many segments were submitted and are not acknowledged."""
+        return int(self._read().outstanding)
+
+    @property
+    def acknowledged(self) -> int:
+        """How many of the first ones of `sent` the ground holds acknowledged."""
+        return int(self._read().acknowledged)
+
+    @property
+    def begun(self) -> Begun:
+        """How the session began."""
+        return Begun(self._read().begun)
+
+    @property
+    def clean(self) -> bool:
+        """Whether it began with nothing on its way, and without a check only where V(R) was V(S)."""
+        return bool(self._read().clean)
+
+    @property
+    def idle(self) -> bool:
+        """Whether it had an idle start (docs/PROMISES.md)."""
+        return bool(self._read().idle)
+
+    @property
+    def confirmed(self) -> bool:
+        """Whether a report has taken the ground from S4 or S5 to S1."""
+        return bool(self._read().confirmed)
+
+    def _entries(self, record: int, map: int = 0) -> List[bytes]:
+        entries, length = c_size_t(), c_size_t()
+        self._asked(_sim_count(byref(self._handle), record, map, byref(entries)))
+        found = []
+        for k in range(entries.value):
+            self._asked(_sim_entry_length(byref(self._handle), record, map, k, byref(length)))
+            found.append(self._given(_sim_entry, length.value, record, map, k))
+        return found
+
+    def submitted(self, map: int) -> List[bytes]:
+        """The packets that were submitted on a MAP in the session."""
+        return self._entries(_SUBMITTED, map)
+
+    def delivered(self, map: int) -> List[bytes]:
+        """The packets that were ready on board on a MAP, taken or not."""
+        return self._entries(_DELIVERED, map)
+
+    @property
+    def sent(self) -> List[bytes]:
+        """The data fields of Type-AD frames, in the order in which they were first sent."""
+        return self._entries(_SENT)
+
+    @property
+    def accepted(self) -> List[bytes]:
+        """The data fields of Type-AD frames that were accepted on board."""
+        return self._entries(_ACCEPTED)
+
+
+def _event_of(name: str, *kinds: Any) -> Callable[..., int]:
+    return _call(f"sim_{name}", _HANDLE, *kinds, POINTER(_Reply))
+
+
+_events = {name: _event_of(name, *kinds) for name, kinds in {
+    **_DIRECTIVES, "submit": (_MAP, *_OCTETS), "bypass": (_MAP, *_OCTETS), "send": (), "up_deliver": (),
+    "up_lose": (), "up_damage": _OCTETS, "report": (), "down_deliver": (), "down_lose": (), "down_damage": _OCTETS,
+    "tick": (), "take": (), "take_bypass": (), "telemetry": _OCTETS}.items()}
+_sim_octets = _call("sim_octets", _HANDLE, *_GIVEN)
+_sim_read = _call("sim_read", _HANDLE, POINTER(_Reading))
+_sim_count = _call("sim_count", _HANDLE, c_uint8, _MAP, POINTER(c_size_t))
+_sim_entry_length = _call("sim_entry_length", _HANDLE, c_uint8, _MAP, c_size_t, POINTER(c_size_t))
+_sim_entry = _call("sim_entry", _HANDLE, c_uint8, _MAP, c_size_t, *_GIVEN)

@@ -1,0 +1,482 @@
+"""The calls of libsedgechisel_nodes: the ground and the spacecraft."""
+from __future__ import annotations
+
+import ctypes
+from ctypes import POINTER, byref, c_bool, c_char_p, c_size_t, c_uint8, c_uint16, c_uint32, c_uint64, c_void_p
+from dataclasses import dataclass
+from enum import IntEnum
+from types import TracebackType
+from typing import Any, Callable, Dict, Optional, Tuple, Type, TypeVar
+
+from ._calls import Alert, Clcw, Command, Mode, Verdict, _dropped_word, _Struct
+from ._faults import ClcwFault, ConfigFault, CopFault, Fault, LinkFault, TcFault, TmFault
+from ._library import NODES, call_of, octets_of as _octets_of
+
+_ABSENT, _OUT_OF_RANGE, _NONE = 253, 254, 255
+_LONGEST = 65542
+_Own = TypeVar("_Own", bound="Handle")
+
+
+def _call(name: str, *kinds: Any) -> Callable[..., int]:
+    return call_of(NODES, name, c_uint8, *kinds)
+
+
+class Config(_Struct):
+    """The managed parameters of a node, with the defaults and the ranges of docs/PROFILE.md. Both ends of a link have
+    the same ones. `Config(window=4, timer=3)` sets two of them:
+
+    - `scid` 0 to 1,023, `vcid` 0 to 63 (of telecommand frames), `tm_vcid` 0 to 7 (of telemetry frames)
+    - `width` of the receiver's window, even, 2 to 254; `window` of the sender, 1 to width / 2
+    - `limit` of transmissions, 1 to 255; `timer` in ticks, 1 to 65,535
+    - `part`, the most octets of data in a segment, 1 to 1,016; `max_packet`, the most octets of a packet, 7 to 65,542
+    - `maps`: bit m is set where MAP m is open
+    - `ready_slots` and `bypass_slots`, packets that may wait on board, 1 to 64; `queue_slots`, units that may wait on
+      the ground, 1 to 65,535
+    - `frame_length` of telemetry, in octets, 16 to 2,048; `blocking`, whether a segment may hold several packets"""
+
+    _fields_ = [
+        ("scid", c_uint32), ("vcid", c_uint32), ("tm_vcid", c_uint32), ("width", c_uint32), ("window", c_uint32),
+        ("limit", c_uint32), ("timer", c_uint32), ("part", c_uint32), ("max_packet", c_uint32), ("maps", c_uint64),
+        ("ready_slots", c_uint32), ("bypass_slots", c_uint32), ("queue_slots", c_uint32), ("frame_length", c_uint32),
+        ("blocking", c_uint32)]
+    scid: int
+    vcid: int
+    tm_vcid: int
+    width: int
+    window: int
+    limit: int
+    timer: int
+    part: int
+    max_packet: int
+    maps: int
+    ready_slots: int
+    bypass_slots: int
+    queue_slots: int
+    frame_length: int
+    blocking: int
+
+    def __init__(
+            self, *, scid: int = 1, vcid: int = 2, tm_vcid: int = 0, width: int = 254, window: int = 127,
+            limit: int = 3, timer: int = 10, part: int = 1016, max_packet: int = 65542, maps: int = 2**64 - 1,
+            ready_slots: int = 64, bypass_slots: int = 4, queue_slots: int = 1000, frame_length: int = 64,
+            blocking: int = 0) -> None:
+        super().__init__(scid, vcid, tm_vcid, width, window, limit, timer, part, max_packet, maps, ready_slots,
+                         bypass_slots, queue_slots, frame_length, blocking)
+
+    def fault(self) -> Optional[str]:
+        """The name of the first parameter that is out of its range, or None."""
+        number = _config_fault(byref(self))
+        return ConfigFault(number).name if number else None
+
+
+_config_fault = _call("config_fault", POINTER(Config))
+
+
+class _Raw(ctypes.Structure):
+    _fields_ = [("node", c_void_p)]
+
+
+class Handle:
+    """What the nodes share. A node is closed by `close`, at the end of its `with`, or when nothing refers to it any
+    more; each later call is a ValueError."""
+
+    _opens: Callable[..., int]
+    _closes: Callable[..., Any]
+
+    def __init__(self, config: Optional[Config] = None, **fields: int) -> None:
+        """A node with these managed parameters: a Config, or its fields. A ConfigFault where one is out of its range,
+        or a LinkFault, 6 Memory."""
+        if config is not None and fields:
+            raise TypeError("a Config or its fields, but not both")
+        config = Config(**fields) if config is None else config
+        if not isinstance(config, Config):
+            raise TypeError(f"{config!r} is not a Config; parameters are given by name, as in timer=3")
+        self._handle = _Raw()
+        answer = type(self)._opens(byref(config), byref(self._handle))
+        if answer == _OUT_OF_RANGE:
+            raise ConfigFault(_config_fault(byref(config)))
+        LinkFault._look_at(answer)
+
+    def close(self) -> None:
+        """Closes it, and gives its memory back; again does nothing."""
+        type(self)._closes(byref(self._handle))
+
+    @property
+    def closed(self) -> bool:
+        """Whether it is closed."""
+        return self._handle.node is None
+
+    def __reduce__(self) -> Tuple[Any, ...]:
+        raise TypeError(f"a {type(self).__name__} is not copied")
+
+    def __copy__(self: _Own) -> _Own:
+        raise TypeError(f"a {type(self).__name__} is not copied")
+
+    def __deepcopy__(self: _Own, memo: Any) -> _Own:
+        raise TypeError(f"a {type(self).__name__} is not copied")
+
+    def _shown(self) -> str:
+        """Its state, in few words."""
+        raise NotImplementedError
+
+    def __repr__(self) -> str:
+        return f"<{type(self).__name__} {'closed' if self.closed else self._shown()}>"
+
+    def __enter__(self: _Own) -> _Own:
+        self._asked(_NONE if self.closed else 0)
+        return self
+
+    def __exit__(self, kind: Optional[Type[BaseException]], it: Optional[BaseException],
+                 trace: Optional[TracebackType]) -> None:
+        self.close()
+
+    def __del__(self) -> None:
+        if hasattr(self, "_handle"):
+            self.close()
+
+    def _asked(self, answer: int, fault: Type[Fault] = LinkFault) -> int:
+        """The answer of a call, which is a fault where it is not 0."""
+        if answer == _NONE:
+            raise ValueError(f"the {type(self).__name__.lower()} is closed")
+        fault._look_at(answer)
+        return answer
+
+    def _given(self, call: Callable[..., int], most: int, *values: Any) -> bytes:
+        """What a call writes, given room for the most octets that it may write."""
+        out, count = ctypes.create_string_buffer(most), c_size_t()
+        self._asked(call(byref(self._handle), *values, out, most, byref(count)))
+        return out.raw[:count.value]
+
+
+_HANDLE, _OCTETS, _GIVEN = POINTER(_Raw), (c_char_p, c_size_t), (c_char_p, c_size_t, POINTER(c_size_t))
+_MAP = ("map", c_uint8)
+
+
+def _opening(kind: str) -> Callable[..., int]:
+    return _call(f"{kind}_open", POINTER(Config), _HANDLE)
+
+
+def _closing(kind: str) -> Callable[..., Any]:
+    return call_of(NODES, f"{kind}_close", None, _HANDLE)
+
+
+# ---- What comes of octets ----
+
+
+class Arrived(IntEnum):
+    """What octets were that arrived: no frame, one of another spacecraft or channel, a telecommand frame of a type, or
+    a telemetry frame."""
+
+    INVALID, FOREIGN, AD, BD, BC, TM = range(1, 7)
+
+
+class Report(IntEnum):
+    """What becomes of a telemetry frame's report: it is given to the sender (USED), there is none, the field being no
+    control word (NONE), or it is about another virtual channel (OTHER)."""
+
+    USED, NONE, OTHER = range(3)
+
+
+class State(IntEnum):
+    """The sender's state (232.1-B-2, 5.1): active, retransmitting without and with wait, initialising without and with
+    a control command, initial."""
+
+    S1, S2, S3, S4, S5, S6 = range(1, 7)
+
+
+@dataclass(frozen=True)
+class Received:
+    """What the spacecraft makes of octets: their `kind`, and what that kind has.
+
+    - INVALID: `fault`
+    - AD: its number `n`, the `verdict`, the number of packets that are `ready` with it, and why octets on its MAP were
+      `dropped`, in the word of tctool, or None
+    - BD: whether it carried a packet, which is `kept`
+    - BC: the `command`, and the number `vr` of Set V(R)"""
+
+    kind: Arrived
+    fault: Optional[TcFault] = None
+    n: int = 0
+    verdict: Optional[Verdict] = None
+    ready: int = 0
+    dropped: Optional[str] = None
+    kept: bool = False
+    command: Optional[Command] = None
+    vr: int = 0
+
+
+class _Received(ctypes.Structure):
+    _fields_ = [("ready", c_size_t), ("kind", c_uint8), ("fault", c_uint8), ("n", c_uint8), ("verdict", c_uint8),
+                ("dropped", c_uint8), ("kept", c_bool), ("command", c_uint8), ("vr", c_uint8)]
+
+    def value(self) -> Received:
+        kind = Arrived(self.kind)
+        if kind == Arrived.INVALID:
+            return Received(kind, fault=TcFault(self.fault))
+        if kind == Arrived.AD:
+            dropped = _dropped_word(self.dropped) if self.dropped else None
+            return Received(kind, n=self.n, verdict=Verdict(self.verdict), ready=self.ready, dropped=dropped)
+        if kind == Arrived.BC:
+            return Received(kind, command=Command(self.command), vr=self.vr)
+        return Received(kind, kept=self.kept)
+
+
+@dataclass(frozen=True)
+class Heard:
+    """What the ground makes of octets: their `kind`, and what that kind has.
+
+    - INVALID: `fault`
+    - TM: the number of frames that are missing before it, `gap`, or None for the first; the number of `packets` that
+      came to wait to be taken; its `report`, and where that is NONE the `word_fault`; and why the sender has given up,
+      `alert`"""
+
+    kind: Arrived
+    fault: Optional[TmFault] = None
+    gap: Optional[int] = None
+    packets: int = 0
+    report: Optional[Report] = None
+    word_fault: Optional[ClcwFault] = None
+    alert: Alert = Alert.NONE
+
+
+class _Heard(ctypes.Structure):
+    _fields_ = [("packets", c_size_t), ("kind", c_uint8), ("fault", c_uint8), ("first", c_uint8), ("missing", c_uint8),
+                ("report", c_uint8), ("word_fault", c_uint8), ("alert", c_uint8)]
+
+    def value(self) -> Heard:
+        if self.kind == 1:
+            return Heard(Arrived.INVALID, fault=TmFault(self.fault))
+        if self.kind == 2:
+            return Heard(Arrived.FOREIGN)
+        word_fault = ClcwFault(self.word_fault) if self.report == Report.NONE else None
+        return Heard(Arrived.TM, gap=None if self.first else self.missing, packets=self.packets,
+                     report=Report(self.report), word_fault=word_fault, alert=Alert(self.alert))
+
+
+# ---- The ground ----
+
+
+class _GroundReading(ctypes.Structure):
+    _fields_ = [("outstanding", c_size_t), ("frame_length", c_size_t)] + [(it, c_uint8) for it in ("state", "vs", "nn")]
+
+
+_DIRECTIVES: Dict[str, Tuple[Any, ...]] = {
+    "init_without_check": (), "init_with_check": (), "init_unlock": (), "init_set_vr": (("vr", c_uint8),),
+    "terminate": (), "set_vs": (("vs", c_uint8),), "set_window": (("window", c_uint8),),
+    "set_limit": (("limit", c_uint8),), "set_timer": (("ticks", c_uint16),)}
+
+
+class Sender(Handle):
+    """What has the directives to the sender FOP-1 (232.1-B-2, 5.2.4)."""
+
+    def _direct(self, name: str, *values: int) -> None:
+        raise NotImplementedError
+
+    def init_without_check(self) -> None:
+        """Directive: S6 to S1. The four initiations and set_vs are CopFault 8 in any other state than S6."""
+        self._direct("init_without_check")
+
+    def init_with_check(self) -> None:
+        """Directive: S6 to S4, until a report agrees."""
+        self._direct("init_with_check")
+
+    def init_unlock(self) -> None:
+        """Directive: S6 to S5, and Unlock is sent."""
+        self._direct("init_unlock")
+
+    def init_set_vr(self, vr: int) -> None:
+        """Directive: S6 to S5, V(S) to this number, and Set V(R) is sent."""
+        self._direct("init_set_vr", vr)
+
+    def terminate(self) -> None:
+        """Directive: to S6, and all units are let go of, as by the alert TERMINATED; CopFault 8 in S6."""
+        self._direct("terminate")
+
+    def set_vs(self, vs: int) -> None:
+        """Directive: V(S), and NN(R) to it."""
+        self._direct("set_vs", vs)
+
+    def set_window(self, window: int) -> None:
+        """Directive: the window K; or CopFault 2 where it is not 1 to half the width."""
+        self._direct("set_window", window)
+
+    def set_limit(self, limit: int) -> None:
+        """Directive: the transmission limit; or CopFault 3 where it is 0."""
+        self._direct("set_limit", limit)
+
+    def set_timer(self, ticks: int) -> None:
+        """Directive: the timer's value in ticks; or CopFault 4 where it is 0."""
+        self._direct("set_timer", ticks)
+
+
+class Ground(Sender):
+    """The ground: it sends packets until they are accepted, and takes telemetry."""
+
+    _opens, _closes = _opening("ground"), _closing("ground")
+
+    def _direct(self, name: str, *values: int) -> None:
+        self._asked(_ground_directives[name](byref(self._handle), *values), CopFault)
+
+    def submit(self, map: int, packets: bytes) -> None:
+        """Packets are to be sent on a MAP under sequence control: one, or with blocking several, one after another. The
+        first LinkFault of 1 to 6 that applies; nothing has changed then."""
+        packets = _octets_of("packets", packets)
+        self._asked(_ground_submit(byref(self._handle), map, packets, len(packets)))
+
+    def bypass(self, map: int, packet: bytes) -> None:
+        """One packet is to be sent on a MAP past the sequence control, in any state. The first LinkFault of 2 to 6 that
+        applies."""
+        packet = _octets_of("packet", packet)
+        self._asked(_ground_bypass(byref(self._handle), map, packet, len(packet)))
+
+    def pull(self) -> Optional[bytes]:
+        """Takes the telecommand frame that goes on the link next, with its check, at most 1,024 octets; None where
+        nothing is to be sent now."""
+        return self._given(_ground_pull, 1024) or None
+
+    def telemetry(self, octets: bytes) -> Heard:
+        """Octets came from the spacecraft, which are one telemetry frame if all is well. A LinkFault, 6 Memory."""
+        octets, heard = _octets_of("octets", octets), _Heard()
+        self._asked(_ground_telemetry(byref(self._handle), octets, len(octets), byref(heard)))
+        return heard.value()
+
+    def take_telemetry(self) -> Optional[bytes]:
+        """Takes the oldest packet that telemetry frames carried, or None."""
+        return self._given(_ground_take_telemetry, _LONGEST) or None
+
+    def tick(self) -> Alert:
+        """A tick of the clock has passed: the Alert."""
+        answer = _ground_tick(byref(self._handle))
+        return Alert(self._asked(answer) if answer == _NONE else answer)
+
+    def accepted_beyond(self, value: int) -> Optional[int]:
+        """How many of the segments that were sent and not acknowledged were accepted on board when a report of this
+        value was made, the oldest ones; None where the value is beyond V(S). After an alert too, in S6, until V(S) is
+        set or an initiation begins (232.1-B-2, 5.1)."""
+        accepted = c_uint8()
+        answer = _ground_accepted_beyond(byref(self._handle), value, byref(accepted))
+        if answer == _ABSENT:
+            return None
+        self._asked(answer)
+        return accepted.value
+
+    def _read(self) -> _GroundReading:
+        read = _GroundReading()
+        self._asked(_ground_read(byref(self._handle), byref(read)))
+        return read
+
+    def _shown(self) -> str:
+        read = self._read()
+        return f"{State(read.state).name}, V(S)={read.vs}, NN(R)={read.nn}"
+
+    @property
+    def state(self) -> State:
+        """The sender's state."""
+        return State(self._read().state)
+
+    @property
+    def vs(self) -> int:
+        """V(S), the number of the next segment that is sent for the first time."""
+        return int(self._read().vs)
+
+    @property
+    def nn(self) -> int:
+        """NN(R), the number that the spacecraft was last known to expect."""
+        return int(self._read().nn)
+
+    @property
+    def outstanding(self) -> int:
+        """How many segments were submitted and are not acknowledged."""
+        return int(self._read().outstanding)
+
+    @property
+    def frame_length(self) -> int:
+        """How many octets each frame of telemetry has."""
+        return int(self._read().frame_length)
+
+
+_ground_directives = {name: _call(f"ground_{name}", _HANDLE, *kinds) for name, kinds in _DIRECTIVES.items()}
+_ground_submit = _call("ground_submit", _HANDLE, _MAP, *_OCTETS)
+_ground_bypass = _call("ground_bypass", _HANDLE, _MAP, *_OCTETS)
+_ground_pull = _call("ground_pull", _HANDLE, *_GIVEN)
+_ground_telemetry = _call("ground_telemetry", _HANDLE, *_OCTETS, POINTER(_Heard))
+_ground_take_telemetry = _call("ground_take_telemetry", _HANDLE, *_GIVEN)
+_ground_tick = _call("ground_tick", _HANDLE)
+_ground_accepted_beyond = _call("ground_accepted_beyond", _HANDLE, ("value", c_uint8), POINTER(c_uint8))
+_ground_read = _call("ground_read", _HANDLE, POINTER(_GroundReading))
+
+# ---- The spacecraft ----
+
+
+class _SpacecraftReading(ctypes.Structure):
+    _fields_ = [("frame_length", c_size_t)] + [
+        (it, c_uint8) for it in ("status", "vcid", "flags", "farm_b", "value", "state")]
+
+
+class Spacecraft(Handle):
+    """The spacecraft: it receives packets and reports, and sends telemetry."""
+
+    _opens, _closes = _opening("spacecraft"), _closing("spacecraft")
+
+    def receive(self, octets: bytes) -> Received:
+        """Octets came from the ground, which are one telecommand frame with its check if all is well. A LinkFault, 6
+        Memory."""
+        octets, received = _octets_of("octets", octets), _Received()
+        self._asked(_spacecraft_receive(byref(self._handle), octets, len(octets), byref(received)))
+        return received.value()
+
+    def _taken(self, call: Callable[..., int]) -> Optional[Tuple[int, bytes]]:
+        map = c_uint8()
+        packet = self._given(call, _LONGEST, byref(map))
+        return (map.value, packet) if packet else None
+
+    def take(self) -> Optional[Tuple[int, bytes]]:
+        """Takes the oldest packet of sequence-controlled frames, its MAP and its octets; or None."""
+        return self._taken(_spacecraft_take)
+
+    def take_bypass(self) -> Optional[Tuple[int, bytes]]:
+        """The same of the packets that came past the sequence control."""
+        return self._taken(_spacecraft_take_bypass)
+
+    def telemetry(self, packet: bytes) -> None:
+        """A packet is to be sent as telemetry. A TmFault: 8 NotAPacket where the octets are not exactly one packet, or
+        an idle packet; 7 Memory."""
+        packet = _octets_of("packet", packet)
+        self._asked(_spacecraft_telemetry(byref(self._handle), packet, len(packet)), TmFault)
+
+    def report(self) -> bytes:
+        """Takes the next telemetry frame, which reports on the receiver: as many octets as `frame_length` says."""
+        return self._given(_spacecraft_report, 2048)
+
+    def _read(self) -> _SpacecraftReading:
+        read = _SpacecraftReading()
+        self._asked(_spacecraft_read(byref(self._handle), byref(read)))
+        return read
+
+    def _shown(self) -> str:
+        read = self._read()
+        return f"{Mode(read.state).name}, V(R)={read.value}"
+
+    @property
+    def control_word(self) -> Clcw:
+        """The report that the next telemetry frame carries."""
+        it = self._read()
+        return Clcw(it.status, it.vcid, it.flags, it.farm_b, it.value)
+
+    @property
+    def mode(self) -> Mode:
+        """The receiver's state."""
+        return Mode(self._read().state)
+
+    @property
+    def frame_length(self) -> int:
+        """How many octets each frame of telemetry has."""
+        return int(self._read().frame_length)
+
+
+_spacecraft_receive = _call("spacecraft_receive", _HANDLE, *_OCTETS, POINTER(_Received))
+_spacecraft_take = _call("spacecraft_take", _HANDLE, POINTER(c_uint8), *_GIVEN)
+_spacecraft_take_bypass = _call("spacecraft_take_bypass", _HANDLE, POINTER(c_uint8), *_GIVEN)
+_spacecraft_telemetry = _call("spacecraft_telemetry", _HANDLE, *_OCTETS)
+_spacecraft_report = _call("spacecraft_report", _HANDLE, *_GIVEN)
+_spacecraft_read = _call("spacecraft_read", _HANDLE, POINTER(_SpacecraftReading))
