@@ -25,17 +25,21 @@ fn main() {
         Some(prefix) => Some(PathBuf::from(prefix).join("lib")),
         None => asked(),
     };
-    match folder.map(|it| (it.join("libsedgechisel.a"), it)) {
-        Some((archive, folder)) if archive.is_file() => link(&archive, &folder),
-        Some((archive, _)) => give_up(&format!("there is no file {}:\n{LOST}", archive.display())),
-        None => give_up(LOST),
+    let Some(folder) = folder else { give_up(LOST) };
+    println!("cargo:rustc-link-search=native={}", folder.display());
+    link(&folder, "sedgechisel");
+    if env::var_os("CARGO_FEATURE_NODES").is_some() {
+        link(&folder, "sedgechisel_nodes");
     }
 }
 
-fn link(archive: &Path, folder: &Path) {
+fn link(folder: &Path, name: &str) {
+    let archive = folder.join(format!("lib{name}.a"));
+    if !archive.is_file() {
+        give_up(&format!("there is no file {}:\n{LOST}", archive.display()));
+    }
     println!("cargo:rerun-if-changed={}", archive.display());
-    println!("cargo:rustc-link-search=native={}", folder.display());
-    println!("cargo:rustc-link-lib=static=sedgechisel");
+    println!("cargo:rustc-link-lib=static={name}");
 }
 
 /// The folder that pkg-config names. It knows this machine's library alone.

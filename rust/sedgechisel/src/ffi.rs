@@ -8,6 +8,9 @@
 //! - a `bool` is false or true.
 #![allow(unsafe_code, dead_code)]
 
+#[cfg(feature = "nodes")]
+pub mod nodes;
+
 pub const SEDGE_OK: u8 = 0;
 pub const SEDGE_ABSENT: u8 = 253;
 pub const SEDGE_WRONG_COUNT: u8 = 254;
@@ -153,6 +156,37 @@ pub struct TmFrame {
 
 #[repr(C)]
 #[derive(Clone, Copy, Debug, Default)]
+pub struct TmBuilder {
+    pub from: usize,
+    pub count: usize,
+    pub begun: usize,
+    pub scid: u16,
+    pub length: u16,
+    pub vcid: u8,
+    pub next_count: u8,
+    pub idle_left: u8,
+}
+
+#[repr(C)]
+#[derive(Clone, Copy, Debug, Default)]
+pub struct TmExtractor {
+    pub from: usize,
+    pub count: usize,
+    pub last: u8,
+    pub seen: u8,
+}
+
+#[repr(C)]
+#[derive(Clone, Copy, Debug, Default)]
+pub struct TmExtracted {
+    pub joined: usize,
+    pub packets: Part,
+    pub first: u8,
+    pub lost: u8,
+}
+
+#[repr(C)]
+#[derive(Clone, Copy, Debug, Default)]
 pub struct Map {
     pub count: usize,
     pub open: u8,
@@ -208,7 +242,7 @@ unsafe extern "C" {
     pub safe fn sedge_fop_set_timer(fop: &mut Fop, timer: u16) -> u8;
     pub safe fn sedge_fop_submit(fop: &mut Fop) -> u8;
     pub safe fn sedge_fop_next(fop: &mut Fop, number: &mut u8) -> u8;
-    pub safe fn sedge_fop_report(fop: &mut Fop, word: &Clcw, released: &mut u8) -> u8;
+    pub safe fn sedge_fop_report(fop: &mut Fop, vcid: u8, word: &Clcw, released: &mut u8) -> u8;
     pub safe fn sedge_fop_tick(fop: &mut Fop) -> u8;
     pub safe fn sedge_fop_accepted_beyond(fop: &Fop, value: u8, accepted: &mut u8) -> u8;
     pub safe fn sedge_accepted_beyond(nn: u8, vs: u8, value: u8, accepted: &mut u8) -> u8;
@@ -234,6 +268,20 @@ unsafe extern "C" {
     fn sedge_tm_encode(
         frame: &TmFrame, data: *const u8, data_count: usize, out: *mut u8, room: usize, total: &mut usize,
     ) -> u8;
+
+    pub safe fn sedge_tm_builder_open(builder: &mut TmBuilder, scid: u16, vcid: u8, length: usize) -> u8;
+    fn sedge_tm_builder_queue(
+        builder: &mut TmBuilder, packet: *const u8, count: usize, memory: *mut u8, room: usize,
+    ) -> u8;
+    fn sedge_tm_builder_build(
+        builder: &mut TmBuilder, ocf: *const u8, ocf_count: usize, memory: *const u8, memory_count: usize,
+        out: *mut u8, room: usize, total: &mut usize,
+    ) -> u8;
+    fn sedge_tm_extractor_frame(
+        extractor: &mut TmExtractor, frame: &TmFrame, data: *const u8, data_count: usize, memory: *mut u8,
+        room: usize, extracted: &mut TmExtracted,
+    ) -> u8;
+    fn sedge_tm_packet(data: *const u8, data_count: usize, packet: &mut Part) -> bool;
 
     fn sedge_map_take(
         map: &mut Map, flags: u8, data: *const u8, data_count: usize, memory: *mut u8, room: usize,
@@ -309,6 +357,47 @@ pub fn tm_decode(octets: &[u8], length: usize, frame: &mut TmFrame, data: &mut P
 
 pub fn tm_encode(frame: &TmFrame, data: &[u8], out: &mut [u8], total: &mut usize) -> u8 {
     unsafe { sedge_tm_encode(frame, data.as_ptr(), data.len(), out.as_mut_ptr(), out.len(), total) }
+}
+
+pub fn tm_queue(builder: &mut TmBuilder, packet: &[u8], memory: &mut [u8]) -> u8 {
+    unsafe {
+        sedge_tm_builder_queue(builder, packet.as_ptr(), packet.len(), memory.as_mut_ptr(), memory.len())
+    }
+}
+
+pub fn tm_build(builder: &mut TmBuilder, ocf: &[u8], memory: &[u8], out: &mut [u8], total: &mut usize) -> u8 {
+    unsafe {
+        sedge_tm_builder_build(
+            builder,
+            ocf.as_ptr(),
+            ocf.len(),
+            memory.as_ptr(),
+            memory.len(),
+            out.as_mut_ptr(),
+            out.len(),
+            total,
+        )
+    }
+}
+
+pub fn tm_extract(
+    extractor: &mut TmExtractor, frame: &TmFrame, data: &[u8], memory: &mut [u8], extracted: &mut TmExtracted,
+) -> u8 {
+    unsafe {
+        sedge_tm_extractor_frame(
+            extractor,
+            frame,
+            data.as_ptr(),
+            data.len(),
+            memory.as_mut_ptr(),
+            memory.len(),
+            extracted,
+        )
+    }
+}
+
+pub fn tm_packet(data: &[u8], packet: &mut Part) -> bool {
+    unsafe { sedge_tm_packet(data.as_ptr(), data.len(), packet) }
 }
 
 pub fn map_take(map: &mut Map, flags: u8, data: &[u8], memory: &mut [u8], taken: &mut Taken) -> u8 {

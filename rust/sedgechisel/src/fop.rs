@@ -267,12 +267,11 @@ impl Fop {
     /// nothing changes, for a word that reports on another channel.
     #[must_use]
     pub fn report(&mut self, vcid: u8, word: &Clcw) -> Option<Reported> {
-        if word.vcid != vcid {
-            return None;
-        }
         let mut released = 0;
-        let alert = alert_of(ffi::sedge_fop_report(&mut self.0, &word.raw(), &mut released));
-        Some(Reported { released, alert })
+        match ffi::sedge_fop_report(&mut self.0, vcid, &word.raw(), &mut released) {
+            ffi::SEDGE_ABSENT => None,
+            alert => Some(Reported { released, alert: alert_of(alert) }),
+        }
     }
 
     /// A tick of the clock has passed: the alert, if there is one.

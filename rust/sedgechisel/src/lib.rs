@@ -1,6 +1,6 @@
 //! The CCSDS telecommand link with COP-1, both ends, for programs without heap: the frame check, telecommand
-//! frames, space packets, control words, telemetry frames, the receiver FARM-1, the sender FOP-1, and packets in
-//! segments. The books are CCSDS 133.0-B-2 (space packets), 132.0-B-3 (telemetry), 232.0-B-4 (telecommand) and
+//! frames, space packets, control words, telemetry frames, the receiver FARM-1, the sender FOP-1, packets in segments
+//! and packets in telemetry frames. The books are CCSDS 133.0-B-2 (space packets), 132.0-B-3 (telemetry), 232.0-B-4 (telecommand) and
 //! 232.1-B-2 (COP-1).
 //!
 //! This crate gives safe types to the library for C, of which each call is proved to do what its contract says. The
@@ -8,7 +8,8 @@
 //!
 //! - A codec is a type with `decode` and `encode`: [`TcFrame`], [`Packet`], [`Clcw`], [`TmFrame`]. What is decoded
 //!   borrows its data from the octets.
-//! - A machine is a type that is begun by `new` and has a call for each event: [`Farm`], [`Fop`], [`Map`].
+//! - A machine is a type that is begun by `new` and has a call for each event: [`Farm`], [`Fop`], [`Map`],
+//!   [`TmBuilder`], [`TmExtractor`].
 //! - What is refused is an `Err` of a small enum of faults, with the number and the name that sedgechisel.h has.
 //!
 //! ```
@@ -29,6 +30,8 @@
 #![no_std]
 #![deny(unsafe_code, missing_docs)]
 
+#[cfg(feature = "nodes")]
+extern crate alloc;
 #[cfg(test)]
 extern crate std;
 
@@ -41,9 +44,12 @@ mod farm;
 mod ffi;
 mod fop;
 mod map;
+#[cfg(feature = "nodes")]
+mod nodes;
 mod packet;
 mod tc;
 mod tm;
+mod tm_packets;
 mod version;
 
 pub use check::{check, check_append, check_holds, CheckFault};
@@ -51,7 +57,13 @@ pub use clcw::{Clcw, ClcwFault};
 pub use farm::{CopFault, Farm, FarmFields, FarmMode, Verdict};
 pub use fop::{accepted_beyond, Alert, Control, Fop, FopFields, FopState, Next, Reported};
 pub use map::{packets, segments, Dropped, Limits, Map, MapFault, Packets, Segments, Taken};
+#[cfg(feature = "nodes")]
+pub use nodes::{
+    Begun, Config, Ground, Heard, HeardReport, Link, LinkFault, OpenFault, Parameter, Received, Record,
+    SimFault, Spacecraft,
+};
 pub use packet::{Packet, PacketFault, PacketKind, SequenceFlags};
 pub use tc::{Body, Command, Segment, SegmentFlags, TcFault, TcFrame};
 pub use tm::{Pointer, TmFault, TmFrame};
+pub use tm_packets::{Extracted, TmBuilder, TmExtractor, TmPackets};
 pub use version::{version, Version};

@@ -12,8 +12,11 @@ faults! {
         Status = 4, "a flag of the data field status is 1, or its identifier is not 11 (4.1.2.7)";
         Pointer = 5, "a first header pointer at or after the data field's end (4.1.2.7.6)";
         NoOcf = 6, "the frame declares no operational control field (4.1.2.4)";
+        Memory = 7, "the caller's memory is too short for what would be kept in it";
+        NotAPacket = 8, "not exactly one packet, or an idle packet";
         Room = 9, "there is too little room for the frame";
-        FieldRange = 10, "a field out of its range, a pointer after the data, or not 4 to 2,036 octets of data";
+        FieldRange = 10, "a field out of its range, a pointer after the data, not 4 to 2,036 octets of data, or a \
+            length outside 16 to 2,048";
     }
 }
 
@@ -70,17 +73,21 @@ impl<'a> TmFrame<'a> {
     /// Refused with the first of 10 [`FieldRange`](TmFault::FieldRange) and 9 [`Room`](TmFault::Room), with nothing
     /// written.
     pub fn encode<'o>(&self, out: &'o mut [u8]) -> Result<&'o mut [u8], TmFault> {
-        let frame = ffi::TmFrame {
+        let mut total = 0;
+        TmFault::judge(ffi::tm_encode(&self.raw(), self.data, out, &mut total))?;
+        Ok(&mut out[..total])
+    }
+
+    /// The fields.
+    pub(crate) fn raw(&self) -> ffi::TmFrame {
+        ffi::TmFrame {
             scid: self.scid,
             pointer: self.pointer.raw(),
             vcid: self.vcid,
             mc_count: self.mc_count,
             vc_count: self.vc_count,
             ocf: self.ocf,
-        };
-        let mut total = 0;
-        TmFault::judge(ffi::tm_encode(&frame, self.data, out, &mut total))?;
-        Ok(&mut out[..total])
+        }
     }
 }
 

@@ -3,5 +3,8 @@
 mod codecs;
 mod common;
 mod machines;
+#[cfg(feature = "nodes")]
+mod nodes;
 mod session;
+mod telemetry;
 mod tool;

@@ -62,6 +62,14 @@ fn damaged(chance: &mut Chance, mut octets: Vec<u8>, length_at: std::ops::Range<
 
 /// Telecommand frames: Type-AD frames mostly in sequence, and others among them. Their data are what is given.
 fn frames(chance: &mut Chance, checked: bool, data: impl Fn(&mut Chance) -> Vec<u8>) -> Vec<Vec<u8>> {
+    frames_of(chance, checked, |chance| (chance.below(1024) as u16, chance.below(64) as u8), data)
+}
+
+/// The same of a spacecraft and a virtual channel.
+fn frames_of(
+    chance: &mut Chance, checked: bool, channel: impl Fn(&mut Chance) -> (u16, u8),
+    data: impl Fn(&mut Chance) -> Vec<u8>,
+) -> Vec<Vec<u8>> {
     let mut next = 0u8;
     let mut out = [0; TcFrame::LONGEST];
     let mut frame = || {
@@ -76,7 +84,8 @@ fn frames(chance: &mut Chance, checked: bool, data: impl Fn(&mut Chance) -> Vec<
             _ => Body::Ad { n, segment },
         };
         next = n.wrapping_add(u8::from(matches!(body, Body::Ad { .. })));
-        let frame = TcFrame { scid: chance.below(1024) as u16, vcid: chance.below(64) as u8, body };
+        let (scid, vcid) = channel(chance);
+        let frame = TcFrame { scid, vcid, body };
         let octets = frame.encode(checked, &mut out).unwrap().to_vec();
         damaged(chance, octets, 2..4)
     };
@@ -235,6 +244,53 @@ fn lines_of_segments() {
 #[test]
 fn lines_of_segments_with_blocking() {
     lines_of_map(true);
+}
+
+/// What `tctool map` writes of a frame that a spacecraft receives, whose packets are taken then.
+#[cfg(feature = "nodes")]
+fn board_lines(index: usize, spacecraft: &mut Spacecraft, octets: &[u8]) -> String {
+    match spacecraft.receive(octets).unwrap() {
+        Received::Invalid(fault) => format!("{index} {}\n", refused(fault.number(), fault.name())),
+        Received::Foreign => panic!("a frame of another channel"),
+        Received::Sequence { ready, dropped, .. } => {
+            let dropped = dropped.map(|it| format!("{index} dropped {}\n", it.name()));
+            let mut packets = Vec::new();
+            while let Some((map, packet)) = spacecraft.take() {
+                packets.push(format!("packet {map} {}\n", hex(&packet)));
+            }
+            assert_eq!(packets.len(), ready);
+            dropped.into_iter().chain(packets).collect()
+        }
+        Received::Bypass { kept: false } => format!("{index} dropped Bypass\n"),
+        Received::Bypass { kept: true } => {
+            let (map, packet) = spacecraft.take_bypass().unwrap();
+            format!("bypass {map} {}\n", hex(&packet))
+        }
+        Received::Control(_) => String::new(),
+    }
+}
+
+#[cfg(feature = "nodes")]
+fn lines_of_a_spacecraft(blocking: bool) {
+    let config = Config { blocking, ..Config::default() };
+    let records = frames_of(&mut Chance(8), true, |_| (config.scid, config.vcid), piece_of_packet);
+    let mut spacecraft = Spacecraft::new(&config).unwrap();
+    let numbered = (1..).zip(&records);
+    let lines: String = numbered.map(|(index, octets)| board_lines(index, &mut spacecraft, octets)).collect();
+    let flags: &[&str] = if blocking { &["map", "--check", "--blocking"] } else { &["map", "--check"] };
+    are_lines_of_tool(flags, &records, &lines);
+}
+
+#[cfg(feature = "nodes")]
+#[test]
+fn lines_of_frames_that_a_spacecraft_receives() {
+    lines_of_a_spacecraft(false);
+}
+
+#[cfg(feature = "nodes")]
+#[test]
+fn lines_of_frames_that_a_spacecraft_receives_with_blocking() {
+    lines_of_a_spacecraft(true);
 }
 
 fn any_packet<'a>(chance: &mut Chance, data: &'a [u8]) -> Packet<'a> {

@@ -1,0 +1,100 @@
+//! A session over both nodes and a link that loses frames: packets are submitted as the queue has room, and each round is
+//! a tick of the clock. After an alert a report says which packets were accepted on board, though it was not heard: a new
+//! session submits the others alone, so that each packet is delivered once.
+
+use sedgechisel::{Alert, Clcw, Config, FopState, Ground, Heard, HeardReport, Spacecraft, TcFrame, TmFrame};
+use std::error::Error;
+
+/// The packets, of 7 octets each, that are sent on MAP 4. Each is one segment.
+const PACKETS: u8 = 8;
+
+/// Loses every fifth frame, up or down, and once ten in a row.
+struct Link {
+    frames: u32,
+}
+
+impl Link {
+    fn carries(&mut self) -> bool {
+        self.frames += 1;
+        let is_dark = self.frames > 7 && self.frames <= 17;
+        self.frames % 5 != 0 && !is_dark
+    }
+}
+
+fn main() -> Result<(), Box<dyn Error>> {
+    // A report is back within the round in which the frame was sent, so a timer of 3 ticks is long enough.
+    let config = Config { window: 4, limit: 2, timer: 3, queue_slots: 2, ..Config::default() };
+    let (mut ground, mut spacecraft) = (Ground::new(&config)?, Spacecraft::new(&config)?);
+    let mut link = Link { frames: 0 };
+    // How many packets were submitted, and of how many the ground knows that they were accepted.
+    let (mut submitted, mut accepted) = (0, 0);
+    begin(&mut ground, 0)?;
+    for round in 1..=100 {
+        while submitted < PACKETS && ground.submit(4, &packet(submitted)).is_ok() {
+            submitted += 1;
+        }
+        carry_up(&mut ground, &mut spacecraft, &mut link)?;
+        while let Some((map, packet)) = spacecraft.take() {
+            println!("MAP {map} {}", packet.iter().map(|it| format!("{it:02X}")).collect::<String>());
+        }
+        let nn = ground.nn();
+        let (value, heard) = carry_down(&mut ground, &mut spacecraft, &mut link)?;
+        accepted += ground.nn().wrapping_sub(nn);
+        if let Some(alert) = heard.or(ground.tick()) {
+            println!("round {round}: {}; {accepted} are acknowledged", alert.name());
+        }
+        if accepted == PACKETS {
+            println!("round {round}: all are acknowledged");
+            return Ok(());
+        }
+        if let (FopState::S6, Some(vr)) = (ground.state(), value) {
+            let more = ground.accepted_beyond(vr).ok_or("a report beyond V(S)")?;
+            accepted += more;
+            println!("round {round}: {more} more were accepted; again from packet {accepted}");
+            submitted = accepted;
+            begin(&mut ground, vr)?;
+        }
+    }
+    Err("not all were acknowledged".into())
+}
+
+fn packet(number: u8) -> [u8; 7] {
+    [0x10, 0x05, 0xc0, number, 0x00, 0x00, number]
+}
+
+/// Begins a session at the number that the spacecraft expects. Unlock clears its flags, and ends a lockout.
+fn begin(ground: &mut Ground, vr: u8) -> Result<(), Box<dyn Error>> {
+    ground.set_vs(vr)?;
+    Ok(ground.init_unlock()?)
+}
+
+/// Carries up what the ground sends, until it has nothing more to send now.
+fn carry_up(ground: &mut Ground, spacecraft: &mut Spacecraft, link: &mut Link) -> Result<(), Box<dyn Error>> {
+    let mut room = [0; TcFrame::LONGEST];
+    while let Some(frame) = ground.pull(&mut room) {
+        if link.carries() {
+            spacecraft.receive(frame)?;
+        }
+    }
+    Ok(())
+}
+
+/// Carries a report down: its value, where it arrives, and why the sender has given up, if it has.
+fn carry_down(
+    ground: &mut Ground, spacecraft: &mut Spacecraft, link: &mut Link,
+) -> Result<(Option<u8>, Option<Alert>), Box<dyn Error>> {
+    let mut room = [0; TmFrame::LONGEST];
+    let frame = spacecraft.report(&mut room);
+    if !link.carries() {
+        return Ok((None, None));
+    }
+    match ground.telemetry(frame)? {
+        Heard::Frame { report: HeardReport::Used, alert, .. } => Ok((Some(value_of(frame)?), alert)),
+        _ => Ok((None, None)),
+    }
+}
+
+/// The value of the report in a telemetry frame: V(R), as it was on board.
+fn value_of(octets: &[u8]) -> Result<u8, Box<dyn Error>> {
+    Ok(Clcw::decode(&TmFrame::decode(octets, octets.len())?.ocf)?.value)
+}

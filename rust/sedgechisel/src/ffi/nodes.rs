@@ -1,0 +1,424 @@
+//! The calls of c/include/sedgechisel_nodes.h, and the memory that they are given: that of the program's allocator.
+//!
+//! A handle is made by `default`, is never copied, and is closed when it is dropped. No two calls use one at once: each
+//! has it by a `&mut`, or by an [`Own`], which two threads cannot share.
+
+use super::{Clcw, Text};
+use alloc::alloc::{alloc, dealloc, realloc, Layout};
+use core::cell::UnsafeCell;
+use core::ffi::c_void;
+use core::ptr::{null_mut, NonNull};
+
+pub const SEDGE_NODE_OK: u8 = 0;
+pub const SEDGE_NODE_ROOM: u8 = 252;
+pub const SEDGE_NODE_ABSENT: u8 = 253;
+pub const SEDGE_NODE_OUT_OF_RANGE: u8 = 254;
+pub const SEDGE_NODE_NONE: u8 = 255;
+
+pub const SEDGE_REPLY_DONE: u8 = 0;
+pub const SEDGE_REPLY_NOTHING: u8 = 1;
+pub const SEDGE_REPLY_LOST: u8 = 2;
+pub const SEDGE_REPLY_REFUSED: u8 = 3;
+pub const SEDGE_REPLY_ALERT: u8 = 4;
+pub const SEDGE_REPLY_SENT: u8 = 5;
+pub const SEDGE_REPLY_REPORTED: u8 = 6;
+pub const SEDGE_REPLY_UP: u8 = 7;
+pub const SEDGE_REPLY_DOWN: u8 = 8;
+pub const SEDGE_REPLY_PACKET: u8 = 9;
+
+pub const SEDGE_BY_NODE: u8 = 1;
+pub const SEDGE_BY_SENDER: u8 = 2;
+pub const SEDGE_BY_TELEMETRY: u8 = 3;
+
+pub const SEDGE_BEGUN_NOT: u8 = 0;
+pub const SEDGE_BEGUN_WITHOUT_CHECK: u8 = 1;
+pub const SEDGE_BEGUN_WITH_CHECK: u8 = 2;
+pub const SEDGE_BEGUN_UNLOCK: u8 = 3;
+pub const SEDGE_BEGUN_SET_VR: u8 = 4;
+
+pub const SEDGE_SUBMITTED: u8 = 1;
+pub const SEDGE_DELIVERED: u8 = 2;
+pub const SEDGE_SENT: u8 = 3;
+pub const SEDGE_RECEIVED: u8 = 4;
+
+#[repr(C)]
+#[derive(Clone, Copy, Debug, Default)]
+pub struct Config {
+    pub scid: u32,
+    pub vcid: u32,
+    pub tm_vcid: u32,
+    pub width: u32,
+    pub window: u32,
+    pub limit: u32,
+    pub timer: u32,
+    pub part: u32,
+    pub max_packet: u32,
+    pub maps: u64,
+    pub ready_slots: u32,
+    pub bypass_slots: u32,
+    pub queue_slots: u32,
+    pub frame_length: u32,
+    pub blocking: u32,
+}
+
+#[repr(C)]
+#[derive(Clone, Copy, Debug, Default)]
+pub struct Heard {
+    pub packets: usize,
+    pub kind: u8,
+    pub fault: u8,
+    pub first: u8,
+    pub missing: u8,
+    pub report: u8,
+    pub word_fault: u8,
+    pub alert: u8,
+}
+
+#[repr(C)]
+#[derive(Clone, Copy, Debug, Default)]
+pub struct GroundReading {
+    pub outstanding: usize,
+    pub frame_length: usize,
+    pub state: u8,
+    pub vs: u8,
+    pub nn: u8,
+}
+
+#[repr(C)]
+#[derive(Clone, Copy, Debug, Default)]
+pub struct Received {
+    pub ready: usize,
+    pub kind: u8,
+    pub fault: u8,
+    pub n: u8,
+    pub verdict: u8,
+    pub dropped: u8,
+    pub kept: bool,
+    pub command: u8,
+    pub vr: u8,
+}
+
+#[repr(C)]
+#[derive(Clone, Copy, Debug, Default)]
+pub struct SpacecraftReading {
+    pub frame_length: usize,
+    pub status: u8,
+    pub vcid: u8,
+    pub flags: u8,
+    pub farm_b: u8,
+    pub value: u8,
+    pub state: u8,
+}
+
+#[repr(C)]
+#[derive(Clone, Copy, Debug, Default)]
+pub struct Reply {
+    pub count: usize,
+    pub up: Received,
+    pub down: Heard,
+    pub report: Clcw,
+    pub kind: u8,
+    pub by: u8,
+    pub fault: u8,
+    pub alert: u8,
+    pub map: u8,
+}
+
+#[repr(C)]
+#[derive(Clone, Copy, Debug, Default)]
+pub struct SimReading {
+    pub outstanding: usize,
+    pub acknowledged: usize,
+    pub state: u8,
+    pub begun: u8,
+    pub vr: u8,
+    pub clean: bool,
+    pub idle: bool,
+    pub confirmed: bool,
+}
+
+/// A handle, which holds nothing at first.
+macro_rules! handle {
+    ($name:ident, $close:ident) => {
+        #[repr(C)]
+        pub struct $name(*mut c_void);
+
+        impl Default for $name {
+            fn default() -> Self {
+                Self(null_mut())
+            }
+        }
+
+        impl Drop for $name {
+            fn drop(&mut self) {
+                $close(self);
+            }
+        }
+
+        // SAFETY: what the handle refers to is its own, and memory may be given back by another thread than took it.
+        unsafe impl Send for $name {}
+    };
+}
+
+handle!(Ground, sedge_ground_close);
+handle!(Spacecraft, sedge_spacecraft_close);
+handle!(Sim, sedge_sim_close);
+
+/// A handle, which the calls that only read it write and put back as it was.
+#[derive(Default)]
+pub struct Own<T>(UnsafeCell<T>);
+
+impl<T> Own<T> {
+    pub fn get(&mut self) -> &mut T {
+        self.0.get_mut()
+    }
+
+    /// A call that only reads.
+    pub fn read(&self, call: impl FnOnce(&mut T) -> u8) {
+        // SAFETY: an `UnsafeCell` is not `Sync`, and a call of the library makes no other one, so this is the one
+        // reference to the handle while it runs.
+        crate::numbers::done(call(unsafe { &mut *self.0.get() }));
+    }
+}
+
+// SAFETY: these are the header's declarations, which `rust/check` compares. A call without a pointer to octets asks
+// nothing of its caller but references, and so is safe.
+unsafe extern "C" {
+    pub safe fn sedge_config_fault(config: &Config) -> u8;
+    pub safe fn sedge_parameter_name(parameter: u8) -> Text;
+    pub safe fn sedge_link_fault_name(fault: u8) -> Text;
+
+    pub safe fn sedge_ground_open(config: &Config, ground: &mut Ground) -> u8;
+    pub safe fn sedge_ground_close(ground: &mut Ground);
+    pub safe fn sedge_ground_init_without_check(ground: &mut Ground) -> u8;
+    pub safe fn sedge_ground_init_with_check(ground: &mut Ground) -> u8;
+    pub safe fn sedge_ground_init_unlock(ground: &mut Ground) -> u8;
+    pub safe fn sedge_ground_init_set_vr(ground: &mut Ground, vr: u8) -> u8;
+    pub safe fn sedge_ground_terminate(ground: &mut Ground) -> u8;
+    pub safe fn sedge_ground_set_vs(ground: &mut Ground, vs: u8) -> u8;
+    pub safe fn sedge_ground_set_window(ground: &mut Ground, window: u8) -> u8;
+    pub safe fn sedge_ground_set_limit(ground: &mut Ground, limit: u8) -> u8;
+    pub safe fn sedge_ground_set_timer(ground: &mut Ground, ticks: u16) -> u8;
+    fn sedge_ground_submit(ground: &mut Ground, map: u8, octets: *const u8, count: usize) -> u8;
+    fn sedge_ground_bypass(ground: &mut Ground, map: u8, octets: *const u8, count: usize) -> u8;
+    pub safe fn sedge_ground_next(ground: &mut Ground, count: &mut usize) -> u8;
+    fn sedge_ground_pull(ground: &mut Ground, out: *mut u8, room: usize, count: &mut usize) -> u8;
+    fn sedge_ground_telemetry(ground: &mut Ground, octets: *const u8, count: usize, heard: &mut Heard) -> u8;
+    pub safe fn sedge_ground_next_telemetry(ground: &mut Ground, count: &mut usize) -> u8;
+    fn sedge_ground_take_telemetry(ground: &mut Ground, out: *mut u8, room: usize, count: &mut usize) -> u8;
+    pub safe fn sedge_ground_tick(ground: &mut Ground) -> u8;
+    pub safe fn sedge_ground_read(ground: &mut Ground, read: &mut GroundReading) -> u8;
+    pub safe fn sedge_ground_accepted_beyond(ground: &mut Ground, value: u8, accepted: &mut u8) -> u8;
+
+    pub safe fn sedge_spacecraft_open(config: &Config, spacecraft: &mut Spacecraft) -> u8;
+    pub safe fn sedge_spacecraft_close(spacecraft: &mut Spacecraft);
+    fn sedge_spacecraft_receive(
+        spacecraft: &mut Spacecraft, octets: *const u8, count: usize, received: &mut Received,
+    ) -> u8;
+    pub safe fn sedge_spacecraft_next(spacecraft: &mut Spacecraft, map: &mut u8, count: &mut usize) -> u8;
+    fn sedge_spacecraft_take(
+        spacecraft: &mut Spacecraft, map: &mut u8, out: *mut u8, room: usize, count: &mut usize,
+    ) -> u8;
+    pub safe fn sedge_spacecraft_next_bypass(
+        spacecraft: &mut Spacecraft, map: &mut u8, count: &mut usize,
+    ) -> u8;
+    fn sedge_spacecraft_take_bypass(
+        spacecraft: &mut Spacecraft, map: &mut u8, out: *mut u8, room: usize, count: &mut usize,
+    ) -> u8;
+    fn sedge_spacecraft_telemetry(spacecraft: &mut Spacecraft, packet: *const u8, count: usize) -> u8;
+    fn sedge_spacecraft_report(
+        spacecraft: &mut Spacecraft, out: *mut u8, room: usize, count: &mut usize,
+    ) -> u8;
+    pub safe fn sedge_spacecraft_read(spacecraft: &mut Spacecraft, read: &mut SpacecraftReading) -> u8;
+
+    pub safe fn sedge_sim_open(config: &Config, sim: &mut Sim) -> u8;
+    pub safe fn sedge_sim_close(sim: &mut Sim);
+    pub safe fn sedge_sim_fault_name(fault: u8) -> Text;
+    fn sedge_sim_submit(sim: &mut Sim, map: u8, octets: *const u8, count: usize, reply: &mut Reply) -> u8;
+    fn sedge_sim_bypass(sim: &mut Sim, map: u8, octets: *const u8, count: usize, reply: &mut Reply) -> u8;
+    pub safe fn sedge_sim_init_without_check(sim: &mut Sim, reply: &mut Reply) -> u8;
+    pub safe fn sedge_sim_init_with_check(sim: &mut Sim, reply: &mut Reply) -> u8;
+    pub safe fn sedge_sim_init_unlock(sim: &mut Sim, reply: &mut Reply) -> u8;
+    pub safe fn sedge_sim_init_set_vr(sim: &mut Sim, vr: u8, reply: &mut Reply) -> u8;
+    pub safe fn sedge_sim_terminate(sim: &mut Sim, reply: &mut Reply) -> u8;
+    pub safe fn sedge_sim_set_vs(sim: &mut Sim, vs: u8, reply: &mut Reply) -> u8;
+    pub safe fn sedge_sim_set_window(sim: &mut Sim, window: u8, reply: &mut Reply) -> u8;
+    pub safe fn sedge_sim_set_limit(sim: &mut Sim, limit: u8, reply: &mut Reply) -> u8;
+    pub safe fn sedge_sim_set_timer(sim: &mut Sim, ticks: u16, reply: &mut Reply) -> u8;
+    pub safe fn sedge_sim_send(sim: &mut Sim, reply: &mut Reply) -> u8;
+    pub safe fn sedge_sim_up_deliver(sim: &mut Sim, reply: &mut Reply) -> u8;
+    pub safe fn sedge_sim_up_lose(sim: &mut Sim, reply: &mut Reply) -> u8;
+    fn sedge_sim_up_damage(sim: &mut Sim, octets: *const u8, count: usize, reply: &mut Reply) -> u8;
+    pub safe fn sedge_sim_report(sim: &mut Sim, reply: &mut Reply) -> u8;
+    pub safe fn sedge_sim_down_deliver(sim: &mut Sim, reply: &mut Reply) -> u8;
+    pub safe fn sedge_sim_down_lose(sim: &mut Sim, reply: &mut Reply) -> u8;
+    fn sedge_sim_down_damage(sim: &mut Sim, octets: *const u8, count: usize, reply: &mut Reply) -> u8;
+    pub safe fn sedge_sim_tick(sim: &mut Sim, reply: &mut Reply) -> u8;
+    pub safe fn sedge_sim_take(sim: &mut Sim, reply: &mut Reply) -> u8;
+    pub safe fn sedge_sim_take_bypass(sim: &mut Sim, reply: &mut Reply) -> u8;
+    fn sedge_sim_telemetry(sim: &mut Sim, packet: *const u8, count: usize, reply: &mut Reply) -> u8;
+    fn sedge_sim_octets(sim: &mut Sim, out: *mut u8, room: usize, count: &mut usize) -> u8;
+    pub safe fn sedge_sim_read(sim: &mut Sim, read: &mut SimReading) -> u8;
+    pub safe fn sedge_sim_count(sim: &mut Sim, record: u8, map: u8, entries: &mut usize) -> u8;
+    pub safe fn sedge_sim_entry_length(sim: &mut Sim, record: u8, map: u8, k: usize, count: &mut usize)
+        -> u8;
+    fn sedge_sim_entry(
+        sim: &mut Sim, record: u8, map: u8, k: usize, out: *mut u8, room: usize, count: &mut usize,
+    ) -> u8;
+}
+
+// ---- The memory of the nodes, in the program's allocator. ----
+
+/// What the library asks memory by: a place, if one was found.
+#[repr(C)]
+pub struct Place {
+    found: bool,
+    at: *mut c_void,
+}
+
+impl Place {
+    /// The place after the head of a block, which says how many octets the block has.
+    fn of(block: *mut u8, count: usize) -> Self {
+        if block.is_null() {
+            return Self { found: false, at: NonNull::dangling().as_ptr() };
+        }
+        // SAFETY: the block has `count` octets, at least those of its head, and is aligned for a number.
+        unsafe {
+            block.cast::<usize>().write(count);
+            Self { found: true, at: block.add(HEAD).cast() }
+        }
+    }
+}
+
+/// The octets of a block's head; and the alignment of a block, which is the most that is asked for.
+const HEAD: usize = 16;
+
+/// The layout of a block for so many octets, if there can be one.
+fn layout_for(count: usize) -> Option<Layout> {
+    Layout::from_size_align(count.checked_add(HEAD)?, HEAD).ok()
+}
+
+/// A block, and the layout with which it was taken.
+///
+/// # Safety
+///
+/// `at` is a place that `Place::of` made, and its block is not given back yet.
+unsafe fn block_of(at: *mut c_void) -> (*mut u8, Layout) {
+    // SAFETY: the block begins with its head, which has the size of a layout that there was.
+    unsafe {
+        let block = at.cast::<u8>().sub(HEAD);
+        (block, Layout::from_size_align_unchecked(block.cast::<usize>().read(), HEAD))
+    }
+}
+
+#[unsafe(no_mangle)]
+extern "C" fn rattle_alloc(count: usize, _align: usize) -> Place {
+    match layout_for(count) {
+        // SAFETY: the layout has a head, so it is not empty.
+        Some(layout) => Place::of(unsafe { alloc(layout) }, layout.size()),
+        None => Place::of(null_mut(), 0),
+    }
+}
+
+/// # Safety
+///
+/// The library gives a place that it was given, and uses it no more where another one is found.
+#[unsafe(no_mangle)]
+unsafe extern "C" fn rattle_realloc(at: *mut c_void, _kept: usize, count: usize, _align: usize) -> Place {
+    match layout_for(count) {
+        Some(layout) => {
+            // SAFETY: as above; the new size is that of a layout with the same alignment.
+            let moved = unsafe {
+                let (block, taken) = block_of(at);
+                realloc(block, taken, layout.size())
+            };
+            Place::of(moved, layout.size())
+        }
+        None => Place::of(null_mut(), 0),
+    }
+}
+
+/// # Safety
+///
+/// The library gives a place that it was given, and uses it no more.
+#[unsafe(no_mangle)]
+unsafe extern "C" fn rattle_dealloc(at: *mut c_void) {
+    // SAFETY: as above.
+    unsafe {
+        let (block, taken) = block_of(at);
+        dealloc(block, taken);
+    }
+}
+
+// SAFETY, of all calls below: each pointer to octets and the count after it are those of one slice, and the other
+// pointers are references.
+
+pub fn ground_submit(ground: &mut Ground, map: u8, octets: &[u8]) -> u8 {
+    unsafe { sedge_ground_submit(ground, map, octets.as_ptr(), octets.len()) }
+}
+
+pub fn ground_bypass(ground: &mut Ground, map: u8, octets: &[u8]) -> u8 {
+    unsafe { sedge_ground_bypass(ground, map, octets.as_ptr(), octets.len()) }
+}
+
+pub fn ground_pull(ground: &mut Ground, out: &mut [u8], count: &mut usize) -> u8 {
+    unsafe { sedge_ground_pull(ground, out.as_mut_ptr(), out.len(), count) }
+}
+
+pub fn ground_telemetry(ground: &mut Ground, octets: &[u8], heard: &mut Heard) -> u8 {
+    unsafe { sedge_ground_telemetry(ground, octets.as_ptr(), octets.len(), heard) }
+}
+
+pub fn ground_take_telemetry(ground: &mut Ground, out: &mut [u8], count: &mut usize) -> u8 {
+    unsafe { sedge_ground_take_telemetry(ground, out.as_mut_ptr(), out.len(), count) }
+}
+
+pub fn spacecraft_receive(spacecraft: &mut Spacecraft, octets: &[u8], received: &mut Received) -> u8 {
+    unsafe { sedge_spacecraft_receive(spacecraft, octets.as_ptr(), octets.len(), received) }
+}
+
+pub fn spacecraft_take(spacecraft: &mut Spacecraft, map: &mut u8, out: &mut [u8], count: &mut usize) -> u8 {
+    unsafe { sedge_spacecraft_take(spacecraft, map, out.as_mut_ptr(), out.len(), count) }
+}
+
+pub fn spacecraft_take_bypass(
+    spacecraft: &mut Spacecraft, map: &mut u8, out: &mut [u8], count: &mut usize,
+) -> u8 {
+    unsafe { sedge_spacecraft_take_bypass(spacecraft, map, out.as_mut_ptr(), out.len(), count) }
+}
+
+pub fn spacecraft_telemetry(spacecraft: &mut Spacecraft, packet: &[u8]) -> u8 {
+    unsafe { sedge_spacecraft_telemetry(spacecraft, packet.as_ptr(), packet.len()) }
+}
+
+pub fn spacecraft_report(spacecraft: &mut Spacecraft, out: &mut [u8], count: &mut usize) -> u8 {
+    unsafe { sedge_spacecraft_report(spacecraft, out.as_mut_ptr(), out.len(), count) }
+}
+
+pub fn sim_submit(sim: &mut Sim, map: u8, octets: &[u8], reply: &mut Reply) -> u8 {
+    unsafe { sedge_sim_submit(sim, map, octets.as_ptr(), octets.len(), reply) }
+}
+
+pub fn sim_bypass(sim: &mut Sim, map: u8, octets: &[u8], reply: &mut Reply) -> u8 {
+    unsafe { sedge_sim_bypass(sim, map, octets.as_ptr(), octets.len(), reply) }
+}
+
+pub fn sim_up_damage(sim: &mut Sim, octets: &[u8], reply: &mut Reply) -> u8 {
+    unsafe { sedge_sim_up_damage(sim, octets.as_ptr(), octets.len(), reply) }
+}
+
+pub fn sim_down_damage(sim: &mut Sim, octets: &[u8], reply: &mut Reply) -> u8 {
+    unsafe { sedge_sim_down_damage(sim, octets.as_ptr(), octets.len(), reply) }
+}
+
+pub fn sim_telemetry(sim: &mut Sim, packet: &[u8], reply: &mut Reply) -> u8 {
+    unsafe { sedge_sim_telemetry(sim, packet.as_ptr(), packet.len(), reply) }
+}
+
+pub fn sim_octets(sim: &mut Sim, out: &mut [u8], count: &mut usize) -> u8 {
+    unsafe { sedge_sim_octets(sim, out.as_mut_ptr(), out.len(), count) }
+}
+
+pub fn sim_entry(sim: &mut Sim, record: u8, map: u8, k: usize, out: &mut [u8], count: &mut usize) -> u8 {
+    unsafe { sedge_sim_entry(sim, record, map, k, out.as_mut_ptr(), out.len(), count) }
+}

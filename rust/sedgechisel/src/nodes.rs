@@ -1,0 +1,68 @@
+//! Both nodes of the telecommand link, over the program's allocator (feature `nodes`).
+
+mod config;
+mod ground;
+mod link;
+mod spacecraft;
+
+pub use config::{Config, OpenFault, Parameter};
+pub use ground::{Ground, Heard, HeardReport};
+pub use link::{Begun, Link, Record, SimFault};
+pub use spacecraft::{Received, Spacecraft};
+
+use crate::ffi;
+use crate::numbers::{done, never};
+use alloc::vec;
+use alloc::vec::Vec;
+
+faults! {
+    /// Why a node refuses a call; nothing has changed then.
+    LinkFault {
+        NotOpen = 1, "the sender is in its state Initial (S6)";
+        ClosedMap = 2, "the MAP is not open";
+        NotCommand = 3, "the octets are not command packets, or not as many as one call takes";
+        TooLong = 4, "a packet has more octets than it may have";
+        QueueFull = 5, "as many units as may wait are waiting";
+        Memory = 6, "there was no memory";
+    }
+}
+
+/// A packet, of so many octets, that a call takes out; nothing if there is none.
+fn taken(count: usize, take: impl FnOnce(&mut [u8], &mut usize) -> u8) -> Option<Vec<u8>> {
+    if count == 0 {
+        return None;
+    }
+    let (mut packet, mut written) = (vec![0; count], 0);
+    done(take(&mut packet, &mut written));
+    Some(packet)
+}
+
+/// Calls that can be refused for want of memory alone.
+fn in_memory(answer: u8) -> Result<(), LinkFault> {
+    match answer {
+        ffi::SEDGE_OK => Ok(()),
+        number => match LinkFault::from_number(number) {
+            Some(LinkFault::Memory) => Err(LinkFault::Memory),
+            _ => never(),
+        },
+    }
+}
+
+#[cfg(test)]
+mod tests {
+    use super::*;
+
+    /// Each name is the word of the library.
+    #[test]
+    fn names_are_those_of_the_library_of_nodes() {
+        for it in (1..=u8::MAX).filter_map(LinkFault::from_number) {
+            assert_eq!(it.name(), ffi::nodes::sedge_link_fault_name(it.number()).as_str());
+        }
+        for it in (1..=u8::MAX).filter_map(SimFault::from_number) {
+            assert_eq!(it.name(), ffi::nodes::sedge_sim_fault_name(it.number()).as_str());
+        }
+        for it in (1..=u8::MAX).filter_map(Parameter::from_number) {
+            assert_eq!(it.name(), ffi::nodes::sedge_parameter_name(it.number()).as_str());
+        }
+    }
+}

@@ -1,0 +1,196 @@
+//! The managed parameters.
+
+use super::LinkFault;
+use crate::ffi::nodes as raw;
+use core::fmt;
+
+numbers! {
+    /// The managed parameters, in the order of [`Config`].
+    Parameter {
+        /// `scid`.
+        Scid = 1,
+        /// `vcid`.
+        Vcid = 2,
+        /// `tm_vcid`.
+        TmVcid = 3,
+        /// `width`.
+        Width = 4,
+        /// `window`.
+        Window = 5,
+        /// `limit`.
+        Limit = 6,
+        /// `timer`.
+        Timer = 7,
+        /// `part`.
+        Part = 8,
+        /// `max_packet`.
+        MaxPacket = 9,
+        /// `maps`.
+        Maps = 10,
+        /// `ready_slots`.
+        ReadySlots = 11,
+        /// `bypass_slots`.
+        BypassSlots = 12,
+        /// `queue_slots`.
+        QueueSlots = 13,
+        /// `frame_length`.
+        FrameLength = 14,
+        /// `blocking`.
+        Blocking = 15,
+    }
+}
+
+impl Parameter {
+    /// The parameter's name, which is that of its field.
+    #[must_use]
+    pub const fn name(self) -> &'static str {
+        const NAMES: [&str; 15] = [
+            "scid",
+            "vcid",
+            "tm_vcid",
+            "width",
+            "window",
+            "limit",
+            "timer",
+            "part",
+            "max_packet",
+            "maps",
+            "ready_slots",
+            "bypass_slots",
+            "queue_slots",
+            "frame_length",
+            "blocking",
+        ];
+        NAMES[self.number() as usize - 1]
+    }
+}
+
+/// The managed parameters, with the ranges and the defaults of docs/PROFILE.md. Both ends of a link have the same ones.
+///
+/// ```
+/// use sedgechisel::{Config, Parameter};
+///
+/// let config = Config { window: 4, timer: 3, ..Config::default() };
+/// assert_eq!(config.fault(), None);
+/// assert_eq!(Config { width: 9, ..config }.fault(), Some(Parameter::Width));
+/// ```
+#[derive(Clone, Copy, Debug, PartialEq, Eq, Hash)]
+pub struct Config {
+    /// The spacecraft identifier, 0 to 1,023; by default 1.
+    pub scid: u16,
+    /// The virtual channel of telecommand frames, 0 to 63; 2.
+    pub vcid: u8,
+    /// The virtual channel of telemetry frames, 0 to 7; 0.
+    pub tm_vcid: u8,
+    /// The width of the receiver's window, even, 2 to 254; 254.
+    pub width: u8,
+    /// The sender's window K, 1 to half the width; 127.
+    pub window: u8,
+    /// The transmission limit, 1 to 255; 3.
+    pub limit: u8,
+    /// The timer's value in ticks, 1 to 65,535; 10.
+    pub timer: u16,
+    /// The most octets of data in a segment, 1 to 1,016; 1,016.
+    pub part: u16,
+    /// The most octets of a packet, 7 to 65,542; 65,542.
+    pub max_packet: u32,
+    /// Bit m is set where MAP m is open; all are.
+    pub maps: u64,
+    /// The packets that may wait on board, 1 to 64; 64.
+    pub ready_slots: u8,
+    /// The packets past the sequence control that are kept on board, 1 to 64; 4.
+    pub bypass_slots: u8,
+    /// The segments that may wait on the ground to be sent for the first time, 1 to 65,535; 1,000.
+    pub queue_slots: u16,
+    /// The octets of a telemetry frame, 16 to 2,048; 64.
+    pub frame_length: u16,
+    /// Whether a segment may hold several packets; not.
+    pub blocking: bool,
+}
+
+impl Default for Config {
+    fn default() -> Self {
+        Self {
+            scid: 1,
+            vcid: 2,
+            tm_vcid: 0,
+            width: 254,
+            window: 127,
+            limit: 3,
+            timer: 10,
+            part: 1016,
+            max_packet: 65542,
+            maps: u64::MAX,
+            ready_slots: 64,
+            bypass_slots: 4,
+            queue_slots: 1000,
+            frame_length: 64,
+            blocking: false,
+        }
+    }
+}
+
+impl Config {
+    /// The first parameter that is out of its range, if one is.
+    #[must_use]
+    pub fn fault(&self) -> Option<Parameter> {
+        match raw::sedge_config_fault(&self.raw()) {
+            0 => None,
+            number => Some(Parameter::of(number)),
+        }
+    }
+
+    pub(super) fn raw(&self) -> raw::Config {
+        raw::Config {
+            scid: self.scid.into(),
+            vcid: self.vcid.into(),
+            tm_vcid: self.tm_vcid.into(),
+            width: self.width.into(),
+            window: self.window.into(),
+            limit: self.limit.into(),
+            timer: self.timer.into(),
+            part: self.part.into(),
+            max_packet: self.max_packet,
+            maps: self.maps,
+            ready_slots: self.ready_slots.into(),
+            bypass_slots: self.bypass_slots.into(),
+            queue_slots: self.queue_slots.into(),
+            frame_length: self.frame_length.into(),
+            blocking: self.blocking.into(),
+        }
+    }
+
+    /// What a call answered that opens with this configuration.
+    pub(super) fn judge(&self, answer: u8) -> Result<(), OpenFault> {
+        match self.fault() {
+            Some(parameter) => Err(OpenFault::OutOfRange(parameter)),
+            None => super::in_memory(answer).map_err(OpenFault::from),
+        }
+    }
+}
+
+/// Why a node is not opened.
+#[derive(Clone, Copy, Debug, PartialEq, Eq, Hash)]
+pub enum OpenFault {
+    /// The first parameter that is out of its range.
+    OutOfRange(Parameter),
+    /// There was no memory.
+    Memory,
+}
+
+impl From<LinkFault> for OpenFault {
+    fn from(_: LinkFault) -> Self {
+        Self::Memory
+    }
+}
+
+impl fmt::Display for OpenFault {
+    fn fmt(&self, out: &mut fmt::Formatter<'_>) -> fmt::Result {
+        match self {
+            Self::OutOfRange(it) => write!(out, "{} {} is out of its range", it.number(), it.name()),
+            Self::Memory => fmt::Display::fmt(&LinkFault::Memory, out),
+        }
+    }
+}
+
+impl core::error::Error for OpenFault {}

@@ -1,0 +1,239 @@
+//! The ground.
+
+use super::{in_memory, taken, Config, LinkFault, OpenFault};
+use crate::ffi::nodes as raw;
+use crate::numbers::done;
+use crate::{Alert, ClcwFault, CopFault, FopState, TcFrame, TmFault};
+use alloc::vec::Vec;
+use core::fmt;
+
+/// What the ground makes of a telemetry frame's report.
+#[derive(Clone, Copy, Debug, PartialEq, Eq, Hash)]
+pub enum HeardReport {
+    /// It is given to the sender.
+    Used,
+    /// It is none.
+    None(ClcwFault),
+    /// It is about another virtual channel.
+    Other,
+}
+
+/// What the ground makes of octets that it received.
+#[derive(Clone, Copy, Debug, PartialEq, Eq, Hash)]
+pub enum Heard {
+    /// They are no telemetry frame.
+    Invalid(TmFault),
+    /// A frame of another spacecraft or virtual channel.
+    Foreign,
+    /// A frame of its own channel.
+    Frame {
+        /// The number of frames that are missing before it, modulo 256; `None` for the first frame.
+        gap: Option<u8>,
+        /// The number of packets that came to wait to be taken.
+        packets: usize,
+        /// What became of its report.
+        report: HeardReport,
+        /// Why the sender has given up, if it has.
+        alert: Option<Alert>,
+    },
+}
+
+impl Heard {
+    pub(super) fn from_raw(heard: &raw::Heard) -> Self {
+        match heard.kind {
+            1 => Self::Invalid(TmFault::of(heard.fault)),
+            2 => Self::Foreign,
+            _ => Self::Frame {
+                gap: (heard.first == 0).then_some(heard.missing),
+                packets: heard.packets,
+                report: match heard.report {
+                    0 => HeardReport::Used,
+                    1 => HeardReport::None(ClcwFault::of(heard.word_fault)),
+                    _ => HeardReport::Other,
+                },
+                alert: alert_of(heard.alert),
+            },
+        }
+    }
+}
+
+pub(super) fn alert_of(number: u8) -> Option<Alert> {
+    (number != 0).then(|| Alert::of(number))
+}
+
+/// The ground: it sends packets until they are accepted on board, and takes telemetry (docs/PROFILE.md, "The node on the
+/// ground"). Its memory is given back when it is dropped.
+///
+/// ```
+/// use sedgechisel::{Config, Ground, TcFrame};
+///
+/// let mut ground = Ground::new(&Config::default())?;
+/// ground.init_without_check()?;
+/// ground.submit(4, &[0x10, 0x05, 0xc0, 0x00, 0x00, 0x00, 0xaa])?;
+/// let mut room = [0; TcFrame::LONGEST];
+/// assert_eq!(ground.pull(&mut room).map(|frame| frame.len()), Some(15));
+/// assert_eq!(ground.pull(&mut room), None);
+/// # Ok::<(), Box<dyn std::error::Error>>(())
+/// ```
+pub struct Ground(raw::Own<raw::Ground>);
+
+/// The sender's state, V(S) and NN(R).
+impl fmt::Debug for Ground {
+    fn fmt(&self, out: &mut fmt::Formatter<'_>) -> fmt::Result {
+        out.debug_struct("Ground")
+            .field("state", &self.state())
+            .field("vs", &self.vs())
+            .field("nn", &self.nn())
+            .finish_non_exhaustive()
+    }
+}
+
+impl Ground {
+    /// A ground in the state S6 with V(S) and NN(R) 0. Refused with the first parameter that is out of its range, or
+    /// for want of memory.
+    pub fn new(config: &Config) -> Result<Self, OpenFault> {
+        let mut ground = Self(raw::Own::default());
+        config.judge(raw::sedge_ground_open(&config.raw(), ground.0.get()))?;
+        Ok(ground)
+    }
+
+    /// The directive to initiate without CLCW check (CCSDS 232.1-B-2, 5.2.4): S6 to S1. The four initiations and
+    /// [`set_vs`](Ground::set_vs) are refused with 8 [`WrongState`](CopFault::WrongState) in any other state than S6.
+    pub fn init_without_check(&mut self) -> Result<(), CopFault> {
+        CopFault::judge(raw::sedge_ground_init_without_check(self.0.get()))
+    }
+
+    /// The directive to initiate with CLCW check: S6 to S4, until a report agrees.
+    pub fn init_with_check(&mut self) -> Result<(), CopFault> {
+        CopFault::judge(raw::sedge_ground_init_with_check(self.0.get()))
+    }
+
+    /// The directive to initiate with Unlock: S6 to S5, and Unlock is sent.
+    pub fn init_unlock(&mut self) -> Result<(), CopFault> {
+        CopFault::judge(raw::sedge_ground_init_unlock(self.0.get()))
+    }
+
+    /// The directive to initiate with Set V(R): S6 to S5, V(S) and NN(R) to this number, and Set V(R) is sent.
+    pub fn init_set_vr(&mut self, vr: u8) -> Result<(), CopFault> {
+        CopFault::judge(raw::sedge_ground_init_set_vr(self.0.get(), vr))
+    }
+
+    /// The directive Terminate: from S1 to S5 to S6. It is the alert [`Terminated`](Alert::Terminated): all units are
+    /// discarded. Refused with 8 [`WrongState`](CopFault::WrongState) in S6.
+    pub fn terminate(&mut self) -> Result<(), CopFault> {
+        CopFault::judge(raw::sedge_ground_terminate(self.0.get()))
+    }
+
+    /// The directive Set V(S), which sets NN(R) too; in S6 alone.
+    pub fn set_vs(&mut self, vs: u8) -> Result<(), CopFault> {
+        CopFault::judge(raw::sedge_ground_set_vs(self.0.get(), vs))
+    }
+
+    /// Sets the window K, in any state. Refused with 2 [`Window`](CopFault::Window) unless it is 1 to half the width.
+    pub fn set_window(&mut self, window: u8) -> Result<(), CopFault> {
+        CopFault::judge(raw::sedge_ground_set_window(self.0.get(), window))
+    }
+
+    /// Sets the transmission limit, in any state. Refused with 3 [`Limit`](CopFault::Limit) if it is 0.
+    pub fn set_limit(&mut self, limit: u8) -> Result<(), CopFault> {
+        CopFault::judge(raw::sedge_ground_set_limit(self.0.get(), limit))
+    }
+
+    /// Sets the timer's value in ticks, in any state. Refused with 4 [`Timer`](CopFault::Timer) if it is 0.
+    pub fn set_timer(&mut self, ticks: u16) -> Result<(), CopFault> {
+        CopFault::judge(raw::sedge_ground_set_timer(self.0.get(), ticks))
+    }
+
+    /// Submits packets on a MAP, to be sent under sequence control: one, or with blocking several, one after another.
+    /// Refused with the first [`LinkFault`] that applies.
+    pub fn submit(&mut self, map: u8, packets: &[u8]) -> Result<(), LinkFault> {
+        LinkFault::judge(raw::ground_submit(self.0.get(), map, packets))
+    }
+
+    /// Submits one packet on a MAP past the sequence control, in any state. Refused with the first [`LinkFault`] of 2
+    /// to 6 that applies.
+    pub fn bypass(&mut self, map: u8, packet: &[u8]) -> Result<(), LinkFault> {
+        LinkFault::judge(raw::ground_bypass(self.0.get(), map, packet))
+    }
+
+    /// Takes the telecommand frame that goes on the link next, with its check, and writes it to the beginning of the
+    /// room; or `None`, if nothing is to be sent now.
+    pub fn pull<'o>(&mut self, room: &'o mut [u8; TcFrame::LONGEST]) -> Option<&'o mut [u8]> {
+        let mut count = 0;
+        done(raw::ground_pull(self.0.get(), room, &mut count));
+        (count > 0).then_some(&mut room[..count])
+    }
+
+    /// Octets came from the spacecraft, which are one telemetry frame if all is well. Refused with 6
+    /// [`Memory`](LinkFault::Memory) alone.
+    pub fn telemetry(&mut self, octets: &[u8]) -> Result<Heard, LinkFault> {
+        let mut heard = raw::Heard::default();
+        in_memory(raw::ground_telemetry(self.0.get(), octets, &mut heard))?;
+        Ok(Heard::from_raw(&heard))
+    }
+
+    /// Takes the oldest packet that telemetry frames carried, if one waits.
+    pub fn take_telemetry(&mut self) -> Option<Vec<u8>> {
+        let mut count = 0;
+        done(raw::sedge_ground_next_telemetry(self.0.get(), &mut count));
+        taken(count, |out, written| raw::ground_take_telemetry(self.0.get(), out, written))
+    }
+
+    /// A tick of the clock has passed: the alert, if there is one.
+    #[must_use]
+    pub fn tick(&mut self) -> Option<Alert> {
+        alert_of(raw::sedge_ground_tick(self.0.get()))
+    }
+
+    /// The number of segments, of those sent and not acknowledged, that were accepted on board when a report of this
+    /// value was made: the oldest ones (CCSDS 232.1-B-2, 5.1). It says so after an alert too, until V(S) is set or an
+    /// initiation begins. `None` if the value is beyond V(S), so that the report says nothing of these segments.
+    #[must_use]
+    pub fn accepted_beyond(&self, value: u8) -> Option<u8> {
+        let (mut accepted, mut known) = (0, false);
+        self.0.read(|it| match raw::sedge_ground_accepted_beyond(it, value, &mut accepted) {
+            raw::SEDGE_NODE_ABSENT => 0,
+            answer => {
+                known = true;
+                answer
+            }
+        });
+        known.then_some(accepted)
+    }
+
+    fn read(&self) -> raw::GroundReading {
+        let mut read = raw::GroundReading::default();
+        self.0.read(|it| raw::sedge_ground_read(it, &mut read));
+        read
+    }
+
+    /// The sender's state.
+    #[must_use]
+    pub fn state(&self) -> FopState {
+        FopState::of(self.read().state)
+    }
+
+    /// V(S), the number of the next segment that is sent for the first time.
+    #[must_use]
+    pub fn vs(&self) -> u8 {
+        self.read().vs
+    }
+
+    /// NN(R), the number that the spacecraft was last known to expect.
+    #[must_use]
+    pub fn nn(&self) -> u8 {
+        self.read().nn
+    }
+
+    /// The number of segments that were submitted and are not acknowledged.
+    #[must_use]
+    pub fn outstanding(&self) -> usize {
+        self.read().outstanding
+    }
+
+    /// The octets of a telemetry frame.
+    #[must_use]
+    pub fn frame_length(&self) -> usize {
+        self.read().frame_length
+    }
+}

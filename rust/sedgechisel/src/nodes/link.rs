@@ -1,0 +1,334 @@
+//! The simulated link between two nodes.
+
+use super::ground::alert_of;
+use super::{taken, Config, Heard, LinkFault, OpenFault, Received};
+use crate::ffi::nodes as raw;
+use crate::numbers::never;
+use crate::{Alert, Clcw, CopFault, FopState, TmFault};
+use alloc::vec;
+use alloc::vec::Vec;
+use core::fmt;
+
+faults! {
+    /// Why an event does not happen on a simulated link; nothing has changed then.
+    SimFault {
+        Memory = 6, "there was no memory";
+        NothingInTransit = 7, "no frame is on its way in this direction";
+        NotDetectable = 8, "the receiver's decoder would accept the octets of the damaged frame";
+    }
+}
+
+/// How a session began.
+#[derive(Clone, Copy, Debug, PartialEq, Eq, Hash)]
+pub enum Begun {
+    /// Without CLCW check.
+    WithoutCheck,
+    /// With CLCW check.
+    WithCheck,
+    /// With Unlock.
+    Unlock,
+    /// With Set V(R), to this number.
+    SetVr(u8),
+}
+
+/// A record of the session, which begins with each initiation that the ground accepts.
+#[derive(Clone, Copy, Debug, PartialEq, Eq, Hash)]
+pub enum Record {
+    /// The packets submitted on a MAP.
+    Submitted(u8),
+    /// The packets that are ready on board on a MAP, taken or not.
+    Delivered(u8),
+    /// The data fields of Type-AD frames, in the order in which they were first sent.
+    Sent,
+    /// The data fields of Type-AD frames that were accepted on board.
+    Received,
+}
+
+impl Record {
+    fn raw(self) -> (u8, u8) {
+        match self {
+            Self::Submitted(map) => (raw::SEDGE_SUBMITTED, map),
+            Self::Delivered(map) => (raw::SEDGE_DELIVERED, map),
+            Self::Sent => (raw::SEDGE_SENT, 0),
+            Self::Received => (raw::SEDGE_RECEIVED, 0),
+        }
+    }
+}
+
+/// A simulated link: a ground, a spacecraft of the same configuration, and the frames on their way between them, first
+/// in, first out (docs/PROFILE.md, "The simulated link"). Its memory is given back when it is dropped.
+///
+/// ```
+/// use sedgechisel::{Config, Link, Received, Record, SimFault, Verdict};
+///
+/// let packet = [0x10, 0x05, 0xc0, 0x00, 0x00, 0x00, 0xaa];
+/// let mut link = Link::new(&Config::default())?;
+/// link.init_without_check()?;
+/// link.submit(4, &packet)?;
+/// assert_eq!(link.send()?.map(|frame| frame.len()), Some(15));
+/// link.up_lose()?;
+/// assert_eq!(link.up_deliver(), Err(SimFault::NothingInTransit));
+/// assert!(link.record(Record::Delivered(4)).next().is_none());
+/// # Ok::<(), Box<dyn std::error::Error>>(())
+/// ```
+pub struct Link(raw::Own<raw::Sim>);
+
+/// The state of the ground's sender, and the numbers of segments outstanding and acknowledged.
+impl fmt::Debug for Link {
+    fn fmt(&self, out: &mut fmt::Formatter<'_>) -> fmt::Result {
+        out.debug_struct("Link")
+            .field("state", &self.state())
+            .field("outstanding", &self.outstanding())
+            .field("acknowledged", &self.acknowledged())
+            .finish_non_exhaustive()
+    }
+}
+
+/// The fault by which a node refuses, or what stands for want of memory.
+fn refusal<F>(reply: Result<raw::Reply, SimFault>, of: fn(u8) -> F, memory: F) -> Result<(), F> {
+    match reply {
+        Ok(reply) if reply.kind == raw::SEDGE_REPLY_REFUSED => Err(of(reply.fault)),
+        Ok(_) => Ok(()),
+        Err(SimFault::Memory) => Err(memory),
+        Err(_) => never(),
+    }
+}
+
+impl Link {
+    /// A link with two new nodes. Refused with the first parameter that is out of its range, or for want of memory.
+    pub fn new(config: &Config) -> Result<Self, OpenFault> {
+        let mut link = Self(raw::Own::default());
+        config.judge(raw::sedge_sim_open(&config.raw(), link.0.get()))?;
+        Ok(link)
+    }
+
+    fn event(
+        &mut self, call: impl FnOnce(&mut raw::Sim, &mut raw::Reply) -> u8,
+    ) -> Result<raw::Reply, SimFault> {
+        let mut reply = raw::Reply::default();
+        SimFault::judge(call(self.0.get(), &mut reply))?;
+        Ok(reply)
+    }
+
+    /// An event that is no frame's and takes no memory: a directive.
+    fn direct(&mut self, call: impl FnOnce(&mut raw::Sim, &mut raw::Reply) -> u8) -> Result<(), CopFault> {
+        match self.event(call) {
+            Ok(reply) if reply.kind == raw::SEDGE_REPLY_REFUSED => Err(CopFault::of(reply.fault)),
+            Ok(_) => Ok(()),
+            Err(_) => never(),
+        }
+    }
+
+    /// The frame or the packet of the last event.
+    fn octets(&mut self, count: usize) -> Option<Vec<u8>> {
+        taken(count, |out, written| raw::sim_octets(self.0.get(), out, written))
+    }
+
+    /// [`Ground::init_without_check`](crate::Ground::init_without_check).
+    pub fn init_without_check(&mut self) -> Result<(), CopFault> {
+        self.direct(|sim, reply| raw::sedge_sim_init_without_check(sim, reply))
+    }
+
+    /// [`Ground::init_with_check`](crate::Ground::init_with_check).
+    pub fn init_with_check(&mut self) -> Result<(), CopFault> {
+        self.direct(|sim, reply| raw::sedge_sim_init_with_check(sim, reply))
+    }
+
+    /// [`Ground::init_unlock`](crate::Ground::init_unlock).
+    pub fn init_unlock(&mut self) -> Result<(), CopFault> {
+        self.direct(|sim, reply| raw::sedge_sim_init_unlock(sim, reply))
+    }
+
+    /// [`Ground::init_set_vr`](crate::Ground::init_set_vr).
+    pub fn init_set_vr(&mut self, vr: u8) -> Result<(), CopFault> {
+        self.direct(|sim, reply| raw::sedge_sim_init_set_vr(sim, vr, reply))
+    }
+
+    /// [`Ground::terminate`](crate::Ground::terminate).
+    pub fn terminate(&mut self) -> Result<(), CopFault> {
+        self.direct(|sim, reply| raw::sedge_sim_terminate(sim, reply))
+    }
+
+    /// [`Ground::set_vs`](crate::Ground::set_vs).
+    pub fn set_vs(&mut self, vs: u8) -> Result<(), CopFault> {
+        self.direct(|sim, reply| raw::sedge_sim_set_vs(sim, vs, reply))
+    }
+
+    /// [`Ground::set_window`](crate::Ground::set_window).
+    pub fn set_window(&mut self, window: u8) -> Result<(), CopFault> {
+        self.direct(|sim, reply| raw::sedge_sim_set_window(sim, window, reply))
+    }
+
+    /// [`Ground::set_limit`](crate::Ground::set_limit).
+    pub fn set_limit(&mut self, limit: u8) -> Result<(), CopFault> {
+        self.direct(|sim, reply| raw::sedge_sim_set_limit(sim, limit, reply))
+    }
+
+    /// [`Ground::set_timer`](crate::Ground::set_timer).
+    pub fn set_timer(&mut self, ticks: u16) -> Result<(), CopFault> {
+        self.direct(|sim, reply| raw::sedge_sim_set_timer(sim, ticks, reply))
+    }
+
+    /// [`Ground::submit`](crate::Ground::submit).
+    pub fn submit(&mut self, map: u8, packets: &[u8]) -> Result<(), LinkFault> {
+        let reply = self.event(|sim, reply| raw::sim_submit(sim, map, packets, reply));
+        refusal(reply, LinkFault::of, LinkFault::Memory)
+    }
+
+    /// [`Ground::bypass`](crate::Ground::bypass).
+    pub fn bypass(&mut self, map: u8, packet: &[u8]) -> Result<(), LinkFault> {
+        let reply = self.event(|sim, reply| raw::sim_bypass(sim, map, packet, reply));
+        refusal(reply, LinkFault::of, LinkFault::Memory)
+    }
+
+    /// [`Spacecraft::telemetry`](crate::Spacecraft::telemetry).
+    pub fn telemetry(&mut self, packet: &[u8]) -> Result<(), TmFault> {
+        let reply = self.event(|sim, reply| raw::sim_telemetry(sim, packet, reply));
+        refusal(reply, TmFault::of, TmFault::Memory)
+    }
+
+    /// The ground sends a frame, which is on its way up then; or `None`, if nothing is to be sent now. Refused with 6
+    /// [`Memory`](SimFault::Memory) alone.
+    pub fn send(&mut self) -> Result<Option<Vec<u8>>, SimFault> {
+        let reply = self.event(|sim, reply| raw::sedge_sim_send(sim, reply))?;
+        Ok(self.octets(reply.count))
+    }
+
+    /// The first frame on its way up arrives. Refused with 7 [`NothingInTransit`](SimFault::NothingInTransit) if there
+    /// is none, as are the five calls like it, or with 6 [`Memory`](SimFault::Memory).
+    pub fn up_deliver(&mut self) -> Result<Received, SimFault> {
+        let reply = self.event(|sim, reply| raw::sedge_sim_up_deliver(sim, reply))?;
+        Ok(Received::from_raw(&reply.up))
+    }
+
+    /// The first frame on its way up is lost.
+    pub fn up_lose(&mut self) -> Result<(), SimFault> {
+        self.event(|sim, reply| raw::sedge_sim_up_lose(sim, reply)).map(drop)
+    }
+
+    /// These octets arrive in its place, which are no frame. Refused with 8
+    /// [`NotDetectable`](SimFault::NotDetectable) if they are one.
+    pub fn up_damage(&mut self, octets: &[u8]) -> Result<Received, SimFault> {
+        let reply = self.event(|sim, reply| raw::sim_up_damage(sim, octets, reply))?;
+        Ok(Received::from_raw(&reply.up))
+    }
+
+    /// The spacecraft sends a telemetry frame, which is on its way down then: the report in it. Refused with 6
+    /// [`Memory`](SimFault::Memory) alone.
+    pub fn report(&mut self) -> Result<Clcw, SimFault> {
+        let reply = self.event(|sim, reply| raw::sedge_sim_report(sim, reply))?;
+        Ok(Clcw::from_raw(reply.report))
+    }
+
+    /// The first frame on its way down arrives.
+    pub fn down_deliver(&mut self) -> Result<Heard, SimFault> {
+        let reply = self.event(|sim, reply| raw::sedge_sim_down_deliver(sim, reply))?;
+        Ok(Heard::from_raw(&reply.down))
+    }
+
+    /// The first frame on its way down is lost.
+    pub fn down_lose(&mut self) -> Result<(), SimFault> {
+        self.event(|sim, reply| raw::sedge_sim_down_lose(sim, reply)).map(drop)
+    }
+
+    /// These octets arrive in its place, which are no frame. Refused with 8
+    /// [`NotDetectable`](SimFault::NotDetectable) if they are one.
+    pub fn down_damage(&mut self, octets: &[u8]) -> Result<Heard, SimFault> {
+        let reply = self.event(|sim, reply| raw::sim_down_damage(sim, octets, reply))?;
+        Ok(Heard::from_raw(&reply.down))
+    }
+
+    /// A tick of the ground's clock passes: the alert, if there is one.
+    #[must_use]
+    pub fn tick(&mut self) -> Option<Alert> {
+        match self.event(|sim, reply| raw::sedge_sim_tick(sim, reply)) {
+            Ok(reply) => alert_of(reply.alert),
+            Err(_) => never(),
+        }
+    }
+
+    /// A packet of sequence-controlled frames is taken on board, with its MAP, if one waits.
+    pub fn take(&mut self) -> Option<(u8, Vec<u8>)> {
+        self.packet(|sim, reply| raw::sedge_sim_take(sim, reply))
+    }
+
+    /// The same of the packets that came past the sequence control.
+    pub fn take_bypass(&mut self) -> Option<(u8, Vec<u8>)> {
+        self.packet(|sim, reply| raw::sedge_sim_take_bypass(sim, reply))
+    }
+
+    fn packet(&mut self, call: impl FnOnce(&mut raw::Sim, &mut raw::Reply) -> u8) -> Option<(u8, Vec<u8>)> {
+        match self.event(call) {
+            Ok(reply) => self.octets(reply.count).map(|packet| (reply.map, packet)),
+            Err(_) => never(),
+        }
+    }
+
+    fn read(&self) -> raw::SimReading {
+        let mut read = raw::SimReading::default();
+        self.0.read(|it| raw::sedge_sim_read(it, &mut read));
+        read
+    }
+
+    /// The state of the ground's sender.
+    #[must_use]
+    pub fn state(&self) -> FopState {
+        FopState::of(self.read().state)
+    }
+
+    /// The number of segments that were submitted and are not acknowledged.
+    #[must_use]
+    pub fn outstanding(&self) -> usize {
+        self.read().outstanding
+    }
+
+    /// How many of the first ones of [`Record::Sent`] the ground holds acknowledged.
+    #[must_use]
+    pub fn acknowledged(&self) -> usize {
+        self.read().acknowledged
+    }
+
+    /// How the session began, if one has.
+    #[must_use]
+    pub fn begun(&self) -> Option<Begun> {
+        let read = self.read();
+        match read.begun {
+            raw::SEDGE_BEGUN_NOT => None,
+            raw::SEDGE_BEGUN_WITHOUT_CHECK => Some(Begun::WithoutCheck),
+            raw::SEDGE_BEGUN_WITH_CHECK => Some(Begun::WithCheck),
+            raw::SEDGE_BEGUN_UNLOCK => Some(Begun::Unlock),
+            _ => Some(Begun::SetVr(read.vr)),
+        }
+    }
+
+    /// Whether the session began with nothing on its way, and without a check only where V(R) was V(S).
+    #[must_use]
+    pub fn is_clean(&self) -> bool {
+        self.read().clean
+    }
+
+    /// Whether it had an idle start (docs/PROMISES.md).
+    #[must_use]
+    pub fn is_idle(&self) -> bool {
+        self.read().idle
+    }
+
+    /// Whether a report has taken the ground from S4 or S5 to S1.
+    #[must_use]
+    pub fn is_confirmed(&self) -> bool {
+        self.read().confirmed
+    }
+
+    /// The entries of a record of the session, in their order.
+    pub fn record(&self, record: Record) -> impl ExactSizeIterator<Item = Vec<u8>> + '_ {
+        let (number, map) = record.raw();
+        let (mut entries, mut count, mut written) = (0, 0, 0);
+        self.0.read(|it| raw::sedge_sim_count(it, number, map, &mut entries));
+        (0..entries).map(move |k| {
+            self.0.read(|it| raw::sedge_sim_entry_length(it, number, map, k, &mut count));
+            let mut entry = vec![0; count];
+            self.0.read(|it| raw::sim_entry(it, number, map, k, &mut entry, &mut written));
+            entry
+        })
+    }
+}

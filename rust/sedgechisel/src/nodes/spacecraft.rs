@@ -1,0 +1,157 @@
+//! The spacecraft.
+
+use super::{in_memory, taken, Config, LinkFault, OpenFault};
+use crate::ffi::nodes as raw;
+use crate::numbers::done;
+use crate::{Clcw, Command, Dropped, FarmMode, TcFault, TmFault, TmFrame, Verdict};
+use alloc::vec::Vec;
+use core::fmt;
+
+/// What the spacecraft makes of octets that it received.
+#[derive(Clone, Copy, Debug, PartialEq, Eq, Hash)]
+pub enum Received {
+    /// They are no telecommand frame.
+    Invalid(TcFault),
+    /// A frame of another spacecraft or virtual channel.
+    Foreign,
+    /// A Type-AD frame.
+    Sequence {
+        /// Its number, N(S).
+        n: u8,
+        /// What the receiver does with it.
+        verdict: Verdict,
+        /// The number of packets that came to wait to be taken.
+        ready: usize,
+        /// Why octets on its MAP were dropped, if some were.
+        dropped: Option<Dropped>,
+    },
+    /// A Type-BD frame.
+    Bypass {
+        /// Whether it carried a packet, which is kept.
+        kept: bool,
+    },
+    /// A Type-BC frame with this control command.
+    Control(Command),
+}
+
+impl Received {
+    pub(super) fn from_raw(received: &raw::Received) -> Self {
+        match received.kind {
+            1 => Self::Invalid(TcFault::of(received.fault)),
+            2 => Self::Foreign,
+            3 => Self::Sequence {
+                n: received.n,
+                verdict: Verdict::of(received.verdict),
+                ready: received.ready,
+                dropped: (received.dropped != 0).then(|| Dropped::of(received.dropped)),
+            },
+            4 => Self::Bypass { kept: received.kept },
+            _ if received.command == crate::ffi::SEDGE_UNLOCK => Self::Control(Command::Unlock),
+            _ => Self::Control(Command::SetVr(received.vr)),
+        }
+    }
+}
+
+/// The spacecraft: it receives packets and reports, and sends telemetry (docs/PROFILE.md, "The node on board"). Its memory
+/// is given back when it is dropped.
+///
+/// ```
+/// use sedgechisel::{Config, Received, Spacecraft, Verdict};
+///
+/// let mut spacecraft = Spacecraft::new(&Config::default())?;
+/// let frame = [0x00, 0x01, 0x08, 0x0e, 0x00, 0xc4, 0x10, 0x05, 0xc0, 0x00, 0x00, 0x00, 0xaa, 0xe7, 0x5d];
+/// let received = spacecraft.receive(&frame)?;
+/// assert_eq!(received, Received::Sequence { n: 0, verdict: Verdict::Accepted, ready: 1, dropped: None });
+/// assert_eq!(spacecraft.take(), Some((4, frame[6..13].to_vec())));
+/// # Ok::<(), Box<dyn std::error::Error>>(())
+/// ```
+pub struct Spacecraft(raw::Own<raw::Spacecraft>);
+
+/// The receiver's state and V(R).
+impl fmt::Debug for Spacecraft {
+    fn fmt(&self, out: &mut fmt::Formatter<'_>) -> fmt::Result {
+        out.debug_struct("Spacecraft")
+            .field("mode", &self.mode())
+            .field("vr", &self.control_word().value)
+            .finish_non_exhaustive()
+    }
+}
+
+impl Spacecraft {
+    /// A spacecraft that has received nothing. Refused with the first parameter that is out of its range, or for want
+    /// of memory.
+    pub fn new(config: &Config) -> Result<Self, OpenFault> {
+        let mut spacecraft = Self(raw::Own::default());
+        config.judge(raw::sedge_spacecraft_open(&config.raw(), spacecraft.0.get()))?;
+        Ok(spacecraft)
+    }
+
+    /// Octets came from the ground, which are one telecommand frame with its check if all is well. Refused with 6
+    /// [`Memory`](LinkFault::Memory) alone.
+    pub fn receive(&mut self, octets: &[u8]) -> Result<Received, LinkFault> {
+        let mut received = raw::Received::default();
+        in_memory(raw::spacecraft_receive(self.0.get(), octets, &mut received))?;
+        Ok(Received::from_raw(&received))
+    }
+
+    /// Takes the oldest packet of sequence-controlled frames, with its MAP, if one waits.
+    pub fn take(&mut self) -> Option<(u8, Vec<u8>)> {
+        let (mut map, mut count) = (0, 0);
+        done(raw::sedge_spacecraft_next(self.0.get(), &mut map, &mut count));
+        let packet = taken(count, |out, written| raw::spacecraft_take(self.0.get(), &mut map, out, written));
+        packet.map(|packet| (map, packet))
+    }
+
+    /// Takes the oldest packet that came past the sequence control, with its MAP, if one is kept.
+    pub fn take_bypass(&mut self) -> Option<(u8, Vec<u8>)> {
+        let (mut map, mut count) = (0, 0);
+        done(raw::sedge_spacecraft_next_bypass(self.0.get(), &mut map, &mut count));
+        let packet =
+            taken(count, |out, written| raw::spacecraft_take_bypass(self.0.get(), &mut map, out, written));
+        packet.map(|packet| (map, packet))
+    }
+
+    /// Queues a packet to be sent as telemetry. Refused with 8 [`NotAPacket`](TmFault::NotAPacket) (the octets are not
+    /// exactly one packet, or an idle packet) or 7 [`Memory`](TmFault::Memory).
+    pub fn telemetry(&mut self, packet: &[u8]) -> Result<(), TmFault> {
+        TmFault::judge(raw::spacecraft_telemetry(self.0.get(), packet))
+    }
+
+    /// Takes the next telemetry frame, which reports on the receiver, and writes it to the beginning of the room.
+    pub fn report<'o>(&mut self, room: &'o mut [u8; TmFrame::LONGEST]) -> &'o mut [u8] {
+        let mut count = 0;
+        done(raw::spacecraft_report(self.0.get(), room, &mut count));
+        &mut room[..count]
+    }
+
+    fn read(&self) -> raw::SpacecraftReading {
+        let mut read = raw::SpacecraftReading::default();
+        self.0.read(|it| raw::sedge_spacecraft_read(it, &mut read));
+        read
+    }
+
+    /// The report that the next telemetry frame carries.
+    #[must_use]
+    pub fn control_word(&self) -> Clcw {
+        let read = self.read();
+        Clcw::from_raw(crate::ffi::Clcw {
+            status: read.status,
+            vcid: read.vcid,
+            flags: read.flags,
+            farm_b: read.farm_b,
+            value: read.value,
+        })
+    }
+
+    /// The receiver's state.
+    #[must_use]
+    pub fn mode(&self) -> FarmMode {
+        FarmMode::of(self.read().state)
+    }
+
+    /// The octets of a telemetry frame.
+    #[must_use]
+    pub fn frame_length(&self) -> usize {
+        self.read().frame_length
+    }
+}

@@ -1,0 +1,135 @@
+//! Packets in telemetry frames, for one virtual channel: built into frames and extracted from them (CCSDS 132.0-B-3, 4.2
+//! and 4.3).
+
+use crate::ffi;
+use crate::tm::{TmFault, TmFrame};
+use core::iter::FusedIterator;
+
+/// Builds the frames of one virtual channel, all of one length, out of packets that wait in its caller's memory (CCSDS
+/// 132.0-B-3, 4.2).
+///
+/// ```
+/// use sedgechisel::{Pointer, TmBuilder, TmFrame};
+///
+/// let (mut memory, mut room) = ([0; 4096], [0; TmFrame::LONGEST]);
+/// let mut builder = TmBuilder::new(1, 0, 20, &mut memory)?;
+/// builder.queue(&[0x00, 0x05, 0xc0, 0x00, 0x00, 0x00, 0xaa])?;
+/// let frame = TmFrame::decode(builder.build([0x01, 0x08, 0x00, 0x00], &mut room)?, 20)?;
+/// assert_eq!((frame.pointer, frame.data), (Pointer::At(0), &[0x00, 0x05, 0xc0, 0x00, 0x00, 0x00, 0xaa, 0x07][..]));
+/// # Ok::<(), sedgechisel::TmFault>(())
+/// ```
+#[derive(Debug)]
+pub struct TmBuilder<'m> {
+    kept: ffi::TmBuilder,
+    memory: &'m mut [u8],
+}
+
+impl<'m> TmBuilder<'m> {
+    /// A builder of frames of `length` octets, 16 to 2,048, whose counts begin at 0. The memory is as many octets of
+    /// packets as may wait. Refused with 10 [`FieldRange`](TmFault::FieldRange).
+    pub fn new(scid: u16, vcid: u8, length: usize, memory: &'m mut [u8]) -> Result<Self, TmFault> {
+        let mut kept = ffi::TmBuilder::default();
+        TmFault::judge(ffi::sedge_tm_builder_open(&mut kept, scid, vcid, length))?;
+        Ok(Self { kept, memory })
+    }
+
+    /// The octets that are to be sent: the rest of the packet that was begun, and the packets that wait.
+    #[must_use]
+    pub fn waiting(&self) -> &[u8] {
+        ffi::Part { from: self.kept.from, count: self.kept.count }.of(self.memory)
+    }
+
+    /// Queues a packet, all of its octets. Refused with the first of 8 [`NotAPacket`](TmFault::NotAPacket), for octets
+    /// that are not exactly one packet or an idle one, and 7 [`Memory`](TmFault::Memory).
+    pub fn queue(&mut self, packet: &[u8]) -> Result<(), TmFault> {
+        TmFault::judge(ffi::tm_queue(&mut self.kept, packet, self.memory))
+    }
+
+    /// Writes the next frame, with this operational control field, to the beginning of `out`, and returns its octets.
+    /// Where packets run out it has an idle packet, and where none are left only idle data. Refused with 9
+    /// [`Room`](TmFault::Room), with nothing written.
+    pub fn build<'o>(&mut self, ocf: [u8; 4], out: &'o mut [u8]) -> Result<&'o mut [u8], TmFault> {
+        let mut total = 0;
+        TmFault::judge(ffi::tm_build(&mut self.kept, &ocf, self.memory, out, &mut total))?;
+        Ok(&mut out[..total])
+    }
+}
+
+/// Extracts packets from the frames of one virtual channel, of which any may be missing; the part of a packet whose end
+/// is to come is in its caller's memory (CCSDS 132.0-B-3, 4.3).
+///
+/// Packets are handed on before the next frame is taken, which may overwrite them; so this is refused:
+///
+/// ```compile_fail,E0499
+/// # use sedgechisel::{TmExtractor, TmFrame};
+/// # let mut memory = [0; 4096];
+/// # let octets = [0; 20];
+/// # let frame = TmFrame::decode(&octets, 20)?;
+/// # let mut extractor = TmExtractor::new(&mut memory);
+/// let first = extractor.take(&frame)?;
+/// let second = extractor.take(&frame)?;
+/// first.packets.for_each(|it| println!("{it:?}"));
+/// # Ok::<(), sedgechisel::TmFault>(())
+/// ```
+#[derive(Debug)]
+pub struct TmExtractor<'m> {
+    kept: ffi::TmExtractor,
+    memory: &'m mut [u8],
+}
+
+impl<'m> TmExtractor<'m> {
+    /// An extractor that has seen no frame. As many octets of memory as the longest packet and the data of a frame
+    /// have together are enough, and 67,578 for all packets.
+    #[must_use]
+    pub fn new(memory: &'m mut [u8]) -> Self {
+        Self { kept: ffi::TmExtractor::default(), memory }
+    }
+
+    /// The part of a packet whose end is to come; no octets where there is none.
+    #[must_use]
+    pub fn part(&self) -> &[u8] {
+        ffi::Part { from: self.kept.from, count: self.kept.count }.of(self.memory)
+    }
+
+    /// Takes the next frame that came. Where frames are missing before it, the part is dropped. Refused with the first
+    /// of 10 [`FieldRange`](TmFault::FieldRange), for a pointer after the data, and 7 [`Memory`](TmFault::Memory); then
+    /// the frame counts as missing.
+    pub fn take<'t>(&'t mut self, frame: &TmFrame<'t>) -> Result<Extracted<'t>, TmFault> {
+        let mut extracted = ffi::TmExtracted::default();
+        let answer = ffi::tm_extract(&mut self.kept, &frame.raw(), frame.data, self.memory, &mut extracted);
+        TmFault::judge(answer)?;
+        let joined = (extracted.joined > 0).then(|| &self.memory[..extracted.joined]);
+        let lost = (extracted.first == 0).then_some(extracted.lost);
+        Ok(Extracted { packets: TmPackets { joined, data: frame.data, last: extracted.packets }, lost })
+    }
+}
+
+/// What came of a frame.
+#[derive(Clone, Debug)]
+pub struct Extracted<'t> {
+    /// The packets whose last octets it has, but for idle ones.
+    pub packets: TmPackets<'t>,
+    /// The number of frames that are missing before it, modulo 256; none is known before the first (4.1.2.6).
+    pub lost: Option<u8>,
+}
+
+/// The octets of the packets that a frame ends, in their order.
+#[derive(Clone, Debug)]
+pub struct TmPackets<'t> {
+    joined: Option<&'t [u8]>,
+    data: &'t [u8],
+    last: ffi::Part,
+}
+
+impl<'t> Iterator for TmPackets<'t> {
+    type Item = &'t [u8];
+
+    fn next(&mut self) -> Option<&'t [u8]> {
+        if let Some(packet) = self.joined.take() {
+            return Some(packet);
+        }
+        ffi::tm_packet(self.data, &mut self.last).then(|| self.last.of(self.data))
+    }
+}
+
+impl FusedIterator for TmPackets<'_> {}

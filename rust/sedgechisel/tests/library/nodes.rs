@@ -1,0 +1,218 @@
+//! Both nodes: rows worked by hand, refusals, and telemetry over a link that loses frames.
+
+use crate::common::{octets_of, Chance};
+use sedgechisel::*;
+
+const P0: &str = "1005C0000000AA";
+const P1: &str = "1005C0010000AB";
+const P2: &str = "1005C0020000AC";
+
+fn pair(config: &Config) -> (Ground, Spacecraft) {
+    (Ground::new(config).unwrap(), Spacecraft::new(config).unwrap())
+}
+
+fn sent(ground: &mut Ground) -> Option<Vec<u8>> {
+    let mut room = [0; TcFrame::LONGEST];
+    ground.pull(&mut room).map(|it| it.to_vec())
+}
+
+fn reported(spacecraft: &mut Spacecraft) -> Vec<u8> {
+    let mut room = [0; TmFrame::LONGEST];
+    spacecraft.report(&mut room).to_vec()
+}
+
+fn word_of(spacecraft: &Spacecraft) -> [u8; 4] {
+    spacecraft.control_word().encode().unwrap()
+}
+
+fn sequence(n: u8, verdict: Verdict, ready: usize) -> Received {
+    Received::Sequence { n, verdict, ready, dropped: None }
+}
+
+fn used(gap: Option<u8>, packets: usize) -> Heard {
+    Heard::Frame { gap, packets, report: HeardReport::Used, alert: None }
+}
+
+/// What `{:?}` shows of the nodes and of the link.
+#[test]
+fn nodes_are_shown() {
+    let (mut ground, spacecraft) = pair(&Config::default());
+    ground.init_set_vr(7).unwrap();
+    assert_eq!(format!("{ground:?}"), "Ground { state: S5, vs: 7, nn: 7, .. }");
+    assert_eq!(format!("{spacecraft:?}"), "Spacecraft { mode: Open, vr: 0, .. }");
+    let mut link = Link::new(&Config::default()).unwrap();
+    link.init_without_check().unwrap();
+    link.submit(4, &octets_of(P0)).unwrap();
+    assert_eq!(format!("{link:?}"), "Link { state: S1, outstanding: 1, acknowledged: 0, .. }");
+}
+
+/// A frame is lost on its way up, and sent again (examples/lost_frame.script).
+#[test]
+fn a_frame_is_lost() {
+    let (mut ground, mut spacecraft) = pair(&Config::default());
+    ground.init_with_check().unwrap();
+    assert_eq!(word_of(&spacecraft), [0x01, 0x08, 0x00, 0x00]);
+    assert_eq!(ground.telemetry(&reported(&mut spacecraft)), Ok(used(None, 0)));
+    for packet in [P0, P1, P2] {
+        ground.submit(4, &octets_of(packet)).unwrap();
+    }
+    let frames: Vec<_> = (0..3).map(|_| sent(&mut ground).unwrap()).collect();
+    assert_eq!(frames[0], octets_of("0001080E00C41005C0000000AAE75D"));
+    assert_eq!(frames[2], octets_of("0001080E02C41005C0020000ACAC94"));
+    assert_eq!(spacecraft.receive(&frames[0]), Ok(sequence(0, Verdict::Accepted, 1)));
+    assert_eq!(spacecraft.receive(&frames[2]), Ok(sequence(2, Verdict::Ahead, 0)));
+    assert_eq!(word_of(&spacecraft), [0x01, 0x08, 0x08, 0x01]);
+    assert_eq!(ground.telemetry(&reported(&mut spacecraft)), Ok(used(Some(0), 0)));
+    assert_eq!((ground.state(), ground.nn(), ground.vs(), ground.outstanding()), (FopState::S2, 1, 3, 2));
+    for number in [1, 2] {
+        assert_eq!(sent(&mut ground), Some(frames[number].clone()));
+        assert_eq!(spacecraft.receive(&frames[number]), Ok(sequence(number as u8, Verdict::Accepted, 1)));
+    }
+    assert_eq!(ground.telemetry(&reported(&mut spacecraft)), Ok(used(Some(0), 0)));
+    assert_eq!((ground.state(), ground.outstanding(), sent(&mut ground)), (FopState::S1, 0, None));
+    for packet in [P0, P1, P2] {
+        assert_eq!(spacecraft.take(), Some((4, octets_of(packet))));
+    }
+    assert_eq!(spacecraft.take(), None);
+}
+
+/// The buffer on board is full, and the ground waits until a packet is taken (examples/full_buffer.script).
+#[test]
+fn the_buffer_is_full() {
+    let (mut ground, mut spacecraft) = pair(&Config { ready_slots: 1, ..Config::default() });
+    ground.init_without_check().unwrap();
+    ground.submit(4, &octets_of(P0)).unwrap();
+    ground.submit(4, &octets_of(P1)).unwrap();
+    let (first, second) = (sent(&mut ground).unwrap(), sent(&mut ground).unwrap());
+    assert_eq!(spacecraft.receive(&first), Ok(sequence(0, Verdict::Accepted, 1)));
+    assert_eq!(spacecraft.receive(&second), Ok(sequence(1, Verdict::NoBuffer, 0)));
+    assert_eq!((word_of(&spacecraft), spacecraft.mode()), ([0x01, 0x08, 0x18, 0x01], FarmMode::Wait));
+    assert_eq!(ground.telemetry(&reported(&mut spacecraft)), Ok(used(None, 0)));
+    assert_eq!((ground.state(), sent(&mut ground)), (FopState::S3, None));
+    assert_eq!(spacecraft.take(), Some((4, octets_of(P0))));
+    assert_eq!((word_of(&spacecraft), spacecraft.mode()), ([0x01, 0x08, 0x08, 0x01], FarmMode::Open));
+    assert_eq!(ground.telemetry(&reported(&mut spacecraft)), Ok(used(Some(0), 0)));
+    assert_eq!(sent(&mut ground), Some(second.clone()));
+    assert_eq!(spacecraft.receive(&second), Ok(sequence(1, Verdict::Accepted, 1)));
+    assert_eq!(ground.telemetry(&reported(&mut spacecraft)), Ok(used(Some(0), 0)));
+    assert_eq!((ground.state(), ground.outstanding()), (FopState::S1, 0));
+}
+
+/// What is refused changes nothing.
+#[test]
+fn refusals() {
+    let (mut ground, mut spacecraft) =
+        pair(&Config { maps: 0b10000, part: 7, queue_slots: 2, ..Config::default() });
+    let packet = octets_of(P0);
+    assert_eq!(ground.submit(4, &packet), Err(LinkFault::NotOpen));
+    assert_eq!(ground.set_window(128), Err(CopFault::Window));
+    assert_eq!(ground.terminate(), Err(CopFault::WrongState));
+    ground.init_unlock().unwrap();
+    assert_eq!(sent(&mut ground), Some(octets_of("3001080700008B9E")));
+    assert_eq!(spacecraft.receive(&octets_of("3001080700008B9F")), Ok(Received::Invalid(TcFault::Check)));
+    assert_eq!(spacecraft.receive(&octets_of("3001080700008B9E")), Ok(Received::Control(Command::Unlock)));
+    assert_eq!(ground.submit(5, &packet), Err(LinkFault::ClosedMap));
+    assert_eq!(ground.submit(64, &packet), Err(LinkFault::ClosedMap));
+    assert_eq!(ground.submit(4, &packet[..6]), Err(LinkFault::NotCommand));
+    assert_eq!(ground.bypass(4, &octets_of("1005C0000001AABB")), Err(LinkFault::TooLong));
+    for _ in 0..2 {
+        ground.submit(4, &packet).unwrap();
+    }
+    assert_eq!(ground.submit(4, &packet), Err(LinkFault::QueueFull));
+    assert_eq!(ground.outstanding(), 2);
+    assert_eq!(spacecraft.telemetry(&packet[..6]), Err(TmFault::NotAPacket));
+    assert_eq!(spacecraft.telemetry(&octets_of("07FFC000000055")), Err(TmFault::NotAPacket));
+    let fault = LinkFault::QueueFull;
+    assert_eq!((fault.number(), fault.name(), fault.to_string().len() > 11), (5, "QueueFull", true));
+}
+
+/// The first parameter that is out of its range is named.
+#[test]
+fn parameters_out_of_their_ranges() {
+    let config = Config { limit: 0, blocking: true, ..Config::default() };
+    assert_eq!(config.fault(), Some(Parameter::Limit));
+    assert_eq!(Ground::new(&config).err(), Some(OpenFault::OutOfRange(Parameter::Limit)));
+    assert_eq!(Spacecraft::new(&config).unwrap_err().to_string(), "6 limit is out of its range");
+    let wrong = [
+        (Config { scid: 1024, ..config }, "scid"),
+        (Config { vcid: 64, ..config }, "vcid"),
+        (Config { tm_vcid: 8, ..config }, "tm_vcid"),
+        (Config { width: 3, ..config }, "width"),
+        (Config { width: 252, ..config }, "window"),
+        (Config { limit: 1, timer: 0, ..config }, "timer"),
+        (Config { limit: 1, part: 1017, ..config }, "part"),
+        (Config { limit: 1, max_packet: 6, ..config }, "max_packet"),
+        (Config { limit: 1, ready_slots: 65, ..config }, "ready_slots"),
+        (Config { limit: 1, bypass_slots: 0, ..config }, "bypass_slots"),
+        (Config { limit: 1, queue_slots: 0, ..config }, "queue_slots"),
+        (Config { limit: 1, frame_length: 15, ..config }, "frame_length"),
+    ];
+    for (config, name) in wrong {
+        assert_eq!(config.fault().map(Parameter::name), Some(name));
+    }
+    assert_eq!(Config { limit: 1, ..config }.fault(), None);
+}
+
+/// After an alert a report that was not heard still says what was accepted.
+#[test]
+fn accepted_after_an_alert() {
+    let (mut ground, mut spacecraft) = pair(&Config { timer: 1, limit: 1, ..Config::default() });
+    ground.init_without_check().unwrap();
+    for packet in [P0, P1, P2] {
+        ground.submit(4, &octets_of(packet)).unwrap();
+        let frame = sent(&mut ground).unwrap();
+        if packet != P2 {
+            spacecraft.receive(&frame).unwrap();
+        }
+    }
+    assert_eq!(ground.tick(), Some(Alert::Timer));
+    assert_eq!((ground.state(), ground.outstanding(), ground.nn(), ground.vs()), (FopState::S6, 0, 0, 3));
+    let accepted: Vec<_> = (0..5).map(|value| ground.accepted_beyond(value)).collect();
+    assert_eq!(accepted, [Some(0), Some(1), Some(2), Some(3), None]);
+    assert_eq!(ground.accepted_beyond(spacecraft.control_word().value), Some(2));
+}
+
+/// A node may go to another thread, and is let go of there.
+#[test]
+fn another_thread() {
+    let (mut ground, spacecraft) = pair(&Config::default());
+    let there = std::thread::spawn(move || {
+        ground.init_without_check().unwrap();
+        drop(spacecraft);
+        ground
+    });
+    assert_eq!(there.join().unwrap().state(), FopState::S1);
+}
+
+/// Packets of telemetry come down over a link that loses frames, in order, and none is damaged.
+#[test]
+fn telemetry_that_is_lost() {
+    let (mut chance, mut lost, mut taken) = (Chance(11), 0, Vec::new());
+    let (mut ground, mut spacecraft) = pair(&Config { frame_length: 128, ..Config::default() });
+    for number in 0..1000u16 {
+        let count = 1 + chance.below(300);
+        let data = chance.octets(count);
+        let packet = Packet {
+            apid: 7,
+            count: number,
+            kind: PacketKind::Telemetry,
+            secondary: false,
+            flags: SequenceFlags::Unsegmented,
+            data: &data,
+        };
+        let mut room = vec![0; 400];
+        spacecraft.telemetry(packet.encode(&mut room).unwrap()).unwrap();
+        while chance.once_in(2) {
+            let frame = reported(&mut spacecraft);
+            if chance.once_in(10) {
+                lost += 1;
+            } else {
+                ground.telemetry(&frame).unwrap();
+            }
+        }
+        while let Some(packet) = ground.take_telemetry() {
+            taken.push(Packet::decode(&packet).unwrap().count);
+        }
+    }
+    assert!(lost > 50 && taken.len() > 200 && taken.windows(2).all(|it| it[0] < it[1]));
+}

@@ -1,0 +1,99 @@
+//! Packets in telemetry frames: rows worked by hand, packets over many frames, lost frames, and each refusal.
+
+use sedgechisel::{Pointer, TmBuilder, TmExtractor, TmFault, TmFrame};
+
+const OCF: [u8; 4] = [0x01, 0x08, 0x00, 0x00];
+
+/// Packets of 7 octets, with the sequence counts 0 to 3.
+const FOUR: [[u8; 7]; 4] = [
+    [0x00, 0x05, 0xc0, 0x00, 0x00, 0x00, 0xaa],
+    [0x00, 0x05, 0xc0, 0x01, 0x00, 0x00, 0xbb],
+    [0x00, 0x05, 0xc0, 0x02, 0x00, 0x00, 0xcc],
+    [0x00, 0x05, 0xc0, 0x03, 0x00, 0x00, 0xdd],
+];
+
+const IDLE: [u8; 7] = [0x07, 0xff, 0xc0, 0x00, 0x00, 0x00, 0x55];
+
+/// A packet of 16 octets.
+const LONG: [u8; 16] = [0, 5, 0xc0, 0, 0, 9, 1, 2, 3, 4, 5, 6, 7, 8, 9, 10];
+
+#[test]
+fn packets_in_frames() {
+    let (mut sending, mut receiving, mut room) = ([0; 28], [0; 30], [0; TmFrame::LONGEST]);
+    let mut builder = TmBuilder::new(1, 0, 20, &mut sending).unwrap();
+    for packet in &FOUR {
+        builder.queue(packet).unwrap();
+    }
+    assert_eq!(builder.queue(&FOUR[0]), Err(TmFault::Memory));
+    let mut extractor = TmExtractor::new(&mut receiving);
+    let mut found = Vec::new();
+    for (count, (data, place)) in [
+        (b"\x00\x05\xc0\x00\x00\x00\xaa\x00", 0),
+        (b"\x05\xc0\x01\x00\x00\xbb\x00\x05", 6),
+        (b"\xc0\x02\x00\x00\xcc\x00\x05\xc0", 5),
+        (b"\x03\x00\x00\xdd\x07\xff\xc0\x00", 4),
+    ]
+    .into_iter()
+    .enumerate()
+    {
+        let frame = TmFrame::decode(builder.build(OCF, &mut room).unwrap(), 20).unwrap();
+        assert_eq!((frame.scid, frame.vcid, frame.ocf, usize::from(frame.vc_count)), (1, 0, OCF, count));
+        assert_eq!((frame.pointer, frame.data), (Pointer::At(place), &data[..]));
+        if count != 1 {
+            let extracted = extractor.take(&frame).unwrap();
+            assert_eq!(extracted.lost, [None, None, Some(1), Some(0)][count]);
+            found.extend(extracted.packets.map(<[u8]>::to_vec));
+        }
+    }
+    assert_eq!(found, [FOUR[0], FOUR[3]]);
+    assert_eq!((builder.waiting(), extractor.part()), (&[][..], &[0x07, 0xff, 0xc0, 0x00][..]));
+}
+
+fn frame(vc_count: u8, pointer: Pointer, data: &[u8]) -> TmFrame<'_> {
+    TmFrame { scid: 1, vcid: 0, mc_count: 0, vc_count, pointer, ocf: OCF, data }
+}
+
+fn taken(extractor: &mut TmExtractor, frame: &TmFrame) -> Vec<Vec<u8>> {
+    extractor.take(frame).unwrap().packets.map(<[u8]>::to_vec).collect()
+}
+
+#[test]
+fn a_packet_over_many_frames() {
+    let mut memory = [0; 32];
+    let mut extractor = TmExtractor::new(&mut memory);
+    assert!(taken(&mut extractor, &frame(255, Pointer::At(0), &LONG[..4])).is_empty());
+    assert!(taken(&mut extractor, &frame(0, Pointer::NoStart, &LONG[4..15])).is_empty());
+    assert_eq!(extractor.part(), &LONG[..15]);
+    let last = [&LONG[15..], &IDLE, &FOUR[1], &FOUR[2][..5]].concat();
+    assert_eq!(taken(&mut extractor, &frame(1, Pointer::At(1), &last)), [&LONG[..], &FOUR[1]]);
+    assert_eq!(taken(&mut extractor, &frame(2, Pointer::NoStart, &FOUR[2][5..])), [FOUR[2]]);
+    assert!(taken(&mut extractor, &frame(3, Pointer::At(0), &LONG[..8])).is_empty());
+    assert!(taken(&mut extractor, &frame(5, Pointer::NoStart, &LONG[8..])).is_empty());
+    assert!(extractor.part().is_empty());
+}
+
+#[test]
+fn refusals() {
+    for (scid, vcid, length) in [(1024, 0, 20), (0, 8, 20), (0, 0, 15), (0, 0, 2049), (0, 0, 65_556)] {
+        assert_eq!(TmBuilder::new(scid, vcid, length, &mut []).err(), Some(TmFault::FieldRange));
+    }
+    let mut memory = [0; 7];
+    let mut builder = TmBuilder::new(1023, 7, 2048, &mut memory).unwrap();
+    assert_eq!(builder.queue(&IDLE), Err(TmFault::NotAPacket));
+    assert_eq!(builder.queue(&[&FOUR[0][..], &FOUR[1]].concat()), Err(TmFault::NotAPacket));
+    assert_eq!(builder.queue(&LONG), Err(TmFault::Memory));
+    builder.queue(&FOUR[0]).unwrap();
+    assert_eq!(builder.build(OCF, &mut [0; 2047]).err(), Some(TmFault::Room));
+    assert_eq!(builder.waiting(), FOUR[0]);
+
+    let mut memory = [0; 10];
+    let mut extractor = TmExtractor::new(&mut memory);
+    for (pointer, size) in [(0, 0), (8, 8), (2046, 8), (2047, 8), (65_535, 8)] {
+        let fault = extractor.take(&frame(0, Pointer::At(pointer), &LONG[..size])).err();
+        assert_eq!(fault, Some(TmFault::FieldRange));
+    }
+    assert!(taken(&mut extractor, &frame(0, Pointer::At(0), &LONG[..8])).is_empty());
+    assert_eq!(extractor.take(&frame(1, Pointer::NoStart, &LONG[8..])).err(), Some(TmFault::Memory));
+    assert_eq!(extractor.part(), &LONG[..8]);
+    assert_eq!(extractor.take(&frame(2, Pointer::At(0), &FOUR[0])).unwrap().lost, Some(1));
+}
