@@ -1,0 +1,113 @@
+/* What the two players share: the lines of `tctool sim`, and the words of a script. The script is standard input, and
+ * one that tests/session/script wrote: nothing of it is unreadable. */
+#ifndef LINES_H
+#define LINES_H
+
+#include "sedgechisel.h"
+#include "sedgechisel_nodes.h"
+#include <stdio.h>
+#include <stdlib.h>
+#include <string.h>
+
+enum { LONGEST_LINE = 4096 };
+
+static struct sedge_config config = {1, 2, 0, 254, 127, 3, 10, 1016, 65542, ~(uint64_t)0, 64, 4, 1000, 64, 0};
+static uint8_t octets[LONGEST_LINE], packet[65542];
+
+static void give_up(const char *why) {
+    fprintf(stderr, "play: %s\n", why);
+    exit(3);
+}
+
+static void write_digits(const char *word, const uint8_t *from, size_t count) {
+    size_t at;
+    printf("%s ", word);
+    for (at = 0; at < count; at++) printf("%02X", from[at]);
+    printf("\n");
+}
+
+static void write_fault(const char *word, uint8_t number, struct sedge_text name) {
+    printf("%s %d %s\n", word, number, name.text);
+}
+
+static void write_received(const struct sedge_received *it) {
+    switch (it->kind) {
+    case 1: write_fault("invalid", it->fault, sedge_tc_fault_name(it->fault)); break;
+    case 2: printf("foreign\n"); break;
+    case 3:
+        printf("AD %d %s", it->n, sedge_verdict_name(it->verdict).text);
+        if (it->ready > 0) printf(" ready");
+        if (it->ready > 1) printf(" %zu", it->ready);
+        if (it->dropped != 0) printf(" dropped %s", sedge_dropped_name(it->dropped).text);
+        printf("\n");
+        break;
+    case 4: printf(it->kept ? "BD kept\n" : "BD dropped\n"); break;
+    default: printf(it->command ? "BC set %d\n" : "BC unlock\n", it->vr);
+    }
+}
+
+static void write_heard(const struct sedge_heard *it) {
+    if (it->kind == 1) {
+        write_fault("invalid", it->fault, sedge_tm_fault_name(it->fault));
+    } else if (it->kind == 2) {
+        printf("foreign\n");
+    } else {
+        if (it->first) {
+            printf("gap=-");
+        } else {
+            printf("gap=%d", it->missing);
+        }
+        printf(" packets=%zu", it->packets);
+        if (it->alert != 0) printf(" alert %s", sedge_alert_name(it->alert).text);
+        printf("\n");
+    }
+}
+
+/* The octets that digits spell, in `octets`; their number. */
+static size_t octets_of(const char *digits) {
+    size_t count = 0;
+    unsigned octet;
+    for (; sscanf(digits, "%2x", &octet) == 1; digits += 2) octets[count++] = (uint8_t)octet;
+    return count;
+}
+
+static void configures(const char *name, const char *value) {
+    static const struct {
+        const char *name;
+        uint32_t *at;
+    } fields[] = {{"scid", &config.scid},
+                  {"vcid", &config.vcid},
+                  {"tm_vcid", &config.tm_vcid},
+                  {"width", &config.width},
+                  {"window", &config.window},
+                  {"limit", &config.limit},
+                  {"timer", &config.timer},
+                  {"part", &config.part},
+                  {"max_packet", &config.max_packet},
+                  {"ready_slots", &config.ready_slots},
+                  {"bypass_slots", &config.bypass_slots},
+                  {"queue_slots", &config.queue_slots},
+                  {"frame_length", &config.frame_length},
+                  {"blocking", &config.blocking}};
+    size_t at;
+    if (strcmp(name, "maps") == 0) config.maps = strtoull(value, NULL, 10);
+    for (at = 0; at < sizeof fields / sizeof *fields; at++) {
+        if (strcmp(name, fields[at].name) == 0) *fields[at].at = (uint32_t)strtoul(value, NULL, 10);
+    }
+}
+
+/* Reads the script: each event's words, of which those that it lacks are "". */
+static void read_script(void (*plays)(const char *word, const char *one, const char *two)) {
+    static char line[LONGEST_LINE], word[16], one[LONGEST_LINE], two[LONGEST_LINE];
+    while (fgets(line, sizeof line, stdin) != NULL) {
+        *word = *one = *two = 0;
+        if (sscanf(line, "%15s %4095s %4095s", word, one, two) < 1) continue;
+        if (strcmp(word, "config") == 0) {
+            configures(one, two);
+        } else {
+            plays(word, one, two);
+        }
+    }
+}
+
+#endif
