@@ -2,8 +2,11 @@
 
 ghost use Rattle.std.specs.Prelude.{◌≡◌};
 
+use thiserror::Error;
+
 /// Why octets were refused as a control word, or a control word has no octets.
-#[derive(Clone, Copy, Debug, PartialEq, Eq)]
+#[derive(Clone, Copy, Debug, Error, PartialEq, Eq)]
+#[error("{} {}", self.number(), self.name())]
 pub enum ClcwFault {
     /// The control word type is not 0.
     Kind = 1,

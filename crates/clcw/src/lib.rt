@@ -6,8 +6,6 @@ mod decoding;
 mod encoding;
 mod fault;
 mod flags;
-#[cfg(test)]
-mod tests;
 mod word;
 
 pub use decoding::decode;

@@ -105,7 +105,7 @@ fn other_words(alloc: Global, words: &[&str]) -> Error {
 fn no_command<'a>(alloc: Global, words: &'a [&'a str]) -> Result<Error, AllocError> {
     let mut command = Command::new(alloc, "tctool")
         .about("Tools for the telecommand link")
-        .version("0.1.0")
+        .version("0.2.0")
         .after_help(ending_of_help!("3 BC unlock Open vr=0 l=0 w=0 t=0 b=1"))
         .subcommand_required(true);
     for described in COMMANDS {

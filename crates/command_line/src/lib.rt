@@ -10,6 +10,3 @@ mod task;
 
 pub use commands::options;
 pub use task::{Options, Task, UsageFault};
-
-#[cfg(test)]
-mod tests;

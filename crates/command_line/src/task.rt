@@ -46,11 +46,13 @@ pub struct Options<'a> {
 }
 
 /// Why the words ask for nothing.
-#[derive(Debug, Drop)]
+#[derive(Debug, Drop, thiserror::Error)]
 pub enum UsageFault {
     /// What the parser of the words answers, a text of help that was asked for among it.
+    #[error(transparent)]
     Words(Error),
     /// The width of the window is odd.
+    #[error("width is odd")]
     OddWidth { width: u8 },
 }
 

@@ -1,12 +1,21 @@
-//! Tests of the upper layers by their public calls alone: the two nodes and the simulated link (`link`,
-//! of `tc_link`), its scripts (`scripts`, of `script`), and the lines of streams (`streams`, of
-//! `listings`). They are a crate of their own, so that the layers aren't proved once more with them.
+//! Tests of the upper layers by their public calls alone: the two nodes (`node_calls`, of `nodes`), the
+//! simulated link (`link`, of `tc_link`), its scripts (`scripts`, of `script`), and the devices and the
+//! lines of streams (`streams`, of `listings`). They are a crate of their own, so that the layers aren't
+//! proved once more with them. What lines show stands in rows/ at the top.
 #![tactic(auto)]
 
+#[cfg(test)]
+mod frames;
+#[cfg(test)]
+mod full_queues;
 #[cfg(test)]
 mod link;
 #[cfg(test)]
 mod no_memory;
+#[cfg(test)]
+mod node_calls;
+#[cfg(test)]
+mod refusing;
 #[cfg(test)]
 mod scripts;
 #[cfg(test)]

@@ -1,24 +1,14 @@
-// Calls of the nodes and of the simulated link that take no memory: `verify` runs these tests with all allocations
+// Calls of the nodes and of the simulated link that take no memory: tools/refusals runs these tests with all allocations
 // refused after the words 'set up'.
 
+use crate::frames::{
+    AD_0, AD_1, AD_ON_CHANNEL_3, BD_0, BD_NONE, IDLE, OF_SPACECRAFT_2, P0, UNLOCK,
+};
 use cop1::{Alert, CopFault, Directive};
 use nodes::{Config, Ground, Heard, LinkFault, Received, Spacecraft};
 use std::alloc::Global;
 use std::process::Abort;
 use tc_link::{Event, Reply, Sim, SimFault};
-
-const P0: [u8; 7] = [0x10, 0x05, 0xc0, 0x00, 0x00, 0x00, 0xaa];
-
-// Telemetry frames of 19 octets: one of only idle data, and the same of another spacecraft.
-const IDLE: [u8; 19] = [
-    0x00, 0x11, 0x01, 0x01, 0x1f, 0xfe, 0x55, 0x55, 0x55, 0x55, 0x55, 0x55, 0x55, 0x01, 0x08, 0x00,
-    0x00, 0x7d, 0xc0,
-];
-
-const OF_SPACECRAFT_2: [u8; 19] = [
-    0x00, 0x21, 0x05, 0x09, 0x18, 0x00, 0x10, 0x05, 0xc0, 0x01, 0x00, 0x00, 0xab, 0x01, 0x08, 0x00,
-    0x01, 0xa8, 0x2c,
-];
 
 fn config() -> Config {
     Config {
@@ -113,36 +103,13 @@ fn a_submission_committed_takes_no_memory(rt: HostRuntime) {
     assert_eq!(rt; ground.outstanding(), 2);
 }
 
-// Type-AD frames with numbers 0 and 1, which carry a packet on MAP 4, and Type-BD frames, with the same packet and with
-// one octet.
-const AD_0: [u8; 15] = [
-    0x00, 0x01, 0x08, 0x0e, 0x00, 0xc4, 0x10, 0x05, 0xc0, 0x00, 0x00, 0x00, 0xaa, 0xe7, 0x5d,
-];
-
-const AD_1: [u8; 15] = [
-    0x00, 0x01, 0x08, 0x0e, 0x01, 0xc4, 0x10, 0x05, 0xc0, 0x01, 0x00, 0x00, 0xab, 0x6a, 0xeb,
-];
-
-const BD: [u8; 15] = [
-    0x20, 0x01, 0x08, 0x0e, 0x00, 0xc4, 0x10, 0x05, 0xc0, 0x00, 0x00, 0x00, 0xaa, 0xca, 0x35,
-];
-
-const BD_NONE: [u8; 9] = [0x20, 0x01, 0x08, 0x08, 0x00, 0xc4, 0xaa, 0x93, 0x46];
-
-// AD_0 on another virtual channel, and the command Unlock.
-const OF_CHANNEL_3: [u8; 15] = [
-    0x00, 0x01, 0x0c, 0x0e, 0x00, 0xc4, 0x10, 0x05, 0xc0, 0x00, 0x00, 0x00, 0xaa, 0xb6, 0x1a,
-];
-
-const UNLOCK: [u8; 8] = [0x30, 0x01, 0x08, 0x07, 0x00, 0x00, 0x8b, 0x9e];
-
 // A spacecraft that has a packet of each service, and one of telemetry.
 fn spacecraft(rt: &impl Abort, alloc: Global) -> Result<Spacecraft, LinkFault> {
     let config = config();
     assert!(rt; config.fault().is_none());
     let mut spacecraft = Spacecraft::new(alloc, &config)?;
     let _ = spacecraft.receive(&AD_0)?;
-    let _ = spacecraft.receive(&BD)?;
+    let _ = spacecraft.receive(&BD_0)?;
     match spacecraft.telemetry(&[0x00, 0x05, 0xc0, 0x00, 0x00, 0x00, 0xaa]) {
         Ok(()) => Ok(spacecraft),
         Err(_) => Err(LinkFault::Memory),
@@ -156,7 +123,7 @@ fn a_spacecraft_that_is_made_takes_no_memory(rt: HostRuntime) {
         return;
     };
     let _ = eprintln!(rt; "set up");
-    for octets in [&AD_0[..], &AD_1, &BD_NONE, &OF_CHANNEL_3, &UNLOCK, &P0] {
+    for octets in [&AD_0[..], &AD_1, &BD_NONE, &AD_ON_CHANNEL_3, &UNLOCK, &P0] {
         assert!(rt; spacecraft.receive(octets).is_ok());
         assert!(rt; spacecraft.prepare(octets).is_ok());
     }

@@ -1,4 +1,5 @@
-// Scripts played by hand, and each of their growths refused in turn.
+// Scripts played by hand, and each of their growths refused in turn. What scripts answer stands in rows/sim at
+// the top.
 
 use nodes::Parameter;
 use script::{Carrier, Line, Program, ScriptFault, Step, open, play_some, read_line};
@@ -6,8 +7,8 @@ use std::alloc::Global;
 use std::process::Abort;
 use tc_link::Sim;
 
-// All that a script answers, into a text that grows from this room.
-fn answers(alloc: Global, script: &[u8], room: usize) -> Result<String, ScriptFault> {
+// The link after a script, and all that the script answers, in a text that grows from this room.
+fn played(alloc: Global, script: &[u8], room: usize) -> Result<(Sim, String), ScriptFault> {
     if script.len() > 4096 {
         return Err(ScriptFault::Memory);
     }
@@ -16,7 +17,7 @@ fn answers(alloc: Global, script: &[u8], room: usize) -> Result<String, ScriptFa
         return Err(ScriptFault::Memory);
     };
     match play_all(alloc, &mut sim, &mut text, &program) {
-        true => Ok(text),
+        true => Ok((sim, text)),
         false => Err(ScriptFault::Memory),
     }
 }
@@ -34,90 +35,85 @@ fn play_all(alloc: Global, sim: &mut Sim, text: &mut String, program: &Program<'
     false
 }
 
-// A script is answered so. Where memory is refused the script opened and played again answers as ever.
-fn tells(rt: &(impl Abort + Eprint), alloc: Global, room: usize, script: &str, want: &str) {
-    let told = match answers(alloc, script.as_bytes(), room) {
+// A script is answered so, or its session had such a start. Where memory is refused the script opened and played
+// again answers as ever.
+fn plays(
+    rt: &(impl Abort + Eprint),
+    alloc: Global,
+    room: usize,
+    script: &str,
+    answers: Option<&str>,
+    idle: Option<bool>,
+) {
+    let told = match played(alloc, script.as_bytes(), room) {
         Err(ScriptFault::Memory) => {
             let _ = eprintln!(rt; "refused a growth");
-            answers(alloc, script.as_bytes(), room)
+            played(alloc, script.as_bytes(), room)
         }
         told => told,
     };
     match told {
-        Ok(text) => assert_eq!(rt; text.as_str(), want),
+        Ok((sim, text)) => {
+            assert_eq!(rt; sim.idle(), idle);
+            assert!(rt; answers.is_none_or(|answers| answers == text.as_str()));
+        }
         Err(_) => assert!(rt; false),
     }
 }
 
-// A script is not opened, for this reason, and no memory is wanted to say so.
-fn refuses(rt: &impl Abort, alloc: Global, script: &str, want: ScriptFault) {
-    if let Err(fault) = answers(alloc, script.as_bytes(), 0) {
-        assert_eq!(rt; fault, want);
-    } else {
-        assert!(rt; false);
+const BOTH_WAYS: [&str; 2] = [
+    "# a packet goes up, and one comes down\nconfig limit 2\ninit none\nsubmit 4 1005c0000000AA\nsend\n\
+     up deliver\ntake\ntake\ntelemetry 0005c0000000AA\nreport\ndown deliver\nwindow 0\nshow",
+    "ok\nok\nsent 0001080E00C41005C0000000AAE75D\nAD 0 accepted ready\n\
+     packet 4 1005C0000000AA\nnothing\nok\nreport 01080001\ngap=- packets=1\nrefused 2 Window\n\
+     clean=yes state=S1 submitted=1 delivered=1 sent=1 accepted=1 acknowledged=1 outstanding=0\n",
+];
+
+#[test]
+fn scripts_that_are_played(rt: HostRuntime) {
+    let [script, answers] = BOTH_WAYS;
+    for room in [0, 4096] {
+        plays(&rt, rt.alloc(), room, script, Some(answers), Some(true));
     }
 }
 
-#[test]
-fn a_packet_goes_up(rt: HostRuntime) {
-    let script = "init none\nsubmit 4 1005c0000000AA\nsend\nup deliver\ntake\ntake\nshow";
-    let want = "ok\nok\nsent 0001080E00C41005C0000000AAE75D\nAD 0 accepted ready\n\
-packet 4 1005C0000000AA\nnothing\nclean=yes state=S1 submitted=1 delivered=1 \
-sent=1 accepted=1 acknowledged=0 outstanding=1\n";
-    tells(&rt, rt.alloc(), 4096, script, want);
-}
+// A stale report confirms a session that did not begin clean.
+const A_STALE_REPORT: &str = "init none\nreport\nsubmit 4 1005C0000000AA\nsend\nup deliver\n\
+    terminate\ninit set 0\nsend\nup lose\ndown deliver\nsubmit 4 1005C0000000AA\nsend\nup deliver\n\
+    report\ndown deliver\n";
+
+// Reports are on their way as the session begins, two of them with another FARM-B. Each has the value and the
+// flags that the receiver would report.
+const FOUR_REPORTS_ON_THEIR_WAY: &str = "report\nreport\nbypass 4 1005C0000000AA\nsend\n\
+    up deliver\nreport\nreport\ninit check\ndown deliver\ndown deliver\ndown deliver\ndown deliver\n";
+
+// An old report differs in its retransmit flag alone from what the receiver would report.
+const AN_OLD_FLAG: &str = "init none\nreport\nsubmit 4 1005C0000000AA\nsubmit 4 1005C0010000AB\n\
+    send\nsend\nup lose\nup deliver\nterminate\nvs 0\ninit check\ndown deliver\nreport\ndown deliver\n";
+
+// One frame of three is accepted, and a report on it is on its way when the next session begins.
+const ONE_OF_THREE_ACCEPTED: &str =
+    "config limit 1\nconfig timer 1\ninit check\nreport\ndown deliver\n\
+    submit 4 1005C0000000AA\nsubmit 4 1005C0010000AB\nsubmit 4 1005C0020000AC\nsend\nsend\nsend\n\
+    up deliver\nup lose\nup lose\ntick\nreport\nreport\ndown deliver\ninit set 3\nsend\ndown deliver\n\
+    up deliver\nreport\ndown deliver\n";
 
 #[test]
-fn a_packet_goes_past_the_sequence_control(rt: HostRuntime) {
-    let script = "bypass 4 1005c0000000aa\nsend\nup deliver\ntakebypass\ntakebypass\n";
-    let want = "ok\nsent 2001080E00C41005C0000000AACA35\nBD kept\n\
-packet 4 1005C0000000AA\nnothing\n";
-    tells(&rt, rt.alloc(), 4096, script, want);
+fn idle_starts(rt: HostRuntime) {
+    for (script, idle) in [
+        ("show\n", None),
+        (A_STALE_REPORT, Some(false)),
+        (FOUR_REPORTS_ON_THEIR_WAY, Some(true)),
+        (AN_OLD_FLAG, Some(false)),
+        (ONE_OF_THREE_ACCEPTED, Some(true)),
+    ] {
+        plays(&rt, rt.alloc(), 4096, script, None, idle);
+    }
 }
 
+// Lines one by one, and scripts that are not opened: no memory is wanted to say so.
 #[test]
-fn a_packet_comes_down(rt: HostRuntime) {
-    let script = "telemetry 0005c0000000AA\nreport\ndown deliver\n\
-report\ndown lose\nreport\ndown damage -\ndown damage -\n";
-    let want = "ok\nreport 01080000\ngap=- packets=1\n\
-report 01080000\nlost\nreport 01080000\ninvalid 1 Length\nrefused 7 NothingInTransit\n";
-    tells(&rt, rt.alloc(), 4096, script, want);
-}
-
-#[test]
-fn directives(rt: HostRuntime) {
-    let script = "config timer 2\n# the sender is idle\nvs 7\nwindow 9\nlimit 2\ntimer 3\n\
-init check\ntick\nterminate\ninit unlock\nterminate\n\
-init set 3\nsend\nup lose\nup damage 00\nwindow 0\n";
-    let want = "ok\nok\nok\nok\nok\nok\nalert Terminated\nok\nalert Terminated\n\
-ok\nsent 30010809008200030FE4\nlost\nrefused 7 NothingInTransit\nrefused 2 Window\n";
-    tells(&rt, rt.alloc(), 0, script, want);
-}
-
-#[test]
-fn scripts_that_are_not_opened(rt: HostRuntime) {
-    refuses(
-        &rt,
-        rt.alloc(),
-        "# a note\nsubmit 4 -\nsubmit 04 -\n",
-        ScriptFault::Unreadable(3),
-    );
-    refuses(
-        &rt,
-        rt.alloc(),
-        "show\n\nconfig width 4\nx",
-        ScriptFault::Unreadable(3),
-    );
-    refuses(
-        &rt,
-        rt.alloc(),
-        "config window 1\nconfig window 128\n",
-        ScriptFault::OutOfRange("window"),
-    );
-}
-
-#[test]
-fn lines_one_by_one(rt: HostRuntime) {
+fn lines_that_are_read(rt: HostRuntime) {
     assert!(rt;
         matches!(
             read_line(b"submit 4 0f"),
@@ -132,4 +128,16 @@ fn lines_one_by_one(rt: HostRuntime) {
     );
     assert!(rt; matches!(read_line(b"submit 4 0F "), Line::Unreadable));
     assert!(rt; matches!(read_line(b"# submit"), Line::Skipped));
+    for (script, want) in [
+        (
+            "# a note\nsubmit 4 -\nsubmit 04 -\n",
+            ScriptFault::Unreadable(3),
+        ),
+        (
+            "config window 1\nconfig window 128\n",
+            ScriptFault::OutOfRange("window"),
+        ),
+    ] {
+        assert_eq!(rt; played(rt.alloc(), script.as_bytes(), 0).err(), Some(want));
+    }
 }

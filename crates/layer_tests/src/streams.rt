@@ -1,16 +1,18 @@
-// Each call once, over readers and writers of std. The octets and the lines are worked by hand.
+// Each call once, over readers and writers of std and such that fail. The octets and the lines are worked by hand.
 
 ghost use Rattle.std.specs.Prelude.{◌≡◌, [], None};
 
 use cop1::Farm;
 use listings::{
     Call, Cutter, DeviceLog, FrameCutter, FrameLength, FrameListing, Listing, ListingFault,
-    MapListing, PacketListing, Reader, RefusalListing, TelemetryListing, Writer, list_stream,
-    write_all,
+    MapListing, PacketListing, Reader, RefusalListing, Sink, Source, TelemetryListing, Writer,
+    list_stream, write_all,
 };
-use octets::Splitter;
+use octets::{Splitter, remove_front};
 use space_packet::Packets;
 use std::alloc::{AllocError, Global};
+use std::io;
+use std::io::{ErrorKind, Read, Write};
 use std::process::Abort;
 use tc_frame::{Checked, Unchecked};
 use tm_link::TmFault;
@@ -58,22 +60,14 @@ fn is_listed<S: Cutter + Drop, C: Listing<S> + Drop>(
 }
 
 #[test]
-fn frames_and_their_faults(rt: HostRuntime) {
+fn each_listing(rt: HostRuntime) -> Result<(), AllocError> {
     let alloc = rt.alloc();
-    let line = "1 BC scid=1 vcid=2 unlock\n";
     let unchecked = Splitter::<Unchecked>::new(alloc);
+    let line = "1 BC scid=1 vcid=2 unlock\n";
     is_listed(&rt, alloc, &UNLOCK, unchecked, FrameListing, true, line);
-    let rest = Splitter::<Unchecked>::new(alloc);
-    let line = "1 invalid 1 Short\n";
-    is_listed(&rt, alloc, &UNLOCK[..3], rest, FrameListing, false, line);
     let checked = Splitter::<Checked>::new(alloc);
     let line = "1 invalid 5 Length\n";
     is_listed(&rt, alloc, &UNLOCK, checked, RefusalListing, false, line);
-}
-
-#[test]
-fn what_the_receiver_makes_of_frames(rt: HostRuntime) {
-    let alloc = rt.alloc();
     let farm = Farm::new(254, 0).unwrap();
     let unchecked = Splitter::<Unchecked>::new(alloc);
     let line = "1 AD 0 accepted Open vr=1 l=0 w=0 t=0 b=0\n";
@@ -82,27 +76,10 @@ fn what_the_receiver_makes_of_frames(rt: HostRuntime) {
     let unchecked = Splitter::<Unchecked>::new(alloc);
     let line = "packet 4 1005C0000000AA\n";
     is_listed(&rt, alloc, &DATA, unchecked, packets, true, line);
-}
-
-#[test]
-fn packets(rt: HostRuntime) {
-    let alloc = rt.alloc();
     let splitter = Splitter::<Packets>::new(alloc);
+    let packets = PacketListing::new();
     let line = "1 TC secondary=0 apid=5 flags=3 count=0 gap=- data=AA\n";
-    is_listed(
-        &rt,
-        alloc,
-        &DATA[6..],
-        splitter,
-        PacketListing::new(),
-        true,
-        line,
-    );
-}
-
-#[test]
-fn telemetry(rt: HostRuntime) -> Result<(), AllocError> {
-    let alloc = rt.alloc();
+    is_listed(&rt, alloc, &DATA[6..], splitter, packets, true, line);
     let frames = TelemetryListing::<Twenty>::new(alloc, 20)?;
     let cutter = FrameCutter::<Twenty>::new(alloc, 20);
     let lines = "1 scid=1 vcid=0 mc=0 vc=0 pointer=0 ocf=01080000 gap=-\n\
@@ -139,4 +116,92 @@ fn texts_and_logs(rt: HostRuntime) {
         FrameListing,
     );
     assert_eq!(rt; result, Err(ListingFault::Write));
+}
+
+// A reader and a writer that move at most three octets at a call, and fail at the call after this many.
+#[derive(Drop)]
+struct Device {
+    octets: Vec<u8>,
+    calls_left: usize,
+}
+
+impl Device {
+    // Whether this call fails.
+    fn fails(&mut self) -> bool {
+        let fails = self.calls_left == 0;
+        self.calls_left = self.calls_left.wrapping_sub(1);
+        fails
+    }
+}
+
+impl Read for Device {
+    fn read(&mut self, piece: &mut [u8]) -> io::Result<usize> {
+        if self.fails() {
+            return Err(io::Error::from(ErrorKind::PermissionDenied));
+        }
+        let most = piece.len().min(3).min(self.octets.len());
+        piece[..most].copy_from_slice(&self.octets[..most]);
+        remove_front(&mut self.octets, most);
+        Ok(most)
+    }
+}
+
+impl Write for Device {
+    fn write(&mut self, text: &[u8]) -> io::Result<usize> {
+        if self.fails() {
+            return Err(io::Error::from(ErrorKind::StorageFull));
+        }
+        let count = text.len().min(3);
+        self.octets.extend_from_slice(&text[..count])?;
+        Ok(count)
+    }
+
+    fn flush(&mut self) -> io::Result<()> {
+        Ok(())
+    }
+}
+
+// What the reader or the writer inside answers is answered: how many octets, or its error.
+#[test]
+fn readers_and_writers_of_std(rt: HostRuntime) -> Result<(), AllocError> {
+    let mut piece = [0; 4];
+    let octets = Vec::from_slice(rt.alloc(), b"unlock")?;
+    let mut reader = Reader::new(Device {
+        octets,
+        calls_left: 2,
+    });
+    for (count, octets) in [(3, b"unl\0"), (3, b"ock\0")] {
+        assert_eq!(rt; reader.read(&mut piece).ok(), Some(count));
+        assert_eq!(rt; piece, *octets);
+    }
+    let failed = reader.read(&mut piece).err().map(|error| error.kind());
+    assert_eq!(rt; failed, Some(ErrorKind::PermissionDenied));
+    assert_eq!(rt; reader.read(&mut piece).ok(), Some(0));
+
+    let octets = Vec::new(rt.alloc());
+    let mut device = Device {
+        octets,
+        calls_left: 1,
+    };
+    let mut writer = Writer::new(&mut device);
+    assert_eq!(rt; writer.write(b"unlock").ok(), Some(3));
+    let failed = writer.write(b"ock").err().map(|error| error.kind());
+    assert_eq!(rt; failed, Some(ErrorKind::StorageFull));
+    assert_eq!(rt; writer.write(b"ock").ok(), Some(3));
+    assert_eq!(rt; device.octets.as_slice(), b"unlock".as_slice());
+    Ok(())
+}
+
+#[test]
+fn texts_of_faults(rt: HostRuntime) -> Result<(), AllocError> {
+    for (fault, text) in [
+        (ListingFault::Read, "read failed"),
+        (ListingFault::Write, "write failed"),
+        (ListingFault::Memory, "no memory"),
+        (ListingFault::TooLong, "input too long"),
+    ] {
+        let said = format!(in rt.alloc(); "{fault}")?;
+        assert_eq!(rt; said.as_str(), text);
+    }
+    Ok(())
 }

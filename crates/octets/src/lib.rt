@@ -8,8 +8,6 @@ mod laws;
 mod number;
 mod splitter;
 mod table;
-#[cfg(test)]
-mod tests;
 mod wire;
 
 pub use checking::{append_check, check, check_holds};

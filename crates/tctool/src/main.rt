@@ -89,6 +89,3 @@ fn tell<R: Read + Drop>(rt: &HostRuntime, input: R, options: &Options) -> u8
     let dumped = dump::dump(rt.alloc(), &mut reader, &mut writer, options);
     ending(&dumped, &mut Writer::new(rt.stderr()))
 }
-
-#[cfg(test)]
-mod tests;

@@ -71,6 +71,8 @@ fn refused_octets(rt: HostRuntime) {
 fn faults_by_number_and_name(rt: HostRuntime) {
     assert_eq!(rt; PacketFault::FieldRange.number(), 5);
     assert_eq!(rt; PacketFault::FieldRange.name(), "FieldRange");
+    let text = format!(in rt.alloc(); "{}", PacketFault::FieldRange);
+    assert_eq!(rt; text.ok().as_deref(), Some("5 FieldRange"));
 }
 
 // Feeds. Where memory is refused nothing has changed, and the call made again answers as ever.

@@ -1,31 +1,32 @@
 // Many packets over a link that loses frames.
 
-use super::play::Play;
-use cop1::Directive;
+use super::twins::records_of;
+use cop1::{Directive, FopMode};
 use std::alloc::{AllocError, Global};
 use std::process::Abort;
 use std::test::Fail;
-use tc_link::{Config, Event, Reply};
+use tc_link::{Config, Event, Reply, Sim};
 
 const COUNT: usize = 600;
 
-// Packets on MAP 4, each with its sequence count, and the data fields of the frames that carry them.
-fn packets(alloc: Global) -> Result<Vec<Vec<u8>>, AllocError> {
+// Packets on MAP 4, each with its sequence count, after the same octets: none, or the segment header of their frames.
+fn packets_after(alloc: Global, head: &[u8]) -> Result<Vec<Vec<u8>>, AllocError> {
     let mut packets = Vec::with_capacity(alloc, COUNT)?;
-    for place in 0..COUNT {
-        packets.push(Vec::from_slice(alloc, &packet(place))?)?;
-    }
+    push_packets(alloc, &mut packets, head)?;
     Ok(packets)
 }
 
-fn fields(alloc: Global) -> Result<Vec<Vec<u8>>, AllocError> {
-    let mut fields = Vec::with_capacity(alloc, COUNT)?;
+fn push_packets(alloc: Global, packets: &mut Vec<Vec<u8>>, head: &[u8]) -> Result<(), AllocError> {
     for place in 0..COUNT {
-        let mut field = Vec::from_slice(alloc, &[0xc4])?;
-        field.extend_from_slice(&packet(place))?;
-        fields.push(field)?;
+        packets.push(packet_after(alloc, head, place)?)?;
     }
-    Ok(fields)
+    Ok(())
+}
+
+fn packet_after(alloc: Global, head: &[u8], place: usize) -> Result<Vec<u8>, AllocError> {
+    let mut octets = Vec::from_slice(alloc, head)?;
+    octets.extend_from_slice(&packet(place))?;
+    Ok(octets)
 }
 
 fn packet(place: usize) -> [u8; 7] {
@@ -44,10 +45,10 @@ struct Lengths {
 
 // A link, the packets and their data fields, how many frames were sent, and how many packets were taken.
 #[derive(Drop)]
-struct Carrier {
-    play: Play,
-    packets: Vec<Vec<u8>>,
-    fields: Vec<Vec<u8>>,
+struct Carrier<'a> {
+    sim: Sim,
+    packets: &'a [Vec<u8>],
+    fields: &'a [Vec<u8>],
     compared: Lengths,
     frames: usize,
     taken: usize,
@@ -61,10 +62,14 @@ fn goes_on(list: &[Vec<u8>], place: usize, all: &[Vec<u8>]) -> bool {
     }
 }
 
-impl Carrier {
+fn are_same(list: &[Vec<u8>], all: &[Vec<u8>]) -> bool {
+    list.len() == all.len() && all.starts_with(list)
+}
+
+impl Carrier<'_> {
     // Lets an event happen, and compares the lists.
     fn happens(&mut self, rt: &impl Abort, event: Event<'_>) -> Result<Reply, Fail> {
-        let reply = self.play.step(event)?;
+        let reply = self.sim.step(event)?;
         if let Reply::Packet(map, octets) = &reply {
             assert_eq!(rt;
                 (*map, octets.as_slice()),
@@ -79,12 +84,12 @@ impl Carrier {
     // What was submitted and delivered are these packets in their order, what was sent and accepted
     // their data fields; and no list has passed the one that it follows.
     fn compares(&mut self, rt: &impl Abort) {
-        let sim = self.play.sim();
+        let sim = &self.sim;
         let old = self.compared;
-        assert!(rt; goes_on(sim.submitted(4), old.submitted, &self.packets));
-        assert!(rt; goes_on(sim.delivered(4), old.delivered, &self.packets));
-        assert!(rt; goes_on(sim.sent(), old.sent, &self.fields));
-        assert!(rt; goes_on(sim.accepted(), old.accepted, &self.fields));
+        assert!(rt; goes_on(sim.submitted(4), old.submitted, self.packets));
+        assert!(rt; goes_on(sim.delivered(4), old.delivered, self.packets));
+        assert!(rt; goes_on(sim.sent(), old.sent, self.fields));
+        assert!(rt; goes_on(sim.accepted(), old.accepted, self.fields));
         let new = Lengths {
             submitted: sim.submitted(4).len(),
             delivered: sim.delivered(4).len(),
@@ -116,10 +121,10 @@ impl Carrier {
 
     // Whether the report of now acknowledges more.
     fn reports(&mut self, rt: &impl Abort) -> Result<bool, Fail> {
-        let before = self.play.sim().acknowledged();
+        let before = self.sim.acknowledged();
         let _ = self.happens(rt, Event::Report)?;
         let _ = self.happens(rt, Event::DownDeliver)?;
-        Ok(before < self.play.sim().acknowledged())
+        Ok(before < self.sim.acknowledged())
     }
 
     // Submits each packet.
@@ -139,7 +144,7 @@ impl Carrier {
             if !self.reports(rt)? {
                 assert_eq!(rt; self.happens(rt, Event::Tick)?, Reply::Done);
             }
-            if self.play.sim().outstanding() == 0 {
+            if self.sim.outstanding() == 0 {
                 break;
             }
             self.sends(rt, 10)?;
@@ -154,35 +159,52 @@ impl Carrier {
         self.submits(rt)?;
         self.carries(rt)?;
         assert_eq!(rt; self.taken, COUNT);
-        assert!(rt; self.play.sim().submitted(4) == self.packets.as_slice());
-        assert!(rt; self.play.sim().delivered(4) == self.packets.as_slice());
-        assert!(rt; self.play.sim().sent() == self.fields.as_slice());
-        assert!(rt; self.play.sim().accepted() == self.fields.as_slice());
-        let records = "clean=yes state=S1 submitted=600 delivered=600 sent=600 accepted=600 \
-            acknowledged=600 outstanding=0\n";
-        self.play.ends(rt, &[], records)?;
+        assert!(rt; are_same(self.sim.submitted(4), self.packets));
+        assert!(rt; are_same(self.sim.delivered(4), self.packets));
+        assert!(rt; are_same(self.sim.sent(), self.fields));
+        assert!(rt; are_same(self.sim.accepted(), self.fields));
+        let records = [COUNT, COUNT, COUNT, COUNT, COUNT, 0];
+        assert_eq!(rt; records_of(&self.sim), (FopMode::S1, records));
+        assert_eq!(rt; self.sim.clean(), Some(true));
         Ok(())
     }
 }
 
 #[test]
 fn every_seventh_frame_lost(rt: HostRuntime) -> Result<(), Fail> {
+    let packets = packets_after(rt.alloc(), &[])?;
+    carries_packets(&rt, rt.alloc(), packets.as_slice())
+}
+
+fn carries_packets(rt: &impl Abort, alloc: Global, packets: &[Vec<u8>]) -> Result<(), Fail> {
+    let fields = packets_after(alloc, &[0xc4])?;
+    carries_fields(rt, alloc, packets, fields.as_slice())
+}
+
+fn carries_fields(
+    rt: &impl Abort,
+    alloc: Global,
+    packets: &[Vec<u8>],
+    fields: &[Vec<u8>],
+) -> Result<(), Fail> {
     let config = Config {
         timer: 1,
         ..Config::default()
     };
+    let sim = Sim::new(alloc, config)?;
+    let compared = Lengths {
+        submitted: 0,
+        delivered: 0,
+        sent: 0,
+        accepted: 0,
+    };
     let mut carrier = Carrier {
-        play: Play::new(&rt, rt.alloc(), config)?,
-        packets: packets(rt.alloc())?,
-        fields: fields(rt.alloc())?,
-        compared: Lengths {
-            submitted: 0,
-            delivered: 0,
-            sent: 0,
-            accepted: 0,
-        },
+        sim,
+        packets,
+        fields,
+        compared,
         frames: 0,
         taken: 0,
     };
-    carrier.runs(&rt)
+    carrier.runs(rt)
 }

@@ -1,0 +1,125 @@
+// Two links to which the same happens. Where one is refused memory nothing of it has changed, which the other
+// shows, and the call made again answers as ever.
+
+use crate::refusing::says_refused;
+use cop1::FopMode;
+use std::alloc::Global;
+use std::process::Abort;
+use std::test::Fail;
+use tc_link::{Config, Event, Reply, Sim, SimFault, run};
+
+/// The state, and how many packets were submitted and delivered on MAP 4, frames sent, accepted and acknowledged,
+/// and segments not acknowledged.
+pub type Records = (FopMode, [usize; 6]);
+
+pub fn records_of(sim: &Sim) -> Records {
+    let numbers = [
+        sim.submitted(4).len(),
+        sim.delivered(4).len(),
+        sim.sent().len(),
+        sim.accepted().len(),
+        sim.acknowledged(),
+        sim.outstanding(),
+    ];
+    (sim.state(), numbers)
+}
+
+/// A new link. Where memory is refused the call made again answers as ever.
+pub fn new_link(rt: &(impl Abort + Eprint), alloc: Global, config: Config) -> Result<Sim, Fail> {
+    match Sim::new(alloc, config) {
+        Err(SimFault::Memory) => {
+            says_refused(rt, SimFault::Memory.number(), 6);
+            Ok(Sim::new(alloc, config)?)
+        }
+        made => Ok(made?),
+    }
+}
+
+// A link after a whole run. Where memory is refused the run made again answers as ever.
+fn run_link(
+    rt: &(impl Abort + Eprint),
+    alloc: Global,
+    config: Config,
+    events: &[Event<'_>],
+) -> Result<Sim, Fail> {
+    match run(alloc, config, events) {
+        Err(SimFault::Memory) => {
+            says_refused(rt, SimFault::Memory.number(), 6);
+            Ok(run(alloc, config, events)?)
+        }
+        ran => Ok(ran?),
+    }
+}
+
+// All that the reading calls of two links show is the same.
+fn are_alike(rt: &impl Abort, one: &Sim, other: &Sim) {
+    assert_eq!(rt; records_of(one), records_of(other));
+    assert_eq!(rt; (one.clean(), one.idle()), (other.clean(), other.idle()));
+    assert_eq!(rt;
+        (one.begun(), one.confirmed()),
+        (other.begun(), other.confirmed())
+    );
+    assert!(rt; one.submissions() == other.submissions());
+    for map in 0..65 {
+        assert!(rt; one.submitted(map) == other.submitted(map));
+        assert!(rt; one.delivered(map) == other.delivered(map));
+    }
+    assert!(rt; one.sent() == other.sent() && one.accepted() == other.accepted());
+}
+
+// Whether an event may want memory.
+fn takes_memory(event: Event<'_>) -> bool {
+    matches!(
+        event,
+        Event::Submit(..)
+            | Event::Bypass(..)
+            | Event::Send
+            | Event::UpDeliver
+            | Event::Report
+            | Event::DownDeliver
+            | Event::Telemetry(_)
+    )
+}
+
+// Lets an event happen to a link. Where memory is refused it is still as the other, if that is given, and the
+// call is made again; an event that takes no memory answers at once.
+fn bears(
+    rt: &(impl Abort + Eprint),
+    sim: &mut Sim,
+    other: Option<&Sim>,
+    event: Event<'_>,
+) -> Result<Reply, SimFault> {
+    match sim.step(event) {
+        Err(SimFault::Memory) if takes_memory(event) => {
+            says_refused(rt, SimFault::Memory.number(), 6);
+            if let Some(other) = other {
+                are_alike(rt, sim, other);
+            }
+            sim.step(event)
+        }
+        answer => answer,
+    }
+}
+
+/// Two new links answer the events alike, so does a whole run of them, and these are the records then.
+pub fn bear(
+    rt: &(impl Abort + Eprint),
+    alloc: Global,
+    config: Config,
+    events: &[Event<'_>],
+    records: Records,
+) -> Result<(), Fail> {
+    let mut one = new_link(rt, alloc, config)?;
+    let mut other = new_link(rt, alloc, config)?;
+    let ran = run_link(rt, alloc, config, events)?;
+    assert_eq!(rt; ran.answers().len(), events.len());
+    for (event, recorded) in events.iter().zip(ran.answers()) {
+        let answer = bears(rt, &mut one, Some(&other), *event);
+        assert!(rt; answer == bears(rt, &mut other, None, *event));
+        assert!(rt; answer == *recorded);
+    }
+    are_alike(rt, &one, &other);
+    are_alike(rt, &one, &ran);
+    assert_eq!(rt; records_of(&one), records);
+    Ok(())
+}

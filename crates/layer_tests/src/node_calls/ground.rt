@@ -1,0 +1,288 @@
+// The node on the ground.
+
+use super::playing::{Node, plays};
+use crate::frames::*;
+use crate::refusing::says_refused;
+use cop1::{Alert, CopFault, Directive, FopMode};
+use std::alloc::Global;
+use std::process::Abort;
+use std::test::Fail;
+use tc_frame::{Check, encode};
+use tc_link::{Config, Ground, Heard, HeardReport, LinkFault};
+use tm_link::{Gap, Pointer, TmFault, decode};
+
+/// A call of a ground, and what it answers.
+#[derive(Clone, Copy)]
+pub enum Ask<'a> {
+    Submit(&'a [u8], Result<(), LinkFault>),
+    Bypass(&'a [u8], Result<(), LinkFault>),
+    Directive(Directive, Result<Option<Alert>, CopFault>),
+    Pull(Option<&'a [u8]>),
+    Advance,
+    Tick(Option<Alert>),
+    Telemetry(&'a [u8], Heard),
+    TakeTelemetry(Option<&'a [u8]>),
+    // What a report of this value says was accepted.
+    AcceptedBeyond(u8, Option<u8>),
+}
+
+/// The sender's state, V(S), NN(R), and how many segments are not acknowledged.
+pub type Standing = (FopMode, u8, u8, usize);
+
+impl<'a> Node<(Ask<'a>, Standing)> for Ground {
+    fn create(rt: &impl Abort, alloc: Global, config: &Config) -> Result<Ground, LinkFault> {
+        assert!(rt; config.fault().is_none());
+        Ground::new(alloc, config)
+    }
+
+    fn length_of_frames(&self) -> usize {
+        self.frame_length()
+    }
+
+    fn answers(&mut self, rt: &(impl Abort + Eprint), call: &(Ask<'a>, Standing)) {
+        let (ask, standing) = call;
+        match ask {
+            Ask::Submit(octets, want) => assert_eq!(rt; submit(rt, self, octets), *want),
+            Ask::Bypass(octets, want) => assert_eq!(rt; put(rt, self, true, octets), *want),
+            Ask::Directive(directive, want) => {
+                assert_eq!(rt; self.directive(*directive), *want);
+            }
+            Ask::Pull(want) => pulls(rt, self, *want),
+            Ask::Advance => self.advance(),
+            Ask::Tick(want) => assert_eq!(rt; self.tick(), *want),
+            Ask::Telemetry(octets, want) => assert_eq!(rt; telemetry(rt, self, octets), Ok(*want)),
+            Ask::TakeTelemetry(want) => {
+                let taken = self.take_telemetry();
+                assert!(rt; taken.as_ref().map(|taken| taken.as_slice()) == *want);
+            }
+            Ask::AcceptedBeyond(value, want) => {
+                assert_eq!(rt; self.accepted_beyond(*value), *want);
+            }
+        }
+        assert_eq!(rt; seen(self), *standing);
+    }
+}
+
+/// A new ground answers the calls of these rows so, and stands so after each.
+pub fn asks(
+    rt: &(impl Abort + Eprint),
+    alloc: Global,
+    config: &Config,
+    rows: &[(Ask<'_>, Standing)],
+) -> Result<(), Fail> {
+    plays::<Ground, _>(rt, alloc, config, rows)
+}
+
+// All that the reading calls show.
+fn seen(ground: &Ground) -> Standing {
+    (
+        ground.state(),
+        ground.vs(),
+        ground.nn(),
+        ground.outstanding(),
+    )
+}
+
+// What `prepare` refuses, on MAP 4.
+fn fault_of(rt: &(impl Abort + Eprint), ground: &Ground, octets: &[u8]) -> Option<LinkFault> {
+    match ground.prepare(4, octets) {
+        Err(LinkFault::Memory) => {
+            says_refused(rt, LinkFault::Memory.number(), 6);
+            ground.prepare(4, octets).err()
+        }
+        prepared => prepared.err(),
+    }
+}
+
+// Submits what was prepared: the answers are the same.
+fn submit(rt: &(impl Abort + Eprint), ground: &mut Ground, octets: &[u8]) -> Result<(), LinkFault> {
+    let fault = fault_of(rt, ground, octets);
+    let answer = put(rt, ground, false, octets);
+    assert_eq!(rt; answer.err(), fault);
+    answer
+}
+
+// Submits on MAP 4, or passes the sequence control.
+fn put_once(ground: &mut Ground, bypass: bool, octets: &[u8]) -> Result<(), LinkFault> {
+    match bypass {
+        true => ground.bypass(4, octets),
+        false => ground.submit(4, octets),
+    }
+}
+
+// The same, made again where memory is refused.
+fn put(
+    rt: &(impl Abort + Eprint),
+    ground: &mut Ground,
+    bypass: bool,
+    octets: &[u8],
+) -> Result<(), LinkFault> {
+    let before = seen(ground);
+    match put_once(ground, bypass, octets) {
+        Err(LinkFault::Memory) => {
+            says_refused(rt, LinkFault::Memory.number(), 6);
+            assert!(rt; seen(ground) == before);
+            put_once(ground, bypass, octets)
+        }
+        answer => answer,
+    }
+}
+
+// Receives. Octets that are no frame, and frames of only idle data, take no memory.
+fn telemetry(
+    rt: &(impl Abort + Eprint),
+    ground: &mut Ground,
+    octets: &[u8],
+) -> Result<Heard, LinkFault> {
+    let before = seen(ground);
+    match ground.telemetry(octets) {
+        Err(fault) if has_packets(octets) => {
+            says_refused(rt, fault.number(), 6);
+            assert!(rt; seen(ground) == before);
+            ground.telemetry(octets)
+        }
+        answer => answer,
+    }
+}
+
+fn has_packets(octets: &[u8]) -> bool {
+    match decode(octets, octets.len()) {
+        Ok(frame) => frame.pointer != Pointer::OnlyIdle,
+        Err(_) => false,
+    }
+}
+
+// Pulls the frame that is peeked at before. Octets past it stay.
+fn pulls(rt: &impl Abort, ground: &mut Ground, want: Option<&[u8]>) {
+    let mut peeked = [0; 1024];
+    let total = match ground.peek() {
+        Some(frame) => encode(&frame, Check::On, &mut peeked).ok(),
+        None => None,
+    };
+    let mut out = [0; 1024];
+    let size = ground.pull(&mut out);
+    assert_eq!(rt; size, total);
+    assert!(rt; out == peeked);
+    assert!(rt; size.and_then(|size| out.get(..size)) == want);
+}
+
+// A frame of this channel whose report goes to the sender.
+fn heard(gap: Gap, packets: usize) -> Heard {
+    Heard::Frame {
+        gap,
+        packets,
+        report: HeardReport::Used,
+        alert: None,
+    }
+}
+
+const NOT_OPEN: Result<(), LinkFault> = Err(LinkFault::NotOpen);
+
+const INIT: Ask<'static> = Ask::Directive(Directive::InitWithoutCheck, Ok(None));
+
+#[test]
+fn both_ways(rt: HostRuntime) -> Result<(), Fail> {
+    use FopMode::{S1, S6};
+    let config = Config {
+        frame_length: 19,
+        ..Config::default()
+    };
+    let window = Ask::Directive(Directive::SetWindow(128), Err(CopFault::Window));
+    let terminate = Ask::Directive(Directive::Terminate, Ok(Some(Alert::Terminated)));
+    let rows = [
+        (Ask::Submit(&P0, NOT_OPEN), (S6, 0, 0, 0)),
+        (INIT, (S1, 0, 0, 0)),
+        (Ask::Submit(&P0, Ok(())), (S1, 0, 0, 1)),
+        (Ask::Submit(&P1, Ok(())), (S1, 0, 0, 2)),
+        (Ask::Bypass(&P1, Ok(())), (S1, 0, 0, 2)),
+        (Ask::Pull(Some(&BD_1)), (S1, 0, 0, 2)),
+        (Ask::Pull(Some(&AD_0)), (S1, 1, 0, 2)),
+        (Ask::Tick(None), (S1, 1, 0, 2)),
+        (
+            Ask::Telemetry(&WITH_P0, heard(Gap::First, 1)),
+            (S1, 1, 0, 2),
+        ),
+        (
+            Ask::Telemetry(&OF_SPACECRAFT_2, Heard::Foreign),
+            (S1, 1, 0, 2),
+        ),
+        (Ask::Telemetry(&OF_CHANNEL_1, Heard::Foreign), (S1, 1, 0, 2)),
+        (Ask::Telemetry(&IDLE, heard(Gap::Lost(0), 0)), (S1, 1, 0, 2)),
+        (
+            Ask::Telemetry(&P0, Heard::Invalid(TmFault::Length)),
+            (S1, 1, 0, 2),
+        ),
+        (Ask::TakeTelemetry(Some(&P0)), (S1, 1, 0, 2)),
+        (Ask::TakeTelemetry(None), (S1, 1, 0, 2)),
+        (Ask::Pull(Some(&AD_1)), (S1, 2, 0, 2)),
+        (
+            Ask::Telemetry(&IDLE_1, heard(Gap::Lost(0), 0)),
+            (S1, 2, 1, 1),
+        ),
+        (Ask::Pull(None), (S1, 2, 1, 1)),
+        (Ask::Submit(&P0, Ok(())), (S1, 2, 1, 2)),
+        (Ask::Advance, (S1, 3, 1, 2)),
+        (window, (S1, 3, 1, 2)),
+        (Ask::AcceptedBeyond(2, Some(1)), (S1, 3, 1, 2)),
+        (terminate, (S6, 3, 1, 0)),
+        (Ask::AcceptedBeyond(0, None), (S6, 3, 1, 0)),
+        (Ask::AcceptedBeyond(1, Some(0)), (S6, 3, 1, 0)),
+        (Ask::AcceptedBeyond(3, Some(2)), (S6, 3, 1, 0)),
+        (Ask::AcceptedBeyond(4, None), (S6, 3, 1, 0)),
+        (Ask::Directive(Directive::SetVs(9), Ok(None)), (S6, 9, 9, 0)),
+        (Ask::AcceptedBeyond(3, None), (S6, 9, 9, 0)),
+    ];
+    asks(&rt, rt.alloc(), &config, &rows)
+}
+
+#[test]
+fn parts_that_are_sent(rt: HostRuntime) -> Result<(), Fail> {
+    use FopMode::S1;
+    let config = Config {
+        part: 3,
+        ..Config::default()
+    };
+    let too_long = Err(LinkFault::TooLong);
+    let rows = [
+        (INIT, (S1, 0, 0, 0)),
+        (Ask::Submit(&P0, Ok(())), (S1, 0, 0, 3)),
+        (Ask::Pull(Some(&FIRST)), (S1, 1, 0, 3)),
+        (Ask::Pull(Some(&CONTINUING)), (S1, 2, 0, 3)),
+        (Ask::Pull(Some(&LAST)), (S1, 3, 0, 3)),
+        (Ask::Pull(None), (S1, 3, 0, 3)),
+        (Ask::Bypass(&P0, too_long), (S1, 3, 0, 3)),
+    ];
+    asks(&rt, rt.alloc(), &config, &rows)
+}
+
+// No packet has more than 7 octets here; and segments have at most 14, so two packets and one.
+#[test]
+fn several_packets_in_several_segments(rt: HostRuntime) -> Result<(), Fail> {
+    use FopMode::{S1, S6};
+    let config = Config {
+        max_packet: 7,
+        ..Config::default()
+    };
+    let long: [u8; 8] = [0x10, 0x05, 0xc0, 0x00, 0x00, 0x01, 0xaa, 0xab];
+    let too_long = Err(LinkFault::TooLong);
+    let rows = [
+        (Ask::Bypass(&long, too_long), (S6, 0, 0, 0)),
+        (INIT, (S1, 0, 0, 0)),
+        (Ask::Submit(&long, too_long), (S1, 0, 0, 0)),
+        (Ask::Submit(&P0, Ok(())), (S1, 0, 0, 1)),
+    ];
+    asks(&rt, rt.alloc(), &config, &rows)?;
+    let config = Config {
+        part: 14,
+        blocking: 1,
+        ..Config::default()
+    };
+    let rows = [
+        (INIT, (S1, 0, 0, 0)),
+        (Ask::Submit(&THREE, Ok(())), (S1, 0, 0, 2)),
+        (Ask::Pull(Some(&AD_BOTH)), (S1, 1, 0, 2)),
+        (Ask::Pull(Some(&AD_1_WITH_P0)), (S1, 2, 0, 2)),
+        (Ask::Pull(None), (S1, 2, 0, 2)),
+    ];
+    asks(&rt, rt.alloc(), &config, &rows)
+}

@@ -1,0 +1,41 @@
+// Calls of a node under test. No function here says what it does: so the proof of a test has nothing of the
+// node's state in it, and the run compares the answers.
+
+use crate::refusing::{ends_growths, says_refused};
+use std::alloc::Global;
+use std::process::Abort;
+use std::test::Fail;
+use tc_link::{Config, LinkFault};
+
+/// A node whose calls are tested.
+pub trait Node<C> {
+    fn create(rt: &impl Abort, alloc: Global, config: &Config) -> Result<Self, LinkFault>;
+
+    fn length_of_frames(&self) -> usize;
+
+    /// Makes a call, and compares what it answers. Where memory is refused nothing has changed, and the
+    /// call made again answers as ever.
+    fn answers(&mut self, rt: &(impl Abort + Eprint), call: &C);
+}
+
+/// A new node answers the calls of these rows so.
+pub fn plays<N: Node<C> + Drop, C>(
+    rt: &(impl Abort + Eprint),
+    alloc: Global,
+    config: &Config,
+    rows: &[C],
+) -> Result<(), Fail> {
+    let mut node = match N::create(rt, alloc, config) {
+        Err(fault) => {
+            says_refused(rt, fault.number(), 6);
+            N::create(rt, alloc, config)?
+        }
+        Ok(node) => node,
+    };
+    assert_eq!(rt; node.length_of_frames(), config.frame_length as usize);
+    for call in rows {
+        node.answers(rt, call);
+    }
+    ends_growths(rt, alloc);
+    Ok(())
+}

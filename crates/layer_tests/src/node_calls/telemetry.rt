@@ -1,0 +1,127 @@
+// Telemetry that comes down: two packets of two frames each, of which none, 255 and 256 in a row are lost.
+
+use std::alloc::Global;
+use std::process::Abort;
+use std::test::Fail;
+use tc_link::{Config, Ground, Heard, HeardReport, Spacecraft};
+use tm_link::Gap;
+
+// A frame of 20 octets carries 8, so each of these packets fills two.
+const A: [u8; 16] = [
+    0x00, 0x05, 0xc0, 0x00, 0x00, 0x09, 0xa0, 0xa1, 0xa2, 0xa3, 0xa4, 0xa5, 0xa6, 0xa7, 0xa8, 0xa9,
+];
+
+const B: [u8; 16] = [
+    0x00, 0x05, 0xc0, 0x01, 0x00, 0x09, 0xb0, 0xb1, 0xb2, 0xb3, 0xb4, 0xb5, 0xb6, 0xb7, 0xb8, 0xb9,
+];
+
+// The first half of A and the second of B: it was never queued.
+const A_THEN_B: [u8; 16] = [
+    0x00, 0x05, 0xc0, 0x00, 0x00, 0x09, 0xa0, 0xa1, 0xb2, 0xb3, 0xb4, 0xb5, 0xb6, 0xb7, 0xb8, 0xb9,
+];
+
+// What happens: a packet is queued, frames are lost, one is heard with its gap and this many packets, and a
+// packet is taken or none is there.
+#[derive(Clone, Copy)]
+enum Event<'a> {
+    Queue(&'a [u8]),
+    Lose(usize),
+    Hear(Gap, usize),
+    Take(Option<&'a [u8]>),
+}
+
+// The two nodes, with what a caller does between them.
+fn nodes(rt: &impl Abort, alloc: Global) -> Result<(Spacecraft, Ground), Fail> {
+    let config = Config {
+        frame_length: 20,
+        ..Config::default()
+    };
+    assert!(rt; config.fault().is_none());
+    Ok((
+        Spacecraft::new(alloc, &config)?,
+        Ground::new(alloc, &config)?,
+    ))
+}
+
+fn happens(
+    rt: &impl Abort,
+    spacecraft: &mut Spacecraft,
+    ground: &mut Ground,
+    event: &Event<'_>,
+) -> Result<(), Fail> {
+    let mut out = [0; 2048];
+    match event {
+        Event::Queue(packet) => spacecraft.telemetry(packet)?,
+        Event::Lose(frames) => {
+            for _ in 0..*frames {
+                let _ = spacecraft.report(&mut out);
+            }
+        }
+        Event::Hear(gap, packets) => {
+            let size = spacecraft.report(&mut out);
+            let heard = ground.telemetry(out.get(..size).unwrap_or_default())?;
+            // The sender, in S6, does not use the report for anything.
+            let want = Heard::Frame {
+                gap: *gap,
+                packets: *packets,
+                report: HeardReport::Used,
+                alert: None,
+            };
+            assert_eq!(rt; heard, want);
+        }
+        Event::Take(packet) => {
+            let taken = ground.take_telemetry();
+            assert!(rt; taken.as_ref().map(|taken| taken.as_slice()) == *packet);
+        }
+    }
+    Ok(())
+}
+
+fn happen(rt: &impl Abort, alloc: Global, events: &[Event<'_>]) -> Result<(), Fail> {
+    let (mut spacecraft, mut ground) = nodes(rt, alloc)?;
+    for event in events {
+        happens(rt, &mut spacecraft, &mut ground, event)?;
+    }
+    Ok(())
+}
+
+#[test]
+fn packets_over_losses(rt: HostRuntime) -> Result<(), Fail> {
+    let none_lost = [
+        Event::Queue(&A),
+        Event::Queue(&B),
+        Event::Hear(Gap::First, 0),
+        Event::Hear(Gap::Lost(0), 1),
+        Event::Hear(Gap::Lost(0), 0),
+        Event::Hear(Gap::Lost(0), 1),
+        Event::Take(Some(&A)),
+        Event::Take(Some(&B)),
+        Event::Take(None),
+    ];
+    happen(&rt, rt.alloc(), &none_lost)?;
+    // The second half of A is lost with 254 frames of only idle data; B comes.
+    let lost_255 = [
+        Event::Queue(&A),
+        Event::Hear(Gap::First, 0),
+        Event::Lose(255),
+        Event::Queue(&B),
+        Event::Hear(Gap::Lost(255), 0),
+        Event::Hear(Gap::Lost(0), 1),
+        Event::Take(Some(&B)),
+        Event::Take(None),
+    ];
+    happen(&rt, rt.alloc(), &lost_255)?;
+    // One frame more is lost, the first half of B: by the counts none is missing, and what is handed out was
+    // never queued.
+    let lost_256 = [
+        Event::Queue(&A),
+        Event::Hear(Gap::First, 0),
+        Event::Lose(255),
+        Event::Queue(&B),
+        Event::Lose(1),
+        Event::Hear(Gap::Lost(0), 1),
+        Event::Take(Some(&A_THEN_B)),
+        Event::Take(None),
+    ];
+    happen(&rt, rt.alloc(), &lost_256)
+}

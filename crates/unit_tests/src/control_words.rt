@@ -1,0 +1,46 @@
+// Control words and their octets.
+
+use bitflags::Flags;
+use clcw::{Clcw, ClcwFault, ClcwFlags, decode, encode};
+use std::test::Fail;
+
+#[test]
+fn words_and_their_octets(rt: HostRuntime) -> Result<(), Fail> {
+    let word = Clcw {
+        status: 0,
+        vcid: 2,
+        flags: ClcwFlags::RETRANSMIT,
+        farm_b: 1,
+        value: 7,
+    };
+    assert_eq!(rt; encode(&word)?, [0x01, 0x08, 0x0a, 0x07]);
+    assert_eq!(rt; decode([0x01, 0x08, 0x0a, 0x07])?, word);
+    assert!(rt; ClcwFlags::from_name("RETRANSMIT") == Some(word.flags));
+    for (octets, fault) in [
+        ([0x01, 0x08, 0x0b, 0x07], ClcwFault::Spare),
+        ([0x81, 0x08, 0x0a, 0x07], ClcwFault::Kind),
+        ([0x00, 0x08, 0x0a, 0x07], ClcwFault::Cop),
+    ] {
+        assert_eq!(rt; decode(octets).err(), Some(fault));
+    }
+    Ok(())
+}
+
+#[test]
+fn words_without_octets(rt: HostRuntime) {
+    let word = Clcw {
+        status: 7,
+        vcid: 63,
+        flags: ClcwFlags::all(),
+        farm_b: 3,
+        value: 255,
+    };
+    assert!(rt; encode(&word).is_ok());
+    let no_name = Clcw {
+        flags: ClcwFlags::from_bits_retain(1),
+        ..word
+    };
+    assert_eq!(rt; encode(&no_name).err(), Some(ClcwFault::Range));
+    assert_eq!(rt; ClcwFault::Range.number(), 5);
+    assert_eq!(rt; ClcwFault::Range.name(), "Range");
+}

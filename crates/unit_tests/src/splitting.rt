@@ -1,0 +1,162 @@
+// A splitter over a layout of the tests' own, each of whose growths is refused in turn.
+
+ghost use Rattle.std.specs.Prelude.{◌≡◌, ◌≤◌, List, ℕ, length, nat_lt, if◌then◌else◌, slice_index, Ok, Err};
+ghost use Rattle.std.proofs.Common.{rules};
+ghost use Rattle.std.proofs.lemmas.Grind.{common_steps};
+ghost use Rattle.unit_tests.specs.declared.splitting.BlockFault.TheVariants.{Empty, Truncated, Memory};
+
+use octets::{Splitter, Wire, remove_front};
+use std::process::Abort;
+
+#[derive(Clone, Copy, Debug, PartialEq, Eq)]
+enum BlockFault {
+    Empty,
+    Truncated,
+    Memory,
+}
+
+// Records whose first octet is their length.
+struct Blocks;
+
+impl Wire for Blocks {
+    type Fault = BlockFault;
+
+    const HEAD: usize = 1;
+
+    ghost HEAD = { 1 };
+
+    ghost extent_of = { λ head. if nat_lt (slice_index head 0) 1 then Err Empty else Ok (slice_index head 0) };
+
+    ghost Value = { List ℕ };
+
+    ghost IsSpelling = { λ v octets. (octets ≡ v) × ((1 ≤ length octets) × (slice_index octets 0 ≡ length octets)) };
+
+    ghost truncated_fault = { Truncated };
+
+    ghost memory_fault = { Memory };
+
+    fn extent(head: &[u8]) -> Result<usize, BlockFault> {
+        if head[0] < 1 {
+            return Err(BlockFault::Empty);
+        }
+        Ok(head[0] as usize)
+    }
+
+    fn truncated() -> BlockFault {
+        BlockFault::Truncated
+    }
+
+    fn memory() -> BlockFault {
+        BlockFault::Memory
+    }
+
+    ghost some_head = { Prim.search rules };
+
+    ghost extent_has_head = { Prim.search (rules, common_steps) };
+
+    ghost one_spelling = { λ v xs ys p q. Prim.cc };
+
+    ghost own_extent = { Prim.search (rules, common_steps) };
+}
+
+#[test]
+fn a_front_is_removed(rt: HostRuntime) {
+    let mut octets = Vec::new(rt.alloc());
+    if octets.extend_from_slice(&[1, 2, 3, 4]).is_ok() {
+        remove_front(&mut octets, 3);
+        assert_eq!(rt; octets.as_slice(), [4].as_slice());
+    } else {
+        let _ = eprintln!(rt; "refused a growth");
+    }
+}
+
+// Feeds. Where memory is refused nothing has changed, and the call made again answers as ever.
+fn feed(rt: &(impl Abort + Eprint), splitter: &mut Splitter<Blocks>, octets: &[u8]) {
+    let waits = splitter.next().is_none();
+    let ends = splitter.finish();
+    if let Err(fault) = splitter.feed(octets) {
+        let _ = eprintln!(rt; "refused a growth");
+        assert_eq!(rt; fault, BlockFault::Memory);
+        assert_eq!(rt; splitter.next().is_none(), waits);
+        assert_eq!(rt; splitter.finish(), ends);
+        assert_eq!(rt; splitter.feed(octets), Ok(()));
+    }
+}
+
+// Three blocks and the beginning of a fourth.
+const STREAM: [u8; 8] = [2, 7, 1, 3, 8, 9, 4, 1];
+
+#[test]
+fn a_stream_fed_whole(rt: HostRuntime) {
+    let mut splitter: Splitter<Blocks> = Splitter::new(rt.alloc());
+    assert_eq!(rt; splitter.finish(), Ok(()));
+    feed(&rt, &mut splitter, &STREAM);
+    assert_eq!(rt; splitter.next(), Some(Ok(&STREAM[..2])));
+    assert_eq!(rt; splitter.next(), Some(Ok(&STREAM[2..3])));
+    assert_eq!(rt; splitter.next(), Some(Ok(&STREAM[3..6])));
+    assert_eq!(rt; splitter.next(), None);
+    assert_eq!(rt; splitter.finish(), Err(BlockFault::Truncated));
+    feed(&rt, &mut splitter, &[5, 6]);
+    assert_eq!(rt; splitter.next(), Some(Ok(&[4, 1, 5, 6][..])));
+    assert_eq!(rt; splitter.finish(), Ok(()));
+}
+
+#[test]
+fn a_stream_fed_an_octet_at_a_time(rt: HostRuntime) {
+    let mut splitter: Splitter<Blocks> = Splitter::new(rt.alloc());
+    for (place, octet) in STREAM.iter().enumerate() {
+        feed(&rt, &mut splitter, &[*octet]);
+        let expected = match place {
+            1 => Some(Ok(&STREAM[..2])),
+            2 => Some(Ok(&STREAM[2..3])),
+            5 => Some(Ok(&STREAM[3..6])),
+            _ => None,
+        };
+        assert_eq!(rt; splitter.next(), expected);
+        assert_eq!(rt; splitter.next(), None);
+    }
+    assert_eq!(rt; splitter.finish(), Err(BlockFault::Truncated));
+}
+
+#[test]
+fn a_refused_extent_is_for_good(rt: HostRuntime) {
+    let mut splitter: Splitter<Blocks> = Splitter::new(rt.alloc());
+    feed(&rt, &mut splitter, &[1, 0, 2]);
+    assert_eq!(rt; splitter.next(), Some(Ok(&[1][..])));
+    assert_eq!(rt; splitter.finish(), Err(BlockFault::Truncated));
+    assert_eq!(rt; splitter.next(), Some(Err(&BlockFault::Empty)));
+    feed(&rt, &mut splitter, &[2, 7]);
+    assert_eq!(rt; splitter.next(), Some(Err(&BlockFault::Empty)));
+    assert_eq!(rt; splitter.finish(), Ok(()));
+}
+
+// Three growths, the last of them where octets that were handed out are dropped. Each octet is 100,
+// so each block has 100 of them.
+#[test]
+fn a_stream_outgrows_its_memory(rt: HostRuntime) {
+    let mut splitter: Splitter<Blocks> = Splitter::new(rt.alloc());
+    feed(&rt, &mut splitter, &[100; 30]);
+    feed(&rt, &mut splitter, &[100; 90]);
+    assert_eq!(rt; splitter.next(), Some(Ok(&[100; 100][..])));
+    feed(&rt, &mut splitter, &[100; 980]);
+    for _ in 0..10u8 {
+        assert_eq!(rt; splitter.next(), Some(Ok(&[100; 100][..])));
+    }
+    assert_eq!(rt; splitter.next(), None);
+    assert_eq!(rt; splitter.finish(), Ok(()));
+}
+
+#[test]
+fn handing_out_takes_no_memory(rt: HostRuntime) {
+    let mut splitter: Splitter<Blocks> = Splitter::new(rt.alloc());
+    if splitter.feed(&STREAM).is_err() {
+        let _ = eprintln!(rt; "refused a growth");
+        return;
+    }
+    let _ = eprintln!(rt; "set up");
+    assert_eq!(rt; splitter.next(), Some(Ok(&STREAM[..2])));
+    assert_eq!(rt; splitter.next(), Some(Ok(&STREAM[2..3])));
+    assert_eq!(rt; splitter.next(), Some(Ok(&STREAM[3..6])));
+    assert_eq!(rt; splitter.next(), None);
+    assert_eq!(rt; splitter.finish(), Err(BlockFault::Truncated));
+}
