@@ -207,15 +207,19 @@ fn a_splitter_for_ever(rt: HostRuntime) -> Result<(), Fail> {
 #[test]
 fn telemetry_for_ever(rt: HostRuntime) -> Result<(), Fail> {
     let mut pair = Pair::new(&rt, rt.alloc(), &Config::default())?;
-    notes(&rt, "account before");
+    hears_for_ever(&rt, rt.alloc(), &mut pair)
+}
+
+fn hears_for_ever(rt: &(impl Abort + Eprint), alloc: Global, pair: &mut Pair) -> Result<(), Fail> {
+    notes(rt, "account before");
     for count in 0..10_000 {
-        pair.queues(rt.alloc(), 100, count)?;
+        pair.queues(alloc, 100, count)?;
         for _ in 0..3 {
-            let _ = pair.hears(&rt)?;
+            let _ = pair.hears(rt)?;
         }
-        pair.takes(&rt, rt.alloc(), 100, count)?;
+        pair.takes(rt, alloc, 100, count)?;
     }
-    notes(&rt, "account telemetry for ever");
+    notes(rt, "account telemetry for ever");
     Ok(())
 }
 
@@ -223,11 +227,19 @@ fn telemetry_for_ever(rt: HostRuntime) -> Result<(), Fail> {
 #[test]
 fn commands_for_ever(rt: HostRuntime) -> Result<(), Fail> {
     let mut pair = Pair::new(&rt, rt.alloc(), &Config::default())?;
-    notes(&rt, "account before");
-    pair.begins(&rt)?;
+    carries_for_ever(&rt, rt.alloc(), &mut pair)
+}
+
+fn carries_for_ever(
+    rt: &(impl Abort + Eprint),
+    alloc: Global,
+    pair: &mut Pair,
+) -> Result<(), Fail> {
+    notes(rt, "account before");
+    pair.begins(rt)?;
     for count in 0..10_000 {
-        pair.carries(&rt, rt.alloc(), count)?;
+        pair.carries(rt, alloc, count)?;
     }
-    notes(&rt, "account commands for ever");
+    notes(rt, "account commands for ever");
     Ok(())
 }

@@ -1,6 +1,7 @@
 // A simulated link with ample memory. No function here says what it does: so the proof of a test has nothing of
 // the link's state in it, and the run compares what is answered.
 
+use crate::packets::command;
 use cop1::{Directive, FopMode};
 use std::alloc::Global;
 use std::process::Abort;
@@ -63,6 +64,32 @@ impl Link {
         Ok(())
     }
 
+    /// Submits a packet of this size.
+    pub fn submits_command(
+        &mut self,
+        rt: &impl Abort,
+        alloc: Global,
+        map: u8,
+        size: usize,
+        count: usize,
+    ) -> Result<(), Fail> {
+        let octets = command(alloc, size, count)?;
+        self.submits(rt, map, octets.as_slice())
+    }
+
+    /// Gives a packet of this size past the sequence control.
+    pub fn bypasses_command(
+        &mut self,
+        rt: &impl Abort,
+        alloc: Global,
+        map: u8,
+        size: usize,
+        count: usize,
+    ) -> Result<(), Fail> {
+        let octets = command(alloc, size, count)?;
+        self.does(rt, Event::Bypass(map, octets.as_slice()))
+    }
+
     /// The ground sends frames, at most so many; the number of those that it sent.
     pub fn sends(&mut self, most: usize) -> Result<usize, Fail> {
         for count in 0..most {
@@ -119,8 +146,20 @@ impl Link {
         Ok(MOST)
     }
 
-    /// Takes this packet, which went past the sequence control.
-    pub fn takes_bypass(&mut self, rt: &impl Abort, map: u8, octets: &[u8]) -> Result<(), Fail> {
+    /// Takes a packet of this size, which went past the sequence control.
+    pub fn takes_bypass_command(
+        &mut self,
+        rt: &impl Abort,
+        alloc: Global,
+        map: u8,
+        size: usize,
+        count: usize,
+    ) -> Result<(), Fail> {
+        let octets = command(alloc, size, count)?;
+        self.takes_bypass(rt, map, octets.as_slice())
+    }
+
+    fn takes_bypass(&mut self, rt: &impl Abort, map: u8, octets: &[u8]) -> Result<(), Fail> {
         let reply = self.meets(Event::TakeBypass)?;
         assert!(rt; is_packet(&reply, map, octets));
         Ok(())

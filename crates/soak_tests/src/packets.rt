@@ -27,9 +27,22 @@ pub fn measurement(alloc: Global, size: usize, count: usize) -> Result<Vec<u8>, 
 /// Command packets of this size, one after another.
 pub fn commands(alloc: Global, size: usize, number: usize) -> Result<Vec<u8>, AllocError> {
     let mut octets = Vec::new(alloc);
-    for count in 0..number {
-        let one = command(alloc, size, count)?;
-        octets.extend_from_slice(one.as_slice())?;
-    }
+    append_commands(alloc, &mut octets, size, number)?;
     Ok(octets)
+}
+
+fn append_commands(
+    alloc: Global,
+    octets: &mut Vec<u8>,
+    size: usize,
+    number: usize,
+) -> Result<(), AllocError> {
+    for count in 0..number {
+        append(octets, &command(alloc, size, count)?)?;
+    }
+    Ok(())
+}
+
+fn append(octets: &mut Vec<u8>, one: &Vec<u8>) -> Result<(), AllocError> {
+    octets.extend_from_slice(one.as_slice())
 }

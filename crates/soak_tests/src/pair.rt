@@ -25,7 +25,11 @@ impl Pair {
     /// Queues a packet of this size on board.
     pub fn queues(&mut self, alloc: Global, size: usize, count: usize) -> Result<(), Fail> {
         let packet = measurement(alloc, size, count)?;
-        self.spacecraft.telemetry(packet.as_slice())?;
+        self.queues_octets(packet.as_slice())
+    }
+
+    fn queues_octets(&mut self, packet: &[u8]) -> Result<(), Fail> {
+        self.spacecraft.telemetry(packet)?;
         Ok(())
     }
 
@@ -88,12 +92,31 @@ impl Pair {
     /// down.
     pub fn carries(&mut self, rt: &impl Abort, alloc: Global, count: usize) -> Result<(), Fail> {
         let packet = command(alloc, 3000, count)?;
-        self.ground.submit(63, packet.as_slice())?;
+        self.carries_beside(rt, alloc, count, &packet)
+    }
+
+    fn carries_beside(
+        &mut self,
+        rt: &impl Abort,
+        alloc: Global,
+        count: usize,
+        packet: &Vec<u8>,
+    ) -> Result<(), Fail> {
         let short = command(alloc, 100, count)?;
+        self.carries_both(rt, packet, &short)
+    }
+
+    fn carries_both(
+        &mut self,
+        rt: &impl Abort,
+        packet: &Vec<u8>,
+        short: &Vec<u8>,
+    ) -> Result<(), Fail> {
+        self.ground.submit(63, packet.as_slice())?;
         self.ground.bypass(0, short.as_slice())?;
         self.sends()?;
-        assert!(rt; is_on(self.spacecraft.take(), 63, &packet));
-        assert!(rt; is_on(self.spacecraft.take_bypass(), 0, &short));
+        assert!(rt; is_on(self.spacecraft.take(), 63, packet));
+        assert!(rt; is_on(self.spacecraft.take_bypass(), 0, short));
         let _ = self.hears(rt)?;
         assert_eq!(rt; self.ground.outstanding(), 0);
         Ok(())

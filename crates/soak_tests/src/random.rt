@@ -117,11 +117,30 @@ fn comes_right(rt: &impl Abort, link: &mut Link, carried: &Carried) -> Result<()
 
 fn soaks(rt: &impl Abort, alloc: Global, config: Config, seed: u64) -> Result<(), Fail> {
     let carried = new_carried(alloc)?;
-    let mut generator = Pcg32::new(seed, 54);
+    soaks_with(rt, alloc, config, seed, &carried)
+}
+
+fn soaks_with(
+    rt: &impl Abort,
+    alloc: Global,
+    config: Config,
+    seed: u64,
+    carried: &Carried,
+) -> Result<(), Fail> {
     let mut link = Link::new(alloc, config)?;
+    rounds(rt, &mut link, Pcg32::new(seed, 54), carried)
+}
+
+fn rounds(
+    rt: &impl Abort,
+    link: &mut Link,
+    generator: Pcg32,
+    carried: &Carried,
+) -> Result<(), Fail> {
+    let mut generator = generator;
     for _ in 0..ROUNDS {
-        wanders(&mut link, &mut generator, &carried, EVENTS)?;
-        comes_right(rt, &mut link, &carried)?;
+        wanders(link, &mut generator, carried, EVENTS)?;
+        comes_right(rt, link, carried)?;
     }
     Ok(())
 }

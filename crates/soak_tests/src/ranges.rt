@@ -6,7 +6,7 @@ use cop1::{Directive, FopMode};
 use std::alloc::Global;
 use std::process::Abort;
 use std::test::Fail;
-use tc_link::{Config, Event, LinkFault, NodeFault, Reply, run};
+use tc_link::{Config, Event, LinkFault, NodeFault, Reply, Sim, run};
 
 // Sessions in which nothing gives up before all is carried.
 fn config() -> Config {
@@ -32,10 +32,19 @@ fn carries(
     number: usize,
 ) -> Result<(), Fail> {
     let mut link = Link::new(alloc, config)?;
+    carry(rt, alloc, &mut link, size, number)
+}
+
+fn carry(
+    rt: &impl Abort,
+    alloc: Global,
+    link: &mut Link,
+    size: usize,
+    number: usize,
+) -> Result<(), Fail> {
     link.opens(rt, Directive::InitWithCheck)?;
     for count in 0..number {
-        let octets = command(alloc, size, count)?;
-        link.submits(rt, map_of(count), octets.as_slice())?;
+        link.submits_command(rt, alloc, map_of(count), size, count)?;
     }
     link.carries(rt)?;
     assert_eq!(rt; link.sim().submissions().len(), number);
@@ -50,11 +59,14 @@ fn a_thousand_submissions(rt: HostRuntime) -> Result<(), Fail> {
 #[test]
 fn submissions_one_at_a_time(rt: HostRuntime) -> Result<(), Fail> {
     let mut link = Link::new(rt.alloc(), config())?;
-    link.opens(&rt, Directive::InitWithoutCheck)?;
+    carries_one_at_a_time(&rt, rt.alloc(), &mut link)
+}
+
+fn carries_one_at_a_time(rt: &impl Abort, alloc: Global, link: &mut Link) -> Result<(), Fail> {
+    link.opens(rt, Directive::InitWithoutCheck)?;
     for count in 0..1000 {
-        let octets = command(rt.alloc(), 7, count)?;
-        link.submits(&rt, 4, octets.as_slice())?;
-        link.carries(&rt)?;
+        link.submits_command(rt, alloc, 4, 7, count)?;
+        link.carries(rt)?;
     }
     Ok(())
 }
@@ -116,36 +128,70 @@ fn blocks(rt: HostRuntime) -> Result<(), Fail> {
         ..config()
     };
     let mut link = Link::new(rt.alloc(), config)?;
-    link.opens(&rt, Directive::InitUnlock)?;
+    carries_blocks(&rt, rt.alloc(), &mut link)
+}
+
+fn carries_blocks(rt: &impl Abort, alloc: Global, link: &mut Link) -> Result<(), Fail> {
+    link.opens(rt, Directive::InitUnlock)?;
     for number in [1, 2, 3, 4, 63, 64, 65, 144, 145, 146, 1000] {
-        let octets = commands(rt.alloc(), 7, number)?;
-        link.submits(&rt, 63, octets.as_slice())?;
+        submits_block(rt, alloc, link, number)?;
     }
-    link.carries(&rt)
+    link.carries(rt)
+}
+
+fn submits_block(
+    rt: &impl Abort,
+    alloc: Global,
+    link: &mut Link,
+    number: usize,
+) -> Result<(), Fail> {
+    let octets = commands(alloc, 7, number)?;
+    link.submits(rt, 63, octets.as_slice())
 }
 
 // Each MAP, with only it closed and with only it open.
 #[test]
 fn maps(rt: HostRuntime) -> Result<(), Fail> {
     let octets = command(rt.alloc(), 9, 0)?;
+    each_map(&rt, rt.alloc(), octets.as_slice())
+}
+
+fn each_map(rt: &impl Abort, alloc: Global, octets: &[u8]) -> Result<(), Fail> {
     for map in 0..64u8 {
-        map_alone(&rt, rt.alloc(), map, octets.as_slice())?;
+        let alone = 1u64.wrapping_shl(u32::from(map));
+        opens_maps(rt, alloc, alone, map, map ^ 1, octets)?;
+        opens_maps(rt, alloc, !alone, map ^ 1, map, octets)?;
     }
     Ok(())
 }
 
-fn map_alone(rt: &impl Abort, alloc: Global, map: u8, octets: &[u8]) -> Result<(), Fail> {
-    let alone = 1u64.wrapping_shl(u32::from(map));
-    let other = map ^ 1;
-    for (maps, open, shut) in [(alone, map, other), (!alone, other, map)] {
-        let mut link = Link::new(alloc, Config { maps, ..config() })?;
-        link.opens(rt, Directive::InitWithoutCheck)?;
-        link.submits(rt, open, octets)?;
-        let refused = Some(Reply::Refused(NodeFault::Link(LinkFault::ClosedMap)));
-        assert_eq!(rt; link.meets(Event::Submit(shut, octets))?, refused);
-        link.carries(rt)?;
-    }
-    Ok(())
+fn opens_maps(
+    rt: &impl Abort,
+    alloc: Global,
+    maps: u64,
+    open: u8,
+    shut: u8,
+    octets: &[u8],
+) -> Result<(), Fail> {
+    let mut link = Link::new(alloc, Config { maps, ..config() })?;
+    uses_maps(rt, &mut link, open, shut, octets)
+}
+
+fn uses_maps(
+    rt: &impl Abort,
+    link: &mut Link,
+    open: u8,
+    shut: u8,
+    octets: &[u8],
+) -> Result<(), Fail> {
+    link.opens(rt, Directive::InitWithoutCheck)?;
+    link.submits(rt, open, octets)?;
+    let reply = link.meets(Event::Submit(shut, octets))?;
+    assert_eq!(rt;
+        reply,
+        Some(Reply::Refused(NodeFault::Link(LinkFault::ClosedMap)))
+    );
+    link.carries(rt)
 }
 
 // The least and the greatest identifiers, frames, slots, limits and timers.
@@ -176,23 +222,32 @@ fn identifiers_and_slots(rt: HostRuntime) -> Result<(), Fail> {
 // Each initiation, from each number that it may set.
 #[test]
 fn initiations(rt: HostRuntime) -> Result<(), Fail> {
-    let octets = command(rt.alloc(), 20, 0)?;
     let mut link = Link::new(rt.alloc(), config())?;
+    initiates_each(&rt, rt.alloc(), &mut link)
+}
+
+fn initiates_each(rt: &impl Abort, alloc: Global, link: &mut Link) -> Result<(), Fail> {
     for vr in 0..=255u8 {
-        for directive in [
-            Directive::InitSetVr(vr),
-            Directive::InitWithoutCheck,
-            Directive::InitWithCheck,
-            Directive::InitUnlock,
-        ] {
-            link.opens(&rt, directive)?;
-            link.submits(&rt, 4, octets.as_slice())?;
-            link.carries(&rt)?;
-            assert_eq!(rt; link.sim().begun(), Some(directive));
-            let _ = link.meets(Event::Directive(Directive::Terminate))?;
-            assert_eq!(rt; link.sim().state(), FopMode::S6);
-        }
+        initiates(rt, alloc, link, Directive::InitSetVr(vr))?;
+        initiates(rt, alloc, link, Directive::InitWithoutCheck)?;
+        initiates(rt, alloc, link, Directive::InitWithCheck)?;
+        initiates(rt, alloc, link, Directive::InitUnlock)?;
     }
+    Ok(())
+}
+
+fn initiates(
+    rt: &impl Abort,
+    alloc: Global,
+    link: &mut Link,
+    directive: Directive,
+) -> Result<(), Fail> {
+    link.opens(rt, directive)?;
+    link.submits_command(rt, alloc, 4, 20, 0)?;
+    link.carries(rt)?;
+    assert_eq!(rt; link.sim().begun(), Some(directive));
+    let _ = link.meets(Event::Directive(Directive::Terminate))?;
+    assert_eq!(rt; link.sim().state(), FopMode::S6);
     Ok(())
 }
 
@@ -204,11 +259,14 @@ fn frames_on_their_way(rt: HostRuntime) -> Result<(), Fail> {
         ..config()
     };
     let mut link = Link::new(rt.alloc(), config)?;
-    link.opens(&rt, Directive::InitWithoutCheck)?;
+    fills_the_way(&rt, rt.alloc(), &mut link)
+}
+
+fn fills_the_way(rt: &impl Abort, alloc: Global, link: &mut Link) -> Result<(), Fail> {
+    link.opens(rt, Directive::InitWithoutCheck)?;
     for count in 0..200 {
-        let octets = command(rt.alloc(), 100, count)?;
-        link.submits(&rt, 0, octets.as_slice())?;
-        link.does(&rt, Event::Bypass(63, octets.as_slice()))?;
+        link.submits_command(rt, alloc, 0, 100, count)?;
+        link.bypasses_command(rt, alloc, 63, 100, count)?;
     }
     assert_eq!(rt; link.sends(500)?, 327);
     for _ in 0..200 {
@@ -216,45 +274,38 @@ fn frames_on_their_way(rt: HostRuntime) -> Result<(), Fail> {
     }
     assert_eq!(rt; link.hears()?, 200);
     assert_eq!(rt; link.arrives()?, 327);
-    link.carries(&rt)
+    link.carries(rt)
 }
 
 // Brings the ground's sender into a state, in a session that began by Unlock or by this directive.
-fn brings(rt: &impl Abort, link: &mut Link, state: FopMode, octets: &[u8]) -> Result<(), Fail> {
+fn brings(rt: &impl Abort, alloc: Global, link: &mut Link, state: FopMode) -> Result<(), Fail> {
     match state {
         FopMode::S4 => link.begins(rt, Directive::InitWithCheck)?,
         FopMode::S5 => link.begins(rt, Directive::InitUnlock)?,
         FopMode::S6 => {}
         FopMode::S1 | FopMode::S2 | FopMode::S3 => {
             link.opens(rt, Directive::InitUnlock)?;
-            link.submits(rt, 4, octets)?;
+            link.submits_command(rt, alloc, 4, 7, 0)?;
         }
     }
     if matches!(state, FopMode::S2 | FopMode::S3) {
-        loses_one(rt, link, octets)?;
+        loses(rt, alloc, link, true)?;
     }
     if matches!(state, FopMode::S3) {
-        fills(rt, link, octets)?;
+        loses(rt, alloc, link, false)?;
     }
     assert_eq!(rt; link.sim().state(), state);
     Ok(())
 }
 
-// The first of two frames is lost, so that the report asks for it again.
-fn loses_one(rt: &impl Abort, link: &mut Link, octets: &[u8]) -> Result<(), Fail> {
-    link.submits(rt, 4, octets)?;
+// Two frames are sent, of which the first may be lost, so that the report asks for it again. Where none is, the one
+// buffer on board is full, so that the report asks to wait.
+fn loses(rt: &impl Abort, alloc: Global, link: &mut Link, is_lost: bool) -> Result<(), Fail> {
+    link.submits_command(rt, alloc, 4, 7, 0)?;
     let _ = link.sends(2)?;
-    let _ = link.meets(Event::UpLose)?;
-    let _ = link.arrives()?;
-    let _ = link.meets(Event::Report)?;
-    let _ = link.hears()?;
-    Ok(())
-}
-
-// The one buffer on board is full, so that the report asks to wait.
-fn fills(rt: &impl Abort, link: &mut Link, octets: &[u8]) -> Result<(), Fail> {
-    link.submits(rt, 4, octets)?;
-    let _ = link.sends(2)?;
+    if is_lost {
+        let _ = link.meets(Event::UpLose)?;
+    }
     let _ = link.arrives()?;
     let _ = link.meets(Event::Report)?;
     let _ = link.hears()?;
@@ -277,24 +328,27 @@ fn bypass_in_each_state(rt: HostRuntime) -> Result<(), Fail> {
         FopMode::S5,
         FopMode::S6,
     ] {
-        let octets = command(rt.alloc(), 7, 0)?;
-        let mut link = Link::new(rt.alloc(), config)?;
-        brings(&rt, &mut link, state, octets.as_slice())?;
-        bypasses(&rt, rt.alloc(), &mut link)?;
+        bypasses_in(&rt, rt.alloc(), config, state)?;
     }
     Ok(())
 }
 
+fn bypasses_in(rt: &impl Abort, alloc: Global, config: Config, state: FopMode) -> Result<(), Fail> {
+    let mut link = Link::new(alloc, config)?;
+    brings(rt, alloc, &mut link, state)?;
+    bypasses(rt, alloc, &mut link)
+}
+
+const SIZES: [usize; 10] = [7, 8, 9, 22, 255, 256, 500, 501, 1015, 1016];
+
 fn bypasses(rt: &impl Abort, alloc: Global, link: &mut Link) -> Result<(), Fail> {
-    for size in [7, 8, 9, 22, 255, 256, 500, 501, 1015, 1016] {
-        let octets = command(alloc, size, size)?;
-        link.does(rt, Event::Bypass(63, octets.as_slice()))?;
+    for size in SIZES {
+        link.bypasses_command(rt, alloc, 63, size, size)?;
     }
     let _ = link.sends(100)?;
     let _ = link.arrives()?;
-    for size in [7, 8, 9, 22, 255, 256, 500, 501, 1015, 1016] {
-        let octets = command(alloc, size, size)?;
-        link.takes_bypass(rt, 63, octets.as_slice())?;
+    for size in SIZES {
+        link.takes_bypass_command(rt, alloc, 63, size, size)?;
     }
     Ok(())
 }
@@ -303,32 +357,41 @@ fn bypasses(rt: &impl Abort, alloc: Global, link: &mut Link) -> Result<(), Fail>
 #[test]
 fn packets_that_are_ready(rt: HostRuntime) -> Result<(), Fail> {
     let mut link = Link::new(rt.alloc(), config())?;
-    link.opens(&rt, Directive::InitSetVr(200))?;
+    has_them_ready(&rt, rt.alloc(), &mut link)
+}
+
+fn has_them_ready(rt: &impl Abort, alloc: Global, link: &mut Link) -> Result<(), Fail> {
+    link.opens(rt, Directive::InitSetVr(200))?;
     for count in 0..64 {
-        let octets = command(rt.alloc(), 600, count)?;
-        link.submits(&rt, 0, octets.as_slice())?;
+        link.submits_command(rt, alloc, 0, 600, count)?;
     }
     assert_eq!(rt; link.sends(100)?, 64);
     assert_eq!(rt; link.arrives()?, 64);
-    assert_eq!(rt; link.takes(&rt)?, 64);
-    link.carries(&rt)
+    assert_eq!(rt; link.takes(rt)?, 64);
+    link.carries(rt)
 }
 
 // A whole run of 1,000 events.
 #[test]
 fn a_run_of_many_events(rt: HostRuntime) -> Result<(), Fail> {
     let octets = command(rt.alloc(), 7, 0)?;
-    let mut events = [Event::Submit(63, octets.as_slice()); 1000];
+    runs(&rt, rt.alloc(), octets.as_slice())
+}
+
+fn runs(rt: &impl Abort, alloc: Global, octets: &[u8]) -> Result<(), Fail> {
+    let mut events = [Event::Submit(63, octets); 1000];
     if let Some(first) = events.first_mut() {
         *first = Event::Directive(Directive::InitWithoutCheck);
     }
-    let sim = run(rt.alloc(), config(), &events)?;
+    let sim = run(alloc, config(), &events)?;
+    did_all(rt, &sim);
+    Ok(())
+}
+
+fn did_all(rt: &impl Abort, sim: &Sim) {
     assert_eq!(rt; sim.answers().len(), 1000);
     assert_eq!(rt; sim.submitted(63).len(), 999);
-    assert!(rt;
-        sim.answers()
-            .iter()
-            .all(|answer| *answer == Ok(Reply::Done))
-    );
-    Ok(())
+    for answer in sim.answers() {
+        assert!(rt; matches!(answer, Ok(Reply::Done)));
+    }
 }

@@ -14,11 +14,21 @@ fn plays(
     program: &Program<'_>,
 ) -> Result<usize, Fail> {
     let mut text = String::new(alloc);
+    plays_into(rt, alloc, sim, &mut text, program)
+}
+
+fn plays_into(
+    rt: &impl Abort,
+    alloc: Global,
+    sim: &mut Sim,
+    text: &mut String,
+    program: &Program<'_>,
+) -> Result<usize, Fail> {
     let mut rest = program.all();
     let mut lines: usize = 0;
     for _ in 0..100_000 {
         text.clear();
-        let left = play_some(alloc, sim, &mut text, rest)?;
+        let left = play_some(alloc, sim, text, rest)?;
         assert!(rt; text.len() < 4096 + 4096);
         lines = lines.wrapping_add(
             text.as_bytes()
@@ -54,8 +64,31 @@ fn lines(alloc: Global, line: &str, number: usize) -> Result<String, AllocError>
 // A script of this line, so many times, is answered by a line each.
 fn repeats(rt: &impl Abort, alloc: Global, line: &str, number: usize) -> Result<(), Fail> {
     let script = lines(alloc, line, number)?;
-    let (mut sim, program) = opens(alloc, script.as_bytes())?;
-    assert_eq!(rt; plays(rt, alloc, &mut sim, &program)?, number);
+    answers(rt, alloc, script.as_bytes(), number, 0)
+}
+
+// A script is answered by this number of lines, and submits this number of packets on MAP 63.
+fn answers(
+    rt: &impl Abort,
+    alloc: Global,
+    script: &[u8],
+    number: usize,
+    submitted: usize,
+) -> Result<(), Fail> {
+    let (mut sim, program) = opens(alloc, script)?;
+    answers_by(rt, alloc, &mut sim, &program, number)?;
+    assert_eq!(rt; sim.submitted(63).len(), submitted);
+    Ok(())
+}
+
+fn answers_by(
+    rt: &impl Abort,
+    alloc: Global,
+    sim: &mut Sim,
+    program: &Program<'_>,
+    number: usize,
+) -> Result<(), Fail> {
+    assert_eq!(rt; plays(rt, alloc, sim, program)?, number);
     Ok(())
 }
 
@@ -74,13 +107,14 @@ fn scripts_of_a_megabyte(rt: HostRuntime) -> Result<(), Fail> {
 #[test]
 fn a_word_of_the_longest_packet(rt: HostRuntime) -> Result<(), Fail> {
     let mut script = String::new(rt.alloc());
+    writes_the_longest(&mut script)?;
+    answers(&rt, rt.alloc(), script.as_bytes(), 3, 1)
+}
+
+fn writes_the_longest(script: &mut String) -> Result<(), AllocError> {
     script.push_str("init none\nsubmit 63 1005C000FFFF")?;
     for _ in 0..65_536 {
         script.push_str("5A")?;
     }
-    script.push_str("\nshow\n")?;
-    let (mut sim, program) = opens(rt.alloc(), script.as_bytes())?;
-    assert_eq!(rt; plays(&rt, rt.alloc(), &mut sim, &program)?, 3);
-    assert_eq!(rt; sim.submitted(63).len(), 1);
-    Ok(())
+    script.push_str("\nshow\n")
 }
