@@ -9,8 +9,9 @@ use crate::fault::ClcwFault;
 use crate::flags::ClcwFlags;
 use crate::word::Clcw;
 
-/// The control word that four octets spell (CCSDS 232.0-B-4, 4.2.1), or the first of these that
-/// applies: 1 Kind, 2 Version, 3 Cop, 4 Spare.
+/// The control word that four octets spell (CCSDS 232.0-B-4, 4.2.1), or the first of the faults that
+/// applies.
+/// Faults: 1 Kind, 2 Version, 3 Cop, 4 Spare.
 #[tactic(auto, unfolding(crate::specs::Reading::clcw_at))]
 pub fn decode(octets: [u8; 4]) -> Result<Clcw, ClcwFault>
     ensures reading { result ≡ clcw_at octets }

@@ -9,8 +9,9 @@ use crate::fault::ClcwFault;
 use crate::word::Clcw;
 use bitflags::Flags;
 
-/// The four octets that spell a control word (CCSDS 232.0-B-4, 4.2.1); 5 Range where a field is too
-/// large for its bits or a flag bit has no name.
+/// The four octets that spell a control word (CCSDS 232.0-B-4, 4.2.1). Refuses a field that is too
+/// large for its bits, and a flag bit that has no name.
+/// Faults: 5 Range.
 pub fn encode(word: &Clcw) -> Result<[u8; 4], ClcwFault>
     ensures answer { result ≡ encode_answer word.now }
     ensures spells { IfOk result (λ octets. IsClcw word.now octets) }

@@ -42,6 +42,7 @@ module _ {H : Holding} where
   terminate_in s S6 = refuses s WrongState
   terminate_in s _ = terminates s
 
+  -- rules 1 to 9 of the directives, a line each
   abbrev pub directive_step : SenderOf H → Directive → OutcomeOf H (Result (Option Alert) CopFault)
   directive_step s InitWithoutCheck =
       from_S6 s s.state (record (after_begin s) { nn = s.vs; state = S1 })

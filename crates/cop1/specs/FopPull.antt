@@ -37,7 +37,7 @@ module _ {H : Holding} where
         count = count_behind s;
       }
 
-  -- the wait queue's unit, where the window has room for it
+  -- rule 4 of a pull: the wait queue's unit, where the window has room for it; else rule 5, nothing
   abbrev pub pull_waiting : SenderOf H → Option H.One → OutcomeOf H (PulledUnit H.One)
   pull_waiting s None = pulls s NothingPulled
   pull_waiting s (Some u) =
@@ -48,7 +48,7 @@ module _ {H : Holding} where
   abbrev pub next_waiting : SenderOf H → OutcomeOf H (PulledUnit H.One)
   next_waiting s = pull_waiting s (H.waiting_one s.waiting)
 
-  -- the oldest marked unit with its number, and otherwise the wait queue's
+  -- rule 3: the oldest marked unit with its number, and otherwise the wait queue's
   abbrev pub pull_marked : SenderOf H → Option (ℕ × H.One) → OutcomeOf H (PulledUnit H.One)
   pull_marked s (Some oldest) =
       pulls (record (after_restart s) { sent = H.without_oldest s.sent })
@@ -63,12 +63,12 @@ module _ {H : Holding} where
   pull_in s S2 = next_sequence s
   pull_in s _ = pulls s NothingPulled
 
-  -- the oldest bypass unit, in any state
+  -- rule 2: the oldest bypass unit, in any state
   abbrev pub pull_bypass : SenderOf H → Option (H.One × H.Bypass) → OutcomeOf H (PulledUnit H.One)
   pull_bypass s (Some oldest) = pulls (record s { bypass = oldest.1 }) (BypassPulled oldest.0)
   pull_bypass s None = pull_in s s.state
 
-  -- the control command of S5, where it is due
+  -- rule 1: the control command of S5, where it is due
   abbrev pub pull_control : SenderOf H → Control → OutcomeOf H (PulledUnit H.One)
   pull_control s (Due command) =
       pulls (record (after_restart s) { control = Sent command }) (ControlPulled command)

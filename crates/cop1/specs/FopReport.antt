@@ -26,7 +26,7 @@ abbrev pub asks : Clcw → Bool
 asks c = has_retransmit c.flags
 
 module _ {H : Holding} where
-  -- ---- S5: a report without flags whose value is V(S) confirms the control command
+  -- ---- S5, rules 14 and 15: a report without flags whose value is V(S) confirms the command
 
   abbrev pub confirms : SenderOf H → Clcw → Bool
   confirms s c = not (locks c) && not (waits c) && not (asks c) && (c.value == s.vs)
@@ -36,7 +36,7 @@ module _ {H : Holding} where
       if confirms s c then goes_on (record s { state = S1; ticks = None; control = Idle })
       else goes_on s
 
-  -- ---- S4, the first that applies
+  -- ---- S4, rules 9 to 13, a line each, the first that applies
 
   abbrev pub report_in_S4 : SenderOf H → Clcw → OutcomeOf H (Option Alert)
   report_in_S4 s c =
@@ -46,7 +46,7 @@ module _ {H : Holding} where
       else (if waits c then alerts s ClcwAlert
       else goes_on (record s { state = S1; ticks = None }))))
 
-  -- ---- S1 to S3: eight rules, of which the first that applies decides
+  -- ---- S1 to S3, rules 1 to 8, of which the first that applies decides
 
   -- rule 5: nothing is acknowledged, and nothing asked for
   abbrev pub nothing_new : SenderOf H → FopMode → OutcomeOf H (Option Alert)
@@ -109,7 +109,7 @@ module _ {H : Holding} where
       else (if not (c.value == s.nn) then ask_for_others s c.value (waits c)
       else ask_for_all s (waits c)))))))
 
-  -- ---- all states
+  -- ---- all states; rule 16: in S6 a report is ignored
 
   abbrev pub report_in : SenderOf H → Clcw → FopMode → OutcomeOf H (Option Alert)
   report_in s c S1 = report_while_active s c

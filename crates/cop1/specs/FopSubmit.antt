@@ -13,12 +13,13 @@ module _ {H : Holding} where
   abbrev pub comes_back : SenderOf H → CopFault → OutcomeOf H (Result (Unit {0}) CopFault)
   comes_back s fault = record { after = s; answer = Err fault; gone = 0 }
 
-  -- the wait queue has one place
+  -- rules 2 and 3 of a submission: the wait queue has one place
   abbrev pub waits_behind : SenderOf H → H.One → Option H.One
       → OutcomeOf H (Result (Unit {0}) CopFault)
   waits_behind s u None = takes (record s { waiting = H.one_waits u })
   waits_behind s u (Some before) = comes_back s Busy
 
+  -- rule 1 of a submission: none in S6
   abbrev pub submit_in : SenderOf H → H.One → FopMode → OutcomeOf H (Result (Unit {0}) CopFault)
   submit_in s u S6 = comes_back s NotOpen
   submit_in s u _ = waits_behind s u (H.waiting_one s.waiting)

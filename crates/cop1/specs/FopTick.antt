@@ -22,7 +22,7 @@ module _ {H : Holding} where
   abbrev pub while_below : SenderOf H → SenderOf H → OutcomeOf H (Option Alert)
   while_below s next = if nat_lt s.count s.limit then goes_on next else alerts s Timer
 
-  -- the timer has ended
+  -- the timer has ended: rule 1 in S1 and S2, rule 2 in S3, rule 3 in S5; rule 4 is the alert
   abbrev pub timer_ended : SenderOf H → FopMode → OutcomeOf H (Option Alert)
   timer_ended s S1 = while_below s (after_repeat s)
   timer_ended s S2 = while_below s (after_repeat s)

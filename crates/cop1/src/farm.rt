@@ -129,8 +129,9 @@ impl Farm {
     ghost use Rattle.cop1.specs.FarmRuns.{FlagsAgree};
     ghost use Rattle.cop1.specs.Farm.{IsWidth, new_farm, place_of, verdict_of, farm_step, AdArrives, BdArrives, UnlockArrives, SetVrArrives, BufferReleased};
 
-    /// An open receiver with all flags 0 and FARM-B 0, which expects the number `vr` (CCSDS
-    /// 232.1-B-2, 6.1). The width is even, 2 to 254; 1 Width where it is not.
+    /// An open receiver with all flags 0 and FARM-B 0, which expects the number `vr` (CCSDS 232.1-B-2,
+    /// 6.1). Refuses a width that is not even, or not from 2 to 254.
+    /// Faults: 1 Width.
     pub fn new(width: u8, vr: u8) -> Result<Farm, CopFault>
         ensures new_farm { IfOk result (λ f. f ≡ new_farm width vr) }
         ensures width { IsOk result ↔ IsWidth width }
@@ -149,7 +150,8 @@ impl Farm {
         })
     }
 
-    /// The receiver with these fields, which `fields` gave; 9 State where no receiver has them.
+    /// The receiver with these fields, which `fields` gave. Refuses fields that no receiver has.
+    /// Faults: 9 State.
     #[inline(always)]
     pub fn restore(fields: FarmFields) -> Result<Farm, CopFault>
         ensures farm { IfOk result (λ f. f ≡ farm_with fields) }

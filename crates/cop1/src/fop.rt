@@ -50,6 +50,7 @@ impl<U: Drop> Fop<U> {
     /// window `window` (K), the transmission limit and the timer's value in ticks (CCSDS 232.1-B-2,
     /// 5.1). The first that applies: 1 Width (not even, 2 to 254), 2 Window (not 1 to half the
     /// width), 3 Limit (0), 4 Timer (0), 5 Memory.
+    /// Faults: 1 Width, 2 Window, 3 Limit, 4 Timer, 5 Memory. Memory: yes.
     pub fn new(
         alloc: Global,
         width: u8,

@@ -77,6 +77,7 @@ impl Sender {
     /// window `window` (K), the transmission limit and the timer's value in ticks (CCSDS 232.1-B-2,
     /// 5.1). The first that applies: 1 Width (not even, 2 to 254), 2 Window (not 1 to half the
     /// width), 3 Limit (0), 4 Timer (0).
+    /// Faults: 1 Width, 2 Window, 3 Limit, 4 Timer.
     pub fn new(width: u8, window: u8, limit: u8, timer: u16) -> Result<Sender, CopFault>
         ensures made { new_fault width window limit timer ≡ None
             → result ≡ Ok (new_sender width window limit timer) }

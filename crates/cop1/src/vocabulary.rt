@@ -65,8 +65,11 @@ pub enum Directive {
 /// The control command of S5, and whether it has to be sent.
 #[derive(Clone, Copy, Debug, PartialEq, Eq)]
 pub enum Control {
+    /// There is none.
     Idle,
+    /// This one has to be sent.
     Due(Command),
+    /// This one was sent.
     Sent(Command),
 }
 

@@ -7,7 +7,7 @@ use Rattle.std.proofs.lemmas.Bool.{ltb-true, ltb-false, lt-ltb, le-ltb}
 use Rattle.std.proofs.lemmas.List.{take-append-le, take_at, drop_at, take-append-drop}
 use Rattle.std.proofs.lemmas.List.Folds.{concat-append}
 use Rattle.octets.specs.Records.{IsRecord, IsCutShort, IsSplit, record_of, first_record, by_record, first_records}
-use Rattle.octets.specs.Records.{rest_behind, records_of, rest_of}
+use Rattle.octets.specs.Records.{rest_after_first, records_of, rest_of}
 use Rattle.octets.proofs.Outcomes.{done}
 
 all-append : {X : Type 0} (P : X → Type 0) (xs ys : List X) → AllByRecursion P xs → AllByRecursion P ys
@@ -159,10 +159,10 @@ module _ {F : Type 0} (head : ℕ) (extent : List ℕ → Result ℕ F) (some_he
   split_by : (n : ℕ) (stream : List ℕ) (o : Option (Result (List ℕ) F)) → first_record head extent stream ≡ o
       → length stream ≤ suc n
       → ((t : List ℕ) → length t ≤ n
-      → IsSplit head extent t (first_records head extent n t) (rest_behind head extent n t))
+      → IsSplit head extent t (first_records head extent n t) (rest_after_first head extent n t))
       → IsSplit head extent stream (by_record head extent o []
       (λ r. r ∷ first_records head extent n (drop (length r) stream)))
-      (by_record head extent o stream (λ r. rest_behind head extent n (drop (length r) stream)))
+      (by_record head extent o stream (λ r. rest_after_first head extent n (drop (length r) stream)))
   split_by n stream None e le go =
       nothing_first stream (is_left head extent stream (subst (IsNoRecord head extent) (sym e) tt))
   split_by n stream (Some (Err f)) e le go =
@@ -170,11 +170,11 @@ module _ {F : Type 0} (head : ℕ) (extent : List ℕ → Result ℕ F) (some_he
   split_by n stream (Some (Ok r)) e le go =
       let p = record_is stream r e in
       let t : List ℕ = drop (length r) stream in
-      with_record stream r (rest_behind head extent n t) (first_records head extent n t) p
+      with_record stream r (rest_after_first head extent n t) (first_records head extent n t) p
       (go t (omega (arith, length-drop (length r) stream, p.0.has_head)))
 
   split_within : (n : ℕ) (stream : List ℕ) → length stream ≤ n
-      → IsSplit head extent stream (first_records head extent n stream) (rest_behind head extent n stream)
+      → IsSplit head extent stream (first_records head extent n stream) (rest_after_first head extent n stream)
   split_within zero stream le = nothing_first stream (inl (omega arith))
   split_within (suc n) stream le = split_by n stream (first_record head extent stream) refl le (split_within n)
 

@@ -45,14 +45,15 @@ module _ {F : Type 0} (head : ℕ) (extent : List ℕ → Result ℕ F) where
       by_record (first_record stream) []
       (λ octets. octets ∷ first_records n (drop (length octets) stream))
 
-  abbrev pub rest_behind : ℕ → List ℕ → List ℕ
-  rest_behind zero stream = stream
-  rest_behind (suc n) stream =
-      by_record (first_record stream) stream (λ octets. rest_behind n (drop (length octets) stream))
+  abbrev pub rest_after_first : ℕ → List ℕ → List ℕ
+  rest_after_first zero stream = stream
+  rest_after_first (suc n) stream =
+      by_record (first_record stream) stream
+      (λ octets. rest_after_first n (drop (length octets) stream))
 
   -- a stream has no more records than octets
   unfoldable pub records_of : List ℕ → List (List ℕ)
   records_of stream = first_records (length stream) stream
 
   unfoldable pub rest_of : List ℕ → List ℕ
-  rest_of stream = rest_behind (length stream) stream
+  rest_of stream = rest_after_first (length stream) stream

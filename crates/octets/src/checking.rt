@@ -12,6 +12,7 @@ use byteorder::{BigEndian, ByteOrder};
 
 /// The check of the octets: generator `x^16 + x^12 + x^5 + 1`, register preset to ones, no final
 /// inversion (CCSDS 232.0-B-4, 4.1.4.2; CCSDS 132.0-B-3, 4.1.6.2).
+/// Cost: n.
 #[inline(never)]
 pub fn check(octets: &[u8]) -> u16
     ensures { result ≡ check_of octets.now }
@@ -85,7 +86,8 @@ fn after_eight(register: u16, octets: &[u8; 8]) -> u16
         ^ entry(7, (register / 256) as u8 ^ a)
 }
 
-/// Sets the last two octets to the check of those before them.
+/// Sets the last two octets to the check of those before them (CCSDS 232.0-B-4, 4.1.4.2).
+/// Cost: n.
 pub fn append_check(octets: &mut [u8])
     requires { 2 ≤ length octets.old }
     ensures { let front = take (length octets.old - 2) octets.old in
@@ -98,6 +100,7 @@ pub fn append_check(octets: &mut [u8])
 
 /// Whether the last two octets are the check of those before them; false for fewer than two octets
 /// (CCSDS 232.0-B-4, 4.1.4.3).
+/// Cost: n.
 pub fn check_holds(octets: &[u8]) -> bool
     ensures { IsTrue result ↔ HoldsCheck octets.now }
 {

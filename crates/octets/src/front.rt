@@ -2,7 +2,8 @@
 
 ghost use Rattle.std.specs.Prelude.{◌≡◌, ◌≤◌, drop, vec_len};
 
-/// Takes this many octets away from the front. The others keep their order, and no memory is taken.
+/// Takes this many octets away from the front. The others keep their order.
+/// Cost: n.
 pub fn remove_front(octets: &mut Vec<u8>, count: usize)
     requires { count ≤ vec_len octets.old }
     ensures { octets.new.items ≡ drop count octets.old.items }

@@ -38,8 +38,9 @@ impl<W: Wire> Splitter<W> {
         }
     }
 
-    /// Takes more octets of the stream. The fault is `W::memory()`, never where there are no octets;
-    /// after it the splitter is as it was.
+    /// Takes more octets of the stream. At a fault the splitter is as it was.
+    /// Faults: the layout's `memory()`. Memory: yes, for one octet or more. Cost: n and the octets
+    /// held.
     pub fn feed(&mut self, octets: &[u8]) -> Result<(), W::Fault>
         ensures ok { OnOk result (held self.new ≡ held self.old ++ octets.now) }
         ensures err { OnErr result (held self.new ≡ held self.old) }
@@ -58,8 +59,9 @@ impl<W: Wire> Splitter<W> {
     }
 
     /// The next whole record, or the fault of its extent; `None` while octets are missing. Either is
-    /// lent, and the splitter is free again once it was used. Where an extent is refused, this call
-    /// and every later one answer its fault.
+    /// lent, and the splitter is free again once it was used. Where an extent is refused, this call and
+    /// every later one answer its fault.
+    /// Faults: the layout's, of a length.
     pub fn next(&mut self) -> Option<Result<&[u8], &W::Fault>>
         ensures* rests { sem 𝓛 (Rests (the_row W.row W.Fault.row W.Wire) self.entry (λ last.
             (held last ≡ rest_after (lent_view result) (held self.old))
@@ -73,8 +75,9 @@ impl<W: Wire> Splitter<W> {
         }
     }
 
-    /// Whether the stream may end here. The fault is `W::truncated()`: octets are left, and no
-    /// extent of theirs was refused.
+    /// Whether the stream may end here. The fault says that octets are left, and no extent of theirs
+    /// was refused.
+    /// Faults: the layout's `truncated()`.
     pub fn finish(&self) -> Result<(), W::Fault>
         ensures truncated { IsErr result
             ↔ ((0 < length (held self.now)) × IsNone (failure self.now)) }

@@ -25,6 +25,7 @@ pub trait Wire {
     ghost memory_fault: { Self.Fault };
 
     /// The length in octets of the record that begins so; the first `HEAD` octets alone are looked at.
+    /// Faults: the layout's, of a length.
     fn extent(head: &[u8]) -> Result<usize, Self::Fault>
         requires { HEAD ≤ length head.now }
         ensures { result ≡ extent_of (take HEAD head.now) };

@@ -9,10 +9,11 @@ use crate::fault::PacketFault;
 use crate::packet::{Packet, PacketKind};
 use octets::first_two;
 
-/// Reads the packet that the octets begin with (CCSDS 133.0-B-2, 4.1), and says how many octets it
-/// has. What follows it is not looked at. Refuses fewer than 6 octets by 1 `Truncated`, a version
-/// other than 000 by 2 `Version`, an idle packet with a secondary header by 3 `IdleWithSecondary`,
-/// and then fewer octets than declared by 1 `Truncated`.
+/// Reads the packet that the octets begin with (CCSDS 133.0-B-2, 4.1), and says how many octets it has.
+/// It borrows its data from them. What follows it is not looked at. Refuses fewer than 6 octets by 1
+/// `Truncated`, a version other than 000 by 2 `Version`, an idle packet with a secondary header by 3
+/// `IdleWithSecondary`, and then fewer octets than declared by 1 `Truncated`.
+/// Faults: 1 Truncated, 2 Version, 3 IdleWithSecondary.
 pub fn decode(octets: &[u8]) -> Result<(Packet<'_>, usize), PacketFault>
     ensures answer { map_ok found_view result ≡ packet_at octets.now }
 

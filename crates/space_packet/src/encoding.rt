@@ -13,6 +13,7 @@ use byteorder::{BigEndian, ByteOrder};
 /// (CCSDS 133.0-B-2, 4.1). Octets past it stay. Refuses by 5 `FieldRange` a field out of its range,
 /// a payload of no octets or of more than 65,536 and an idle packet with a secondary header, and
 /// then by 4 `Room` an output that is too short.
+/// Faults: 5 FieldRange, then 4 Room. Cost: n.
 pub fn encode(packet: &Packet, out: &mut [u8]) -> Result<usize, PacketFault>
     ensures answer { result ≡ encode_answer (packet_view packet.now) (length out.old) }
     ensures ok { IfOk result (λ n. out.new ≡ spelling (packet_view packet.now) ++ drop n out.old) }

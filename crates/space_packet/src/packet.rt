@@ -4,13 +4,16 @@
 /// CCSDS 133.0-B-2, 4.1.3.3.2).
 #[derive(Clone, Copy, Debug, PartialEq, Eq)]
 pub enum PacketKind {
+    /// From the spacecraft: the packet type 0.
     Telemetry,
+    /// To the spacecraft: the packet type 1.
     Telecommand,
 }
 
 /// A space packet of 7 to 65,542 octets (CCSDS 133.0-B-2, 4.1).
 #[derive(Clone, Copy, Debug, PartialEq, Eq)]
 pub struct Packet<'a> {
+    /// The packet type.
     pub kind: PacketKind,
     /// Whether the payload begins with a secondary header, which is not interpreted here. An idle
     /// packet has none (4.1.3.3.3).

@@ -33,8 +33,8 @@ impl PacketSplitter {
         }
     }
 
-    /// Takes more octets of the stream. The fault is 6 `Memory`, never where there are no octets;
-    /// after it the splitter is as it was.
+    /// Takes more octets of the stream. At a fault the splitter is as it was.
+    /// Faults: 6 Memory. Memory: yes, for one octet or more. Cost: n and the octets held.
     pub fn feed(&mut self, octets: &[u8]) -> Result<(), PacketFault>
         ensures ok { OnOk result (octets_held self.new ≡ octets_held self.old ++ octets.now) }
         ensures err { OnErr result (octets_held self.new ≡ octets_held self.old) }
@@ -45,9 +45,9 @@ impl PacketSplitter {
         self.splitter.feed(octets)
     }
 
-    /// The next whole packet's octets, or 2 `Version` or 3 `IdleWithSecondary` where its header is
-    /// refused; `None` while octets are missing. Once a header was refused, this call and every
-    /// later one answer that fault.
+    /// The next whole packet's octets, lent, or the fault of its header; `None` while octets are
+    /// missing. Once a header was refused, this call and every later one answer that fault.
+    /// Faults: 2 Version, 3 IdleWithSecondary.
     pub fn next(&mut self) -> Option<Result<&[u8], PacketFault>>
         ensures* rests { sem 𝓛 (Rests the_row self.entry (λ last.
             (octets_held last ≡ rest_after (answer_view result) (octets_held self.old))
@@ -61,8 +61,8 @@ impl PacketSplitter {
         }
     }
 
-    /// Whether the stream may end here. The fault is 1 `Truncated`: octets are left, and no header
-    /// was refused.
+    /// Whether the stream may end here. The fault says that octets are left, and no header was refused.
+    /// Faults: 1 Truncated.
     pub fn finish(&self) -> Result<(), PacketFault>
         ensures truncated { IsErr result
             ↔ ((0 < length (octets_held self.now)) × IsNone (refusal self.now)) }

@@ -10,7 +10,9 @@ use crate::frame::{Body, Check, Command, Segment, SegmentFlags, SegmentHeader, T
 use octets::{check_holds, first_two};
 
 /// Reads all of the octets as one frame, with or without the check at its end (CCSDS 232.0-B-4, 4.1),
-/// or says the first of the faults 1 to 9 that applies.
+/// or says the first of the faults that applies. The frame borrows its data from the octets.
+/// Faults: 1 Short, 2 Version, 3 ReservedType, 4 Spare, 5 Length, 6 Check, 7 BypassNumber, 8 EmptyData,
+/// 9 Command. Cost: n.
 #[inline(always)]
 pub fn decode(octets: &[u8], check: Check) -> Result<TcFrame<'_>, TcFault>
     ensures answer { map_ok frame_view result ≡ frame_at check octets.now }

@@ -14,6 +14,7 @@ use octets::append_check;
 /// Writes the frame, with or without its check, at the beginning of `out`, and says how many octets
 /// it has: at most 1,024 (CCSDS 232.0-B-4, 4.1). Refuses by 11 `FieldRange` a field out of its range,
 /// empty data and a longer frame, and then by 10 `Room` an output that is too short.
+/// Faults: 11 FieldRange, then 10 Room. Cost: n.
 pub fn encode(frame: &TcFrame, check: Check, out: &mut [u8]) -> Result<usize, TcFault>
     ensures answer { result ≡ encode_answer check (frame_view frame.now) (length out.old) }
     ensures ok { IfOk result (λ n. out.new

@@ -6,16 +6,22 @@ ghost use Rattle.std.specs.Prelude.{◌≡◌, ◌<◌};
 /// 232.0-B-4, 4.1.4).
 #[derive(Clone, Copy, Debug, PartialEq, Eq)]
 pub enum Check {
+    /// It does.
     On,
+    /// It does not.
     Off,
 }
 
 /// Where a segment stands in what it is a part of (CCSDS 232.0-B-4, 4.1.3.2.2.2).
 #[derive(Clone, Copy, Debug, PartialEq, Eq)]
 pub enum SegmentFlags {
+    /// The first of several.
     First,
+    /// Neither the first nor the last of them.
     Continuing,
+    /// The last of them.
     Last,
+    /// The only one.
     Alone,
 }
 
@@ -53,8 +59,9 @@ impl SegmentFlags {
 /// 232.0-B-4, 4.1.3.2.2).
 #[derive(Clone, Copy, Debug, PartialEq, Eq)]
 pub struct SegmentHeader {
+    /// Where the segment stands in its packet.
     pub flags: SegmentFlags,
-    /// Below 64.
+    /// The MAP identifier, below 64.
     pub map: u8,
 }
 
@@ -74,7 +81,9 @@ impl SegmentHeader {
 /// 232.0-B-4, 4.1.3.2.2).
 #[derive(Clone, Copy, Debug, PartialEq, Eq)]
 pub struct Segment<'a> {
+    /// The octet before the data.
     pub header: SegmentHeader,
+    /// The data, at least one octet.
     pub payload: &'a [u8],
 }
 
@@ -105,5 +114,6 @@ pub struct TcFrame<'a> {
     pub scid: u16,
     /// The virtual channel identifier, below 64.
     pub vcid: u8,
+    /// What it carries, with the flags that say so.
     pub body: Body<'a>,
 }

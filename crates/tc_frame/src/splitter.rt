@@ -32,8 +32,8 @@ impl<C: Wire<Fault = TcFault>> TcSplitter<C> {
         }
     }
 
-    /// Takes more octets of the stream. The fault is 12 `Memory`, never where there are no octets;
-    /// after it the splitter is as it was.
+    /// Takes more octets of the stream. At a fault the splitter is as it was.
+    /// Faults: 12 Memory. Memory: yes, for one octet or more. Cost: n and the octets held.
     pub fn feed(&mut self, octets: &[u8]) -> Result<(), TcFault>
         ensures ok { OnOk result (octets_held self.new ≡ octets_held self.old ++ octets.now) }
         ensures err { OnErr result (octets_held self.new ≡ octets_held self.old) }
@@ -47,9 +47,10 @@ impl<C: Wire<Fault = TcFault>> TcSplitter<C> {
         Ok(())
     }
 
-    /// The next whole record, or 5 `Length` where it declares a total below 5, or below 7 with the
-    /// check; `None` while octets are missing. Once a record was refused, this call and every later
+    /// The next whole record, lent, or 5 `Length` where it declares a total below 5, or below 7 with
+    /// the check; `None` while octets are missing. Once a record was refused, this call and every later
     /// one answer that fault.
+    /// Faults: 5 Length.
     pub fn next(&mut self) -> Option<Result<&[u8], TcFault>>
         ensures* rests { sem 𝓛 (Rests (the_row C.row C.Wire) self.entry (λ last.
             (octets_held last ≡ rest_after (answer_view result) (octets_held self.old))
@@ -64,8 +65,8 @@ impl<C: Wire<Fault = TcFault>> TcSplitter<C> {
         }
     }
 
-    /// Whether the stream may end here. The fault is 1 `Short`: octets are left, and no record was
-    /// refused.
+    /// Whether the stream may end here. The fault says that octets are left, and no record was refused.
+    /// Faults: 1 Short.
     pub fn finish(&self) -> Result<(), TcFault>
         ensures short { IsErr result
             ↔ ((0 < length (octets_held self.now)) × IsNone (refusal self.now)) }

@@ -11,8 +11,8 @@ use Rattle.tm_link.specs.Layout.{FrameView}
 use Rattle.tm_link.specs.Laying.{held_by, IsCutAt, IsLaidOutBy}
 use Rattle.tm_link.specs.Stream.{IsEnd, IsPointed, slice_of, carried_octets, IsLaidOut}
 use Rattle.tm_link.proofs.IdlePackets.{drop_both, length-idle, idle_is, not_handed, length-tail, drop_tail, drop_idle}
-use Rattle.tm_link.proofs.Laying.{carried_within, packet_behind, IsNext, next_again, frame_behind, laid_again}
-use Rattle.tm_link.proofs.Passing.{length-more, cut_most, cut_more, pointed_first, slice_is, cut_again, cut_behind}
+use Rattle.tm_link.proofs.Laying.{carried_within, packet_after, IsNext, next_again, frame_after, laid_again}
+use Rattle.tm_link.proofs.Passing.{length-more, cut_most, cut_more, pointed_first, slice_is, cut_again, cut_after}
 use Rattle.tm_link.proofs.Passing.{cut_last, passed_held}
 use Rattle.tm_link.proofs.Places.{length-carried}
 
@@ -62,7 +62,7 @@ idle_laid s ocf packets frames rest h =
     carried_within packets frames (held_by s) h.laid in
     let held : length (held_by s) ≡ s.idle_left + length s.pending = length-held s (omega arith) in
     let here : IsEnd h.laid.all place = (h.laid.all, [], sym (append-nil h.laid.all), omega arith) in
-    let x = frame_behind packets frames (held_by s) (held_by s) g h.laid refl here h.next in
+    let x = frame_after packets frames (held_by s) (held_by s) g h.laid refl here h.next in
     let next : length (carried_octets (frames ++ g ∷ [])) ≡ place = length-carried frames [] g ∙ omega arith in
     let cut = cut_again h.laid.all place (s.idle_left + s.begun) (length (carried_octets (frames ++ g ∷ [])))
     (s.idle_left + s.begun) s.sizes (sym next) refl h.cut in
@@ -95,7 +95,7 @@ filled_laid s ocf packets frames stream h all same long payload pointed next hel
     subst (λ (n : ℕ). IsPointed all place g.pointer n) (sym (ap length payload ∙ count)) pointed in
     let here : IsPointed h.all place g.pointer (length g.payload) =
     subst (λ (ps : List (List ℕ)). IsPointed ps place g.pointer (length g.payload)) (sym same) with_next_count-is in
-    let x = frame_behind packets frames stream (drop size stream) g h parts here next in
+    let x = frame_after packets frames stream (drop size stream) g h parts here next in
     let behind : place + size ≡ length (carried_octets (frames ++ g ∷ [])) =
     sym (length-carried frames [] g ∙ omega (arith, ap length slice)) in
     laid_again (state_when false s) packets (frames ++ g ∷ []) (drop size stream) all x.0 (x.1 ∙ same) held
@@ -135,7 +135,7 @@ full_laid s ocf packets frames small full h =
     pointed_first all place left size s.sizes h.cut (λ lt. omega arith) in
     let after : idle_after size s.idle_left (length s.pending) ≡ s.idle_left - size =
     after_none size s.idle_left (length s.pending) full in
-    let behind = cut_behind all place s.idle_left s.begun size s.sizes h.cut (omega arith) in
+    let behind = cut_after all place s.idle_left s.begun size s.sizes h.cut (omega arith) in
     let cut = cut_again all (place + size) _ (place + size) (left_when false s) _ refl (omega arith) behind in
     filled_laid s ocf packets frames held h.laid all refl (omega arith) payload pointed h.next
     (held_full s (omega arith) full) cut
@@ -197,7 +197,7 @@ short_laid s ocf packets frames small few short h =
     let long : length held ≡ s.idle_left + length s.pending = length-held s (omega arith) in
     let count : length idle ≡ max (room_of s) 7 = length-idle (max (room_of s) 7) (omega arith) in
     let total : place + length held ≡ length (concat h.laid.all) = carried_within packets frames held h.laid in
-    let x = packet_behind packets packets frames held idle h.laid
+    let x = packet_after packets packets frames held idle h.laid
     (idle_is (max (room_of s) 7) (omega arith) (omega arith)) (not_handed packets (max (room_of s) 7)) in
     let total-more : length (concat all) ≡ length (concat h.laid.all) + length idle = length-more h.laid.all idle in
     let stream : length (held ++ idle) ≡ length held + length idle = length-append held idle in

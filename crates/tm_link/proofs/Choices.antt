@@ -8,7 +8,7 @@ use Rattle.std.proofs.lemmas.List.{append-nil, map-append}
 use Rattle.std.proofs.lemmas.List.Folds.{concat-append}
 use Rattle.tm_link.specs.declared.gap.Gap.TheVariants.{Lost}
 use Rattle.tm_link.specs.Arriving.{IsInRange, all_extracted}
-use Rattle.tm_link.specs.Extraction.{ExtractorState, new_extractor, gap_of, part_behind, finished_packets, part_after}
+use Rattle.tm_link.specs.Extraction.{ExtractorState, new_extractor, gap_of, part_over_gap, finished_packets, part_after}
 use Rattle.tm_link.specs.Extraction.{without_idle, extract_step}
 use Rattle.tm_link.specs.Layout.{FrameView}
 use Rattle.tm_link.specs.Stream.{IsPointed, IsLaidOut, IsClose, slice_of, carried_octets, marks_of, complete_packets}
@@ -140,18 +140,18 @@ tied_lost (Some last) part n count keeps after t none =
     (t.0, omega (arith, t.1), λ (is : suc n ≡ 0). absurd (omega arith), λ some. none)
 
 part_by_gap : (n : ℕ) (part keeps : List ℕ) → (n ≡ 0 → part ≡ keeps) → (0 < n → keeps ≡ [])
-    → part_behind (Lost n) part ≡ keeps
+    → part_over_gap (Lost n) part ≡ keeps
 part_by_gap zero part keeps none some = none refl
 part_by_gap (suc n) part keeps none some =
     let t : eqb (suc n) 0 ≡ false = ne_eqb _ _ (λ (is : suc n ≡ 0). omega arith) in
     rw t (sym (some (omega arith)))
 
 tied_part : (last : Option ℕ) (part : List ℕ) (n count : ℕ) (keeps : List ℕ) (chosen : List Bool)
-    → Tied last part n count keeps → Near last n (true ∷ chosen) → part_behind (gap_of last count) part ≡ keeps
+    → Tied last part n count keeps → Near last n (true ∷ chosen) → part_over_gap (gap_of last count) part ≡ keeps
 tied_part None part n count keeps chosen t near = t.0 ∙ sym t.1
 tied_part (Some last) part n count keeps chosen t near =
     let gap : (count + (255 - last)) % 256 ≡ n = omega (arith, t.0, t.1, near.0) in
-    ap (λ k. part_behind (Lost k) part) gap ∙ part_by_gap n part keeps t.2 t.3
+    ap (λ k. part_over_gap (Lost k) part) gap ∙ part_by_gap n part keeps t.2 t.3
 
 -- ---- where no more frames come, no more packets do
 
@@ -214,8 +214,8 @@ extracted (f ∷ frames) (true ∷ chosen) all place tail ps others marks s n co
     let step : Stepped true ps tail marks f.pointer f.payload =
     step_of true all place tail f.payload behind ps marks f.pointer here sized follow.1.some follow.2 in
     let m = step.0 in
-    let part : part_behind (gap_of s.last f.vc_count) s.part ≡ kept tail marks =
-    ap (λ (k : ℕ). part_behind (gap_of s.last k) s.part) follow.0
+    let part : part_over_gap (gap_of s.last f.vc_count) s.part ≡ kept tail marks =
+    ap (λ (k : ℕ). part_over_gap (gap_of s.last k) s.part) follow.0
     ∙ tied_part s.last s.part n count (kept tail marks) chosen tied near in
     let given : (extract_step s f).packets ≡ without_idle m.added =
     ap (λ (xs : List ℕ). without_idle (finished_packets xs f.pointer f.payload)) part ∙ ap without_idle step.1.0 in

@@ -2,7 +2,7 @@
 use Rattle.std.proofs.Common.{◌≡◌, ℕ, Bool, true, false, List, [], ◌∷◌, ◌++◌, length, replicate, refl, sym, ap, ◌∙◌}
 use Rattle.std.proofs.Common.{arith, append_assoc}
 use Rattle.std.proofs.lemmas.List.{append-nil}
-use Rattle.tm_link.specs.Arriving.{all_extracted, state_behind, IsGain, HasGained}
+use Rattle.tm_link.specs.Arriving.{all_extracted, state_after, IsGain, HasGained}
 use Rattle.tm_link.specs.Extraction.{ExtractorState, new_extractor, extract_step}
 use Rattle.tm_link.specs.Layout.{FrameView}
 use Rattle.tm_link.specs.Stream.{IsClose, choice}
@@ -22,13 +22,13 @@ choice-push (g ∷ before) after f (true ∷ chosen) h =
 choice-push (g ∷ before) after f (false ∷ chosen) h = choice-push before after f chosen (omega arith)
 
 all_extracted-push : (s : ExtractorState) (frames : List FrameView) (f : FrameView)
-    → all_extracted s (frames ++ f ∷ []) ≡ all_extracted s frames ++ (extract_step (state_behind s frames) f).packets
+    → all_extracted s (frames ++ f ∷ []) ≡ all_extracted s frames ++ (extract_step (state_after s frames) f).packets
 all_extracted-push s [] f = append-nil (extract_step s f).packets
 all_extracted-push s (g ∷ frames) f =
     let next : ExtractorState = (extract_step s g).after in
     ap (λ (xs : List (List ℕ)). (extract_step s g).packets ++ xs) (all_extracted-push next frames f)
     ∙ sym (append_assoc (extract_step s g).packets (all_extracted next frames)
-    (extract_step (state_behind next frames) f).packets)
+    (extract_step (state_after next frames) f).packets)
 
 close_before : (chosen : List Bool) → IsClose (chosen ++ true ∷ []) → IsClose chosen
 close_before chosen h before after n e =

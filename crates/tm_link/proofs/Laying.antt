@@ -69,10 +69,10 @@ pointers_more packets frames rest h more before after f e =
     (h.pointers before after f e)
 
 -- one more packet, of which the builder holds all octets
-pub packet_behind : (packets more : List (List ℕ)) (frames : List FrameView) (rest p : List ℕ)
+pub packet_after : (packets more : List (List ℕ)) (frames : List FrameView) (rest p : List ℕ)
     (h : IsLaidOut packets frames rest) → IsRecord 6 extent_at p → packets ++ without_idle (p ∷ []) ≡ more
     → (l : IsLaidOut more frames (rest ++ p)) × (l.all ≡ h.all ++ p ∷ [])
-packet_behind packets more frames rest p h is e = (
+packet_after packets more frames rest p h is e = (
   record {
     all = h.all ++ p ∷ [];
     each = each_more (IsRecord 6 extent_at) h.all p h.each is;
@@ -122,11 +122,11 @@ next_again frames g before f e =
       | inr w ↦ ap (λ (y : FrameView). (y.vc_count + 1) % 256) (sym w.1)
     ]
 
-pub frame_behind : (packets : List (List ℕ)) (frames : List FrameView) (rest left : List ℕ) (g : FrameView)
+pub frame_after : (packets : List (List ℕ)) (frames : List FrameView) (rest left : List ℕ) (g : FrameView)
     (h : IsLaidOut packets frames rest) → slice_of g ++ left ≡ rest
     → IsPointed h.all (length (carried_octets frames)) g.pointer (length g.payload) → IsNext frames g.vc_count
     → (l : IsLaidOut packets (frames ++ g ∷ []) left) × (l.all ≡ h.all)
-frame_behind packets frames rest left g h parts here next = (
+frame_after packets frames rest left g h parts here next = (
   record {
     all = h.all;
     each = h.each;
@@ -178,7 +178,7 @@ pub queue_laid : (s : BuilderState) (octets : List ℕ) (packets : List (List �
     → IsLaidOutBy s packets frames → IsLaidOutBy (after_queue s octets) (packets ++ octets ∷ []) frames
 queue_laid s octets packets frames fits sends h =
     let packet = to_send_is octets fits sends in
-    let x = packet_behind packets (packets ++ octets ∷ []) frames (held_by s) octets h.laid
+    let x = packet_after packets (packets ++ octets ∷ []) frames (held_by s) octets h.laid
     (to_send_record packet.0 octets packet.1)
     (ap (λ (ps : List (List ℕ)). packets ++ ps) (to_send_handed packet.0 octets packet.1)) in
     let held : held_by s ++ octets ≡ held_by (after_queue s octets) =

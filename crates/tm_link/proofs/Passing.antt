@@ -119,11 +119,11 @@ pass_all (p ∷ ps) room begun lt =
     ∙ pass_all ps (room - begun) (length p) (omega arith)
 
 -- after that many of the octets held
-pub cut_behind : (all : List (List ℕ)) (place idle begun size : ℕ) (sizes : List ℕ)
+pub cut_after : (all : List (List ℕ)) (place idle begun size : ℕ) (sizes : List ℕ)
     (h : IsCutAt all place (idle + begun) sizes) → size ≤ idle + begun + length (concat h.whole)
     → IsCutAt all (place + size) (idle - size + (left_after (size - idle) begun sizes).0)
     (left_after (size - idle) begun sizes).1
-cut_behind all place idle begun size sizes h le =
+cut_after all place idle begun size sizes h le =
     let ends : length (concat h.before) ≡ place + (idle + begun) = h.ends in
     elim (cases_lt idle size) [
       | inl lt ↦

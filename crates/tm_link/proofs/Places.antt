@@ -85,13 +85,13 @@ pointed_more all more place (At p) payload le h =
 abbrev pub NoneInside : List (List ℕ) → ℕ → ℕ → Type 0
 NoneInside all place n = (q : ℕ) → 0 < q → q < n → IsStart all (place + q) → ⊥
 
-inside_behind : (before after b a ps : List (List ℕ)) (p x : List ℕ) (q : ℕ) → 0 < q → q < length p
+inside_after : (before after b a ps : List (List ℕ)) (p x : List ℕ) (q : ℕ) → 0 < q → q < length p
     → length (concat b) ≡ length (concat before) + q → b ≡ before ++ ps → p ∷ after ≡ ps ++ x ∷ a → ⊥
-inside_behind before after b a [] p x q some lt at e rest =
+inside_after before after b a [] p x q some lt at e rest =
     let size : length (concat b) ≡ length (concat before) =
     ap (λ (ps : List (List ℕ)). length (concat ps)) (e ∙ append-nil before) in
     omega arith
-inside_behind before after b a (y ∷ ys) p x q some lt at e rest =
+inside_after before after b a (y ∷ ys) p x q some lt at e rest =
     let first : p ≡ y = cc in
     let same : length p ≡ length y = ap length first in
     let size : length (concat b) ≡ length (concat before) + length (concat (y ∷ ys)) =
@@ -109,7 +109,7 @@ none_inside all before after p place e at = λ q some lt s.
           ap (λ (ps : List (List ℕ)). length (concat ps)) w.1 ∙ ap length (concat-append s.0 (s.2 ∷ w.0))
           ∙ length-append (concat s.0) (concat (s.2 ∷ w.0)) in
           absurd (omega arith)
-      | inr w ↦ absurd (inside_behind before after s.0 s.1 w.0 p s.2 q some lt (omega arith) w.1 w.2)
+      | inr w ↦ absurd (inside_after before after s.0 s.1 w.0 p s.2 q some lt (omega arith) w.1 w.2)
     ]
 
 -- ---- what frames carry

@@ -31,10 +31,10 @@ starts_here : (all : Packets) (place : ℕ) (tail : List ℕ) (p : List ℕ) (ps
 starts_here all place tail p ps others s none = (s.passed, ps, p, s.parts, omega (arith, s.place_is))
 
 -- and otherwise after the open one
-starts_behind : (all : Packets) (place : ℕ) (tail : List ℕ) (p r : List ℕ) (ps : Packets) (others : List ℕ) (k : ℕ)
+starts_after : (all : Packets) (place : ℕ) (tail : List ℕ) (p r : List ℕ) (ps : Packets) (others : List ℕ) (k : ℕ)
     → Stood all place tail (p ∷ r ∷ ps) others → length tail + k ≡ length p
     → IsStart all (place + k)
-starts_behind all place tail p r ps others k s is =
+starts_after all place tail p r ps others k s is =
     let size : length (concat (s.passed ++ p ∷ [])) ≡ length (concat s.passed) + length p =
     ap length (concat-append s.passed (p ∷ [])) ∙ length-append (concat s.passed) (p ++ [])
     ∙ ap (λ (xs : List ℕ). length (concat s.passed) + length xs) (append-nil p) in
@@ -66,7 +66,7 @@ goes_on_by all place tail octets others p [] n s le h lt =
 goes_on_by all place tail octets others p (r ∷ ps) n s le h lt =
     let short : length tail < length p = s.opens in
     absurd (h (length p - length tail) (omega arith)
-    (starts_behind all place tail p r ps (octets ++ others) (length p - length tail) s (omega arith)))
+    (starts_after all place tail p r ps (octets ++ others) (length p - length tail) s (omega arith)))
 
 pub goes_on : (all : Packets) (place : ℕ) (tail octets others : List ℕ) (p : List ℕ) (ps : Packets) (n : ℕ)
     → Stood all place tail (p ∷ ps) (octets ++ others) → n ≤ length octets

@@ -60,17 +60,17 @@ rest-first octets n h =
     split.1 ∙ ap (λ (k : ℕ). rest_of 6 extent_at (drop k octets)) first.2
 
 -- all octets after the first
-behind_is : (octets : List ℕ) (n : ℕ) → take (length octets - n) (drop n octets) ≡ drop n octets
-behind_is octets n = take_all (length octets - n) (drop n octets) (omega (arith, length-drop n octets))
+after_is : (octets : List ℕ) (n : ℕ) → take (length octets - n) (drop n octets) ≡ drop n octets
+after_is octets n = take_all (length octets - n) (drop n octets) (omega (arith, length-drop n octets))
 
 pub rest-next : (octets : List ℕ) (n : ℕ) → length_view (first_record 6 extent_at octets) ≡ Some n
     → rest_of 6 extent_at (take (length octets - n) (drop n octets)) ≡ rest_of 6 extent_at octets
-rest-next octets n h = ap (rest_of 6 extent_at) (behind_is octets n) ∙ sym (rest-first octets n h)
+rest-next octets n h = ap (rest_of 6 extent_at) (after_is octets n) ∙ sym (rest-first octets n h)
 
 pub records-next : (octets : List ℕ) (n : ℕ) → length_view (first_record 6 extent_at octets) ≡ Some n
     → take n octets ∷ records_of 6 extent_at (take (length octets - n) (drop n octets)) ≡ records_of 6 extent_at octets
 records-next octets n h =
-    ap (λ (xs : List ℕ). take n octets ∷ records_of 6 extent_at xs) (behind_is octets n)
+    ap (λ (xs : List ℕ). take n octets ∷ records_of 6 extent_at xs) (after_is octets n)
     ∙ sym (records-first octets n h)
 
 -- ---- extents

@@ -206,9 +206,9 @@ pub record Cut (ps : Packets) (octets : List ℕ) : Type 0 where
   pub opens : Opens begun left
 
 -- a packet in front
-cut_behind : (p : List ℕ) (ps : Packets) (octets behind : List ℕ) → octets ≡ p ++ behind → Cut ps behind
+cut_after : (p : List ℕ) (ps : Packets) (octets behind : List ℕ) → octets ≡ p ++ behind → Cut ps behind
     → Cut (p ∷ ps) octets
-cut_behind p ps octets behind is more = record {
+cut_after p ps octets behind is more = record {
   whole = p ∷ more.whole;
   left = more.left;
   begun = more.begun;
@@ -236,7 +236,7 @@ cut_by p ps octets others h go (inl lt) =
     record { whole = []; left = p ∷ ps; begun = octets; parts = refl; cut = refl; opens = lt }
 cut_by p ps octets others h go (inr le) =
     let is : octets ≡ p ++ drop (length p) octets = first_of p octets others (concat ps) h le in
-    cut_behind p ps octets (drop (length p) octets) is
+    cut_after p ps octets (drop (length p) octets) is
     (go (drop (length p) octets) (rest_of_first p octets others (concat ps) (drop (length p) octets) h is))
 
 pub cut_of : (ps : Packets) (octets others : List ℕ) → AreRecords ps → octets ++ others ≡ concat ps → Cut ps octets

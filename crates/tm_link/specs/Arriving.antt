@@ -17,9 +17,9 @@ all_extracted s (f ∷ frames) =
     (extract_step s f).packets ++ all_extracted (extract_step s f).after frames
 
 -- what the extractor holds then
-abbrev pub state_behind : ExtractorState → List FrameView → ExtractorState
-state_behind s [] = s
-state_behind s (f ∷ frames) = state_behind (extract_step s f).after frames
+abbrev pub state_after : ExtractorState → List FrameView → ExtractorState
+state_after s [] = s
+state_after s (f ∷ frames) = state_after (extract_step s f).after frames
 
 -- The flags choose some of the frames before this one of them, fewer than 256 are left out before
 -- it since the last that came, and those that came led a new extractor here.
@@ -30,7 +30,7 @@ pub record LeadsTo (s : ExtractorState) (f : FrameView) (frames : List FrameView
   pub parts : frames ≡ before ++ f ∷ after
   pub counted : length chosen ≡ length before
   pub close : IsClose (chosen ++ true ∷ [])
-  pub state : s ≡ state_behind new_extractor (choice frames chosen)
+  pub state : s ≡ state_after new_extractor (choice frames chosen)
 
 -- With this frame what arrives is what arrived without it, and then these packets, whatever the
 -- stream and the choice.

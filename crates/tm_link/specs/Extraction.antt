@@ -39,8 +39,8 @@ is_any_lost First = false
 is_any_lost (Lost n) = not (n == 0)
 
 -- the part, which is dropped where a frame is missing
-abbrev pub part_behind : Gap → List ℕ → List ℕ
-part_behind gap part = if is_any_lost gap then [] else part
+abbrev pub part_over_gap : Gap → List ℕ → List ℕ
+part_over_gap gap part = if is_any_lost gap then [] else part
 
 -- ---- a packet's end
 
@@ -110,7 +110,7 @@ pub record Extracted : Type 0 where
 abbrev pub extract_step : ExtractorState → FrameView → Extracted
 extract_step s f =
     let gap : Gap = gap_of s.last f.vc_count in
-    let part : List ℕ = part_behind gap s.part in
+    let part : List ℕ = part_over_gap gap s.part in
     record {
       gap = gap;
       packets = without_idle (finished_packets part f.pointer f.payload);

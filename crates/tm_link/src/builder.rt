@@ -48,9 +48,9 @@ impl Model for TmBuilder {
 }
 
 impl TmBuilder {
-    /// A builder of frames of `length` octets, 16 to 2,048, whose counts start at 0. It takes no
-    /// memory. A spacecraft identifier of 1,024 or more, a virtual channel of 8 or more and another
-    /// length are refused by 10 `FieldRange`.
+    /// A builder of frames of `length` octets, 16 to 2,048, whose counts start at 0. Refuses a
+    /// spacecraft identifier of 1,024 or more, a virtual channel of 8 or more, and another length.
+    /// Faults: 10 FieldRange.
     pub fn new(alloc: Global, scid: u16, vcid: u8, length: usize) -> Result<Self, TmFault>
         ensures ok { IfOk result (λ b. b ≡ new_builder scid vcid length) }
         ensures fits { IsOk result ↔ IsTrue (builder_fits scid vcid length) }
@@ -78,6 +78,7 @@ impl TmBuilder {
     /// Queues the packet after those that are to be sent (CCSDS 132.0-B-3, 4.2.2). Refuses by 8
     /// `NotAPacket` octets that are not exactly one packet, or an idle packet, and then by 7
     /// `Memory`; the builder is as it was then.
+    /// Faults: 8 NotAPacket, then 7 Memory. Memory: yes. Cost: n*.
     pub fn queue(&mut self, packet: &[u8]) -> Result<(), TmFault>
         ensures ok { OnOk result (self.new ≡ after_queue self.old packet.now) }
         ensures taken { OnOk result (IsTrue (is_to_send packet.now)) }
@@ -106,6 +107,7 @@ impl TmBuilder {
     /// Writes the next frame, with this operational control field, at the beginning of `out`, and
     /// says how many octets it has: as many as all frames (CCSDS 132.0-B-3, 4.1). Octets past it
     /// stay.
+    /// Cost: n and the number of packets that end in the frame.
     pub fn build(&mut self, ocf: [u8; 4], out: &mut [u8; 2048]) -> usize
         ensures count { result ≡ self.old.total }
         ensures frame { out.new ≡ spelling (build_step self.old ocf).0 ++ drop result out.old }
@@ -166,7 +168,7 @@ impl TmBuilder {
     {
         let room = size - self.idle_left.min(size);
         let count = room.min(self.octets.len() - self.start);
-        self.idle_left = idle_behind(size, self.idle_left, self.octets.len() - self.start);
+        self.idle_left = idle_left_after(size, self.idle_left, self.octets.len() - self.start);
         self.start += count;
         self.begun = pass(self.begun, &mut self.sizes, room);
     }
@@ -198,7 +200,7 @@ pub fn can_queue(octets: &[u8]) -> bool
     is_packet(octets) && !is_idle_with(octets, &[])
 }
 
-pub(crate) fn start_behind(left: usize, size: usize) -> Pointer
+pub(crate) fn start_after(left: usize, size: usize) -> Pointer
     requires { size ≤ 2036 }
     ensures { result ≡ first_start left size }
 {
@@ -211,7 +213,7 @@ pub(crate) fn start_behind(left: usize, size: usize) -> Pointer
 
 /// The octets left of an idle packet after a data field of `size` octets, where `idle_left` of one
 /// and then `count` octets of packets were to be sent before it.
-pub fn idle_behind(size: usize, idle_left: usize, count: usize) -> usize
+pub fn idle_left_after(size: usize, idle_left: usize, count: usize) -> usize
     requires { idle_left ≤ 6 }
     ensures value { result ≡ idle_after size idle_left count }
     ensures most { result ≤ 6 }

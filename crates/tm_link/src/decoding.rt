@@ -9,9 +9,10 @@ use crate::fault::TmFault;
 use crate::frame::{Pointer, TmFrame};
 use octets::{check_holds, first_two};
 
-/// Reads all of the octets as one frame of `length` octets, 12 more than its data (CCSDS
-/// 132.0-B-3, 4.1), or says the first of the faults 1 to 6 that applies. A length outside 16 to 2,048
-/// is 1 `Length`.
+/// Reads all of the octets as one frame of `length` octets, 12 more than its data (CCSDS 132.0-B-3,
+/// 4.1), or says the first of the faults that applies. A length outside 16 to 2,048 is 1 `Length`. The
+/// frame borrows its data from the octets.
+/// Faults: 1 Length, 2 Version, 3 Check, 4 Status, 5 Pointer, 6 NoOcf. Cost: n.
 pub fn decode(octets: &[u8], length: usize) -> Result<TmFrame<'_>, TmFault>
     ensures answer { map_ok frame_view result ≡ frame_at length octets.now }
 

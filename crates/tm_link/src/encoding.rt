@@ -13,6 +13,7 @@ use octets::append_check;
 /// data, so 16 to 2,048 (CCSDS 132.0-B-3, 4.1). Octets past it stay. Refuses by 10 `FieldRange` a
 /// field out of its range, a pointer to a place past the data, and data of fewer than 4 or more than
 /// 2,036 octets, and then by 9 `Room` an output that is too short.
+/// Faults: 10 FieldRange, then 9 Room. Cost: n.
 pub fn encode(frame: &TmFrame, out: &mut [u8]) -> Result<usize, TmFault>
     ensures answer { result ≡ encode_answer (frame_view frame.now) (length out.old) }
     ensures ok { IfOk result (λ n. out.new ≡ spelling (frame_view frame.now) ++ drop n out.old) }

@@ -97,7 +97,8 @@ pub(crate) fn first_len(octets: &[u8]) -> Option<usize>
 }
 
 /// What is left after the whole packets that octets begin with.
-pub fn rest_behind(octets: &[u8]) -> &[u8]
+/// Cost: the number of packets.
+pub fn rest_after_packets(octets: &[u8]) -> &[u8]
     ensures { result.now ≡ rest_of 6 extent_at octets.now }
 {
     let mut rest = octets;

@@ -2,12 +2,13 @@
 
 ghost use Rattle.std.specs.Prelude.{◌≡◌, ◌++◌, [], length, Some, IsTrue, IsOk, IfOk, IfErr, OnOk, OnErr};
 ghost use Rattle.tm_link.specs.Arriving.{HasGained};
-ghost use Rattle.tm_link.specs.Extraction.{new_extractor, part_after, part_behind, extract_step, octets_of, GrowsBy};
+ghost use Rattle.tm_link.specs.Extraction.{new_extractor, part_after, part_over_gap, extract_step, octets_of, GrowsBy};
 ghost use Rattle.tm_link.specs.Layout.{frame_view, pointer_fits};
+ghost use Rattle.tm_link.specs.Splitting.{rest_in_frame};
 
 use crate::fault::TmFault;
 use crate::frame::{Pointer, TmFrame};
-use crate::gap::{Gap, gap_behind, is_lost, part_kept};
+use crate::gap::{Gap, gap_before, is_lost, part_kept};
 use crate::handing::find;
 use crate::part::{go_on, open};
 use std::alloc::Global;
@@ -36,8 +37,8 @@ impl Model for Extractor {
 }
 
 impl Extractor {
-    /// An extractor that has seen no frame. It reserves the 65,542 octets of the longest packet; the
-    /// fault is 7 `Memory`.
+    /// An extractor that has seen no frame. It reserves the 65,542 octets of the longest packet.
+    /// Faults: 7 Memory. Memory: yes.
     pub fn new(alloc: Global) -> Result<Self, TmFault>
         ensures ok { IfOk result (λ x. x ≡ new_extractor) }
         ensures fault { IfErr result (λ e. e ≡ TmFault.Memory) }
@@ -52,9 +53,10 @@ impl Extractor {
         }
     }
 
-    /// Takes the next frame that came, appends the packets that are finished with it, and says how
-    /// many frames are missing before it (CCSDS 132.0-B-3, 4.3.2). All growths are made first: at 7
-    /// `Memory` the extractor and the packets are as they were.
+    /// Takes the next frame that came, appends the packets that are finished with it, idle ones left
+    /// out, and says how many frames are missing before it (CCSDS 132.0-B-3, 4.3.2). All growths are
+    /// made first: at a fault the extractor and the packets are as they were.
+    /// Faults: 7 Memory. Memory: only where a packet is finished. Cost: n and the packets finished.
     pub fn frame(&mut self, frame: &TmFrame, packets: &mut Vec<Vec<u8>>) -> Result<Gap, TmFault>
         requires { IsTrue (pointer_fits frame.now.pointer (length frame.now.payload.now)) }
         ensures gap { IfOk result (λ gap. gap
@@ -75,9 +77,9 @@ impl Extractor {
         ensures err { OnErr result (self.new ≡ self.old) }
         ensures fault { IfErr result (λ e. e ≡ TmFault.Memory) }
     {
-        let gap = gap_behind(self.last, frame.vc_count);
+        let gap = gap_before(self.last, frame.vc_count);
         let mut found = Vec::new(self.alloc);
-        find(
+        let rest = find(
             self.alloc,
             part_kept(gap, self.part.as_slice()),
             frame.pointer,
@@ -87,16 +89,16 @@ impl Extractor {
         if packets.append(&mut found).is_err() {
             return Err(TmFault::Memory);
         }
-        self.pass(gap, frame);
+        self.pass(gap, frame, rest);
         Ok(gap)
     }
 
-    // Passes a frame.
-    fn pass(&mut self, gap: Gap, frame: &TmFrame)
-        requires { IsTrue (pointer_fits frame.now.pointer (length frame.now.payload.now)) }
+    // Passes a frame, of whose data this stands after the packets.
+    fn pass(&mut self, gap: Gap, frame: &TmFrame, rest: &[u8])
+        requires { rest.now ≡ rest_in_frame frame.now.pointer frame.now.payload.now }
         ensures last { self.new.last ≡ Some frame.now.vc_count }
         ensures part { self.new.part
-            ≡ part_after (part_behind gap self.old.part) frame.now.pointer frame.now.payload.now }
+            ≡ part_after (part_over_gap gap self.old.part) frame.now.pointer frame.now.payload.now }
     {
         if is_lost(gap) {
             self.part.clear();
@@ -105,7 +107,7 @@ impl Extractor {
         match frame.pointer {
             Pointer::OnlyIdle => self.part.clear(),
             Pointer::NoStart => go_on(&mut self.part, frame.payload),
-            Pointer::At(place) => open(&mut self.part, &frame.payload[usize::from(place)..]),
+            Pointer::At(_) => open(&mut self.part, rest),
         }
     }
 }

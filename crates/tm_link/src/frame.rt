@@ -29,6 +29,7 @@ pub struct TmFrame<'a> {
     pub mc_count: u8,
     /// The virtual channel frame count.
     pub vc_count: u8,
+    /// Where the first packet starts in the data field.
     pub pointer: Pointer,
     /// The data field, of 4 to 2,036 octets.
     pub payload: &'a [u8],
@@ -37,8 +38,9 @@ pub struct TmFrame<'a> {
 }
 
 impl<'a> TmFrame<'a> {
-    /// The report in the operational control field, as the control word's own decoder reads it: 1
-    /// Kind, 2 Version, 3 Cop, 4 Spare (CCSDS 232.0-B-4, 4.2.1).
+    /// The report in the operational control field, as the control word's own decoder reads it (CCSDS
+    /// 232.0-B-4, 4.2.1).
+    /// Faults: those of `ClcwFault`, 1 Kind, 2 Version, 3 Cop, 4 Spare.
     pub fn report(&self) -> Result<Clcw, ClcwFault>
         ensures { result ≡ clcw_at self.now.ocf }
     {

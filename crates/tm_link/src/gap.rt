@@ -1,19 +1,19 @@
 // Frames that are missing.
 
 ghost use Rattle.std.specs.Prelude.{◌≡◌};
-ghost use Rattle.tm_link.specs.Extraction.{gap_of, part_behind, is_any_lost};
+ghost use Rattle.tm_link.specs.Extraction.{gap_of, part_over_gap, is_any_lost};
 
 /// How many frames of the virtual channel are missing before one (CCSDS 132.0-B-3, 4.1.2.6).
 #[derive(Clone, Copy, Debug, PartialEq, Eq)]
 pub enum Gap {
     /// It is the first frame.
     First,
-    /// So many, modulo 256.
+    /// This number of frames, modulo 256.
     Lost(u8),
 }
 
 /// The gap before a frame of this count, where the last one's count is known.
-pub fn gap_behind(last: Option<u8>, count: u8) -> Gap
+pub fn gap_before(last: Option<u8>, count: u8) -> Gap
     ensures { result ≡ gap_of last count }
 {
     match last {
@@ -34,7 +34,7 @@ pub fn is_lost(gap: Gap) -> bool
 
 // The part, where no frame is missing after it.
 pub(crate) fn part_kept(gap: Gap, part: &[u8]) -> &[u8]
-    ensures { result.now ≡ part_behind gap part.now }
+    ensures { result.now ≡ part_over_gap gap part.now }
 {
     if is_lost(gap) { &part[..0] } else { part }
 }

@@ -1,33 +1,39 @@
 // Handing packets out.
 
 ghost use Rattle.std.specs.Prelude.{◌≡◌, ◌≤◌, ◌+◌, ◌++◌, [], ◌∷◌, length, IsTrue, IsOk, OnOk, IfOk, IfErr};
-ghost use Rattle.octets.specs.Records.{records_of};
+ghost use Rattle.octets.specs.Records.{records_of, rest_of};
 ghost use Rattle.space_packet.specs.Reading.{extent_at};
 ghost use Rattle.tm_link.specs.Extraction.{completed_packet, finished_packets, without_idle, GrowsBy};
 ghost use Rattle.tm_link.specs.Layout.{pointer_fits};
+ghost use Rattle.tm_link.specs.Splitting.{rest_in_frame};
 
 use crate::ending::{Ending, ending_with, first_len, is_idle_with};
 use crate::fault::TmFault;
 use crate::frame::Pointer;
 use std::alloc::Global;
 
-// Appends the packets that are finished with a frame's data.
-pub(crate) fn find(
+// Appends the packets that are finished with a frame's data, and answers what stands after those that
+// begin with it.
+pub(crate) fn find<'a>(
     alloc: Global,
     part: &[u8],
     pointer: Pointer,
-    payload: &[u8],
+    payload: &'a [u8],
     found: &mut Vec<Vec<u8>>,
-) -> Result<(), TmFault>
+) -> Result<&'a [u8], TmFault>
     requires { IsTrue (pointer_fits pointer (length payload.now)) }
     ensures ok { OnOk result (GrowsBy found.old found.new
         (without_idle (finished_packets part.now pointer payload.now))) }
+    ensures rest { IfOk result (λ rest. rest.now ≡ rest_in_frame pointer payload.now) }
     ensures none { without_idle (finished_packets part.now pointer payload.now) ≡ [] → IsOk result }
     ensures fault { IfErr result (λ e. e ≡ TmFault.Memory) }
 {
     match pointer {
-        Pointer::OnlyIdle => Ok(()),
-        Pointer::NoStart => close(alloc, part, payload, found),
+        Pointer::OnlyIdle => Ok(&payload[..0]),
+        Pointer::NoStart => {
+            close(alloc, part, payload, found)?;
+            Ok(&payload[..0])
+        }
         Pointer::At(place) => {
             let (front, rest) = payload.split_at(usize::from(place));
             close(alloc, part, front, found)?;
@@ -52,10 +58,11 @@ fn close(alloc: Global, part: &[u8], octets: &[u8], found: &mut Vec<Vec<u8>>) ->
     hand_out(alloc, part, octets, found)
 }
 
-// Appends the whole packets that stand first.
-fn split(alloc: Global, octets: &[u8], found: &mut Vec<Vec<u8>>) -> Result<(), TmFault>
+// Appends the whole packets that stand first, and answers what stands after them.
+fn split<'a>(alloc: Global, octets: &'a [u8], found: &mut Vec<Vec<u8>>) -> Result<&'a [u8], TmFault>
     ensures ok { OnOk result (GrowsBy found.old found.new
         (without_idle (records_of 6 extent_at octets.now))) }
+    ensures rest { IfOk result (λ rest. rest.now ≡ rest_of 6 extent_at octets.now) }
     ensures none { without_idle (records_of 6 extent_at octets.now) ≡ [] → IsOk result }
     ensures fault { IfErr result (λ e. e ≡ TmFault.Memory) }
 {
@@ -64,7 +71,7 @@ fn split(alloc: Global, octets: &[u8], found: &mut Vec<Vec<u8>>) -> Result<(), T
         hand_out(alloc, &rest[..size], &rest[..0], found)?;
         rest = &rest[size..];
     }
-    Ok(())
+    Ok(rest)
 }
 
 // Appends a packet, in two parts, unless it is idle.

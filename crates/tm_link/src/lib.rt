@@ -3,6 +3,9 @@
 //! `decode` reads octets that are exactly one frame, and otherwise says the first fault; `encode`
 //! writes the one spelling of a frame. `TmBuilder` builds frames of the packets that it
 //! is given, and `Extractor` takes packets out of the frames that came.
+//!
+//! The other calls are what a builder and an extractor are made of. They are for callers that keep the
+//! octets themselves, as the library for C does.
 #![tactic(auto)]
 
 mod builder;
@@ -19,14 +22,14 @@ mod laws;
 mod part;
 mod turn;
 
-pub use builder::{TmBuilder, can_build, can_queue, idle_behind};
+pub use builder::{TmBuilder, can_build, can_queue, idle_left_after};
 pub use decoding::decode;
 pub use encoding::encode;
-pub use ending::{Ending, ending_with, is_idle_with, rest_behind};
+pub use ending::{Ending, ending_with, is_idle_with, rest_after_packets};
 pub use extractor::Extractor;
 pub use fault::TmFault;
 pub use frame::{Pointer, TmFrame};
-pub use gap::{Gap, gap_behind, is_lost};
+pub use gap::{Gap, gap_before, is_lost};
 pub use laws::{
     law_of_extraction, law_of_queueing, law_of_reading, law_of_spelling, law_of_stream,
 };

@@ -1,11 +1,9 @@
 // The part of a packet that an extractor holds.
 
 ghost use Rattle.std.specs.Prelude.{◌≡◌, ◌≤◌, vec_capacity};
-ghost use Rattle.octets.specs.Records.{rest_of};
-ghost use Rattle.space_packet.specs.Reading.{extent_at};
 ghost use Rattle.tm_link.specs.Extraction.{continued_part, opened_part};
 
-use crate::ending::{Ending, ending_with, rest_behind};
+use crate::ending::{Ending, ending_with};
 
 // Goes on with the part.
 pub(crate) fn go_on(part: &mut Vec<u8>, octets: &[u8])
@@ -24,13 +22,12 @@ pub(crate) fn go_on(part: &mut Vec<u8>, octets: &[u8])
 }
 
 // Begins a part with what stands after whole packets.
-pub(crate) fn open(part: &mut Vec<u8>, octets: &[u8])
+pub(crate) fn open(part: &mut Vec<u8>, rest: &[u8])
     requires { 65542 ≤ vec_capacity part.old }
-    ensures part { part.new.items ≡ opened_part (rest_of 6 extent_at octets.now) }
+    ensures part { part.new.items ≡ opened_part rest.now }
     ensures room { 65542 ≤ vec_capacity part.new }
 {
     part.clear();
-    let rest = rest_behind(octets);
     if ending_with(rest, &rest[..0]) == Ending::Short {
         let _ = part.extend_from_slice(rest);
     }

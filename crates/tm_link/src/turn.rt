@@ -5,7 +5,7 @@ ghost use Rattle.tm_link.specs.Building.{builder_fits, frame_built, field_with, 
 ghost use Rattle.tm_link.specs.Layout.{IsTmFrame};
 ghost use Rattle.tm_link.specs.Writing.{spelling, front_octets};
 
-use crate::builder::start_behind;
+use crate::builder::start_after;
 use crate::encoding::put_header;
 use crate::filling::put_data;
 use crate::frame::{Pointer, TmFrame};
@@ -30,6 +30,7 @@ pub struct Turn {
 /// Writes the next frame, with this operational control field, over all of `out`: the octets that
 /// are to be sent as far as it has room, and after them an idle packet; where nothing is to be sent,
 /// only idle data (CCSDS 132.0-B-3, 4.1.4 and 4.2.2).
+/// Cost: n.
 pub fn put_next(turn: &Turn, pending: &[u8], ocf: [u8; 4], out: &mut [u8])
     requires fits { builder_fits turn.now.scid turn.now.vcid (length out.old) ≡ true }
     requires idle_left { turn.now.idle_left ≤ 6 }
@@ -87,5 +88,5 @@ fn put_field(turn: &Turn, pending: &[u8], field: &mut [u8]) -> Pointer
         return Pointer::OnlyIdle;
     }
     put_data(turn.idle_left, pending, field);
-    start_behind(turn.idle_left + turn.begun, field.len())
+    start_after(turn.idle_left + turn.begun, field.len())
 }

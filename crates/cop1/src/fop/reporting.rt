@@ -11,6 +11,7 @@ impl<U: Drop> Fop<U> {
 
     /// The control word of a report has come; an alert where the sender gives up (CCSDS 232.1-B-2,
     /// table 5-1).
+    /// Cost: the number of units released, at most 127.
     pub fn clcw(&mut self, report: &Clcw) -> Option<Alert>
         ensures after { self.new ≡ (fop_step self.old (Report report.now)).after }
         ensures alert { result ≡ (fop_step self.old (Report report.now)).answer }

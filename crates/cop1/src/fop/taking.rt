@@ -7,8 +7,9 @@ impl<U: Drop> Fop<U> {
     ghost use Rattle.std.specs.Prelude.{◌≡◌, OnOk, OnErr, IfErr};
     ghost use Rattle.cop1.specs.UnitsStep.{fop_step, Submit, Bypass};
 
-    /// A unit to be sent under sequence control (CCSDS 232.1-B-2, table 5-1). It comes back with
-    /// the fault: 6 NotOpen in S6, and 7 Busy where the wait queue's one place is taken.
+    /// A unit to be sent under sequence control (CCSDS 232.1-B-2, table 5-1). It comes back with the
+    /// fault: in S6, and where the wait queue's one place is taken.
+    /// Faults: 6 NotOpen, 7 Busy.
     pub fn submit(&mut self, unit: U) -> Result<(), (CopFault, U)>
         ensures after { self.new ≡ (fop_step self.old (Submit unit)).after }
         ensures answer { result ≡ (fop_step self.old (Submit unit)).answer }
@@ -22,8 +23,9 @@ impl<U: Drop> Fop<U> {
         }
     }
 
-    /// A unit to be sent past the sequence control, in any state (CCSDS 232.1-B-2, table 5-1). It
-    /// comes back with the fault: 5 Memory.
+    /// A unit to be sent past the sequence control, in any state (CCSDS 232.1-B-2, table 5-1). It comes
+    /// back with the fault.
+    /// Faults: 5 Memory. Memory: yes. Cost: 1*.
     pub fn bypass(&mut self, unit: U) -> Result<(), (CopFault, U)>
         ensures ok { OnOk result (self.new ≡ (fop_step self.old (Bypass unit)).after) }
         ensures fault { IfErr result (λ e. e ≡ (CopFault.Memory, unit)) }

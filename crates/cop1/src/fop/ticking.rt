@@ -10,6 +10,7 @@ impl<U: Drop> Fop<U> {
 
     /// A tick of the clock has passed; an alert where the sender gives up (CCSDS 232.1-B-2, table
     /// 5-1).
+    /// Cost: the number of units released, at most 127.
     pub fn tick(&mut self) -> Option<Alert>
         ensures after { self.new ≡ (fop_step self.old Tick).after }
         ensures alert { result ≡ (fop_step self.old Tick).answer }

@@ -24,7 +24,8 @@ impl Sender {
     ghost use Rattle.cop1.specs.FopVariables.{IsActive};
     ghost use Rattle.cop1.specs.FopWords.{is_outside, alerts};
 
-    /// The control word of a report has come (CCSDS 232.1-B-2, table 5-1).
+    /// The control word of a report has come (CCSDS 232.1-B-2, table 5-1). The caller releases as many
+    /// of the oldest units as it says; at an alert, all.
     pub fn report(&mut self, report: &Clcw) -> ReportAnswer
         ensures after { self.new ≡ (sender_step self.old (Report report.now)).after }
         ensures answer { result ≡ report_answer (sender_step self.old (Report report.now)) }

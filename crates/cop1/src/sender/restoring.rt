@@ -9,7 +9,8 @@ use crate::fault::CopFault;
 use crate::vocabulary::{Control, FopMode};
 
 impl Sender {
-    /// The sender with these numbers, which `fields` gave; 9 State where no sender has them.
+    /// The sender with these numbers, which `fields` gave. Refuses numbers that no sender has.
+    /// Faults: 9 State.
     pub fn restore(fields: SenderFields) -> Result<Sender, CopFault>
         ensures fields { IfOk result (λ s. s ≡ numbers_of fields) }
         ensures kept { IsOk result ↔ IsSender (numbers_of fields) }

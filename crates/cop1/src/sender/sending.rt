@@ -27,7 +27,9 @@ impl Sender {
 
     /// Takes what goes on the link next, by the first rule that applies: the control command of S5,
     /// where it is due; in S1 and S2 the oldest unit that is due to be sent again; in S1 and S2 the
-    /// unit that waits, where the window has room for it (CCSDS 232.1-B-2, 5.2).
+    /// unit that waits, where the window has room for it (CCSDS 232.1-B-2, 5.2). What the caller sends
+    /// past the sequence control goes after a command that is due (`fields().control` is `Due`), and
+    /// before units.
     pub fn next(&mut self) -> SenderNext
         ensures after { self.new ≡ (sender_step self.old Next).after }
         ensures answer { result ≡ (sender_step self.old Next).answer }

@@ -10,8 +10,8 @@ impl Sender {
     ghost use Rattle.cop1.specs.NumbersStep.{sender_step, Submit};
 
     /// A unit has come to be sent under sequence control, and waits: the caller keeps it (CCSDS
-    /// 232.1-B-2, table 5-1). It is refused with 6 NotOpen in S6, and with 7 Busy where one waits
-    /// already.
+    /// 232.1-B-2, table 5-1). It is refused in S6, and where one waits already.
+    /// Faults: 6 NotOpen, 7 Busy.
     pub fn submit(&mut self) -> Result<(), CopFault>
         ensures after { self.new ≡ (sender_step self.old Submit).after }
         ensures answer { result ≡ (sender_step self.old Submit).answer }

@@ -1,6 +1,6 @@
 use Rattle.std.proofs.Common.{◌∙◌, sym}
 use Rattle.tm_link.proofs.Records.{rest-none, rest-next}
-use Rattle.tm_link.proofs.ending.rest_behind.Goals as goal
+use Rattle.tm_link.proofs.ending.rest_after_packets.Goals as goal
 
 pub loop-size-preserved : goal.loop-size-preserved
 loop-size-preserved c =

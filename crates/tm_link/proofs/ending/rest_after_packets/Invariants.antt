@@ -1,7 +1,7 @@
 use Rattle.std.proofs.Common.{◌≡◌, length}
 use Rattle.octets.specs.Records.{rest_of}
 use Rattle.space_packet.specs.Reading.{extent_at}
-use Rattle.tm_link.proofs.ending.rest_behind.Given as goal
+use Rattle.tm_link.proofs.ending.rest_after_packets.Given as goal
 
 abbrev pub invariant-loop-size : goal.invariant-loop-size
 invariant-loop-size l = rest_of 6 extent_at l.rest ≡ rest_of 6 extent_at l.fn.octets
