@@ -6,23 +6,20 @@ use Rattle.tc_frame.specs.declared.frame.SegmentFlags.TheVariants.{First, Contin
 use Rattle.tc_frame.specs.Layout.{SegmentView}
 use Rattle.map_service.specs.declared.limits.Limits.{Limits}
 use Rattle.map_service.specs.declared.dropped.Dropped.{Dropped}
-use Rattle.map_service.specs.declared.dropped.Dropped.TheVariants.{Interrupted, TooLong}
+use Rattle.map_service.specs.declared.dropped.Dropped.TheVariants.{TooLong}
 use Rattle.map_service.specs.Assembly.{is_open, is_too_long}
 use Rattle.map_service.specs.AtOnce.{is_dropped_at_once}
 use Rattle.map_service.specs.Taking.{TakeOutcome, one_fault, alone_fault, alone_packets, drop_outcome, packets_outcome}
-use Rattle.map_service.specs.Taking.{part_outcome, cell, take_step}
+use Rattle.map_service.specs.Taking.{part_outcome, interruption, cell, take_step}
 
 abbrev HandsNothingOut : TakeOutcome → Type 0
 HandsNothingOut o = is_dropped_at_once o.dropped ≡ true → o.packets ≡ []
 
-whole : (packets : List (List ℕ)) (fault : Option Dropped) → HandsNothingOut (packets_outcome None packets fault)
-whole packets None e = absurd (cc e)
-whole packets (Some cause) e = refl
-
-interrupting : (packets : List (List ℕ)) (fault : Option Dropped)
-    → HandsNothingOut (packets_outcome (Some Interrupted) packets fault)
-interrupting packets None e = absurd (cc e)
-interrupting packets (Some cause) e = refl
+given : (part : Option (List ℕ)) (packets : List (List ℕ)) (fault : Option Dropped)
+    → HandsNothingOut (packets_outcome (interruption part) packets fault)
+given None packets None e = absurd (cc e)
+given (Some part) packets None e = absurd (cc e)
+given part packets (Some cause) e = refl
 
 opened : (limits : Limits) (earlier : Option Dropped) (octets : List ℕ)
     → HandsNothingOut (part_outcome limits earlier octets)
@@ -31,14 +28,12 @@ opened limits earlier octets =
 
 in_cell : (limits : Limits) (flags : SegmentFlags) (part : Option (List ℕ)) (octets : List ℕ)
     → HandsNothingOut (cell limits flags part octets)
-in_cell limits Alone None octets = whole (alone_packets limits octets) (alone_fault limits octets)
-in_cell limits Alone (Some part) octets = interrupting (alone_packets limits octets) (alone_fault limits octets)
-in_cell limits First None octets = opened limits None octets
-in_cell limits First (Some part) octets = opened limits (Some Interrupted) octets
+in_cell limits Alone part octets = given part (alone_packets limits octets) (alone_fault limits octets)
+in_cell limits First part octets = opened limits (interruption part) octets
 in_cell limits Continuing None octets = λ e. refl
 in_cell limits Continuing (Some part) octets = opened limits None (part ++ octets)
 in_cell limits Last None octets = λ e. refl
-in_cell limits Last (Some part) octets = whole ((part ++ octets) ∷ []) (one_fault limits (part ++ octets))
+in_cell limits Last (Some part) octets = given None ((part ++ octets) ∷ []) (one_fault limits (part ++ octets))
 
 pub none_at_once : (limits : Limits) (part : Option (List ℕ)) (s : SegmentView)
     → HandsNothingOut (take_step limits part s)

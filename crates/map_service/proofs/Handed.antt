@@ -1,5 +1,6 @@
 -- What is handed out at a segment is packets, each exactly one, on a MAP that is open.
-use Rattle.std.proofs.Common.{◌≡◌, ◌<◌, ℕ, Bool, true, false, not, List, [], ◌∷◌, ◌++◌, Option, Some, None, refl, subst}
+use Rattle.std.proofs.Common.{◌≡◌, ◌<◌, ℕ, Bool, true, false, not, List, [], ◌∷◌, ◌++◌, Option, Some, None, refl, ap}
+use Rattle.std.proofs.Common.{subst}
 use Rattle.std.specs.Prelude.{if◌then◌else◌, nat_lt}
 use Rattle.std.specs.List.{AllByRecursion}
 use Rattle.std.proofs.lemmas.Bool.{cond_both, ltb-true, and_parts, not-false}
@@ -9,12 +10,15 @@ use Rattle.tc_frame.specs.declared.frame.SegmentFlags.TheVariants.{First, Contin
 use Rattle.tc_frame.specs.Layout.{SegmentView}
 use Rattle.map_service.specs.declared.limits.Limits.{Limits}
 use Rattle.map_service.specs.declared.dropped.Dropped.{Dropped}
-use Rattle.map_service.specs.declared.dropped.Dropped.TheVariants.{Interrupted, NotAPacket, TooLong}
+use Rattle.map_service.specs.declared.dropped.Dropped.TheVariants.{NotAPacket, TooLong}
 use Rattle.map_service.specs.Assembly.{is_open, is_too_long}
 use Rattle.map_service.specs.Packets.{packets_in, rest_in, is_packet, are_packets}
-use Rattle.map_service.specs.Taking.{one_fault, several_fault, alone_fault, drop_outcome, packets_outcome, part_outcome}
-use Rattle.map_service.specs.Taking.{cell, take_step}
+use Rattle.map_service.specs.declared.deciding.Step.TheVariants.{HandOut}
+use Rattle.map_service.specs.Deciding.{step_outcome}
+use Rattle.map_service.specs.Taking.{TakeOutcome, one_fault, several_fault, alone_fault, drop_outcome, packets_outcome}
+use Rattle.map_service.specs.Taking.{part_outcome, interruption, cell, take_step}
 use Rattle.map_service.proofs.Groups.{IsWhole, packets-split, again}
+use Rattle.map_service.proofs.Passage.{one-from}
 
 abbrev pub AreWhole : List (List ℕ) → Type 0
 AreWhole packets = AllByRecursion (λ (p : List ℕ). is_packet p ≡ true) packets
@@ -26,6 +30,21 @@ one_whole limits octets =
     (λ t. cond_both (not (is_packet octets)) (Some NotAPacket) None
     (λ (o : Option Dropped). o ≡ None → is_packet octets ≡ true)
     (λ t e. absurd (cc e)) (λ t e. not-false (is_packet octets) t))
+
+abbrev handing : Option Dropped → List (List ℕ) → TakeOutcome
+handing dropped packets = record { dropped = dropped; packets = packets; part = None }
+
+alone_by : (limits : Limits) (octets : List ℕ) (blocking : Bool)
+    → (if blocking then several_fault limits octets else one_fault limits octets) ≡ None
+    → packets_in octets ≡ (if blocking then packets_in octets else octets ∷ [])
+alone_by limits octets true e = refl
+alone_by limits octets false e = (one-from octets (one_whole limits octets e)).1
+
+-- an alone segment that is handed out, the part that is open being dropped
+pub handed_out : (limits : Limits) (part : Option (List ℕ)) (octets : List ℕ) → alone_fault limits octets ≡ None
+    → step_outcome limits HandOut (interruption part) part octets ≡ cell limits Alone part octets
+handed_out limits part octets none =
+    rw none (ap (handing (interruption part)) (alone_by limits octets limits.blocking none))
 
 pub lone_whole : (p : List ℕ) → IsWhole (p ∷ []) → is_packet p ≡ true
 lone_whole p h =
@@ -62,12 +81,9 @@ opened_whole limits earlier octets =
 
 cell_whole : (limits : Limits) (flags : SegmentFlags) (part : Option (List ℕ)) (octets : List ℕ)
     → AreWhole (cell limits flags part octets).packets
-cell_whole limits Alone None octets =
-    given_whole None _ (alone_fault limits octets) (alone_whole limits octets limits.blocking)
-cell_whole limits Alone (Some part) octets =
-    given_whole (Some Interrupted) _ (alone_fault limits octets) (alone_whole limits octets limits.blocking)
-cell_whole limits First None octets = opened_whole limits None octets
-cell_whole limits First (Some part) octets = opened_whole limits (Some Interrupted) octets
+cell_whole limits Alone part octets =
+    given_whole (interruption part) _ (alone_fault limits octets) (alone_whole limits octets limits.blocking)
+cell_whole limits First part octets = opened_whole limits (interruption part) octets
 cell_whole limits Continuing None octets = tt
 cell_whole limits Continuing (Some part) octets = opened_whole limits None (part ++ octets)
 cell_whole limits Last None octets = tt

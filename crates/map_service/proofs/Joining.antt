@@ -23,9 +23,7 @@ one_goes_on limits s segments Continuing (Some more) joined e h rest =
     let r = rest more refl in
     record { unended = rw (e, r.unended) refl; given = rw (e, r.given) refl; unbegun = rw (e, r.unbegun) refl }
 one_goes_on limits s segments Continuing None joined e h rest = absurd cc
-one_goes_on limits s segments First more joined e h rest = absurd cc
-one_goes_on limits s segments Last more joined e h rest = absurd cc
-one_goes_on limits s segments Alone more joined e h rest = absurd cc
+one_goes_on limits s segments _ more joined e h rest = absurd cc
 
 pub all_go_on : (limits : Limits) (segments : List SegmentView) (joined : List ℕ) → up_to_end segments ≡ Some joined
     → AllGoOn limits segments
@@ -40,24 +38,18 @@ abbrev pub ended : SegmentFlags → List ℕ → Option (List ℕ) → Option (L
 ended flags octets (Some joined) all = Some joined
 ended Last octets None (Some joined) = Some (joined ++ octets)
 ended Last octets None None = None
-ended Alone octets None all = None
-ended First octets None all = None
-ended Continuing octets None all = None
+ended _ octets None all = None
 
 none_ended : (flags : SegmentFlags) (octets : List ℕ) → ended flags octets None None ≡ None
 none_ended Alone octets = refl
-none_ended First octets = refl
-none_ended Continuing octets = refl
-none_ended Last octets = refl
+none_ended _ octets = refl
 
 joined_data-ended : (flags : SegmentFlags) (octets o : List ℕ) (last all : Option (List ℕ))
     → joined_data o (ended flags octets last all) ≡ ended flags octets (joined_data o last) (joined_data o all)
 joined_data-ended flags octets o (Some joined) all = refl
 joined_data-ended Last octets o None (Some joined) = ap (λ (xs : List ℕ). Some xs) (sym (append_assoc o joined octets))
 joined_data-ended Last octets o None None = refl
-joined_data-ended Alone octets o None all = refl
-joined_data-ended First octets o None all = refl
-joined_data-ended Continuing octets o None all = refl
+joined_data-ended _ octets o None all = refl
 
 up_to_last_from-ended : (f flags : SegmentFlags) (octets o : List ℕ) (last all : Option (List ℕ))
     → up_to_last_from f o (ended flags octets last all)
@@ -70,9 +62,7 @@ up_to_last_from-ended Last flags octets o last all = refl
 one_ended : (flags : SegmentFlags) (octets : List ℕ)
     → up_to_last_from flags octets None ≡ ended flags octets None (Some [])
 one_ended Alone octets = refl
-one_ended First octets = refl
-one_ended Continuing octets = refl
-one_ended Last octets = refl
+one_ended _ octets = refl
 
 pub up_to_last-push : (segments : List SegmentView) (s : SegmentView)
     → up_to_last (segments ++ s ∷ []) ≡ ended s.header.flags s.payload (up_to_last segments) (up_to_end segments)
@@ -86,38 +76,28 @@ up_to_last-push (x ∷ segments) s =
 abbrev pub continued : SegmentFlags → List ℕ → Option (List ℕ) → Option (List ℕ)
 continued Continuing octets (Some joined) = Some (joined ++ octets)
 continued Continuing octets None = None
-continued Alone octets all = None
-continued First octets all = None
-continued Last octets all = None
+continued _ octets all = None
 
 none_continued : (flags : SegmentFlags) (octets : List ℕ) → continued flags octets None ≡ None
 none_continued Alone octets = refl
-none_continued First octets = refl
-none_continued Continuing octets = refl
-none_continued Last octets = refl
+none_continued _ octets = refl
 
 joined_data-continued : (flags : SegmentFlags) (octets o : List ℕ) (all : Option (List ℕ))
     → joined_data o (continued flags octets all) ≡ continued flags octets (joined_data o all)
 joined_data-continued Continuing octets o (Some joined) =
     ap (λ (xs : List ℕ). Some xs) (sym (append_assoc o joined octets))
 joined_data-continued Continuing octets o None = refl
-joined_data-continued Alone octets o all = refl
-joined_data-continued First octets o all = refl
-joined_data-continued Last octets o all = refl
+joined_data-continued _ octets o all = refl
 
 up_to_end_from-continued : (f flags : SegmentFlags) (octets o : List ℕ) (all : Option (List ℕ))
     → up_to_end_from f o (continued flags octets all) ≡ continued flags octets (up_to_end_from f o all)
-up_to_end_from-continued Alone flags octets o all = sym (none_continued flags octets)
-up_to_end_from-continued First flags octets o all = sym (none_continued flags octets)
 up_to_end_from-continued Continuing flags octets o all = joined_data-continued flags octets o all
-up_to_end_from-continued Last flags octets o all = sym (none_continued flags octets)
+up_to_end_from-continued _ flags octets o all = sym (none_continued flags octets)
 
 one_continued : (flags : SegmentFlags) (octets : List ℕ)
     → up_to_end_from flags octets (Some []) ≡ continued flags octets (Some [])
-one_continued Alone octets = refl
-one_continued First octets = refl
 one_continued Continuing octets = ap (λ (xs : List ℕ). Some xs) (append-nil octets)
-one_continued Last octets = refl
+one_continued _ octets = refl
 
 pub up_to_end-push : (segments : List SegmentView) (s : SegmentView)
     → up_to_end (segments ++ s ∷ []) ≡ continued s.header.flags s.payload (up_to_end segments)
@@ -151,17 +131,13 @@ first_part_from Last octets o all later = refl
 part_from-behind : (f flags : SegmentFlags) (octets o : List ℕ) (all later : Option (List ℕ))
     → part_from f o (continued flags octets all) (part_behind flags octets later)
     ≡ part_behind flags octets (part_from f o all later)
-part_from-behind Alone flags octets o all later = refl
 part_from-behind First flags octets o all later = first_part_from flags octets o all later
-part_from-behind Continuing flags octets o all later = refl
-part_from-behind Last flags octets o all later = refl
+part_from-behind _ flags octets o all later = refl
 
 one_part_from : (flags : SegmentFlags) (octets : List ℕ)
     → part_from flags octets (Some []) None ≡ part_behind flags octets None
-one_part_from Alone octets = refl
 one_part_from First octets = ap (λ (xs : List ℕ). Some xs) (append-nil octets)
-one_part_from Continuing octets = refl
-one_part_from Last octets = refl
+one_part_from _ octets = refl
 
 pub ending_part-push : (segments : List SegmentView) (s : SegmentView)
     → ending_part (segments ++ s ∷ []) ≡ part_behind s.header.flags s.payload (ending_part segments)
@@ -188,13 +164,11 @@ first_gives : (limits : Limits) (flags : SegmentFlags) (octets o : List ℕ) (la
 first_gives limits flags octets o (Some joined) None later given h =
     sym (append_assoc (one_packet limits (o ++ joined)) given (packets_behind limits flags octets later))
 first_gives limits flags octets o (Some joined) (Some j) later given h = let impossible = (h j refl).0 in absurd cc
-first_gives limits Alone octets o None all later given h = refl
-first_gives limits First octets o None all later given h = refl
-first_gives limits Continuing octets o None all later given h = refl
 first_gives limits Last octets o None None later given h = refl
 first_gives limits Last octets o None (Some j) later given h =
     let known = h j refl in
     rw (known.1, known.2, append-nil, append_assoc o j octets) refl
+first_gives limits _ octets o None all later given h = refl
 
 block_gives : (limits : Limits) (f flags : SegmentFlags) (octets o : List ℕ) (last all later : Option (List ℕ))
     (given : List (List ℕ))
@@ -205,15 +179,12 @@ block_gives limits Alone flags octets o last all later given h =
     sym (append_assoc (packets_of limits o) given (packets_behind limits flags octets later))
 block_gives limits First flags octets o last all later given h =
     first_gives limits flags octets o last all later given h
-block_gives limits Continuing flags octets o last all later given h = refl
-block_gives limits Last flags octets o last all later given h = refl
+block_gives limits _ flags octets o last all later given h = refl
 
 one_gives : (limits : Limits) (flags : SegmentFlags) (octets : List ℕ)
     → block_packets limits flags octets None ++ [] ≡ packets_behind limits flags octets None
 one_gives limits Alone octets = append-nil (packets_of limits octets)
-one_gives limits First octets = refl
-one_gives limits Continuing octets = refl
-one_gives limits Last octets = refl
+one_gives limits _ octets = refl
 
 pub blocks_packets-push : (limits : Limits) (segments : List SegmentView) (s : SegmentView)
     → blocks_packets limits (segments ++ s ∷ []) ≡ blocks_packets limits segments

@@ -10,7 +10,7 @@ use Rattle.std.proofs.lemmas.List.Elements.{filter-append}
 use Rattle.octets.specs.Records.{IsRecord}
 use Rattle.space_packet.specs.Reading.{extent_at}
 use Rattle.tc_frame.specs.declared.frame.SegmentFlags.{SegmentFlags}
-use Rattle.tc_frame.specs.declared.frame.SegmentFlags.TheVariants.{First, Continuing, Last, Alone}
+use Rattle.tc_frame.specs.declared.frame.SegmentFlags.TheVariants.{First, Alone}
 use Rattle.tc_frame.specs.Layout.{SegmentView}
 use Rattle.map_service.specs.declared.fault.MapFault.TheVariants.{NotAPacket, TooLong}
 use Rattle.map_service.specs.declared.limits.Limits.{Limits}
@@ -44,16 +44,12 @@ blocks-append limits (s ∷ xs) ys e =
 
 up_to_end_from-none : (flags : SegmentFlags) (octets : List ℕ) → up_to_end_from flags octets None ≡ None
 up_to_end_from-none Alone octets = refl
-up_to_end_from-none First octets = refl
-up_to_end_from-none Continuing octets = refl
-up_to_end_from-none Last octets = refl
+up_to_end_from-none _ octets = refl
 
 part_from-none : (flags : SegmentFlags) (octets : List ℕ) (later : Option (List ℕ))
     → part_from flags octets None later ≡ later
 part_from-none Alone octets later = refl
-part_from-none First octets later = refl
-part_from-none Continuing octets later = refl
-part_from-none Last octets later = refl
+part_from-none _ octets later = refl
 
 up_to_end-append : (xs ys : List SegmentView) → up_to_end ys ≡ None → up_to_end (xs ++ ys) ≡ None
 up_to_end-append [] ys e = e

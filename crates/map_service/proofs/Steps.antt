@@ -1,7 +1,7 @@
 -- The assembler's step at a segment gives exactly what the segment adds.
 use Rattle.std.proofs.Common.{◌≡◌, ◌≢◌, ◌≤◌, ℕ, List, [], ◌∷◌, ◌++◌, length, Bool, true, false, not, cond, eqb, ◌&&◌}
 use Rattle.std.proofs.Common.{Option, Some, None, refl, sym, ap, ◌∙◌, set, length-append, arith, inl, inr}
-use Rattle.std.proofs.lemmas.Bool.{ne_eqb, eq-eqb, le-ltb, cases_lt, cases_eq}
+use Rattle.std.proofs.lemmas.Bool.{cond_both, ne_eqb, eq-eqb, le-ltb, cases_lt, cases_eq}
 use Rattle.std.proofs.lemmas.Bool.Decides.{nat_tests}
 use Rattle.std.proofs.lemmas.List.{append-nil, get_or-set_same, get_or-set_other, get_or_past, length-set}
 use Rattle.std.proofs.lemmas.List.Elements.{filter-append}
@@ -10,12 +10,12 @@ use Rattle.tc_frame.specs.declared.frame.SegmentFlags.TheVariants.{First, Contin
 use Rattle.tc_frame.specs.Layout.{SegmentView}
 use Rattle.map_service.specs.declared.limits.Limits.{Limits}
 use Rattle.map_service.specs.declared.dropped.Dropped.{Dropped}
-use Rattle.map_service.specs.declared.dropped.Dropped.TheVariants.{Interrupted, NotAPacket, TooLong}
+use Rattle.map_service.specs.declared.dropped.Dropped.TheVariants.{NotAPacket, TooLong}
 use Rattle.map_service.specs.Packets.{packets_in, are_packets, is_packet, is_some_over}
 use Rattle.map_service.specs.Assembly.{is_open, of_map, is_too_long, one_packet, packets_of, ending_part}
 use Rattle.map_service.specs.Assembly.{blocks_packets, unless_too_long, assembled, open_part}
-use Rattle.map_service.specs.Taking.{TakeOutcome, one_fault, several_fault, alone_fault, alone_packets, packets_outcome}
-use Rattle.map_service.specs.Taking.{part_outcome, cell, take_step}
+use Rattle.map_service.specs.Taking.{TakeOutcome, one_fault, several_fault, alone_fault, alone_packets, drop_outcome}
+use Rattle.map_service.specs.Taking.{packets_outcome, part_outcome, cell, take_step}
 use Rattle.map_service.specs.Exactness.{AssemblerState, part_on_map, step_at, after_step, HasPartsOf, IsTakenExactly}
 use Rattle.map_service.proofs.Joining.{part_behind, ending_part-push, packets_behind, blocks_packets-push}
 
@@ -75,16 +75,10 @@ part_outcome-part : (limits : Limits) (earlier : Option Dropped) (octets : List 
     → unless_too_long limits (Some octets) ≡ (part_outcome limits earlier octets).part
 part_outcome-part limits earlier octets = opened_by earlier octets (is_too_long limits octets)
 
-opened_none : (earlier : Option Dropped) (octets : List ℕ) (long : Bool)
-    → (let o : TakeOutcome =
-    cond long (record { dropped = Some TooLong; packets = []; part = None })
-    (record { dropped = earlier; packets = []; part = Some octets }) in o).packets ≡ []
-opened_none earlier octets true = refl
-opened_none earlier octets false = refl
-
 part_outcome-packets : (limits : Limits) (earlier : Option Dropped) (octets : List ℕ)
     → (part_outcome limits earlier octets).packets ≡ []
-part_outcome-packets limits earlier octets = opened_none earlier octets (is_too_long limits octets)
+part_outcome-packets limits earlier octets =
+    cond_both (is_too_long limits octets) (drop_outcome TooLong) _ (λ o. o.packets ≡ []) (λ t. refl) (λ t. refl)
 
 -- ---- octets that are too long stay so
 
@@ -112,15 +106,9 @@ cell-part_joined : (limits : Limits) (flags : SegmentFlags) (octets part : List 
     → is_too_long limits part ≡ long
     → unless_too_long limits (part_behind flags octets (Some part))
     ≡ (cell limits flags (unless_too_long limits (Some part)) octets).part
-cell-part_joined limits Alone octets part true h =
-    rw (unless_long limits part h) (sym (packets_outcome-part None (alone_packets limits octets)
-    (alone_fault limits octets)))
-cell-part_joined limits Alone octets part false h =
-    rw (unless_fits limits part h) (sym (packets_outcome-part (Some Interrupted) (alone_packets limits octets)
-    (alone_fault limits octets)))
-cell-part_joined limits First octets part true h = rw (unless_long limits part h) (part_outcome-part limits None octets)
-cell-part_joined limits First octets part false h =
-    rw (unless_fits limits part h) (part_outcome-part limits (Some Interrupted) octets)
+cell-part_joined limits Alone octets part long h =
+    sym (packets_outcome-part _ (alone_packets limits octets) (alone_fault limits octets))
+cell-part_joined limits First octets part long h = part_outcome-part limits _ octets
 cell-part_joined limits Continuing octets part true h =
     rw (unless_long limits part h) (unless_long limits (part ++ octets) (too_long_more limits part octets h))
 cell-part_joined limits Continuing octets part false h =
@@ -137,20 +125,14 @@ cell-part limits flags octets (Some part) = cell-part_joined limits flags octets
 cell-part limits Alone octets None =
     sym (packets_outcome-part None (alone_packets limits octets) (alone_fault limits octets))
 cell-part limits First octets None = part_outcome-part limits None octets
-cell-part limits Continuing octets None = refl
-cell-part limits Last octets None = refl
+cell-part limits _ octets None = refl
 
 cell-packets_joined : (limits : Limits) (flags : SegmentFlags) (octets part : List ℕ) (long : Bool)
     → is_too_long limits part ≡ long
     → packets_behind limits flags octets (Some part)
     ≡ (cell limits flags (unless_too_long limits (Some part)) octets).packets
-cell-packets_joined limits Alone octets part true h = rw (unless_long limits part h) (alone_given limits None octets)
-cell-packets_joined limits Alone octets part false h =
-    rw (unless_fits limits part h) (alone_given limits (Some Interrupted) octets)
-cell-packets_joined limits First octets part true h =
-    rw (unless_long limits part h) (sym (part_outcome-packets limits None octets))
-cell-packets_joined limits First octets part false h =
-    rw (unless_fits limits part h) (sym (part_outcome-packets limits (Some Interrupted) octets))
+cell-packets_joined limits Alone octets part long h = alone_given limits _ octets
+cell-packets_joined limits First octets part long h = sym (part_outcome-packets limits _ octets)
 cell-packets_joined limits Continuing octets part true h = rw (unless_long limits part h) refl
 cell-packets_joined limits Continuing octets part false h =
     rw (unless_fits limits part h) (sym (part_outcome-packets limits None (part ++ octets)))
@@ -165,8 +147,7 @@ cell-packets limits flags octets (Some part) =
     cell-packets_joined limits flags octets part (is_too_long limits part) refl
 cell-packets limits Alone octets None = alone_given limits None octets
 cell-packets limits First octets None = sym (part_outcome-packets limits None octets)
-cell-packets limits Continuing octets None = refl
-cell-packets limits Last octets None = refl
+cell-packets limits _ octets None = refl
 
 -- ---- the segments of a MAP, with one more
 

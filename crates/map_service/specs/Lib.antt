@@ -1,9 +1,9 @@
-pub mod Adding
 pub mod AssemblerFields
 pub mod Assembly
 pub mod AtOnce
 pub mod Causes
 pub mod Cutting
+pub mod Deciding
 pub mod Exactness
 pub mod Faults
 pub mod LonePacket

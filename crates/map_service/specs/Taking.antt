@@ -52,15 +52,17 @@ part_outcome limits earlier octets =
     if is_too_long limits octets then drop_outcome TooLong else record
     { dropped = earlier; packets = []; part = Some octets }
 
+-- what a first or an alone segment drops: the part that is open
+abbrev pub interruption : Option (List ℕ) → Option Dropped
+interruption None = None
+interruption (Some part) = Some Interrupted
+
 -- ---- the table: the segment's flags, the part that is open, the segment's data
 
 abbrev pub cell : Limits → SegmentFlags → Option (List ℕ) → List ℕ → TakeOutcome
-cell limits Alone None octets =
-    packets_outcome None (alone_packets limits octets) (alone_fault limits octets)
-cell limits Alone (Some part) octets =
-    packets_outcome (Some Interrupted) (alone_packets limits octets) (alone_fault limits octets)
-cell limits First None octets = part_outcome limits None octets
-cell limits First (Some part) octets = part_outcome limits (Some Interrupted) octets
+cell limits Alone part octets =
+    packets_outcome (interruption part) (alone_packets limits octets) (alone_fault limits octets)
+cell limits First part octets = part_outcome limits (interruption part) octets
 cell limits Continuing None octets = drop_outcome NoBeginning
 cell limits Continuing (Some part) octets = part_outcome limits None (part ++ octets)
 cell limits Last None octets = drop_outcome NoBeginning

@@ -1,9 +1,7 @@
 -- What is kept and handed out, without where it lies in memory.
-use Rattle.std.specs.Prelude.{ℕ, List, map, Option, None, Some, option_map}
+use Rattle.std.specs.Prelude.{ℕ, List, map, Option, option_map}
 use Rattle.std.specs.declared.vec.Vec.{Vec}
 use Rattle.smallvec.specs.SmallVec.{SmallVec}
-use Rattle.map_service.specs.declared.dropped.Dropped.{Dropped}
-use Rattle.map_service.specs.declared.dropped.Dropped.TheVariants.{Interrupted}
 
 abbrev pub part_view : {Z : Type 0} → Option (Vec ℕ Z) → Option (List ℕ)
 part_view part = option_map (λ v. v.items) part
@@ -14,8 +12,3 @@ packets_view packets = map (λ v. v.items) packets.items
 -- the same of packets that are handed out
 abbrev pub ready_view : {Y : Type 0} → SmallVec (Vec ℕ Y) → List (List ℕ)
 ready_view packets = map (λ v. v.items) packets.items
-
--- what is dropped where a first or an alone segment comes
-abbrev pub interruption : Option (List ℕ) → Option Dropped
-interruption None = None
-interruption (Some part) = Some Interrupted

@@ -61,10 +61,11 @@ impl Assembler {
         }
     }
 
-    /// Takes the next segment: says what was dropped, and hands out the packets that are whole now.
-    /// It is `prepare` and then `commit`, with the packets in a vector.
-    ///
-    /// 3 `Memory` where there was no memory; the assembler is as it was then.
+    /// Takes the next segment: says what was dropped, and hands out the packets that are whole now. It
+    /// is `prepare` and then `commit`, with the packets in a vector. At a fault the assembler is as it
+    /// was.
+    /// Faults: 3 Memory. Memory: yes; none where the segment is dropped at once. Cost: n*, and the
+    /// packets handed out.
     pub fn take(&mut self, segment: &Segment) -> Result<Taken, MapFault>
         // The table, cell by cell.
         ensures dropped { IfOk result
@@ -94,8 +95,7 @@ impl Assembler {
         Ok(Taken { dropped, packets })
     }
 
-    /// Finds out what comes of the next segment, and takes the memory that this needs. Nothing
-    /// changes.
+    /// Finds out what comes of the next segment, and takes the memory that this needs. Nothing changes.
     ///
     /// An alone segment is judged as a whole, a first one opens a part, a continuing one is added to
     /// it, and a last one is added and all of it judged. What is judged is handed out where it is
@@ -104,7 +104,9 @@ impl Assembler {
     /// the cause where a part passes `max_packet` octets. A part that is open at a first or an alone
     /// segment is dropped, `Interrupted`; a continuing or last segment with no part open,
     /// `NoBeginning`. A segment of a MAP that is not open, `ClosedMap`, changes nothing. Where two
-    /// causes come together the later is reported. The fault is 3 `Memory`.
+    /// causes come together the later is reported.
+    /// Faults: 3 Memory. Memory: yes; none where the segment is dropped at once, or continues a part.
+    /// Cost: n and the open part.
     pub fn prepare(&self, segment: &Segment) -> Result<Prepared, MapFault>
         ensures prepared { IfOk result (IsPrepared self.now (segment_view segment.now)) }
         ensures fault { IfErr result (λ e. e ≡ MapFault.Memory) }
@@ -122,7 +124,8 @@ impl Assembler {
     }
 
     /// Takes the segment of which this was prepared, since when nothing has changed, and hands out the
-    /// packets that are whole now. It takes no memory.
+    /// packets that are whole now.
+    /// Cost: n.
     pub fn commit(&mut self, segment: &Segment, prepared: Prepared) -> SmallVec<Vec<u8>, 1>
         requires { IsPrepared self.old (segment_view segment.now) prepared }
         ensures packets { ready_view result

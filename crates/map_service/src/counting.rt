@@ -9,8 +9,8 @@ use crate::fault::MapFault;
 use crate::limits::Limits;
 use crate::packets::{has_packet_over, holds_packets};
 
-/// How many segments `cut` makes of these octets, on any MAP; it takes no memory. Refuses as `cut`
-/// does: 1 `NotAPacket`, 2 `TooLong`.
+/// How many segments `cut` makes of these octets, on any MAP. Refuses as `cut` does.
+/// Faults: 1 NotAPacket, 2 TooLong. Cost: the number of packets.
 pub fn segment_count(octets: &[u8], limits: &Limits) -> Result<usize, MapFault>
     requires some_part { 1 ≤ limits.now.part }
     ensures count { IfOk result (λ n. (m : ℕ)

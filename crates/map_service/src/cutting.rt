@@ -11,13 +11,14 @@ use crate::packets::{has_packet_over, holds_packets};
 use space_packet::packet_len;
 use tc_frame::{Segment, SegmentFlags, SegmentHeader};
 
-/// Adds the segments of one packet, or with blocking of one or more packets one after another, on
-/// this MAP, which is below 64 (CCSDS 232.0-B-4, 4.1.3.2.2). A packet of more than `part` octets is
-/// cut into parts of exactly `part` octets, the last of 1 to `part`; with blocking each longest run
-/// of other packets, from the left, that have at most `part` octets together goes into one segment.
-/// The first that applies: 1 `NotAPacket` (not exactly one packet, or with blocking not one or more
-/// whole packets), 2 `TooLong` (one over `max_packet`), 3 `Memory`; and then the segments are as
-/// they were.
+/// Adds the segments of one packet, or with blocking of one or more packets one after another, on this
+/// MAP, which is below 64 (CCSDS 232.0-B-4, 4.1.3.2.2). They borrow the octets. A packet of more than
+/// `part` octets is cut into parts of exactly `part` octets, the last of 1 to `part`; with blocking
+/// each longest run of other packets, from the left, that have at most `part` octets together goes into
+/// one segment. The first that applies: 1 `NotAPacket` (not exactly one packet, or with blocking not
+/// one or more whole packets), 2 `TooLong` (one over `max_packet`), 3 `Memory`; and then the segments
+/// are as they were.
+/// Faults: 1 NotAPacket, 2 TooLong, 3 Memory. Memory: yes. Cost: the number of packets and segments.
 pub fn cut<'a>(
     octets: &'a [u8],
     map: u8,
@@ -41,8 +42,9 @@ pub fn cut<'a>(
     cut_packets(octets, map, limits.part as usize, segments)
 }
 
-/// Adds the segments of whole packets, as `cut` does, where it is known that the octets are these.
-/// The fault is 3 `Memory`; and then the segments are as they were.
+/// Adds the segments of whole packets, as `cut` does, where it is known that the octets are these. At a
+/// fault the segments are as they were.
+/// Faults: 3 Memory. Memory: yes. Cost: the number of packets and segments.
 pub fn cut_packets<'a>(
     octets: &'a [u8],
     map: u8,
@@ -142,6 +144,7 @@ fn run_len(octets: &[u8], part: usize) -> usize
 
 /// How many octets the packets have that go into the first segment together, or the first packet
 /// that has more than `part` octets.
+/// Cost: the number of packets in it.
 pub fn group_len(octets: &[u8], part: usize) -> usize
     requires some_octet { 1 ≤ length octets.now }
     requires whole { rest_in octets.now ≡ [] }

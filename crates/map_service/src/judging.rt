@@ -1,8 +1,8 @@
 // Octets judged as a whole: whether they are packets that may be handed out.
 
-ghost use Rattle.std.specs.Prelude.{◌≡◌, [], ◌∷◌, IfOk};
+ghost use Rattle.std.specs.Prelude.{◌≡◌, IfOk};
 ghost use Rattle.map_service.specs.Packets.{packets_in};
-ghost use Rattle.map_service.specs.Taking.{one_fault, several_fault, alone_fault, alone_packets};
+ghost use Rattle.map_service.specs.Taking.{one_fault, several_fault, alone_fault};
 ghost use Rattle.map_service.specs.Views.{ready_view};
 
 use crate::dropped::Dropped;
@@ -38,9 +38,8 @@ fn fault_of_several(limits: &Limits, octets: &[u8]) -> Option<Dropped>
     None
 }
 
-/// Why the octets of an alone segment are dropped, where they are: as `fault_of_one`, or with
-/// blocking `NotAPacket`, where they are not one or more whole packets, and then `TooLong`.
-pub fn fault_of_alone(limits: &Limits, octets: &[u8]) -> Option<Dropped>
+// Why the octets of an alone segment are dropped, where they are.
+pub(crate) fn fault_of_alone(limits: &Limits, octets: &[u8]) -> Option<Dropped>
     ensures { result ≡ alone_fault limits.now octets.now }
 {
     if limits.blocking {
@@ -51,7 +50,10 @@ pub fn fault_of_alone(limits: &Limits, octets: &[u8]) -> Option<Dropped>
 }
 
 // The packets that octets are, one after another, as far as they are whole, each copied.
-fn copied_packets(alloc: Global, octets: &[u8]) -> Result<SmallVec<Vec<u8>, 1>, AllocError>
+pub(crate) fn copied_packets(
+    alloc: Global,
+    octets: &[u8],
+) -> Result<SmallVec<Vec<u8>, 1>, AllocError>
     ensures { IfOk result (λ v. ready_view v ≡ packets_in octets.now) }
 {
     let mut packets = SmallVec::new(alloc);
@@ -62,28 +64,4 @@ fn copied_packets(alloc: Global, octets: &[u8]) -> Result<SmallVec<Vec<u8>, 1>, 
         rest = behind;
     }
     Ok(packets)
-}
-
-// The packet that octets are, copied.
-fn copied_packet(alloc: Global, octets: &[u8]) -> Result<SmallVec<Vec<u8>, 1>, AllocError>
-    ensures { IfOk result (λ v. ready_view v ≡ octets.now ∷ []) }
-{
-    let mut packets = SmallVec::new(alloc);
-    packets.push_reserved(Vec::from_slice(alloc, octets)?);
-    Ok(packets)
-}
-
-// The packets of an alone segment, copied.
-pub(crate) fn copied_alone(
-    alloc: Global,
-    limits: &Limits,
-    octets: &[u8],
-) -> Result<SmallVec<Vec<u8>, 1>, AllocError>
-    ensures { IfOk result (λ v. ready_view v ≡ alone_packets limits.now octets.now) }
-{
-    if limits.blocking {
-        copied_packets(alloc, octets)
-    } else {
-        copied_packet(alloc, octets)
-    }
 }

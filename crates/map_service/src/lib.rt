@@ -9,6 +9,7 @@ mod cells;
 mod counting;
 mod cutting;
 mod cutting_laws;
+mod deciding;
 mod dropped;
 mod fault;
 mod judging;
@@ -23,9 +24,10 @@ pub use cutting::{cut, cut_packets, group_len};
 pub use cutting_laws::{
     law_of_groups, law_of_histories, law_of_parts, law_of_passage, law_of_segments,
 };
+pub use deciding::{Decision, Step, decide};
 pub use dropped::{Dropped, Taken};
 pub use fault::MapFault;
-pub use judging::{fault_of_alone, fault_of_one};
+pub use judging::fault_of_one;
 pub use laws::{law_of_beginnings, law_of_packets, law_of_steps};
 pub use limits::Limits;
 pub use prepared::Prepared;

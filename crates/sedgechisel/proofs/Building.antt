@@ -2,7 +2,7 @@
 use Rattle.std.proofs.Common.{◌≡◌, ◌≤◌, ◌<◌, ℕ, ◌+◌, ◌-◌, min, Bool, true, false, List, [], ◌∷◌, ◌++◌, length}
 use Rattle.std.proofs.Common.{take, drop, map, Option, Some, None, Ok, Err, refl, sym, ap, subst, ◌∙◌, arith, inl, inr}
 use Rattle.std.proofs.Common.{length-take, length-drop, length-append}
-use Rattle.std.specs.Prelude.{◌==◌, nat_lt, ◌%◌, not, if◌then◌else◌, IfOk}
+use Rattle.std.specs.Prelude.{◌==◌, ◌%◌, if◌then◌else◌, IfOk}
 use Rattle.std.specs.List.{concat}
 use Rattle.std.proofs.lemmas.Bool.{and_parts, le-leb, le-ltb, eqb-true, cases_lt}
 use Rattle.std.proofs.lemmas.Grind.{common_steps}
@@ -18,7 +18,7 @@ use Rattle.tm_link.specs.Building.{BuilderState, builder_fits, new_builder, is_t
 use Rattle.tm_link.specs.Building.{idle_after, after_send, with_next_count, build_step}
 use Rattle.tm_link.proofs.Fields.{passed_within, passed_beyond}
 use Rattle.sedgechisel.specs.declared.telemetry_builder.KeptBuilder.{KeptBuilder}
-use Rattle.sedgechisel.specs.Answers.{damaged, wrong_count}
+use Rattle.sedgechisel.specs.Answers.{damaged}
 use Rattle.sedgechisel.specs.Builders.{queued_at, built_at, pending_of, whole_of, has_numbers, is_builder, state_of}
 use Rattle.sedgechisel.specs.Builders.{builder_described}
 
@@ -331,34 +331,13 @@ pub if_taken : {A : Type 0} (b : Bool) (x : A) (number : ℕ) (P : A → Type 0)
 if_taken true x number P e p = p
 if_taken false x number P e p = absurd cc
 
-queue_when : (b : KeptBuilder) (packet memory : List ℕ) (P : BuilderState → Type 0) (is send short : Bool)
-    → is ≡ true → send ≡ true → short ≡ false → P (after_queue (state_of b memory) packet)
-    → IfOk (if not is then Err damaged else if not send then Err 8 else if short then Err 7
-    else Ok (after_queue (state_of b memory) packet)) P
-queue_when b packet memory P true true false i s t p = p
-queue_when b packet memory P true true true i s t p = absurd cc
-queue_when b packet memory P true false short i s t p = absurd cc
-queue_when b packet memory P false send short i s t p = absurd cc
-
 pub queue_taken : (b : KeptBuilder) (packet memory : List ℕ) (new : KeptBuilder) (after : List ℕ)
     → is_builder b memory ≡ true → is_to_send packet ≡ true → b.count + length packet ≤ length memory
     → builder_described new after ≡ Ok (after_queue (state_of b memory) packet)
     → IfOk (queued_at b packet memory) (λ s. builder_described new after ≡ Ok s)
-queue_taken b packet memory new after is send room h =
-    queue_when b packet memory (λ (s : BuilderState). builder_described new after ≡ Ok s) (is_builder b memory)
-    (is_to_send packet) (nat_lt (length memory) (b.count + length packet)) is send (le-ltb _ _ room) h
-
-build_by : (b : KeptBuilder) (ocf memory : List ℕ) (is four short : Bool) → is ≡ true → four ≡ true → short ≡ false
-    → (if not is then Err damaged else if not four then Err wrong_count else if short then Err 9
-    else Ok (build_step (state_of b memory) ocf))
-    ≡ Ok (build_step (state_of b memory) ocf)
-build_by b ocf memory true true false i f s = refl
-build_by b ocf memory true true true i f s = absurd cc
-build_by b ocf memory true false short i f s = absurd cc
-build_by b ocf memory false four short i f s = absurd cc
+queue_taken b packet memory new after is send room h = rw (is, send, le-ltb _ _ room) h
 
 pub build_taken : (b : KeptBuilder) (ocf memory : List ℕ) (room : ℕ) → is_builder b memory ≡ true
     → (length ocf == 4) ≡ true → b.length ≤ room
     → built_at b ocf memory room ≡ Ok (build_step (state_of b memory) ocf)
-build_taken b ocf memory room is four long =
-    build_by b ocf memory (is_builder b memory) (length ocf == 4) (nat_lt room b.length) is four (le-ltb _ _ long)
+build_taken b ocf memory room is four long = rw (is, four, le-ltb _ _ long) refl

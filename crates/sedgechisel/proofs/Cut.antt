@@ -1,12 +1,14 @@
 -- Part k of a packet stands at place k times the size of a part.
-use Rattle.std.proofs.Common.{◌≡◌, ◌≢◌, ◌≤◌, ◌<◌, ℕ, zero, suc, ◌+◌, ◌-◌, ◌*◌, ◌/◌, ◌++◌, List, [], ◌∷◌, length, take}
-use Rattle.std.proofs.Common.{drop, Some, refl, sym, ap, ◌∙◌, arith, length-append, length-drop, length-take}
-use Rattle.std.specs.Prelude.{slice_get}
-use Rattle.std.proofs.lemmas.List.{drop-drop, drop-take, map-append, take_all, take-append-le, take-take}
+use Rattle.std.proofs.Common.{◌≡◌, ◌≤◌, ◌<◌, ℕ, zero, suc, ◌+◌, ◌-◌, ◌*◌, ◌/◌, ◌++◌, List, [], ◌∷◌, length, take, drop}
+use Rattle.std.proofs.Common.{min, false, Some, refl, sym, ap, ◌∙◌, arith, length-append}
+use Rattle.std.proofs.Common.{length-drop, length-take, inl, inr}
+use Rattle.std.specs.Prelude.{◌==◌, nat_le, slice_get}
+use Rattle.std.proofs.lemmas.Bool.{cases_lt, le-leb, lt-leb, ne_eqb}
+use Rattle.std.proofs.lemmas.List.{drop-drop, drop-take, map-append, take_all, take_min, take-append-le, take-take}
 use Rattle.std.proofs.lemmas.List.Folds.{concat-append}
 use Rattle.std.proofs.Math.Nat.{le-div_iff_mul-le}
 use Rattle.std.proofs.Math.Seq.{take-append-add}
-use Rattle.tc_frame.specs.declared.frame.SegmentFlags.TheVariants.{First, Continuing, Last, Alone}
+use Rattle.tc_frame.specs.declared.frame.SegmentFlags.TheVariants.{Last, Alone}
 use Rattle.tc_frame.specs.Layout.{SegmentView}
 use Rattle.std.specs.List.{concat}
 use Rattle.map_service.specs.Cutting.{pieces_of, segment_with, later_segments, parts_of, first_group, segments_of}
@@ -18,7 +20,7 @@ use Rattle.map_service.proofs.Parts.{parts-joined}
 use Rattle.map_service.proofs.Pieces.{later_segments-last, later_segments-more, parts-fit, parts-more}
 use Rattle.sedgechisel.specs.declared.cutting.Place.{Place}
 use Rattle.sedgechisel.specs.declared.part.Part.{Part}
-use Rattle.sedgechisel.specs.Cuttings.{octets_before, part_at, part_in, segment_in}
+use Rattle.sedgechisel.specs.Cuttings.{flags_for, octets_before, part_at, part_in, segment_in}
 
 times_suc : (k part : ℕ) → suc k * part ≡ part + k * part
 times_suc k part = omega arith
@@ -26,33 +28,43 @@ times_suc k part = omega arith
 behind : (t part : ℕ) (xs : List ℕ) → drop t (drop part xs) ≡ drop (part + t) xs
 behind t part xs = drop-drop t part xs
 
--- part k of those after the first, which is not the last of them, or is the last
-later_continuing : (k part m : ℕ) (xs : List ℕ) → 1 ≤ part → suc k * part + part < length xs
-    → slice_get (later_segments m (pieces_of part (drop part xs))) k
-    ≡ Some (segment_with Continuing m (take part (drop (suc k * part) xs)))
-later_continuing zero part m xs one more =
+-- part k of those after the first, and of all
+later_at : (k part m : ℕ) (xs : List ℕ) → 1 ≤ part → k * part < length xs
+    → slice_get (later_segments m (pieces_of part xs)) k
+    ≡ Some (segment_with (flags_for false (nat_le (length xs - k * part) part)) m (take part (drop (k * part) xs)))
+later_at zero part m xs one there =
+    let start : zero * part ≡ 0 = omega arith in
+    let all : length xs - 0 ≡ length xs = omega arith in
+    elim (cases_lt part (length xs)) [
+      | inl lt ↦ rw (start, all, later_segments-more m part xs one lt, lt-leb (length xs) part lt) refl
+      | inr ge ↦ rw (start, all, later_segments-last m part xs (omega arith) ge, le-leb (length xs) part ge)
+          (ap (λ (p : List ℕ). Some (segment_with Last m p)) (sym (take_all part xs ge)))
+    ]
+later_at (suc k) part m xs one there =
     let size = length-drop part xs in
-    let here : suc zero * part ≡ part = omega arith in
-    rw (here, later_segments-more m part (drop part xs) one (omega arith)) refl
-later_continuing (suc k) part m xs one more =
-    let size = length-drop part xs in
-    let step = times_suc (suc k) part in
-    rw (later_segments-more m part (drop part xs) one (omega arith), step, sym (behind (suc k * part) part xs))
-    (later_continuing k part m (drop part xs) one (omega arith))
+    let step = times_suc k part in
+    let left : length xs - (part + k * part) ≡ length (drop part xs) - k * part = omega arith in
+    rw (later_segments-more m part xs one (omega arith), step, left, sym (behind (k * part) part xs))
+    (later_at k part m (drop part xs) one (omega arith))
 
-later_last : (k part m : ℕ) (xs : List ℕ) → 1 ≤ part → suc k * part < length xs → length xs ≤ suc k * part + part
-    → slice_get (later_segments m (pieces_of part (drop part xs))) k
-    ≡ Some (segment_with Last m (take part (drop (suc k * part) xs)))
-later_last zero part m xs one some last =
+parts_at : (k part m : ℕ) (xs : List ℕ) → 1 ≤ part → k * part < length xs
+    → slice_get (parts_of part m xs) k
+    ≡ Some (segment_with (flags_for (k == 0) (nat_le (length xs - k * part) part)) m (take part (drop (k * part) xs)))
+parts_at zero part m xs one there =
+    let start : zero * part ≡ 0 = omega arith in
+    let all : length xs - 0 ≡ length xs = omega arith in
+    elim (cases_lt part (length xs)) [
+      | inl lt ↦ rw (start, all, parts-more m part xs one lt, lt-leb (length xs) part lt) refl
+      | inr ge ↦ rw (start, all, parts-fit m part xs (omega arith) ge, le-leb (length xs) part ge)
+          (ap (λ (p : List ℕ). Some (segment_with Alone m p)) (sym (take_all part xs ge)))
+    ]
+parts_at (suc k) part m xs one there =
     let size = length-drop part xs in
-    let here : suc zero * part ≡ part = omega arith in
-    rw (here, later_segments-last m part (drop part xs) (omega arith) (omega arith))
-    (ap (λ (p : List ℕ). Some (segment_with Last m p)) (sym (take_all part (drop part xs) (omega arith))))
-later_last (suc k) part m xs one some last =
-    let size = length-drop part xs in
-    let step = times_suc (suc k) part in
-    rw (later_segments-more m part (drop part xs) one (omega arith), step, sym (behind (suc k * part) part xs))
-    (later_last k part m (drop part xs) one (omega arith) (omega arith))
+    let step = times_suc k part in
+    let left : length xs - (part + k * part) ≡ length (drop part xs) - k * part = omega arith in
+    let later : (suc k == 0) ≡ false = ne_eqb (suc k) 0 (λ (e : suc k ≡ 0). omega arith) in
+    rw (parts-more m part xs one (omega arith), later, step, left, sym (behind (k * part) part xs))
+    (later_at k part m (drop part xs) one (omega arith))
 
 -- ---- parts of a packet among octets: from a place on, as many as the packet has
 
@@ -71,76 +83,27 @@ behind_place octets from len start within =
     ap (λ (n : ℕ). drop start (take n (drop from octets))) whole ∙ drop-take start (len - start) (drop from octets)
     ∙ ap (take (len - start)) (drop-drop start from octets)
 
-full_part : (octets : List ℕ) (from len start part : ℕ) → start ≤ len → part ≤ len - start
-    → take part (drop start (packet_at octets from len)) ≡ take part (drop (from + start) octets)
-full_part octets from len start part within fits =
-    ap (take part) (behind_place octets from len start within)
-    ∙ take-take part (len - start) (drop (from + start) octets) fits
-
-short_part : (octets : List ℕ) (from len start part : ℕ) → start ≤ len → len - start ≤ part
-    → take part (drop start (packet_at octets from len)) ≡ take (len - start) (drop (from + start) octets)
-short_part octets from len start part within short =
-    ap (take part) (behind_place octets from len start within)
-    ∙ take_all part (take (len - start) (drop (from + start) octets))
-    (omega (arith, length-take (len - start) (drop (from + start) octets)))
-
-pub alone_at : (octets : List ℕ) (from len part m k : ℕ) → from + len ≤ length octets → 1 ≤ len → k ≡ 0
-    → len - k * part ≤ part
+pub part_stands : (octets : List ℕ) (from len part m k count : ℕ) → from + len ≤ length octets → 1 ≤ part
+    → k * part < len → count ≡ min (len - k * part) part
     → slice_get (parts_of part m (packet_at octets from len)) k
-    ≡ Some (segment_with Alone m (take (len - k * part) (drop (from + k * part) octets)))
-alone_at octets from len part m zero fits some here le =
+    ≡ Some (segment_with (flags_for (k == 0) (nat_le (len - k * part) part)) m
+    (take count (drop (from + k * part) octets)))
+part_stands octets from len part m k count fits one there is =
+    let start : ℕ = k * part in
+    let xs : List ℕ = packet_at octets from len in
+    let ys : List ℕ = drop (from + start) octets in
     let size = packet-length octets from len fits in
-    let start : zero * part ≡ 0 = omega arith in
-    let place : from + 0 ≡ from = omega arith in
-    let all : len - 0 ≡ len = omega arith in
-    rw (start, place, all) (ap (λ (l : List SegmentView). slice_get l 0)
-    (parts-fit m part (packet_at octets from len) (omega arith) (omega arith)))
-alone_at octets from len part m (suc k) fits some here le = absurd (omega arith)
-
-pub first_at : (octets : List ℕ) (from len part m k : ℕ) → from + len ≤ length octets → 1 ≤ part → k ≡ 0
-    → part < len - k * part
-    → slice_get (parts_of part m (packet_at octets from len)) k
-    ≡ Some (segment_with First m (take part (drop (from + k * part) octets)))
-first_at octets from len part m zero fits one here lt =
-    let size = packet-length octets from len fits in
-    let start : zero * part ≡ 0 = omega arith in
-    let place : from + 0 ≡ from = omega arith in
-    rw (start, place)
-    (ap (λ (l : List SegmentView). slice_get l 0) (parts-more m part (packet_at octets from len) one (omega arith))
-    ∙ ap (λ (p : List ℕ). Some (segment_with First m p)) (take-take part len (drop from octets) (omega arith)))
-first_at octets from len part m (suc k) fits one here lt = absurd (omega arith)
-
--- the parts after the first
-after_first : (octets : List ℕ) (from len part m k : ℕ) → from + len ≤ length octets → 1 ≤ part → part < len
-    → slice_get (parts_of part m (packet_at octets from len)) (suc k)
-    ≡ slice_get (later_segments m (pieces_of part (drop part (packet_at octets from len)))) k
-after_first octets from len part m k fits one more =
-    let size = packet-length octets from len fits in
-    ap (λ (l : List SegmentView). slice_get l (suc k)) (parts-more m part (packet_at octets from len) one (omega arith))
-
-pub continuing_at : (octets : List ℕ) (from len part m k : ℕ) → from + len ≤ length octets → 1 ≤ part → k ≢ 0
-    → k * part < len → part < len - k * part
-    → slice_get (parts_of part m (packet_at octets from len)) k
-    ≡ Some (segment_with Continuing m (take part (drop (from + k * part) octets)))
-continuing_at octets from len part m zero fits one some there more = absurd (some refl)
-continuing_at octets from len part m (suc k) fits one some there more =
-    let size = packet-length octets from len fits in
-    after_first octets from len part m k fits one (omega arith)
-    ∙ later_continuing k part m (packet_at octets from len) one (omega arith)
-    ∙ ap (λ (p : List ℕ). Some (segment_with Continuing m p))
-    (full_part octets from len (suc k * part) part (omega arith) (omega arith))
-
-pub last_at : (octets : List ℕ) (from len part m k : ℕ) → from + len ≤ length octets → 1 ≤ part → k ≢ 0 → k * part < len
-    → len - k * part ≤ part
-    → slice_get (parts_of part m (packet_at octets from len)) k
-    ≡ Some (segment_with Last m (take (len - k * part) (drop (from + k * part) octets)))
-last_at octets from len part m zero fits one some there last = absurd (some refl)
-last_at octets from len part m (suc k) fits one some there last =
-    let size = packet-length octets from len fits in
-    after_first octets from len part m k fits one (omega arith)
-    ∙ later_last k part m (packet_at octets from len) one (omega arith) (omega arith)
-    ∙ ap (λ (p : List ℕ). Some (segment_with Last m p))
-    (short_part octets from len (suc k * part) part (omega arith) (omega arith))
+    let all : length (take (len - start) ys) ≡ len - start =
+    omega (arith, length-take (len - start) ys, length-drop (from + start) octets) in
+    let few : min part (length (take (len - start) ys)) ≡ count = omega (arith, all, is) in
+    let held : take part (drop start xs) ≡ take count ys =
+    ap (take part) (behind_place octets from len start (omega arith))
+    ∙ sym (take_min part (take (len - start) ys)) ∙ ap (λ (n : ℕ). take n (take (len - start) ys)) few
+    ∙ take-take count (len - start) ys (omega (arith, is)) in
+    parts_at k part m xs one (omega arith)
+    ∙ ap (λ (n : ℕ). Some (segment_with (flags_for (k == 0) (nat_le (n - start) part)) m (take part (drop start xs))))
+    size
+    ∙ ap (λ (p : List ℕ). Some (segment_with (flags_for (k == 0) (nat_le (len - start) part)) m p)) held
 
 -- ---- the octets before a part
 

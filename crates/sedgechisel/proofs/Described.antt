@@ -6,7 +6,7 @@ use Rattle.std.proofs.Math.Seq.{take-append_seam}
 use Rattle.octets.specs.Number.{IsOctets}
 use Rattle.octets.specs.Outcome.{map_ok}
 use Rattle.tc_frame.specs.declared.frame.SegmentFlags.{SegmentFlags}
-use Rattle.tc_frame.specs.declared.frame.SegmentFlags.TheVariants.{First, Continuing, Last, Alone}
+use Rattle.tc_frame.specs.declared.frame.SegmentFlags.TheVariants.{First}
 use Rattle.tc_frame.specs.declared.frame.Command.TheVariants.{Unlock, SetVr}
 use Rattle.tc_frame.specs.Layout as tc
 use Rattle.tc_frame.specs.Layout.{BodyView, Ad, Bd, Bc, body_octets, check_length, flags_code}
@@ -72,18 +72,14 @@ ad_again : (scid vcid n map : ℕ) (flags : SegmentFlags) (p : List ℕ)
     (Ad n (record { header = record { flags = flags; map = map }; payload = p }))) p
     ≡ Ok (frame_with scid vcid (Ad n (record { header = record { flags = flags; map = map }; payload = p })))
 ad_again scid vcid n map First p = refl
-ad_again scid vcid n map Continuing p = refl
-ad_again scid vcid n map Last p = refl
-ad_again scid vcid n map Alone p = refl
+ad_again scid vcid n map _ p = refl
 
 bd_again : (scid vcid map : ℕ) (flags : SegmentFlags) (p : List ℕ)
     → commands.frame_described (fields_with scid vcid
     (Bd (record { header = record { flags = flags; map = map }; payload = p }))) p
     ≡ Ok (frame_with scid vcid (Bd (record { header = record { flags = flags; map = map }; payload = p })))
 bd_again scid vcid map First p = refl
-bd_again scid vcid map Continuing p = refl
-bd_again scid vcid map Last p = refl
-bd_again scid vcid map Alone p = refl
+bd_again scid vcid map _ p = refl
 
 body_again : (scid vcid n : ℕ) (b : List ℕ) (body : BodyView) → drop 4 (take n b) ≡ body_octets body
     → commands.frame_described (fields_with scid vcid body) (take (part_with body).count (drop (part_with body).from b))

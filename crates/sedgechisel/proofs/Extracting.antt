@@ -10,7 +10,7 @@ use Rattle.tm_link.specs.declared.frame.Pointer.{Pointer}
 use Rattle.tm_link.specs.declared.frame.Pointer.TheVariants.{At, NoStart, OnlyIdle}
 use Rattle.tm_link.specs.declared.gap.Gap.{Gap}
 use Rattle.tm_link.specs.Extraction.{ExtractorState, Extracted, extract_step, completed_packet, finished_packets}
-use Rattle.tm_link.specs.Extraction.{part_after, part_behind, without_idle, is_idle, is_any_lost, gap_of}
+use Rattle.tm_link.specs.Extraction.{part_after, part_over_gap, without_idle, is_idle, is_any_lost, gap_of}
 use Rattle.tm_link.specs.Layout.{pointer_fits}
 use Rattle.tm_link.specs.Reading.{pointer_at}
 use Rattle.tm_link.proofs.Records.{without_idle-append}
@@ -21,7 +21,8 @@ use Rattle.sedgechisel.specs.declared.telemetry_extractor.TakenFrame.{TakenFrame
 use Rattle.sedgechisel.specs.declared.telemetry_extractor.Kept.{Kept}
 use Rattle.sedgechisel.specs.Answers.{damaged}
 use Rattle.sedgechisel.specs.Telemetry.{frame_described}
-use Rattle.sedgechisel.specs.Extractors.{is_extractor, state_of, last_of, place_behind, octets_at, joined_at, joined_by}
+use Rattle.sedgechisel.specs.Extractors.{is_extractor, state_of, last_of, place_over_gap, octets_at}
+use Rattle.sedgechisel.specs.Extractors.{joined_at, joined_by}
 use Rattle.sedgechisel.specs.Extractors.{need_of, packets_from, gap_at, extracted_at, extracted_described}
 use Rattle.sedgechisel.specs.Extractors.{DescribesExtracted}
 use Rattle.sedgechisel.specs.Fields.{IsKept}
@@ -117,7 +118,7 @@ place_by false x memory = refl
 
 -- the part, which is dropped where a frame is missing
 pub place_is : (gap : Gap) (x : KeptExtractor) (memory : List ℕ)
-    → octets_at (place_behind gap x) memory ≡ part_behind gap (state_of x memory).part
+    → octets_at (place_over_gap gap x) memory ≡ part_over_gap gap (state_of x memory).part
 place_is gap x memory = place_by (is_any_lost gap) x memory
 
 abbrev extracted_with : Gap → List (List ℕ) → ExtractorState → Extracted
@@ -126,9 +127,7 @@ extracted_with gap packets after = record { gap = gap; packets = packets; after 
 describes_by : (is fits short : Bool) (e d : Extracted) → is ≡ true → fits ≡ true → short ≡ false → d ≡ e
     → DescribesExtracted (if not is then Err damaged else if not fits then Err 10 else if short then Err 7 else Ok e) d
 describes_by true true false e d i f s h = h
-describes_by true true true e d i f s h = absurd cc
-describes_by true false short e d i f s h = absurd cc
-describes_by false fits short e d i f s h = absurd cc
+describes_by _ _ _ e d i f s h = absurd cc
 
 abbrev kept_of : Kept → ℕ → KeptExtractor
 kept_of k count = record { from = k.part.from; count = k.part.count; last = count; seen = 1 }
@@ -137,7 +136,7 @@ pub frame_taken : (x : KeptExtractor) (f : ReportFrame) (payload memory after pa
     (gap : Gap) (k : Kept) (t : TakenFrame)
     → is_extractor x (length memory) ≡ true → pointer ≡ pointer_at f.pointer
     → pointer_fits pointer (length payload) ≡ true
-    → gap ≡ gap_of (last_of x) f.vc_count → part ≡ octets_at (place_behind gap x) memory
+    → gap ≡ gap_of (last_of x) f.vc_count → part ≡ octets_at (place_over_gap gap x) memory
     → nat_lt (length memory) (need_of part pointer payload) ≡ false
     → IsKept k after (joined_by part pointer payload) (part_after part pointer payload)
     → gap_at t ≡ gap → t.joined ≡ k.joined → t.packets ≡ begins_at (packets_from pointer (length payload))
@@ -145,10 +144,10 @@ pub frame_taken : (x : KeptExtractor) (f : ReportFrame) (payload memory after pa
     (extracted_described (kept_of k f.vc_count) t after payload)
 frame_taken x f payload memory after part pointer gap k t is at fits gap-is part-is room kept gap-at joined packets =
     let s : ExtractorState = state_of x memory in
-    let real : List ℕ = part_behind (gap_of s.last f.vc_count) s.part in
+    let real : List ℕ = part_over_gap (gap_of s.last f.vc_count) s.part in
     let ptr : Pointer = pointer_at f.pointer in
     let same : part ≡ real =
-    part-is ∙ place_is gap x memory ∙ ap (λ (g : Gap). part_behind g s.part) gap-is in
+    part-is ∙ place_is gap x memory ∙ ap (λ (g : Gap). part_over_gap g s.part) gap-is in
     let fits-at : pointer_fits ptr (length payload) ≡ true =
     subst (λ (p : Pointer). pointer_fits p (length payload) ≡ true) at fits in
     let room-at : nat_lt (length memory) (need_of real ptr payload) ≡ false =

@@ -105,9 +105,7 @@ if_err false s h = refl
 same_ticks : (k : KeptSender) (m : Option FopMode) (f : Option Bool) (c : Option Control) (s : SenderNumbers)
     → fields_with k m f c ≡ Ok s → s.ticks ≡ ticks_at k.ticks
 same_ticks k (Some m) (Some f) (Some c) s h = grind arith
-same_ticks k (Some m) (Some f) None s h = absurd cc
-same_ticks k (Some m) None c s h = absurd cc
-same_ticks k None f c s h = absurd cc
+same_ticks k _ _ _ s h = absurd cc
 
 ticks_run : (n : ℕ) → IfSome (ticks_at n) (λ left. 1 ≤ left)
 ticks_run n = grind arith

@@ -18,8 +18,7 @@ abbrev pub segment_described : CommandFrame → List ℕ → Result SegmentView 
 segment_described f payload =
     if nat_lt f.flags 4
     then Ok (record {
-      header =
-          record { flags = flags_at f.flags; map = f.map };
+      header = record { flags = flags_at f.flags; map = f.map };
       payload = payload;
     })
     else Err damaged
@@ -59,8 +58,7 @@ segment_fields scid vcid kind n s = record {
 abbrev pub command_fields : ℕ → ℕ → ℕ → ℕ → CommandFrame
 command_fields scid vcid command vr =
     record {
-      scid =
-          scid;
+      scid = scid;
       vcid = vcid;
       kind = 2;
       n = 0;

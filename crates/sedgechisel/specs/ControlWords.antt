@@ -11,8 +11,7 @@ use Rattle.sedgechisel.specs.Answers.{wrong_count, numbered}
 -- the word that the fields describe
 abbrev pub word_of : ControlWord → Clcw
 word_of w = record {
-  status =
-      w.status;
+  status = w.status;
   vcid = w.vcid;
   flags = flags_from w.flags;
   farm_b = w.farm_b;
@@ -23,8 +22,7 @@ word_of w = record {
 abbrev pub fields_of : Clcw → ControlWord
 fields_of w =
     record {
-      status =
-          w.status;
+      status = w.status;
       vcid = w.vcid;
       flags = flags_number w.flags;
       farm_b = w.farm_b;

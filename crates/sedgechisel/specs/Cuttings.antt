@@ -1,7 +1,9 @@
 -- Cutting packets into segments as C asks for it.
-use Rattle.std.specs.Prelude.{◌≡◌, ℕ, List, length, take, drop, ◌&&◌, ◌==◌, nat_lt, if◌then◌else◌}
-use Rattle.std.specs.Prelude.{Option, Some, None, Result, Ok, Err, slice_get}
+use Rattle.std.specs.Prelude.{◌≡◌, ℕ, List, length, take, drop, Bool, true, false, ◌&&◌, ◌==◌}
+use Rattle.std.specs.Prelude.{nat_lt, if◌then◌else◌, Option, Some, None, Result, Ok, Err, slice_get}
 use Rattle.std.specs.List.{concat}
+use Rattle.tc_frame.specs.declared.frame.SegmentFlags.{SegmentFlags}
+use Rattle.tc_frame.specs.declared.frame.SegmentFlags.TheVariants.{First, Continuing, Last, Alone}
 use Rattle.tc_frame.specs.Layout.{SegmentView}
 use Rattle.map_service.specs.declared.fault.MapFault.{MapFault}
 use Rattle.map_service.specs.declared.limits.Limits.{Limits}
@@ -18,8 +20,7 @@ abbrev pub limits_described : CutLimits → Result Limits ℕ
 limits_described l =
     if nat_lt 0 l.part && nat_lt l.blocking 2
     then Ok (record {
-      part =
-          l.part;
+      part = l.part;
       max_packet = l.max_packet;
       maps = 0;
       blocking = l.blocking == 1;
@@ -60,6 +61,13 @@ DescribesSegment (Ok segment) octets = octets ≡ segment.payload
 DescribesSegment (Err number) octets = Unit {0}
 
 -- ---- places
+
+-- the flags of a part, by whether it is the first, and the last
+abbrev pub flags_for : Bool → Bool → SegmentFlags
+flags_for true true = Alone
+flags_for true false = First
+flags_for false true = Last
+flags_for false false = Continuing
 
 abbrev pub part_in : Place → Part
 part_in p = record { from = p.from; count = p.count }

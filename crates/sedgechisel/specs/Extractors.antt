@@ -15,7 +15,7 @@ use Rattle.tm_link.specs.Extraction.{ExtractorState, Extracted, extract_step, co
 use Rattle.tm_link.specs.Extraction.{part_after, is_any_lost, ending_of}
 use Rattle.tm_link.specs.declared.ending.Ending.{Ending}
 use Rattle.tm_link.specs.declared.ending.Ending.TheVariants.{Wrong}
-use Rattle.tm_link.specs.Extraction.{gap_of, part_behind, without_idle}
+use Rattle.tm_link.specs.Extraction.{gap_of, part_over_gap, without_idle}
 use Rattle.tm_link.specs.Layout.{FrameView, pointer_fits}
 use Rattle.sedgechisel.specs.declared.part.Part.{Part}
 use Rattle.sedgechisel.specs.declared.report_frame.ReportFrame.{ReportFrame}
@@ -93,7 +93,7 @@ need_of part pointer payload =
 -- what a frame leads to, where the memory has room for it
 abbrev pub extracted_from : ExtractorState → FrameView → ℕ → Result Extracted ℕ
 extracted_from s f room =
-    let part : List ℕ = part_behind (gap_of s.last f.vc_count) s.part in
+    let part : List ℕ = part_over_gap (gap_of s.last f.vc_count) s.part in
     if nat_lt room (need_of part f.pointer f.payload) then Err (fault_row Memory).0
     else Ok (extract_step s f)
 
@@ -112,14 +112,14 @@ DescribesExtracted (Err number) described = Unit {0}
 -- ---- parts of the calls
 
 -- where the part stands, if no frame is missing after it
-abbrev pub place_behind : Gap → KeptExtractor → Part
-place_behind gap x =
+abbrev pub place_over_gap : Gap → KeptExtractor → Part
+place_over_gap gap x =
     if is_any_lost gap then record { from = 0; count = 0 }
     else record { from = x.from; count = x.count }
 
 -- how a part and octets after it end, where there is a part
-abbrev pub ending_behind : List ℕ → List ℕ → Ending
-ending_behind part octets = if length part == 0 then Wrong else ending_of (part ++ octets)
+abbrev pub ending_after : List ℕ → List ℕ → Ending
+ending_after part octets = if length part == 0 then Wrong else ending_of (part ++ octets)
 
 -- the octets of the packet that they are, unless it is idle
 abbrev pub joined_len : List ℕ → List ℕ → ℕ
@@ -132,9 +132,9 @@ packets_from NoStart size = size
 packets_from OnlyIdle size = size
 
 -- this is the first packet from a place on that isn't idle
-abbrev pub StandsBehind : List ℕ → ℕ → Option Part → Type 0
-StandsBehind octets place None = without_idle (packets_in (drop place octets)) ≡ []
-StandsBehind octets place (Some p) =
+abbrev pub StandsAfter : List ℕ → ℕ → Option Part → Type 0
+StandsAfter octets place None = without_idle (packets_in (drop place octets)) ≡ []
+StandsAfter octets place (Some p) =
     (without_idle (packets_in (drop place octets))
     ≡ octets_at p octets ∷ without_idle (packets_in (drop (p.from + p.count) octets)))
     × (p.from + p.count ≤ length octets)

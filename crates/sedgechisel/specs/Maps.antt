@@ -44,11 +44,6 @@ cause_at n =
     found_by (λ cause. (cause_row cause).0)
     (ClosedMap ∷ Interrupted ∷ NoBeginning ∷ NotAPacket ∷ TooLong ∷ []) n
 
--- a cause's number, and 0 for none
-abbrev pub cause_answer : Option Dropped → ℕ
-cause_answer None = 0
-cause_answer (Some cause) = (cause_row cause).0
-
 -- the packets that are whole now: one at the beginning of the memory, or those of the segment's
 -- data
 abbrev pub packets_described : TakenSegment → List ℕ → List ℕ → List (List ℕ)
@@ -69,8 +64,7 @@ is_counted t memory octets =
 abbrev pub outcome_described : KeptMap → TakenSegment → List ℕ → List ℕ → TakeOutcome
 outcome_described m t memory octets =
     record {
-      dropped =
-          cause_at t.dropped;
+      dropped = cause_at t.dropped;
       packets = packets_described t memory octets;
       part = part_of m memory;
     }
@@ -81,10 +75,6 @@ closed m = record m { count = 0; is_open = 0 }
 
 abbrev pub no_packets : ℕ → TakenSegment
 no_packets dropped = record { count = 0; place = 0; dropped = dropped }
-
--- what a first or an alone segment drops: the part that is open
-abbrev pub interrupted : KeptMap → Option Dropped
-interrupted m = if m.is_open == 1 then Some Interrupted else None
 
 -- ---- the calls
 

@@ -1,14 +1,12 @@
 // Joining the segments of one MAP, in the caller's memory.
 
-ghost use Rattle.std.specs.Prelude.{◌≡◌, ◌+◌, ◌≤◌, ◌++◌, length, take, true, None, OnOk, OnErr, is_some};
-ghost use Rattle.tc_frame.specs.declared.frame.SegmentFlags.TheVariants as flags;
-ghost use Rattle.map_service.specs.Adding.{adding_fault};
+ghost use Rattle.std.specs.Prelude.{◌≡◌, ◌+◌, ◌≤◌, ◌++◌, length, take, true, OnOk, OnErr, is_some, option_copied, if◌then◌else◌};
 ghost use Rattle.sedgechisel.specs.Answers.{status_of};
-ghost use Rattle.sedgechisel.specs.Maps.{is_map, is_counted, interrupted, part_of, limits_of, cell_for, cause_answer, closed, no_packets, outcome_described, taken_at, DescribesOutcome, next_packet, part_or, DescribesPackets};
+ghost use Rattle.sedgechisel.specs.Maps.{is_map, is_counted, part_of, limits_of, cell_for, cause_at, closed, no_packets, outcome_described, taken_at, DescribesOutcome, next_packet, part_or, DescribesPackets};
 
 use crate::numbers::DAMAGED;
 use crate::part::Part;
-use map_service::{Dropped, Limits, fault_of_alone, fault_of_one};
+use map_service::{Decision, Dropped, Limits, Step, decide, fault_of_one};
 use space_packet::packet_len;
 use tc_frame::SegmentFlags;
 
@@ -56,7 +54,7 @@ pub extern "C" fn sedge_map_take(
     if flags >= 4 || !is_whole(map, memory.len()) {
         return DAMAGED;
     }
-    *taken = take_cell(map, SegmentFlags::with_code(flags), octets, memory);
+    *taken = take_segment(map, SegmentFlags::with_code(flags), octets, memory);
     0
 }
 
@@ -77,8 +75,19 @@ fn limits_for(map: &KeptMap, room: usize) -> Limits
     }
 }
 
-// A segment's cell of the assembler's table.
-fn take_cell(
+// The part that is open.
+fn part_in<'a>(map: &KeptMap, memory: &'a [u8]) -> Option<&'a [u8]>
+    requires { is_map map.now (length memory.now) ≡ true }
+    ensures { option_copied result ≡ part_of map.now memory.now }
+{
+    if map.is_open == 0 {
+        return None;
+    }
+    Some(&memory[..map.count])
+}
+
+// Does what is decided of a segment.
+fn take_segment(
     map: &mut KeptMap,
     flags: SegmentFlags,
     octets: &[u8],
@@ -91,11 +100,35 @@ fn take_cell(
     ensures blocking { map.new.blocking ≡ map.old.blocking }
     ensures count { is_counted result memory.new octets.now ≡ true }
 {
-    match flags {
-        SegmentFlags::Alone => take_alone(map, octets, memory),
-        SegmentFlags::First => take_first(map, octets, memory),
-        SegmentFlags::Continuing => take_continuing(map, octets, memory),
-        SegmentFlags::Last => take_last(map, octets, memory),
+    let limits = limits_for(map, memory.len());
+    let Decision { step, dropped } = decide(&limits, flags, part_in(map, memory), octets);
+    match step {
+        Step::Close => {
+            close(map);
+            no_packets(dropped)
+        }
+        Step::HandOut => {
+            close(map);
+            TakenSegment {
+                count: octets.len(),
+                place: 2,
+                dropped: number_of(dropped),
+            }
+        }
+        Step::Begin => {
+            map.count = add(0, octets, memory);
+            map.is_open = 1;
+            no_packets(dropped)
+        }
+        Step::Add => {
+            map.count = add(map.count, octets, memory);
+            no_packets(dropped)
+        }
+        Step::End => {
+            let count = add(map.count, octets, memory);
+            close(map);
+            joined(count, fault_of_one(&limits, &memory[..count]))
+        }
     }
 }
 
@@ -109,7 +142,8 @@ fn close(map: &mut KeptMap)
 
 // No packet is whole, and this is dropped, if anything.
 fn no_packets(dropped: Option<Dropped>) -> TakenSegment
-    ensures { result ≡ no_packets (cause_answer dropped) }
+    ensures dropped { cause_at result.dropped ≡ dropped }
+    ensures none { result ≡ no_packets result.dropped }
 {
     TakenSegment {
         count: 0,
@@ -119,7 +153,7 @@ fn no_packets(dropped: Option<Dropped>) -> TakenSegment
 }
 
 fn number_of(dropped: Option<Dropped>) -> u8
-    ensures { result ≡ cause_answer dropped }
+    ensures { cause_at result ≡ dropped }
 {
     match dropped {
         None => 0,
@@ -131,54 +165,20 @@ fn number_of(dropped: Option<Dropped>) -> u8
     }
 }
 
-// A first or an alone segment drops the part that is open.
-fn interrupt(map: &mut KeptMap) -> Option<Dropped>
-    ensures dropped { result ≡ interrupted map.old }
-    ensures map { map.new ≡ closed map.old }
+// The packet at the beginning of the memory, unless there is a fault of it.
+fn joined(count: usize, fault: Option<Dropped>) -> TakenSegment
+    ensures dropped { cause_at result.dropped ≡ fault }
+    ensures packet { result ≡ if is_some fault then no_packets result.dropped
+        else record { count = count; place = 1; dropped = 0 } }
 {
-    let was_open = map.is_open == 1;
-    close(map);
-    if was_open {
-        return Some(Dropped::Interrupted);
-    }
-    None
-}
-
-fn take_alone(map: &mut KeptMap, octets: &[u8], memory: &[u8]) -> TakenSegment
-    requires whole { is_map map.old (length memory.now) ≡ true }
-    ensures describes { outcome_described map.new result memory.now octets.now
-        ≡ cell_for map.old flags.Alone octets.now memory.now }
-    ensures map { is_map map.new (length memory.now) ≡ true }
-    ensures blocking { map.new.blocking ≡ map.old.blocking }
-    ensures count { is_counted result memory.now octets.now ≡ true }
-{
-    let limits = limits_for(map, memory.len());
-    let earlier = interrupt(map);
-    if let Some(cause) = fault_of_alone(&limits, octets) {
-        return no_packets(Some(cause));
+    if fault.is_some() {
+        return no_packets(fault);
     }
     TakenSegment {
-        count: octets.len(),
-        place: 2,
-        dropped: number_of(earlier),
+        count,
+        place: 1,
+        dropped: 0,
     }
-}
-
-fn take_first(map: &mut KeptMap, octets: &[u8], memory: &mut [u8]) -> TakenSegment
-    requires whole { is_map map.old (length memory.old) ≡ true }
-    ensures describes { outcome_described map.new result memory.new octets.now
-        ≡ cell_for map.old flags.First octets.now memory.old }
-    ensures map { is_map map.new (length memory.old) ≡ true }
-    ensures blocking { map.new.blocking ≡ map.old.blocking }
-    ensures count { is_counted result memory.new octets.now ≡ true }
-{
-    let earlier = interrupt(map);
-    if limits_for(map, memory.len()).is_too_long(octets.len()) {
-        return no_packets(Some(Dropped::TooLong));
-    }
-    map.count = add(0, octets, memory);
-    map.is_open = 1;
-    no_packets(earlier)
 }
 
 // Puts octets into the memory after this many, and says how many are there then.
@@ -191,64 +191,6 @@ pub(crate) fn add(count: usize, octets: &[u8], memory: &mut [u8]) -> usize
     let end = count + octets.len();
     memory[count..end].copy_from_slice(octets);
     end
-}
-
-// Why a continuing or a last segment is not added to the part that is open.
-fn fault_of_adding(map: &KeptMap, octets: &[u8], memory: &[u8]) -> Option<Dropped>
-    requires whole { is_map map.now (length memory.now) ≡ true }
-    ensures fault { result ≡ adding_fault
-        (limits_of map.now (length memory.now)) (part_of map.now memory.now) octets.now }
-    ensures room { result ≡ None → (map.now.is_open ≡ 1)
-        × (map.now.count + length octets.now ≤ length memory.now) }
-{
-    if map.is_open == 0 {
-        return Some(Dropped::NoBeginning);
-    }
-    if limits_for(map, memory.len()).is_too_long(map.count + octets.len()) {
-        return Some(Dropped::TooLong);
-    }
-    None
-}
-
-fn take_continuing(map: &mut KeptMap, octets: &[u8], memory: &mut [u8]) -> TakenSegment
-    requires whole { is_map map.old (length memory.old) ≡ true }
-    ensures describes { outcome_described map.new result memory.new octets.now
-        ≡ cell_for map.old flags.Continuing octets.now memory.old }
-    ensures map { is_map map.new (length memory.old) ≡ true }
-    ensures blocking { map.new.blocking ≡ map.old.blocking }
-    ensures count { is_counted result memory.new octets.now ≡ true }
-{
-    if let Some(cause) = fault_of_adding(map, octets, memory) {
-        close(map);
-        return no_packets(Some(cause));
-    }
-    map.count = add(map.count, octets, memory);
-    no_packets(None)
-}
-
-fn take_last(map: &mut KeptMap, octets: &[u8], memory: &mut [u8]) -> TakenSegment
-    requires whole { is_map map.old (length memory.old) ≡ true }
-    ensures describes { outcome_described map.new result memory.new octets.now
-        ≡ cell_for map.old flags.Last octets.now memory.old }
-    ensures map { is_map map.new (length memory.old) ≡ true }
-    ensures blocking { map.new.blocking ≡ map.old.blocking }
-    ensures count { is_counted result memory.new octets.now ≡ true }
-{
-    let limits = limits_for(map, memory.len());
-    if let Some(cause) = fault_of_adding(map, octets, memory) {
-        close(map);
-        return no_packets(Some(cause));
-    }
-    let count = add(map.count, octets, memory);
-    close(map);
-    if let Some(cause) = fault_of_one(&limits, &memory[..count]) {
-        return no_packets(Some(cause));
-    }
-    TakenSegment {
-        count,
-        place: 1,
-        dropped: 0,
-    }
 }
 
 /// The packet after a part of the octets, which the part is then; false, and nothing is written, where none stands

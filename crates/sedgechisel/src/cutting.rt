@@ -5,7 +5,7 @@ ghost use Rattle.tc_frame.specs.Layout.{flags_code};
 ghost use Rattle.map_service.specs.Cutting.{parts_of, segments_of};
 ghost use Rattle.map_service.specs.Packets.{rest_in};
 ghost use Rattle.sedgechisel.specs.Answers.{status_of, left_by};
-ghost use Rattle.sedgechisel.specs.Cuttings.{limits_described, segments_described, segment_described, part_described, part_at, part_in, segment_in, segment_at, DescribesSegment};
+ghost use Rattle.sedgechisel.specs.Cuttings.{limits_described, segments_described, segment_described, part_described, flags_for, part_at, part_in, segment_in, segment_at, DescribesSegment};
 
 use crate::numbers::{ABSENT, DAMAGED};
 use crate::part::Part;
@@ -127,7 +127,7 @@ fn place_in(octets: &[u8], part: usize, k: usize) -> Option<Place>
 }
 
 // Part k of the packets that have this many octets from a place on, where there is one.
-#[tactic(auto, using(crate::proofs::Cut::alone_at, crate::proofs::Cut::first_at, crate::proofs::Cut::continuing_at, crate::proofs::Cut::last_at))]
+#[tactic(auto, using(crate::proofs::Cut::part_stands))]
 fn place_of(octets: &[u8], from: usize, len: usize, part: usize, k: usize) -> Place
     requires some_octet { 1 ≤ len }
     requires some_part { 1 ≤ part }
@@ -140,21 +140,20 @@ fn place_of(octets: &[u8], from: usize, len: usize, part: usize, k: usize) -> Pl
 {
     let start = k * part;
     let rest = len - start;
-    if k == 0 {
-        if rest <= part {
-            placed(SegmentFlags::Alone, from + start, rest)
-        } else {
-            placed(SegmentFlags::First, from + start, part)
-        }
-    } else if rest <= part {
-        placed(SegmentFlags::Last, from + start, rest)
-    } else {
-        placed(SegmentFlags::Continuing, from + start, part)
+    Place {
+        flags: flags_of(k == 0, rest <= part),
+        from: from + start,
+        count: rest.min(part),
     }
 }
 
-fn placed(flags: SegmentFlags, from: usize, count: usize) -> Place
-    ensures { result ≡ record { flags = flags; from = from; count = count } }
+fn flags_of(is_first: bool, is_last: bool) -> SegmentFlags
+    ensures { result ≡ flags_for is_first is_last }
 {
-    Place { flags, from, count }
+    match (is_first, is_last) {
+        (true, true) => SegmentFlags::Alone,
+        (true, false) => SegmentFlags::First,
+        (false, true) => SegmentFlags::Last,
+        (false, false) => SegmentFlags::Continuing,
+    }
 }

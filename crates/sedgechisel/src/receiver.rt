@@ -77,14 +77,12 @@ pub extern "C" fn sedge_farm_bd(receiver: &mut Receiver) -> u8
     ensures receiver { receiver.new
         ≡ left_by receiver_of (farm_stepped receiver.old BdArrives) receiver.old }
 {
-    match described(receiver) {
-        Some(mut farm) => {
-            farm.bd();
-            *receiver = kept(&farm);
-            0
-        }
-        None => DAMAGED,
-    }
+    let Some(mut farm) = described(receiver) else {
+        return DAMAGED;
+    };
+    farm.bd();
+    *receiver = kept(&farm);
+    0
 }
 
 /// The control command Unlock has come.
@@ -94,14 +92,12 @@ pub extern "C" fn sedge_farm_unlock(receiver: &mut Receiver) -> u8
     ensures receiver { receiver.new
         ≡ left_by receiver_of (farm_stepped receiver.old UnlockArrives) receiver.old }
 {
-    match described(receiver) {
-        Some(mut farm) => {
-            farm.unlock();
-            *receiver = kept(&farm);
-            0
-        }
-        None => DAMAGED,
-    }
+    let Some(mut farm) = described(receiver) else {
+        return DAMAGED;
+    };
+    farm.unlock();
+    *receiver = kept(&farm);
+    0
 }
 
 /// The control command Set V(R) has come.
@@ -111,14 +107,12 @@ pub extern "C" fn sedge_farm_set_vr(receiver: &mut Receiver, vr: u8) -> u8
     ensures receiver { receiver.new
         ≡ left_by receiver_of (farm_stepped receiver.old (SetVrArrives vr)) receiver.old }
 {
-    match described(receiver) {
-        Some(mut farm) => {
-            farm.set_vr(vr);
-            *receiver = kept(&farm);
-            0
-        }
-        None => DAMAGED,
-    }
+    let Some(mut farm) = described(receiver) else {
+        return DAMAGED;
+    };
+    farm.set_vr(vr);
+    *receiver = kept(&farm);
+    0
 }
 
 /// There is room on board again.
@@ -128,14 +122,12 @@ pub extern "C" fn sedge_farm_released(receiver: &mut Receiver) -> u8
     ensures receiver { receiver.new
         ≡ left_by receiver_of (farm_stepped receiver.old BufferReleased) receiver.old }
 {
-    match described(receiver) {
-        Some(mut farm) => {
-            farm.released();
-            *receiver = kept(&farm);
-            0
-        }
-        None => DAMAGED,
-    }
+    let Some(mut farm) = described(receiver) else {
+        return DAMAGED;
+    };
+    farm.released();
+    *receiver = kept(&farm);
+    0
 }
 
 /// What the receiver reports for the virtual channel `vcid` (CCSDS 232.0-B-4, 4.2). Answers 0, or 255 where the
@@ -145,16 +137,14 @@ pub extern "C" fn sedge_farm_report(receiver: &Receiver, vcid: u8, word: &mut Co
     ensures answer { result ≡ status_of (farm_report receiver.now vcid) }
     ensures word { word.new ≡ left_by fields_of (farm_report receiver.now vcid) word.old }
 {
-    match described(receiver) {
-        Some(farm) => {
-            if vcid >= 64 {
-                return ClcwFault::Range.number();
-            }
-            *word = fields_from(&farm.report(vcid));
-            0
-        }
-        None => DAMAGED,
+    let Some(farm) = described(receiver) else {
+        return DAMAGED;
+    };
+    if vcid >= 64 {
+        return ClcwFault::Range.number();
     }
+    *word = fields_from(&farm.report(vcid));
+    0
 }
 
 /// The receiver's state: 0 Open, 1 Wait, 2 Lockout, or 255 where it is damaged.
@@ -182,7 +172,7 @@ fn number_of_mode(mode: FarmMode) -> u8
 }
 
 #[inline(always)]
-fn number_of_flag(flag: bool) -> u8
+pub(crate) fn number_of_flag(flag: bool) -> u8
     ensures { result ≡ flag_number flag }
 {
     u8::from(flag)

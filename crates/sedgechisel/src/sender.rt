@@ -6,10 +6,10 @@ mod directing;
 
 ghost use Rattle.std.specs.Prelude.{◌≡◌};
 ghost use Rattle.cop1.specs.NumbersStep.{Submit, Next, Tick};
-ghost use Rattle.sedgechisel.specs.Answers.{status_of, left_by};
+ghost use Rattle.sedgechisel.specs.Answers.{left_by};
 ghost use Rattle.sedgechisel.specs.ControlWords.{word_of};
 ghost use Rattle.sedgechisel.specs.Receivers.{answer_of};
-ghost use Rattle.sedgechisel.specs.Senders.{kept_of, sender_opened, stepped, after_step, submitted, reported, after_report, alert_answer, next_answer, next_number, AreDescribed};
+ghost use Rattle.sedgechisel.specs.Senders.{kept_of, sender_opened, stepped, after_step, submitted, reported, after_report, alert_answer, next_answer, next_number, AreDescribed, IsAnswered};
 
 use crate::control_word::{ControlWord, word_from};
 use crate::numbers::ABSENT;
@@ -48,10 +48,7 @@ pub extern "C" fn sedge_fop_open(
     limit: u8,
     timer: u16,
 ) -> u8
-    ensures answer { result ≡ status_of (sender_opened width window limit timer) }
-    ensures sender { sender.new
-        ≡ left_by kept_of (sender_opened width window limit timer) sender.old }
-    ensures describes { AreDescribed sender.new (sender_opened width window limit timer) }
+    ensures { IsAnswered (sender_opened width window limit timer) sender.old sender.new result }
 {
     match Sender::new(width, window, limit, timer) {
         Ok(opened) => {
@@ -66,9 +63,7 @@ pub extern "C" fn sedge_fop_open(
 /// 6 `NotOpen` in S6, or 7 `Busy` where one waits already.
 #[unsafe(no_mangle)]
 pub extern "C" fn sedge_fop_submit(sender: &mut KeptSender) -> u8
-    ensures answer { result ≡ status_of (submitted sender.old) }
-    ensures sender { sender.new ≡ left_by kept_of (submitted sender.old) sender.old }
-    ensures describes { AreDescribed sender.new (submitted sender.old) }
+    ensures { IsAnswered (submitted sender.old) sender.old sender.new result }
 {
     match described(sender) {
         Ok(mut machine) => match machine.submit() {

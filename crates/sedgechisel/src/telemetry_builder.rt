@@ -11,7 +11,7 @@ ghost use Rattle.sedgechisel.specs.Builders.{pending_of, has_numbers, is_builder
 use crate::assembly::add;
 use crate::numbers::{DAMAGED, WRONG_COUNT};
 use space_packet::packet_len;
-use tm_link::{TmFault, Turn, can_build, can_queue, idle_behind, put_next, rest_behind};
+use tm_link::{TmFault, Turn, can_build, can_queue, idle_left_after, put_next, rest_after_packets};
 
 /// A builder of telemetry frames (CCSDS 132.0-B-3, 4.2): where the octets that are to be sent stand in the memory, how
 /// many of them are left of the packet that was begun, the identifiers, the octets of a frame, the next frame's count,
@@ -148,7 +148,7 @@ fn is_builder(builder: &KeptBuilder, memory: &[u8]) -> bool
     ensures { result ≡ is_builder builder.now memory.now }
 {
     has_numbers(builder, memory.len())
-        && rest_behind(&pending(builder, memory)[builder.begun..]).is_empty()
+        && rest_after_packets(&pending(builder, memory)[builder.begun..]).is_empty()
 }
 
 fn has_numbers(builder: &KeptBuilder, room: usize) -> bool
@@ -243,8 +243,8 @@ fn send(builder: &mut KeptBuilder, memory: &[u8])
     let idle_left = builder.idle_left as usize;
     let room = size - idle_left.min(size);
     let passed = room.min(builder.count);
-    let left = idle_behind(size, idle_left, builder.count);
-    builder.begun = begun_behind(
+    let left = idle_left_after(size, idle_left, builder.count);
+    builder.begun = begun_after(
         &pending(builder, memory)[builder.begun..],
         builder.begun,
         room,
@@ -256,7 +256,7 @@ fn send(builder: &mut KeptBuilder, memory: &[u8])
 
 // How many octets are left of the packet that is begun, once this many octets were sent of the packet that was begun
 // and of those after it.
-fn begun_behind(packets: &[u8], begun: usize, count: usize) -> usize
+fn begun_after(packets: &[u8], begun: usize, count: usize) -> usize
     ensures { result ≡ (left_after count begun (map length (packets_in packets.now))).0 }
 {
     let mut rest = packets;

@@ -5,7 +5,7 @@ ghost use Rattle.space_packet.specs.Packets.{rest_in};
 ghost use Rattle.tm_link.specs.Extraction.{completed_packet, continued_part, opened_part, part_after, without_idle};
 ghost use Rattle.tm_link.specs.Layout.{pointer_fits};
 ghost use Rattle.sedgechisel.specs.Answers.{status_of};
-ghost use Rattle.sedgechisel.specs.Extractors.{is_extractor, extracted_at, extracted_described, DescribesExtracted, GoesOn, StandsBehind, last_of, place_behind, gap_at, is_extracted, packets_from, octets_at, need_of, joined_by, joined_len, ending_behind};
+ghost use Rattle.sedgechisel.specs.Extractors.{is_extractor, extracted_at, extracted_described, DescribesExtracted, GoesOn, StandsAfter, last_of, place_over_gap, gap_at, is_extracted, packets_from, octets_at, need_of, joined_by, joined_len, ending_after};
 ghost use Rattle.sedgechisel.specs.Fields.{IsKept};
 
 use crate::assembly::add;
@@ -14,7 +14,8 @@ use crate::part::Part;
 use crate::report_frame::{ReportFrame, pointer_from};
 use space_packet::packet_len;
 use tm_link::{
-    Ending, Gap, Pointer, TmFault, ending_with, gap_behind, is_idle_with, is_lost, rest_behind,
+    Ending, Gap, Pointer, TmFault, ending_with, gap_before, is_idle_with, is_lost,
+    rest_after_packets,
 };
 
 /// An extractor of packets (CCSDS 132.0-B-3, 4.3.2): where the part of a packet stands in the memory, the last frame's
@@ -69,8 +70,8 @@ pub extern "C" fn sedge_tm_extractor_frame(
     if !is_pointer_within(pointer, payload.len()) {
         return TmFault::FieldRange.number();
     }
-    let gap = gap_behind(last_of(extractor), frame.vc_count);
-    match take_field(part_behind(gap, extractor), pointer, payload, memory) {
+    let gap = gap_before(last_of(extractor), frame.vc_count);
+    match take_field(part_over_gap(gap, extractor), pointer, payload, memory) {
         Some(kept) => {
             *taken = taken_with(gap, kept.joined, packets_from(pointer, payload.len()));
             *extractor = KeptExtractor {
@@ -94,7 +95,7 @@ pub extern "C" fn sedge_tm_packet(octets: &[u8], packet: &mut Part) -> bool
     if packet.from > octets.len() || packet.count > octets.len() - packet.from {
         return false;
     }
-    match packet_behind(octets, packet.from + packet.count) {
+    match packet_after(octets, packet.from + packet.count) {
         Some(found) => {
             *packet = found;
             true
@@ -104,9 +105,9 @@ pub extern "C" fn sedge_tm_packet(octets: &[u8], packet: &mut Part) -> bool
 }
 
 // The first packet from a place on that isn't idle.
-fn packet_behind(octets: &[u8], place: usize) -> Option<Part>
+fn packet_after(octets: &[u8], place: usize) -> Option<Part>
     requires { place ≤ length octets.now }
-    ensures { StandsBehind octets.now place result }
+    ensures { StandsAfter octets.now place result }
 {
     let mut from = place;
     while let Some(len) = packet_len(&octets[from..]) {
@@ -147,8 +148,8 @@ fn last_of(extractor: &KeptExtractor) -> Option<u8>
 }
 
 // Where the part stands, which is dropped where frames are missing.
-fn part_behind(gap: Gap, extractor: &KeptExtractor) -> Part
-    ensures { result ≡ place_behind gap extractor.now }
+fn part_over_gap(gap: Gap, extractor: &KeptExtractor) -> Part
+    ensures { result ≡ place_over_gap gap extractor.now }
 {
     if is_lost(gap) {
         return Part { from: 0, count: 0 };
@@ -165,20 +166,15 @@ fn taken_with(gap: Gap, joined: usize, from: usize) -> TakenFrame
     ensures packets { result.packets ≡ record { from = from; count = 0 } }
     ensures first { (nat_lt result.first 2 && ((result.first == 0) || (result.lost == 0))) ≡ true }
 {
-    let packets = Part { from, count: 0 };
-    match gap {
-        Gap::First => TakenFrame {
-            joined,
-            packets,
-            first: 1,
-            lost: 0,
-        },
-        Gap::Lost(lost) => TakenFrame {
-            joined,
-            packets,
-            first: 0,
-            lost,
-        },
+    let (first, lost) = match gap {
+        Gap::First => (1, 0),
+        Gap::Lost(lost) => (0, lost),
+    };
+    TakenFrame {
+        joined,
+        packets: Part { from, count: 0 },
+        first,
+        lost,
     }
 }
 
@@ -235,7 +231,7 @@ fn go_on(part: Part, octets: &[u8], memory: &mut [u8]) -> Option<Kept>
         (continued_part (octets_at part memory.old) octets.now)) }
     ensures none { IfNone result (memory.new ≡ memory.old) }
 {
-    if ending_behind(part, octets, memory) != Ending::Short {
+    if ending_after(part, octets, memory) != Ending::Short {
         return start(part, octets, &octets[..0], memory);
     }
     if memory.len() < part.count + octets.len() {
@@ -282,7 +278,7 @@ fn joined_len(part: Part, octets: &[u8], memory: &[u8]) -> usize
     ensures packet { without_idle (completed_packet (octets_at part memory.now) octets.now)
         ≡ (if result == 0 then [] else (octets_at part memory.now ++ octets.now) ∷ []) }
 {
-    if ending_behind(part, octets, memory) != Ending::Whole {
+    if ending_after(part, octets, memory) != Ending::Whole {
         return 0;
     }
     if is_idle_with(&memory[part.from..part.from + part.count], octets) {
@@ -292,9 +288,9 @@ fn joined_len(part: Part, octets: &[u8], memory: &[u8]) -> usize
 }
 
 // How the part and the octets after it end, where there is a part.
-fn ending_behind(part: Part, octets: &[u8], memory: &[u8]) -> Ending
+fn ending_after(part: Part, octets: &[u8], memory: &[u8]) -> Ending
     requires { part.from + part.count ≤ length memory.now }
-    ensures { result ≡ ending_behind (octets_at part memory.now) octets.now }
+    ensures { result ≡ ending_after (octets_at part memory.now) octets.now }
 {
     if part.count == 0 {
         return Ending::Wrong;
@@ -318,7 +314,7 @@ fn join(part: Part, octets: &[u8], memory: &mut [u8]) -> usize
 fn opened(octets: &[u8]) -> &[u8]
     ensures { result.now ≡ opened_part (rest_in octets.now) }
 {
-    let rest = rest_behind(octets);
+    let rest = rest_after_packets(octets);
     if ending_with(rest, &rest[..0]) == Ending::Short {
         return rest;
     }

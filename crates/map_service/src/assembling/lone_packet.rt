@@ -17,8 +17,9 @@ impl Assembler {
 
     /// The packet that an alone segment is, in the segment's own octets, where `take` would hand out
     /// just this, drop nothing and change nothing, so that the segment need not be taken: its MAP is
-    /// open and no part is, there is no blocking, and it is exactly one packet of at most
-    /// `max_packet` octets. None for any other segment. It takes no memory.
+    /// open and no part is, there is no blocking, and it is exactly one packet of at most `max_packet`
+    /// octets. `None` for any other segment.
+    /// Cost: n.
     pub fn lone_packet<'a>(&self, segment: &Segment<'a>) -> Option<&'a [u8]>
         ensures packet { option_map (λ octets. octets.now) result
             ≡ lone_packet self.now (segment_view segment.now) }

@@ -3,11 +3,11 @@
 ghost use Rattle.std.specs.Prelude.{◌≡◌, Ok};
 ghost use Rattle.octets.specs.Outcome.{map_ok};
 ghost use Rattle.cop1.specs.SenderFields.{numbers_of};
-ghost use Rattle.sedgechisel.specs.Receivers.{flag_number};
 ghost use Rattle.sedgechisel.specs.Senders.{mode_number, ticks_number, control_number, control_vr, kept_of, mode_at, ticks_at, control_at, flag_at, fields_described, sender_described};
 
 use super::KeptSender;
 use crate::numbers::DAMAGED;
+use crate::receiver::number_of_flag;
 use cop1::{Control, FopMode, Sender, SenderFields};
 use tc_frame::Command;
 
@@ -121,12 +121,6 @@ fn flag_from(number: u8) -> Option<bool>
         1 => Some(true),
         _ => None,
     }
-}
-
-fn number_of_flag(flag: bool) -> u8
-    ensures { result ≡ flag_number flag }
-{
-    u8::from(flag)
 }
 
 fn ticks_from(number: u16) -> Option<u16>

@@ -1,9 +1,7 @@
 // The directives to the sender (CCSDS 232.1-B-2, 5.2.4).
 
-ghost use Rattle.std.specs.Prelude.{◌≡◌};
 ghost use Rattle.cop1.specs.declared.vocabulary.Directive.{Directive};
-ghost use Rattle.sedgechisel.specs.Answers.{status_of, left_by};
-ghost use Rattle.sedgechisel.specs.Senders.{kept_of, directed, AreDescribed};
+ghost use Rattle.sedgechisel.specs.Senders.{directed, IsAnswered};
 
 use super::KeptSender;
 use super::describing::{described, kept};
@@ -13,10 +11,7 @@ use cop1::Directive;
 /// Answers 0, or 8 `WrongState` outside S6, or 255 where it is damaged.
 #[unsafe(no_mangle)]
 pub extern "C" fn sedge_fop_init_without_check(sender: &mut KeptSender) -> u8
-    ensures answer { result ≡ status_of (directed sender.old Directive.InitWithoutCheck) }
-    ensures sender { sender.new
-        ≡ left_by kept_of (directed sender.old Directive.InitWithoutCheck) sender.old }
-    ensures describes { AreDescribed sender.new (directed sender.old Directive.InitWithoutCheck) }
+    ensures { IsAnswered (directed sender.old Directive.InitWithoutCheck) sender.old sender.new result }
 {
     direct(sender, Directive::InitWithoutCheck)
 }
@@ -25,10 +20,7 @@ pub extern "C" fn sedge_fop_init_without_check(sender: &mut KeptSender) -> u8
 /// Answers 0, or 8 `WrongState` outside S6, or 255 where it is damaged.
 #[unsafe(no_mangle)]
 pub extern "C" fn sedge_fop_init_with_check(sender: &mut KeptSender) -> u8
-    ensures answer { result ≡ status_of (directed sender.old Directive.InitWithCheck) }
-    ensures sender { sender.new
-        ≡ left_by kept_of (directed sender.old Directive.InitWithCheck) sender.old }
-    ensures describes { AreDescribed sender.new (directed sender.old Directive.InitWithCheck) }
+    ensures { IsAnswered (directed sender.old Directive.InitWithCheck) sender.old sender.new result }
 {
     direct(sender, Directive::InitWithCheck)
 }
@@ -37,10 +29,7 @@ pub extern "C" fn sedge_fop_init_with_check(sender: &mut KeptSender) -> u8
 /// Answers 0, or 8 `WrongState` outside S6, or 255 where it is damaged.
 #[unsafe(no_mangle)]
 pub extern "C" fn sedge_fop_init_unlock(sender: &mut KeptSender) -> u8
-    ensures answer { result ≡ status_of (directed sender.old Directive.InitUnlock) }
-    ensures sender { sender.new
-        ≡ left_by kept_of (directed sender.old Directive.InitUnlock) sender.old }
-    ensures describes { AreDescribed sender.new (directed sender.old Directive.InitUnlock) }
+    ensures { IsAnswered (directed sender.old Directive.InitUnlock) sender.old sender.new result }
 {
     direct(sender, Directive::InitUnlock)
 }
@@ -49,10 +38,7 @@ pub extern "C" fn sedge_fop_init_unlock(sender: &mut KeptSender) -> u8
 /// Answers 0, or 8 `WrongState` outside S6, or 255 where it is damaged.
 #[unsafe(no_mangle)]
 pub extern "C" fn sedge_fop_init_set_vr(sender: &mut KeptSender, vr: u8) -> u8
-    ensures answer { result ≡ status_of (directed sender.old (Directive.InitSetVr vr)) }
-    ensures sender { sender.new
-        ≡ left_by kept_of (directed sender.old (Directive.InitSetVr vr)) sender.old }
-    ensures describes { AreDescribed sender.new (directed sender.old (Directive.InitSetVr vr)) }
+    ensures { IsAnswered (directed sender.old (Directive.InitSetVr vr)) sender.old sender.new result }
 {
     direct(sender, Directive::InitSetVr(vr))
 }
@@ -60,10 +46,7 @@ pub extern "C" fn sedge_fop_init_set_vr(sender: &mut KeptSender, vr: u8) -> u8
 /// Gives up: all units are let go of. Answers 0, or 8 `WrongState` in S6, or 255 where it is damaged.
 #[unsafe(no_mangle)]
 pub extern "C" fn sedge_fop_terminate(sender: &mut KeptSender) -> u8
-    ensures answer { result ≡ status_of (directed sender.old Directive.Terminate) }
-    ensures sender { sender.new
-        ≡ left_by kept_of (directed sender.old Directive.Terminate) sender.old }
-    ensures describes { AreDescribed sender.new (directed sender.old Directive.Terminate) }
+    ensures { IsAnswered (directed sender.old Directive.Terminate) sender.old sender.new result }
 {
     direct(sender, Directive::Terminate)
 }
@@ -71,10 +54,7 @@ pub extern "C" fn sedge_fop_terminate(sender: &mut KeptSender) -> u8
 /// Sets V(S), and NN(R) to it. Answers 0, or 8 `WrongState` outside S6, or 255 where it is damaged.
 #[unsafe(no_mangle)]
 pub extern "C" fn sedge_fop_set_vs(sender: &mut KeptSender, vs: u8) -> u8
-    ensures answer { result ≡ status_of (directed sender.old (Directive.SetVs vs)) }
-    ensures sender { sender.new
-        ≡ left_by kept_of (directed sender.old (Directive.SetVs vs)) sender.old }
-    ensures describes { AreDescribed sender.new (directed sender.old (Directive.SetVs vs)) }
+    ensures { IsAnswered (directed sender.old (Directive.SetVs vs)) sender.old sender.new result }
 {
     direct(sender, Directive::SetVs(vs))
 }
@@ -83,10 +63,7 @@ pub extern "C" fn sedge_fop_set_vs(sender: &mut KeptSender, vs: u8) -> u8
 /// Answers 0, or 2 `Window` where it is not 1 to half the width, or 255 where it is damaged.
 #[unsafe(no_mangle)]
 pub extern "C" fn sedge_fop_set_window(sender: &mut KeptSender, window: u8) -> u8
-    ensures answer { result ≡ status_of (directed sender.old (Directive.SetWindow window)) }
-    ensures sender { sender.new
-        ≡ left_by kept_of (directed sender.old (Directive.SetWindow window)) sender.old }
-    ensures describes { AreDescribed sender.new (directed sender.old (Directive.SetWindow window)) }
+    ensures { IsAnswered (directed sender.old (Directive.SetWindow window)) sender.old sender.new result }
 {
     direct(sender, Directive::SetWindow(window))
 }
@@ -94,10 +71,7 @@ pub extern "C" fn sedge_fop_set_window(sender: &mut KeptSender, window: u8) -> u
 /// Sets the transmission limit. Answers 0, or 3 `Limit` for 0, or 255 where it is damaged.
 #[unsafe(no_mangle)]
 pub extern "C" fn sedge_fop_set_limit(sender: &mut KeptSender, limit: u8) -> u8
-    ensures answer { result ≡ status_of (directed sender.old (Directive.SetLimit limit)) }
-    ensures sender { sender.new
-        ≡ left_by kept_of (directed sender.old (Directive.SetLimit limit)) sender.old }
-    ensures describes { AreDescribed sender.new (directed sender.old (Directive.SetLimit limit)) }
+    ensures { IsAnswered (directed sender.old (Directive.SetLimit limit)) sender.old sender.new result }
 {
     direct(sender, Directive::SetLimit(limit))
 }
@@ -105,18 +79,13 @@ pub extern "C" fn sedge_fop_set_limit(sender: &mut KeptSender, limit: u8) -> u8
 /// Sets the timer's value in ticks. Answers 0, or 4 `Timer` for 0, or 255 where it is damaged.
 #[unsafe(no_mangle)]
 pub extern "C" fn sedge_fop_set_timer(sender: &mut KeptSender, timer: u16) -> u8
-    ensures answer { result ≡ status_of (directed sender.old (Directive.SetTimer timer)) }
-    ensures sender { sender.new
-        ≡ left_by kept_of (directed sender.old (Directive.SetTimer timer)) sender.old }
-    ensures describes { AreDescribed sender.new (directed sender.old (Directive.SetTimer timer)) }
+    ensures { IsAnswered (directed sender.old (Directive.SetTimer timer)) sender.old sender.new result }
 {
     direct(sender, Directive::SetTimer(timer))
 }
 
 fn direct(sender: &mut KeptSender, directive: Directive) -> u8
-    ensures answer { result ≡ status_of (directed sender.old directive) }
-    ensures sender { sender.new ≡ left_by kept_of (directed sender.old directive) sender.old }
-    ensures describes { AreDescribed sender.new (directed sender.old directive) }
+    ensures { IsAnswered (directed sender.old directive) sender.old sender.new result }
 {
     match described(sender) {
         Ok(mut machine) => match machine.directive(directive) {

@@ -14,8 +14,8 @@ returns c =
     let behind : take (length c.pending.result.now - begun) (drop begun c.pending.result.now)
     ≡ drop begun (pending_of c.args.builder.now c.args.memory.now) =
     take_rest c.pending.result.now begun ∙ ap (drop begun) c.pending.ensures in
-    send_described c.args.builder.now c.args.memory.now room c.begun_behind-builder.result c.min-passed.result
-    c.idle_behind-left.result size c.requires (omega (arith, c.min.ensures)) c.min-passed.ensures
-    (c.begun_behind-builder.ensures
+    send_described c.args.builder.now c.args.memory.now room c.begun_after-builder.result c.min-passed.result
+    c.idle_left_after-left.result size c.requires (omega (arith, c.min.ensures)) c.min-passed.ensures
+    (c.begun_after-builder.ensures
     ∙ ap (λ (xs : List ℕ). (left_after room begun (map length (packets_in xs))).0) behind)
-    c.idle_behind-left.ensures.value c.idle_behind-left.ensures.most
+    c.idle_left_after-left.ensures.value c.idle_left_after-left.ensures.most

@@ -8,12 +8,12 @@ use Rattle.sedgechisel.proofs.telemetry_extractor.sedge_tm_extractor_frame.Goals
 pub returns-in-Some-clause-describes : goal.returns-in-Some-clause-describes
 returns-in-Some-clause-describes c =
     frame_taken c.args.extractor.now c.args.frame.now c.args.payload.now c.args.memory.now c.take_field.new.memory
-    (octets_at c.part_behind.result c.args.memory.now) c.pointer_from-pointer.result c.gap_behind-gap.result
+    (octets_at c.part_over_gap.result c.args.memory.now) c.pointer_from-pointer.result c.gap_before-gap.result
     c.in-Some.kept c.taken_with.result (sym c.is_whole.ensures ∙ c.if-not-is_whole.false)
     c.pointer_from-pointer.ensures (sym c.is_pointer_within.ensures ∙ c.if-not-is_pointer_within.false)
-    (c.gap_behind-gap.ensures
+    (c.gap_before-gap.ensures
     ∙ ap (λ (o : Option ℕ). gap_of o c.args.frame.now.vc_count) c.last_of.ensures)
-    (ap (λ (p : Part). octets_at p c.args.memory.now) c.part_behind.ensures)
+    (ap (λ (p : Part). octets_at p c.args.memory.now) c.part_over_gap.ensures)
     (not_short _ c.in-Some.ensures.room) c.in-Some.ensures.kept
     c.taken_with.ensures.gap c.taken_with.ensures.joined
     (c.taken_with.ensures.packets ∙ ap begins_at c.packets_from.ensures.from)
