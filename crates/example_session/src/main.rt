@@ -34,12 +34,15 @@ fn main(rt: HostRuntime) -> Result<()> {
         queue_slots: 2,
         ..Config::default()
     };
-    if let Some(field) = config.fault() {
-        println!(rt; "{field} is out of its range")?;
-        return Ok(());
-    }
-    let mut ground = Ground::new(rt.alloc(), &config)?;
-    let mut spacecraft = Spacecraft::new(rt.alloc(), &config)?;
+    let config = match config.valid() {
+        Ok(config) => config,
+        Err(field) => {
+            println!(rt; "{field} is out of its range")?;
+            return Ok(());
+        }
+    };
+    let mut ground = Ground::of(rt.alloc(), &config)?;
+    let mut spacecraft = Spacecraft::of(rt.alloc(), &config)?;
     play(&rt, &mut ground, &mut spacecraft)
 }
 

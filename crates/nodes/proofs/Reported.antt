@@ -11,7 +11,7 @@ use Rattle.map_service.proofs.Handed.{AreWhole, lone_whole, each_whole}
 use Rattle.tm_link.specs.declared.frame.Pointer.{Pointer}
 use Rattle.tm_link.specs.declared.frame.Pointer.TheVariants.{At, NoStart, OnlyIdle}
 use Rattle.tm_link.specs.Extraction.{ExtractorState, ending_by, ending_of, finished_by, completed_packet}
-use Rattle.tm_link.specs.Extraction.{gap_of, part_behind, finished_packets, is_idle, without_idle, extract_step}
+use Rattle.tm_link.specs.Extraction.{gap_of, part_over_gap, finished_packets, is_idle, without_idle, extract_step}
 use Rattle.tm_link.specs.Layout.{FrameView}
 
 pub whole_append : (xs ys : List (List ℕ)) → AreWhole xs → AreWhole ys → AreWhole (xs ++ ys)
@@ -57,5 +57,5 @@ kept_whole (p ∷ ps) h =
 
 pub extracted_whole : (s : ExtractorState) (f : FrameView) → AreWhole (extract_step s f).packets
 extracted_whole s f =
-    let part : List ℕ = part_behind (gap_of s.last f.vc_count) s.part in
+    let part : List ℕ = part_over_gap (gap_of s.last f.vc_count) s.part in
     kept_whole (finished_packets part f.pointer f.payload) (all_whole part f.pointer f.payload)

@@ -1,43 +1,45 @@
 // The managed parameters of the link.
 
-ghost use Rattle.std.specs.Prelude.{◌≡◌, ◌≤◌, ◌↔◌, IsNone};
+ghost use Rattle.std.specs.Prelude.{◌≡◌, ◌≤◌, ◌↔◌, IsNone, Some, IfOk, IfErr};
 ghost use Rattle.std.specs.Option.{option_copied};
 
 use crate::parameter::{PARAMETERS, Parameter};
+use crate::valid_config::ValidConfig;
 use map_service::Limits;
 
-/// The managed parameters, which both nodes keep to. V(R) and V(S) start at 0.
+/// The managed parameters, which both nodes keep to. V(R) and V(S) start at 0. With values of your own:
+/// `Config { scid: 42, ..Config::default() }`.
 #[derive(Clone, Copy, Debug, PartialEq, Eq)]
 pub struct Config {
-    /// The spacecraft identifier, 0 to 1,023.
+    /// The spacecraft identifier, 0 to 1,023; default 1.
     pub scid: u32,
-    /// The virtual channel of telecommand frames, 0 to 63.
+    /// The virtual channel of telecommand frames, 0 to 63; default 2.
     pub vcid: u32,
-    /// The virtual channel of telemetry frames, 0 to 7.
+    /// The virtual channel of telemetry frames, 0 to 7; default 0.
     pub tm_vcid: u32,
-    /// The width of the receiver's window, even, 2 to 254.
+    /// The width of the receiver's window, even, 2 to 254; default 254.
     pub width: u32,
-    /// The sender's window K, 1 to width/2.
+    /// The sender's window K, 1 to width/2; default 127.
     pub window: u32,
-    /// The transmission limit, 1 to 255.
+    /// The transmission limit, 1 to 255; default 3.
     pub limit: u32,
-    /// The timer's value in ticks, 1 to 65,535.
+    /// The timer's value in ticks, 1 to 65,535; default 10.
     pub timer: u32,
-    /// The most octets of data in a segment, 1 to 1,016.
+    /// The most octets of data in a segment, 1 to 1,016; default 1,016.
     pub part: u32,
-    /// The most octets of a packet, 7 to 65,542.
+    /// The most octets of a packet, 7 to 65,542; default 65,542.
     pub max_packet: u32,
-    /// Any 64 bits: bit m, which counts 2 to the power of m, says that MAP m is open.
+    /// Bit m, which counts 2 to the power of m, says that MAP m is open, any 64 bits; default all ones.
     pub maps: u64,
-    /// The number of packets waiting to be taken at which the buffer on board is full, 1 to 64.
+    /// The number of packets waiting to be taken at which the buffer on board is full, 1 to 64; default 64.
     pub ready_slots: u32,
-    /// The most packets of bypass frames that wait to be taken, 1 to 64.
+    /// The most packets of bypass frames that wait to be taken, 1 to 64; default 4.
     pub bypass_slots: u32,
-    /// The most units that wait to be sent for the first time, 1 to 65,535.
+    /// The most units that wait to be sent for the first time, 1 to 65,535; default 1,000.
     pub queue_slots: u32,
-    /// The octets of a telemetry frame, 16 to 2,048.
+    /// The octets of a telemetry frame, 16 to 2,048; default 64.
     pub frame_length: u32,
-    /// 0 to 1: 1 where a segment may hold several packets.
+    /// 1 where a segment may hold several packets, 0 to 1; default 0.
     pub blocking: u32,
 }
 
@@ -70,13 +72,30 @@ impl Default for Config {
 impl Config {
     ghost use Rattle.nodes.specs.Parameters.{value_of, greatest_of, with_value, is_in_range, out_of_range, config_fault, IsConfig, limits_of};
 
-    /// The name of the first field that is out of its range.
+    /// The name of the first field that is out of its range; where there is none, a `Ground` and a
+    /// `Spacecraft` may be made.
     pub fn fault(&self) -> Option<&'static str>
         ensures fault { option_copied result ≡ config_fault self.now }
         ensures none { IsNone result ↔ IsConfig self.now }
     {
-        let parameter = self.out_of_range()?;
-        Some(parameter.name())
+        match self.out_of_range() {
+            Some(parameter) => Some(parameter.name()),
+            None => None,
+        }
+    }
+
+    /// This configuration as one that is valid; the fault is the name of the first field that is out of
+    /// its range.
+    /// Faults: the field's name. Cost: 1.
+    pub fn valid(&self) -> Result<ValidConfig, &'static str>
+        ensures valid { IfOk result (λ valid. valid ≡ self.now) }
+        ensures sound { IfOk result (λ _. IsConfig self.now) }
+        ensures fault { IfErr result (λ name. config_fault self.now ≡ Some name.now) }
+    {
+        match self.fault() {
+            None => Ok(ValidConfig::of(self)),
+            Some(name) => Err(name),
+        }
     }
 
     /// The value of a parameter.
@@ -102,7 +121,8 @@ impl Config {
         }
     }
 
-    /// Gives a parameter this value, in its range or not; it has to fit the parameter's field.
+    /// Gives a parameter this value, in its range or not. It has to fit the parameter's field: below
+    /// 2^32, for `maps` below 2^64.
     pub fn set(&mut self, parameter: Parameter, value: u64)
         requires { value ≤ greatest_of parameter }
         ensures { self.new ≡ with_value self.old parameter value }

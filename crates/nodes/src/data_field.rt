@@ -8,7 +8,8 @@ use std::alloc::Global;
 use tc_frame::Segment;
 
 /// The data field of a frame that carries this segment: the octet of its header, and its data (CCSDS
-/// 232.0-B-4, 4.1.3). The fault is 6 `Memory`.
+/// 232.0-B-4, 4.1.3).
+/// Faults: 6 Memory. Memory: yes. Cost: n.
 pub fn data_field_of(alloc: Global, segment: &Segment<'_>) -> Result<Vec<u8>, LinkFault>
     requires { segment.now.header.map < 64 }
     ensures field { IfOk result (λ v. v.items ≡ segment_octets (segment_view segment.now)) }

@@ -8,6 +8,7 @@ mod submitting;
 use crate::config::Config;
 use crate::fault::LinkFault;
 use crate::owned_segment::OwnedSegment;
+use crate::valid_config::ValidConfig;
 use cop1::{Alert, CopFault, Directive, Fop, FopMode};
 use std::alloc::Global;
 use std::collections::VecDeque;
@@ -48,28 +49,26 @@ impl Ground {
     ghost use Rattle.cop1.specs.Accepted.{accepted_beyond};
     ghost use Rattle.cop1.specs.Units.{IsFop};
     ghost use Rattle.nodes.specs.Ground.{new_ground, ground_step, Direct, Tick, TakeTelemetry, settle_step, outstanding};
+    ghost use Rattle.nodes.specs.Parameters.{IsConfig};
 
-    /// A ground that has sent nothing, its sender in S6, with each field of the configuration in its
-    /// range. The fault is 6 `Memory`.
+    /// A ground that has sent nothing, its sender in S6. Each field has to be in its range: of a
+    /// configuration that is known only when the program runs, use `Config::valid` and `of`.
+    /// Faults: 6 Memory. Memory: yes.
     pub fn new(alloc: Global, config: &Config) -> Result<Ground, LinkFault>
-        requires scid { config.now.scid ≤ 1023 }
-        requires vcid { config.now.vcid ≤ 63 }
-        requires tm_vcid { config.now.tm_vcid ≤ 7 }
-        requires even { config.now.width % 2 ≡ 0 }
-        requires width { (2 ≤ config.now.width) × (config.now.width ≤ 254) }
-        requires window { (1 ≤ config.now.window) × (config.now.window ≤ config.now.width / 2) }
-        requires limit { (1 ≤ config.now.limit) × (config.now.limit ≤ 255) }
-        requires timer { (1 ≤ config.now.timer) × (config.now.timer ≤ 65535) }
-        requires part { (1 ≤ config.now.part) × (config.now.part ≤ 1016) }
-        requires max_packet { (7 ≤ config.now.max_packet) × (config.now.max_packet ≤ 65542) }
-        requires ready_slots { (1 ≤ config.now.ready_slots) × (config.now.ready_slots ≤ 64) }
-        requires bypass_slots { (1 ≤ config.now.bypass_slots) × (config.now.bypass_slots ≤ 64) }
-        requires queue_slots { (1 ≤ config.now.queue_slots) × (config.now.queue_slots ≤ 65535) }
-        requires frame_length { (16 ≤ config.now.frame_length) × (config.now.frame_length ≤ 2048) }
-        requires blocking { config.now.blocking ≤ 1 }
+        requires { IsConfig config.now }
         ensures made { IfOk result (λ g. g ≡ new_ground config.now) }
         ensures fault { IsOkUnless result LinkFault.Memory }
     {
+        Ground::of(alloc, &ValidConfig::of(config))
+    }
+
+    /// A ground as `new` makes it, of a configuration that `Config::valid` judged; nothing is asked.
+    /// Faults: 6 Memory. Memory: yes.
+    pub fn of(alloc: Global, valid: &ValidConfig) -> Result<Ground, LinkFault>
+        ensures made { IfOk result (λ g. g ≡ new_ground valid.now) }
+        ensures fault { IsOkUnless result LinkFault.Memory }
+    {
+        let config = valid.config();
         let Ok(fop) = Fop::new(
             alloc,
             config.width as u8,
@@ -135,16 +134,17 @@ impl Ground {
         self.config.frame_length as usize
     }
 
-    /// How many segments were submitted and are not acknowledged.
+    /// How many segments were submitted and are not acknowledged; 0 after an alert.
     pub fn outstanding(&self) -> usize
         ensures { result ≡ length (outstanding self.now) }
     {
         self.fop.sent() + usize::from(self.fop.waiting()) + self.pending.len()
     }
 
-    /// Follows a directive; the alert is that of `Terminate` (CCSDS 232.1-B-2, table 5-1). The
-    /// faults are those of the sender: 2 `Window`, 3 `Limit`, 4 `Timer` for a value out of its
-    /// range, 8 `WrongState`.
+    /// Follows a directive; the alert is that of `Terminate` (CCSDS 232.1-B-2, table 5-1). Refuses as
+    /// the sender does.
+    /// Faults: those of `CopFault`, 2 Window, 3 Limit, 4 Timer, 8 WrongState. Cost: 1; for `Terminate`
+    /// the number of segments released.
     pub fn directive(&mut self, directive: Directive) -> Result<Option<Alert>, CopFault>
         ensures answer { result ≡ (ground_step self.old (Direct directive)).answer }
         ensures after { self.new ≡ (ground_step self.old (Direct directive)).after }
@@ -157,6 +157,7 @@ impl Ground {
 
     /// A tick of the clock has passed; an alert where the sender gives up (CCSDS 232.1-B-2, table
     /// 5-1).
+    /// Cost: the number of segments released.
     pub fn tick(&mut self) -> Option<Alert>
         ensures answer { result ≡ (ground_step self.old Tick).answer }
         ensures after { self.new ≡ (ground_step self.old Tick).after }

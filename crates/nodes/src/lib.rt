@@ -20,6 +20,7 @@ mod parameter;
 mod received;
 mod segment_log;
 mod spacecraft;
+mod valid_config;
 
 pub use config::Config;
 pub use data_field::data_field_of;
@@ -30,3 +31,4 @@ pub use laws::law_of_delivery;
 pub use parameter::{PARAMETERS, Parameter};
 pub use received::Received;
 pub use spacecraft::{Arrival, Spacecraft};
+pub use valid_config::ValidConfig;

@@ -100,7 +100,8 @@ impl Parameter {
         row.least <= value && value <= row.most
     }
 
-    /// The parameter that has this name.
+    /// The parameter that has this name, as a script has it.
+    /// Cost: n.
     pub fn named(name: &[u8]) -> Option<Parameter>
         ensures { result ≡ parameter_named name.now }
     {

@@ -8,6 +8,7 @@ use crate::config::Config;
 use crate::fault::LinkFault;
 use crate::map_packet::MapPacket;
 use crate::segment_log::SegmentLog;
+use crate::valid_config::ValidConfig;
 pub use arrival::Arrival;
 use circular_buffer::HeapCircularBuffer;
 use clcw::{Clcw, encode};
@@ -57,28 +58,26 @@ impl Spacecraft {
     ghost use Rattle.tm_link.specs.Writing.{spelling};
     ghost use Rattle.nodes.specs.Spacecraft.{new_spacecraft, spacecraft_step, Take, TakeBypass, Telemetry, Report, IsOwnFrame};
     ghost use Rattle.nodes.specs.Packets.{packet_view, lent_packet};
+    ghost use Rattle.nodes.specs.Parameters.{IsConfig};
 
-    /// A spacecraft that has received nothing, with each field of the configuration in its range. The
-    /// fault is 6 `Memory`.
+    /// A spacecraft that has received nothing. Each field has to be in its range: of a configuration
+    /// that is known only when the program runs, use `Config::valid` and `of`.
+    /// Faults: 6 Memory. Memory: yes.
     pub fn new(alloc: Global, config: &Config) -> Result<Spacecraft, LinkFault>
-        requires scid { config.now.scid ≤ 1023 }
-        requires vcid { config.now.vcid ≤ 63 }
-        requires tm_vcid { config.now.tm_vcid ≤ 7 }
-        requires even { config.now.width % 2 ≡ 0 }
-        requires width { (2 ≤ config.now.width) × (config.now.width ≤ 254) }
-        requires window { (1 ≤ config.now.window) × (config.now.window ≤ config.now.width / 2) }
-        requires limit { (1 ≤ config.now.limit) × (config.now.limit ≤ 255) }
-        requires timer { (1 ≤ config.now.timer) × (config.now.timer ≤ 65535) }
-        requires part { (1 ≤ config.now.part) × (config.now.part ≤ 1016) }
-        requires max_packet { (7 ≤ config.now.max_packet) × (config.now.max_packet ≤ 65542) }
-        requires ready_slots { (1 ≤ config.now.ready_slots) × (config.now.ready_slots ≤ 64) }
-        requires bypass_slots { (1 ≤ config.now.bypass_slots) × (config.now.bypass_slots ≤ 64) }
-        requires queue_slots { (1 ≤ config.now.queue_slots) × (config.now.queue_slots ≤ 65535) }
-        requires frame_length { (16 ≤ config.now.frame_length) × (config.now.frame_length ≤ 2048) }
-        requires blocking { config.now.blocking ≤ 1 }
+        requires { IsConfig config.now }
         ensures made { IfOk result (λ spacecraft. spacecraft ≡ new_spacecraft config.now) }
         ensures fault { IsOkUnless result LinkFault.Memory }
     {
+        Spacecraft::of(alloc, &ValidConfig::of(config))
+    }
+
+    /// A spacecraft as `new` makes it, of a configuration that `Config::valid` judged; nothing is asked.
+    /// Faults: 6 Memory. Memory: yes.
+    pub fn of(alloc: Global, valid: &ValidConfig) -> Result<Spacecraft, LinkFault>
+        ensures made { IfOk result (λ spacecraft. spacecraft ≡ new_spacecraft valid.now) }
+        ensures fault { IsOkUnless result LinkFault.Memory }
+    {
+        let config = valid.config();
         let Ok(farm) = Farm::new(config.width as u8, 0) else {
             unreachable!()
         };
@@ -164,9 +163,9 @@ impl Spacecraft {
         }
     }
 
-    /// Queues a packet to be sent as telemetry (CCSDS 132.0-B-3, 4.2.2). Refuses by 8 `NotAPacket`
-    /// octets that are not exactly one packet, or an idle packet, and then by 7 `Memory`; the
-    /// spacecraft is as it was then.
+    /// Queues a packet to be sent as telemetry (CCSDS 132.0-B-3, 4.2.2). Refuses octets that are not
+    /// exactly one packet, or an idle packet. At a fault the spacecraft is as it was.
+    /// Faults: those of `TmFault`, 8 NotAPacket, then 7 Memory. Memory: yes. Cost: n*.
     pub fn telemetry(&mut self, packet: &[u8]) -> Result<(), TmFault>
         ensures ok { OnOk result
             (self.new ≡ (spacecraft_step self.old (Telemetry packet.now)).after) }
@@ -202,6 +201,7 @@ impl Spacecraft {
 
     /// Writes the next telemetry frame, which reports on the receiver, at the beginning of `out`,
     /// and says how many octets it has (CCSDS 132.0-B-3, 4.1). Octets past it stay.
+    /// Cost: n and the number of packets that end in the frame.
     pub fn report(&mut self, out: &mut [u8; 2048]) -> usize
         ensures count { result ≡ self.old.config.frame_length }
         ensures frame { out.new

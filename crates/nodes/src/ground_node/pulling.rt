@@ -41,6 +41,7 @@ impl Ground {
     /// Takes the frame that goes on the link next: writes it, with its check, at the beginning of
     /// `out`, and says how many octets it has (CCSDS 232.0-B-4, 4.1). Octets past it stay, and all
     /// where there is none.
+    /// Cost: n.
     pub fn pull(&mut self, out: &mut [u8; 1024]) -> Option<usize>
         ensures count { result ≡ size_of (ground_step self.old Pull).answer }
         ensures frame { out.new ≡ written_over out.old (ground_step self.old Pull).answer }

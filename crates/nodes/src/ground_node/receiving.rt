@@ -14,8 +14,10 @@ impl Ground {
 
     /// Takes octets that came from the spacecraft: exactly one telemetry frame (CCSDS 132.0-B-3, 4.1).
     /// The packets that it finishes wait to be taken, and the report that it carries goes to the sender
-    /// where it is of this virtual channel. The fault is 6 `Memory`; all growths are made first, so
-    /// that the ground is as it was then.
+    /// where it is of this virtual channel. All growths are made first: at a fault the ground is as it
+    /// was.
+    /// Faults: 6 Memory. Memory: only where a packet is finished. Cost: n, the packets finished and the
+    /// segments released.
     pub fn telemetry(&mut self, octets: &[u8]) -> Result<Heard, LinkFault>
         ensures answer { IfOk result
             (λ heard. heard ≡ (ground_step self.old (Telemetry octets.now)).answer) }

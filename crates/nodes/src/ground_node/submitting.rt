@@ -23,6 +23,8 @@ impl Ground {
     /// 1 `NotOpen` (in S6), 2 `ClosedMap`, 3 `NotCommand`, 4 `TooLong`, 5 `QueueFull` (more
     /// segments than the queue slots would wait to be sent), 6 `Memory`; and then the ground is as
     /// it was.
+    /// Faults: 1 NotOpen, 2 ClosedMap, 3 NotCommand, 4 TooLong, 5 QueueFull, 6 Memory. Memory: yes.
+    /// Cost: n.
     pub fn submit(&mut self, map: u8, octets: &[u8]) -> Result<(), LinkFault>
         ensures after { OnOk result
             (self.new ≡ (ground_step self.old (Submit map octets.now)).after) }
@@ -41,6 +43,8 @@ impl Ground {
 
     /// Judges and cuts the packets that are to be submitted, and takes the memory that this needs.
     /// Nothing changes. Refuses as `submit` does, in the same order.
+    /// Faults: 1 NotOpen, 2 ClosedMap, 3 NotCommand, 4 TooLong, 5 QueueFull, 6 Memory. Memory: yes.
+    /// Cost: n.
     pub fn prepare<'a>(&self, map: u8, octets: &'a [u8]) -> Result<Submission<'a>, LinkFault>
         ensures given { IfOk result (λ b. (b.map ≡ map) × (b.octets.now ≡ octets.now)) }
         ensures submission { IfOk result (IsSubmissionAt self.now) }
@@ -72,7 +76,8 @@ impl Ground {
         })
     }
 
-    /// Takes the packets that were prepared, since when nothing has changed. It takes no memory.
+    /// Takes the packets that were prepared; the ground must be as it was then.
+    /// Cost: the number of segments.
     pub fn commit(&mut self, submission: Submission<'_>)
         requires { IsSubmissionAt self.old submission }
         ensures { self.new
@@ -151,6 +156,7 @@ impl Ground {
     /// (CCSDS 232.0-B-4, 4.3). The first that applies: 2 `ClosedMap`, 3 `NotCommand`, 4 `TooLong`
     /// (longer than a packet or than a segment may be), 5 `QueueFull`, 6 `Memory`; and then the
     /// ground is as it was.
+    /// Faults: 2 ClosedMap, 3 NotCommand, 4 TooLong, 5 QueueFull, 6 Memory. Memory: yes. Cost: n.
     pub fn bypass(&mut self, map: u8, octets: &[u8]) -> Result<(), LinkFault>
         ensures after { OnOk result
             (self.new ≡ (ground_step self.old (Bypass map octets.now)).after) }

@@ -23,8 +23,9 @@ impl Spacecraft {
     ghost use Rattle.nodes.specs.Spacecraft.{spacecraft_step, Receive, is_free, is_own_frame, is_accepted, HandsNothingOn, after_segment, body_outcome, receive_sequence_step, receive_bypass_step};
 
     /// Takes octets that came from the ground: exactly one telecommand frame, with its check (CCSDS
-    /// 232.0-B-4, 4.1). It is `prepare` and then `commit`. The fault is 6 `Memory`; the spacecraft is
-    /// as it was then.
+    /// 232.0-B-4, 4.1). It is `prepare` and then `commit`. At a fault the spacecraft is as it was.
+    /// Faults: 6 Memory. Memory: only for a Type-AD frame that is accepted or a Type-BD frame that is
+    /// kept. Cost: n*, and the packets made ready.
     pub fn receive(&mut self, octets: &[u8]) -> Result<Received, LinkFault>
         ensures answer { IfOk result
             (λ r. r ≡ (spacecraft_step self.old (Receive octets.now)).answer) }
@@ -40,8 +41,9 @@ impl Spacecraft {
         Ok(self.commit(arrival))
     }
 
-    /// Finds out what comes of octets, and takes the memory that this needs. Nothing changes. The
-    /// fault is 6 `Memory`.
+    /// Finds out what comes of octets, and takes the memory that this needs. Nothing changes.
+    /// Faults: 6 Memory. Memory: only for a Type-AD frame that is accepted or a Type-BD frame that is
+    /// kept. Cost: n*, and the packets made ready.
     pub fn prepare<'a>(&self, octets: &'a [u8]) -> Result<Arrival<'a>, LinkFault>
         ensures octets { IfOk result (λ a. a.octets.now ≡ octets.now) }
         ensures arrival { IfOk result (IsArrivalAt self.now) }
@@ -66,8 +68,8 @@ impl Spacecraft {
         }
     }
 
-    /// Takes the octets of which this was prepared, since when nothing has changed. It takes no
-    /// memory.
+    /// Takes the octets of which this was prepared; the spacecraft must be as it was then.
+    /// Cost: n.
     pub fn commit(&mut self, arrival: Arrival<'_>) -> Received
         requires { IsArrivalAt self.old arrival }
         ensures answer { result ≡ (spacecraft_step self.old (Receive arrival.entry.octets.now)).answer }

@@ -11,15 +11,15 @@ none_where_in_range None c is = (λ _. config_is c (sym is), λ _. refl)
 none_where_in_range (Some name) c is =
     (λ h. absurd cc, λ h. let none : option_copied (Some name) ≡ None = is ∙ no_fault c h in absurd cc)
 
-pub returns-in_err-parameter-clause-fault : goal.returns-in_err-parameter-clause-fault
-returns-in_err-parameter-clause-fault c = search rules
+pub returns-in-None-clause-fault : goal.returns-in-None-clause-fault
+returns-in-None-clause-fault c = search rules
 
-pub returns-in_err-parameter-clause-none : goal.returns-in_err-parameter-clause-none
-returns-in_err-parameter-clause-none c =
-    none_where_in_range c.from_residual.result c.args.self.now (returns-in_err-parameter-clause-fault c)
+pub returns-in-None-clause-none : goal.returns-in-None-clause-none
+returns-in-None-clause-none c = none_where_in_range None c.args.self.now (returns-in-None-clause-fault c)
 
-pub returns-clause-fault : goal.returns-clause-fault
-returns-clause-fault c = search rules
+pub returns-in-Some-clause-fault : goal.returns-in-Some-clause-fault
+returns-in-Some-clause-fault c = search rules
 
-pub returns-clause-none : goal.returns-clause-none
-returns-clause-none c = none_where_in_range (Some c.name.result) c.args.self.now (returns-clause-fault c)
+pub returns-in-Some-clause-none : goal.returns-in-Some-clause-none
+returns-in-Some-clause-none c =
+    none_where_in_range (Some c.name.result) c.args.self.now (returns-in-Some-clause-fault c)
