@@ -1,21 +1,16 @@
 -- What is to be accepted is what is accepted.
-use Rattle.std.proofs.Common.{◌≡◌, refl, sym, ap, ◌∙◌, map, option_map, ℕ, List, [], ◌++◌, Bool, true, false}
-use Rattle.std.proofs.Common.{option_to_list, Option, Some, None, Result, Ok, Err, if◌then◌else◌}
-use Rattle.std.proofs.lemmas.List.{append-nil, map-append}
-use Rattle.tc_frame.specs.declared.frame.Check.TheVariants.{On}
-use Rattle.tc_frame.specs.declared.fault.TcFault.{TcFault}
-use Rattle.tc_frame.specs.Layout.{SegmentView, BodyView, Ad, Bd, Bc, FrameView, segment_octets}
+use Rattle.tc_link.proofs.Common.{◌≡◌, refl, sym, ap, ◌∙◌, map, option_map, ℕ, List, [], ◌++◌, Bool, true, false}
+use Rattle.tc_link.proofs.Common.{option_to_list, Option, Some, None, Result, Ok, Err, if◌then◌else◌, append-nil}
+use Rattle.tc_link.proofs.Common.{map-append, On, TcFault, SegmentView, BodyView, Ad, Bd, Bc, segment_octets, Verdict}
+use Rattle.tc_link.proofs.Common.{Accepted, verdict_of, SpacecraftState, SpacecraftOutcome, spacecraft_receive}
+use Rattle.tc_link.proofs.Common.{frame_outcome, body_outcome, sequence_outcome, bypass_outcome, is_free, is_own_frame}
+use Rattle.tc_link.proofs.Common.{is_kept, limits_of, segment_to_accept}
+use Rattle.tc_frame.specs.Layout.{FrameView}
 use Rattle.tc_frame.specs.Reading.{frame_at}
-use Rattle.cop1.specs.declared.farm.Verdict.{Verdict}
-use Rattle.cop1.specs.declared.farm.Verdict.TheVariants.{Accepted}
-use Rattle.cop1.specs.Farm.{verdict_of}
 use Rattle.nodes.specs.declared.received.Received.{Received}
 use Rattle.nodes.specs.declared.received.Received.TheVariants.{Foreign}
-use Rattle.nodes.specs.Spacecraft.{SpacecraftState, SpacecraftOutcome, spacecraft_receive, frame_outcome, body_outcome}
-use Rattle.nodes.specs.Spacecraft.{sequence_outcome, bypass_outcome, is_free, is_own_frame, is_accepted}
-use Rattle.nodes.specs.BypassSegments.{is_kept}
-use Rattle.nodes.specs.Parameters.{limits_of}
-use Rattle.nodes.specs.Acceptance.{segment_in_body, segment_in_frame, segment_to_accept}
+use Rattle.nodes.specs.Spacecraft.{is_accepted}
+use Rattle.nodes.specs.Acceptance.{segment_in_body, segment_in_frame}
 
 same : {A : Type 0} (xs : List A) → xs ≡ xs ++ []
 same xs = sym (append-nil xs)

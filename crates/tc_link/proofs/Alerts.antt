@@ -1,52 +1,28 @@
 -- No alert of a session that had an idle start, by check, Unlock or Set V(R), is a false one.
-use Rattle.std.proofs.Common.{◌≡◌, ℕ, ◌+◌, ◌*◌, ◌/◌, ◌⊎◌, inl, inr, true, false, not, List, [], ◌∷◌, Option, Some, None}
-use Rattle.std.proofs.Common.{Result, Ok, Err, refl, ap, sym, subst, ◌∙◌}
-use Rattle.std.specs.Prelude.{◌==◌}
-use Rattle.std.proofs.lemmas.Bool.{cond_both, eqb-false, not-true}
-use Rattle.clcw.specs.declared.word.Clcw.{Clcw}
-use Rattle.tc_frame.specs.Layout.{SegmentView}
-use Rattle.cop1.specs.declared.fault.CopFault.{CopFault}
-use Rattle.cop1.specs.declared.vocabulary.Alert.{Alert}
-use Rattle.cop1.specs.declared.vocabulary.Alert.TheVariants.{Lockout, NnR, Clcw as ClcwAlert, Synch, Limit, Timer}
-use Rattle.cop1.specs.declared.vocabulary.Alert.TheVariants.{Terminated}
-use Rattle.cop1.specs.declared.vocabulary.Control.TheVariants.{Idle}
-use Rattle.cop1.specs.declared.vocabulary.Directive.{Directive}
-use Rattle.cop1.specs.declared.vocabulary.Directive.TheVariants.{InitWithCheck}
-use Rattle.cop1.specs.declared.vocabulary.FopMode.{FopMode}
-use Rattle.cop1.specs.declared.vocabulary.FopMode.TheVariants.{S1, S2, S3, S4, S5, S6}
-use Rattle.cop1.specs.Farm.{state_of}
-use Rattle.cop1.specs.FopDirective.{directive_step}
-use Rattle.cop1.specs.FopReport.{locks, waits, asks, clcw_step, report_in, report_while_active, report_in_S4, confirms}
-use Rattle.cop1.specs.Units.{FopState, FopOutcome}
-use Rattle.cop1.specs.FopVariables.{IsActive}
-use Rattle.cop1.specs.FopTick.{tick_step}
-use Rattle.cop1.specs.FopWords.{alerts, goes_on}
-use Rattle.tm_link.specs.declared.fault.TmFault.{TmFault}
-use Rattle.nodes.specs.declared.config.Config.{Config}
-use Rattle.tc_link.specs.declared.event.Event.{Event}
-use Rattle.tc_link.specs.declared.event.Event.TheVariants as events
-use Rattle.nodes.specs.declared.fault.LinkFault.{LinkFault}
-use Rattle.nodes.specs.declared.heard.Heard.{Heard}
-use Rattle.nodes.specs.Packets.{PacketOn}
-use Rattle.nodes.specs.Spacecraft.{spacecraft_take, spacecraft_take_bypass, spacecraft_telemetry}
-use Rattle.nodes.specs.Ground.{GroundOutcome, is_closed, unsent_segments}
-use Rattle.nodes.specs.Ground.{submit_fault, after_submission, bypass_fault, after_bypass, unless_refused}
+use Rattle.tc_link.proofs.Common.{◌≡◌, ℕ, ◌+◌, ◌*◌, ◌/◌, ◌⊎◌, inl, inr, true, false, List, [], ◌∷◌, Option, Some, None}
+use Rattle.tc_link.proofs.Common.{Result, Ok, Err, refl, ap, sym, subst, ◌∙◌, eqb-false, Clcw, SegmentView, CopFault}
+use Rattle.tc_link.proofs.Common.{Alert, NnR, Synch, Limit, Directive, InitWithCheck, FopMode, S4, S5, S6, state_of}
+use Rattle.tc_link.proofs.Common.{directive_step, locks, waits, asks, clcw_step, report_in, report_while_active}
+use Rattle.tc_link.proofs.Common.{FopState, FopOutcome, IsActive, tick_step, TmFault, Config, Event, LinkFault, Heard}
+use Rattle.tc_link.proofs.Common.{PacketOn, spacecraft_take, spacecraft_take_bypass, spacecraft_telemetry}
+use Rattle.tc_link.proofs.Common.{GroundOutcome, is_closed, submit_fault, after_submission}
+use Rattle.tc_link.proofs.Common.{bypass_fault, after_bypass, unless_refused, Down, World, WorldOutcome, world_step}
+use Rattle.tc_link.proofs.Common.{down_deliver_step, IsChecked, replied_alert, Rises, obeyed, ticked}
+use Rattle.cop1.specs.declared.vocabulary.Alert.TheVariants.{Lockout, Clcw as ClcwAlert, Timer, Terminated}
 use Rattle.tc_link.specs.Replies.{reply_to_submission, reply_to_directive, reply_to_alert, reply_to_taking}
-use Rattle.tc_link.specs.Replies.{reply_to_telemetry, Down}
-use Rattle.tc_link.specs.World.{World, WorldOutcome, world_step}
-use Rattle.tc_link.specs.World.{down_deliver_step}
-use Rattle.tc_link.specs.Confirmation.{IsChecked}
-use Rattle.tc_link.specs.FalseAlarms.{alert_in, replied_alert, IsUnderCheck, AsksAgain, FirstAsks, HasCause}
-use Rattle.tc_link.proofs.Early.{Begun, IsEarly, AllSame}
-use Rattle.tc_link.proofs.LateTelemetry.{used_is, Coming, report_comes, coming}
-use Rattle.tc_link.proofs.Linked.{Steady, Late, Tells, Reporting}
+use Rattle.tc_link.specs.Replies.{reply_to_telemetry}
+use Rattle.tc_link.specs.FalseAlarms.{alert_in, IsUnderCheck, AsksAgain, FirstAsks, HasCause}
+use Rattle.tc_link.proofs.Early.{IsEarly, AllSame, early_off}
+use Rattle.tc_link.proofs.Hearing.{used_is}
+use Rattle.tc_link.proofs.LateTelemetry.{Comes, coming}
+use Rattle.tc_link.proofs.Linked.{Begun, Late, Tells, Reporting}
+use Rattle.tc_link.proofs.Reported.{IsCause, reported}
 use Rattle.tc_link.proofs.Reports.{IsLate, IsAllowed, active_led, asked}
-use Rattle.tc_link.specs.History.{Rises}
 use Rattle.tc_link.proofs.Transit.{DownIs, Ranks, bit}
 use Rattle.tc_link.proofs.Windows.{report_told}
-use Rattle.cop1.proofs.Obeying.{obeyed}
-use Rattle.cop1.proofs.Ticking.{ticked}
 use Rattle.tc_link.proofs.Leaving.{AtEachLoss, lost, pulled, up_arrives}
+use Rattle.link_events.specs.declared.event.Event.TheVariants as events
+use Rattle.tc_link.proofs.Sound.{Sound}
 
 -- ---- answers without an alert
 
@@ -128,40 +104,37 @@ allowed_cause : (w : World) (r : Clcw) (alert : Alert) → IsAllowed (asks r) w.
 allowed_cause w r Limit allowed first = (refl, first allowed.0, allowed.1)
 allowed_cause w r _ allowed first = elim allowed [ ]
 
-module _ (c : Config) (d : Directive) (base : ℕ) (w : World) (k : Steady c w) (checked : IsChecked d) where
+module _ (c : Config) (d : Directive) (base : ℕ) (w : World) (k : Sound c w) (checked : IsChecked d) where
   first_asks : (b : List ℕ) (bs : List (List ℕ)) (r : Clcw) → w.down ≡ b ∷ bs → Tells c b r → asks r ≡ true
       → FirstAsks w.ground_node.config w.down
-  first_asks b bs r is tells asking = rw (is, k.ground_config) (subst AsksAgain (sym (report_told c b r tells)) asking)
+  first_asks b bs r is tells asking =
+      rw (is, k.ground_node.config) (subst AsksAgain (sym (report_told c b r tells)) asking)
 
   -- what is answered to telemetry is what the sender answers to its report
   heard_alert_is : (b : List ℕ) (bs : List (List ℕ)) (r : Clcw) → Tells c b r
       → alert_in (down_deliver_step w (b ∷ bs)).answer ≡ (clcw_step w.ground_node.fop r).answer
   heard_alert_is b bs r tells =
       ap (λ (o : GroundOutcome Heard). replied_alert (Down o.answer))
-      (used_is c w.ground_node b r k.ground_config tells)
+      (used_is c w.ground_node b r k.ground_node.config tells)
 
   module _ (g : Late c d base w) where
-    active_cause : (r : Clcw) (v : ℕ)
-        → Coming base (c.width / 2) (IsChecked d) w.ground_node.fop g.plain.a g.plain.n g.plain.units
-        (unsent_segments w.ground_node) r v → (asks r ≡ true → FirstAsks w.ground_node.config w.down)
+    active_cause : (r : Clcw) (v : ℕ) → Comes c d base w k g r v
+        → (asks r ≡ true → FirstAsks w.ground_node.config w.down)
         → is_closed w.ground_node.fop.state ≡ false → IsActive w.ground_node.fop.state → (alert : Alert)
         → (report_while_active w.ground_node.fop r).answer ≡ Some alert → HasCause w events.DownDeliver alert
     active_cause r v comes first on runs alert is =
         let p = g.plain in
-        let led = active_led base (c.width / 2) (IsChecked d) w.ground_node.fop p.a p.n r v
-        (report_comes base (c.width / 2) (IsChecked d) w.ground_node.fop p.a p.n p.units
-        (unsent_segments w.ground_node) r v comes on) runs in
+        let led = active_led base (c.width / 2) (IsChecked d) w.ground_node.fop p.a p.n r v (comes on) runs in
         let allowed : IsAllowed (asks r) w.ground_node.fop.limit (Some alert) =
         subst (IsAllowed (asks r) w.ground_node.fop.limit) is (led.2.allowed checked) in
         allowed_cause w r alert allowed first
 
-    late_cause : (r : Clcw) (v : ℕ)
-        → Coming base (c.width / 2) (IsChecked d) w.ground_node.fop g.plain.a g.plain.n g.plain.units
-        (unsent_segments w.ground_node) r v → (asks r ≡ true → FirstAsks w.ground_node.config w.down) → (m : FopMode)
+    late_cause : (r : Clcw) (v : ℕ) → Comes c d base w k g r v
+        → (asks r ≡ true → FirstAsks w.ground_node.config w.down) → (m : FopMode)
         → w.ground_node.fop.state ≡ m → (alert : Alert) → (report_in w.ground_node.fop r m).answer ≡ Some alert
         → HasCause w events.DownDeliver alert
-    late_cause r v comes first S4 m alert is = absurd (let no : IsLate S4 = rw m at g.linked.late in no)
-    late_cause r v comes first S5 m alert is = absurd (let no : IsLate S5 = rw m at g.linked.late in no)
+    late_cause r v comes first S4 m alert is = absurd (let no : IsLate S4 = rw m at g.stage.late in no)
+    late_cause r v comes first S5 m alert is = absurd (let no : IsLate S5 = rw m at g.stage.late in no)
     late_cause r v comes first S6 m alert is = absurd cc
     late_cause r v comes first _ m alert is = active_cause r v comes first (rw m refl) (rw m tt) alert is
 
@@ -180,48 +153,40 @@ module _ (c : Config) (d : Directive) (base : ℕ) (w : World) (k : Steady c w) 
 
   module _ (g : Begun c d base w) where
     under_check : d ≡ InitWithCheck → IsUnderCheck w
-    under_check is = (g.early.opened ∙ ap Some is, g.early.confirmed_not)
+    under_check is = (g.linked.opened ∙ ap Some is, g.stage.confirmed_not)
 
     early_cause : (r : Clcw)
         → (locks r ≡ w.spacecraft.farm.lockout) × (asks r ≡ w.spacecraft.farm.retransmit)
         × (r.value ≡ w.spacecraft.farm.vr) × (waits r ≡ true → asks r ≡ true) → d ≡ InitWithCheck → (alert : Alert)
-        → (report_in_S4 w.ground_node.fop r).answer ≡ Some alert → HasCause w events.DownDeliver alert
-    early_cause r same by_check alert =
-        let s = w.ground_node.fop in
-        let P : FopOutcome SegmentView (Option Alert) → Type 0 =
-        λ o. o.answer ≡ Some alert → HasCause w events.DownDeliver alert in
-        cond_both (locks r) (alerts s Lockout) _ P
-        (λ t e. let is : Lockout ≡ alert =
-        cc in subst (HasCause w events.DownDeliver) is
-        (under_check by_check, k.flags.state ∙ ap (λ l. state_of l w.spacecraft.farm.wait) (sym same.0 ∙ t)))
-        (λ l. cond_both (not (r.value == s.vs)) (alerts s NnR) _ P
-        (λ t e. let is : NnR ≡ alert =
-        cc in subst (HasCause w events.DownDeliver) is
-        (under_check by_check, λ x. eqb-false r.value s.vs (not-true (r.value == s.vs) t) (same.2 ∙ x)))
-        (λ v. cond_both (asks r) (alerts s Synch) _ P
-        (λ t e. let is : Synch ≡ alert =
-        cc in subst (HasCause w events.DownDeliver) is (under_check by_check, sym same.1 ∙ t))
-        (λ a. cond_both (waits r) (alerts s ClcwAlert) _ P
-        (λ t e. absurd (let yes : asks r ≡ true = same.3 t in cc (a, yes)))
-        (λ t e. absurd cc))))
+        → IsCause w.ground_node.fop r alert → HasCause w events.DownDeliver alert
+    early_cause r same by_check Lockout cause = (
+      under_check by_check,
+      k.spacecraft.farm.flags.state ∙ ap (λ l. state_of l w.spacecraft.farm.wait) (sym same.0 ∙ cause),
+    )
+    early_cause r same by_check NnR cause =
+        (under_check by_check, λ x. eqb-false r.value w.ground_node.fop.vs cause (same.2 ∙ x))
+    early_cause r same by_check Synch cause = (under_check by_check, sym same.1 ∙ cause)
+    early_cause r same by_check ClcwAlert cause =
+        absurd (let yes : asks r ≡ true = same.3 cause.1 in cc (cause.0, yes))
+    early_cause r same by_check _ cause = elim cause [ ]
 
     early_in : (r : Clcw) (rs : List Clcw)
         → (d ≡ InitWithCheck
-        → AllSame (r ∷ rs) w.spacecraft.farm.lockout w.spacecraft.farm.retransmit w.spacecraft.farm.vr) → (m : FopMode)
-        → w.ground_node.fop.state ≡ m → (alert : Alert) → (report_in w.ground_node.fop r m).answer ≡ Some alert
-        → HasCause w events.DownDeliver alert
-    early_in r rs same S1 m alert is = absurd (let no : IsEarly d S1 = rw m at g.early.early in no)
-    early_in r rs same S2 m alert is = absurd (let no : IsEarly d S2 = rw m at g.early.early in no)
-    early_in r rs same S3 m alert is = absurd (let no : IsEarly d S3 = rw m at g.early.early in no)
-    early_in r rs same S4 m alert is =
-        let by_check : IsEarly d S4 =
-        rw m at g.early.early in let t = same by_check in early_cause r (t.0, t.1, t.2, t.3) by_check alert is
-    early_in r rs same S5 m alert is =
-        none_some (report_in w.ground_node.fop r S5).answer alert
-        (cond_both (confirms w.ground_node.fop r)
-        (goes_on (record w.ground_node.fop { state = S1; ticks = None; control = Idle })) (goes_on w.ground_node.fop)
-        (λ o. Silent o.answer) (λ t. refl) (λ t. refl)) is
-    early_in r rs same S6 m alert is = absurd cc
+        → AllSame (r ∷ rs) w.spacecraft.farm.lockout w.spacecraft.farm.retransmit w.spacecraft.farm.vr)
+        → (alert : Alert) → (clcw_step w.ground_node.fop r).answer ≡ Some alert → HasCause w events.DownDeliver alert
+    early_in r rs same alert =
+        let s = w.ground_node.fop in
+        reported s r (λ o. o.answer ≡ Some alert → HasCause w events.DownDeliver alert) (record {
+          active = λ active. absurd (early_off d s.state g.stage.early active);
+          alerted = λ is x cause e.
+              let by_check : IsEarly d S4 = rw is at g.stage.early in
+              let t = same by_check in
+              let one : x ≡ alert = cc in
+              subst (HasCause w events.DownDeliver) one (early_cause r (t.0, t.1, t.2, t.3) by_check x cause);
+          checked = λ is confirms e. absurd cc;
+          commanded = λ is confirms e. absurd cc;
+          same = λ e. absurd cc;
+        })
 
     early_heard : (bs : List (List ℕ)) (rs : List Clcw) → Reporting c bs rs
         → (d ≡ InitWithCheck → AllSame rs w.spacecraft.farm.lockout w.spacecraft.farm.retransmit w.spacecraft.farm.vr)
@@ -229,14 +194,14 @@ module _ (c : Config) (d : Directive) (base : ℕ) (w : World) (k : Steady c w) 
     early_heard [] rs rest same alert e = absurd cc
     early_heard (b ∷ bs) [] rest same alert e = elim rest [ ]
     early_heard (b ∷ bs) (r ∷ rs) rest same alert e =
-        early_in r rs same w.ground_node.fop.state refl alert (sym (heard_alert_is b bs r rest.0) ∙ e)
+        early_in r rs same alert (sym (heard_alert_is b bs r rest.0) ∙ e)
 
   cause_heard : Begun c d base w ⊎ Late c d base w → (alert : Alert)
       → alert_in (down_deliver_step w w.down).answer ≡ Some alert → HasCause w events.DownDeliver alert
   cause_heard s alert e = elim s [
-    | inl g ↦ early_heard g w.down g.reports g.early.reporting g.early.same alert e
-    | inr g ↦ late_heard g w.down g.reports g.plain.down refl refl refl g.linked.reporting g.linked.down_is
-        g.linked.rises (λ t. (g.calm t).ranks) alert e
+    | inl g ↦ early_heard g w.down g.reports g.linked.reporting g.stage.same alert e
+    | inr g ↦ late_heard g w.down g.reports g.plain.down refl refl refl g.linked.reporting g.stage.down_is
+        g.linked.rises (λ t. (g.stage.calm t).ranks) alert e
   ]
 
   pub cause : Begun c d base w ⊎ Late c d base w → (e : Event) → (alert : Alert)

@@ -1,15 +1,14 @@
 -- What an arrival accepts is what its octets lead to.
-use Rattle.std.proofs.Common.{◌≡◌, List, ℕ, Option, Some, None, IfSome, option_map, refl, ap, ◌∙◌}
+use Rattle.tc_link.proofs.Common.{◌≡◌, List, ℕ, Option, Some, None, IfSome, option_map, refl, ap, ◌∙◌, SegmentView}
+use Rattle.tc_link.proofs.Common.{segment_octets, segment_to_accept, SpacecraftState, AcceptanceView, acceptance_with}
 use Rattle.tc_frame.specs.declared.frame.Segment.{Segment}
-use Rattle.tc_frame.specs.Layout.{SegmentView, segment_view, segment_octets}
+use Rattle.tc_frame.specs.Layout.{segment_view}
 use Rattle.map_service.specs.declared.prepared.Prepared.{Prepared}
 use Rattle.map_service.specs.Taking.{TakeOutcome}
 use Rattle.map_service.specs.Views.{ready_view}
 use Rattle.nodes.specs.declared.spacecraft.arrival.Arrival.{Arrival}
-use Rattle.nodes.specs.Acceptance.{segment_to_accept}
 use Rattle.nodes.specs.Arriving.{IsAcceptable, IsArrivalAt}
-use Rattle.nodes.specs.Spacecraft.{SpacecraftState}
-use Rattle.tc_link.specs.Acceptance.{AcceptanceView, acceptance_with, acceptance_in}
+use Rattle.tc_link.specs.Acceptance.{acceptance_in}
 
 with_packets : (segment : SegmentView) → List (List ℕ) → AcceptanceView
 with_packets segment packets = record { field = segment_octets segment; on_map = segment.header.map; packets = packets }

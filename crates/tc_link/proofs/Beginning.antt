@@ -1,37 +1,20 @@
 -- A session begins by an idle start.
-use Rattle.std.proofs.Common.{◌≡◌, ℕ, ◌<◌, ◌⊎◌, inl, inr, true, false, [], length, drop, refl}
-use Rattle.std.proofs.Common.{arith}
-use Rattle.std.specs.Prelude.{◌==◌}
-use Rattle.std.proofs.lemmas.Bool.{and_parts, eqb-true}
+use Rattle.tc_link.proofs.Common.{◌≡◌, ℕ, ◌<◌, ◌⊎◌, inl, inr, Bool, true, false, [], length, drop, refl, arith, ◌==◌}
+use Rattle.tc_link.proofs.Common.{and_parts, eqb-true, SegmentView, Idle, Directive, InitWithoutCheck, InitWithCheck}
+use Rattle.tc_link.proofs.Common.{InitUnlock, InitSetVr, S6, directive_step, FopState, FopOutcome, Config, is_closed}
+use Rattle.tc_link.proofs.Common.{directive_outcome, settle_step, World, world_after_directive, session_begun_by}
+use Rattle.tc_link.proofs.Common.{begins_idle, IsDirective, obeyed, begun, is_initiation, Alert, CopFault, Option}
+use Rattle.tc_link.proofs.Common.{None, Result, option_to_list, ◌++◌, IsChecked, report_now}
 use Rattle.std.proofs.lemmas.List.{drop_all}
-use Rattle.tc_frame.specs.Layout.{SegmentView}
-use Rattle.cop1.specs.declared.vocabulary.Control.TheVariants.{Idle}
-use Rattle.cop1.specs.declared.vocabulary.Directive.{Directive}
-use Rattle.cop1.specs.declared.vocabulary.Directive.TheVariants.{InitWithoutCheck, InitWithCheck, InitUnlock, InitSetVr}
-use Rattle.cop1.specs.declared.vocabulary.FopMode.TheVariants.{S1, S6}
-use Rattle.cop1.specs.FopDirective.{after_begin, obeys, directive_step}
-use Rattle.cop1.specs.Units.{FopState, FopOutcome}
-use Rattle.nodes.specs.declared.config.Config.{Config}
-use Rattle.nodes.specs.Ground.{is_closed, directive_outcome, settle_step}
-use Rattle.tc_link.specs.World.{World, world_after_directive, session_begun_by, begins_idle, is_idle}
-use Rattle.tc_link.specs.Reached.{IsDirective}
-use Rattle.tc_link.proofs.Early.{Begun, early_settled}
-use Rattle.tc_link.proofs.Linked.{Commanded, Held, Late, Carries, Reporting}
-use Rattle.tc_link.proofs.Settled.{late_settled}
-use Rattle.tc_link.proofs.SteadyWorld.{Sound}
-use Rattle.cop1.proofs.Obeying.{obeyed, begun}
+use Rattle.cop1.specs.FopDirective.{obeys}
+use Rattle.tc_link.specs.World.{is_idle}
+use Rattle.tc_link.proofs.Linked.{Held, Linked, Begun, Late}
+use Rattle.tc_link.proofs.Settled.{session_settled}
 use Rattle.tc_link.proofs.Closed.{closed_is}
-use Rattle.cop1.specs.Directives.{is_initiation}
-use Rattle.cop1.specs.declared.vocabulary.Alert.{Alert}
-use Rattle.cop1.specs.declared.fault.CopFault.{CopFault}
-use Rattle.std.proofs.Common.{Option, None, Result, option_to_list, ◌++◌}
-use Rattle.tc_link.specs.Confirmation.{IsChecked}
-use Rattle.tc_link.specs.World.{report_now}
-use Rattle.tc_link.proofs.Early.{IsEarly, ControlFits, Lasts, WouldConfirm, AllSame, zeros, zeros_plain, zeros_run}
-use Rattle.tc_link.proofs.Early.{zeros_rise}
+use Rattle.tc_link.proofs.Early.{IsEarly, ControlFits, zeros_plain, zeros_run, zeros_rise, zeros_count}
 use Rattle.tc_link.proofs.Idle.{AllSay, idle_parts, all_last, all_same, all_zeros}
 use Rattle.tc_link.proofs.ReportsDown.{HasReports}
-use Rattle.tc_link.proofs.Transit.{DownIs}
+use Rattle.tc_link.proofs.Sound.{Commanded, Sound}
 
 pub record InSession (c : Config) (w : World) : Type 0 where
   pub directive : Directive
@@ -55,35 +38,11 @@ module _ (c : Config) (w : World) (k : Sound c w) (t : HasReports c w.down) wher
     idle : w.ground_node.fop.control ≡ Idle
     idle = let it : Commanded S6 w.ground_node.fop.control = rw off at k.ground_node.fop.commanded in it
 
-    without_check : begins_idle w InitWithoutCheck ≡ true
-        → Late c InitWithoutCheck w.ground_node.fop.vs
-        (begun_with InitWithoutCheck (record (after_begin w.ground_node.fop) { nn = w.ground_node.fop.vs; state = S1 }))
-    without_check start =
-        let both = and_parts (is_idle w) (w.spacecraft.farm.vr == w.ground_node.fop.vs) start in
-        let same : w.spacecraft.farm.vr ≡ w.ground_node.fop.vs = eqb-true _ _ both.1 in
-        let octet : w.ground_node.fop.vs < 256 = k.ground_node.fop.vs_octet in
-        let way = parts both.0 in
-        let carried : Carries c w.up [] = rw way.0 tt in
-        let reported : Reporting c w.down t.reports = t.reporting in
-        let down_is : DownIs w.ground_node.fop.vs t.reports (zeros t.reports) =
-        all_zeros w.spacecraft w.ground_node.fop.vs t.reports octet same way.1 in
-        let rises = zeros_rise t.reports in
-        record {
-          plain = zeros_plain [] (zeros t.reports);
-          ran = zeros_run [] t.reports;
-          front = false;
-          frames = [];
-          reports = t.reports;
-          linked = grind (arith, same, octet, pending, none_after, carried, reported, down_is, rises);
-          calm = λ checked. absurd (checked.1 refl);
-        }
-
-    -- where it has to be confirmed
-    checked_begins : (d : Directive) (base : ℕ) (f : FopState SegmentView) → base < 256 → IsChecked d
-        → is_idle w ≡ true → IsEarly d f.state → is_closed f.state ≡ false → f.vs ≡ base
-        → f.nn ≡ base → f.sent ≡ [] → f.waiting ≡ None → ControlFits d base f.control
-        → InSession c (record (begun_with d f) { ground_node = settle_step (record w.ground_node { fop = f }) })
-    checked_begins d base f octet checked start early on vs nn sent waiting control =
+    -- the reports on their way are as many of 0
+    linked_from : (d : Directive) (base : ℕ) (f : FopState SegmentView) (front : Bool) → base < 256
+        → is_idle w ≡ true → f.vs ≡ base → f.nn ≡ base → f.sent ≡ [] → f.waiting ≡ None
+        → is_closed f.state ≡ false → Linked c d base (begun_with d f) (zeros_plain t.reports) front [] t.reports
+    linked_from d base f front octet start vs nn sent waiting on =
         let rest : option_to_list f.waiting ++ w.ground_node.pending ≡ [] = rw waiting pending in
         let held : Held (is_closed f.state) base f.vs f.nn f.sent (option_to_list f.waiting ++ w.ground_node.pending)
         0 0 [] = rw on (record {
@@ -92,33 +51,80 @@ module _ (c : Config) (w : World) (k : Sound c w) (t : HasReports c w.down) wher
           sent_is = rw sent refl;
           rest_is = rest;
         }) in
-        let way = parts start in
-        let carried : Carries c w.up [] = rw way.0 tt in
-        let reported : Reporting c w.down t.reports = t.reporting in
-        let lasts : Lasts base t.reports (WouldConfirm base w.spacecraft) =
-        all_last w.spacecraft base t.reports way.1 in
-        let same : d ≡ InitWithCheck
-        → AllSame t.reports w.spacecraft.farm.lockout w.spacecraft.farm.retransmit w.spacecraft.farm.vr =
-        λ e. all_same w.spacecraft t.reports k.spacecraft.farm.flags.asks way.1 in
-        let session : Begun c d base (begun_with d f) = record {
+        record {
+          opened = refl;
+          base_octet = octet;
+          nn_octet = omega (arith, nn, octet);
+          held = held;
+          given = tt;
+          units_are = refl;
+          units_fit = tt;
+          sent_is = refl;
+          accepted_is = none_after;
+          acked_is = refl;
+          n_most = omega arith;
+          a_r = omega arith;
+          r_n = omega arith;
+          n_a = omega arith;
+          carries = rw (parts start).0 tt;
+          reporting = t.reporting;
+          counted = zeros_count t.reports;
+          up_is = tt;
+          fits = tt;
+          rises = zeros_rise t.reports;
+        }
+
+    without_check : begins_idle w InitWithoutCheck ≡ true
+        → Late c InitWithoutCheck w.ground_node.fop.vs (begun_with InitWithoutCheck (begun w.ground_node.fop
+        InitWithoutCheck))
+    without_check start =
+        let both = and_parts (is_idle w) (w.spacecraft.farm.vr == w.ground_node.fop.vs) start in
+        let same : w.spacecraft.farm.vr ≡ w.ground_node.fop.vs = eqb-true _ _ both.1 in
+        let octet : w.ground_node.fop.vs < 256 = k.ground_node.fop.vs_octet in
+        record {
+          plain = zeros_plain t.reports;
+          ran = zeros_run t.reports;
+          front = false;
           frames = [];
           reports = t.reports;
-          early = grind (
-            arith,
-            octet,
-            checked,
-            early,
-            nn,
-            held,
-            none_after,
-            control,
-            carried,
-            reported,
-            lasts,
-            same,
-          );
+          linked = linked_from InitWithoutCheck w.ground_node.fop.vs (begun w.ground_node.fop InitWithoutCheck) false
+              octet both.0 refl refl refl refl refl;
+          stage = record {
+            late = tt;
+            confirmed_is = λ checked. absurd (checked.1 refl);
+            confirmed_so = λ e. cc;
+            vr_is = omega (arith, same, octet);
+            first = λ e. cc;
+            down_is = all_zeros w.spacecraft w.ground_node.fop.vs t.reports octet same (parts both.0).1;
+            calm = λ checked. absurd (checked.1 refl);
+          };
+        }
+
+    -- where it has to be confirmed
+    checked_begins : (d : Directive) (base : ℕ) (f : FopState SegmentView) → base < 256 → IsChecked d
+        → is_idle w ≡ true → IsEarly d f.state → is_closed f.state ≡ false → f.vs ≡ base
+        → f.nn ≡ base → f.sent ≡ [] → f.waiting ≡ None → ControlFits d base f.control
+        → InSession c (record (begun_with d f) { ground_node = settle_step (record w.ground_node { fop = f }) })
+    checked_begins d base f octet checked start early on vs nn sent waiting control =
+        let session : Begun c d base (begun_with d f) = record {
+          plain = zeros_plain t.reports;
+          ran = zeros_run t.reports;
+          front = true;
+          frames = [];
+          reports = t.reports;
+          linked = linked_from d base f true octet start vs nn sent waiting on;
+          stage = record {
+            checked = checked;
+            early = early;
+            command_is = control;
+            confirmed_not = refl;
+            front_is = refl;
+            none_sent = refl;
+            lasts = all_last w.spacecraft base t.reports (parts start).1;
+            same = λ e. all_same w.spacecraft t.reports k.spacecraft.farm.flags.asks (parts start).1;
+          };
         } in
-        record { directive = d; base = base; session = inl (early_settled c d base (begun_with d f) session) }
+        record { directive = d; base = base; session = inl (session_settled true c d base (begun_with d f) session) }
 
     begun_idle : (d : Directive) → is_initiation d ≡ true → IsDirective d → begins_idle w d ≡ true
         → InSession c (world_after_directive w d
@@ -129,7 +135,7 @@ module _ (c : Config) (w : World) (k : Sound c w) (t : HasReports c w.down) wher
         record {
           directive = InitWithoutCheck;
           base = f.vs;
-          session = inr (late_settled c InitWithoutCheck f.vs (begun_with InitWithoutCheck f) session);
+          session = inr (session_settled false c InitWithoutCheck f.vs (begun_with InitWithoutCheck f) session);
         }
     begun_idle InitWithCheck is fits start =
         checked_begins InitWithCheck w.ground_node.fop.vs (begun w.ground_node.fop InitWithCheck)

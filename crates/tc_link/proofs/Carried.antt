@@ -1,29 +1,13 @@
 -- Each string on its way up is a frame of the ground's, and what the ground holds to be sent fits into frames.
-use Rattle.std.proofs.Common.{◌≡◌, ℕ, ◌+◌, ◌%◌, true, false, Bool, if◌then◌else◌, List, [], ◌∷◌, ◌++◌, length}
-use Rattle.std.proofs.Common.{Result, Ok, Err, refl, sym}
-use Rattle.std.proofs.Common.{subst, ◌∙◌}
-use Rattle.std.specs.Prelude.{◌==◌, ◌||◌, nat_lt, not}
-use Rattle.std.specs.List.{AllByRecursion}
-use Rattle.std.proofs.lemmas.Bool.{eqb-true, or_parts, not-false}
-use Rattle.clcw.specs.declared.word.Clcw.{Clcw}
-use Rattle.tc_frame.specs.declared.frame.Check.TheVariants.{On}
-use Rattle.tc_frame.specs.Layout.{SegmentView, BodyView, Ad, Bd, Bc}
+use Rattle.tc_link.proofs.Common.{◌≡◌, ℕ, ◌+◌, ◌%◌, true, false, Bool, if◌then◌else◌, List, [], ◌∷◌, ◌++◌, length}
+use Rattle.tc_link.proofs.Common.{Result, Ok, Err, refl, sym, subst, ◌∙◌, ◌==◌, ◌||◌, nat_lt, not, AllByRecursion}
+use Rattle.tc_link.proofs.Common.{eqb-true, or_parts, not-false, Clcw, On, SegmentView, BodyView, Ad, Bd, Bc, units_of}
+use Rattle.tc_link.proofs.Common.{PulledUnit, pull_step, FopOutcome, pulled_out, TmFault, Config, FitsFrame, with_fop}
+use Rattle.tc_link.proofs.Common.{frame_of, frame_to_send, submit_fault, bypass_fault, Event, AllReadable, World}
+use Rattle.tc_link.proofs.Common.{WorldOutcome, world_step, world_after_pull}
 use Rattle.tc_frame.specs.Writing.{spelling}
-use Rattle.cop1.specs.UnitsNext.{units_of}
-use Rattle.cop1.specs.FopPull.{PulledUnit, pull_step}
-use Rattle.cop1.specs.Units.{FopOutcome}
-use Rattle.cop1.proofs.Pulling.{pulled_out}
-use Rattle.tm_link.specs.declared.fault.TmFault.{TmFault}
-use Rattle.tm_link.specs.declared.fault.TmFault.TheVariants as faults
-use Rattle.tm_link.specs.Layout as telemetry
 use Rattle.tm_link.specs.Reading.{frame_at, is_length_wrong}
-use Rattle.nodes.specs.declared.config.Config.{Config}
-use Rattle.nodes.specs.OwnedFields.{FitsFrame}
-use Rattle.nodes.specs.Ground.{with_fop, frame_of, frame_to_send, submit_fault, bypass_fault}
-use Rattle.tc_link.specs.declared.event.Event.{Event}
-use Rattle.tc_link.specs.declared.event.Event.TheVariants as events
-use Rattle.tc_link.specs.Readable.{IsCommandOf, IsTelemetryOf, AllReadable}
-use Rattle.tc_link.specs.World.{World, WorldOutcome, world_step, world_after_pull}
+use Rattle.tc_link.specs.Readable.{IsCommandOf, IsTelemetryOf}
 use Rattle.tc_link.proofs.Closed.{active_on}
 use Rattle.tc_link.proofs.Fitting.{GroundFits, directive_fits, tick_settled, pull_settled, submission_fits}
 use Rattle.tc_link.proofs.Fitting.{bypass_settled, telemetry_fits, moved}
@@ -31,8 +15,11 @@ use Rattle.tc_link.proofs.Leaving.{AtEachLoss, lost, up_arrives, down_arrives}
 use Rattle.tc_link.proofs.Linked.{Carries, Reporting, carries_push}
 use Rattle.tc_link.proofs.Queue.{oldest_stands}
 use Rattle.tc_link.proofs.Spelled.{Goes, reads_back, fits_at}
-use Rattle.tc_link.proofs.SteadyWorld.{Sound}
 use Rattle.tc_link.proofs.ReportsDown.{HasReports}
+use Rattle.tm_link.specs.declared.fault.TmFault.TheVariants as faults
+use Rattle.tm_link.specs.Layout as telemetry
+use Rattle.link_events.specs.declared.event.Event.TheVariants as events
+use Rattle.tc_link.proofs.Sound.{Sound}
 
 pub record Carried (c : Config) (w : World) : Type 0 where
   pub frames : List BodyView

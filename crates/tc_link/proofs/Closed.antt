@@ -1,9 +1,5 @@
 -- In S6 the sender is closed, and in no other state.
-use Rattle.std.proofs.Common.{◌≡◌, true, false, refl}
-use Rattle.cop1.specs.declared.vocabulary.FopMode.{FopMode}
-use Rattle.cop1.specs.declared.vocabulary.FopMode.TheVariants.{S6}
-use Rattle.cop1.specs.FopVariables.{IsActive}
-use Rattle.nodes.specs.Ground.{is_closed}
+use Rattle.tc_link.proofs.Common.{◌≡◌, true, false, refl, FopMode, S6, IsActive, is_closed}
 
 pub closed_not : {A : Type 0} (m : FopMode) → m ≡ S6 → is_closed m ≡ false → A
 closed_not m off on = absurd (let no : true ≡ false = rw off at on in cc)

@@ -1,49 +1,23 @@
 -- What is acknowledged has left the sent queue, and what is in the sent queue was sent.
-use Rattle.std.proofs.Common.{◌≡◌, ◌≢◌, ◌≤◌, ◌<◌, ℕ, suc, ◌+◌, true, false, not, List, [], ◌∷◌, ◌++◌, length, map, drop}
-use Rattle.std.proofs.Common.{Option, Some, None, Result, Ok, Err, option_map, refl, ap, arith, length-append}
-use Rattle.std.proofs.Common.{length-drop}
-use Rattle.std.specs.Prelude.{◌==◌}
-use Rattle.std.proofs.lemmas.Bool.{cond_both, ltb-false, eq-eqb}
-use Rattle.std.proofs.lemmas.List.{length-map}
-use Rattle.clcw.specs.Reading.{clcw_at}
-use Rattle.clcw.specs.declared.fault.ClcwFault.{ClcwFault}
-use Rattle.clcw.specs.declared.word.Clcw.{Clcw}
-use Rattle.tc_frame.specs.declared.frame.Check.TheVariants.{On}
-use Rattle.tc_frame.specs.Layout.{SegmentView, FrameView}
+use Rattle.tc_link.proofs.Common.{◌≡◌, ◌≢◌, ◌≤◌, ◌<◌, ℕ, suc, ◌+◌, true, false, List, [], ◌∷◌, ◌++◌, length, map, drop}
+use Rattle.tc_link.proofs.Common.{Option, Some, None, Result, Ok, Err, option_map, refl, ap, arith, length-append}
+use Rattle.tc_link.proofs.Common.{length-drop, cond_both, ltb-false, eq-eqb, length-map, Clcw, On, SegmentView}
+use Rattle.tc_link.proofs.Common.{ahead_by, CopFault, Alert, Idle, Directive, InitWithoutCheck, InitWithCheck}
+use Rattle.tc_link.proofs.Common.{InitUnlock, InitSetVr, S1, S2, S3, S6, directive_step, PulledUnit, pull_step}
+use Rattle.tc_link.proofs.Common.{without_oldest_mark, FopState, SentUnit, unmarked_unit, marked_unit, FopOutcome}
+use Rattle.tc_link.proofs.Common.{clcw_step, report_while_active, after_move_on, after_new_value, retransmits}
+use Rattle.tc_link.proofs.Common.{IsActive, tick_step, after_acknowledge, after_repeat, after_alert, after_stop}
+use Rattle.tc_link.proofs.Common.{goes_on, TmFault, Config, LinkFault, GroundState, settle_step, with_fop}
+use Rattle.tc_link.proofs.Common.{unless_refused, after_submission, after_extraction, telemetry_outcome, frame_to_send}
+use Rattle.tc_link.proofs.Common.{is_initiation, first_in, obeyed, begun, ticked, pulled_out, heard_active, Bool}
+use Rattle.tc_frame.specs.Layout.{FrameView}
 use Rattle.tc_frame.specs.Writing.{spelling}
-use Rattle.cop1.specs.Modulo.{ahead_by}
-use Rattle.cop1.specs.declared.fault.CopFault.{CopFault}
-use Rattle.cop1.specs.declared.vocabulary.Alert.{Alert}
-use Rattle.cop1.specs.declared.vocabulary.Alert.TheVariants as alert
-use Rattle.cop1.specs.declared.vocabulary.Control.TheVariants.{Idle}
-use Rattle.cop1.specs.declared.vocabulary.Directive.{Directive}
-use Rattle.cop1.specs.declared.vocabulary.Directive.TheVariants.{InitWithoutCheck, InitWithCheck, InitUnlock, InitSetVr}
-use Rattle.cop1.specs.declared.vocabulary.FopMode.{FopMode}
-use Rattle.cop1.specs.declared.vocabulary.FopMode.TheVariants.{S1, S2, S3, S4, S5, S6}
-use Rattle.cop1.specs.FopDirective.{directive_step}
-use Rattle.cop1.specs.FopPull.{PulledUnit, pull_step}
-use Rattle.cop1.specs.Units.{without_oldest_mark, FopState, SentUnit, IsFop, unmarked_unit, marked_unit, FopOutcome}
-use Rattle.cop1.specs.FopReport.{locks, waits, asks, clcw_step, report_in, report_while_active, report_in_S4, confirms}
-use Rattle.cop1.specs.FopReport.{after_move_on, after_new_value, retransmits}
-use Rattle.cop1.specs.FopTick.{tick_step}
-use Rattle.cop1.specs.FopWords.{is_outside, after_acknowledge, after_repeat, after_alert, after_stop, alerts, goes_on}
-use Rattle.tm_link.specs.declared.fault.TmFault.{TmFault}
-use Rattle.tm_link.specs.Extraction.{Extracted, extract_step}
-use Rattle.tm_link.specs.Layout as telemetry
-use Rattle.nodes.specs.declared.config.Config.{Config}
-use Rattle.nodes.specs.declared.fault.LinkFault.{LinkFault}
-use Rattle.nodes.specs.declared.heard.Heard.{Heard}
-use Rattle.nodes.specs.Ground.{GroundState, GroundOutcome, settle_step, with_fop, unless_refused, after_submission}
-use Rattle.nodes.specs.Ground.{after_extraction, own_frame_outcome, telemetry_outcome, frame_to_send}
-use Rattle.nodes.specs.Ground as ground
-use Rattle.cop1.specs.Directives.{is_initiation}
-use Rattle.tc_link.specs.World.{first_in}
+use Rattle.cop1.specs.Units.{IsFop}
+use Rattle.cop1.specs.FopWords.{is_outside}
+use Rattle.tc_link.proofs.Reported.{reported, frame_seen}
 use Rattle.tc_link.proofs.Settled.{settled_keeps}
-use Rattle.cop1.proofs.Obeying.{obeyed, begun}
-use Rattle.cop1.proofs.Ticking.{ticked}
-use Rattle.cop1.proofs.Pulling.{pulled_out}
-use Rattle.cop1.proofs.Hearing.{heard_active}
-use Rattle.std.proofs.Common.{Bool}
+use Rattle.tm_link.specs.Layout as telemetry
+use Rattle.nodes.specs.Ground as ground
 
 -- ---- the sender's queue
 
@@ -160,23 +134,14 @@ module _ (f : FopState SegmentView) (fop : IsFop f) (octet : f.nn < 256) (r : Cl
         all_again = λ asking. again_gone;
       })
 
-  in_S4_gone : IsGone (report_in_S4 f r)
-  in_S4_gone =
-      cond_both (locks r) (alerts f alert.Lockout) _ (λ o. IsGone o) (λ t. stays (after_alert f) refl (omega arith))
-      (λ t. cond_both (not (r.value == f.vs)) (alerts f alert.NnR) _ (λ o. IsGone o)
-      (λ t. stays (after_alert f) refl (omega arith))
-      (λ t. cond_both (asks r) (alerts f alert.Synch) _ (λ o. IsGone o) (λ t. stays (after_alert f) refl (omega arith))
-      (λ t. cond_both (waits r) (alerts f alert.Clcw) _ (λ o. IsGone o) (λ t. stays (after_alert f) refl (omega arith))
-      (λ t. stays (record f { state = S1; ticks = None }) refl (omega arith)))))
-
-  report_gone : (m : FopMode) → f.state ≡ m → IsGone (report_in f r m)
-  report_gone S4 is = in_S4_gone
-  report_gone S5 is =
-      cond_both (confirms f r) (goes_on (record f { state = S1; ticks = None; control = Idle })) (goes_on f)
-      (λ o. IsGone o) (λ t. stays (record f { state = S1; ticks = None; control = Idle }) refl (omega arith))
-      (λ t. stays f refl (omega arith))
-  report_gone S6 is = stays f refl (omega arith)
-  report_gone _ is = active_gone (λ e. absurd cc)
+  pub report_gone : IsGone (clcw_step f r)
+  report_gone = reported f r IsGone (record {
+    active = λ runs. active_gone (λ off. let no : IsActive S6 = rw off at runs in absurd no);
+    alerted = λ is x cause. stays (after_alert f) refl (omega arith);
+    checked = λ is confirms. stays (record f { state = S1; ticks = None }) refl (omega arith);
+    commanded = λ is confirms. stays (record f { state = S1; ticks = None; control = Idle }) refl (omega arith);
+    same = stays f refl (omega arith);
+  })
 
 -- ---- the ground
 
@@ -222,18 +187,14 @@ module _ (s : GroundState) (fop : IsFop s.fop) (octet : s.fop.nn < 256) where
   settled_less : (t : GroundState) → IsLess t → IsLess (settle_step t)
   settled_less t le = let is = settled_sent t in rw (is.0, is.1) le
 
-  word_less : (x : Extracted) (r : Result Clcw ClcwFault) → IsLess (own_frame_outcome s x r).after
-  word_less x (Err fault) = same_less (after_extraction s x) refl
-  word_less x (Ok report) = cond_both (report.vcid == s.config.vcid) _ _ (λ (o : GroundOutcome Heard). IsLess o.after)
-      (λ t. settled_less (record (after_extraction s x) { fop = (clcw_step s.fop report).after })
-      (report_gone s.fop fop octet report s.fop.state refl)) (λ t. same_less (after_extraction s x) refl)
-
   -- when octets arrive
   pub heard_less : (r : Result telemetry.FrameView TmFault) → IsLess (telemetry_outcome s r).after
-  heard_less (Err fault) = same_less s refl
-  heard_less (Ok frame) =
-      cond_both (ground.is_own_telemetry s.config frame) _ _ (λ (o : GroundOutcome Heard). IsLess o.after)
-      (λ t. word_less (extract_step s.extractor frame) (clcw_at frame.ocf)) (λ t. same_less s refl)
+  heard_less = frame_seen s IsLess (record {
+    same = same_less s refl;
+    extracts = λ x. same_less (after_extraction s x) refl;
+    uses = λ x report. settled_less (record (after_extraction s x) { fop = (clcw_step s.fop report).after })
+        (report_gone s.fop fop octet report);
+  })
 
 -- ---- nothing is sent first where nothing goes
 

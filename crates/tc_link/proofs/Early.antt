@@ -1,29 +1,10 @@
--- Before a session that is begun by check, Unlock or Set V(R) is confirmed, and how it comes to be.
-use Rattle.std.proofs.Common.{◌≡◌, ℕ, ◌<◌, Bool, true, false, List, [], ◌∷◌, ◌++◌, drop, Some, option_to_list, refl, ap}
-use Rattle.std.proofs.Common.{◌∙◌, arith}
-use Rattle.std.specs.List.{AllByRecursion}
-use Rattle.clcw.specs.declared.word.Clcw.{Clcw}
-use Rattle.tc_frame.specs.Layout.{SegmentView, BodyView}
-use Rattle.cop1.specs.declared.vocabulary.Control.{Control}
-use Rattle.cop1.specs.declared.vocabulary.Control.TheVariants.{Idle, Due, Sent}
-use Rattle.cop1.specs.declared.vocabulary.Directive.{Directive}
-use Rattle.cop1.specs.declared.vocabulary.Directive.TheVariants.{InitWithCheck}
-use Rattle.cop1.specs.declared.vocabulary.FopMode.{FopMode}
-use Rattle.cop1.specs.declared.vocabulary.FopMode.TheVariants.{S1, S4, S5, S6}
-use Rattle.cop1.specs.FopReport.{locks, waits, asks}
-use Rattle.cop1.specs.FopVariables.{IsActive}
-use Rattle.nodes.specs.declared.config.Config.{Config}
-use Rattle.nodes.specs.OwnedFields.{FitsFrame}
-use Rattle.nodes.specs.Ground.{GroundState, is_closed, unsent_segments, settle_step}
-use Rattle.nodes.specs.Spacecraft.{SpacecraftState}
-use Rattle.tc_link.specs.World.{World, directive_of}
-use Rattle.tc_link.specs.PlainLink.{PlainLink, PlainRun, new_link, none, more, adds, reports as tells}
-use Rattle.tc_link.specs.Confirmation.{IsChecked}
-use Rattle.tc_link.specs.History.{Rises}
-use Rattle.tc_link.proofs.Transit.{CommandFits, UpIs, DownIs, Ranks}
-use Rattle.tc_link.proofs.Reports.{IsLate}
-use Rattle.tc_link.proofs.Linked.{Late, IsGiven, units_of_all, Carries, Reporting, Holds, Held, holds_where}
-use Rattle.tc_link.proofs.Settled.{settled_keeps, held_again}
+-- Before a session that is begun by check, Unlock or Set V(R) is confirmed.
+use Rattle.tc_link.proofs.Common.{◌≡◌, ℕ, ◌+◌, ◌*◌, ◌<◌, Bool, true, false, List, [], ◌∷◌, ◌++◌, length, refl, ap}
+use Rattle.tc_link.proofs.Common.{arith, Clcw, Control, Idle, Due, Sent, Directive, InitWithCheck, FopMode, S4, S5, S6}
+use Rattle.tc_link.proofs.Common.{FarmState, locks, waits, asks, IsActive, IsChecked, Rises, PlainLink, PlainRun}
+use Rattle.tc_link.proofs.Common.{new_link, more}
+use Rattle.tc_link.specs.PlainLink.{none, reports as tells}
+use Rattle.tc_link.proofs.Transit.{CommandFits, DownIs, Ranks, bit, rises_to}
 
 -- ---- reports that confirm
 
@@ -32,11 +13,8 @@ abbrev pub Good : ℕ → Clcw → Type 0
 Good base c = (locks c ≡ false) × (waits c ≡ false) × (asks c ≡ false) × (c.value ≡ base)
 
 -- a receiver that would now report so
-abbrev pub Confirming : (base : ℕ) (lockout wait retransmit : Bool) (vr : ℕ) → Type 0
-Confirming base lockout wait retransmit vr = (lockout ≡ false) × (wait ≡ false) × (retransmit ≡ false) × (vr ≡ base)
-
-abbrev pub WouldConfirm : ℕ → SpacecraftState → Type 0
-WouldConfirm base s = Confirming base s.farm.lockout s.farm.wait s.farm.retransmit s.farm.vr
+abbrev pub WouldConfirm : ℕ → FarmState → Type 0
+WouldConfirm base s = (s.lockout ≡ false) × (s.wait ≡ false) × (s.retransmit ≡ false) × (s.vr ≡ base)
 
 -- each report confirms, and at their end this is so
 abbrev pub AllGood : ℕ → List Clcw → Type 0 → Type 0
@@ -81,32 +59,47 @@ zeros-push : (cs : List Clcw) → zeros cs ++ 0 ∷ [] ≡ 0 ∷ zeros cs
 zeros-push [] = refl
 zeros-push (c ∷ cs) = ap (λ l. 0 ∷ l) (zeros-push cs)
 
-abbrev pub zeros_plain : List SegmentView → List ℕ → PlainLink
-zeros_plain units down = record { units = units; a = 0; r = 0; n = 0; up = []; down = down }
+abbrev pub zeros_plain : List Clcw → PlainLink
+zeros_plain cs = record new_link { down = zeros cs }
 
-pub zeros_run : (units : List SegmentView) (cs : List Clcw) → PlainRun new_link (zeros_plain units (zeros cs))
-zeros_run units [] = more none (adds units)
-zeros_run units (c ∷ cs) =
-    let one : PlainRun new_link (zeros_plain units (zeros cs ++ 0 ∷ [])) =
-    more (zeros_run units cs) tells in rw zeros-push at one
-
-zeros_down : (base : ℕ) (cs : List Clcw) (l : Type 0) → base < 256 → AllGood base cs l → DownIs base cs (zeros cs)
-zeros_down base [] l most all = tt
-zeros_down base (c ∷ cs) l most all = (omega (arith, all.0.3), zeros_down base cs l most all.1)
+pub zeros_run : (cs : List Clcw) → PlainRun new_link (zeros_plain cs)
+zeros_run [] = none
+zeros_run (c ∷ cs) =
+    let one : PlainRun new_link (record new_link { down = zeros cs ++ 0 ∷ [] }) = more (zeros_run cs) tells in
+    rw zeros-push at one
 
 pub zeros_rise : (cs : List Clcw) → Rises 0 (zeros cs) 0
 zeros_rise [] = omega arith
 zeros_rise (c ∷ cs) = (omega arith, zeros_rise cs)
 
-zeros_rank : (base : ℕ) (cs : List Clcw) (l : Type 0) → AllGood base cs l → Ranks 0 cs (zeros cs) 0
-zeros_rank base [] l all = omega arith
-zeros_rank base (c ∷ cs) l all = (
-  all.0.0,
-  λ t. absurd (let no : waits c ≡ false = all.0.1 in cc),
-  omega arith,
-  rw all.0.2
-      (zeros_rank base cs l all.1),
+pub zeros_count : (cs : List Clcw) → length cs ≡ length (zeros cs)
+zeros_count [] = refl
+zeros_count (c ∷ cs) = omega (arith, zeros_count cs)
+
+-- where each report confirms, 0 is the number of each
+pub good_down : (base low : ℕ) (cs : List Clcw) (vs : List ℕ) (l : Type 0) → base < 256 → length cs ≡ length vs
+    → Rises low vs 0 → AllGood base cs l → DownIs base cs vs
+good_down base low [] [] l most count up all = tt
+good_down base low [] (v ∷ vs) l most count up all = absurd cc
+good_down base low (c ∷ cs) [] l most count up all = absurd cc
+good_down base low (c ∷ cs) (v ∷ vs) l most count up all = (
+  omega (arith, all.0.3, rises_to v 0 vs up.1),
+  good_down base v cs vs l most (omega (arith, count)) up.1 all.1,
 )
+
+pub good_ranks : (base low rank : ℕ) (cs : List Clcw) (vs : List ℕ) (l : Type 0) → rank ≡ 0 → length cs ≡ length vs
+    → Rises low vs 0 → AllGood base cs l → Ranks rank cs vs 0
+good_ranks base low rank [] [] l least count up all = omega (arith, least)
+good_ranks base low rank [] (v ∷ vs) l least count up all = absurd cc
+good_ranks base low rank (c ∷ cs) [] l least count up all = absurd cc
+good_ranks base low rank (c ∷ cs) (v ∷ vs) l least count up all =
+    let none_asked : bit (asks c) ≡ 0 = rw all.0.2 refl in (
+      all.0.0,
+      λ t. absurd (let no : waits c ≡ false = all.0.1 in cc),
+      omega (arith, least),
+      good_ranks base v (2 * v + bit (asks c)) cs vs l (omega (arith, none_asked, rises_to v 0 vs up.1))
+          (omega (arith, count)) up.1 all.1,
+    )
 
 -- ---- what holds before the confirmation
 
@@ -142,121 +135,13 @@ same_push c [] lockout retransmit vr l t v w all = (l, t, v, w, tt)
 same_push c (x ∷ xs) lockout retransmit vr l t v w all =
     (all.0, all.1, all.2, all.3, same_push c xs lockout retransmit vr l t v w all.4)
 
-pub record Early (c : Config) (d : Directive) (base : ℕ) (w : World) (frames : List BodyView) (reports : List Clcw) :
-    Type 0 where
-  pub opened : directive_of w ≡ Some d
-  pub base_octet : base < 256
+pub record Unsettled (d : Directive) (base : ℕ) (m : FopMode) (control : Control) (farm : FarmState)
+    (confirmed front : Bool) (reports : List Clcw) (n : ℕ) : Type 0 where
   pub checked : IsChecked d
-  pub nn_octet : w.ground_node.fop.nn < 256
-  pub early : IsEarly d w.ground_node.fop.state
-  pub held : Held (is_closed w.ground_node.fop.state) base w.ground_node.fop.vs w.ground_node.fop.nn
-      w.ground_node.fop.sent (unsent_segments w.ground_node) 0 0 (units_of_all c w.session.submissions)
-  pub given : AllByRecursion (IsGiven c) w.session.submissions
-  pub units_fit : AllByRecursion FitsFrame (units_of_all c w.session.submissions)
-  pub sent_none : w.session.sent ≡ []
-  pub accepted_none : drop w.session.before w.spacecraft.accepted ≡ []
-  pub acked_none : w.session.acknowledged ≡ 0
-  pub command_is : ControlFits d base w.ground_node.fop.control
-  pub carries : Carries c w.up frames
-  pub reporting : Reporting c w.down reports
-  pub up_is : UpIs d base true frames []
-  pub lasts : Lasts base reports (WouldConfirm base w.spacecraft)
-  pub same : d ≡ InitWithCheck
-      → AllSame reports w.spacecraft.farm.lockout w.spacecraft.farm.retransmit w.spacecraft.farm.vr
-  pub confirmed_not : w.session.confirmed ≡ false
-
--- where the sender is on
-pub holds_early : {c : Config} {d : Directive} {base : ℕ} {w : World} {frames : List BodyView} {reports : List Clcw}
-    → Early c d base w frames reports → is_closed w.ground_node.fop.state ≡ false
-    → Holds base w.ground_node.fop.vs w.ground_node.fop.nn w.ground_node.fop.sent (unsent_segments w.ground_node) 0 0
-    (units_of_all c w.session.submissions)
-holds_early l on = holds_where on l.held
-
-pub record Begun (c : Config) (d : Directive) (base : ℕ) (w : World) : Type 0 where
-  pub frames : List BodyView
-  pub reports : List Clcw
-  pub early : Early c d base w frames reports
-
--- just confirmed
-pub record Confirmed (c : Config) (d : Directive) (base : ℕ) (w : World) : Type 0 where
-  pub late : Late c d base w
-  pub exact : (w.spacecraft.farm.vr ≡ w.ground_node.fop.vs) × (w.ground_node.fop.nn ≡ w.ground_node.fop.vs)
-
-module _ (c : Config) (d : Directive) (base : ℕ) where
-  pub early_settled : (w : World) → Begun c d base w
-      → Begun c d base (record w { ground_node = settle_step w.ground_node })
-  early_settled w g =
-      settled_keeps (λ s. Begun c d base (record w { ground_node = s })) w.ground_node (λ waiting pending on off.
-      let l = g.early in
-      let held : Held (is_closed w.ground_node.fop.state) base w.ground_node.fop.vs w.ground_node.fop.nn
-      w.ground_node.fop.sent (option_to_list waiting ++ pending) 0 0 (units_of_all c w.session.submissions) =
-      held_again (is_closed w.ground_node.fop.state) base w.ground_node.fop.vs w.ground_node.fop.nn
-      w.ground_node.fop.sent (unsent_segments w.ground_node) (option_to_list waiting ++ pending) 0 0
-      (units_of_all c w.session.submissions) on l.held in
-      record { frames = g.frames; reports = g.reports; early = assumption (held, l) })
-
-  -- the report that confirms
-  pub confirmed : (w : World) (g : Begun c d base w) → is_closed w.ground_node.fop.state ≡ false
-      → (bs : List (List ℕ)) (rs : List Clcw) → Reporting c bs rs → AllGood base rs (WouldConfirm base w.spacecraft)
-      → (ground_node : GroundState) → ground_node.fop.state ≡ S1 → ground_node.fop.vs ≡ w.ground_node.fop.vs
-      → ground_node.fop.nn ≡ w.ground_node.fop.nn → ground_node.fop.sent ≡ w.ground_node.fop.sent
-      → unsent_segments ground_node ≡ unsent_segments w.ground_node
-      → (now : Bool) → now ≡ true → (acked : ℕ) → acked ≡ 0
-      → Late c d base (record w {
-        ground_node =
-            ground_node;
-        down = bs;
-        session = record w.session { confirmed = now; acknowledged = acked };
-      })
-  confirmed w g on bs rs rest all ground_node state_is vs nn sent waiting now now_is acked acked_is =
-      let l = g.early in
-      let good = last_good base rs (WouldConfirm base w.spacecraft) all in
-      let units : List SegmentView = units_of_all c w.session.submissions in
-      let was = holds_early l on in
-      let held : Held (is_closed ground_node.fop.state) base ground_node.fop.vs ground_node.fop.nn ground_node.fop.sent
-      (unsent_segments ground_node) 0 0 units =
-      rw state_is (record {
-        vs_is = vs ∙ was.vs_is;
-        nn_is = nn ∙ was.nn_is;
-        sent_is = rw sent was.sent_is;
-        rest_is = waiting ∙ was.rest_is;
-      }) in
-      let late : IsLate ground_node.fop.state = rw state_is tt in
-      let down_is = zeros_down base rs (WouldConfirm base w.spacecraft) l.base_octet all in
-      let rises = zeros_rise rs in
-      record {
-        plain = zeros_plain units (zeros rs);
-        ran = zeros_run units rs;
-        front = true;
-        frames = g.frames;
-        reports = rs;
-        linked = grind (
-          arith,
-          l.opened,
-          l.checked,
-          l.base_octet,
-          l.nn_octet,
-          l.given,
-          l.units_fit,
-          l.sent_none,
-          l.accepted_none,
-          l.carries,
-          l.up_is,
-          good,
-          nn,
-          now_is,
-          acked_is,
-          late,
-          held,
-          rest,
-          down_is,
-          rises,
-        );
-        calm = λ t. record {
-          unlocked = good.0;
-          clear = λ e. good.2;
-          ranks = let ranks : Ranks 0 rs (zeros rs) 0 =
-              zeros_rank base rs (WouldConfirm base w.spacecraft) all in rw (state_is, good.2) ranks;
-          rank_most = rw good.2 (omega arith);
-        };
-      }
+  pub early : IsEarly d m
+  pub command_is : ControlFits d base control
+  pub confirmed_not : confirmed ≡ false
+  pub front_is : front ≡ true
+  pub none_sent : n ≡ 0
+  pub lasts : Lasts base reports (WouldConfirm base farm)
+  pub same : d ≡ InitWithCheck → AllSame reports farm.lockout farm.retransmit farm.vr

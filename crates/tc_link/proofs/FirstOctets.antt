@@ -1,5 +1,6 @@
 -- What was written over the first octets is the first octets.
-use Rattle.std.proofs.Common.{◌≡◌, ◌≤◌, ℕ, List, ◌++◌, length, take, drop, ap, ◌∙◌, arith, length-append, length-drop}
+use Rattle.tc_link.proofs.Common.{◌≡◌, ◌≤◌, ℕ, List, ◌++◌, length, take, drop, ap, ◌∙◌, arith, length-append}
+use Rattle.tc_link.proofs.Common.{length-drop}
 use Rattle.std.proofs.lemmas.List.{take_at}
 
 pub front_is : (n : ℕ) (out front old : List ℕ) → out ≡ front ++ drop n old → length out ≡ length old → n ≤ length old

@@ -1,56 +1,23 @@
 -- What the ground holds to be sent fits into frames, at every moment while its sender is on.
-use Rattle.std.proofs.Common.{◌≡◌, ℕ, zero, suc, Bool, true, false, not, List, [], ◌∷◌, ◌++◌, drop}
-use Rattle.std.proofs.Common.{Option, Some, None, Result}
-use Rattle.std.proofs.Common.{Ok, Err, option_to_list, refl, ap, sym, subst, ◌∙◌, append_assoc}
-use Rattle.std.specs.Prelude.{◌==◌}
-use Rattle.std.specs.List.{AllByRecursion}
-use Rattle.std.proofs.lemmas.Bool.{cond_both}
-use Rattle.clcw.specs.declared.word.Clcw.{Clcw}
-use Rattle.clcw.specs.declared.fault.ClcwFault.{ClcwFault}
-use Rattle.clcw.specs.Reading.{clcw_at}
-use Rattle.tc_frame.specs.Layout.{SegmentView}
-use Rattle.map_service.specs.Cutting.{segments_of}
-use Rattle.cop1.specs.Modulo.{ahead_by}
-use Rattle.cop1.specs.declared.fault.CopFault.{CopFault}
-use Rattle.cop1.specs.declared.vocabulary.Alert.{Alert}
-use Rattle.cop1.specs.declared.vocabulary.Alert.TheVariants as alert
-use Rattle.cop1.specs.declared.vocabulary.Control.TheVariants.{Idle, Sent}
-use Rattle.cop1.specs.declared.vocabulary.Directive.{Directive}
-use Rattle.cop1.specs.declared.vocabulary.Directive.TheVariants.{InitWithoutCheck, InitWithCheck, InitUnlock, InitSetVr}
-use Rattle.cop1.specs.declared.vocabulary.FopMode.{FopMode}
-use Rattle.cop1.specs.declared.vocabulary.FopMode.TheVariants.{S1, S2, S3, S4, S5, S6}
-use Rattle.cop1.specs.Directives.{is_initiation}
-use Rattle.cop1.specs.FopDirective.{directive_step}
-use Rattle.cop1.specs.UnitsNext.{units_of}
-use Rattle.cop1.specs.FopPull.{pull_step}
-use Rattle.cop1.specs.Units.{without_oldest_mark, FopState, FopOutcome}
-use Rattle.cop1.specs.FopReport.{locks, waits, asks, clcw_step, report_in, report_while_active, report_in_S4, confirms}
-use Rattle.cop1.specs.FopReport.{after_move_on, retransmits, after_new_value}
-use Rattle.cop1.specs.FopTick.{tick_step, after_count, due_again}
-use Rattle.cop1.specs.FopWords.{after_acknowledge, after_repeat, after_alert, after_stop, after_restart, alerts}
-use Rattle.cop1.specs.FopWords.{goes_on}
-use Rattle.cop1.proofs.Hearing.{heard_active}
-use Rattle.cop1.proofs.Obeying.{obeyed, begun}
-use Rattle.cop1.proofs.Pulling.{pulled_out}
-use Rattle.cop1.proofs.Ticking.{ticked}
-use Rattle.tm_link.specs.declared.fault.TmFault.{TmFault}
-use Rattle.tm_link.specs.Extraction.{Extracted, extract_step}
-use Rattle.tm_link.specs.Layout as telemetry
-use Rattle.nodes.specs.declared.config.Config.{Config}
-use Rattle.nodes.specs.declared.fault.LinkFault.{LinkFault}
-use Rattle.nodes.specs.declared.heard.Heard.{Heard}
-use Rattle.nodes.specs.OwnedFields.{FitsFrame}
-use Rattle.nodes.specs.Parameters.{IsConfig}
-use Rattle.nodes.specs.Ground.{GroundState, is_closed, unsent_segments, settle_step, with_fop, directive_outcome}
-use Rattle.nodes.specs.Ground.{submit_fault, after_submission, bypass_fault, after_bypass, unless_refused, segments_on}
-use Rattle.nodes.specs.Ground.{after_extraction, telemetry_outcome, own_frame_outcome, is_own_telemetry}
-use Rattle.nodes.specs.Ground as ground
-use Rattle.nodes.proofs.Submitting.{segments_fit}
-use Rattle.tc_link.proofs.Closed.{closed_not}
-use Rattle.tc_link.proofs.LateSubmitting.{taken_is, all_append}
+use Rattle.tc_link.proofs.Common.{◌≡◌, ℕ, zero, suc, Bool, true, false, List, [], ◌∷◌, ◌++◌, drop, Option, Some, None}
+use Rattle.tc_link.proofs.Common.{Result, option_to_list, refl, ap, sym, subst, ◌∙◌, append_assoc, AllByRecursion}
+use Rattle.tc_link.proofs.Common.{Clcw, SegmentView, segments_of, ahead_by, CopFault, Alert, Idle, Sent, Directive}
+use Rattle.tc_link.proofs.Common.{InitWithoutCheck, InitWithCheck, InitUnlock, InitSetVr, S1, S2, S3, S6}
+use Rattle.tc_link.proofs.Common.{is_initiation, directive_step, units_of, pull_step, without_oldest_mark, FopState}
+use Rattle.tc_link.proofs.Common.{FopOutcome, clcw_step, report_while_active, confirms, after_move_on, retransmits}
+use Rattle.tc_link.proofs.Common.{after_new_value, tick_step, after_count, due_again, after_acknowledge, after_repeat}
+use Rattle.tc_link.proofs.Common.{after_alert, after_stop, after_restart, heard_active, obeyed, begun, pulled_out}
+use Rattle.tc_link.proofs.Common.{ticked, TmFault, Extracted, Config, LinkFault, FitsFrame, IsConfig, GroundState}
+use Rattle.tc_link.proofs.Common.{is_closed, unsent_segments, settle_step, with_fop, directive_outcome, submit_fault}
+use Rattle.tc_link.proofs.Common.{after_submission, after_bypass, unless_refused, segments_on, after_extraction}
+use Rattle.tc_link.proofs.Common.{telemetry_outcome, segments_fit}
+use Rattle.tc_link.proofs.Closed.{closed_not, active_on}
+use Rattle.tc_link.proofs.Submitting.{taken_is, all_append}
 use Rattle.tc_link.proofs.Queue.{units-marked, units-drop, units-push, units-without}
+use Rattle.tc_link.proofs.Reported.{reported, frame_seen}
 use Rattle.tc_link.proofs.Settled.{settled_keeps}
-use Rattle.tc_link.proofs.SteadyNodes.{GroundNodeSteady}
+use Rattle.tm_link.specs.Layout as telemetry
+use Rattle.tc_link.proofs.Sound.{GroundNodeSteady}
 
 abbrev pub All : List SegmentView → Type 0
 All us = AllByRecursion FitsFrame us
@@ -116,26 +83,14 @@ module _ (s : FopState SegmentView) (pending : List SegmentView) (k : Fit s pend
       all_again = λ asking. again;
     })
 
-    in_S4 : Fits (report_in_S4 s r)
-    in_S4 =
-        let over : Fit (after_alert s) pending = off (after_alert s) refl in
-        cond_both (locks r) (alerts s alert.Lockout) _ (λ o. Fits o) (λ t. over)
-        (λ l. cond_both (not (r.value == s.vs)) (alerts s alert.NnR) _ (λ o. Fits o) (λ t. over)
-        (λ v. cond_both (asks r) (alerts s alert.Synch) _ (λ o. Fits o) (λ t. over)
-        (λ a. cond_both (waits r) (alerts s alert.Clcw) _ (λ o. Fits o) (λ t. over)
-        (λ t. same (record s { state = S1; ticks = None }) (λ t. on) refl refl))))
-
-  report_fits : (r : Clcw) (m : FopMode) → s.state ≡ m → Fits (report_in s r m)
-  report_fits r S4 is = in_S4 r (rw is refl)
-  report_fits r S5 is =
-      cond_both (confirms s r) (goes_on (record s { state = S1; ticks = None; control = Idle })) (goes_on s)
-      (λ o. Fits o)
-      (λ t. same (record s { state = S1; ticks = None; control = Idle }) (λ t. rw is refl) refl refl) (λ t. k)
-  report_fits r S6 is = k
-  report_fits r _ is = active r (rw is refl)
-
   pub heard_fits : (r : Clcw) → Fits (clcw_step s r)
-  heard_fits r = report_fits r s.state refl
+  heard_fits r = reported s r (λ o. Fits o) (record {
+    active = λ runs. active r (active_on s.state runs);
+    alerted = λ is x cause. off (after_alert s) refl;
+    checked = λ is confirms. same (record s { state = S1; ticks = None }) (λ t. rw is refl) refl refl;
+    commanded = λ is confirms. same (record s { state = S1; ticks = None; control = Idle }) (λ t. rw is refl) refl refl;
+    same = k;
+  })
 
   -- ---- a tick
 
@@ -239,15 +194,10 @@ module _ (c : Config) (s : GroundState) (g : GroundNodeSteady c s) (k : GroundFi
   extracted : (x : Extracted) → GroundFits (after_extraction s x)
   extracted x = record { sent = k.sent; unsent = k.unsent }
 
-  word_fits : (x : Extracted) (r : Result Clcw ClcwFault) → GroundFits (own_frame_outcome s x r).after
-  word_fits x (Err fault) = extracted x
-  word_fits x (Ok report) =
-      cond_both (report.vcid == s.config.vcid) _ _ (λ (o : ground.GroundOutcome Heard). GroundFits o.after)
-      (λ t. with_fits (after_extraction s x) (clcw_step s.fop report).after (heard_fits s.fop s.pending k report))
-      (λ t. extracted x)
-
   pub telemetry_fits : (r : Result telemetry.FrameView TmFault) → GroundFits (telemetry_outcome s r).after
-  telemetry_fits (Err fault) = k
-  telemetry_fits (Ok frame) =
-      cond_both (is_own_telemetry s.config frame) _ _ (λ (o : ground.GroundOutcome Heard). GroundFits o.after)
-      (λ t. word_fits (extract_step s.extractor frame) (clcw_at frame.ocf)) (λ t. k)
+  telemetry_fits = frame_seen s GroundFits (record {
+    same = k;
+    extracts = extracted;
+    uses = λ x report. with_fits (after_extraction s x) (clcw_step s.fop report).after
+        (heard_fits s.fop s.pending k report);
+  })

@@ -1,28 +1,14 @@
 -- What is accepted on board is delivered on its MAP, after what the session delivered there.
-use Rattle.std.proofs.Common.{◌≡◌, ◌≤◌, ℕ, List, [], ◌∷◌, ◌++◌, length, take, drop, option_map, option_to_list, Bool}
-use Rattle.std.proofs.Common.{true, false, Option, Some, None, Result, Ok, Err, if◌then◌else◌, refl, sym, ap, ◌∙◌}
-use Rattle.std.proofs.Common.{append-nil, arith, length-append, inl, inr}
-use Rattle.std.proofs.lemmas.Bool.{cases_eq, eq-eqb, ne_eqb}
-use Rattle.std.proofs.lemmas.List.{take-append-drop, take-append-le, drop-append-le}
-use Rattle.tc_frame.specs.declared.fault.TcFault.{TcFault}
-use Rattle.tc_frame.specs.declared.frame.Check.TheVariants.{On}
-use Rattle.tc_frame.specs.Layout.{SegmentView, BodyView, Ad, Bd, Bc, FrameView}
+use Rattle.tc_link.proofs.Common.{◌≡◌, ◌≤◌, ℕ, List, [], ◌∷◌, ◌++◌, length, take, drop, option_map, option_to_list}
+use Rattle.tc_link.proofs.Common.{Bool, true, false, Option, Some, None, Result, Ok, Err, if◌then◌else◌, refl, sym, ap}
+use Rattle.tc_link.proofs.Common.{◌∙◌, append-nil, arith, length-append, inl, inr, cases_eq, eq-eqb, ne_eqb}
+use Rattle.tc_link.proofs.Common.{take-append-drop, take-append-le, drop-append-le, TcFault, On, SegmentView, BodyView}
+use Rattle.tc_link.proofs.Common.{Ad, Bd, Bc, Limits, assembled, assembled_begins, assembled-push, assembled-other}
+use Rattle.tc_link.proofs.Common.{Verdict, Accepted, verdict_of, Config, SpacecraftState, spacecraft_receive}
+use Rattle.tc_link.proofs.Common.{frame_outcome, body_outcome, sequence_outcome, bypass_outcome, is_free, is_own_frame}
+use Rattle.tc_link.proofs.Common.{segment_to_accept, acceptance_with, is_kept, packets_accepted_on, limits_of}
+use Rattle.tc_frame.specs.Layout.{FrameView}
 use Rattle.tc_frame.specs.Reading.{frame_at}
-use Rattle.map_service.specs.declared.limits.Limits.{Limits}
-use Rattle.map_service.specs.Assembly.{assembled}
-use Rattle.map_service.proofs.Beginnings.{assembled_begins}
-use Rattle.map_service.proofs.Steps.{assembled-push, assembled-other}
-use Rattle.cop1.specs.declared.farm.Verdict.{Verdict}
-use Rattle.cop1.specs.declared.farm.Verdict.TheVariants.{Accepted}
-use Rattle.cop1.specs.Farm.{verdict_of}
-use Rattle.nodes.specs.declared.config.Config.{Config}
-use Rattle.nodes.specs.Spacecraft.{SpacecraftState, spacecraft_receive, frame_outcome, body_outcome, sequence_outcome}
-use Rattle.nodes.specs.Spacecraft.{bypass_outcome, is_free, is_own_frame}
-use Rattle.nodes.specs.Acceptance.{segment_to_accept}
-use Rattle.tc_link.specs.Acceptance.{acceptance_with}
-use Rattle.nodes.specs.BypassSegments.{is_kept}
-use Rattle.tc_link.specs.WorldFields.{packets_accepted_on}
-use Rattle.nodes.specs.Parameters.{limits_of}
 use Rattle.tc_link.proofs.AcceptedSegments.{accepts_segment, foreign}
 
 -- ---- the configuration stays

@@ -1,21 +1,12 @@
 -- What the reports on their way say at an idle start: what the receiver would now.
-use Rattle.std.proofs.Common.{◌≡◌, ℕ, ◌<◌, true, List, [], ◌∷◌, Ok, refl, ap, sym, ◌∙◌, arith}
-use Rattle.std.specs.Prelude.{◌==◌}
+use Rattle.tc_link.proofs.Common.{◌≡◌, ℕ, ◌<◌, true, List, [], ◌∷◌, Ok, refl, ap, sym, ◌∙◌, arith, ◌==◌, list_all}
+use Rattle.tc_link.proofs.Common.{and_parts, eqb-true, Clcw, flags_number, Directive, InitWithoutCheck, InitWithCheck}
+use Rattle.tc_link.proofs.Common.{InitUnlock, InitSetVr, locks, waits, asks, report_of, Config, SpacecraftState, World}
+use Rattle.tc_link.proofs.Common.{begins_clean, begins_idle, reports_as, report_now}
 use Rattle.std.specs.Int.RustNames.{bit_and}
-use Rattle.std.specs.List.{list_all}
-use Rattle.std.proofs.lemmas.Bool.{and_parts, eqb-true}
-use Rattle.clcw.specs.declared.word.Clcw.{Clcw}
-use Rattle.clcw.specs.Flags.{flags_number}
 use Rattle.clcw.specs.Reading.{clcw_at}
-use Rattle.cop1.specs.declared.vocabulary.Directive.{Directive}
-use Rattle.cop1.specs.declared.vocabulary.Directive.TheVariants.{InitWithoutCheck, InitWithCheck, InitUnlock, InitSetVr}
-use Rattle.cop1.specs.FopReport.{locks, waits, asks}
-use Rattle.cop1.specs.Report.{report_of}
 use Rattle.tm_link.specs.Reading.{frame_at}
-use Rattle.nodes.specs.declared.config.Config.{Config}
-use Rattle.nodes.specs.Spacecraft.{SpacecraftState}
-use Rattle.tc_link.specs.World.{World, is_none, is_quiet, is_idle, begins_clean, begins_idle, says_as, reports_as}
-use Rattle.tc_link.specs.World.{report_now}
+use Rattle.tc_link.specs.World.{is_none, is_quiet, is_idle, says_as}
 use Rattle.tc_link.proofs.Early.{WouldConfirm, AllGood, Lasts, AllSame, zeros}
 use Rattle.tc_link.proofs.Linked.{Tells, Reporting}
 use Rattle.tc_link.proofs.ReportsDown.{HasReports}
@@ -63,8 +54,8 @@ module _ (s : SpacecraftState) where
         says.0,
       )
 
-  all_confirm : (base : ℕ) (rs : List Clcw) → AllSay (report_of s.farm s.config.vcid) rs → WouldConfirm base s
-      → AllGood base rs (WouldConfirm base s)
+  all_confirm : (base : ℕ) (rs : List Clcw) → AllSay (report_of s.farm s.config.vcid) rs → WouldConfirm base s.farm
+      → AllGood base rs (WouldConfirm base s.farm)
   all_confirm base [] say would = would
   all_confirm base (r ∷ rs) say would =
       let f = says_flags r say.0 in
@@ -72,7 +63,7 @@ module _ (s : SpacecraftState) where
 
   -- one that confirms is followed by such alone
   pub all_last : (base : ℕ) (rs : List Clcw) → AllSay (report_of s.farm s.config.vcid) rs
-      → Lasts base rs (WouldConfirm base s)
+      → Lasts base rs (WouldConfirm base s.farm)
   all_last base [] say = tt
   all_last base (r ∷ rs) say =
       let f = says_flags r say.0 in (

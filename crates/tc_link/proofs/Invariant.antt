@@ -1,46 +1,31 @@
 -- At every moment of a run the world is sound, and so is a session that had an idle start.
-use Rattle.std.proofs.Common.{◌≡◌, ℕ, ◌⊎◌, inl, inr, Bool, true, false, List, [], ◌∷◌, Option, Some, Result}
-use Rattle.std.proofs.Common.{refl, ap, sym, subst, ◌∙◌}
-use Rattle.std.specs.Prelude.{option_map}
-use Rattle.std.specs.List.{AllByRecursion}
+use Rattle.tc_link.proofs.Common.{◌≡◌, ℕ, ◌⊎◌, inl, inr, Bool, true, false, List, [], ◌∷◌, Option, Some, Result, refl}
+use Rattle.tc_link.proofs.Common.{ap, sym, subst, ◌∙◌, option_map, AllByRecursion, SegmentView, CopFault, Alert}
+use Rattle.tc_link.proofs.Common.{Directive, directive_step, Config, Event, Opening, IsConfig, is_closed}
+use Rattle.tc_link.proofs.Common.{directive_outcome, is_initiation, World, WorldOutcome, new_world, world_step}
+use Rattle.tc_link.proofs.Common.{world_run, IsClean, IsIdle, BeginsNoSession, down_deliver_step, begins_clean}
+use Rattle.tc_link.proofs.Common.{begins_idle, session_begun_by, session_after_directive, IsDirective, IsEvent}
+use Rattle.tc_link.proofs.Common.{IsReached, obeyed, FopOutcome}
 use Rattle.std.proofs.lemmas.Bool.{cases_Bool}
-use Rattle.tc_frame.specs.Layout.{SegmentView}
-use Rattle.cop1.specs.declared.fault.CopFault.{CopFault}
-use Rattle.cop1.specs.declared.vocabulary.Alert.{Alert}
-use Rattle.cop1.specs.declared.vocabulary.Directive.{Directive}
-use Rattle.cop1.specs.FopDirective.{directive_step}
-use Rattle.nodes.specs.declared.config.Config.{Config}
-use Rattle.tc_link.specs.declared.event.Event.{Event}
-use Rattle.tc_link.specs.declared.event.Event.TheVariants as events
-use Rattle.tc_link.specs.declared.sim.opening.Opening.{Opening}
-use Rattle.nodes.specs.Parameters.{IsConfig}
-use Rattle.nodes.specs.Ground.{is_closed, directive_outcome}
-use Rattle.cop1.specs.Directives.{is_initiation}
-use Rattle.tc_link.specs.World.{World, WorldOutcome, Session, new_world, world_step, world_run, IsClean, IsIdle}
-use Rattle.tc_link.specs.World.{BeginsNoSession}
-use Rattle.tc_link.specs.World.{begins_clean, begins_idle, session_begun_by, session_after_directive}
-use Rattle.tc_link.specs.Reached.{IsDirective, IsEvent, IsReached}
-use Rattle.tc_link.proofs.Arriving.{up_deliver_keeps, late_up_lost}
+use Rattle.tc_link.specs.World.{Session}
+use Rattle.tc_link.proofs.Arriving.{up_delivers, up_lost}
 use Rattle.tc_link.proofs.Beginning.{InSession, begins}
+use Rattle.tc_link.proofs.Board.{takes, takes_bypass, queues}
 use Rattle.tc_link.proofs.Carried.{Carried, step_carried}
+use Rattle.tc_link.proofs.Directing.{ticks, directs}
+use Rattle.tc_link.proofs.EarlyTelemetry.{early_down_deliver}
+use Rattle.tc_link.proofs.Hearing.{reports_keep, down_lost}
 use Rattle.tc_link.proofs.Idle.{clean_idle}
+use Rattle.tc_link.proofs.LateTelemetry.{late_down_deliver}
+use Rattle.tc_link.proofs.Linked.{In, Begun, Late, Next, run_to, stays}
+use Rattle.tc_link.proofs.Pulled.{pulls_keep}
 use Rattle.tc_link.proofs.ReportsDown.{HasReports, step_reports}
-use Rattle.tc_link.proofs.Board.{late_take, late_take_bypass, late_telemetry}
-use Rattle.tc_link.proofs.Directing.{late_tick, late_directive}
-use Rattle.tc_link.proofs.Early.{Begun}
-use Rattle.tc_link.proofs.EarlyBoard.{early_up_deliver, early_up_lost, early_take, early_take_bypass}
-use Rattle.tc_link.proofs.EarlyBoard.{early_telemetry, early_report}
-use Rattle.tc_link.proofs.EarlyGround.{early_tick, early_directive, early_submit, early_bypass, early_send}
-use Rattle.tc_link.proofs.EarlyTelemetry.{early_down_deliver, early_down_lost}
-use Rattle.tc_link.proofs.LateTelemetry.{late_down_deliver, late_down_lost, late_report}
-use Rattle.tc_link.proofs.Linked.{Steady, Late, Next, late_of, stays}
-use Rattle.tc_link.proofs.LateSending.{late_send}
-use Rattle.tc_link.proofs.SteadyWorld.{Sound, steady_of, step_sound, new_sound}
-use Rattle.tc_link.proofs.LateSubmitting.{late_submit, late_bypass}
-use Rattle.cop1.proofs.Obeying.{obeyed}
+use Rattle.tc_link.proofs.SteadyWorld.{step_sound, new_sound}
+use Rattle.tc_link.proofs.Submitting.{submits, bypasses}
 use Rattle.tc_link.proofs.Closed.{closed_not, closed_is}
-use Rattle.cop1.specs.Units.{FopOutcome}
 use Rattle.tc_link.proofs.Leaving.{AtEachLoss, lost, pulled, up_arrives, down_arrives}
+use Rattle.link_events.specs.declared.event.Event.TheVariants as events
+use Rattle.tc_link.proofs.Sound.{Sound}
 
 -- ---- such an event leaves the session's opening as it is, and another begins one
 
@@ -106,51 +91,43 @@ module _ (w : World) where
 
 -- ---- such a session stays so
 
-module _ (c : Config) (d : Directive) (base : ℕ) (w : World) (k : Steady c w) where
-  late_losses : (g : Late c d base w) → AtEachLoss w (λ o. Next c d base g.plain o.after)
-  late_losses g = record {
-    refused = λ fault. stays g;
-    up = λ b bs is reply silent. late_up_lost c d base w k g b bs is;
-    down = λ b bs is reply silent. late_down_lost c d base w k g b bs is;
-  }
+module _ (early : Bool) (c : Config) (d : Directive) (base : ℕ) (w : World) (k : Sound c w) (g : In early c d base w)
+  where
+    losses : AtEachLoss w (λ o. Next early c d base g.plain o.after)
+    losses = record {
+      refused = λ fault. stays g;
+      up = λ b bs is reply silent. up_lost early c d base w k g b bs is;
+      down = λ b bs is reply silent. down_lost early c d base w k g b bs is;
+    }
 
+    -- where it is known what telemetry leads to that arrives
+    module _ (P : World → Type 0) (goes_so : (new : World) → Next early c d base g.plain new → P new)
+        (heard : P (down_deliver_step w w.down).after) where
+      step_so : (e : Event) → IsEvent e → BeginsNoSession w e → P (world_step w e).after
+      step_so (events.Submit m octets) fits goes = goes_so _ (submits early c d base w k g m octets.now)
+      step_so (events.Bypass m octets) fits goes = goes_so _ (bypasses early c d base w k g m octets.now)
+      step_so (events.Directive e) fits goes = goes_so _ (directs early c d base w g e fits (goes e refl))
+      step_so events.Send fits goes = goes_so _ (pulls_keep early c d base w k g)
+      step_so events.UpDeliver fits goes = goes_so _ (up_delivers early c d base w k g)
+      step_so events.Report fits goes = goes_so _ (reports_keep early c d base w k g)
+      step_so events.DownDeliver fits goes = heard
+      step_so events.Tick fits goes = goes_so _ (ticks early c d base w g)
+      step_so events.Take fits goes = goes_so _ (takes early c d base w k g)
+      step_so events.TakeBypass fits goes = goes_so _ (takes_bypass early c d base w k g)
+      step_so (events.Telemetry octets) fits goes = goes_so _ (queues early c d base w k g octets.now)
+      step_so e fits goes = goes_so _ (lost w (λ o. Next early c d base g.plain o.after) losses e tt)
+
+module _ (c : Config) (d : Directive) (base : ℕ) (w : World) (k : Sound c w) where
   pub late_step : (g : Late c d base w) (e : Event) → IsEvent e → BeginsNoSession w e
-      → Next c d base g.plain (world_step w e).after
-  late_step g (events.Submit m octets) fits goes = late_submit c d base w k g m octets.now
-  late_step g (events.Bypass m octets) fits goes = late_bypass c d base w k g m octets.now
-  late_step g (events.Directive e) fits goes = late_directive c d base w g e fits (goes e refl)
-  late_step g events.Send fits goes = late_send c d base w k g
-  late_step g events.UpDeliver fits goes = up_deliver_keeps c d base w k g
-  late_step g events.Report fits goes = late_report c d base w k g
-  late_step g events.DownDeliver fits goes = late_down_deliver c d base w k g
-  late_step g events.Tick fits goes = late_tick c d base w g
-  late_step g events.Take fits goes = late_take c d base w k g
-  late_step g events.TakeBypass fits goes = late_take_bypass c d base w k g
-  late_step g (events.Telemetry octets) fits goes = late_telemetry c d base w k g octets.now
-  late_step g e fits goes = lost w (λ o. Next c d base g.plain o.after) (late_losses g) e tt
-
-  early_losses : (g : Begun c d base w) → AtEachLoss w (λ o. Begun c d base o.after)
-  early_losses g = record {
-    refused = λ fault. g;
-    up = λ b bs is reply silent. early_up_lost c d base w k g b bs is;
-    down = λ b bs is reply silent. early_down_lost c d base w k g b bs is;
-  }
+      → Next false c d base g.plain (world_step w e).after
+  late_step g = step_so false c d base w k g (Next false c d base g.plain) (λ new next. next)
+      (late_down_deliver c d base w k g)
 
   pub early_step : (g : Begun c d base w) (e : Event) → IsEvent e → BeginsNoSession w e
       → Begun c d base (world_step w e).after ⊎ Late c d base (world_step w e).after
-  early_step g (events.Submit m octets) fits goes = inl (early_submit c d base w k g m octets.now)
-  early_step g (events.Bypass m octets) fits goes = inl (early_bypass c d base w k g m octets.now)
-  early_step g (events.Directive e) fits goes = inl (early_directive c d base w k g e fits (goes e refl))
-  early_step g events.Send fits goes = inl (early_send c d base w k g)
-  early_step g events.UpDeliver fits goes = inl (early_up_deliver c d base w k g)
-  early_step g events.Report fits goes = inl (early_report c d base w k g)
-  early_step g events.DownDeliver fits goes =
-      elim (early_down_deliver c d base w k g) [ inl t ↦ inl t | inr t ↦ inr t.late ]
-  early_step g events.Tick fits goes = inl (early_tick c d base w k g)
-  early_step g events.Take fits goes = inl (early_take c d base w k g)
-  early_step g events.TakeBypass fits goes = inl (early_take_bypass c d base w k g)
-  early_step g (events.Telemetry octets) fits goes = inl (early_telemetry c d base w k g octets.now)
-  early_step g e fits goes = inl (lost w (λ o. Begun c d base o.after) (early_losses g) e tt)
+  early_step g = step_so true c d base w k g (λ new. Begun c d base new ⊎ Late c d base new)
+      (λ new next. inl (run_to g next))
+      (elim (early_down_deliver c d base w k g) [ inl t ↦ inl (run_to g t) | inr t ↦ inr (run_to g t.late) ])
 
 -- ---- the invariant
 
@@ -178,8 +155,8 @@ module _ (c : Config) (w : World) (h : Holding c w) where
         directive = s.directive;
         base = s.base;
         session = elim s.session [
-          | inl g ↦ early_step c s.directive s.base w (steady_of c w h.sound) g e fits goes
-          | inr g ↦ inr (late_of g (late_step c s.directive s.base w (steady_of c w h.sound) g e fits goes))
+          | inl g ↦ early_step c s.directive s.base w h.sound g e fits goes
+          | inr g ↦ inr (run_to g (late_step c s.directive s.base w h.sound g e fits goes))
         ];
       }
 
@@ -237,7 +214,7 @@ module _ (c : Config) (w : World) (h : Holding c w) where
   pub step_holds : (e : Event) → IsEvent e → Holding c (world_step w e).after
   step_holds e fits = record {
     sound = step_sound c w h.sound e fits;
-    reports = step_reports c w (steady_of c w h.sound) h.reports e;
+    reports = step_reports c w h.sound h.reports e;
     carried = step_carried c w h.sound h.carried e;
     clean = clean_so e;
     session = session_so e fits;

@@ -1,25 +1,19 @@
 -- What each event leaves as it is.
-use Rattle.std.proofs.Common.{◌≡◌, ℕ, List, [], ◌∷◌, Option, Some, None, Result, Ok, Err, refl}
-use Rattle.tc_frame.specs.declared.frame.Check.TheVariants.{On}
-use Rattle.tc_frame.specs.declared.fault.TcFault.{TcFault}
+use Rattle.tc_link.proofs.Common.{◌≡◌, ℕ, List, [], ◌∷◌, Option, Some, None, Result, Ok, Err, refl, On, TcFault}
+use Rattle.tc_link.proofs.Common.{TmFault, GroundState, ground_step, Event, SimFault, NotDetectable, replied_alert, Up}
+use Rattle.tc_link.proofs.Common.{Down, World, WorldOutcome, world_refusal, world_reply, world_step, world_after_pull}
+use Rattle.tc_link.proofs.Common.{up_deliver_step, up_lose_step, up_damage_outcome, up_damage_step, down_deliver_step}
+use Rattle.tc_link.proofs.Common.{down_lose_step, down_damage_outcome, down_damage_step}
 use Rattle.tc_frame.specs.Layout.{FrameView}
+use Rattle.tc_link.specs.declared.sim.fault.SimFault.TheVariants.{NothingInTransit}
+use Rattle.tc_link.specs.Replies.{ReplyView, Nothing, Lost}
 use Rattle.tc_frame.specs.Reading as command
-use Rattle.tm_link.specs.declared.fault.TmFault.{TmFault}
 use Rattle.tm_link.specs.Layout as telemetry
 use Rattle.tm_link.specs.Reading as telemetry_reading
-use Rattle.nodes.specs.Ground.{GroundState, ground_step}
 use Rattle.nodes.specs.Ground as ground
 use Rattle.nodes.specs.declared.heard.Heard.TheVariants as heard_cases
 use Rattle.nodes.specs.declared.received.Received.TheVariants as received_cases
-use Rattle.tc_link.specs.declared.event.Event.{Event}
-use Rattle.tc_link.specs.declared.event.Event.TheVariants as events
-use Rattle.tc_link.specs.declared.sim.fault.SimFault.{SimFault}
-use Rattle.tc_link.specs.declared.sim.fault.SimFault.TheVariants.{NothingInTransit, NotDetectable}
-use Rattle.tc_link.specs.FalseAlarms.{replied_alert}
-use Rattle.tc_link.specs.Replies.{ReplyView, Nothing, Lost, Up, Down}
-use Rattle.tc_link.specs.World.{World, WorldOutcome, world_refusal, world_reply, world_step, world_after_pull}
-use Rattle.tc_link.specs.World.{up_deliver_step, up_lose_step, up_damage_outcome, up_damage_step, down_deliver_step}
-use Rattle.tc_link.specs.World.{down_lose_step, down_damage_outcome, down_damage_step}
+use Rattle.link_events.specs.declared.event.Event.TheVariants as events
 
 -- ---- frames that are lost or damaged
 

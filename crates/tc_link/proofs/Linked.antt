@@ -1,37 +1,20 @@
 -- How the nodes, what is on its way, the records and a plain link hold together in a session that had an
--- idle start.
-use Rattle.std.proofs.Common.{◌≡◌, ℕ, ◌+◌, ◌*◌, ◌/◌, ◌%◌, ◌<◌, ◌≤◌, ◌⊎◌, Bool, true, false, List, [], ◌∷◌, ◌++◌, length}
-use Rattle.std.proofs.Common.{take, drop, map, Some, None, Ok, inl, inr, refl, sym, subst}
-use Rattle.std.specs.List.{AllByRecursion, flat_map}
-use Rattle.clcw.specs.declared.word.Clcw.{Clcw}
+-- idle start, before it is settled and after.
+use Rattle.tc_link.proofs.Common.{◌≡◌, ℕ, ◌+◌, ◌*◌, ◌/◌, ◌%◌, ◌<◌, ◌≤◌, ◌⊎◌, Bool, true, false, List, [], ◌∷◌, ◌++◌}
+use Rattle.tc_link.proofs.Common.{length, take, drop, map, Some, None, Ok, inl, inr, refl, sym, subst, AllByRecursion}
+use Rattle.tc_link.proofs.Common.{Clcw, On, SegmentView, BodyView, segment_octets, is_open, segments_of, cut_fault}
+use Rattle.tc_link.proofs.Common.{Control, Directive, FopMode, FarmState, SentUnit, units_of}
+use Rattle.tc_link.proofs.Common.{Config, IsChecked, limits_of, FitsFrame, PacketOn, frame_of}
+use Rattle.tc_link.proofs.Common.{is_closed, unsent_segments, World, directive_of, PlainLink, PlainRun, AtMostOneStep}
+use Rattle.tc_link.proofs.Common.{new_link, more, Rises}
+use Rattle.std.specs.List.{flat_map}
 use Rattle.clcw.specs.Reading.{clcw_at}
-use Rattle.tc_frame.specs.declared.frame.Check.TheVariants.{On}
-use Rattle.tc_frame.specs.Layout.{SegmentView, BodyView, segment_octets}
+use Rattle.tc_link.proofs.Early.{Unsettled}
+use Rattle.tc_link.proofs.Reports.{IsLate, asked}
+use Rattle.tc_link.proofs.Transit.{UpIs, DownIs, Fits, Ranks, bit}
 use Rattle.tc_frame.specs.Reading as command
-use Rattle.map_service.specs.Assembly.{is_open}
-use Rattle.map_service.specs.Cutting.{segments_of, cut_fault}
-use Rattle.cop1.specs.declared.vocabulary.Control.{Control}
-use Rattle.cop1.specs.declared.vocabulary.Control.TheVariants.{Idle}
-use Rattle.cop1.specs.declared.vocabulary.Directive.{Directive}
-use Rattle.cop1.specs.declared.vocabulary.FopMode.{FopMode}
-use Rattle.cop1.specs.declared.vocabulary.FopMode.TheVariants.{S5}
-use Rattle.cop1.specs.FarmRuns.{FlagsAgree}
-use Rattle.cop1.specs.Units.{SentUnit}
-use Rattle.cop1.specs.UnitsNext.{units_of}
 use Rattle.tm_link.specs.Layout as telemetry
 use Rattle.tm_link.specs.Reading as telemetry_reading
-use Rattle.nodes.specs.declared.config.Config.{Config}
-use Rattle.tc_link.specs.Confirmation.{IsChecked}
-use Rattle.nodes.specs.SpacecraftFields.{IsBuilderOf}
-use Rattle.nodes.specs.Parameters.{IsConfig, limits_of}
-use Rattle.nodes.specs.OwnedFields.{FitsFrame}
-use Rattle.nodes.specs.Packets.{PacketOn}
-use Rattle.nodes.specs.Ground.{frame_of, is_closed, unsent_segments}
-use Rattle.tc_link.specs.World.{World, directive_of}
-use Rattle.tc_link.specs.PlainLink.{PlainLink, PlainRun, AtMostOneStep, new_link, more}
-use Rattle.tc_link.proofs.Reports.{IsLate, asked}
-use Rattle.tc_link.specs.History.{Rises}
-use Rattle.tc_link.proofs.Transit.{UpIs, DownIs, Fits, Ranks, bit}
 
 -- ---- octets on their way
 
@@ -55,27 +38,6 @@ Reporting c [] [] = Unit {0}
 Reporting c [] (r ∷ rs) = ⊥
 Reporting c (b ∷ bs) [] = ⊥
 Reporting c (b ∷ bs) (r ∷ rs) = Tells c b r × Reporting c bs rs
-
--- ---- what holds always
-
--- a control command is there in S5 alone
-abbrev pub Commanded : FopMode → Control → Type 0
-Commanded S5 control = Unit {0}
-Commanded _ control = control ≡ Idle
-
-pub record Steady (c : Config) (w : World) : Type 0 where
-  pub ranges : IsConfig c
-  pub ground_config : w.ground_node.config ≡ c
-  pub spacecraft_config : w.spacecraft.config ≡ c
-  pub width : w.spacecraft.farm.width ≡ c.width
-  pub farm_b : w.spacecraft.farm.farm_b < 4
-  pub flags : FlagsAgree w.spacecraft.farm
-  pub window : w.ground_node.fop.window ≤ c.width / 2
-  pub commanded : Commanded w.ground_node.fop.state w.ground_node.fop.control
-  pub bypass_fits : AllByRecursion FitsFrame w.ground_node.fop.bypass
-  pub before : w.session.before ≤ length w.spacecraft.accepted
-  pub builder : IsBuilderOf c w.spacecraft.builder
-  pub idle_left : w.spacecraft.builder.idle_left ≤ 6
 
 -- ---- a submission that was accepted
 
@@ -115,17 +77,13 @@ pub kept_of : (off : Bool) (base vs nn : ℕ) (sent : List (SentUnit SegmentView
 kept_of true base vs nn sent rest a n units held = held
 kept_of false base vs nn sent rest a n units held = inl (held.vs_is, held.nn_is)
 
--- ---- once the session is confirmed, or begun without a check
+-- ---- from the beginning of the session on
 
 pub record Linked (c : Config) (d : Directive) (base : ℕ) (w : World) (p : PlainLink) (front : Bool)
     (frames : List BodyView) (reports : List Clcw) : Type 0 where
   pub opened : directive_of w ≡ Some d
-  pub confirmed_is : IsChecked d → w.session.confirmed ≡ true
-  pub confirmed_so : w.session.confirmed ≡ true → IsChecked d
   pub base_octet : base < 256
-  pub vr_is : w.spacecraft.farm.vr ≡ (base + p.r) % 256
   pub nn_octet : w.ground_node.fop.nn < 256
-  pub late : IsLate w.ground_node.fop.state
   pub held : Held (is_closed w.ground_node.fop.state) base w.ground_node.fop.vs w.ground_node.fop.nn
       w.ground_node.fop.sent (unsent_segments w.ground_node) p.a p.n p.units
   pub given : AllByRecursion (IsGiven c) w.session.submissions
@@ -138,73 +96,117 @@ pub record Linked (c : Config) (d : Directive) (base : ℕ) (w : World) (p : Pla
   pub a_r : p.a ≤ p.r
   pub r_n : p.r ≤ p.n
   pub n_a : p.n ≤ p.a + c.width / 2
-  pub first : front ≡ true → p.r ≡ 0
   pub carries : Carries c w.up frames
   pub reporting : Reporting c w.down reports
+  pub counted : length reports ≡ length p.down
   pub up_is : UpIs d base front frames p.up
-  pub down_is : DownIs base reports p.down
   pub fits : Fits (c.width / 2) p.n p.units p.r p.up
   pub rises : Rises p.a p.down p.r
 
 -- where the sender is on
-pub holds_late : {c : Config} {d : Directive} {base : ℕ} {w : World} {p : PlainLink} {front : Bool}
+pub holds_on : {c : Config} {d : Directive} {base : ℕ} {w : World} {p : PlainLink} {front : Bool}
     {frames : List BodyView} {reports : List Clcw} → Linked c d base w p front frames reports
     → is_closed w.ground_node.fop.state ≡ false
     → Holds base w.ground_node.fop.vs w.ground_node.fop.nn w.ground_node.fop.sent (unsent_segments w.ground_node)
     p.a p.n p.units
-holds_late l on = holds_where on l.held
+holds_on l on = holds_where on l.held
+
+-- ---- once it is confirmed, or begun without a check
 
 -- no false alarm is on its way
-pub record Calm (w : World) (p : PlainLink) (front : Bool) (reports : List Clcw) : Type 0 where
-  pub unlocked : w.spacecraft.farm.lockout ≡ false
-  pub clear : front ≡ true → w.spacecraft.farm.retransmit ≡ false
-  pub ranks : Ranks (2 * p.a + asked w.ground_node.fop.state) reports p.down
-      (2 * p.r + bit w.spacecraft.farm.retransmit)
-  pub rank_most : 2 * p.r + bit w.spacecraft.farm.retransmit ≤ 2 * p.n
+pub record Calm (m : FopMode) (farm : FarmState) (front : Bool) (reports : List Clcw) (a r n : ℕ) (down : List ℕ) :
+    Type 0 where
+  pub unlocked : farm.lockout ≡ false
+  pub clear : front ≡ true → farm.retransmit ≡ false
+  pub ranks : Ranks (2 * a + asked m) reports down (2 * r + bit farm.retransmit)
+  pub rank_most : 2 * r + bit farm.retransmit ≤ 2 * n
+
+pub record Settled (d : Directive) (base : ℕ) (m : FopMode) (farm : FarmState) (confirmed front : Bool)
+    (reports : List Clcw) (a r n : ℕ) (down : List ℕ) : Type 0 where
+  pub late : IsLate m
+  pub confirmed_is : IsChecked d → confirmed ≡ true
+  pub confirmed_so : confirmed ≡ true → IsChecked d
+  pub vr_is : farm.vr ≡ (base + r) % 256
+  pub first : front ≡ true → r ≡ 0
+  pub down_is : DownIs base reports down
+  pub calm : IsChecked d → Calm m farm front reports a r n down
+
+-- ---- both
+
+abbrev pub Stage : (early : Bool) → Directive → ℕ → FopMode → Control → FarmState → (confirmed front : Bool)
+    → List Clcw → (a r n : ℕ) → List ℕ → Type 0
+Stage true d base m control farm confirmed front reports a r n down =
+    Unsettled d base m control farm confirmed front reports n
+Stage false d base m control farm confirmed front reports a r n down =
+    Settled d base m farm confirmed front reports a r n down
 
 -- a plain link that is reached so stands beside the world
-pub record LateBy (Reached : PlainLink → Type 0) (c : Config) (d : Directive) (base : ℕ) (w : World) : Type 0 where
+pub record SessionBy (early : Bool) (Reached : PlainLink → Type 0) (c : Config) (d : Directive) (base : ℕ) (w : World) :
+    Type 0 where
   pub plain : PlainLink
   pub ran : Reached plain
   pub front : Bool
   pub frames : List BodyView
   pub reports : List Clcw
   pub linked : Linked c d base w plain front frames reports
-  pub calm : IsChecked d → Calm w plain front reports
+  pub stage : Stage early d base w.ground_node.fop.state w.ground_node.fop.control w.spacecraft.farm w.session.confirmed
+      front reports plain.a plain.r plain.n plain.down
 
 -- one that a run leads to
+abbrev pub In : Bool → Config → Directive → ℕ → World → Type 0
+In early c d base w = SessionBy early (PlainRun new_link) c d base w
+
+abbrev pub Begun : Config → Directive → ℕ → World → Type 0
+Begun c d base w = In true c d base w
+
 abbrev pub Late : Config → Directive → ℕ → World → Type 0
-Late c d base w = LateBy (PlainRun new_link) c d base w
+Late c d base w = In false c d base w
 
 -- one that is a step from this one, or is this one
-abbrev pub Next : Config → Directive → ℕ → PlainLink → World → Type 0
-Next c d base p w = LateBy (AtMostOneStep p) c d base w
+abbrev pub Next : Bool → Config → Directive → ℕ → PlainLink → World → Type 0
+Next early c d base p w = SessionBy early (AtMostOneStep p) c d base w
 
--- what stands beside one world stands beside another
-pub beside : {Was Reached : PlainLink → Type 0} {c : Config} {d : Directive} {base : ℕ} {w : World}
-    (g : LateBy Was c d base w) (new : World) → Reached g.plain
-    → Linked c d base new g.plain g.front g.frames g.reports → (IsChecked d → Calm new g.plain g.front g.reports)
-    → LateBy Reached c d base new
-beside g new ran linked calm = record {
+-- its stage with another sender
+abbrev pub WithSender : {early : Bool} {Reached : PlainLink → Type 0} {c : Config} {d : Directive} {base : ℕ}
+    {w : World} → SessionBy early Reached c d base w → FopMode → Control → Type 0
+WithSender {early} {Reached} {c} {d} {base} {w} g m control =
+    Stage early d base m control w.spacecraft.farm w.session.confirmed g.front g.reports g.plain.a g.plain.r g.plain.n
+    g.plain.down
+
+-- with another receiver
+abbrev pub WithReceiver : {early : Bool} {Reached : PlainLink → Type 0} {c : Config} {d : Directive} {base : ℕ}
+    {w : World} → SessionBy early Reached c d base w → FarmState → Type 0
+WithReceiver {early} {Reached} {c} {d} {base} {w} g farm =
+    Stage early d base w.ground_node.fop.state w.ground_node.fop.control farm w.session.confirmed g.front g.reports
+    g.plain.a g.plain.r g.plain.n g.plain.down
+
+-- the same plain link
+pub beside : {early : Bool} {Was Reached : PlainLink → Type 0} {c : Config} {d : Directive} {base : ℕ} {w : World}
+    (g : SessionBy early Was c d base w) (new : World) → Reached g.plain
+    → Linked c d base new g.plain g.front g.frames g.reports
+    → Stage early d base new.ground_node.fop.state new.ground_node.fop.control new.spacecraft.farm new.session.confirmed
+    g.front g.reports g.plain.a g.plain.r g.plain.n g.plain.down → SessionBy early Reached c d base new
+beside g new ran linked stage = record {
   plain = g.plain;
   ran = ran;
   front = g.front;
   frames = g.frames;
   reports = g.reports;
   linked = linked;
-  calm = calm;
+  stage = stage;
 }
 
-pub stays : {c : Config} {d : Directive} {base : ℕ} {w : World} (g : Late c d base w) → Next c d base g.plain w
-stays {c} {d} {base} {w} g = beside g w (inl refl) g.linked g.calm
+pub stays : {early : Bool} {c : Config} {d : Directive} {base : ℕ} {w : World} (g : In early c d base w)
+    → Next early c d base g.plain w
+stays {early} {c} {d} {base} {w} g = beside g w (inl refl) g.linked g.stage
 
-pub run_on : (p q : PlainLink) → PlainRun new_link p → AtMostOneStep p q → PlainRun new_link q
+run_on : (p q : PlainLink) → PlainRun new_link p → AtMostOneStep p q → PlainRun new_link q
 run_on p q ran (inl same) = subst (PlainRun new_link) (sym same) ran
 run_on p q ran (inr step) = more ran step
 
-pub late_of : {c : Config} {d : Directive} {base : ℕ} {w new : World} (g : Late c d base w) → Next c d base g.plain new
-    → Late c d base new
-late_of {c} {d} {base} {w} {new} g s = beside s new (run_on g.plain s.plain g.ran s.ran) s.linked s.calm
+pub run_to : {early to : Bool} {c : Config} {d : Directive} {base : ℕ} {w new : World} (g : In early c d base w)
+    → Next to c d base g.plain new → In to c d base new
+run_to {early} {to} {c} {d} {base} {w} {new} g s = beside s new (run_on g.plain s.plain g.ran s.ran) s.linked s.stage
 
 -- ---- what keeps the octets
 

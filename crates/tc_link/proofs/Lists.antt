@@ -1,7 +1,6 @@
 -- What the proofs need of lists.
-use Rattle.std.proofs.Common.{◌≡◌, ℕ, zero, suc, ◌+◌, List, [], ◌∷◌, ◌++◌, take, drop, Some, ap, arith}
+use Rattle.tc_link.proofs.Common.{◌≡◌, ℕ, zero, suc, ◌+◌, List, [], ◌∷◌, ◌++◌, take, drop, Some, ap, arith, slice_get}
 use Rattle.std.proofs.Common.{add-one, zero-add}
-use Rattle.std.specs.Prelude.{slice_get}
 
 module _ {A : Type 0} where
   -- the rest of a list from n on, taken apart

@@ -1,50 +1,30 @@
 -- The receiver doesn't enter Lockout, and a confirmation is exact, in a session that had an idle start,
 -- by check, Unlock or Set V(R).
-use Rattle.std.proofs.Common.{◌≡◌, ◌≢◌, ℕ, ◌⊎◌, inl, inr, Bool, true, false, List, [], ◌∷◌, length, Option, Some}
-use Rattle.std.proofs.Common.{Result, Ok, Err, refl, ap, sym, subst, ◌∙◌}
-use Rattle.std.specs.Prelude.{nat_lt}
-use Rattle.std.proofs.lemmas.Bool.{cond_both}
-use Rattle.tc_frame.specs.declared.frame.Check.TheVariants.{On}
-use Rattle.tc_frame.specs.declared.frame.Command.TheVariants.{Unlock, SetVr}
-use Rattle.tc_frame.specs.Layout.{SegmentView, BodyView, Ad, Bd, Bc}
+use Rattle.tc_link.proofs.Common.{◌≡◌, ◌≢◌, ℕ, ◌⊎◌, inl, inr, Bool, true, false, List, [], ◌∷◌, length, Option, Some}
+use Rattle.tc_link.proofs.Common.{Result, Ok, Err, refl, ap, sym, subst, ◌∙◌, nat_lt, cond_both, On, BodyView, Ad, Bd}
+use Rattle.tc_link.proofs.Common.{Bc, CopFault, FarmMode, Open, Alert, Directive, FlagsAgree, state_of, FarmState}
+use Rattle.tc_link.proofs.Common.{after_release, farm_step, BufferReleased, directive_step, is_to_send, TmFault}
+use Rattle.tc_link.proofs.Common.{Config, Event, is_kept, PacketOn, limits_of, SpacecraftState, SpacecraftOutcome}
+use Rattle.tc_link.proofs.Common.{body_outcome, spacecraft_take, spacecraft_take_bypass, spacecraft_telemetry}
+use Rattle.tc_link.proofs.Common.{directive_outcome, is_initiation, World, WorldOutcome, world_step, session_begun_by}
+use Rattle.tc_link.proofs.Common.{session_after_directive, up_deliver_step, directive_of, ConfirmsExactly, IsChecked}
+use Rattle.tc_link.proofs.Common.{IsChecking, HasNoFalseAlarm, IsEvent}
 use Rattle.tc_frame.specs.Reading.{frame_at}
-use Rattle.cop1.specs.declared.fault.CopFault.{CopFault}
-use Rattle.cop1.specs.declared.farm.FarmMode.{FarmMode}
-use Rattle.cop1.specs.declared.farm.FarmMode.TheVariants.{Open, Wait, Lockout}
-use Rattle.cop1.specs.declared.vocabulary.Alert.{Alert}
-use Rattle.cop1.specs.declared.vocabulary.Directive.{Directive}
-use Rattle.cop1.specs.FarmRuns.{FlagsAgree}
-use Rattle.cop1.specs.Farm.{state_of, FarmState, after_unlock, after_set_vr, after_release, farm_step, BufferReleased}
-use Rattle.cop1.specs.FopDirective.{directive_step}
-use Rattle.tm_link.specs.Building.{is_to_send}
-use Rattle.tm_link.specs.declared.fault.TmFault.{TmFault}
-use Rattle.nodes.specs.declared.config.Config.{Config}
-use Rattle.tc_link.specs.declared.event.Event.{Event}
-use Rattle.tc_link.specs.declared.event.Event.TheVariants as events
-use Rattle.nodes.specs.BypassSegments.{is_kept}
-use Rattle.nodes.specs.Packets.{PacketOn}
-use Rattle.nodes.specs.Parameters.{limits_of}
-use Rattle.nodes.specs.Spacecraft.{SpacecraftState, SpacecraftOutcome, body_outcome, bypass_outcome, spacecraft_take}
-use Rattle.nodes.specs.Spacecraft.{spacecraft_take_bypass, spacecraft_telemetry}
-use Rattle.nodes.specs.Ground.{directive_outcome}
-use Rattle.cop1.specs.Directives.{is_initiation}
-use Rattle.tc_link.specs.World.{World, WorldOutcome, world_step, session_begun_by, session_after_directive}
-use Rattle.tc_link.specs.World.{up_deliver_step}
-use Rattle.tc_link.specs.World.{directive_of}
-use Rattle.tc_link.specs.Confirmation.{ConfirmsExactly, IsChecked, IsChecking}
-use Rattle.tc_link.specs.FalseAlarms.{HasNoFalseAlarm}
-use Rattle.tc_link.specs.Reached.{IsEvent}
+use Rattle.cop1.specs.declared.farm.FarmMode.TheVariants.{Lockout}
 use Rattle.tc_link.proofs.Alerts.{cause}
 use Rattle.tc_link.proofs.Arriving.{own_arrives}
 use Rattle.tc_link.proofs.Beginning.{InSession}
-use Rattle.tc_link.proofs.Early.{Begun}
+use Rattle.tc_link.proofs.Eased.{bypass_eases, control_eases}
 use Rattle.tc_link.proofs.EarlyTelemetry.{early_down_deliver}
 use Rattle.tc_link.proofs.Invariant.{late_step}
-use Rattle.tc_link.proofs.Linked.{Steady, Late, Carries}
-use Rattle.tc_link.proofs.SteadyWorld.{Sound, steady_of, step_sound}
+use Rattle.tc_link.proofs.Linked.{Begun, Late, Carries}
+use Rattle.tc_link.proofs.Pulled.{early_up}
+use Rattle.tc_link.proofs.SteadyWorld.{step_sound}
 use Rattle.tc_link.proofs.Transit.{UpIs}
 use Rattle.tc_link.proofs.Windows.{state_by}
 use Rattle.tc_link.proofs.Leaving.{AtEachLoss, lost, pulled, up_arrives, down_arrives}
+use Rattle.link_events.specs.declared.event.Event.TheVariants as events
+use Rattle.tc_link.proofs.Sound.{Sound}
 
 -- ---- what leaves the receiver as it is
 
@@ -59,8 +39,7 @@ queued_same s octets =
 
 released : (s : FarmState) (m : FarmMode) → (after_release s m).lockout ≡ s.lockout
 released s Open = refl
-released s Wait = refl
-released s Lockout = refl
+released s _ = refl
 
 taken_same : (s : SpacecraftState) (ps : List PacketOn) → (spacecraft_take s ps).after.farm.lockout ≡ s.farm.lockout
 taken_same s [] = refl
@@ -70,28 +49,13 @@ taken_same s (p ∷ left) =
 
 -- ---- frames before the confirmation
 
-unlocked_by : (s : FarmState) (m : FarmMode) → s.lockout ≡ false → (after_unlock s m).lockout ≡ false
-unlocked_by s Open is = is
-unlocked_by s Wait is = is
-unlocked_by s Lockout is = refl
-
-set_by : (s : FarmState) (x : ℕ) (m : FarmMode) → s.lockout ≡ false → (after_set_vr s x m).lockout ≡ false
-set_by s x Open is = is
-set_by s x Wait is = is
-set_by s x Lockout is = is
-
-bypass_by : (s : SpacecraftState) (u : SegmentView) (kept : Bool) → s.farm.lockout ≡ false
-    → (bypass_outcome s u kept).after.farm.lockout ≡ false
-bypass_by s u true is = is
-bypass_by s u false is = is
-
-module _ (c : Config) (d : Directive) (base : ℕ) (w : World) (k : Steady c w) where
+module _ (c : Config) (d : Directive) (base : ℕ) (w : World) (k : Sound c w) where
   body_by : (f : BodyView) (fs : List BodyView) → UpIs d base true (f ∷ fs) [] → w.spacecraft.farm.lockout ≡ false
       → (body_outcome w.spacecraft f).after.farm.lockout ≡ false
   body_by (Ad n u) fs up is = elim up [ ]
-  body_by (Bd u) fs up is = bypass_by w.spacecraft u (is_kept (limits_of w.spacecraft.config) u) is
-  body_by (Bc Unlock) fs up is = unlocked_by w.spacecraft.farm w.spacecraft.farm.state is
-  body_by (Bc (SetVr x)) fs up is = set_by w.spacecraft.farm x w.spacecraft.farm.state is
+  body_by (Bd u) fs up is =
+      (bypass_eases d base true w.spacecraft u (is_kept (limits_of w.spacecraft.config) u)).lockout is
+  body_by (Bc command) fs up is = (control_eases d base true w.spacecraft command up.0 up.1).lockout is
 
   delivered_by : (bs : List (List ℕ)) (fs : List BodyView) → Carries c bs fs → UpIs d base true fs []
       → w.spacecraft.farm.lockout ≡ false → (up_deliver_step w bs).after.spacecraft.farm.lockout ≡ false
@@ -99,13 +63,14 @@ module _ (c : Config) (d : Directive) (base : ℕ) (w : World) (k : Steady c w) 
   delivered_by (b ∷ bs) [] carries up is = elim carries [ ]
   delivered_by (b ∷ bs) (f ∷ fs) carries up is =
       subst (λ o. o.after.farm.lockout ≡ false)
-      (sym (own_arrives w.spacecraft c f (frame_at On b) k.spacecraft_config carries.0)) (body_by f fs up is)
+      (sym (own_arrives w.spacecraft c f (frame_at On b) k.spacecraft.config carries.0)) (body_by f fs up is)
 
   up_unlocked : IsChecked d → Begun c d base w ⊎ Late c d base w → w.spacecraft.farm.lockout ≡ false
       → (up_deliver_step w w.up).after.spacecraft.farm.lockout ≡ false
   up_unlocked checked s is = elim s [
-    | inl g ↦ delivered_by w.up g.frames g.early.carries g.early.up_is is
-    | inr g ↦ ((late_step c d base w k g events.UpDeliver tt (λ x same begins. absurd (cc same))).calm checked).unlocked
+    | inl g ↦ delivered_by w.up g.frames g.linked.carries (early_up c d base w g) is
+    | inr g ↦ (let next = late_step c d base w k g events.UpDeliver tt (λ x same begins. absurd (cc same)) in
+        (next.stage.calm checked).unlocked)
   ]
 
   abbrev IsUnlocked : WorldOutcome → Type 0
@@ -136,8 +101,8 @@ module _ (c : Config) (d : Directive) (base : ℕ) (w : World) (k : Steady c w) 
   unlocked : IsChecked d → Begun c d base w ⊎ Late c d base w → w.session.confirmed ≡ true
       → w.spacecraft.farm.lockout ≡ false
   unlocked checked s confirmed = elim s [
-    | inl g ↦ (absurd (let no : w.session.confirmed ≡ false = g.early.confirmed_not in cc))
-    | inr g ↦ (g.calm checked).unlocked
+    | inl g ↦ (absurd (let no : w.session.confirmed ≡ false = g.stage.confirmed_not in cc))
+    | inr g ↦ (g.stage.calm checked).unlocked
   ]
 
   -- ---- the event that confirms
@@ -172,7 +137,7 @@ module _ (c : Config) (d : Directive) (base : ℕ) (w : World) (k : Steady c w) 
   exactly g events.UpDeliver not_yet now = absurd (cc (up_arrives w IsUnconfirmed not_yet (λ b bs is. not_yet), now))
   exactly g events.DownDeliver not_yet now =
       elim (early_down_deliver c d base w k g)
-      [ inl t ↦ absurd (let no = t.early.confirmed_not in cc (no, now)) | inr t ↦ t.exact ]
+      [ inl t ↦ absurd (let no = t.stage.confirmed_not in cc (no, now)) | inr t ↦ t.exact ]
   exactly g events.UpLose not_yet now =
       absurd (cc (lost w IsUnconfirmed (unconfirmed_losses not_yet) events.UpLose tt, now))
   exactly g (events.UpDamage octets) not_yet now =
@@ -187,7 +152,7 @@ module _ (c : Config) (d : Directive) (base : ℕ) (w : World) (k : Steady c w) 
       → ConfirmsExactly w (world_step w e).after
   confirms_so checked s e not_yet now = elim s [
     | inl g ↦ exactly g e not_yet now
-    | inr g ↦ absurd (let was : w.session.confirmed ≡ true = g.linked.confirmed_is checked in cc (was, not_yet))
+    | inr g ↦ absurd (let was : w.session.confirmed ≡ true = g.stage.confirmed_is checked in cc (was, not_yet))
   ]
 
 -- ---- the state and the flag
@@ -204,7 +169,7 @@ flag_of s agree other = locked_flag s.lockout s.wait (λ e. other (agree.state �
 opened_as : (c : Config) (w : World) (s : InSession c w) → directive_of w ≡ Some s.directive
 opened_as c w s =
     elim s.session [
-      | inl g ↦ g.early.opened
+      | inl g ↦ g.linked.opened
       | inr g ↦ g.linked.opened
     ]
 
@@ -216,12 +181,12 @@ module _ (c : Config) (w : World) (k : Sound c w) (s : InSession c w) (checking 
   has_no_false_alarm e fits = record {
     not_locked = λ other. state_by (world_step w e).after.spacecraft.farm
         (step_sound c w k e fits).spacecraft.farm.flags
-        (not_locked c s.directive s.base w (steady_of c w k) checked s.session e
+        (not_locked c s.directive s.base w k checked s.session e
         (flag_of w.spacecraft.farm k.spacecraft.farm.flags other));
     unlocked = λ confirmed. state_by w.spacecraft.farm k.spacecraft.farm.flags
-        (unlocked c s.directive s.base w (steady_of c w k) checked s.session confirmed);
-    alerts = λ alert is. cause c s.directive s.base w (steady_of c w k) checked s.session e alert is;
+        (unlocked c s.directive s.base w k checked s.session confirmed);
+    alerts = λ alert is. cause c s.directive s.base w k checked s.session e alert is;
   }
 
   pub confirms_exactly : (e : Event) → ConfirmsExactly w (world_step w e).after
-  confirms_exactly e = confirms_so c s.directive s.base w (steady_of c w k) checked s.session e
+  confirms_exactly e = confirms_so c s.directive s.base w k checked s.session e

@@ -1,13 +1,11 @@
 -- Lists of packets for each MAP, one of which changes.
-use Rattle.std.proofs.Common.{◌≡◌, ◌<◌, ◌≤◌, ℕ, zero, suc, ◌+◌, List, [], ◌∷◌, ◌++◌, length, map, set, get_or, refl}
-use Rattle.std.proofs.Common.{sym, ap, ◌∙◌, arith, inl, inr}
-use Rattle.std.specs.Prelude.{◌==◌, if◌then◌else◌}
+use Rattle.tc_link.proofs.Common.{◌≡◌, ◌<◌, ◌≤◌, ℕ, zero, suc, ◌+◌, List, [], ◌∷◌, ◌++◌, length, map, get_or, refl}
+use Rattle.tc_link.proofs.Common.{sym, ap, ◌∙◌, arith, inl, inr, ◌==◌, if◌then◌else◌, vec_len, vec_capacity, cases_eq}
+use Rattle.tc_link.proofs.Common.{eq-eqb, ne_eqb, length-map, append-nil, packets_view}
+use Rattle.std.proofs.Common.{set}
 use Rattle.std.specs.declared.vec.Vec.{Vec}
-use Rattle.std.specs.Vec.{vec_len, vec_capacity}
 use Rattle.std.proofs.Math.Seq.{map-set_same}
-use Rattle.std.proofs.lemmas.Bool.{cases_eq, eq-eqb, ne_eqb}
-use Rattle.std.proofs.lemmas.List.{map-set, length-map, append-nil, get_or-map, get_or-set_same, get_or-set_other}
-use Rattle.map_service.specs.Views.{packets_view}
+use Rattle.std.proofs.lemmas.List.{map-set, get_or-map, get_or-set_same, get_or-set_other}
 use Rattle.tc_link.specs.MapLists.{packets_at, HasRoom}
 
 -- where each list is empty

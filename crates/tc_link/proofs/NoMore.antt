@@ -1,61 +1,33 @@
 -- In S6, with no Type-AD frame on its way up, no more segments are accepted until a session begins.
-use Rattle.std.proofs.Common.{◌≡◌, ℕ, true, false, Bool, List, [], ◌∷◌, ◌++◌, drop, map, Option, Some, None}
-use Rattle.std.proofs.Common.{Result, Ok, Err, refl, ap, subst, ◌∙◌}
-use Rattle.std.specs.Prelude.{◌==◌, flat_map}
-use Rattle.std.specs.List.{AllByRecursion}
-use Rattle.std.proofs.lemmas.Bool.{cond_both}
-use Rattle.clcw.specs.declared.word.Clcw.{Clcw}
-use Rattle.clcw.specs.declared.fault.ClcwFault.{ClcwFault}
-use Rattle.clcw.specs.Reading.{clcw_at}
-use Rattle.tc_frame.specs.declared.fault.TcFault.{TcFault}
-use Rattle.tc_frame.specs.declared.frame.Check.TheVariants.{On}
-use Rattle.tc_frame.specs.Layout.{SegmentView, BodyView, Ad, Bd, Bc, FrameView, segment_octets}
+use Rattle.tc_link.proofs.Common.{◌≡◌, ℕ, true, false, Bool, List, [], ◌∷◌, ◌++◌, drop, map, Option, Some, None}
+use Rattle.tc_link.proofs.Common.{Result, Ok, Err, refl, ap, subst, ◌∙◌, AllByRecursion, cond_both, Clcw, TcFault, On}
+use Rattle.tc_link.proofs.Common.{SegmentView, BodyView, Ad, Bd, Bc, segment_octets, CopFault, Alert, Directive, Sent}
+use Rattle.tc_link.proofs.Common.{FopMode, S6, directive_step, PulledUnit, pull_step, clcw_step, report_in, FopState}
+use Rattle.tc_link.proofs.Common.{FopOutcome, IsActive, tick_step, after_count, due_again, after_alert, after_repeat}
+use Rattle.tc_link.proofs.Common.{after_restart, after_stop, obeyed, pulled_out, ticked, is_to_send, TmFault, Config}
+use Rattle.tc_link.proofs.Common.{LinkFault, is_kept, FitsFrame, PacketOn, IsConfig, limits_of, GroundState, with_fop}
+use Rattle.tc_link.proofs.Common.{directive_outcome, frame_of, frame_to_send, segments_on, submit_fault}
+use Rattle.tc_link.proofs.Common.{after_submission, bypass_fault, after_bypass, unless_refused, after_extraction}
+use Rattle.tc_link.proofs.Common.{telemetry_outcome, SpacecraftState, SpacecraftOutcome, frame_outcome, body_outcome}
+use Rattle.tc_link.proofs.Common.{bypass_outcome, is_own_frame, spacecraft_take, spacecraft_take_bypass}
+use Rattle.tc_link.proofs.Common.{spacecraft_telemetry, Event, number_in, in_frame, World, WorldOutcome, world_step}
+use Rattle.tc_link.proofs.Common.{world_after_pull, world_after_directive, BeginsNoSession, accepted}
+use Rattle.std.specs.Prelude.{flat_map}
+use Rattle.tc_frame.specs.Layout.{FrameView}
 use Rattle.tc_frame.specs.Reading.{frame_at}
 use Rattle.tc_frame.specs.Writing.{spelling}
-use Rattle.cop1.specs.declared.fault.CopFault.{CopFault}
-use Rattle.cop1.specs.declared.vocabulary.Alert.{Alert}
-use Rattle.cop1.specs.declared.vocabulary.Directive.{Directive}
-use Rattle.cop1.specs.declared.vocabulary.Control.TheVariants.{Sent}
-use Rattle.cop1.specs.declared.vocabulary.FopMode.{FopMode}
-use Rattle.cop1.specs.declared.vocabulary.FopMode.TheVariants.{S6}
-use Rattle.cop1.specs.FopDirective.{directive_step}
-use Rattle.cop1.specs.FopPull.{PulledUnit, pull_step}
-use Rattle.cop1.specs.FopReport.{clcw_step, report_in}
-use Rattle.cop1.specs.Units.{FopState, FopOutcome}
-use Rattle.cop1.specs.FopVariables.{IsActive}
-use Rattle.cop1.specs.FopTick.{tick_step, after_count, due_again}
-use Rattle.cop1.specs.FopWords.{after_alert, after_repeat, after_restart, after_stop}
-use Rattle.cop1.proofs.Obeying.{obeyed}
-use Rattle.cop1.proofs.Pulling.{pulled_out}
-use Rattle.cop1.proofs.Ticking.{ticked}
-use Rattle.tm_link.specs.Building.{is_to_send}
-use Rattle.tm_link.specs.declared.fault.TmFault.{TmFault}
-use Rattle.tm_link.specs.Extraction.{Extracted, extract_step}
-use Rattle.tm_link.specs.Layout as telemetry
-use Rattle.tm_link.specs.Reading as telemetry_reading
-use Rattle.nodes.specs.declared.config.Config.{Config}
-use Rattle.nodes.specs.declared.fault.LinkFault.{LinkFault}
-use Rattle.nodes.specs.declared.heard.Heard.{Heard}
-use Rattle.nodes.specs.BypassSegments.{is_kept}
-use Rattle.nodes.specs.OwnedFields.{FitsFrame}
-use Rattle.nodes.specs.Packets.{PacketOn}
-use Rattle.nodes.specs.Parameters.{IsConfig, limits_of}
-use Rattle.nodes.specs.Ground.{GroundState, GroundOutcome, with_fop, directive_outcome, frame_of, frame_to_send}
-use Rattle.nodes.specs.Ground.{segments_on, submit_fault, after_submission, bypass_fault, after_bypass, unless_refused}
-use Rattle.nodes.specs.Ground.{after_extraction, own_frame_outcome, telemetry_outcome, is_own_telemetry}
-use Rattle.nodes.specs.Spacecraft.{SpacecraftState, SpacecraftOutcome, frame_outcome, body_outcome, bypass_outcome}
-use Rattle.nodes.specs.Spacecraft.{is_own_frame, spacecraft_take, spacecraft_take_bypass, spacecraft_telemetry}
-use Rattle.tc_link.specs.declared.event.Event.{Event}
-use Rattle.tc_link.specs.declared.event.Event.TheVariants as events
 use Rattle.tc_link.specs.Accepted.{AcceptsNoMore}
-use Rattle.tc_link.specs.InTransit.{number_in, in_frame, numbers_up}
-use Rattle.tc_link.specs.World.{World, WorldOutcome, world_step, world_after_pull, world_after_directive}
-use Rattle.tc_link.specs.World.{BeginsNoSession, accepted}
+use Rattle.tc_link.specs.InTransit.{numbers_up}
 use Rattle.tc_link.proofs.Closed.{closed_not, active_on}
 use Rattle.tc_link.proofs.Leaving.{AtEachLoss, lost, up_arrives, down_arrives}
+use Rattle.tc_link.proofs.Reported.{frame_seen}
 use Rattle.tc_link.proofs.Settled.{settled_keeps}
 use Rattle.tc_link.proofs.Spelled.{Goes, reads_back}
-use Rattle.tc_link.proofs.SteadyWorld.{Sound, step_sound}
+use Rattle.tc_link.proofs.SteadyWorld.{step_sound}
+use Rattle.tm_link.specs.Layout as telemetry
+use Rattle.tm_link.specs.Reading as telemetry_reading
+use Rattle.link_events.specs.declared.event.Event.TheVariants as events
+use Rattle.tc_link.proofs.Sound.{Sound}
 
 -- ---- no Type-AD frame on its way
 
@@ -110,18 +82,13 @@ heard_in f r S6 is off = off
 heard_in f r _ is off = absurd cc
 
 module _ (s : GroundState) (off : s.fop.state ≡ S6) where
-  heard_closed : (x : Extracted) (r : Result Clcw ClcwFault) → (own_frame_outcome s x r).after.fop.state ≡ S6
-  heard_closed x (Err fault) = off
-  heard_closed x (Ok report) =
-      cond_both (report.vcid == s.config.vcid) _ _ (λ (o : GroundOutcome Heard). o.after.fop.state ≡ S6)
-      (λ t. closed_with (after_extraction s x) (clcw_step s.fop report).after
-      (heard_in s.fop report s.fop.state off off)) (λ t. off)
-
   telemetry_closed : (r : Result telemetry.FrameView TmFault) → (telemetry_outcome s r).after.fop.state ≡ S6
-  telemetry_closed (Err fault) = off
-  telemetry_closed (Ok frame) =
-      cond_both (is_own_telemetry s.config frame) _ _ (λ (o : GroundOutcome Heard). o.after.fop.state ≡ S6)
-      (λ t. heard_closed (extract_step s.extractor frame) (clcw_at frame.ocf)) (λ t. off)
+  telemetry_closed = frame_seen s (λ t. t.fop.state ≡ S6) (record {
+    same = off;
+    extracts = λ x. off;
+    uses = λ x report. closed_with (after_extraction s x) (clcw_step s.fop report).after
+        (heard_in s.fop report s.fop.state off off);
+  })
 
 -- on board a frame that is not of Type-AD adds no segment to those accepted
 module _ (s : SpacecraftState) where

@@ -1,27 +1,18 @@
 -- The plain link of a session is one link, since the records and what is on its way leave no choice.
-use Rattle.std.proofs.Common.{◌≡◌, ℕ, ◌+◌, ◌/◌, ◌%◌, ◌≤◌, List, [], ◌∷◌, length, take, map, inl, inr, refl, sym}
-use Rattle.std.proofs.Common.{Option, subst, ap, ◌∙◌, arith}
-use Rattle.std.specs.Prelude.{option_map}
-use Rattle.std.specs.List.{AllByRecursion}
-use Rattle.std.proofs.lemmas.List.{length-take-le, length-map}
-use Rattle.tc_frame.specs.Layout.{SegmentView, segment_octets}
-use Rattle.nodes.specs.declared.config.Config.{Config}
-use Rattle.nodes.specs.Parameters.{IsConfig}
-use Rattle.tc_link.specs.declared.event.Event.{Event}
-use Rattle.tc_link.specs.declared.sim.opening.Opening.{Opening}
-use Rattle.tc_link.specs.History.{IsHistory, HasPlainHistory, GoesOnByAStep, IsNear, Rises, number_of, numbered}
-use Rattle.tc_link.specs.OneLink.{HistoriesAre, HasOneLink, IsUnsent, EachHasOneLink}
-use Rattle.tc_link.specs.OneLink.{EachGoesOnAsOne}
-use Rattle.tc_link.specs.PlainLink.{PlainLink, PlainStep, PlainRun, AtMostOneStep, new_link, none, more}
-use Rattle.tc_link.specs.Reached.{IsEvent}
-use Rattle.tc_link.specs.World.{KeepsSession}
-use Rattle.tc_link.specs.World.{World, IsIdle, IsSettled, BeginsNoSession, accepted, world_step, world_run}
+use Rattle.tc_link.proofs.Common.{◌≡◌, ℕ, ◌+◌, ◌/◌, ◌%◌, ◌≤◌, List, [], ◌∷◌, length, take, map, inl, inr, refl, sym}
+use Rattle.tc_link.proofs.Common.{Option, subst, ap, ◌∙◌, arith, option_map, AllByRecursion, length-take-le}
+use Rattle.tc_link.proofs.Common.{length-map, SegmentView, segment_octets, Config, IsConfig, Event, Opening, IsHistory}
+use Rattle.tc_link.proofs.Common.{HasPlainHistory, GoesOnByAStep, IsNear, Rises, number_of, numbered, PlainLink}
+use Rattle.tc_link.proofs.Common.{PlainRun, AtMostOneStep, new_link, more, IsEvent, KeepsSession, World, IsIdle}
+use Rattle.tc_link.proofs.Common.{IsSettled, BeginsNoSession, accepted, world_step, world_run}
+use Rattle.tc_link.specs.OneLink.{HistoriesAre, HasOneLink, IsUnsent, EachHasOneLink, EachGoesOnAsOne}
+use Rattle.tc_link.specs.PlainLink.{PlainStep, none}
 use Rattle.tc_link.proofs.Beginning.{InSession}
 use Rattle.tc_link.proofs.Delivered.{has_plain_history, unsettled}
 use Rattle.tc_link.proofs.Invariant.{Holding, late_step, session_stays, step_holds, reached_holds}
-use Rattle.tc_link.proofs.SteadyWorld.{Sound, steady_of}
 use Rattle.tc_link.proofs.Steps.{goes_on_by_a_step}
 use Rattle.tc_link.proofs.Transit.{rises_to}
+use Rattle.tc_link.proofs.Sound.{Sound}
 
 -- ---- what is on its way
 
@@ -131,9 +122,9 @@ settled_goes : (c : Config) (w : World) (k : Sound c w) (s : InSession c w) (e :
 settled_goes c w k s e fits settled goes = elim s.session [
   | inl g ↦ absurd (unsettled c s.directive s.base w g settled)
   | inr g ↦ (
-      let next = late_step c s.directive s.base w (steady_of c w k) g e fits goes in
+      let next = late_step c s.directive s.base w k g e fits goes in
       elim settled [
-        | inl confirmed ↦ inl (next.linked.confirmed_is (g.linked.confirmed_so confirmed))
+        | inl confirmed ↦ inl (next.stage.confirmed_is (g.stage.confirmed_so confirmed))
         | inr without ↦ inr (next.linked.opened ∙ sym g.linked.opened ∙ without)
       ])
 ]

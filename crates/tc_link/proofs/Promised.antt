@@ -1,24 +1,17 @@
 -- What a world that a run leads to promises.
-use Rattle.std.proofs.Common.{◌≡◌, ◌<◌, ℕ, ◌+◌, get_or, length, take, List, [], ◌∷◌, ◌++◌, Result, Ok, Err, OnOk, OnErr}
-use Rattle.std.proofs.Common.{inl, refl, ap, sym, subst, ◌∙◌}
-use Rattle.std.specs.List.{AllByRecursion}
+use Rattle.tc_link.proofs.Common.{◌≡◌, ◌<◌, ℕ, ◌+◌, get_or, length, take, List, [], ◌∷◌, ◌++◌, Result, Ok, Err, OnOk}
+use Rattle.tc_link.proofs.Common.{inl, refl, ap, sym, subst, ◌∙◌, AllByRecursion, Config, Event, SimFault}
+use Rattle.tc_link.proofs.Common.{ConfirmsExactly, IsHistory, HasPlainHistory, GoesOnByAStep, IsConfig, IsPromised}
+use Rattle.tc_link.proofs.Common.{IsPromisedOf, AllReadable, IsEvent, IsReached, SimState, sim_run, World, new_world}
+use Rattle.tc_link.proofs.Common.{world_step, world_run, IsClean, IsIdle}
+use Rattle.std.proofs.Common.{OnErr}
 use Rattle.std.proofs.lemmas.List.{take_more}
-use Rattle.nodes.specs.declared.config.Config.{Config}
-use Rattle.tc_link.specs.declared.event.Event.{Event}
-use Rattle.tc_link.specs.declared.sim.fault.SimFault.{SimFault}
-use Rattle.tc_link.specs.Confirmation.{ConfirmsExactly}
-use Rattle.tc_link.specs.History.{IsHistory, HasPlainHistory, GoesOnByAStep}
-use Rattle.nodes.specs.Parameters.{IsConfig}
-use Rattle.tc_link.specs.Promises.{IsPromised, IsPromisedOf, HoldsAt, HoldsThroughout}
-use Rattle.tc_link.specs.Readable.{AllReadable}
-use Rattle.tc_link.specs.Reached.{IsEvent, IsReached}
-use Rattle.tc_link.specs.Simulation.{SimState, sim_run}
-use Rattle.tc_link.specs.World.{World, new_world, world_step, world_run, IsClean, IsIdle}
+use Rattle.tc_link.specs.Promises.{HoldsAt, HoldsThroughout}
 use Rattle.tc_link.proofs.Accepted.{says_what_was_accepted}
 use Rattle.tc_link.proofs.Carried.{all_readable}
 use Rattle.tc_link.proofs.Delivered.{is_in_order, has_plain_history}
 use Rattle.tc_link.proofs.Invariant.{reached_holds}
-use Rattle.tc_link.proofs.LateSubmitting.{all_push}
+use Rattle.tc_link.proofs.Submitting.{all_push}
 use Rattle.tc_link.proofs.Locks.{has_no_false_alarm, confirms_exactly}
 use Rattle.tc_link.proofs.Steps.{goes_on_by_a_step}
 use Rattle.tc_link.proofs.Windows.{keeps_to_window, is_confirmed_exactly}

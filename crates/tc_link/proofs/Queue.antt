@@ -1,9 +1,7 @@
 -- The sent queue as the list of its units.
-use Rattle.std.proofs.Common.{◌≡◌, ℕ, zero, suc, ◌+◌, Bool, true, false, List, [], ◌∷◌, ◌++◌, map, drop, Some, refl, ap}
-use Rattle.std.proofs.Common.{arith, if◌then◌else◌}
-use Rattle.std.specs.Prelude.{slice_get}
-use Rattle.cop1.specs.Units.{SentUnit, oldest_marked, without_oldest_mark, unmarked_unit, marked_unit}
-use Rattle.cop1.specs.UnitsNext.{units_of}
+use Rattle.tc_link.proofs.Common.{◌≡◌, ℕ, zero, suc, ◌+◌, Bool, true, false, List, [], ◌∷◌, ◌++◌, map, drop, Some}
+use Rattle.tc_link.proofs.Common.{refl, ap, arith, if◌then◌else◌, slice_get, SentUnit, oldest_marked}
+use Rattle.tc_link.proofs.Common.{without_oldest_mark, unmarked_unit, marked_unit, units_of}
 
 module _ {U : Type 0} where
   pub units-marked : (xs : List (SentUnit U)) → units_of (map marked_unit xs) ≡ units_of xs

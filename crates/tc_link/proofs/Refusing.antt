@@ -1,9 +1,8 @@
 -- A refused event leaves the world as it was.
-use Rattle.std.proofs.Common.{◌≡◌, refl, IfErr}
-use Rattle.tc_link.specs.declared.event.Event.{Event}
-use Rattle.tc_link.specs.declared.event.Event.TheVariants as events
-use Rattle.tc_link.specs.World.{World, WorldOutcome, world_step}
+use Rattle.tc_link.proofs.Common.{◌≡◌, refl, Event, World, WorldOutcome, world_step}
+use Rattle.std.proofs.Common.{IfErr}
 use Rattle.tc_link.proofs.Leaving.{AtEachLoss, lost, pulled, up_arrives, down_arrives}
+use Rattle.link_events.specs.declared.event.Event.TheVariants as events
 
 abbrev Keeps : World → WorldOutcome → Type 0
 Keeps w o = IfErr o.answer (λ _. o.after ≡ w)

@@ -1,23 +1,18 @@
 -- A telemetry frame that is sent is read with its report.
-use Rattle.std.proofs.Common.{◌≡◌, ℕ, ◌+◌, ◌≤◌, max, List, [], ◌∷◌, ◌++◌, length, replicate, Ok, refl}
-use Rattle.std.proofs.Common.{ap, arith, length-append}
-use Rattle.std.proofs.lemmas.Bool.{cond_both}
-use Rattle.std.proofs.lemmas.List.{length-replicate, length-take-le}
-use Rattle.clcw.specs.declared.word.Clcw.{Clcw}
-use Rattle.cop1.specs.Report.{report_of}
-use Rattle.tm_link.specs.Building.{BuilderState, idle_tail, idle_packet, data_size, data_from, data_built, is_at_rest}
-use Rattle.tm_link.specs.Building.{room_left, frame_built}
-use Rattle.tm_link.specs.Layout as telemetry
-use Rattle.tm_link.specs.Reading as telemetry_reading
-use Rattle.tm_link.specs.Writing as telemetry_writing
+use Rattle.tc_link.proofs.Common.{◌≡◌, ℕ, ◌+◌, ◌≤◌, max, List, [], ◌∷◌, ◌++◌, length, replicate, Ok, refl, ap, arith}
+use Rattle.tc_link.proofs.Common.{length-append, cond_both, length-take-le, Clcw, report_of, BuilderState, idle_tail}
+use Rattle.tc_link.proofs.Common.{data_size, is_at_rest, room_left, Config, report_octets, spacecraft_report, World}
+use Rattle.std.proofs.lemmas.List.{length-replicate}
+use Rattle.tm_link.specs.Building.{idle_packet, data_from, data_built, frame_built}
 use Rattle.tm_link.proofs.Fields.{built_is}
 use Rattle.tm_link.proofs.Frames.{frame_again}
 use Rattle.tm_link.proofs.IdlePackets.{length-idle, length-tail}
-use Rattle.nodes.specs.declared.config.Config.{Config}
-use Rattle.nodes.specs.Spacecraft.{report_octets, spacecraft_report}
-use Rattle.tc_link.specs.World.{World}
-use Rattle.tc_link.proofs.Linked.{Steady, Tells, Reporting, reporting_push}
+use Rattle.tc_link.proofs.Linked.{Tells, Reporting, reporting_push}
 use Rattle.tc_link.proofs.Words.{report_reads}
+use Rattle.tm_link.specs.Layout as telemetry
+use Rattle.tm_link.specs.Reading as telemetry_reading
+use Rattle.tm_link.specs.Writing as telemetry_writing
+use Rattle.tc_link.proofs.Sound.{Sound}
 
 pub data_length : (s : BuilderState) → s.idle_left ≤ 6 → length (data_built s) ≡ data_size s
 data_length s least =
@@ -42,7 +37,7 @@ data_length s least =
     let enough : data_size s ≤ length all = omega (arith, sizes) in
     length-take-le (data_size s) all enough)
 
-module _ (c : Config) (w : World) (k : Steady c w) where
+module _ (c : Config) (w : World) (k : Sound c w) where
   -- the frame that is sent is the one that is read
   pub reads_now : telemetry_reading.frame_at c.frame_length
       (telemetry_writing.spelling (spacecraft_report w.spacecraft).answer) ≡ Ok (spacecraft_report w.spacecraft).answer
@@ -50,11 +45,11 @@ module _ (c : Config) (w : World) (k : Steady c w) where
       let b : BuilderState = w.spacecraft.builder in
       let ocf : List ℕ = report_octets w.spacecraft in
       let f : telemetry.FrameView = frame_built b ocf in
-      let total : b.total ≡ c.frame_length = k.builder.total in
+      let total : b.total ≡ c.frame_length = k.spacecraft.builder.total in
       let spelled =
-      built_is b ocf (omega (arith, k.builder.scid, k.ranges.scid))
-      (omega (arith, k.builder.vcid, k.ranges.tm_vcid)) (omega (arith, total, k.ranges.frame_length))
-      (omega (arith, total, k.ranges.frame_length)) refl (data_length b k.idle_left) in
+      built_is b ocf (omega (arith, k.spacecraft.builder.scid, k.ranges.scid))
+      (omega (arith, k.spacecraft.builder.vcid, k.ranges.tm_vcid)) (omega (arith, total, k.ranges.frame_length))
+      (omega (arith, total, k.ranges.frame_length)) refl (data_length b k.spacecraft.idle_left) in
       rw (← total) (frame_again b.total (telemetry_writing.spelling f) f spelled)
 
   tells_now : Tells c (telemetry_writing.spelling (spacecraft_report w.spacecraft).answer)
@@ -62,10 +57,10 @@ module _ (c : Config) (w : World) (k : Steady c w) where
   tells_now = record {
     frame = (spacecraft_report w.spacecraft).answer;
     reads = reads_now;
-    scid = k.builder.scid;
-    vcid = k.builder.vcid;
-    word = report_reads w.spacecraft.farm w.spacecraft.config.vcid k.farm_b;
-    own = ap (λ x. x.vcid) k.spacecraft_config;
+    scid = k.spacecraft.builder.scid;
+    vcid = k.spacecraft.builder.vcid;
+    word = report_reads w.spacecraft.farm w.spacecraft.config.vcid k.spacecraft.farm.farm_b;
+    own = ap (λ x. x.vcid) k.spacecraft.config;
   }
 
   -- the frame that is sent is the last on its way

@@ -1,23 +1,13 @@
 -- What a report does at the sender, where its value lies between the numbers of what is acknowledged and what was sent.
-use Rattle.std.proofs.Common.{◌≡◌, ℕ, ◌+◌, ◌*◌, ◌%◌, ◌≤◌, ◌⊎◌, inl, inr, Bool, true, false, [], drop, Option}
-use Rattle.std.proofs.Common.{Some, None, refl, ◌∙◌, arith}
-use Rattle.std.proofs.lemmas.Bool.{ltb-true}
-use Rattle.clcw.specs.declared.word.Clcw.{Clcw}
-use Rattle.tc_frame.specs.Layout.{SegmentView}
-use Rattle.cop1.specs.Modulo.{ahead_by}
-use Rattle.cop1.specs.declared.vocabulary.FopMode.{FopMode}
-use Rattle.cop1.specs.declared.vocabulary.FopMode.TheVariants.{S2, S3, S4, S5}
-use Rattle.cop1.specs.declared.vocabulary.Alert.{Alert}
-use Rattle.cop1.specs.declared.vocabulary.Alert.TheVariants.{Lockout, Clcw as ClcwAlert, Synch, Limit}
-use Rattle.cop1.specs.Units.{FopState, FopOutcome}
-use Rattle.cop1.specs.FopVariables.{IsActive}
-use Rattle.cop1.specs.UnitsNext.{units_of}
-use Rattle.cop1.specs.FopReport.{locks, waits, asks, report_while_active, after_move_on, retransmits, after_new_value}
-use Rattle.cop1.specs.FopWords.{after_acknowledge, after_repeat, alerts, goes_on, after_gone}
-use Rattle.nodes.specs.Ground.{is_closed}
+use Rattle.tc_link.proofs.Common.{◌≡◌, ℕ, ◌+◌, ◌*◌, ◌%◌, ◌≤◌, ◌⊎◌, inl, inr, Bool, true, false, [], drop, Option, Some}
+use Rattle.tc_link.proofs.Common.{None, refl, ◌∙◌, arith, ltb-true, Clcw, SegmentView, ahead_by, FopMode, S2, S3, S4}
+use Rattle.tc_link.proofs.Common.{S5, Alert, Synch, Limit, FopState, FopOutcome, IsActive, units_of, locks, waits}
+use Rattle.tc_link.proofs.Common.{asks, report_while_active, after_move_on, retransmits, after_new_value}
+use Rattle.tc_link.proofs.Common.{after_acknowledge, after_repeat, alerts, goes_on, is_closed, heard_active}
+use Rattle.cop1.specs.declared.vocabulary.Alert.TheVariants.{Lockout, Clcw as ClcwAlert}
+use Rattle.cop1.specs.FopWords.{after_gone}
 use Rattle.tc_link.proofs.Queue.{units-marked, units-drop}
 use Rattle.tc_link.proofs.Transit.{bit}
-use Rattle.cop1.proofs.Hearing.{heard_active}
 use Rattle.tc_link.proofs.Closed.{active_on}
 
 -- 1 where the sender was asked to repeat

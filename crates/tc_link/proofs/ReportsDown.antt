@@ -1,14 +1,11 @@
 -- Each frame on its way down is one of the spacecraft's, with a report.
-use Rattle.std.proofs.Common.{◌≡◌, ℕ, List, [], ◌∷◌, ◌++◌}
-use Rattle.clcw.specs.declared.word.Clcw.{Clcw}
-use Rattle.cop1.specs.Report.{report_of}
-use Rattle.nodes.specs.declared.config.Config.{Config}
-use Rattle.tc_link.specs.declared.event.Event.{Event}
-use Rattle.tc_link.specs.declared.event.Event.TheVariants as events
-use Rattle.tc_link.specs.World.{World, WorldOutcome, world_step}
+use Rattle.tc_link.proofs.Common.{◌≡◌, ℕ, List, [], ◌∷◌, ◌++◌, Clcw, report_of, Config, Event, World, WorldOutcome}
+use Rattle.tc_link.proofs.Common.{world_step}
 use Rattle.tc_link.proofs.Leaving.{AtEachLoss, lost, pulled, up_arrives, down_arrives}
-use Rattle.tc_link.proofs.Linked.{Steady, Reporting}
+use Rattle.tc_link.proofs.Linked.{Reporting}
 use Rattle.tc_link.proofs.ReportFrames.{reporting_now}
+use Rattle.link_events.specs.declared.event.Event.TheVariants as events
+use Rattle.tc_link.proofs.Sound.{Sound}
 
 pub record HasReports (c : Config) (down : List (List ℕ)) : Type 0 where
   pub reports : List Clcw
@@ -19,7 +16,7 @@ rest_reports : (c : Config) (b : List ℕ) (bs : List (List ℕ)) (rs : List Clc
 rest_reports c b bs [] h = elim h [ ]
 rest_reports c b bs (r ∷ rs) h = record { reports = rs; reporting = h.1 }
 
-module _ (c : Config) (w : World) (k : Steady c w) (t : HasReports c w.down) where
+module _ (c : Config) (w : World) (k : Sound c w) (t : HasReports c w.down) where
   abbrev KeepsReports : WorldOutcome → Type 0
   KeepsReports o = HasReports c o.after.down
 

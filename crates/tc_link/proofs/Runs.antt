@@ -1,10 +1,9 @@
 -- A run with its answers, from steps that record theirs.
-use Rattle.std.proofs.Common.{◌≡◌, ◌≤◌, ℕ, List, [], ◌∷◌, ◌++◌, length, drop, ap, sym, ◌∙◌}
-use Rattle.std.proofs.lemmas.List.{append-nil, append_assoc, at_drop_all}
-use Rattle.nodes.specs.declared.config.Config.{Config}
-use Rattle.tc_link.specs.declared.event.Event.{Event}
-use Rattle.tc_link.specs.World.{world_step, world_run, run_answers}
-use Rattle.tc_link.specs.Simulation.{SimState, record_step, run_from, new_sim, sim_run}
+use Rattle.tc_link.proofs.Common.{◌≡◌, ◌≤◌, ℕ, List, [], ◌∷◌, ◌++◌, length, drop, ap, sym, ◌∙◌, append-nil}
+use Rattle.tc_link.proofs.Common.{append_assoc, Config, Event, world_step, world_run, run_answers, SimState, run_from}
+use Rattle.tc_link.proofs.Common.{new_sim, sim_run}
+use Rattle.std.proofs.lemmas.List.{at_drop_all}
+use Rattle.tc_link.specs.Simulation.{record_step}
 
 from_is : (s : SimState) (events : List Event)
     → run_from s events ≡ record { world = world_run s.world events; answers = s.answers ++ run_answers s.world events }

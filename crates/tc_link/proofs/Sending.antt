@@ -1,10 +1,8 @@
 -- What is so once a frame was sent.
-use Rattle.std.proofs.Common.{◌≡◌, ℕ, List, [], ◌∷◌, ◌++◌, Option, None, Some, option_map, ap, ◌∙◌}
-use Rattle.tc_frame.specs.declared.frame.Check.TheVariants.{On}
+use Rattle.tc_link.proofs.Common.{◌≡◌, ℕ, List, [], ◌∷◌, ◌++◌, Option, None, Some, option_map, ap, ◌∙◌, On}
+use Rattle.tc_link.proofs.Common.{GroundState, World, world_after_pull, first_in}
 use Rattle.tc_frame.specs.Layout.{FrameView}
 use Rattle.tc_frame.specs.Writing.{spelling}
-use Rattle.nodes.specs.Ground.{GroundState}
-use Rattle.tc_link.specs.World.{World, world_after_pull, first_in}
 
 -- the world with another node on the ground, and more on its way up and sent
 abbrev pub with_sent : World → GroundState → List (List ℕ) → List (List ℕ) → World

@@ -1,18 +1,11 @@
 -- What is pending moves up, and what is known of the ground is still so.
-use Rattle.std.proofs.Common.{◌≡◌, ℕ, ◌+◌, ◌*◌, ◌<◌, Bool, true, false, List, [], ◌∷◌, ◌++◌, drop, Option, Some, None}
-use Rattle.std.proofs.Common.{option_to_list, refl, ◌∙◌, arith, inl}
-use Rattle.std.proofs.lemmas.Bool.{cond_both}
-use Rattle.tc_frame.specs.Layout.{SegmentView}
-use Rattle.cop1.specs.declared.vocabulary.Directive.{Directive}
-use Rattle.cop1.specs.declared.vocabulary.FopMode.TheVariants.{S6}
-use Rattle.cop1.specs.Units.{FopState, SentUnit}
-use Rattle.cop1.specs.UnitsNext.{units_of}
-use Rattle.nodes.specs.declared.config.Config.{Config}
-use Rattle.nodes.specs.Ground.{GroundState, is_closed, unsent_segments, after_moving_up, settle_step}
-use Rattle.nodes.specs.Ground.{with_fop}
-use Rattle.tc_link.specs.PlainLink.{PlainLink}
-use Rattle.tc_link.specs.World.{World}
-use Rattle.tc_link.proofs.Linked.{Late, Held, Kept, Next, LateBy, Calm, beside}
+use Rattle.tc_link.proofs.Common.{◌≡◌, ℕ, ◌+◌, ◌*◌, ◌<◌, Bool, true, false, List, [], ◌∷◌, ◌++◌, drop, Option, Some}
+use Rattle.tc_link.proofs.Common.{None, option_to_list, refl, ◌∙◌, arith, inl, cond_both, SegmentView, Control}
+use Rattle.tc_link.proofs.Common.{Directive, FopMode, S6, FopState, SentUnit, units_of, Config, GroundState, is_closed}
+use Rattle.tc_link.proofs.Common.{unsent_segments, settle_step, with_fop, IsChecked, PlainLink, World}
+use Rattle.nodes.specs.Ground.{after_moving_up}
+use Rattle.tc_link.proofs.Early.{IsEarly, ControlFits}
+use Rattle.tc_link.proofs.Linked.{In, Held, Kept, Next, SessionBy, WithSender, Calm, beside}
 use Rattle.tc_link.proofs.Reports.{IsLate, asked}
 use Rattle.tc_link.proofs.Transit.{Ranks, bit, ranks_lower}
 
@@ -44,7 +37,7 @@ held_again false base vs nn sent rest new a n units same held =
     let rest_is : new ≡ drop n units = same refl ∙ held.rest_is in assumption (rest_is, held)
 
 -- the sender holds the same
-held_same_where : (off : Bool) (base : ℕ) (s : GroundState) (f : FopState SegmentView) (a n : ℕ)
+pub held_same_where : (off : Bool) (base : ℕ) (s : GroundState) (f : FopState SegmentView) (a n : ℕ)
     (units : List SegmentView)
     → f.vs ≡ s.fop.vs → f.nn ≡ s.fop.nn → units_of f.sent ≡ units_of s.fop.sent → f.waiting ≡ s.fop.waiting
     → Held off base s.fop.vs s.fop.nn s.fop.sent (unsent_segments s) a n units
@@ -65,12 +58,42 @@ pub held_same : (base : ℕ) (s : GroundState) (f : FopState SegmentView) (a n :
 held_same base s f a n units vs nn state sent waiting held =
     rw state (held_same_where (is_closed s.fop.state) base s f a n units vs nn sent waiting held)
 
-module _ (c : Config) (d : Directive) (base : ℕ) where
+-- the sender is in the same state
+sender_same : (early : Bool) (c : Config) (d : Directive) (base : ℕ) (w : World) (g : In early c d base w) (m : FopMode)
+    (control : Control) → m ≡ w.ground_node.fop.state
+    → (ControlFits d base w.ground_node.fop.control → ControlFits d base control) → WithSender g m control
+sender_same true c d base w g m control is fits =
+    let early : IsEarly d m = rw is g.stage.early in
+    let command_is : ControlFits d base control = fits g.stage.command_is in
+    assumption (early, command_is, g.stage)
+sender_same false c d base w g m control is fits = rw is g.stage
+
+-- the sender is off
+sender_off : (early : Bool) (c : Config) (d : Directive) (base : ℕ) (w : World) (g : In early c d base w) (m : FopMode)
+    (control : Control) → m ≡ S6 → (ControlFits d base w.ground_node.fop.control → ControlFits d base control)
+    → WithSender g m control
+sender_off true c d base w g m control is fits =
+    let early : IsEarly d m = rw is tt in
+    let command_is : ControlFits d base control = fits g.stage.command_is in
+    assumption (early, command_is, g.stage)
+sender_off false c d base w g m control is fits =
+    let s = g.stage in
+    let p = g.plain in
+    let late : IsLate m = rw is tt in
+    let calm : IsChecked d → Calm m w.spacecraft.farm g.front g.reports p.a p.r p.n p.down = λ checked.
+    let k = s.calm checked in
+    let ranks : Ranks (2 * p.a + asked m) g.reports p.down (2 * p.r + bit w.spacecraft.farm.retransmit) =
+    rw is (ranks_lower (2 * p.a + asked w.ground_node.fop.state) (2 * p.a + 0)
+    (2 * p.r + bit w.spacecraft.farm.retransmit) g.reports p.down (omega arith) k.ranks) in
+    assumption (ranks, k) in
+    assumption (late, calm, s)
+
+module _ (early : Bool) (c : Config) (d : Directive) (base : ℕ) where
   -- the ground may be settled
-  pub late_settled : {Reached : PlainLink → Type 0} (w : World) → LateBy Reached c d base w
-      → LateBy Reached c d base (record w { ground_node = settle_step w.ground_node })
-  late_settled {Reached} w g =
-      settled_keeps (λ s. LateBy Reached c d base (record w { ground_node = s })) w.ground_node
+  pub session_settled : {Reached : PlainLink → Type 0} (w : World) → SessionBy early Reached c d base w
+      → SessionBy early Reached c d base (record w { ground_node = settle_step w.ground_node })
+  session_settled {Reached} w g =
+      settled_keeps (λ s. SessionBy early Reached c d base (record w { ground_node = s })) w.ground_node
       (λ waiting pending on off.
       let l = g.linked in
       let held : Held (is_closed w.ground_node.fop.state) base w.ground_node.fop.vs w.ground_node.fop.nn
@@ -79,44 +102,36 @@ module _ (c : Config) (d : Directive) (base : ℕ) where
       w.ground_node.fop.sent (unsent_segments w.ground_node) (option_to_list waiting ++ pending) g.plain.a g.plain.n
       g.plain.units on l.held in
       beside g (record w { ground_node = queued_as w.ground_node waiting pending }) g.ran (assumption (held, l))
-      (λ checked. let m = g.calm checked in assumption m))
+      g.stage)
 
-  module _ (w : World) (g : Late c d base w) where
+  module _ (w : World) (g : In early c d base w) where
     -- the sender is as it was but for what it holds
     goes_keeps : (f : FopState SegmentView)
         → Held (is_closed f.state) base f.vs f.nn f.sent (option_to_list f.waiting ++ w.ground_node.pending) g.plain.a
         g.plain.n g.plain.units
-        → IsLate f.state → f.nn < 256
-        → (Calm w g.plain g.front g.reports
-        → Ranks (2 * g.plain.a + asked f.state) g.reports g.plain.down
-        (2 * g.plain.r + bit w.spacecraft.farm.retransmit))
-        → Next c d base g.plain (record w { ground_node = with_fop w.ground_node f })
-    goes_keeps f held late nn_octet ranked =
+        → f.nn < 256 → WithSender g f.state f.control
+        → Next early c d base g.plain (record w { ground_node = with_fop w.ground_node f })
+    goes_keeps f held nn_octet stage =
         let l = g.linked in
-        late_settled (record w { ground_node = record w.ground_node { fop = f } })
+        session_settled (record w { ground_node = record w.ground_node { fop = f } })
         (beside g (record w { ground_node = record w.ground_node { fop = f } }) (inl refl)
-        (assumption (held, late, nn_octet, l))
-        (λ checked.
-        let m = g.calm checked in
-        let ranks = ranked m in
-        assumption (ranks, m)))
+        (assumption (held, nn_octet, l)) stage)
 
     -- the sender holds the same
     pub same_keeps : (f : FopState SegmentView) → f.vs ≡ w.ground_node.fop.vs → f.nn ≡ w.ground_node.fop.nn
         → f.state ≡ w.ground_node.fop.state → units_of f.sent ≡ units_of w.ground_node.fop.sent
         → f.waiting ≡ w.ground_node.fop.waiting
-        → Next c d base g.plain (record w { ground_node = with_fop w.ground_node f })
-    same_keeps f vs nn state sent waiting =
+        → (ControlFits d base w.ground_node.fop.control → ControlFits d base f.control)
+        → Next early c d base g.plain (record w { ground_node = with_fop w.ground_node f })
+    same_keeps f vs nn state sent waiting fits =
         let l = g.linked in
         goes_keeps f (held_same base w.ground_node f g.plain.a g.plain.n g.plain.units vs nn state sent waiting l.held)
-        (rw state l.late) (rw nn l.nn_octet) (λ m. rw state m.ranks)
+        (rw nn l.nn_octet) (sender_same early c d base w g f.state f.control state fits)
 
     -- the sender is off
     pub off_keeps : (f : FopState SegmentView) → f.state ≡ S6 → f.nn < 256
+        → (ControlFits d base w.ground_node.fop.control → ControlFits d base f.control)
         → Kept base f.vs f.nn g.plain.a g.plain.n
-        → Next c d base g.plain (record w { ground_node = with_fop w.ground_node f })
-    off_keeps f state nn_octet kept =
-        let p = g.plain in
-        goes_keeps f (rw state kept) (rw state tt) nn_octet
-        (λ m. rw state (ranks_lower (2 * p.a + asked w.ground_node.fop.state) (2 * p.a + 0)
-        (2 * p.r + bit w.spacecraft.farm.retransmit) g.reports p.down (omega arith) m.ranks))
+        → Next early c d base g.plain (record w { ground_node = with_fop w.ground_node f })
+    off_keeps f state nn_octet fits kept =
+        goes_keeps f (rw state kept) nn_octet (sender_off early c d base w g f.state f.control state fits)

@@ -1,19 +1,13 @@
 -- What is put on the link is read from it.
-use Rattle.std.proofs.Common.{◌≡◌, ◌≤◌, ℕ, zero, suc, true, List, [], ◌∷◌, length, Some, Ok, refl, subst, arith}
-use Rattle.std.specs.Prelude.{slice_get}
-use Rattle.std.specs.List.{AllByRecursion}
+use Rattle.tc_link.proofs.Common.{◌≡◌, ◌≤◌, ℕ, zero, suc, true, List, [], ◌∷◌, length, Some, Ok, refl, subst, arith}
+use Rattle.tc_link.proofs.Common.{slice_get, AllByRecursion, On, Unlock, SetVr, SegmentView, BodyView, Ad, Bd, Bc}
+use Rattle.tc_link.proofs.Common.{Config, IsConfig, FitsFrame, frame_of}
 use Rattle.std.proofs.lemmas.Bool.{lt-ltb, le-leb}
-use Rattle.tc_frame.specs.declared.frame.Check.TheVariants.{On}
-use Rattle.tc_frame.specs.declared.frame.Command.TheVariants.{Unlock, SetVr}
-use Rattle.tc_frame.specs.Layout.{SegmentView, BodyView, Ad, Bd, Bc, body_fits}
+use Rattle.tc_frame.specs.Layout.{body_fits}
 use Rattle.tc_frame.specs.Reading.{frame_at}
 use Rattle.tc_frame.specs.Writing.{frame_fits, spelling, total_of}
 use Rattle.tc_frame.proofs.Frames.{frame_again}
 use Rattle.tc_frame.proofs.Spellings.{spelling_is}
-use Rattle.nodes.specs.declared.config.Config.{Config}
-use Rattle.nodes.specs.Parameters.{IsConfig}
-use Rattle.nodes.specs.OwnedFields.{FitsFrame}
-use Rattle.nodes.specs.Ground.{frame_of}
 
 -- a body that fits a frame
 abbrev pub Goes : BodyView → Type 0

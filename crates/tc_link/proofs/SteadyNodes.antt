@@ -1,50 +1,21 @@
 -- What holds of each node at every moment, in any session.
-use Rattle.std.proofs.Common.{◌≡◌, ℕ, ◌/◌, ◌<◌, ◌≤◌, true, false, not, [], ◌∷◌, Some, None, refl}
-use Rattle.std.proofs.Common.{◌∙◌, arith, ◌+◌, ◌%◌}
-use Rattle.std.specs.Prelude.{◌==◌}
-use Rattle.std.specs.List.{AllByRecursion}
-use Rattle.std.proofs.lemmas.Bool.{cond_both}
-use Rattle.clcw.specs.declared.word.Clcw.{Clcw}
-use Rattle.tc_frame.specs.Layout.{SegmentView}
-use Rattle.cop1.specs.declared.farm.FarmMode.{FarmMode}
-use Rattle.cop1.specs.declared.farm.FarmMode.TheVariants.{Open, Wait, Lockout}
-use Rattle.cop1.specs.declared.farm.Verdict.{Verdict}
-use Rattle.cop1.specs.declared.farm.Verdict.TheVariants.{Accepted}
-use Rattle.cop1.specs.declared.vocabulary.Alert.TheVariants as alert
-use Rattle.cop1.specs.declared.vocabulary.Control.{Control}
-use Rattle.cop1.specs.declared.vocabulary.Control.TheVariants.{Idle, Sent}
-use Rattle.cop1.specs.declared.vocabulary.FopMode.{FopMode}
-use Rattle.cop1.specs.declared.vocabulary.FopMode.TheVariants.{S1, S2, S3, S4, S5, S6}
-use Rattle.cop1.specs.Farm.{FarmState, FarmEvent, AdArrives, BdArrives, UnlockArrives, SetVrArrives, InvalidArrives}
-use Rattle.cop1.specs.Farm.{BufferReleased, farm_step, after_verdict, after_unlock, after_set_vr, after_release}
-use Rattle.cop1.specs.Farm.{verdict_of}
-use Rattle.cop1.specs.FarmRuns.{FlagsAgree}
+use Rattle.tc_link.proofs.Common.{◌≡◌, ℕ, ◌<◌, true, false, [], ◌∷◌, Some, None, refl, ◌∙◌, arith, ◌+◌, ◌%◌}
+use Rattle.tc_link.proofs.Common.{AllByRecursion, Clcw, SegmentView, FarmMode, Open, Wait, Verdict, Accepted, Control}
+use Rattle.tc_link.proofs.Common.{Idle, Sent, FopMode, S1, S2, S3, S5, FarmState, FarmEvent, AdArrives, BdArrives}
+use Rattle.tc_link.proofs.Common.{BufferReleased, farm_step, after_verdict, after_unlock, after_set_vr, after_release}
+use Rattle.tc_link.proofs.Common.{verdict_of, without_oldest_mark, FopState, FopOutcome, pull_step}
+use Rattle.tc_link.proofs.Common.{clcw_step, report_while_active, after_move_on, retransmits, after_new_value}
+use Rattle.tc_link.proofs.Common.{IsActive, tick_step, after_count, due_again, after_acknowledge, after_repeat}
+use Rattle.tc_link.proofs.Common.{after_alert, after_stop, after_restart, Config, FitsFrame, GroundState}
+use Rattle.tc_link.proofs.Common.{settle_step, ticked, pulled_out, heard_active, Bool}
+use Rattle.cop1.specs.declared.farm.FarmMode.TheVariants.{Lockout}
+use Rattle.cop1.specs.Farm.{UnlockArrives, SetVrArrives, InvalidArrives}
 use Rattle.cop1.proofs.Agreeing.{FlagsAgree-step}
-use Rattle.cop1.specs.Units.{without_oldest_mark, FopState, FopOutcome}
-use Rattle.cop1.specs.FopPull.{pull_step}
-use Rattle.cop1.specs.FopReport.{locks, waits, asks, clcw_step, report_in, report_while_active, report_in_S4, confirms}
-use Rattle.cop1.specs.FopReport.{after_move_on, retransmits, after_new_value}
-use Rattle.cop1.specs.FopTick.{tick_step, after_count, due_again}
-use Rattle.cop1.specs.FopWords.{after_acknowledge, after_repeat, after_alert, after_stop, after_restart, alerts}
-use Rattle.cop1.specs.FopWords.{goes_on}
-use Rattle.nodes.specs.declared.config.Config.{Config}
-use Rattle.nodes.specs.OwnedFields.{FitsFrame}
-use Rattle.nodes.specs.Ground.{GroundState, is_closed, settle_step}
-use Rattle.tc_link.proofs.Linked.{Commanded}
+use Rattle.tc_link.proofs.Reported.{reported}
 use Rattle.tc_link.proofs.Settled.{settled_keeps}
-use Rattle.cop1.proofs.Ticking.{ticked}
-use Rattle.cop1.proofs.Pulling.{pulled_out}
-use Rattle.cop1.proofs.Hearing.{heard_active}
-use Rattle.std.proofs.Common.{Bool}
+use Rattle.tc_link.proofs.Sound.{Commanded, FopSteady, GroundNodeSteady, FarmSteady}
 
 -- ---- the sender
-
-pub record FopSteady (c : Config) (f : FopState SegmentView) : Type 0 where
-  pub room : f.room ≡ c.width / 2
-  pub window : f.window ≤ c.width / 2
-  pub vs_octet : f.vs < 256
-  pub commanded : Commanded f.state f.control
-  pub bypass_fits : AllByRecursion FitsFrame f.bypass
 
 module _ (c : Config) (s : FopState SegmentView) (k : FopSteady c s) where
   abbrev Steadily : {A : Type 0} → FopOutcome SegmentView A → Type 0
@@ -102,26 +73,19 @@ module _ (c : Config) (s : FopState SegmentView) (k : FopSteady c s) where
       all_again = λ asking. again_so;
     })
 
-    in_S4_so : Steadily (report_in_S4 s r)
-    in_S4_so =
-        cond_both (locks r) (alerts s alert.Lockout) _ (λ o. Steadily o) (λ t. gives_up s refl refl refl refl)
-        (λ l. cond_both (not (r.value == s.vs)) (alerts s alert.NnR) _ (λ o. Steadily o)
-        (λ t. gives_up s refl refl refl refl)
-        (λ v. cond_both (asks r) (alerts s alert.Synch) _ (λ o. Steadily o) (λ t. gives_up s refl refl refl refl)
-        (λ a. cond_both (waits r) (alerts s alert.Clcw) _ (λ o. Steadily o) (λ t. gives_up s refl refl refl refl)
-        (λ t. goes_so (record s { state = S1; ticks = None }) refl refl refl refl idle))))
-
-  report_in_so : (r : Clcw) (m : FopMode) → s.state ≡ m → Commanded m s.control → Steadily (report_in s r m)
-  report_in_so r S4 is idle = in_S4_so r idle
-  report_in_so r S5 is idle =
-      cond_both (confirms s r) (goes_on (record s { state = S1; ticks = None; control = Idle })) (goes_on s)
-      (λ o. Steadily o) (λ t. goes_so (record s { state = S1; ticks = None; control = Idle }) refl refl refl refl refl)
-      (λ t. k)
-  report_in_so r S6 is idle = k
-  report_in_so r _ is idle = active_so r idle
+  idle_active : (m : FopMode) → IsActive m → Commanded m s.control → s.control ≡ Idle
+  idle_active S5 active is = elim active [ ]
+  idle_active _ active is = is
 
   pub report_so : (r : Clcw) → FopSteady c (clcw_step s r).after
-  report_so r = report_in_so r s.state refl k.commanded
+  report_so r = reported s r (λ o. Steadily o) (record {
+    active = λ active. active_so r (idle_active s.state active k.commanded);
+    alerted = λ is x cause. gives_up s refl refl refl refl;
+    checked = λ is confirms. let idle : s.control ≡ Idle = rw is at k.commanded in
+        goes_so (record s { state = S1; ticks = None }) refl refl refl refl idle;
+    commanded = λ is confirms. goes_so (record s { state = S1; ticks = None; control = Idle }) refl refl refl refl refl;
+    same = k;
+  })
 
   -- ---- a tick
 
@@ -164,22 +128,12 @@ module _ (c : Config) (s : FopState SegmentView) (k : FopSteady c s) where
 
 -- ---- the ground
 
-pub record GroundNodeSteady (c : Config) (s : GroundState) : Type 0 where
-  pub config : s.config ≡ c
-  pub fop : FopSteady c s.fop
-  pub pending_none : is_closed s.fop.state ≡ true → s.pending ≡ []
-
 pub settled_so : (c : Config) (s : GroundState) → s.config ≡ c → FopSteady c s.fop → GroundNodeSteady c (settle_step s)
 settled_so c s is k = settled_keeps (GroundNodeSteady c) s (λ waiting pending on off.
     let fop : FopSteady c (record s.fop { waiting = waiting }) = assumption k in
     record { config = is; fop = fop; pending_none = off })
 
 -- ---- the receiver
-
-pub record FarmSteady (c : Config) (s : FarmState) : Type 0 where
-  pub width : s.width ≡ c.width
-  pub farm_b : s.farm_b < 4
-  pub flags : FlagsAgree s
 
 verdict_so : (s : FarmState) (v : Verdict)
     → ((after_verdict s v).width ≡ s.width) × ((after_verdict s v).farm_b ≡ s.farm_b)

@@ -1,96 +1,37 @@
 -- What holds of the world at every moment, in any session.
-use Rattle.std.proofs.Common.{◌≡◌, ℕ, ◌-◌, ◌/◌, ◌∙◌, ◌<◌, ◌≤◌, Bool, true, false, List, [], ◌∷◌}
-use Rattle.std.proofs.Common.{◌++◌, length, Option, Some, None, Result, Ok, Err, refl, arith, length-append}
-use Rattle.std.specs.Prelude.{◌==◌, ◌||◌, nat_lt}
-use Rattle.std.specs.List.{AllByRecursion}
-use Rattle.std.proofs.lemmas.Bool.{cond_both, ltb-false, eqb-false, or_parts}
-use Rattle.clcw.specs.declared.word.Clcw.{Clcw}
-use Rattle.clcw.specs.declared.fault.ClcwFault.{ClcwFault}
-use Rattle.clcw.specs.Reading.{clcw_at}
-use Rattle.tc_frame.specs.declared.fault.TcFault.{TcFault}
-use Rattle.tc_frame.specs.declared.frame.Check.TheVariants.{On}
+use Rattle.tc_link.proofs.Common.{◌≡◌, ℕ, ◌-◌, ◌/◌, ◌∙◌, ◌<◌, ◌≤◌, Bool, true, false, List, [], ◌∷◌, ◌++◌, length}
+use Rattle.tc_link.proofs.Common.{Option, Some, None, Result, Ok, Err, refl, arith, length-append, ◌==◌, ◌||◌, nat_lt}
+use Rattle.tc_link.proofs.Common.{AllByRecursion, cond_both, ltb-false, eqb-false, or_parts, TcFault, On, SegmentView}
+use Rattle.tc_link.proofs.Common.{BodyView, Ad, Bd, Bc, CopFault, Verdict, Accepted, Alert, Idle, Directive}
+use Rattle.tc_link.proofs.Common.{InitWithoutCheck, InitWithCheck, InitUnlock, InitSetVr, S6, FarmState, FarmEvent}
+use Rattle.tc_link.proofs.Common.{AdArrives, BdArrives, BufferReleased, farm_step, verdict_of, directive_step}
+use Rattle.tc_link.proofs.Common.{pull_step, clcw_step, FopState, FopOutcome, tick_step, after_alert, BuilderState}
+use Rattle.tc_link.proofs.Common.{is_to_send, after_queue, data_size, is_at_rest, room_left, TmFault, Extracted}
+use Rattle.tc_link.proofs.Common.{Config, Event, LinkFault, is_kept, FitsFrame, PacketOn, IsConfig}
+use Rattle.tc_link.proofs.Common.{limits_of, SpacecraftState, SpacecraftOutcome, spacecraft_report, frame_outcome}
+use Rattle.tc_link.proofs.Common.{body_outcome, sequence_outcome, bypass_outcome, is_free, is_own_frame}
+use Rattle.tc_link.proofs.Common.{spacecraft_take, spacecraft_take_bypass, spacecraft_telemetry, GroundState, with_fop}
+use Rattle.tc_link.proofs.Common.{directive_outcome, submit_fault, after_submission, bypass_fault, after_bypass}
+use Rattle.tc_link.proofs.Common.{unless_refused, after_extraction, telemetry_outcome, World, WorldOutcome, new_world}
+use Rattle.tc_link.proofs.Common.{world_step, up_deliver_step, down_deliver_step, is_initiation}
+use Rattle.tc_link.proofs.Common.{session_after_directive, IsDirective, IsEvent, obeyed, begun}
 use Rattle.tc_frame.specs.declared.frame.SegmentFlags.TheVariants.{Alone}
-use Rattle.tc_frame.specs.Layout.{SegmentView, BodyView, Ad, Bd, Bc, FrameView}
+use Rattle.tc_frame.specs.Layout.{FrameView}
 use Rattle.tc_frame.specs.Reading.{frame_at}
 use Rattle.map_service.specs.Cutting.{segment_with}
-use Rattle.cop1.specs.declared.fault.CopFault.{CopFault}
-use Rattle.cop1.specs.declared.farm.Verdict.{Verdict}
-use Rattle.cop1.specs.declared.farm.Verdict.TheVariants.{Accepted}
-use Rattle.cop1.specs.declared.vocabulary.Alert.{Alert}
-use Rattle.cop1.specs.declared.vocabulary.Control.TheVariants.{Idle}
-use Rattle.cop1.specs.declared.vocabulary.Directive.{Directive}
-use Rattle.cop1.specs.declared.vocabulary.Directive.TheVariants.{InitWithoutCheck, InitWithCheck, InitUnlock, InitSetVr}
-use Rattle.cop1.specs.declared.vocabulary.FopMode.TheVariants.{S6}
-use Rattle.cop1.specs.Farm.{FarmState, FarmEvent, AdArrives, BdArrives, BufferReleased, farm_step, verdict_of}
-use Rattle.cop1.specs.FopDirective.{directive_step}
-use Rattle.cop1.specs.FopPull.{pull_step}
-use Rattle.cop1.specs.FopReport.{clcw_step}
-use Rattle.cop1.specs.Units.{FopState, FopOutcome}
-use Rattle.cop1.specs.FopTick.{tick_step}
-use Rattle.cop1.specs.FopWords.{after_alert}
-use Rattle.tm_link.specs.Building.{BuilderState, is_to_send, after_queue, after_send, data_size, is_at_rest, room_left}
-use Rattle.tm_link.specs.Building.{idle_after, with_next_count}
-use Rattle.tm_link.specs.declared.fault.TmFault.{TmFault}
-use Rattle.tm_link.specs.Extraction.{Extracted, extract_step}
+use Rattle.tm_link.specs.Building.{after_send, idle_after, with_next_count}
+use Rattle.nodes.specs.Spacecraft.{command_event}
+use Rattle.nodes.proofs.Submitting.{bypass_fits}
+use Rattle.tc_link.proofs.Reported.{frame_seen}
+use Rattle.tc_link.proofs.SteadyNodes.{settled_so, farm_so, report_so}
+use Rattle.tc_link.proofs.SteadyNodes.{tick_so, pull_so, gives_up, goes_same, steady_so}
+use Rattle.tc_link.proofs.Sound.{Commanded, FopSteady, GroundNodeSteady, SpacecraftSteady, Sound}
+use Rattle.tc_link.proofs.Submitting.{all_push}
+use Rattle.tc_link.proofs.Leaving.{AtEachLoss, lost, pulled, up_arrives, down_arrives}
 use Rattle.tm_link.specs.Layout as telemetry
 use Rattle.tm_link.specs.Reading as telemetry_reading
-use Rattle.nodes.specs.declared.config.Config.{Config}
-use Rattle.tc_link.specs.declared.event.Event.{Event}
-use Rattle.tc_link.specs.declared.event.Event.TheVariants as events
-use Rattle.nodes.specs.declared.fault.LinkFault.{LinkFault}
-use Rattle.nodes.specs.declared.heard.Heard.{Heard}
-use Rattle.nodes.specs.SpacecraftFields.{IsBuilderOf}
-use Rattle.nodes.specs.BypassSegments.{is_kept}
-use Rattle.nodes.specs.OwnedFields.{FitsFrame}
-use Rattle.nodes.specs.Packets.{PacketOn}
-use Rattle.nodes.specs.Parameters.{IsConfig, limits_of}
-use Rattle.nodes.specs.Spacecraft.{SpacecraftState, SpacecraftOutcome, spacecraft_report, frame_outcome, body_outcome}
-use Rattle.nodes.specs.Spacecraft.{sequence_outcome, bypass_outcome, command_event, is_free, is_own_frame}
-use Rattle.nodes.specs.Spacecraft.{spacecraft_take, spacecraft_take_bypass, spacecraft_telemetry}
-use Rattle.nodes.specs.Ground.{GroundState, with_fop, directive_outcome, submit_fault, after_submission}
-use Rattle.nodes.specs.Ground.{bypass_fault, after_bypass, unless_refused, after_extraction, telemetry_outcome}
-use Rattle.nodes.specs.Ground.{own_frame_outcome}
+use Rattle.link_events.specs.declared.event.Event.TheVariants as events
 use Rattle.nodes.specs.Ground as ground
-use Rattle.tc_link.specs.World.{World, WorldOutcome, new_world, world_step, up_deliver_step}
-use Rattle.tc_link.specs.World.{down_deliver_step}
-use Rattle.cop1.specs.Directives.{is_initiation}
-use Rattle.tc_link.specs.World.{session_after_directive}
-use Rattle.nodes.proofs.Submitting.{bypass_fits}
-use Rattle.tc_link.specs.Reached.{IsDirective, IsEvent}
-use Rattle.tc_link.proofs.Linked.{Steady, Commanded}
-use Rattle.tc_link.proofs.SteadyNodes.{FopSteady, GroundNodeSteady, FarmSteady, settled_so, farm_so, report_so, tick_so}
-use Rattle.tc_link.proofs.SteadyNodes.{pull_so, gives_up, goes_same, steady_so}
-use Rattle.tc_link.proofs.LateSubmitting.{all_push}
-use Rattle.cop1.proofs.Obeying.{obeyed, begun}
-use Rattle.tc_link.proofs.Leaving.{AtEachLoss, lost, pulled, up_arrives, down_arrives}
-
-pub record SpacecraftSteady (c : Config) (s : SpacecraftState) : Type 0 where
-  pub config : s.config ≡ c
-  pub farm : FarmSteady c s.farm
-  pub builder : IsBuilderOf c s.builder
-  pub idle_left : s.builder.idle_left ≤ 6
-
-pub record Sound (c : Config) (w : World) : Type 0 where
-  pub ranges : IsConfig c
-  pub ground_node : GroundNodeSteady c w.ground_node
-  pub spacecraft : SpacecraftSteady c w.spacecraft
-  pub before : w.session.before ≤ length w.spacecraft.accepted
-
-pub steady_of : (c : Config) (w : World) → Sound c w → Steady c w
-steady_of c w k = record {
-  ranges = k.ranges;
-  ground_config = k.ground_node.config;
-  spacecraft_config = k.spacecraft.config;
-  width = k.spacecraft.farm.width;
-  farm_b = k.spacecraft.farm.farm_b;
-  flags = k.spacecraft.farm.flags;
-  window = k.ground_node.fop.window;
-  commanded = k.ground_node.fop.commanded;
-  bypass_fits = k.ground_node.fop.bypass_fits;
-  before = k.before;
-  builder = k.spacecraft.builder;
-  idle_left = k.spacecraft.idle_left;
-}
 
 -- ---- the spacecraft
 
@@ -250,19 +191,13 @@ module _ (c : Config) (s : GroundState) (k : GroundNodeSteady c s) where
   extracted_so : (x : Extracted) → GroundNodeSteady c (after_extraction s x)
   extracted_so x = record { config = k.config; fop = k.fop; pending_none = k.pending_none }
 
-  word_so : (x : Extracted) (r : Result Clcw ClcwFault) → GroundNodeSteady c (own_frame_outcome s x r).after
-  word_so x (Err fault) = extracted_so x
-  word_so x (Ok report) =
-      cond_both (report.vcid == s.config.vcid) _ _ (λ (o : ground.GroundOutcome Heard). GroundNodeSteady c o.after)
-      (λ t. settled_so c (record (after_extraction s x) { fop = (clcw_step s.fop report).after }) k.config
-      (report_so c s.fop k.fop report)) (λ t. extracted_so x)
-
   telemetry_so : (r : Result telemetry.FrameView TmFault) → GroundNodeSteady c (telemetry_outcome s r).after
-  telemetry_so (Err fault) = k
-  telemetry_so (Ok frame) =
-      cond_both (ground.is_own_telemetry s.config frame) _ _
-      (λ (o : ground.GroundOutcome Heard). GroundNodeSteady c o.after)
-      (λ t. word_so (extract_step s.extractor frame) (clcw_at frame.ocf)) (λ t. k)
+  telemetry_so = frame_seen s (GroundNodeSteady c) (record {
+    same = k;
+    extracts = extracted_so;
+    uses = λ x report. settled_so c (record (after_extraction s x) { fop = (clcw_step s.fop report).after }) k.config
+        (report_so c s.fop k.fop report);
+  })
 
 -- ---- the world
 

@@ -1,36 +1,24 @@
 -- What is taken on board since a session began is what it has delivered.
-use Rattle.std.proofs.Common.{◌≡◌, ℕ, List, [], ◌∷◌, ◌++◌, length, take, drop, map, filter, eqb, Option}
-use Rattle.std.proofs.Common.{Result, option_map, option_to_list, refl, sym, subst, ap, ◌∙◌, append-nil, append_assoc}
-use Rattle.std.proofs.lemmas.Bool.{cond_both}
-use Rattle.std.proofs.lemmas.List.{map-append}
-use Rattle.std.proofs.lemmas.List.Elements.{filter-append}
+use Rattle.tc_link.proofs.Common.{◌≡◌, ℕ, List, [], ◌∷◌, ◌++◌, length, take, drop, map, filter, eqb, Option, Result}
+use Rattle.tc_link.proofs.Common.{option_map, option_to_list, refl, sym, subst, ap, ◌∙◌, append-nil, append_assoc}
+use Rattle.tc_link.proofs.Common.{cond_both, map-append, filter-append, SegmentView, assembled, assembled-push}
+use Rattle.tc_link.proofs.Common.{assembled-other, is_to_send, TmFault, Config, segment_to_accept, PacketOn, limits_of}
+use Rattle.tc_link.proofs.Common.{SpacecraftState, SpacecraftOutcome, spacecraft_step, spacecraft_take}
+use Rattle.tc_link.proofs.Common.{spacecraft_take_bypass, spacecraft_telemetry, Event, Opening, KeepsSession, World}
+use Rattle.tc_link.proofs.Common.{WorldOutcome, IsIdle, delivered, world_step, world_run, run_answers}
+use Rattle.tc_link.proofs.Common.{world_after_take}
 use Rattle.std.proofs.Math.Seq.{take-append_seam, drop-append_seam}
-use Rattle.tc_frame.specs.Layout.{SegmentView}
-use Rattle.map_service.specs.Assembly.{assembled}
-use Rattle.map_service.proofs.Steps.{assembled-push, assembled-other}
-use Rattle.tm_link.specs.Building.{is_to_send}
-use Rattle.tm_link.specs.declared.fault.TmFault.{TmFault}
-use Rattle.nodes.specs.declared.config.Config.{Config}
-use Rattle.nodes.specs.Acceptance.{segment_to_accept}
 use Rattle.nodes.specs.Delivery.{packets_of_map, delivered_on}
-use Rattle.nodes.specs.Packets.{PacketOn}
-use Rattle.nodes.specs.Parameters.{limits_of}
-use Rattle.nodes.specs.Spacecraft.{SpacecraftState, SpacecraftOutcome, spacecraft_step, spacecraft_take, Receive}
-use Rattle.nodes.specs.Spacecraft.{spacecraft_take_bypass, spacecraft_telemetry}
+use Rattle.nodes.specs.Spacecraft.{Receive}
 use Rattle.nodes.proofs.Delivering.{delivers}
-use Rattle.tc_link.specs.declared.event.Event.{Event}
-use Rattle.tc_link.specs.declared.event.Event.TheVariants as events
-use Rattle.tc_link.specs.declared.sim.opening.Opening.{Opening}
-use Rattle.tc_link.specs.World.{KeepsSession}
-use Rattle.tc_link.specs.Taken.{BeginsSession, handed_out, taken, taken_since, ready_on}
-use Rattle.tc_link.specs.Taken.{HandsOutWhatIsDelivered, HandsOutWhatIsSubmitted}
-use Rattle.tc_link.specs.World.{World, WorldOutcome, IsIdle, delivered, world_step, world_run, run_answers}
-use Rattle.tc_link.specs.World.{world_after_take}
+use Rattle.tc_link.specs.Taken.{BeginsSession, handed_out, taken, taken_since, ready_on, HandsOutWhatIsDelivered}
+use Rattle.tc_link.specs.Taken.{HandsOutWhatIsSubmitted}
 use Rattle.tc_link.proofs.AcceptedSegments.{accepts_segment}
 use Rattle.tc_link.proofs.Delivered.{is_in_order}
 use Rattle.tc_link.proofs.Gained.{config_stays}
 use Rattle.tc_link.proofs.Invariant.{opened, session_stays, begun_is, step_holds, run_holds, reached_holds}
 use Rattle.tc_link.proofs.Leaving.{AtEachLoss, lost, pulled, up_arrives, down_arrives}
+use Rattle.link_events.specs.declared.event.Event.TheVariants as events
 
 -- from the one state to the other these packets were handed out, and some more were made ready
 record Passes (old : SpacecraftState) (out : List PacketOn) (new : SpacecraftState) : Type 0 where

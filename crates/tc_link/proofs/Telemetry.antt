@@ -1,13 +1,12 @@
 -- Frames that are sent and come one by one: those that came, and what an extractor makes of them.
-use Rattle.std.proofs.Common.{◌≡◌, ℕ, Bool, true, false, if◌then◌else◌, not, List, [], ◌∷◌, ◌++◌, length, drop}
-use Rattle.std.proofs.Common.{refl, sym, ap, subst, ◌∙◌, arith, append_assoc}
-use Rattle.std.specs.List.{AllByRecursion}
-use Rattle.std.proofs.lemmas.List.{append-nil}
-use Rattle.tm_link.specs.Arriving.{all_extracted, state_behind}
-use Rattle.tm_link.specs.Extraction.{ExtractorState, is_idle, without_idle, extract_step}
+use Rattle.tc_link.proofs.Common.{◌≡◌, ℕ, Bool, true, false, if◌then◌else◌, not, List, [], ◌∷◌, ◌++◌, length, drop}
+use Rattle.tc_link.proofs.Common.{refl, sym, ap, subst, ◌∙◌, arith, append_assoc, AllByRecursion, append-nil}
+use Rattle.tc_link.proofs.Common.{all_extracted, state_after, ExtractorState, without_idle, extract_step, choice}
+use Rattle.tc_link.proofs.Common.{AreSomeOf}
+use Rattle.tm_link.specs.Extraction.{is_idle}
 use Rattle.tm_link.specs.Layout.{FrameView}
-use Rattle.tm_link.specs.Stream.{are_received, choice, complete_packets}
-use Rattle.tc_link.specs.Telemetry.{AreSomeOf, none, one, without}
+use Rattle.tm_link.specs.Stream.{are_received, complete_packets}
+use Rattle.tc_link.specs.Telemetry.{none, one, without}
 
 -- ---- the frames that came, of those that are no longer on their way
 
@@ -24,23 +23,14 @@ choice_front (f ∷ gone) going (true ∷ came) e =
     ap (λ (fs : List FrameView). f ∷ fs) (choice_front gone going came (omega arith))
 choice_front (f ∷ gone) going (false ∷ came) e = choice_front gone going came (omega arith)
 
-pub choice_came : (gone : List FrameView) (f : FrameView) (came : List Bool) → length came ≡ length gone
-    → choice (gone ++ f ∷ []) (came ++ true ∷ []) ≡ choice gone came ++ f ∷ []
-choice_came [] f [] e = refl
-choice_came [] f (c ∷ came) e = absurd (omega arith)
-choice_came (g ∷ gone) f [] e = absurd (omega arith)
-choice_came (g ∷ gone) f (true ∷ came) e =
-    ap (λ (fs : List FrameView). g ∷ fs) (choice_came gone f came (omega arith))
-choice_came (g ∷ gone) f (false ∷ came) e = choice_came gone f came (omega arith)
-
-pub choice_lost : (gone : List FrameView) (f : FrameView) (came : List Bool) → length came ≡ length gone
-    → choice (gone ++ f ∷ []) (came ++ false ∷ []) ≡ choice gone came
-choice_lost [] f [] e = refl
-choice_lost [] f (c ∷ came) e = absurd (omega arith)
-choice_lost (g ∷ gone) f [] e = absurd (omega arith)
-choice_lost (g ∷ gone) f (true ∷ came) e =
-    ap (λ (fs : List FrameView). g ∷ fs) (choice_lost gone f came (omega arith))
-choice_lost (g ∷ gone) f (false ∷ came) e = choice_lost gone f came (omega arith)
+pub choice_more : (gone : List FrameView) (f : FrameView) (came : List Bool) (b : Bool) → length came ≡ length gone
+    → choice (gone ++ f ∷ []) (came ++ b ∷ []) ≡ choice gone came ++ choice (f ∷ []) (b ∷ [])
+choice_more [] f [] b e = refl
+choice_more [] f (c ∷ came) b e = absurd (omega arith)
+choice_more (g ∷ gone) f [] b e = absurd (omega arith)
+choice_more (g ∷ gone) f (true ∷ came) b e =
+    ap (λ (fs : List FrameView). g ∷ fs) (choice_more gone f came b (omega arith))
+choice_more (g ∷ gone) f (false ∷ came) b e = choice_more gone f came b (omega arith)
 
 pub choice_whole : (frames : List FrameView) (came : List Bool) → length came ≡ length frames
     → AllByRecursion (λ (c : Bool). c ≡ true) came → choice frames came ≡ frames
@@ -53,16 +43,16 @@ choice_whole (f ∷ frames) (c ∷ came) e all =
 -- ---- one frame more
 
 pub extracted_more : (s : ExtractorState) (frames : List FrameView) (f : FrameView)
-    → all_extracted s (frames ++ f ∷ []) ≡ all_extracted s frames ++ (extract_step (state_behind s frames) f).packets
+    → all_extracted s (frames ++ f ∷ []) ≡ all_extracted s frames ++ (extract_step (state_after s frames) f).packets
 extracted_more s [] f = append-nil (extract_step s f).packets
 extracted_more s (g ∷ frames) f =
     let next : ExtractorState = (extract_step s g).after in
     ap (λ (ps : List (List ℕ)). (extract_step s g).packets ++ ps) (extracted_more next frames f)
     ∙ sym (append_assoc (extract_step s g).packets (all_extracted next frames)
-    (extract_step (state_behind next frames) f).packets)
+    (extract_step (state_after next frames) f).packets)
 
 pub state_more : (s : ExtractorState) (frames : List FrameView) (f : FrameView)
-    → state_behind s (frames ++ f ∷ []) ≡ (extract_step (state_behind s frames) f).after
+    → state_after s (frames ++ f ∷ []) ≡ (extract_step (state_after s frames) f).after
 state_more s [] f = refl
 state_more s (g ∷ frames) f = state_more (extract_step s g).after frames f
 

@@ -1,60 +1,47 @@
 -- Telemetry over a run: what holds at every moment, and that it is what is promised.
-use Rattle.std.proofs.Common.{◌≡◌, ◌<◌, ◌≤◌, ℕ, Bool, true, false, List, [], ◌∷◌, ◌++◌, length, drop, map}
-use Rattle.std.proofs.Common.{Result, Ok, Err, refl, sym, ap, subst, ◌∙◌, arith, append_assoc}
-use Rattle.std.proofs.Common.{length-append}
-use Rattle.std.specs.Prelude.{◌==◌}
-use Rattle.std.specs.List.{AllByRecursion}
-use Rattle.std.proofs.lemmas.Bool.{cond_both, eq-eqb}
-use Rattle.std.proofs.lemmas.List.{append-nil, map-append, drop_at}
+use Rattle.tc_link.proofs.Common.{◌≡◌, ◌<◌, ◌≤◌, ℕ, Bool, true, false, List, [], ◌∷◌, ◌++◌, length, drop, map, Result}
+use Rattle.tc_link.proofs.Common.{Ok, Err, refl, sym, ap, subst, ◌∙◌, arith, append_assoc, length-append, ◌==◌}
+use Rattle.tc_link.proofs.Common.{AllByRecursion, cond_both, eq-eqb, append-nil, map-append, On, TcFault}
+use Rattle.tc_link.proofs.Common.{directive_step, pull_step, tick_step, TmFault, all_extracted, state_after}
+use Rattle.tc_link.proofs.Common.{BuilderState, is_to_send, after_queue, data_size, ExtractorState, extract_step}
+use Rattle.tc_link.proofs.Common.{held_by, IsLaidOutBy, choice, Config, GroundState, GroundOutcome, telemetry_outcome}
+use Rattle.tc_link.proofs.Common.{ground_telemetry, own_frame_outcome, with_fop, Heard, submit_fault, bypass_fault}
+use Rattle.tc_link.proofs.Common.{SpacecraftOutcome, report_octets, IsConfig, Event, NotDetectable, Up, Down}
+use Rattle.tc_link.proofs.Common.{AreSomeOf, World, WorldOutcome, world_step, world_run, new_world, down_deliver_step}
+use Rattle.tc_link.proofs.Common.{down_lose_step, down_damage_step, down_damage_outcome, up_lose_step, up_damage_step}
+use Rattle.tc_link.proofs.Common.{up_damage_outcome, up_deliver_step, world_refusal, world_reply, world_after_queueing}
+use Rattle.std.proofs.lemmas.List.{drop_at}
 use Rattle.clcw.specs.Reading.{clcw_at}
-use Rattle.tc_frame.specs.declared.frame.Check.TheVariants.{On}
-use Rattle.tc_frame.specs.declared.fault.TcFault.{TcFault}
-use Rattle.tc_frame.specs.Layout as command_layout
-use Rattle.tc_frame.specs.Reading as command
-use Rattle.cop1.specs.FopDirective.{directive_step}
-use Rattle.cop1.specs.FopPull.{pull_step}
-use Rattle.cop1.specs.FopTick.{tick_step}
-use Rattle.tm_link.specs.declared.fault.TmFault.{TmFault}
-use Rattle.tm_link.specs.Arriving.{IsInRange, all_extracted, state_behind}
-use Rattle.tm_link.specs.Building.{BuilderState, is_to_send, after_queue, data_size, build_step}
-use Rattle.tm_link.specs.Extraction.{ExtractorState, new_extractor, extract_step}
-use Rattle.tm_link.specs.Laying.{held_by, IsLaidOutBy}
+use Rattle.tm_link.specs.Arriving.{IsInRange}
+use Rattle.tm_link.specs.Building.{build_step}
+use Rattle.tm_link.specs.Extraction.{new_extractor}
 use Rattle.tm_link.specs.Layout.{FrameView}
 use Rattle.tm_link.specs.Reading.{frame_at}
-use Rattle.tm_link.specs.Stream.{IsLaidOut, IsClose, choice, marks_of, arrived_packets}
+use Rattle.tm_link.specs.Stream.{IsLaidOut, IsClose, marks_of, arrived_packets}
 use Rattle.tm_link.specs.Writing.{spelling}
 use Rattle.tm_link.proofs.Arrivals.{all_handed_out}
 use Rattle.tm_link.proofs.BuiltFrames.{build_laid}
 use Rattle.tm_link.proofs.Choices.{extraction_exact}
 use Rattle.tm_link.proofs.Laying.{new_laid}
-use Rattle.nodes.specs.declared.config.Config.{Config}
-use Rattle.nodes.specs.Ground.{GroundState, GroundOutcome, telemetry_outcome, ground_telemetry, own_frame_outcome}
-use Rattle.nodes.specs.Ground.{ground_take_telemetry, with_fop}
-use Rattle.nodes.specs.declared.heard.Heard.{Heard}
-use Rattle.nodes.specs.Ground.{submit_fault, bypass_fault}
-use Rattle.nodes.specs.declared.heard.Heard.TheVariants as heard_cases
-use Rattle.nodes.specs.declared.received.Received.TheVariants as received_cases
-use Rattle.nodes.specs.Spacecraft.{SpacecraftOutcome, report_octets}
-use Rattle.nodes.specs.Parameters.{IsConfig}
-use Rattle.tc_link.specs.declared.event.Event.{Event}
-use Rattle.tc_link.specs.declared.event.Event.TheVariants as events
-use Rattle.tc_link.specs.declared.sim.fault.SimFault.TheVariants.{NotDetectable}
-use Rattle.tc_link.specs.Replies.{Up, Down}
+use Rattle.nodes.specs.Ground.{ground_take_telemetry}
 use Rattle.tc_link.specs.Telemetry.{Downlink, DownlinkStep, Happens, TakeTelemetry, IsDownlinkStep, new_downlink}
-use Rattle.tc_link.specs.Telemetry.{after_event, after_taking, downlink_step, downlink_run}
-use Rattle.tc_link.specs.Telemetry.{packets_down, AreSomeOf, IsTelemetryInOrder, downlink_of}
-use Rattle.tc_link.specs.World.{World, WorldOutcome, world_step, world_run, new_world, down_deliver_step}
-use Rattle.tc_link.specs.World.{down_lose_step, down_damage_step, down_damage_outcome, up_lose_step, up_damage_step}
-use Rattle.tc_link.specs.World.{up_damage_outcome, up_deliver_step, world_refusal, world_reply, world_after_queueing}
-use Rattle.tc_link.proofs.LateSubmitting.{all_push}
+use Rattle.tc_link.specs.Telemetry.{after_event, after_taking, downlink_step, downlink_run, packets_down}
+use Rattle.tc_link.specs.Telemetry.{IsTelemetryInOrder, downlink_of}
+use Rattle.tc_link.proofs.Submitting.{all_push}
 use Rattle.tc_link.proofs.Leaving.{first_on, pulled, up_arrives, down_arrives}
 use Rattle.tc_link.proofs.ReportFrames.{data_length, reads_now}
-use Rattle.tc_link.proofs.SteadyWorld.{Sound, steady_of, step_sound, new_sound}
-use Rattle.tc_link.proofs.Telemetry.{choice_front, choice_came, choice_lost, choice_whole, extracted_more, state_more}
+use Rattle.tc_link.proofs.SteadyWorld.{step_sound, new_sound}
+use Rattle.tc_link.proofs.Telemetry.{choice_front, choice_more, choice_whole, extracted_more, state_more}
 use Rattle.tc_link.proofs.Telemetry.{arrived_some}
 use Rattle.tc_link.proofs.TelemetrySteps.{queued_laid, arrived_builds, take_builds, bypass_take_builds, Extracts}
 use Rattle.tc_link.proofs.TelemetrySteps.{directed_extracts, bypass_extracts, with_extracts, submitted_extracts}
 use Rattle.tc_link.proofs.TelemetrySteps.{IsExtracted, word_extracts}
+use Rattle.tc_frame.specs.Layout as command_layout
+use Rattle.tc_frame.specs.Reading as command
+use Rattle.nodes.specs.declared.heard.Heard.TheVariants as heard_cases
+use Rattle.nodes.specs.declared.received.Received.TheVariants as received_cases
+use Rattle.link_events.specs.declared.event.Event.TheVariants as events
+use Rattle.tc_link.proofs.Sound.{Sound}
 
 -- a frame that was sent: of the link's channel, and read as it was sent
 pub record IsSentBy (c : Config) (f : FrameView) : Type 0 where
@@ -72,7 +59,7 @@ pub record Came (sent : List FrameView) (came : List Bool) (down : List (List �
   pub parts : sent ≡ gone ++ going
   pub counted : length came ≡ length gone
   pub down_is : map spelling going ≡ down
-  pub state : extractor ≡ state_behind new_extractor (choice gone came)
+  pub state : extractor ≡ state_after new_extractor (choice gone came)
   pub given : packets ≡ all_extracted new_extractor (choice gone came)
 
 pub record Laid (c : Config) (d : Downlink) : Type 0 where
@@ -195,7 +182,7 @@ module _ (c : Config) (d : Downlink) (g : Laid c d) where
         count = omega arith;
         each = all_push (IsSentBy c) d.sent f g.each (record {
           range = record { count = g.count; some = some };
-          reads = reads_now c d.world (steady_of c d.world g.sound);
+          reads = reads_now c d.world g.sound;
           scid = k.builder.scid;
           vcid = k.builder.vcid;
         });
@@ -233,7 +220,7 @@ module _ (c : Config) (d : Downlink) (g : Laid c d) where
         let x = first in
         let v = g.way in
         let same : choice (v.gone ++ x.frame ∷ []) (d.came ++ false ∷ []) ≡ choice v.gone d.came =
-        choice_lost v.gone x.frame d.came v.counted in
+        choice_more v.gone x.frame d.came false v.counted ∙ append-nil (choice v.gone d.came) in
         laid_at c (record d.world { down = bs }) d.taken (append-nil d.queued) (append-nil d.sent) refl (record {
           sound = sound;
           laid = g.laid;
@@ -276,7 +263,7 @@ module _ (c : Config) (d : Downlink) (g : Laid c d) where
         let s : GroundState = d.world.ground_node in
         let t : List FrameView = choice v.gone d.came in
         let more : choice (v.gone ++ x.frame ∷ []) (d.came ++ true ∷ []) ≡ t ++ x.frame ∷ [] =
-        choice_came v.gone x.frame d.came v.counted in
+        choice_more v.gone x.frame d.came true v.counted in
         laid_at c (down_deliver_step d.world (b ∷ bs)).after d.taken (append-nil d.queued) (append-nil d.sent) refl
         (record {
           sound = sound;
@@ -290,7 +277,7 @@ module _ (c : Config) (d : Downlink) (g : Laid c d) where
             counted = counts true;
             down_is = x.rest;
             state = extracts.0 ∙ ap (λ e. (extract_step e x.frame).after) v.state
-                ∙ sym (state_more new_extractor t x.frame) ∙ ap (state_behind new_extractor) (sym more);
+                ∙ sym (state_more new_extractor t x.frame) ∙ ap (state_after new_extractor) (sym more);
             given = ap (λ (ps : List (List ℕ)). d.taken ++ ps) extracts.1
                 ∙ sym (append_assoc d.taken s.telemetry (extract_step s.extractor x.frame).packets)
                 ∙ ap (λ (ps : List (List ℕ)). ps ++ (extract_step s.extractor x.frame).packets) v.given

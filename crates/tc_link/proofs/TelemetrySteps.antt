@@ -1,42 +1,28 @@
 -- What each event does to the builder on board, to the extractor and to the packets on the ground.
-use Rattle.std.proofs.Common.{◌≡◌, ℕ, Bool, true, false, List, [], ◌∷◌, ◌++◌, Option, Some, None, Result, Ok, Err, refl}
-use Rattle.std.proofs.Common.{not, length, ◌+◌, sym, ap, subst, ◌∙◌, arith, append_assoc}
-use Rattle.std.specs.Prelude.{◌==◌}
-use Rattle.std.specs.List.{AllByRecursion, concat}
-use Rattle.std.proofs.lemmas.Bool.{cond_both, and_parts, eqb-true}
-use Rattle.std.proofs.lemmas.List.{append-nil}
+use Rattle.tc_link.proofs.Common.{◌≡◌, ℕ, Bool, true, false, List, [], ◌∷◌, ◌++◌, Option, Some, None, Result, Ok, Err}
+use Rattle.tc_link.proofs.Common.{refl, not, length, ◌+◌, sym, ap, subst, ◌∙◌, arith, append_assoc, ◌==◌}
+use Rattle.tc_link.proofs.Common.{AllByRecursion, cond_both, and_parts, eqb-true, append-nil, Clcw, ClcwFault, TcFault}
+use Rattle.tc_link.proofs.Common.{SegmentView, BodyView, Ad, Bd, Bc, CopFault, Verdict, Accepted, Alert, clcw_step}
+use Rattle.tc_link.proofs.Common.{FopState, BuilderState, is_to_send, after_queue, idle_tail, Extracted, without_idle}
+use Rattle.tc_link.proofs.Common.{held_by, IsLaidOutBy, LinkFault, Heard, is_kept, PacketOn, limits_of}
+use Rattle.tc_link.proofs.Common.{SpacecraftState, frame_outcome, body_outcome, sequence_outcome, bypass_outcome}
+use Rattle.tc_link.proofs.Common.{is_own_frame, spacecraft_take, spacecraft_take_bypass, GroundState, GroundOutcome}
+use Rattle.tc_link.proofs.Common.{with_fop, settle_step, after_submission, after_bypass, unless_refused}
+use Rattle.tc_link.proofs.Common.{after_extraction, own_frame_outcome, segments_on}
+use Rattle.std.specs.List.{concat}
 use Rattle.octets.specs.Records.{IsRecord}
 use Rattle.octets.proofs.Streams.{split_of}
 use Rattle.space_packet.specs.Laws.{extent_has_header}
 use Rattle.space_packet.specs.Packets.{is_packet, packets_in, rest_in}
 use Rattle.space_packet.specs.Reading.{extent_at}
-use Rattle.clcw.specs.declared.word.Clcw.{Clcw}
-use Rattle.clcw.specs.declared.fault.ClcwFault.{ClcwFault}
-use Rattle.tc_frame.specs.declared.fault.TcFault.{TcFault}
-use Rattle.tc_frame.specs.Layout.{SegmentView, BodyView, Ad, Bd, Bc, FrameView}
-use Rattle.cop1.specs.declared.fault.CopFault.{CopFault}
-use Rattle.cop1.specs.declared.farm.Verdict.{Verdict}
-use Rattle.cop1.specs.declared.farm.Verdict.TheVariants.{Accepted}
-use Rattle.cop1.specs.declared.vocabulary.Alert.{Alert}
-use Rattle.cop1.specs.FopReport.{clcw_step}
-use Rattle.cop1.specs.Units.{FopState}
-use Rattle.tm_link.specs.Building.{BuilderState, is_to_send, after_queue, idle_tail}
-use Rattle.tm_link.specs.Extraction.{Extracted, is_idle, without_idle}
-use Rattle.tm_link.specs.Laying.{held_by, IsLaidOutBy}
-use Rattle.tm_link.specs.Layout as telemetry
+use Rattle.tc_frame.specs.Layout.{FrameView}
+use Rattle.tm_link.specs.Extraction.{is_idle}
 use Rattle.tm_link.specs.Stream.{carried_octets}
-use Rattle.tm_link.proofs.Laying.{packet_behind, laid_again}
+use Rattle.tm_link.proofs.Laying.{packet_after, laid_again}
 use Rattle.tm_link.proofs.Passing.{cut_more}
-use Rattle.nodes.specs.declared.fault.LinkFault.{LinkFault}
-use Rattle.nodes.specs.declared.heard.Heard.{Heard}
-use Rattle.nodes.specs.BypassSegments.{is_kept}
-use Rattle.nodes.specs.Packets.{PacketOn}
-use Rattle.nodes.specs.Parameters.{limits_of}
-use Rattle.nodes.specs.Spacecraft.{SpacecraftState, frame_outcome, body_outcome, sequence_outcome, bypass_outcome}
-use Rattle.nodes.specs.Spacecraft.{is_own_frame, spacecraft_take, spacecraft_take_bypass}
-use Rattle.nodes.specs.Ground.{GroundState, GroundOutcome, with_fop, settle_step, after_submission, after_bypass}
-use Rattle.nodes.specs.Ground.{unless_refused, after_directive, after_extraction, own_frame_outcome, segments_on}
+use Rattle.nodes.specs.Ground.{after_directive}
 use Rattle.tc_link.proofs.Settled.{settled_keeps}
+use Rattle.tm_link.specs.Layout as telemetry
 
 -- ---- a packet is queued
 
@@ -61,7 +47,7 @@ pub queued_laid : (s : BuilderState) (octets : List ℕ) (packets : List (List �
 queued_laid s octets packets frames sends h =
     let both = and_parts (is_packet octets) (not (is_idle octets)) sends in
     let handed : without_idle (octets ∷ []) ≡ octets ∷ [] = rw both.1 refl in
-    let x = packet_behind packets (packets ++ octets ∷ []) frames (held_by s) octets h.laid
+    let x = packet_after packets (packets ++ octets ∷ []) frames (held_by s) octets h.laid
     (packet_record octets both.0) (ap (λ (ps : List (List ℕ)). packets ++ ps) handed) in
     let held : held_by s ++ octets ≡ held_by (after_queue s octets) =
     append_assoc (idle_tail s.idle_left) s.pending octets in

@@ -1,15 +1,7 @@
 -- What is on its way, beside what a plain link has on its way.
-use Rattle.std.proofs.Common.{◌≡◌, ℕ, ◌+◌, ◌*◌, ◌%◌, ◌<◌, ◌≤◌, max, Bool, true, false, List, [], ◌∷◌, ◌++◌, Some, refl}
-use Rattle.std.proofs.Common.{arith}
-use Rattle.std.specs.Prelude.{slice_get}
-use Rattle.clcw.specs.declared.word.Clcw.{Clcw}
-use Rattle.tc_frame.specs.declared.frame.Command.{Command}
-use Rattle.tc_frame.specs.declared.frame.Command.TheVariants.{Unlock, SetVr}
-use Rattle.tc_frame.specs.Layout.{SegmentView, BodyView, Ad, Bd, Bc}
-use Rattle.cop1.specs.declared.vocabulary.Directive.{Directive}
-use Rattle.cop1.specs.declared.vocabulary.Directive.TheVariants.{InitUnlock, InitSetVr}
-use Rattle.cop1.specs.FopReport.{locks, waits, asks}
-use Rattle.tc_link.specs.History.{Rises}
+use Rattle.tc_link.proofs.Common.{◌≡◌, ℕ, ◌+◌, ◌*◌, ◌%◌, ◌<◌, ◌≤◌, max, Bool, true, false, List, [], ◌∷◌, ◌++◌, Some}
+use Rattle.tc_link.proofs.Common.{refl, arith, slice_get, Clcw, Command, Unlock, SetVr, SegmentView, BodyView, Ad, Bd}
+use Rattle.tc_link.proofs.Common.{Bc, Directive, InitUnlock, InitSetVr, locks, waits, asks, Rises}
 use Rattle.tc_link.proofs.Lists.{get_append}
 
 -- the control command of a session that a directive begins and that counts from `base` on

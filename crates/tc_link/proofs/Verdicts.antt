@@ -1,13 +1,12 @@
 -- What the receiver's table says of a number within the window.
-use Rattle.std.proofs.Common.{◌≡◌, ℕ, ◌+◌, ◌-◌, ◌/◌, ◌%◌, ◌<◌, ◌≤◌, Bool, true, false, refl, arith}
-use Rattle.std.specs.Prelude.{◌==◌, nat_lt, nat_le}
-use Rattle.std.proofs.lemmas.Bool.{cond_both, eqb-true, eqb-false, ltb-true, ltb-false, leb-true, leb-false}
-use Rattle.cop1.specs.Modulo.{ahead_by}
-use Rattle.cop1.specs.Farm.{FarmState, place_at, ad_verdict, verdict_of}
-use Rattle.cop1.specs.declared.farm.FarmMode.{FarmMode}
-use Rattle.cop1.specs.declared.farm.FarmMode.TheVariants.{Open, Wait, Lockout}
-use Rattle.cop1.specs.declared.farm.Verdict.{Verdict}
-use Rattle.cop1.specs.declared.farm.Verdict.TheVariants.{Accepted, Ahead, NoBuffer, Behind, Outside, Discarded}
+use Rattle.tc_link.proofs.Common.{◌≡◌, ℕ, ◌+◌, ◌-◌, ◌/◌, ◌%◌, ◌<◌, ◌≤◌, Bool, true, false, refl, arith, ◌==◌, nat_lt}
+use Rattle.tc_link.proofs.Common.{cond_both, eqb-true, eqb-false, ltb-true, ltb-false, ahead_by, FarmState, verdict_of}
+use Rattle.tc_link.proofs.Common.{FarmMode, Open, Wait, Verdict, Accepted, Ahead, NoBuffer, Outside}
+use Rattle.std.specs.Prelude.{nat_le}
+use Rattle.std.proofs.lemmas.Bool.{leb-true, leb-false}
+use Rattle.cop1.specs.Farm.{place_at, ad_verdict}
+use Rattle.cop1.specs.declared.farm.FarmMode.TheVariants.{Lockout}
+use Rattle.cop1.specs.declared.farm.Verdict.TheVariants.{Behind, Discarded}
 
 abbrev pub VerdictFits : ℕ → ℕ → Verdict → Type 0
 VerdictFits r i Accepted = i ≡ r

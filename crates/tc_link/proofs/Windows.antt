@@ -1,37 +1,23 @@
 -- Where the numbers on their way lie in a session that had an idle start.
-use Rattle.std.proofs.Common.{◌≡◌, ◌≢◌, ℕ, ◌+◌, ◌-◌, ◌/◌, ◌%◌, ◌<◌, ◌≤◌, inl, inr, max, Bool, true, false, List, []}
-use Rattle.std.proofs.Common.{◌∷◌, ◌++◌, length, take, map, Some, refl, ap, sym, subst, ◌∙◌, arith}
+use Rattle.tc_link.proofs.Common.{◌≡◌, ◌≢◌, ℕ, ◌+◌, ◌-◌, ◌/◌, ◌%◌, ◌<◌, ◌≤◌, inl, inr, max, Bool, true, false, List}
+use Rattle.tc_link.proofs.Common.{[], ◌∷◌, ◌++◌, length, take, map, Some, refl, ap, sym, subst, ◌∙◌, arith}
+use Rattle.tc_link.proofs.Common.{AllByRecursion, length-take-le, length-map, Clcw, On, Command, Unlock, SetVr}
+use Rattle.tc_link.proofs.Common.{SegmentView, BodyView, Ad, Bd, Bc, segment_octets, ahead_by, state_of, FarmState}
+use Rattle.tc_link.proofs.Common.{FlagsAgree, IsActive, Directive, InitSetVr, Config, is_closed, World, number_of}
+use Rattle.tc_link.proofs.Common.{numbered, IsChecking, number_in, in_frame, report_carried, Rises}
 use Rattle.std.specs.Prelude.{flat_map}
-use Rattle.std.specs.List.{AllByRecursion}
 use Rattle.std.proofs.lemmas.Bool.{cases_lt}
-use Rattle.std.proofs.lemmas.List.{length-take-le, length-map}
-use Rattle.clcw.specs.declared.word.Clcw.{Clcw}
-use Rattle.tc_frame.specs.declared.frame.Check.TheVariants.{On}
-use Rattle.tc_frame.specs.declared.frame.Command.{Command}
-use Rattle.tc_frame.specs.declared.frame.Command.TheVariants.{Unlock, SetVr}
-use Rattle.tc_frame.specs.Layout.{SegmentView, BodyView, Ad, Bd, Bc, segment_octets}
 use Rattle.tc_frame.specs.Reading.{frame_at}
-use Rattle.cop1.specs.Modulo.{ahead_by}
-use Rattle.cop1.specs.Farm.{state_of, FarmState}
-use Rattle.cop1.specs.FarmRuns.{FlagsAgree}
 use Rattle.cop1.specs.declared.farm.FarmMode.TheVariants.{Lockout}
-use Rattle.cop1.specs.declared.vocabulary.Directive.{Directive}
-use Rattle.cop1.specs.declared.vocabulary.Directive.TheVariants.{InitSetVr}
-use Rattle.nodes.specs.declared.config.Config.{Config}
-use Rattle.nodes.specs.Ground.{is_closed}
-use Rattle.tc_link.specs.World.{World}
-use Rattle.tc_link.specs.History.{number_of, numbered}
-use Rattle.tc_link.specs.Confirmation.{LeavesVr, IsChecking, IsConfirmedExactly}
-use Rattle.tc_link.specs.InTransit.{number_in, command_in, unit_in, in_frame, report_read, report_of_frame}
-use Rattle.tc_link.specs.InTransit.{report_carried, reports_down, IsInWindow, IsRising, KeepsToWindow}
+use Rattle.tc_link.specs.Confirmation.{LeavesVr, IsConfirmedExactly}
+use Rattle.tc_link.specs.InTransit.{command_in, unit_in, report_read, report_of_frame, reports_down, IsInWindow}
+use Rattle.tc_link.specs.InTransit.{IsRising, KeepsToWindow}
 use Rattle.tc_link.proofs.Beginning.{InSession}
-use Rattle.tc_link.proofs.Early.{Begun, early_off}
-use Rattle.tc_link.proofs.Linked.{Late, Carries, Tells, Reporting}
-use Rattle.tc_link.proofs.SteadyWorld.{Sound}
-use Rattle.tc_link.specs.History.{Rises}
+use Rattle.tc_link.proofs.Early.{early_off}
+use Rattle.tc_link.proofs.Linked.{In, Begun, Late, Carries, Tells, Reporting, holds_on}
 use Rattle.tc_link.proofs.Transit.{CommandFits, UpIs, DownIs, Fits, rises_to}
 use Rattle.tc_link.proofs.Closed.{active_on}
-use Rattle.tc_link.proofs.Linked.{holds_late}
+use Rattle.tc_link.proofs.Sound.{Sound}
 
 -- ---- what octets on their way tell
 
@@ -160,44 +146,53 @@ flag_locked false false is e = absurd cc
 pub state_by : (s : FarmState) → FlagsAgree s → s.lockout ≡ false → s.state ≢ Lockout
 state_by s agree is e = flag_locked s.lockout s.wait is (sym agree.state ∙ e)
 
+unconfirmed : {A : Type 0} (w : World) → w.session.confirmed ≡ true → w.session.confirmed ≡ false → A
+unconfirmed w is not_yet = absurd cc
+
+-- V(R) is known once a unit was sent
+vr_known : (early : Bool) (c : Config) (d : Directive) (base : ℕ) (w : World) (g : In early c d base w) (i : ℕ)
+    → i < g.plain.n → w.spacecraft.farm.vr ≡ (base + g.plain.r) % 256
+vr_known true c d base w g i lt = absurd (omega (arith, g.stage.none_sent, lt))
+vr_known false c d base w g i lt = g.stage.vr_is
+
+-- the reports are known once the session is settled
+down_known : (early : Bool) (c : Config) (d : Directive) (base : ℕ) (w : World) (g : In early c d base w)
+    → IsActive w.ground_node.fop.state
+    → (w.spacecraft.farm.vr ≡ (base + g.plain.r) % 256) × DownIs base g.reports g.plain.down
+down_known true c d base w g active = absurd (early_off d w.ground_node.fop.state g.stage.early active)
+down_known false c d base w g active = (g.stage.vr_is, g.stage.down_is)
+
 module _ (c : Config) (w : World) (k : Sound c w) (d : Directive) (base : ℕ) where
-  late_window : Late c d base w → KeepsToWindow w
-  late_window g =
+  in_window : (early : Bool) → In early c d base w → KeepsToWindow w
+  in_window early g =
       let p = g.plain in
       let l = g.linked in
       let h : ℕ = c.width / 2 in
       let half : w.spacecraft.farm.width / 2 ≡ h = ap (λ x. x / 2) k.spacecraft.farm.width in
       let each : (i : ℕ) → p.r ≤ i + h → i < p.n
       → IsInWindow (w.spacecraft.farm.width / 2) w.spacecraft.farm.vr ((base + i) % 256) =
-      λ i low high. rw half (elim (cases_lt i p.r) [
-        | inl lt ↦ inr (omega (arith, l.vr_is, lt, low, k.ranges.width))
-        | inr ge ↦ inl (omega (arith, l.vr_is, ge, high, l.n_a, l.a_r, k.ranges.width))
+      λ i low high. let vr_is = vr_known early c d base w g i high in
+      rw half (elim (cases_lt i p.r) [
+        | inl lt ↦ inr (omega (arith, vr_is, lt, low, k.ranges.width))
+        | inr ge ↦ inl (omega (arith, vr_is, ge, high, l.n_a, l.a_r, k.ranges.width))
       ]) in
       record {
         up = numbers_in c d base h p.n p.units (IsInWindow (w.spacecraft.farm.width / 2) w.spacecraft.farm.vr) p.r
             g.front w.up g.frames p.up p.r each (omega arith) l.carries l.up_is l.fits;
         down = λ settled active.
             let on : is_closed w.ground_node.fop.state ≡ false = active_on w.ground_node.fop.state active in
-            let was = holds_late l on in
+            let was = holds_on l on in
+            let known = down_known early c d base w g active in
             let most : h ≤ 127 = omega (arith, k.ranges.width) in
             let rising : IsRising w.ground_node.fop.nn (p.a - p.a) g.reports w.spacecraft.farm.vr =
             rising_in base w.ground_node.fop.nn p.a p.a p.r w.spacecraft.farm.vr h g.reports p.down was.nn_is
-            l.vr_is (omega arith) (omega (arith, l.r_n, l.n_a)) most l.down_is l.rises in
+            known.0 (omega arith) (omega (arith, l.r_n, l.n_a)) most known.1 l.rises in
             let zero : p.a - p.a ≡ 0 = omega arith in
             let from_zero : IsRising w.ground_node.fop.nn 0 g.reports w.spacecraft.farm.vr = rw zero at rising in (
               rw (reports_of c w g.reports k.ground_node.config l.reporting) from_zero,
               omega
-                  (arith, was.vs_is, was.nn_is, l.vr_is, l.a_r, l.r_n, l.n_a, most),
+                  (arith, was.vs_is, was.nn_is, known.0, l.a_r, l.r_n, l.n_a, most),
             );
-      }
-
-  early_window : Begun c d base w → KeepsToWindow w
-  early_window g =
-      let l = g.early in
-      record {
-        up = numbers_in c d base 0 0 [] (IsInWindow (w.spacecraft.farm.width / 2) w.spacecraft.farm.vr) 0 true w.up
-            g.frames [] 0 (λ i low high. absurd (omega (arith, high))) (omega arith) l.carries l.up_is tt;
-        down = λ settled active. absurd (early_off d w.ground_node.fop.state l.early active);
       }
 
   late_confirmed : Late c d base w → IsConfirmedExactly w
@@ -207,36 +202,44 @@ module _ (c : Config) (w : World) (k : Sound c w) (d : Directive) (base : ℕ) w
       record {
         nothing_before = λ checking not_yet. absurd (
             let checks : IsChecking (Some d) = rw l.opened at checking in
-            let confirmed : w.session.confirmed ≡ true = l.confirmed_is checks in
+            let confirmed : w.session.confirmed ≡ true = g.stage.confirmed_is checks in
             cc
             );
         exact = λ confirmed active nothing.
             let on : is_closed w.ground_node.fop.state ≡ false = active_on w.ground_node.fop.state active in
-            let was = holds_late l on in
+            let was = holds_on l on in
             let none : p.n ≡ 0 =
             sym (length-take-le p.n p.units l.n_most) ∙ sym (length-map (take p.n p.units) segment_octets)
             ∙ sym (ap length l.sent_is) ∙ ap length nothing in
-            (omega (arith, none, l.vr_is, was.vs_is, l.r_n), omega (arith, none, was.nn_is, was.vs_is, l.a_r, l.r_n));
+            let vr_is = g.stage.vr_is in
+            (omega (arith, none, vr_is, was.vs_is, l.r_n), omega (arith, none, was.nn_is, was.vs_is, l.a_r, l.r_n));
         commands = λ confirmed. commands_in c d base 0 0 [] (LeavesVr w.spacecraft.farm.vr) g.front w.up g.frames p.up
             (λ command front fits. leaves d base w.spacecraft.farm.vr command fits
-            (omega (arith, l.first front, l.vr_is, l.base_octet))) l.carries l.up_is;
+            (omega (arith, g.stage.first front, g.stage.vr_is, l.base_octet))) l.carries l.up_is;
         unlocked = λ confirmed. state_by w.spacecraft.farm k.spacecraft.farm.flags
-            (g.calm (l.confirmed_so confirmed)).unlocked;
+            (g.stage.calm (g.stage.confirmed_so confirmed)).unlocked;
       }
 
   early_confirmed : Begun c d base w → IsConfirmedExactly w
   early_confirmed g =
-      let l = g.early in
+      let l = g.linked in
+      let r_none : g.plain.r ≡ 0 = omega (arith, l.r_n, g.stage.none_sent) in
       record {
-        nothing_before = λ checking not_yet. (l.sent_none, ap (map segment_octets) l.accepted_none);
-        exact = λ confirmed. absurd (let no : w.session.confirmed ≡ false = l.confirmed_not in cc);
-        commands = λ confirmed. absurd (let no : w.session.confirmed ≡ false = l.confirmed_not in cc);
-        unlocked = λ confirmed. absurd (let no : w.session.confirmed ≡ false = l.confirmed_not in cc);
+        nothing_before = λ checking not_yet. (
+          l.sent_is ∙ ap (λ n. map segment_octets (take n g.plain.units)) g.stage.none_sent,
+          ap (map segment_octets) (l.accepted_is ∙ ap (λ n. take n g.plain.units) r_none),
+        );
+        exact = λ confirmed. unconfirmed w confirmed g.stage.confirmed_not;
+        commands = λ confirmed. unconfirmed w confirmed g.stage.confirmed_not;
+        unlocked = λ confirmed. unconfirmed w confirmed g.stage.confirmed_not;
       }
 
 pub keeps_to_window : (c : Config) (w : World) → Sound c w → InSession c w → KeepsToWindow w
 keeps_to_window c w k s =
-    elim s.session [ inl g ↦ early_window c w k s.directive s.base g | inr g ↦ late_window c w k s.directive s.base g ]
+    elim s.session [
+      | inl g ↦ in_window c w k s.directive s.base true g
+      | inr g ↦ in_window c w k s.directive s.base false g
+    ]
 
 pub is_confirmed_exactly : (c : Config) (w : World) → Sound c w → InSession c w → IsConfirmedExactly w
 is_confirmed_exactly c w k s =

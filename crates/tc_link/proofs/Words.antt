@@ -1,13 +1,9 @@
 -- What a receiver reports is read from its octets.
-use Rattle.std.proofs.Common.{◌≡◌, ℕ, ◌+◌, ◌*◌, ◌/◌, ◌%◌, ◌<◌, Bool, true, false, eqb, Ok, refl, arith}
-use Rattle.std.proofs.lemmas.Bool.{eq-eqb}
-use Rattle.clcw.specs.declared.word.Clcw.{Clcw}
-use Rattle.clcw.specs.Flags.{flags_number}
+use Rattle.tc_link.proofs.Common.{◌≡◌, ℕ, ◌+◌, ◌*◌, ◌/◌, ◌%◌, ◌<◌, Bool, true, false, eqb, Ok, refl, arith, eq-eqb}
+use Rattle.tc_link.proofs.Common.{Clcw, flags_number, FarmState, locks, waits, asks, report_of}
 use Rattle.clcw.specs.Reading.{clcw_at}
 use Rattle.clcw.specs.Writing.{spelling}
-use Rattle.cop1.specs.Farm.{FarmState}
-use Rattle.cop1.specs.FopReport.{locks, waits, asks}
-use Rattle.cop1.specs.Report.{report_of, value_if}
+use Rattle.cop1.specs.Report.{value_if}
 
 flags_multiple : (l w t : Bool) → (value_if l 32 + value_if w 16 + value_if t 8) % 8 ≡ 0
 flags_multiple true true true = refl

@@ -10,8 +10,8 @@ use Rattle.cop1.specs.declared.vocabulary.Alert.TheVariants.{Timer, Terminated}
 use Rattle.cop1.specs.declared.vocabulary.Directive.TheVariants.{InitWithCheck, Terminate}
 use Rattle.cop1.specs.FopReport.{asks}
 use Rattle.nodes.specs.declared.config.Config.{Config}
-use Rattle.tc_link.specs.declared.event.Event.{Event}
-use Rattle.tc_link.specs.declared.event.Event.TheVariants as events
+use Rattle.link_events.specs.declared.event.Event.{Event}
+use Rattle.link_events.specs.declared.event.Event.TheVariants as events
 use Rattle.nodes.specs.declared.heard.Heard.{Heard}
 use Rattle.nodes.specs.declared.heard.Heard.TheVariants as heard_cases
 use Rattle.tc_link.specs.declared.sim.fault.SimFault.{SimFault}

@@ -6,8 +6,8 @@ use Rattle.tc_frame.specs.Reading as command
 use Rattle.tm_link.specs.Building.{is_to_send}
 use Rattle.tm_link.specs.Reading as telemetry
 use Rattle.nodes.specs.declared.config.Config.{Config}
-use Rattle.tc_link.specs.declared.event.Event.{Event}
-use Rattle.tc_link.specs.declared.event.Event.TheVariants as events
+use Rattle.link_events.specs.declared.event.Event.{Event}
+use Rattle.link_events.specs.declared.event.Event.TheVariants as events
 use Rattle.tc_link.specs.declared.reply.Reply.{Reply}
 use Rattle.tc_link.specs.declared.sim.fault.SimFault.{SimFault}
 use Rattle.tc_link.specs.declared.sim.fault.SimFault.TheVariants as faults

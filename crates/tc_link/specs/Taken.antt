@@ -7,8 +7,8 @@ use Rattle.cop1.specs.Directives.{is_initiation}
 use Rattle.nodes.specs.Delivery.{packets_of_map}
 use Rattle.nodes.specs.Ground.{is_closed}
 use Rattle.nodes.specs.Packets.{PacketOn}
-use Rattle.tc_link.specs.declared.event.Event.{Event}
-use Rattle.tc_link.specs.declared.event.Event.TheVariants as events
+use Rattle.link_events.specs.declared.event.Event.{Event}
+use Rattle.link_events.specs.declared.event.Event.TheVariants as events
 use Rattle.tc_link.specs.declared.sim.fault.SimFault.{SimFault}
 use Rattle.tc_link.specs.Reached.{IsEvent, IsReached}
 use Rattle.tc_link.specs.Replies.{ReplyView, Packet}

@@ -4,7 +4,7 @@ mod fault;
 mod opening;
 mod runs;
 
-use crate::event::Event;
+use crate::event::{Event, keeps_octets};
 use crate::reply::Reply;
 use crate::world::World;
 use cop1::{Directive, FopMode};
@@ -54,8 +54,9 @@ impl Sim {
     ghost use Rattle.tc_link.specs.Readable.{AllReadable};
     ghost use Rattle.tc_link.specs.World.{world_step, submitted, accepted, delivered, directive_of, BeginsNoSession, IsClean, IsIdle, IsSettled};
 
-    /// Two new nodes, and nothing between them. The faults are 9 `Config`, with the name of the first
-    /// field that is out of its range, and then 6 `Memory`.
+    /// Two new nodes, and nothing between them. The fault 9 has the name of the first field that is out
+    /// of its range.
+    /// Faults: 9 Config, then 6 Memory. Memory: yes.
     pub fn new(alloc: Global, config: Config) -> Result<Sim, SimFault>
         ensures made { IfOk result (λ sim. sim ≡ new_sim config) }
         ensures range { refused_field result ≡ config_fault config }
@@ -65,9 +66,10 @@ impl Sim {
         ensures clean { IfOk result (λ sim. IsClean sim.world → IsIdle sim.world) }
         ensures readable { IfOk result (λ sim. AllReadable sim.world) }
     {
-        if let Some(field) = config.fault() {
-            return Err(SimFault::Config(field));
-        }
+        let config = match config.valid() {
+            Ok(config) => config,
+            Err(field) => return Err(SimFault::Config(field)),
+        };
         let world = World::new(alloc, &config)?;
         Ok(Sim {
             world,
@@ -75,14 +77,18 @@ impl Sim {
         })
     }
 
-    /// Lets an event happen. First 7 `NothingInTransit`, where the event needs a frame on its way; then 8
-    /// `NotDetectable`, for octets of a damaged frame that the receiver's decoder accepts; then 6
-    /// `Memory`. Nothing has changed then. Any other refusal of a node is a reply.
+    /// Lets an event happen. Refuses by 7 an event that needs a frame on its way where there is none,
+    /// and by 8 octets of a damaged frame that the receiver's decoder accepts. Nothing has changed
+    /// then. Any other refusal of a node is a reply.
     ///
-    /// Whatever the events of a session that began clean: packets are delivered in order, each once; what
-    /// the ground holds acknowledged was accepted on board; and where it was begun by check, Unlock or
-    /// Set V(R), no alert is a false one. All of this holds of a session that had an idle start too, as a
-    /// clean one had (`from_idle`). In any session the node that a frame is on its way to can read it.
+    /// Whatever the events of a session that began clean: packets are delivered in order, each once;
+    /// what the ground holds acknowledged was accepted on board; and where it was begun by check,
+    /// Unlock or Set V(R), no alert is a false one. All of this holds of a session that had an idle
+    /// start too, as a clean one had (`from_idle`). In any session the node that a frame is on its way
+    /// to can read it. docs/PROMISES.md states each of these.
+    /// Faults: 7 NothingInTransit, then 8 NotDetectable, then 6 Memory. Memory: yes; none for losing,
+    /// damaging, ticks, directives and taking. Cost: that of the nodes' calls; for an initiation also
+    /// the records released.
     pub fn step(&mut self, event: Event<'_>) -> Result<Reply, SimFault>
         ensures reply { IfOk result (IsReplyTo self.old.world event.entry) }
         ensures after { OnOk result
@@ -109,7 +115,7 @@ impl Sim {
         ensures clean { IsClean self.new.world → IsIdle self.new.world }
         ensures readable { AllReadable self.new.world }
     {
-        event.keeps_octets();
+        keeps_octets(event);
         self.world.step(event)
     }
 

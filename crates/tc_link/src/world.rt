@@ -10,7 +10,7 @@ mod upward;
 use crate::map_lists::{no_packets, packets_of};
 use crate::session::Session;
 use crate::sim::{Opening, SimFault};
-use nodes::{Config, Ground, Spacecraft};
+use nodes::{Ground, Spacecraft, ValidConfig};
 use std::alloc::Global;
 use std::collections::VecDeque;
 use std::marker::Model;
@@ -44,18 +44,16 @@ impl World {
     ghost use Rattle.std.specs.Prelude.{◌≡◌, map, IfOk, IsOkUnless};
     ghost use Rattle.tm_link.specs.Extraction.{octets_of};
     ghost use Rattle.nodes.specs.Packets.{packet_view};
-    ghost use Rattle.nodes.specs.Parameters.{IsConfig};
     ghost use Rattle.tc_link.specs.World.{new_world, submitted, accepted, delivered};
 
-    pub(crate) fn new(alloc: Global, config: &Config) -> Result<World, SimFault>
-        requires { IsConfig config.now }
+    pub(crate) fn new(alloc: Global, config: &ValidConfig) -> Result<World, SimFault>
         ensures made { IfOk result (λ world. world ≡ new_world config.now) }
         ensures fault { IsOkUnless result SimFault.Memory }
     {
-        let Ok(ground_node) = Ground::new(alloc, config) else {
+        let Ok(ground_node) = Ground::of(alloc, config) else {
             return Err(SimFault::Memory);
         };
-        let Ok(spacecraft) = Spacecraft::new(alloc, config) else {
+        let Ok(spacecraft) = Spacecraft::of(alloc, config) else {
             return Err(SimFault::Memory);
         };
         Ok(World {

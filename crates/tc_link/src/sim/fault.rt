@@ -7,16 +7,16 @@ use thiserror::Error;
 /// Why a simulated link answered no reply. It is as it was then.
 #[derive(Clone, Copy, Debug, Error, PartialEq, Eq)]
 pub enum SimFault {
-    /// There was no memory.
+    /// 6: there was no memory.
     #[error("{} {}", self.number(), self.name())]
     Memory,
-    /// No frame is on its way in this direction.
+    /// 7: no frame is on its way in this direction.
     #[error("{} {}", self.number(), self.name())]
     NothingInTransit,
-    /// The receiver's decoder would accept the octets of the damaged frame.
+    /// 8: the receiver's decoder would accept the octets of the damaged frame.
     #[error("{} {}", self.number(), self.name())]
     NotDetectable,
-    /// This field of the configuration is out of its range.
+    /// 9: this field of the configuration is out of its range.
     #[error("{} {} {}", self.number(), self.name(), .0)]
     Config(&'static str),
 }

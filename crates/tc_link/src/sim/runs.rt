@@ -8,14 +8,15 @@ ghost use Rattle.tc_link.specs.Simulation.{sim_run, refused_field};
 ghost use Rattle.tc_link.specs.World.{IsClean, IsIdle};
 
 use super::{Sim, SimFault};
-use crate::event::Event;
+use crate::event::{Event, keeps_octets};
 use nodes::Config;
 use std::alloc::Global;
 
-/// Lets the events happen one after another, and keeps what was answered to each. The faults are 9
-/// `Config`, with the name of the first field that is out of its range, and then 6 `Memory`; no other
-/// answer ends the run. What `Sim::step` promises holds at each event, and so does what it promises of
-/// the state after it.
+/// Lets the events happen one after another, and keeps what was answered to each. The fault 9 has the
+/// name of the first field that is out of its range. No answer to an event but want of memory ends the
+/// run. What `Sim::step` promises holds at each event, and so does what it promises of the state after
+/// it.
+/// Faults: 9 Config, then 6 Memory. Memory: yes. Cost: that of the events.
 pub fn run(alloc: Global, config: Config, events: &[Event<'_>]) -> Result<Sim, SimFault>
     ensures ran { IfOk result (λ sim. sim ≡ sim_run config events.now) }
     ensures range { refused_field result ≡ config_fault config }
@@ -48,7 +49,7 @@ impl Sim {
         if self.answers.try_reserve(1).is_err() {
             return Err(SimFault::Memory);
         }
-        event.keeps_octets();
+        keeps_octets(event);
         let answer = self.world.step(event);
         if let Err(SimFault::Memory) = answer {
             return Err(SimFault::Memory);

@@ -1,6 +1,4 @@
-use Rattle.std.proofs.Common.{◌≡◌, take}
-use Rattle.map_service.specs.Views.{packets_view}
-use Rattle.tm_link.specs.Extraction.{octets_of}
+use Rattle.tc_link.proofs.Common.{◌≡◌, take, packets_view, octets_of}
 use Rattle.tc_link.proofs.acceptance.copies_of.Given as goal
 
 abbrev pub invariant-loop-packet : goal.invariant-loop-packet

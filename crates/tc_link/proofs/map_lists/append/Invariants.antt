@@ -1,7 +1,5 @@
-use Rattle.std.proofs.Common.{◌≡◌, ◌≤◌, ◌+◌, ◌++◌, length, map}
-use Rattle.std.specs.Vec.{vec_len, vec_capacity}
+use Rattle.tc_link.proofs.Common.{◌≡◌, ◌≤◌, ◌+◌, ◌++◌, length, map, vec_len, vec_capacity, packets_view}
 use Rattle.std.specs.Vec.Iter.{into_iter_items}
-use Rattle.map_service.specs.Views.{packets_view}
 use Rattle.tc_link.proofs.map_lists.append.Given as goal
 
 abbrev pub invariant-loop-octets : goal.invariant-loop-octets

@@ -1,5 +1,4 @@
-use Rattle.std.proofs.Common.{length, arith}
-use Rattle.map_service.specs.Views.{packets_view}
+use Rattle.tc_link.proofs.Common.{length, arith, packets_view}
 use Rattle.tc_link.proofs.MapLists.{append_at, has_room}
 use Rattle.tc_link.proofs.map_lists.append_on.Goals as goal
 

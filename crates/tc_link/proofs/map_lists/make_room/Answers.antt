@@ -1,5 +1,4 @@
-use Rattle.std.proofs.Common.{Result, Ok, Err, OnOk, ap, arith}
-use Rattle.tm_link.specs.Extraction.{octets_of}
+use Rattle.tc_link.proofs.Common.{Result, Ok, Err, OnOk, ap, arith, octets_of}
 use Rattle.tc_link.proofs.MapLists.{same_at, room_at}
 use Rattle.tc_link.proofs.map_lists.make_room.Goals as goal
 

@@ -1,4 +1,5 @@
-use Rattle.std.proofs.Common.{rules, ◌≡◌, [], get_or, map, ap, arith}
+use Rattle.tc_link.proofs.Common.{◌≡◌, [], get_or, map, ap, arith}
+use Rattle.std.proofs.Common.{rules}
 use Rattle.tc_link.proofs.MapLists.{none_at}
 use Rattle.tc_link.proofs.map_lists.no_packets.Goals as goal
 

@@ -1,6 +1,5 @@
-use Rattle.std.proofs.Common.{◌∙◌, replicate}
+use Rattle.tc_link.proofs.Common.{◌∙◌, replicate, spacecraft_step, Report}
 use Rattle.tm_link.specs.Writing.{spelling}
-use Rattle.nodes.specs.Spacecraft.{spacecraft_step, Report}
 use Rattle.tc_link.proofs.FirstOctets.{front_is}
 use Rattle.tc_link.proofs.putting.put_report.Goals as goal
 

@@ -1,11 +1,6 @@
-use Rattle.std.proofs.Common.{subst}
-use Rattle.tc_link.specs.Confirmation.{IsChecking, ConfirmsExactly}
-use Rattle.tc_link.specs.FalseAlarms.{HasNoFalseAlarm}
-use Rattle.tc_link.specs.History.{GoesOnByAStep}
-use Rattle.tc_link.specs.Promises.{IsPromised, IsPromisedOf}
-use Rattle.tc_link.specs.Reached.{IsReached}
-use Rattle.tc_link.specs.Simulation.{SimState}
-use Rattle.tc_link.specs.World.{World, IsClean, IsIdle, IsSettled, BeginsNoSession, directive_of}
+use Rattle.tc_link.proofs.Common.{subst, IsChecking, ConfirmsExactly, HasNoFalseAlarm, GoesOnByAStep, IsPromised}
+use Rattle.tc_link.proofs.Common.{IsPromisedOf, IsReached, SimState, World, IsClean, IsIdle, IsSettled}
+use Rattle.tc_link.proofs.Common.{BeginsNoSession, directive_of}
 use Rattle.tc_link.proofs.Promised.{readable_of, idle_of, promised, promised_of, reached_after, confirmed_after}
 use Rattle.tc_link.proofs.Promised.{stepped_after}
 use Rattle.tc_link.proofs.sim.Sim.step.Goals as goal

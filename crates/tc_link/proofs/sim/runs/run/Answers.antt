@@ -1,8 +1,5 @@
-use Rattle.std.proofs.Common.{subst, sym, arith}
-use Rattle.std.specs.List.{AllByRecursion}
+use Rattle.tc_link.proofs.Common.{subst, sym, arith, AllByRecursion, take_all, IsEvent, IsReached}
 use Rattle.std.proofs.lemmas.Grind.{common_steps}
-use Rattle.std.proofs.lemmas.List.{take_all}
-use Rattle.tc_link.specs.Reached.{IsEvent, IsReached}
 use Rattle.nodes.proofs.InRange.{config_is}
 use Rattle.tc_link.proofs.Promised.{readable_of, idle_of, promised, holds_throughout, one_more, reached_by}
 use Rattle.tc_link.proofs.Runs.{run_ends}

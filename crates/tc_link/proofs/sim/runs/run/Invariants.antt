@@ -1,7 +1,4 @@
-use Rattle.std.proofs.Common.{◌≡◌, drop, take}
-use Rattle.std.specs.List.{AllByRecursion}
-use Rattle.tc_link.specs.Reached.{IsEvent}
-use Rattle.tc_link.specs.Simulation.{new_sim, run_from}
+use Rattle.tc_link.proofs.Common.{◌≡◌, drop, take, AllByRecursion, IsEvent, new_sim, run_from}
 use Rattle.tc_link.proofs.sim.runs.run.Given as goal
 
 abbrev pub invariant-events : goal.invariant-events

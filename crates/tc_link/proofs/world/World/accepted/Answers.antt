@@ -1,8 +1,5 @@
-use Rattle.std.proofs.Common.{ℕ, List, drop, ap, sym, ◌∙◌}
+use Rattle.tc_link.proofs.Common.{ℕ, List, drop, ap, sym, ◌∙◌, segment_octets, octets_of, World, accepted}
 use Rattle.std.proofs.lemmas.List.{drop-map}
-use Rattle.tc_frame.specs.Layout.{segment_octets}
-use Rattle.tm_link.specs.Extraction.{octets_of}
-use Rattle.tc_link.specs.World.{World, accepted}
 use Rattle.tc_link.proofs.world.World.accepted.Goals as goal
 
 pub returns : goal.returns

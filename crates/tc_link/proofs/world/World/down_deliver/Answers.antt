@@ -1,7 +1,5 @@
-use Rattle.std.proofs.Common.{◌≡◌, ◌≤◌, ◌+◌, length, sym, subst, arith}
+use Rattle.tc_link.proofs.Common.{◌≡◌, ◌≤◌, ◌+◌, length, sym, subst, arith, ahead_by, GroundState}
 use Rattle.tm_link.specs.Reading.{frame_at}
-use Rattle.cop1.specs.Modulo.{ahead_by}
-use Rattle.nodes.specs.Ground.{GroundState}
 use Rattle.tc_link.proofs.Counted.{heard_less}
 use Rattle.tc_link.proofs.world.World.down_deliver.Goals as goal
 

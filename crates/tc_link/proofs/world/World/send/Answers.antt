@@ -1,13 +1,11 @@
-use Rattle.std.proofs.Common.{◌≡◌, ◌≤◌, ◌+◌, length, arith, length-append, ℕ, List, [], ◌∷◌, ◌++◌, None, Some}
-use Rattle.std.proofs.Common.{option_map, option_to_list, Option, ap, ◌∙◌}
-use Rattle.std.proofs.lemmas.List.{map-append, length-map}
-use Rattle.tc_frame.specs.declared.frame.Check.TheVariants.{On}
+use Rattle.tc_link.proofs.Common.{◌≡◌, ◌≤◌, ◌+◌, length, arith, length-append, ℕ, List, [], ◌∷◌, ◌++◌, None, Some}
+use Rattle.tc_link.proofs.Common.{option_map, option_to_list, Option, ap, ◌∙◌, map-append, length-map, On, octets_of}
+use Rattle.tc_link.proofs.Common.{GroundState, ground_step, World, first_in, world_after_pull}
 use Rattle.tc_frame.specs.Layout.{FrameView}
 use Rattle.tc_frame.specs.Writing.{spelling}
-use Rattle.tm_link.specs.Extraction.{octets_of}
-use Rattle.nodes.specs.Ground.{GroundState, ground_step, Pull}
+use Rattle.nodes.specs.Ground.{Pull}
 use Rattle.tc_link.specs.WorldFields.{world_of}
-use Rattle.tc_link.specs.World.{World, first_in, world_after_pull, world_after_send}
+use Rattle.tc_link.specs.World.{world_after_send}
 use Rattle.tc_link.proofs.Counted.{pull_first, nothing_first}
 use Rattle.tc_link.proofs.Sending.{with_sent, send_is}
 use Rattle.tc_link.proofs.world.World.send.Goals as goal

@@ -1,15 +1,12 @@
-use Rattle.std.proofs.Common.{◌≡◌, ◌++◌, ◌∷◌, [], ℕ, List, map, filter, length, Bool, true, false}
-use Rattle.std.proofs.Common.{refl, ap, sym, ◌∙◌, arith, append-nil}
-use Rattle.std.specs.Prelude.{◌==◌, if◌then◌else◌}
+use Rattle.tc_link.proofs.Common.{◌≡◌, ◌++◌, ◌∷◌, [], ℕ, List, map, filter, length, Bool, true, false, refl, ap, sym}
+use Rattle.tc_link.proofs.Common.{◌∙◌, arith, append-nil, ◌==◌, if◌then◌else◌, filter-append, packets_view}
+use Rattle.tc_link.proofs.Common.{GroundState, submit_fault, PacketOn, packet_on}
 use Rattle.std.specs.List.{flat_map}
 use Rattle.std.proofs.lemmas.Grind.{flat_map-append}
 use Rattle.std.proofs.lemmas.List.{map_push}
-use Rattle.std.proofs.lemmas.List.Elements.{filter-append}
 use Rattle.map_service.specs.Packets.{packets_in}
-use Rattle.map_service.specs.Views.{packets_view}
 use Rattle.nodes.specs.declared.ground_node.submission.Submission.{Submission}
-use Rattle.nodes.specs.Ground.{GroundState, submit_fault}
-use Rattle.nodes.specs.Packets.{PacketOn, packet_on, packet_view}
+use Rattle.nodes.specs.Packets.{packet_view}
 use Rattle.tc_link.proofs.Counted.{submit_same}
 use Rattle.tc_link.proofs.world.World.submit.Goals as goal
 

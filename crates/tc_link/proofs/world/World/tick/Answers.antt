@@ -1,5 +1,4 @@
-use Rattle.std.proofs.Common.{◌≤◌, ◌+◌, length, ap, arith}
-use Rattle.nodes.specs.Ground.{GroundState}
+use Rattle.tc_link.proofs.Common.{◌≤◌, ◌+◌, length, ap, arith, GroundState}
 use Rattle.tc_link.proofs.Counted.{tick_shorter}
 use Rattle.tc_link.proofs.world.World.tick.Goals as goal
 

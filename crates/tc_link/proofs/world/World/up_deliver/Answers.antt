@@ -1,13 +1,9 @@
-use Rattle.std.proofs.Common.{◌≡◌, ℕ, List, ◌++◌, length, map, Option, Some, None, option_map, refl, ap, sym, ◌∙◌}
-use Rattle.std.proofs.Common.{arith}
-use Rattle.std.proofs.lemmas.List.{length-map}
-use Rattle.tc_frame.specs.Layout.{SegmentView, segment_octets}
-use Rattle.tm_link.specs.Extraction.{octets_of}
+use Rattle.tc_link.proofs.Common.{◌≡◌, ℕ, List, ◌++◌, length, map, Option, Some, None, option_map, refl, ap, sym, ◌∙◌}
+use Rattle.tc_link.proofs.Common.{arith, length-map, SegmentView, segment_octets, octets_of, SpacecraftState}
+use Rattle.tc_link.proofs.Common.{spacecraft_receive, segment_to_accept, AcceptanceView, acceptance_with}
+use Rattle.tc_link.proofs.Common.{packets_accepted_on}
 use Rattle.tc_link.specs.declared.acceptance.Acceptance.{Acceptance}
-use Rattle.nodes.specs.Spacecraft.{SpacecraftState, spacecraft_receive}
-use Rattle.nodes.specs.Acceptance.{segment_to_accept}
-use Rattle.tc_link.specs.Acceptance.{AcceptanceView, acceptance_with, acceptance_view}
-use Rattle.tc_link.specs.WorldFields.{packets_accepted_on}
+use Rattle.tc_link.specs.Acceptance.{acceptance_view}
 use Rattle.tc_link.proofs.AcceptedSegments.{field_behind}
 use Rattle.tc_link.proofs.Arrived.{arrival_accepts}
 use Rattle.tc_link.proofs.Gained.{delivered_by, gained}

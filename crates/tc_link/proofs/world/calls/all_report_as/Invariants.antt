@@ -1,9 +1,6 @@
-use Rattle.std.proofs.Common.{◌≡◌}
-use Rattle.std.specs.List.{list_all}
+use Rattle.tc_link.proofs.Common.{◌≡◌, list_all, octets_of, reports_as}
 use Rattle.std.specs.VecDeque.Iter.{deque_iter_rest}
-use Rattle.tm_link.specs.Extraction.{octets_of}
 use Rattle.tm_link.specs.Reading.{frame_at}
-use Rattle.tc_link.specs.World.{reports_as}
 use Rattle.tc_link.proofs.world.calls.all_report_as.Given as goal
 
 abbrev pub invariant-loop-octets : goal.invariant-loop-octets

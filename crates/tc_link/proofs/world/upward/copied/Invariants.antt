@@ -1,5 +1,4 @@
-use Rattle.std.proofs.Common.{◌≡◌, take}
-use Rattle.map_service.specs.Views.{packets_view}
+use Rattle.tc_link.proofs.Common.{◌≡◌, take, packets_view}
 use Rattle.nodes.specs.Commands.{slices_view}
 use Rattle.tc_link.proofs.world.upward.copied.Given as goal
 

@@ -1,28 +1,19 @@
--- Packets that are submitted keep what holds late in a session.
-use Rattle.std.proofs.Common.{◌≡◌, ℕ, ◌/◌, ◌≤◌, ◌<◌, Bool, true, false, cond, List, [], ◌∷◌, ◌++◌, length, take, drop}
-use Rattle.std.proofs.Common.{map, Option, Some, None, option_to_list, refl, ap, sym, subst, ◌∙◌, append_assoc, arith}
-use Rattle.std.proofs.Common.{length-append, inl, inr}
-use Rattle.std.specs.Prelude.{◌==◌}
-use Rattle.std.specs.List.{AllByRecursion}
-use Rattle.std.proofs.lemmas.Bool.{and_parts, not-false}
-use Rattle.std.proofs.lemmas.List.{take-append-le, drop-append-le, append-nil}
-use Rattle.tc_frame.specs.Layout.{SegmentView, segment_octets}
-use Rattle.map_service.specs.Cutting.{segments_of}
+-- Packets that are submitted keep what holds in a session.
+use Rattle.tc_link.proofs.Common.{◌≡◌, ℕ, ◌/◌, ◌≤◌, ◌<◌, Bool, true, false, cond, List, [], ◌∷◌, ◌++◌, length, take}
+use Rattle.tc_link.proofs.Common.{drop, map, Option, Some, None, option_to_list, refl, ap, sym, subst, ◌∙◌}
+use Rattle.tc_link.proofs.Common.{append_assoc, arith, length-append, inl, inr, ◌==◌, AllByRecursion, and_parts}
+use Rattle.tc_link.proofs.Common.{not-false, take-append-le, drop-append-le, append-nil, SegmentView, segment_octets}
+use Rattle.tc_link.proofs.Common.{segments_of, Directive, Config, LinkFault, FitsFrame, PacketOn, packet_on}
+use Rattle.tc_link.proofs.Common.{GroundState, is_closed, segments_on, submit_fault, after_submission, bypass_fault}
+use Rattle.tc_link.proofs.Common.{after_bypass, unless_refused, World, segments_fit}
 use Rattle.map_service.specs.Packets.{packets_in, are_taken, is_some_over}
-use Rattle.cop1.specs.declared.vocabulary.Directive.{Directive}
-use Rattle.nodes.specs.declared.config.Config.{Config}
-use Rattle.nodes.specs.declared.fault.LinkFault.{LinkFault}
-use Rattle.nodes.specs.OwnedFields.{FitsFrame}
-use Rattle.nodes.specs.Packets.{PacketOn, packet_on}
-use Rattle.nodes.specs.Ground.{GroundState, is_closed, segments_on, submit_fault, after_submission}
-use Rattle.nodes.specs.Ground.{bypass_fault, after_bypass, unless_refused}
-use Rattle.tc_link.specs.World.{World, world_after_submission, world_after_bypass}
-use Rattle.nodes.proofs.Submitting.{segments_fit, submit_map}
+use Rattle.tc_link.specs.World.{world_after_submission, world_after_bypass}
+use Rattle.nodes.proofs.Submitting.{submit_map}
 use Rattle.tc_link.specs.PlainLink.{adds}
 use Rattle.tc_link.proofs.Transit.{Fits, fits_longer}
-use Rattle.tc_link.proofs.Linked.{Steady, Late, IsGiven, units_of_all, Held, Next, stays, beside}
-use Rattle.tc_link.proofs.Settled.{late_settled}
-use Rattle.tc_link.proofs.Linked.{holds_late}
+use Rattle.tc_link.proofs.Linked.{In, IsGiven, units_of_all, Held, Next, stays, beside, holds_on}
+use Rattle.tc_link.proofs.Settled.{session_settled}
+use Rattle.tc_link.proofs.Sound.{Sound}
 
 passed : (b : Bool) (fault : LinkFault) (rest : Option LinkFault) → cond b (Some fault) rest ≡ None
     → (b ≡ false) × (rest ≡ None)
@@ -71,10 +62,10 @@ units-push c (x ∷ xs) p =
     ∙ sym (append_assoc (segments_of c.part x.on_map x.octets) (units_of_all c xs)
     (segments_of c.part p.on_map p.octets))
 
-module _ (c : Config) (d : Directive) (base : ℕ) (w : World) (k : Steady c w) (g : Late c d base w) (m : ℕ)
-    (octets : List ℕ) where
+module _ (early : Bool) (c : Config) (d : Directive) (base : ℕ) (w : World) (k : Sound c w) (g : In early c d base w)
+    (m : ℕ) (octets : List ℕ) where
   given_keeps : submit_fault w.ground_node m octets ≡ None
-      → Next c d base g.plain (record w {
+      → Next early c d base g.plain (record w {
         ground_node =
             after_submission w.ground_node m octets;
         session =
@@ -83,10 +74,10 @@ module _ (c : Config) (d : Directive) (base : ℕ) (w : World) (k : Steady c w) 
   given_keeps none =
       let p = g.plain in
       let l = g.linked in
-      let t = taken_is c w.ground_node m octets k.ground_config none in
+      let t = taken_is c w.ground_node m octets k.ground_node.config none in
       let new : List SegmentView = segments_of c.part m octets in
-      let cut : segments_on w.ground_node m octets ≡ new = ap (λ x. segments_of x.part m octets) k.ground_config in
-      let was = holds_late l t.on in
+      let cut : segments_on w.ground_node m octets ≡ new = ap (λ x. segments_of x.part m octets) k.ground_node.config in
+      let was = holds_on l t.on in
       let r_most : p.r ≤ length p.units = omega (arith, l.r_n, l.n_most) in
       let shorter : take p.n (p.units ++ new) ≡ take p.n p.units = take-append-le p.n p.units new l.n_most in
       let rest : option_to_list w.ground_node.fop.waiting
@@ -118,7 +109,7 @@ module _ (c : Config) (d : Directive) (base : ℕ) (w : World) (k : Steady c w) 
       let n_most : p.n ≤ length (p.units ++ new) = omega (arith, l.n_most, length-append p.units new) in
       let fits : Fits (c.width / 2) p.n (p.units ++ new) p.r p.up =
       fits_longer (c.width / 2) p.n p.units new p.r p.up l.fits in
-      late_settled c d base (record w {
+      session_settled early c d base (record w {
         ground_node =
             record w.ground_node { pending = w.ground_node.pending ++ segments_on w.ground_node m octets };
         session =
@@ -130,37 +121,37 @@ module _ (c : Config) (d : Directive) (base : ℕ) (w : World) (k : Steady c w) 
         frames = g.frames;
         reports = g.reports;
         linked = assumption (held, given, units_are, units_fit, sent_is, accepted_is, n_most, fits, l);
-        calm = λ checked. let i = g.calm checked in assumption i;
+        stage = g.stage;
       })
 
   -- an empty list after the submissions
   refused_keeps : (fault : LinkFault)
-      → Next c d base g.plain (world_after_submission w (packet_on m octets)
+      → Next early c d base g.plain (world_after_submission w (packet_on m octets)
       (unless_refused (Some fault) w.ground_node (after_submission w.ground_node m octets))).after
   refused_keeps fault =
-      subst (λ (ps : List PacketOn). Next c d base g.plain
+      subst (λ (ps : List PacketOn). Next early c d base g.plain
       (record w { session = record w.session { submissions = ps } })) (sym (append-nil w.session.submissions)) (stays g)
 
   submit_keeps : (o : Option LinkFault) → submit_fault w.ground_node m octets ≡ o
-      → Next c d base g.plain (world_after_submission w (packet_on m octets)
+      → Next early c d base g.plain (world_after_submission w (packet_on m octets)
       (unless_refused o w.ground_node (after_submission w.ground_node m octets))).after
   submit_keeps None none = given_keeps none
   submit_keeps (Some fault) is = refused_keeps fault
 
-  pub late_submit : Next c d base g.plain (world_after_submission w (packet_on m octets)
+  pub submits : Next early c d base g.plain (world_after_submission w (packet_on m octets)
       (unless_refused (submit_fault w.ground_node m octets) w.ground_node
       (after_submission w.ground_node m octets))).after
-  late_submit = submit_keeps (submit_fault w.ground_node m octets) refl
+  submits = submit_keeps (submit_fault w.ground_node m octets) refl
 
   bypass_keeps : (o : Option LinkFault)
-      → Next c d base g.plain (world_after_bypass w
+      → Next early c d base g.plain (world_after_bypass w
       (unless_refused o w.ground_node (after_bypass w.ground_node m octets))).after
   bypass_keeps (Some fault) = stays g
   bypass_keeps None =
       beside g
       (world_after_bypass w (unless_refused None w.ground_node (after_bypass w.ground_node m octets))).after (inl refl)
-      (assumption g.linked) (λ checked. let i = g.calm checked in assumption i)
+      (assumption g.linked) g.stage
 
-  pub late_bypass : Next c d base g.plain (world_after_bypass w
+  pub bypasses : Next early c d base g.plain (world_after_bypass w
       (unless_refused (bypass_fault w.ground_node m octets) w.ground_node (after_bypass w.ground_node m octets))).after
-  late_bypass = bypass_keeps (bypass_fault w.ground_node m octets)
+  bypasses = bypass_keeps (bypass_fault w.ground_node m octets)
