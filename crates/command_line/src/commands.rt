@@ -65,10 +65,12 @@ impl<'a> Described<'a> {
     }
 }
 
-/// Reads the words of a command line, the program's name first.
+/// Reads the words of a command line, the program's name first. The numbers of the task that it returns
+/// are in their ranges.
 ///
 /// The fault `Words` is what the parser answers to words that it refuses, or to a request for help or
 /// the version; `OddWidth` an odd width, where the words are else in order.
+/// Faults: Words, OddWidth. Memory: yes. Cost: n.
 pub fn options<'a>(alloc: Global, words: &'a [&'a str]) -> Result<Options<'a>, UsageFault>
     ensures range { IfOk result (λ options. IsInRange options.task) }
     ensures odd { IfErr result IsOddIfWidth }

@@ -1,6 +1,7 @@
 pub mod Calls
 pub mod DeviceLog
 pub mod Devices
+pub mod Streams
 pub mod Text
 pub mod FaultLines
 pub mod Layouts

@@ -24,7 +24,8 @@ pub trait Cutter {
     // The fault of want of memory.
     ghost memory_fault: { Self.Fault };
 
-    /// Takes more octets of the stream. Its fault is want of memory; nothing has changed then.
+    /// Takes more octets of the stream. At a fault nothing has changed.
+    /// Faults: the layout's, for want of memory. Memory: yes. Cost: n and the octets held.
     fn feed(&mut self, octets: &[u8]) -> Result<(), Self::Fault>
         ensures ok { OnOk result (held self.new ≡ held self.old ++ octets.now) }
         ensures err { OnErr result (held self.new ≡ held self.old) }
@@ -32,6 +33,7 @@ pub trait Cutter {
         ensures failure { failure self.new ≡ failure self.old };
 
     /// The next whole record, or the fault of its extent; `None` while octets are missing.
+    /// Faults: the layout's, of a length.
     fn next(&mut self) -> Option<Result<&[u8], &Self::Fault>>
         ensures* rests { sem 𝓛 (Rests Self.row self.entry (λ last.
             (held last ≡ rest_after (lent_view result) (held self.old))
@@ -39,6 +41,7 @@ pub trait Cutter {
         ensures answer { lent_view result ≡ first_by layout (held self.old) };
 
     /// Whether the stream may end here.
+    /// Faults: the layout's, of octets that are left.
     fn finish(&self) -> Result<(), Self::Fault>
         ensures truncated { IsErr result
             ↔ ((0 < length (held self.now)) × IsNone (failure self.now)) }

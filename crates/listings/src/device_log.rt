@@ -10,7 +10,9 @@ use std::marker::Model;
 /// What one call did: it moved octets, or it failed.
 #[derive(Clone, Copy, Drop)]
 pub enum Call<'a> {
+    /// These octets.
     Moved(&'a [u8]),
+    /// None.
     Failed,
 }
 
@@ -31,14 +33,14 @@ impl DeviceLog {
     ghost use Rattle.listings.specs.Calls.{octets_with, ended_with, failures_with};
     ghost use Rattle.listings.specs.DeviceLog.{IsLogOf};
 
-    /// Before the first call.
+    /// Before the first call. It is for proofs alone.
     pub fn new() -> DeviceLog
         ensures { IsLogOf result [] false 0 }
     {
         DeviceLog {}
     }
 
-    /// After one call more.
+    /// After one call more. It is for proofs alone.
     pub fn then(&self, _call: &Call<'_>) -> DeviceLog
         ensures { IsLogOf result (octets_with self.now.octets _call.now)
             (ended_with self.now.has_ended _call.now) (failures_with self.now.failures _call.now) }

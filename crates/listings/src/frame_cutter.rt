@@ -8,7 +8,8 @@ use std::alloc::Global;
 use std::marker::{Brand, PhantomData};
 use tm_link::TmFault;
 
-/// The length of the telemetry frames of a file, which is known once the words are read.
+/// The length of the telemetry frames of a file, which is known once the words are read. It is for proofs
+/// alone: `Brand` stands for every length.
 pub trait FrameLength {
     // The octets of the data field, 12 fewer than the frame's (CCSDS 132.0-B-3, 4.1).
     ghost payload: { ℕ };

@@ -42,8 +42,8 @@ impl Model for MapListing {
 }
 
 impl MapListing {
-    /// A listing that has seen no frame: its receiver has this window width and expects the number
-    /// `vr` first. It takes no memory.
+    /// A listing that has seen no frame: the lines of `tctool map`. Its receiver has this window width
+    /// and expects the number `vr` first.
     pub fn new(alloc: Global, width: u8, vr: u8, blocking: bool) -> Self
         requires { IsWidth width }
         ensures { result ≡ map_opened width vr blocking }

@@ -14,6 +14,7 @@ pub struct WriteFailed;
 
 /// Writes the text, in as many calls as the sink needs. Where one of them fails the sink has taken a
 /// beginning of the text.
+/// Faults: WriteFailed. Cost: n.
 pub fn write_all<W: Sink>(writer: &mut W, text: &[u8]) -> Result<(), WriteFailed>
     ensures ok { OnOk result (W.taken_octets writer.new ≡ W.taken_octets writer.old ++ text.now) }
     ensures beginning { IsBeginning (W.taken_octets writer.new)

@@ -29,7 +29,7 @@ impl Model for PacketListing {
 }
 
 impl PacketListing {
-    /// A listing that has seen no packet.
+    /// A listing that has seen no packet: the lines of `tctool packets`.
     #[tactic(auto, unfolding(crate::specs::PacketLines::none_seen))]
     pub fn new() -> Self
         ensures { result ≡ none_seen }

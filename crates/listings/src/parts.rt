@@ -57,42 +57,28 @@ pub fn put_digit(room: &mut [u8], at: usize, number: u8) -> usize
 
 /// Puts an octet's decimal digits, which are at most three.
 #[inline(always)]
-#[tactic(auto, using(crate::proofs::Digits::two_digits, crate::proofs::Digits::three_digits))]
+#[tactic(auto, using(crate::proofs::Digits::at_most_three))]
 pub fn put_octet(room: &mut [u8], at: usize, number: u8) -> usize
     requires { at + 3 ≤ length room.old }
     ensures put { take result room.new ≡ take at room.old ++ decimal number }
     ensures room { length room.new ≡ length room.old }
     ensures next { result ≤ at + 3 }
 {
-    if number < 10 {
-        return put_digit(room, at, number);
-    }
-    if number < 100 {
-        return put_word(room, at, &[b'0' + number / 10, b'0' + number % 10]);
-    }
-    put_word(
-        room,
-        at,
-        &[
-            b'0' + number / 100,
-            b'0' + number / 10 % 10,
-            b'0' + number % 10,
-        ],
-    )
+    put_small(room, at, u16::from(number))
 }
 
-/// Puts the decimal digits of a number below 1,000.
+// Puts the decimal digits of a number below 1,000.
 #[inline(always)]
 #[tactic(auto, using(std::proofs::lemmas::Fmt::decimal_digit, crate::proofs::Digits::two_digits, crate::proofs::Digits::three_digits))]
 fn put_small(room: &mut [u8], at: usize, number: u16) -> usize
-    requires room { at + 3 ≤ length room.old }
+    requires room { at + length (decimal number) ≤ length room.old }
     requires small { number < 1000 }
     ensures put { take result room.new ≡ take at room.old ++ decimal number }
     ensures room { length room.new ≡ length room.old }
-    ensures next { result ≤ at + 3 }
+    ensures next { result ≡ at + length (decimal number) }
 {
     if number < 10 {
-        return put_one(room, at, b'0' + number as u8);
+        return put_digit(room, at, number as u8);
     }
     if number < 100 {
         return put_word(
@@ -135,21 +121,14 @@ fn put_four(room: &mut [u8], at: usize, number: u16) -> usize
 
 /// Puts a number's decimal digits, which are at most five.
 #[inline(always)]
-#[tactic(auto, using(std::proofs::lemmas::Fmt::decimal_digit, crate::proofs::Digits::is_four, crate::proofs::Digits::then_four))]
+#[tactic(auto, using(crate::proofs::Digits::at_most_five))]
 pub fn put_short(room: &mut [u8], at: usize, number: u16) -> usize
     requires { at + 5 ≤ length room.old }
     ensures put { take result room.new ≡ take at room.old ++ decimal number }
     ensures room { length room.new ≡ length room.old }
     ensures next { result ≤ at + 5 }
 {
-    if number < 1000 {
-        return put_small(room, at, number);
-    }
-    if number < 10000 {
-        return put_four(room, at, number);
-    }
-    let next = put_digit(room, at, (number / 10000) as u8);
-    put_four(room, next, number % 10000)
+    put_eight(room, at, u32::from(number))
 }
 
 /// Puts a word, and an octet's decimal digits after it.
@@ -198,13 +177,13 @@ pub fn put_number(room: &mut [u8], at: usize, number: u64) -> usize
 
 // Puts at most eight decimal digits.
 #[inline(always)]
-#[tactic(auto, using(crate::proofs::Digits::at_most_four))]
+#[tactic(auto, using(crate::proofs::Digits::four_more))]
 fn put_eight(room: &mut [u8], at: usize, number: u32) -> usize
-    requires room { at + 8 ≤ length room.old }
+    requires room { at + length (decimal number) ≤ length room.old }
     requires eight { number < 100000000 }
     ensures put { take result room.new ≡ take at room.old ++ decimal number }
     ensures room { length room.new ≡ length room.old }
-    ensures next { result ≤ at + 8 }
+    ensures next { result ≡ at + length (decimal number) }
 {
     if number < 10000 {
         return put_upper(room, at, number as u16);
@@ -227,8 +206,9 @@ fn put_long(room: &mut [u8], at: usize, number: u64) -> usize
     put_four(room, next, (number % 10000) as u16)
 }
 
+// Puts the decimal digits of a number below 10,000.
 #[inline(always)]
-#[tactic(auto, using(std::proofs::lemmas::Fmt::decimal_digit, crate::proofs::Digits::two_digits, crate::proofs::Digits::three_digits, crate::proofs::Digits::is_four))]
+#[tactic(auto, using(crate::proofs::Digits::is_four))]
 fn put_upper(room: &mut [u8], at: usize, number: u16) -> usize
     requires room { at + length (decimal number) ≤ length room.old }
     requires four { number < 10000 }
@@ -236,26 +216,8 @@ fn put_upper(room: &mut [u8], at: usize, number: u16) -> usize
     ensures room { length room.new ≡ length room.old }
     ensures next { result ≡ at + length (decimal number) }
 {
-    if number < 10 {
-        return put_one(room, at, b'0' + number as u8);
-    }
-    if number < 100 {
-        return put_word(
-            room,
-            at,
-            &[b'0' + (number / 10) as u8, b'0' + (number % 10) as u8],
-        );
-    }
     if number < 1000 {
-        return put_word(
-            room,
-            at,
-            &[
-                b'0' + (number / 100) as u8,
-                b'0' + (number / 10 % 10) as u8,
-                b'0' + (number % 10) as u8,
-            ],
-        );
+        return put_small(room, at, number);
     }
     put_four(room, at, number)
 }

@@ -20,6 +20,7 @@ pub trait Sink {
     ghost contents: { Self → Option (List ℕ) } = { λ _. None };
 
     /// Writes a beginning of the text, and answers how many octets of it.
+    /// Faults: an error of the standard library. Memory: the device's. Cost: the device's.
     fn write(&mut self, text: &[u8]) -> io::Result<usize>
         ensures count { IfOk result (λ n. n ≤ length text.now) }
         ensures taken { taken_octets self.new ≡ taken_octets self.old ++ taken result text.now }

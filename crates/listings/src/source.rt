@@ -24,6 +24,7 @@ pub trait Source {
     ghost remaining: { Self → Option (List ℕ) } = { λ _. None };
 
     /// Reads octets into the front of a piece that is not empty, and answers how many; 0 at the end.
+    /// Faults: an error of the standard library. Memory: the device's. Cost: the device's.
     fn read(&mut self, piece: &mut [u8]) -> io::Result<usize>
         requires { 0 < length piece.old }
         ensures count { IfOk result (λ n. n ≤ length piece.new) }

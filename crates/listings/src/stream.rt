@@ -3,14 +3,13 @@
 ghost use Rattle.std.specs.Prelude.{◌≡◌, ◌⊎◌, None, false, ◌+◌, ◌-◌, ◌^◌, ◌<◌, ◌≤◌, ◌&&◌, ◌++◌, [], length, Ok, Err, OnOk, IfOk, IfErr};
 ghost use Rattle.listings.specs.Layouts.{first_by, rest_by, IsRefused};
 ghost use Rattle.listings.specs.Listing.{fresh, listed, text_of, is_all_good, rest_line, is_empty, HasListed, HasRefused};
-ghost use Rattle.octets.specs.Beginning.{IsBeginning};
-ghost use Rattle.std.specs.Io.KnownBytes.{Consumes};
 ghost use Rattle.listings.specs.Devices.{HasEnded};
-ghost use Rattle.listings.specs.Failures.{reads_failed_in, writes_failed_in};
+ghost use Rattle.listings.specs.Failures.{writes_failed_in};
 ghost use Rattle.listings.specs.Gained.{gained};
 ghost use Rattle.listings.specs.Progress.{where_refused, standing};
+ghost use Rattle.listings.specs.Streams.{Reads, WritesText};
 ghost use Rattle.listings.specs.Written.{written};
-ghost use Rattle.listings.specs.Writing.{BeginsToWrite, Writes};
+ghost use Rattle.listings.specs.Writing.{BeginsToWrite};
 
 use crate::cutter::Cutter;
 use crate::fault::ListingFault;
@@ -71,7 +70,7 @@ fn list_records<S: Cutter, C: Listing<S>>(
 }
 
 /// How a stream goes on: more octets may come, or they are refused.
-#[derive(Clone, Copy, Drop, PartialEq, Eq)]
+#[derive(Clone, Copy, Drop)]
 enum Course {
     Open,
     Refused,
@@ -173,6 +172,7 @@ pub const MOST_OCTETS: u64 = 9_223_372_036_854_775_807;
 /// Where a record declares a length that none can have, its line is the last and nothing more is
 /// read. The fault is `Read` or `Write` where that device failed, `Memory` where none was left, and
 /// `TooLong` past `MOST_OCTETS` octets; what is written by then is a beginning of the lines.
+/// Faults: Read, Write, Memory, TooLong. Memory: yes. Cost: the number of octets read and written.
 pub fn list_stream<S: Cutter + Drop, C: Listing<S> + Drop, R: Source, W: Sink>(
     alloc: Global,
     reader: &mut R,
@@ -182,30 +182,44 @@ pub fn list_stream<S: Cutter + Drop, C: Listing<S> + Drop, R: Source, W: Sink>(
 ) -> Result<bool, ListingFault>
     requires held { S.held cutter ≡ [] }
     requires going { S.failure cutter ≡ None }
-    ensures given { IsBeginning (R.given reader.old) (R.given reader.new) }
-    ensures text { Writes result (W.taken_octets writer.old) (W.taken_octets writer.new)
+    ensures reads { Reads R.given R.remaining R.failures result reader.old reader.new }
+    ensures writes { WritesText W.taken_octets W.failures result writer.old writer.new
         (text_of C.lines S.layout
         (fresh listing (gained (R.given reader.old) (R.given reader.new)))) }
     ensures good { IfOk result (λ good. good ≡ is_all_good C.lines S.layout
         (fresh listing (gained (R.given reader.old) (R.given reader.new)))) }
-    ensures consumes { Consumes (R.remaining reader.old) (R.remaining reader.new)
-        (gained (R.given reader.old) (R.given reader.new)) }
     ensures end { OnOk result (HasEnded (R.has_ended reader.new) (R.remaining reader.new)
         ⊎ IsRefused S.layout
         (rest_by S.layout (gained (R.given reader.old) (R.given reader.new)))) }
-    ensures beginning { BeginsToWrite result (W.taken_octets writer.old) (W.taken_octets writer.new)
+{
+    let mut text = Text::new(alloc);
+    list_pieces(reader, writer, &mut cutter, &mut listing, &mut text)
+}
+
+// Lists a stream with a text for the lines of a piece.
+fn list_pieces<S: Cutter, C: Listing<S>, R: Source, W: Sink>(
+    reader: &mut R,
+    writer: &mut W,
+    cutter: &mut S,
+    listing: &mut C,
+    text: &mut Text,
+) -> Result<bool, ListingFault>
+    requires held { S.held cutter.old ≡ [] }
+    requires going { S.failure cutter.old ≡ None }
+    ensures reads { Reads R.given R.remaining R.failures result reader.old reader.new }
+    ensures writes { WritesText W.taken_octets W.failures result writer.old writer.new
         (text_of C.lines S.layout
-        (fresh listing (gained (R.given reader.old) (R.given reader.new)))) }
-    ensures read { R.failures reader.new ≡ R.failures reader.old + reads_failed_in result }
-    ensures write { W.failures writer.new ≡ W.failures writer.old + writes_failed_in result }
-    ensures too_long { result ≡ Err ListingFault.TooLong
-        → MOST_OCTETS < length (gained (R.given reader.old) (R.given reader.new)) }
+        (fresh listing.old (gained (R.given reader.old) (R.given reader.new)))) }
+    ensures good { IfOk result (λ good. good ≡ is_all_good C.lines S.layout
+        (fresh listing.old (gained (R.given reader.old) (R.given reader.new)))) }
+    ensures end { OnOk result (HasEnded (R.has_ended reader.new) (R.remaining reader.new)
+        ⊎ IsRefused S.layout
+        (rest_by S.layout (gained (R.given reader.old) (R.given reader.new)))) }
 {
     let mut progress = Progress {
         count: 0,
         all_good: true,
     };
-    let mut text = Text::new(alloc);
     let mut piece = [0u8; 4096];
     let mut total: u64 = 0;
     loop {
@@ -213,26 +227,23 @@ pub fn list_stream<S: Cutter + Drop, C: Listing<S> + Drop, R: Source, W: Sink>(
             return Err(ListingFault::Read);
         };
         if count == 0 {
-            return list_rest::<S, C, W>(&cutter, progress, &mut text, writer);
+            return list_rest::<S, C, W>(cutter, progress, text, writer);
         }
         if count as u64 > MOST_OCTETS - total {
             return Err(ListingFault::TooLong);
         }
         total += count as u64;
-        let course = match list_piece(
-            &mut cutter,
-            &mut listing,
+        match list_piece(
+            cutter,
+            listing,
             &mut progress,
-            &mut text,
+            text,
             writer,
             &piece[..count],
         ) {
-            Ok(course) => course,
+            Ok(Course::Open) => {}
+            Ok(Course::Refused) => return Ok(false),
             Err(fault) => return Err(fault),
-        };
-        match course {
-            Course::Open => {}
-            Course::Refused => return Ok(false),
         }
     }
 }

@@ -36,6 +36,7 @@ impl<K: FrameLength> Model for TelemetryListing<K> {
 
 impl<K: FrameLength> TelemetryListing<K> {
     /// A listing that has seen no frame. Its extractor reserves the octets of the longest packet.
+    /// Faults: AllocError. Memory: yes.
     pub fn new(alloc: Global, frame_length: u16) -> Result<Self, AllocError>
         requires { frame_length ≡ K.payload + 12 }
         ensures { IfOk result (λ l. l ≡ new_extractor) }

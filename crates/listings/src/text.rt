@@ -41,6 +41,7 @@ impl Text {
     }
 
     /// Appends octets.
+    /// Faults: AllocError. Memory: yes. Cost: n*.
     pub fn push(&mut self, octets: &[u8]) -> Result<(), AllocError>
         ensures { Appends result self.old self.new octets.now }
     {

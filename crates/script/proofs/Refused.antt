@@ -1,6 +1,6 @@
 -- A refused event leaves the world as it was.
 use Rattle.std.proofs.Common.{◌≡◌, ◌∙◌, Result, Ok, Err, IfOk, IfErr, ap, sym}
-use Rattle.tc_link.specs.declared.event.Event.{Event}
+use Rattle.link_events.specs.declared.event.Event.{Event}
 use Rattle.tc_link.specs.Simulation.{SimState}
 use Rattle.tc_link.specs.World.{World, world_step}
 use Rattle.tc_link.proofs.Refusing.{refused_keeps}

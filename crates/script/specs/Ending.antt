@@ -4,8 +4,8 @@ use Rattle.nodes.specs.Parameters.{config_fault}
 use Rattle.tc_link.specs.World.{World, new_world}
 use Rattle.script.specs.declared.opening.ScriptFault.{ScriptFault}
 use Rattle.script.specs.declared.opening.ScriptFault.TheVariants as faults
-use Rattle.script.specs.Lines.{ScriptLine}
-use Rattle.script.specs.Scripts.{script_in, unreadable_line, config_in}
+use Rattle.script_lines.specs.Lines.{ScriptLine}
+use Rattle.script_lines.specs.Scripts.{script_in, unreadable_line, config_in}
 use Rattle.script.specs.Playing.{answers_from}
 
 pub data Ending : Type 0 where

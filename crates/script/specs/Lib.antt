@@ -1,8 +1,3 @@
-pub mod Words
-pub mod Lines
-pub mod Spelling
-pub mod Scripts
-pub mod Programs
 pub mod Answers
 pub mod Playing
 pub mod Ending

@@ -9,7 +9,7 @@ use Rattle.tc_link.specs.declared.sim.opening.Opening.{Opening}
 use Rattle.nodes.specs.Ground.{outstanding}
 use Rattle.tc_link.specs.Replies.{ReplyView}
 use Rattle.tc_link.specs.World.{World, world_step, accepted, submitted, delivered}
-use Rattle.script.specs.Lines.{ScriptLine, Skipped, Setting, Happening, Showing, Unreadable}
+use Rattle.script_lines.specs.Lines.{ScriptLine, Skipped, Setting, Happening, Showing, Unreadable}
 use Rattle.script.specs.Answers.{answer_text}
 
 -- a response: to an event its answer, to a show the world as it is then

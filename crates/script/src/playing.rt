@@ -5,33 +5,17 @@ ghost use Rattle.std.specs.List.{flat_map};
 ghost use Rattle.octets.specs.Outcome.{map_ok};
 ghost use Rattle.tc_link.specs.Replies.{reply_view};
 ghost use Rattle.tc_link.specs.World.{World, world_step};
-ghost use Rattle.script.specs.Lines.{event_with, octets_of_digits, step_line};
-ghost use Rattle.script.specs.Programs.{lines_left};
+ghost use Rattle.script_lines.specs.Lines.{event_with, step_line};
+ghost use Rattle.script_lines.specs.Programs.{lines_left};
 ghost use Rattle.octets.specs.Appending.{Appends};
 ghost use Rattle.script.specs.Playing.{ToEvent, line_responses, response_line, after_line, answers_from};
 ghost use Rattle.script.specs.Ending.{remaining_answers};
 
 use crate::answer::push_answer;
-use crate::line::{Carrier, Step, carrier_of, plain_event};
-use crate::program::Rest;
 use crate::showing::push_show;
-use crate::words::is;
+use script_lines::{Carrier, Rest, Step, carrier_of, octets_of_digits, plain_event};
 use std::alloc::{AllocError, Global};
 use tc_link::{Event, Reply, Sim, SimFault};
-
-// The octets of a word of digits.
-#[tactic(auto, unfolding(crate::specs::Words::octets_in_word))]
-fn octets_of_digits(alloc: Global, digits: &[u8]) -> Result<Vec<u8>, AllocError>
-    ensures { IfOk result (λ octets. octets.items ≡ octets_of_digits digits.now) }
-{
-    if is(digits, "-") {
-        return Ok(Vec::new(alloc));
-    }
-    match hex::decode(alloc, digits) {
-        Ok(octets) => Ok(octets),
-        Err(_) => Err(AllocError),
-    }
-}
 
 // The event that carries these octets.
 fn event_with(carrier: Carrier, octets: &[u8]) -> Event<'_>
@@ -99,6 +83,7 @@ fn play_step(
 
 /// Plays steps of a program until the answers have some 4,096 octets, and returns what is left of it.
 /// Where there is no memory the link has met some of the events.
+/// Faults: AllocError. Memory: yes. Cost: that of the events and answers.
 pub fn play_some<'p, 'a>(
     alloc: Global,
     sim: &mut Sim,

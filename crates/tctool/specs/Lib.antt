@@ -1,3 +1,1 @@
-pub mod Outcome
 pub mod Dumped
-pub mod Status

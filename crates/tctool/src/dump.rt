@@ -1,32 +1,22 @@
 // Reads a file, and writes what the words ask for of it.
 
-ghost use Rattle.std.specs.Prelude.{◌≡◌, ◌⊎◌, ◌+◌, ◌<◌, [], None, length, Err, OnOk, IfOk};
+ghost use Rattle.std.specs.Prelude.{◌≡◌, ◌⊎◌, ◌+◌, ◌<◌, length, Err, OnOk, IfOk};
 ghost use Rattle.std.specs.Io.KnownBytes.{Consumes};
 ghost use Rattle.octets.specs.Beginning.{IsBeginning};
-ghost use Rattle.tctool.specs.Dumped.{layout_by, lines_of, outcome_for, StopsAt};
+ghost use Rattle.command_line.specs.Ranges.{IsInRange};
 ghost use Rattle.listings.specs.Devices.{HasEnded};
 ghost use Rattle.listings.specs.Failures.{reads_failed_in, writes_failed_in};
 ghost use Rattle.listings.specs.Gained.{gained};
-ghost use Rattle.tctool.specs.Outcome.{outcome_if, outcome_view};
-ghost use Rattle.command_line.specs.Ranges.{IsInRange};
-ghost use Rattle.listings.specs.Layouts.{rest_by, IsRefused};
-ghost use Rattle.listings.specs.Listing.{fresh, text_of, is_all_good};
 ghost use Rattle.listings.specs.Writing.{BeginsToWrite, Writes};
-ghost use Rattle.command_line.specs.declared.task.Task.TheVariants as tasks;
+ghost use Rattle.stream_commands.specs.Listed.{StopsAt};
+ghost use Rattle.stream_commands.specs.Outcome.{outcome_view};
+ghost use Rattle.tctool.specs.Dumped.{lines_of, outcome_for};
 
-use crate::outcome::Outcome;
 use crate::simulation::simulate;
 use command_line::{Options, Task};
-use cop1::Farm;
-use listings::{
-    FrameCutter, FrameLength, FrameListing, Listing, ListingFault, MOST_OCTETS, MapListing,
-    PacketListing, RefusalListing, Sink, Source, TelemetryListing, list_stream,
-};
-use octets::{Splitter, Wire};
-use space_packet::Packets;
+use listings::{ListingFault, Sink, Source};
 use std::alloc::Global;
-use std::marker::Brand;
-use tc_frame::{Checked, Unchecked};
+use stream_commands::{Outcome, list};
 
 /// Reads the input to its end, in pieces, and writes the lines that the words ask for: of each piece
 /// before the next is read, but of a script once all of it is read.
@@ -61,110 +51,7 @@ pub fn dump<R: Source, W: Sink>(
         → 9223372036854775807 < length (gained (R.given reader.old) (R.given reader.new)) }
 {
     match options.task {
-        Task::Farm { check, width, vr } => {
-            let farm = Farm::new(width, vr).unwrap();
-            if check {
-                list_file::<Checked, Farm, R, W>(alloc, reader, writer, farm)
-            } else {
-                list_file::<Unchecked, Farm, R, W>(alloc, reader, writer, farm)
-            }
-        }
-        Task::Map {
-            check,
-            width,
-            vr,
-            blocking,
-        } => {
-            let packets = MapListing::new(alloc, width, vr, blocking);
-            if check {
-                list_file::<Checked, MapListing, R, W>(alloc, reader, writer, packets)
-            } else {
-                list_file::<Unchecked, MapListing, R, W>(alloc, reader, writer, packets)
-            }
-        }
-        Task::Tc { check } => {
-            if check {
-                list_file::<Checked, FrameListing, R, W>(alloc, reader, writer, FrameListing)
-            } else {
-                list_file::<Unchecked, FrameListing, R, W>(alloc, reader, writer, FrameListing)
-            }
-        }
-        Task::Tm { length } => list_frames::<Brand, R, W>(alloc, reader, writer, length),
-        Task::Check => {
-            list_file::<Checked, RefusalListing, R, W>(alloc, reader, writer, RefusalListing)
-        }
-        Task::Packets => {
-            let packets = PacketListing::new();
-            list_file::<Packets, PacketListing, R, W>(alloc, reader, writer, packets)
-        }
         Task::Sim => simulate(alloc, reader, writer),
-    }
-}
-
-// Lists the records of a stream whose first octets give their length, and says how it ends.
-fn list_file<L: Wire, C: Listing<Splitter<L>> + Drop, R: Source, W: Sink>(
-    alloc: Global,
-    reader: &mut R,
-    writer: &mut W,
-    listing: C,
-) -> Result<Outcome, ListingFault>
-    ensures given { IsBeginning (R.given reader.old) (R.given reader.new) }
-    ensures text { Writes result (W.taken_octets writer.old) (W.taken_octets writer.new)
-        (text_of C.lines (layout_by L.HEAD L.extent_of L.truncated_fault)
-        (fresh listing (gained (R.given reader.old) (R.given reader.new)))) }
-    ensures outcome { IfOk result (λ outcome. outcome ≡ outcome_if (is_all_good C.lines
-        (layout_by L.HEAD L.extent_of L.truncated_fault)
-        (fresh listing (gained (R.given reader.old) (R.given reader.new))))) }
-    ensures consumes { Consumes (R.remaining reader.old) (R.remaining reader.new)
-        (gained (R.given reader.old) (R.given reader.new)) }
-    ensures end { OnOk result (HasEnded (R.has_ended reader.new) (R.remaining reader.new)
-        ⊎ IsRefused (layout_by L.HEAD L.extent_of L.truncated_fault)
-        (rest_by (layout_by L.HEAD L.extent_of L.truncated_fault)
-        (gained (R.given reader.old) (R.given reader.new)))) }
-    ensures beginning { BeginsToWrite result (W.taken_octets writer.old) (W.taken_octets writer.new)
-        (text_of C.lines (layout_by L.HEAD L.extent_of L.truncated_fault)
-        (fresh listing (gained (R.given reader.old) (R.given reader.new)))) }
-    ensures read { R.failures reader.new ≡ R.failures reader.old + reads_failed_in result }
-    ensures write { W.failures writer.new ≡ W.failures writer.old + writes_failed_in result }
-    ensures too_long { result ≡ Err ListingFault.TooLong
-        → MOST_OCTETS < length (gained (R.given reader.old) (R.given reader.new)) }
-{
-    match list_stream(alloc, reader, writer, Splitter::<L>::new(alloc), listing) {
-        Ok(good) => Ok(Outcome::of(good)),
-        Err(fault) => Err(fault),
-    }
-}
-
-// Lists telemetry frames of this length, for which `K` stands.
-fn list_frames<K: FrameLength, R: Source, W: Sink>(
-    alloc: Global,
-    reader: &mut R,
-    writer: &mut W,
-    size: u16,
-) -> Result<Outcome, ListingFault>
-    requires { size ≡ K.payload + 12 }
-    ensures given { IsBeginning (R.given reader.old) (R.given reader.new) }
-    ensures text { Writes result (W.taken_octets writer.old) (W.taken_octets writer.new)
-        (lines_of (tasks.Tm size) (gained (R.given reader.old) (R.given reader.new))) }
-    ensures outcome { IfOk result (λ outcome. outcome_view outcome
-        ≡ outcome_for (tasks.Tm size) (gained (R.given reader.old) (R.given reader.new))) }
-    ensures consumes { Consumes (R.remaining reader.old) (R.remaining reader.new)
-        (gained (R.given reader.old) (R.given reader.new)) }
-    ensures end { OnOk result (HasEnded (R.has_ended reader.new) (R.remaining reader.new)
-        ⊎ StopsAt (tasks.Tm size) (gained (R.given reader.old) (R.given reader.new))) }
-    ensures beginning { BeginsToWrite result (W.taken_octets writer.old) (W.taken_octets writer.new)
-        (lines_of (tasks.Tm size) (gained (R.given reader.old) (R.given reader.new))) }
-    ensures read { R.failures reader.new ≡ R.failures reader.old + reads_failed_in result }
-    ensures write { W.failures writer.new ≡ W.failures writer.old + writes_failed_in result }
-    ensures too_long { result ≡ Err ListingFault.TooLong
-        → 9223372036854775807 < length (gained (R.given reader.old) (R.given reader.new)) }
-{
-    let Ok(frames) = TelemetryListing::<K>::new(alloc, size) else {
-        return Err(ListingFault::Memory);
-    };
-    let cutter = FrameCutter::<K>::new(alloc, usize::from(size));
-    match list_stream(alloc, reader, writer, cutter, frames) {
-        Ok(good) => Ok(Outcome::of(good)),
-        Err(fault) => Err(fault),
+        task => list(alloc, reader, writer, task),
     }
 }

@@ -6,21 +6,19 @@
 ghost use Rattle.command_line.specs.Ranges.{IsInRange};
 
 mod dump;
-mod ending;
 mod given;
-mod outcome;
 mod simulation;
 
 use clap::Error;
 use clap::error::ErrorKind;
 use command_line::{Options, UsageFault};
-use ending::ending;
 use given::GivenWords;
 use listings::{ListingFault, Reader, Writer};
 use std::fs::File;
 use std::io;
 use std::io::Read;
 use std::process::ExitCode;
+use stream_commands::ending;
 
 fn main(rt: HostRuntime) -> ExitCode {
     ExitCode::from(match GivenWords::read(&rt, rt.alloc()) {

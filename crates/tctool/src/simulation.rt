@@ -1,22 +1,23 @@
 // `tctool sim`: plays a script of the simulated link.
 
-ghost use Rattle.std.specs.Prelude.{◌≡◌, ◌⊎◌, ◌+◌, ◌<◌, ◌≤◌, ◌^◌, ◌-◌, length};
+ghost use Rattle.std.specs.Prelude.{◌≡◌, ◌⊎◌, ◌+◌, ◌<◌, ◌^◌, ◌-◌, length};
 ghost use Rattle.std.specs.Prelude.{Err, OnOk, IfOk, IfErr};
 ghost use Rattle.script.specs.Ending.{script_ending, script_text};
 ghost use Rattle.script.specs.Playing.{answers_from};
-ghost use Rattle.script.specs.Programs.{program_lines};
+ghost use Rattle.script_lines.specs.Programs.{program_lines};
 ghost use Rattle.std.specs.Io.KnownBytes.{Consumes};
 ghost use Rattle.octets.specs.Beginning.{IsBeginning};
 ghost use Rattle.listings.specs.Devices.{HasEnded};
-ghost use Rattle.listings.specs.Failures.{writes_failed, reads_failed_in, writes_failed_in};
+ghost use Rattle.listings.specs.Failures.{reads_failed_in, writes_failed_in};
 ghost use Rattle.listings.specs.Gained.{gained};
-ghost use Rattle.tctool.specs.Outcome.{outcome_view, as_outcome};
+ghost use Rattle.stream_commands.specs.Outcome.{outcome_view};
+ghost use Rattle.tctool.specs.Dumped.{as_outcome};
 ghost use Rattle.listings.specs.Writing.{BeginsToWrite, Writes};
 
-use crate::outcome::Outcome;
 use listings::{ListingFault, MOST_OCTETS, Sink, Source, WriteFailed, write_all};
 use script::{Program, ScriptFault, open, play_some};
 use std::alloc::Global;
+use stream_commands::{Outcome, read_all};
 use tc_link::Sim;
 
 /// Plays what was read of a script, and writes the answers of each piece of it before the next is played.
@@ -78,38 +79,6 @@ fn run_script<W: Sink>(
         Err(ScriptFault::Unreadable(line)) => Ok(Outcome::Unreadable(line)),
         Err(ScriptFault::OutOfRange(field)) => Ok(Outcome::OutOfRange(field)),
         Err(ScriptFault::Memory) => Err(ListingFault::Memory),
-    }
-}
-
-/// Reads the input to its end, in pieces, and keeps it.
-fn read_all<R: Source>(alloc: Global, reader: &mut R) -> Result<Vec<u8>, ListingFault>
-    ensures given { IsBeginning (R.given reader.old) (R.given reader.new) }
-    ensures all { IfOk result (λ text. text.items
-        ≡ gained (R.given reader.old) (R.given reader.new)) }
-    ensures short { IfOk result (λ text. length text.items ≤ MOST_OCTETS) }
-    ensures consumes { Consumes (R.remaining reader.old) (R.remaining reader.new)
-        (gained (R.given reader.old) (R.given reader.new)) }
-    ensures end { OnOk result (HasEnded (R.has_ended reader.new) (R.remaining reader.new)) }
-    ensures failures { R.failures reader.new ≡ R.failures reader.old + reads_failed_in result }
-    ensures faults { IfErr result (λ e. writes_failed e ≡ 0) }
-    ensures too_long { result ≡ Err ListingFault.TooLong
-        → MOST_OCTETS < length (gained (R.given reader.old) (R.given reader.new)) }
-{
-    let mut text = Vec::new(alloc);
-    let mut piece = [0; 4096];
-    'pieces: loop {
-        let Ok(count) = reader.read(&mut piece) else {
-            return Err(ListingFault::Read);
-        };
-        if count == 0 {
-            return Ok(text);
-        }
-        if count as u64 > MOST_OCTETS - text.len() as u64 {
-            return Err(ListingFault::TooLong);
-        }
-        let Ok(()) = text.extend_from_slice(&piece[..count]) else {
-            return Err(ListingFault::Memory);
-        };
     }
 }
 

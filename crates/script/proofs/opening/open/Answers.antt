@@ -1,7 +1,7 @@
 use Rattle.std.proofs.Common.{◌∙◌, ap}
-use Rattle.script.specs.Scripts.{script_in}
+use Rattle.script_lines.specs.Scripts.{script_in}
 use Rattle.script.specs.Playing.{answers_from}
-use Rattle.script.proofs.Programs.{played_answers}
+use Rattle.script.proofs.Played.{played_answers}
 use Rattle.script.proofs.opening.open.Goals as goal
 
 pub returns-then-kept-clause-answers : goal.returns-then-kept-clause-answers

@@ -1,6 +1,6 @@
 use Rattle.std.proofs.Common.{◌≡◌, ◌≤◌, ◌++◌, length, string_bytes}
 use Rattle.script.specs.Playing.{answers_from}
-use Rattle.script.specs.Programs.{lines_left}
+use Rattle.script_lines.specs.Programs.{lines_left}
 use Rattle.script.proofs.playing.play_some.Given as goal
 
 -- the text so far and the answers to what is left are the answers to the program

@@ -1,6 +1,6 @@
 use Rattle.std.proofs.Common.{◌≡◌, ◌++◌, length}
 use Rattle.script.specs.Playing.{answers_from}
-use Rattle.script.specs.Programs.{program_lines, lines_left}
+use Rattle.script_lines.specs.Programs.{program_lines, lines_left}
 use Rattle.tctool.proofs.simulation.write_answers.Given as goal
 
 -- what is written and the answers to what is left are the answers to the program

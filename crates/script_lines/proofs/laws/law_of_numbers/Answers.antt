@@ -1,0 +1,5 @@
+use Rattle.script_lines.proofs.Numerals.{numbers}
+use Rattle.script_lines.proofs.laws.law_of_numbers.Goals as goal
+
+pub returns : goal.returns
+returns c = numbers

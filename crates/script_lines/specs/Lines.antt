@@ -1,0 +1,190 @@
+-- What each line of a script says.
+use Rattle.std.specs.Prelude.{◌≤◌, ℕ, max, ◌==◌, ◌&&◌, if◌then◌else◌, List, [], ◌∷◌, codes, Option}
+use Rattle.std.specs.Prelude.{Some, None, option_map, option_and_then, unwrap_or}
+use Rattle.std.specs.Str.{bytes_eq}
+use denote.Bor.{Bor}
+use Rattle.cop1.specs.declared.vocabulary.Directive.TheVariants.{InitWithoutCheck, InitWithCheck}
+use Rattle.cop1.specs.declared.vocabulary.Directive.TheVariants.{InitUnlock, InitSetVr, Terminate}
+use Rattle.cop1.specs.declared.vocabulary.Directive.TheVariants.{SetVs}
+use Rattle.cop1.specs.declared.vocabulary.Directive.TheVariants.{SetWindow, SetLimit, SetTimer}
+use Rattle.nodes.specs.declared.parameter.Parameter.{Parameter}
+use Rattle.nodes.specs.Parameters.{row_of, parameter_named}
+use Rattle.link_events.specs.declared.event.Event.{Event}
+use Rattle.link_events.specs.declared.event.Event.TheVariants as events
+use Rattle.script_lines.specs.declared.line.Carrier.{Carrier}
+use Rattle.script_lines.specs.declared.line.Carrier.TheVariants as carriers
+use Rattle.script_lines.specs.declared.line.Line as code
+use Rattle.script_lines.specs.declared.line.Line.TheVariants as lines
+use Rattle.script_lines.specs.declared.line.Step.{Step}
+use Rattle.script_lines.specs.declared.line.Step.TheVariants as steps
+use Rattle.script_lines.specs.Words.{words_in, number_in_word, octets_in_word, lookup}
+
+pub data ScriptLine : Type 0 where
+  -- it is empty, or a note
+  Skipped : ScriptLine
+  -- a managed parameter gets this value
+  Setting : Parameter → ℕ → ScriptLine
+  Happening : Event → ScriptLine
+  -- the records are shown
+  Showing : ScriptLine
+  Unreadable : ScriptLine
+
+-- a borrow of these octets, as an event has them, wherever they lie in memory
+abbrev pub borrow_of : List ℕ → Bor (List ℕ)
+borrow_of octets = record { ref_ptr = (0, 0); now = octets }
+
+-- ---- lines of one word, of two and of three
+
+abbrev pub line_of_one_word : List ℕ → Option ScriptLine
+line_of_one_word = lookup (
+    (codes "terminate", Happening (events.Directive Terminate))
+    ∷ (codes "send", Happening events.Send)
+    ∷ (codes "report", Happening events.Report)
+    ∷ (codes "tick", Happening events.Tick)
+    ∷ (codes "take", Happening events.Take)
+    ∷ (codes "takebypass", Happening events.TakeBypass)
+    ∷ (codes "show", Showing)
+    ∷ [])
+
+abbrev pub initiation : List ℕ → Option Event
+initiation = lookup (
+    (codes "none", events.Directive InitWithoutCheck)
+    ∷ (codes "check", events.Directive InitWithCheck)
+    ∷ (codes "unlock", events.Directive InitUnlock)
+    ∷ [])
+
+abbrev pub up_event : List ℕ → Option Event
+up_event = lookup ((codes "deliver", events.UpDeliver) ∷ (codes "lose", events.UpLose) ∷ [])
+
+abbrev pub down_event : List ℕ → Option Event
+down_event = lookup ((codes "deliver", events.DownDeliver) ∷ (codes "lose", events.DownLose) ∷ [])
+
+-- a directive with a number
+abbrev pub numbered_directive : List ℕ → List ℕ → Option Event
+numbered_directive name word =
+    if bytes_eq name (codes "vs") then option_map (λ x. events.Directive (SetVs x))
+    (number_in_word 255 word)
+    else if bytes_eq name (codes "window") then option_map (λ x. events.Directive (SetWindow x))
+    (number_in_word 255 word)
+    else if bytes_eq name (codes "limit") then option_map (λ x. events.Directive (SetLimit x))
+    (number_in_word 255 word)
+    else if bytes_eq name (codes "timer") then option_map (λ x. events.Directive (SetTimer x))
+    (number_in_word 65535 word)
+    else None
+
+abbrev pub line_of_two_words : List ℕ → List ℕ → Option ScriptLine
+line_of_two_words name word =
+    if bytes_eq name (codes "telemetry") then option_map
+    (λ octets. Happening (events.Telemetry (borrow_of octets))) (octets_in_word word)
+    else if bytes_eq name (codes "init") then option_map Happening (initiation word)
+    else if bytes_eq name (codes "up") then option_map Happening (up_event word)
+    else if bytes_eq name (codes "down") then option_map Happening (down_event word)
+    else option_map Happening (numbered_directive name word)
+
+-- a submission, by sequence control or past it
+abbrev pub submission_line : (ℕ → Bor (List ℕ) → Event) → List ℕ → List ℕ → Option ScriptLine
+submission_line event map word =
+    option_and_then (λ m. option_map (λ octets. Happening (event m (borrow_of octets)))
+    (octets_in_word word)) (number_in_word 255 map)
+
+-- the greatest number that is readable for a parameter: 65,542, or the most of its range where
+-- that is more
+abbrev pub most_for : Parameter → ℕ
+most_for parameter = max (row_of parameter).most 65542
+
+abbrev pub setting_line : List ℕ → List ℕ → Option ScriptLine
+setting_line name word =
+    option_and_then (λ parameter. option_map (λ n. Setting parameter n)
+    (number_in_word (most_for parameter) word)) (parameter_named name)
+
+abbrev pub line_of_three_words : List ℕ → List ℕ → List ℕ → Option ScriptLine
+line_of_three_words name first second =
+    if bytes_eq name (codes "config") then setting_line first second
+    else if bytes_eq name (codes "submit") then submission_line events.Submit first second
+    else if bytes_eq name (codes "bypass") then submission_line events.Bypass first second
+    else if bytes_eq name (codes "init")
+    && bytes_eq first (codes "set") then option_map
+    (λ x. Happening (events.Directive (InitSetVr x))) (number_in_word 255 second)
+    else if bytes_eq name (codes "up")
+    && bytes_eq first (codes "damage") then option_map
+    (λ octets. Happening (events.UpDamage (borrow_of octets))) (octets_in_word second)
+    else if bytes_eq name (codes "down")
+    && bytes_eq first (codes "damage") then option_map
+    (λ octets. Happening (events.DownDamage (borrow_of octets))) (octets_in_word second)
+    else None
+
+abbrev pub line_of_words : List (List ℕ) → Option ScriptLine
+line_of_words [] = None
+line_of_words (name ∷ []) = line_of_one_word name
+line_of_words (name ∷ word ∷ []) = line_of_two_words name word
+line_of_words (name ∷ first ∷ second ∷ []) = line_of_three_words name first second
+line_of_words (name ∷ first ∷ second ∷ third ∷ more) = None
+
+-- ---- a line
+
+abbrev pub line_in : List ℕ → ScriptLine
+line_in [] = Skipped
+line_in (octet ∷ more) =
+    if octet == 35 then Skipped else unwrap_or (line_of_words (words_in (octet ∷ more))) Unreadable
+
+-- ---- a line as the code has it: its octets are still digits
+
+abbrev pub octets_of_digits : List ℕ → List ℕ
+octets_of_digits digits = unwrap_or (octets_in_word digits) []
+
+abbrev pub event_with : Carrier → List ℕ → Event
+event_with (carriers.Submit m) octets = events.Submit m (borrow_of octets)
+event_with (carriers.Bypass m) octets = events.Bypass m (borrow_of octets)
+event_with carriers.UpDamage octets = events.UpDamage (borrow_of octets)
+event_with carriers.DownDamage octets = events.DownDamage (borrow_of octets)
+event_with carriers.Telemetry octets = events.Telemetry (borrow_of octets)
+
+-- what a step carries octets for
+abbrev pub carrier_of : Step → Option Carrier
+carrier_of (steps.Carrying carrier) = Some carrier
+carrier_of step = None
+
+-- the event of a step that carries no octets
+abbrev pub plain_event : Step → Option Event
+plain_event steps.InitWithoutCheck = Some (events.Directive InitWithoutCheck)
+plain_event steps.InitWithCheck = Some (events.Directive InitWithCheck)
+plain_event steps.InitUnlock = Some (events.Directive InitUnlock)
+plain_event (steps.InitSetVr x) = Some (events.Directive (InitSetVr x))
+plain_event steps.Terminate = Some (events.Directive Terminate)
+plain_event (steps.SetVs x) = Some (events.Directive (SetVs x))
+plain_event (steps.SetWindow x) = Some (events.Directive (SetWindow x))
+plain_event (steps.SetLimit x) = Some (events.Directive (SetLimit x))
+plain_event (steps.SetTimer x) = Some (events.Directive (SetTimer x))
+plain_event steps.Send = Some events.Send
+plain_event steps.Report = Some events.Report
+plain_event steps.UpDeliver = Some events.UpDeliver
+plain_event steps.UpLose = Some events.UpLose
+plain_event steps.DownDeliver = Some events.DownDeliver
+plain_event steps.DownLose = Some events.DownLose
+plain_event steps.Tick = Some events.Tick
+plain_event steps.Take = Some events.Take
+plain_event steps.TakeBypass = Some events.TakeBypass
+plain_event (steps.Carrying carrier) = None
+plain_event steps.Show = None
+
+abbrev pub line_for : Option Carrier → Option Event → List ℕ → ScriptLine
+line_for (Some carrier) plain digits = Happening (event_with carrier (octets_of_digits digits))
+line_for None (Some event) digits = Happening event
+line_for None None digits = Showing
+
+-- a step, with the digits of the octets that it carries
+abbrev pub step_line : Step → List ℕ → ScriptLine
+step_line step digits = line_for (carrier_of step) (plain_event step) digits
+
+abbrev pub line_view : code.Line → ScriptLine
+line_view lines.Skipped = Skipped
+line_view (lines.Setting parameter n) = Setting parameter n
+line_view (lines.Played step digits) = step_line step digits.now
+line_view lines.Unreadable = Unreadable
+
+-- what is read fits: a parameter's number is no greater than its most
+abbrev pub IsWellRead : code.Line → Type 0
+IsWellRead lines.Skipped = Unit {0}
+IsWellRead (lines.Setting parameter n) = n ≤ most_for parameter
+IsWellRead (lines.Played step digits) = Unit {0}
+IsWellRead lines.Unreadable = Unit {0}

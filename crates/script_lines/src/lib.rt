@@ -1,0 +1,20 @@
+//! The lines of scripts of a simulated link, as docs/PROFILE.md has them: what each says, and what a whole
+//! script asks for.
+//!
+//! `read_script` reads each line of a script once, into a configuration and a program. There is no link here.
+#![tactic(auto)]
+
+mod cutting;
+mod laws;
+mod line;
+mod program;
+mod reading;
+mod scripts;
+mod words;
+
+pub use laws::{law_of_commands, law_of_numbers, law_of_octets};
+pub use line::{Carrier, Line, Step, carrier_of, plain_event};
+pub use program::{Program, Rest};
+pub use reading::read_line;
+pub use scripts::{Reading, read_script};
+pub use words::octets_of_digits;

@@ -1,0 +1,218 @@
+// Reads the lines of a script.
+
+ghost use Rattle.std.specs.Prelude.{◌≡◌, [], option_map, Some, IfSome};
+ghost use Rattle.script_lines.specs.Lines.{Happening, line_in, line_of_words, line_of_one_word, line_of_two_words, line_of_three_words, most_for, setting_line, initiation, up_event, down_event, numbered_directive, event_with, step_line, line_view, IsWellRead};
+ghost use Rattle.script_lines.specs.Words.{words_in, number_in_word, octets_in_word};
+
+use crate::cutting::cut;
+use crate::line::{Carrier, Line, Step};
+use crate::words::{is, is_octets, number_in_word};
+use nodes::Parameter;
+
+/// What a line of a script says. The octets that it carries are lent as digits.
+/// Cost: n.
+pub fn read_line(line: &[u8]) -> Line<'_>
+    ensures line { line_view result ≡ line_in line.now }
+    ensures fits { IsWellRead result }
+{
+    match line {
+        [] => Line::Skipped,
+        [b'#', ..] => Line::Skipped,
+        _ => line_of_words(line).unwrap_or(Line::Unreadable),
+    }
+}
+
+fn line_of_words(line: &[u8]) -> Option<Line<'_>>
+    ensures line { option_map line_view result ≡ line_of_words (words_in line.now) }
+    ensures fits { IfSome result IsWellRead }
+{
+    let (name, after) = cut(line, b' ');
+    let Some(after) = after else {
+        return line_of_one_word(name);
+    };
+    let (first, after) = cut(after, b' ');
+    let Some(after) = after else {
+        return line_of_two_words(name, first);
+    };
+    let (second, after) = cut(after, b' ');
+    match after {
+        None => line_of_three_words(name, first, second),
+        Some(_) => None,
+    }
+}
+
+fn line_of_one_word<'a>(name: &'a [u8]) -> Option<Line<'a>>
+    ensures line { option_map line_view result ≡ line_of_one_word name.now }
+    ensures fits { IfSome result IsWellRead }
+{
+    if is(name, "terminate") {
+        return plain(Step::Terminate);
+    }
+    if is(name, "send") {
+        return plain(Step::Send);
+    }
+    if is(name, "report") {
+        return plain(Step::Report);
+    }
+    if is(name, "tick") {
+        return plain(Step::Tick);
+    }
+    if is(name, "take") {
+        return plain(Step::Take);
+    }
+    if is(name, "takebypass") {
+        return plain(Step::TakeBypass);
+    }
+    if is(name, "show") {
+        return plain(Step::Show);
+    }
+    None
+}
+
+fn plain<'a>(step: Step) -> Option<Line<'a>>
+    ensures line { option_map line_view result ≡ Some (step_line step []) }
+    ensures fits { IfSome result IsWellRead }
+{
+    Some(Line::Played(step, b""))
+}
+
+fn initiation<'a>(word: &'a [u8]) -> Option<Line<'a>>
+    ensures line { option_map line_view result ≡ option_map Happening (initiation word.now) }
+    ensures fits { IfSome result IsWellRead }
+{
+    if is(word, "none") {
+        return plain(Step::InitWithoutCheck);
+    }
+    if is(word, "check") {
+        return plain(Step::InitWithCheck);
+    }
+    if is(word, "unlock") {
+        return plain(Step::InitUnlock);
+    }
+    None
+}
+
+fn up_event<'a>(word: &'a [u8]) -> Option<Line<'a>>
+    ensures line { option_map line_view result ≡ option_map Happening (up_event word.now) }
+    ensures fits { IfSome result IsWellRead }
+{
+    if is(word, "deliver") {
+        return plain(Step::UpDeliver);
+    }
+    if is(word, "lose") {
+        return plain(Step::UpLose);
+    }
+    None
+}
+
+fn down_event<'a>(word: &'a [u8]) -> Option<Line<'a>>
+    ensures line { option_map line_view result ≡ option_map Happening (down_event word.now) }
+    ensures fits { IfSome result IsWellRead }
+{
+    if is(word, "deliver") {
+        return plain(Step::DownDeliver);
+    }
+    if is(word, "lose") {
+        return plain(Step::DownLose);
+    }
+    None
+}
+
+fn byte_in(word: &[u8]) -> Option<u8>
+    ensures { result ≡ number_in_word 255 word.now }
+{
+    let number = number_in_word(word, 255)?;
+    Some(number as u8)
+}
+
+fn numbered_directive<'a>(name: &'a [u8], word: &'a [u8]) -> Option<Line<'a>>
+    ensures line { option_map line_view result
+        ≡ option_map Happening (numbered_directive name.now word.now) }
+    ensures fits { IfSome result IsWellRead }
+{
+    if is(name, "vs") {
+        return plain(Step::SetVs(byte_in(word)?));
+    }
+    if is(name, "window") {
+        return plain(Step::SetWindow(byte_in(word)?));
+    }
+    if is(name, "limit") {
+        return plain(Step::SetLimit(byte_in(word)?));
+    }
+    if is(name, "timer") {
+        let ticks = number_in_word(word, 65535)?;
+        return plain(Step::SetTimer(ticks as u16));
+    }
+    None
+}
+
+fn carrier_line<'a>(carrier: Carrier, word: &'a [u8]) -> Option<Line<'a>>
+    ensures line { option_map line_view result
+        ≡ option_map (λ octets. Happening (event_with carrier octets)) (octets_in_word word.now) }
+    ensures fits { IfSome result IsWellRead }
+{
+    if !is_octets(word) {
+        return None;
+    }
+    Some(Line::Played(Step::Carrying(carrier), word))
+}
+
+fn line_of_two_words<'a>(name: &'a [u8], word: &'a [u8]) -> Option<Line<'a>>
+    ensures line { option_map line_view result ≡ line_of_two_words name.now word.now }
+    ensures fits { IfSome result IsWellRead }
+{
+    if is(name, "telemetry") {
+        return carrier_line(Carrier::Telemetry, word);
+    }
+    if is(name, "init") {
+        return initiation(word);
+    }
+    if is(name, "up") {
+        return up_event(word);
+    }
+    if is(name, "down") {
+        return down_event(word);
+    }
+    numbered_directive(name, word)
+}
+
+// The greatest number that is readable for a parameter.
+fn most_for(parameter: Parameter) -> u64
+    ensures { result ≡ most_for parameter }
+{
+    parameter.most().max(65542)
+}
+
+fn setting_line<'a>(name: &'a [u8], word: &'a [u8]) -> Option<Line<'a>>
+    ensures line { option_map line_view result ≡ setting_line name.now word.now }
+    ensures fits { IfSome result IsWellRead }
+{
+    let parameter = Parameter::named(name)?;
+    let number = number_in_word(word, most_for(parameter))?;
+    Some(Line::Setting(parameter, number))
+}
+
+fn line_of_three_words<'a>(name: &'a [u8], first: &'a [u8], second: &'a [u8]) -> Option<Line<'a>>
+    ensures line { option_map line_view result ≡ line_of_three_words name.now first.now second.now }
+    ensures fits { IfSome result IsWellRead }
+{
+    if is(name, "config") {
+        return setting_line(first, second);
+    }
+    if is(name, "submit") {
+        return carrier_line(Carrier::Submit(byte_in(first)?), second);
+    }
+    if is(name, "bypass") {
+        return carrier_line(Carrier::Bypass(byte_in(first)?), second);
+    }
+    if is(name, "init") && is(first, "set") {
+        return plain(Step::InitSetVr(byte_in(second)?));
+    }
+    if is(name, "up") && is(first, "damage") {
+        return carrier_line(Carrier::UpDamage, second);
+    }
+    if is(name, "down") && is(first, "damage") {
+        return carrier_line(Carrier::DownDamage, second);
+    }
+    None
+}

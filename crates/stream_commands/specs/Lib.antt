@@ -1,0 +1,3 @@
+pub mod Outcome
+pub mod Listed
+pub mod Status

@@ -1,0 +1,91 @@
+// How the program ends.
+
+ghost use Rattle.std.specs.Prelude.{◌≡◌, ◌+◌, ◌++◌, OnOk};
+ghost use Rattle.octets.specs.Beginning.{IsBeginning};
+ghost use Rattle.listings.specs.Failures.{failed_in};
+ghost use Rattle.stream_commands.specs.Status.{ending_line, exit_status, fault_line};
+
+use crate::outcome::Outcome;
+use itoa::Buffer;
+use listings::{ListingFault, Sink, WriteFailed, write_all};
+
+/// Writes the line for standard error, where there is one, and answers the status: 0 where all was
+/// good, 1 for a fault in the data or the script, 3 where a device or memory failed or the input was too
+/// long. A fault of the sink is passed over; it has taken a beginning of the line then.
+pub fn ending<W: Sink>(dumped: &Result<Outcome, ListingFault>, errors: &mut W) -> u8
+    ensures status { result ≡ exit_status dumped.now }
+    ensures line { IsBeginning (W.taken_octets errors.new)
+        (W.taken_octets errors.old ++ ending_line dumped.now) }
+    ensures whole { W.failures errors.new ≡ W.failures errors.old
+        → W.taken_octets errors.new ≡ W.taken_octets errors.old ++ ending_line dumped.now }
+{
+    let _ = write_ending(dumped, errors);
+    status_of(dumped)
+}
+
+fn status_of(dumped: &Result<Outcome, ListingFault>) -> u8
+    ensures { result ≡ exit_status dumped.now }
+{
+    match dumped {
+        Ok(Outcome::Good) => 0,
+        Ok(Outcome::Faulty) => 1,
+        Ok(Outcome::Unreadable(_)) => 1,
+        Ok(Outcome::OutOfRange(_)) => 1,
+        Err(_) => 3,
+    }
+}
+
+fn write_ending<W: Sink>(
+    dumped: &Result<Outcome, ListingFault>,
+    errors: &mut W,
+) -> Result<(), WriteFailed>
+    ensures ok { OnOk result (W.taken_octets errors.new
+        ≡ W.taken_octets errors.old ++ ending_line dumped.now) }
+    ensures beginning { IsBeginning (W.taken_octets errors.new)
+        (W.taken_octets errors.old ++ ending_line dumped.now) }
+    ensures failures { W.failures errors.new ≡ W.failures errors.old + failed_in result }
+{
+    match dumped {
+        Ok(Outcome::Good) => Ok(()),
+        Ok(Outcome::Faulty) => Ok(()),
+        Ok(Outcome::Unreadable(line)) => {
+            let mut digits = Buffer::new();
+            let number = digits.format(*line);
+            write_parts(errors, "tctool: line ", number, ": unreadable\n")
+        }
+        Ok(Outcome::OutOfRange(field)) => {
+            write_parts(errors, "tctool: config out of range: ", field, "\n")
+        }
+        Err(fault) => write_all(errors, line_of(*fault).as_bytes()),
+    }
+}
+
+// The line of a fault.
+fn line_of(fault: ListingFault) -> &'static str
+    ensures { result.now ≡ fault_line fault }
+{
+    match fault {
+        ListingFault::Read => "tctool: read failed\n",
+        ListingFault::Write => "tctool: write failed\n",
+        ListingFault::Memory => "tctool: no memory\n",
+        ListingFault::TooLong => "tctool: input too long\n",
+    }
+}
+
+// Writes a line of three parts.
+fn write_parts<W: Sink>(
+    errors: &mut W,
+    start: &str,
+    word: &str,
+    end: &str,
+) -> Result<(), WriteFailed>
+    ensures ok { OnOk result (W.taken_octets errors.new
+        ≡ W.taken_octets errors.old ++ (start.now ++ (word.now ++ end.now))) }
+    ensures beginning { IsBeginning (W.taken_octets errors.new)
+        (W.taken_octets errors.old ++ (start.now ++ (word.now ++ end.now))) }
+    ensures failures { W.failures errors.new ≡ W.failures errors.old + failed_in result }
+{
+    write_all(errors, start.as_bytes())?;
+    write_all(errors, word.as_bytes())?;
+    write_all(errors, end.as_bytes())
+}

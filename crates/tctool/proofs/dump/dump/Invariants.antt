@@ -1,6 +1,0 @@
-use Rattle.std.specs.Prelude.{◌-◌}
-use Rattle.tctool.proofs.dump.dump.Given as goal
-
--- the frames' length is the one that the words give
-abbrev pub ghosts-list_frames : goal.ghosts-list_frames
-ghosts-list_frames g a = record { payload = a.size - 12 }
