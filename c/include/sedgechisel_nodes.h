@@ -129,6 +129,11 @@ struct sedge_heard {
 uint8_t sedge_ground_telemetry(struct sedge_ground *ground, const uint8_t *octets, size_t count,
                                struct sedge_heard *heard);
 
+/* Writes the report that a telemetry frame carries, of whichever spacecraft and virtual channel (232.0-B-4, 4.2); the
+ * ground stays as it was. Returns 0, or SEDGE_NODE_ABSENT if the octets are no frame, or the frame carries no report. */
+uint8_t sedge_ground_report(struct sedge_ground *ground, const uint8_t *octets, size_t count,
+                            struct sedge_clcw *report);
+
 /* Writes how many octets the oldest packet of telemetry has, 7 to 65,542; 0 where none waits. Returns 0. */
 uint8_t sedge_ground_next_telemetry(struct sedge_ground *ground, size_t *count);
 
@@ -334,6 +339,18 @@ struct sedge_sim_reading {
 
 /* Reads the link; it stays as it was. Returns 0. */
 uint8_t sedge_sim_read(struct sedge_sim *sim, struct sedge_sim_reading *read);
+
+/* Writes how many submissions the session has: the calls of sedge_sim_submit that the ground accepted. Returns 0. */
+uint8_t sedge_sim_submissions(struct sedge_sim *sim, size_t *count);
+
+/* Writes the MAP of submission k, in order from 0, and the number of its octets. Returns 0, or SEDGE_NODE_ABSENT if
+ * there are not that many. */
+uint8_t sedge_sim_submission_length(struct sedge_sim *sim, size_t k, uint8_t *map, size_t *count);
+
+/* Writes the MAP and the octets of submission k, and their number. Returns 0, or the first of SEDGE_NODE_ABSENT and
+ * SEDGE_NODE_ROOM. */
+uint8_t sedge_sim_submission(struct sedge_sim *sim, size_t k, uint8_t *map, uint8_t *out, size_t room,
+                             size_t *count);
 
 /* The records of the session, each a list of octets. */
 enum sedge_record {

@@ -95,6 +95,7 @@ static void session(void) {
     struct sedge_ground_reading read = {0};
     struct sedge_spacecraft_reading board = {0};
     struct sedge_heard heard = {0};
+    struct sedge_clcw word = {0};
     size_t count = 0;
     uint8_t queued, accepted = 77;
     while (again(sedge_ground_open(&config, &ground)))
@@ -128,6 +129,9 @@ static void session(void) {
     while (again(sedge_ground_telemetry(&ground, down, count, &heard)))
         ;
     WANT(heard.kind == 3 && heard.first == 1 && heard.report == 0 && heard.alert == 0 && heard.packets == 1);
+    WANT(sedge_ground_report(&ground, down, 64, &word) == 0 && word.vcid == 2 && word.value == 3 && word.flags == 0);
+    word.value = 77;
+    WANT(sedge_ground_report(&ground, down, 63, &word) == SEDGE_NODE_ABSENT && word.value == 77);
     WANT(sedge_ground_read(&ground, &read) == 0 && read.outstanding == 0 && read.vs == 3 && read.nn == 3);
     WANT(sedge_ground_tick(&ground) == 0);
     WANT(sedge_ground_next_telemetry(&ground, &count) == 0 && count == 7);
@@ -165,6 +169,7 @@ static void handles_that_hold_none(void) {
     struct sedge_heard heard;
     struct sedge_received received;
     struct sedge_ground_reading read = {77, 77, 77, 77, 77};
+    struct sedge_clcw word = {77, 77, 77, 77, 77};
     size_t count = 77;
     uint8_t map = 77;
     WANT(sedge_config_fault(&config) == 0);
@@ -177,6 +182,8 @@ static void handles_that_hold_none(void) {
     WANT(sedge_ground_init_unlock(&ground) == SEDGE_NODE_NONE && sedge_ground_tick(&ground) == SEDGE_NODE_NONE);
     WANT(sedge_ground_submit(&ground, 0, packet, 7) == 255 && sedge_ground_bypass(&ground, 0, packet, 7) == 255);
     WANT(sedge_ground_next(&ground, &count) == 255 && sedge_ground_pull(&ground, up, 1024, &count) == 255);
+    WANT(sedge_ground_report(&ground, packet, 7, &word) == 255);
+    WANT(count == 77 && word.value == 77);
     WANT(sedge_ground_next_telemetry(&ground, &count) == 255 && sedge_ground_accepted_beyond(&ground, 0, &map) == 255);
     WANT(sedge_ground_take_telemetry(&ground, out, sizeof out, &count) == 255);
     WANT(sedge_ground_telemetry(&ground, down, 64, &heard) == 255 && sedge_ground_read(&ground, &read) == 255);
@@ -213,6 +220,18 @@ static void has_entry(struct sedge_sim *sim, int record, int map, size_t k, cons
     WANT(sedge_sim_entry(sim, record, map, k, out, count - 1, &length) == SEDGE_NODE_ROOM);
     WANT(sedge_sim_entry(sim, record, map, k, out, count, &length) == 0 && memcmp(out, octets, count) == 0);
     WANT(sedge_sim_entry(sim, record, map, k + 1, out, sizeof out, &length) == SEDGE_NODE_ABSENT && length == count);
+}
+
+static void has_submission(struct sedge_sim *sim) {
+    size_t count = 77;
+    uint8_t map = 77;
+    WANT(sedge_sim_submissions(sim, &count) == 0 && count == 1);
+    WANT(sedge_sim_submission_length(sim, 1, &map, &count) == SEDGE_NODE_ABSENT && map == 77 && count == 1);
+    WANT(sedge_sim_submission(sim, 1, &map, out, sizeof out, &count) == SEDGE_NODE_ABSENT && map == 77);
+    WANT(sedge_sim_submission_length(sim, 0, &map, &count) == 0 && map == 4 && count == 7);
+    map = 77, out[0] = 77;
+    WANT(sedge_sim_submission(sim, 0, &map, out, 6, &count) == SEDGE_NODE_ROOM && map == 77 && out[0] == 77);
+    WANT(sedge_sim_submission(sim, 0, &map, out, 7, &count) == 0 && map == 4 && memcmp(out, packet, 7) == 0);
 }
 
 static void is_read(struct sedge_sim *sim, size_t outstanding, size_t acknowledged, int state) {
@@ -279,6 +298,7 @@ static void link(void) {
     WANT(sedge_sim_count(&sim, SEDGE_SUBMITTED, 4, &count) == 0 && count == 1);
     WANT(sedge_sim_count(&sim, SEDGE_DELIVERED, 5, &count) == 0 && count == 0);
     WANT(sedge_sim_count(&sim, 5, 4, &count) == 0 && count == 0);
+    has_submission(&sim);
     has_entry(&sim, SEDGE_SUBMITTED, 4, 0, packet, sizeof packet);
     has_entry(&sim, SEDGE_DELIVERED, 4, 0, packet, sizeof packet);
     has_entry(&sim, SEDGE_SENT, 0, 0, field, sizeof field);
@@ -295,6 +315,7 @@ static void links_that_are_none(void) {
     struct sedge_reply reply = {0};
     struct sedge_sim_reading read;
     size_t count = 77;
+    uint8_t map = 77;
     wrong.blocking = 2;
     reply.kind = 77;
     WANT(sedge_sim_open(&wrong, &sim) == SEDGE_NODE_OUT_OF_RANGE && sim.link == NULL);
@@ -304,6 +325,9 @@ static void links_that_are_none(void) {
     WANT(sedge_sim_count(&sim, SEDGE_SENT, 0, &count) == 255 && count == 77);
     WANT(sedge_sim_entry_length(&sim, SEDGE_SENT, 0, 0, &count) == 255);
     WANT(sedge_sim_entry(&sim, SEDGE_SENT, 0, 0, out, 1, &count) == 255 && count == 77);
+    WANT(sedge_sim_submissions(&sim, &count) == 255 && count == 77);
+    WANT(sedge_sim_submission_length(&sim, 0, &map, &count) == 255 && map == 77 && count == 77);
+    WANT(sedge_sim_submission(&sim, 0, &map, out, 1, &count) == 255 && map == 77 && count == 77);
     sedge_sim_close(&sim);
 }
 

@@ -242,9 +242,13 @@ static void reports(void) {
 
 static void hears(void) {
     struct sedge_heard heard = {77, 77, 77, 77, 77, 77, 77, 77};
+    struct sedge_clcw word = {77, 77, 77, 77, 77};
     uint8_t *octets, answer;
     octets = any_octets(down_count);
     if (below(16) != 0) memcpy(octets, down, down_count);
+    answer = sedge_ground_report(&ground, octets, down_count, &word);
+    WANT(ground.node == NULL ? answer == SEDGE_NODE_NONE : answer == SEDGE_NODE_OK || answer == SEDGE_NODE_ABSENT);
+    WANT(answer == SEDGE_NODE_OK ? word.vcid < 64 : word.vcid == 77);
     answer = sedge_ground_telemetry(&ground, octets, down_count, &heard);
     WANT(is_answer(answer, SEDGE_NODE_MEMORY, ground.node) && (answer == 0 || answer >= SEDGE_NODE_MEMORY));
     WANT(answer == SEDGE_NODE_OK ? heard.kind >= 1 && heard.kind <= 3 && heard.alert <= 7 : heard.kind == 77);
@@ -317,6 +321,24 @@ static void look_at_records(void) {
     }
 }
 
+static void look_at_submissions(void) {
+    size_t submissions = 99, next = 99, count = 99, room, k;
+    uint8_t map = 99, *out, answer = sedge_sim_submissions(&sim, &submissions);
+    WANT(is_answer(answer, SEDGE_NODE_OK, sim.link));
+    if (answer != SEDGE_NODE_OK) return;
+    k = submissions == 0 ? 0 : below((uint32_t)submissions + 1);
+    answer = sedge_sim_submission_length(&sim, k, &map, &next);
+    WANT(answer == (k < submissions ? SEDGE_NODE_OK : SEDGE_NODE_ABSENT));
+    WANT(answer == SEDGE_NODE_OK ? map < 64 && next >= 7 : map == 99 && next == 99);
+    out = room_of(room = answer == SEDGE_NODE_OK ? any_room(next) : 20);
+    answer = sedge_sim_submission(&sim, k, &map, out, room, &count);
+    if (k < submissions) {
+        look_at_written(answer, next, room, count, out);
+    } else {
+        WANT(answer == SEDGE_NODE_ABSENT && count == 99 && map == 99);
+    }
+}
+
 static void links(void) {
     struct sedge_reply reply = {.kind = 77};
     struct sedge_sim_reading read = {.state = 99};
@@ -335,7 +357,7 @@ static void links(void) {
     answer = sedge_sim_read(&sim, &read);
     WANT(is_answer(answer, SEDGE_NODE_OK, sim.link));
     WANT(answer == SEDGE_NODE_OK ? read.state >= 1 && read.state <= 6 : read.state == 99);
-    if (below(8) == 0) look_at_records();
+    if (below(8) == 0) look_at_records(), look_at_submissions();
 }
 
 int main(int count, char **words) {

@@ -9,7 +9,7 @@ from typing import Any, Callable, Dict, Iterator, List, Optional, Tuple, Type
 
 from ._faults import (
     CheckFault, ClcwFault, CopFault, Fault, MapFault, PacketFault, TcFault, Text, TmFault, word_of as _word_of)
-from ._library import FIRST, call_of, octets_of as _octets_of, within as _within
+from ._library import FIRST, Single, call_of, octets_of as _octets_of, within as _within
 
 _ABSENT, _DAMAGED = 253, 255
 
@@ -577,7 +577,7 @@ class _TmExtracted(ctypes.Structure):
     _fields_ = [("joined", c_size_t), ("packets", _Part), ("first", c_uint8), ("lost", c_uint8)]
 
 
-class TmBuilder:
+class TmBuilder(Single):
     """Builds the telemetry frames of one virtual channel, all of `length` octets, 16 to 2,048, out of packets of which at
     most `room` octets wait to be sent (132.0-B-3, 4.2). A TmFault, 10 FieldRange, for a spacecraft or a virtual channel
     that is none, or another length."""
@@ -605,7 +605,7 @@ class TmBuilder:
         return _written(_tm_builder_build, TmFault, 2048, byref(self._builder), ocf, len(ocf), self._memory, len(self._memory))
 
 
-class TmExtractor:
+class TmExtractor(Single):
     """Extracts packets from the telemetry frames of one virtual channel, of which any may be missing (132.0-B-3, 4.3).
     It has memory for each packet of at most `longest` octets, idle ones too, 7 to 65,542; or ValueError. Of longer
     packets it hands out those that need no more memory."""
@@ -659,7 +659,7 @@ def _packets_of(octets: bytes) -> Iterator[bytes]:
         yield part.of(octets)
 
 
-class Map:
+class Map(Single):
     """One MAP on board, which joins segments to packets of at most `longest` octets (232.0-B-4, 4.1.3.2.2). With blocking
     an alone segment may hold several whole packets."""
 

@@ -4,12 +4,13 @@ from __future__ import annotations
 import ctypes
 from ctypes import c_uint8, c_uint16, c_uint32, c_uint64
 from os import path
-from typing import Any, Callable, Dict
+from typing import Any, Callable, Dict, Tuple, TypeVar
 
 _LOST = """{file} cannot be loaded: {why}
 The package sedgechisel needs it beside its modules. In the repository of Sedgechisel run one of these:
     ./install --wheel DIR      and then  pip install --no-index DIR/sedgechisel-*.whl
     ./install --prefix DIR     and then  export PYTHONPATH=DIR/lib/python"""
+_Own = TypeVar("_Own", bound="Single")
 _MOST: Dict[Any, int] = {c_uint8: 0xFF, c_uint16: 0xFFFF, c_uint32: 0xFFFFFFFF, c_uint64: 0xFFFF_FFFF_FFFF_FFFF}
 
 
@@ -54,6 +55,19 @@ def call_of(library: ctypes.PyDLL, name: str, answer: Any, *kinds: Any) -> Calla
         return call(*values)
 
     return checked
+
+
+class Single:
+    """What has memory of its own, which a copy would share: copies and pickles are a TypeError."""
+
+    def __reduce__(self) -> Tuple[Any, ...]:
+        raise TypeError(f"a {type(self).__name__} is not copied")
+
+    def __copy__(self: _Own) -> _Own:
+        raise TypeError(f"a {type(self).__name__} is not copied")
+
+    def __deepcopy__(self: _Own, memo: Any) -> _Own:
+        raise TypeError(f"a {type(self).__name__} is not copied")
 
 
 FIRST = _load("libsedgechisel.so")

@@ -187,6 +187,16 @@ class Link(Sender):
             found.append(self._given(_sim_entry, length.value, record, map, k))
         return found
 
+    @property
+    def submissions(self) -> List[Tuple[int, bytes]]:
+        """What was submitted in the session, in order: the MAP and the octets of each submission."""
+        map, length = c_uint8(), c_size_t()
+        found = []
+        for k in range(self._number(_sim_submissions)):
+            self._asked(_sim_submission_length(byref(self._handle), k, byref(map), byref(length)))
+            found.append((map.value, self._given(_sim_submission, length.value, k, byref(map))))
+        return found
+
     def submitted(self, map: int) -> List[bytes]:
         """The packets that were submitted on a MAP in the session."""
         return self._entries(_SUBMITTED, map)
@@ -216,6 +226,9 @@ _events = {name: _event_of(name, *kinds) for name, kinds in {
     "tick": (), "take": (), "take_bypass": (), "telemetry": _OCTETS}.items()}
 _sim_octets = _call("sim_octets", _HANDLE, *_GIVEN)
 _sim_read = _call("sim_read", _HANDLE, POINTER(_Reading))
+_sim_submissions = _call("sim_submissions", _HANDLE, POINTER(c_size_t))
+_sim_submission_length = _call("sim_submission_length", _HANDLE, c_size_t, POINTER(c_uint8), POINTER(c_size_t))
+_sim_submission = _call("sim_submission", _HANDLE, c_size_t, POINTER(c_uint8), *_GIVEN)
 _sim_count = _call("sim_count", _HANDLE, c_uint8, _MAP, POINTER(c_size_t))
 _sim_entry_length = _call("sim_entry_length", _HANDLE, c_uint8, _MAP, c_size_t, POINTER(c_size_t))
 _sim_entry = _call("sim_entry", _HANDLE, c_uint8, _MAP, c_size_t, *_GIVEN)

@@ -10,7 +10,7 @@ from typing import Any, Callable, Dict, Optional, Tuple, Type, TypeVar
 
 from ._calls import Alert, Clcw, Command, Mode, Verdict, _dropped_word, _Struct
 from ._faults import ClcwFault, ConfigFault, CopFault, Fault, LinkFault, TcFault, TmFault
-from ._library import NODES, call_of, octets_of as _octets_of
+from ._library import NODES, Single, call_of, octets_of as _octets_of
 
 _ABSENT, _OUT_OF_RANGE, _NONE = 253, 254, 255
 _LONGEST = 65542
@@ -76,7 +76,7 @@ class _Raw(ctypes.Structure):
     _fields_ = [("node", c_void_p)]
 
 
-class Handle:
+class Handle(Single):
     """What the nodes share. A node is closed by `close`, at the end of its `with`, or when nothing refers to it any
     more; each later call is a ValueError."""
 
@@ -106,15 +106,6 @@ class Handle:
         """Whether it is closed."""
         return self._handle.node is None
 
-    def __reduce__(self) -> Tuple[Any, ...]:
-        raise TypeError(f"a {type(self).__name__} is not copied")
-
-    def __copy__(self: _Own) -> _Own:
-        raise TypeError(f"a {type(self).__name__} is not copied")
-
-    def __deepcopy__(self: _Own, memo: Any) -> _Own:
-        raise TypeError(f"a {type(self).__name__} is not copied")
-
     def _shown(self) -> str:
         """Its state, in few words."""
         raise NotImplementedError
@@ -140,6 +131,12 @@ class Handle:
             raise ValueError(f"the {type(self).__name__.lower()} is closed")
         fault._look_at(answer)
         return answer
+
+    def _number(self, call: Callable[..., int]) -> int:
+        """The number that a call writes."""
+        number = c_size_t()
+        self._asked(call(byref(self._handle), byref(number)))
+        return number.value
 
     def _given(self, call: Callable[..., int], most: int, *values: Any) -> bytes:
         """What a call writes, given room for the most octets that it may write."""
@@ -340,6 +337,16 @@ class Ground(Sender):
         self._asked(_ground_telemetry(byref(self._handle), octets, len(octets), byref(heard)))
         return heard.value()
 
+    def report_in(self, octets: bytes) -> Optional[Clcw]:
+        """The report that a telemetry frame carries, of whichever spacecraft and virtual channel; None where the octets
+        are no frame, or the frame carries no report. The ground stays as it is."""
+        octets, word = _octets_of("octets", octets), Clcw()
+        answer = _ground_report(byref(self._handle), octets, len(octets), byref(word))
+        if answer == _ABSENT:
+            return None
+        self._asked(answer)
+        return word
+
     def take_telemetry(self) -> Optional[bytes]:
         """Takes the oldest packet that telemetry frames carried, or None."""
         return self._given(_ground_take_telemetry, _LONGEST) or None
@@ -400,6 +407,7 @@ _ground_submit = _call("ground_submit", _HANDLE, _MAP, *_OCTETS)
 _ground_bypass = _call("ground_bypass", _HANDLE, _MAP, *_OCTETS)
 _ground_pull = _call("ground_pull", _HANDLE, *_GIVEN)
 _ground_telemetry = _call("ground_telemetry", _HANDLE, *_OCTETS, POINTER(_Heard))
+_ground_report = _call("ground_report", _HANDLE, *_OCTETS, POINTER(Clcw))
 _ground_take_telemetry = _call("ground_take_telemetry", _HANDLE, *_GIVEN)
 _ground_tick = _call("ground_tick", _HANDLE)
 _ground_accepted_beyond = _call("ground_accepted_beyond", _HANDLE, ("value", c_uint8), POINTER(c_uint8))

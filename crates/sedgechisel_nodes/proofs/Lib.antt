@@ -1,6 +1,5 @@
 pub mod Answered
 mod Copied
-pub mod GroundHandleValues
+pub mod Handles
 mod Named
-pub mod SimHandleValues
-pub mod SpacecraftHandleValues
+pub mod NodeHandles

@@ -1,5 +1,6 @@
 -- The spacecraft of a program in C: what a call answers, and what the program holds then.
-use Rattle.std.specs.Prelude.{ℕ, false, Option, Some, None}
+use Rattle.std.specs.Prelude.{◌≡◌, ◌≢◌, ℕ, List, length, Bool, true, false, Option, Some, None}
+use Rattle.std.specs.Prelude.{option_map, IfSome}
 use Rattle.tc_frame.specs.declared.frame.Command.TheVariants.{Unlock, SetVr}
 use Rattle.tc_frame.specs.Faults.{fault_row}
 use Rattle.cop1.specs.declared.farm.FarmMode.{FarmMode}
@@ -13,11 +14,16 @@ use Rattle.map_service.specs.declared.dropped.Dropped.TheVariants.{NoBeginning, 
 use Rattle.nodes.specs.declared.received.Received.{Received}
 use Rattle.nodes.specs.declared.received.Received.TheVariants.{Invalid, Foreign, Sequence, Bypass}
 use Rattle.nodes.specs.declared.received.Received.TheVariants.{Control}
-use Rattle.nodes.specs.Spacecraft.{SpacecraftState, SpacecraftEvent, spacecraft_step}
+use Rattle.nodes.specs.Packets.{PacketOn}
+use Rattle.nodes.specs.Spacecraft.{SpacecraftState, SpacecraftEvent, Take, TakeBypass}
+use Rattle.nodes.specs.Spacecraft.{spacecraft_step}
 use Rattle.clcw.specs.Flags.{flags_number}
 use Rattle.cop1.specs.Report.{report_of}
 use Rattle.sedgechisel_nodes.specs.declared.reading.BoardReading.{BoardReading}
 use Rattle.sedgechisel_nodes.specs.declared.spacecraft.KeptReceived.{KeptReceived}
+use Rattle.sedgechisel_nodes.specs.Grounds.{closed}
+use Rattle.sedgechisel_nodes.specs.Rooms.{room_answer, count_of, octets_on, map_left}
+use Rattle.sedgechisel_nodes.specs.Rooms.{IsHandedOut}
 
 abbrev pub stepped : Option SpacecraftState → SpacecraftEvent → Option SpacecraftState
 stepped None event = None
@@ -85,3 +91,35 @@ board_reading_of s =
       value = word.value;
       state = farm_mode_number s.farm.state;
     }
+
+-- ---- packets are taken: those that came past the sequence control, or the others
+
+abbrev pub next_packet : Bool → SpacecraftState → Option PacketOn
+next_packet false s = (spacecraft_step s Take).answer
+next_packet true s = (spacecraft_step s TakeBypass).answer
+
+abbrev pub after_taking : Bool → SpacecraftState → SpacecraftState
+after_taking false s = (spacecraft_step s Take).after
+after_taking true s = (spacecraft_step s TakeBypass).after
+
+-- what a call that describes the next packet answers and writes; the spacecraft before and after
+-- it
+pub record IsDescribed (past : Bool) (old new : Option SpacecraftState) (answer m m' : ℕ)
+    (count count' : ℕ) : Type 0 where
+  pub none : old ≡ None → (answer ≡ closed) × (m' ≡ m) × (count' ≡ count)
+  pub answer_is : IfSome old (λ s. answer ≡ 0)
+  pub on_map : IfSome old (λ s. m' ≡ map_left (next_packet past s) m)
+  pub counted : IfSome old (λ s. count' ≡ count_of (octets_on (next_packet past s)))
+  pub unchanged : new ≡ old
+
+-- the same of a call that takes it
+pub record IsTaken (past : Bool) (old new : Option SpacecraftState) (answer m m' : ℕ)
+    (count count' : ℕ) (out out' : List ℕ) : Type 0 where
+  pub none : old ≡ None → answer ≡ closed
+  pub answer_is : IfSome old (λ s. answer
+      ≡ room_answer (option_map length (octets_on (next_packet past s))) (length out))
+  pub after : answer ≡ 0 → new ≡ option_map (after_taking past) old
+  pub on_map : answer ≡ 0 → IfSome old (λ s. m' ≡ map_left (next_packet past s) m)
+  pub packet : answer ≡ 0
+      → IfSome old (λ s. IsHandedOut (octets_on (next_packet past s)) count' out out')
+  pub unchanged : answer ≢ 0 → (new ≡ old) × (m' ≡ m) × (count' ≡ count) × (out' ≡ out)

@@ -1,5 +1,5 @@
 -- The ground of a program in C: what a call answers, and what the program holds then.
-use Rattle.std.specs.Prelude.{◌≡◌, ℕ, ◌⊎◌, length, Option, Some, None, Result, Ok, Err}
+use Rattle.std.specs.Prelude.{◌≡◌, ◌≢◌, ℕ, ◌⊎◌, length, Option, Some, None, IfSome, Result, Ok, Err}
 use Rattle.nodes.specs.declared.config.Config.{Config}
 use Rattle.cop1.specs.declared.vocabulary.Directive.{Directive}
 use Rattle.cop1.specs.declared.vocabulary.FopMode.{FopMode}
@@ -31,6 +31,14 @@ number_of (Err fault) = (fault_row fault).0
 abbrev pub IsAnswer : Option LinkFault → ℕ → Type 0
 IsAnswer None answer = (answer ≡ 0) ⊎ (answer ≡ 6)
 IsAnswer (Some fault) answer = answer ≡ (fault_row fault).0
+
+-- what a call that submits answers, and the ground before and after it
+pub record IsSubmission (fault : GroundState → Option LinkFault) (event : GroundEvent)
+    (old new : Option GroundState) (answer : ℕ) : Type 0 where
+  pub none : old ≡ None → answer ≡ closed
+  pub answer_is : IfSome old (λ s. IsAnswer (fault s) answer)
+  pub after : answer ≡ 0 → new ≡ stepped old event
+  pub unchanged : answer ≢ 0 → new ≡ old
 
 abbrev pub config_of : KeptConfig → Config
 config_of k = record {

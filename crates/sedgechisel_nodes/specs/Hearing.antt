@@ -1,16 +1,23 @@
 -- What a program in C is told of telemetry and of the sender.
-use Rattle.std.specs.Prelude.{ℕ, Option, Some, None}
+use Rattle.std.specs.Prelude.{◌≡◌, ℕ, Option, Some, None, Result, Ok, Err}
+use Rattle.clcw.specs.declared.word.Clcw.{Clcw}
+use Rattle.clcw.specs.declared.fault.ClcwFault.{ClcwFault}
+use Rattle.clcw.specs.Flags.{flags_number}
+use Rattle.clcw.specs.Reading.{clcw_at}
 use Rattle.clcw.specs.Faults.{fault_row as word_row}
 use Rattle.cop1.specs.declared.vocabulary.Alert.{Alert}
 use Rattle.cop1.specs.Names.{alert_row}
 use Rattle.tm_link.specs.declared.gap.Gap.{Gap}
 use Rattle.tm_link.specs.declared.gap.Gap.TheVariants.{First, Lost}
+use Rattle.tm_link.specs.declared.fault.TmFault.{TmFault}
 use Rattle.tm_link.specs.Faults.{fault_row}
+use Rattle.tm_link.specs.Layout.{FrameView}
 use Rattle.nodes.specs.declared.heard.Heard.{Heard}
 use Rattle.nodes.specs.declared.heard.Heard.TheVariants.{Invalid, Foreign, Frame}
 use Rattle.nodes.specs.declared.heard.HeardReport.{HeardReport}
 use Rattle.nodes.specs.declared.heard.HeardReport.TheVariants.{Used, Refused, OtherChannel}
 use Rattle.sedgechisel_nodes.specs.declared.hearing.KeptHeard.{KeptHeard}
+use Rattle.sedgechisel_nodes.specs.declared.hearing.KeptWord.{KeptWord}
 
 abbrev pub alert_number : Option Alert → ℕ
 alert_number None = 0
@@ -39,33 +46,44 @@ no_heard = record {
 }
 
 abbrev pub heard_kept : Heard → KeptHeard
-heard_kept (Invalid fault) = record {
-  packets = 0;
-  kind = 1;
-  fault = (fault_row fault).0;
-  first = 0;
-  missing = 0;
-  report = 0;
-  word_fault = 0;
-  alert = 0;
+heard_kept (Invalid fault) = record no_heard { kind = 1; fault = (fault_row fault).0 }
+heard_kept Foreign = record no_heard { kind = 2 }
+heard_kept (Frame gap packets report alert) =
+    record no_heard {
+      packets = packets;
+      kind = 3;
+      first = (gap_kept gap).0;
+      missing = (gap_kept gap).1;
+      report = (report_kept report).0;
+      word_fault = (report_kept report).1;
+      alert = alert_number alert;
+    }
+
+-- ---- the report that a telemetry frame carries
+
+abbrev pub no_word : KeptWord
+no_word = record { status = 0; vcid = 0; flags = 0; farm_b = 0; value = 0 }
+
+abbrev pub word_kept : Clcw → KeptWord
+word_kept word = record {
+  status = word.status;
+  vcid = word.vcid;
+  flags = flags_number word.flags;
+  farm_b = word.farm_b;
+  value = word.value;
 }
-heard_kept Foreign = record {
-  packets = 0;
-  kind = 2;
-  fault = 0;
-  first = 0;
-  missing = 0;
-  report = 0;
-  word_fault = 0;
-  alert = 0;
-}
-heard_kept (Frame gap packets report alert) = record {
-  packets = packets;
-  kind = 3;
-  fault = 0;
-  first = (gap_kept gap).0;
-  missing = (gap_kept gap).1;
-  report = (report_kept report).0;
-  word_fault = (report_kept report).1;
-  alert = alert_number alert;
-}
+
+abbrev pub word_read : Result Clcw ClcwFault → Option Clcw
+word_read (Ok word) = Some word
+word_read (Err fault) = None
+
+-- the report in octets that are a telemetry frame of this length; none where they are no frame, or
+-- where the frame carries no report
+abbrev pub report_in : Result FrameView TmFault → Option Clcw
+report_in (Ok frame) = word_read (clcw_at frame.ocf)
+report_in (Err fault) = None
+
+-- a report is written where there is one; the answer is 253 where there is none
+abbrev pub IsWordIfThere : Option Clcw → ℕ → KeptWord → KeptWord → Type 0
+IsWordIfThere None answer kept kept' = (answer ≡ 253) × (kept' ≡ kept)
+IsWordIfThere (Some word) answer kept kept' = (answer ≡ 0) × (kept' ≡ word_kept word)

@@ -2,8 +2,6 @@
 use Rattle.std.specs.Prelude.{◌≡◌, ◌≢◌, ℕ, ◌⊎◌, List, [], length, option_map, false, ◌==◌}
 use Rattle.std.specs.Prelude.{if◌then◌else◌, slice_get, Option, Some, None, Result, Ok, Err, IfSome}
 use Rattle.std.specs.Option.{unwrap_or}
-use Rattle.clcw.specs.declared.word.Clcw.{Clcw}
-use Rattle.clcw.specs.Flags.{flags_number}
 use Rattle.cop1.specs.Faults.{fault_row as cop_row}
 use Rattle.cop1.specs.Names.{alert_row}
 use Rattle.cop1.specs.declared.vocabulary.Directive.{Directive}
@@ -11,8 +9,9 @@ use Rattle.cop1.specs.declared.vocabulary.Directive.TheVariants as directives
 use Rattle.tm_link.specs.Faults.{fault_row as tm_row}
 use Rattle.nodes.specs.Faults.{fault_row as link_row}
 use Rattle.nodes.specs.Ground.{outstanding}
+use Rattle.nodes.specs.Packets.{PacketOn}
 use Rattle.nodes.specs.declared.config.Config.{Config}
-use Rattle.tc_link.specs.declared.event.Event.{Event}
+use Rattle.link_events.specs.declared.event.Event.{Event}
 use Rattle.tc_link.specs.declared.reply.NodeFault.{NodeFault}
 use Rattle.tc_link.specs.declared.reply.NodeFault.TheVariants.{Link, Cop, Tm}
 use Rattle.tc_link.specs.declared.sim.fault.SimFault.{SimFault}
@@ -20,12 +19,11 @@ use Rattle.tc_link.specs.SimFaults.{fault_row}
 use Rattle.tc_link.specs.Replies.{ReplyView, Done, Nothing, Lost, Refused, Alerted, Sent, Reported}
 use Rattle.tc_link.specs.Replies.{Up, Down, Packet}
 use Rattle.tc_link.specs.World.{World, new_world, world_step, submitted, delivered, accepted}
-use Rattle.sedgechisel_nodes.specs.declared.sim.reply.KeptWord.{KeptWord}
 use Rattle.sedgechisel_nodes.specs.declared.sim.reply.KeptReply.{KeptReply}
 use Rattle.sedgechisel_nodes.specs.declared.sim.reading.SimReading.{SimReading}
 use Rattle.sedgechisel_nodes.specs.Boards.{no_received, received_kept}
 use Rattle.sedgechisel_nodes.specs.Grounds.{closed, mode_number}
-use Rattle.sedgechisel_nodes.specs.Hearing.{no_heard, heard_kept}
+use Rattle.sedgechisel_nodes.specs.Hearing.{no_heard, heard_kept, no_word, word_kept}
 use Rattle.sedgechisel_nodes.specs.LinkState.{LinkState}
 use Rattle.sedgechisel_nodes.specs.Rooms.{room_answer}
 
@@ -39,18 +37,6 @@ abbrev pub reply_octets : ReplyView → List ℕ
 reply_octets (Sent octets) = octets
 reply_octets (Packet p) = p.octets
 reply_octets _ = []
-
-abbrev pub no_word : KeptWord
-no_word = record { status = 0; vcid = 0; flags = 0; farm_b = 0; value = 0 }
-
-abbrev pub word_kept : Clcw → KeptWord
-word_kept word = record {
-  status = word.status;
-  vcid = word.vcid;
-  flags = flags_number word.flags;
-  farm_b = word.farm_b;
-  value = word.value;
-}
 
 -- the part of a node that refused a call, and the fault's number there
 abbrev pub refused_by : NodeFault → ℕ × ℕ
@@ -164,3 +150,15 @@ entry_answer (Some octets) room = room_answer (Some (length octets)) room
 abbrev pub IsLengthIfThere : Option (List ℕ) → ℕ → ℕ → ℕ → Type 0
 IsLengthIfThere None answer count count' = (answer ≡ 253) × (count' ≡ count)
 IsLengthIfThere (Some octets) answer count count' = (answer ≡ 0) × (count' ≡ length octets)
+
+-- ---- submissions, in their order, each with its MAP
+
+abbrev pub submission_of : World → ℕ → Option PacketOn
+submission_of w k = slice_get w.session.submissions k
+
+-- the MAP and the number of octets are written where there is one; the answer is 253 where there is
+-- none
+abbrev pub IsPacketIfThere : Option PacketOn → ℕ → (on_map on_map' count count' : ℕ) → Type 0
+IsPacketIfThere None answer m m' count count' = (answer ≡ 253) × (m' ≡ m) × (count' ≡ count)
+IsPacketIfThere (Some p) answer m m' count count' =
+    (answer ≡ 0) × (m' ≡ p.on_map) × (count' ≡ length p.octets)

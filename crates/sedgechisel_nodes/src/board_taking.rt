@@ -1,17 +1,54 @@
 // The packets that a program in C takes of its spacecraft, and the frames that it sends.
 
-ghost use Rattle.std.specs.Prelude.{◌≡◌, ◌≢◌, ◌++◌, drop, length, option_map, Some, None, IfSome};
+ghost use Rattle.std.specs.Prelude.{◌≡◌, ◌≢◌, ◌++◌, drop, length, option_map, true, false, Some, None, IfSome};
 ghost use Rattle.tm_link.specs.Writing.{spelling};
-ghost use Rattle.nodes.specs.Spacecraft.{SpacecraftState, Take, TakeBypass, Report, spacecraft_step};
-ghost use Rattle.sedgechisel_nodes.specs.Boards.{stepped};
+ghost use Rattle.nodes.specs.Packets.{lent_packet};
+ghost use Rattle.nodes.specs.Spacecraft.{Report, spacecraft_step};
+ghost use Rattle.sedgechisel_nodes.specs.Boards.{stepped, next_packet, after_taking, IsDescribed, IsTaken};
 ghost use Rattle.sedgechisel_nodes.specs.Grounds.{closed};
-ghost use Rattle.sedgechisel_nodes.specs.Rooms.{room_answer, count_of, octets_on, map_left, IsHandedOut};
+ghost use Rattle.sedgechisel_nodes.specs.Rooms.{room_answer, octets_on, map_left, IsHandedOut};
 
-use crate::answers::{CLOSED, ROOM};
+use crate::answers::ROOM;
 use crate::room::{copy, describe, hand_out_on};
 use crate::spacecraft::SpacecraftHandle;
 use nodes::Spacecraft;
 use std::alloc::Global;
+
+// The packet that is taken next: of those that came past the sequence control, or of the others.
+fn next_packet(node: &Spacecraft, past: bool) -> Option<(u8, &[u8])>
+    ensures { option_map lent_packet result ≡ next_packet past node.now }
+{
+    if past {
+        node.peek_bypass()
+    } else {
+        node.peek()
+    }
+}
+
+fn drop_next(node: &mut Spacecraft, past: bool)
+    ensures { node.new ≡ after_taking past node.old }
+{
+    if past {
+        drop(node.take_bypass());
+    } else {
+        drop(node.take());
+    }
+}
+
+fn described(
+    alloc: Global,
+    spacecraft: &mut SpacecraftHandle,
+    past: bool,
+    map: &mut u8,
+    count: &mut usize,
+) -> u8
+    ensures { IsDescribed past spacecraft.old.value spacecraft.new.value result map.old map.new count.old count.new }
+{
+    held!(alloc, spacecraft, |node| {
+        describe(next_packet(&node, past), map, count);
+        0
+    })
+}
 
 /// Writes the MAP of the oldest packet of sequence-controlled frames, and how many octets it has; or 0 octets alone where
 /// none waits. Answers 0, or 255 where there is no spacecraft.
@@ -22,40 +59,64 @@ pub extern "C" fn sedge_spacecraft_next(
     map: &mut u8,
     count: &mut usize,
 ) -> u8
-    ensures none { spacecraft.old.value ≡ None
-        → (result ≡ closed) × (map.new ≡ map.old) × (count.new ≡ count.old) }
-    ensures answer { IfSome spacecraft.old.value (λ s. result ≡ 0) }
-    ensures map { IfSome spacecraft.old.value
-        (λ s. map.new ≡ map_left (spacecraft_step s Take).answer map.old) }
-    ensures count { IfSome spacecraft.old.value
-        (λ s. count.new ≡ count_of (octets_on (spacecraft_step s Take).answer)) }
-    ensures unchanged { spacecraft.new.value ≡ spacecraft.old.value }
+    ensures { IsDescribed false spacecraft.old.value spacecraft.new.value result map.old map.new count.old count.new }
 {
-    let Some(node) = spacecraft.take(alloc) else {
-        return CLOSED;
-    };
-    describe(node.peek(), map, count);
-    spacecraft.put(alloc, node);
-    0
+    described(alloc, spacecraft, false, map, count)
 }
 
-// Takes a packet of sequence-controlled frames out of a spacecraft, if it fits.
-fn taken(node: &mut Spacecraft, map: &mut u8, out: &mut [u8], count: &mut usize) -> u8
+/// Writes the MAP of the oldest packet that came past the sequence control, and how many octets it has; or 0 octets alone
+/// where none waits. Answers 0, or 255 where there is no spacecraft.
+#[unsafe(no_mangle)]
+pub extern "C" fn sedge_spacecraft_next_bypass(
+    alloc: Global,
+    spacecraft: &mut SpacecraftHandle,
+    map: &mut u8,
+    count: &mut usize,
+) -> u8
+    ensures { IsDescribed true spacecraft.old.value spacecraft.new.value result map.old map.new count.old count.new }
+{
+    described(alloc, spacecraft, true, map, count)
+}
+
+// Takes the next packet out of a spacecraft, if it fits.
+fn handed_out(
+    node: &mut Spacecraft,
+    past: bool,
+    map: &mut u8,
+    out: &mut [u8],
+    count: &mut usize,
+) -> u8
     ensures answer { result
-        ≡ room_answer (option_map length (octets_on (spacecraft_step node.old Take).answer))
-        (length out.old) }
-    ensures after { result ≡ 0 → node.new ≡ (spacecraft_step node.old Take).after }
-    ensures map { result ≡ 0 → map.new ≡ map_left (spacecraft_step node.old Take).answer map.old }
-    ensures packet { result ≡ 0 → IsHandedOut (octets_on (spacecraft_step node.old Take).answer)
-        count.new out.old out.new }
+        ≡ room_answer (option_map length (octets_on (next_packet past node.old))) (length out.old) }
+    ensures after { result ≡ 0 → node.new ≡ after_taking past node.old }
+    ensures map { result ≡ 0 → map.new ≡ map_left (next_packet past node.old) map.old }
+    ensures packet { result ≡ 0
+        → IsHandedOut (octets_on (next_packet past node.old)) count.new out.old out.new }
     ensures unchanged { result ≢ 0 → (node.new ≡ node.old) × (map.new ≡ map.old)
         × (count.new ≡ count.old) × (out.new ≡ out.old) }
 {
-    let answer = hand_out_on(node.peek(), map, out, count);
+    let answer = hand_out_on(next_packet(node, past), map, out, count);
     if answer == 0 {
-        drop(node.take());
+        drop_next(node, past);
     }
     answer
+}
+
+fn taken(
+    alloc: Global,
+    spacecraft: &mut SpacecraftHandle,
+    past: bool,
+    map: &mut u8,
+    out: &mut [u8],
+    count: &mut usize,
+) -> u8
+    ensures { IsTaken past spacecraft.old.value spacecraft.new.value result map.old map.new count.old count.new out.old out.new }
+{
+    held!(
+        alloc,
+        spacecraft,
+        |node| handed_out(&mut node, past, map, out, count)
+    )
 }
 
 /// Takes the oldest packet of sequence-controlled frames (CCSDS 232.0-B-4, 4.4). Answers 0, or 252 where the room is too
@@ -68,69 +129,9 @@ pub extern "C" fn sedge_spacecraft_take(
     out: &mut [u8],
     count: &mut usize,
 ) -> u8
-    ensures none { spacecraft.old.value ≡ None → result ≡ closed }
-    ensures answer { IfSome spacecraft.old.value (λ s. result
-        ≡ room_answer (option_map length (octets_on (spacecraft_step s Take).answer))
-        (length out.old)) }
-    ensures after { result ≡ 0 → spacecraft.new.value ≡ stepped spacecraft.old.value Take }
-    ensures map { result ≡ 0 → IfSome spacecraft.old.value
-        (λ s. map.new ≡ map_left (spacecraft_step s Take).answer map.old) }
-    ensures packet { result ≡ 0 → IfSome spacecraft.old.value
-        (λ s. IsHandedOut (octets_on (spacecraft_step s Take).answer) count.new out.old out.new) }
-    ensures unchanged { result ≢ 0 → (spacecraft.new.value ≡ spacecraft.old.value)
-        × (map.new ≡ map.old) × (count.new ≡ count.old) × (out.new ≡ out.old) }
+    ensures { IsTaken false spacecraft.old.value spacecraft.new.value result map.old map.new count.old count.new out.old out.new }
 {
-    let Some(mut node) = spacecraft.take(alloc) else {
-        return CLOSED;
-    };
-    let answer = taken(&mut node, map, out, count);
-    spacecraft.put(alloc, node);
-    answer
-}
-
-/// Writes the MAP of the oldest packet that came past the sequence control, and how many octets it has; or 0 octets alone
-/// where none waits. Answers 0, or 255 where there is no spacecraft.
-#[unsafe(no_mangle)]
-pub extern "C" fn sedge_spacecraft_next_bypass(
-    alloc: Global,
-    spacecraft: &mut SpacecraftHandle,
-    map: &mut u8,
-    count: &mut usize,
-) -> u8
-    ensures none { spacecraft.old.value ≡ None
-        → (result ≡ closed) × (map.new ≡ map.old) × (count.new ≡ count.old) }
-    ensures answer { IfSome spacecraft.old.value (λ s. result ≡ 0) }
-    ensures map { IfSome spacecraft.old.value
-        (λ s. map.new ≡ map_left (spacecraft_step s TakeBypass).answer map.old) }
-    ensures count { IfSome spacecraft.old.value
-        (λ s. count.new ≡ count_of (octets_on (spacecraft_step s TakeBypass).answer)) }
-    ensures unchanged { spacecraft.new.value ≡ spacecraft.old.value }
-{
-    let Some(node) = spacecraft.take(alloc) else {
-        return CLOSED;
-    };
-    describe(node.peek_bypass(), map, count);
-    spacecraft.put(alloc, node);
-    0
-}
-
-// Takes a packet that came past the sequence control out of a spacecraft, if it fits.
-fn bypass_taken(node: &mut Spacecraft, map: &mut u8, out: &mut [u8], count: &mut usize) -> u8
-    ensures answer { result
-        ≡ room_answer (option_map length (octets_on (spacecraft_step node.old TakeBypass).answer))
-        (length out.old) }
-    ensures after { result ≡ 0 → node.new ≡ (spacecraft_step node.old TakeBypass).after }
-    ensures map { result ≡ 0 → map.new ≡ map_left (spacecraft_step node.old TakeBypass).answer map.old }
-    ensures packet { result ≡ 0 → IsHandedOut (octets_on (spacecraft_step node.old TakeBypass).answer)
-        count.new out.old out.new }
-    ensures unchanged { result ≢ 0 → (node.new ≡ node.old) × (map.new ≡ map.old)
-        × (count.new ≡ count.old) × (out.new ≡ out.old) }
-{
-    let answer = hand_out_on(node.peek_bypass(), map, out, count);
-    if answer == 0 {
-        drop(node.take_bypass());
-    }
-    answer
+    taken(alloc, spacecraft, false, map, out, count)
 }
 
 /// Takes the oldest packet that came past the sequence control (CCSDS 232.0-B-4, 4.4). Answers 0, or 252 where the room is
@@ -143,24 +144,9 @@ pub extern "C" fn sedge_spacecraft_take_bypass(
     out: &mut [u8],
     count: &mut usize,
 ) -> u8
-    ensures none { spacecraft.old.value ≡ None → result ≡ closed }
-    ensures answer { IfSome spacecraft.old.value (λ s. result
-        ≡ room_answer (option_map length (octets_on (spacecraft_step s TakeBypass).answer))
-        (length out.old)) }
-    ensures after { result ≡ 0 → spacecraft.new.value ≡ stepped spacecraft.old.value TakeBypass }
-    ensures map { result ≡ 0 → IfSome spacecraft.old.value
-        (λ s. map.new ≡ map_left (spacecraft_step s TakeBypass).answer map.old) }
-    ensures packet { result ≡ 0 → IfSome spacecraft.old.value
-        (λ s. IsHandedOut (octets_on (spacecraft_step s TakeBypass).answer) count.new out.old out.new) }
-    ensures unchanged { result ≢ 0 → (spacecraft.new.value ≡ spacecraft.old.value)
-        × (map.new ≡ map.old) × (count.new ≡ count.old) × (out.new ≡ out.old) }
+    ensures { IsTaken true spacecraft.old.value spacecraft.new.value result map.old map.new count.old count.new out.old out.new }
 {
-    let Some(mut node) = spacecraft.take(alloc) else {
-        return CLOSED;
-    };
-    let answer = bypass_taken(&mut node, map, out, count);
-    spacecraft.put(alloc, node);
-    answer
+    taken(alloc, spacecraft, true, map, out, count)
 }
 
 // Writes the next telemetry frame of a spacecraft, if it fits.
@@ -202,10 +188,5 @@ pub extern "C" fn sedge_spacecraft_report(
     ensures unchanged { result ≢ 0 → (spacecraft.new.value ≡ spacecraft.old.value)
         × (count.new ≡ count.old) × (out.new ≡ out.old) }
 {
-    let Some(mut node) = spacecraft.take(alloc) else {
-        return CLOSED;
-    };
-    let answer = reported(&mut node, out, count);
-    spacecraft.put(alloc, node);
-    answer
+    held!(alloc, spacecraft, |node| reported(&mut node, out, count))
 }

@@ -5,7 +5,6 @@ ghost use Rattle.cop1.specs.declared.vocabulary.Directive.{Directive};
 ghost use Rattle.nodes.specs.Ground.{Direct};
 ghost use Rattle.sedgechisel_nodes.specs.Grounds.{stepped, directive_answer};
 
-use crate::answers::CLOSED;
 use crate::ground::GroundHandle;
 use cop1::Directive;
 use std::alloc::Global;
@@ -15,15 +14,10 @@ fn direct(alloc: Global, ground: &mut GroundHandle, directive: Directive) -> u8
     ensures answer { result ≡ directive_answer ground.old.value directive }
     ensures after { ground.new.value ≡ stepped ground.old.value (Direct directive) }
 {
-    let Some(mut node) = ground.take(alloc) else {
-        return CLOSED;
-    };
-    let answer = match node.directive(directive) {
+    held!(alloc, ground, |node| match node.directive(directive) {
         Ok(_) => 0,
         Err(fault) => fault.number(),
-    };
-    ground.put(alloc, node);
-    answer
+    })
 }
 
 /// Initiates without a check of the report.

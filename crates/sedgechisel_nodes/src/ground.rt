@@ -1,13 +1,12 @@
 // The ground of a program in C.
 
 ghost use Rattle.std.specs.Prelude.{◌≡◌, ◌≢◌, ◌⊎◌, Option, Some, None, option_map, IfSome};
-ghost use Rattle.nodes.specs.Parameters.{IsConfig};
 ghost use Rattle.nodes.specs.Ground.{GroundState, Submit, ground_step, submit_fault, new_ground};
-ghost use Rattle.sedgechisel_nodes.specs.Grounds.{stepped, closed, number_of, config_of, IsAnswer, IsOpenAnswer};
+ghost use Rattle.sedgechisel_nodes.specs.Grounds.{number_of, config_of, IsAnswer, IsSubmission, IsOpenAnswer};
 
-use crate::answers::{CLOSED, MEMORY, OUT_OF_RANGE};
+use crate::answers::{MEMORY, OUT_OF_RANGE};
 use kept::Kept;
-use nodes::{Config, Ground, LinkFault};
+use nodes::{Config, Ground, LinkFault, ValidConfig};
 use std::alloc::Global;
 use std::marker::Model;
 use std::mem;
@@ -95,17 +94,9 @@ pub extern "C" fn sedge_ground_submit(
     map: u8,
     octets: &[u8],
 ) -> u8
-    ensures none { ground.old.value ≡ None → result ≡ closed }
-    ensures answer { IfSome ground.old.value (λ s. IsAnswer (submit_fault s map octets.now) result) }
-    ensures after { result ≡ 0 → ground.new.value ≡ stepped ground.old.value (Submit map octets.now) }
-    ensures unchanged { result ≢ 0 → ground.new.value ≡ ground.old.value }
+    ensures { IsSubmission (λ s. submit_fault s map octets.now) (Submit map octets.now) ground.old.value ground.new.value result }
 {
-    let Some(mut node) = ground.take(alloc) else {
-        return CLOSED;
-    };
-    let answer = submitted(&mut node, map, octets);
-    ground.put(alloc, node);
-    answer
+    held!(alloc, ground, |node| submitted(&mut node, map, octets))
 }
 
 /// The managed parameters.
@@ -151,11 +142,10 @@ pub(crate) fn config_from(kept: &KeptConfig) -> Config
     }
 }
 
-fn boxed(alloc: Global, config: &Config) -> Option<Box<Ground>>
-    requires { IsConfig config.now }
+fn boxed(alloc: Global, config: &ValidConfig) -> Option<Box<Ground>>
     ensures { IfSome result (λ b. b.value ≡ new_ground config.now) }
 {
-    let Ok(node) = Ground::new(alloc, config) else {
+    let Ok(node) = Ground::of(alloc, config) else {
         return None;
     };
     match Box::new(alloc, node) {
@@ -176,10 +166,9 @@ pub extern "C" fn sedge_ground_open(
     ensures opened { result ≡ 0 → ground.new.value ≡ Some (new_ground (config_of config.now)) }
     ensures unchanged { result ≢ 0 → ground.new.value ≡ ground.old.value }
 {
-    let config = config_from(config);
-    if config.fault().is_some() {
+    let Ok(config) = config_from(config).valid() else {
         return OUT_OF_RANGE;
-    }
+    };
     match boxed(alloc, &config) {
         Some(node) => {
             ground.put(alloc, node);

@@ -1,16 +1,19 @@
-// The ground of a program in C: telemetry, the clock, and packets past the sequence control.
+// The ground of a program in C: telemetry and reports, the clock, and packets past the sequence control.
 
 ghost use Rattle.std.specs.Prelude.{◌≡◌, ◌≢◌, ◌⊎◌, Some, None, IfSome};
+ghost use Rattle.tm_link.specs.Reading.{frame_at};
 ghost use Rattle.nodes.specs.Ground.{Bypass, Telemetry, Tick, ground_step, bypass_fault};
-ghost use Rattle.sedgechisel_nodes.specs.Grounds.{stepped, closed, IsAnswer};
-ghost use Rattle.sedgechisel_nodes.specs.Hearing.{alert_number, gap_kept, report_kept, heard_kept};
+ghost use Rattle.sedgechisel_nodes.specs.Grounds.{stepped, closed, IsAnswer, IsSubmission};
+ghost use Rattle.sedgechisel_nodes.specs.Hearing.{alert_number, gap_kept, report_kept, heard_kept, word_kept, report_in, IsWordIfThere};
 
-use crate::answers::{CLOSED, MEMORY};
+use crate::answers::{ABSENT, MEMORY};
 use crate::ground::{GroundHandle, number_of};
+use bitflags::Flags;
+use clcw::Clcw;
 use cop1::Alert;
 use nodes::{Ground, Heard, HeardReport};
 use std::alloc::Global;
-use tm_link::Gap;
+use tm_link::{Gap, decode};
 
 /// What came of telemetry.
 #[repr(C)]
@@ -24,6 +27,48 @@ pub struct KeptHeard {
     pub report: u8,
     pub word_fault: u8,
     pub alert: u8,
+}
+
+pub(crate) const NO_HEARD: KeptHeard = KeptHeard {
+    packets: 0,
+    kind: 0,
+    fault: 0,
+    first: 0,
+    missing: 0,
+    report: 0,
+    word_fault: 0,
+    alert: 0,
+};
+
+/// A control word.
+#[repr(C)]
+#[derive(Clone, Copy)]
+pub struct KeptWord {
+    pub status: u8,
+    pub vcid: u8,
+    pub flags: u8,
+    pub farm_b: u8,
+    pub value: u8,
+}
+
+pub(crate) const NO_WORD: KeptWord = KeptWord {
+    status: 0,
+    vcid: 0,
+    flags: 0,
+    farm_b: 0,
+    value: 0,
+};
+
+pub(crate) fn kept_word(word: &Clcw) -> KeptWord
+    ensures { result ≡ word_kept word.now }
+{
+    KeptWord {
+        status: word.status,
+        vcid: word.vcid,
+        flags: word.flags.bits(),
+        farm_b: word.farm_b,
+        value: word.value,
+    }
 }
 
 pub(crate) fn number_of_alert(alert: Option<Alert>) -> u8
@@ -60,27 +105,17 @@ fn kept_report(report: HeardReport) -> (u8, u8)
     }
 }
 
-pub(crate) fn nothing_heard(kind: u8, fault: u8) -> KeptHeard
-    ensures { result ≡ (record { packets = 0; kind = kind; fault = fault; first = 0; missing = 0; report = 0; word_fault = 0; alert = 0 }) }
-{
-    KeptHeard {
-        packets: 0,
-        kind,
-        fault,
-        first: 0,
-        missing: 0,
-        report: 0,
-        word_fault: 0,
-        alert: 0,
-    }
-}
-
 pub(crate) fn kept_heard(heard: Heard) -> KeptHeard
     ensures { result ≡ heard_kept heard }
 {
+    let none = NO_HEARD;
     match heard {
-        Heard::Invalid(fault) => nothing_heard(1, fault.number()),
-        Heard::Foreign => nothing_heard(2, 0),
+        Heard::Invalid(fault) => KeptHeard {
+            kind: 1,
+            fault: fault.number(),
+            ..none
+        },
+        Heard::Foreign => KeptHeard { kind: 2, ..none },
         Heard::Frame {
             gap,
             packets,
@@ -92,12 +127,12 @@ pub(crate) fn kept_heard(heard: Heard) -> KeptHeard
             KeptHeard {
                 packets,
                 kind: 3,
-                fault: 0,
                 first,
                 missing,
                 report,
                 word_fault,
                 alert: number_of_alert(alert),
+                ..none
             }
         }
     }
@@ -120,18 +155,50 @@ pub extern "C" fn sedge_ground_telemetry(
     ensures unchanged { result ≢ 0
         → (ground.new.value ≡ ground.old.value) × (heard.new ≡ heard.old) }
 {
-    let Some(mut node) = ground.take(alloc) else {
-        return CLOSED;
-    };
-    let answer = match node.telemetry(octets) {
+    held!(alloc, ground, |node| match node.telemetry(octets) {
         Ok(outcome) => {
             *heard = kept_heard(outcome);
             0
         }
         Err(_) => MEMORY,
+    })
+}
+
+// Writes the report of a telemetry frame of this length, if there is one; 253 where there is none.
+fn report_if_there(octets: &[u8], length: usize, report: &mut KeptWord) -> u8
+    ensures { IsWordIfThere (report_in (frame_at length octets.now)) result report.old report.new }
+{
+    let Ok(frame) = decode(octets, length) else {
+        return ABSENT;
     };
-    ground.put(alloc, node);
-    answer
+    match frame.report() {
+        Ok(word) => {
+            *report = kept_word(&word);
+            0
+        }
+        Err(_) => ABSENT,
+    }
+}
+
+/// Writes the report that a telemetry frame carries, of whichever spacecraft and virtual channel (CCSDS 232.0-B-4, 4.2); the
+/// ground stays as it is. Answers 0, or 253 where the octets are no frame or carry no report, or 255.
+#[unsafe(no_mangle)]
+pub extern "C" fn sedge_ground_report(
+    alloc: Global,
+    ground: &mut GroundHandle,
+    octets: &[u8],
+    report: &mut KeptWord,
+) -> u8
+    ensures none { ground.old.value ≡ None → (result ≡ closed) × (report.new ≡ report.old) }
+    ensures answer { IfSome ground.old.value (λ s. IsWordIfThere
+        (report_in (frame_at s.config.frame_length octets.now)) result report.old report.new) }
+    ensures unchanged { ground.new.value ≡ ground.old.value }
+{
+    held!(
+        alloc,
+        ground,
+        |node| report_if_there(octets, node.frame_length(), report)
+    )
 }
 
 /// A tick of the clock has passed. Answers the alert's number, 0 for none; or 255.
@@ -141,12 +208,7 @@ pub extern "C" fn sedge_ground_tick(alloc: Global, ground: &mut GroundHandle) ->
     ensures alert { IfSome ground.old.value (λ s. result ≡ alert_number (ground_step s Tick).answer) }
     ensures after { ground.new.value ≡ stepped ground.old.value Tick }
 {
-    let Some(mut node) = ground.take(alloc) else {
-        return CLOSED;
-    };
-    let answer = number_of_alert(node.tick());
-    ground.put(alloc, node);
-    answer
+    held!(alloc, ground, |node| number_of_alert(node.tick()))
 }
 
 fn bypassed(node: &mut Ground, map: u8, octets: &[u8]) -> u8
@@ -165,17 +227,7 @@ pub extern "C" fn sedge_ground_bypass(
     map: u8,
     octets: &[u8],
 ) -> u8
-    ensures none { ground.old.value ≡ None → result ≡ closed }
-    ensures answer { IfSome ground.old.value
-        (λ s. IsAnswer (bypass_fault s map octets.now) result) }
-    ensures after { result ≡ 0
-        → ground.new.value ≡ stepped ground.old.value (Bypass map octets.now) }
-    ensures unchanged { result ≢ 0 → ground.new.value ≡ ground.old.value }
+    ensures { IsSubmission (λ s. bypass_fault s map octets.now) (Bypass map octets.now) ground.old.value ground.new.value result }
 {
-    let Some(mut node) = ground.take(alloc) else {
-        return CLOSED;
-    };
-    let answer = bypassed(&mut node, map, octets);
-    ground.put(alloc, node);
-    answer
+    held!(alloc, ground, |node| bypassed(&mut node, map, octets))
 }

@@ -2,6 +2,18 @@
 //! from three functions that the program provides.
 #![tactic(auto)]
 
+// What a call makes of the node that a handle holds; the handle holds it again afterwards. 255 where it holds none.
+macro_rules! held {
+    ($alloc:expr, $handle:expr, |$node:ident| $call:expr) => {{
+        let Some(mut $node) = $handle.take($alloc) else {
+            return $crate::answers::CLOSED;
+        };
+        let answer = $call;
+        $handle.put($alloc, $node);
+        answer
+    }};
+}
+
 mod answers;
 mod board_taking;
 mod directing;

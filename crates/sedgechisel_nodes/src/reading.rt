@@ -5,7 +5,7 @@ ghost use Rattle.sedgechisel_nodes.specs.Boards.{board_reading_of, farm_mode_num
 ghost use Rattle.cop1.specs.Accepted.{accepted_beyond};
 ghost use Rattle.sedgechisel_nodes.specs.Grounds.{closed, mode_number, reading_of, IsNumberIfThere};
 
-use crate::answers::{ABSENT, CLOSED};
+use crate::answers::ABSENT;
 use crate::ground::GroundHandle;
 use crate::spacecraft::SpacecraftHandle;
 use bitflags::Flags;
@@ -61,12 +61,10 @@ pub extern "C" fn sedge_ground_read(
     ensures answer { IfSome ground.old.value (λ s. (result ≡ 0) × (read.new ≡ reading_of s)) }
     ensures unchanged { ground.new.value ≡ ground.old.value }
 {
-    let Some(node) = ground.take(alloc) else {
-        return CLOSED;
-    };
-    *read = reading(&node);
-    ground.put(alloc, node);
-    0
+    held!(alloc, ground, |node| {
+        *read = reading(&node);
+        0
+    })
 }
 
 /// What is read of a spacecraft: the octets of a telemetry frame, and the report that the next one carries, its flags as
@@ -120,12 +118,10 @@ pub extern "C" fn sedge_spacecraft_read(
     ensures answer { IfSome spacecraft.old.value (λ s. (result ≡ 0) × (read.new ≡ board_reading_of s)) }
     ensures unchanged { spacecraft.new.value ≡ spacecraft.old.value }
 {
-    let Some(node) = spacecraft.take(alloc) else {
-        return CLOSED;
-    };
-    *read = board_reading(&node);
-    spacecraft.put(alloc, node);
-    0
+    held!(alloc, spacecraft, |node| {
+        *read = board_reading(&node);
+        0
+    })
 }
 
 // Writes a number, if there is one; 253 where there is none.
@@ -157,10 +153,9 @@ pub extern "C" fn sedge_ground_accepted_beyond(
         accepted.new) }
     ensures unchanged { ground.new.value ≡ ground.old.value }
 {
-    let Some(node) = ground.take(alloc) else {
-        return CLOSED;
-    };
-    let answer = number_if_there(node.accepted_beyond(value), accepted);
-    ground.put(alloc, node);
-    answer
+    held!(
+        alloc,
+        ground,
+        |node| number_if_there(node.accepted_beyond(value), accepted)
+    )
 }

@@ -6,3 +6,4 @@ mod link;
 mod reading;
 mod records;
 mod reply;
+mod submissions;

@@ -1,19 +1,18 @@
 // The spacecraft of a program in C.
 
 ghost use Rattle.std.specs.Prelude.{◌≡◌, ◌≢◌, ◌⊎◌, Option, Some, None, option_map, IfSome, Ok};
-ghost use Rattle.nodes.specs.Parameters.{IsConfig};
 ghost use Rattle.nodes.specs.Spacecraft.{SpacecraftState, Receive, Telemetry, spacecraft_step, new_spacecraft};
 ghost use Rattle.tm_link.specs.Building.{queue_fault};
 ghost use Rattle.tm_link.specs.Faults.{fault_row};
 ghost use Rattle.sedgechisel_nodes.specs.Grounds.{closed, config_of, IsOpenAnswer};
 ghost use Rattle.sedgechisel_nodes.specs.Boards.{stepped, verdict_number, dropped_number, received_kept};
 
-use crate::answers::{CLOSED, MEMORY, OUT_OF_RANGE};
+use crate::answers::{MEMORY, OUT_OF_RANGE};
 use crate::ground::{KeptConfig, config_from};
 use cop1::Verdict;
 use kept::Kept;
 use map_service::Dropped;
-use nodes::{Config, Received, Spacecraft};
+use nodes::{Received, Spacecraft, ValidConfig};
 use std::alloc::Global;
 use std::marker::Model;
 use std::mem;
@@ -161,11 +160,10 @@ pub(crate) fn kept_received(received: Received) -> KeptReceived
     }
 }
 
-fn boxed(alloc: Global, config: &Config) -> Option<Box<Spacecraft>>
-    requires { IsConfig config.now }
+fn boxed(alloc: Global, config: &ValidConfig) -> Option<Box<Spacecraft>>
     ensures { IfSome result (λ b. b.value ≡ new_spacecraft config.now) }
 {
-    let Ok(node) = Spacecraft::new(alloc, config) else {
+    let Ok(node) = Spacecraft::of(alloc, config) else {
         return None;
     };
     match Box::new(alloc, node) {
@@ -185,10 +183,9 @@ pub extern "C" fn sedge_spacecraft_open(
         → spacecraft.new.value ≡ Some (new_spacecraft (config_of config.now)) }
     ensures unchanged { result ≢ 0 → spacecraft.new.value ≡ spacecraft.old.value }
 {
-    let config = config_from(config);
-    if config.fault().is_some() {
+    let Ok(config) = config_from(config).valid() else {
         return OUT_OF_RANGE;
-    }
+    };
     match boxed(alloc, &config) {
         Some(node) => {
             spacecraft.put(alloc, node);
@@ -222,18 +219,13 @@ pub extern "C" fn sedge_spacecraft_receive(
     ensures unchanged { result ≢ 0
         → (spacecraft.new.value ≡ spacecraft.old.value) × (received.new ≡ received.old) }
 {
-    let Some(mut node) = spacecraft.take(alloc) else {
-        return CLOSED;
-    };
-    let answer = match node.receive(octets) {
+    held!(alloc, spacecraft, |node| match node.receive(octets) {
         Ok(outcome) => {
             *received = kept_received(outcome);
             0
         }
         Err(_) => MEMORY,
-    };
-    spacecraft.put(alloc, node);
-    answer
+    })
 }
 
 // What queueing a packet answers: 0, or 8 for what is no packet to send, or 7 where there was no memory.
@@ -268,10 +260,5 @@ pub extern "C" fn sedge_spacecraft_telemetry(
         → spacecraft.new.value ≡ stepped spacecraft.old.value (Telemetry packet.now) }
     ensures unchanged { result ≢ 0 → spacecraft.new.value ≡ spacecraft.old.value }
 {
-    let Some(mut node) = spacecraft.take(alloc) else {
-        return CLOSED;
-    };
-    let answer = queued(&mut node, packet);
-    spacecraft.put(alloc, node);
-    answer
+    held!(alloc, spacecraft, |node| queued(&mut node, packet))
 }

@@ -10,7 +10,7 @@ ghost use Rattle.nodes.specs.Ground.{GroundState, Pull, TakeTelemetry, ground_st
 ghost use Rattle.sedgechisel_nodes.specs.Grounds.{stepped, closed};
 ghost use Rattle.sedgechisel_nodes.specs.Rooms.{room_answer, count_of, IsHandedOut};
 
-use crate::answers::{CLOSED, ROOM};
+use crate::answers::ROOM;
 use crate::ground::GroundHandle;
 use crate::room::{count_of, hand_out};
 use nodes::Ground;
@@ -41,12 +41,10 @@ pub extern "C" fn sedge_ground_next(
         (λ s. count.new ≡ unwrap_or (size_of (ground_step s Pull).answer) 0) }
     ensures unchanged { ground.new.value ≡ ground.old.value }
 {
-    let Some(node) = ground.take(alloc) else {
-        return CLOSED;
-    };
-    *count = size_of_next(&node);
-    ground.put(alloc, node);
-    0
+    held!(alloc, ground, |node| {
+        *count = size_of_next(&node);
+        0
+    })
 }
 
 // Writes a frame, with its check, if it fits.
@@ -118,12 +116,7 @@ pub extern "C" fn sedge_ground_pull(
     ensures unchanged { result ≢ 0 → (ground.new.value ≡ ground.old.value)
         × (count.new ≡ count.old) × (out.new ≡ out.old) }
 {
-    let Some(mut node) = ground.take(alloc) else {
-        return CLOSED;
-    };
-    let answer = pulled(&mut node, out, count);
-    ground.put(alloc, node);
-    answer
+    held!(alloc, ground, |node| pulled(&mut node, out, count))
 }
 
 /// Writes how many octets the oldest packet of telemetry has, 0 where none waits. Answers 0, or 255 where there is no
@@ -140,12 +133,10 @@ pub extern "C" fn sedge_ground_next_telemetry(
         (λ s. count.new ≡ count_of (ground_step s TakeTelemetry).answer) }
     ensures unchanged { ground.new.value ≡ ground.old.value }
 {
-    let Some(node) = ground.take(alloc) else {
-        return CLOSED;
-    };
-    *count = count_of(node.peek_telemetry());
-    ground.put(alloc, node);
-    0
+    held!(alloc, ground, |node| {
+        *count = count_of(node.peek_telemetry());
+        0
+    })
 }
 
 // Takes a packet of telemetry out of a ground, if it fits.
@@ -184,10 +175,5 @@ pub extern "C" fn sedge_ground_take_telemetry(
     ensures unchanged { result ≢ 0 → (ground.new.value ≡ ground.old.value)
         × (count.new ≡ count.old) × (out.new ≡ out.old) }
 {
-    let Some(mut node) = ground.take(alloc) else {
-        return CLOSED;
-    };
-    let answer = telemetry_taken(&mut node, out, count);
-    ground.put(alloc, node);
-    answer
+    held!(alloc, ground, |node| telemetry_taken(&mut node, out, count))
 }

@@ -2,7 +2,7 @@
 // where no frame is on its way, 8 where the receiver would accept the damaged frame, 255 where there is no link.
 
 ghost use Rattle.cop1.specs.declared.vocabulary.Directive.{Directive};
-ghost use Rattle.tc_link.specs.declared.event.Event.{Event};
+ghost use Rattle.link_events.specs.declared.event.Event.{Event};
 ghost use Rattle.sedgechisel_nodes.specs.Links.{IsEventCall};
 
 use crate::sim::handle::{SimHandle, happen};

@@ -5,7 +5,7 @@ ghost use Rattle.sedgechisel_nodes.specs.Grounds.{config_of, IsOpenAnswer};
 ghost use Rattle.sedgechisel_nodes.specs.LinkState.{LinkState};
 ghost use Rattle.sedgechisel_nodes.specs.Links.{new_link, IsEventCall};
 
-use crate::answers::{CLOSED, MEMORY, OUT_OF_RANGE};
+use crate::answers::{MEMORY, OUT_OF_RANGE};
 use crate::ground::{KeptConfig, config_from};
 use crate::sim::link::Link;
 use crate::sim::reply::KeptReply;
@@ -116,10 +116,5 @@ pub(crate) fn happen(
 ) -> u8
     ensures { IsEventCall event.entry sim.old.value sim.new.value result reply.old reply.new }
 {
-    let Some(mut link) = sim.take(alloc) else {
-        return CLOSED;
-    };
-    let answer = link.step(alloc, event, reply);
-    sim.put(alloc, link);
-    answer
+    held!(alloc, sim, |link| link.step(alloc, event, reply))
 }

@@ -5,7 +5,6 @@ ghost use Rattle.sedgechisel_nodes.specs.Grounds.{closed};
 ghost use Rattle.sedgechisel_nodes.specs.Links.{begun_number, link_reading_of};
 ghost use Rattle.sedgechisel_nodes.specs.Rooms.{room_answer, IsHandedOut};
 
-use crate::answers::CLOSED;
 use crate::reading::number_of_mode;
 use crate::room::hand_out;
 use crate::sim::handle::SimHandle;
@@ -63,12 +62,10 @@ pub extern "C" fn sedge_sim_read(alloc: Global, sim: &mut SimHandle, read: &mut 
         (λ l. (result ≡ 0) × (read.new ≡ link_reading_of l.world)) }
     ensures unchanged { sim.new.value ≡ sim.old.value }
 {
-    let Some(link) = sim.take(alloc) else {
-        return CLOSED;
-    };
-    *read = link_reading(link.sim());
-    sim.put(alloc, link);
-    0
+    held!(alloc, sim, |link| {
+        *read = link_reading(link.sim());
+        0
+    })
 }
 
 /// Writes the octets of the frame or the packet that the last event gave, and how many they are; 0 where it gave none.
@@ -88,10 +85,5 @@ pub extern "C" fn sedge_sim_octets(
     ensures written { result ≢ 0 → (count.new ≡ count.old) × (out.new ≡ out.old) }
     ensures unchanged { sim.new.value ≡ sim.old.value }
 {
-    let Some(link) = sim.take(alloc) else {
-        return CLOSED;
-    };
-    let answer = hand_out(Some(link.octets()), out, count);
-    sim.put(alloc, link);
-    answer
+    held!(alloc, sim, |link| hand_out(Some(link.octets()), out, count))
 }

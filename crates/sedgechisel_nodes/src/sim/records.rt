@@ -7,7 +7,7 @@ ghost use Rattle.sedgechisel_nodes.specs.Grounds.{closed};
 ghost use Rattle.sedgechisel_nodes.specs.Links.{record_of, entry_of, entry_answer, IsLengthIfThere};
 ghost use Rattle.sedgechisel_nodes.specs.Rooms.{room_answer, IsHandedOut};
 
-use crate::answers::{ABSENT, CLOSED};
+use crate::answers::ABSENT;
 use crate::room::hand_out;
 use crate::sim::handle::SimHandle;
 use std::alloc::Global;
@@ -64,12 +64,10 @@ pub extern "C" fn sedge_sim_count(
         × (entries.new ≡ length (record_of l.world record_number map))) }
     ensures unchanged { sim.new.value ≡ sim.old.value }
 {
-    let Some(link) = sim.take(alloc) else {
-        return CLOSED;
-    };
-    *entries = count_of_entries(link.sim(), record_number, map);
-    sim.put(alloc, link);
-    0
+    held!(alloc, sim, |link| {
+        *entries = count_of_entries(link.sim(), record_number, map);
+        0
+    })
 }
 
 // Writes how many octets there are, if they are there; 253 where they are not.
@@ -101,12 +99,11 @@ pub extern "C" fn sedge_sim_entry_length(
         (entry_of l.world record_number map k) result count.old count.new) }
     ensures unchanged { sim.new.value ≡ sim.old.value }
 {
-    let Some(link) = sim.take(alloc) else {
-        return CLOSED;
-    };
-    let answer = length_if_there(entry_of(link.sim(), record_number, map, k), count);
-    sim.put(alloc, link);
-    answer
+    held!(
+        alloc,
+        sim,
+        |link| length_if_there(entry_of(link.sim(), record_number, map, k), count)
+    )
 }
 
 // Hands an entry out, if it is there and fits.
@@ -142,10 +139,9 @@ pub extern "C" fn sedge_sim_entry(
     ensures written { result ≢ 0 → (count.new ≡ count.old) × (out.new ≡ out.old) }
     ensures unchanged { sim.new.value ≡ sim.old.value }
 {
-    let Some(link) = sim.take(alloc) else {
-        return CLOSED;
-    };
-    let answer = hand_out_entry(entry_of(link.sim(), record_number, map, k), out, count);
-    sim.put(alloc, link);
-    answer
+    held!(
+        alloc,
+        sim,
+        |link| hand_out_entry(entry_of(link.sim(), record_number, map, k), out, count)
+    )
 }

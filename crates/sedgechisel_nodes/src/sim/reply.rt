@@ -2,25 +2,14 @@
 
 ghost use Rattle.std.specs.Prelude.{◌≡◌};
 ghost use Rattle.tc_link.specs.Replies.{reply_view};
-ghost use Rattle.sedgechisel_nodes.specs.Links.{no_reply, word_kept, refused_by, reply_kept, reply_octets};
+ghost use Rattle.sedgechisel_nodes.specs.Links.{no_reply, refused_by, reply_kept, reply_octets};
 
-use crate::hearing::{KeptHeard, kept_heard, nothing_heard, number_of_alert};
+use crate::hearing::{
+    KeptHeard, KeptWord, NO_HEARD, NO_WORD, kept_heard, kept_word, number_of_alert,
+};
 use crate::spacecraft::{KeptReceived, NO_RECEIVED, kept_received};
-use bitflags::Flags;
-use clcw::Clcw;
 use std::alloc::Global;
 use tc_link::{NodeFault, Reply};
-
-/// A control word.
-#[repr(C)]
-#[derive(Clone, Copy)]
-pub struct KeptWord {
-    pub status: u8,
-    pub vcid: u8,
-    pub flags: u8,
-    pub farm_b: u8,
-    pub value: u8,
-}
 
 /// A reply: its kind, then what that kind has; the rest is 0.
 #[repr(C)]
@@ -35,18 +24,6 @@ pub struct KeptReply {
     pub fault: u8,
     pub alert: u8,
     pub map: u8,
-}
-
-fn kept_word(word: &Clcw) -> KeptWord
-    ensures { result ≡ word_kept word.now }
-{
-    KeptWord {
-        status: word.status,
-        vcid: word.vcid,
-        flags: word.flags.bits(),
-        farm_b: word.farm_b,
-        value: word.value,
-    }
 }
 
 fn part_refusing(fault: NodeFault) -> (u8, u8)
@@ -66,14 +43,8 @@ fn reply_of(kind: u8) -> KeptReply
     KeptReply {
         count: 0,
         up: NO_RECEIVED,
-        down: nothing_heard(0, 0),
-        report: KeptWord {
-            status: 0,
-            vcid: 0,
-            flags: 0,
-            farm_b: 0,
-            value: 0,
-        },
+        down: NO_HEARD,
+        report: NO_WORD,
         kind,
         by: 0,
         fault: 0,

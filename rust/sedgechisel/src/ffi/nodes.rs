@@ -179,6 +179,26 @@ impl<T> Own<T> {
         // reference to the handle while it runs.
         crate::numbers::done(call(unsafe { &mut *self.0.get() }));
     }
+
+    /// Whether a call that only reads found what it asks for.
+    pub fn is_there(&self, call: impl FnOnce(&mut T) -> u8) -> bool {
+        let mut found = true;
+        self.read(|it| match call(it) {
+            SEDGE_NODE_ABSENT => {
+                found = false;
+                0
+            }
+            answer => answer,
+        });
+        found
+    }
+
+    /// The number that a call writes, which only reads.
+    pub fn number(&self, call: impl FnOnce(&mut T, &mut usize) -> u8) -> usize {
+        let mut number = 0;
+        self.read(|it| call(it, &mut number));
+        number
+    }
 }
 
 // SAFETY: these are the header's declarations, which `rust/check` compares. A call without a pointer to octets asks
@@ -204,6 +224,7 @@ unsafe extern "C" {
     pub safe fn sedge_ground_next(ground: &mut Ground, count: &mut usize) -> u8;
     fn sedge_ground_pull(ground: &mut Ground, out: *mut u8, room: usize, count: &mut usize) -> u8;
     fn sedge_ground_telemetry(ground: &mut Ground, octets: *const u8, count: usize, heard: &mut Heard) -> u8;
+    fn sedge_ground_report(ground: &mut Ground, octets: *const u8, count: usize, report: &mut Clcw) -> u8;
     pub safe fn sedge_ground_next_telemetry(ground: &mut Ground, count: &mut usize) -> u8;
     fn sedge_ground_take_telemetry(ground: &mut Ground, out: *mut u8, room: usize, count: &mut usize) -> u8;
     pub safe fn sedge_ground_tick(ground: &mut Ground) -> u8;
@@ -259,6 +280,11 @@ unsafe extern "C" {
     fn sedge_sim_telemetry(sim: &mut Sim, packet: *const u8, count: usize, reply: &mut Reply) -> u8;
     fn sedge_sim_octets(sim: &mut Sim, out: *mut u8, room: usize, count: &mut usize) -> u8;
     pub safe fn sedge_sim_read(sim: &mut Sim, read: &mut SimReading) -> u8;
+    pub safe fn sedge_sim_submissions(sim: &mut Sim, count: &mut usize) -> u8;
+    pub safe fn sedge_sim_submission_length(sim: &mut Sim, k: usize, map: &mut u8, count: &mut usize) -> u8;
+    fn sedge_sim_submission(
+        sim: &mut Sim, k: usize, map: &mut u8, out: *mut u8, room: usize, count: &mut usize,
+    ) -> u8;
     pub safe fn sedge_sim_count(sim: &mut Sim, record: u8, map: u8, entries: &mut usize) -> u8;
     pub safe fn sedge_sim_entry_length(sim: &mut Sim, record: u8, map: u8, k: usize, count: &mut usize)
         -> u8;
@@ -369,6 +395,10 @@ pub fn ground_telemetry(ground: &mut Ground, octets: &[u8], heard: &mut Heard) -
     unsafe { sedge_ground_telemetry(ground, octets.as_ptr(), octets.len(), heard) }
 }
 
+pub fn ground_report(ground: &mut Ground, octets: &[u8], report: &mut Clcw) -> u8 {
+    unsafe { sedge_ground_report(ground, octets.as_ptr(), octets.len(), report) }
+}
+
 pub fn ground_take_telemetry(ground: &mut Ground, out: &mut [u8], count: &mut usize) -> u8 {
     unsafe { sedge_ground_take_telemetry(ground, out.as_mut_ptr(), out.len(), count) }
 }
@@ -417,6 +447,10 @@ pub fn sim_telemetry(sim: &mut Sim, packet: &[u8], reply: &mut Reply) -> u8 {
 
 pub fn sim_octets(sim: &mut Sim, out: &mut [u8], count: &mut usize) -> u8 {
     unsafe { sedge_sim_octets(sim, out.as_mut_ptr(), out.len(), count) }
+}
+
+pub fn sim_submission(sim: &mut Sim, k: usize, map: &mut u8, out: &mut [u8], count: &mut usize) -> u8 {
+    unsafe { sedge_sim_submission(sim, k, map, out.as_mut_ptr(), out.len(), count) }
 }
 
 pub fn sim_entry(sim: &mut Sim, record: u8, map: u8, k: usize, out: &mut [u8], count: &mut usize) -> u8 {

@@ -3,7 +3,7 @@
 use super::{in_memory, taken, Config, LinkFault, OpenFault};
 use crate::ffi::nodes as raw;
 use crate::numbers::done;
-use crate::{Alert, ClcwFault, CopFault, FopState, TcFrame, TmFault};
+use crate::{Alert, Clcw, ClcwFault, CopFault, FopState, TcFrame, TmFault};
 use alloc::vec::Vec;
 use core::fmt;
 
@@ -172,6 +172,15 @@ impl Ground {
         Ok(Heard::from_raw(&heard))
     }
 
+    /// The report that a telemetry frame carries, of whichever spacecraft and virtual channel; `None` if the octets are
+    /// no frame, or the frame carries no report.
+    #[must_use]
+    pub fn report_in(&self, octets: &[u8]) -> Option<Clcw> {
+        let mut word = Default::default();
+        let found = self.0.is_there(|it| raw::ground_report(it, octets, &mut word));
+        found.then(|| Clcw::from_raw(word))
+    }
+
     /// Takes the oldest packet that telemetry frames carried, if one waits.
     pub fn take_telemetry(&mut self) -> Option<Vec<u8>> {
         let mut count = 0;
@@ -190,14 +199,8 @@ impl Ground {
     /// initiation begins. `None` if the value is beyond V(S), so that the report says nothing of these segments.
     #[must_use]
     pub fn accepted_beyond(&self, value: u8) -> Option<u8> {
-        let (mut accepted, mut known) = (0, false);
-        self.0.read(|it| match raw::sedge_ground_accepted_beyond(it, value, &mut accepted) {
-            raw::SEDGE_NODE_ABSENT => 0,
-            answer => {
-                known = true;
-                answer
-            }
-        });
+        let mut accepted = 0;
+        let known = self.0.is_there(|it| raw::sedge_ground_accepted_beyond(it, value, &mut accepted));
         known.then_some(accepted)
     }
 

@@ -319,6 +319,17 @@ impl Link {
         self.read().confirmed
     }
 
+    /// What was submitted in the session, in order: the MAP and the octets of each submission.
+    pub fn submissions(&self) -> impl ExactSizeIterator<Item = (u8, Vec<u8>)> + '_ {
+        let (mut map, mut count, mut written) = (0, 0, 0);
+        (0..self.0.number(|it, count| raw::sedge_sim_submissions(it, count))).map(move |k| {
+            self.0.read(|it| raw::sedge_sim_submission_length(it, k, &mut map, &mut count));
+            let mut octets = vec![0; count];
+            self.0.read(|it| raw::sim_submission(it, k, &mut map, &mut octets, &mut written));
+            (map, octets)
+        })
+    }
+
     /// The entries of a record of the session, in their order.
     pub fn record(&self, record: Record) -> impl ExactSizeIterator<Item = Vec<u8>> + '_ {
         let (number, map) = record.raw();

@@ -184,6 +184,21 @@ fn another_thread() {
     assert_eq!(there.join().unwrap().state(), FopState::S1);
 }
 
+/// What was submitted on a link, in order; and the report that a telemetry frame carries.
+#[test]
+fn submissions_and_reports() {
+    let mut link = Link::new(&Config::default()).unwrap();
+    assert_eq!(link.submissions().len(), 0);
+    link.init_without_check().unwrap();
+    link.submit(4, &octets_of(P0)).unwrap();
+    link.submit(63, &octets_of(P1)).unwrap();
+    assert!(link.submissions().eq([(4, octets_of(P0)), (63, octets_of(P1))]));
+    let (ground, mut spacecraft) = pair(&Config::default());
+    let frame = reported(&mut spacecraft);
+    assert_eq!(ground.report_in(&frame), Some(spacecraft.control_word()));
+    assert_eq!(ground.report_in(&frame[1..]), None);
+}
+
 /// Packets of telemetry come down over a link that loses frames, in order, and none is damaged.
 #[test]
 fn telemetry_that_is_lost() {
