@@ -19,15 +19,16 @@ fn parameters(rt: HostRuntime) {
     }
     assert_eq!(rt; config.fault(), None);
     assert_eq!(rt; config.frame_length, 2048);
-    config.set(Parameter::Blocking, 2);
-    assert_eq!(rt; config.fault(), Some("blocking"));
-    config.set(Parameter::Width, 10);
-    assert_eq!(rt; config.fault(), Some("window"));
-    config.set(Parameter::Width, 3);
-    assert_eq!(rt; config.fault(), Some("width"));
-    config.set(Parameter::TmVcid, 8);
-    assert_eq!(rt; config.fault(), Some("tm_vcid"));
+    for (parameter, value, fault) in [
+        (Parameter::Blocking, 2, "blocking"),
+        (Parameter::Width, 10, "window"),
+        (Parameter::Width, 3, "width"),
+        (Parameter::TmVcid, 8, "tm_vcid"),
+    ] {
+        config.set(parameter, value);
+        assert_eq!(rt; config.fault(), Some(fault));
+    }
     assert_eq!(rt; Parameter::named(b"colour"), None);
-    assert_eq!(rt; LinkFault::Memory.number(), 6);
-    assert_eq!(rt; LinkFault::Memory.name(), "Memory");
+    let fault = LinkFault::Memory;
+    assert_eq!(rt; (fault.number(), fault.name()), (6, "Memory"));
 }

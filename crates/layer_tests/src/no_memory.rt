@@ -28,10 +28,14 @@ fn new_ground(rt: &impl Abort, alloc: Global) -> Result<Ground, LinkFault> {
 // A ground that has one packet to send under and one past the sequence control.
 fn ground(rt: &impl Abort, alloc: Global) -> Result<Ground, LinkFault> {
     let mut ground = new_ground(rt, alloc)?;
+    takes_both(&mut ground)?;
+    Ok(ground)
+}
+
+fn takes_both(ground: &mut Ground) -> Result<(), LinkFault> {
     let _ = ground.directive(Directive::InitWithoutCheck);
     ground.submit(4, &P0)?;
-    ground.bypass(4, &P0)?;
-    Ok(ground)
+    ground.bypass(4, &P0)
 }
 
 fn refuses(rt: &impl Abort, ground: &mut Ground) {
@@ -56,51 +60,75 @@ fn hears(rt: &impl Abort, ground: &mut Ground) {
 
 #[test]
 fn a_ground_that_is_made_takes_no_memory(rt: HostRuntime) {
-    let Ok(mut ground) = ground(&rt, rt.alloc()) else {
-        let _ = eprintln!(rt; "refused a growth");
-        return;
-    };
+    match ground(&rt, rt.alloc()) {
+        Ok(mut ground) => calls_ground(&rt, &mut ground),
+        Err(_) => {
+            let _ = eprintln!(rt; "refused a growth");
+        }
+    }
+}
+
+fn calls_ground(rt: &(impl Abort + Eprint), ground: &mut Ground) {
     let _ = eprintln!(rt; "set up");
-    let mut out = [0; 1024];
-    assert_eq!(rt; ground.pull(&mut out), Some(15));
-    assert!(rt; ground.peek().is_some());
-    ground.advance();
-    assert!(rt; ground.peek().is_none());
-    hears(&rt, &mut ground);
-    refuses(&rt, &mut ground);
+    pulls(rt, ground, Some(15));
+    passes(rt, ground);
+    hears(rt, ground);
+    refuses(rt, ground);
     for _ in 0..10 {
         assert_eq!(rt; ground.tick(), None);
     }
-    assert_eq!(rt; ground.pull(&mut out), Some(15));
-    for directive in [
-        Directive::SetWindow(1),
-        Directive::SetLimit(1),
-        Directive::SetTimer(1),
+    pulls(rt, ground, Some(15));
+    directs(rt, ground);
+    pulls(rt, ground, Some(8));
+}
+
+// Passes the last frame that goes next.
+fn passes(rt: &impl Abort, ground: &mut Ground) {
+    assert!(rt; ground.peek().is_some());
+    ground.advance();
+    assert!(rt; ground.peek().is_none());
+}
+
+fn pulls(rt: &impl Abort, ground: &mut Ground, size: Option<usize>) {
+    let mut out = [0; 1024];
+    assert_eq!(rt; ground.pull(&mut out), size);
+}
+
+fn directs(rt: &impl Abort, ground: &mut Ground) {
+    for (directive, answer) in [
+        (Directive::SetWindow(1), None),
+        (Directive::SetLimit(1), None),
+        (Directive::SetTimer(1), None),
+        (Directive::Terminate, Some(Alert::Terminated)),
+        (Directive::SetVs(9), None),
+        (Directive::InitUnlock, None),
     ] {
-        assert_eq!(rt; ground.directive(directive), Ok(None));
+        assert_eq!(rt; ground.directive(directive), Ok(answer));
     }
-    let terminated = ground.directive(Directive::Terminate);
-    assert_eq!(rt; terminated, Ok(Some(Alert::Terminated)));
-    for directive in [Directive::SetVs(9), Directive::InitUnlock] {
-        assert_eq!(rt; ground.directive(directive), Ok(None));
-    }
-    assert_eq!(rt; ground.pull(&mut out), Some(8));
 }
 
 #[test]
 fn a_submission_committed_takes_no_memory(rt: HostRuntime) {
-    let Ok(mut ground) = ground(&rt, rt.alloc()) else {
-        let _ = eprintln!(rt; "refused a growth");
-        return;
-    };
-    let Ok(submission) = ground.prepare(4, &P0) else {
-        let _ = eprintln!(rt; "refused a growth");
-        return;
-    };
-    let _ = eprintln!(rt; "set up");
-    assert!(rt; submission.packets() == [&P0[..]].as_slice());
-    ground.commit(submission);
-    assert_eq!(rt; ground.outstanding(), 2);
+    match ground(&rt, rt.alloc()) {
+        Ok(mut ground) => submits(&rt, &mut ground),
+        Err(_) => {
+            let _ = eprintln!(rt; "refused a growth");
+        }
+    }
+}
+
+fn submits(rt: &(impl Abort + Eprint), ground: &mut Ground) {
+    match ground.prepare(4, &P0) {
+        Ok(submission) => {
+            let _ = eprintln!(rt; "set up");
+            assert!(rt; submission.packets() == [&P0[..]].as_slice());
+            ground.commit(submission);
+            assert_eq!(rt; ground.outstanding(), 2);
+        }
+        Err(_) => {
+            let _ = eprintln!(rt; "refused a growth");
+        }
+    }
 }
 
 // A spacecraft that has a packet of each service, and one of telemetry.
@@ -108,107 +136,158 @@ fn spacecraft(rt: &impl Abort, alloc: Global) -> Result<Spacecraft, LinkFault> {
     let config = config();
     assert!(rt; config.fault().is_none());
     let mut spacecraft = Spacecraft::new(alloc, &config)?;
+    fills(&mut spacecraft)?;
+    Ok(spacecraft)
+}
+
+fn fills(spacecraft: &mut Spacecraft) -> Result<(), LinkFault> {
     let _ = spacecraft.receive(&AD_0)?;
     let _ = spacecraft.receive(&BD_0)?;
     match spacecraft.telemetry(&[0x00, 0x05, 0xc0, 0x00, 0x00, 0x00, 0xaa]) {
-        Ok(()) => Ok(spacecraft),
+        Ok(()) => Ok(()),
         Err(_) => Err(LinkFault::Memory),
     }
 }
 
 #[test]
 fn a_spacecraft_that_is_made_takes_no_memory(rt: HostRuntime) {
-    let Ok(mut spacecraft) = spacecraft(&rt, rt.alloc()) else {
-        let _ = eprintln!(rt; "refused a growth");
-        return;
-    };
+    match spacecraft(&rt, rt.alloc()) {
+        Ok(mut spacecraft) => calls_spacecraft(&rt, &mut spacecraft),
+        Err(_) => {
+            let _ = eprintln!(rt; "refused a growth");
+        }
+    }
+}
+
+fn calls_spacecraft(rt: &(impl Abort + Eprint), spacecraft: &mut Spacecraft) {
     let _ = eprintln!(rt; "set up");
     for octets in [&AD_0[..], &AD_1, &BD_NONE, &AD_ON_CHANNEL_3, &UNLOCK, &P0] {
-        assert!(rt; spacecraft.receive(octets).is_ok());
-        assert!(rt; spacecraft.prepare(octets).is_ok());
+        receives(rt, spacecraft, octets);
     }
-    let mut out = [0; 2048];
     for _ in 0..3 {
-        assert_eq!(rt; spacecraft.report(&mut out), 19);
+        reports(rt, spacecraft);
     }
     assert!(rt; spacecraft.telemetry(&P0[1..]).is_err());
-    assert!(rt; spacecraft.take().is_some());
-    assert!(rt; spacecraft.take().is_none());
-    assert!(rt; spacecraft.take_bypass().is_some());
-    assert!(rt; spacecraft.take_bypass().is_none());
+    for is_there in [true, false] {
+        assert_eq!(rt; are_taken(spacecraft), [is_there; 2]);
+    }
+}
+
+// Whether there was a packet of each service.
+fn are_taken(spacecraft: &mut Spacecraft) -> [bool; 2] {
+    [
+        spacecraft.take().is_some(),
+        spacecraft.take_bypass().is_some(),
+    ]
+}
+
+fn receives(rt: &impl Abort, spacecraft: &mut Spacecraft, octets: &[u8]) {
+    assert!(rt; spacecraft.receive(octets).is_ok());
+    assert!(rt; spacecraft.prepare(octets).is_ok());
+}
+
+fn reports(rt: &impl Abort, spacecraft: &mut Spacecraft) {
+    let mut out = [0; 2048];
+    assert_eq!(rt; spacecraft.report(&mut out), 19);
 }
 
 #[test]
 fn an_arrival_committed_takes_no_memory(rt: HostRuntime) {
     let config = config();
     assert!(rt; config.fault().is_none());
-    let Ok(mut spacecraft) = Spacecraft::new(rt.alloc(), &config) else {
-        let _ = eprintln!(rt; "refused a growth");
-        return;
-    };
-    let Ok(arrival) = spacecraft.prepare(&AD_0) else {
-        let _ = eprintln!(rt; "refused a growth");
-        return;
-    };
-    let _ = eprintln!(rt; "set up");
-    let received = spacecraft.commit(arrival);
-    assert!(rt; matches!(received, Received::Sequence { ready: 1, .. }));
-    assert!(rt; spacecraft.take().is_some());
+    match Spacecraft::new(rt.alloc(), &config) {
+        Ok(mut spacecraft) => arrives(&rt, &mut spacecraft),
+        Err(_) => {
+            let _ = eprintln!(rt; "refused a growth");
+        }
+    }
+}
+
+fn arrives(rt: &(impl Abort + Eprint), spacecraft: &mut Spacecraft) {
+    match spacecraft.prepare(&AD_0) {
+        Ok(arrival) => {
+            let _ = eprintln!(rt; "set up");
+            let received = spacecraft.commit(arrival);
+            assert!(rt; matches!(received, Received::Sequence { ready: 1, .. }));
+            assert!(rt; spacecraft.take().is_some());
+        }
+        Err(_) => {
+            let _ = eprintln!(rt; "refused a growth");
+        }
+    }
 }
 
 // A link with frames on their way in both directions, of which the first up was accepted before.
 fn link(alloc: Global) -> Result<Sim, SimFault> {
     let mut sim = Sim::new(alloc, config())?;
-    for event in [
-        Event::Directive(Directive::InitWithoutCheck),
-        Event::Submit(4, &P0),
-        Event::Bypass(4, &P0),
-        Event::Send,
-        Event::UpDeliver,
-        Event::Send,
-        Event::UpDeliver,
-        Event::Submit(4, &P0),
-        Event::Send,
-        Event::Send,
-        Event::Report,
-        Event::Report,
-        Event::Report,
-        Event::Telemetry(&[0x00, 0x05, 0xc0, 0x00, 0x00, 0x00, 0xaa]),
-    ] {
-        let _ = sim.step(event)?;
-    }
+    happen(&mut sim, &ON_THEIR_WAY)?;
     Ok(sim)
 }
 
+fn happen(sim: &mut Sim, events: &[Event<'_>]) -> Result<(), SimFault> {
+    for event in events {
+        let _ = sim.step(*event)?;
+    }
+    Ok(())
+}
+
+static ON_THEIR_WAY: [Event<'static>; 14] = [
+    Event::Directive(Directive::InitWithoutCheck),
+    Event::Submit(4, &P0),
+    Event::Bypass(4, &P0),
+    Event::Send,
+    Event::UpDeliver,
+    Event::Send,
+    Event::UpDeliver,
+    Event::Submit(4, &P0),
+    Event::Send,
+    Event::Send,
+    Event::Report,
+    Event::Report,
+    Event::Report,
+    Event::Telemetry(&[0x00, 0x05, 0xc0, 0x00, 0x00, 0x00, 0xaa]),
+];
+
+static WITHOUT_MEMORY: [Event<'static>; 17] = [
+    Event::UpDeliver,
+    Event::UpDamage(&[]),
+    Event::UpLose,
+    Event::DownDeliver,
+    Event::DownDamage(&[]),
+    Event::DownLose,
+    Event::Tick,
+    Event::Submit(64, &P0),
+    Event::Submit(4, &[]),
+    Event::Bypass(4, &[]),
+    Event::Telemetry(&[]),
+    Event::Directive(Directive::Terminate),
+    Event::Directive(Directive::InitSetVr(3)),
+    Event::Take,
+    Event::Take,
+    Event::TakeBypass,
+    Event::TakeBypass,
+];
+
 #[test]
 fn events_of_a_link_takes_no_memory(rt: HostRuntime) {
-    let Ok(mut sim) = link(rt.alloc()) else {
-        let _ = eprintln!(rt; "refused a growth");
-        return;
-    };
+    match link(rt.alloc()) {
+        Ok(mut sim) => happen_without_memory(&rt, &mut sim),
+        Err(_) => {
+            let _ = eprintln!(rt; "refused a growth");
+        }
+    }
+}
+
+fn happen_without_memory(rt: &(impl Abort + Eprint), sim: &mut Sim) {
     let _ = eprintln!(rt; "set up");
-    for event in [
-        Event::UpDeliver,
-        Event::UpDamage(&[]),
-        Event::UpLose,
-        Event::DownDeliver,
-        Event::DownDamage(&[]),
-        Event::DownLose,
-        Event::Tick,
-        Event::Submit(64, &P0),
-        Event::Submit(4, &[]),
-        Event::Bypass(4, &[]),
-        Event::Telemetry(&[]),
-        Event::Directive(Directive::Terminate),
-        Event::Directive(Directive::InitSetVr(3)),
-        Event::Take,
-        Event::Take,
-        Event::TakeBypass,
-        Event::TakeBypass,
-    ] {
-        assert!(rt; !is_without_memory(&mut sim, event));
+    for event in &WITHOUT_MEMORY {
+        assert!(rt; !is_without_memory(sim, *event));
     }
     assert_eq!(rt; sim.step(Event::Take), Ok(Reply::Nothing));
+    has_no_records(rt, sim);
+}
+
+fn has_no_records(rt: &impl Abort, sim: &Sim) {
     for map in 0..64u8 {
         assert!(rt; sim.submitted(map).is_empty() && sim.delivered(map).is_empty());
     }

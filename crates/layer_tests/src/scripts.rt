@@ -7,17 +7,31 @@ use std::alloc::Global;
 use std::process::Abort;
 use tc_link::Sim;
 
-// The link after a script, and all that the script answers, in a text that grows from this room.
-fn played(alloc: Global, script: &[u8], room: usize) -> Result<(Sim, String), ScriptFault> {
+// Whether the session had an idle start, and all that the script answers, in a text that grows from this
+// room.
+fn played(
+    alloc: Global,
+    script: &[u8],
+    room: usize,
+) -> Result<(Option<bool>, String), ScriptFault> {
     if script.len() > 4096 {
         return Err(ScriptFault::Memory);
     }
     let (mut sim, program) = open(alloc, script)?;
+    play(alloc, room, &mut sim, &program)
+}
+
+fn play(
+    alloc: Global,
+    room: usize,
+    sim: &mut Sim,
+    program: &Program<'_>,
+) -> Result<(Option<bool>, String), ScriptFault> {
     let Ok(mut text) = String::with_capacity(alloc, room) else {
         return Err(ScriptFault::Memory);
     };
-    match play_all(alloc, &mut sim, &mut text, &program) {
-        true => Ok((sim, text)),
+    match play_all(alloc, sim, &mut text, program) {
+        true => Ok((sim.idle(), text)),
         false => Err(ScriptFault::Memory),
     }
 }
@@ -53,8 +67,8 @@ fn plays(
         told => told,
     };
     match told {
-        Ok((sim, text)) => {
-            assert_eq!(rt; sim.idle(), idle);
+        Ok((start, text)) => {
+            assert_eq!(rt; start, idle);
             assert!(rt; answers.is_none_or(|answers| answers == text.as_str()));
         }
         Err(_) => assert!(rt; false),
@@ -114,6 +128,26 @@ fn idle_starts(rt: HostRuntime) {
 // Lines one by one, and scripts that are not opened: no memory is wanted to say so.
 #[test]
 fn lines_that_are_read(rt: HostRuntime) {
+    reads_lines(&rt);
+    for (script, want) in [
+        (
+            "# a note\nsubmit 4 -\nsubmit 04 -\n",
+            ScriptFault::Unreadable(3),
+        ),
+        (
+            "config window 1\nconfig window 128\n",
+            ScriptFault::OutOfRange("window"),
+        ),
+    ] {
+        assert_eq!(rt; fault_of(rt.alloc(), script), Some(want));
+    }
+}
+
+fn fault_of(alloc: Global, script: &str) -> Option<ScriptFault> {
+    played(alloc, script.as_bytes(), 0).err()
+}
+
+fn reads_lines(rt: &impl Abort) {
     assert!(rt;
         matches!(
             read_line(b"submit 4 0f"),
@@ -128,16 +162,4 @@ fn lines_that_are_read(rt: HostRuntime) {
     );
     assert!(rt; matches!(read_line(b"submit 4 0F "), Line::Unreadable));
     assert!(rt; matches!(read_line(b"# submit"), Line::Skipped));
-    for (script, want) in [
-        (
-            "# a note\nsubmit 4 -\nsubmit 04 -\n",
-            ScriptFault::Unreadable(3),
-        ),
-        (
-            "config window 1\nconfig window 128\n",
-            ScriptFault::OutOfRange("window"),
-        ),
-    ] {
-        assert_eq!(rt; played(rt.alloc(), script.as_bytes(), 0).err(), Some(want));
-    }
 }

@@ -61,36 +61,51 @@ fn is_listed<S: Cutter + Drop, C: Listing<S> + Drop>(
 
 #[test]
 fn each_listing(rt: HostRuntime) -> Result<(), AllocError> {
-    let alloc = rt.alloc();
+    lists_frames(&rt, rt.alloc());
+    lists_data(&rt, rt.alloc());
+    lists_telemetry(&rt, rt.alloc())
+}
+
+fn lists_frames(rt: &impl Abort, alloc: Global) {
     let unchecked = Splitter::<Unchecked>::new(alloc);
     let line = "1 BC scid=1 vcid=2 unlock\n";
-    is_listed(&rt, alloc, &UNLOCK, unchecked, FrameListing, true, line);
+    is_listed(rt, alloc, &UNLOCK, unchecked, FrameListing, true, line);
     let checked = Splitter::<Checked>::new(alloc);
     let line = "1 invalid 5 Length\n";
-    is_listed(&rt, alloc, &UNLOCK, checked, RefusalListing, false, line);
+    is_listed(rt, alloc, &UNLOCK, checked, RefusalListing, false, line);
     let farm = Farm::new(254, 0).unwrap();
     let unchecked = Splitter::<Unchecked>::new(alloc);
     let line = "1 AD 0 accepted Open vr=1 l=0 w=0 t=0 b=0\n";
-    is_listed(&rt, alloc, &DATA, unchecked, farm, true, line);
+    is_listed(rt, alloc, &DATA, unchecked, farm, true, line);
+}
+
+fn lists_data(rt: &impl Abort, alloc: Global) {
     let packets = MapListing::new(alloc, 254, 0, false);
     let unchecked = Splitter::<Unchecked>::new(alloc);
     let line = "packet 4 1005C0000000AA\n";
-    is_listed(&rt, alloc, &DATA, unchecked, packets, true, line);
+    is_listed(rt, alloc, &DATA, unchecked, packets, true, line);
     let splitter = Splitter::<Packets>::new(alloc);
     let packets = PacketListing::new();
     let line = "1 TC secondary=0 apid=5 flags=3 count=0 gap=- data=AA\n";
-    is_listed(&rt, alloc, &DATA[6..], splitter, packets, true, line);
+    is_listed(rt, alloc, &DATA[6..], splitter, packets, true, line);
+}
+
+fn lists_telemetry(rt: &impl Abort, alloc: Global) -> Result<(), AllocError> {
     let frames = TelemetryListing::<Twenty>::new(alloc, 20)?;
     let cutter = FrameCutter::<Twenty>::new(alloc, 20);
     let lines = "1 scid=1 vcid=0 mc=0 vc=0 pointer=0 ocf=01080000 gap=-\n\
                  packet 0005C0000000AA\n";
-    is_listed(&rt, alloc, &TELEMETRY, cutter, frames, true, lines);
+    is_listed(rt, alloc, &TELEMETRY, cutter, frames, true, lines);
     Ok(())
 }
 
 #[test]
 fn a_cutter_of_frames(rt: HostRuntime) -> Result<(), TmFault> {
     let mut cutter = FrameCutter::<Twenty>::new(rt.alloc(), 20);
+    cuts_one(&rt, &mut cutter)
+}
+
+fn cuts_one(rt: &impl Abort, cutter: &mut FrameCutter<Twenty>) -> Result<(), TmFault> {
     cutter.feed(&TELEMETRY)?;
     cutter.feed(&UNLOCK)?;
     assert!(rt; matches!(cutter.next(), Some(Ok(frame)) if frame == TELEMETRY.as_slice()));
@@ -107,12 +122,16 @@ fn texts_and_logs(rt: HostRuntime) {
     assert_eq!(rt; written.as_slice(), b"unlock".as_slice());
     let log = DeviceLog::new().then(&Call::Moved(b"unlock"));
     let _ = log.then(&Call::Failed);
+    lists_nowhere(&rt, rt.alloc());
+}
+
+fn lists_nowhere(rt: &impl Abort, alloc: Global) {
     let mut none = [0u8; 0];
     let result = list_stream(
-        rt.alloc(),
+        alloc,
         &mut Reader::new(UNLOCK.as_slice()),
         &mut Writer::new(none.as_mut_slice()),
-        Splitter::<Unchecked>::new(rt.alloc()),
+        Splitter::<Unchecked>::new(alloc),
         FrameListing,
     );
     assert_eq!(rt; result, Err(ListingFault::Write));
@@ -164,32 +183,50 @@ impl Write for Device {
 // What the reader or the writer inside answers is answered: how many octets, or its error.
 #[test]
 fn readers_and_writers_of_std(rt: HostRuntime) -> Result<(), AllocError> {
-    let mut piece = [0; 4];
     let octets = Vec::from_slice(rt.alloc(), b"unlock")?;
     let mut reader = Reader::new(Device {
         octets,
         calls_left: 2,
     });
-    for (count, octets) in [(3, b"unl\0"), (3, b"ock\0")] {
-        assert_eq!(rt; reader.read(&mut piece).ok(), Some(count));
-        assert_eq!(rt; piece, *octets);
-    }
-    let failed = reader.read(&mut piece).err().map(|error| error.kind());
-    assert_eq!(rt; failed, Some(ErrorKind::PermissionDenied));
-    assert_eq!(rt; reader.read(&mut piece).ok(), Some(0));
-
+    reads(&rt, &mut reader);
     let octets = Vec::new(rt.alloc());
     let mut device = Device {
         octets,
         calls_left: 1,
     };
-    let mut writer = Writer::new(&mut device);
-    assert_eq!(rt; writer.write(b"unlock").ok(), Some(3));
-    let failed = writer.write(b"ock").err().map(|error| error.kind());
-    assert_eq!(rt; failed, Some(ErrorKind::StorageFull));
-    assert_eq!(rt; writer.write(b"ock").ok(), Some(3));
+    writes(&rt, &mut Writer::new(&mut device));
     assert_eq!(rt; device.octets.as_slice(), b"unlock".as_slice());
     Ok(())
+}
+
+fn reads(rt: &impl Abort, reader: &mut Reader<Device>) {
+    let mut piece = [0; 4];
+    for (answer, octets) in [
+        (Ok(3), b"unl\0"),
+        (Ok(3), b"ock\0"),
+        (Err(ErrorKind::PermissionDenied), b"ock\0"),
+        (Ok(0), b"ock\0"),
+    ] {
+        assert_eq!(rt; without_note(reader.read(&mut piece)), answer);
+        assert_eq!(rt; piece, *octets);
+    }
+}
+
+fn writes(rt: &impl Abort, writer: &mut Writer<&mut Device>) {
+    for (text, answer) in [
+        (&b"unlock"[..], Ok(3)),
+        (b"ock", Err(ErrorKind::StorageFull)),
+        (b"ock", Ok(3)),
+    ] {
+        assert_eq!(rt; without_note(writer.write(text)), answer);
+    }
+}
+
+fn without_note(answer: io::Result<usize>) -> Result<usize, ErrorKind> {
+    match answer {
+        Ok(count) => Ok(count),
+        Err(error) => Err(error.kind()),
+    }
 }
 
 #[test]

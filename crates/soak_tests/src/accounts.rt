@@ -32,16 +32,31 @@ fn senders(rt: HostRuntime) -> Result<(), Fail> {
     sender(&rt, rt.alloc(), 254, "account Fop::new width 254")
 }
 
+fn splitter(rt: &impl Eprint, alloc: Global) {
+    notes(rt, "account before");
+    let _splitter = Splitter::<Packets>::new(alloc);
+    notes(rt, "account Splitter::new");
+}
+
+fn builder(rt: &impl Eprint, alloc: Global) -> Result<(), Fail> {
+    notes(rt, "account before");
+    let _builder = TmBuilder::new(alloc, 1, 0, 2048)?;
+    notes(rt, "account TmBuilder::new");
+    Ok(())
+}
+
+fn extractor(rt: &impl Eprint, alloc: Global) -> Result<(), Fail> {
+    notes(rt, "account before");
+    let _extractor = Extractor::new(alloc)?;
+    notes(rt, "account Extractor::new");
+    Ok(())
+}
+
 #[test]
 fn cutters_and_builders(rt: HostRuntime) -> Result<(), Fail> {
-    notes(&rt, "account before");
-    let _splitter = Splitter::<Packets>::new(rt.alloc());
-    notes(&rt, "account Splitter::new");
-    let _builder = TmBuilder::new(rt.alloc(), 1, 0, 2048)?;
-    notes(&rt, "account TmBuilder::new");
-    let _extractor = Extractor::new(rt.alloc())?;
-    notes(&rt, "account Extractor::new");
-    Ok(())
+    splitter(&rt, rt.alloc());
+    builder(&rt, rt.alloc())?;
+    extractor(&rt, rt.alloc())
 }
 
 fn opens_part(rt: &impl Eprint, alloc: Global, max_packet: u32, line: &str) -> Result<(), Fail> {
@@ -57,11 +72,17 @@ fn opens_part(rt: &impl Eprint, alloc: Global, max_packet: u32, line: &str) -> R
     };
     let mut assembler = Assembler::new(alloc, limits);
     notes(rt, "account before");
-    let _ = assembler.take(&Segment {
+    let segment = Segment {
         header,
         payload: &[0x10],
-    })?;
+    };
+    takes(&mut assembler, &segment)?;
     notes(rt, line);
+    Ok(())
+}
+
+fn takes(assembler: &mut Assembler, segment: &Segment<'_>) -> Result<(), Fail> {
+    let _ = assembler.take(segment)?;
     Ok(())
 }
 
@@ -197,9 +218,17 @@ fn splits(rt: &impl Abort, splitter: &mut Splitter<Packets>, octets: &[u8]) -> R
 fn a_splitter_for_ever(rt: HostRuntime) -> Result<(), Fail> {
     let packet = crate::packets::command(rt.alloc(), 100, 0)?;
     let mut splitter = Splitter::<Packets>::new(rt.alloc());
-    notes(&rt, "account before");
-    splits(&rt, &mut splitter, packet.as_slice())?;
-    notes(&rt, "account a splitter for ever");
+    splits_for_ever(&rt, &mut splitter, packet.as_slice())
+}
+
+fn splits_for_ever(
+    rt: &(impl Abort + Eprint),
+    splitter: &mut Splitter<Packets>,
+    octets: &[u8],
+) -> Result<(), Fail> {
+    notes(rt, "account before");
+    splits(rt, splitter, octets)?;
+    notes(rt, "account a splitter for ever");
     Ok(())
 }
 

@@ -23,14 +23,20 @@ struct Carried {
 }
 
 fn new_carried(alloc: Global) -> Result<Carried, Fail> {
-    let mut commands = Vec::new(alloc);
+    let telemetry = measurement(alloc, 100, 1)?;
+    let mut carried = Carried {
+        commands: Vec::new(alloc),
+        telemetry,
+    };
+    push_commands(alloc, &mut carried.commands)?;
+    Ok(carried)
+}
+
+fn push_commands(alloc: Global, commands: &mut Vec<Vec<u8>>) -> Result<(), Fail> {
     for size in [7, 8, 40, 1016, 1017, 5000] {
         commands.push(command(alloc, size, size)?)?;
     }
-    Ok(Carried {
-        commands,
-        telemetry: measurement(alloc, 100, 1)?,
-    })
+    Ok(())
 }
 
 impl Carried {

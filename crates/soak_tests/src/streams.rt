@@ -25,18 +25,25 @@ fn cuts<S: Cutter>(
     number: usize,
 ) -> Result<(), Fail> {
     let octets = repeated(alloc, record, number)?;
+    feeds(rt, cutter, octets.as_slice());
+    for _ in 0..number {
+        assert!(rt; hands_out(cutter, record));
+    }
+    ends(rt, cutter);
+    Ok(())
+}
+
+fn feeds<S: Cutter>(rt: &impl Abort, cutter: &mut S, octets: &[u8]) {
     let (front, last) = octets
-        .as_slice()
         .split_at_checked(octets.len().wrapping_sub(1))
         .unwrap_or_default();
     assert!(rt; cutter.feed(front).is_ok());
     assert!(rt; cutter.feed(last).is_ok());
-    for _ in 0..number {
-        assert!(rt; hands_out(cutter, record));
-    }
+}
+
+fn ends<S: Cutter>(rt: &impl Abort, cutter: &mut S) {
     assert!(rt; cutter.next().is_none());
     assert!(rt; cutter.finish().is_ok());
-    Ok(())
 }
 
 fn hands_out<S: Cutter>(cutter: &mut S, record: &[u8]) -> bool {
@@ -48,10 +55,15 @@ fn hands_out<S: Cutter>(cutter: &mut S, record: &[u8]) -> bool {
 
 fn repeated(alloc: Global, record: &[u8], number: usize) -> Result<Vec<u8>, AllocError> {
     let mut octets = Vec::new(alloc);
+    append(&mut octets, record, number)?;
+    Ok(octets)
+}
+
+fn append(octets: &mut Vec<u8>, record: &[u8], number: usize) -> Result<(), AllocError> {
     for _ in 0..number {
         octets.extend_from_slice(record)?;
     }
-    Ok(octets)
+    Ok(())
 }
 
 // Lengths of a stream: two octets, just past 64 KiB, past twice as much, and some megabytes.
@@ -77,23 +89,35 @@ const CHECKED: [u8; 8] = [0x30, 0x01, 0x08, 0x07, 0x00, 0x00, 0x8b, 0x9e];
 #[test]
 fn frames_fed_whole(rt: HostRuntime) -> Result<(), Fail> {
     let alloc = rt.alloc();
-    cuts_each_length(&rt, alloc, &mut Splitter::<Unchecked>::new(alloc), &UNLOCK)?;
-    cuts_each_length(&rt, alloc, &mut Splitter::<Checked>::new(alloc), &CHECKED)?;
-    cuts_each_length(
-        &rt,
-        alloc,
-        &mut FrameCutter::<Twenty>::new(alloc, 20),
-        &[7; 20],
-    )
+    cuts_with(&rt, alloc, Splitter::<Unchecked>::new(alloc), &UNLOCK)?;
+    cuts_with(&rt, alloc, Splitter::<Checked>::new(alloc), &CHECKED)?;
+    cuts_with(&rt, alloc, FrameCutter::<Twenty>::new(alloc, 20), &[7; 20])
+}
+
+fn cuts_with<S: Cutter + Drop>(
+    rt: &impl Abort,
+    alloc: Global,
+    cutter: S,
+    record: &[u8],
+) -> Result<(), Fail> {
+    let mut cutter = cutter;
+    cuts_each_length(rt, alloc, &mut cutter, record)
 }
 
 #[test]
 fn packets_fed_whole(rt: HostRuntime) -> Result<(), Fail> {
-    let alloc = rt.alloc();
     for size in [7, 65_542] {
-        let packet = commands(alloc, size, 1)?;
-        let mut splitter = Splitter::<Packets>::new(alloc);
-        cuts_each_length(&rt, alloc, &mut splitter, packet.as_slice())?;
+        cuts_packets(&rt, rt.alloc(), size)?;
     }
     Ok(())
+}
+
+fn cuts_packets(rt: &impl Abort, alloc: Global, size: usize) -> Result<(), Fail> {
+    let packet = commands(alloc, size, 1)?;
+    cuts_with(
+        rt,
+        alloc,
+        Splitter::<Packets>::new(alloc),
+        packet.as_slice(),
+    )
 }

@@ -22,9 +22,17 @@ fn comes_down(
     number: usize,
 ) -> Result<(), Fail> {
     let mut pair = Pair::new(rt, alloc, &with_length(frame_length))?;
-    for count in 0..number {
-        pair.queues(alloc, size, count)?;
-    }
+    queue_and_come_down(rt, alloc, &mut pair, size, number)
+}
+
+fn queue_and_come_down(
+    rt: &impl Abort,
+    alloc: Global,
+    pair: &mut Pair,
+    size: usize,
+    number: usize,
+) -> Result<(), Fail> {
+    queue(alloc, pair, size, number)?;
     let mut finished: usize = 0;
     for _ in 0..100_000 {
         if finished == number {
@@ -32,6 +40,25 @@ fn comes_down(
         }
         finished = finished.wrapping_add(pair.hears(rt)?);
     }
+    are_taken(rt, alloc, pair, size, number)
+}
+
+// This number of packets of a size is queued at once.
+fn queue(alloc: Global, pair: &mut Pair, size: usize, number: usize) -> Result<(), Fail> {
+    for count in 0..number {
+        pair.queues(alloc, size, count)?;
+    }
+    Ok(())
+}
+
+// They are taken in order, and no more.
+fn are_taken(
+    rt: &impl Abort,
+    alloc: Global,
+    pair: &mut Pair,
+    size: usize,
+    number: usize,
+) -> Result<(), Fail> {
     for count in 0..number {
         pair.takes(rt, alloc, size, count)?;
     }
@@ -66,32 +93,44 @@ fn a_long_queue(rt: HostRuntime) -> Result<(), Fail> {
 #[test]
 fn packets_that_one_frame_finishes(rt: HostRuntime) -> Result<(), Fail> {
     let mut pair = Pair::new(&rt, rt.alloc(), &with_length(2048))?;
-    for count in 0..600 {
-        pair.queues(rt.alloc(), 7, count)?;
-    }
+    frames_finish_them(&rt, rt.alloc(), &mut pair)
+}
+
+fn frames_finish_them(rt: &impl Abort, alloc: Global, pair: &mut Pair) -> Result<(), Fail> {
+    queue(alloc, pair, 7, 600)?;
     for wanted in [290, 291, 19, 0] {
-        assert_eq!(rt; pair.hears(&rt)?, wanted);
+        assert_eq!(rt; pair.hears(rt)?, wanted);
     }
-    for count in 0..600 {
-        pair.takes(&rt, rt.alloc(), 7, count)?;
-    }
-    pair.has_no_more(&rt);
-    Ok(())
+    are_taken(rt, alloc, pair, 7, 600)
 }
 
 // Each packet is queued where the frame before it ended within an idle packet, with each rest that this may have.
 #[test]
 fn packets_queued_within_an_idle_packet(rt: HostRuntime) -> Result<(), Fail> {
     for (frame_length, size) in [(16, 7), (17, 7), (18, 8), (19, 8), (20, 9), (21, 9)] {
-        let mut pair = Pair::new(&rt, rt.alloc(), &with_length(frame_length))?;
-        for count in 0..200 {
-            pair.queues(rt.alloc(), size, count)?;
-            for _ in 0..4 {
-                let _ = pair.hears(&rt)?;
-            }
-            pair.takes(&rt, rt.alloc(), size, count)?;
-        }
-        pair.has_no_more(&rt);
+        come_one_by_one(&rt, rt.alloc(), frame_length, size)?;
     }
+    Ok(())
+}
+
+fn come_one_by_one(
+    rt: &impl Abort,
+    alloc: Global,
+    frame_length: u32,
+    size: usize,
+) -> Result<(), Fail> {
+    let mut pair = Pair::new(rt, alloc, &with_length(frame_length))?;
+    each_comes(rt, alloc, &mut pair, size)
+}
+
+fn each_comes(rt: &impl Abort, alloc: Global, pair: &mut Pair, size: usize) -> Result<(), Fail> {
+    for count in 0..200 {
+        pair.queues(alloc, size, count)?;
+        for _ in 0..4 {
+            let _ = pair.hears(rt)?;
+        }
+        pair.takes(rt, alloc, size, count)?;
+    }
+    pair.has_no_more(rt);
     Ok(())
 }

@@ -2,29 +2,38 @@
 
 ghost use Rattle.std.specs.Prelude.{◌≤◌};
 
-use map_service::{Limits, cut};
+use map_service::{Limits, MapFault, cut};
 use std::alloc::Global;
 use std::process::Abort;
-use std::test::Fail;
 use tc_frame::{Body, Check, Segment, TcFrame, encode};
 
 const P0: [u8; 7] = [0x10, 0x05, 0xc0, 0x00, 0x00, 0x00, 0xaa];
 
-// A frame that carries the segment has this data field, after its header of 5 octets.
-fn is_spelled(rt: &impl Abort, segment: Segment<'_>, octets: &[u8]) -> Result<(), Fail> {
+// A frame that carries the segment, in octets, and how many these are.
+fn written(segment: Segment<'_>) -> ([u8; 16], usize) {
     let frame = TcFrame {
         scid: 1,
         vcid: 2,
         body: Body::Ad { n: 0, segment },
     };
     let mut out = [0; 16];
-    let total = encode(&frame, Check::Off, &mut out)?;
-    assert_eq!(rt; out.get(5..total), Some(octets));
-    Ok(())
+    let total = encode(&frame, Check::Off, &mut out).unwrap_or_default();
+    (out, total)
 }
 
-// On MAP 4 the packet has these data fields.
-fn is_cut(rt: &impl Abort, alloc: Global, part: u32, fields: &[&[u8]]) -> Result<(), Fail>
+// There is a segment, and a frame that carries it has this data field, after its header of 5 octets.
+fn is_spelled(rt: &impl Abort, segment: Option<&Segment<'_>>, octets: &[u8]) {
+    match segment {
+        Some(segment) => {
+            let (out, total) = written(*segment);
+            assert!(rt; out.get(5..total) == Some(octets));
+        }
+        None => assert!(rt; false),
+    }
+}
+
+// Cuts the packet on MAP 4.
+fn cut_in(part: u32, segments: &mut Vec<Segment<'static>>) -> Result<(), MapFault>
     requires { 1 ≤ part }
 {
     let limits = Limits {
@@ -33,23 +42,35 @@ fn is_cut(rt: &impl Abort, alloc: Global, part: u32, fields: &[&[u8]]) -> Result
         maps: u64::MAX,
         blocking: false,
     };
-    let mut segments = Vec::new(alloc);
-    cut(&P0, 4, &limits, &mut segments)?;
-    assert_eq!(rt; segments.len(), fields.len());
-    for (segment, field) in segments.iter().zip(fields) {
-        is_spelled(rt, *segment, field)?;
-    }
-    Ok(())
+    cut(&P0, 4, &limits, segments)
 }
 
+// On MAP 4 the packet has these data fields.
+fn is_cut(rt: &impl Abort, alloc: Global, part: u32, fields: &[&[u8]])
+    requires { 1 ≤ part }
+{
+    let mut segments = Vec::new(alloc);
+    assert_eq!(rt; cut_in(part, &mut segments), Ok(()));
+    are_spelled(rt, segments.as_slice(), fields);
+}
+
+fn are_spelled(rt: &impl Abort, segments: &[Segment<'_>], fields: &[&[u8]]) {
+    assert_eq!(rt; segments.len(), fields.len());
+    for (place, field) in fields.iter().enumerate() {
+        is_spelled(rt, segments.get(place), field);
+    }
+}
+
+const PARTS: [&[u8]; 3] = [
+    &[0x44, 0x10, 0x05, 0xc0],
+    &[0x04, 0x00, 0x00, 0x00],
+    &[0x84, 0xaa],
+];
+
+const WHOLE: [&[u8]; 1] = [&[0xc4, 0x10, 0x05, 0xc0, 0x00, 0x00, 0x00, 0xaa]];
+
 #[test]
-fn segments_as_octets(rt: HostRuntime) -> Result<(), Fail> {
-    let parts: [&[u8]; 3] = [
-        &[0x44, 0x10, 0x05, 0xc0],
-        &[0x04, 0x00, 0x00, 0x00],
-        &[0x84, 0xaa],
-    ];
-    is_cut(&rt, rt.alloc(), 3, &parts)?;
-    let whole: [&[u8]; 1] = [&[0xc4, 0x10, 0x05, 0xc0, 0x00, 0x00, 0x00, 0xaa]];
-    is_cut(&rt, rt.alloc(), 7, &whole)
+fn segments_as_octets(rt: HostRuntime) {
+    is_cut(&rt, rt.alloc(), 3, &PARTS);
+    is_cut(&rt, rt.alloc(), 7, &WHOLE);
 }

@@ -2,10 +2,9 @@
 
 use bitflags::Flags;
 use clcw::{Clcw, ClcwFault, ClcwFlags, decode, encode};
-use std::test::Fail;
 
 #[test]
-fn words_and_their_octets(rt: HostRuntime) -> Result<(), Fail> {
+fn words_and_their_octets(rt: HostRuntime) {
     let word = Clcw {
         status: 0,
         vcid: 2,
@@ -13,18 +12,19 @@ fn words_and_their_octets(rt: HostRuntime) -> Result<(), Fail> {
         farm_b: 1,
         value: 7,
     };
-    assert_eq!(rt; encode(&word)?, [0x01, 0x08, 0x0a, 0x07]);
-    assert_eq!(rt; decode([0x01, 0x08, 0x0a, 0x07])?, word);
+    assert_eq!(rt; encode(&word), Ok([0x01, 0x08, 0x0a, 0x07]));
+    assert_eq!(rt; decode([0x01, 0x08, 0x0a, 0x07]), Ok(word));
     assert!(rt; ClcwFlags::from_name("RETRANSMIT") == Some(word.flags));
-    for (octets, fault) in [
-        ([0x01, 0x08, 0x0b, 0x07], ClcwFault::Spare),
-        ([0x81, 0x08, 0x0a, 0x07], ClcwFault::Kind),
-        ([0x00, 0x08, 0x0a, 0x07], ClcwFault::Cop),
-    ] {
+    for (octets, fault) in REFUSED {
         assert_eq!(rt; decode(octets).err(), Some(fault));
     }
-    Ok(())
 }
+
+const REFUSED: [([u8; 4], ClcwFault); 3] = [
+    ([0x01, 0x08, 0x0b, 0x07], ClcwFault::Spare),
+    ([0x81, 0x08, 0x0a, 0x07], ClcwFault::Kind),
+    ([0x00, 0x08, 0x0a, 0x07], ClcwFault::Cop),
+];
 
 #[test]
 fn words_without_octets(rt: HostRuntime) {
@@ -41,6 +41,6 @@ fn words_without_octets(rt: HostRuntime) {
         ..word
     };
     assert_eq!(rt; encode(&no_name).err(), Some(ClcwFault::Range));
-    assert_eq!(rt; ClcwFault::Range.number(), 5);
-    assert_eq!(rt; ClcwFault::Range.name(), "Range");
+    let fault = ClcwFault::Range;
+    assert_eq!(rt; (fault.number(), fault.name()), (5, "Range"));
 }

@@ -5,7 +5,6 @@ ghost use Rattle.std.specs.Prelude.{◌<◌};
 use crate::refusing::says_refused;
 use octets::Wire;
 use std::process::Abort;
-use std::test::Fail;
 use tc_frame::*;
 
 const DATA: [u8; 13] = [
@@ -26,19 +25,35 @@ fn frame(body: Body<'_>) -> TcFrame<'_> {
     }
 }
 
-fn is_spelled(rt: &impl Abort, body: Body, check: Check, octets: &[u8]) -> Result<(), Fail> {
-    assert_eq!(rt; decode(octets, check)?, frame(body));
+fn is_spelled(rt: &impl Abort, body: Body, check: Check, octets: &[u8]) {
+    reads(rt, octets, check, frame(body));
     let mut out = [0x55; 16];
-    let total = encode(&frame(body), check, &mut out)?;
-    assert_eq!(rt; total, octets.len());
-    assert_eq!(rt; frame(body).total(check), total);
-    assert!(rt; out.starts_with(octets));
-    assert!(rt; out[total..].iter().all(|octet| *octet == 0x55));
-    Ok(())
+    assert_eq!(rt; written(body, check, &mut out), Some(octets.len()));
+    let (octets_written, rest) = out.split_at_checked(octets.len()).unwrap_or_default();
+    assert!(rt; octets_written == octets);
+    assert!(rt; rest.iter().all(|octet| *octet == 0x55));
+}
+
+fn reads(rt: &impl Abort, octets: &[u8], check: Check, frame: TcFrame<'_>) {
+    assert_eq!(rt; decode(octets, check), Ok(frame));
+}
+
+// How many octets the frame has, of which it is known before.
+fn written(body: Body, check: Check, out: &mut [u8]) -> Option<usize> {
+    let frame = frame(body);
+    let total = encode(&frame, check, out).ok();
+    match total == Some(frame.total(check)) {
+        true => total,
+        false => None,
+    }
+}
+
+fn fault_of(octets: &[u8], check: Check) -> Option<TcFault> {
+    decode(octets, check).err()
 }
 
 #[test]
-fn data_frames(rt: HostRuntime) -> Result<(), Fail> {
+fn data_frames(rt: HostRuntime) {
     let segment = Segment {
         header: SegmentHeader {
             flags: SegmentFlags::Alone,
@@ -46,11 +61,11 @@ fn data_frames(rt: HostRuntime) -> Result<(), Fail> {
         },
         payload: &DATA[6..],
     };
-    is_spelled(&rt, Body::Ad { n: 3, segment }, Check::Off, &DATA)?;
+    is_spelled(&rt, Body::Ad { n: 3, segment }, Check::Off, &DATA);
     let mut bypass = DATA;
     bypass[0] = 0x20;
     bypass[4] = 0x00;
-    is_spelled(&rt, Body::Bd { segment }, Check::Off, &bypass)
+    is_spelled(&rt, Body::Bd { segment }, Check::Off, &bypass);
 }
 
 #[test]
@@ -60,41 +75,47 @@ fn frames_with_a_check_or_without(rt: HostRuntime) {
 }
 
 #[test]
-fn control_frames(rt: HostRuntime) -> Result<(), Fail> {
+fn control_frames(rt: HostRuntime) {
     let set_seven = Body::Bc(Command::SetVr(7));
-    is_spelled(&rt, set_seven, Check::Off, &SET_SEVEN)?;
+    is_spelled(&rt, set_seven, Check::Off, &SET_SEVEN);
     let unlock = Body::Bc(Command::Unlock);
-    is_spelled(&rt, unlock, Check::Off, &UNLOCK)?;
-    is_spelled(&rt, unlock, Check::On, &UNLOCK_CHECKED)
+    is_spelled(&rt, unlock, Check::Off, &UNLOCK);
+    is_spelled(&rt, unlock, Check::On, &UNLOCK_CHECKED);
 }
 
 #[test]
 fn faults_of_the_header(rt: HostRuntime) {
-    assert_eq!(rt; decode(&UNLOCK[..4], Check::Off), Err(TcFault::Short));
-    for (octet, fault) in [
-        (0x40, TcFault::Version),
-        (0x10, TcFault::ReservedType),
-        (0x04, TcFault::Spare),
+    for (octets, fault) in [
+        (&UNLOCK[..4], TcFault::Short),
+        (&LONG, TcFault::Length),
+        (&with_first(0x40), TcFault::Version),
+        (&with_first(0x10), TcFault::ReservedType),
+        (&with_first(0x04), TcFault::Spare),
     ] {
-        let mut octets = DATA;
-        octets[0] = octet;
-        assert_eq!(rt; decode(&octets, Check::Off), Err(fault));
+        assert_eq!(rt; fault_of(octets, Check::Off), Some(fault));
     }
-    let long = [0x30, 0x01, 0x08, 0x05, 0x00, 0x00, 0x00];
-    assert_eq!(rt; decode(&long, Check::Off), Err(TcFault::Length));
+}
+
+const LONG: [u8; 7] = [0x30, 0x01, 0x08, 0x05, 0x00, 0x00, 0x00];
+
+// DATA with another first octet.
+fn with_first(octet: u8) -> [u8; 13] {
+    let mut octets = DATA;
+    octets[0] = octet;
+    octets
 }
 
 #[test]
 fn faults_behind_the_header(rt: HostRuntime) {
     let mut damaged = UNLOCK_CHECKED;
     damaged[7] = 0x9f;
-    assert_eq!(rt; decode(&damaged, Check::On), Err(TcFault::Check));
+    assert_eq!(rt; fault_of(&damaged, Check::On), Some(TcFault::Check));
     for (octets, fault) in [
         ([0x30, 0x01, 0x08, 0x05, 0x01, 0x00], TcFault::BypassNumber),
         ([0x00, 0x01, 0x08, 0x05, 0x03, 0xc4], TcFault::EmptyData),
         ([0x30, 0x01, 0x08, 0x05, 0x00, 0x01], TcFault::Command),
     ] {
-        assert_eq!(rt; decode(&octets, Check::Off), Err(fault));
+        assert_eq!(rt; fault_of(&octets, Check::Off), Some(fault));
     }
 }
 
@@ -106,7 +127,7 @@ fn refused_at(octets: &[u8; 15], place: usize) -> u8
     for octet in 0..=255_u8 {
         let mut damaged = *octets;
         damaged[place] = octet;
-        if decode(&damaged, Check::On).is_err() {
+        if fault_of(&damaged, Check::On).is_some() {
             refused = refused.wrapping_add(1);
         }
     }
@@ -114,21 +135,20 @@ fn refused_at(octets: &[u8; 15], place: usize) -> u8
 }
 
 #[test]
-fn a_wrong_octet(rt: HostRuntime) -> Result<(), Fail> {
+fn a_wrong_octet(rt: HostRuntime) {
     let octets = [
         0x00, 0x01, 0x08, 0x0e, 0x00, 0xc4, 0x10, 0x05, 0xc0, 0x00, 0x00, 0x00, 0xaa, 0xe7, 0x5d,
     ];
-    decode(&octets, Check::On)?;
+    assert_eq!(rt; fault_of(&octets, Check::On), None);
     for place in 0..15 {
         assert_eq!(rt; refused_at(&octets, place), 255, "at {place}");
     }
-    Ok(())
 }
 
 #[test]
 fn faults_by_number_and_name(rt: HostRuntime) {
-    assert_eq!(rt; TcFault::FieldRange.number(), 11);
-    assert_eq!(rt; TcFault::FieldRange.name(), "FieldRange");
+    let fault = TcFault::FieldRange;
+    assert_eq!(rt; (fault.number(), fault.name()), (11, "FieldRange"));
 }
 
 // Feeds. Where memory is refused nothing has changed, and the call made again answers as ever.
@@ -143,25 +163,43 @@ fn feed<C: Wire<Fault = TcFault>>(
     }
 }
 
+/// The next record, or the fault of its length.
+pub fn hands_out<C: Wire<Fault = TcFault>>(
+    rt: &impl Abort,
+    splitter: &mut TcSplitter<C>,
+    record: Option<Result<&[u8], TcFault>>,
+) {
+    assert_eq!(rt; splitter.next(), record);
+}
+
+/// Whether the stream may end here.
+pub fn ends<C: Wire<Fault = TcFault>>(
+    rt: &impl Abort,
+    splitter: &TcSplitter<C>,
+    answer: Result<(), TcFault>,
+) {
+    assert_eq!(rt; splitter.finish(), answer);
+}
+
 #[test]
 fn frames_in_pieces(rt: HostRuntime) {
     let mut splitter = TcSplitter::<Unchecked>::new(rt.alloc());
     feed(&rt, &mut splitter, &DATA);
     feed(&rt, &mut splitter, &UNLOCK[..5]);
-    assert_eq!(rt; splitter.next(), Some(Ok(DATA.as_slice())));
-    assert_eq!(rt; splitter.next(), None);
-    assert_eq!(rt; splitter.finish(), Err(TcFault::Short));
+    hands_out(&rt, &mut splitter, Some(Ok(DATA.as_slice())));
+    hands_out(&rt, &mut splitter, None);
+    ends(&rt, &splitter, Err(TcFault::Short));
     feed(&rt, &mut splitter, &UNLOCK[5..]);
-    assert_eq!(rt; splitter.next(), Some(Ok(UNLOCK.as_slice())));
-    assert_eq!(rt; splitter.finish(), Ok(()));
+    hands_out(&rt, &mut splitter, Some(Ok(UNLOCK.as_slice())));
+    ends(&rt, &splitter, Ok(()));
 }
 
 #[test]
 fn a_refused_record_is_for_good(rt: HostRuntime) {
     let mut splitter = TcSplitter::<Checked>::new(rt.alloc());
     feed(&rt, &mut splitter, &UNLOCK);
-    assert!(rt; matches!(splitter.next(), Some(Err(TcFault::Length))));
+    hands_out(&rt, &mut splitter, Some(Err(TcFault::Length)));
     feed(&rt, &mut splitter, &UNLOCK_CHECKED);
-    assert!(rt; matches!(splitter.next(), Some(Err(TcFault::Length))));
-    assert_eq!(rt; splitter.finish(), Ok(()));
+    hands_out(&rt, &mut splitter, Some(Err(TcFault::Length)));
+    ends(&rt, &splitter, Ok(()));
 }

@@ -3,6 +3,7 @@
 
 ghost use Rattle.std.specs.Prelude.{◌≡◌, ◌≤◌};
 
+use crate::{frames, packets};
 use map_service::{Assembler, Dropped, Limits, segment_count};
 use space_packet::{GapCheck, PacketSplitter, SequenceCounters, is_packet, packet_len};
 use std::process::Abort;
@@ -16,22 +17,38 @@ const DATA: [u8; 13] = [
     0x00, 0x01, 0x08, 0x0c, 0x03, 0xc4, 0x10, 0x05, 0xc0, 0x00, 0x00, 0x00, 0xaa,
 ];
 
-fn codes_packets(rt: &impl Abort) -> Result<(), Fail> {
-    let (packet, len) = space_packet::decode(&P0)?;
+// Reads a packet, and writes it: how many octets were read and written.
+fn packet_again(octets: &[u8], out: &mut [u8]) -> Option<(usize, usize)> {
+    match space_packet::decode(octets) {
+        Ok((packet, len)) => Some((len, space_packet::encode(&packet, out).ok()?)),
+        Err(_) => None,
+    }
+}
+
+fn codes_packets(rt: &impl Abort) {
     let mut out = [0; 7];
-    assert_eq!(rt; space_packet::encode(&packet, &mut out)?, len);
+    assert_eq!(rt; packet_again(&P0, &mut out), Some((7, 7)));
     assert_eq!(rt; out, P0);
     assert_eq!(rt; packet_len(&P0), Some(7));
     assert!(rt; is_packet(&P0) && !is_packet(&P0[1..]));
-    Ok(())
 }
 
-fn codes_frames(rt: &impl Abort) -> Result<(), Fail> {
-    let frame = tc_frame::decode(&DATA, Check::Off)?;
+// Reads a frame, and writes it: how many octets were written.
+fn frame_again(octets: &[u8], out: &mut [u8]) -> Option<usize> {
+    match tc_frame::decode(octets, Check::Off) {
+        Ok(frame) => tc_frame::encode(&frame, Check::Off, out).ok(),
+        Err(_) => None,
+    }
+}
+
+fn codes_frames(rt: &impl Abort) {
     let mut out = [0; 13];
-    assert_eq!(rt; tc_frame::encode(&frame, Check::Off, &mut out)?, 13);
+    assert_eq!(rt; frame_again(&DATA, &mut out), Some(13));
     assert_eq!(rt; out, DATA);
     assert!(rt; tc_frame::decode(&DATA, Check::On).is_err());
+}
+
+fn codes_words(rt: &impl Abort) -> Result<(), Fail> {
     let word = clcw::decode([0x01, 0x08, 0x08, 0x02])?;
     assert_eq!(rt; clcw::encode(&word)?, [0x01, 0x08, 0x08, 0x02]);
     Ok(())
@@ -57,8 +74,9 @@ fn codes_telemetry(rt: &impl Abort) -> Result<(), Fail> {
 #[test]
 fn reading_and_writing_takes_no_memory(rt: HostRuntime) -> Result<(), Fail> {
     let _ = eprintln!(rt; "set up");
-    codes_packets(&rt)?;
-    codes_frames(&rt)?;
+    codes_packets(&rt);
+    codes_frames(&rt);
+    codes_words(&rt)?;
     codes_telemetry(&rt)?;
     let mut counters = SequenceCounters::new();
     let mut gaps = GapCheck::new();
@@ -70,19 +88,27 @@ fn reading_and_writing_takes_no_memory(rt: HostRuntime) -> Result<(), Fail> {
 
 #[test]
 fn records_handed_out_takes_no_memory(rt: HostRuntime) {
-    let mut packets = PacketSplitter::new(rt.alloc());
-    let mut frames = TcSplitter::<Unchecked>::new(rt.alloc());
-    if packets.feed(&P0).is_err() || frames.feed(&DATA).is_err() {
+    let mut of_packets = PacketSplitter::new(rt.alloc());
+    let mut of_frames = TcSplitter::<Unchecked>::new(rt.alloc());
+    hand_out(&rt, &mut of_packets, &mut of_frames);
+}
+
+fn hand_out(
+    rt: &(impl Abort + Eprint),
+    of_packets: &mut PacketSplitter,
+    of_frames: &mut TcSplitter<Unchecked>,
+) {
+    if of_packets.feed(&P0).is_err() || of_frames.feed(&DATA).is_err() {
         let _ = eprintln!(rt; "refused a growth");
         return;
     }
     let _ = eprintln!(rt; "set up");
-    assert_eq!(rt; packets.next(), Some(Ok(&P0[..])));
-    assert_eq!(rt; packets.next(), None);
-    assert_eq!(rt; packets.finish(), Ok(()));
-    assert_eq!(rt; frames.next(), Some(Ok(&DATA[..])));
-    assert_eq!(rt; frames.next(), None);
-    assert_eq!(rt; frames.finish(), Ok(()));
+    packets::hands_out(rt, of_packets, Some(Ok(&P0)));
+    packets::hands_out(rt, of_packets, None);
+    packets::ends(rt, of_packets, Ok(()));
+    frames::hands_out(rt, of_frames, Some(Ok(&DATA)));
+    frames::hands_out(rt, of_frames, None);
+    frames::ends(rt, of_frames, Ok(()));
 }
 
 const LIMITS: Limits = Limits {
@@ -97,11 +123,16 @@ fn segment(flags: SegmentFlags, map: u8, payload: &[u8]) -> Segment<'_> {
     Segment { header, payload }
 }
 
-// The segment hands out nothing, and something is dropped.
-fn drops(rt: &impl Abort, assembler: &mut Assembler, segment: &Segment<'_>, dropped: Dropped) {
+// The segment hands out nothing, and this is dropped.
+fn drops(
+    rt: &impl Abort,
+    assembler: &mut Assembler,
+    segment: &Segment<'_>,
+    dropped: Option<Dropped>,
+) {
     match assembler.take(segment) {
         Ok(taken) => {
-            assert_eq!(rt; taken.dropped, Some(dropped));
+            assert_eq!(rt; taken.dropped, dropped);
             assert!(rt; taken.packets.is_empty());
         }
         Err(_) => assert!(rt; false),
@@ -111,13 +142,15 @@ fn drops(rt: &impl Abort, assembler: &mut Assembler, segment: &Segment<'_>, drop
 #[test]
 fn segments_that_are_dropped_takes_no_memory(rt: HostRuntime) {
     let mut assembler = Assembler::new(rt.alloc(), LIMITS);
-    if assembler
-        .take(&segment(SegmentFlags::First, 0, &P0[..3]))
-        .is_err()
-    {
-        let _ = eprintln!(rt; "refused a growth");
-        return;
+    match assembler.take(&segment(SegmentFlags::First, 0, &P0[..3])) {
+        Ok(_) => drop_segments(&rt, &mut assembler),
+        Err(_) => {
+            let _ = eprintln!(rt; "refused a growth");
+        }
     }
+}
+
+fn drop_segments(rt: &(impl Abort + Eprint), assembler: &mut Assembler) {
     let _ = eprintln!(rt; "set up");
     assert_eq!(rt; segment_count(&P0, &LIMITS), Ok(3));
     assert!(rt;
@@ -125,13 +158,13 @@ fn segments_that_are_dropped_takes_no_memory(rt: HostRuntime) {
             .lone_packet(&segment(SegmentFlags::Alone, 0, &P0))
             .is_none()
     );
-    let continuing = segment(SegmentFlags::Continuing, 0, &P0[3..6]);
-    assert!(rt; matches!(assembler.take(&continuing), Ok(taken) if taken.dropped.is_none()));
-    let closed = segment(SegmentFlags::Alone, 1, &P0);
-    drops(&rt, &mut assembler, &closed, Dropped::ClosedMap);
-    let long = segment(SegmentFlags::Last, 0, &P0[..3]);
-    drops(&rt, &mut assembler, &long, Dropped::TooLong);
-    drops(&rt, &mut assembler, &long, Dropped::NoBeginning);
-    let none = segment(SegmentFlags::Alone, 0, &P0[..3]);
-    drops(&rt, &mut assembler, &none, Dropped::NotAPacket);
+    for (flags, map, payload, dropped) in [
+        (SegmentFlags::Continuing, 0, &P0[3..6], None),
+        (SegmentFlags::Alone, 1, &P0, Some(Dropped::ClosedMap)),
+        (SegmentFlags::Last, 0, &P0[..3], Some(Dropped::TooLong)),
+        (SegmentFlags::Last, 0, &P0[..3], Some(Dropped::NoBeginning)),
+        (SegmentFlags::Alone, 0, &P0[..3], Some(Dropped::NotAPacket)),
+    ] {
+        drops(rt, assembler, &segment(flags, map, payload), dropped);
+    }
 }

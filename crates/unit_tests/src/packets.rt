@@ -23,13 +23,15 @@ fn packet(payload: &[u8]) -> Packet<'_> {
 }
 
 #[test]
-fn a_packet(rt: HostRuntime) -> Result<(), Fail> {
-    assert_eq!(rt; decode(&PACKET)?, (packet(&[0xaa]), 7));
+fn a_packet(rt: HostRuntime) {
+    assert_eq!(rt; decode(&PACKET), Ok((packet(&[0xaa]), 7)));
     let mut out = [0x55; 9];
-    assert_eq!(rt; encode(&packet(&[0xaa]), &mut out)?, 7);
-    assert!(rt; out.starts_with(&PACKET));
-    assert!(rt; out.ends_with(&[0x55, 0x55]));
-    Ok(())
+    assert_eq!(rt; written(&packet(&[0xaa]), &mut out), Ok(7));
+    assert_eq!(rt; out, [0x10, 0x05, 0xc0, 0x00, 0x00, 0x00, 0xaa, 0x55, 0x55]);
+}
+
+fn written(packet: &Packet<'_>, out: &mut [u8]) -> Result<usize, PacketFault> {
+    encode(packet, out)
 }
 
 // So many octets. Where memory is refused, it asks again.
@@ -47,30 +49,47 @@ fn octets_55(rt: &(impl Abort + Eprint), alloc: Global, len: usize) -> Result<Ve
 fn the_longest_packet(rt: HostRuntime) -> Result<(), Fail> {
     let mut octets = octets_55(&rt, rt.alloc(), 65542)?;
     octets.as_mut_slice()[..6].copy_from_slice(&[0x10, 0x05, 0xc0, 0x00, 0xff, 0xff]);
-    let (packet, len) = decode(&octets)?;
+    is_read_and_written(&rt, rt.alloc(), &octets)
+}
+
+fn is_read_and_written(
+    rt: &(impl Abort + Eprint),
+    alloc: Global,
+    octets: &[u8],
+) -> Result<(), Fail> {
+    let mut out = octets_55(rt, alloc, 65542)?;
+    out.as_mut_slice()[..6].copy_from_slice(&[0; 6]);
+    is_written(rt, octets, &mut out)
+}
+
+fn is_written(rt: &impl Abort, octets: &[u8], out: &mut [u8]) -> Result<(), Fail> {
+    let (packet, len) = decode(octets)?;
     assert_eq!(rt; len, 65542);
     assert_eq!(rt; packet.payload.len(), 65536);
-    let mut out = octets_55(&rt, rt.alloc(), 65542)?;
-    out.as_mut_slice()[..6].copy_from_slice(&[0; 6]);
-    assert_eq!(rt; encode(&packet, &mut out)?, 65542);
-    assert!(rt; out == octets);
+    assert_eq!(rt; written(&packet, out), Ok(65542));
+    assert!(rt; *out == *octets);
     Ok(())
 }
 
 #[test]
 fn refused_octets(rt: HostRuntime) {
-    assert_eq!(rt; decode(&PACKET[..5]), Err(PacketFault::Truncated));
-    assert_eq!(rt; decode(&PACKET[..6]), Err(PacketFault::Truncated));
-    let version = [0x20, 0x05, 0xc0, 0x00, 0x00, 0x00, 0xaa];
-    assert_eq!(rt; decode(&version), Err(PacketFault::Version));
-    let idle = [0x0f, 0xff, 0xc0, 0x00, 0x00, 0x00, 0x55];
-    assert_eq!(rt; decode(&idle), Err(PacketFault::IdleWithSecondary));
+    for (octets, fault) in [
+        (&PACKET[..5], PacketFault::Truncated),
+        (&PACKET[..6], PacketFault::Truncated),
+        (b"\x20\x05\xc0\x00\x00\x00\xaa", PacketFault::Version),
+        (
+            b"\x0f\xff\xc0\x00\x00\x00\x55",
+            PacketFault::IdleWithSecondary,
+        ),
+    ] {
+        assert_eq!(rt; decode(octets).err(), Some(fault));
+    }
 }
 
 #[test]
 fn faults_by_number_and_name(rt: HostRuntime) {
-    assert_eq!(rt; PacketFault::FieldRange.number(), 5);
-    assert_eq!(rt; PacketFault::FieldRange.name(), "FieldRange");
+    let fault = PacketFault::FieldRange;
+    assert_eq!(rt; (fault.number(), fault.name()), (5, "FieldRange"));
     let text = format!(in rt.alloc(); "{}", PacketFault::FieldRange);
     assert_eq!(rt; text.ok().as_deref(), Some("5 FieldRange"));
 }
@@ -83,16 +102,45 @@ fn feed(rt: &(impl Abort + Eprint), splitter: &mut PacketSplitter, octets: &[u8]
     }
 }
 
+/// These packets came out.
+pub fn are_packets(rt: &impl Abort, packets: &[Vec<u8>], wanted: &[&[u8]]) {
+    assert_eq!(rt; packets.len(), wanted.len());
+    for (place, is) in wanted.iter().enumerate() {
+        assert!(rt; is_packet_at(packets, place, is));
+    }
+}
+
+fn is_packet_at(packets: &[Vec<u8>], place: usize, is: &[u8]) -> bool {
+    match packets.get(place) {
+        Some(packet) => packet.as_slice() == is,
+        None => false,
+    }
+}
+
+/// The next packet, or the fault of its header.
+pub fn hands_out(
+    rt: &impl Abort,
+    splitter: &mut PacketSplitter,
+    packet: Option<Result<&[u8], PacketFault>>,
+) {
+    assert_eq!(rt; splitter.next(), packet);
+}
+
+/// Whether the stream may end here.
+pub fn ends(rt: &impl Abort, splitter: &PacketSplitter, answer: Result<(), PacketFault>) {
+    assert_eq!(rt; splitter.finish(), answer);
+}
+
 #[test]
 fn a_packet_octet_by_octet(rt: HostRuntime) {
     let mut splitter = PacketSplitter::new(rt.alloc());
     for octet in PACKET {
-        assert_eq!(rt; splitter.next(), None);
+        hands_out(&rt, &mut splitter, None);
         feed(&rt, &mut splitter, &[octet]);
     }
-    assert_eq!(rt; splitter.next(), Some(Ok(PACKET.as_slice())));
-    assert_eq!(rt; splitter.next(), None);
-    assert_eq!(rt; splitter.finish(), Ok(()));
+    hands_out(&rt, &mut splitter, Some(Ok(PACKET.as_slice())));
+    hands_out(&rt, &mut splitter, None);
+    ends(&rt, &splitter, Ok(()));
 }
 
 #[test]
@@ -100,8 +148,8 @@ fn a_stream_cut_short(rt: HostRuntime) {
     let mut splitter = PacketSplitter::new(rt.alloc());
     feed(&rt, &mut splitter, &[0x10]);
     feed(&rt, &mut splitter, &[0x05, 0xc0]);
-    assert_eq!(rt; splitter.next(), None);
-    assert_eq!(rt; splitter.finish(), Err(PacketFault::Truncated));
+    hands_out(&rt, &mut splitter, None);
+    ends(&rt, &splitter, Err(PacketFault::Truncated));
 }
 
 // What any caller knows: the counts of two packets are one apart.
@@ -129,19 +177,23 @@ fn counts(rt: HostRuntime) {
     for _ in 2..16384u16 {
         counters.next(5);
     }
-    assert_eq!(rt; counters.next(5), 16383);
-    assert_eq!(rt; counters.next(5), 0);
-    assert_eq!(rt; counters.next(6), 0);
+    for (apid, count) in [(5, 16383), (5, 0), (6, 0)] {
+        assert_eq!(rt; counters.next(apid), count);
+    }
     assert_eq!(rt; two_counts(&mut counters, 2047), (0, 1));
 }
 
 #[test]
 fn gaps(rt: HostRuntime) {
     let mut check = GapCheck::new();
-    assert_eq!(rt; check.see(5, 0), None);
-    assert_eq!(rt; check.see(5, 1), Some(0));
-    assert_eq!(rt; check.see(5, 3), Some(1));
-    assert_eq!(rt; check.see(5, 3), Some(16383));
-    assert_eq!(rt; check.see(2047, 3), None);
+    for (apid, count, gap) in [
+        (5, 0, None),
+        (5, 1, Some(0)),
+        (5, 3, Some(1)),
+        (5, 3, Some(16383)),
+        (2047, 3, None),
+    ] {
+        assert_eq!(rt; check.see(apid, count), gap);
+    }
     assert_eq!(rt; gap_of_two(&mut check, 2047, 16383, 1), Some(1));
 }

@@ -7,9 +7,13 @@ use std::test::Fail;
 
 #[test]
 fn verdicts_in_words(rt: HostRuntime) {
-    assert_eq!(rt; Verdict::Accepted.name(), "accepted");
-    assert_eq!(rt; Verdict::NoBuffer.name(), "nobuffer");
-    assert_eq!(rt; Verdict::Discarded.name(), "discarded");
+    for (verdict, name) in [
+        (Verdict::Accepted, "accepted"),
+        (Verdict::NoBuffer, "nobuffer"),
+        (Verdict::Discarded, "discarded"),
+    ] {
+        assert_eq!(rt; verdict.name(), name);
+    }
 }
 
 // A call, and the verdict on a frame.
@@ -20,83 +24,95 @@ enum Call {
     Unlock,
     SetVr(u8),
     Released,
+    // What all that is seen is now.
+    Stands(Standing),
+    // The report for the virtual channel 2, as octets.
+    Report([u8; 4]),
 }
 
-// Plays calls on a receiver that is restored after each.
-fn run(rt: &impl Abort, farm: &mut Farm, calls: &[Call]) {
-    for call in calls {
-        match *call {
-            Call::Ad(n, free, verdict) => assert_eq!(rt; farm.ad(n, free), verdict),
-            Call::Bd => farm.bd(),
-            Call::Unlock => farm.unlock(),
-            Call::SetVr(vr) => farm.set_vr(vr),
-            Call::Released => farm.released(),
-        }
-        let kept = farm.fields();
-        if let Ok(restored) = Farm::restore(kept) {
-            *farm = restored;
-        }
-        assert_eq!(rt; Farm::restore(kept).err(), None);
-        assert_eq!(rt; farm.fields(), kept);
+// The state, the flags Lockout, Wait and Retransmit, V(R) and FARM-B.
+type Standing = (FarmMode, [bool; 3], u8, u8);
+
+fn seen(farm: &Farm) -> Standing {
+    let flags = [farm.lockout(), farm.wait(), farm.retransmit()];
+    (farm.state(), flags, farm.vr(), farm.farm_b())
+}
+
+fn report(farm: &Farm) -> Option<[u8; 4]> {
+    encode(&farm.report(2)).ok()
+}
+
+fn answers(rt: &impl Abort, farm: &mut Farm, call: Call) {
+    match call {
+        Call::Ad(n, free, verdict) => assert_eq!(rt; farm.ad(n, free), verdict),
+        Call::Bd => farm.bd(),
+        Call::Unlock => farm.unlock(),
+        Call::SetVr(vr) => farm.set_vr(vr),
+        Call::Released => farm.released(),
+        Call::Stands(standing) => assert_eq!(rt; seen(farm), standing),
+        Call::Report(octets) => assert_eq!(rt; report(farm), Some(octets)),
     }
+}
+
+fn is_restored(rt: &impl Abort, farm: &mut Farm) {
+    let kept = farm.fields();
+    if let Ok(restored) = Farm::restore(kept) {
+        *farm = restored;
+    }
+    assert_eq!(rt; Farm::restore(kept).err(), None);
+    assert_eq!(rt; farm.fields(), kept);
+}
+
+// Plays calls on a new receiver of width 10 with this V(R), which is restored after each.
+fn run(rt: &impl Abort, vr: u8, calls: &[Call]) -> Result<(), Fail> {
+    let mut farm = Farm::new(10, vr)?;
+    for call in calls {
+        answers(rt, &mut farm, *call);
+        is_restored(rt, &mut farm);
+    }
+    Ok(())
 }
 
 // A width of 10 has a positive and a negative window of 5 each.
 #[test]
 fn a_receiver_locks_and_opens(rt: HostRuntime) -> Result<(), Fail> {
-    let mut farm = Farm::new(10, 0)?;
     run(
         &rt,
-        &mut farm,
+        0,
         &[
             Call::Ad(4, true, Verdict::Ahead),
             Call::Ad(251, true, Verdict::Behind),
             Call::Ad(5, true, Verdict::Outside),
             Call::Ad(0, true, Verdict::Discarded),
             Call::SetVr(7),
+            Call::Stands((FarmMode::Lockout, [true, false, true], 0, 1)),
+            Call::Unlock,
+            Call::Stands((FarmMode::Open, [false; 3], 0, 2)),
+            Call::Ad(0, true, Verdict::Accepted),
+            Call::Stands((FarmMode::Open, [false; 3], 1, 2)),
         ],
-    );
-    assert_eq!(rt; farm.state(), FarmMode::Lockout);
-    assert!(rt; farm.lockout() && farm.retransmit() && !farm.wait());
-    assert_eq!(rt; (farm.vr(), farm.farm_b()), (0, 1));
-    run(&rt, &mut farm, &[Call::Unlock]);
-    assert_eq!(rt; farm.state(), FarmMode::Open);
-    run(&rt, &mut farm, &[Call::Ad(0, true, Verdict::Accepted)]);
-    assert_eq!(rt; (farm.vr(), farm.farm_b()), (1, 2));
-    Ok(())
+    )
 }
 
 #[test]
 fn a_receiver_waits_for_a_buffer(rt: HostRuntime) -> Result<(), Fail> {
-    let mut farm = Farm::new(10, 255)?;
     run(
         &rt,
-        &mut farm,
+        255,
         &[
             Call::Ad(255, true, Verdict::Accepted),
             Call::Ad(255, true, Verdict::Behind),
             Call::Ad(0, false, Verdict::NoBuffer),
-        ],
-    );
-    assert_eq!(rt; farm.state(), FarmMode::Wait);
-    run(
-        &rt,
-        &mut farm,
-        &[Call::Ad(0, true, Verdict::Discarded), Call::Released],
-    );
-    assert_eq!(rt; farm.state(), FarmMode::Open);
-    assert!(rt; farm.retransmit());
-    run(
-        &rt,
-        &mut farm,
-        &[
+            Call::Stands((FarmMode::Wait, [false, true, true], 0, 0)),
+            Call::Ad(0, true, Verdict::Discarded),
+            Call::Released,
+            Call::Stands((FarmMode::Open, [false, false, true], 0, 0)),
             Call::Bd,
             Call::SetVr(9),
             Call::Ad(9, true, Verdict::Accepted),
+            Call::Stands((FarmMode::Open, [false; 3], 10, 2)),
         ],
-    );
-    assert_eq!(rt; farm.farm_b(), 2);
-    Ok(())
+    )
 }
 
 #[test]
@@ -113,24 +129,32 @@ fn no_receiver_has_other_fields(rt: HostRuntime) -> Result<(), Fail> {
     Ok(())
 }
 
-// The reports of a receiver of width 10, as octets, for the virtual channel 2.
 #[test]
 fn a_receiver_reports(rt: HostRuntime) -> Result<(), Fail> {
-    let mut farm = Farm::new(10, 0)?;
-    assert_eq!(rt; farm.ad(0, false), Verdict::NoBuffer);
-    assert_eq!(rt; encode(&farm.report(2))?, [0x01, 0x08, 0x18, 0x00]);
-    assert_eq!(rt; farm.ad(0, true), Verdict::Discarded);
-    farm.unlock();
-    assert_eq!(rt; encode(&farm.report(2))?, [0x01, 0x08, 0x02, 0x00]);
-    let mut farm = Farm::new(10, 0)?;
-    assert_eq!(rt; farm.ad(0, false), Verdict::NoBuffer);
-    assert_eq!(rt; farm.ad(5, true), Verdict::Outside);
-    assert_eq!(rt; encode(&farm.report(2))?, [0x01, 0x08, 0x38, 0x00]);
-    farm.released();
-    assert_eq!(rt; encode(&farm.report(2))?, [0x01, 0x08, 0x28, 0x00]);
-    farm.set_vr(9);
-    assert_eq!(rt; encode(&farm.report(2))?, [0x01, 0x08, 0x2a, 0x00]);
-    Ok(())
+    run(
+        &rt,
+        0,
+        &[
+            Call::Ad(0, false, Verdict::NoBuffer),
+            Call::Report([0x01, 0x08, 0x18, 0x00]),
+            Call::Ad(0, true, Verdict::Discarded),
+            Call::Unlock,
+            Call::Report([0x01, 0x08, 0x02, 0x00]),
+        ],
+    )?;
+    run(
+        &rt,
+        0,
+        &[
+            Call::Ad(0, false, Verdict::NoBuffer),
+            Call::Ad(5, true, Verdict::Outside),
+            Call::Report([0x01, 0x08, 0x38, 0x00]),
+            Call::Released,
+            Call::Report([0x01, 0x08, 0x28, 0x00]),
+            Call::SetVr(9),
+            Call::Report([0x01, 0x08, 0x2a, 0x00]),
+        ],
+    )
 }
 
 #[test]
@@ -139,10 +163,10 @@ fn a_refusal_has_a_number_and_a_name(rt: HostRuntime) {
         let fault = Farm::new(width, 0).err();
         assert_eq!(rt; fault, Some(CopFault::Width));
     }
-    assert_eq!(rt;
-        (CopFault::WrongState.number(), CopFault::State.number()),
-        (8, 9)
-    );
-    assert_eq!(rt; CopFault::WrongState.name(), "WrongState");
-    assert_eq!(rt; CopFault::State.name(), "State");
+    for (fault, number, name) in [
+        (CopFault::WrongState, 8, "WrongState"),
+        (CopFault::State, 9, "State"),
+    ] {
+        assert_eq!(rt; (fault.number(), fault.name()), (number, name));
+    }
 }

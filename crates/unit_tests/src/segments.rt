@@ -1,7 +1,5 @@
 // Packets cut and joined by hand.
 
-ghost use Rattle.std.specs.Prelude.{◌≡◌, ◌≤◌};
-
 mod assembling;
 
 use map_service::*;
@@ -23,9 +21,7 @@ const LONG_BETWEEN: [u8; 26] = [
     0x10, 0x05, 0xc0, 0x01, 0x00, 0x00, 0xab,
 ];
 
-fn limits(part: u32, blocking: bool) -> Limits
-    ensures { result.part ≡ part }
-{
+fn limits(part: u32, blocking: bool) -> Limits {
     Limits {
         part,
         max_packet: 65542,
@@ -39,6 +35,16 @@ fn segment(flags: SegmentFlags, map: u8, payload: &[u8]) -> Segment<'_> {
     Segment { header, payload }
 }
 
+fn cut_once<'a>(
+    rt: &impl Abort,
+    octets: &'a [u8],
+    limits: &Limits,
+    segments: &mut Vec<Segment<'a>>,
+) -> Result<(), MapFault> {
+    assert!(rt; 1 <= limits.part);
+    cut(octets, 4, limits, segments)
+}
+
 // Cuts. Where memory is refused the segments are as they were, and the call made again answers as
 // ever.
 fn cut_on<'a>(
@@ -47,16 +53,14 @@ fn cut_on<'a>(
     limits: &Limits,
     segments: &mut Vec<Segment<'a>>,
     before: &[Segment<'a>],
-) -> Result<(), MapFault>
-    requires { 1 ≤ limits.now.part }
-{
-    let answer = cut(octets, 4, limits, segments);
+) -> Result<(), MapFault> {
+    let answer = cut_once(rt, octets, limits, segments);
     if answer.is_err() {
         assert!(rt; segments.as_slice() == before);
     }
     if answer == Err(MapFault::Memory) {
         let _ = eprintln!(rt; "refused a growth");
-        return cut(octets, 4, limits, segments);
+        return cut_once(rt, octets, limits, segments);
     }
     answer
 }
@@ -68,9 +72,7 @@ fn cuts<'a>(
     octets: &'a [u8],
     limits: &Limits,
     parts: &[Segment<'a>],
-) -> Vec<Segment<'a>>
-    requires { 1 ≤ limits.now.part }
-{
+) -> Vec<Segment<'a>> {
     let mut segments = Vec::new(alloc);
     assert_eq!(rt; cut_on(rt, octets, limits, &mut segments, &[]), Ok(()));
     assert!(rt; segments.as_slice() == parts);
@@ -128,9 +130,13 @@ fn a_packet_octet_by_octet(rt: HostRuntime) {
         cut_on(&rt, &P0, &limits(1, false), &mut segments, &[whole]),
         Ok(())
     );
-    assert_eq!(rt; segments.len(), 8);
-    assert!(rt; segments[0] == whole);
-    for (place, part) in segments.as_slice()[1..].iter().enumerate() {
+    assert!(rt; segments.first() == Some(&whole));
+    are_octets_of_p0(&rt, segments.get(1..).unwrap_or_default());
+}
+
+fn are_octets_of_p0(rt: &impl Abort, parts: &[Segment<'_>]) {
+    assert_eq!(rt; parts.len(), 7);
+    for (place, part) in parts.iter().enumerate() {
         let flags = match place {
             0 => SegmentFlags::First,
             6 => SegmentFlags::Last,
@@ -148,44 +154,40 @@ fn refused_octets(rt: HostRuntime) {
     };
     let before = [segment(SegmentFlags::Alone, 4, &P0)];
     let mut segments = cuts(&rt, rt.alloc(), &P0, &short, &before);
-    assert_eq!(rt;
-        cut_on(&rt, &LONG_BETWEEN, &short, &mut segments, &before),
-        Err(MapFault::TooLong)
-    );
-    assert_eq!(rt;
-        cut_on(&rt, &LONG_BETWEEN[..20], &short, &mut segments, &before),
-        Err(MapFault::NotAPacket)
-    );
-    for blocking in [false, true] {
-        let limits = limits(20, blocking);
-        assert_eq!(rt;
-            cut_on(&rt, &[], &limits, &mut segments, &before),
-            Err(MapFault::NotAPacket)
-        );
-        assert_eq!(rt;
-            cut_on(&rt, &P0[..6], &limits, &mut segments, &before),
-            Err(MapFault::NotAPacket)
-        );
+    for (octets, limits, fault) in [
+        (&LONG_BETWEEN[..], short, MapFault::TooLong),
+        (&LONG_BETWEEN[..20], short, MapFault::NotAPacket),
+        (&[], limits(20, false), MapFault::NotAPacket),
+        (&P0[..6], limits(20, false), MapFault::NotAPacket),
+        (&[], limits(20, true), MapFault::NotAPacket),
+        (&P0[..6], limits(20, true), MapFault::NotAPacket),
+    ] {
+        let answer = cut_on(&rt, octets, &limits, &mut segments, &before);
+        assert_eq!(rt; answer, Err(fault));
     }
 }
 
 #[test]
 fn faults_by_number_and_name(rt: HostRuntime) {
-    assert_eq!(rt; MapFault::TooLong.number(), 2);
-    assert_eq!(rt; MapFault::TooLong.name(), "TooLong");
+    let fault = MapFault::TooLong;
+    assert_eq!(rt; (fault.number(), fault.name()), (2, "TooLong"));
 }
 
 #[test]
 fn segments_counted(rt: HostRuntime) {
-    assert_eq!(rt; segment_count(&P0, &limits(3, false)), Ok(3));
-    assert_eq!(rt; segment_count(&P0, &limits(7, false)), Ok(1));
-    assert_eq!(rt; segment_count(&LONG_BETWEEN, &limits(9, true)), Ok(4));
-    assert_eq!(rt; segment_count(&THREE, &limits(20, true)), Ok(2));
-    let alone = limits(20, false);
-    assert_eq!(rt; segment_count(&THREE, &alone), Err(MapFault::NotAPacket));
     let short = Limits {
         max_packet: 6,
-        ..alone
+        ..limits(20, false)
     };
-    assert_eq!(rt; segment_count(&P0, &short), Err(MapFault::TooLong));
+    for (octets, limits, count) in [
+        (&P0[..], limits(3, false), Ok(3)),
+        (&P0, limits(7, false), Ok(1)),
+        (&LONG_BETWEEN, limits(9, true), Ok(4)),
+        (&THREE, limits(20, true), Ok(2)),
+        (&THREE, limits(20, false), Err(MapFault::NotAPacket)),
+        (&P0, short, Err(MapFault::TooLong)),
+    ] {
+        assert!(rt; 1 <= limits.part);
+        assert_eq!(rt; segment_count(octets, &limits), count);
+    }
 }

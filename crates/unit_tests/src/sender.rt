@@ -1,5 +1,6 @@
 // Runs of the sender.
 
+use crate::refusing::says_refused;
 use bitflags::Flags;
 use clcw::{Clcw, ClcwFlags};
 use cop1::{
@@ -78,61 +79,77 @@ fn answer_of_fop(rt: &impl Abort, fop: &mut Fop<u8>, call: Call) {
     match call {
         Call::Submit(unit, answer) => assert_eq!(rt; fop.submit(unit), answer),
         Call::Direct(directive, answer) => assert_eq!(rt; fop.directive(directive), answer),
-        Call::Report(flags, value, alert) => {
-            assert_eq!(rt; fop.clcw(&report(flags, value)), alert)
-        }
-        Call::Tick(alert) => assert_eq!(rt; fop.tick(), alert),
-        Call::Pull(answer) => {
-            assert_eq!(rt; peeked(fop), answer);
-            assert_eq!(rt; pulled(fop), answer);
-        }
+        Call::Report(flags, value, alert) => alerts(rt, fop.clcw(&report(flags, value)), alert),
+        Call::Tick(alert) => alerts(rt, fop.tick(), alert),
+        Call::Pull(answer) => pulls(rt, fop, answer),
+    }
+}
+
+fn alerts(rt: &impl Abort, alert: Option<Alert>, wanted: Option<Alert>) {
+    assert_eq!(rt; alert, wanted);
+}
+
+// Pulls the unit that is peeked at before.
+fn pulls(rt: &impl Abort, fop: &mut Fop<u8>, answer: Option<(u8, u8)>) {
+    assert_eq!(rt; peeked(fop), answer);
+    assert_eq!(rt; pulled(fop), answer);
+}
+
+// The answers of the rules, which know no units.
+fn without_unit(answer: Result<(), (CopFault, u8)>) -> Result<(), CopFault> {
+    match answer {
+        Ok(()) => Ok(()),
+        Err((fault, _)) => Err(fault),
+    }
+}
+
+fn number_alone(answer: Option<(u8, u8)>) -> Option<u8> {
+    match answer {
+        Some((number, _)) => Some(number),
+        None => None,
     }
 }
 
 fn answer_of_sender(rt: &impl Abort, sender: &mut Sender, call: Call) {
     match call {
-        Call::Submit(_, answer) => match answer {
-            Ok(()) => assert_eq!(rt; sender.submit(), Ok(())),
-            Err((fault, _)) => assert_eq!(rt; sender.submit(), Err(fault)),
-        },
+        Call::Submit(_, answer) => assert_eq!(rt; sender.submit(), without_unit(answer)),
         Call::Direct(directive, answer) => assert_eq!(rt; sender.directive(directive), answer),
         Call::Report(flags, value, alert) => {
-            assert_eq!(rt; sender.report(&report(flags, value)).alert, alert)
+            alerts(rt, sender.report(&report(flags, value)).alert, alert)
         }
-        Call::Tick(alert) => assert_eq!(rt; sender.tick(), alert),
-        Call::Pull(answer) => match answer {
-            Some((number, _)) => assert_eq!(rt; number_of(sender.next()), Some(number)),
-            None => assert_eq!(rt; number_of(sender.next()), None),
-        },
+        Call::Tick(alert) => alerts(rt, sender.tick(), alert),
+        Call::Pull(answer) => assert_eq!(rt; number_of(sender.next()), number_alone(answer)),
     }
+}
+
+fn is_restored(rt: &impl Abort, sender: &mut Sender) {
+    let kept = sender.fields();
+    if let Ok(restored) = Sender::restore(kept) {
+        *sender = restored;
+    }
+    assert_eq!(rt; Sender::restore(kept).err(), None);
+    assert_eq!(rt; sender.fields(), kept);
+}
+
+// The state, V(S), NN(R), whether a unit waits, and how many were sent.
+type Standing = (FopMode, u8, u8, bool, usize);
+
+fn seen(fop: &Fop<u8>) -> Standing {
+    (fop.state(), fop.vs(), fop.nn(), fop.waiting(), fop.sent())
+}
+
+fn seen_of_sender(sender: &Sender) -> Standing {
+    let kept = sender.fields();
+    let sent = usize::from(kept.sent);
+    (kept.state, kept.vs, kept.nn, kept.waiting, sent)
 }
 
 fn run(rt: &impl Abort, both: &mut Both, calls: &[Call]) {
     for call in calls {
         answer_of_fop(rt, &mut both.fop, *call);
         answer_of_sender(rt, &mut both.sender, *call);
-        let kept = both.sender.fields();
-        if let Ok(sender) = Sender::restore(kept) {
-            both.sender = sender;
-        }
-        assert_eq!(rt; Sender::restore(kept).err(), None);
-        assert_eq!(rt; both.sender.fields(), kept);
-        assert_eq!(rt;
-            (
-                kept.state,
-                kept.vs,
-                kept.nn,
-                kept.waiting,
-                usize::from(kept.sent)
-            ),
-            (
-                both.fop.state(),
-                both.fop.vs(),
-                both.fop.nn(),
-                both.fop.waiting(),
-                both.fop.sent()
-            )
-        );
+        is_restored(rt, &mut both.sender);
+        assert_eq!(rt; seen_of_sender(&both.sender), seen(&both.fop));
     }
 }
 
@@ -161,10 +178,20 @@ fn a_window_is_at_most_half_the_width(rt: HostRuntime) {
 // A sender that has sent a unit keeps to these numbers; none has those that differ.
 #[test]
 fn no_sender_has_other_numbers(rt: HostRuntime) -> Result<(), Fail> {
-    let both = in_state(&rt, rt.alloc(), FopMode::S1)?;
-    let kept = both.sender.fields();
+    let kept = in_state(&rt, rt.alloc(), FopMode::S1)?.sender.fields();
     assert_eq!(rt; (kept.room, kept.sent, kept.ticks), (127, 1, Some(10)));
-    for fields in [
+    has_none_of(&rt, &others(kept));
+    Ok(())
+}
+
+fn has_none_of(rt: &impl Abort, senders: &[SenderFields]) {
+    for fields in senders {
+        assert_eq!(rt; Sender::restore(*fields).err(), Some(CopFault::State));
+    }
+}
+
+fn others(kept: SenderFields) -> [SenderFields; 7] {
+    [
         SenderFields { sent: 2, ..kept },
         SenderFields { due: 2, ..kept },
         SenderFields { room: 128, ..kept },
@@ -181,10 +208,7 @@ fn no_sender_has_other_numbers(rt: HostRuntime) -> Result<(), Fail> {
             control: Control::Due(Command::Unlock),
             ..kept
         },
-    ] {
-        assert_eq!(rt; Sender::restore(fields).err(), Some(CopFault::State));
-    }
-    Ok(())
+    ]
 }
 
 // As many ticks as a timer of 10, started three times, does not outlast.
@@ -373,46 +397,60 @@ fn a_report_says_what_was_accepted(rt: HostRuntime) {
 #[test]
 fn a_report_after_an_alert_says_what_was_accepted(rt: HostRuntime) -> Result<(), Fail> {
     let mut both = in_state(&rt, rt.alloc(), FopMode::S6)?;
-    let says = |fop: &Fop<u8>, value| accepted_beyond(fop.nn(), fop.vs(), value);
-    assert_eq!(rt; says(&both.fop, 0), Some(0));
-    assert_eq!(rt; says(&both.fop, 1), Some(1));
-    assert_eq!(rt; says(&both.fop, 2), None);
+    says(&rt, &both.fop, &[(0, Some(0)), (1, Some(1)), (2, None)]);
     run(
         &rt,
         &mut both,
         &[Call::Direct(Directive::InitWithoutCheck, Ok(None))],
     );
-    assert_eq!(rt; says(&both.fop, 0), None);
-    assert_eq!(rt; says(&both.fop, 1), Some(0));
+    says(&rt, &both.fop, &[(0, None), (1, Some(0))]);
     Ok(())
+}
+
+// What reports of these values say was accepted.
+fn says(rt: &impl Abort, fop: &Fop<u8>, rows: &[(u8, Option<u8>)]) {
+    for (value, accepted) in rows {
+        assert_eq!(rt; accepted_beyond(fop.nn(), fop.vs(), *value), *accepted);
+    }
 }
 
 // Where memory is refused, nothing has changed, and the same call is answered as ever once there is
 // some.
 #[test]
 fn a_sender_does_without_memory(rt: HostRuntime) -> Result<(), Fail> {
-    let mut fop = match Fop::new(rt.alloc(), 254, 127, 3, 10) {
-        Ok(fop) => fop,
-        Err(fault) => {
-            let _ = eprintln!(rt; "refused a growth");
-            assert_eq!(rt; fault, CopFault::Memory);
-            Fop::new(rt.alloc(), 254, 127, 3, 10)?
-        }
-    };
-    for unit in 0..20u8 {
-        if let Err(refused) = fop.bypass(unit) {
-            let _ = eprintln!(rt; "refused a growth");
-            assert_eq!(rt; refused, (CopFault::Memory, unit));
-            assert_eq!(rt; fop.bypassed(), usize::from(unit));
-            assert_eq!(rt; fop.bypass(unit), Ok(()));
-        }
+    let mut fop = new_fop(&rt, rt.alloc())?;
+    for unit in 0..20 {
+        bypasses(&rt, &mut fop, unit);
     }
-    for unit in 0..20u8 {
-        assert!(rt; matches!(fop.peek(), Peeked::Bypass(peeked) if *peeked == unit));
-        assert!(rt; matches!(fop.pull(), Pulled::Bypass(pulled) if pulled == unit));
+    for unit in 0..20 {
+        pulls_bypass(&rt, &mut fop, unit);
     }
     assert!(rt; !fop.waiting());
     Ok(())
+}
+
+fn new_fop(rt: &(impl Abort + Eprint), alloc: Global) -> Result<Fop<u8>, CopFault> {
+    match Fop::new(alloc, 254, 127, 3, 10) {
+        Ok(fop) => Ok(fop),
+        Err(fault) => {
+            says_refused(rt, fault, CopFault::Memory);
+            Fop::new(alloc, 254, 127, 3, 10)
+        }
+    }
+}
+
+// The unit is its number among those that pass the sequence control.
+fn bypasses(rt: &(impl Abort + Eprint), fop: &mut Fop<u8>, unit: u8) {
+    if let Err(refused) = fop.bypass(unit) {
+        says_refused(rt, refused, (CopFault::Memory, unit));
+        assert_eq!(rt; fop.bypassed(), usize::from(unit));
+        assert_eq!(rt; fop.bypass(unit), Ok(()));
+    }
+}
+
+fn pulls_bypass(rt: &impl Abort, fop: &mut Fop<u8>, unit: u8) {
+    assert!(rt; matches!(fop.peek(), Peeked::Bypass(peeked) if *peeked == unit));
+    assert!(rt; matches!(fop.pull(), Pulled::Bypass(pulled) if pulled == unit));
 }
 
 #[test]

@@ -5,6 +5,7 @@ ghost use Rattle.std.proofs.Common.{rules};
 ghost use Rattle.std.proofs.lemmas.Grind.{common_steps};
 ghost use Rattle.unit_tests.specs.declared.splitting.BlockFault.TheVariants.{Empty, Truncated, Memory};
 
+use crate::refusing::says_refused;
 use octets::{Splitter, Wire, remove_front};
 use std::process::Abort;
 
@@ -70,17 +71,37 @@ fn a_front_is_removed(rt: HostRuntime) {
     }
 }
 
+// Whether the splitter waits for octets, and whether the stream may end.
+fn seen(splitter: &mut Splitter<Blocks>) -> (bool, Result<(), BlockFault>) {
+    (splitter.next().is_none(), splitter.finish())
+}
+
+fn feed_once(splitter: &mut Splitter<Blocks>, octets: &[u8]) -> Result<(), BlockFault> {
+    splitter.feed(octets)
+}
+
 // Feeds. Where memory is refused nothing has changed, and the call made again answers as ever.
 fn feed(rt: &(impl Abort + Eprint), splitter: &mut Splitter<Blocks>, octets: &[u8]) {
-    let waits = splitter.next().is_none();
-    let ends = splitter.finish();
-    if let Err(fault) = splitter.feed(octets) {
-        let _ = eprintln!(rt; "refused a growth");
-        assert_eq!(rt; fault, BlockFault::Memory);
-        assert_eq!(rt; splitter.next().is_none(), waits);
-        assert_eq!(rt; splitter.finish(), ends);
-        assert_eq!(rt; splitter.feed(octets), Ok(()));
+    let before = seen(splitter);
+    if let Err(fault) = feed_once(splitter, octets) {
+        says_refused(rt, fault, BlockFault::Memory);
+        assert_eq!(rt; seen(splitter), before);
+        assert_eq!(rt; feed_once(splitter, octets), Ok(()));
     }
+}
+
+// The next record, or the fault of its extent.
+fn hands_out(
+    rt: &impl Abort,
+    splitter: &mut Splitter<Blocks>,
+    record: Option<Result<&[u8], &BlockFault>>,
+) {
+    assert_eq!(rt; splitter.next(), record);
+}
+
+// Whether the stream may end here.
+fn ends(rt: &impl Abort, splitter: &Splitter<Blocks>, answer: Result<(), BlockFault>) {
+    assert_eq!(rt; splitter.finish(), answer);
 }
 
 // Three blocks and the beginning of a fourth.
@@ -89,16 +110,16 @@ const STREAM: [u8; 8] = [2, 7, 1, 3, 8, 9, 4, 1];
 #[test]
 fn a_stream_fed_whole(rt: HostRuntime) {
     let mut splitter: Splitter<Blocks> = Splitter::new(rt.alloc());
-    assert_eq!(rt; splitter.finish(), Ok(()));
+    ends(&rt, &splitter, Ok(()));
     feed(&rt, &mut splitter, &STREAM);
-    assert_eq!(rt; splitter.next(), Some(Ok(&STREAM[..2])));
-    assert_eq!(rt; splitter.next(), Some(Ok(&STREAM[2..3])));
-    assert_eq!(rt; splitter.next(), Some(Ok(&STREAM[3..6])));
-    assert_eq!(rt; splitter.next(), None);
-    assert_eq!(rt; splitter.finish(), Err(BlockFault::Truncated));
+    hands_out(&rt, &mut splitter, Some(Ok(&STREAM[..2])));
+    hands_out(&rt, &mut splitter, Some(Ok(&STREAM[2..3])));
+    hands_out(&rt, &mut splitter, Some(Ok(&STREAM[3..6])));
+    hands_out(&rt, &mut splitter, None);
+    ends(&rt, &splitter, Err(BlockFault::Truncated));
     feed(&rt, &mut splitter, &[5, 6]);
-    assert_eq!(rt; splitter.next(), Some(Ok(&[4, 1, 5, 6][..])));
-    assert_eq!(rt; splitter.finish(), Ok(()));
+    hands_out(&rt, &mut splitter, Some(Ok(&[4, 1, 5, 6][..])));
+    ends(&rt, &splitter, Ok(()));
 }
 
 #[test]
@@ -112,22 +133,22 @@ fn a_stream_fed_an_octet_at_a_time(rt: HostRuntime) {
             5 => Some(Ok(&STREAM[3..6])),
             _ => None,
         };
-        assert_eq!(rt; splitter.next(), expected);
-        assert_eq!(rt; splitter.next(), None);
+        hands_out(&rt, &mut splitter, expected);
+        hands_out(&rt, &mut splitter, None);
     }
-    assert_eq!(rt; splitter.finish(), Err(BlockFault::Truncated));
+    ends(&rt, &splitter, Err(BlockFault::Truncated));
 }
 
 #[test]
 fn a_refused_extent_is_for_good(rt: HostRuntime) {
     let mut splitter: Splitter<Blocks> = Splitter::new(rt.alloc());
     feed(&rt, &mut splitter, &[1, 0, 2]);
-    assert_eq!(rt; splitter.next(), Some(Ok(&[1][..])));
-    assert_eq!(rt; splitter.finish(), Err(BlockFault::Truncated));
-    assert_eq!(rt; splitter.next(), Some(Err(&BlockFault::Empty)));
+    hands_out(&rt, &mut splitter, Some(Ok(&[1][..])));
+    ends(&rt, &splitter, Err(BlockFault::Truncated));
+    hands_out(&rt, &mut splitter, Some(Err(&BlockFault::Empty)));
     feed(&rt, &mut splitter, &[2, 7]);
-    assert_eq!(rt; splitter.next(), Some(Err(&BlockFault::Empty)));
-    assert_eq!(rt; splitter.finish(), Ok(()));
+    hands_out(&rt, &mut splitter, Some(Err(&BlockFault::Empty)));
+    ends(&rt, &splitter, Ok(()));
 }
 
 // Three growths, the last of them where octets that were handed out are dropped. Each octet is 100,
@@ -137,13 +158,13 @@ fn a_stream_outgrows_its_memory(rt: HostRuntime) {
     let mut splitter: Splitter<Blocks> = Splitter::new(rt.alloc());
     feed(&rt, &mut splitter, &[100; 30]);
     feed(&rt, &mut splitter, &[100; 90]);
-    assert_eq!(rt; splitter.next(), Some(Ok(&[100; 100][..])));
+    hands_out(&rt, &mut splitter, Some(Ok(&[100; 100][..])));
     feed(&rt, &mut splitter, &[100; 980]);
     for _ in 0..10u8 {
-        assert_eq!(rt; splitter.next(), Some(Ok(&[100; 100][..])));
+        hands_out(&rt, &mut splitter, Some(Ok(&[100; 100][..])));
     }
-    assert_eq!(rt; splitter.next(), None);
-    assert_eq!(rt; splitter.finish(), Ok(()));
+    hands_out(&rt, &mut splitter, None);
+    ends(&rt, &splitter, Ok(()));
 }
 
 #[test]
@@ -154,9 +175,9 @@ fn handing_out_takes_no_memory(rt: HostRuntime) {
         return;
     }
     let _ = eprintln!(rt; "set up");
-    assert_eq!(rt; splitter.next(), Some(Ok(&STREAM[..2])));
-    assert_eq!(rt; splitter.next(), Some(Ok(&STREAM[2..3])));
-    assert_eq!(rt; splitter.next(), Some(Ok(&STREAM[3..6])));
-    assert_eq!(rt; splitter.next(), None);
-    assert_eq!(rt; splitter.finish(), Err(BlockFault::Truncated));
+    hands_out(&rt, &mut splitter, Some(Ok(&STREAM[..2])));
+    hands_out(&rt, &mut splitter, Some(Ok(&STREAM[2..3])));
+    hands_out(&rt, &mut splitter, Some(Ok(&STREAM[3..6])));
+    hands_out(&rt, &mut splitter, None);
+    ends(&rt, &splitter, Err(BlockFault::Truncated));
 }

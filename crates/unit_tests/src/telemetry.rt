@@ -1,5 +1,6 @@
 // Frames in octets, worked by hand.
 
+use crate::packets::are_packets;
 use crate::refusing::says_refused;
 use std::alloc::{AllocError, Global};
 use std::process::Abort;
@@ -38,43 +39,69 @@ fn frame(pointer: Pointer) -> TmFrame<'static> {
 }
 
 #[test]
-fn headers(rt: HostRuntime) -> Result<(), Fail> {
+fn headers(rt: HostRuntime) {
     for (pointer, last) in [
         (Pointer::At(0), [0x18, 0x00]),
         (Pointer::OnlyIdle, [0x1f, 0xfe]),
         (Pointer::NoStart, [0x1f, 0xff]),
     ] {
-        let mut out = [0xee_u8; 20];
-        let total = encode(&frame(pointer), &mut out)?;
-        assert_eq!(rt; total, 16);
-        assert!(rt; out.starts_with(&IDLE[..4]));
-        assert!(rt; out[4..].starts_with(&last));
-        assert!(rt; out[16..].iter().all(|octet| *octet == 0xee));
-        assert_eq!(rt; decode(&out[..total], total)?, frame(pointer));
+        is_spelled(&rt, pointer, &last);
     }
-    Ok(())
+}
+
+// A frame with this pointer has a header that ends so. Octets past it stay.
+fn is_spelled(rt: &impl Abort, pointer: Pointer, last: &[u8]) {
+    let mut out = [0xee_u8; 20];
+    assert_eq!(rt; written(pointer, &mut out), Some(16));
+    assert!(rt; has_header(&out, last));
+    reads(rt, &out[..16], frame(pointer));
+}
+
+fn has_header(out: &[u8; 20], last: &[u8]) -> bool {
+    out.starts_with(&IDLE[..4])
+        && out[4..].starts_with(last)
+        && out[16..].iter().all(|octet| *octet == 0xee)
+}
+
+fn reads(rt: &impl Abort, octets: &[u8], frame: TmFrame<'_>) {
+    assert_eq!(rt; decode(octets, octets.len()), Ok(frame));
+}
+
+// Writes a frame: how many octets it has.
+fn written(pointer: Pointer, out: &mut [u8]) -> Option<usize> {
+    encode(&frame(pointer), out).ok()
 }
 
 #[test]
 fn an_idle_frame(rt: HostRuntime) -> Result<(), Fail> {
     let mut out = [0; 16];
-    assert_eq!(rt; encode(&frame(Pointer::OnlyIdle), &mut out)?, 16);
+    assert_eq!(rt; written(Pointer::OnlyIdle, &mut out), Some(16));
     assert!(rt; out.starts_with(&IDLE));
-    let report = frame(Pointer::OnlyIdle).report()?;
-    assert_eq!(rt; (report.vcid, report.value), (2, 0));
-    let mut out = [0xee; 2048];
+    reports(&rt, frame(Pointer::OnlyIdle))?;
     let mut builder = TmBuilder::new(rt.alloc(), 1, 0, 16)?;
-    assert_eq!(rt; builder.build([0x01, 0x08, 0x00, 0x00], &mut out), 16);
-    assert!(rt; out.starts_with(&IDLE));
+    builds_idle(&rt, &mut builder);
     Ok(())
 }
 
+fn reports(rt: &impl Abort, frame: TmFrame<'_>) -> Result<(), Fail> {
+    let report = frame.report()?;
+    assert_eq!(rt; (report.vcid, report.value), (2, 0));
+    Ok(())
+}
+
+fn builds_idle(rt: &impl Abort, builder: &mut TmBuilder) {
+    let mut out = [0xee; 2048];
+    assert_eq!(rt; builder.build([0x01, 0x08, 0x00, 0x00], &mut out), 16);
+    assert!(rt; out.starts_with(&IDLE));
+}
+
 #[test]
-fn faults(rt: HostRuntime) -> Result<(), Fail> {
+fn faults(rt: HostRuntime) {
     let mut octets = [0; 16];
-    encode(&frame(Pointer::At(0)), &mut octets)?;
-    assert_eq!(rt; decode(&octets, 17), Err(TmFault::Length));
-    assert_eq!(rt; decode(&octets[..15], 15), Err(TmFault::Length));
+    assert_eq!(rt; written(Pointer::At(0), &mut octets), Some(16));
+    for (octets, length) in [(&octets[..], 17), (&octets[..15], 15)] {
+        assert_eq!(rt; fault_of(octets, length), Some(TmFault::Length));
+    }
     for (place, octet, fault) in [
         (0, 0x40, TmFault::Version),
         (4, 0x98, TmFault::Status),
@@ -85,14 +112,17 @@ fn faults(rt: HostRuntime) -> Result<(), Fail> {
         let mut damaged = octets;
         damaged[place] = octet;
         if place != 0 {
-            assert_eq!(rt; decode(&damaged, 16), Err(TmFault::Check));
+            assert_eq!(rt; fault_of(&damaged, 16), Some(TmFault::Check));
         }
         octets::append_check(&mut damaged);
-        assert_eq!(rt; decode(&damaged, 16), Err(fault));
+        assert_eq!(rt; fault_of(&damaged, 16), Some(fault));
     }
-    assert_eq!(rt; TmFault::FieldRange.number(), 10);
-    assert_eq!(rt; TmFault::NoOcf.name(), "NoOcf");
-    Ok(())
+    let (range, no_ocf) = (TmFault::FieldRange, TmFault::NoOcf);
+    assert_eq!(rt; (range.number(), no_ocf.name()), (10, "NoOcf"));
+}
+
+fn fault_of(octets: &[u8], length: usize) -> Option<TmFault> {
+    decode(octets, length).err()
 }
 
 #[test]
@@ -129,21 +159,24 @@ fn builds(
     frames: &[(&[u8; 8], Pointer)],
 ) -> Result<(), Fail> {
     let mut builder = builder_of(rt, alloc, packets)?;
-    let ocf = [0x01, 0x08, 0x00, 0x00];
-    for (number, (payload, pointer)) in frames.iter().enumerate() {
-        let mut out = [0xee; 2048];
-        assert_eq!(rt; builder.build(ocf, &mut out), 20);
-        assert_eq!(rt; out[20], 0xee);
-        let frame = decode(&out[..20], 20)?;
-        assert_eq!(rt; (frame.scid, frame.vcid), (1, 0));
-        assert_eq!(rt;
-            (usize::from(frame.mc_count), usize::from(frame.vc_count)),
-            (number, number)
-        );
-        assert_eq!(rt; (frame.pointer, frame.ocf), (*pointer, ocf));
-        assert!(rt; frame.payload == payload.as_slice());
+    for (number, (payload, pointer)) in (0..=255u8).zip(frames) {
+        let frame = TmFrame {
+            mc_count: number,
+            vc_count: number,
+            payload: payload.as_slice(),
+            ..frame(*pointer)
+        };
+        builds_one(rt, &mut builder, frame);
     }
     Ok(())
+}
+
+// The next frame, of 20 octets, is this one. Octets past it stay.
+fn builds_one(rt: &impl Abort, builder: &mut TmBuilder, frame: TmFrame<'_>) {
+    let mut out = [0xee; 2048];
+    assert_eq!(rt; builder.build(frame.ocf, &mut out), 20);
+    assert_eq!(rt; out[20], 0xee);
+    reads(rt, &out[..20], frame);
 }
 
 // Queues. Where memory is refused nothing has changed, and the call made again answers as ever.
@@ -186,27 +219,24 @@ fn idle_packets_in_frames(rt: HostRuntime) -> Result<(), Fail> {
 
 #[test]
 fn what_is_not_queued(rt: HostRuntime) -> Result<(), Fail> {
-    assert!(rt;
-        matches!(
-            TmBuilder::new(rt.alloc(), 1, 8, 20),
-            Err(TmFault::FieldRange)
-        )
-    );
-    assert!(rt;
-        matches!(
-            TmBuilder::new(rt.alloc(), 1, 0, 15),
-            Err(TmFault::FieldRange)
-        )
-    );
+    for (vcid, length) in [(8, 20), (0, 15)] {
+        let fault = TmBuilder::new(rt.alloc(), 1, vcid, length).err();
+        assert_eq!(rt; fault, Some(TmFault::FieldRange));
+    }
     let mut builder = TmBuilder::new(rt.alloc(), 1, 0, 2048)?;
+    queues_nothing(&rt, &mut builder);
+    Ok(())
+}
+
+fn queues_nothing(rt: &impl Abort, builder: &mut TmBuilder) {
     let idle = [0x07, 0xff, 0xc0, 0x00, 0x00, 0x00, 0x55];
     assert_eq!(rt; builder.queue(&idle), Err(TmFault::NotAPacket));
     let two = [0x00, 0x05, 0xc0, 0x00, 0x00, 0x00, 0xaa, 0x00];
     assert_eq!(rt; builder.queue(&two), Err(TmFault::NotAPacket));
     let mut out = [0; 2048];
     assert_eq!(rt; builder.build([0; 4], &mut out), 2048);
-    assert_eq!(rt; decode(&out, 2048)?.pointer, Pointer::OnlyIdle);
-    Ok(())
+    let pointer = decode(&out, 2048).ok().map(|frame| frame.pointer);
+    assert_eq!(rt; pointer, Some(Pointer::OnlyIdle));
 }
 
 // Takes a frame. Where memory is refused nothing has changed, and the call made again answers as ever.
@@ -215,7 +245,7 @@ fn take(
     extractor: &mut Extractor,
     octets: &[u8],
     packets: &mut Vec<Vec<u8>>,
-) -> Result<Gap, Fail> {
+) -> Result<Gap, TmFault> {
     let frame = decode(octets, octets.len())?;
     let count = packets.len();
     match extractor.frame(&frame, packets) {
@@ -223,7 +253,7 @@ fn take(
         Err(fault) => {
             says_refused(rt, fault, TmFault::Memory);
             assert_eq!(rt; packets.len(), count);
-            Ok(extractor.frame(&frame, packets)?)
+            extractor.frame(&frame, packets)
         }
     }
 }
@@ -237,24 +267,54 @@ fn extracts(
     wanted: &[&[u8]],
 ) -> Result<(), Fail> {
     let mut builder = builder_of(rt, alloc, packets)?;
+    extracts_of(rt, alloc, &mut builder, chosen, wanted)
+}
+
+fn extracts_of(
+    rt: &(impl Abort + Eprint),
+    alloc: Global,
+    builder: &mut TmBuilder,
+    chosen: &[(u8, Gap, usize)],
+    wanted: &[&[u8]],
+) -> Result<(), Fail> {
     let mut extractor = extractor(rt, alloc)?;
     let mut found = Vec::new(alloc);
-    let mut out = [0; 2048];
     for number in 0..8 {
-        builder.build([0x01, 0x08, 0x00, 0x00], &mut out);
-        for (count, gap, packets) in chosen {
-            if *count == number {
-                let seen = take(rt, &mut extractor, &out[..20], &mut found)?;
-                assert_eq!(rt; seen, *gap);
-                assert_eq!(rt; found.len(), *packets);
-            }
+        extracts_one(rt, builder, &mut extractor, &mut found, number, chosen);
+    }
+    are_packets(rt, found.as_slice(), wanted);
+    Ok(())
+}
+
+// The builder's next frame, which has this number, is taken if it is among those that are chosen.
+fn extracts_one(
+    rt: &(impl Abort + Eprint),
+    builder: &mut TmBuilder,
+    extractor: &mut Extractor,
+    found: &mut Vec<Vec<u8>>,
+    number: u8,
+    chosen: &[(u8, Gap, usize)],
+) {
+    let mut out = [0; 2048];
+    builder.build([0x01, 0x08, 0x00, 0x00], &mut out);
+    for (count, gap, packets) in chosen {
+        if *count == number {
+            finishes(rt, extractor, &out, found, *gap, *packets);
         }
     }
-    assert_eq!(rt; found.len(), wanted.len());
-    for (packet, is) in found.iter().zip(wanted) {
-        assert!(rt; packet.as_slice() == *is);
-    }
-    Ok(())
+}
+
+// The gap before a frame, and the number of packets once it is taken.
+fn finishes(
+    rt: &(impl Abort + Eprint),
+    extractor: &mut Extractor,
+    out: &[u8; 2048],
+    found: &mut Vec<Vec<u8>>,
+    gap: Gap,
+    packets: usize,
+) {
+    assert_eq!(rt; take(rt, extractor, &out[..20], found), Ok(gap));
+    assert_eq!(rt; found.len(), packets);
 }
 
 // A new extractor. Where memory is refused the call made again answers as ever.
@@ -310,7 +370,6 @@ fn parts_across_a_gap(rt: HostRuntime) -> Result<(), Fail> {
 fn a_frame_of_only_idle_data_between_halves(rt: HostRuntime) -> Result<(), Fail> {
     let mut extractor = extractor(&rt, rt.alloc())?;
     let mut found = Vec::new(rt.alloc());
-    let mut out = [0; 20];
     for (vc_count, pointer, payload, packets) in [
         (0, Pointer::At(0), &LONG[..8], 0),
         (1, Pointer::OnlyIdle, &[0x55; 8], 0),
@@ -323,11 +382,21 @@ fn a_frame_of_only_idle_data_between_halves(rt: HostRuntime) -> Result<(), Fail>
             payload,
             ..frame(pointer)
         };
-        encode(&frame, &mut out)?;
-        take(&rt, &mut extractor, &out, &mut found)?;
+        takes(&rt, &mut extractor, &frame, &mut found);
         assert_eq!(rt; found.len(), packets);
     }
     Ok(())
+}
+
+fn takes(
+    rt: &(impl Abort + Eprint),
+    extractor: &mut Extractor,
+    frame: &TmFrame<'_>,
+    packets: &mut Vec<Vec<u8>>,
+) {
+    let mut out = [0; 20];
+    assert_eq!(rt; encode(frame, &mut out), Ok(20));
+    assert!(rt; take(rt, extractor, &out, packets).is_ok());
 }
 
 // The longest packet. Where memory is refused, it asks again.
@@ -345,39 +414,78 @@ fn a_packet_across_many_frames(rt: HostRuntime) -> Result<(), Fail> {
     for (octet, is) in packet.iter_mut().zip([0x00, 0x05, 0xc0, 0x00, 0xff, 0xff]) {
         *octet = is;
     }
-    let mut builder = TmBuilder::new(rt.alloc(), 1, 0, 2048)?;
-    queue(&rt, &mut builder, &packet);
-    let mut extractor = extractor(&rt, rt.alloc())?;
-    let mut found = Vec::new(rt.alloc());
-    let mut out = [0; 2048];
-    for count in 0..33 {
-        assert_eq!(rt; builder.build([0; 4], &mut out), 2048);
-        take(&rt, &mut extractor, &out, &mut found)?;
-        assert_eq!(rt; found.len(), if count == 32 { 1 } else { 0 });
+    goes_across(&rt, rt.alloc(), packet.as_slice())
+}
+
+fn goes_across(rt: &(impl Abort + Eprint), alloc: Global, packet: &[u8]) -> Result<(), Fail> {
+    let mut builder = TmBuilder::new(alloc, 1, 0, 2048)?;
+    queue(rt, &mut builder, packet);
+    comes_out(rt, alloc, &mut builder, packet)
+}
+
+fn comes_out(
+    rt: &(impl Abort + Eprint),
+    alloc: Global,
+    builder: &mut TmBuilder,
+    packet: &[u8],
+) -> Result<(), Fail> {
+    let mut extractor = extractor(rt, alloc)?;
+    let mut found = Vec::new(alloc);
+    for _ in 0..32 {
+        goes_on(rt, builder, &mut extractor, &mut found);
+        assert_eq!(rt; found.len(), 0);
     }
-    for is in &found {
-        assert!(rt; *is == packet);
-    }
+    goes_on(rt, builder, &mut extractor, &mut found);
+    are_packets(rt, found.as_slice(), &[packet]);
     Ok(())
+}
+
+// A frame of 2,048 octets is built and taken.
+fn goes_on(
+    rt: &(impl Abort + Eprint),
+    builder: &mut TmBuilder,
+    extractor: &mut Extractor,
+    found: &mut Vec<Vec<u8>>,
+) {
+    let mut out = [0; 2048];
+    assert_eq!(rt; builder.build([0; 4], &mut out), 2048);
+    assert!(rt; take(rt, extractor, &out, found).is_ok());
 }
 
 // A packet on its way across two frames, the first of which is taken.
 #[test]
 fn building_and_waiting_takes_no_memory(rt: HostRuntime) -> Result<(), Fail> {
-    let packet = [0x00, 0x05, 0xc0, 0x00, 0x00, 0x02, 0xaa, 0xab, 0xac];
     let mut builder = TmBuilder::new(rt.alloc(), 1, 0, 20)?;
-    let mut found = Vec::new(rt.alloc());
-    let queued = builder.queue(&packet);
-    let (Ok(()), Ok(mut extractor)) = (queued, Extractor::new(rt.alloc())) else {
-        let _ = eprintln!(rt; "refused a growth");
-        return Ok(());
-    };
+    let packet = [0x00, 0x05, 0xc0, 0x00, 0x00, 0x02, 0xaa, 0xab, 0xac];
+    match (builder.queue(&packet), Extractor::new(rt.alloc())) {
+        (Ok(()), Ok(extractor)) => waits(&rt, rt.alloc(), &mut builder, extractor),
+        _ => {
+            let _ = eprintln!(rt; "refused a growth");
+        }
+    }
+    Ok(())
+}
+
+fn waits(rt: &(impl Abort + Eprint), alloc: Global, builder: &mut TmBuilder, extractor: Extractor) {
+    let mut extractor = extractor;
+    let mut found = Vec::new(alloc);
     let _ = eprintln!(rt; "set up");
     let mut out = [0; 2048];
     assert_eq!(rt; builder.build([0x01, 0x08, 0x00, 0x00], &mut out), 20);
-    let frame = decode(&out[..20], 20)?;
-    assert_eq!(rt; frame.pointer, Pointer::At(0));
-    assert_eq!(rt; extractor.frame(&frame, &mut found), Ok(Gap::First));
-    assert_eq!(rt; found.len(), 0);
-    Ok(())
+    finishes_none(rt, &mut extractor, &out[..20], &mut found);
+}
+
+fn finishes_none(
+    rt: &impl Abort,
+    extractor: &mut Extractor,
+    octets: &[u8],
+    found: &mut Vec<Vec<u8>>,
+) {
+    if let Ok(frame) = decode(octets, 20) {
+        assert_eq!(rt; frame.pointer, Pointer::At(0));
+        assert_eq!(rt; extractor.frame(&frame, found), Ok(Gap::First));
+        assert_eq!(rt; found.len(), 0);
+    } else {
+        assert!(rt; false);
+    }
 }

@@ -66,57 +66,75 @@ fn are_same(list: &[Vec<u8>], all: &[Vec<u8>]) -> bool {
     list.len() == all.len() && all.starts_with(list)
 }
 
+fn lengths_of(sim: &Sim) -> Lengths {
+    Lengths {
+        submitted: sim.submitted(4).len(),
+        delivered: sim.delivered(4).len(),
+        sent: sim.sent().len(),
+        accepted: sim.accepted().len(),
+    }
+}
+
 impl Carrier<'_> {
     // Lets an event happen, and compares the lists.
     fn happens(&mut self, rt: &impl Abort, event: Event<'_>) -> Result<Reply, Fail> {
         let reply = self.sim.step(event)?;
-        if let Reply::Packet(map, octets) = &reply {
+        self.looks_at(rt, &reply);
+        self.compares(rt);
+        Ok(reply)
+    }
+
+    // A packet that is taken is the next.
+    fn looks_at(&mut self, rt: &impl Abort, reply: &Reply) {
+        if let Reply::Packet(map, octets) = reply {
             assert_eq!(rt;
                 (*map, octets.as_slice()),
                 (4, packet(self.taken).as_slice())
             );
             self.taken = self.taken.wrapping_add(1);
         }
-        self.compares(rt);
-        Ok(reply)
     }
 
     // What was submitted and delivered are these packets in their order, what was sent and accepted
     // their data fields; and no list has passed the one that it follows.
     fn compares(&mut self, rt: &impl Abort) {
-        let sim = &self.sim;
-        let old = self.compared;
-        assert!(rt; goes_on(sim.submitted(4), old.submitted, self.packets));
-        assert!(rt; goes_on(sim.delivered(4), old.delivered, self.packets));
-        assert!(rt; goes_on(sim.sent(), old.sent, self.fields));
-        assert!(rt; goes_on(sim.accepted(), old.accepted, self.fields));
-        let new = Lengths {
-            submitted: sim.submitted(4).len(),
-            delivered: sim.delivered(4).len(),
-            sent: sim.sent().len(),
-            accepted: sim.accepted().len(),
-        };
+        assert!(rt; self.go_on());
+        let new = lengths_of(&self.sim);
         assert!(rt; new.sent <= new.submitted && new.accepted <= new.sent);
-        assert!(rt; sim.acknowledged() <= new.accepted && new.delivered == new.accepted);
+        assert!(rt; self.sim.acknowledged() <= new.accepted && new.delivered == new.accepted);
         assert!(rt; self.taken <= new.delivered);
         self.compared = new;
+    }
+
+    fn go_on(&self) -> bool {
+        let sim = &self.sim;
+        let old = self.compared;
+        goes_on(sim.submitted(4), old.submitted, self.packets)
+            && goes_on(sim.delivered(4), old.delivered, self.packets)
+            && goes_on(sim.sent(), old.sent, self.fields)
+            && goes_on(sim.accepted(), old.accepted, self.fields)
     }
 
     // Sends one frame after another, while there is one, and at most this many. Every seventh is lost.
     fn sends(&mut self, rt: &impl Abort, most: usize) -> Result<(), Fail> {
         for _ in 0..most {
-            if self.happens(rt, Event::Send)? == Reply::Nothing {
+            if self.answers(rt, Event::Send, &Reply::Nothing)? {
                 break;
             }
             self.frames = self.frames.wrapping_add(1);
             if self.frames % 7 == 0 {
-                assert_eq!(rt; self.happens(rt, Event::UpLose)?, Reply::Lost);
+                assert!(rt; self.answers(rt, Event::UpLose, &Reply::Lost)?);
             } else {
                 let _ = self.happens(rt, Event::UpDeliver)?;
                 let _ = self.happens(rt, Event::Take)?;
             }
         }
         Ok(())
+    }
+
+    // Lets an event happen, and says whether this is the reply.
+    fn answers(&mut self, rt: &impl Abort, event: Event<'_>, reply: &Reply) -> Result<bool, Fail> {
+        Ok(self.happens(rt, event)? == *reply)
     }
 
     // Whether the report of now acknowledges more.
@@ -158,15 +176,22 @@ impl Carrier<'_> {
         assert_eq!(rt; self.happens(rt, begin)?, Reply::Done);
         self.submits(rt)?;
         self.carries(rt)?;
-        assert_eq!(rt; self.taken, COUNT);
-        assert!(rt; are_same(self.sim.submitted(4), self.packets));
-        assert!(rt; are_same(self.sim.delivered(4), self.packets));
-        assert!(rt; are_same(self.sim.sent(), self.fields));
-        assert!(rt; are_same(self.sim.accepted(), self.fields));
-        let records = [COUNT, COUNT, COUNT, COUNT, COUNT, 0];
-        assert_eq!(rt; records_of(&self.sim), (FopMode::S1, records));
-        assert_eq!(rt; self.sim.clean(), Some(true));
+        self.has_carried_all(rt);
         Ok(())
+    }
+
+    fn has_carried_all(&self, rt: &impl Abort) {
+        let sim = &self.sim;
+        assert_eq!(rt; self.taken, COUNT);
+        for packets in [sim.submitted(4), sim.delivered(4)] {
+            assert!(rt; are_same(packets, self.packets));
+        }
+        for fields in [sim.sent(), sim.accepted()] {
+            assert!(rt; are_same(fields, self.fields));
+        }
+        let records = [COUNT, COUNT, COUNT, COUNT, COUNT, 0];
+        assert_eq!(rt; records_of(sim), (FopMode::S1, records));
+        assert_eq!(rt; sim.clean(), Some(true));
     }
 }
 

@@ -59,6 +59,10 @@ fn are_alike(rt: &impl Abort, one: &Sim, other: &Sim) {
         (one.begun(), one.confirmed()),
         (other.begun(), other.confirmed())
     );
+    have_same_lists(rt, one, other);
+}
+
+fn have_same_lists(rt: &impl Abort, one: &Sim, other: &Sim) {
     assert!(rt; one.submissions() == other.submissions());
     for map in 0..65 {
         assert!(rt; one.submitted(map) == other.submitted(map));
@@ -110,16 +114,55 @@ pub fn bear(
     records: Records,
 ) -> Result<(), Fail> {
     let mut one = new_link(rt, alloc, config)?;
+    bear_beside(rt, alloc, config, &mut one, events)?;
+    assert_eq!(rt; records_of(&one), records);
+    Ok(())
+}
+
+fn bear_beside(
+    rt: &(impl Abort + Eprint),
+    alloc: Global,
+    config: Config,
+    one: &mut Sim,
+    events: &[Event<'_>],
+) -> Result<(), Fail> {
     let mut other = new_link(rt, alloc, config)?;
+    bear_as_run(rt, alloc, config, one, &mut other, events)
+}
+
+fn bear_as_run(
+    rt: &(impl Abort + Eprint),
+    alloc: Global,
+    config: Config,
+    one: &mut Sim,
+    other: &mut Sim,
+    events: &[Event<'_>],
+) -> Result<(), Fail> {
     let ran = run_link(rt, alloc, config, events)?;
     assert_eq!(rt; ran.answers().len(), events.len());
     for (event, recorded) in events.iter().zip(ran.answers()) {
-        let answer = bears(rt, &mut one, Some(&other), *event);
-        assert!(rt; answer == bears(rt, &mut other, None, *event));
-        assert!(rt; answer == *recorded);
+        bear_one(rt, one, other, *event, recorded);
     }
-    are_alike(rt, &one, &other);
-    are_alike(rt, &one, &ran);
-    assert_eq!(rt; records_of(&one), records);
+    are_alike(rt, one, other);
+    are_alike(rt, one, &ran);
     Ok(())
+}
+
+fn bear_one(
+    rt: &(impl Abort + Eprint),
+    one: &mut Sim,
+    other: &mut Sim,
+    event: Event<'_>,
+    recorded: &Result<Reply, SimFault>,
+) {
+    let answer = bears(rt, one, Some(other), event);
+    let second = bears(rt, other, None, event);
+    are_answers(rt, &answer, &second, recorded);
+}
+
+type Answer = Result<Reply, SimFault>;
+
+fn are_answers(rt: &impl Abort, answer: &Answer, second: &Answer, recorded: &Answer) {
+    assert!(rt; *answer == *second);
+    assert!(rt; *answer == *recorded);
 }

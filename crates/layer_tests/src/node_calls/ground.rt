@@ -41,26 +41,61 @@ impl<'a> Node<(Ask<'a>, Standing)> for Ground {
 
     fn answers(&mut self, rt: &(impl Abort + Eprint), call: &(Ask<'a>, Standing)) {
         let (ask, standing) = call;
-        match ask {
-            Ask::Submit(octets, want) => assert_eq!(rt; submit(rt, self, octets), *want),
-            Ask::Bypass(octets, want) => assert_eq!(rt; put(rt, self, true, octets), *want),
-            Ask::Directive(directive, want) => {
-                assert_eq!(rt; self.directive(*directive), *want);
-            }
-            Ask::Pull(want) => pulls(rt, self, *want),
-            Ask::Advance => self.advance(),
-            Ask::Tick(want) => assert_eq!(rt; self.tick(), *want),
-            Ask::Telemetry(octets, want) => assert_eq!(rt; telemetry(rt, self, octets), Ok(*want)),
-            Ask::TakeTelemetry(want) => {
-                let taken = self.take_telemetry();
-                assert!(rt; taken.as_ref().map(|taken| taken.as_slice()) == *want);
-            }
-            Ask::AcceptedBeyond(value, want) => {
-                assert_eq!(rt; self.accepted_beyond(*value), *want);
-            }
-        }
+        answers(rt, self, ask);
         assert_eq!(rt; seen(self), *standing);
     }
+}
+
+fn answers(rt: &(impl Abort + Eprint), ground: &mut Ground, ask: &Ask<'_>) {
+    match ask {
+        Ask::Submit(octets, want) => submits(rt, ground, octets, *want),
+        Ask::Bypass(octets, want) => bypasses(rt, ground, octets, *want),
+        Ask::Directive(directive, want) => obeys(rt, ground, *directive, *want),
+        Ask::Pull(want) => pulls(rt, ground, *want),
+        Ask::Advance => ground.advance(),
+        Ask::Tick(want) => assert_eq!(rt; ground.tick(), *want),
+        Ask::Telemetry(octets, want) => hears(rt, ground, octets, *want),
+        Ask::TakeTelemetry(want) => takes(rt, ground, *want),
+        Ask::AcceptedBeyond(value, want) => {
+            assert_eq!(rt; ground.accepted_beyond(*value), *want);
+        }
+    }
+}
+
+fn submits(
+    rt: &(impl Abort + Eprint),
+    ground: &mut Ground,
+    octets: &[u8],
+    want: Result<(), LinkFault>,
+) {
+    assert_eq!(rt; submit(rt, ground, octets), want);
+}
+
+fn bypasses(
+    rt: &(impl Abort + Eprint),
+    ground: &mut Ground,
+    octets: &[u8],
+    want: Result<(), LinkFault>,
+) {
+    assert_eq!(rt; put(rt, ground, true, octets), want);
+}
+
+fn obeys(
+    rt: &impl Abort,
+    ground: &mut Ground,
+    directive: Directive,
+    want: Result<Option<Alert>, CopFault>,
+) {
+    assert_eq!(rt; ground.directive(directive), want);
+}
+
+fn hears(rt: &(impl Abort + Eprint), ground: &mut Ground, octets: &[u8], want: Heard) {
+    assert_eq!(rt; telemetry(rt, ground, octets), Ok(want));
+}
+
+fn takes(rt: &impl Abort, ground: &mut Ground, want: Option<&[u8]>) {
+    let taken = ground.take_telemetry();
+    assert!(rt; taken.as_ref().map(|taken| taken.as_slice()) == want);
 }
 
 /// A new ground answers the calls of these rows so, and stands so after each.
@@ -155,15 +190,20 @@ fn has_packets(octets: &[u8]) -> bool {
 // Pulls the frame that is peeked at before. Octets past it stay.
 fn pulls(rt: &impl Abort, ground: &mut Ground, want: Option<&[u8]>) {
     let mut peeked = [0; 1024];
-    let total = match ground.peek() {
-        Some(frame) => encode(&frame, Check::On, &mut peeked).ok(),
-        None => None,
-    };
+    let total = peek(ground, &mut peeked);
     let mut out = [0; 1024];
     let size = ground.pull(&mut out);
     assert_eq!(rt; size, total);
     assert!(rt; out == peeked);
     assert!(rt; size.and_then(|size| out.get(..size)) == want);
+}
+
+// Writes the frame that goes next: how many octets it has.
+fn peek(ground: &Ground, out: &mut [u8; 1024]) -> Option<usize> {
+    match ground.peek() {
+        Some(frame) => encode(&frame, Check::On, out).ok(),
+        None => None,
+    }
 }
 
 // A frame of this channel whose report goes to the sender.

@@ -6,6 +6,7 @@ use crate::refusing::says_refused;
 use clcw::decode;
 use cop1::Verdict;
 use map_service::Dropped;
+use nodes::Arrival;
 use std::alloc::Global;
 use std::process::Abort;
 use std::test::Fail;
@@ -36,15 +37,37 @@ impl<'a> Node<Row<'a>> for Spacecraft {
 
     fn answers(&mut self, rt: &(impl Abort + Eprint), call: &Row<'a>) {
         match call {
-            Row::Receive(octets, want) => assert_eq!(rt; receive(rt, self, octets), Ok(*want)),
-            Row::Take(want) => assert!(rt; is_packet(&self.take(), *want)),
-            Row::TakeBypass(want) => assert!(rt; is_packet(&self.take_bypass(), *want)),
-            Row::Telemetry(packet, want) => assert_eq!(rt; telemetry(rt, self, packet), *want),
+            Row::Receive(octets, want) => receives(rt, self, octets, *want),
+            Row::Take(want) => takes(rt, &self.take(), *want),
+            Row::TakeBypass(want) => takes(rt, &self.take_bypass(), *want),
+            Row::Telemetry(packet, want) => queues(rt, self, packet, *want),
             Row::Report(word, number, pointer, data) => {
                 reports(rt, self, *word, *number, *pointer, data)
             }
         }
     }
+}
+
+fn receives(
+    rt: &(impl Abort + Eprint),
+    spacecraft: &mut Spacecraft,
+    octets: &[u8],
+    want: Received,
+) {
+    assert_eq!(rt; receive(rt, spacecraft, octets), Ok(want));
+}
+
+fn takes(rt: &impl Abort, taken: &Option<(u8, Vec<u8>)>, want: Option<&[u8]>) {
+    assert!(rt; is_packet(taken, want));
+}
+
+fn queues(
+    rt: &(impl Abort + Eprint),
+    spacecraft: &mut Spacecraft,
+    packet: &[u8],
+    want: Result<(), TmFault>,
+) {
+    assert_eq!(rt; telemetry(rt, spacecraft, packet), want);
 }
 
 // Whether a packet that was taken is this one, on MAP 4.
@@ -65,7 +88,7 @@ fn receive(
     let ahead = ready_ahead(rt, spacecraft, octets);
     let before = spacecraft.control_word();
     let answer = match spacecraft.receive(octets) {
-        Err(fault) if tc_frame::decode(octets, Check::On).is_ok() => {
+        Err(fault) if is_frame(octets) => {
             says_refused(rt, fault.number(), 6);
             assert!(rt; spacecraft.control_word() == before);
             spacecraft.receive(octets)
@@ -81,13 +104,20 @@ fn receive(
 // How many packets octets will make ready when they arrive. Octets that are no frame take no memory.
 fn ready_ahead(rt: &(impl Abort + Eprint), spacecraft: &Spacecraft, octets: &[u8]) -> usize {
     let ahead = match spacecraft.prepare(octets) {
-        Err(fault) if tc_frame::decode(octets, Check::On).is_ok() => {
+        Err(fault) if is_frame(octets) => {
             says_refused(rt, fault.number(), 6);
             spacecraft.prepare(octets)
         }
         ahead => ahead,
     };
-    let Ok(arrival) = ahead else { return 0 };
+    match ahead {
+        Ok(arrival) => ready_of(rt, &arrival, octets),
+        Err(_) => 0,
+    }
+}
+
+// How many packets an arrival of these octets will make ready.
+fn ready_of(rt: &impl Abort, arrival: &Arrival, octets: &[u8]) -> usize {
     match arrival.accepted() {
         Some((segment, packets)) => {
             let end = octets.len().wrapping_sub(2);
@@ -96,6 +126,10 @@ fn ready_ahead(rt: &(impl Abort + Eprint), spacecraft: &Spacecraft, octets: &[u8
         }
         None => 0,
     }
+}
+
+fn is_frame(octets: &[u8]) -> bool {
+    tc_frame::decode(octets, Check::On).is_ok()
 }
 
 // Queues a packet.
@@ -129,12 +163,14 @@ fn reports(
     let size = spacecraft.report(&mut out);
     let (octets, rest) = out.split_at_checked(size).unwrap_or_default();
     assert!(rt; rest.iter().all(|octet| *octet == 0xee));
-    match tm_link::decode(octets, size) {
+    is_read(rt, octets, (word, number, pointer), data);
+}
+
+// A telemetry frame has this control word, count and pointer, and its data begins so.
+fn is_read(rt: &impl Abort, octets: &[u8], fields: ([u8; 4], u8, Pointer), data: &[u8]) {
+    match tm_link::decode(octets, octets.len()) {
         Ok(frame) => {
-            assert_eq!(rt;
-                (frame.ocf, frame.vc_count, frame.pointer),
-                (word, number, pointer)
-            );
+            assert_eq!(rt; (frame.ocf, frame.vc_count, frame.pointer), fields);
             assert!(rt; frame.payload.starts_with(data));
         }
         Err(_) => assert!(rt; false),

@@ -30,57 +30,84 @@ enum Event<'a> {
     Take(Option<&'a [u8]>),
 }
 
-// The two nodes, with what a caller does between them.
-fn nodes(rt: &impl Abort, alloc: Global) -> Result<(Spacecraft, Ground), Fail> {
-    let config = Config {
-        frame_length: 20,
-        ..Config::default()
-    };
-    assert!(rt; config.fault().is_none());
-    Ok((
-        Spacecraft::new(alloc, &config)?,
-        Ground::new(alloc, &config)?,
-    ))
-}
-
 fn happens(
     rt: &impl Abort,
     spacecraft: &mut Spacecraft,
     ground: &mut Ground,
     event: &Event<'_>,
 ) -> Result<(), Fail> {
-    let mut out = [0; 2048];
     match event {
         Event::Queue(packet) => spacecraft.telemetry(packet)?,
-        Event::Lose(frames) => {
-            for _ in 0..*frames {
-                let _ = spacecraft.report(&mut out);
-            }
-        }
-        Event::Hear(gap, packets) => {
-            let size = spacecraft.report(&mut out);
-            let heard = ground.telemetry(out.get(..size).unwrap_or_default())?;
-            // The sender, in S6, does not use the report for anything.
-            let want = Heard::Frame {
-                gap: *gap,
-                packets: *packets,
-                report: HeardReport::Used,
-                alert: None,
-            };
-            assert_eq!(rt; heard, want);
-        }
-        Event::Take(packet) => {
-            let taken = ground.take_telemetry();
-            assert!(rt; taken.as_ref().map(|taken| taken.as_slice()) == *packet);
-        }
+        Event::Lose(frames) => loses(spacecraft, *frames),
+        Event::Hear(gap, packets) => hears(rt, spacecraft, ground, *gap, *packets),
+        Event::Take(packet) => takes(rt, ground, *packet),
     }
     Ok(())
 }
 
+fn loses(spacecraft: &mut Spacecraft, frames: usize) {
+    let mut out = [0; 2048];
+    for _ in 0..frames {
+        let _ = spacecraft.report(&mut out);
+    }
+}
+
+fn hears(
+    rt: &impl Abort,
+    spacecraft: &mut Spacecraft,
+    ground: &mut Ground,
+    gap: Gap,
+    packets: usize,
+) {
+    let mut out = [0; 2048];
+    let size = spacecraft.report(&mut out);
+    let heard = ground.telemetry(out.get(..size).unwrap_or_default());
+    // The sender, in S6, does not use the report for anything.
+    let want = Heard::Frame {
+        gap,
+        packets,
+        report: HeardReport::Used,
+        alert: None,
+    };
+    assert_eq!(rt; heard, Ok(want));
+}
+
+fn takes(rt: &impl Abort, ground: &mut Ground, packet: Option<&[u8]>) {
+    let taken = ground.take_telemetry();
+    assert!(rt; taken.as_ref().map(|taken| taken.as_slice()) == packet);
+}
+
+// These events happen, one after another, between two new nodes.
 fn happen(rt: &impl Abort, alloc: Global, events: &[Event<'_>]) -> Result<(), Fail> {
-    let (mut spacecraft, mut ground) = nodes(rt, alloc)?;
+    let config = Config {
+        frame_length: 20,
+        ..Config::default()
+    };
+    assert!(rt; config.fault().is_none());
+    let mut spacecraft = Spacecraft::new(alloc, &config)?;
+    happen_to(rt, alloc, &config, &mut spacecraft, events)
+}
+
+fn happen_to(
+    rt: &impl Abort,
+    alloc: Global,
+    config: &Config,
+    spacecraft: &mut Spacecraft,
+    events: &[Event<'_>],
+) -> Result<(), Fail> {
+    assert!(rt; config.fault().is_none());
+    let mut ground = Ground::new(alloc, config)?;
+    each_happens(rt, spacecraft, &mut ground, events)
+}
+
+fn each_happens(
+    rt: &impl Abort,
+    spacecraft: &mut Spacecraft,
+    ground: &mut Ground,
+    events: &[Event<'_>],
+) -> Result<(), Fail> {
     for event in events {
-        happens(rt, &mut spacecraft, &mut ground, event)?;
+        happens(rt, spacecraft, ground, event)?;
     }
     Ok(())
 }

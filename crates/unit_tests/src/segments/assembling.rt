@@ -1,6 +1,7 @@
 // Segments joined: the rows of the table.
 
 use super::*;
+use crate::packets::are_packets;
 use crate::refusing::says_refused;
 
 const P1: [u8; 7] = [0x10, 0x05, 0xc0, 0x01, 0x00, 0x00, 0xab];
@@ -13,58 +14,87 @@ fn takes(
     dropped: Option<Dropped>,
     packets: &[&[u8]],
 ) {
-    let mut answer = assembler.take(segment);
-    if let Err(fault) = answer {
-        says_refused(rt, fault, MapFault::Memory);
-        answer = assembler.take(segment);
-    }
-    match answer {
+    match take(rt, assembler, segment) {
         Ok(taken) => {
             assert_eq!(rt; taken.dropped, dropped);
-            assert_eq!(rt; taken.packets.len(), packets.len());
-            for (packet, wanted) in taken.packets.iter().zip(packets) {
-                assert!(rt; packet.as_slice() == *wanted);
-            }
+            are_packets(rt, taken.packets.as_slice(), packets);
         }
         Err(fault) => assert_eq!(rt; fault.name(), "none"),
     }
 }
 
+fn take(
+    rt: &(impl Abort + Eprint),
+    assembler: &mut Assembler,
+    segment: &Segment,
+) -> Result<Taken, MapFault> {
+    match assembler.take(segment) {
+        Ok(taken) => Ok(taken),
+        Err(fault) => {
+            says_refused(rt, fault, MapFault::Memory);
+            assembler.take(segment)
+        }
+    }
+}
+
+// The flags and the MAP of a segment, its data, what is dropped, and the packets that are handed out.
+type Row = (
+    SegmentFlags,
+    u8,
+    &'static [u8],
+    Option<Dropped>,
+    &'static [&'static [u8]],
+);
+
+const ON_TWO_MAPS: [Row; 9] = [
+    (SegmentFlags::First, 4, &[0x10, 0x05, 0xc0], None, &[]),
+    (SegmentFlags::First, 5, &[0x10, 0x05, 0xc0], None, &[]),
+    (
+        SegmentFlags::Last,
+        4,
+        &[0x00, 0x00, 0x00, 0xaa],
+        None,
+        &[&P0],
+    ),
+    (
+        SegmentFlags::Last,
+        5,
+        &[0, 0],
+        Some(Dropped::NotAPacket),
+        &[],
+    ),
+    (
+        SegmentFlags::Continuing,
+        5,
+        &[0],
+        Some(Dropped::NoBeginning),
+        &[],
+    ),
+    (SegmentFlags::First, 4, &[0x10], None, &[]),
+    (
+        SegmentFlags::Alone,
+        4,
+        &P1,
+        Some(Dropped::Interrupted),
+        &[&P1],
+    ),
+    (SegmentFlags::First, 4, &[0x10], None, &[]),
+    (
+        SegmentFlags::Alone,
+        4,
+        &[0xaa],
+        Some(Dropped::NotAPacket),
+        &[],
+    ),
+];
+
 #[test]
 fn parts_on_two_maps(rt: HostRuntime) {
     let mut assembler = Assembler::new(rt.alloc(), limits(7, false));
-    let rows: [(Segment, Option<Dropped>, &[&[u8]]); 8] = [
-        (segment(SegmentFlags::First, 4, &P0[..3]), None, &[]),
-        (segment(SegmentFlags::First, 5, &P0[..3]), None, &[]),
-        (segment(SegmentFlags::Last, 4, &P0[3..]), None, &[&P0]),
-        (
-            segment(SegmentFlags::Last, 5, &[0, 0]),
-            Some(Dropped::NotAPacket),
-            &[],
-        ),
-        (
-            segment(SegmentFlags::Continuing, 5, &[0]),
-            Some(Dropped::NoBeginning),
-            &[],
-        ),
-        (segment(SegmentFlags::First, 4, &[0x10]), None, &[]),
-        (
-            segment(SegmentFlags::Alone, 4, &P1),
-            Some(Dropped::Interrupted),
-            &[&P1],
-        ),
-        (segment(SegmentFlags::First, 4, &[0x10]), None, &[]),
-    ];
-    for (segment, dropped, packets) in &rows {
-        takes(&rt, &mut assembler, segment, *dropped, packets);
+    for (flags, map, payload, dropped, packets) in ON_TWO_MAPS {
+        let segment = segment(flags, map, payload);
+        takes(&rt, &mut assembler, &segment, dropped, packets);
     }
-    takes(
-        &rt,
-        &mut assembler,
-        &segment(SegmentFlags::Alone, 4, &[0xaa]),
-        Some(Dropped::NotAPacket),
-        &[],
-    );
 }
 
 // A segment that is one packet is handed out as it came, where nothing waits on its MAP.
@@ -73,18 +103,14 @@ fn segments_that_pass(rt: HostRuntime) {
     let mut assembler = Assembler::new(rt.alloc(), limits(7, false));
     let alone = segment(SegmentFlags::Alone, 4, &P0);
     let first = segment(SegmentFlags::First, 4, &P0[..3]);
-    assert!(rt; assembler.lone_packet(&alone) == Some(P0.as_slice()));
-    assert!(rt; assembler.lone_packet(&first).is_none());
-    assert!(rt;
-        assembler
-            .lone_packet(&segment(SegmentFlags::Alone, 4, &P0[..6]))
-            .is_none()
-    );
-    assert!(rt;
-        assembler
-            .lone_packet(&segment(SegmentFlags::Alone, 64, &P0))
-            .is_none()
-    );
+    for (segment, packet) in [
+        (alone, Some(P0.as_slice())),
+        (first, None),
+        (segment(SegmentFlags::Alone, 4, &P0[..6]), None),
+        (segment(SegmentFlags::Alone, 64, &P0), None),
+    ] {
+        assert!(rt; assembler.lone_packet(&segment) == packet);
+    }
     takes(&rt, &mut assembler, &first, None, &[]);
     assert!(rt; assembler.lone_packet(&alone).is_none());
     let blocking = Assembler::new(rt.alloc(), limits(7, true));
