@@ -143,17 +143,17 @@ def way(file):
     header = f"{64 * int(fields['seg']) + int(fields['map']):02X}"
     assert octets[8:-4] == f"{int(fields['n']):02X}{header}{fields['data']}" and fields["data"] == PACKETS[0]
     picture = Picture(940, 560, "The way of a packet up, and of the report down")
-    picture.text(235, 26, "the ground (tc_link::Ground)", **{"class": "name"})
-    picture.text(705, 26, "the spacecraft (tc_link::Spacecraft)", **{"class": "name"})
+    picture.text(235, 26, "the ground (nodes::Ground)", **{"class": "name"})
+    picture.text(705, 26, "the spacecraft (nodes::Spacecraft)", **{"class": "name"})
     columns = (
         (235, (
-            (f"submit on MAP {fields['map']}", f"packet {PACKETS[0]}", "space_packet"),
+            (f"submit on MAP {fields['map']}", f"packet {PACKETS[0]}", "nodes, space_packet"),
             ("cut into segments", f"header {header}, then the packet", "map_service"),
             ("FOP-1", f"N(S) = {fields['n']}, kept until acknowledged", "cop1"),
-            ("frame with its check", octets, "tc_frame"),
+            ("frame with its FECF", octets, "tc_frame"),
         )),
         (705, (
-            ("take", taken, "tc_link"),
+            ("take", taken, "nodes"),
             ("assemble the segments", f"{taken.split()[2]} is whole", "map_service"),
             ("FARM-1", came, "cop1"),
             ("frame read", told[2:].split(" data")[0], "tc_frame"),
