@@ -44,6 +44,10 @@ cause_at n =
     found_by (λ cause. (cause_row cause).0)
     (ClosedMap ∷ Interrupted ∷ NoBeginning ∷ NotAPacket ∷ TooLong ∷ []) n
 
+-- it is a cause's number, or 0
+abbrev pub IsCauseNumber : ℕ → Type 0
+IsCauseNumber n = cause_at n ≡ None → n ≡ 0
+
 -- the packets that are whole now: one at the beginning of the memory, or those of the segment's
 -- data
 abbrev pub packets_described : TakenSegment → List ℕ → List ℕ → List (List ℕ)

@@ -2,7 +2,7 @@
 
 ghost use Rattle.std.specs.Prelude.{◌≡◌, ◌+◌, ◌≤◌, ◌++◌, length, take, true, OnOk, OnErr, is_some, option_copied, if◌then◌else◌};
 ghost use Rattle.sedgechisel.specs.Answers.{status_of};
-ghost use Rattle.sedgechisel.specs.Maps.{is_map, is_counted, part_of, limits_of, cell_for, cause_at, closed, no_packets, outcome_described, taken_at, DescribesOutcome, next_packet, part_or, DescribesPackets};
+ghost use Rattle.sedgechisel.specs.Maps.{is_map, is_counted, part_of, limits_of, cell_for, cause_at, IsCauseNumber, closed, no_packets, outcome_described, taken_at, DescribesOutcome, next_packet, part_or, DescribesPackets};
 
 use crate::numbers::DAMAGED;
 use crate::part::Part;
@@ -48,6 +48,8 @@ pub extern "C" fn sedge_map_take(
     ensures blocking { map.new.blocking ≡ map.old.blocking }
     ensures count { OnOk (taken_at map.old flags octets.now memory.old)
         (is_counted taken.new memory.new octets.now ≡ true) }
+    ensures dropped { OnOk (taken_at map.old flags octets.now memory.old)
+        (IsCauseNumber taken.new.dropped) }
     ensures unchanged { OnErr (taken_at map.old flags octets.now memory.old)
         ((map.new ≡ map.old) × (taken.new ≡ taken.old) × (memory.new ≡ memory.old)) }
 {
@@ -99,6 +101,7 @@ fn take_segment(
     ensures map { is_map map.new (length memory.old) ≡ true }
     ensures blocking { map.new.blocking ≡ map.old.blocking }
     ensures count { is_counted result memory.new octets.now ≡ true }
+    ensures dropped { IsCauseNumber result.dropped }
 {
     let limits = limits_for(map, memory.len());
     let Decision { step, dropped } = decide(&limits, flags, part_in(map, memory), octets);
@@ -143,6 +146,7 @@ fn close(map: &mut KeptMap)
 // No packet is whole, and this is dropped, if anything.
 fn no_packets(dropped: Option<Dropped>) -> TakenSegment
     ensures dropped { cause_at result.dropped ≡ dropped }
+    ensures number { IsCauseNumber result.dropped }
     ensures none { result ≡ no_packets result.dropped }
 {
     TakenSegment {
@@ -153,7 +157,8 @@ fn no_packets(dropped: Option<Dropped>) -> TakenSegment
 }
 
 fn number_of(dropped: Option<Dropped>) -> u8
-    ensures { cause_at result ≡ dropped }
+    ensures cause { cause_at result ≡ dropped }
+    ensures number { IsCauseNumber result }
 {
     match dropped {
         None => 0,
@@ -168,6 +173,7 @@ fn number_of(dropped: Option<Dropped>) -> u8
 // The packet at the beginning of the memory, unless there is a fault of it.
 fn joined(count: usize, fault: Option<Dropped>) -> TakenSegment
     ensures dropped { cause_at result.dropped ≡ fault }
+    ensures number { IsCauseNumber result.dropped }
     ensures packet { result ≡ if is_some fault then no_packets result.dropped
         else record { count = count; place = 1; dropped = 0 } }
 {
