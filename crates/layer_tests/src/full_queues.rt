@@ -10,7 +10,7 @@ const FULL: Result<(), LinkFault> = Err(LinkFault::QueueFull);
 
 #[test]
 fn full_queues(rt: HostRuntime) -> Result<(), Fail> {
-    use FopMode::{S1, S6};
+    use FopMode::S1;
     let config = Config {
         queue_slots: 2,
         part: 4,
@@ -28,7 +28,12 @@ fn full_queues(rt: HostRuntime) -> Result<(), Fail> {
         (Ask::Advance, (S1, 2, 0, 2)),
         (Ask::Submit(&P1, Ok(())), (S1, 2, 0, 4)),
     ];
-    asks(&rt, rt.alloc(), &config, &rows)?;
+    asks(&rt, rt.alloc(), &config, &rows)
+}
+
+#[test]
+fn a_full_bypass_queue(rt: HostRuntime) -> Result<(), Fail> {
+    use FopMode::S6;
     let config = Config {
         queue_slots: 1,
         ..Config::default()

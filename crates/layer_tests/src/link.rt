@@ -5,19 +5,17 @@ mod twins;
 mod without_memory;
 
 use nodes::{PARAMETERS, Parameter};
+use std::process::Abort;
 use tc_link::{Config, LinkFault};
 
 #[test]
 fn parameters(rt: HostRuntime) {
     let mut config = Config::default();
-    assert_eq!(rt; config.fault(), None);
+    has_fault(&rt, &config, None);
     for parameter in PARAMETERS {
-        let found = Parameter::named(parameter.name().as_bytes());
-        assert_eq!(rt; found, Some(parameter));
-        config.set(parameter, parameter.most());
-        assert_eq!(rt; config.value(parameter), parameter.most());
+        takes_most(&rt, &mut config, parameter);
     }
-    assert_eq!(rt; config.fault(), None);
+    has_fault(&rt, &config, None);
     assert_eq!(rt; config.frame_length, 2048);
     for (parameter, value, fault) in [
         (Parameter::Blocking, 2, "blocking"),
@@ -26,8 +24,24 @@ fn parameters(rt: HostRuntime) {
         (Parameter::TmVcid, 8, "tm_vcid"),
     ] {
         config.set(parameter, value);
-        assert_eq!(rt; config.fault(), Some(fault));
+        has_fault(&rt, &config, Some(fault));
     }
+}
+
+fn has_fault(rt: &impl Abort, config: &Config, fault: Option<&str>) {
+    assert_eq!(rt; config.fault(), fault);
+}
+
+// A parameter is found by its name, and takes the most that it may be.
+fn takes_most(rt: &impl Abort, config: &mut Config, parameter: Parameter) {
+    let found = Parameter::named(parameter.name().as_bytes());
+    assert_eq!(rt; found, Some(parameter));
+    config.set(parameter, parameter.most());
+    assert_eq!(rt; config.value(parameter), parameter.most());
+}
+
+#[test]
+fn names(rt: HostRuntime) {
     assert_eq!(rt; Parameter::named(b"colour"), None);
     let fault = LinkFault::Memory;
     assert_eq!(rt; (fault.number(), fault.name()), (6, "Memory"));

@@ -76,12 +76,22 @@ fn lengths_of(sim: &Sim) -> Lengths {
 }
 
 impl Carrier<'_> {
-    // Lets an event happen, and compares the lists.
-    fn happens(&mut self, rt: &impl Abort, event: Event<'_>) -> Result<Reply, Fail> {
-        let reply = self.sim.step(event)?;
-        self.looks_at(rt, &reply);
+    // Lets an event happen, compares the lists, and says whether this is the reply.
+    fn answers(&mut self, rt: &impl Abort, event: Event<'_>, reply: &Reply) -> Result<bool, Fail> {
+        let given = self.sim.step(event)?;
+        self.looks_at(rt, &given);
         self.compares(rt);
-        Ok(reply)
+        Ok(given == *reply)
+    }
+
+    fn replies(&mut self, rt: &impl Abort, event: Event<'_>, reply: &Reply) -> Result<(), Fail> {
+        assert!(rt; self.answers(rt, event, reply)?);
+        Ok(())
+    }
+
+    fn happens(&mut self, rt: &impl Abort, event: Event<'_>) -> Result<(), Fail> {
+        let _ = self.answers(rt, event, &Reply::Nothing)?;
+        Ok(())
     }
 
     // A packet that is taken is the next.
@@ -122,34 +132,31 @@ impl Carrier<'_> {
                 break;
             }
             self.frames = self.frames.wrapping_add(1);
-            if self.frames % 7 == 0 {
-                assert!(rt; self.answers(rt, Event::UpLose, &Reply::Lost)?);
-            } else {
-                let _ = self.happens(rt, Event::UpDeliver)?;
-                let _ = self.happens(rt, Event::Take)?;
-            }
+            self.comes_to_its_end(rt)?;
         }
         Ok(())
     }
 
-    // Lets an event happen, and says whether this is the reply.
-    fn answers(&mut self, rt: &impl Abort, event: Event<'_>, reply: &Reply) -> Result<bool, Fail> {
-        Ok(self.happens(rt, event)? == *reply)
+    fn comes_to_its_end(&mut self, rt: &impl Abort) -> Result<(), Fail> {
+        if self.frames % 7 == 0 {
+            return self.replies(rt, Event::UpLose, &Reply::Lost);
+        }
+        self.happens(rt, Event::UpDeliver)?;
+        self.happens(rt, Event::Take)
     }
 
     // Whether the report of now acknowledges more.
     fn reports(&mut self, rt: &impl Abort) -> Result<bool, Fail> {
         let before = self.sim.acknowledged();
-        let _ = self.happens(rt, Event::Report)?;
-        let _ = self.happens(rt, Event::DownDeliver)?;
+        self.happens(rt, Event::Report)?;
+        self.happens(rt, Event::DownDeliver)?;
         Ok(before < self.sim.acknowledged())
     }
 
     // Submits each packet.
     fn submits(&mut self, rt: &impl Abort) -> Result<(), Fail> {
         for place in 0..COUNT {
-            let event = Event::Submit(4, &packet(place));
-            assert_eq!(rt; self.happens(rt, event)?, Reply::Done);
+            self.replies(rt, Event::Submit(4, &packet(place)), &Reply::Done)?;
         }
         Ok(())
     }
@@ -160,7 +167,7 @@ impl Carrier<'_> {
         self.sends(rt, COUNT)?;
         for _ in 0..COUNT {
             if !self.reports(rt)? {
-                assert_eq!(rt; self.happens(rt, Event::Tick)?, Reply::Done);
+                self.replies(rt, Event::Tick, &Reply::Done)?;
             }
             if self.sim.outstanding() == 0 {
                 break;
@@ -173,7 +180,7 @@ impl Carrier<'_> {
     // Begins a session, and carries each packet.
     fn runs(&mut self, rt: &impl Abort) -> Result<(), Fail> {
         let begin = Event::Directive(Directive::InitWithoutCheck);
-        assert_eq!(rt; self.happens(rt, begin)?, Reply::Done);
+        self.replies(rt, begin, &Reply::Done)?;
         self.submits(rt)?;
         self.carries(rt)?;
         self.has_carried_all(rt);

@@ -115,8 +115,12 @@ pub fn bear(
 ) -> Result<(), Fail> {
     let mut one = new_link(rt, alloc, config)?;
     bear_beside(rt, alloc, config, &mut one, events)?;
-    assert_eq!(rt; records_of(&one), records);
+    has_records(rt, &one, records);
     Ok(())
+}
+
+fn has_records(rt: &impl Abort, sim: &Sim, records: Records) {
+    assert_eq!(rt; records_of(sim), records);
 }
 
 fn bear_beside(
@@ -139,13 +143,23 @@ fn bear_as_run(
     events: &[Event<'_>],
 ) -> Result<(), Fail> {
     let ran = run_link(rt, alloc, config, events)?;
+    bear_each(rt, one, other, &ran, events);
+    Ok(())
+}
+
+fn bear_each(
+    rt: &(impl Abort + Eprint),
+    one: &mut Sim,
+    other: &mut Sim,
+    ran: &Sim,
+    events: &[Event<'_>],
+) {
     assert_eq!(rt; ran.answers().len(), events.len());
     for (event, recorded) in events.iter().zip(ran.answers()) {
         bear_one(rt, one, other, *event, recorded);
     }
     are_alike(rt, one, other);
-    are_alike(rt, one, &ran);
-    Ok(())
+    are_alike(rt, one, ran);
 }
 
 fn bear_one(

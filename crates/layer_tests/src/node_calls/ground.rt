@@ -4,6 +4,7 @@ use super::playing::{Node, plays};
 use crate::frames::*;
 use crate::refusing::says_refused;
 use cop1::{Alert, CopFault, Directive, FopMode};
+use nodes::ValidConfig;
 use std::alloc::Global;
 use std::process::Abort;
 use std::test::Fail;
@@ -30,9 +31,8 @@ pub enum Ask<'a> {
 pub type Standing = (FopMode, u8, u8, usize);
 
 impl<'a> Node<(Ask<'a>, Standing)> for Ground {
-    fn create(rt: &impl Abort, alloc: Global, config: &Config) -> Result<Ground, LinkFault> {
-        assert!(rt; config.fault().is_none());
-        Ground::new(alloc, config)
+    fn create(alloc: Global, config: &ValidConfig) -> Result<Ground, LinkFault> {
+        Ground::of(alloc, config)
     }
 
     fn length_of_frames(&self) -> usize {

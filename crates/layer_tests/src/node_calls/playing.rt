@@ -2,6 +2,7 @@
 // node's state in it, and the run compares the answers.
 
 use crate::refusing::{ends_growths, says_refused};
+use nodes::ValidConfig;
 use std::alloc::Global;
 use std::process::Abort;
 use std::test::Fail;
@@ -9,7 +10,7 @@ use tc_link::{Config, LinkFault};
 
 /// A node whose calls are tested.
 pub trait Node<C> {
-    fn create(rt: &impl Abort, alloc: Global, config: &Config) -> Result<Self, LinkFault>;
+    fn create(alloc: Global, config: &ValidConfig) -> Result<Self, LinkFault>;
 
     fn length_of_frames(&self) -> usize;
 
@@ -25,10 +26,11 @@ pub fn plays<N: Node<C> + Drop, C>(
     config: &Config,
     rows: &[C],
 ) -> Result<(), Fail> {
-    let mut node = match N::create(rt, alloc, config) {
+    let valid = config.valid()?;
+    let mut node = match N::create(alloc, &valid) {
         Err(fault) => {
             says_refused(rt, fault.number(), 6);
-            N::create(rt, alloc, config)?
+            N::create(alloc, &valid)?
         }
         Ok(node) => node,
     };

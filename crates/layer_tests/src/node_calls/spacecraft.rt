@@ -6,7 +6,7 @@ use crate::refusing::says_refused;
 use clcw::decode;
 use cop1::Verdict;
 use map_service::Dropped;
-use nodes::Arrival;
+use nodes::{Arrival, ValidConfig};
 use std::alloc::Global;
 use std::process::Abort;
 use std::test::Fail;
@@ -26,9 +26,8 @@ enum Row<'a> {
 }
 
 impl<'a> Node<Row<'a>> for Spacecraft {
-    fn create(rt: &impl Abort, alloc: Global, config: &Config) -> Result<Spacecraft, LinkFault> {
-        assert!(rt; config.fault().is_none());
-        Spacecraft::new(alloc, config)
+    fn create(alloc: Global, config: &ValidConfig) -> Result<Spacecraft, LinkFault> {
+        Spacecraft::of(alloc, config)
     }
 
     fn length_of_frames(&self) -> usize {
