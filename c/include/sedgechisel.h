@@ -1,4 +1,4 @@
-/* Sedgechisel for programs in C: the check of frames, telecommand frames, space packets, control words, telemetry
+/* Sedgechisel for programs in C: the FECF of frames, telecommand frames, space packets, control words, telemetry
  * frames, the receiver FARM-1, the sender FOP-1, packets in segments, and packets in telemetry frames. For C99 and
  * later, and for C++.
  *
@@ -312,7 +312,7 @@ uint8_t sedge_fop_accepted_beyond(const struct sedge_fop *fop, uint8_t value, ui
 /* The same of a sender with these numbers for NN(R) and V(S). Returns 0, or SEDGE_ABSENT. */
 uint8_t sedge_accepted_beyond(uint8_t nn, uint8_t vs, uint8_t value, uint8_t *accepted);
 
-/* ---- Telecommand transfer frames of at most 1,024 octets (232.0-B-4, 4.1), with or without their check. ---- */
+/* ---- Telecommand transfer frames of at most 1,024 octets (232.0-B-4, 4.1), with or without their FECF. ---- */
 
 enum sedge_tc_fault {
     SEDGE_TC_SHORT = 1,         /* fewer than the 5 octets of the header */
@@ -362,13 +362,13 @@ struct sedge_tc_frame {
     uint8_t vr;      /* Type-BC, Set V(R): the number */
 };
 
-/* Reads all of the octets as one frame, which ends with its check if checked is true, and writes where the data after
+/* Reads all of the octets as one frame, which ends with its FECF if checked is true, and writes where the data after
  * the segment header are; a control frame has none, and the part is {0, 0}. Returns 0, or the first of 1 to 9 of
  * sedge_tc_fault. */
 uint8_t sedge_tc_decode(const uint8_t *octets, size_t count, bool checked, struct sedge_tc_frame *frame,
                         struct sedge_part *data);
 
-/* Writes the frame with these data (ignored for a control frame) to the beginning of out, with its check if checked is
+/* Writes the frame with these data (ignored for a control frame) to the beginning of out, with its FECF if checked is
  * true, and its length in octets, 6 to 1,024, to total. Returns 0, or the first of SEDGE_DAMAGED (the kind, the segment
  * flags or the command is out of its enum), SEDGE_TC_FIELD_RANGE and SEDGE_TC_ROOM. */
 uint8_t sedge_tc_encode(const struct sedge_tc_frame *frame, const uint8_t *data, size_t data_count, bool checked,
@@ -376,7 +376,7 @@ uint8_t sedge_tc_encode(const struct sedge_tc_frame *frame, const uint8_t *data,
 
 /* Writes the length of the frame that begins with these octets, by its first 5 octets alone; for cutting a stream
  * (4.1.2.7). Returns 0, or SEDGE_TC_SHORT for fewer than 5 octets, or SEDGE_TC_LENGTH if it declares fewer than 5, or
- * with the check fewer than 7. */
+ * with the FECF fewer than 7. */
 uint8_t sedge_tc_declared(const uint8_t *octets, size_t count, bool checked, size_t *total);
 
 /* ---- Space packets of 7 to 65,542 octets (133.0-B-2, 4.1). ---- */
@@ -421,7 +421,7 @@ uint8_t sedge_packet_encode(const struct sedge_packet *packet, const uint8_t *da
  * SEDGE_PACKET_IDLE_WITH_SECONDARY. */
 uint8_t sedge_packet_declared(const uint8_t *octets, size_t count, size_t *total);
 
-/* ---- Telemetry transfer frames of 16 to 2,048 octets, with an operational control field and a check (132.0-B-3,
+/* ---- Telemetry transfer frames of 16 to 2,048 octets, with an operational control field and an FECF (132.0-B-3,
  * 4.1). ---- */
 
 enum sedge_tm_fault {
@@ -459,7 +459,7 @@ struct sedge_tm_frame {
 uint8_t sedge_tm_decode(const uint8_t *octets, size_t count, size_t length, struct sedge_tm_frame *frame,
                         struct sedge_part *data);
 
-/* Writes the frame with these data and its check to the beginning of out, and its length in octets, 12 more than its
+/* Writes the frame with these data and its FECF to the beginning of out, and its length in octets, 12 more than its
  * data, to total. Returns 0, or the first of SEDGE_TM_FIELD_RANGE and SEDGE_TM_ROOM. */
 uint8_t sedge_tm_encode(const struct sedge_tm_frame *frame, const uint8_t *data, size_t data_count, uint8_t *out,
                         size_t room, size_t *total);

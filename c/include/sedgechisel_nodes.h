@@ -109,7 +109,7 @@ uint8_t sedge_ground_bypass(struct sedge_ground *ground, uint8_t map, const uint
  * 0. */
 uint8_t sedge_ground_next(struct sedge_ground *ground, size_t *count);
 
-/* Takes the frame that goes on the link next, with its check: writes it, and the number of its octets; or 0 octets
+/* Takes the frame that goes on the link next, with its FECF: writes it, and the number of its octets; or 0 octets
  * where nothing is to be sent. Returns 0 or SEDGE_NODE_ROOM. */
 uint8_t sedge_ground_pull(struct sedge_ground *ground, uint8_t *out, size_t room, size_t *count);
 
@@ -332,7 +332,7 @@ struct sedge_sim_reading {
     uint8_t state;       /* of the ground's sender, of sedge_fop_state */
     uint8_t begun;       /* of sedge_begun */
     uint8_t vr;          /* the number of Set V(R) */
-    bool clean;          /* it began with nothing on its way, and without a check only where V(R) was V(S) */
+    bool clean;          /* it began with nothing on its way, and without a CLCW check only where V(R) was V(S) */
     bool idle;           /* it had an idle start (docs/PROMISES.md) */
     bool confirmed;      /* a report has taken the ground from S4 or S5 to S1 */
 };

@@ -108,7 +108,7 @@ static uint8_t *room_of(size_t room) {
     return memset(ends[1] - room, 0x55, room);
 }
 
-/* What a call answered that writes octets of which so many are next. */
+/* What a call answered that writes octets, of which `next` are next. */
 static void look_at_written(uint8_t answer, size_t next, size_t room, size_t count, const uint8_t *out) {
     size_t i;
     WANT(answer == (next > room ? SEDGE_NODE_ROOM : SEDGE_NODE_OK));

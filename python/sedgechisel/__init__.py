@@ -1,6 +1,6 @@
 """Sedgechisel for Python: both ends of the CCSDS telecommand link with COP-1, over a library whose calls are proved.
 
-- Codecs: the check of frames, telecommand frames (`TcFrame`), space packets (`Packet`), control words (`Clcw`) and
+- Codecs: the FECF of frames, telecommand frames (`TcFrame`), space packets (`Packet`), control words (`Clcw`) and
   telemetry frames (`TmFrame`).
 - Machines: the receiver FARM-1 (`Farm`), the sender FOP-1 (`Fop`), packets in segments (`Map`, `segments`), and packets
   in telemetry frames (`TmBuilder`, `TmExtractor`).

@@ -425,21 +425,21 @@ class TcFrame(_Struct):
 
     @classmethod
     def decode(cls, octets: bytes, checked: bool = True) -> Tuple[TcFrame, bytes]:
-        """Reads all of the octets as one frame, which ends with its check unless `checked` is False: the frame, and the
+        """Reads all of the octets as one frame, which ends with its FECF unless `checked` is False: the frame, and the
         data after the segment header, which a control frame lacks. A TcFault of 1 to 9 where they are none."""
         octets, frame, part = _octets_of("octets", octets), cls(), _Part()
         TcFault._look_at(_tc_decode(octets, len(octets), checked, byref(frame), byref(part)))
         return frame, part.of(octets)
 
     def encode(self, data: bytes = b"", checked: bool = True) -> bytes:
-        """The octets of the frame with these data, at most 1,024 with its check, which it lacks where `checked` is False;
+        """The octets of the frame with these data, at most 1,024 with its FECF, which it lacks where `checked` is False;
         a TcFault where a field is out of its range."""
         data = _octets_of("data", data)
         return _written(_tc_encode, TcFault, 1024, byref(self), data, len(data), checked)
 
     @staticmethod
     def declared(octets: bytes, checked: bool = True) -> int:
-        """How many octets the frame has that these begin, with its check unless `checked` is False; TcFault 1 for fewer
+        """How many octets the frame has that these begin, with its FECF unless `checked` is False; TcFault 1 for fewer
         than 5, or 5."""
         octets = _octets_of("octets", octets)
         return _count_of(_tc_declared, TcFault, octets, len(octets), checked)

@@ -165,7 +165,7 @@ class Link(Sender):
 
     @property
     def clean(self) -> bool:
-        """Whether it began with nothing on its way, and without a check only where V(R) was V(S)."""
+        """Whether it began with nothing on its way, and without a CLCW check only where V(R) was V(S)."""
         return bool(self._read().clean)
 
     @property

@@ -327,7 +327,7 @@ class Ground(Sender):
         self._asked(_ground_bypass(byref(self._handle), map, packet, len(packet)))
 
     def pull(self) -> Optional[bytes]:
-        """Takes the telecommand frame that goes on the link next, with its check, at most 1,024 octets; None where
+        """Takes the telecommand frame that goes on the link next, with its FECF, at most 1,024 octets; None where
         nothing is to be sent now."""
         return self._given(_ground_pull, 1024) or None
 
@@ -427,7 +427,7 @@ class Spacecraft(Handle):
     _opens, _closes = _opening("spacecraft"), _closing("spacecraft")
 
     def receive(self, octets: bytes) -> Received:
-        """Octets came from the ground, which are one telecommand frame with its check if all is well. A LinkFault, 6
+        """Octets came from the ground, which are one telecommand frame with its FECF if all is well. A LinkFault, 6
         Memory."""
         octets, received = _octets_of("octets", octets), _Received()
         self._asked(_spacecraft_receive(byref(self._handle), octets, len(octets), byref(received)))

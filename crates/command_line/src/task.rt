@@ -2,7 +2,7 @@
 
 use clap::Error;
 
-/// What is to be done with the file. Where there is `check`, it says whether frames end with their check.
+/// What is to be done with the file. Where there is `check`, it says whether frames end with their FECF.
 #[derive(Clone, Copy, Debug, Drop, PartialEq, Eq)]
 pub enum Task {
     /// Lists what a receiver makes of each frame: one of this window width, even, 2 to 254, that
@@ -29,7 +29,7 @@ pub enum Task {
     Tm {
         length: u16,
     },
-    /// Lists the frames that are refused, of frames that end with their check.
+    /// Lists the frames that are refused, of frames that end with their FECF.
     Check,
     /// Lists the fields of each space packet.
     Packets,

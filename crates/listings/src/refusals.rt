@@ -12,7 +12,7 @@ use std::alloc::AllocError;
 use std::marker::Model;
 use tc_frame::{Check, Checked, TcFault, decode};
 
-/// Lists the frames that are refused, of frames that end with their check. Nothing is kept between two.
+/// Lists the frames that are refused, of frames that end with their FECF. Nothing is kept between two.
 #[derive(Drop)]
 pub struct RefusalListing;
 

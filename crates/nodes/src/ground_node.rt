@@ -44,7 +44,7 @@ impl Model for Ground {
 }
 
 impl Ground {
-    ghost use Rattle.std.specs.Prelude.{◌≡◌, ◌≤◌, ◌/◌, ◌%◌, true, length, option_map, option_copied, IfOk, IfSome, OnErr, IsOkUnless};
+    ghost use Rattle.std.specs.Prelude.{◌≡◌, true, length, option_map, option_copied, IfOk, IfSome, OnErr, IsOkUnless};
     ghost use Rattle.map_service.specs.Packets.{is_packet};
     ghost use Rattle.cop1.specs.Accepted.{accepted_beyond};
     ghost use Rattle.cop1.specs.Units.{IsFop};

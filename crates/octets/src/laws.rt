@@ -10,7 +10,7 @@ ghost use Rattle.octets.specs.Records.{IsSplit, first_record, records_of, rest_o
 use crate::wire::Wire;
 
 /// Detects every burst error of at most 16 bits: of two lists of octets that differ only within 16
-/// neighbouring bits, or within two neighbouring octets, at most one holds its check.
+/// neighbouring bits, or within two neighbouring octets, at most one ends with its FECF.
 pub fn law_of_damage()
     ensures octets { (xs ys : List ℕ) → IsOctets xs → IsOctets ys → DiffersInTwoOctets xs ys
         → HoldsCheck xs → HoldsCheck ys → xs ≡ ys }

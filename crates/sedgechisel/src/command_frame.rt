@@ -31,7 +31,7 @@ pub struct CommandFrame {
     pub vr: u8,
 }
 
-/// Reads all of the octets as one frame, with its check or without, and says where its data stand in them. Answers 0,
+/// Reads all of the octets as one frame, with its FECF or without, and says where its data stand in them. Answers 0,
 /// or the first of the faults 1 to 9 of `TcFault`.
 #[unsafe(no_mangle)]
 pub extern "C" fn sedge_tc_decode(
@@ -57,7 +57,7 @@ pub extern "C" fn sedge_tc_decode(
     }
 }
 
-/// Writes the frame that the fields and the data describe at the beginning of `out`, with its check or without, and says
+/// Writes the frame that the fields and the data describe at the beginning of `out`, with its FECF or without, and says
 /// how many octets it has. Answers 0, or 11 `FieldRange`, or 10 `Room`, or 255 where the fields describe no frame.
 #[unsafe(no_mangle)]
 pub extern "C" fn sedge_tc_encode(

@@ -1,4 +1,4 @@
--- What a program in C is told of telemetry and of the sender.
+-- What a program in C learns of telemetry and of the sender.
 use Rattle.std.specs.Prelude.{◌≡◌, ℕ, Option, Some, None, Result, Ok, Err}
 use Rattle.clcw.specs.declared.word.Clcw.{Clcw}
 use Rattle.clcw.specs.declared.fault.ClcwFault.{ClcwFault}

@@ -1,5 +1,5 @@
-//! Both nodes of the link for programs in C, and a simulated link between two such nodes, behind handles. Memory comes
-//! from three functions that the program provides.
+//! Both nodes of the link for programs in C, and a simulated link between two such nodes, each held by a handle. Memory
+//! comes from three functions that the program provides.
 #![tactic(auto)]
 
 // What a call makes of the node that a handle holds; the handle holds it again afterwards. 255 where it holds none.

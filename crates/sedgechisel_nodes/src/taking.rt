@@ -96,7 +96,7 @@ fn pulled(node: &mut Ground, out: &mut [u8], count: &mut usize) -> u8
     answer
 }
 
-/// Takes the frame that goes on the link next, with its check (CCSDS 232.0-B-4, 4.1); 0 octets for none. Answers 0, or 252
+/// Takes the frame that goes on the link next, with its FECF (CCSDS 232.0-B-4, 4.1); 0 octets for none. Answers 0, or 252
 /// where the room is too short, or 255 where there is no ground.
 #[unsafe(no_mangle)]
 pub extern "C" fn sedge_ground_pull(

@@ -16,7 +16,7 @@ impl FrameLength for Twenty {
     ghost payload = { 8 };
 }
 
-// A cutter that is fed this record so many times, less its last octet, and then this octet, hands each out.
+// A cutter that is fed a record `number` times over, less its last octet, and then this octet, hands each out.
 fn cuts<S: Cutter>(
     rt: &impl Abort,
     alloc: Global,

@@ -37,7 +37,7 @@ use tc_frame::{Checked, Unchecked};
 /// past `MOST_OCTETS` octets; what is written by then is a beginning of the lines. A call that failed
 /// is the last of its device. The clauses hold whatever is answered to a script (`played`), since none is
 /// played here.
-/// Faults: `Read`, `Write`, `Memory`, `TooLong`. Memory: yes. Cost: n.
+/// Faults: `Read`, `Write`, `Memory`, `TooLong`. Memory: yes. Cost: the octets read and written.
 pub fn list<R: Source, W: Sink>(
     alloc: Global,
     reader: &mut R,

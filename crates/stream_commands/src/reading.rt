@@ -11,7 +11,7 @@ use listings::{ListingFault, MOST_OCTETS, Source};
 use std::alloc::Global;
 
 /// Reads the input to its end, in pieces, and keeps it.
-/// Faults: `Read`, `Memory`, `TooLong`. Memory: yes. Cost: n.
+/// Faults: `Read`, `Memory`, `TooLong`. Memory: yes. Cost: the octets read.
 pub fn read_all<R: Source>(alloc: Global, reader: &mut R) -> Result<Vec<u8>, ListingFault>
     ensures given { IsBeginning (R.given reader.old) (R.given reader.new) }
     ensures all { IfOk result (λ text. text.items

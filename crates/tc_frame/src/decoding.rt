@@ -9,7 +9,7 @@ use crate::fault::TcFault;
 use crate::frame::{Body, Check, Command, Segment, SegmentFlags, SegmentHeader, TcFrame};
 use octets::{check_holds, first_two};
 
-/// Reads all of the octets as one frame, with or without the check at its end (CCSDS 232.0-B-4, 4.1),
+/// Reads all of the octets as one frame, with or without the FECF at its end (CCSDS 232.0-B-4, 4.1),
 /// or says the first of the faults that applies. The frame borrows its data from the octets.
 /// Faults: 1 Short, 2 Version, 3 ReservedType, 4 Spare, 5 Length, 6 Check, 7 BypassNumber, 8 EmptyData,
 /// 9 Command. Cost: n.

@@ -11,7 +11,7 @@ use crate::frame::{Body, Check, Command, Segment, TcFrame};
 use byteorder::{BigEndian, ByteOrder};
 use octets::append_check;
 
-/// Writes the frame, with or without its check, at the beginning of `out`, and says how many octets
+/// Writes the frame, with or without its FECF, at the beginning of `out`, and says how many octets
 /// it has: at most 1,024 (CCSDS 232.0-B-4, 4.1). Refuses by 11 `FieldRange` a field out of its range,
 /// empty data and a longer frame, and then by 10 `Room` an output that is too short.
 /// Faults: 11 FieldRange, then 10 Room. Cost: n.
@@ -60,7 +60,7 @@ impl TcFrame<'_> {
     ghost use Rattle.tc_frame.specs.Layout.{frame_view};
     ghost use Rattle.tc_frame.specs.Writing.{total_of};
 
-    /// How many octets the frame has, with or without its check (CCSDS 232.0-B-4, 4.1.2.7).
+    /// How many octets the frame has, with or without its FECF (CCSDS 232.0-B-4, 4.1.2.7).
     pub fn total(&self, check: Check) -> usize
         ensures { result ≡ total_of check (frame_view self.now) }
     {

@@ -2,7 +2,7 @@
 
 ghost use Rattle.std.specs.Prelude.{◌≡◌, ◌<◌};
 
-/// Whether a frame ends with its check, the frame error control field of two octets (CCSDS
+/// Whether a frame ends with its FECF, the frame error control field of two octets (CCSDS
 /// 232.0-B-4, 4.1.4).
 #[derive(Clone, Copy, Debug, PartialEq, Eq)]
 pub enum Check {

@@ -13,14 +13,14 @@ use crate::fault::TcFault;
 use crate::frame::Check;
 use octets::{Wire, first_two};
 
-/// Frames as records of a stream, with or without their check (CCSDS 232.0-B-4, 4.1).
+/// Frames as records of a stream, with or without their FECF (CCSDS 232.0-B-4, 4.1).
 #[derive(Clone, Copy, Debug, PartialEq, Eq)]
 pub struct FrameLayout<const CHECKED: bool>;
 
-/// Frames that end with their check, as records of a stream.
+/// Frames that end with their FECF, as records of a stream.
 pub type Checked = FrameLayout<true>;
 
-/// Frames without a check, as records of a stream.
+/// Frames without an FECF, as records of a stream.
 pub type Unchecked = FrameLayout<false>;
 
 fn declared_total(head: &[u8], check: Check) -> Result<usize, TcFault>
@@ -34,7 +34,7 @@ fn declared_total(head: &[u8], check: Check) -> Result<usize, TcFault>
     Ok(total)
 }
 
-/// The check of frames that end with it, where this is so, and of frames without one.
+/// With an FECF where the frames end with it, and without one elsewhere.
 pub fn check_if(checked: bool) -> Check
     ensures { result ≡ check_if checked }
 {

@@ -6,7 +6,7 @@ use crate::fault::TcFault;
 use octets::{Splitter, Wire};
 use std::alloc::Global;
 
-/// Takes a stream of frames apart, with (`TcSplitter<Checked>`) or without their check
+/// Takes a stream of frames apart, with (`TcSplitter<Checked>`) or without their FECF
 /// (`TcSplitter<Unchecked>`), however it was cut into pieces (CCSDS 232.0-B-4, 4.1.2.7). A record
 /// is as long as its head declares, and is not decoded.
 #[derive(Drop)]
@@ -48,7 +48,7 @@ impl<C: Wire<Fault = TcFault>> TcSplitter<C> {
     }
 
     /// The next whole record, lent, or 5 `Length` where it declares a total below 5, or below 7 with
-    /// the check; `None` while octets are missing. Once a record was refused, this call and every later
+    /// the FECF; `None` while octets are missing. Once a record was refused, this call and every later
     /// one answer that fault.
     /// Faults: 5 Length.
     pub fn next(&mut self) -> Option<Result<&[u8], TcFault>>

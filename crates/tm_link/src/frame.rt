@@ -17,7 +17,7 @@ pub enum Pointer {
     OnlyIdle,
 }
 
-/// A telemetry transfer frame with an operational control field and a check, of 16 to 2,048 octets,
+/// A telemetry transfer frame with an operational control field and an FECF, of 16 to 2,048 octets,
 /// 12 more than its data (CCSDS 132.0-B-3, 4.1).
 #[derive(Clone, Copy, Debug, PartialEq, Eq)]
 pub struct TmFrame<'a> {

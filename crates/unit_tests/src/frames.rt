@@ -106,7 +106,7 @@ fn with_first(octet: u8) -> [u8; 13] {
 }
 
 #[test]
-fn faults_behind_the_header(rt: HostRuntime) {
+fn faults_after_the_header(rt: HostRuntime) {
     let mut damaged = UNLOCK_CHECKED;
     damaged[7] = 0x9f;
     assert_eq!(rt; fault_of(&damaged, Check::On), Some(TcFault::Check));

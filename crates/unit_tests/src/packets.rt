@@ -34,7 +34,7 @@ fn written(packet: &Packet<'_>, out: &mut [u8]) -> Result<usize, PacketFault> {
     encode(packet, out)
 }
 
-// So many octets. Where memory is refused, it asks again.
+// `len` octets. Where memory is refused, it asks again.
 fn octets_55(rt: &(impl Abort + Eprint), alloc: Global, len: usize) -> Result<Vec<u8>, AllocError>
     ensures { IfOk result (λ octets. vec_len octets ≡ len) }
 {

@@ -1,6 +1,6 @@
 //! A receiver on board of spacecraft 1, virtual channel 2: it cuts the octets of standard input into telecommand
 //! frames, gives those of its channel to FARM-1, joins the packets of its two MAPs, and writes these, and after each
-//! frame the control word for the ground. With the word `--check` each frame ends with its check, as on a link. The
+//! frame the control word for the ground. With the word `--check` each frame ends with its FECF, as on a link. The
 //! receiver takes no memory but what is set aside at the start.
 
 use sedgechisel::{packets, Body, Command, Farm, Map, Segment, SegmentFlags, TcFault, TcFrame, Verdict};

@@ -1,4 +1,4 @@
-//! Telecommand transfer frames of at most 1,024 octets (CCSDS 232.0-B-4, 4.1), with or without their check.
+//! Telecommand transfer frames of at most 1,024 octets (CCSDS 232.0-B-4, 4.1), with or without their FECF.
 
 use crate::ffi;
 use crate::numbers::never;
@@ -88,7 +88,7 @@ impl<'a> TcFrame<'a> {
     /// The most octets of a frame.
     pub const LONGEST: usize = 1024;
 
-    /// Reads all of the octets as one frame, which ends with its check if `checked` is true. Refused with the first of
+    /// Reads all of the octets as one frame, which ends with its FECF if `checked` is true. Refused with the first of
     /// [`TcFault`] 1 to 9.
     pub fn decode(octets: &'a [u8], checked: bool) -> Result<Self, TcFault> {
         let (mut frame, mut part) = (ffi::TcFrame::default(), ffi::Part::default());
@@ -104,7 +104,7 @@ impl<'a> TcFrame<'a> {
         Ok(Self { scid: frame.scid, vcid: frame.vcid, body })
     }
 
-    /// Writes the frame to the beginning of `out`, with its check if `checked` is true, and returns its octets, 6 to
+    /// Writes the frame to the beginning of `out`, with its FECF if `checked` is true, and returns its octets, 6 to
     /// 1,024. Refused with the first of 11 [`FieldRange`](TcFault::FieldRange) and 10 [`Room`](TcFault::Room), with
     /// nothing written.
     pub fn encode<'o>(&self, checked: bool, out: &'o mut [u8]) -> Result<&'o mut [u8], TcFault> {
@@ -131,7 +131,7 @@ impl<'a> TcFrame<'a> {
 
     /// The length in octets of the frame that begins with these octets, by its first 5 octets alone; for cutting a
     /// stream (CCSDS 232.0-B-4, 4.1.2.7). Refused with 1 [`Short`](TcFault::Short) for fewer than 5 octets, and
-    /// 5 [`Length`](TcFault::Length) if it declares fewer than 5, or with the check fewer than 7.
+    /// 5 [`Length`](TcFault::Length) if it declares fewer than 5, or with the FECF fewer than 7.
     pub fn declared(octets: &[u8], checked: bool) -> Result<usize, TcFault> {
         let mut total = 0;
         TcFault::judge(ffi::tc_declared(octets, checked, &mut total))?;

@@ -1,4 +1,4 @@
-//! Telemetry transfer frames of 16 to 2,048 octets, with an operational control field and a check (CCSDS 132.0-B-3,
+//! Telemetry transfer frames of 16 to 2,048 octets, with an operational control field and an FECF (CCSDS 132.0-B-3,
 //! 4.1).
 
 use crate::ffi;
@@ -69,7 +69,7 @@ impl<'a> TmFrame<'a> {
         })
     }
 
-    /// Writes the frame and its check to the beginning of `out`, and returns its octets, 12 more than its data.
+    /// Writes the frame and its FECF to the beginning of `out`, and returns its octets, 12 more than its data.
     /// Refused with the first of 10 [`FieldRange`](TmFault::FieldRange) and 9 [`Room`](TmFault::Room), with nothing
     /// written.
     pub fn encode<'o>(&self, out: &'o mut [u8]) -> Result<&'o mut [u8], TmFault> {

@@ -38,7 +38,7 @@ impl Ground {
         })
     }
 
-    /// Takes the frame that goes on the link next: writes it, with its check, at the beginning of
+    /// Takes the frame that goes on the link next: writes it, with its FECF, at the beginning of
     /// `out`, and says how many octets it has (CCSDS 232.0-B-4, 4.1). Octets past it stay, and all
     /// where there is none.
     /// Cost: n.

@@ -22,7 +22,7 @@ impl Spacecraft {
     ghost use Rattle.nodes.specs.Arriving.{accepted_of, IsAcceptable, IsArrivalOf, IsArrivalAt, after_accepting, after_keeping};
     ghost use Rattle.nodes.specs.Spacecraft.{spacecraft_step, Receive, is_free, is_own_frame, is_accepted, HandsNothingOn, after_segment, body_outcome, receive_sequence_step, receive_bypass_step};
 
-    /// Takes octets that came from the ground: exactly one telecommand frame, with its check (CCSDS
+    /// Takes octets that came from the ground: exactly one telecommand frame, with its FECF (CCSDS
     /// 232.0-B-4, 4.1). It is `prepare` and then `commit`. At a fault the spacecraft is as it was.
     /// Faults: 6 Memory. Memory: only for a Type-AD frame that is accepted or a Type-BD frame that is
     /// kept. Cost: n*, and the packets made ready.

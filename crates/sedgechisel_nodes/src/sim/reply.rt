@@ -1,4 +1,4 @@
-// What a program in C is told of an event.
+// What a program in C learns of an event.
 
 ghost use Rattle.std.specs.Prelude.{◌≡◌};
 ghost use Rattle.tc_link.specs.Replies.{reply_view};

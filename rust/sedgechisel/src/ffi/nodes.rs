@@ -319,7 +319,7 @@ impl Place {
 /// The octets of a block's head; and the alignment of a block, which is the most that is asked for.
 const HEAD: usize = 16;
 
-/// The layout of a block for so many octets, if there can be one.
+/// The layout of a block for `count` octets, if there can be one.
 fn layout_for(count: usize) -> Option<Layout> {
     Layout::from_size_align(count.checked_add(HEAD)?, HEAD).ok()
 }

@@ -156,7 +156,7 @@ impl Ground {
         LinkFault::judge(raw::ground_bypass(self.0.get(), map, packet))
     }
 
-    /// Takes the telecommand frame that goes on the link next, with its check, and writes it to the beginning of the
+    /// Takes the telecommand frame that goes on the link next, with its FECF, and writes it to the beginning of the
     /// room; or `None`, if nothing is to be sent now.
     pub fn pull<'o>(&mut self, room: &'o mut [u8; TcFrame::LONGEST]) -> Option<&'o mut [u8]> {
         let mut count = 0;

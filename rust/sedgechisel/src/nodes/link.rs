@@ -301,7 +301,7 @@ impl Link {
         }
     }
 
-    /// Whether the session began with nothing on its way, and without a check only where V(R) was V(S).
+    /// Whether the session began with nothing on its way, and without a CLCW check only where V(R) was V(S).
     #[must_use]
     pub fn is_clean(&self) -> bool {
         self.read().clean

@@ -86,7 +86,7 @@ impl Spacecraft {
         Ok(spacecraft)
     }
 
-    /// Octets came from the ground, which are one telecommand frame with its check if all is well. Refused with 6
+    /// Octets came from the ground, which are one telecommand frame with its FECF if all is well. Refused with 6
     /// [`Memory`](LinkFault::Memory) alone.
     pub fn receive(&mut self, octets: &[u8]) -> Result<Received, LinkFault> {
         let mut received = raw::Received::default();
