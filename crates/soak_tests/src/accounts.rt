@@ -9,7 +9,6 @@ use octets::Splitter;
 use space_packet::Packets;
 use std::alloc::Global;
 use std::process::Abort;
-use std::test::Fail;
 use tc_frame::{Segment, SegmentFlags, SegmentHeader};
 use tc_link::Sim;
 use tm_link::{Extractor, TmBuilder};
@@ -19,16 +18,15 @@ fn notes(rt: &impl Eprint, line: &str) {
 }
 
 // Units of 8 octets.
-fn sender(rt: &impl Eprint, alloc: Global, width: u8, line: &str) -> Result<(), Fail> {
+fn sender(rt: &(impl Abort + Eprint), alloc: Global, width: u8, line: &str) {
     notes(rt, "account before");
-    let _fop: Fop<u64> = Fop::new(alloc, width, 1, 3, 10)?;
+    let _fop: Fop<u64> = Fop::new(alloc, width, 1, 3, 10).expect(rt, "a sender");
     notes(rt, line);
-    Ok(())
 }
 
 #[test]
-fn senders(rt: HostRuntime) -> Result<(), Fail> {
-    sender(&rt, rt.alloc(), 2, "account Fop::new width 2")?;
+fn senders(rt: HostRuntime) {
+    sender(&rt, rt.alloc(), 2, "account Fop::new width 2");
     sender(&rt, rt.alloc(), 254, "account Fop::new width 254")
 }
 
@@ -38,28 +36,26 @@ fn splitter(rt: &impl Eprint, alloc: Global) {
     notes(rt, "account Splitter::new");
 }
 
-fn builder(rt: &impl Eprint, alloc: Global) -> Result<(), Fail> {
+fn builder(rt: &(impl Abort + Eprint), alloc: Global) {
     notes(rt, "account before");
-    let _builder = TmBuilder::new(alloc, 1, 0, 2048)?;
+    let _builder = TmBuilder::new(alloc, 1, 0, 2048).expect(rt, "a builder");
     notes(rt, "account TmBuilder::new");
-    Ok(())
 }
 
-fn extractor(rt: &impl Eprint, alloc: Global) -> Result<(), Fail> {
+fn extractor(rt: &(impl Abort + Eprint), alloc: Global) {
     notes(rt, "account before");
-    let _extractor = Extractor::new(alloc)?;
+    let _extractor = Extractor::new(alloc).expect(rt, "an extractor");
     notes(rt, "account Extractor::new");
-    Ok(())
 }
 
 #[test]
-fn cutters_and_builders(rt: HostRuntime) -> Result<(), Fail> {
+fn cutters_and_builders(rt: HostRuntime) {
     splitter(&rt, rt.alloc());
-    builder(&rt, rt.alloc())?;
+    builder(&rt, rt.alloc());
     extractor(&rt, rt.alloc())
 }
 
-fn opens_part(rt: &impl Eprint, alloc: Global, max_packet: u32, line: &str) -> Result<(), Fail> {
+fn opens_part(rt: &(impl Abort + Eprint), alloc: Global, max_packet: u32, line: &str) {
     let limits = Limits {
         part: 1016,
         max_packet,
@@ -72,23 +68,18 @@ fn opens_part(rt: &impl Eprint, alloc: Global, max_packet: u32, line: &str) -> R
     };
     let mut assembler = Assembler::new(alloc, limits);
     notes(rt, "account before");
-    let segment = Segment {
+    let taken = assembler.take(&Segment {
         header,
         payload: &[0x10],
-    };
-    takes(&mut assembler, &segment)?;
+    });
+    assert!(rt; taken.is_ok());
+    drop(taken);
     notes(rt, line);
-    Ok(())
-}
-
-fn takes(assembler: &mut Assembler, segment: &Segment<'_>) -> Result<(), Fail> {
-    let _ = assembler.take(segment)?;
-    Ok(())
 }
 
 #[test]
-fn open_parts(rt: HostRuntime) -> Result<(), Fail> {
-    opens_part(&rt, rt.alloc(), 7, "account open part max_packet 7")?;
+fn open_parts(rt: HostRuntime) {
+    opens_part(&rt, rt.alloc(), 7, "account open part max_packet 7");
     opens_part(
         &rt,
         rt.alloc(),
@@ -97,21 +88,15 @@ fn open_parts(rt: HostRuntime) -> Result<(), Fail> {
     )
 }
 
-fn ground(
-    rt: &(impl Abort + Eprint),
-    alloc: Global,
-    config: &Config,
-    line: &str,
-) -> Result<(), Fail> {
+fn ground(rt: &(impl Abort + Eprint), alloc: Global, config: &Config, line: &str) {
     assert!(rt; config.fault().is_none());
     notes(rt, "account before");
-    let _ground = Ground::new(alloc, config)?;
+    let _ground = Ground::new(alloc, config).expect(rt, "a ground");
     notes(rt, line);
-    Ok(())
 }
 
 #[test]
-fn grounds(rt: HostRuntime) -> Result<(), Fail> {
+fn grounds(rt: HostRuntime) {
     let mut config = Config {
         width: 2,
         window: 1,
@@ -123,21 +108,21 @@ fn grounds(rt: HostRuntime) -> Result<(), Fail> {
         rt.alloc(),
         &config,
         "account Ground::new width 2 queue_slots 1",
-    )?;
+    );
     config.queue_slots = 2;
     ground(
         &rt,
         rt.alloc(),
         &config,
         "account Ground::new width 2 queue_slots 2",
-    )?;
+    );
     config.queue_slots = 65_535;
     ground(
         &rt,
         rt.alloc(),
         &config,
         "account Ground::new width 2 queue_slots 65535",
-    )?;
+    );
     config.width = 254;
     ground(
         &rt,
@@ -147,21 +132,15 @@ fn grounds(rt: HostRuntime) -> Result<(), Fail> {
     )
 }
 
-fn spacecraft(
-    rt: &(impl Abort + Eprint),
-    alloc: Global,
-    config: &Config,
-    line: &str,
-) -> Result<(), Fail> {
+fn spacecraft(rt: &(impl Abort + Eprint), alloc: Global, config: &Config, line: &str) {
     assert!(rt; config.fault().is_none());
     notes(rt, "account before");
-    let _spacecraft = Spacecraft::new(alloc, config)?;
+    let _spacecraft = Spacecraft::new(alloc, config).expect(rt, "a spacecraft");
     notes(rt, line);
-    Ok(())
 }
 
 #[test]
-fn spacecrafts(rt: HostRuntime) -> Result<(), Fail> {
+fn spacecrafts(rt: HostRuntime) {
     let mut config = Config {
         ready_slots: 1,
         bypass_slots: 1,
@@ -172,14 +151,14 @@ fn spacecrafts(rt: HostRuntime) -> Result<(), Fail> {
         rt.alloc(),
         &config,
         "account Spacecraft::new ready_slots 1 bypass_slots 1",
-    )?;
+    );
     config.ready_slots = 64;
     spacecraft(
         &rt,
         rt.alloc(),
         &config,
         "account Spacecraft::new ready_slots 64 bypass_slots 1",
-    )?;
+    );
     config.bypass_slots = 64;
     spacecraft(
         &rt,
@@ -190,85 +169,60 @@ fn spacecrafts(rt: HostRuntime) -> Result<(), Fail> {
 }
 
 #[test]
-fn links(rt: HostRuntime) -> Result<(), Fail> {
-    ground(&rt, rt.alloc(), &Config::default(), "account Ground::new")?;
+fn links(rt: HostRuntime) {
+    ground(&rt, rt.alloc(), &Config::default(), "account Ground::new");
     spacecraft(
         &rt,
         rt.alloc(),
         &Config::default(),
         "account Spacecraft::new",
-    )?;
+    );
     notes(&rt, "account before");
-    let _sim = Sim::new(rt.alloc(), Config::default())?;
+    let _sim = Sim::new(rt.alloc(), Config::default()).expect(&rt, "a link");
     notes(&rt, "account Sim::new");
-    Ok(())
 }
 
-fn splits(rt: &impl Abort, splitter: &mut Splitter<Packets>, octets: &[u8]) -> Result<(), Fail> {
+fn splits(rt: &impl Abort, splitter: &mut Splitter<Packets>, octets: &[u8]) {
     for _ in 0..10_000 {
-        splitter.feed(octets)?;
+        splitter.feed(octets).expect(rt, "room");
         assert!(rt; matches!(splitter.next(), Some(Ok(_))));
         assert!(rt; splitter.next().is_none());
     }
-    Ok(())
 }
 
 // 10,000 packets of 100 octets, each fed and handed out.
 #[test]
-fn a_splitter_for_ever(rt: HostRuntime) -> Result<(), Fail> {
-    let packet = crate::packets::command(rt.alloc(), 100, 0)?;
+fn a_splitter_for_ever(rt: HostRuntime) {
+    let packet = crate::packets::command(&rt, rt.alloc(), 100, 0);
     let mut splitter = Splitter::<Packets>::new(rt.alloc());
-    splits_for_ever(&rt, &mut splitter, packet.as_slice())
-}
-
-fn splits_for_ever(
-    rt: &(impl Abort + Eprint),
-    splitter: &mut Splitter<Packets>,
-    octets: &[u8],
-) -> Result<(), Fail> {
-    notes(rt, "account before");
-    splits(rt, splitter, octets)?;
-    notes(rt, "account a splitter for ever");
-    Ok(())
+    notes(&rt, "account before");
+    splits(&rt, &mut splitter, packet.as_slice());
+    notes(&rt, "account a splitter for ever");
 }
 
 // 10,000 packets of 100 octets, each queued on board, sent, and taken on the ground.
 #[test]
-fn telemetry_for_ever(rt: HostRuntime) -> Result<(), Fail> {
-    let mut pair = Pair::new(&rt, rt.alloc(), &Config::default())?;
-    hears_for_ever(&rt, rt.alloc(), &mut pair)
-}
-
-fn hears_for_ever(rt: &(impl Abort + Eprint), alloc: Global, pair: &mut Pair) -> Result<(), Fail> {
-    notes(rt, "account before");
+fn telemetry_for_ever(rt: HostRuntime) {
+    let mut pair = Pair::new(&rt, rt.alloc(), &Config::default());
+    notes(&rt, "account before");
     for count in 0..10_000 {
-        pair.queues(alloc, 100, count)?;
+        pair.queues(&rt, rt.alloc(), 100, count);
         for _ in 0..3 {
-            let _ = pair.hears(rt)?;
+            let _ = pair.hears(&rt);
         }
-        pair.takes(rt, alloc, 100, count)?;
+        pair.takes(&rt, rt.alloc(), 100, count);
     }
-    notes(rt, "account telemetry for ever");
-    Ok(())
+    notes(&rt, "account telemetry for ever");
 }
 
 // 10,000 packets of 3,000 octets in turn under and past the sequence control, each taken on board.
 #[test]
-fn commands_for_ever(rt: HostRuntime) -> Result<(), Fail> {
-    let mut pair = Pair::new(&rt, rt.alloc(), &Config::default())?;
-    carries_for_ever(&rt, rt.alloc(), &mut pair)
-}
-
-fn carries_for_ever(
-    rt: &(impl Abort + Eprint),
-    alloc: Global,
-    pair: &mut Pair,
-) -> Result<(), Fail> {
-    notes(rt, "account before");
-    pair.begins(rt)?;
+fn commands_for_ever(rt: HostRuntime) {
+    let mut pair = Pair::new(&rt, rt.alloc(), &Config::default());
+    notes(&rt, "account before");
+    pair.begins(&rt);
     for count in 0..10_000 {
-        pair.carries(rt, alloc, count)?;
+        pair.carries(&rt, rt.alloc(), count);
     }
-    notes(rt, "account commands for ever");
-    Ok(())
+    notes(&rt, "account commands for ever");
 }

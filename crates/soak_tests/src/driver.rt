@@ -5,7 +5,6 @@ use crate::packets::command;
 use cop1::{Directive, FopMode};
 use std::alloc::Global;
 use std::process::Abort;
-use std::test::Fail;
 use tc_link::{Config, Event, Reply, Sim, SimFault};
 
 // More events than one round of any run here takes.
@@ -19,12 +18,11 @@ pub struct Link {
 }
 
 impl Link {
-    pub fn new(alloc: Global, config: Config) -> Result<Link, Fail> {
-        let sim = Sim::new(alloc, config)?;
-        Ok(Link {
-            sim,
+    pub fn new(rt: &impl Abort, alloc: Global, config: Config) -> Link {
+        Link {
+            sim: Sim::new(alloc, config).expect(rt, "a link"),
             taken: [0; 64],
-        })
+        }
     }
 
     pub fn sim(&self) -> &Sim {
@@ -32,36 +30,39 @@ impl Link {
     }
 
     /// Lets an event happen, which may have nothing that is on its way. Want of memory fails the test.
-    pub fn meets(&mut self, event: Event<'_>) -> Result<Option<Reply>, Fail> {
+    pub fn meets(&mut self, rt: &impl Abort, event: Event<'_>) -> Option<Reply> {
         match self.sim.step(event) {
-            Ok(reply) => Ok(Some(reply)),
-            Err(SimFault::NothingInTransit) => Ok(None),
-            Err(fault) => Err(fault.into()),
+            Ok(reply) => Some(reply),
+            Err(SimFault::NothingInTransit) => None,
+            Err(fault) => panic!(rt; "{fault}"),
         }
     }
 
+    /// Lets an event happen, whatever it answers.
+    pub fn happens(&mut self, rt: &impl Abort, event: Event<'_>) {
+        let _ = self.meets(rt, event);
+    }
+
     /// Lets an event happen that is done.
-    pub fn does(&mut self, rt: &impl Abort, event: Event<'_>) -> Result<(), Fail> {
-        let reply = self.meets(event)?;
+    pub fn does(&mut self, rt: &impl Abort, event: Event<'_>) {
+        let reply = self.meets(rt, event);
         assert_eq!(rt; reply, Some(Reply::Done));
-        Ok(())
     }
 
     /// Begins a session.
-    pub fn begins(&mut self, rt: &impl Abort, directive: Directive) -> Result<(), Fail> {
+    pub fn begins(&mut self, rt: &impl Abort, directive: Directive) {
         self.taken = [0; 64];
-        self.does(rt, Event::Directive(directive))
+        self.does(rt, Event::Directive(directive));
     }
 
     /// Submits packets, of which the session has a copy then.
-    pub fn submits(&mut self, rt: &impl Abort, map: u8, octets: &[u8]) -> Result<(), Fail> {
-        self.does(rt, Event::Submit(map, octets))?;
+    pub fn submits(&mut self, rt: &impl Abort, map: u8, octets: &[u8]) {
+        self.does(rt, Event::Submit(map, octets));
         let is_kept = match self.sim.submissions().last() {
             Some((on, copy)) => *on == map && copy.as_slice() == octets,
             None => false,
         };
         assert!(rt; is_kept);
-        Ok(())
     }
 
     /// Submits a packet of this size.
@@ -72,9 +73,9 @@ impl Link {
         map: u8,
         size: usize,
         count: usize,
-    ) -> Result<(), Fail> {
-        let octets = command(alloc, size, count)?;
-        self.submits(rt, map, octets.as_slice())
+    ) {
+        let octets = command(rt, alloc, size, count);
+        self.submits(rt, map, octets.as_slice());
     }
 
     /// Gives a packet of this size past the sequence control.
@@ -85,39 +86,39 @@ impl Link {
         map: u8,
         size: usize,
         count: usize,
-    ) -> Result<(), Fail> {
-        let octets = command(alloc, size, count)?;
-        self.does(rt, Event::Bypass(map, octets.as_slice()))
+    ) {
+        let octets = command(rt, alloc, size, count);
+        self.does(rt, Event::Bypass(map, octets.as_slice()));
     }
 
-    /// The ground sends frames, at most so many; the number of those that it sent.
-    pub fn sends(&mut self, most: usize) -> Result<usize, Fail> {
+    /// The ground sends at most this number of frames; the number of those that it sent.
+    pub fn sends(&mut self, rt: &impl Abort, most: usize) -> usize {
         for count in 0..most {
-            if self.meets(Event::Send)? == Some(Reply::Nothing) {
-                return Ok(count);
+            if self.meets(rt, Event::Send) == Some(Reply::Nothing) {
+                return count;
             }
         }
-        Ok(most)
+        most
     }
 
     // Lets an event happen for each frame that is on its way; their number.
-    fn each(&mut self, event: Event<'_>) -> Result<usize, Fail> {
+    fn each(&mut self, rt: &impl Abort, event: Event<'_>) -> usize {
         for count in 0..MOST {
-            if self.meets(event)?.is_none() {
-                return Ok(count);
+            if self.meets(rt, event).is_none() {
+                return count;
             }
         }
-        Ok(MOST)
+        MOST
     }
 
     /// Every frame on its way up arrives; their number.
-    pub fn arrives(&mut self) -> Result<usize, Fail> {
-        self.each(Event::UpDeliver)
+    pub fn arrives(&mut self, rt: &impl Abort) -> usize {
+        self.each(rt, Event::UpDeliver)
     }
 
     /// Every frame on its way down arrives; their number.
-    pub fn hears(&mut self) -> Result<usize, Fail> {
-        self.each(Event::DownDeliver)
+    pub fn hears(&mut self, rt: &impl Abort) -> usize {
+        self.each(rt, Event::DownDeliver)
     }
 
     // Whether a packet that was taken is the next of those that were delivered on its MAP.
@@ -134,16 +135,16 @@ impl Link {
     }
 
     /// Takes the packets that are ready, in order; their number.
-    pub fn takes(&mut self, rt: &impl Abort) -> Result<usize, Fail> {
+    pub fn takes(&mut self, rt: &impl Abort) -> usize {
         for count in 0..MOST {
-            match self.meets(Event::Take)? {
+            match self.meets(rt, Event::Take) {
                 Some(Reply::Packet(map, octets)) => {
                     assert!(rt; self.is_next(map, octets.as_slice()));
                 }
-                _ => return Ok(count),
+                _ => return count,
             }
         }
-        Ok(MOST)
+        MOST
     }
 
     /// Takes a packet of this size, which went past the sequence control.
@@ -154,38 +155,31 @@ impl Link {
         map: u8,
         size: usize,
         count: usize,
-    ) -> Result<(), Fail> {
-        let octets = command(alloc, size, count)?;
-        self.takes_bypass(rt, map, octets.as_slice())
-    }
-
-    fn takes_bypass(&mut self, rt: &impl Abort, map: u8, octets: &[u8]) -> Result<(), Fail> {
-        let reply = self.meets(Event::TakeBypass)?;
-        assert!(rt; is_packet(&reply, map, octets));
-        Ok(())
+    ) {
+        let octets = command(rt, alloc, size, count);
+        let reply = self.meets(rt, Event::TakeBypass);
+        assert!(rt; is_packet(&reply, map, octets.as_slice()));
     }
 
     // Sends what may be sent, and takes it on board; the report comes down.
-    fn goes_round(&mut self, rt: &impl Abort) -> Result<(), Fail> {
-        let _ = self.sends(MOST)?;
-        let _ = self.arrives()?;
-        let _ = self.takes(rt)?;
-        let _ = self.meets(Event::Report)?;
-        let _ = self.hears()?;
-        Ok(())
+    fn goes_round(&mut self, rt: &impl Abort) {
+        let _ = self.sends(rt, MOST);
+        let _ = self.arrives(rt);
+        let _ = self.takes(rt);
+        self.happens(rt, Event::Report);
+        let _ = self.hears(rt);
     }
 
     /// Goes round until all is acknowledged. What was submitted has come out then, and all counts agree.
-    pub fn carries(&mut self, rt: &impl Abort) -> Result<(), Fail> {
+    pub fn carries(&mut self, rt: &impl Abort) {
         for _ in 0..MOST {
-            self.goes_round(rt)?;
+            self.goes_round(rt);
             if self.sim.outstanding() == 0 {
                 break;
             }
         }
-        let _ = self.takes(rt)?;
+        let _ = self.takes(rt);
         self.agrees(rt);
-        Ok(())
     }
 
     fn agrees(&self, rt: &impl Abort) {
@@ -193,17 +187,20 @@ impl Link {
         assert!(rt; self.sim.sent() == self.sim.accepted());
         assert_eq!(rt; self.sim.acknowledged(), self.sim.sent().len());
         for (map, taken) in (0..64u8).zip(self.taken) {
-            assert!(rt; self.sim.submitted(map) == self.sim.delivered(map));
-            assert_eq!(rt; self.sim.delivered(map).len(), taken);
+            self.agrees_on(rt, map, taken);
         }
     }
 
+    fn agrees_on(&self, rt: &impl Abort, map: u8, taken: usize) {
+        assert!(rt; self.sim.submitted(map) == self.sim.delivered(map));
+        assert_eq!(rt; self.sim.delivered(map).len(), taken);
+    }
+
     /// Begins a session, and confirms it, so that the ground is in S1.
-    pub fn opens(&mut self, rt: &impl Abort, directive: Directive) -> Result<(), Fail> {
-        self.begins(rt, directive)?;
-        self.goes_round(rt)?;
+    pub fn opens(&mut self, rt: &impl Abort, directive: Directive) {
+        self.begins(rt, directive);
+        self.goes_round(rt);
         assert_eq!(rt; self.sim.state(), FopMode::S1);
-        Ok(())
     }
 }
 

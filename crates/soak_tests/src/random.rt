@@ -7,7 +7,6 @@ use rand::RngExt;
 use rand_pcg::Pcg32;
 use std::alloc::Global;
 use std::process::Abort;
-use std::test::Fail;
 use tc_link::{Config, Event, Reply};
 
 // How often each run goes on, and by how many events.
@@ -22,21 +21,16 @@ struct Carried {
     telemetry: Vec<u8>,
 }
 
-fn new_carried(alloc: Global) -> Result<Carried, Fail> {
-    let telemetry = measurement(alloc, 100, 1)?;
-    let mut carried = Carried {
-        commands: Vec::new(alloc),
-        telemetry,
-    };
-    push_commands(alloc, &mut carried.commands)?;
-    Ok(carried)
-}
-
-fn push_commands(alloc: Global, commands: &mut Vec<Vec<u8>>) -> Result<(), Fail> {
+fn new_carried(rt: &impl Abort, alloc: Global) -> Carried {
+    let mut commands = Vec::new(alloc);
     for size in [7, 8, 40, 1016, 1017, 5000] {
-        commands.push(command(alloc, size, size)?)?;
+        let pushed = commands.push(command(rt, alloc, size, size));
+        assert!(rt; pushed.is_ok());
     }
-    Ok(())
+    Carried {
+        commands,
+        telemetry: measurement(rt, alloc, 100, 1),
+    }
 }
 
 impl Carried {
@@ -87,72 +81,52 @@ fn event<'a>(generator: &mut Pcg32, carried: &'a Carried) -> Event<'a> {
 
 // This number of events, and then what is on its way arrives and what is ready is taken.
 fn wanders(
+    rt: &impl Abort,
     link: &mut Link,
     generator: &mut Pcg32,
     carried: &Carried,
     number: usize,
-) -> Result<(), Fail> {
+) {
     for _ in 0..number {
-        let _ = link.meets(event(generator, carried))?;
+        link.happens(rt, event(generator, carried));
     }
-    let _ = link.meets(Event::Directive(Directive::Terminate))?;
-    let _ = link.arrives()?;
-    let _ = link.hears()?;
+    link.happens(rt, Event::Directive(Directive::Terminate));
+    let _ = link.arrives(rt);
+    let _ = link.hears(rt);
     for _ in 0..number {
-        if link.meets(Event::Take)? == Some(Reply::Nothing) {
+        if link.meets(rt, Event::Take) == Some(Reply::Nothing) {
             break;
         }
     }
-    Ok(())
 }
 
 // A session after such a run, in which the receiver may be locked, carries each packet.
-fn comes_right(rt: &impl Abort, link: &mut Link, carried: &Carried) -> Result<(), Fail> {
-    link.does(rt, Event::Directive(Directive::SetLimit(255)))?;
-    link.begins(rt, Directive::InitUnlock)?;
-    let _ = link.sends(1)?;
-    let _ = link.arrives()?;
-    let _ = link.meets(Event::Directive(Directive::Terminate))?;
-    link.opens(rt, Directive::InitSetVr(250))?;
+fn comes_right(rt: &impl Abort, link: &mut Link, carried: &Carried) {
+    link.does(rt, Event::Directive(Directive::SetLimit(255)));
+    link.begins(rt, Directive::InitUnlock);
+    let _ = link.sends(rt, 1);
+    let _ = link.arrives(rt);
+    link.happens(rt, Event::Directive(Directive::Terminate));
+    link.opens(rt, Directive::InitSetVr(250));
     for octets in &carried.commands {
-        link.submits(rt, 0, octets.as_slice())?;
-        link.submits(rt, 63, octets.as_slice())?;
+        link.submits(rt, 0, octets.as_slice());
+        link.submits(rt, 63, octets.as_slice());
     }
     link.carries(rt)
 }
 
-fn soaks(rt: &impl Abort, alloc: Global, config: Config, seed: u64) -> Result<(), Fail> {
-    let carried = new_carried(alloc)?;
-    soaks_with(rt, alloc, config, seed, &carried)
-}
-
-fn soaks_with(
-    rt: &impl Abort,
-    alloc: Global,
-    config: Config,
-    seed: u64,
-    carried: &Carried,
-) -> Result<(), Fail> {
-    let mut link = Link::new(alloc, config)?;
-    rounds(rt, &mut link, Pcg32::new(seed, 54), carried)
-}
-
-fn rounds(
-    rt: &impl Abort,
-    link: &mut Link,
-    generator: Pcg32,
-    carried: &Carried,
-) -> Result<(), Fail> {
-    let mut generator = generator;
+fn soaks(rt: &impl Abort, alloc: Global, config: Config, seed: u64) {
+    let carried = new_carried(rt, alloc);
+    let mut link = Link::new(rt, alloc, config);
+    let mut generator = Pcg32::new(seed, 54);
     for _ in 0..ROUNDS {
-        wanders(link, &mut generator, carried, EVENTS)?;
-        comes_right(rt, link, carried)?;
+        wanders(rt, &mut link, &mut generator, &carried, EVENTS);
+        comes_right(rt, &mut link, &carried);
     }
-    Ok(())
 }
 
 #[test]
-fn anything_at_the_least(rt: HostRuntime) -> Result<(), Fail> {
+fn anything_at_the_least(rt: HostRuntime) {
     let config = Config {
         scid: 0,
         vcid: 0,
@@ -169,7 +143,7 @@ fn anything_at_the_least(rt: HostRuntime) -> Result<(), Fail> {
 }
 
 #[test]
-fn anything_at_the_greatest(rt: HostRuntime) -> Result<(), Fail> {
+fn anything_at_the_greatest(rt: HostRuntime) {
     let config = Config {
         scid: 1023,
         vcid: 63,
@@ -183,7 +157,7 @@ fn anything_at_the_greatest(rt: HostRuntime) -> Result<(), Fail> {
 }
 
 #[test]
-fn anything_between(rt: HostRuntime) -> Result<(), Fail> {
+fn anything_between(rt: HostRuntime) {
     for seed in 3..8 {
         let config = Config {
             width: 128,
@@ -192,7 +166,6 @@ fn anything_between(rt: HostRuntime) -> Result<(), Fail> {
             ready_slots: 5,
             ..Config::default()
         };
-        soaks(&rt, rt.alloc(), config, seed)?;
+        soaks(&rt, rt.alloc(), config, seed);
     }
-    Ok(())
 }
