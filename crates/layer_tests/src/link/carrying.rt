@@ -2,31 +2,28 @@
 
 use super::twins::records_of;
 use cop1::{Directive, FopMode};
-use std::alloc::{AllocError, Global};
+use std::alloc::Global;
 use std::process::Abort;
-use std::test::Fail;
 use tc_link::{Config, Event, Reply, Sim};
 
 const COUNT: usize = 600;
 
 // Packets on MAP 4, each with its sequence count, after the same octets: none, or the segment header of their frames.
-fn packets_after(alloc: Global, head: &[u8]) -> Result<Vec<Vec<u8>>, AllocError> {
-    let mut packets = Vec::with_capacity(alloc, COUNT)?;
-    push_packets(alloc, &mut packets, head)?;
-    Ok(packets)
-}
-
-fn push_packets(alloc: Global, packets: &mut Vec<Vec<u8>>, head: &[u8]) -> Result<(), AllocError> {
+fn packets_after(rt: &impl Abort, alloc: Global, head: &[u8]) -> Vec<Vec<u8>> {
+    let mut packets = Vec::new(alloc);
     for place in 0..COUNT {
-        packets.push(packet_after(alloc, head, place)?)?;
+        let pushed = packets.push(packet_after(rt, alloc, head, place));
+        assert!(rt; pushed.is_ok());
     }
-    Ok(())
+    packets
 }
 
-fn packet_after(alloc: Global, head: &[u8], place: usize) -> Result<Vec<u8>, AllocError> {
-    let mut octets = Vec::from_slice(alloc, head)?;
-    octets.extend_from_slice(&packet(place))?;
-    Ok(octets)
+fn packet_after(rt: &impl Abort, alloc: Global, head: &[u8], place: usize) -> Vec<u8> {
+    let mut octets = Vec::from_slice(alloc, head).expect(rt, "a header");
+    octets
+        .extend_from_slice(&packet(place))
+        .expect(rt, "a packet");
+    octets
 }
 
 fn packet(place: usize) -> [u8; 7] {
@@ -77,21 +74,19 @@ fn lengths_of(sim: &Sim) -> Lengths {
 
 impl Carrier<'_> {
     // Lets an event happen, compares the lists, and says whether this is the reply.
-    fn answers(&mut self, rt: &impl Abort, event: Event<'_>, reply: &Reply) -> Result<bool, Fail> {
-        let given = self.sim.step(event)?;
+    fn answers(&mut self, rt: &impl Abort, event: Event<'_>, reply: &Reply) -> bool {
+        let given = self.sim.step(event).expect(rt, "a reply");
         self.looks_at(rt, &given);
         self.compares(rt);
-        Ok(given == *reply)
+        given == *reply
     }
 
-    fn replies(&mut self, rt: &impl Abort, event: Event<'_>, reply: &Reply) -> Result<(), Fail> {
-        assert!(rt; self.answers(rt, event, reply)?);
-        Ok(())
+    fn replies(&mut self, rt: &impl Abort, event: Event<'_>, reply: &Reply) {
+        assert!(rt; self.answers(rt, event, reply));
     }
 
-    fn happens(&mut self, rt: &impl Abort, event: Event<'_>) -> Result<(), Fail> {
-        let _ = self.answers(rt, event, &Reply::Nothing)?;
-        Ok(())
+    fn happens(&mut self, rt: &impl Abort, event: Event<'_>) {
+        let _ = self.answers(rt, event, &Reply::Nothing);
     }
 
     // A packet that is taken is the next.
@@ -126,65 +121,62 @@ impl Carrier<'_> {
     }
 
     // Sends one frame after another, while there is one, and at most this many. Every seventh is lost.
-    fn sends(&mut self, rt: &impl Abort, most: usize) -> Result<(), Fail> {
+    fn sends(&mut self, rt: &impl Abort, most: usize) {
         for _ in 0..most {
-            if self.answers(rt, Event::Send, &Reply::Nothing)? {
+            if self.answers(rt, Event::Send, &Reply::Nothing) {
                 break;
             }
             self.frames = self.frames.wrapping_add(1);
-            self.comes_to_its_end(rt)?;
+            self.comes_to_its_end(rt);
         }
-        Ok(())
     }
 
-    fn comes_to_its_end(&mut self, rt: &impl Abort) -> Result<(), Fail> {
+    fn comes_to_its_end(&mut self, rt: &impl Abort) {
         if self.frames % 7 == 0 {
-            return self.replies(rt, Event::UpLose, &Reply::Lost);
+            self.replies(rt, Event::UpLose, &Reply::Lost);
+        } else {
+            self.happens(rt, Event::UpDeliver);
+            self.happens(rt, Event::Take);
         }
-        self.happens(rt, Event::UpDeliver)?;
-        self.happens(rt, Event::Take)
     }
 
     // Whether the report of now acknowledges more.
-    fn reports(&mut self, rt: &impl Abort) -> Result<bool, Fail> {
+    fn reports(&mut self, rt: &impl Abort) -> bool {
         let before = self.sim.acknowledged();
-        self.happens(rt, Event::Report)?;
-        self.happens(rt, Event::DownDeliver)?;
-        Ok(before < self.sim.acknowledged())
+        self.happens(rt, Event::Report);
+        self.happens(rt, Event::DownDeliver);
+        before < self.sim.acknowledged()
     }
 
     // Submits each packet.
-    fn submits(&mut self, rt: &impl Abort) -> Result<(), Fail> {
+    fn submits(&mut self, rt: &impl Abort) {
         for place in 0..COUNT {
-            self.replies(rt, Event::Submit(4, &packet(place)), &Reply::Done)?;
+            self.replies(rt, Event::Submit(4, &packet(place)), &Reply::Done);
         }
-        Ok(())
     }
 
     // Fills the window, and then sends ten frames to a report, until all is acknowledged. Where a report
     // acknowledges nothing the timer ends.
-    fn carries(&mut self, rt: &impl Abort) -> Result<(), Fail> {
-        self.sends(rt, COUNT)?;
+    fn carries(&mut self, rt: &impl Abort) {
+        self.sends(rt, COUNT);
         for _ in 0..COUNT {
-            if !self.reports(rt)? {
-                self.replies(rt, Event::Tick, &Reply::Done)?;
+            if !self.reports(rt) {
+                self.replies(rt, Event::Tick, &Reply::Done);
             }
             if self.sim.outstanding() == 0 {
                 break;
             }
-            self.sends(rt, 10)?;
+            self.sends(rt, 10);
         }
-        Ok(())
     }
 
     // Begins a session, and carries each packet.
-    fn runs(&mut self, rt: &impl Abort) -> Result<(), Fail> {
+    fn runs(&mut self, rt: &impl Abort) {
         let begin = Event::Directive(Directive::InitWithoutCheck);
-        self.replies(rt, begin, &Reply::Done)?;
-        self.submits(rt)?;
-        self.carries(rt)?;
+        self.replies(rt, begin, &Reply::Done);
+        self.submits(rt);
+        self.carries(rt);
         self.has_carried_all(rt);
-        Ok(())
     }
 
     fn has_carried_all(&self, rt: &impl Abort) {
@@ -203,27 +195,17 @@ impl Carrier<'_> {
 }
 
 #[test]
-fn every_seventh_frame_lost(rt: HostRuntime) -> Result<(), Fail> {
-    let packets = packets_after(rt.alloc(), &[])?;
-    carries_packets(&rt, rt.alloc(), packets.as_slice())
+fn every_seventh_frame_lost(rt: HostRuntime) {
+    let packets = packets_after(&rt, rt.alloc(), &[]);
+    let fields = packets_after(&rt, rt.alloc(), &[0xc4]);
+    carries(&rt, rt.alloc(), packets.as_slice(), fields.as_slice());
 }
 
-fn carries_packets(rt: &impl Abort, alloc: Global, packets: &[Vec<u8>]) -> Result<(), Fail> {
-    let fields = packets_after(alloc, &[0xc4])?;
-    carries_fields(rt, alloc, packets, fields.as_slice())
-}
-
-fn carries_fields(
-    rt: &impl Abort,
-    alloc: Global,
-    packets: &[Vec<u8>],
-    fields: &[Vec<u8>],
-) -> Result<(), Fail> {
+fn carries(rt: &impl Abort, alloc: Global, packets: &[Vec<u8>], fields: &[Vec<u8>]) {
     let config = Config {
         timer: 1,
         ..Config::default()
     };
-    let sim = Sim::new(alloc, config)?;
     let compared = Lengths {
         submitted: 0,
         delivered: 0,
@@ -231,12 +213,12 @@ fn carries_fields(
         accepted: 0,
     };
     let mut carrier = Carrier {
-        sim,
+        sim: Sim::new(alloc, config).expect(rt, "a link"),
         packets,
         fields,
         compared,
         frames: 0,
         taken: 0,
     };
-    carrier.runs(rt)
+    carrier.runs(rt);
 }
