@@ -4,6 +4,7 @@ mod carrying;
 mod twins;
 mod without_memory;
 
+use crate::equal::equal;
 use nodes::{PARAMETERS, Parameter};
 use std::process::Abort;
 use tc_link::{Config, LinkFault};
@@ -16,7 +17,7 @@ fn parameters(rt: HostRuntime) {
         takes_most(&rt, &mut config, parameter);
     }
     has_fault(&rt, &config, None);
-    assert_eq!(rt; config.frame_length, 2048);
+    equal(&rt, &config.frame_length, &2048);
     for (parameter, value, fault) in [
         (Parameter::Blocking, 2, "blocking"),
         (Parameter::Width, 10, "window"),
@@ -29,20 +30,20 @@ fn parameters(rt: HostRuntime) {
 }
 
 fn has_fault(rt: &impl Abort, config: &Config, fault: Option<&str>) {
-    assert_eq!(rt; config.fault(), fault);
+    equal(rt, &config.fault(), &fault);
 }
 
 // A parameter is found by its name, and takes the most that it may be.
 fn takes_most(rt: &impl Abort, config: &mut Config, parameter: Parameter) {
     let found = Parameter::named(parameter.name().as_bytes());
-    assert_eq!(rt; found, Some(parameter));
+    equal(rt, &found, &Some(parameter));
     config.set(parameter, parameter.most());
-    assert_eq!(rt; config.value(parameter), parameter.most());
+    equal(rt, &config.value(parameter), &parameter.most());
 }
 
 #[test]
 fn names(rt: HostRuntime) {
-    assert_eq!(rt; Parameter::named(b"colour"), None);
+    equal(&rt, &Parameter::named(b"colour"), &None);
     let fault = LinkFault::Memory;
-    assert_eq!(rt; (fault.number(), fault.name()), (6, "Memory"));
+    equal(&rt, &(fault.number(), fault.name()), &(6, "Memory"));
 }

@@ -1,6 +1,7 @@
 // Calls of the nodes and of the simulated link that take no memory: tools/refusals runs these tests with all allocations
 // refused after the words 'set up'.
 
+use crate::equal::equal;
 use crate::frames::{
     AD_0, AD_1, AD_ON_CHANNEL_3, BD_0, BD_NONE, IDLE, OF_SPACECRAFT_2, P0, UNLOCK,
 };
@@ -39,21 +40,22 @@ fn takes_both(ground: &mut Ground) -> Result<(), LinkFault> {
 }
 
 fn refuses(rt: &impl Abort, ground: &mut Ground) {
-    assert_eq!(rt; ground.submit(64, &P0), Err(LinkFault::ClosedMap));
-    assert_eq!(rt; ground.submit(4, &[]), Err(LinkFault::NotCommand));
-    assert_eq!(rt;
-        ground.prepare(4, &P0[1..]).err(),
-        Some(LinkFault::NotCommand)
+    equal(rt, &ground.submit(64, &P0), &Err(LinkFault::ClosedMap));
+    equal(rt, &ground.submit(4, &[]), &Err(LinkFault::NotCommand));
+    equal(
+        rt,
+        &ground.prepare(4, &P0[1..]).err(),
+        &Some(LinkFault::NotCommand),
     );
-    assert_eq!(rt; ground.bypass(64, &P0), Err(LinkFault::ClosedMap));
+    equal(rt, &ground.bypass(64, &P0), &Err(LinkFault::ClosedMap));
     let window = ground.directive(Directive::SetWindow(0));
-    assert_eq!(rt; window, Err(CopFault::Window));
+    equal(rt, &window, &Err(CopFault::Window));
 }
 
 fn hears(rt: &impl Abort, ground: &mut Ground) {
     let idle = ground.telemetry(&IDLE);
     assert!(rt; matches!(idle, Ok(Heard::Frame { packets: 0, .. })));
-    assert_eq!(rt; ground.telemetry(&OF_SPACECRAFT_2), Ok(Heard::Foreign));
+    equal(rt, &ground.telemetry(&OF_SPACECRAFT_2), &Ok(Heard::Foreign));
     assert!(rt; matches!(ground.telemetry(&P0), Ok(Heard::Invalid(_))));
     assert!(rt; ground.take_telemetry().is_none());
 }
@@ -75,7 +77,7 @@ fn calls_ground(rt: &(impl Abort + Eprint), ground: &mut Ground) {
     hears(rt, ground);
     refuses(rt, ground);
     for _ in 0..10 {
-        assert_eq!(rt; ground.tick(), None);
+        equal(rt, &ground.tick(), &None);
     }
     pulls(rt, ground, Some(15));
     directs(rt, ground);
@@ -91,7 +93,7 @@ fn passes(rt: &impl Abort, ground: &mut Ground) {
 
 fn pulls(rt: &impl Abort, ground: &mut Ground, size: Option<usize>) {
     let mut out = [0; 1024];
-    assert_eq!(rt; ground.pull(&mut out), size);
+    equal(rt, &ground.pull(&mut out), &size);
 }
 
 fn directs(rt: &impl Abort, ground: &mut Ground) {
@@ -103,7 +105,7 @@ fn directs(rt: &impl Abort, ground: &mut Ground) {
         (Directive::SetVs(9), None),
         (Directive::InitUnlock, None),
     ] {
-        assert_eq!(rt; ground.directive(directive), Ok(answer));
+        equal(rt, &ground.directive(directive), &Ok(answer));
     }
 }
 
@@ -123,7 +125,7 @@ fn submits(rt: &(impl Abort + Eprint), ground: &mut Ground) {
             let _ = eprintln!(rt; "set up");
             assert!(rt; submission.packets() == [&P0[..]].as_slice());
             ground.commit(submission);
-            assert_eq!(rt; ground.outstanding(), 2);
+            equal(rt, &ground.outstanding(), &2);
         }
         Err(_) => {
             let _ = eprintln!(rt; "refused a growth");
@@ -169,7 +171,7 @@ fn calls_spacecraft(rt: &(impl Abort + Eprint), spacecraft: &mut Spacecraft) {
     }
     assert!(rt; spacecraft.telemetry(&P0[1..]).is_err());
     for is_there in [true, false] {
-        assert_eq!(rt; are_taken(spacecraft), [is_there; 2]);
+        equal(rt, &are_taken(spacecraft), &[is_there; 2]);
     }
 }
 
@@ -188,7 +190,7 @@ fn receives(rt: &impl Abort, spacecraft: &mut Spacecraft, octets: &[u8]) {
 
 fn reports(rt: &impl Abort, spacecraft: &mut Spacecraft) {
     let mut out = [0; 2048];
-    assert_eq!(rt; spacecraft.report(&mut out), 19);
+    equal(rt, &spacecraft.report(&mut out), &19);
 }
 
 #[test]
@@ -283,7 +285,7 @@ fn happen_without_memory(rt: &(impl Abort + Eprint), sim: &mut Sim) {
     for event in &WITHOUT_MEMORY {
         assert!(rt; !is_without_memory(sim, *event));
     }
-    assert_eq!(rt; sim.step(Event::Take), Ok(Reply::Nothing));
+    equal(rt, &sim.step(Event::Take), &Ok(Reply::Nothing));
     has_no_records(rt, sim);
 }
 

@@ -1,6 +1,7 @@
 // Scripts played by hand, and each of their growths refused in turn. What scripts answer stands in rows/sim at
 // the top.
 
+use crate::equal::equal;
 use nodes::Parameter;
 use script::{Carrier, Line, Program, ScriptFault, Step, open, play_some, read_line};
 use std::alloc::Global;
@@ -68,7 +69,7 @@ fn plays(
     };
     match told {
         Ok((start, text)) => {
-            assert_eq!(rt; start, idle);
+            equal(rt, &start, &idle);
             assert!(rt; answers.is_none_or(|answers| answers == text.as_str()));
         }
         Err(_) => assert!(rt; false),
@@ -139,7 +140,7 @@ fn lines_that_are_read(rt: HostRuntime) {
             ScriptFault::OutOfRange("window"),
         ),
     ] {
-        assert_eq!(rt; fault_of(rt.alloc(), script), Some(want));
+        equal(&rt, &fault_of(rt.alloc(), script), &Some(want));
     }
 }
 

@@ -2,6 +2,7 @@
 
 ghost use Rattle.std.specs.Prelude.{◌≡◌, [], None};
 
+use crate::equal::equal;
 use cop1::Farm;
 use listings::{
     Call, Cutter, DeviceLog, FrameCutter, FrameLength, FrameListing, Listing, ListingFault,
@@ -55,8 +56,8 @@ fn is_listed<S: Cutter + Drop, C: Listing<S> + Drop>(
         cutter,
         listing,
     );
-    assert_eq!(rt; result, Ok(good));
-    assert_eq!(rt; written.as_slice(), text.as_bytes());
+    equal(rt, &result, &Ok(good));
+    equal(rt, &written.as_slice(), &text.as_bytes());
 }
 
 #[test]
@@ -110,7 +111,7 @@ fn cuts_one(rt: &impl Abort, cutter: &mut FrameCutter<Twenty>) -> Result<(), TmF
     cutter.feed(&UNLOCK)?;
     assert!(rt; matches!(cutter.next(), Some(Ok(frame)) if frame == TELEMETRY.as_slice()));
     assert!(rt; cutter.next().is_none());
-    assert_eq!(rt; cutter.finish(), Err(TmFault::Length));
+    equal(rt, &cutter.finish(), &Err(TmFault::Length));
     Ok(())
 }
 
@@ -118,8 +119,8 @@ fn cuts_one(rt: &impl Abort, cutter: &mut FrameCutter<Twenty>) -> Result<(), TmF
 fn texts_and_logs(rt: HostRuntime) {
     let mut written = Vec::new(rt.alloc());
     let result = write_all(&mut Writer::new(&mut written), b"unlock");
-    assert_eq!(rt; result, Ok(()));
-    assert_eq!(rt; written.as_slice(), b"unlock".as_slice());
+    equal(&rt, &result, &Ok(()));
+    equal(&rt, &written.as_slice(), &b"unlock".as_slice());
     let log = DeviceLog::new().then(&Call::Moved(b"unlock"));
     let _ = log.then(&Call::Failed);
     lists_nowhere(&rt, rt.alloc());
@@ -134,7 +135,7 @@ fn lists_nowhere(rt: &impl Abort, alloc: Global) {
         Splitter::<Unchecked>::new(alloc),
         FrameListing,
     );
-    assert_eq!(rt; result, Err(ListingFault::Write));
+    equal(rt, &result, &Err(ListingFault::Write));
 }
 
 // A reader and a writer that move at most three octets at a call, and fail at the call after this many.
@@ -195,7 +196,7 @@ fn readers_and_writers_of_std(rt: HostRuntime) -> Result<(), AllocError> {
         calls_left: 1,
     };
     writes(&rt, &mut Writer::new(&mut device));
-    assert_eq!(rt; device.octets.as_slice(), b"unlock".as_slice());
+    equal(&rt, &device.octets.as_slice(), &b"unlock".as_slice());
     Ok(())
 }
 
@@ -207,8 +208,8 @@ fn reads(rt: &impl Abort, reader: &mut Reader<Device>) {
         (Err(ErrorKind::PermissionDenied), b"ock\0"),
         (Ok(0), b"ock\0"),
     ] {
-        assert_eq!(rt; without_note(reader.read(&mut piece)), answer);
-        assert_eq!(rt; piece, *octets);
+        equal(rt, &without_note(reader.read(&mut piece)), &answer);
+        equal(rt, &piece, octets);
     }
 }
 
@@ -218,7 +219,7 @@ fn writes(rt: &impl Abort, writer: &mut Writer<&mut Device>) {
         (b"ock", Err(ErrorKind::StorageFull)),
         (b"ock", Ok(3)),
     ] {
-        assert_eq!(rt; without_note(writer.write(text)), answer);
+        equal(rt, &without_note(writer.write(text)), &answer);
     }
 }
 
@@ -238,7 +239,7 @@ fn texts_of_faults(rt: HostRuntime) -> Result<(), AllocError> {
         (ListingFault::TooLong, "input too long"),
     ] {
         let said = format!(in rt.alloc(); "{fault}")?;
-        assert_eq!(rt; said.as_str(), text);
+        equal(&rt, &said.as_str(), &text);
     }
     Ok(())
 }

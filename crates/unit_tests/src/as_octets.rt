@@ -2,6 +2,7 @@
 
 ghost use Rattle.std.specs.Prelude.{◌≤◌};
 
+use crate::equal::equal;
 use map_service::{Limits, MapFault, cut};
 use std::alloc::Global;
 use std::process::Abort;
@@ -50,12 +51,12 @@ fn is_cut(rt: &impl Abort, alloc: Global, part: u32, fields: &[&[u8]])
     requires { 1 ≤ part }
 {
     let mut segments = Vec::new(alloc);
-    assert_eq!(rt; cut_in(part, &mut segments), Ok(()));
+    equal(rt, &cut_in(part, &mut segments), &Ok(()));
     are_spelled(rt, segments.as_slice(), fields);
 }
 
 fn are_spelled(rt: &impl Abort, segments: &[Segment<'_>], fields: &[&[u8]]) {
-    assert_eq!(rt; segments.len(), fields.len());
+    equal(rt, &segments.len(), &fields.len());
     for (place, field) in fields.iter().enumerate() {
         is_spelled(rt, segments.get(place), field);
     }

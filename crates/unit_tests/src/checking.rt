@@ -1,5 +1,6 @@
 // The check of frames, and its table against the plain program.
 
+use crate::equal::equal;
 use octets::{append_check, check, check_holds, first_two};
 
 // The check bit by bit: a register preset to ones, shifted once a bit.
@@ -29,7 +30,7 @@ fn known_checks(rt: HostRuntime) {
         (&[0xab, 0xcd, 0xef, 0x01][..], 0x04a2),
         (&[0x14, 0x56, 0xf8, 0x9a, 0x00, 0x01][..], 0x7fd5),
     ] {
-        assert_eq!(rt; check(octets), known);
+        equal(&rt, &check(octets), &known);
     }
 }
 
@@ -38,10 +39,10 @@ fn known_checks(rt: HostRuntime) {
 #[test]
 fn known_entries(rt: HostRuntime) {
     for (place, entry) in [(0, 0), (1, 0x1021), (2, 0x2042), (255, 0x1ef0)] {
-        assert_eq!(rt; check(&[0xff ^ place]) ^ 0xff00, entry);
+        equal(&rt, &(check(&[0xff ^ place]) ^ 0xff00), &entry);
     }
     for (place, entry) in [(0, 0), (1, 0x3331), (255, 0x03ff)] {
-        assert_eq!(rt; check(&[0xff ^ place, 0xff]), entry);
+        equal(&rt, &check(&[0xff ^ place, 0xff]), &entry);
     }
 }
 
@@ -49,15 +50,15 @@ fn known_entries(rt: HostRuntime) {
 #[test]
 fn the_table_is_the_plain_program(rt: HostRuntime) {
     for octet in 0..=255u8 {
-        assert_eq!(rt; check(&[octet]), plain_check(&[octet]));
+        equal(&rt, &check(&[octet]), &plain_check(&[octet]));
     }
     let mut octets = [0u8; 64];
     let mut seed: u32 = 1;
     for len in 0..64usize {
-        assert_eq!(rt; check(&octets[..len]), plain_check(&octets[..len]));
+        equal(&rt, &check(&octets[..len]), &plain_check(&octets[..len]));
         seed = seed.wrapping_mul(1_664_525).wrapping_add(1_013_904_223);
         octets[len] = (seed >> 24) as u8;
-        assert_eq!(rt; check(&octets), plain_check(&octets));
+        equal(&rt, &check(&octets), &plain_check(&octets));
     }
 }
 
@@ -66,7 +67,7 @@ fn a_check_is_set_and_holds(rt: HostRuntime) {
     let mut octets = *b"123456789\x00\x00";
     assert!(rt; !check_holds(&octets));
     append_check(&mut octets);
-    assert_eq!(rt; first_two(&octets[9..]), 0x29b1);
+    equal(&rt, &first_two(&octets[9..]), &0x29b1);
     assert!(rt; check_holds(&octets));
     assert!(rt; !check_holds(&octets[..10]));
     assert!(rt; !check_holds(&[]));

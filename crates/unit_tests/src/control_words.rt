@@ -1,5 +1,6 @@
 // Control words and their octets.
 
+use crate::equal::equal;
 use bitflags::Flags;
 use clcw::{Clcw, ClcwFault, ClcwFlags, decode, encode};
 
@@ -12,11 +13,11 @@ fn words_and_their_octets(rt: HostRuntime) {
         farm_b: 1,
         value: 7,
     };
-    assert_eq!(rt; encode(&word), Ok([0x01, 0x08, 0x0a, 0x07]));
-    assert_eq!(rt; decode([0x01, 0x08, 0x0a, 0x07]), Ok(word));
+    equal(&rt, &encode(&word), &Ok([0x01, 0x08, 0x0a, 0x07]));
+    equal(&rt, &decode([0x01, 0x08, 0x0a, 0x07]), &Ok(word));
     assert!(rt; ClcwFlags::from_name("RETRANSMIT") == Some(word.flags));
     for (octets, fault) in REFUSED {
-        assert_eq!(rt; decode(octets).err(), Some(fault));
+        equal(&rt, &decode(octets).err(), &Some(fault));
     }
 }
 
@@ -40,7 +41,7 @@ fn words_without_octets(rt: HostRuntime) {
         flags: ClcwFlags::from_bits_retain(1),
         ..word
     };
-    assert_eq!(rt; encode(&no_name).err(), Some(ClcwFault::Range));
+    equal(&rt, &encode(&no_name).err(), &Some(ClcwFault::Range));
     let fault = ClcwFault::Range;
-    assert_eq!(rt; (fault.number(), fault.name()), (5, "Range"));
+    equal(&rt, &(fault.number(), fault.name()), &(5, "Range"));
 }

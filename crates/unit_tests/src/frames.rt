@@ -2,6 +2,7 @@
 
 ghost use Rattle.std.specs.Prelude.{◌<◌};
 
+use crate::equal::equal;
 use crate::refusing::says_refused;
 use octets::Wire;
 use std::process::Abort;
@@ -28,14 +29,14 @@ fn frame(body: Body<'_>) -> TcFrame<'_> {
 fn is_spelled(rt: &impl Abort, body: Body, check: Check, octets: &[u8]) {
     reads(rt, octets, check, frame(body));
     let mut out = [0x55; 16];
-    assert_eq!(rt; written(body, check, &mut out), Some(octets.len()));
+    equal(rt, &written(body, check, &mut out), &Some(octets.len()));
     let (octets_written, rest) = out.split_at_checked(octets.len()).unwrap_or_default();
     assert!(rt; octets_written == octets);
     assert!(rt; rest.iter().all(|octet| *octet == 0x55));
 }
 
 fn reads(rt: &impl Abort, octets: &[u8], check: Check, frame: TcFrame<'_>) {
-    assert_eq!(rt; decode(octets, check), Ok(frame));
+    equal(rt, &decode(octets, check), &Ok(frame));
 }
 
 // How many octets the frame has, of which it is known before.
@@ -70,8 +71,8 @@ fn data_frames(rt: HostRuntime) {
 
 #[test]
 fn frames_with_a_check_or_without(rt: HostRuntime) {
-    assert_eq!(rt; check_if(true), Check::On);
-    assert_eq!(rt; check_if(false), Check::Off);
+    equal(&rt, &check_if(true), &Check::On);
+    equal(&rt, &check_if(false), &Check::Off);
 }
 
 #[test]
@@ -92,7 +93,7 @@ fn faults_of_the_header(rt: HostRuntime) {
         (&with_first(0x10), TcFault::ReservedType),
         (&with_first(0x04), TcFault::Spare),
     ] {
-        assert_eq!(rt; fault_of(octets, Check::Off), Some(fault));
+        equal(&rt, &fault_of(octets, Check::Off), &Some(fault));
     }
 }
 
@@ -109,13 +110,13 @@ fn with_first(octet: u8) -> [u8; 13] {
 fn faults_after_the_header(rt: HostRuntime) {
     let mut damaged = UNLOCK_CHECKED;
     damaged[7] = 0x9f;
-    assert_eq!(rt; fault_of(&damaged, Check::On), Some(TcFault::Check));
+    equal(&rt, &fault_of(&damaged, Check::On), &Some(TcFault::Check));
     for (octets, fault) in [
         ([0x30, 0x01, 0x08, 0x05, 0x01, 0x00], TcFault::BypassNumber),
         ([0x00, 0x01, 0x08, 0x05, 0x03, 0xc4], TcFault::EmptyData),
         ([0x30, 0x01, 0x08, 0x05, 0x00, 0x01], TcFault::Command),
     ] {
-        assert_eq!(rt; fault_of(&octets, Check::Off), Some(fault));
+        equal(&rt, &fault_of(&octets, Check::Off), &Some(fault));
     }
 }
 
@@ -139,7 +140,7 @@ fn a_wrong_octet(rt: HostRuntime) {
     let octets = [
         0x00, 0x01, 0x08, 0x0e, 0x00, 0xc4, 0x10, 0x05, 0xc0, 0x00, 0x00, 0x00, 0xaa, 0xe7, 0x5d,
     ];
-    assert_eq!(rt; fault_of(&octets, Check::On), None);
+    equal(&rt, &fault_of(&octets, Check::On), &None);
     for place in 0..15 {
         assert_eq!(rt; refused_at(&octets, place), 255, "at {place}");
     }
@@ -148,7 +149,7 @@ fn a_wrong_octet(rt: HostRuntime) {
 #[test]
 fn faults_by_number_and_name(rt: HostRuntime) {
     let fault = TcFault::FieldRange;
-    assert_eq!(rt; (fault.number(), fault.name()), (11, "FieldRange"));
+    equal(&rt, &(fault.number(), fault.name()), &(11, "FieldRange"));
 }
 
 // Feeds. Where memory is refused nothing has changed, and the call made again answers as ever.
@@ -159,7 +160,7 @@ fn feed<C: Wire<Fault = TcFault>>(
 ) {
     if let Err(fault) = splitter.feed(octets) {
         says_refused(rt, fault, TcFault::Memory);
-        assert_eq!(rt; splitter.feed(octets), Ok(()));
+        equal(rt, &splitter.feed(octets), &Ok(()));
     }
 }
 
@@ -169,7 +170,7 @@ pub fn hands_out<C: Wire<Fault = TcFault>>(
     splitter: &mut TcSplitter<C>,
     record: Option<Result<&[u8], TcFault>>,
 ) {
-    assert_eq!(rt; splitter.next(), record);
+    equal(rt, &splitter.next(), &record);
 }
 
 /// Whether the stream may end here.
@@ -178,7 +179,7 @@ pub fn ends<C: Wire<Fault = TcFault>>(
     splitter: &TcSplitter<C>,
     answer: Result<(), TcFault>,
 ) {
-    assert_eq!(rt; splitter.finish(), answer);
+    equal(rt, &splitter.finish(), &answer);
 }
 
 #[test]

@@ -11,6 +11,8 @@ mod checking;
 #[cfg(test)]
 mod control_words;
 #[cfg(test)]
+mod equal;
+#[cfg(test)]
 mod frames;
 #[cfg(test)]
 mod no_memory;

@@ -3,6 +3,7 @@
 
 ghost use Rattle.std.specs.Prelude.{◌≡◌, ◌≤◌};
 
+use crate::equal::equal;
 use crate::{frames, packets};
 use map_service::{Assembler, Dropped, Limits, segment_count};
 use space_packet::{GapCheck, PacketSplitter, SequenceCounters, is_packet, packet_len};
@@ -27,9 +28,9 @@ fn packet_again(octets: &[u8], out: &mut [u8]) -> Option<(usize, usize)> {
 
 fn codes_packets(rt: &impl Abort) {
     let mut out = [0; 7];
-    assert_eq!(rt; packet_again(&P0, &mut out), Some((7, 7)));
-    assert_eq!(rt; out, P0);
-    assert_eq!(rt; packet_len(&P0), Some(7));
+    equal(rt, &packet_again(&P0, &mut out), &Some((7, 7)));
+    equal(rt, &out, &P0);
+    equal(rt, &packet_len(&P0), &Some(7));
     assert!(rt; is_packet(&P0) && !is_packet(&P0[1..]));
 }
 
@@ -43,14 +44,14 @@ fn frame_again(octets: &[u8], out: &mut [u8]) -> Option<usize> {
 
 fn codes_frames(rt: &impl Abort) {
     let mut out = [0; 13];
-    assert_eq!(rt; frame_again(&DATA, &mut out), Some(13));
-    assert_eq!(rt; out, DATA);
+    equal(rt, &frame_again(&DATA, &mut out), &Some(13));
+    equal(rt, &out, &DATA);
     assert!(rt; tc_frame::decode(&DATA, Check::On).is_err());
 }
 
 fn codes_words(rt: &impl Abort) -> Result<(), Fail> {
     let word = clcw::decode([0x01, 0x08, 0x08, 0x02])?;
-    assert_eq!(rt; clcw::encode(&word)?, [0x01, 0x08, 0x08, 0x02]);
+    equal(rt, &clcw::encode(&word)?, &[0x01, 0x08, 0x08, 0x02]);
     Ok(())
 }
 
@@ -65,8 +66,8 @@ fn codes_telemetry(rt: &impl Abort) -> Result<(), Fail> {
         ocf: [0x01, 0x08, 0x00, 0x00],
     };
     let mut out = [0; 20];
-    assert_eq!(rt; tm_link::encode(&frame, &mut out)?, 20);
-    assert_eq!(rt; tm_link::decode(&out, 20)?, frame);
+    equal(rt, &tm_link::encode(&frame, &mut out)?, &20);
+    equal(rt, &tm_link::decode(&out, 20)?, &frame);
     assert!(rt; tm_link::decode(&out, 19).is_err());
     Ok(())
 }
@@ -132,7 +133,7 @@ fn drops(
 ) {
     match assembler.take(segment) {
         Ok(taken) => {
-            assert_eq!(rt; taken.dropped, dropped);
+            equal(rt, &taken.dropped, &dropped);
             assert!(rt; taken.packets.is_empty());
         }
         Err(_) => assert!(rt; false),
@@ -152,7 +153,7 @@ fn segments_that_are_dropped_takes_no_memory(rt: HostRuntime) {
 
 fn drop_segments(rt: &(impl Abort + Eprint), assembler: &mut Assembler) {
     let _ = eprintln!(rt; "set up");
-    assert_eq!(rt; segment_count(&P0, &LIMITS), Ok(3));
+    equal(rt, &segment_count(&P0, &LIMITS), &Ok(3));
     assert!(rt;
         assembler
             .lone_packet(&segment(SegmentFlags::Alone, 0, &P0))

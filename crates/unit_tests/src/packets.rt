@@ -3,6 +3,7 @@
 ghost use Rattle.std.specs.Prelude.{◌≡◌, ◌<◌, ◌+◌, ◌%◌, IfOk, Some, vec_len};
 ghost use Rattle.space_packet.specs.Counters.{gap_between};
 
+use crate::equal::equal;
 use crate::refusing::says_refused;
 use space_packet::*;
 use std::alloc::{AllocError, Global};
@@ -24,10 +25,14 @@ fn packet(payload: &[u8]) -> Packet<'_> {
 
 #[test]
 fn a_packet(rt: HostRuntime) {
-    assert_eq!(rt; decode(&PACKET), Ok((packet(&[0xaa]), 7)));
+    equal(&rt, &decode(&PACKET), &Ok((packet(&[0xaa]), 7)));
     let mut out = [0x55; 9];
-    assert_eq!(rt; written(&packet(&[0xaa]), &mut out), Ok(7));
-    assert_eq!(rt; out, [0x10, 0x05, 0xc0, 0x00, 0x00, 0x00, 0xaa, 0x55, 0x55]);
+    equal(&rt, &written(&packet(&[0xaa]), &mut out), &Ok(7));
+    equal(
+        &rt,
+        &out,
+        &[0x10, 0x05, 0xc0, 0x00, 0x00, 0x00, 0xaa, 0x55, 0x55],
+    );
 }
 
 fn written(packet: &Packet<'_>, out: &mut [u8]) -> Result<usize, PacketFault> {
@@ -64,9 +69,9 @@ fn is_read_and_written(
 
 fn is_written(rt: &impl Abort, octets: &[u8], out: &mut [u8]) -> Result<(), Fail> {
     let (packet, len) = decode(octets)?;
-    assert_eq!(rt; len, 65542);
-    assert_eq!(rt; packet.payload.len(), 65536);
-    assert_eq!(rt; written(&packet, out), Ok(65542));
+    equal(rt, &len, &65542);
+    equal(rt, &packet.payload.len(), &65536);
+    equal(rt, &written(&packet, out), &Ok(65542));
     assert!(rt; *out == *octets);
     Ok(())
 }
@@ -82,29 +87,29 @@ fn refused_octets(rt: HostRuntime) {
             PacketFault::IdleWithSecondary,
         ),
     ] {
-        assert_eq!(rt; decode(octets).err(), Some(fault));
+        equal(&rt, &decode(octets).err(), &Some(fault));
     }
 }
 
 #[test]
 fn faults_by_number_and_name(rt: HostRuntime) {
     let fault = PacketFault::FieldRange;
-    assert_eq!(rt; (fault.number(), fault.name()), (5, "FieldRange"));
+    equal(&rt, &(fault.number(), fault.name()), &(5, "FieldRange"));
     let text = format!(in rt.alloc(); "{}", PacketFault::FieldRange);
-    assert_eq!(rt; text.ok().as_deref(), Some("5 FieldRange"));
+    equal(&rt, &text.ok().as_deref(), &Some("5 FieldRange"));
 }
 
 // Feeds. Where memory is refused nothing has changed, and the call made again answers as ever.
 fn feed(rt: &(impl Abort + Eprint), splitter: &mut PacketSplitter, octets: &[u8]) {
     if let Err(fault) = splitter.feed(octets) {
         says_refused(rt, fault, PacketFault::Memory);
-        assert_eq!(rt; splitter.feed(octets), Ok(()));
+        equal(rt, &splitter.feed(octets), &Ok(()));
     }
 }
 
 /// These packets came out.
 pub fn are_packets(rt: &impl Abort, packets: &[Vec<u8>], wanted: &[&[u8]]) {
-    assert_eq!(rt; packets.len(), wanted.len());
+    equal(rt, &packets.len(), &wanted.len());
     for (place, is) in wanted.iter().enumerate() {
         assert!(rt; is_packet_at(packets, place, is));
     }
@@ -123,12 +128,12 @@ pub fn hands_out(
     splitter: &mut PacketSplitter,
     packet: Option<Result<&[u8], PacketFault>>,
 ) {
-    assert_eq!(rt; splitter.next(), packet);
+    equal(rt, &splitter.next(), &packet);
 }
 
 /// Whether the stream may end here.
 pub fn ends(rt: &impl Abort, splitter: &PacketSplitter, answer: Result<(), PacketFault>) {
-    assert_eq!(rt; splitter.finish(), answer);
+    equal(rt, &splitter.finish(), &answer);
 }
 
 #[test]
@@ -173,14 +178,14 @@ fn gap_of_two(check: &mut GapCheck, apid: u16, last: u16, count: u16) -> Option<
 #[test]
 fn counts(rt: HostRuntime) {
     let mut counters = SequenceCounters::new();
-    assert_eq!(rt; counters.next(5), 0);
+    equal(&rt, &counters.next(5), &0);
     for _ in 2..16384u16 {
         counters.next(5);
     }
     for (apid, count) in [(5, 16383), (5, 0), (6, 0)] {
-        assert_eq!(rt; counters.next(apid), count);
+        equal(&rt, &counters.next(apid), &count);
     }
-    assert_eq!(rt; two_counts(&mut counters, 2047), (0, 1));
+    equal(&rt, &two_counts(&mut counters, 2047), &(0, 1));
 }
 
 #[test]
@@ -193,7 +198,7 @@ fn gaps(rt: HostRuntime) {
         (5, 3, Some(16383)),
         (2047, 3, None),
     ] {
-        assert_eq!(rt; check.see(apid, count), gap);
+        equal(&rt, &check.see(apid, count), &gap);
     }
-    assert_eq!(rt; gap_of_two(&mut check, 2047, 16383, 1), Some(1));
+    equal(&rt, &gap_of_two(&mut check, 2047, 16383, 1), &Some(1));
 }

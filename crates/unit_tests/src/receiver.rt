@@ -1,5 +1,6 @@
 // Runs of the receiver.
 
+use crate::equal::equal;
 use clcw::encode;
 use cop1::{CopFault, Farm, FarmFields, FarmMode, Verdict};
 use std::process::Abort;
@@ -12,7 +13,7 @@ fn verdicts_in_words(rt: HostRuntime) {
         (Verdict::NoBuffer, "nobuffer"),
         (Verdict::Discarded, "discarded"),
     ] {
-        assert_eq!(rt; verdict.name(), name);
+        equal(&rt, &verdict.name(), &name);
     }
 }
 
@@ -44,13 +45,13 @@ fn report(farm: &Farm) -> Option<[u8; 4]> {
 
 fn answers(rt: &impl Abort, farm: &mut Farm, call: Call) {
     match call {
-        Call::Ad(n, free, verdict) => assert_eq!(rt; farm.ad(n, free), verdict),
+        Call::Ad(n, free, verdict) => equal(rt, &farm.ad(n, free), &verdict),
         Call::Bd => farm.bd(),
         Call::Unlock => farm.unlock(),
         Call::SetVr(vr) => farm.set_vr(vr),
         Call::Released => farm.released(),
-        Call::Stands(standing) => assert_eq!(rt; seen(farm), standing),
-        Call::Report(octets) => assert_eq!(rt; report(farm), Some(octets)),
+        Call::Stands(standing) => equal(rt, &seen(farm), &standing),
+        Call::Report(octets) => equal(rt, &report(farm), &Some(octets)),
     }
 }
 
@@ -59,8 +60,8 @@ fn is_restored(rt: &impl Abort, farm: &mut Farm) {
     if let Ok(restored) = Farm::restore(kept) {
         *farm = restored;
     }
-    assert_eq!(rt; Farm::restore(kept).err(), None);
-    assert_eq!(rt; farm.fields(), kept);
+    equal(rt, &Farm::restore(kept).err(), &None);
+    equal(rt, &farm.fields(), &kept);
 }
 
 // Plays calls on a new receiver of width 10 with this V(R), which is restored after each.
@@ -124,7 +125,7 @@ fn no_receiver_has_other_fields(rt: HostRuntime) -> Result<(), Fail> {
         FarmFields { wait: true, ..kept },
         FarmFields { farm_b: 4, ..kept },
     ] {
-        assert_eq!(rt; Farm::restore(fields).err(), Some(CopFault::State));
+        equal(&rt, &Farm::restore(fields).err(), &Some(CopFault::State));
     }
     Ok(())
 }
@@ -161,12 +162,12 @@ fn a_receiver_reports(rt: HostRuntime) -> Result<(), Fail> {
 fn a_refusal_has_a_number_and_a_name(rt: HostRuntime) {
     for width in [0, 3, 255] {
         let fault = Farm::new(width, 0).err();
-        assert_eq!(rt; fault, Some(CopFault::Width));
+        equal(&rt, &fault, &Some(CopFault::Width));
     }
     for (fault, number, name) in [
         (CopFault::WrongState, 8, "WrongState"),
         (CopFault::State, 9, "State"),
     ] {
-        assert_eq!(rt; (fault.number(), fault.name()), (number, name));
+        equal(&rt, &(fault.number(), fault.name()), &(number, name));
     }
 }

@@ -2,6 +2,7 @@
 
 mod assembling;
 
+use crate::equal::equal;
 use map_service::*;
 use std::alloc::Global;
 use std::process::Abort;
@@ -74,7 +75,7 @@ fn cuts<'a>(
     parts: &[Segment<'a>],
 ) -> Vec<Segment<'a>> {
     let mut segments = Vec::new(alloc);
-    assert_eq!(rt; cut_on(rt, octets, limits, &mut segments, &[]), Ok(()));
+    equal(rt, &cut_on(rt, octets, limits, &mut segments, &[]), &Ok(()));
     assert!(rt; segments.as_slice() == parts);
     segments
 }
@@ -104,9 +105,10 @@ fn packets_joined(rt: HostRuntime) {
         segment(SegmentFlags::Alone, 4, &THREE[14..]),
     ];
     let mut segments = cuts(&rt, rt.alloc(), &THREE, &limits(20, true), &joined);
-    assert_eq!(rt;
-        cut_on(&rt, &THREE, &limits(20, false), &mut segments, &joined),
-        Err(MapFault::NotAPacket)
+    equal(
+        &rt,
+        &cut_on(&rt, &THREE, &limits(20, false), &mut segments, &joined),
+        &Err(MapFault::NotAPacket),
     );
 }
 
@@ -126,9 +128,10 @@ fn a_long_packet_between_two_short_ones(rt: HostRuntime) {
 fn a_packet_octet_by_octet(rt: HostRuntime) {
     let whole = segment(SegmentFlags::Alone, 4, &P0);
     let mut segments = cuts(&rt, rt.alloc(), &P0, &limits(7, false), &[whole]);
-    assert_eq!(rt;
-        cut_on(&rt, &P0, &limits(1, false), &mut segments, &[whole]),
-        Ok(())
+    equal(
+        &rt,
+        &cut_on(&rt, &P0, &limits(1, false), &mut segments, &[whole]),
+        &Ok(()),
     );
     assert!(rt; segments.first() == Some(&whole));
     are_octets_of_p0(&rt, segments.get(1..).unwrap_or_default());
@@ -163,14 +166,14 @@ fn refused_octets(rt: HostRuntime) {
         (&P0[..6], limits(20, true), MapFault::NotAPacket),
     ] {
         let answer = cut_on(&rt, octets, &limits, &mut segments, &before);
-        assert_eq!(rt; answer, Err(fault));
+        equal(&rt, &answer, &Err(fault));
     }
 }
 
 #[test]
 fn faults_by_number_and_name(rt: HostRuntime) {
     let fault = MapFault::TooLong;
-    assert_eq!(rt; (fault.number(), fault.name()), (2, "TooLong"));
+    equal(&rt, &(fault.number(), fault.name()), &(2, "TooLong"));
 }
 
 #[test]
@@ -188,6 +191,6 @@ fn segments_counted(rt: HostRuntime) {
         (&P0, short, Err(MapFault::TooLong)),
     ] {
         assert!(rt; 1 <= limits.part);
-        assert_eq!(rt; segment_count(octets, &limits), count);
+        equal(&rt, &segment_count(octets, &limits), &count);
     }
 }

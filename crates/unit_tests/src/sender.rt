@@ -1,5 +1,6 @@
 // Runs of the sender.
 
+use crate::equal::equal;
 use crate::refusing::says_refused;
 use bitflags::Flags;
 use clcw::{Clcw, ClcwFlags};
@@ -77,8 +78,8 @@ fn number_of(next: SenderNext) -> Option<u8> {
 
 fn answer_of_fop(rt: &impl Abort, fop: &mut Fop<u8>, call: Call) {
     match call {
-        Call::Submit(unit, answer) => assert_eq!(rt; fop.submit(unit), answer),
-        Call::Direct(directive, answer) => assert_eq!(rt; fop.directive(directive), answer),
+        Call::Submit(unit, answer) => equal(rt, &fop.submit(unit), &answer),
+        Call::Direct(directive, answer) => equal(rt, &fop.directive(directive), &answer),
         Call::Report(flags, value, alert) => alerts(rt, fop.clcw(&report(flags, value)), alert),
         Call::Tick(alert) => alerts(rt, fop.tick(), alert),
         Call::Pull(answer) => pulls(rt, fop, answer),
@@ -86,13 +87,13 @@ fn answer_of_fop(rt: &impl Abort, fop: &mut Fop<u8>, call: Call) {
 }
 
 fn alerts(rt: &impl Abort, alert: Option<Alert>, wanted: Option<Alert>) {
-    assert_eq!(rt; alert, wanted);
+    equal(rt, &alert, &wanted);
 }
 
 // Pulls the unit that is peeked at before.
 fn pulls(rt: &impl Abort, fop: &mut Fop<u8>, answer: Option<(u8, u8)>) {
-    assert_eq!(rt; peeked(fop), answer);
-    assert_eq!(rt; pulled(fop), answer);
+    equal(rt, &peeked(fop), &answer);
+    equal(rt, &pulled(fop), &answer);
 }
 
 // The answers of the rules, which know no units.
@@ -112,13 +113,13 @@ fn number_alone(answer: Option<(u8, u8)>) -> Option<u8> {
 
 fn answer_of_sender(rt: &impl Abort, sender: &mut Sender, call: Call) {
     match call {
-        Call::Submit(_, answer) => assert_eq!(rt; sender.submit(), without_unit(answer)),
-        Call::Direct(directive, answer) => assert_eq!(rt; sender.directive(directive), answer),
+        Call::Submit(_, answer) => equal(rt, &sender.submit(), &without_unit(answer)),
+        Call::Direct(directive, answer) => equal(rt, &sender.directive(directive), &answer),
         Call::Report(flags, value, alert) => {
             alerts(rt, sender.report(&report(flags, value)).alert, alert)
         }
         Call::Tick(alert) => alerts(rt, sender.tick(), alert),
-        Call::Pull(answer) => assert_eq!(rt; number_of(sender.next()), number_alone(answer)),
+        Call::Pull(answer) => equal(rt, &number_of(sender.next()), &number_alone(answer)),
     }
 }
 
@@ -127,8 +128,8 @@ fn is_restored(rt: &impl Abort, sender: &mut Sender) {
     if let Ok(restored) = Sender::restore(kept) {
         *sender = restored;
     }
-    assert_eq!(rt; Sender::restore(kept).err(), None);
-    assert_eq!(rt; sender.fields(), kept);
+    equal(rt, &Sender::restore(kept).err(), &None);
+    equal(rt, &sender.fields(), &kept);
 }
 
 // The state, V(S), NN(R), whether a unit waits, and how many were sent.
@@ -149,7 +150,7 @@ fn run(rt: &impl Abort, both: &mut Both, calls: &[Call]) {
         answer_of_fop(rt, &mut both.fop, *call);
         answer_of_sender(rt, &mut both.sender, *call);
         is_restored(rt, &mut both.sender);
-        assert_eq!(rt; seen_of_sender(&both.sender), seen(&both.fop));
+        equal(rt, &seen_of_sender(&both.sender), &seen(&both.fop));
     }
 }
 
@@ -168,9 +169,10 @@ fn a_window_is_at_most_half_the_width(rt: HostRuntime) {
         (3, 1, Some(CopFault::Width)),
         (0, 1, Some(CopFault::Width)),
     ] {
-        assert_eq!(rt;
-            Fop::<u8>::new(rt.alloc(), width, window, 3, 10).err(),
-            fault
+        equal(
+            &rt,
+            &Fop::<u8>::new(rt.alloc(), width, window, 3, 10).err(),
+            &fault,
         );
     }
 }
@@ -179,14 +181,18 @@ fn a_window_is_at_most_half_the_width(rt: HostRuntime) {
 #[test]
 fn no_sender_has_other_numbers(rt: HostRuntime) -> Result<(), Fail> {
     let kept = in_state(&rt, rt.alloc(), FopMode::S1)?.sender.fields();
-    assert_eq!(rt; (kept.room, kept.sent, kept.ticks), (127, 1, Some(10)));
+    equal(
+        &rt,
+        &(kept.room, kept.sent, kept.ticks),
+        &(127, 1, Some(10)),
+    );
     has_none_of(&rt, &others(kept));
     Ok(())
 }
 
 fn has_none_of(rt: &impl Abort, senders: &[SenderFields]) {
     for fields in senders {
-        assert_eq!(rt; Sender::restore(*fields).err(), Some(CopFault::State));
+        equal(rt, &Sender::restore(*fields).err(), &Some(CopFault::State));
     }
 }
 
@@ -216,7 +222,7 @@ fn has_no_timer(rt: &impl Abort, both: &mut Both) {
     for _ in 0..40 {
         run(rt, both, &[Call::Tick(None)]);
     }
-    assert_eq!(rt; both.fop.state(), FopMode::S1);
+    equal(rt, &both.fop.state(), &FopMode::S1);
 }
 
 #[test]
@@ -241,14 +247,15 @@ fn a_sender_counts_past_255(rt: HostRuntime) -> Result<(), Fail> {
             Call::Report(0, 0, None),
         ],
     );
-    assert_eq!(rt;
-        (
+    equal(
+        &rt,
+        &(
             both.fop.state(),
             both.fop.sent(),
             both.fop.nn(),
-            both.fop.vs()
+            both.fop.vs(),
         ),
-        (FopMode::S1, 0, 0, 0)
+        &(FopMode::S1, 0, 0, 0),
     );
     has_no_timer(&rt, &mut both);
     Ok(())
@@ -265,7 +272,7 @@ fn a_report_alerts(rt: HostRuntime) -> Result<(), Fail> {
         let mut both = new_both(rt.alloc(), 3, 10)?;
         run(&rt, &mut both, &ONE_SENT);
         run(&rt, &mut both, &[Call::Report(flags, value, Some(alert))]);
-        assert_eq!(rt; both.fop.state(), FopMode::S6);
+        equal(&rt, &both.fop.state(), &FopMode::S6);
     }
     Ok(())
 }
@@ -292,7 +299,7 @@ fn a_timer_ends(rt: HostRuntime) -> Result<(), Fail> {
             Call::Tick(Some(Alert::Timer)),
         ],
     );
-    assert_eq!(rt; both.fop.state(), FopMode::S6);
+    equal(&rt, &both.fop.state(), &FopMode::S6);
     Ok(())
 }
 
@@ -359,7 +366,7 @@ fn a_directive_has_its_states(rt: HostRuntime) -> Result<(), Fail> {
             Directive::SetTimer(1),
         ] {
             let mut both = in_state(&rt, rt.alloc(), state)?;
-            assert_eq!(rt; both.fop.state(), state);
+            equal(&rt, &both.fop.state(), &state);
             let answer = expected(directive, state == FopMode::S6);
             run(&rt, &mut both, &[Call::Direct(directive, answer)]);
         }
@@ -389,7 +396,7 @@ const SAYS: [(u8, u8, u8, Option<u8>); 15] = [
 #[test]
 fn a_report_says_what_was_accepted(rt: HostRuntime) {
     for (nn, vs, value, accepted) in SAYS {
-        assert_eq!(rt; accepted_beyond(nn, vs, value), accepted);
+        equal(&rt, &accepted_beyond(nn, vs, value), &accepted);
     }
 }
 
@@ -410,7 +417,7 @@ fn a_report_after_an_alert_says_what_was_accepted(rt: HostRuntime) -> Result<(),
 // What reports of these values say was accepted.
 fn says(rt: &impl Abort, fop: &Fop<u8>, rows: &[(u8, Option<u8>)]) {
     for (value, accepted) in rows {
-        assert_eq!(rt; accepted_beyond(fop.nn(), fop.vs(), *value), *accepted);
+        equal(rt, &accepted_beyond(fop.nn(), fop.vs(), *value), accepted);
     }
 }
 
@@ -443,8 +450,8 @@ fn new_fop(rt: &(impl Abort + Eprint), alloc: Global) -> Result<Fop<u8>, CopFaul
 fn bypasses(rt: &(impl Abort + Eprint), fop: &mut Fop<u8>, unit: u8) {
     if let Err(refused) = fop.bypass(unit) {
         says_refused(rt, refused, (CopFault::Memory, unit));
-        assert_eq!(rt; fop.bypassed(), usize::from(unit));
-        assert_eq!(rt; fop.bypass(unit), Ok(()));
+        equal(rt, &fop.bypassed(), &usize::from(unit));
+        equal(rt, &fop.bypass(unit), &Ok(()));
     }
 }
 

@@ -5,6 +5,7 @@ ghost use Rattle.std.proofs.Common.{rules};
 ghost use Rattle.std.proofs.lemmas.Grind.{common_steps};
 ghost use Rattle.unit_tests.specs.declared.splitting.BlockFault.TheVariants.{Empty, Truncated, Memory};
 
+use crate::equal::equal;
 use crate::refusing::says_refused;
 use octets::{Splitter, Wire, remove_front};
 use std::process::Abort;
@@ -65,7 +66,7 @@ fn a_front_is_removed(rt: HostRuntime) {
     let mut octets = Vec::new(rt.alloc());
     if octets.extend_from_slice(&[1, 2, 3, 4]).is_ok() {
         remove_front(&mut octets, 3);
-        assert_eq!(rt; octets.as_slice(), [4].as_slice());
+        equal(&rt, &octets.as_slice(), &[4].as_slice());
     } else {
         let _ = eprintln!(rt; "refused a growth");
     }
@@ -85,8 +86,8 @@ fn feed(rt: &(impl Abort + Eprint), splitter: &mut Splitter<Blocks>, octets: &[u
     let before = seen(splitter);
     if let Err(fault) = feed_once(splitter, octets) {
         says_refused(rt, fault, BlockFault::Memory);
-        assert_eq!(rt; seen(splitter), before);
-        assert_eq!(rt; feed_once(splitter, octets), Ok(()));
+        equal(rt, &seen(splitter), &before);
+        equal(rt, &feed_once(splitter, octets), &Ok(()));
     }
 }
 
@@ -96,12 +97,12 @@ fn hands_out(
     splitter: &mut Splitter<Blocks>,
     record: Option<Result<&[u8], &BlockFault>>,
 ) {
-    assert_eq!(rt; splitter.next(), record);
+    equal(rt, &splitter.next(), &record);
 }
 
 // Whether the stream may end here.
 fn ends(rt: &impl Abort, splitter: &Splitter<Blocks>, answer: Result<(), BlockFault>) {
-    assert_eq!(rt; splitter.finish(), answer);
+    equal(rt, &splitter.finish(), &answer);
 }
 
 // Three blocks and the beginning of a fourth.

@@ -1,5 +1,6 @@
 // Frames in octets, worked by hand.
 
+use crate::equal::equal;
 use crate::packets::are_packets;
 use crate::refusing::says_refused;
 use std::alloc::{AllocError, Global};
@@ -52,7 +53,7 @@ fn headers(rt: HostRuntime) {
 // A frame with this pointer has a header that ends so. Octets past it stay.
 fn is_spelled(rt: &impl Abort, pointer: Pointer, last: &[u8]) {
     let mut out = [0xee_u8; 20];
-    assert_eq!(rt; written(pointer, &mut out), Some(16));
+    equal(rt, &written(pointer, &mut out), &Some(16));
     assert!(rt; has_header(&out, last));
     reads(rt, &out[..16], frame(pointer));
 }
@@ -64,7 +65,7 @@ fn has_header(out: &[u8; 20], last: &[u8]) -> bool {
 }
 
 fn reads(rt: &impl Abort, octets: &[u8], frame: TmFrame<'_>) {
-    assert_eq!(rt; decode(octets, octets.len()), Ok(frame));
+    equal(rt, &decode(octets, octets.len()), &Ok(frame));
 }
 
 // Writes a frame: how many octets it has.
@@ -75,7 +76,7 @@ fn written(pointer: Pointer, out: &mut [u8]) -> Option<usize> {
 #[test]
 fn an_idle_frame(rt: HostRuntime) -> Result<(), Fail> {
     let mut out = [0; 16];
-    assert_eq!(rt; written(Pointer::OnlyIdle, &mut out), Some(16));
+    equal(&rt, &written(Pointer::OnlyIdle, &mut out), &Some(16));
     assert!(rt; out.starts_with(&IDLE));
     reports(&rt, frame(Pointer::OnlyIdle))?;
     let mut builder = TmBuilder::new(rt.alloc(), 1, 0, 16)?;
@@ -85,22 +86,22 @@ fn an_idle_frame(rt: HostRuntime) -> Result<(), Fail> {
 
 fn reports(rt: &impl Abort, frame: TmFrame<'_>) -> Result<(), Fail> {
     let report = frame.report()?;
-    assert_eq!(rt; (report.vcid, report.value), (2, 0));
+    equal(rt, &(report.vcid, report.value), &(2, 0));
     Ok(())
 }
 
 fn builds_idle(rt: &impl Abort, builder: &mut TmBuilder) {
     let mut out = [0xee; 2048];
-    assert_eq!(rt; builder.build([0x01, 0x08, 0x00, 0x00], &mut out), 16);
+    equal(rt, &builder.build([0x01, 0x08, 0x00, 0x00], &mut out), &16);
     assert!(rt; out.starts_with(&IDLE));
 }
 
 #[test]
 fn faults(rt: HostRuntime) {
     let mut octets = [0; 16];
-    assert_eq!(rt; written(Pointer::At(0), &mut octets), Some(16));
+    equal(&rt, &written(Pointer::At(0), &mut octets), &Some(16));
     for (octets, length) in [(&octets[..], 17), (&octets[..15], 15)] {
-        assert_eq!(rt; fault_of(octets, length), Some(TmFault::Length));
+        equal(&rt, &fault_of(octets, length), &Some(TmFault::Length));
     }
     for (place, octet, fault) in [
         (0, 0x40, TmFault::Version),
@@ -112,13 +113,13 @@ fn faults(rt: HostRuntime) {
         let mut damaged = octets;
         damaged[place] = octet;
         if place != 0 {
-            assert_eq!(rt; fault_of(&damaged, 16), Some(TmFault::Check));
+            equal(&rt, &fault_of(&damaged, 16), &Some(TmFault::Check));
         }
         octets::append_check(&mut damaged);
-        assert_eq!(rt; fault_of(&damaged, 16), Some(fault));
+        equal(&rt, &fault_of(&damaged, 16), &Some(fault));
     }
     let (range, no_ocf) = (TmFault::FieldRange, TmFault::NoOcf);
-    assert_eq!(rt; (range.number(), no_ocf.name()), (10, "NoOcf"));
+    equal(&rt, &(range.number(), no_ocf.name()), &(10, "NoOcf"));
 }
 
 fn fault_of(octets: &[u8], length: usize) -> Option<TmFault> {
@@ -128,13 +129,15 @@ fn fault_of(octets: &[u8], length: usize) -> Option<TmFault> {
 #[test]
 fn refusals(rt: HostRuntime) {
     let mut out = [0; 15];
-    assert_eq!(rt;
-        encode(&frame(Pointer::At(4)), &mut out),
-        Err(TmFault::FieldRange)
+    equal(
+        &rt,
+        &encode(&frame(Pointer::At(4)), &mut out),
+        &Err(TmFault::FieldRange),
     );
-    assert_eq!(rt;
-        encode(&frame(Pointer::At(3)), &mut out),
-        Err(TmFault::Room)
+    equal(
+        &rt,
+        &encode(&frame(Pointer::At(3)), &mut out),
+        &Err(TmFault::Room),
     );
 }
 
@@ -175,7 +178,7 @@ fn builds(
 fn builds_one(rt: &impl Abort, builder: &mut TmBuilder, frame: TmFrame<'_>) {
     let mut out = [0xee; 2048];
     assert_eq!(rt; builder.build(frame.ocf, &mut out), 20);
-    assert_eq!(rt; out[20], 0xee);
+    equal(rt, &out[20], &0xee);
     reads(rt, &out[..20], frame);
 }
 
@@ -183,7 +186,7 @@ fn builds_one(rt: &impl Abort, builder: &mut TmBuilder, frame: TmFrame<'_>) {
 fn queue(rt: &(impl Abort + Eprint), builder: &mut TmBuilder, packet: &[u8]) {
     if let Err(fault) = builder.queue(packet) {
         says_refused(rt, fault, TmFault::Memory);
-        assert_eq!(rt; builder.queue(packet), Ok(()));
+        equal(rt, &builder.queue(packet), &Ok(()));
     }
 }
 
@@ -221,7 +224,7 @@ fn idle_packets_in_frames(rt: HostRuntime) -> Result<(), Fail> {
 fn what_is_not_queued(rt: HostRuntime) -> Result<(), Fail> {
     for (vcid, length) in [(8, 20), (0, 15)] {
         let fault = TmBuilder::new(rt.alloc(), 1, vcid, length).err();
-        assert_eq!(rt; fault, Some(TmFault::FieldRange));
+        equal(&rt, &fault, &Some(TmFault::FieldRange));
     }
     let mut builder = TmBuilder::new(rt.alloc(), 1, 0, 2048)?;
     queues_nothing(&rt, &mut builder);
@@ -230,13 +233,13 @@ fn what_is_not_queued(rt: HostRuntime) -> Result<(), Fail> {
 
 fn queues_nothing(rt: &impl Abort, builder: &mut TmBuilder) {
     let idle = [0x07, 0xff, 0xc0, 0x00, 0x00, 0x00, 0x55];
-    assert_eq!(rt; builder.queue(&idle), Err(TmFault::NotAPacket));
+    equal(rt, &builder.queue(&idle), &Err(TmFault::NotAPacket));
     let two = [0x00, 0x05, 0xc0, 0x00, 0x00, 0x00, 0xaa, 0x00];
-    assert_eq!(rt; builder.queue(&two), Err(TmFault::NotAPacket));
+    equal(rt, &builder.queue(&two), &Err(TmFault::NotAPacket));
     let mut out = [0; 2048];
-    assert_eq!(rt; builder.build([0; 4], &mut out), 2048);
+    equal(rt, &builder.build([0; 4], &mut out), &2048);
     let pointer = decode(&out, 2048).ok().map(|frame| frame.pointer);
-    assert_eq!(rt; pointer, Some(Pointer::OnlyIdle));
+    equal(rt, &pointer, &Some(Pointer::OnlyIdle));
 }
 
 // Takes a frame. Where memory is refused nothing has changed, and the call made again answers as ever.
@@ -252,7 +255,7 @@ fn take(
         Ok(gap) => Ok(gap),
         Err(fault) => {
             says_refused(rt, fault, TmFault::Memory);
-            assert_eq!(rt; packets.len(), count);
+            equal(rt, &packets.len(), &count);
             extractor.frame(&frame, packets)
         }
     }
@@ -313,8 +316,8 @@ fn finishes(
     gap: Gap,
     packets: usize,
 ) {
-    assert_eq!(rt; take(rt, extractor, &out[..20], found), Ok(gap));
-    assert_eq!(rt; found.len(), packets);
+    equal(rt, &take(rt, extractor, &out[..20], found), &Ok(gap));
+    equal(rt, &found.len(), &packets);
 }
 
 // A new extractor. Where memory is refused the call made again answers as ever.
@@ -383,7 +386,7 @@ fn a_frame_of_only_idle_data_between_halves(rt: HostRuntime) -> Result<(), Fail>
             ..frame(pointer)
         };
         takes(&rt, &mut extractor, &frame, &mut found);
-        assert_eq!(rt; found.len(), packets);
+        equal(&rt, &found.len(), &packets);
     }
     Ok(())
 }
@@ -395,7 +398,7 @@ fn takes(
     packets: &mut Vec<Vec<u8>>,
 ) {
     let mut out = [0; 20];
-    assert_eq!(rt; encode(frame, &mut out), Ok(20));
+    equal(rt, &encode(frame, &mut out), &Ok(20));
     assert!(rt; take(rt, extractor, &out, packets).is_ok());
 }
 
@@ -433,7 +436,7 @@ fn comes_out(
     let mut found = Vec::new(alloc);
     for _ in 0..32 {
         goes_on(rt, builder, &mut extractor, &mut found);
-        assert_eq!(rt; found.len(), 0);
+        equal(rt, &found.len(), &0);
     }
     goes_on(rt, builder, &mut extractor, &mut found);
     are_packets(rt, found.as_slice(), &[packet]);
@@ -448,7 +451,7 @@ fn goes_on(
     found: &mut Vec<Vec<u8>>,
 ) {
     let mut out = [0; 2048];
-    assert_eq!(rt; builder.build([0; 4], &mut out), 2048);
+    equal(rt, &builder.build([0; 4], &mut out), &2048);
     assert!(rt; take(rt, extractor, &out, found).is_ok());
 }
 
@@ -482,9 +485,9 @@ fn finishes_none(
     found: &mut Vec<Vec<u8>>,
 ) {
     if let Ok(frame) = decode(octets, 20) {
-        assert_eq!(rt; frame.pointer, Pointer::At(0));
-        assert_eq!(rt; extractor.frame(&frame, found), Ok(Gap::First));
-        assert_eq!(rt; found.len(), 0);
+        equal(rt, &frame.pointer, &Pointer::At(0));
+        equal(rt, &extractor.frame(&frame, found), &Ok(Gap::First));
+        equal(rt, &found.len(), &0);
     } else {
         assert!(rt; false);
     }

@@ -1,6 +1,7 @@
 // Many packets over a link that loses frames.
 
 use super::twins::records_of;
+use crate::equal::equal;
 use cop1::{Directive, FopMode};
 use std::alloc::Global;
 use std::process::Abort;
@@ -92,9 +93,10 @@ impl Carrier<'_> {
     // A packet that is taken is the next.
     fn looks_at(&mut self, rt: &impl Abort, reply: &Reply) {
         if let Reply::Packet(map, octets) = reply {
-            assert_eq!(rt;
-                (*map, octets.as_slice()),
-                (4, packet(self.taken).as_slice())
+            equal(
+                rt,
+                &(*map, octets.as_slice()),
+                &(4, packet(self.taken).as_slice()),
             );
             self.taken = self.taken.wrapping_add(1);
         }
@@ -181,7 +183,7 @@ impl Carrier<'_> {
 
     fn has_carried_all(&self, rt: &impl Abort) {
         let sim = &self.sim;
-        assert_eq!(rt; self.taken, COUNT);
+        equal(rt, &self.taken, &COUNT);
         for packets in [sim.submitted(4), sim.delivered(4)] {
             assert!(rt; are_same(packets, self.packets));
         }
@@ -189,8 +191,8 @@ impl Carrier<'_> {
             assert!(rt; are_same(fields, self.fields));
         }
         let records = [COUNT, COUNT, COUNT, COUNT, COUNT, 0];
-        assert_eq!(rt; records_of(sim), (FopMode::S1, records));
-        assert_eq!(rt; sim.clean(), Some(true));
+        equal(rt, &records_of(sim), &(FopMode::S1, records));
+        equal(rt, &sim.clean(), &Some(true));
     }
 }
 

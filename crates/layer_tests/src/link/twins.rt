@@ -1,6 +1,7 @@
 // Two links to which the same happens. Where one is refused memory nothing of it has changed, which the other
 // shows, and the call made again answers as ever.
 
+use crate::equal::equal;
 use crate::refusing::says_refused;
 use cop1::FopMode;
 use std::alloc::Global;
@@ -53,11 +54,16 @@ fn run_link(
 
 // All that the reading calls of two links show is the same.
 fn are_alike(rt: &impl Abort, one: &Sim, other: &Sim) {
-    assert_eq!(rt; records_of(one), records_of(other));
-    assert_eq!(rt; (one.clean(), one.idle()), (other.clean(), other.idle()));
-    assert_eq!(rt;
-        (one.begun(), one.confirmed()),
-        (other.begun(), other.confirmed())
+    equal(rt, &records_of(one), &records_of(other));
+    equal(
+        rt,
+        &(one.clean(), one.idle()),
+        &(other.clean(), other.idle()),
+    );
+    equal(
+        rt,
+        &(one.begun(), one.confirmed()),
+        &(other.begun(), other.confirmed()),
     );
     have_same_lists(rt, one, other);
 }
@@ -120,7 +126,7 @@ pub fn bear(
 }
 
 fn has_records(rt: &impl Abort, sim: &Sim, records: Records) {
-    assert_eq!(rt; records_of(sim), records);
+    equal(rt, &records_of(sim), &records);
 }
 
 fn bear_beside(
@@ -154,7 +160,7 @@ fn bear_each(
     ran: &Sim,
     events: &[Event<'_>],
 ) {
-    assert_eq!(rt; ran.answers().len(), events.len());
+    equal(rt, &ran.answers().len(), &events.len());
     for (event, recorded) in events.iter().zip(ran.answers()) {
         bear_one(rt, one, other, *event, recorded);
     }

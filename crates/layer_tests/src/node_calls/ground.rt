@@ -1,6 +1,7 @@
 // The node on the ground.
 
 use super::playing::{Node, plays};
+use crate::equal::equal;
 use crate::frames::*;
 use crate::refusing::says_refused;
 use cop1::{Alert, CopFault, Directive, FopMode};
@@ -42,7 +43,7 @@ impl<'a> Node<(Ask<'a>, Standing)> for Ground {
     fn answers(&mut self, rt: &(impl Abort + Eprint), call: &(Ask<'a>, Standing)) {
         let (ask, standing) = call;
         answers(rt, self, ask);
-        assert_eq!(rt; seen(self), *standing);
+        equal(rt, &seen(self), standing);
     }
 }
 
@@ -53,11 +54,11 @@ fn answers(rt: &(impl Abort + Eprint), ground: &mut Ground, ask: &Ask<'_>) {
         Ask::Directive(directive, want) => obeys(rt, ground, *directive, *want),
         Ask::Pull(want) => pulls(rt, ground, *want),
         Ask::Advance => ground.advance(),
-        Ask::Tick(want) => assert_eq!(rt; ground.tick(), *want),
+        Ask::Tick(want) => equal(rt, &ground.tick(), want),
         Ask::Telemetry(octets, want) => hears(rt, ground, octets, *want),
         Ask::TakeTelemetry(want) => takes(rt, ground, *want),
         Ask::AcceptedBeyond(value, want) => {
-            assert_eq!(rt; ground.accepted_beyond(*value), *want);
+            equal(rt, &ground.accepted_beyond(*value), want);
         }
     }
 }
@@ -68,7 +69,7 @@ fn submits(
     octets: &[u8],
     want: Result<(), LinkFault>,
 ) {
-    assert_eq!(rt; submit(rt, ground, octets), want);
+    equal(rt, &submit(rt, ground, octets), &want);
 }
 
 fn bypasses(
@@ -77,7 +78,7 @@ fn bypasses(
     octets: &[u8],
     want: Result<(), LinkFault>,
 ) {
-    assert_eq!(rt; put(rt, ground, true, octets), want);
+    equal(rt, &put(rt, ground, true, octets), &want);
 }
 
 fn obeys(
@@ -86,11 +87,11 @@ fn obeys(
     directive: Directive,
     want: Result<Option<Alert>, CopFault>,
 ) {
-    assert_eq!(rt; ground.directive(directive), want);
+    equal(rt, &ground.directive(directive), &want);
 }
 
 fn hears(rt: &(impl Abort + Eprint), ground: &mut Ground, octets: &[u8], want: Heard) {
-    assert_eq!(rt; telemetry(rt, ground, octets), Ok(want));
+    equal(rt, &telemetry(rt, ground, octets), &Ok(want));
 }
 
 fn takes(rt: &impl Abort, ground: &mut Ground, want: Option<&[u8]>) {
@@ -133,7 +134,7 @@ fn fault_of(rt: &(impl Abort + Eprint), ground: &Ground, octets: &[u8]) -> Optio
 fn submit(rt: &(impl Abort + Eprint), ground: &mut Ground, octets: &[u8]) -> Result<(), LinkFault> {
     let fault = fault_of(rt, ground, octets);
     let answer = put(rt, ground, false, octets);
-    assert_eq!(rt; answer.err(), fault);
+    equal(rt, &answer.err(), &fault);
     answer
 }
 
@@ -193,7 +194,7 @@ fn pulls(rt: &impl Abort, ground: &mut Ground, want: Option<&[u8]>) {
     let total = peek(ground, &mut peeked);
     let mut out = [0; 1024];
     let size = ground.pull(&mut out);
-    assert_eq!(rt; size, total);
+    equal(rt, &size, &total);
     assert!(rt; out == peeked);
     assert!(rt; size.and_then(|size| out.get(..size)) == want);
 }

@@ -1,6 +1,7 @@
 // Calls of a node under test. No function here says what it does: so the proof of a test has nothing of the
 // node's state in it, and the run compares the answers.
 
+use crate::equal::equal;
 use crate::refusing::{ends_growths, says_refused};
 use nodes::ValidConfig;
 use std::alloc::Global;
@@ -34,7 +35,11 @@ pub fn plays<N: Node<C> + Drop, C>(
         }
         Ok(node) => node,
     };
-    assert_eq!(rt; node.length_of_frames(), config.frame_length as usize);
+    equal(
+        rt,
+        &node.length_of_frames(),
+        &(config.frame_length as usize),
+    );
     for call in rows {
         node.answers(rt, call);
     }

@@ -1,6 +1,7 @@
 // The node on board.
 
 use super::playing::{Node, plays};
+use crate::equal::equal;
 use crate::frames::*;
 use crate::refusing::says_refused;
 use clcw::decode;
@@ -53,7 +54,7 @@ fn receives(
     octets: &[u8],
     want: Received,
 ) {
-    assert_eq!(rt; receive(rt, spacecraft, octets), Ok(want));
+    equal(rt, &receive(rt, spacecraft, octets), &Ok(want));
 }
 
 fn takes(rt: &impl Abort, taken: &Option<(u8, Vec<u8>)>, want: Option<&[u8]>) {
@@ -66,7 +67,7 @@ fn queues(
     packet: &[u8],
     want: Result<(), TmFault>,
 ) {
-    assert_eq!(rt; telemetry(rt, spacecraft, packet), want);
+    equal(rt, &telemetry(rt, spacecraft, packet), &want);
 }
 
 // Whether a packet that was taken is this one, on MAP 4.
@@ -95,7 +96,7 @@ fn receive(
         answer => answer,
     };
     if let Ok(Received::Sequence { ready, .. }) = answer {
-        assert_eq!(rt; ready, ahead);
+        equal(rt, &ready, &ahead);
     }
     answer
 }
@@ -169,7 +170,7 @@ fn reports(
 fn is_read(rt: &impl Abort, octets: &[u8], fields: ([u8; 4], u8, Pointer), data: &[u8]) {
     match tm_link::decode(octets, octets.len()) {
         Ok(frame) => {
-            assert_eq!(rt; (frame.ocf, frame.vc_count, frame.pointer), fields);
+            equal(rt, &(frame.ocf, frame.vc_count, frame.pointer), &fields);
             assert!(rt; frame.payload.starts_with(data));
         }
         Err(_) => assert!(rt; false),

@@ -1,5 +1,6 @@
 // Telemetry that comes down: two packets of two frames each, of which none, 255 and 256 in a row are lost.
 
+use crate::equal::equal;
 use std::alloc::Global;
 use std::process::Abort;
 use std::test::Fail;
@@ -69,7 +70,7 @@ fn hears(
         report: HeardReport::Used,
         alert: None,
     };
-    assert_eq!(rt; heard, Ok(want));
+    equal(rt, &heard, &Ok(want));
 }
 
 fn takes(rt: &impl Abort, ground: &mut Ground, packet: Option<&[u8]>) {

@@ -1,6 +1,7 @@
 // Segments joined: the rows of the table.
 
 use super::*;
+use crate::equal::equal;
 use crate::packets::are_packets;
 use crate::refusing::says_refused;
 
@@ -16,10 +17,10 @@ fn takes(
 ) {
     match take(rt, assembler, segment) {
         Ok(taken) => {
-            assert_eq!(rt; taken.dropped, dropped);
+            equal(rt, &taken.dropped, &dropped);
             are_packets(rt, taken.packets.as_slice(), packets);
         }
-        Err(fault) => assert_eq!(rt; fault.name(), "none"),
+        Err(fault) => equal(rt, &fault.name(), &"none"),
     }
 }
 
@@ -261,5 +262,5 @@ fn alone_too_long(rt: HostRuntime) {
 
 #[test]
 fn causes_by_name(rt: HostRuntime) {
-    assert_eq!(rt; Dropped::NoBeginning.name(), "NoBeginning");
+    equal(&rt, &Dropped::NoBeginning.name(), &"NoBeginning");
 }
