@@ -181,7 +181,7 @@ class Crate:
 
 
 def is_fault(item):
-    return any(re.search(r"\bError\b", it) for it in item.marks if it.startswith("#[derive"))
+    return item.name.endswith("Fault") or any(re.search(r"\bError\b", it) for it in item.marks if it.startswith("#[derive"))
 
 
 def libraries():

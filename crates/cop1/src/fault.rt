@@ -2,11 +2,11 @@
 
 ghost use Rattle.std.specs.Prelude.{◌≡◌};
 
-use thiserror::Error;
+use std::error::Error;
+use std::fmt::{self, Display, Formatter, Write};
 
 /// Why a call of `Farm`, `Sender` or `Fop` was refused.
-#[derive(Clone, Copy, Debug, Error, PartialEq, Eq)]
-#[error("{} {}", self.number(), self.name())]
+#[derive(Clone, Copy, Debug, PartialEq, Eq)]
 pub enum CopFault {
     /// The receiver's window width is not an even number from 2 to 254.
     Width = 1,
@@ -55,3 +55,11 @@ impl CopFault {
         }
     }
 }
+
+impl Display for CopFault {
+    fn fmt<W: Write>(&self, f: &mut Formatter<W>) -> fmt::Result {
+        write!(f, "{} {}", self.number(), self.name())
+    }
+}
+
+impl Error for CopFault {}

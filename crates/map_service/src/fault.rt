@@ -2,11 +2,11 @@
 
 ghost use Rattle.std.specs.Prelude.{◌≡◌};
 
-use thiserror::Error;
+use std::error::Error;
+use std::fmt::{self, Display, Formatter, Write};
 
 /// Why octets were not cut (1 to 3), or a segment was not taken (3).
-#[derive(Clone, Copy, Debug, Error, PartialEq, Eq)]
-#[error("{} {}", self.number(), self.name())]
+#[derive(Clone, Copy, Debug, PartialEq, Eq)]
 pub enum MapFault {
     /// The octets are not exactly one packet, or with blocking not one or more whole packets.
     NotAPacket = 1,
@@ -37,3 +37,11 @@ impl MapFault {
         }
     }
 }
+
+impl Display for MapFault {
+    fn fmt<W: Write>(&self, f: &mut Formatter<W>) -> fmt::Result {
+        write!(f, "{} {}", self.number(), self.name())
+    }
+}
+
+impl Error for MapFault {}

@@ -2,11 +2,11 @@
 
 ghost use Rattle.std.specs.Prelude.{◌≡◌};
 
-use thiserror::Error;
+use std::error::Error;
+use std::fmt::{self, Display, Formatter, Write};
 
 /// Why a node of the link refused a call.
-#[derive(Clone, Copy, Debug, Error, PartialEq, Eq)]
-#[error("{} {}", self.number(), self.name())]
+#[derive(Clone, Copy, Debug, PartialEq, Eq)]
 pub enum LinkFault {
     /// The sender is in its state Initial (S6).
     NotOpen = 1,
@@ -46,3 +46,11 @@ impl LinkFault {
         }
     }
 }
+
+impl Display for LinkFault {
+    fn fmt<W: Write>(&self, f: &mut Formatter<W>) -> fmt::Result {
+        write!(f, "{} {}", self.number(), self.name())
+    }
+}
+
+impl Error for LinkFault {}

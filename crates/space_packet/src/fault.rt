@@ -2,11 +2,11 @@
 
 ghost use Rattle.std.specs.Prelude.{◌≡◌};
 
-use thiserror::Error;
+use std::error::Error;
+use std::fmt::{self, Display, Formatter, Write};
 
 /// Why octets were refused as a packet (1 to 3), or a packet or octets were not taken (4 to 6).
-#[derive(Clone, Copy, Debug, Error, PartialEq, Eq)]
-#[error("{} {}", self.number(), self.name())]
+#[derive(Clone, Copy, Debug, PartialEq, Eq)]
 pub enum PacketFault {
     /// Fewer than the 6 octets of the header, or fewer octets than it declares.
     Truncated = 1,
@@ -47,3 +47,11 @@ impl PacketFault {
         }
     }
 }
+
+impl Display for PacketFault {
+    fn fmt<W: Write>(&self, f: &mut Formatter<W>) -> fmt::Result {
+        write!(f, "{} {}", self.number(), self.name())
+    }
+}
+
+impl Error for PacketFault {}

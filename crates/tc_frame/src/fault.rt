@@ -2,11 +2,11 @@
 
 ghost use Rattle.std.specs.Prelude.{◌≡◌};
 
-use thiserror::Error;
+use std::error::Error;
+use std::fmt::{self, Display, Formatter, Write};
 
 /// Why octets were refused as a frame (1 to 9), or a frame or octets were not taken (10 to 12).
-#[derive(Clone, Copy, Debug, Error, PartialEq, Eq)]
-#[error("{} {}", self.number(), self.name())]
+#[derive(Clone, Copy, Debug, PartialEq, Eq)]
 pub enum TcFault {
     /// Fewer than the 5 octets of the header.
     Short = 1,
@@ -64,3 +64,11 @@ impl TcFault {
         }
     }
 }
+
+impl Display for TcFault {
+    fn fmt<W: Write>(&self, f: &mut Formatter<W>) -> fmt::Result {
+        write!(f, "{} {}", self.number(), self.name())
+    }
+}
+
+impl Error for TcFault {}

@@ -2,11 +2,11 @@
 
 ghost use Rattle.std.specs.Prelude.{◌≡◌};
 
-use thiserror::Error;
+use std::error::Error;
+use std::fmt::{self, Display, Formatter, Write};
 
 /// Why octets were refused as a frame (1 to 6), or a packet or a frame was not taken (7 to 10).
-#[derive(Clone, Copy, Debug, Error, PartialEq, Eq)]
-#[error("{} {}", self.number(), self.name())]
+#[derive(Clone, Copy, Debug, PartialEq, Eq)]
 pub enum TmFault {
     /// Not as many octets as a frame of the channel has, or a frame's length outside 16 to 2,048.
     Length = 1,
@@ -60,3 +60,11 @@ impl TmFault {
         }
     }
 }
+
+impl Display for TmFault {
+    fn fmt<W: Write>(&self, f: &mut Formatter<W>) -> fmt::Result {
+        write!(f, "{} {}", self.number(), self.name())
+    }
+}
+
+impl Error for TmFault {}
