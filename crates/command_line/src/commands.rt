@@ -105,6 +105,15 @@ fn other_words(alloc: Global, words: &[&str]) -> Error {
 }
 
 fn no_command<'a>(alloc: Global, words: &'a [&'a str]) -> Result<Error, AllocError> {
+    let mut command = every_command(alloc)?;
+    match command.try_get_matches_from_mut(words) {
+        Err(error) => Ok(error),
+        Ok(_) => command.error(ErrorKind::MissingSubcommand, "a command is wanted"),
+    }
+}
+
+// The tool with each of its commands, none of which is read further.
+fn every_command<'a>(alloc: Global) -> Result<Command<'a>, AllocError> {
     let mut command = Command::new(alloc, "tctool")
         .about("Tools for the telecommand link")
         .version("0.2.0")
@@ -113,8 +122,5 @@ fn no_command<'a>(alloc: Global, words: &'a [&'a str]) -> Result<Error, AllocErr
     for described in COMMANDS {
         command = command.subcommand(Command::new(alloc, described.name).about(described.about))?;
     }
-    match command.try_get_matches_from_mut(words) {
-        Err(error) => Ok(error),
-        Ok(_) => command.error(ErrorKind::MissingSubcommand, "a command is wanted"),
-    }
+    Ok(command)
 }
