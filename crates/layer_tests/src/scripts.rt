@@ -4,9 +4,9 @@
 use crate::equal::equal;
 use nodes::Parameter;
 use script::{Carrier, Line, Program, ScriptFault, Step, open, play_some, read_line};
+use simulated_link::World;
 use std::alloc::Global;
 use std::process::Abort;
-use tc_link::Sim;
 
 // Whether the session had an idle start, and all that the script answers, in a text that grows from this
 // room.
@@ -18,30 +18,30 @@ fn played(
     if script.len() > 4096 {
         return Err(ScriptFault::Memory);
     }
-    let (mut sim, program) = open(alloc, script)?;
-    play(alloc, room, &mut sim, &program)
+    let (mut world, program) = open(alloc, script)?;
+    play(alloc, room, &mut world, &program)
 }
 
 fn play(
     alloc: Global,
     room: usize,
-    sim: &mut Sim,
+    world: &mut World,
     program: &Program<'_>,
 ) -> Result<(Option<bool>, String), ScriptFault> {
     let Ok(mut text) = String::with_capacity(alloc, room) else {
         return Err(ScriptFault::Memory);
     };
-    match play_all(alloc, sim, &mut text, program) {
-        true => Ok((sim.idle(), text)),
+    match play_all(alloc, world, &mut text, program) {
+        true => Ok((world.opening().map(|opening| opening.idle), text)),
         false => Err(ScriptFault::Memory),
     }
 }
 
 // Whether there was memory for all lines.
-fn play_all(alloc: Global, sim: &mut Sim, text: &mut String, program: &Program<'_>) -> bool {
+fn play_all(alloc: Global, world: &mut World, text: &mut String, program: &Program<'_>) -> bool {
     let mut rest = program.all();
     for _ in 0..4096 {
-        match play_some(alloc, sim, text, rest) {
+        match play_some(alloc, world, text, rest) {
             Ok(Some(left)) => rest = left,
             Ok(None) => return true,
             Err(_) => return false,

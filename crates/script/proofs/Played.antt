@@ -1,6 +1,6 @@
 -- What is played of a script answers as the script does.
 use Rattle.std.proofs.Common.{◌≡◌, ◌++◌, ℕ, List, [], ◌∷◌, refl, ap}
-use Rattle.tc_link.specs.World.{World, world_step}
+use Rattle.simulated_link.specs.World.{World, world_step}
 use Rattle.script_lines.specs.Lines.{ScriptLine, Skipped, Setting, Happening, Showing, Unreadable}
 use Rattle.script_lines.specs.Programs.{played}
 use Rattle.script.specs.Playing.{ToEvent, ToShow, response_line, answers_from}

@@ -1,7 +1,7 @@
 -- How a script ends, and all that is answered to it.
 use Rattle.std.specs.Prelude.{◌≡◌, ℕ, List, [], Option, Some, None}
 use Rattle.nodes.specs.Parameters.{config_fault}
-use Rattle.tc_link.specs.World.{World, new_world}
+use Rattle.simulated_link.specs.World.{World, new_world}
 use Rattle.script.specs.declared.opening.ScriptFault.{ScriptFault}
 use Rattle.script.specs.declared.opening.ScriptFault.TheVariants as faults
 use Rattle.script_lines.specs.Lines.{ScriptLine}

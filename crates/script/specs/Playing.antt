@@ -1,14 +1,14 @@
 -- A script played: the responses to its lines, and the text that is written of them.
-use Rattle.std.specs.Prelude.{ℕ, zero, suc, ◌+◌, Bool, true, false, option_map, List, [], ◌∷◌, ◌++◌}
-use Rattle.std.specs.Prelude.{length, codes, decimal, Option, Some, None, Result}
+use Rattle.std.specs.Prelude.{ℕ, zero, suc, ◌+◌, if◌then◌else◌, List, [], ◌∷◌, ◌++◌, length, codes}
+use Rattle.std.specs.Prelude.{decimal, Option, Some, None, Result}
 use Rattle.std.specs.List.{flat_map}
 use Rattle.cop1.specs.declared.vocabulary.FopMode.{FopMode}
 use Rattle.cop1.specs.declared.vocabulary.FopMode.TheVariants.{S1, S2, S3, S4, S5, S6}
-use Rattle.tc_link.specs.declared.sim.fault.SimFault.{SimFault}
-use Rattle.tc_link.specs.declared.sim.opening.Opening.{Opening}
+use Rattle.simulated_link.specs.declared.fault.SimFault.{SimFault}
+use Rattle.simulated_link.specs.declared.opening.Opening.{Opening}
 use Rattle.nodes.specs.Ground.{outstanding}
-use Rattle.tc_link.specs.Replies.{ReplyView}
-use Rattle.tc_link.specs.World.{World, world_step, accepted, submitted, delivered}
+use Rattle.simulated_link.specs.Replies.{ReplyView}
+use Rattle.simulated_link.specs.World.{World, world_step, accepted, submitted, delivered}
 use Rattle.script_lines.specs.Lines.{ScriptLine, Skipped, Setting, Happening, Showing, Unreadable}
 use Rattle.script.specs.Answers.{answer_text}
 
@@ -49,10 +49,10 @@ fop_state_word S4 = codes "S4"
 fop_state_word S5 = codes "S5"
 fop_state_word S6 = codes "S6"
 
-abbrev pub clean_word : Option Bool → List ℕ
+-- how the session began
+abbrev pub clean_word : Option Opening → List ℕ
 clean_word None = codes "none"
-clean_word (Some true) = codes "yes"
-clean_word (Some false) = codes "no"
+clean_word (Some opening) = if opening.clean then codes "yes" else codes "no"
 
 -- how many there are on the MAPs below this one
 abbrev pub count_below_map : (ℕ → List (List ℕ)) → ℕ → ℕ
@@ -66,7 +66,7 @@ count_over_maps packets_on = count_below_map packets_on 64
 -- of the packets
 abbrev pub packets_text : World → List ℕ
 packets_text w =
-    codes "clean=" ++ (clean_word (option_map (λ (o : Opening). o.clean) w.session.opening)
+    codes "clean=" ++ (clean_word w.session.opening
     ++ (codes " state=" ++ (fop_state_word w.ground_node.fop.state
     ++ (codes " submitted=" ++ (decimal (count_over_maps (submitted w))
     ++ (codes " delivered=" ++ decimal (count_over_maps (delivered w))))))))

@@ -1,15 +1,15 @@
 // Makes the link that a script is played on.
 
 ghost use Rattle.std.specs.Prelude.{◌≡◌, ◌<◌, ◌^◌, ◌-◌, length, IfOk, IfErr};
-ghost use Rattle.tc_link.specs.World.{World, new_world};
+ghost use Rattle.simulated_link.specs.World.{World, new_world};
 ghost use Rattle.script_lines.specs.Scripts.{script_in, config_in};
 ghost use Rattle.script_lines.specs.Programs.{program_lines};
 ghost use Rattle.script.specs.Playing.{answers_from};
 ghost use Rattle.script.specs.Ending.{Good, script_ending, Explains};
 
 use script_lines::{Program, Reading, read_script};
+use simulated_link::World;
 use std::alloc::Global;
-use tc_link::{Sim, SimFault};
 use thiserror::Error;
 
 /// Why a script is not played.
@@ -31,10 +31,10 @@ pub enum ScriptFault {
 /// first such field. What is played takes four octets for each line that is played, and 16 for each
 /// that carries octets.
 /// Faults: Unreadable, then OutOfRange, then Memory. Memory: yes. Cost: n.
-pub fn open<'a>(alloc: Global, script: &'a [u8]) -> Result<(Sim, Program<'a>), ScriptFault>
+pub fn open<'a>(alloc: Global, script: &'a [u8]) -> Result<(World, Program<'a>), ScriptFault>
     requires { length script.now < 2 ^ 64 - 1 }
     ensures good { IfOk result (λ _. script_ending script.now ≡ Good) }
-    ensures world { IfOk result (λ opened. opened.0.world ≡ new_world (config_in script.now)) }
+    ensures world { IfOk result (λ opened. opened.0 ≡ new_world (config_in script.now)) }
     ensures answers { IfOk result (λ opened. (w : World)
         → answers_from w (program_lines opened.1) ≡ answers_from w (script_in script.now)) }
     ensures fault { IfErr result (λ fault. Explains fault (script_ending script.now)) }
@@ -49,15 +49,16 @@ pub fn open<'a>(alloc: Global, script: &'a [u8]) -> Result<(Sim, Program<'a>), S
         kept,
         ..
     } = reading;
-    match Sim::new(alloc, config) {
-        Ok(sim) => {
-            if kept {
-                Ok((sim, program))
-            } else {
-                Err(ScriptFault::Memory)
-            }
-        }
-        Err(SimFault::Config(field)) => Err(ScriptFault::OutOfRange(field)),
-        Err(_) => Err(ScriptFault::Memory),
+    let config = match config.valid() {
+        Ok(config) => config,
+        Err(field) => return Err(ScriptFault::OutOfRange(field)),
+    };
+    let Ok(world) = World::new(alloc, &config) else {
+        return Err(ScriptFault::Memory);
+    };
+    if kept {
+        Ok((world, program))
+    } else {
+        Err(ScriptFault::Memory)
     }
 }

@@ -3,20 +3,20 @@
 ghost use Rattle.std.specs.Prelude.{◌≡◌, ◌++◌, ◌∷◌, [], decimal, length};
 ghost use Rattle.octets.specs.Appending.{Appends};
 ghost use Rattle.script.specs.Playing.{clean_word, fop_state_word, count_over_maps, packets_text, frames_text, acknowledged_text, show_text};
-ghost use Rattle.tc_link.specs.World.{submitted, delivered, accepted};
+ghost use Rattle.simulated_link.specs.World.{submitted, delivered, accepted};
 
 use cop1::FopMode;
+use simulated_link::{Opening, World};
 use std::alloc::AllocError;
 use std::fmt::Write;
-use tc_link::Sim;
 
-fn clean_word(clean: Option<bool>) -> &'static str
-    ensures { result.now ≡ clean_word clean }
+fn clean_word(opening: Option<Opening>) -> &'static str
+    ensures { result.now ≡ clean_word opening }
 {
-    match clean {
+    match opening {
         None => "none",
-        Some(true) => "yes",
-        Some(false) => "no",
+        Some(Opening { clean: true, .. }) => "yes",
+        Some(Opening { clean: false, .. }) => "no",
     }
 }
 
@@ -34,41 +34,41 @@ fn fop_state_word(state: FopMode) -> &'static str
 }
 
 // How many packets were submitted, over all MAPs.
-fn count_submitted(sim: &Sim) -> u128
-    ensures { result ≡ count_over_maps (submitted sim.now.world) }
+fn count_submitted(world: &World) -> u128
+    ensures { result ≡ count_over_maps (submitted world.now) }
 {
     let mut count = 0u128;
     let mut map = 0u8;
     'maps: while map < 64 {
-        count += sim.submitted(map).len() as u128;
+        count += world.submitted(map).len() as u128;
         map += 1;
     }
     count
 }
 
 // How many packets are ready on board, over all MAPs.
-fn count_delivered(sim: &Sim) -> u128
-    ensures { result ≡ count_over_maps (delivered sim.now.world) }
+fn count_delivered(world: &World) -> u128
+    ensures { result ≡ count_over_maps (delivered world.now) }
 {
     let mut count = 0u128;
     let mut map = 0u8;
     'maps: while map < 64 {
-        count += sim.delivered(map).len() as u128;
+        count += world.delivered(map).len() as u128;
         map += 1;
     }
     count
 }
 
-fn count_sent(sim: &Sim) -> usize
-    ensures { result ≡ length sim.now.world.session.sent }
+fn count_sent(world: &World) -> usize
+    ensures { result ≡ length world.now.session.sent }
 {
-    sim.sent().len()
+    world.sent().len()
 }
 
-fn count_accepted(sim: &Sim) -> usize
-    ensures { result ≡ length (accepted sim.now.world) }
+fn count_accepted(world: &World) -> usize
+    ensures { result ≡ length (accepted world.now) }
 {
-    sim.accepted().len()
+    world.accepted().len()
 }
 
 fn push_count(text: &mut String, name: &str, count: usize) -> Result<(), AllocError>
@@ -78,13 +78,13 @@ fn push_count(text: &mut String, name: &str, count: usize) -> Result<(), AllocEr
 }
 
 // What the records say of the packets.
-fn push_packets(text: &mut String, sim: &Sim) -> Result<(), AllocError>
-    ensures { Appends result text.old text.new (packets_text sim.now.world) }
+fn push_packets(text: &mut String, world: &World) -> Result<(), AllocError>
+    ensures { Appends result text.old text.new (packets_text world.now) }
 {
-    let clean = clean_word(sim.clean());
-    let state = fop_state_word(sim.state());
-    let submitted = count_submitted(sim);
-    let delivered = count_delivered(sim);
+    let clean = clean_word(world.opening());
+    let state = fop_state_word(world.ground_node().state());
+    let submitted = count_submitted(world);
+    let delivered = count_delivered(world);
     write!(
         text,
         "clean={clean} state={state} submitted={submitted} delivered={delivered}"
@@ -92,28 +92,28 @@ fn push_packets(text: &mut String, sim: &Sim) -> Result<(), AllocError>
 }
 
 // What the records say of the frames.
-fn push_frames(text: &mut String, sim: &Sim) -> Result<(), AllocError>
-    ensures { Appends result text.old text.new (frames_text sim.now.world) }
+fn push_frames(text: &mut String, world: &World) -> Result<(), AllocError>
+    ensures { Appends result text.old text.new (frames_text world.now) }
 {
-    let sent = count_sent(sim);
-    let accepted = count_accepted(sim);
+    let sent = count_sent(world);
+    let accepted = count_accepted(world);
     write!(text, " sent={sent} accepted={accepted}")
 }
 
 // What the records say of what is acknowledged.
-fn push_acknowledged(text: &mut String, sim: &Sim) -> Result<(), AllocError>
-    ensures { Appends result text.old text.new (acknowledged_text sim.now.world) }
+fn push_acknowledged(text: &mut String, world: &World) -> Result<(), AllocError>
+    ensures { Appends result text.old text.new (acknowledged_text world.now) }
 {
-    push_count(text, " acknowledged=", sim.acknowledged())?;
-    push_count(text, " outstanding=", sim.outstanding())
+    push_count(text, " acknowledged=", world.acknowledged())?;
+    push_count(text, " outstanding=", world.ground_node().outstanding())
 }
 
 /// Appends the line of the records.
-pub fn push_show(text: &mut String, sim: &Sim) -> Result<(), AllocError>
-    ensures { Appends result text.old text.new (show_text sim.now.world ++ 10 ∷ []) }
+pub fn push_show(text: &mut String, world: &World) -> Result<(), AllocError>
+    ensures { Appends result text.old text.new (show_text world.now ++ 10 ∷ []) }
 {
-    push_packets(text, sim)?;
-    push_frames(text, sim)?;
-    push_acknowledged(text, sim)?;
+    push_packets(text, world)?;
+    push_frames(text, world)?;
+    push_acknowledged(text, world)?;
     text.push('\n')
 }

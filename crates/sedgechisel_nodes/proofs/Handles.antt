@@ -12,8 +12,8 @@ use base.Logic.{SProp, ent, emp, id⊢}
 use prog.Model.{Model}
 use prog.Wp.{WpFn, Closed}
 use types.Logic.{Logic}
-use types.Kit.{Item, Goal, Seq, Step, step, ‵, raw, ◌⊛◌, ◌$◌, ◌∵◌, !, qed, by, move, keep, drop, split, fsplit, fsplit3}
-use types.Kit.{fjoin, fpick, fpack, feq_i, feq_l, suffices, use0, rewrite}
+use types.Kit.{Item, Goal, Seq, Step, step, ‵, raw, ◌⊛◌, ◌$◌, ◌∵◌, !, qed, by, move, keep, drop, split, fsplit}
+use types.Kit.{fsplit3, fjoin, fpick, fpack, feq_i, feq_l, suffices, use0, rewrite}
 use types.Run.{stop, fld, of_opd, no_more, and_then, returns, enter}
 use types.ByLocal.{alloc_all, pass_all, free_all, look_at, get, get_in, sets}
 use types.Part.{agg, sub, whole}

@@ -12,13 +12,13 @@ use Rattle.nodes.specs.Ground.{outstanding}
 use Rattle.nodes.specs.Packets.{PacketOn}
 use Rattle.nodes.specs.declared.config.Config.{Config}
 use Rattle.link_events.specs.declared.event.Event.{Event}
-use Rattle.tc_link.specs.declared.reply.NodeFault.{NodeFault}
-use Rattle.tc_link.specs.declared.reply.NodeFault.TheVariants.{Link, Cop, Tm}
-use Rattle.tc_link.specs.declared.sim.fault.SimFault.{SimFault}
-use Rattle.tc_link.specs.SimFaults.{fault_row}
-use Rattle.tc_link.specs.Replies.{ReplyView, Done, Nothing, Lost, Refused, Alerted, Sent, Reported}
-use Rattle.tc_link.specs.Replies.{Up, Down, Packet}
-use Rattle.tc_link.specs.World.{World, new_world, world_step, submitted, delivered, accepted}
+use Rattle.simulated_link.specs.declared.reply.NodeFault.{NodeFault}
+use Rattle.simulated_link.specs.declared.reply.NodeFault.TheVariants.{Link, Cop, Tm}
+use Rattle.simulated_link.specs.declared.fault.SimFault.{SimFault}
+use Rattle.simulated_link.specs.SimFaults.{fault_row}
+use Rattle.simulated_link.specs.Replies.{ReplyView, Done, Nothing, Lost, Refused, Alerted, Sent}
+use Rattle.simulated_link.specs.Replies.{Reported, Up, Down, Packet}
+use Rattle.simulated_link.specs.World.{World, new_world, world_step, submitted, delivered, accepted}
 use Rattle.sedgechisel_nodes.specs.declared.sim.reply.KeptReply.{KeptReply}
 use Rattle.sedgechisel_nodes.specs.declared.sim.reading.SimReading.{SimReading}
 use Rattle.sedgechisel_nodes.specs.Boards.{no_received, received_kept}

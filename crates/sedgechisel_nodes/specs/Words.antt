@@ -4,8 +4,8 @@ use Rattle.std.specs.Prelude.{if◌then◌else◌}
 use Rattle.nodes.specs.Parameters.{row_of, all_in_order}
 use Rattle.nodes.specs.declared.fault.LinkFault.TheVariants as link
 use Rattle.nodes.specs.Faults as link_faults
-use Rattle.tc_link.specs.declared.sim.fault.SimFault.TheVariants as sim
-use Rattle.tc_link.specs.SimFaults as sim_faults
+use Rattle.simulated_link.specs.declared.fault.SimFault.TheVariants as sim
+use Rattle.simulated_link.specs.SimFaults as sim_faults
 use Rattle.sedgechisel_nodes.specs.ParameterNumbers.{parameter_number}
 
 -- a word, and zeros up to 20 octets

@@ -9,18 +9,18 @@ use Rattle.tc_link.proofs.Common.{GroundOutcome, is_closed, submit_fault, after_
 use Rattle.tc_link.proofs.Common.{bypass_fault, after_bypass, unless_refused, Down, World, WorldOutcome, world_step}
 use Rattle.tc_link.proofs.Common.{down_deliver_step, IsChecked, replied_alert, Rises, obeyed, ticked}
 use Rattle.cop1.specs.declared.vocabulary.Alert.TheVariants.{Lockout, Clcw as ClcwAlert, Timer, Terminated}
-use Rattle.tc_link.specs.Replies.{reply_to_submission, reply_to_directive, reply_to_alert, reply_to_taking}
-use Rattle.tc_link.specs.Replies.{reply_to_telemetry}
+use Rattle.simulated_link.specs.Replies.{reply_to_submission, reply_to_directive, reply_to_alert, reply_to_taking}
+use Rattle.simulated_link.specs.Replies.{reply_to_telemetry}
 use Rattle.tc_link.specs.FalseAlarms.{alert_in, IsUnderCheck, AsksAgain, FirstAsks, HasCause}
 use Rattle.tc_link.proofs.Early.{IsEarly, AllSame, early_off}
 use Rattle.tc_link.proofs.Hearing.{used_is}
 use Rattle.tc_link.proofs.LateTelemetry.{Comes, coming}
 use Rattle.tc_link.proofs.Linked.{Begun, Late, Tells, Reporting}
-use Rattle.tc_link.proofs.Reported.{IsCause, reported}
+use Rattle.simulated_link.proofs.Reported.{IsCause, reported}
 use Rattle.tc_link.proofs.Reports.{IsLate, IsAllowed, active_led, asked}
 use Rattle.tc_link.proofs.Transit.{DownIs, Ranks, bit}
 use Rattle.tc_link.proofs.Windows.{report_told}
-use Rattle.tc_link.proofs.Leaving.{AtEachLoss, lost, pulled, up_arrives}
+use Rattle.simulated_link.proofs.Leaving.{AtEachLoss, lost, pulled, up_arrives}
 use Rattle.link_events.specs.declared.event.Event.TheVariants as events
 use Rattle.tc_link.proofs.Sound.{Sound}
 

@@ -7,7 +7,7 @@ use Rattle.tc_link.proofs.Common.{begins_idle, IsDirective, obeyed, begun, is_in
 use Rattle.tc_link.proofs.Common.{None, Result, option_to_list, ◌++◌, IsChecked, report_now}
 use Rattle.std.proofs.lemmas.List.{drop_all}
 use Rattle.cop1.specs.FopDirective.{obeys}
-use Rattle.tc_link.specs.World.{is_idle}
+use Rattle.simulated_link.specs.World.{is_idle}
 use Rattle.tc_link.proofs.Linked.{Held, Linked, Begun, Late}
 use Rattle.tc_link.proofs.Settled.{session_settled}
 use Rattle.tc_link.proofs.Closed.{closed_is}

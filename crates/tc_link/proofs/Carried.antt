@@ -11,7 +11,7 @@ use Rattle.tc_link.specs.Readable.{IsCommandOf, IsTelemetryOf}
 use Rattle.tc_link.proofs.Closed.{active_on}
 use Rattle.tc_link.proofs.Fitting.{GroundFits, directive_fits, tick_settled, pull_settled, submission_fits}
 use Rattle.tc_link.proofs.Fitting.{bypass_settled, telemetry_fits, moved}
-use Rattle.tc_link.proofs.Leaving.{AtEachLoss, lost, up_arrives, down_arrives}
+use Rattle.simulated_link.proofs.Leaving.{AtEachLoss, lost, up_arrives, down_arrives}
 use Rattle.tc_link.proofs.Linked.{Carries, Reporting, carries_push}
 use Rattle.tc_link.proofs.Queue.{oldest_stands}
 use Rattle.tc_link.proofs.Spelled.{Goes, reads_back, fits_at}

@@ -16,7 +16,7 @@ use Rattle.map_service.specs.Packets.{packets_in}
 use Rattle.map_service.proofs.Passage.{given-passed, other-append}
 use Rattle.nodes.specs.Ground.{outstanding}
 use Rattle.tc_link.specs.Accepted.{KeepsNumbers, said_by}
-use Rattle.tc_link.specs.World.{submitted}
+use Rattle.simulated_link.specs.World.{submitted}
 use Rattle.octets.specs.Beginning.{IsBeginning}
 use Rattle.tc_link.specs.InOrder.{IsInOrder}
 use Rattle.tc_link.proofs.Beginning.{InSession}

@@ -9,7 +9,7 @@ use Rattle.tc_link.proofs.Early.{WouldConfirm, Good, Lasts, IsEarly, ControlFits
 use Rattle.tc_link.proofs.Early.{good_down, good_ranks}
 use Rattle.tc_link.proofs.Hearing.{used_is, with_heard, Moves, heard_keeps}
 use Rattle.tc_link.proofs.Linked.{Begun, Settled, Next, Held, kept_of, Reporting, holds_on, stays}
-use Rattle.tc_link.proofs.Reported.{IsConfirming, reported}
+use Rattle.simulated_link.proofs.Reported.{IsConfirming, reported}
 use Rattle.tc_link.proofs.Reports.{asked}
 use Rattle.tc_link.proofs.Settled.{settled_keeps, held_same_where}
 use Rattle.tc_link.proofs.Transit.{bit}

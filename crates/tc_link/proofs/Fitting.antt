@@ -14,7 +14,7 @@ use Rattle.tc_link.proofs.Common.{telemetry_outcome, segments_fit}
 use Rattle.tc_link.proofs.Closed.{closed_not, active_on}
 use Rattle.tc_link.proofs.Submitting.{taken_is, all_append}
 use Rattle.tc_link.proofs.Queue.{units-marked, units-drop, units-push, units-without}
-use Rattle.tc_link.proofs.Reported.{reported, frame_seen}
+use Rattle.simulated_link.proofs.Reported.{reported, frame_seen}
 use Rattle.tc_link.proofs.Settled.{settled_keeps}
 use Rattle.tm_link.specs.Layout as telemetry
 use Rattle.tc_link.proofs.Sound.{GroundNodeSteady}

@@ -8,7 +8,7 @@ use Rattle.tc_link.proofs.Common.{telemetry_outcome, own_frame_outcome, IsChecke
 use Rattle.tc_link.proofs.Common.{AtMostOneStep, Rises}
 use Rattle.nodes.specs.declared.heard.Heard.TheVariants.{Frame}
 use Rattle.nodes.specs.declared.heard.HeardReport.TheVariants.{Used}
-use Rattle.tc_link.specs.World.{session_after_report, world_after_report}
+use Rattle.simulated_link.specs.World.{session_after_report, world_after_report}
 use Rattle.tc_link.specs.PlainLink.{reports as tells, loses_down, hears, ignores}
 use Rattle.tc_link.proofs.Early.{WouldConfirm, Lasts, lasts_push, AllSame, same_push}
 use Rattle.tc_link.proofs.Linked.{In, Stage, Calm, Tells, Reporting, Held, Next}

@@ -6,7 +6,7 @@ use Rattle.tc_link.proofs.Common.{begins_clean, begins_idle, reports_as, report_
 use Rattle.std.specs.Int.RustNames.{bit_and}
 use Rattle.clcw.specs.Reading.{clcw_at}
 use Rattle.tm_link.specs.Reading.{frame_at}
-use Rattle.tc_link.specs.World.{is_none, is_quiet, is_idle, says_as}
+use Rattle.simulated_link.specs.World.{is_none, is_quiet, is_idle, says_as}
 use Rattle.tc_link.proofs.Early.{WouldConfirm, AllGood, Lasts, AllSame, zeros}
 use Rattle.tc_link.proofs.Linked.{Tells, Reporting}
 use Rattle.tc_link.proofs.ReportsDown.{HasReports}

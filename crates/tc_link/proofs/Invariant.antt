@@ -7,7 +7,7 @@ use Rattle.tc_link.proofs.Common.{world_run, IsClean, IsIdle, BeginsNoSession, d
 use Rattle.tc_link.proofs.Common.{begins_idle, session_begun_by, session_after_directive, IsDirective, IsEvent}
 use Rattle.tc_link.proofs.Common.{IsReached, obeyed, FopOutcome}
 use Rattle.std.proofs.lemmas.Bool.{cases_Bool}
-use Rattle.tc_link.specs.World.{Session}
+use Rattle.simulated_link.specs.World.{Session}
 use Rattle.tc_link.proofs.Arriving.{up_delivers, up_lost}
 use Rattle.tc_link.proofs.Beginning.{InSession, begins}
 use Rattle.tc_link.proofs.Board.{takes, takes_bypass, queues}
@@ -23,7 +23,7 @@ use Rattle.tc_link.proofs.ReportsDown.{HasReports, step_reports}
 use Rattle.tc_link.proofs.SteadyWorld.{step_sound, new_sound}
 use Rattle.tc_link.proofs.Submitting.{submits, bypasses}
 use Rattle.tc_link.proofs.Closed.{closed_not, closed_is}
-use Rattle.tc_link.proofs.Leaving.{AtEachLoss, lost, pulled, up_arrives, down_arrives}
+use Rattle.simulated_link.proofs.Leaving.{AtEachLoss, lost, pulled, up_arrives, down_arrives}
 use Rattle.link_events.specs.declared.event.Event.TheVariants as events
 use Rattle.tc_link.proofs.Sound.{Sound}
 

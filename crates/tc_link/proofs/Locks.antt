@@ -22,7 +22,7 @@ use Rattle.tc_link.proofs.Pulled.{early_up}
 use Rattle.tc_link.proofs.SteadyWorld.{step_sound}
 use Rattle.tc_link.proofs.Transit.{UpIs}
 use Rattle.tc_link.proofs.Windows.{state_by}
-use Rattle.tc_link.proofs.Leaving.{AtEachLoss, lost, pulled, up_arrives, down_arrives}
+use Rattle.simulated_link.proofs.Leaving.{AtEachLoss, lost, pulled, up_arrives, down_arrives}
 use Rattle.link_events.specs.declared.event.Event.TheVariants as events
 use Rattle.tc_link.proofs.Sound.{Sound}
 

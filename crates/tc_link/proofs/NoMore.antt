@@ -19,8 +19,8 @@ use Rattle.tc_frame.specs.Writing.{spelling}
 use Rattle.tc_link.specs.Accepted.{AcceptsNoMore}
 use Rattle.tc_link.specs.InTransit.{numbers_up}
 use Rattle.tc_link.proofs.Closed.{closed_not, active_on}
-use Rattle.tc_link.proofs.Leaving.{AtEachLoss, lost, up_arrives, down_arrives}
-use Rattle.tc_link.proofs.Reported.{frame_seen}
+use Rattle.simulated_link.proofs.Leaving.{AtEachLoss, lost, up_arrives, down_arrives}
+use Rattle.simulated_link.proofs.Reported.{frame_seen}
 use Rattle.tc_link.proofs.Settled.{settled_keeps}
 use Rattle.tc_link.proofs.Spelled.{Goes, reads_back}
 use Rattle.tc_link.proofs.SteadyWorld.{step_sound}

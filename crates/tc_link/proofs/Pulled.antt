@@ -11,7 +11,7 @@ use Rattle.tc_link.proofs.Common.{IsChecked, pulled_out}
 use Rattle.std.proofs.lemmas.Option.{slice_get_within}
 use Rattle.tc_frame.specs.Writing.{spelling}
 use Rattle.cop1.specs.FopPull.{SequencePulled, pulls, after_send_first}
-use Rattle.tc_link.specs.World.{first_sent}
+use Rattle.simulated_link.specs.World.{first_sent}
 use Rattle.tc_link.specs.PlainLink.{puts_next, puts_again}
 use Rattle.tc_link.proofs.Lists.{drop_cons_get, drop_cons_rest, take_next, get_drop, get_take}
 use Rattle.tc_link.proofs.Queue.{units-push, units-without, oldest_stands}

@@ -11,7 +11,7 @@ use Rattle.tc_link.proofs.Common.{settle_step, ticked, pulled_out, heard_active,
 use Rattle.cop1.specs.declared.farm.FarmMode.TheVariants.{Lockout}
 use Rattle.cop1.specs.Farm.{UnlockArrives, SetVrArrives, InvalidArrives}
 use Rattle.cop1.proofs.Agreeing.{FlagsAgree-step}
-use Rattle.tc_link.proofs.Reported.{reported}
+use Rattle.simulated_link.proofs.Reported.{reported}
 use Rattle.tc_link.proofs.Settled.{settled_keeps}
 use Rattle.tc_link.proofs.Sound.{Commanded, FopSteady, GroundNodeSteady, FarmSteady}
 

@@ -22,12 +22,12 @@ use Rattle.map_service.specs.Cutting.{segment_with}
 use Rattle.tm_link.specs.Building.{after_send, idle_after, with_next_count}
 use Rattle.nodes.specs.Spacecraft.{command_event}
 use Rattle.nodes.proofs.Submitting.{bypass_fits}
-use Rattle.tc_link.proofs.Reported.{frame_seen}
+use Rattle.simulated_link.proofs.Reported.{frame_seen}
 use Rattle.tc_link.proofs.SteadyNodes.{settled_so, farm_so, report_so}
 use Rattle.tc_link.proofs.SteadyNodes.{tick_so, pull_so, gives_up, goes_same, steady_so}
 use Rattle.tc_link.proofs.Sound.{Commanded, FopSteady, GroundNodeSteady, SpacecraftSteady, Sound}
 use Rattle.tc_link.proofs.Submitting.{all_push}
-use Rattle.tc_link.proofs.Leaving.{AtEachLoss, lost, pulled, up_arrives, down_arrives}
+use Rattle.simulated_link.proofs.Leaving.{AtEachLoss, lost, pulled, up_arrives, down_arrives}
 use Rattle.tm_link.specs.Layout as telemetry
 use Rattle.tm_link.specs.Reading as telemetry_reading
 use Rattle.link_events.specs.declared.event.Event.TheVariants as events

@@ -7,7 +7,7 @@ use Rattle.tc_link.proofs.Common.{segments_of, Directive, Config, LinkFault, Fit
 use Rattle.tc_link.proofs.Common.{GroundState, is_closed, segments_on, submit_fault, after_submission, bypass_fault}
 use Rattle.tc_link.proofs.Common.{after_bypass, unless_refused, World, segments_fit}
 use Rattle.map_service.specs.Packets.{packets_in, are_taken, is_some_over}
-use Rattle.tc_link.specs.World.{world_after_submission, world_after_bypass}
+use Rattle.simulated_link.specs.World.{world_after_submission, world_after_bypass}
 use Rattle.nodes.proofs.Submitting.{submit_map}
 use Rattle.tc_link.specs.PlainLink.{adds}
 use Rattle.tc_link.proofs.Transit.{Fits, fits_longer}

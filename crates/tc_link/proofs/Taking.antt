@@ -13,11 +13,11 @@ use Rattle.nodes.specs.Spacecraft.{Receive}
 use Rattle.nodes.proofs.Delivering.{delivers}
 use Rattle.tc_link.specs.Taken.{BeginsSession, handed_out, taken, taken_since, ready_on, HandsOutWhatIsDelivered}
 use Rattle.tc_link.specs.Taken.{HandsOutWhatIsSubmitted}
-use Rattle.tc_link.proofs.AcceptedSegments.{accepts_segment}
+use Rattle.simulated_link.proofs.AcceptedSegments.{accepts_segment}
 use Rattle.tc_link.proofs.Delivered.{is_in_order}
-use Rattle.tc_link.proofs.Gained.{config_stays}
+use Rattle.simulated_link.proofs.Gained.{config_stays}
 use Rattle.tc_link.proofs.Invariant.{opened, session_stays, begun_is, step_holds, run_holds, reached_holds}
-use Rattle.tc_link.proofs.Leaving.{AtEachLoss, lost, pulled, up_arrives, down_arrives}
+use Rattle.simulated_link.proofs.Leaving.{AtEachLoss, lost, pulled, up_arrives, down_arrives}
 use Rattle.link_events.specs.declared.event.Event.TheVariants as events
 
 -- from the one state to the other these packets were handed out, and some more were made ready

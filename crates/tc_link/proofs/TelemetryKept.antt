@@ -28,7 +28,7 @@ use Rattle.tc_link.specs.Telemetry.{Downlink, DownlinkStep, Happens, TakeTelemet
 use Rattle.tc_link.specs.Telemetry.{after_event, after_taking, downlink_step, downlink_run, packets_down}
 use Rattle.tc_link.specs.Telemetry.{IsTelemetryInOrder, downlink_of}
 use Rattle.tc_link.proofs.Submitting.{all_push}
-use Rattle.tc_link.proofs.Leaving.{first_on, pulled, up_arrives, down_arrives}
+use Rattle.simulated_link.proofs.Leaving.{first_on, pulled, up_arrives, down_arrives}
 use Rattle.tc_link.proofs.ReportFrames.{data_length, reads_now}
 use Rattle.tc_link.proofs.SteadyWorld.{step_sound, new_sound}
 use Rattle.tc_link.proofs.Telemetry.{choice_front, choice_more, choice_whole, extracted_more, state_more}

@@ -9,7 +9,7 @@ use Rattle.cop1.specs.FopVariables.{IsActive}
 use Rattle.link_events.specs.declared.event.Event.{Event}
 use Rattle.tc_link.specs.InTransit.{numbers_up, values_down}
 use Rattle.tc_link.specs.Reached.{IsEvent}
-use Rattle.tc_link.specs.World.{World, world_run, IsSettled, KeepsSession, accepted}
+use Rattle.simulated_link.specs.World.{World, world_run, IsSettled, KeepsSession, accepted}
 
 -- V(S) and NN(R) are those of the session: the sender is Active, or they differ. (A directive that
 -- sets V(S) sets NN(R) to the same number.)

@@ -9,7 +9,7 @@ use Rattle.cop1.specs.declared.vocabulary.Directive.TheVariants.{InitWithoutChec
 use Rattle.cop1.specs.Directives.{is_initiation}
 use Rattle.cop1.specs.FopVariables.{IsActive}
 use Rattle.tc_link.specs.InTransit.{commands_up}
-use Rattle.tc_link.specs.World.{World, accepted, directive_of}
+use Rattle.simulated_link.specs.World.{World, accepted, directive_of}
 
 -- a session that this directive begins has to be confirmed: by check, Unlock or Set V(R)
 abbrev pub IsChecked : Directive → Type 0

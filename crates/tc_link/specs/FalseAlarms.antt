@@ -12,25 +12,12 @@ use Rattle.cop1.specs.FopReport.{asks}
 use Rattle.nodes.specs.declared.config.Config.{Config}
 use Rattle.link_events.specs.declared.event.Event.{Event}
 use Rattle.link_events.specs.declared.event.Event.TheVariants as events
-use Rattle.nodes.specs.declared.heard.Heard.{Heard}
-use Rattle.nodes.specs.declared.heard.Heard.TheVariants as heard_cases
-use Rattle.tc_link.specs.declared.sim.fault.SimFault.{SimFault}
+use Rattle.simulated_link.specs.declared.fault.SimFault.{SimFault}
 use Rattle.tc_link.specs.InTransit.{report_carried}
-use Rattle.tc_link.specs.Replies.{ReplyView, Alerted}
-use Rattle.tc_link.specs.Replies.{Down}
-use Rattle.tc_link.specs.World.{World, world_step, directive_of}
+use Rattle.simulated_link.specs.Replies.{ReplyView, replied_alert}
+use Rattle.simulated_link.specs.World.{World, world_step, directive_of}
 
--- ---- the alert that is answered
-
-abbrev pub heard_alert : Heard → Option Alert
-heard_alert (heard_cases.Frame gap packets report alert) = alert
-heard_alert _ = None
-
-abbrev pub replied_alert : ReplyView → Option Alert
-replied_alert (Alerted alert) = Some alert
-replied_alert (Down heard) = heard_alert heard
-replied_alert _ = None
-
+-- the alert that is answered
 abbrev pub alert_in : Result ReplyView SimFault → Option Alert
 alert_in (Ok reply) = replied_alert reply
 alert_in (Err fault) = None

@@ -7,7 +7,7 @@ use Rattle.tc_frame.specs.Layout.{SegmentView, segment_octets}
 use Rattle.map_service.specs.Cutting.{segments_of}
 use Rattle.nodes.specs.Packets.{PacketOn}
 use Rattle.tc_link.specs.Accepted.{KeepsNumbers, said_by}
-use Rattle.tc_link.specs.World.{World, IsSettled, accepted}
+use Rattle.simulated_link.specs.World.{World, IsSettled, accepted}
 use Rattle.tc_link.specs.InTransit.{units_up, values_down}
 use Rattle.tc_link.specs.PlainLink.{PlainLink, PlainRun, AtMostOneStep, new_link}
 

@@ -3,7 +3,7 @@ use Rattle.std.specs.Prelude.{◌≡◌, ◌≤◌, ℕ, [], length, take}
 use Rattle.octets.specs.Beginning.{IsBeginning}
 use Rattle.cop1.specs.declared.vocabulary.FopMode.TheVariants.{S1}
 use Rattle.nodes.specs.Ground.{outstanding}
-use Rattle.tc_link.specs.World.{World, submitted, accepted, delivered}
+use Rattle.simulated_link.specs.World.{World, submitted, accepted, delivered}
 
 -- Packets are delivered in order, each once.
 pub record IsInOrder (w : World) : Type 0 where

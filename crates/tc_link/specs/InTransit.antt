@@ -15,7 +15,7 @@ use Rattle.tm_link.specs.declared.fault.TmFault.{TmFault}
 use Rattle.tm_link.specs.Layout as telemetry
 use Rattle.tm_link.specs.Reading as telemetry_reading
 use Rattle.nodes.specs.declared.config.Config.{Config}
-use Rattle.tc_link.specs.World.{World, IsSettled}
+use Rattle.simulated_link.specs.World.{World, IsSettled}
 
 -- ---- frames on their way up
 

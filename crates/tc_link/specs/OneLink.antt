@@ -6,8 +6,8 @@ use Rattle.link_events.specs.declared.event.Event.{Event}
 use Rattle.tc_link.specs.History.{IsHistory}
 use Rattle.tc_link.specs.PlainLink.{PlainLink, PlainRun, AtMostOneStep, new_link}
 use Rattle.tc_link.specs.Reached.{IsEvent, IsReached}
-use Rattle.tc_link.specs.World.{KeepsSession}
-use Rattle.tc_link.specs.World.{World, IsIdle, IsSettled, BeginsNoSession, world_step, world_run}
+use Rattle.simulated_link.specs.World.{KeepsSession, World, IsIdle, IsSettled, BeginsNoSession}
+use Rattle.simulated_link.specs.World.{world_step, world_run}
 
 -- Each plain link whose history the one world has is so related to each whose history the other
 -- has, and their bases are one, modulo 256.

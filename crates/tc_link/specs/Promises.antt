@@ -12,8 +12,8 @@ use Rattle.tc_link.specs.InOrder.{IsInOrder}
 use Rattle.tc_link.specs.InTransit.{KeepsToWindow}
 use Rattle.tc_link.specs.Reached.{IsEvent}
 use Rattle.tc_link.specs.Readable.{AllReadable}
-use Rattle.tc_link.specs.World.{World, new_world, world_step, world_run, IsClean, IsIdle, IsSettled}
-use Rattle.tc_link.specs.World.{BeginsNoSession, directive_of}
+use Rattle.simulated_link.specs.World.{World, new_world, world_step, world_run, IsClean, IsIdle}
+use Rattle.simulated_link.specs.World.{IsSettled, BeginsNoSession, directive_of}
 
 -- of a world, in a session that had an idle start
 pub record IsPromised (w : World) : Type 0 where

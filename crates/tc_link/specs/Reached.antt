@@ -7,7 +7,7 @@ use Rattle.nodes.specs.declared.config.Config.{Config}
 use Rattle.link_events.specs.declared.event.Event.{Event}
 use Rattle.link_events.specs.declared.event.Event.TheVariants as events
 use Rattle.nodes.specs.Parameters.{IsConfig}
-use Rattle.tc_link.specs.World.{World, new_world, world_run}
+use Rattle.simulated_link.specs.World.{World, new_world, world_run}
 
 -- the number that a directive carries for V(S) is an octet
 abbrev pub IsDirective : Directive → Type 0

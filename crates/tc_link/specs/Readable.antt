@@ -9,7 +9,7 @@ use Rattle.tc_frame.specs.Reading as command
 use Rattle.tm_link.specs.Layout as telemetry
 use Rattle.tm_link.specs.Reading as telemetry_reading
 use Rattle.nodes.specs.declared.config.Config.{Config}
-use Rattle.tc_link.specs.World.{World}
+use Rattle.simulated_link.specs.World.{World}
 
 -- octets of a telecommand frame of the link's spacecraft and virtual channel
 pub record IsCommandOf (c : Config) (octets : List ℕ) : Type 0 where

@@ -2,7 +2,7 @@
 use Rattle.std.specs.Prelude.{map}
 use Rattle.octets.specs.Outcome.{map_ok}
 use Rattle.tc_link.specs.declared.sim.Sim.TheInside.{Inside}
-use Rattle.tc_link.specs.Replies.{reply_view}
+use Rattle.simulated_link.specs.Replies.{reply_view}
 use Rattle.tc_link.specs.Reached.{IsReached}
 use Rattle.tc_link.specs.Simulation.{SimState}
 

@@ -1,20 +1,11 @@
 -- A simulated link with the answers of a run.
-use Rattle.std.specs.Prelude.{◌≡◌, ℕ, List, [], ◌∷◌, ◌++◌, false, Option, Some, None, IsSome}
-use Rattle.std.specs.Prelude.{Result, Ok, Err}
-use Rattle.tc_frame.specs.declared.frame.Check.TheVariants.{On}
-use Rattle.tc_frame.specs.Reading as command
-use Rattle.tm_link.specs.Building.{is_to_send}
-use Rattle.tm_link.specs.Reading as telemetry
+use Rattle.std.specs.Prelude.{ℕ, List, [], ◌∷◌, ◌++◌, Option, Some, None, Result, Ok, Err}
 use Rattle.nodes.specs.declared.config.Config.{Config}
 use Rattle.link_events.specs.declared.event.Event.{Event}
-use Rattle.link_events.specs.declared.event.Event.TheVariants as events
-use Rattle.tc_link.specs.declared.reply.Reply.{Reply}
-use Rattle.tc_link.specs.declared.sim.fault.SimFault.{SimFault}
-use Rattle.tc_link.specs.declared.sim.fault.SimFault.TheVariants as faults
-use Rattle.tc_link.specs.Replies.{ReplyView, reply_view}
-use Rattle.nodes.specs.Ground.{submit_fault, bypass_fault, FinishesNothing}
-use Rattle.nodes.specs.Spacecraft.{HandsNothingOn}
-use Rattle.tc_link.specs.World.{World, new_world, world_step, world_run, run_answers}
+use Rattle.simulated_link.specs.declared.fault.SimFault.{SimFault}
+use Rattle.simulated_link.specs.declared.fault.SimFault.TheVariants as faults
+use Rattle.simulated_link.specs.Replies.{ReplyView}
+use Rattle.simulated_link.specs.World.{World, new_world, world_step, world_run, run_answers}
 
 pub record SimState : Type 0 where
   pub world : World
@@ -49,27 +40,3 @@ field_of _ = None
 abbrev pub refused_field : {A : Type 0} → Result A SimFault → Option (List ℕ)
 refused_field (Ok made) = None
 refused_field (Err fault) = field_of fault
-
--- the reply that the world answers to an event
-abbrev pub IsReplyTo : World → Event → Reply → Type 0
-IsReplyTo w event reply = (world_step w event).answer ≡ Ok (reply_view reply)
-
--- the first octets on their way, where there are any
-abbrev pub IfFirst : List (List ℕ) → (List ℕ → Type 0) → Type 0
-IfFirst [] P = Unit {0}
-IfFirst (octets ∷ more) P = P octets
-
--- an event takes no memory: packets are refused, a frame's data are not handed on, a telemetry
--- frame finishes no packet, or nothing is to be kept
-abbrev pub TakesNone : World → Event → Type 0
-TakesNone w (events.Submit m octets) = IsSome (submit_fault w.ground_node m octets.now)
-TakesNone w (events.Bypass m octets) = IsSome (bypass_fault w.ground_node m octets.now)
-TakesNone w events.Send = ⊥
-TakesNone w events.UpDeliver =
-    IfFirst w.up (λ octets. HandsNothingOn w.spacecraft (command.frame_at On octets))
-TakesNone w events.Report = ⊥
-TakesNone w events.DownDeliver =
-    IfFirst w.down (λ octets. FinishesNothing w.ground_node
-    (telemetry.frame_at w.ground_node.config.frame_length octets))
-TakesNone w (events.Telemetry octets) = is_to_send octets.now ≡ false
-TakesNone w _ = Unit {0}

@@ -9,11 +9,11 @@ use Rattle.nodes.specs.Ground.{is_closed}
 use Rattle.nodes.specs.Packets.{PacketOn}
 use Rattle.link_events.specs.declared.event.Event.{Event}
 use Rattle.link_events.specs.declared.event.Event.TheVariants as events
-use Rattle.tc_link.specs.declared.sim.fault.SimFault.{SimFault}
+use Rattle.simulated_link.specs.declared.fault.SimFault.{SimFault}
 use Rattle.tc_link.specs.Reached.{IsEvent, IsReached}
-use Rattle.tc_link.specs.Replies.{ReplyView, Packet}
-use Rattle.tc_link.specs.World.{World, KeepsSession, IsIdle, submitted, delivered, world_step}
-use Rattle.tc_link.specs.World.{world_run, run_answers}
+use Rattle.simulated_link.specs.Replies.{ReplyView, Packet}
+use Rattle.simulated_link.specs.World.{World, KeepsSession, IsIdle, submitted, delivered}
+use Rattle.simulated_link.specs.World.{world_step, world_run, run_answers}
 
 -- a session begins with an event: it is an initiation, and comes while the sender is in S6
 abbrev pub BeginsSession : World → Event → Type 0

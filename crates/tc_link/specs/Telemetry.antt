@@ -14,10 +14,10 @@ use Rattle.nodes.specs.Spacecraft.{spacecraft_step}
 use Rattle.nodes.specs.Spacecraft as spacecraft_calls
 use Rattle.link_events.specs.declared.event.Event.{Event}
 use Rattle.link_events.specs.declared.event.Event.TheVariants as events
-use Rattle.tc_link.specs.declared.sim.fault.SimFault.{SimFault}
+use Rattle.simulated_link.specs.declared.fault.SimFault.{SimFault}
 use Rattle.tc_link.specs.Reached.{IsEvent}
-use Rattle.tc_link.specs.Replies.{ReplyView, Done}
-use Rattle.tc_link.specs.World.{World, WorldOutcome, new_world, world_step, world_run}
+use Rattle.simulated_link.specs.Replies.{ReplyView, Done}
+use Rattle.simulated_link.specs.World.{World, WorldOutcome, new_world, world_step, world_run}
 
 -- ---- the history of a link's telemetry
 

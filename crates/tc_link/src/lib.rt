@@ -1,27 +1,20 @@
 //! The simulated telecommand link with COP-1 (CCSDS 232.0-B-4, 232.1-B-2), as docs/PROFILE.md has it.
 //!
-//! A `Sim` is both nodes with a link between them, to which events happen, and keeps records of the
-//! session. What is promised of a session is said of these records, by `run` and by each step.
+//! A `Sim` is a world of `simulated_link`, both nodes with a link between them, to which events happen,
+//! and keeps records of the session. What is promised of a session is said of these records, by `run`
+//! and by each step.
 #![tactic(auto)]
 
-mod acceptance;
-mod copying;
 mod event;
 mod laws;
-mod map_lists;
-mod outgoing;
-mod putting;
-mod reply;
-mod session;
 mod sim;
 mod telemetry_law;
-mod world;
 
 pub use event::Event;
 pub use laws::{law_of_plain_links, law_of_sessions, law_of_taking};
 pub use nodes::{
     Config, Ground, Heard, HeardReport, LinkFault, Received, Spacecraft, law_of_delivery,
 };
-pub use reply::{NodeFault, Reply};
-pub use sim::{Sim, SimFault, run};
+pub use sim::{Sim, run};
+pub use simulated_link::{NodeFault, Reply, SimFault};
 pub use telemetry_law::law_of_telemetry;

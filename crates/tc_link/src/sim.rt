@@ -1,17 +1,12 @@
 // A simulated link.
 
-mod fault;
-mod opening;
 mod runs;
 
 use crate::event::{Event, keeps_octets};
-use crate::reply::Reply;
-use crate::world::World;
 use cop1::{Directive, FopMode};
-pub use fault::SimFault;
 use nodes::Config;
-pub(crate) use opening::Opening;
 pub use runs::run;
+use simulated_link::{Reply, SimFault, World};
 use std::alloc::Global;
 use std::marker::Model;
 
@@ -43,8 +38,9 @@ impl Sim {
     ghost use Rattle.nodes.specs.Ground.{outstanding};
     ghost use Rattle.nodes.specs.Packets.{packet_view};
     ghost use Rattle.nodes.specs.Parameters.{config_fault};
-    ghost use Rattle.tc_link.specs.Replies.{reply_view};
-    ghost use Rattle.tc_link.specs.Simulation.{IsReplyTo, new_sim, refused_field, TakesNone};
+    ghost use Rattle.simulated_link.specs.Replies.{reply_view};
+    ghost use Rattle.simulated_link.specs.Events.{IsReplyTo, TakesNone};
+    ghost use Rattle.tc_link.specs.Simulation.{new_sim, refused_field};
     ghost use Rattle.tc_link.specs.Confirmation.{ConfirmsExactly, IsChecking, IsConfirmedExactly};
     ghost use Rattle.tc_link.specs.FalseAlarms.{HasNoFalseAlarm};
     ghost use Rattle.tc_link.specs.History.{HasPlainHistory, GoesOnByAStep};
@@ -52,7 +48,7 @@ impl Sim {
     ghost use Rattle.tc_link.specs.InTransit.{KeepsToWindow};
     ghost use Rattle.tc_link.specs.Promises.{IsPromised, IsPromisedOf};
     ghost use Rattle.tc_link.specs.Readable.{AllReadable};
-    ghost use Rattle.tc_link.specs.World.{world_step, submitted, accepted, delivered, directive_of, BeginsNoSession, IsClean, IsIdle, IsSettled};
+    ghost use Rattle.simulated_link.specs.World.{world_step, submitted, accepted, delivered, directive_of, BeginsNoSession, IsClean, IsIdle, IsSettled};
 
     /// Two new nodes, and nothing between them. The fault 9 has the name of the first field that is out
     /// of its range.

@@ -16,21 +16,21 @@ ghost use Rattle.listings.specs.Writing.{BeginsToWrite, Writes};
 
 use listings::{ListingFault, MOST_OCTETS, Sink, Source, WriteFailed, write_all};
 use script::{Program, ScriptFault, open, play_some};
+use simulated_link::World;
 use std::alloc::Global;
 use stream_commands::{Outcome, read_all};
-use tc_link::Sim;
 
 /// Plays what was read of a script, and writes the answers of each piece of it before the next is played.
 fn write_answers<W: Sink>(
     alloc: Global,
     writer: &mut W,
-    sim: &mut Sim,
+    world: &mut World,
     program: &Program<'_>,
 ) -> Result<(), ListingFault>
     ensures ok { Writes result (W.taken_octets writer.old) (W.taken_octets writer.new)
-        (answers_from sim.old.world (program_lines program.now)) }
+        (answers_from world.old (program_lines program.now)) }
     ensures beginning { BeginsToWrite result (W.taken_octets writer.old) (W.taken_octets writer.new)
-        (answers_from sim.old.world (program_lines program.now)) }
+        (answers_from world.old (program_lines program.now)) }
     ensures failures { W.failures writer.new ≡ W.failures writer.old + writes_failed_in result }
     ensures faults { IfErr result (λ e. (e ≡ ListingFault.Write) ⊎ (e ≡ ListingFault.Memory)) }
 {
@@ -38,7 +38,7 @@ fn write_answers<W: Sink>(
     let mut rest = program.all();
     'pieces: loop {
         text.clear();
-        let Ok(left) = play_some(alloc, sim, &mut text, rest) else {
+        let Ok(left) = play_some(alloc, world, &mut text, rest) else {
             return Err(ListingFault::Memory);
         };
         if let Err(WriteFailed) = write_all(writer, text.as_bytes()) {
@@ -69,8 +69,8 @@ fn run_script<W: Sink>(
     ensures faults { IfErr result (λ e. (e ≡ ListingFault.Write) ⊎ (e ≡ ListingFault.Memory)) }
 {
     match open(alloc, script) {
-        Ok((mut sim, program)) => {
-            let written = write_answers(alloc, writer, &mut sim, &program);
+        Ok((mut world, program)) => {
+            let written = write_answers(alloc, writer, &mut world, &program);
             match written {
                 Ok(()) => Ok(Outcome::Good),
                 Err(fault) => Err(fault),

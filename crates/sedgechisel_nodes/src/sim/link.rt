@@ -25,7 +25,7 @@ impl Model for Link {
 
 impl Link {
     ghost use Rattle.std.specs.Prelude.{◌≡◌, ◌≢◌, [], IfSome};
-    ghost use Rattle.tc_link.specs.World.{new_world, world_step};
+    ghost use Rattle.simulated_link.specs.World.{new_world, world_step};
     ghost use Rattle.sedgechisel_nodes.specs.Links.{IsStepAnswer, IsReply, link_step};
 
     pub(crate) fn new(alloc: Global, config: &Config) -> Option<Link>

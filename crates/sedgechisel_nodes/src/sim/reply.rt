@@ -1,7 +1,7 @@
 // What a program in C learns of an event.
 
 ghost use Rattle.std.specs.Prelude.{◌≡◌};
-ghost use Rattle.tc_link.specs.Replies.{reply_view};
+ghost use Rattle.simulated_link.specs.Replies.{reply_view};
 ghost use Rattle.sedgechisel_nodes.specs.Links.{no_reply, refused_by, reply_kept, reply_octets};
 
 use crate::hearing::{

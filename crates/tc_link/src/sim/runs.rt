@@ -5,11 +5,12 @@ ghost use Rattle.nodes.specs.Parameters.{config_fault};
 ghost use Rattle.tc_link.specs.Promises.{IsPromised, HoldsThroughout};
 ghost use Rattle.tc_link.specs.Readable.{AllReadable};
 ghost use Rattle.tc_link.specs.Simulation.{sim_run, refused_field};
-ghost use Rattle.tc_link.specs.World.{IsClean, IsIdle};
+ghost use Rattle.simulated_link.specs.World.{IsClean, IsIdle};
 
-use super::{Sim, SimFault};
+use super::Sim;
 use crate::event::{Event, keeps_octets};
 use nodes::Config;
+use simulated_link::SimFault;
 use std::alloc::Global;
 
 /// Lets the events happen one after another, and keeps what was answered to each. The fault 9 has the
@@ -40,7 +41,7 @@ impl Sim {
     ghost use Rattle.tc_link.specs.Simulation.{record_step};
 
     // Lets an event happen, and keeps what was answered.
-    #[tactic(auto, using(crate::proofs::Refusing::refused_keeps))]
+    #[tactic(auto, using(simulated_link::proofs::Refusing::refused_keeps))]
     fn record_step(&mut self, event: Event<'_>) -> Result<(), SimFault>
         ensures ok { OnOk result (self.new ≡ record_step self.old event.entry) }
         ensures fault { IsOkUnless result SimFault.Memory }

@@ -6,8 +6,8 @@ use Rattle.script.proofs.playing.play_some.Given as goal
 -- the text so far and the answers to what is left are the answers to the program
 abbrev pub invariant-steps : goal.invariant-steps
 invariant-steps l = record {
-  same : string_bytes l.text ++ answers_from l.sim.world (lines_left l.rest)
-      ≡ string_bytes l.fn.text ++ answers_from l.fn.sim.world (lines_left l.fn.program);
+  same : string_bytes l.text ++ answers_from l.world (lines_left l.rest)
+      ≡ string_bytes l.fn.text ++ answers_from l.fn.world (lines_left l.fn.program);
   left : length l.rest.steps.now ≤ length l.fn.program.steps.now;
 }
 

@@ -1,12 +1,12 @@
 use Rattle.std.proofs.Common.{◌≡◌, ◌≤◌, ◌*◌, ◌^◌, ◌-◌}
-use Rattle.tc_link.specs.World.{submitted}
+use Rattle.simulated_link.specs.World.{submitted}
 use Rattle.script.specs.Playing.{count_below_map}
 use Rattle.script.proofs.showing.count_submitted.Given as goal
 
 -- those on the MAPs so far are counted
 abbrev pub invariant-maps : goal.invariant-maps
 invariant-maps l = record {
-  counted : l.count ≡ count_below_map (submitted l.sim.world) l.map;
+  counted : l.count ≡ count_below_map (submitted l.world) l.map;
   bound : l.count ≤ l.map * 2 ^ 64;
   maps : l.map ≤ 64;
 }

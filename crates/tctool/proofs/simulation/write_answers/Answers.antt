@@ -9,8 +9,8 @@ use Rattle.tctool.proofs.simulation.write_answers.Goals as goal
 pub returns-in-Err-clause-beginning : goal.returns-in-Err-clause-beginning
 returns-in-Err-clause-beginning g c =
     let taken = g.W.Sink.taken_octets in
-    let more = remaining_answers c.play_some.new.sim.world (option_map lines_left c.in-Ok.left) in
-    let whole = answers_from c.pieces.sim.world (lines_left c.pieces.rest) in
+    let more = remaining_answers c.play_some.new.world (option_map lines_left c.in-Ok.left) in
+    let whole = answers_from c.pieces.world (lines_left c.pieces.rest) in
     let told : whole ≡ c.as_bytes.result.now ++ more =
     sym (ap (λ (t : List ℕ). t ++ more) c.as_bytes.ensures.value ∙ c.in-Ok.ensures.answers
     ∙ ap (λ (t : List ℕ). t ++ whole) c.clear.ensures.bytes) in

@@ -6,8 +6,8 @@ use Rattle.tctool.proofs.simulation.write_answers.Given as goal
 -- what is written and the answers to what is left are the answers to the program
 abbrev pub invariant-pieces : goal.invariant-pieces
 invariant-pieces g l = record {
-  same : g.W.Sink.taken_octets l.writer ++ answers_from l.sim.world (lines_left l.rest)
-      ≡ g.W.Sink.taken_octets l.fn.writer ++ answers_from l.fn.sim.world (program_lines l.fn.program);
+  same : g.W.Sink.taken_octets l.writer ++ answers_from l.world (lines_left l.rest)
+      ≡ g.W.Sink.taken_octets l.fn.writer ++ answers_from l.fn.world (program_lines l.fn.program);
   failures : g.W.Sink.failures l.writer ≡ g.W.Sink.failures l.fn.writer;
 }
 

@@ -1,0 +1,12 @@
+pub mod AcceptedSegments
+pub mod Arrived
+pub mod Common
+pub mod Counted
+pub mod FirstOctets
+pub mod Gained
+pub mod Leaving
+pub mod MapLists
+pub mod Refusals
+pub mod Refusing
+pub mod Reported
+pub mod Sending

@@ -1,0 +1,131 @@
+use Rattle.simulated_link.proofs.Common.{◌≡◌, ◌++◌, ◌∷◌, [], ℕ, List, map, filter, length, Bool, true, false, refl, ap}
+use Rattle.simulated_link.proofs.Common.{sym, ◌∙◌, arith, append-nil, ◌==◌, if◌then◌else◌, filter-append, packets_view}
+use Rattle.simulated_link.proofs.Common.{GroundState, submit_fault, PacketOn, packet_on}
+use Rattle.std.specs.List.{flat_map}
+use Rattle.std.proofs.lemmas.Grind.{flat_map-append}
+use Rattle.std.proofs.lemmas.List.{map_push}
+use Rattle.map_service.specs.Packets.{packets_in}
+use Rattle.nodes.specs.declared.ground_node.submission.Submission.{Submission}
+use Rattle.nodes.specs.Packets.{packet_view}
+use Rattle.link_events.specs.declared.event.Event.TheVariants as events
+use Rattle.simulated_link.proofs.Common.{◌≢◌, Option, Some, Result, Ok, Err, OnOk, subst, Event, SimFault, LinkFault}
+use Rattle.simulated_link.proofs.Common.{World, world_step, GroundOutcome, unless_refused, after_submission}
+use Rattle.std.proofs.Common.{IfOk, OnErr, IsOkUnless, IsSome}
+use Rattle.simulated_link.specs.declared.fault.SimFault.TheVariants.{Memory}
+use Rattle.simulated_link.specs.declared.reply.NodeFault.TheVariants.{Link}
+use Rattle.simulated_link.specs.declared.reply.Reply.{Reply}
+use Rattle.simulated_link.specs.declared.reply.Reply.TheVariants.{Refused}
+use Rattle.simulated_link.specs.Events.{IsReplyTo}
+use Rattle.simulated_link.specs.Replies.{reply_to_submission}
+use Rattle.simulated_link.specs.World.{world_after_submission}
+use Rattle.simulated_link.specs.WorldFields.{world_of}
+use Rattle.simulated_link.proofs.Refusals.{refused, refused_for, submit_never}
+use Rattle.simulated_link.proofs.Counted.{submit_same}
+use Rattle.simulated_link.proofs.world.World.submit.Goals as goal
+
+-- the packets of these submissions that are on MAP m
+abbrev packets_on : ℕ → List PacketOn → List (List ℕ)
+packets_on m ps = flat_map (λ (p : PacketOn). packets_in p.octets) (filter (λ (p : PacketOn). p.on_map == m) ps)
+
+of_one : (m : ℕ) (p : PacketOn) (own : Bool) → p.on_map == m ≡ own
+    → packets_on m (p ∷ []) ≡ (if own then packets_in p.octets else [])
+of_one m p true own = rw own (append-nil (packets_in p.octets))
+of_one m p false own = rw own refl
+
+one_more : (m : ℕ) (ps : List PacketOn) (p : PacketOn)
+    → packets_on m (ps ++ p ∷ []) ≡ packets_on m ps ++ (if p.on_map == m then packets_in p.octets else [])
+one_more m ps p =
+    ap (flat_map (λ (p : PacketOn). packets_in p.octets)) (filter-append (λ (p : PacketOn). p.on_map == m) ps (p ∷ []))
+    ∙ flat_map-append (λ (p : PacketOn). packets_in p.octets) (filter (λ (p : PacketOn). p.on_map == m) ps)
+    (filter (λ (p : PacketOn). p.on_map == m) (p ∷ []))
+    ∙ ap (λ (xs : List (List ℕ)). packets_on m ps ++ xs) (of_one m p (p.on_map == m) refl)
+
+pub invariant_of-self-2 : goal.invariant_of-self-2
+invariant_of-self-2 c =
+    let s : GroundState = c.self.inside.ground_node in
+    let octets : List ℕ = c.args.octets.now in
+    let b : Submission = c.in-Ok.submission in
+    let same : length c.commit.new.self.fop.sent ≡ length s.fop.sent =
+    ap (λ (t : GroundState). length t.fop.sent) c.commit.ensures
+    ∙ ap length (submit_same s b.map b.octets.now (submit_fault s b.map b.octets.now)) in
+    let copies : packets_view c.in-Ok-copied.packets ≡ packets_in octets =
+    c.in-Ok-copied.ensures ∙ c.packets.ensures ∙ c.in-Ok.ensures.submission.packets
+    ∙ ap packets_in c.in-Ok.ensures.given.1 in
+    let submissions : map packet_view c.push_reserved.new.self.items
+    ≡ map packet_view c.self.inside.session.submissions.items ++ packet_on c.args.map octets ∷ [] =
+    ap (map packet_view) (c.push_reserved.ensures.items
+    ∙ ap (λ xs. xs ++ (c.args.map, c.in-Ok-from_slice.copy) ∷ []) c.try_reserve.ensures.items)
+    ∙ map_push packet_view c.self.inside.session.submissions.items (c.args.map, c.in-Ok-from_slice.copy)
+    ∙ ap (λ (o : List ℕ). map packet_view c.self.inside.session.submissions.items ++ packet_on c.args.map o ∷ [])
+    c.in-Ok-from_slice.ensures.items in
+    record {
+      accepted = c.self.invariant.accepted;
+      before = c.self.invariant.before;
+      counted = omega (arith, c.self.invariant.counted, same);
+      submitted_on = λ m.
+          c.append_on.ensures m
+          ∙ ap (λ (xs : List (List ℕ)). xs
+          ++ (if c.args.map == m then packets_view c.in-Ok-copied.packets else []))
+          (c.make_room.ensures.same m ∙ c.self.invariant.submitted_on m)
+          ∙ ap (λ (xs : List (List ℕ)). packets_on m (map packet_view c.self.inside.session.submissions.items)
+          ++ (if c.args.map == m then xs else [])) copies
+          ∙ sym (one_more m (map packet_view c.self.inside.session.submissions.items) (packet_on c.args.map octets))
+          ∙ ap (packets_on m) (sym submissions);
+      delivered_on = c.self.invariant.delivered_on;
+    }
+
+-- where the ground refuses
+module _ (c : goal.After-answer_to_refusal) where
+  abbrev s : GroundState
+  s = c.self.inside.ground_node
+
+  abbrev before : World
+  before = world_of c.self.inside
+
+  abbrev event : Event
+  event = events.Submit c.args.map c.args.octets
+
+  abbrev unless : Option LinkFault → GroundOutcome (Result (Unit {0}) LinkFault)
+  unless reason = unless_refused reason s (after_submission s c.args.map c.args.octets.now)
+
+  refuses : (P : Result Reply SimFault → Type 0) → P (Err Memory)
+      → (submit_fault s c.args.map c.args.octets.now ≡ Some c.in-Err.fault → P (Ok (Refused (Link c.in-Err.fault))))
+      → P c.answer_to_refusal.result
+  refuses P memory each =
+      refused P memory c.in-Err.fault (submit_fault s c.args.map c.args.octets.now) c.prepare.result c.in-Err.is
+      c.prepare.ensures.refused c.prepare.ensures.memory each c.answer_to_refusal.result c.answer_to_refusal.ensures
+
+  reply_before : IfOk c.answer_to_refusal.result (IsReplyTo before event)
+  reply_before =
+      refuses (λ x. IfOk x (IsReplyTo before event)) tt (ap (λ reason. Ok (reply_to_submission (unless reason).answer)))
+
+  after_before : OnOk c.answer_to_refusal.result (before ≡ (world_step before event).after)
+  after_before =
+      refuses (λ x. OnOk x (before ≡ (world_step before event).after)) tt
+      (λ why. ap (λ ps. record before { session = record before.session { submissions = ps } })
+      (sym (append-nil before.session.submissions))
+      ∙ sym (ap (λ reason. (world_after_submission before (packet_on c.args.map c.args.octets.now)
+      (unless reason)).after) why))
+
+pub returns-in-Err-clause-reply : goal.returns-in-Err-clause-reply
+returns-in-Err-clause-reply c =
+    subst (λ (w : World). IfOk c.answer_to_refusal.result (IsReplyTo w (event c))) c.self.view_is (reply_before c)
+
+pub returns-in-Err-clause-after : goal.returns-in-Err-clause-after
+returns-in-Err-clause-after c =
+    subst (λ (w : World). OnOk c.answer_to_refusal.result (w ≡ (world_step w (event c)).after)) c.self.view_is
+    (after_before c)
+
+pub returns-in-Err-clause-err : goal.returns-in-Err-clause-err
+returns-in-Err-clause-err c = refuses c (λ x. OnErr x (c.args.self.now ≡ c.args.self.now)) refl (λ why. tt)
+
+pub returns-in-Err-clause-memory : goal.returns-in-Err-clause-memory
+returns-in-Err-clause-memory c = refuses c (λ x. IsOkUnless x Memory) refl (λ why. tt)
+
+pub returns-in-Err-clause-none : goal.returns-in-Err-clause-none
+returns-in-Err-clause-none c =
+    subst (λ (w : World). IsSome (submit_fault w.ground_node c.args.map c.args.octets.now)
+    → c.answer_to_refusal.result ≢ Err Memory) c.self.view_is
+    (λ some. refused_for c.in-Err.fault (submit_fault (s c) c.args.map c.args.octets.now) c.prepare.result c.in-Err.is
+    c.prepare.ensures.refused (submit_never (s c) c.args.map c.args.octets.now) some c.answer_to_refusal.result
+    c.answer_to_refusal.ensures)

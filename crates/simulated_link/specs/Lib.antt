@@ -1,0 +1,7 @@
+pub mod Acceptance
+pub mod Events
+pub mod MapLists
+pub mod Replies
+pub mod SimFaults
+pub mod World
+pub mod WorldFields

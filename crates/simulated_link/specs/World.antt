@@ -1,0 +1,404 @@
+-- A simulated link: its world, and what each event answers and leaves. Each direction keeps its
+-- order, and loses or damages frames only so that the receiver sees it.
+use Rattle.std.specs.Prelude.{◌≡◌, ◌⊎◌, option_map, ℕ, List, [], ◌∷◌, ◌++◌, length, take, drop, map}
+use Rattle.std.specs.Prelude.{flat_map, filter, Bool, true, false, ◌&&◌, ◌||◌, ◌==◌, if◌then◌else◌}
+use Rattle.std.specs.Prelude.{◌+◌, Option, Some, None, Result, Ok, Err}
+use Rattle.std.specs.List.{list_all}
+use Rattle.clcw.specs.declared.word.Clcw.{Clcw}
+use Rattle.clcw.specs.declared.fault.ClcwFault.{ClcwFault}
+use Rattle.clcw.specs.Flags.{flags_number}
+use Rattle.clcw.specs.Reading.{clcw_at}
+use Rattle.tc_frame.specs.declared.frame.Check.TheVariants.{On}
+use Rattle.tc_frame.specs.declared.fault.TcFault.{TcFault}
+use Rattle.tc_frame.specs.Layout.{SegmentView, BodyView, Ad, Bd, Bc, FrameView, segment_octets}
+use Rattle.tc_frame.specs.Reading as command
+use Rattle.tc_frame.specs.Writing.{spelling}
+use Rattle.map_service.specs.Assembly.{assembled}
+use Rattle.map_service.specs.Packets.{packets_in}
+use Rattle.cop1.specs.Modulo.{ahead_by}
+use Rattle.cop1.specs.Report.{report_of}
+use Rattle.cop1.specs.declared.fault.CopFault.{CopFault}
+use Rattle.cop1.specs.declared.vocabulary.Alert.{Alert}
+use Rattle.cop1.specs.declared.vocabulary.Directive.{Directive}
+use Rattle.cop1.specs.declared.vocabulary.Directive.TheVariants.{InitWithoutCheck}
+use Rattle.cop1.specs.declared.vocabulary.FopMode.{FopMode}
+use Rattle.cop1.specs.declared.vocabulary.FopMode.TheVariants.{S1, S4, S5}
+use Rattle.cop1.specs.Directives.{is_initiation}
+use Rattle.tm_link.specs.declared.fault.TmFault.{TmFault}
+use Rattle.tm_link.specs.Layout as telemetry
+use Rattle.tm_link.specs.Reading as telemetry_reading
+use Rattle.tm_link.specs.Writing as telemetry_writing
+use Rattle.nodes.specs.declared.config.Config.{Config}
+use Rattle.link_events.specs.declared.event.Event.{Event}
+use Rattle.link_events.specs.declared.event.Event.TheVariants as events
+use Rattle.nodes.specs.declared.fault.LinkFault.{LinkFault}
+use Rattle.nodes.specs.declared.heard.Heard.{Heard}
+use Rattle.nodes.specs.declared.heard.Heard.TheVariants as heard_cases
+use Rattle.nodes.specs.declared.received.Received.{Received}
+use Rattle.nodes.specs.declared.received.Received.TheVariants as received_cases
+use Rattle.simulated_link.specs.declared.opening.Opening.{Opening}
+use Rattle.simulated_link.specs.declared.fault.SimFault.{SimFault}
+use Rattle.simulated_link.specs.declared.fault.SimFault.TheVariants.{NothingInTransit}
+use Rattle.simulated_link.specs.declared.fault.SimFault.TheVariants.{NotDetectable}
+use Rattle.nodes.specs.Parameters.{limits_of}
+use Rattle.nodes.specs.Packets.{PacketOn, packet_on}
+use Rattle.nodes.specs.Ground.{GroundState, GroundOutcome, is_closed, new_ground, ground_step}
+use Rattle.nodes.specs.Ground as ground_calls
+use Rattle.nodes.specs.Spacecraft.{SpacecraftState, SpacecraftOutcome, new_spacecraft}
+use Rattle.nodes.specs.Spacecraft.{spacecraft_step}
+use Rattle.nodes.specs.Spacecraft as spacecraft_calls
+use Rattle.simulated_link.specs.Replies.{ReplyView, Nothing, Lost, Sent, Reported, Up, Down}
+use Rattle.simulated_link.specs.Replies.{reply_to_submission, reply_to_directive, reply_to_alert}
+use Rattle.simulated_link.specs.Replies.{reply_to_taking, reply_to_telemetry}
+
+-- the records of the session, which lasts until the next one begins; none has begun at first
+pub record Session : Type 0 where
+  pub opening : Option Opening
+  -- the ground has come from S4 or S5 to S1
+  pub confirmed : Bool
+  -- the octets of each submission that was accepted, with its MAP
+  pub submissions : List PacketOn
+  -- the data fields of Type-AD frames, in the order in which they were first sent; how many first
+  -- ones are acknowledged
+  pub sent : List (List ℕ)
+  pub acknowledged : ℕ
+  -- the number of segments that had been accepted on board when the session began
+  pub before : ℕ
+
+-- the two nodes, what is on its way between them, the oldest first, and the records
+pub record World : Type 0 where
+  pub ground_node : GroundState
+  pub spacecraft : SpacecraftState
+  pub up : List (List ℕ)
+  pub down : List (List ℕ)
+  pub session : Session
+
+-- what an event answers, and the world after it
+pub record WorldOutcome : Type 0 where
+  pub answer : Result ReplyView SimFault
+  pub after : World
+
+abbrev pub no_session : Session
+no_session = record {
+  opening = None;
+  confirmed = false;
+  submissions = [];
+  sent = [];
+  acknowledged = 0;
+  before = 0;
+}
+
+abbrev pub new_world : Config → World
+new_world c = record {
+  ground_node = new_ground c;
+  spacecraft = new_spacecraft c;
+  up = [];
+  down = [];
+  session = no_session;
+}
+
+-- ---- the records
+
+-- the packets that were submitted on a MAP
+abbrev pub submitted : World → ℕ → List (List ℕ)
+submitted w m =
+    flat_map (λ (p : PacketOn). packets_in p.octets)
+    (filter (λ (p : PacketOn). p.on_map == m) w.session.submissions)
+
+-- the data fields of the frames that were accepted on board since the session began
+abbrev pub accepted : World → List (List ℕ)
+accepted w = map segment_octets (drop w.session.before w.spacecraft.accepted)
+
+-- what the segments accepted in the whole run give on a MAP
+abbrev pub assembled_on : World → ℕ → List SegmentView → List (List ℕ)
+assembled_on w m segments = assembled (limits_of w.spacecraft.config) m segments
+
+-- the packets that are ready on board since the session began, taken or not
+abbrev pub delivered : World → ℕ → List (List ℕ)
+delivered w m =
+    drop (length (assembled_on w m (take w.session.before w.spacecraft.accepted)))
+    (assembled_on w m w.spacecraft.accepted)
+
+-- ---- what a session is
+
+-- the session began clean
+abbrev pub IsClean : World → Type 0
+IsClean w = option_map (λ (o : Opening). o.clean) w.session.opening ≡ Some true
+
+-- it had an idle start
+abbrev pub IsIdle : World → Type 0
+IsIdle w = option_map (λ (o : Opening). o.idle) w.session.opening ≡ Some true
+
+-- the directive that began it
+abbrev pub directive_of : World → Option Directive
+directive_of w = option_map (λ (o : Opening). o.directive) w.session.opening
+
+-- a report has confirmed it, or it was begun without a check
+abbrev pub IsSettled : World → Type 0
+IsSettled w = (w.session.confirmed ≡ true) ⊎ (directive_of w ≡ Some InitWithoutCheck)
+
+abbrev pub is_none : {A : Type 0} → List A → Bool
+is_none [] = true
+is_none (x ∷ xs) = false
+
+-- nothing is on its way
+abbrev pub is_quiet : World → Bool
+is_quiet w = is_none w.up && is_none w.down
+
+-- an initiation begins a clean session in a quiet world, and without a check only where V(R) = V(S)
+abbrev pub begins_clean : World → Directive → Bool
+begins_clean w InitWithoutCheck = is_quiet w && (w.spacecraft.farm.vr == w.ground_node.fop.vs)
+begins_clean w directive = is_initiation directive && is_quiet w
+
+-- a report has the value and the flags of this one; its FARM-B may differ
+abbrev pub says_as : Clcw → Result Clcw ClcwFault → Bool
+says_as now (Ok report) =
+    (report.value == now.value) && (flags_number report.flags == flags_number now.flags)
+says_as now (Err fault) = false
+
+-- a telemetry frame carries such a report
+abbrev pub reports_as : Clcw → Result telemetry.FrameView TmFault → Bool
+reports_as now (Ok frame) = says_as now (clcw_at frame.ocf)
+reports_as now (Err fault) = false
+
+-- what the receiver would report now
+abbrev pub report_now : World → Clcw
+report_now w = report_of w.spacecraft.farm w.spacecraft.config.vcid
+
+-- nothing is on its way up, and each frame on its way down reports what the receiver would now
+abbrev pub is_idle : World → Bool
+is_idle w =
+    is_none w.up && list_all (λ (octets : List ℕ). reports_as (report_now w)
+    (telemetry_reading.frame_at w.ground_node.config.frame_length octets)) w.down
+
+-- an initiation begins a session by an idle start in such a world, and without a check only where
+-- V(R) = V(S)
+abbrev pub begins_idle : World → Directive → Bool
+begins_idle w InitWithoutCheck = is_idle w && (w.spacecraft.farm.vr == w.ground_node.fop.vs)
+begins_idle w directive = is_initiation directive && is_idle w
+
+-- no session begins with an event: it is no initiation, or it comes while the sender is not in S6
+abbrev pub BeginsNoSession : World → Event → Type 0
+BeginsNoSession w event =
+    (directive : Directive) → event ≡ events.Directive directive → is_initiation directive ≡ true
+    → is_closed w.ground_node.fop.state ≡ false
+
+-- a session begins
+abbrev pub session_begun : World → Opening → Session
+session_begun w opening = record {
+  opening = Some opening;
+  confirmed = false;
+  submissions = [];
+  sent = [];
+  acknowledged = 0;
+  before = length w.spacecraft.accepted;
+}
+
+-- it begins with an initiation
+abbrev pub session_begun_by : World → Directive → Session
+session_begun_by w directive =
+    session_begun w (record {
+      directive = directive;
+      clean = begins_clean w directive;
+      idle = begins_idle w directive;
+    })
+
+abbrev pub is_initialising : FopMode → Bool
+is_initialising S4 = true
+is_initialising S5 = true
+is_initialising _ = false
+
+-- a report takes the ground from S4 or S5 to S1
+abbrev pub is_confirmation : FopMode → FopMode → Bool
+is_confirmation old S1 = is_initialising old
+is_confirmation old _ = false
+
+-- ---- events
+
+abbrev pub world_refusal : World → SimFault → WorldOutcome
+world_refusal w fault = record { answer = Err fault; after = w }
+
+abbrev pub world_reply : ReplyView → World → WorldOutcome
+world_reply reply after = record { answer = Ok reply; after = after }
+
+-- packets are submitted
+
+abbrev pub submission_of : PacketOn → Result (Unit {0}) LinkFault → List PacketOn
+submission_of p (Ok done) = p ∷ []
+submission_of p (Err fault) = []
+
+abbrev pub world_after_submission : World → PacketOn → GroundOutcome (Result (Unit {0}) LinkFault)
+    → WorldOutcome
+world_after_submission w p o = world_reply (reply_to_submission o.answer) (record w {
+  ground_node = o.after;
+  session = record w.session { submissions = w.session.submissions ++ submission_of p o.answer };
+})
+
+abbrev pub world_after_bypass : World → GroundOutcome (Result (Unit {0}) LinkFault) → WorldOutcome
+world_after_bypass w o =
+    world_reply (reply_to_submission o.answer) (record w { ground_node = o.after })
+
+-- a directive
+
+abbrev pub session_after_directive : World → Directive → Result (Option Alert) CopFault → Session
+session_after_directive w directive (Ok alert) =
+    if is_initiation directive then session_begun_by w directive
+    else w.session
+session_after_directive w directive (Err fault) = w.session
+
+abbrev pub world_after_directive : World → Directive
+    → GroundOutcome (Result (Option Alert) CopFault) → WorldOutcome
+world_after_directive w directive o =
+    world_reply (reply_to_directive o.answer) (record w {
+      ground_node = o.after;
+      session = session_after_directive w directive o.answer;
+    })
+
+-- the ground sends a frame; a Type-AD frame is first sent where V(S) is its number
+
+abbrev pub first_sent : ℕ → BodyView → List (List ℕ)
+first_sent vs (Ad n segment) = if n == vs then segment_octets segment ∷ [] else []
+first_sent vs (Bd segment) = []
+first_sent vs (Bc command) = []
+
+-- of the frame that goes next, where one does
+abbrev pub first_in : ℕ → Option FrameView → List (List ℕ)
+first_in vs None = []
+first_in vs (Some frame) = first_sent vs frame.body
+
+abbrev pub world_after_pull : World → GroundState → Option FrameView → WorldOutcome
+world_after_pull w after None = world_reply Nothing (record w { ground_node = after })
+world_after_pull w after (Some frame) = world_reply (Sent (spelling On frame)) (record w {
+  ground_node = after;
+  up = w.up ++ spelling On frame ∷ [];
+  session =
+      record w.session { sent = w.session.sent ++ first_sent w.ground_node.fop.vs frame.body };
+})
+
+abbrev pub world_after_send : World → GroundOutcome (Option FrameView) → WorldOutcome
+world_after_send w o = world_after_pull w o.after o.answer
+
+-- the first frame on its way up arrives, is lost or is damaged
+
+abbrev pub world_after_receipt : World → List (List ℕ) → SpacecraftOutcome Received → WorldOutcome
+world_after_receipt w up o = world_reply (Up o.answer) (record w { up = up; spacecraft = o.after })
+
+abbrev pub up_deliver_step : World → List (List ℕ) → WorldOutcome
+up_deliver_step w [] = world_refusal w NothingInTransit
+up_deliver_step w (octets ∷ up) =
+    world_after_receipt w up (spacecraft_step w.spacecraft (spacecraft_calls.Receive octets))
+
+abbrev pub up_lose_step : World → List (List ℕ) → WorldOutcome
+up_lose_step w [] = world_refusal w NothingInTransit
+up_lose_step w (octets ∷ up) = world_reply Lost (record w { up = up })
+
+abbrev pub up_damage_outcome : World → List (List ℕ) → Result FrameView TcFault → WorldOutcome
+up_damage_outcome w up (Ok frame) = world_refusal w NotDetectable
+up_damage_outcome w up (Err fault) =
+    world_reply (Up (received_cases.Invalid fault)) (record w { up = up })
+
+abbrev pub up_damage_step : World → List (List ℕ) → List ℕ → WorldOutcome
+up_damage_step w [] damaged = world_refusal w NothingInTransit
+up_damage_step w (octets ∷ up) damaged = up_damage_outcome w up (command.frame_at On damaged)
+
+-- the spacecraft sends a telemetry frame
+
+abbrev pub world_after_report : World → SpacecraftOutcome telemetry.FrameView → WorldOutcome
+world_after_report w o =
+    world_reply (Reported (report_of w.spacecraft.farm w.spacecraft.config.vcid)) (record w {
+      spacecraft = o.after;
+      down = w.down ++ telemetry_writing.spelling o.answer ∷ [];
+    })
+
+-- the first frame on its way down arrives, is lost or is damaged; NN(R) counts what is acknowledged
+
+abbrev pub session_after_report : Session → GroundState → GroundState → Session
+session_after_report s old new = record s {
+  confirmed = s.confirmed || is_confirmation old.fop.state new.fop.state;
+  acknowledged = s.acknowledged + ahead_by new.fop.nn old.fop.nn;
+}
+
+abbrev pub world_after_telemetry : World → List (List ℕ) → GroundOutcome Heard → WorldOutcome
+world_after_telemetry w down o =
+    world_reply (Down o.answer) (record w {
+      ground_node = o.after;
+      down = down;
+      session = session_after_report w.session w.ground_node o.after;
+    })
+
+abbrev pub down_deliver_step : World → List (List ℕ) → WorldOutcome
+down_deliver_step w [] = world_refusal w NothingInTransit
+down_deliver_step w (octets ∷ down) =
+    world_after_telemetry w down (ground_step w.ground_node (ground_calls.Telemetry octets))
+
+abbrev pub down_lose_step : World → List (List ℕ) → WorldOutcome
+down_lose_step w [] = world_refusal w NothingInTransit
+down_lose_step w (octets ∷ down) = world_reply Lost (record w { down = down })
+
+abbrev pub down_damage_outcome : World → List (List ℕ) → Result telemetry.FrameView TmFault
+    → WorldOutcome
+down_damage_outcome w down (Ok frame) = world_refusal w NotDetectable
+down_damage_outcome w down (Err fault) =
+    world_reply (Down (heard_cases.Invalid fault)) (record w { down = down })
+
+abbrev pub down_damage_step : World → List (List ℕ) → List ℕ → WorldOutcome
+down_damage_step w [] damaged = world_refusal w NothingInTransit
+down_damage_step w (octets ∷ down) damaged =
+    down_damage_outcome w down
+    (telemetry_reading.frame_at w.ground_node.config.frame_length damaged)
+
+-- a tick passes, packets are taken on board, and telemetry is queued there
+
+abbrev pub world_after_tick : World → GroundOutcome (Option Alert) → WorldOutcome
+world_after_tick w o = world_reply (reply_to_alert o.answer) (record w { ground_node = o.after })
+
+abbrev pub world_after_take : World → SpacecraftOutcome (Option PacketOn) → WorldOutcome
+world_after_take w o = world_reply (reply_to_taking o.answer) (record w { spacecraft = o.after })
+
+abbrev pub world_after_queueing : World → SpacecraftOutcome (Result (Unit {0}) TmFault)
+    → WorldOutcome
+world_after_queueing w o =
+    world_reply (reply_to_telemetry o.answer) (record w { spacecraft = o.after })
+
+-- ---- all events
+
+abbrev pub world_step : World → Event → WorldOutcome
+world_step w (events.Submit m octets) =
+    world_after_submission w (packet_on m octets.now)
+    (ground_step w.ground_node (ground_calls.Submit m octets.now))
+world_step w (events.Bypass m octets) =
+    world_after_bypass w (ground_step w.ground_node (ground_calls.Bypass m octets.now))
+world_step w (events.Directive directive) =
+    world_after_directive w directive (ground_step w.ground_node (ground_calls.Direct directive))
+world_step w events.Send = world_after_send w (ground_step w.ground_node ground_calls.Pull)
+world_step w events.UpDeliver = up_deliver_step w w.up
+world_step w events.UpLose = up_lose_step w w.up
+world_step w (events.UpDamage octets) = up_damage_step w w.up octets.now
+world_step w events.Report =
+    world_after_report w (spacecraft_step w.spacecraft spacecraft_calls.Report)
+world_step w events.DownDeliver = down_deliver_step w w.down
+world_step w events.DownLose = down_lose_step w w.down
+world_step w (events.DownDamage octets) = down_damage_step w w.down octets.now
+world_step w events.Tick = world_after_tick w (ground_step w.ground_node ground_calls.Tick)
+world_step w events.Take = world_after_take w (spacecraft_step w.spacecraft spacecraft_calls.Take)
+world_step w events.TakeBypass =
+    world_after_take w (spacecraft_step w.spacecraft spacecraft_calls.TakeBypass)
+world_step w (events.Telemetry octets) =
+    world_after_queueing w (spacecraft_step w.spacecraft (spacecraft_calls.Telemetry octets.now))
+
+-- ---- a run: where it leads, and what it answers to each event
+
+abbrev pub world_run : World → List Event → World
+world_run w [] = w
+world_run w (event ∷ more) = world_run (world_step w event).after more
+
+abbrev pub run_answers : World → List Event → List (Result ReplyView SimFault)
+run_answers w [] = []
+run_answers w (event ∷ more) =
+    (world_step w event).answer ∷ run_answers (world_step w event).after more
+
+-- no session begins with any of these events
+abbrev pub KeepsSession : World → List Event → Type 0
+KeepsSession w [] = Unit {0}
+KeepsSession w (event ∷ more) =
+    BeginsNoSession w event × KeepsSession (world_step w event).after more

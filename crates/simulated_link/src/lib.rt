@@ -1,0 +1,24 @@
+//! A simulated telecommand link with COP-1 (CCSDS 232.0-B-4, 232.1-B-2), as docs/PROFILE.md has it.
+//!
+//! A `World` is both nodes with a link between them, which keeps its order in each direction, and
+//! loses or damages frames only so that the receiver sees it. Events happen to it, and it keeps records
+//! of the session. What is promised of a session stands in `tc_link`.
+#![tactic(auto)]
+
+mod acceptance;
+mod copying;
+mod fault;
+mod map_lists;
+mod opening;
+mod outgoing;
+mod putting;
+mod refusal;
+mod reply;
+mod session;
+mod world;
+
+pub use fault::SimFault;
+pub use link_events::Event;
+pub use opening::Opening;
+pub use reply::{NodeFault, Reply};
+pub use world::World;

@@ -1,0 +1,18 @@
+// The records of a session.
+
+use crate::opening::Opening;
+
+/// The records of the session, which lasts until the next one begins.
+#[derive(Drop)]
+pub(crate) struct Session {
+    pub(crate) opening: Option<Opening>,
+    pub(crate) confirmed: bool,
+    pub(crate) submissions: Vec<(u8, Vec<u8>)>,
+    // The packets of the session, for each MAP.
+    pub(crate) submitted: [Vec<Vec<u8>>; 64],
+    pub(crate) delivered: [Vec<Vec<u8>>; 64],
+    pub(crate) sent: Vec<Vec<u8>>,
+    pub(crate) acknowledged: usize,
+    // As many segments had been accepted on board when it began.
+    pub(crate) before: usize,
+}

@@ -1,0 +1,146 @@
+// The world of a simulated link.
+
+mod accepting;
+mod calls;
+mod downward;
+mod losing;
+mod stepping;
+mod upward;
+
+use crate::fault::SimFault;
+use crate::map_lists::{no_packets, packets_of};
+use crate::opening::Opening;
+use crate::session::Session;
+use nodes::{Ground, Spacecraft, ValidConfig};
+use std::alloc::Global;
+use std::collections::VecDeque;
+use std::marker::Model;
+
+/// Two nodes, what is on its way between them, and the records of the session, which begins with each
+/// initiation directive that the ground accepts.
+#[derive(Drop)]
+pub struct World {
+    alloc: Global,
+    ground_node: Ground,
+    spacecraft: Spacecraft,
+    up: VecDeque<Vec<u8>>,
+    down: VecDeque<Vec<u8>>,
+    session: Session,
+    // The data fields that were accepted in the whole run.
+    accepted: Vec<Vec<u8>>,
+}
+
+impl Model for World {
+    ghost use Rattle.simulated_link.specs.World.{World};
+
+    ghost Value = { World };
+
+    ghost use Rattle.simulated_link.specs.WorldFields.{world_of, IsSound};
+
+    ghost view = { world_of };
+
+    ghost invariant = { IsSound };
+}
+
+impl World {
+    ghost use Rattle.std.specs.Prelude.{◌≡◌, map, IfOk, IsOkUnless};
+    ghost use Rattle.tm_link.specs.Extraction.{octets_of};
+    ghost use Rattle.nodes.specs.Packets.{packet_view};
+    ghost use Rattle.simulated_link.specs.World.{new_world, submitted, accepted, delivered};
+
+    /// Two new nodes, and nothing between them.
+    /// Faults: 6 Memory. Memory: yes.
+    pub fn new(alloc: Global, config: &ValidConfig) -> Result<World, SimFault>
+        ensures made { IfOk result (λ world. world ≡ new_world config.now) }
+        ensures fault { IsOkUnless result SimFault.Memory }
+    {
+        let Ok(ground_node) = Ground::of(alloc, config) else {
+            return Err(SimFault::Memory);
+        };
+        let Ok(spacecraft) = Spacecraft::of(alloc, config) else {
+            return Err(SimFault::Memory);
+        };
+        Ok(World {
+            alloc,
+            ground_node,
+            spacecraft,
+            up: VecDeque::new(alloc),
+            down: VecDeque::new(alloc),
+            session: Session {
+                opening: None,
+                confirmed: false,
+                submissions: Vec::new(alloc),
+                submitted: no_packets(alloc),
+                delivered: no_packets(alloc),
+                sent: Vec::new(alloc),
+                acknowledged: 0,
+                before: 0,
+            },
+            accepted: Vec::new(alloc),
+        })
+    }
+
+    /// The node on the ground.
+    pub fn ground_node(&self) -> &Ground
+        ensures { result.now ≡ self.now.ground_node }
+    {
+        &self.ground_node
+    }
+
+    /// How the session began. None before any.
+    pub fn opening(&self) -> Option<Opening>
+        ensures { result ≡ self.now.session.opening }
+    {
+        self.session.opening
+    }
+
+    /// Whether a report has taken the ground from S4 or S5 to S1 in the session.
+    pub fn confirmed(&self) -> bool
+        ensures { result ≡ self.now.session.confirmed }
+    {
+        self.session.confirmed
+    }
+
+    /// The octets of each submission that was accepted in the session, with its MAP.
+    pub fn submissions(&self) -> &[(u8, Vec<u8>)]
+        ensures { map packet_view result.now ≡ self.now.session.submissions }
+    {
+        self.session.submissions.as_slice()
+    }
+
+    /// The packets of these submissions on a MAP, in their order; above MAP 63 there are none.
+    pub fn submitted(&self, map: u8) -> &[Vec<u8>]
+        ensures { octets_of result.now ≡ submitted self.now map }
+    {
+        packets_of(&self.session.submitted, map)
+    }
+
+    /// The packets that are ready on board on a MAP since the session began, taken or not, in their
+    /// order; above MAP 63 there are none.
+    pub fn delivered(&self, map: u8) -> &[Vec<u8>]
+        ensures { octets_of result.now ≡ delivered self.now map }
+    {
+        packets_of(&self.session.delivered, map)
+    }
+
+    /// The data fields of the session's Type-AD frames, in the order in which they were first sent.
+    pub fn sent(&self) -> &[Vec<u8>]
+        ensures { octets_of result.now ≡ self.now.session.sent }
+    {
+        self.session.sent.as_slice()
+    }
+
+    /// How many of the first ones of `sent` the ground holds acknowledged.
+    pub fn acknowledged(&self) -> usize
+        ensures { result ≡ self.now.session.acknowledged }
+    {
+        self.session.acknowledged
+    }
+
+    /// The data fields of the Type-AD frames that were accepted on board since the session began.
+    pub fn accepted(&self) -> &[Vec<u8>]
+        ensures { octets_of result.now ≡ accepted self.now }
+    {
+        self.accepted.split_at(self.session.before).1
+    }
+}

@@ -1,0 +1,135 @@
+// What goes to the spacecraft: telecommand frames.
+
+ghost use Rattle.std.specs.Prelude.{◌≡◌, ◌≢◌, ◌<◌, ◌++◌, IfOk, IsOkUnless, option_to_list, option_map};
+ghost use Rattle.std.specs.Vec.{vec_len, vec_capacity};
+ghost use Rattle.map_service.specs.Views.{packets_view};
+ghost use Rattle.nodes.specs.Commands.{slices_view};
+ghost use Rattle.tm_link.specs.Extraction.{octets_of};
+
+use super::World;
+use super::accepting::{make_room_for, record_accepted};
+use crate::acceptance::acceptance_of;
+use crate::fault::SimFault;
+use crate::map_lists::{append_on, make_room};
+use crate::outgoing::next_frame;
+use crate::refusal::answer_to_refusal;
+use crate::reply::Reply;
+use link_events::Event;
+use std::alloc::{AllocError, Global};
+
+impl World {
+    ghost use Rattle.std.specs.Prelude.{Ok, Err, IfErr, OnOk, OnErr};
+    ghost use Rattle.simulated_link.specs.Events.{IsReplyTo, TakesNone};
+    ghost use Rattle.simulated_link.specs.World.{world_step};
+
+    pub(crate) fn submit(&mut self, map: u8, octets: &[u8]) -> Result<Reply, SimFault>
+        ensures reply { IfOk result (IsReplyTo self.old (Event.Submit map octets.entry)) }
+        ensures after { OnOk result
+            (self.new ≡ (world_step self.old (Event.Submit map octets.entry)).after) }
+        ensures err { OnErr result (self.new ≡ self.old) }
+        ensures memory { IsOkUnless result SimFault.Memory }
+        ensures none { TakesNone self.old (Event.Submit map octets.entry) → result ≢ Err SimFault.Memory }
+    {
+        let submission = match self.ground_node.prepare(map, octets) {
+            Ok(submission) => submission,
+            Err(fault) => return answer_to_refusal(fault),
+        };
+        let Ok(copy) = Vec::from_slice(self.alloc, octets) else {
+            return Err(SimFault::Memory);
+        };
+        let Ok(packets) = copied(self.alloc, submission.packets()) else {
+            return Err(SimFault::Memory);
+        };
+        if self.session.submissions.try_reserve(1).is_err()
+            || make_room(&mut self.session.submitted, map, packets.len()).is_err()
+        {
+            return Err(SimFault::Memory);
+        }
+        self.ground_node.commit(submission);
+        self.session.submissions.push_reserved((map, copy));
+        append_on(&mut self.session.submitted, map, packets);
+        Ok(Reply::Done)
+    }
+
+    pub(crate) fn bypass(&mut self, map: u8, octets: &[u8]) -> Result<Reply, SimFault>
+        ensures reply { IfOk result (IsReplyTo self.old (Event.Bypass map octets.entry)) }
+        ensures after { OnOk result
+            (self.new ≡ (world_step self.old (Event.Bypass map octets.entry)).after) }
+        ensures err { OnErr result (self.new ≡ self.old) }
+        ensures memory { IsOkUnless result SimFault.Memory }
+        ensures none { TakesNone self.old (Event.Bypass map octets.entry) → result ≢ Err SimFault.Memory }
+    {
+        match self.ground_node.bypass(map, octets) {
+            Ok(()) => Ok(Reply::Done),
+            Err(fault) => answer_to_refusal(fault),
+        }
+    }
+
+    pub(crate) fn send(&mut self) -> Result<Reply, SimFault>
+        ensures reply { IfOk result (IsReplyTo self.old Event.Send) }
+        ensures after { OnOk result (self.new ≡ (world_step self.old Event.Send).after) }
+        ensures err { OnErr result (self.new ≡ self.old) }
+        ensures memory { IsOkUnless result SimFault.Memory }
+    {
+        let Some(outgoing) = next_frame(self.alloc, &self.ground_node)? else {
+            self.ground_node.advance();
+            return Ok(Reply::Nothing);
+        };
+        if self.up.try_reserve(1).is_err() || self.session.sent.try_reserve(1).is_err() {
+            return Err(SimFault::Memory);
+        }
+        self.ground_node.advance();
+        self.up.push_back_reserved(outgoing.octets);
+        push_some(&mut self.session.sent, outgoing.field);
+        Ok(Reply::Sent(outgoing.copy))
+    }
+
+    pub(crate) fn up_deliver(&mut self) -> Result<Reply, SimFault>
+        ensures reply { IfOk result (IsReplyTo self.old Event.UpDeliver) }
+        ensures after { OnOk result (self.new ≡ (world_step self.old Event.UpDeliver).after) }
+        ensures err { OnErr result (self.new ≡ self.old) }
+        ensures refused { IfErr (world_step self.old Event.UpDeliver).answer (λ e. result ≡ Err e) }
+        ensures memory { IfOk (world_step self.old Event.UpDeliver).answer
+            (λ _. IsOkUnless result SimFault.Memory) }
+        ensures none { TakesNone self.old Event.UpDeliver → result ≢ Err SimFault.Memory }
+    {
+        let Some(octets) = self.up.front() else {
+            return Err(SimFault::NothingInTransit);
+        };
+        let Ok(arrival) = self.spacecraft.prepare(octets) else {
+            return Err(SimFault::Memory);
+        };
+        let Ok(acceptance) = acceptance_of(self.alloc, &arrival) else {
+            return Err(SimFault::Memory);
+        };
+        if make_room_for(&mut self.accepted, &mut self.session.delivered, &acceptance).is_err() {
+            return Err(SimFault::Memory);
+        }
+        let received = self.spacecraft.commit(arrival);
+        let _ = self.up.pop_front();
+        record_accepted(&mut self.accepted, &mut self.session.delivered, acceptance);
+        Ok(Reply::Up(received))
+    }
+}
+
+// Packets, each copied.
+fn copied(alloc: Global, packets: &[&[u8]]) -> Result<Vec<Vec<u8>>, AllocError>
+    ensures { IfOk result (λ copies. packets_view copies ≡ slices_view packets.now) }
+{
+    let mut copies = Vec::with_capacity(alloc, packets.len())?;
+    for packet in packets {
+        copies.push(Vec::from_slice(alloc, packet)?)?;
+    }
+    Ok(copies)
+}
+
+// Puts a field, where there is one, after those that there are.
+fn push_some(fields: &mut Vec<Vec<u8>>, field: Option<Vec<u8>>)
+    requires { vec_len fields.old < vec_capacity fields.old }
+    ensures items { octets_of fields.new.items
+        ≡ octets_of fields.old.items ++ option_to_list (option_map (λ v. v.items) field) }
+{
+    if let Some(field) = field {
+        fields.push_reserved(field);
+    }
+}

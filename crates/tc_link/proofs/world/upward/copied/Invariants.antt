@@ -1,6 +1,0 @@
-use Rattle.tc_link.proofs.Common.{◌≡◌, take, packets_view}
-use Rattle.nodes.specs.Commands.{slices_view}
-use Rattle.tc_link.proofs.world.upward.copied.Given as goal
-
-abbrev pub invariant-loop-packet : goal.invariant-loop-packet
-invariant-loop-packet l = packets_view l.copies ≡ slices_view (take l.packet-index l.packets)
