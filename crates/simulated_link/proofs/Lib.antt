@@ -10,3 +10,4 @@ pub mod Refusals
 pub mod Refusing
 pub mod Reported
 pub mod Sending
+pub mod Transit
