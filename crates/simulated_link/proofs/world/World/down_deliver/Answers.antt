@@ -1,7 +1,34 @@
 use Rattle.simulated_link.proofs.Common.{◌≡◌, ◌≤◌, ◌+◌, length, sym, subst, arith, ahead_by, GroundState}
+use Rattle.simulated_link.proofs.Common.{[], ◌∷◌, ℕ, List, drop, refl, ap, ◌∙◌, octets_of, Ok, Down, World}
+use Rattle.simulated_link.proofs.Common.{WorldOutcome, world_step, down_deliver_step, FopMode}
+use Rattle.std.specs.Prelude.{◌||◌}
 use Rattle.tm_link.specs.Reading.{frame_at}
+use Rattle.link_events.specs.declared.event.Event.TheVariants.{DownDeliver}
+use Rattle.simulated_link.specs.World.{is_confirmation, world_after_telemetry}
+use Rattle.simulated_link.specs.WorldFields.{world_of, IsSound}
+use Rattle.simulated_link.proofs.Transit.{none_there, first_there, down_may_lack}
 use Rattle.simulated_link.proofs.Counted.{heard_less}
+use Rattle.simulated_link.proofs.world.World.down_deliver.Goals.{then-self, else-self}
 use Rattle.simulated_link.proofs.world.World.down_deliver.Goals as goal
+
+-- NN(R) has moved so far
+moved : (c : goal.After-self-2-1)
+    → c.from.result ≡ ahead_by c.telemetry.new.self.fop.nn c.self.inside.ground_node.fop.nn
+moved c =
+    c.from.ensures ∙ ap (λ (n : ℕ). ahead_by n c.nn-nn.result) c.nn.ensures
+    ∙ ap (ahead_by c.telemetry.new.self.fop.nn) c.nn-nn.ensures
+
+confirmed : (c : goal.After-self-2-1) → c.if-self.self
+    ≡ (c.self.inside.session.confirmed
+    || is_confirmation c.self.inside.ground_node.fop.state c.telemetry.new.self.fop.state)
+confirmed c =
+    elim c.if-self.branch [
+      | then-self w ↦ rw (w.self-is, w.if-self.true) refl
+      | else-self w ↦ rw w.if-self.false
+          (w.self-is ∙ w.is_confirmation-self-inside.ensures
+          ∙ ap (λ (m : FopMode). is_confirmation m w.state.result) c.state-mode.ensures.state
+          ∙ ap (is_confirmation c.self.inside.ground_node.fop.state) w.state.ensures.state)
+    ]
 
 pub invariant_of-self-2 : goal.invariant_of-self-2
 invariant_of-self-2 c =
@@ -12,8 +39,62 @@ invariant_of-self-2 c =
     (sym c.in-Ok.ensures.after)
     (heard_less s c.state-mode.ensures.holds (omega (arith, c.nn-nn.ensures, c.nn-nn.type_inv))
     (frame_at s.config.frame_length c.deref.result.now)) in
-    let moved : c.from.result ≡ ahead_by t.fop.nn s.fop.nn =
-    omega (arith, c.from.ensures, c.nn.ensures, c.nn-nn.ensures) in
     let counted : c.self.inside.session.acknowledged + c.from.result + length t.fop.sent
-    ≤ length c.self.inside.session.sent.items = omega (arith, c.self.invariant.counted, less, moved) in
+    ≤ length c.self.inside.session.sent.items = omega (arith, c.self.invariant.counted, less, moved c) in
     assumption (counted, c.self.invariant)
+
+-- nothing is on its way
+pub returns-in_default : goal.returns-in_default
+returns-in_default c =
+    let none : c.args.self.now.down ≡ [] =
+    ap (λ (w : World). w.down) (sym c.self.view_is)
+    ∙ none_there c.self.inside.down.items c.in_default.ensures.item.3 in
+    record {
+      reply = tt;
+      after = tt;
+      err = refl;
+      refused = rw none refl;
+      memory = rw none tt;
+      none = λ takes is. cc is;
+    }
+
+pub invariant_of-self : goal.invariant_of-self
+invariant_of-self c =
+    subst (λ (s : GroundState). IsSound (record c.self.inside { ground_node = s }))
+    (sym c.in_default-telemetry.ensures.err) c.self.invariant
+
+pub returns-in_default-telemetry : goal.returns-in_default-telemetry
+returns-in_default-telemetry c =
+    let lacks = down_may_lack c.self.inside c.args.self.now c.in-Some.octets.now c.deref.result.now c.self.view_is
+    c.in-Some.ensures.item.3.0 c.in-Some.ensures.lookup c.deref.ensures.value
+    (λ none. cc (c.in_default-telemetry.ensures.none none)) in
+    record {
+      reply = tt;
+      after = tt;
+      err = ap (λ (s : GroundState). record (world_of c.self.inside) { ground_node = s })
+          c.in_default-telemetry.ensures.err ∙ c.self.view_is;
+      refused = lacks.refused;
+      memory = lacks.memory;
+      none = lacks.none;
+    }
+
+pub returns : goal.returns
+returns c =
+    let w : World = world_of c.self.inside in
+    let down : List (List ℕ) = octets_of (drop 1 c.self.inside.down.items) in
+    let octets : List ℕ = c.deref.result.now in
+    let came : w.down ≡ octets ∷ down =
+    first_there c.self.inside.down.items c.in-Some.octets.now octets c.in-Some.ensures.item.3.0
+    c.in-Some.ensures.lookup c.deref.ensures.value in
+    let step : down_deliver_step w (octets ∷ down) ≡ world_step c.args.self.now DownDeliver =
+    ap (down_deliver_step w) (sym came) ∙ ap (λ (x : World). world_step x DownDeliver) c.self.view_is in
+    record {
+      reply = sym (ap (λ (o : WorldOutcome). o.answer) step) ∙ ap (λ h. Ok (Down h)) (sym c.in-Ok.ensures.answer);
+      after = rw (c.pop_front.ensures.rest, confirmed c, moved c)
+          (ap (λ (t : GroundState). (world_after_telemetry w down (record { answer = c.in-Ok.heard; after = t })).after)
+          c.in-Ok.ensures.after ∙ ap (λ (o : WorldOutcome). o.after) step);
+      err = tt;
+      refused = rw (← step) tt;
+      memory = rw (← step) tt;
+      none = λ takes is. cc is;
+    }
