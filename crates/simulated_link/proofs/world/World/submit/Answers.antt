@@ -1,7 +1,9 @@
 use Rattle.simulated_link.proofs.Common.{◌≡◌, ◌++◌, ◌∷◌, [], ℕ, List, map, filter, length, Bool, true, false, refl, ap}
 use Rattle.simulated_link.proofs.Common.{sym, ◌∙◌, arith, append-nil, ◌==◌, if◌then◌else◌, filter-append, packets_view}
-use Rattle.simulated_link.proofs.Common.{GroundState, submit_fault, PacketOn, packet_on}
+use Rattle.simulated_link.proofs.Common.{GroundState, submit_fault, PacketOn, packet_on, None, IfSome}
 use Rattle.std.specs.List.{flat_map}
+use Rattle.std.specs.Option.{is_some}
+use Rattle.simulated_link.specs.declared.world.World.TheInside.{Inside}
 use Rattle.std.proofs.lemmas.Grind.{flat_map-append}
 use Rattle.std.proofs.lemmas.List.{map_push}
 use Rattle.map_service.specs.Packets.{packets_in}
@@ -16,11 +18,14 @@ use Rattle.simulated_link.specs.declared.reply.NodeFault.TheVariants.{Link}
 use Rattle.simulated_link.specs.declared.reply.Reply.{Reply}
 use Rattle.simulated_link.specs.declared.reply.Reply.TheVariants.{Refused}
 use Rattle.simulated_link.specs.Events.{IsReplyTo}
-use Rattle.simulated_link.specs.Replies.{reply_to_submission}
-use Rattle.simulated_link.specs.World.{world_after_submission}
+use Rattle.simulated_link.specs.Replies.{Done, reply_to_submission}
+use Rattle.simulated_link.specs.World.{submission_of, world_after_submission}
 use Rattle.simulated_link.specs.WorldFields.{world_of}
 use Rattle.simulated_link.proofs.Refusals.{refused, refused_for, submit_never}
 use Rattle.simulated_link.proofs.Counted.{submit_same}
+use Rattle.simulated_link.proofs.Transit.{lack}
+use Rattle.simulated_link.proofs.world.World.submit.Goals.{then-is_err-via-then-is_err}
+use Rattle.simulated_link.proofs.world.World.submit.Goals.{then-is_err-via-else-is_err+then-is_err-2}
 use Rattle.simulated_link.proofs.world.World.submit.Goals as goal
 
 -- the packets of these submissions that are on MAP m
@@ -40,6 +45,40 @@ one_more m ps p =
     (filter (λ (p : PacketOn). p.on_map == m) (p ∷ []))
     ∙ ap (λ (xs : List (List ℕ)). packets_on m ps ++ xs) (of_one m p (p.on_map == m) refl)
 
+-- what is prepared has no fault
+taken : {A : Type 0} (fault : Option LinkFault) (x : A) → IfSome fault (λ f. Ok x ≡ Err f) → fault ≡ None
+taken None x refused = refl
+taken (Some f) x refused = cc refused
+
+-- so want of memory is where packets are taken
+lacks : (inside : Inside) (now : World) (m : ℕ) (octets : List ℕ) (b : Submission) → world_of inside ≡ now
+    → IfSome (submit_fault inside.ground_node m octets) (λ f. Ok b ≡ Err f)
+    → IsSome (submit_fault now.ground_node m octets) → lack ≢ Err Memory
+lacks inside now m octets b view_is refused =
+    subst (λ (w : World). IsSome (submit_fault w.ground_node m octets) → lack ≢ Err Memory) view_is
+    (λ some. absurd (cc (some, ap is_some (taken (submit_fault inside.ground_node m octets) b refused))))
+
+abbrev after_submit : GroundState → ℕ → List ℕ → GroundState
+after_submit s m octets = (unless_refused (submit_fault s m octets) s (after_submission s m octets)).after
+
+abbrev with_submissions : World → List PacketOn → World
+with_submissions w ps = record w { session = record w.session { submissions = ps } }
+
+-- where the ground takes the packets
+module _ (c : goal.After-append_on) where
+  abbrev p : PacketOn
+  p = packet_on c.args.map c.args.octets.now
+
+  abbrev w : World
+  w = world_of c.self.inside
+
+  submissions : map packet_view c.push_reserved.new.self.items ≡ w.session.submissions ++ p ∷ []
+  submissions =
+      ap (map packet_view) (c.push_reserved.ensures.items
+      ∙ ap (λ xs. xs ++ (c.args.map, c.in-Ok-from_slice.copy) ∷ []) c.try_reserve.ensures.items)
+      ∙ map_push packet_view c.self.inside.session.submissions.items (c.args.map, c.in-Ok-from_slice.copy)
+      ∙ ap (λ (o : List ℕ). w.session.submissions ++ packet_on c.args.map o ∷ []) c.in-Ok-from_slice.ensures.items
+
 pub invariant_of-self-2 : goal.invariant_of-self-2
 invariant_of-self-2 c =
     let s : GroundState = c.self.inside.ground_node in
@@ -51,13 +90,6 @@ invariant_of-self-2 c =
     let copies : packets_view c.in-Ok-copied.packets ≡ packets_in octets =
     c.in-Ok-copied.ensures ∙ c.packets.ensures ∙ c.in-Ok.ensures.submission.packets
     ∙ ap packets_in c.in-Ok.ensures.given.1 in
-    let submissions : map packet_view c.push_reserved.new.self.items
-    ≡ map packet_view c.self.inside.session.submissions.items ++ packet_on c.args.map octets ∷ [] =
-    ap (map packet_view) (c.push_reserved.ensures.items
-    ∙ ap (λ xs. xs ++ (c.args.map, c.in-Ok-from_slice.copy) ∷ []) c.try_reserve.ensures.items)
-    ∙ map_push packet_view c.self.inside.session.submissions.items (c.args.map, c.in-Ok-from_slice.copy)
-    ∙ ap (λ (o : List ℕ). map packet_view c.self.inside.session.submissions.items ++ packet_on c.args.map o ∷ [])
-    c.in-Ok-from_slice.ensures.items in
     record {
       accepted = c.self.invariant.accepted;
       before = c.self.invariant.before;
@@ -70,8 +102,95 @@ invariant_of-self-2 c =
           ∙ ap (λ (xs : List (List ℕ)). packets_on m (map packet_view c.self.inside.session.submissions.items)
           ++ (if c.args.map == m then xs else [])) copies
           ∙ sym (one_more m (map packet_view c.self.inside.session.submissions.items) (packet_on c.args.map octets))
-          ∙ ap (packets_on m) (sym submissions);
+          ∙ ap (packets_on m) (sym (submissions c));
       delivered_on = c.self.invariant.delivered_on;
+    }
+
+pub returns : goal.returns
+returns c =
+    let b : Submission = c.in-Ok.submission in
+    let s : GroundState = c.self.inside.ground_node in
+    let octets : List ℕ = c.args.octets.now in
+    let fault : Option LinkFault = submit_fault s c.args.map octets in
+    let none : fault ≡ None = taken fault b c.in-Ok.ensures.refused in
+    let step : Option LinkFault → GroundOutcome (Result (Unit {0}) LinkFault) =
+    λ reason. unless_refused reason s (after_submission s c.args.map octets) in
+    let committed : c.commit.new.self ≡ (step fault).after =
+    c.commit.ensures ∙ ap (λ (m : ℕ). after_submit s m b.octets.now) c.in-Ok.ensures.given.0
+    ∙ ap (after_submit s c.args.map) c.in-Ok.ensures.given.1 in
+    let one : p c ∷ [] ≡ submission_of (p c) (step fault).answer =
+    sym (ap (λ (reason : Option LinkFault). submission_of (p c) (step reason).answer) none) in
+    record {
+      reply = subst
+          (λ (x : World). (world_step x (events.Submit c.args.map c.args.octets)).answer ≡ Ok Done) c.self.view_is
+          (ap (λ (reason : Option LinkFault). Ok (reply_to_submission (step reason).answer)) none);
+      after = ap (λ (ps : List PacketOn). with_submissions (record (w c) { ground_node = c.commit.new.self }) ps)
+          (submissions c ∙ ap (λ (xs : List PacketOn). (w c).session.submissions ++ xs) one)
+          ∙ ap (λ (t : GroundState). with_submissions (record (w c) { ground_node = t })
+          ((w c).session.submissions ++ submission_of (p c) (step fault).answer)) committed
+          ∙ ap (λ (x : World). (world_step x (events.Submit c.args.map c.args.octets)).after) c.self.view_is;
+      err = tt;
+      memory = tt;
+      none = λ takes is. cc is;
+    }
+
+-- where there is no memory
+pub returns-in_default : goal.returns-in_default
+returns-in_default c = record {
+  reply = tt;
+  after = tt;
+  err = refl;
+  memory = refl;
+  none = lacks c.self.inside c.args.self.now c.args.map c.args.octets.now c.in-Ok.submission c.self.view_is
+      c.in-Ok.ensures.refused;
+}
+
+pub returns-in_default-copied : goal.returns-in_default-copied
+returns-in_default-copied c = record {
+  reply = tt;
+  after = tt;
+  err = refl;
+  memory = refl;
+  none = lacks c.self.inside c.args.self.now c.args.map c.args.octets.now c.in-Ok.submission c.self.view_is
+      c.in-Ok.ensures.refused;
+}
+
+pub invariant_of-self : goal.invariant_of-self
+invariant_of-self c = record {
+  accepted = c.self.invariant.accepted;
+  before = c.self.invariant.before;
+  counted = c.self.invariant.counted;
+  submitted_on = λ m. c.self.invariant.submitted_on m
+      ∙ ap (λ xs. packets_on m (map packet_view xs)) (sym c.try_reserve.ensures.items);
+  delivered_on = c.self.invariant.delivered_on;
+}
+
+pub invariant_of-self-then-is_err-2 : goal.invariant_of-self-then-is_err-2
+invariant_of-self-then-is_err-2 c = record {
+  accepted = c.self.invariant.accepted;
+  before = c.self.invariant.before;
+  counted = c.self.invariant.counted;
+  submitted_on = λ m. c.make_room.ensures.same m ∙ c.self.invariant.submitted_on m
+      ∙ ap (λ xs. packets_on m (map packet_view xs)) (sym c.try_reserve.ensures.items);
+  delivered_on = c.self.invariant.delivered_on;
+}
+
+pub returns-then-is_err : goal.returns-then-is_err
+returns-then-is_err c =
+    let same : with_submissions (world_of c.self.inside) (map packet_view c.try_reserve.new.self.items)
+    ≡ c.args.self.now =
+    ap (λ xs. with_submissions (world_of c.self.inside) (map packet_view xs)) c.try_reserve.ensures.items
+    ∙ c.self.view_is in
+    record {
+      reply = tt;
+      after = tt;
+      err = elim c.then-is_err.branch [
+        | then-is_err-via-then-is_err x ↦ x.self-is ∙ same
+        | then-is_err-via-else-is_err+then-is_err-2 x ↦ x.self-is ∙ same
+      ];
+      memory = refl;
+      none = lacks c.self.inside c.args.self.now c.args.map c.args.octets.now c.in-Ok.submission c.self.view_is
+          c.in-Ok.ensures.refused;
     }
 
 -- where the ground refuses
