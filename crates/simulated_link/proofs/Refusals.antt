@@ -1,6 +1,6 @@
 -- What is answered where the ground refuses packets.
 use Rattle.simulated_link.proofs.Common.{◌≡◌, ◌≢◌, Option, Some, None, Result, Ok, Err, IfSome, LinkFault, SimFault}
-use Rattle.simulated_link.proofs.Common.{refl, subst, sym, GroundState, submit_fault, limits_of, not, ◌==◌, ℕ, List}
+use Rattle.simulated_link.proofs.Common.{refl, GroundState, submit_fault, limits_of, not, ◌==◌, ℕ, List}
 use Rattle.simulated_link.proofs.Common.{Bool, true, false, if◌then◌else◌, is_closed}
 use Rattle.std.proofs.Common.{IsOkUnless, IsSome}
 use Rattle.map_service.specs.Assembly.{is_open}
