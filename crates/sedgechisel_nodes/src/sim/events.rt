@@ -39,6 +39,13 @@ pub extern "C" fn sedge_sim_bypass(
     happen(alloc, sim, Event::Bypass(map, octets), reply)
 }
 
+// Gives the ground a directive.
+fn direct(alloc: Global, sim: &mut SimHandle, directive: Directive, reply: &mut KeptReply) -> u8
+    ensures { IsEventCall (Event.Directive directive) sim.old.value sim.new.value result reply.old reply.new }
+{
+    happen(alloc, sim, Event::Directive(directive), reply)
+}
+
 /// The directive to initiate without a check of the report.
 #[unsafe(no_mangle)]
 pub extern "C" fn sedge_sim_init_without_check(
@@ -48,12 +55,7 @@ pub extern "C" fn sedge_sim_init_without_check(
 ) -> u8
     ensures { IsEventCall (Event.Directive Directive.InitWithoutCheck) sim.old.value sim.new.value result reply.old reply.new }
 {
-    happen(
-        alloc,
-        sim,
-        Event::Directive(Directive::InitWithoutCheck),
-        reply,
-    )
+    direct(alloc, sim, Directive::InitWithoutCheck, reply)
 }
 
 /// The directive to initiate once a report has the value V(S).
@@ -65,12 +67,7 @@ pub extern "C" fn sedge_sim_init_with_check(
 ) -> u8
     ensures { IsEventCall (Event.Directive Directive.InitWithCheck) sim.old.value sim.new.value result reply.old reply.new }
 {
-    happen(
-        alloc,
-        sim,
-        Event::Directive(Directive::InitWithCheck),
-        reply,
-    )
+    direct(alloc, sim, Directive::InitWithCheck, reply)
 }
 
 /// The directive to initiate by the control command Unlock.
@@ -82,7 +79,7 @@ pub extern "C" fn sedge_sim_init_unlock(
 ) -> u8
     ensures { IsEventCall (Event.Directive Directive.InitUnlock) sim.old.value sim.new.value result reply.old reply.new }
 {
-    happen(alloc, sim, Event::Directive(Directive::InitUnlock), reply)
+    direct(alloc, sim, Directive::InitUnlock, reply)
 }
 
 /// The directive to initiate by the control command Set V(R), with this number.
@@ -95,12 +92,7 @@ pub extern "C" fn sedge_sim_init_set_vr(
 ) -> u8
     ensures { IsEventCall (Event.Directive (Directive.InitSetVr vr)) sim.old.value sim.new.value result reply.old reply.new }
 {
-    happen(
-        alloc,
-        sim,
-        Event::Directive(Directive::InitSetVr(vr)),
-        reply,
-    )
+    direct(alloc, sim, Directive::InitSetVr(vr), reply)
 }
 
 /// The directive to give up.
@@ -112,7 +104,7 @@ pub extern "C" fn sedge_sim_terminate(
 ) -> u8
     ensures { IsEventCall (Event.Directive Directive.Terminate) sim.old.value sim.new.value result reply.old reply.new }
 {
-    happen(alloc, sim, Event::Directive(Directive::Terminate), reply)
+    direct(alloc, sim, Directive::Terminate, reply)
 }
 
 /// The directive to set V(S), and NN(R) to it.
@@ -125,7 +117,7 @@ pub extern "C" fn sedge_sim_set_vs(
 ) -> u8
     ensures { IsEventCall (Event.Directive (Directive.SetVs vs)) sim.old.value sim.new.value result reply.old reply.new }
 {
-    happen(alloc, sim, Event::Directive(Directive::SetVs(vs)), reply)
+    direct(alloc, sim, Directive::SetVs(vs), reply)
 }
 
 /// The directive to set the window K.
@@ -138,12 +130,7 @@ pub extern "C" fn sedge_sim_set_window(
 ) -> u8
     ensures { IsEventCall (Event.Directive (Directive.SetWindow window)) sim.old.value sim.new.value result reply.old reply.new }
 {
-    happen(
-        alloc,
-        sim,
-        Event::Directive(Directive::SetWindow(window)),
-        reply,
-    )
+    direct(alloc, sim, Directive::SetWindow(window), reply)
 }
 
 /// The directive to set the transmission limit.
@@ -156,12 +143,7 @@ pub extern "C" fn sedge_sim_set_limit(
 ) -> u8
     ensures { IsEventCall (Event.Directive (Directive.SetLimit limit)) sim.old.value sim.new.value result reply.old reply.new }
 {
-    happen(
-        alloc,
-        sim,
-        Event::Directive(Directive::SetLimit(limit)),
-        reply,
-    )
+    direct(alloc, sim, Directive::SetLimit(limit), reply)
 }
 
 /// The directive to set the timer's value, in ticks.
@@ -174,12 +156,7 @@ pub extern "C" fn sedge_sim_set_timer(
 ) -> u8
     ensures { IsEventCall (Event.Directive (Directive.SetTimer ticks)) sim.old.value sim.new.value result reply.old reply.new }
 {
-    happen(
-        alloc,
-        sim,
-        Event::Directive(Directive::SetTimer(ticks)),
-        reply,
-    )
+    direct(alloc, sim, Directive::SetTimer(ticks), reply)
 }
 
 /// The ground sends a frame.
