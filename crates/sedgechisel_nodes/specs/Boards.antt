@@ -5,12 +5,9 @@ use Rattle.tc_frame.specs.declared.frame.Command.TheVariants.{Unlock, SetVr}
 use Rattle.tc_frame.specs.Faults.{fault_row}
 use Rattle.cop1.specs.declared.farm.FarmMode.{FarmMode}
 use Rattle.cop1.specs.declared.farm.FarmMode.TheVariants.{Open, Wait, Lockout}
-use Rattle.cop1.specs.declared.farm.Verdict.{Verdict}
-use Rattle.cop1.specs.declared.farm.Verdict.TheVariants.{Accepted, Ahead, NoBuffer, Behind, Outside}
-use Rattle.cop1.specs.declared.farm.Verdict.TheVariants.{Discarded}
+use Rattle.cop1.specs.Names.{verdict_row}
 use Rattle.map_service.specs.declared.dropped.Dropped.{Dropped}
-use Rattle.map_service.specs.declared.dropped.Dropped.TheVariants.{ClosedMap, Interrupted}
-use Rattle.map_service.specs.declared.dropped.Dropped.TheVariants.{NoBeginning, NotAPacket, TooLong}
+use Rattle.map_service.specs.Causes.{cause_row}
 use Rattle.nodes.specs.declared.received.Received.{Received}
 use Rattle.nodes.specs.declared.received.Received.TheVariants.{Invalid, Foreign, Sequence, Bypass}
 use Rattle.nodes.specs.declared.received.Received.TheVariants.{Control}
@@ -21,7 +18,7 @@ use Rattle.clcw.specs.Flags.{flags_number}
 use Rattle.cop1.specs.Report.{report_of}
 use Rattle.sedgechisel_nodes.specs.declared.reading.BoardReading.{BoardReading}
 use Rattle.sedgechisel_nodes.specs.declared.spacecraft.KeptReceived.{KeptReceived}
-use Rattle.sedgechisel_nodes.specs.Grounds.{closed}
+use Rattle.sedgechisel_nodes.specs.Calls.{closed}
 use Rattle.sedgechisel_nodes.specs.Rooms.{room_answer, count_of, octets_on, map_left}
 use Rattle.sedgechisel_nodes.specs.Rooms.{IsHandedOut}
 
@@ -29,21 +26,9 @@ abbrev pub stepped : Option SpacecraftState → SpacecraftEvent → Option Space
 stepped None event = None
 stepped (Some s) event = Some (spacecraft_step s event).after
 
-abbrev pub verdict_number : Verdict → ℕ
-verdict_number Accepted = 0
-verdict_number Ahead = 1
-verdict_number NoBuffer = 2
-verdict_number Behind = 3
-verdict_number Outside = 4
-verdict_number Discarded = 5
-
 abbrev pub dropped_number : Option Dropped → ℕ
 dropped_number None = 0
-dropped_number (Some ClosedMap) = 1
-dropped_number (Some Interrupted) = 2
-dropped_number (Some NoBeginning) = 3
-dropped_number (Some NotAPacket) = 4
-dropped_number (Some TooLong) = 5
+dropped_number (Some dropped) = (cause_row dropped).0
 
 abbrev pub no_received : KeptReceived
 no_received = record {
@@ -65,7 +50,7 @@ received_kept (Sequence n verdict ready dropped) =
     record no_received {
       kind = 3;
       n = n;
-      verdict = verdict_number verdict;
+      verdict = (verdict_row verdict).0;
       ready = ready;
       dropped = dropped_number dropped;
     }

@@ -10,13 +10,9 @@ use Rattle.cop1.specs.Faults.{fault_row as cop_row}
 use Rattle.nodes.specs.Ground.{GroundState, GroundEvent, Direct, ground_step, outstanding}
 use Rattle.nodes.specs.declared.fault.LinkFault.{LinkFault}
 use Rattle.nodes.specs.Faults.{fault_row}
-use Rattle.nodes.specs.Parameters.{IsConfig}
 use Rattle.sedgechisel_nodes.specs.declared.ground.KeptConfig.{KeptConfig}
 use Rattle.sedgechisel_nodes.specs.declared.reading.GroundReading.{GroundReading}
-
--- there is no ground
-abbrev pub closed : ℕ
-closed = 255
+use Rattle.sedgechisel_nodes.specs.Calls.{closed}
 
 -- the ground after a call, where there is one
 abbrev pub stepped : Option GroundState → GroundEvent → Option GroundState
@@ -59,11 +55,6 @@ config_of k = record {
   blocking = k.blocking;
 }
 
--- 254 where a parameter is out of its range, and else 0, or 6 where there was no memory
-pub record IsOpenAnswer (c : Config) (answer : ℕ) : Type 0 where
-  pub sound : IsConfig c → (answer ≡ 0) ⊎ (answer ≡ 6)
-  pub unsound : (IsConfig c → ⊥) → answer ≡ 254
-
 -- what a directive is answered: 0, or the number of the sender's refusal
 abbrev pub directed_number : Result (Option Alert) CopFault → ℕ
 directed_number (Ok alert) = 0
@@ -72,6 +63,12 @@ directed_number (Err fault) = (cop_row fault).0
 abbrev pub directive_answer : Option GroundState → Directive → ℕ
 directive_answer None directive = closed
 directive_answer (Some s) directive = directed_number (ground_step s (Direct directive)).answer
+
+-- what a call with a directive answers, and the ground before and after it
+pub record IsDirected (directive : Directive) (old new : Option GroundState) (answer : ℕ)
+    : Type 0 where
+  pub answer_is : answer ≡ directive_answer old directive
+  pub after : new ≡ stepped old (Direct directive)
 
 -- the sender's state (CCSDS 232.1-B-2, 5.1)
 abbrev pub mode_number : FopMode → ℕ
@@ -90,8 +87,3 @@ reading_of s = record {
   vs = s.fop.vs;
   nn = s.fop.nn;
 }
-
--- a number is written where there is one; the answer is 253 where there is none
-abbrev pub IsNumberIfThere : Option ℕ → ℕ → ℕ → ℕ → Type 0
-IsNumberIfThere None answer n n' = (answer ≡ 253) × (n' ≡ n)
-IsNumberIfThere (Some m) answer n n' = (answer ≡ 0) × (n' ≡ m)

@@ -1,5 +1,5 @@
 -- What a program in C learns of telemetry and of the sender.
-use Rattle.std.specs.Prelude.{◌≡◌, ℕ, Option, Some, None, Result, Ok, Err}
+use Rattle.std.specs.Prelude.{ℕ, Option, Some, None, Result, Ok, Err}
 use Rattle.clcw.specs.declared.word.Clcw.{Clcw}
 use Rattle.clcw.specs.declared.fault.ClcwFault.{ClcwFault}
 use Rattle.clcw.specs.Flags.{flags_number}
@@ -82,8 +82,3 @@ word_read (Err fault) = None
 abbrev pub report_in : Result FrameView TmFault → Option Clcw
 report_in (Ok frame) = word_read (clcw_at frame.ocf)
 report_in (Err fault) = None
-
--- a report is written where there is one; the answer is 253 where there is none
-abbrev pub IsWordIfThere : Option Clcw → ℕ → KeptWord → KeptWord → Type 0
-IsWordIfThere None answer kept kept' = (answer ≡ 253) × (kept' ≡ kept)
-IsWordIfThere (Some word) answer kept kept' = (answer ≡ 0) × (kept' ≡ word_kept word)

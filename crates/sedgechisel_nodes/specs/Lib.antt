@@ -1,4 +1,5 @@
 pub mod Boards
+pub mod Calls
 pub mod Grounds
 pub mod Hearing
 pub mod LinkFields

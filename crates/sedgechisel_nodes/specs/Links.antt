@@ -22,7 +22,8 @@ use Rattle.simulated_link.specs.World.{World, new_world, world_step, submitted, 
 use Rattle.sedgechisel_nodes.specs.declared.sim.reply.KeptReply.{KeptReply}
 use Rattle.sedgechisel_nodes.specs.declared.sim.reading.SimReading.{SimReading}
 use Rattle.sedgechisel_nodes.specs.Boards.{no_received, received_kept}
-use Rattle.sedgechisel_nodes.specs.Grounds.{closed, mode_number}
+use Rattle.sedgechisel_nodes.specs.Calls.{closed}
+use Rattle.sedgechisel_nodes.specs.Grounds.{mode_number}
 use Rattle.sedgechisel_nodes.specs.Hearing.{no_heard, heard_kept, no_word, word_kept}
 use Rattle.sedgechisel_nodes.specs.LinkState.{LinkState}
 use Rattle.sedgechisel_nodes.specs.Rooms.{room_answer}
@@ -145,11 +146,6 @@ entry_of w number m k = slice_get (record_of w number m) k
 abbrev pub entry_answer : Option (List ℕ) → ℕ → ℕ
 entry_answer None room = 253
 entry_answer (Some octets) room = room_answer (Some (length octets)) room
-
--- how many octets it has, where it is there; the answer is 253 where it is not
-abbrev pub IsLengthIfThere : Option (List ℕ) → ℕ → ℕ → ℕ → Type 0
-IsLengthIfThere None answer count count' = (answer ≡ 253) × (count' ≡ count)
-IsLengthIfThere (Some octets) answer count count' = (answer ≡ 0) × (count' ≡ length octets)
 
 -- ---- submissions, in their order, each with its MAP
 

@@ -5,7 +5,7 @@ ghost use Rattle.tm_link.specs.Writing.{spelling};
 ghost use Rattle.nodes.specs.Packets.{lent_packet};
 ghost use Rattle.nodes.specs.Spacecraft.{Report, spacecraft_step};
 ghost use Rattle.sedgechisel_nodes.specs.Boards.{stepped, next_packet, after_taking, IsDescribed, IsTaken};
-ghost use Rattle.sedgechisel_nodes.specs.Grounds.{closed};
+ghost use Rattle.sedgechisel_nodes.specs.Calls.{closed};
 ghost use Rattle.sedgechisel_nodes.specs.Rooms.{room_answer, octets_on, map_left, IsHandedOut};
 
 use crate::answers::ROOM;

@@ -1,9 +1,7 @@
 // The directives to the ground of a program in C (CCSDS 232.1-B-2, 5.2.4).
 
-ghost use Rattle.std.specs.Prelude.{◌≡◌};
 ghost use Rattle.cop1.specs.declared.vocabulary.Directive.{Directive};
-ghost use Rattle.nodes.specs.Ground.{Direct};
-ghost use Rattle.sedgechisel_nodes.specs.Grounds.{stepped, directive_answer};
+ghost use Rattle.sedgechisel_nodes.specs.Grounds.{IsDirected};
 
 use crate::ground::GroundHandle;
 use cop1::Directive;
@@ -11,8 +9,7 @@ use std::alloc::Global;
 
 // Has the ground follow a directive.
 fn direct(alloc: Global, ground: &mut GroundHandle, directive: Directive) -> u8
-    ensures answer { result ≡ directive_answer ground.old.value directive }
-    ensures after { ground.new.value ≡ stepped ground.old.value (Direct directive) }
+    ensures { IsDirected directive ground.old.value ground.new.value result }
 {
     held!(alloc, ground, |node| match node.directive(directive) {
         Ok(_) => 0,
@@ -24,8 +21,7 @@ fn direct(alloc: Global, ground: &mut GroundHandle, directive: Directive) -> u8
 /// Answers 0, or 8 `WrongState` outside S6, or 255 where there is no ground.
 #[unsafe(no_mangle)]
 pub extern "C" fn sedge_ground_init_without_check(alloc: Global, ground: &mut GroundHandle) -> u8
-    ensures answer { result ≡ directive_answer ground.old.value Directive.InitWithoutCheck }
-    ensures after { ground.new.value ≡ stepped ground.old.value (Direct Directive.InitWithoutCheck) }
+    ensures { IsDirected Directive.InitWithoutCheck ground.old.value ground.new.value result }
 {
     direct(alloc, ground, Directive::InitWithoutCheck)
 }
@@ -34,8 +30,7 @@ pub extern "C" fn sedge_ground_init_without_check(alloc: Global, ground: &mut Gr
 /// Answers 0, or 8 `WrongState` outside S6, or 255 where there is no ground.
 #[unsafe(no_mangle)]
 pub extern "C" fn sedge_ground_init_with_check(alloc: Global, ground: &mut GroundHandle) -> u8
-    ensures answer { result ≡ directive_answer ground.old.value Directive.InitWithCheck }
-    ensures after { ground.new.value ≡ stepped ground.old.value (Direct Directive.InitWithCheck) }
+    ensures { IsDirected Directive.InitWithCheck ground.old.value ground.new.value result }
 {
     direct(alloc, ground, Directive::InitWithCheck)
 }
@@ -44,8 +39,7 @@ pub extern "C" fn sedge_ground_init_with_check(alloc: Global, ground: &mut Groun
 /// Answers 0, or 8 `WrongState` outside S6, or 255 where there is no ground.
 #[unsafe(no_mangle)]
 pub extern "C" fn sedge_ground_init_unlock(alloc: Global, ground: &mut GroundHandle) -> u8
-    ensures answer { result ≡ directive_answer ground.old.value Directive.InitUnlock }
-    ensures after { ground.new.value ≡ stepped ground.old.value (Direct Directive.InitUnlock) }
+    ensures { IsDirected Directive.InitUnlock ground.old.value ground.new.value result }
 {
     direct(alloc, ground, Directive::InitUnlock)
 }
@@ -54,8 +48,7 @@ pub extern "C" fn sedge_ground_init_unlock(alloc: Global, ground: &mut GroundHan
 /// Answers 0, or 8 `WrongState` outside S6, or 255 where there is no ground.
 #[unsafe(no_mangle)]
 pub extern "C" fn sedge_ground_init_set_vr(alloc: Global, ground: &mut GroundHandle, vr: u8) -> u8
-    ensures answer { result ≡ directive_answer ground.old.value (Directive.InitSetVr vr) }
-    ensures after { ground.new.value ≡ stepped ground.old.value (Direct (Directive.InitSetVr vr)) }
+    ensures { IsDirected (Directive.InitSetVr vr) ground.old.value ground.new.value result }
 {
     direct(alloc, ground, Directive::InitSetVr(vr))
 }
@@ -64,8 +57,7 @@ pub extern "C" fn sedge_ground_init_set_vr(alloc: Global, ground: &mut GroundHan
 /// or 255 where there is no ground.
 #[unsafe(no_mangle)]
 pub extern "C" fn sedge_ground_terminate(alloc: Global, ground: &mut GroundHandle) -> u8
-    ensures answer { result ≡ directive_answer ground.old.value Directive.Terminate }
-    ensures after { ground.new.value ≡ stepped ground.old.value (Direct Directive.Terminate) }
+    ensures { IsDirected Directive.Terminate ground.old.value ground.new.value result }
 {
     direct(alloc, ground, Directive::Terminate)
 }
@@ -73,8 +65,7 @@ pub extern "C" fn sedge_ground_terminate(alloc: Global, ground: &mut GroundHandl
 /// Sets V(S), and NN(R) to it. Answers 0, or 8 `WrongState` outside S6, or 255 where there is no ground.
 #[unsafe(no_mangle)]
 pub extern "C" fn sedge_ground_set_vs(alloc: Global, ground: &mut GroundHandle, vs: u8) -> u8
-    ensures answer { result ≡ directive_answer ground.old.value (Directive.SetVs vs) }
-    ensures after { ground.new.value ≡ stepped ground.old.value (Direct (Directive.SetVs vs)) }
+    ensures { IsDirected (Directive.SetVs vs) ground.old.value ground.new.value result }
 {
     direct(alloc, ground, Directive::SetVs(vs))
 }
@@ -87,8 +78,7 @@ pub extern "C" fn sedge_ground_set_window(
     ground: &mut GroundHandle,
     window: u8,
 ) -> u8
-    ensures answer { result ≡ directive_answer ground.old.value (Directive.SetWindow window) }
-    ensures after { ground.new.value ≡ stepped ground.old.value (Direct (Directive.SetWindow window)) }
+    ensures { IsDirected (Directive.SetWindow window) ground.old.value ground.new.value result }
 {
     direct(alloc, ground, Directive::SetWindow(window))
 }
@@ -96,8 +86,7 @@ pub extern "C" fn sedge_ground_set_window(
 /// Sets the transmission limit. Answers 0, or 3 `Limit` for 0, or 255 where there is no ground.
 #[unsafe(no_mangle)]
 pub extern "C" fn sedge_ground_set_limit(alloc: Global, ground: &mut GroundHandle, limit: u8) -> u8
-    ensures answer { result ≡ directive_answer ground.old.value (Directive.SetLimit limit) }
-    ensures after { ground.new.value ≡ stepped ground.old.value (Direct (Directive.SetLimit limit)) }
+    ensures { IsDirected (Directive.SetLimit limit) ground.old.value ground.new.value result }
 {
     direct(alloc, ground, Directive::SetLimit(limit))
 }
@@ -105,8 +94,7 @@ pub extern "C" fn sedge_ground_set_limit(alloc: Global, ground: &mut GroundHandl
 /// Sets the timer's value, in ticks. Answers 0, or 4 `Timer` for 0, or 255 where there is no ground.
 #[unsafe(no_mangle)]
 pub extern "C" fn sedge_ground_set_timer(alloc: Global, ground: &mut GroundHandle, ticks: u16) -> u8
-    ensures answer { result ≡ directive_answer ground.old.value (Directive.SetTimer ticks) }
-    ensures after { ground.new.value ≡ stepped ground.old.value (Direct (Directive.SetTimer ticks)) }
+    ensures { IsDirected (Directive.SetTimer ticks) ground.old.value ground.new.value result }
 {
     direct(alloc, ground, Directive::SetTimer(ticks))
 }

@@ -1,15 +1,16 @@
 // The ground of a program in C.
 
-ghost use Rattle.std.specs.Prelude.{◌≡◌, ◌≢◌, ◌⊎◌, Option, Some, None, option_map, IfSome};
+ghost use Rattle.std.specs.Prelude.{◌≡◌, ◌≢◌, Option, None};
 ghost use Rattle.nodes.specs.Ground.{GroundState, Submit, ground_step, submit_fault, new_ground};
-ghost use Rattle.sedgechisel_nodes.specs.Grounds.{number_of, config_of, IsAnswer, IsSubmission, IsOpenAnswer};
+ghost use Rattle.sedgechisel_nodes.specs.Calls.{IsOpened};
+ghost use Rattle.sedgechisel_nodes.specs.Grounds.{number_of, config_of, IsAnswer, IsSubmission};
 
 use crate::answers::{MEMORY, OUT_OF_RANGE};
+use crate::holds::{Holds, open, take};
 use kept::Kept;
-use nodes::{Config, Ground, LinkFault, ValidConfig};
+use nodes::{Config, Ground, LinkFault};
 use std::alloc::Global;
 use std::marker::Model;
-use std::mem;
 
 /// A ground, or none, which is null.
 #[repr(C)]
@@ -25,7 +26,11 @@ impl Model for GroundHandle {
     ghost also_owns = { λ h. kept_owns heap_token the_row h.at h.value };
 }
 
-impl GroundHandle {
+impl Holds for GroundHandle {
+    type Node = Ground;
+
+    ghost held = { λ h. h.value };
+
     fn of(kept: Kept<Ground, Global>) -> GroundHandle
         ensures { result.value ≡ kept.value }
     {
@@ -33,31 +38,12 @@ impl GroundHandle {
         GroundHandle { at: at as *mut u8 }
     }
 
-    fn into_kept(self, alloc: Global) -> Kept<Ground, Global>
-        ensures { result.value ≡ self.value }
-    {
+    fn into_kept(self, alloc: Global) -> Kept<Ground, Global> {
         let GroundHandle { at } = self;
         Kept {
             at: at as *mut Ground,
             alloc,
         }
-    }
-
-    // Takes the ground out, and leaves none.
-    pub(crate) fn take(&mut self, alloc: Global) -> Option<Box<Ground>>
-        ensures taken { option_map (λ b. b.value) result ≡ self.old.value }
-        ensures none { self.new.value ≡ None }
-    {
-        let none = GroundHandle::of(Kept::none(alloc));
-        mem::replace(self, none).into_kept(alloc).into_option()
-    }
-
-    // Puts a ground in; one that was there is freed.
-    pub(crate) fn put(&mut self, alloc: Global, node: Box<Ground>)
-        ensures { self.new.value ≡ Some node.value }
-    {
-        let full = GroundHandle::of(Kept::of(node));
-        drop(mem::replace(self, full).into_kept(alloc).into_option());
     }
 }
 
@@ -66,7 +52,7 @@ impl GroundHandle {
 pub extern "C" fn sedge_ground_close(alloc: Global, ground: &mut GroundHandle)
     ensures { ground.new.value ≡ None }
 {
-    drop(ground.take(alloc));
+    drop(take(ground, alloc));
 }
 
 fn submitted(node: &mut Ground, map: u8, octets: &[u8]) -> u8
@@ -142,18 +128,6 @@ pub(crate) fn config_from(kept: &KeptConfig) -> Config
     }
 }
 
-fn boxed(alloc: Global, config: &ValidConfig) -> Option<Box<Ground>>
-    ensures { IfSome result (λ b. b.value ≡ new_ground config.now) }
-{
-    let Ok(node) = Ground::of(alloc, config) else {
-        return None;
-    };
-    match Box::new(alloc, node) {
-        Ok(node) => Some(node),
-        Err(_) => None,
-    }
-}
-
 /// Opens a ground, in place of one that was there. Answers 0, or 254 where a parameter is out of its range, or 6 where
 /// there is no memory.
 #[unsafe(no_mangle)]
@@ -162,18 +136,13 @@ pub extern "C" fn sedge_ground_open(
     config: &KeptConfig,
     ground: &mut GroundHandle,
 ) -> u8
-    ensures answer { IsOpenAnswer (config_of config.now) result }
-    ensures opened { result ≡ 0 → ground.new.value ≡ Some (new_ground (config_of config.now)) }
-    ensures unchanged { result ≢ 0 → ground.new.value ≡ ground.old.value }
+    ensures { IsOpened (config_of config.now) new_ground ground.old.value ground.new.value result }
 {
     let Ok(config) = config_from(config).valid() else {
         return OUT_OF_RANGE;
     };
-    match boxed(alloc, &config) {
-        Some(node) => {
-            ground.put(alloc, node);
-            0
-        }
-        None => MEMORY,
+    match Ground::of(alloc, &config) {
+        Ok(node) => open(ground, alloc, node),
+        Err(_) => MEMORY,
     }
 }

@@ -1,13 +1,15 @@
 // The ground of a program in C: telemetry and reports, the clock, and packets past the sequence control.
 
-ghost use Rattle.std.specs.Prelude.{◌≡◌, ◌≢◌, ◌⊎◌, Some, None, IfSome};
+ghost use Rattle.std.specs.Prelude.{◌≡◌, ◌≢◌, ◌⊎◌, option_map, None, IfSome};
 ghost use Rattle.tm_link.specs.Reading.{frame_at};
 ghost use Rattle.nodes.specs.Ground.{Bypass, Telemetry, Tick, ground_step, bypass_fault};
-ghost use Rattle.sedgechisel_nodes.specs.Grounds.{stepped, closed, IsAnswer, IsSubmission};
-ghost use Rattle.sedgechisel_nodes.specs.Hearing.{alert_number, gap_kept, report_kept, heard_kept, word_kept, report_in, IsWordIfThere};
+ghost use Rattle.sedgechisel_nodes.specs.Calls.{closed, IsRead};
+ghost use Rattle.sedgechisel_nodes.specs.Grounds.{stepped, IsAnswer, IsSubmission};
+ghost use Rattle.sedgechisel_nodes.specs.Hearing.{alert_number, gap_kept, report_kept, heard_kept, word_kept, report_in};
 
-use crate::answers::{ABSENT, MEMORY};
+use crate::answers::MEMORY;
 use crate::ground::{GroundHandle, number_of};
+use crate::room::write;
 use bitflags::Flags;
 use clcw::Clcw;
 use cop1::Alert;
@@ -164,19 +166,16 @@ pub extern "C" fn sedge_ground_telemetry(
     })
 }
 
-// Writes the report of a telemetry frame of this length, if there is one; 253 where there is none.
-fn report_if_there(octets: &[u8], length: usize, report: &mut KeptWord) -> u8
-    ensures { IsWordIfThere (report_in (frame_at length octets.now)) result report.old report.new }
+// The report that a telemetry frame of this length carries.
+fn report_in(octets: &[u8], length: usize) -> Option<KeptWord>
+    ensures { result ≡ option_map word_kept (report_in (frame_at length octets.now)) }
 {
     let Ok(frame) = decode(octets, length) else {
-        return ABSENT;
+        return None;
     };
     match frame.report() {
-        Ok(word) => {
-            *report = kept_word(&word);
-            0
-        }
-        Err(_) => ABSENT,
+        Ok(word) => Some(kept_word(&word)),
+        Err(_) => None,
     }
 }
 
@@ -189,15 +188,14 @@ pub extern "C" fn sedge_ground_report(
     octets: &[u8],
     report: &mut KeptWord,
 ) -> u8
-    ensures none { ground.old.value ≡ None → (result ≡ closed) × (report.new ≡ report.old) }
-    ensures answer { IfSome ground.old.value (λ s. IsWordIfThere
-        (report_in (frame_at s.config.frame_length octets.now)) result report.old report.new) }
-    ensures unchanged { ground.new.value ≡ ground.old.value }
+    ensures { IsRead (λ s. option_map word_kept
+        (report_in (frame_at s.config.frame_length octets.now)))
+        ground.old.value ground.new.value result report.old report.new }
 {
     held!(
         alloc,
         ground,
-        |node| report_if_there(octets, node.frame_length(), report)
+        |node| write(report_in(octets, node.frame_length()), report)
     )
 }
 

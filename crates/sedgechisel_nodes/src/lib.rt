@@ -5,13 +5,23 @@
 // What a call makes of the node that a handle holds; the handle holds it again afterwards. 255 where it holds none.
 macro_rules! held {
     ($alloc:expr, $handle:expr, |$node:ident| $call:expr) => {{
-        let Some(mut $node) = $handle.take($alloc) else {
+        let Some(mut $node) = $crate::holds::take($handle, $alloc) else {
             return $crate::answers::CLOSED;
         };
         let answer = $call;
-        $handle.put($alloc, $node);
+        $crate::holds::put($handle, $alloc, $node);
         answer
     }};
+}
+
+// Writes what a call reads of that node.
+macro_rules! read {
+    ($alloc:expr, $handle:expr, $out:expr, |$node:ident| $value:expr) => {
+        held!($alloc, $handle, |$node| {
+            *$out = $value;
+            0
+        })
+    };
 }
 
 mod answers;
@@ -19,6 +29,7 @@ mod board_taking;
 mod directing;
 mod ground;
 mod hearing;
+mod holds;
 mod names;
 mod parameters;
 mod reading;

@@ -1,12 +1,13 @@
 // What a program in C reads of its nodes.
 
-ghost use Rattle.std.specs.Prelude.{◌≡◌, Some, None, IfSome};
+ghost use Rattle.std.specs.Prelude.{◌≡◌, Some};
 ghost use Rattle.sedgechisel_nodes.specs.Boards.{board_reading_of, farm_mode_number};
 ghost use Rattle.cop1.specs.Accepted.{accepted_beyond};
-ghost use Rattle.sedgechisel_nodes.specs.Grounds.{closed, mode_number, reading_of, IsNumberIfThere};
+ghost use Rattle.sedgechisel_nodes.specs.Calls.{IsRead};
+ghost use Rattle.sedgechisel_nodes.specs.Grounds.{mode_number, reading_of};
 
-use crate::answers::ABSENT;
 use crate::ground::GroundHandle;
+use crate::room::write;
 use crate::spacecraft::SpacecraftHandle;
 use bitflags::Flags;
 use cop1::{FarmMode, FopMode};
@@ -57,14 +58,9 @@ pub extern "C" fn sedge_ground_read(
     ground: &mut GroundHandle,
     read: &mut GroundReading,
 ) -> u8
-    ensures none { ground.old.value ≡ None → (result ≡ closed) × (read.new ≡ read.old) }
-    ensures answer { IfSome ground.old.value (λ s. (result ≡ 0) × (read.new ≡ reading_of s)) }
-    ensures unchanged { ground.new.value ≡ ground.old.value }
+    ensures { IsRead (λ s. Some (reading_of s)) ground.old.value ground.new.value result read.old read.new }
 {
-    held!(alloc, ground, |node| {
-        *read = reading(&node);
-        0
-    })
+    read!(alloc, ground, read, |node| reading(&node))
 }
 
 /// What is read of a spacecraft: the octets of a telemetry frame, and the report that the next one carries, its flags as
@@ -114,27 +110,9 @@ pub extern "C" fn sedge_spacecraft_read(
     spacecraft: &mut SpacecraftHandle,
     read: &mut BoardReading,
 ) -> u8
-    ensures none { spacecraft.old.value ≡ None → (result ≡ closed) × (read.new ≡ read.old) }
-    ensures answer { IfSome spacecraft.old.value (λ s. (result ≡ 0) × (read.new ≡ board_reading_of s)) }
-    ensures unchanged { spacecraft.new.value ≡ spacecraft.old.value }
+    ensures { IsRead (λ s. Some (board_reading_of s)) spacecraft.old.value spacecraft.new.value result read.old read.new }
 {
-    held!(alloc, spacecraft, |node| {
-        *read = board_reading(&node);
-        0
-    })
-}
-
-// Writes a number, if there is one; 253 where there is none.
-fn number_if_there(number: Option<u8>, out: &mut u8) -> u8
-    ensures { IsNumberIfThere number result out.old out.new }
-{
-    match number {
-        Some(number) => {
-            *out = number;
-            0
-        }
-        None => ABSENT,
-    }
+    read!(alloc, spacecraft, read, |node| board_reading(&node))
 }
 
 /// Writes how many of the segments that were sent and not acknowledged were accepted on board when a report of this value
@@ -147,15 +125,12 @@ pub extern "C" fn sedge_ground_accepted_beyond(
     value: u8,
     accepted: &mut u8,
 ) -> u8
-    ensures none { ground.old.value ≡ None → (result ≡ closed) × (accepted.new ≡ accepted.old) }
-    ensures answer { IfSome ground.old.value
-        (λ s. IsNumberIfThere (accepted_beyond s.fop.nn s.fop.vs value) result accepted.old
-        accepted.new) }
-    ensures unchanged { ground.new.value ≡ ground.old.value }
+    ensures { IsRead (λ s. accepted_beyond s.fop.nn s.fop.vs value)
+        ground.old.value ground.new.value result accepted.old accepted.new }
 {
     held!(
         alloc,
         ground,
-        |node| number_if_there(node.accepted_beyond(value), accepted)
+        |node| write(node.accepted_beyond(value), accepted)
     )
 }

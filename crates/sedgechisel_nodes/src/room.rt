@@ -2,9 +2,23 @@
 
 ghost use Rattle.std.specs.Prelude.{◌≡◌, ◌≢◌, ◌≤◌, ◌++◌, drop, length, option_map, option_copied};
 ghost use Rattle.nodes.specs.Packets.{lent_packet};
+ghost use Rattle.sedgechisel_nodes.specs.Calls.{IsWritten};
 ghost use Rattle.sedgechisel_nodes.specs.Rooms.{room_answer, count_of, octets_on, map_left, IsHandedOut};
 
-use crate::answers::ROOM;
+use crate::answers::{ABSENT, ROOM};
+
+// Writes a value, if there is one; 253 where there is none.
+pub(crate) fn write<T: Drop>(value: Option<T>, out: &mut T) -> u8
+    ensures { IsWritten value result out.old out.new }
+{
+    match value {
+        Some(value) => {
+            *out = value;
+            0
+        }
+        None => ABSENT,
+    }
+}
 
 // Copies octets to the beginning of the room.
 pub(crate) fn copy(octets: &[u8], out: &mut [u8])

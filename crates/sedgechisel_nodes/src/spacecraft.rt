@@ -1,21 +1,23 @@
 // The spacecraft of a program in C.
 
-ghost use Rattle.std.specs.Prelude.{◌≡◌, ◌≢◌, ◌⊎◌, Option, Some, None, option_map, IfSome, Ok};
+ghost use Rattle.std.specs.Prelude.{◌≡◌, ◌≢◌, ◌⊎◌, Option, None, IfSome, Ok};
 ghost use Rattle.nodes.specs.Spacecraft.{SpacecraftState, Receive, Telemetry, spacecraft_step, new_spacecraft};
 ghost use Rattle.tm_link.specs.Building.{queue_fault};
 ghost use Rattle.tm_link.specs.Faults.{fault_row};
-ghost use Rattle.sedgechisel_nodes.specs.Grounds.{closed, config_of, IsOpenAnswer};
-ghost use Rattle.sedgechisel_nodes.specs.Boards.{stepped, verdict_number, dropped_number, received_kept};
+ghost use Rattle.cop1.specs.Names.{verdict_row};
+ghost use Rattle.sedgechisel_nodes.specs.Boards.{stepped, dropped_number, received_kept};
+ghost use Rattle.sedgechisel_nodes.specs.Calls.{closed, IsOpened};
+ghost use Rattle.sedgechisel_nodes.specs.Grounds.{config_of};
 
 use crate::answers::{MEMORY, OUT_OF_RANGE};
 use crate::ground::{KeptConfig, config_from};
+use crate::holds::{Holds, open, take};
 use cop1::Verdict;
 use kept::Kept;
 use map_service::Dropped;
-use nodes::{Received, Spacecraft, ValidConfig};
+use nodes::{Received, Spacecraft};
 use std::alloc::Global;
 use std::marker::Model;
-use std::mem;
 use tc_frame::Command;
 
 /// A spacecraft, or none, which is null.
@@ -32,7 +34,11 @@ impl Model for SpacecraftHandle {
     ghost also_owns = { λ h. kept_owns heap_token the_row h.at h.value };
 }
 
-impl SpacecraftHandle {
+impl Holds for SpacecraftHandle {
+    type Node = Spacecraft;
+
+    ghost held = { λ h. h.value };
+
     fn of(kept: Kept<Spacecraft, Global>) -> SpacecraftHandle
         ensures { result.value ≡ kept.value }
     {
@@ -40,31 +46,12 @@ impl SpacecraftHandle {
         SpacecraftHandle { at: at as *mut u8 }
     }
 
-    fn into_kept(self, alloc: Global) -> Kept<Spacecraft, Global>
-        ensures { result.value ≡ self.value }
-    {
+    fn into_kept(self, alloc: Global) -> Kept<Spacecraft, Global> {
         let SpacecraftHandle { at } = self;
         Kept {
             at: at as *mut Spacecraft,
             alloc,
         }
-    }
-
-    // Takes the spacecraft out, and leaves none.
-    pub(crate) fn take(&mut self, alloc: Global) -> Option<Box<Spacecraft>>
-        ensures taken { option_map (λ b. b.value) result ≡ self.old.value }
-        ensures none { self.new.value ≡ None }
-    {
-        let none = SpacecraftHandle::of(Kept::none(alloc));
-        mem::replace(self, none).into_kept(alloc).into_option()
-    }
-
-    // Puts a spacecraft in; one that was there is freed.
-    pub(crate) fn put(&mut self, alloc: Global, node: Box<Spacecraft>)
-        ensures { self.new.value ≡ Some node.value }
-    {
-        let full = SpacecraftHandle::of(Kept::of(node));
-        drop(mem::replace(self, full).into_kept(alloc).into_option());
     }
 }
 
@@ -96,7 +83,7 @@ pub(crate) const NO_RECEIVED: KeptReceived = KeptReceived {
 };
 
 fn number_of_verdict(verdict: Verdict) -> u8
-    ensures { result ≡ verdict_number verdict }
+    ensures { result ≡ (verdict_row verdict).0 }
 {
     match verdict {
         Verdict::Accepted => 0,
@@ -160,38 +147,20 @@ pub(crate) fn kept_received(received: Received) -> KeptReceived
     }
 }
 
-fn boxed(alloc: Global, config: &ValidConfig) -> Option<Box<Spacecraft>>
-    ensures { IfSome result (λ b. b.value ≡ new_spacecraft config.now) }
-{
-    let Ok(node) = Spacecraft::of(alloc, config) else {
-        return None;
-    };
-    match Box::new(alloc, node) {
-        Ok(node) => Some(node),
-        Err(_) => None,
-    }
-}
-
 #[unsafe(no_mangle)]
 pub extern "C" fn sedge_spacecraft_open(
     alloc: Global,
     config: &KeptConfig,
     spacecraft: &mut SpacecraftHandle,
 ) -> u8
-    ensures answer { IsOpenAnswer (config_of config.now) result }
-    ensures opened { result ≡ 0
-        → spacecraft.new.value ≡ Some (new_spacecraft (config_of config.now)) }
-    ensures unchanged { result ≢ 0 → spacecraft.new.value ≡ spacecraft.old.value }
+    ensures { IsOpened (config_of config.now) new_spacecraft spacecraft.old.value spacecraft.new.value result }
 {
     let Ok(config) = config_from(config).valid() else {
         return OUT_OF_RANGE;
     };
-    match boxed(alloc, &config) {
-        Some(node) => {
-            spacecraft.put(alloc, node);
-            0
-        }
-        None => MEMORY,
+    match Spacecraft::of(alloc, &config) {
+        Ok(node) => open(spacecraft, alloc, node),
+        Err(_) => MEMORY,
     }
 }
 
@@ -199,7 +168,7 @@ pub extern "C" fn sedge_spacecraft_open(
 pub extern "C" fn sedge_spacecraft_close(alloc: Global, spacecraft: &mut SpacecraftHandle)
     ensures { spacecraft.new.value ≡ None }
 {
-    drop(spacecraft.take(alloc));
+    drop(take(spacecraft, alloc));
 }
 
 /// Takes octets that came from the ground. Answers 0, or 6 where there was no memory, or 255.

@@ -7,7 +7,8 @@ ghost use Rattle.tc_frame.specs.Layout.{frame_view};
 ghost use Rattle.tc_frame.specs.Writing.{frame_fits};
 ghost use Rattle.nodes.specs.Frames.{size_of, written_over};
 ghost use Rattle.nodes.specs.Ground.{GroundState, Pull, TakeTelemetry, ground_step};
-ghost use Rattle.sedgechisel_nodes.specs.Grounds.{stepped, closed};
+ghost use Rattle.sedgechisel_nodes.specs.Calls.{closed, IsRead};
+ghost use Rattle.sedgechisel_nodes.specs.Grounds.{stepped};
 ghost use Rattle.sedgechisel_nodes.specs.Rooms.{room_answer, count_of, IsHandedOut};
 
 use crate::answers::ROOM;
@@ -35,16 +36,10 @@ pub extern "C" fn sedge_ground_next(
     ground: &mut GroundHandle,
     count: &mut usize,
 ) -> u8
-    ensures none { ground.old.value ≡ None → (result ≡ closed) × (count.new ≡ count.old) }
-    ensures answer { IfSome ground.old.value (λ s. result ≡ 0) }
-    ensures count { IfSome ground.old.value
-        (λ s. count.new ≡ unwrap_or (size_of (ground_step s Pull).answer) 0) }
-    ensures unchanged { ground.new.value ≡ ground.old.value }
+    ensures { IsRead (λ s. Some (unwrap_or (size_of (ground_step s Pull).answer) 0))
+        ground.old.value ground.new.value result count.old count.new }
 {
-    held!(alloc, ground, |node| {
-        *count = size_of_next(&node);
-        0
-    })
+    read!(alloc, ground, count, |node| size_of_next(&node))
 }
 
 // Writes a frame, with its check, if it fits.
@@ -127,16 +122,10 @@ pub extern "C" fn sedge_ground_next_telemetry(
     ground: &mut GroundHandle,
     count: &mut usize,
 ) -> u8
-    ensures none { ground.old.value ≡ None → (result ≡ closed) × (count.new ≡ count.old) }
-    ensures answer { IfSome ground.old.value (λ s. result ≡ 0) }
-    ensures count { IfSome ground.old.value
-        (λ s. count.new ≡ count_of (ground_step s TakeTelemetry).answer) }
-    ensures unchanged { ground.new.value ≡ ground.old.value }
+    ensures { IsRead (λ s. Some (count_of (ground_step s TakeTelemetry).answer))
+        ground.old.value ground.new.value result count.old count.new }
 {
-    held!(alloc, ground, |node| {
-        *count = count_of(node.peek_telemetry());
-        0
-    })
+    read!(alloc, ground, count, |node| count_of(node.peek_telemetry()))
 }
 
 // Takes a packet of telemetry out of a ground, if it fits.

@@ -1,19 +1,19 @@
 // The handle of a simulated link.
 
-ghost use Rattle.std.specs.Prelude.{◌≡◌, ◌≢◌, [], Option, Some, None, option_map, IfSome};
-ghost use Rattle.sedgechisel_nodes.specs.Grounds.{config_of, IsOpenAnswer};
+ghost use Rattle.std.specs.Prelude.{◌≡◌, Option, None};
+ghost use Rattle.sedgechisel_nodes.specs.Calls.{IsOpened};
+ghost use Rattle.sedgechisel_nodes.specs.Grounds.{config_of};
 ghost use Rattle.sedgechisel_nodes.specs.LinkState.{LinkState};
 ghost use Rattle.sedgechisel_nodes.specs.Links.{new_link, IsEventCall};
 
 use crate::answers::{MEMORY, OUT_OF_RANGE};
 use crate::ground::{KeptConfig, config_from};
+use crate::holds::{Holds, open, take};
 use crate::sim::link::Link;
 use crate::sim::reply::KeptReply;
 use kept::Kept;
-use nodes::Config;
 use std::alloc::Global;
 use std::marker::Model;
-use std::mem;
 use tc_link::Event;
 
 /// A simulated link, or none, which is null.
@@ -30,7 +30,11 @@ impl Model for SimHandle {
     ghost also_owns = { λ h. kept_owns heap_token the_row h.at h.value };
 }
 
-impl SimHandle {
+impl Holds for SimHandle {
+    type Node = Link;
+
+    ghost held = { λ h. h.value };
+
     fn of(kept: Kept<Link, Global>) -> SimHandle
         ensures { result.value ≡ kept.value }
     {
@@ -38,43 +42,12 @@ impl SimHandle {
         SimHandle { at: at as *mut u8 }
     }
 
-    fn into_kept(self, alloc: Global) -> Kept<Link, Global>
-        ensures { result.value ≡ self.value }
-    {
+    fn into_kept(self, alloc: Global) -> Kept<Link, Global> {
         let SimHandle { at } = self;
         Kept {
             at: at as *mut Link,
             alloc,
         }
-    }
-
-    // Takes the link out, and leaves none.
-    pub(crate) fn take(&mut self, alloc: Global) -> Option<Box<Link>>
-        ensures taken { option_map (λ b. b.value) result ≡ self.old.value }
-        ensures none { self.new.value ≡ None }
-    {
-        let none = SimHandle::of(Kept::none(alloc));
-        mem::replace(self, none).into_kept(alloc).into_option()
-    }
-
-    // Puts a link in; one that was there is freed.
-    pub(crate) fn put(&mut self, alloc: Global, link: Box<Link>)
-        ensures { self.new.value ≡ Some link.value }
-    {
-        let full = SimHandle::of(Kept::of(link));
-        drop(mem::replace(self, full).into_kept(alloc).into_option());
-    }
-}
-
-fn boxed(alloc: Global, config: &Config) -> Option<Box<Link>>
-    ensures { IfSome result (λ b. b.value ≡ new_link config.now) }
-{
-    let Some(link) = Link::new(alloc, config) else {
-        return None;
-    };
-    match Box::new(alloc, link) {
-        Ok(link) => Some(link),
-        Err(_) => None,
     }
 }
 
@@ -82,19 +55,14 @@ fn boxed(alloc: Global, config: &Config) -> Option<Box<Link>>
 /// range, or 6 where there is no memory.
 #[unsafe(no_mangle)]
 pub extern "C" fn sedge_sim_open(alloc: Global, config: &KeptConfig, sim: &mut SimHandle) -> u8
-    ensures answer { IsOpenAnswer (config_of config.now) result }
-    ensures opened { result ≡ 0 → sim.new.value ≡ Some (new_link (config_of config.now)) }
-    ensures unchanged { result ≢ 0 → sim.new.value ≡ sim.old.value }
+    ensures { IsOpened (config_of config.now) new_link sim.old.value sim.new.value result }
 {
     let config = config_from(config);
     if config.fault().is_some() {
         return OUT_OF_RANGE;
     }
-    match boxed(alloc, &config) {
-        Some(link) => {
-            sim.put(alloc, link);
-            0
-        }
+    match Link::new(alloc, &config) {
+        Some(link) => open(sim, alloc, link),
         None => MEMORY,
     }
 }
@@ -104,7 +72,7 @@ pub extern "C" fn sedge_sim_open(alloc: Global, config: &KeptConfig, sim: &mut S
 pub extern "C" fn sedge_sim_close(alloc: Global, sim: &mut SimHandle)
     ensures { sim.new.value ≡ None }
 {
-    drop(sim.take(alloc));
+    drop(take(sim, alloc));
 }
 
 // Lets an event happen to the link, where there is one.

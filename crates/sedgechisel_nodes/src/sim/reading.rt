@@ -1,7 +1,7 @@
 // What a program in C reads of a simulated link.
 
 ghost use Rattle.std.specs.Prelude.{◌≡◌, ◌≢◌, Some, None, IfSome, option_map, length};
-ghost use Rattle.sedgechisel_nodes.specs.Grounds.{closed};
+ghost use Rattle.sedgechisel_nodes.specs.Calls.{closed, IsRead};
 ghost use Rattle.sedgechisel_nodes.specs.Links.{begun_number, link_reading_of};
 ghost use Rattle.sedgechisel_nodes.specs.Rooms.{room_answer, IsHandedOut};
 
@@ -57,15 +57,9 @@ fn link_reading(sim: &Sim) -> SimReading
 /// Reads how the session began and how far it is, and the sender's state. Answers 0, or 255 where there is no link.
 #[unsafe(no_mangle)]
 pub extern "C" fn sedge_sim_read(alloc: Global, sim: &mut SimHandle, read: &mut SimReading) -> u8
-    ensures none { sim.old.value ≡ None → (result ≡ closed) × (read.new ≡ read.old) }
-    ensures answer { IfSome sim.old.value
-        (λ l. (result ≡ 0) × (read.new ≡ link_reading_of l.world)) }
-    ensures unchanged { sim.new.value ≡ sim.old.value }
+    ensures { IsRead (λ l. Some (link_reading_of l.world)) sim.old.value sim.new.value result read.old read.new }
 {
-    held!(alloc, sim, |link| {
-        *read = link_reading(link.sim());
-        0
-    })
+    read!(alloc, sim, read, |link| link_reading(link.sim()))
 }
 
 /// Writes the octets of the frame or the packet that the last event gave, and how many they are; 0 where it gave none.

@@ -3,12 +3,12 @@
 ghost use Rattle.std.specs.Prelude.{◌≡◌, ◌≢◌, Some, None, IfSome, option_map, option_copied, length, []};
 ghost use Rattle.std.specs.Option.{unwrap_or};
 ghost use Rattle.tm_link.specs.Extraction.{octets_of};
-ghost use Rattle.sedgechisel_nodes.specs.Grounds.{closed};
-ghost use Rattle.sedgechisel_nodes.specs.Links.{record_of, entry_of, entry_answer, IsLengthIfThere};
+ghost use Rattle.sedgechisel_nodes.specs.Calls.{closed, IsRead};
+ghost use Rattle.sedgechisel_nodes.specs.Links.{record_of, entry_of, entry_answer};
 ghost use Rattle.sedgechisel_nodes.specs.Rooms.{room_answer, IsHandedOut};
 
 use crate::answers::ABSENT;
-use crate::room::hand_out;
+use crate::room::{hand_out, write};
 use crate::sim::handle::SimHandle;
 use std::alloc::Global;
 use tc_link::Sim;
@@ -59,27 +59,23 @@ pub extern "C" fn sedge_sim_count(
     map: u8,
     entries: &mut usize,
 ) -> u8
-    ensures none { sim.old.value ≡ None → (result ≡ closed) × (entries.new ≡ entries.old) }
-    ensures answer { IfSome sim.old.value (λ l. (result ≡ 0)
-        × (entries.new ≡ length (record_of l.world record_number map))) }
-    ensures unchanged { sim.new.value ≡ sim.old.value }
+    ensures { IsRead (λ l. Some (length (record_of l.world record_number map)))
+        sim.old.value sim.new.value result entries.old entries.new }
 {
-    held!(alloc, sim, |link| {
-        *entries = count_of_entries(link.sim(), record_number, map);
-        0
-    })
+    read!(
+        alloc,
+        sim,
+        entries,
+        |link| count_of_entries(link.sim(), record_number, map)
+    )
 }
 
-// Writes how many octets there are, if they are there; 253 where they are not.
-fn length_if_there(octets: Option<&[u8]>, count: &mut usize) -> u8
-    ensures { IsLengthIfThere (option_copied octets.entry) result count.old count.new }
+fn length_of_entry(sim: &Sim, number: u8, map: u8, k: usize) -> Option<usize>
+    ensures { result ≡ option_map length (entry_of sim.now.world number map k) }
 {
-    match octets {
-        Some(octets) => {
-            *count = octets.len();
-            0
-        }
-        None => ABSENT,
+    match entry_of(sim, number, map, k) {
+        Some(octets) => Some(octets.len()),
+        None => None,
     }
 }
 
@@ -94,15 +90,13 @@ pub extern "C" fn sedge_sim_entry_length(
     k: usize,
     count: &mut usize,
 ) -> u8
-    ensures none { sim.old.value ≡ None → (result ≡ closed) × (count.new ≡ count.old) }
-    ensures answer { IfSome sim.old.value (λ l. IsLengthIfThere
-        (entry_of l.world record_number map k) result count.old count.new) }
-    ensures unchanged { sim.new.value ≡ sim.old.value }
+    ensures { IsRead (λ l. option_map length (entry_of l.world record_number map k))
+        sim.old.value sim.new.value result count.old count.new }
 {
     held!(
         alloc,
         sim,
-        |link| length_if_there(entry_of(link.sim(), record_number, map, k), count)
+        |link| write(length_of_entry(link.sim(), record_number, map, k), count)
     )
 }
 

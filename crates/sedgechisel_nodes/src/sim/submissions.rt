@@ -2,7 +2,7 @@
 
 ghost use Rattle.std.specs.Prelude.{◌≡◌, ◌≢◌, Some, None, IfSome, option_map, length};
 ghost use Rattle.nodes.specs.Packets.{lent_packet};
-ghost use Rattle.sedgechisel_nodes.specs.Grounds.{closed};
+ghost use Rattle.sedgechisel_nodes.specs.Calls.{closed, IsRead};
 ghost use Rattle.sedgechisel_nodes.specs.Links.{entry_answer, submission_of, IsPacketIfThere};
 ghost use Rattle.sedgechisel_nodes.specs.Rooms.{octets_on, map_left, IsHandedOut};
 
@@ -15,15 +15,10 @@ use tc_link::Sim;
 /// Writes how many submissions the session has. Answers 0, or 255 where there is no link.
 #[unsafe(no_mangle)]
 pub extern "C" fn sedge_sim_submissions(alloc: Global, sim: &mut SimHandle, count: &mut usize) -> u8
-    ensures none { sim.old.value ≡ None → (result ≡ closed) × (count.new ≡ count.old) }
-    ensures answer { IfSome sim.old.value
-        (λ l. (result ≡ 0) × (count.new ≡ length l.world.session.submissions)) }
-    ensures unchanged { sim.new.value ≡ sim.old.value }
+    ensures { IsRead (λ l. Some (length l.world.session.submissions))
+        sim.old.value sim.new.value result count.old count.new }
 {
-    held!(alloc, sim, |link| {
-        *count = link.sim().submissions().len();
-        0
-    })
+    read!(alloc, sim, count, |link| link.sim().submissions().len())
 }
 
 // Submission k, if it is there.

@@ -1,0 +1,29 @@
+-- What calls answer and leave, whatever the handle holds.
+use Rattle.std.specs.Prelude.{◌≡◌, ◌≢◌, ℕ, ◌⊎◌, Option, Some, None, IfSome}
+use Rattle.nodes.specs.declared.config.Config.{Config}
+use Rattle.nodes.specs.Parameters.{IsConfig}
+
+-- the handle holds none
+abbrev pub closed : ℕ
+closed = 255
+
+-- what opening answers, and what the handle holds before and after it: 254 where a parameter is out
+-- of its range, and else 0, or 6 where there was no memory
+pub record IsOpened {S : Type 0} (c : Config) (opened_by : Config → S) (old new : Option S)
+    (answer : ℕ) : Type 0 where
+  pub sound : IsConfig c → (answer ≡ 0) ⊎ (answer ≡ 6)
+  pub unsound : (IsConfig c → ⊥) → answer ≡ 254
+  pub opened : answer ≡ 0 → new ≡ Some (opened_by c)
+  pub unchanged : answer ≢ 0 → new ≡ old
+
+-- a value is written where there is one; the answer is 253 where there is none
+abbrev pub IsWritten : {V : Type 0} → Option V → ℕ → V → V → Type 0
+IsWritten None answer v v' = (answer ≡ 253) × (v' ≡ v)
+IsWritten (Some w) answer v v' = (answer ≡ 0) × (v' ≡ w)
+
+-- what a call answers and writes that reads of what the handle holds, and leaves it as it is
+pub record IsRead {S V : Type 0} (read : S → Option V) (old new : Option S) (answer : ℕ) (v v' : V)
+    : Type 0 where
+  pub none : old ≡ None → (answer ≡ closed) × (v' ≡ v)
+  pub answer_is : IfSome old (λ s. IsWritten (read s) answer v v')
+  pub unchanged : new ≡ old
