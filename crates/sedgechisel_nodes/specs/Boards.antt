@@ -19,7 +19,7 @@ use Rattle.cop1.specs.Report.{report_of}
 use Rattle.sedgechisel_nodes.specs.declared.reading.BoardReading.{BoardReading}
 use Rattle.sedgechisel_nodes.specs.declared.spacecraft.KeptReceived.{KeptReceived}
 use Rattle.sedgechisel_nodes.specs.Calls.{closed}
-use Rattle.sedgechisel_nodes.specs.Rooms.{room_answer, count_of, octets_on, map_left}
+use Rattle.sedgechisel_nodes.specs.Rooms.{next_answer, count_of, octets_on, map_left}
 use Rattle.sedgechisel_nodes.specs.Rooms.{IsHandedOut}
 
 abbrev pub stepped : Option SpacecraftState → SpacecraftEvent → Option SpacecraftState
@@ -102,7 +102,7 @@ pub record IsTaken (past : Bool) (old new : Option SpacecraftState) (answer m m'
     (count count' : ℕ) (out out' : List ℕ) : Type 0 where
   pub none : old ≡ None → answer ≡ closed
   pub answer_is : IfSome old (λ s. answer
-      ≡ room_answer (option_map length (octets_on (next_packet past s))) (length out))
+      ≡ next_answer (octets_on (next_packet past s)) (length out))
   pub after : answer ≡ 0 → new ≡ option_map (after_taking past) old
   pub on_map : answer ≡ 0 → IfSome old (λ s. m' ≡ map_left (next_packet past s) m)
   pub packet : answer ≡ 0

@@ -26,7 +26,6 @@ use Rattle.sedgechisel_nodes.specs.Calls.{closed}
 use Rattle.sedgechisel_nodes.specs.Grounds.{mode_number}
 use Rattle.sedgechisel_nodes.specs.Hearing.{no_heard, heard_kept, no_word, word_kept}
 use Rattle.sedgechisel_nodes.specs.LinkState.{LinkState}
-use Rattle.sedgechisel_nodes.specs.Rooms.{room_answer}
 
 abbrev pub new_link : Config → LinkState
 new_link c = record { world = new_world c; octets = [] }
@@ -141,11 +140,6 @@ record_of w number m =
 -- entry k of it
 abbrev pub entry_of : World → ℕ → ℕ → ℕ → Option (List ℕ)
 entry_of w number m k = slice_get (record_of w number m) k
-
--- the answer to taking it: 253 where it is not there, 252 where the room is too short, and else 0
-abbrev pub entry_answer : Option (List ℕ) → ℕ → ℕ
-entry_answer None room = 253
-entry_answer (Some octets) room = room_answer (Some (length octets)) room
 
 -- ---- submissions, in their order, each with its MAP
 

@@ -1,12 +1,22 @@
 -- What is taken out into the caller's room.
-use Rattle.std.specs.Prelude.{◌≡◌, ℕ, List, ◌++◌, drop, length, nat_lt, if◌then◌else◌, Option}
-use Rattle.std.specs.Prelude.{Some, None, option_map}
+use Rattle.std.specs.Prelude.{◌≡◌, ◌≢◌, ℕ, List, ◌++◌, drop, length, nat_lt, if◌then◌else◌}
+use Rattle.std.specs.Prelude.{Option, Some, None, option_map, IfSome}
 use Rattle.nodes.specs.Packets.{PacketOn}
+use Rattle.sedgechisel_nodes.specs.Calls.{closed}
 
 -- the answer where this many octets are next, if any: 252 where the room is too short, and else 0
 abbrev pub room_answer : Option ℕ → ℕ → ℕ
 room_answer None room = 0
 room_answer (Some count) room = if nat_lt room count then 252 else 0
+
+-- the answer to taking the octets that are next, if any
+abbrev pub next_answer : Option (List ℕ) → ℕ → ℕ
+next_answer octets room = room_answer (option_map length octets) room
+
+-- the answer to taking an entry: 253 where it is not there
+abbrev pub entry_answer : Option (List ℕ) → ℕ → ℕ
+entry_answer None room = 253
+entry_answer (Some octets) room = room_answer (Some (length octets)) room
 
 -- how many octets are next, 0 for none
 abbrev pub count_of : Option (List ℕ) → ℕ
@@ -19,6 +29,15 @@ abbrev pub IsHandedOut : Option (List ℕ) → ℕ → List ℕ → List ℕ →
 IsHandedOut None count out out' = (count ≡ 0) × (out' ≡ out)
 IsHandedOut (Some octets) count out out' =
     (count ≡ length octets) × (out' ≡ octets ++ drop (length octets) out)
+
+-- what a call answers and writes that hands out octets of what the handle holds
+pub record IsHanding {S : Type 0} (answer_of : Option (List ℕ) → ℕ → ℕ)
+    (octets : S → Option (List ℕ)) (old : Option S) (answer count count' : ℕ) (out out' : List ℕ)
+    : Type 0 where
+  pub none : old ≡ None → answer ≡ closed
+  pub answer_is : IfSome old (λ s. answer ≡ answer_of (octets s) (length out))
+  pub handed_out : answer ≡ 0 → IfSome old (λ s. IsHandedOut (octets s) count' out out')
+  pub unwritten : answer ≢ 0 → (count' ≡ count) × (out' ≡ out)
 
 abbrev pub octets_on : Option PacketOn → Option (List ℕ)
 octets_on packet = option_map (λ p. p.octets) packet

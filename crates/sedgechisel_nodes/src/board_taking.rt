@@ -6,7 +6,7 @@ ghost use Rattle.nodes.specs.Packets.{lent_packet};
 ghost use Rattle.nodes.specs.Spacecraft.{Report, spacecraft_step};
 ghost use Rattle.sedgechisel_nodes.specs.Boards.{stepped, next_packet, after_taking, IsDescribed, IsTaken};
 ghost use Rattle.sedgechisel_nodes.specs.Calls.{closed};
-ghost use Rattle.sedgechisel_nodes.specs.Rooms.{room_answer, octets_on, map_left, IsHandedOut};
+ghost use Rattle.sedgechisel_nodes.specs.Rooms.{room_answer};
 
 use crate::answers::ROOM;
 use crate::room::{copy, describe, hand_out_on};
@@ -78,30 +78,6 @@ pub extern "C" fn sedge_spacecraft_next_bypass(
     described(alloc, spacecraft, true, map, count)
 }
 
-// Takes the next packet out of a spacecraft, if it fits.
-fn handed_out(
-    node: &mut Spacecraft,
-    past: bool,
-    map: &mut u8,
-    out: &mut [u8],
-    count: &mut usize,
-) -> u8
-    ensures answer { result
-        ≡ room_answer (option_map length (octets_on (next_packet past node.old))) (length out.old) }
-    ensures after { result ≡ 0 → node.new ≡ after_taking past node.old }
-    ensures map { result ≡ 0 → map.new ≡ map_left (next_packet past node.old) map.old }
-    ensures packet { result ≡ 0
-        → IsHandedOut (octets_on (next_packet past node.old)) count.new out.old out.new }
-    ensures unchanged { result ≢ 0 → (node.new ≡ node.old) × (map.new ≡ map.old)
-        × (count.new ≡ count.old) × (out.new ≡ out.old) }
-{
-    let answer = hand_out_on(next_packet(node, past), map, out, count);
-    if answer == 0 {
-        drop_next(node, past);
-    }
-    answer
-}
-
 fn taken(
     alloc: Global,
     spacecraft: &mut SpacecraftHandle,
@@ -112,11 +88,13 @@ fn taken(
 ) -> u8
     ensures { IsTaken past spacecraft.old.value spacecraft.new.value result map.old map.new count.old count.new out.old out.new }
 {
-    held!(
-        alloc,
-        spacecraft,
-        |node| handed_out(&mut node, past, map, out, count)
-    )
+    held!(alloc, spacecraft, |node| {
+        let answer = hand_out_on(next_packet(&node, past), map, out, count);
+        if answer == 0 {
+            drop_next(&mut node, past);
+        }
+        answer
+    })
 }
 
 /// Takes the oldest packet of sequence-controlled frames (CCSDS 232.0-B-4, 4.4). Answers 0, or 252 where the room is too

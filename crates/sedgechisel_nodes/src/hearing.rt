@@ -1,9 +1,9 @@
 // The ground of a program in C: telemetry and reports, the clock, and packets past the sequence control.
 
-ghost use Rattle.std.specs.Prelude.{◌≡◌, ◌≢◌, ◌⊎◌, option_map, None, IfSome};
+ghost use Rattle.std.specs.Prelude.{◌≡◌, ◌≢◌, option_map, None, IfSome};
 ghost use Rattle.tm_link.specs.Reading.{frame_at};
 ghost use Rattle.nodes.specs.Ground.{Bypass, Telemetry, Tick, ground_step, bypass_fault};
-ghost use Rattle.sedgechisel_nodes.specs.Calls.{closed, IsRead};
+ghost use Rattle.sedgechisel_nodes.specs.Calls.{closed, IsRead, IsStep};
 ghost use Rattle.sedgechisel_nodes.specs.Grounds.{stepped, IsAnswer, IsSubmission};
 ghost use Rattle.sedgechisel_nodes.specs.Hearing.{alert_number, gap_kept, report_kept, heard_kept, word_kept, report_in};
 
@@ -148,14 +148,9 @@ pub extern "C" fn sedge_ground_telemetry(
     octets: &[u8],
     heard: &mut KeptHeard,
 ) -> u8
-    ensures answers { (result ≡ 0) ⊎ (result ≡ 6) ⊎ (result ≡ closed) }
-    ensures none { ground.old.value ≡ None → result ≡ closed }
-    ensures after { result ≡ 0
-        → ground.new.value ≡ stepped ground.old.value (Telemetry octets.now) }
-    ensures heard { result ≡ 0 → IfSome ground.old.value
-        (λ s. heard.new ≡ heard_kept (ground_step s (Telemetry octets.now)).answer) }
-    ensures unchanged { result ≢ 0
-        → (ground.new.value ≡ ground.old.value) × (heard.new ≡ heard.old) }
+    ensures { IsStep (λ s. (ground_step s (Telemetry octets.now)).after)
+        (λ s. heard_kept (ground_step s (Telemetry octets.now)).answer)
+        ground.old.value ground.new.value result heard.old heard.new }
 {
     held!(alloc, ground, |node| match node.telemetry(octets) {
         Ok(outcome) => {
@@ -209,6 +204,7 @@ pub extern "C" fn sedge_ground_tick(alloc: Global, ground: &mut GroundHandle) ->
     held!(alloc, ground, |node| number_of_alert(node.tick()))
 }
 
+#[tactic(auto, using(crate::proofs::Answered::answered))]
 fn bypassed(node: &mut Ground, map: u8, octets: &[u8]) -> u8
     ensures answer { IsAnswer (bypass_fault node.old map octets.now) result }
     ensures after { result ≡ 0 → node.new ≡ (ground_step node.old (Bypass map octets.now)).after }

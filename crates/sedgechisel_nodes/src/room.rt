@@ -3,7 +3,7 @@
 ghost use Rattle.std.specs.Prelude.{◌≡◌, ◌≢◌, ◌≤◌, ◌++◌, drop, length, option_map, option_copied};
 ghost use Rattle.nodes.specs.Packets.{lent_packet};
 ghost use Rattle.sedgechisel_nodes.specs.Calls.{IsWritten};
-ghost use Rattle.sedgechisel_nodes.specs.Rooms.{room_answer, count_of, octets_on, map_left, IsHandedOut};
+ghost use Rattle.sedgechisel_nodes.specs.Rooms.{next_answer, count_of, octets_on, map_left, IsHandedOut};
 
 use crate::answers::{ABSENT, ROOM};
 
@@ -40,8 +40,7 @@ pub(crate) fn count_of(octets: Option<&[u8]>) -> usize
 
 // Hands octets out, if there are any; 252 where the room is too short.
 pub(crate) fn hand_out(octets: Option<&[u8]>, out: &mut [u8], count: &mut usize) -> u8
-    ensures answer { result
-        ≡ room_answer (option_map length (option_copied octets.entry)) (length out.old) }
+    ensures answer { result ≡ next_answer (option_copied octets.entry) (length out.old) }
     ensures handed { result ≡ 0
         → IsHandedOut (option_copied octets.entry) count.new out.old out.new }
     ensures unchanged { result ≢ 0 → (count.new ≡ count.old) × (out.new ≡ out.old) }
@@ -80,8 +79,7 @@ pub(crate) fn hand_out_on(
     count: &mut usize,
 ) -> u8
     ensures answer { result
-        ≡ room_answer (option_map length (octets_on (option_map lent_packet packet.entry)))
-        (length out.old) }
+        ≡ next_answer (octets_on (option_map lent_packet packet.entry)) (length out.old) }
     ensures map { result ≡ 0 → map.new ≡ map_left (option_map lent_packet packet.entry) map.old }
     ensures handed { result ≡ 0 → IsHandedOut (octets_on (option_map lent_packet packet.entry))
         count.new out.old out.new }

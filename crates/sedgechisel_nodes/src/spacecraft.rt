@@ -1,12 +1,12 @@
 // The spacecraft of a program in C.
 
-ghost use Rattle.std.specs.Prelude.{◌≡◌, ◌≢◌, ◌⊎◌, Option, None, IfSome, Ok};
+ghost use Rattle.std.specs.Prelude.{◌≡◌, ◌≢◌, Option, None, IfSome, Ok};
 ghost use Rattle.nodes.specs.Spacecraft.{SpacecraftState, Receive, Telemetry, spacecraft_step, new_spacecraft};
 ghost use Rattle.tm_link.specs.Building.{queue_fault};
 ghost use Rattle.tm_link.specs.Faults.{fault_row};
 ghost use Rattle.cop1.specs.Names.{verdict_row};
 ghost use Rattle.sedgechisel_nodes.specs.Boards.{stepped, dropped_number, received_kept};
-ghost use Rattle.sedgechisel_nodes.specs.Calls.{closed, IsOpened};
+ghost use Rattle.sedgechisel_nodes.specs.Calls.{closed, IsOpened, IsStep};
 ghost use Rattle.sedgechisel_nodes.specs.Grounds.{config_of};
 
 use crate::answers::{MEMORY, OUT_OF_RANGE};
@@ -179,14 +179,9 @@ pub extern "C" fn sedge_spacecraft_receive(
     octets: &[u8],
     received: &mut KeptReceived,
 ) -> u8
-    ensures answers { (result ≡ 0) ⊎ (result ≡ 6) ⊎ (result ≡ closed) }
-    ensures none { spacecraft.old.value ≡ None → result ≡ closed }
-    ensures after { result ≡ 0
-        → spacecraft.new.value ≡ stepped spacecraft.old.value (Receive octets.now) }
-    ensures received { result ≡ 0 → IfSome spacecraft.old.value
-        (λ s. received.new ≡ received_kept (spacecraft_step s (Receive octets.now)).answer) }
-    ensures unchanged { result ≢ 0
-        → (spacecraft.new.value ≡ spacecraft.old.value) × (received.new ≡ received.old) }
+    ensures { IsStep (λ s. (spacecraft_step s (Receive octets.now)).after)
+        (λ s. received_kept (spacecraft_step s (Receive octets.now)).answer)
+        spacecraft.old.value spacecraft.new.value result received.old received.new }
 {
     held!(alloc, spacecraft, |node| match node.receive(octets) {
         Ok(outcome) => {
@@ -195,21 +190,6 @@ pub extern "C" fn sedge_spacecraft_receive(
         }
         Err(_) => MEMORY,
     })
-}
-
-// What queueing a packet answers: 0, or 8 for what is no packet to send, or 7 where there was no memory.
-fn queued(node: &mut Spacecraft, packet: &[u8]) -> u8
-    ensures taken { result ≡ 0
-        → (spacecraft_step node.old (Telemetry packet.now)).answer ≡ Ok tt }
-    ensures fault { result ≢ 0 → result ≡ (fault_row (queue_fault packet.now)).0 }
-    ensures after { result ≡ 0
-        → node.new ≡ (spacecraft_step node.old (Telemetry packet.now)).after }
-    ensures unchanged { result ≢ 0 → node.new ≡ node.old }
-{
-    match node.telemetry(packet) {
-        Ok(()) => 0,
-        Err(fault) => fault.number(),
-    }
 }
 
 /// Queues a packet to be sent as telemetry (CCSDS 132.0-B-3, 4.2.2). Answers 0, or 8 `NotAPacket` for octets that are
@@ -229,5 +209,8 @@ pub extern "C" fn sedge_spacecraft_telemetry(
         → spacecraft.new.value ≡ stepped spacecraft.old.value (Telemetry packet.now) }
     ensures unchanged { result ≢ 0 → spacecraft.new.value ≡ spacecraft.old.value }
 {
-    held!(alloc, spacecraft, |node| queued(&mut node, packet))
+    held!(alloc, spacecraft, |node| match node.telemetry(packet) {
+        Ok(()) => 0,
+        Err(fault) => fault.number(),
+    })
 }

@@ -1,15 +1,15 @@
 // The frames that a program in C takes of its ground, and the packets of telemetry.
 
-ghost use Rattle.std.specs.Prelude.{◌≡◌, ◌≢◌, true, length, option_map, Some, None, IfSome};
+ghost use Rattle.std.specs.Prelude.{◌≡◌, ◌≢◌, true, length, Some, None, IfSome};
 ghost use Rattle.std.specs.Option.{unwrap_or};
 ghost use Rattle.tc_frame.specs.declared.frame.Check.TheVariants.{On};
 ghost use Rattle.tc_frame.specs.Layout.{frame_view};
 ghost use Rattle.tc_frame.specs.Writing.{frame_fits};
 ghost use Rattle.nodes.specs.Frames.{size_of, written_over};
-ghost use Rattle.nodes.specs.Ground.{GroundState, Pull, TakeTelemetry, ground_step};
+ghost use Rattle.nodes.specs.Ground.{Pull, TakeTelemetry, ground_step};
 ghost use Rattle.sedgechisel_nodes.specs.Calls.{closed, IsRead};
 ghost use Rattle.sedgechisel_nodes.specs.Grounds.{stepped};
-ghost use Rattle.sedgechisel_nodes.specs.Rooms.{room_answer, count_of, IsHandedOut};
+ghost use Rattle.sedgechisel_nodes.specs.Rooms.{room_answer, next_answer, count_of, IsHanding};
 
 use crate::answers::ROOM;
 use crate::ground::GroundHandle;
@@ -75,22 +75,6 @@ fn write_next(node: &Ground, out: &mut [u8], count: &mut usize) -> u8
     }
 }
 
-// Takes that frame out of a ground, if it fits.
-fn pulled(node: &mut Ground, out: &mut [u8], count: &mut usize) -> u8
-    ensures answer { result ≡ room_answer (size_of (ground_step node.old Pull).answer) (length out.old) }
-    ensures after { result ≡ 0 → node.new ≡ (ground_step node.old Pull).after }
-    ensures count { result ≡ 0 → count.new ≡ unwrap_or (size_of (ground_step node.old Pull).answer) 0 }
-    ensures frame { result ≡ 0 → out.new ≡ written_over out.old (ground_step node.old Pull).answer }
-    ensures unchanged { result ≢ 0
-        → (node.new ≡ node.old) × (count.new ≡ count.old) × (out.new ≡ out.old) }
-{
-    let answer = write_next(node, out, count);
-    if answer == 0 {
-        node.advance();
-    }
-    answer
-}
-
 /// Takes the frame that goes on the link next, with its FECF (CCSDS 232.0-B-4, 4.1); 0 octets for none. Answers 0, or 252
 /// where the room is too short, or 255 where there is no ground.
 #[unsafe(no_mangle)]
@@ -111,7 +95,13 @@ pub extern "C" fn sedge_ground_pull(
     ensures unchanged { result ≢ 0 → (ground.new.value ≡ ground.old.value)
         × (count.new ≡ count.old) × (out.new ≡ out.old) }
 {
-    held!(alloc, ground, |node| pulled(&mut node, out, count))
+    held!(alloc, ground, |node| {
+        let answer = write_next(&node, out, count);
+        if answer == 0 {
+            node.advance();
+        }
+        answer
+    })
 }
 
 /// Writes how many octets the oldest packet of telemetry has, 0 where none waits. Answers 0, or 255 where there is no
@@ -128,24 +118,6 @@ pub extern "C" fn sedge_ground_next_telemetry(
     read!(alloc, ground, count, |node| count_of(node.peek_telemetry()))
 }
 
-// Takes a packet of telemetry out of a ground, if it fits.
-fn telemetry_taken(node: &mut Ground, out: &mut [u8], count: &mut usize) -> u8
-    ensures answer { result
-        ≡ room_answer (option_map length (ground_step node.old TakeTelemetry).answer)
-        (length out.old) }
-    ensures after { result ≡ 0 → node.new ≡ (ground_step node.old TakeTelemetry).after }
-    ensures packet { result ≡ 0
-        → IsHandedOut (ground_step node.old TakeTelemetry).answer count.new out.old out.new }
-    ensures unchanged { result ≢ 0
-        → (node.new ≡ node.old) × (count.new ≡ count.old) × (out.new ≡ out.old) }
-{
-    let answer = hand_out(node.peek_telemetry(), out, count);
-    if answer == 0 {
-        drop(node.take_telemetry());
-    }
-    answer
-}
-
 /// Takes the oldest packet of telemetry (CCSDS 132.0-B-3, 4.3.2); 0 octets for none. Answers 0, or 252 where the room is too
 /// short, or 255 where there is no ground.
 #[unsafe(no_mangle)]
@@ -155,14 +127,16 @@ pub extern "C" fn sedge_ground_take_telemetry(
     out: &mut [u8],
     count: &mut usize,
 ) -> u8
-    ensures none { ground.old.value ≡ None → result ≡ closed }
-    ensures answer { IfSome ground.old.value (λ s. result
-        ≡ room_answer (option_map length (ground_step s TakeTelemetry).answer) (length out.old)) }
+    ensures packet { IsHanding next_answer (λ s. (ground_step s TakeTelemetry).answer)
+        ground.old.value result count.old count.new out.old out.new }
     ensures after { result ≡ 0 → ground.new.value ≡ stepped ground.old.value TakeTelemetry }
-    ensures packet { result ≡ 0 → IfSome ground.old.value
-        (λ s. IsHandedOut (ground_step s TakeTelemetry).answer count.new out.old out.new) }
-    ensures unchanged { result ≢ 0 → (ground.new.value ≡ ground.old.value)
-        × (count.new ≡ count.old) × (out.new ≡ out.old) }
+    ensures unchanged { result ≢ 0 → ground.new.value ≡ ground.old.value }
 {
-    held!(alloc, ground, |node| telemetry_taken(&mut node, out, count))
+    held!(alloc, ground, |node| {
+        let answer = hand_out(node.peek_telemetry(), out, count);
+        if answer == 0 {
+            drop(node.take_telemetry());
+        }
+        answer
+    })
 }

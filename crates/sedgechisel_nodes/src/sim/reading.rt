@@ -1,9 +1,9 @@
 // What a program in C reads of a simulated link.
 
-ghost use Rattle.std.specs.Prelude.{◌≡◌, ◌≢◌, Some, None, IfSome, option_map, length};
-ghost use Rattle.sedgechisel_nodes.specs.Calls.{closed, IsRead};
+ghost use Rattle.std.specs.Prelude.{◌≡◌, Some};
+ghost use Rattle.sedgechisel_nodes.specs.Calls.{IsRead};
 ghost use Rattle.sedgechisel_nodes.specs.Links.{begun_number, link_reading_of};
-ghost use Rattle.sedgechisel_nodes.specs.Rooms.{room_answer, IsHandedOut};
+ghost use Rattle.sedgechisel_nodes.specs.Rooms.{next_answer, IsHanding};
 
 use crate::reading::number_of_mode;
 use crate::room::hand_out;
@@ -71,12 +71,8 @@ pub extern "C" fn sedge_sim_octets(
     out: &mut [u8],
     count: &mut usize,
 ) -> u8
-    ensures none { sim.old.value ≡ None → result ≡ closed }
-    ensures answer { IfSome sim.old.value
-        (λ l. result ≡ room_answer (Some (length l.octets)) (length out.old)) }
-    ensures octets { result ≡ 0 → IfSome sim.old.value
-        (λ l. IsHandedOut (Some l.octets) count.new out.old out.new) }
-    ensures written { result ≢ 0 → (count.new ≡ count.old) × (out.new ≡ out.old) }
+    ensures octets { IsHanding next_answer (λ l. Some l.octets)
+        sim.old.value result count.old count.new out.old out.new }
     ensures unchanged { sim.new.value ≡ sim.old.value }
 {
     held!(alloc, sim, |link| hand_out(Some(link.octets()), out, count))

@@ -1,11 +1,11 @@
 // What a program in C reads of the records of a session.
 
-ghost use Rattle.std.specs.Prelude.{◌≡◌, ◌≢◌, Some, None, IfSome, option_map, option_copied, length, []};
+ghost use Rattle.std.specs.Prelude.{◌≡◌, Some, option_map, option_copied, length, []};
 ghost use Rattle.std.specs.Option.{unwrap_or};
 ghost use Rattle.tm_link.specs.Extraction.{octets_of};
-ghost use Rattle.sedgechisel_nodes.specs.Calls.{closed, IsRead};
-ghost use Rattle.sedgechisel_nodes.specs.Links.{record_of, entry_of, entry_answer};
-ghost use Rattle.sedgechisel_nodes.specs.Rooms.{room_answer, IsHandedOut};
+ghost use Rattle.sedgechisel_nodes.specs.Calls.{IsRead};
+ghost use Rattle.sedgechisel_nodes.specs.Links.{record_of, entry_of};
+ghost use Rattle.sedgechisel_nodes.specs.Rooms.{entry_answer, IsHanding};
 
 use crate::answers::ABSENT;
 use crate::room::{hand_out, write};
@@ -100,19 +100,6 @@ pub extern "C" fn sedge_sim_entry_length(
     )
 }
 
-// Hands an entry out, if it is there and fits.
-fn hand_out_entry(octets: Option<&[u8]>, out: &mut [u8], count: &mut usize) -> u8
-    ensures answer { result ≡ entry_answer (option_copied octets.entry) (length out.old) }
-    ensures handed { result ≡ 0
-        → IsHandedOut (option_copied octets.entry) count.new out.old out.new }
-    ensures unchanged { result ≢ 0 → (count.new ≡ count.old) × (out.new ≡ out.old) }
-{
-    match octets {
-        Some(octets) => hand_out(Some(octets), out, count),
-        None => ABSENT,
-    }
-}
-
 /// Writes the octets of entry k of a record, and how many they are. Answers 0, or 253 where there is none, or 252 where the
 /// room is too short, or 255 where there is no link.
 #[unsafe(no_mangle)]
@@ -125,17 +112,16 @@ pub extern "C" fn sedge_sim_entry(
     out: &mut [u8],
     count: &mut usize,
 ) -> u8
-    ensures none { sim.old.value ≡ None → result ≡ closed }
-    ensures answer { IfSome sim.old.value
-        (λ l. result ≡ entry_answer (entry_of l.world record_number map k) (length out.old)) }
-    ensures octets { result ≡ 0 → IfSome sim.old.value
-        (λ l. IsHandedOut (entry_of l.world record_number map k) count.new out.old out.new) }
-    ensures written { result ≢ 0 → (count.new ≡ count.old) × (out.new ≡ out.old) }
+    ensures octets { IsHanding entry_answer (λ l. entry_of l.world record_number map k)
+        sim.old.value result count.old count.new out.old out.new }
     ensures unchanged { sim.new.value ≡ sim.old.value }
 {
     held!(
         alloc,
         sim,
-        |link| hand_out_entry(entry_of(link.sim(), record_number, map, k), out, count)
+        |link| match entry_of(link.sim(), record_number, map, k) {
+            Some(octets) => hand_out(Some(octets), out, count),
+            None => ABSENT,
+        }
     )
 }

@@ -3,8 +3,8 @@
 ghost use Rattle.std.specs.Prelude.{◌≡◌, ◌≢◌, Some, None, IfSome, option_map, length};
 ghost use Rattle.nodes.specs.Packets.{lent_packet};
 ghost use Rattle.sedgechisel_nodes.specs.Calls.{closed, IsRead};
-ghost use Rattle.sedgechisel_nodes.specs.Links.{entry_answer, submission_of, IsPacketIfThere};
-ghost use Rattle.sedgechisel_nodes.specs.Rooms.{octets_on, map_left, IsHandedOut};
+ghost use Rattle.sedgechisel_nodes.specs.Links.{submission_of, IsPacketIfThere};
+ghost use Rattle.sedgechisel_nodes.specs.Rooms.{entry_answer, octets_on, map_left, IsHanding};
 
 use crate::answers::ABSENT;
 use crate::room::{describe, hand_out_on};
@@ -31,17 +31,6 @@ fn submission_of(sim: &Sim, k: usize) -> Option<(u8, &[u8])>
     }
 }
 
-// Writes a packet's MAP and how many octets it has, if it is there; 253 where it is not.
-fn describe_if_there(packet: Option<(u8, &[u8])>, map: &mut u8, count: &mut usize) -> u8
-    ensures { IsPacketIfThere (option_map lent_packet packet.entry) result map.old map.new count.old count.new }
-{
-    if packet.is_none() {
-        return ABSENT;
-    }
-    describe(packet, map, count);
-    0
-}
-
 /// Writes the MAP of submission k, from 0, and how many octets it has. Answers 0, or 253 where there is none, or 255 where
 /// there is no link.
 #[unsafe(no_mangle)]
@@ -58,32 +47,13 @@ pub extern "C" fn sedge_sim_submission_length(
         map.old map.new count.old count.new) }
     ensures unchanged { sim.new.value ≡ sim.old.value }
 {
-    held!(
-        alloc,
-        sim,
-        |link| describe_if_there(submission_of(link.sim(), k), map, count)
-    )
-}
-
-// Hands a packet out with its MAP, if it is there and fits.
-fn hand_out_if_there(
-    packet: Option<(u8, &[u8])>,
-    map: &mut u8,
-    out: &mut [u8],
-    count: &mut usize,
-) -> u8
-    ensures answer { result
-        ≡ entry_answer (octets_on (option_map lent_packet packet.entry)) (length out.old) }
-    ensures map { result ≡ 0 → map.new ≡ map_left (option_map lent_packet packet.entry) map.old }
-    ensures handed { result ≡ 0 → IsHandedOut (octets_on (option_map lent_packet packet.entry))
-        count.new out.old out.new }
-    ensures unchanged { result ≢ 0
-        → (map.new ≡ map.old) × (count.new ≡ count.old) × (out.new ≡ out.old) }
-{
-    if packet.is_none() {
-        return ABSENT;
-    }
-    hand_out_on(packet, map, out, count)
+    held!(alloc, sim, |link| match submission_of(link.sim(), k) {
+        Some(packet) => {
+            describe(Some(packet), map, count);
+            0
+        }
+        None => ABSENT,
+    })
 }
 
 /// Writes the MAP and the octets of submission k, and how many they are. Answers 0, or 253 where there is none, or 252
@@ -97,20 +67,15 @@ pub extern "C" fn sedge_sim_submission(
     out: &mut [u8],
     count: &mut usize,
 ) -> u8
-    ensures none { sim.old.value ≡ None → result ≡ closed }
-    ensures answer { IfSome sim.old.value (λ l. result
-        ≡ entry_answer (octets_on (submission_of l.world k)) (length out.old)) }
+    ensures octets { IsHanding entry_answer (λ l. octets_on (submission_of l.world k))
+        sim.old.value result count.old count.new out.old out.new }
     ensures map { result ≡ 0 → IfSome sim.old.value
         (λ l. map.new ≡ map_left (submission_of l.world k) map.old) }
-    ensures octets { result ≡ 0 → IfSome sim.old.value
-        (λ l. IsHandedOut (octets_on (submission_of l.world k)) count.new out.old out.new) }
-    ensures written { result ≢ 0
-        → (map.new ≡ map.old) × (count.new ≡ count.old) × (out.new ≡ out.old) }
+    ensures unmapped { result ≢ 0 → map.new ≡ map.old }
     ensures unchanged { sim.new.value ≡ sim.old.value }
 {
-    held!(
-        alloc,
-        sim,
-        |link| hand_out_if_there(submission_of(link.sim(), k), map, out, count)
-    )
+    held!(alloc, sim, |link| match submission_of(link.sim(), k) {
+        Some(packet) => hand_out_on(Some(packet), map, out, count),
+        None => ABSENT,
+    })
 }
