@@ -33,30 +33,20 @@ fn fop_state_word(state: FopMode) -> &'static str
     }
 }
 
-// How many packets were submitted, over all MAPs.
-fn count_submitted(world: &World) -> u128
-    ensures { result ≡ count_over_maps (submitted world.now) }
+// How many packets were submitted, and how many are ready on board, over all MAPs.
+fn count_packets(world: &World) -> (u128, u128)
+    ensures submitted { result.0 ≡ count_over_maps (submitted world.now) }
+    ensures delivered { result.1 ≡ count_over_maps (delivered world.now) }
 {
-    let mut count = 0u128;
+    let mut of_submitted = 0u128;
+    let mut of_delivered = 0u128;
     let mut map = 0u8;
     'maps: while map < 64 {
-        count += world.submitted(map).len() as u128;
+        of_submitted += world.submitted(map).len() as u128;
+        of_delivered += world.delivered(map).len() as u128;
         map += 1;
     }
-    count
-}
-
-// How many packets are ready on board, over all MAPs.
-fn count_delivered(world: &World) -> u128
-    ensures { result ≡ count_over_maps (delivered world.now) }
-{
-    let mut count = 0u128;
-    let mut map = 0u8;
-    'maps: while map < 64 {
-        count += world.delivered(map).len() as u128;
-        map += 1;
-    }
-    count
+    (of_submitted, of_delivered)
 }
 
 fn count_sent(world: &World) -> usize
@@ -83,8 +73,7 @@ fn push_packets(text: &mut String, world: &World) -> Result<(), AllocError>
 {
     let clean = clean_word(world.opening());
     let state = fop_state_word(world.ground_node().state());
-    let submitted = count_submitted(world);
-    let delivered = count_delivered(world);
+    let (submitted, delivered) = count_packets(world);
     write!(
         text,
         "clean={clean} state={state} submitted={submitted} delivered={delivered}"
