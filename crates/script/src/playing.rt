@@ -37,10 +37,8 @@ fn step(world: &mut World, event: Event<'_>) -> Result<Result<Reply, SimFault>, 
     ensures world { OnOk result (world.new ≡ (world_step world.old event.entry).after) }
 {
     match world.step(event) {
-        Ok(reply) => Ok(Ok(reply)),
-        Err(SimFault::NothingInTransit) => Ok(Err(SimFault::NothingInTransit)),
-        Err(SimFault::NotDetectable) => Ok(Err(SimFault::NotDetectable)),
-        Err(_) => Err(AllocError),
+        Err(SimFault::Memory) => Err(AllocError),
+        answer => Ok(answer),
     }
 }
 
