@@ -28,8 +28,8 @@ pub record IsRead {S V : Type 0} (read : S → Option V) (old new : Option S) (a
   pub answer_is : IfSome old (λ s. IsWritten (read s) answer v v')
   pub unchanged : new ≡ old
 
--- what a call answers and writes that takes a step of what the handle holds: 0, or 6 where there was
--- no memory
+-- what a call answers and writes that takes a step of what the handle holds: 0, or 6 where there
+-- was no memory
 pub record IsStep {S V : Type 0} (after : S → S) (said : S → V) (old new : Option S) (answer : ℕ)
     (v v' : V) : Type 0 where
   pub none : old ≡ None → answer ≡ closed
