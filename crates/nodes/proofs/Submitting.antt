@@ -1,7 +1,8 @@
 -- What is known of packets that the ground does not refuse: their segments fit into frames.
-use Rattle.std.proofs.Common.{◌≡◌, ◌≤◌, ◌<◌, ℕ, zero, suc, get_or, Bool, true, false, not, cond, List, [], ◌∷◌, length}
-use Rattle.std.proofs.Common.{Option, Some, None, refl, ◌∙◌, arith}
-use Rattle.std.specs.Prelude.{◌==◌}
+use Rattle.std.proofs.Common.{◌≡◌, ◌≤◌, ◌<◌, ◌+◌, ℕ, zero, suc, get_or, Bool, true, false, not, cond, List, [], ◌∷◌}
+use Rattle.std.proofs.Common.{length}
+use Rattle.std.proofs.Common.{Option, Some, None, refl, ◌∙◌, arith, length-append}
+use Rattle.std.specs.Prelude.{◌==◌, option_to_list}
 use Rattle.std.specs.List.{AllByRecursion}
 use Rattle.std.proofs.lemmas.Bool.{ltb-true, ltb-false, and_parts, not-false}
 use Rattle.tc_frame.specs.declared.frame.SegmentFlags.TheVariants.{Alone}
@@ -17,9 +18,11 @@ use Rattle.map_service.proofs.Passage.{one-from, IsCuttable, cuttable_from}
 use Rattle.map_service.proofs.Pieces.{parts-fit}
 use Rattle.space_packet.proofs.WholePackets.{no_more}
 use Rattle.nodes.specs.declared.fault.LinkFault.{LinkFault}
+use Rattle.nodes.specs.declared.fault.LinkFault.TheVariants.{NotOpen, ClosedMap, NotCommand, TooLong, QueueFull}
 use Rattle.nodes.specs.Commands.{are_commands, commands_fault}
 use Rattle.nodes.specs.Parameters.{IsConfig, limits_of}
-use Rattle.nodes.specs.Ground.{GroundState, is_closed, is_over_slots, submit_fault, bypass_fault}
+use Rattle.nodes.specs.Ground.{GroundState, is_closed, unsent_segments, segments_on, is_over_slots, submit_fault}
+use Rattle.nodes.specs.Ground.{bypass_fault}
 use Rattle.nodes.specs.OwnedFields.{FitsFrame}
 
 -- a test that refused nothing
@@ -37,6 +40,21 @@ some_octet (x ∷ xs) h = omega arith
 
 pub submit_map : (s : GroundState) (m : ℕ) (octets : List ℕ) → submit_fault s m octets ≡ None → m < 64
 submit_map s m octets h = below_64 (limits_of s.config) m (passed _ _ _ (passed _ _ _ h).1).0
+
+-- what is not refused has places in the queue
+pub have_places : (s : GroundState) (m : ℕ) (octets : List ℕ) → submit_fault s m octets ≡ None
+    → length s.pending + length (segments_on s m octets) ≤ s.config.queue_slots
+have_places s m octets h =
+    let unsent : length (unsent_segments s) ≡ length (option_to_list s.fop.waiting) + length s.pending =
+    length-append (option_to_list s.fop.waiting) s.pending in
+    let session = passed (is_closed s.fop.state) NotOpen _ h in
+    let open_map = passed (not (is_open (limits_of s.config) m)) ClosedMap _ session.1 in
+    let commands = passed (not (are_commands (s.config.blocking == 1) octets)) NotCommand _ open_map.1 in
+    let short = passed (is_some_over s.config.max_packet (packets_in octets)) TooLong _ commands.1 in
+    let over = passed (is_over_slots s m octets) QueueFull None short.1 in
+    let places : length (unsent_segments s) + length (segments_on s m octets) ≤ s.config.queue_slots =
+    ltb-false _ _ over.0 in
+    omega arith
 
 pub bypass_fits : (s : GroundState) (m : ℕ) (octets : List ℕ) → IsConfig s.config → bypass_fault s m octets ≡ None
     → FitsFrame (segment_with Alone m octets)
