@@ -49,6 +49,7 @@ impl Ground {
     ghost use Rattle.cop1.specs.Accepted.{accepted_beyond};
     ghost use Rattle.cop1.specs.Units.{IsFop};
     ghost use Rattle.nodes.specs.Ground.{new_ground, ground_step, Direct, Tick, TakeTelemetry, settle_step, outstanding};
+    ghost use Rattle.nodes.specs.Ground.{is_closed};
     ghost use Rattle.nodes.specs.Parameters.{IsConfig};
 
     /// A ground that has sent nothing, its sender in S6. Each field has to be in its range: of a
@@ -201,7 +202,7 @@ impl Ground {
     fn settle(&mut self)
         ensures { self.new ≡ settle_step self.old }
     {
-        if self.fop.state() == FopMode::S6 {
+        if self.is_closed() {
             self.pending.clear();
             return;
         }
@@ -211,5 +212,12 @@ impl Ground {
         if let Some(segment) = self.pending.pop_front() {
             let _ = self.fop.submit(segment);
         }
+    }
+
+    // Whether there is no session (S6).
+    fn is_closed(&self) -> bool
+        ensures { result ≡ is_closed self.now.fop.state }
+    {
+        self.state() == FopMode::S6
     }
 }

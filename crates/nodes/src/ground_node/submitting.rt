@@ -5,7 +5,6 @@ use super::submission::{Segments, Submission};
 use crate::commands::{commands_in, is_one_command};
 use crate::fault::LinkFault;
 use crate::owned_segment::{OwnedSegment, own};
-use cop1::FopMode;
 use map_service::{cut_packets, segment_count};
 
 impl Ground {
@@ -13,7 +12,7 @@ impl Ground {
     ghost use Rattle.std.specs.Prelude.{Err, None, Ok, Some, IfOk, IfErr, IfSome, OnOk, OnErr, IsOkUnless};
     ghost use Rattle.nodes.specs.Commands.{commands_fault};
     ghost use Rattle.nodes.specs.Ground.{ground_step, Submit, Bypass, submit_fault, bypass_fault};
-    ghost use Rattle.nodes.specs.Ground.{is_closed, unsent_segments, segments_on, is_over_slots};
+    ghost use Rattle.nodes.specs.Ground.{unsent_segments, segments_on, is_over_slots};
     ghost use Rattle.nodes.specs.Parameters.{limits_of};
     ghost use Rattle.nodes.specs.Submissions.{IsSubmissionAt, segments_held};
 
@@ -121,13 +120,6 @@ impl Ground {
             Ok(segments) => Some(Segments::Several(segments)),
             Err(_) => None,
         }
-    }
-
-    // Whether there is no session (S6).
-    fn is_closed(&self) -> bool
-        ensures { result ≡ is_closed self.now.fop.state }
-    {
-        self.fop.state() == FopMode::S6
     }
 
     // Whether as many segments more have a place in the queue.
