@@ -4,6 +4,8 @@ use super::*;
 use crate::equal::equal;
 use crate::packets::are_packets;
 use crate::refusing::says_refused;
+use map_service::Dropped::{ClosedMap, Interrupted, NoBeginning, NotAPacket, TooLong};
+use tc_frame::SegmentFlags::{Alone, Continuing, First, Last};
 
 const P1: [u8; 7] = [0x10, 0x05, 0xc0, 0x01, 0x00, 0x00, 0xab];
 
@@ -38,99 +40,92 @@ fn take(
     }
 }
 
-// The flags and the MAP of a segment, its data, what is dropped, and the packets that are handed out.
+// The flags and the MAP of a segment, between which places of some octets its data lie, what is dropped, and the
+// packets that are handed out.
 type Row = (
     SegmentFlags,
     u8,
-    &'static [u8],
+    (usize, usize),
     Option<Dropped>,
     &'static [&'static [u8]],
 );
 
-const ON_TWO_MAPS: [Row; 9] = [
-    (SegmentFlags::First, 4, &[0x10, 0x05, 0xc0], None, &[]),
-    (SegmentFlags::First, 5, &[0x10, 0x05, 0xc0], None, &[]),
-    (
-        SegmentFlags::Last,
-        4,
-        &[0x00, 0x00, 0x00, 0xaa],
-        None,
-        &[&P0],
-    ),
-    (
-        SegmentFlags::Last,
-        5,
-        &[0, 0],
-        Some(Dropped::NotAPacket),
-        &[],
-    ),
-    (
-        SegmentFlags::Continuing,
-        5,
-        &[0],
-        Some(Dropped::NoBeginning),
-        &[],
-    ),
-    (SegmentFlags::First, 4, &[0x10], None, &[]),
-    (
-        SegmentFlags::Alone,
-        4,
-        &P1,
-        Some(Dropped::Interrupted),
-        &[&P1],
-    ),
-    (SegmentFlags::First, 4, &[0x10], None, &[]),
-    (
-        SegmentFlags::Alone,
-        4,
-        &[0xaa],
-        Some(Dropped::NotAPacket),
-        &[],
-    ),
-];
+// Takes segments with data of these octets.
+fn takes_each(rt: &(impl Abort + Eprint), assembler: &mut Assembler, octets: &[u8], rows: &[Row]) {
+    for (flags, map, (from, end), dropped, packets) in rows {
+        let payload = octets.get(*from..*end).unwrap_or_default();
+        let segment = segment(*flags, *map, payload);
+        takes(rt, assembler, &segment, *dropped, packets);
+    }
+}
+
+// A new assembler takes segments with data of P0, P1 and P2.
+fn joins(rt: &(impl Abort + Eprint), alloc: Global, limits: Limits, rows: &[Row]) {
+    takes_each(rt, &mut Assembler::new(alloc, limits), &THREE, rows);
+}
 
 #[test]
 fn parts_on_two_maps(rt: HostRuntime) {
-    let mut assembler = Assembler::new(rt.alloc(), limits(7, false));
-    for (flags, map, payload, dropped, packets) in ON_TWO_MAPS {
-        let segment = segment(flags, map, payload);
-        takes(&rt, &mut assembler, &segment, dropped, packets);
-    }
+    let rows: [Row; 9] = [
+        (First, 4, (0, 3), None, &[]),
+        (First, 5, (0, 3), None, &[]),
+        (Last, 4, (3, 7), None, &[&P0]),
+        (Last, 5, (3, 5), Some(NotAPacket), &[]),
+        (Continuing, 5, (3, 4), Some(NoBeginning), &[]),
+        (First, 4, (0, 1), None, &[]),
+        (Alone, 4, (7, 14), Some(Interrupted), &[&P1]),
+        (First, 4, (0, 1), None, &[]),
+        (Alone, 4, (6, 7), Some(NotAPacket), &[]),
+    ];
+    joins(&rt, rt.alloc(), limits(7, false), &rows);
 }
 
 // A segment that is one packet is handed out as it came, where nothing waits on its MAP.
 #[test]
 fn segments_that_pass(rt: HostRuntime) {
     let mut assembler = Assembler::new(rt.alloc(), limits(7, false));
-    let alone = segment(SegmentFlags::Alone, 4, &P0);
-    let first = segment(SegmentFlags::First, 4, &P0[..3]);
-    for (segment, packet) in [
-        (alone, Some(P0.as_slice())),
-        (first, None),
-        (segment(SegmentFlags::Alone, 4, &P0[..6]), None),
-        (segment(SegmentFlags::Alone, 64, &P0), None),
+    for (flags, map, end, passes) in [
+        (Alone, 4, 7, true),
+        (First, 4, 3, false),
+        (Alone, 4, 6, false),
+        (Alone, 64, 7, false),
     ] {
-        assert!(rt; assembler.lone_packet(&segment) == packet);
+        let payload = P0.get(..end).unwrap_or_default();
+        is_lone(&rt, &assembler, &segment(flags, map, payload), passes);
     }
-    takes(&rt, &mut assembler, &first, None, &[]);
-    assert!(rt; assembler.lone_packet(&alone).is_none());
-    let blocking = Assembler::new(rt.alloc(), limits(7, true));
-    assert!(rt; blocking.lone_packet(&alone).is_none());
+    let alone = segment(Alone, 4, &P0);
+    takes_each(&rt, &mut assembler, &P0, &[(First, 4, (0, 3), None, &[])]);
+    is_lone(&rt, &assembler, &alone, false);
+    is_lone(
+        &rt,
+        &Assembler::new(rt.alloc(), limits(7, true)),
+        &alone,
+        false,
+    );
+}
+
+// Whether the segment passes as its data.
+fn is_lone(rt: &impl Abort, assembler: &Assembler, segment: &Segment<'_>, passes: bool) {
+    let packet = match passes {
+        true => Some(segment.payload),
+        false => None,
+    };
+    assert!(rt; assembler.lone_packet(segment) == packet);
 }
 
 // Several growths of the part.
 #[test]
 fn a_part_octet_by_octet(rt: HostRuntime) {
-    let mut assembler = Assembler::new(rt.alloc(), limits(7, false));
-    let first = segment(SegmentFlags::First, 63, &P0[..1]);
-    takes(&rt, &mut assembler, &first, None, &[]);
-    for octet in &P0[1..6] {
-        let continuing = [*octet];
-        let continuing = segment(SegmentFlags::Continuing, 63, &continuing);
-        takes(&rt, &mut assembler, &continuing, None, &[]);
-    }
-    let last = segment(SegmentFlags::Last, 63, &P0[6..]);
-    takes(&rt, &mut assembler, &last, None, &[&P0]);
+    let rows: [Row; 7] = [
+        (First, 63, (0, 1), None, &[]),
+        (Continuing, 63, (1, 2), None, &[]),
+        (Continuing, 63, (2, 3), None, &[]),
+        (Continuing, 63, (3, 4), None, &[]),
+        (Continuing, 63, (4, 5), None, &[]),
+        (Continuing, 63, (5, 6), None, &[]),
+        (Last, 63, (6, 7), None, &[&P0]),
+    ];
+    joins(&rt, rt.alloc(), limits(7, false), &rows);
 }
 
 #[test]
@@ -139,38 +134,23 @@ fn a_part_too_long(rt: HostRuntime) {
         max_packet: 7,
         ..limits(7, false)
     };
-    let mut assembler = Assembler::new(rt.alloc(), short);
-    let first = segment(SegmentFlags::First, 4, &P0);
-    let last = segment(SegmentFlags::Last, 4, &[0]);
-    let continuing = segment(SegmentFlags::Continuing, 4, &[0]);
-    takes(&rt, &mut assembler, &first, None, &[]);
-    takes(&rt, &mut assembler, &last, Some(Dropped::TooLong), &[]);
-    takes(
-        &rt,
-        &mut assembler,
-        &continuing,
-        Some(Dropped::NoBeginning),
-        &[],
-    );
+    let rows: [Row; 3] = [
+        (First, 4, (0, 7), None, &[]),
+        (Last, 4, (4, 5), Some(TooLong), &[]),
+        (Continuing, 4, (4, 5), Some(NoBeginning), &[]),
+    ];
+    joins(&rt, rt.alloc(), short, &rows);
 }
 
 #[test]
 fn several_packets_in_a_segment(rt: HostRuntime) {
-    let mut assembler = Assembler::new(rt.alloc(), limits(20, true));
-    let two = segment(SegmentFlags::Alone, 4, &THREE[..14]);
-    let bad_rest = segment(SegmentFlags::Alone, 4, &THREE[..20]);
-    takes(&rt, &mut assembler, &two, None, &[&P0, &P1]);
-    takes(
-        &rt,
-        &mut assembler,
-        &bad_rest,
-        Some(Dropped::NotAPacket),
-        &[],
-    );
-    let first = segment(SegmentFlags::First, 4, &THREE[..10]);
-    let last = segment(SegmentFlags::Last, 4, &THREE[10..14]);
-    takes(&rt, &mut assembler, &first, None, &[]);
-    takes(&rt, &mut assembler, &last, Some(Dropped::NotAPacket), &[]);
+    let rows: [Row; 4] = [
+        (Alone, 4, (0, 14), None, &[&P0, &P1]),
+        (Alone, 4, (0, 20), Some(NotAPacket), &[]),
+        (First, 4, (0, 10), None, &[]),
+        (Last, 4, (10, 14), Some(NotAPacket), &[]),
+    ];
+    joins(&rt, rt.alloc(), limits(20, true), &rows);
 }
 
 // MAP 4 alone is open, and packets have at most 7 octets.
@@ -183,84 +163,55 @@ fn short(blocking: bool) -> Limits {
     }
 }
 
-// Takes segments that hand out nothing: the flags, the MAP, between which places of the octets the
-// data lie, and what is dropped.
-fn drops(
-    rt: &(impl Abort + Eprint),
-    assembler: &mut Assembler,
-    octets: &[u8],
-    rows: &[(SegmentFlags, u8, (usize, usize), Option<Dropped>)],
-) {
-    for (flags, map, (from, end), dropped) in rows {
-        let payload = octets.get(*from..*end).unwrap_or_default();
-        takes(
-            rt,
-            assembler,
-            &segment(*flags, *map, payload),
-            *dropped,
-            &[],
-        );
-    }
-}
-
 #[test]
 fn closed_maps_and_interruptions(rt: HostRuntime) {
-    let mut assembler = Assembler::new(rt.alloc(), short(false));
-    let rows = [
-        (SegmentFlags::Alone, 5, (0, 7), Some(Dropped::ClosedMap)),
-        (SegmentFlags::Alone, 64, (0, 7), Some(Dropped::ClosedMap)),
-        (SegmentFlags::First, 4, (0, 3), None),
-        (SegmentFlags::First, 4, (7, 9), Some(Dropped::Interrupted)),
-        (SegmentFlags::Last, 5, (9, 14), Some(Dropped::ClosedMap)),
+    let rows: [Row; 6] = [
+        (Alone, 5, (0, 7), Some(ClosedMap), &[]),
+        (Alone, 64, (0, 7), Some(ClosedMap), &[]),
+        (First, 4, (0, 3), None, &[]),
+        (First, 4, (7, 9), Some(Interrupted), &[]),
+        (Last, 5, (9, 14), Some(ClosedMap), &[]),
+        (Last, 4, (9, 14), None, &[&P1]),
     ];
-    drops(&rt, &mut assembler, &THREE, &rows);
-    let last = segment(SegmentFlags::Last, 4, &P1[2..]);
-    takes(&rt, &mut assembler, &last, None, &[&P1]);
+    joins(&rt, rt.alloc(), short(false), &rows);
 }
 
 // A part of 8 octets, in each place. With no part open, nothing is too long for one.
 #[test]
 fn parts_too_long(rt: HostRuntime) {
-    let mut assembler = Assembler::new(rt.alloc(), short(false));
-    let rows = [
-        (SegmentFlags::First, 4, (0, 8), Some(Dropped::TooLong)),
-        (
-            SegmentFlags::Continuing,
-            4,
-            (0, 8),
-            Some(Dropped::NoBeginning),
-        ),
-        (SegmentFlags::First, 4, (0, 7), None),
-        (SegmentFlags::First, 4, (0, 8), Some(Dropped::TooLong)),
-        (SegmentFlags::Last, 4, (0, 8), Some(Dropped::NoBeginning)),
-        (SegmentFlags::First, 4, (0, 7), None),
-        (SegmentFlags::Continuing, 4, (7, 8), Some(Dropped::TooLong)),
-        (SegmentFlags::Last, 4, (7, 8), Some(Dropped::NoBeginning)),
+    let rows: [Row; 8] = [
+        (First, 4, (0, 8), Some(TooLong), &[]),
+        (Continuing, 4, (0, 8), Some(NoBeginning), &[]),
+        (First, 4, (0, 7), None, &[]),
+        (First, 4, (0, 8), Some(TooLong), &[]),
+        (Last, 4, (0, 8), Some(NoBeginning), &[]),
+        (First, 4, (0, 7), None, &[]),
+        (Continuing, 4, (7, 8), Some(TooLong), &[]),
+        (Last, 4, (7, 8), Some(NoBeginning), &[]),
     ];
-    drops(&rt, &mut assembler, &THREE, &rows);
+    joins(&rt, rt.alloc(), short(false), &rows);
 }
 
 // Without blocking the length of all is asked for first; with it that of each packet, once they are
 // whole.
 #[test]
 fn alone_too_long(rt: HostRuntime) {
-    let both: [&[u8]; 2] = [&P0, &P1];
-    for (blocking, of_rest, of_both, packets) in [
-        (false, Dropped::TooLong, Some(Dropped::TooLong), &both[..0]),
-        (true, Dropped::NotAPacket, None, &both[..]),
-    ] {
+    let both: [(bool, Dropped, Row); 2] = [
+        (false, TooLong, (Alone, 4, (0, 14), Some(TooLong), &[])),
+        (true, NotAPacket, (Alone, 4, (0, 14), None, &[&P0, &P1])),
+    ];
+    for (blocking, of_rest, of_both) in both {
         let mut assembler = Assembler::new(rt.alloc(), short(blocking));
-        let rows = [
-            (SegmentFlags::Alone, 4, (7, 19), Some(Dropped::TooLong)),
-            (SegmentFlags::Alone, 4, (0, 20), Some(of_rest)),
+        let rows: [Row; 2] = [
+            (Alone, 4, (7, 19), Some(TooLong), &[]),
+            (Alone, 4, (0, 20), Some(of_rest), &[]),
         ];
-        drops(&rt, &mut assembler, &LONG_BETWEEN, &rows);
-        let two = segment(SegmentFlags::Alone, 4, &THREE[..14]);
-        takes(&rt, &mut assembler, &two, of_both, packets);
+        takes_each(&rt, &mut assembler, &LONG_BETWEEN, &rows);
+        takes_each(&rt, &mut assembler, &THREE, &[of_both]);
     }
 }
 
 #[test]
 fn causes_by_name(rt: HostRuntime) {
-    equal(&rt, &Dropped::NoBeginning.name(), &"NoBeginning");
+    equal(&rt, &NoBeginning.name(), &"NoBeginning");
 }
