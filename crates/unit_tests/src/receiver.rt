@@ -4,7 +4,6 @@ use crate::equal::equal;
 use clcw::encode;
 use cop1::{CopFault, Farm, FarmFields, FarmMode, Verdict};
 use std::process::Abort;
-use std::test::Fail;
 
 #[test]
 fn verdicts_in_words(rt: HostRuntime) {
@@ -65,60 +64,53 @@ fn is_restored(rt: &impl Abort, farm: &mut Farm) {
 }
 
 // Plays calls on a new receiver of width 10 with this V(R), which is restored after each.
-fn run(rt: &impl Abort, vr: u8, calls: &[Call]) -> Result<(), Fail> {
-    let mut farm = Farm::new(10, vr)?;
+fn run(rt: &impl Abort, vr: u8, calls: &[Call]) {
+    let mut farm = Farm::new(10, vr).expect(rt, "a receiver");
     for call in calls {
         answers(rt, &mut farm, *call);
         is_restored(rt, &mut farm);
     }
-    Ok(())
 }
 
 // A width of 10 has a positive and a negative window of 5 each.
 #[test]
-fn a_receiver_locks_and_opens(rt: HostRuntime) -> Result<(), Fail> {
-    run(
-        &rt,
-        0,
-        &[
-            Call::Ad(4, true, Verdict::Ahead),
-            Call::Ad(251, true, Verdict::Behind),
-            Call::Ad(5, true, Verdict::Outside),
-            Call::Ad(0, true, Verdict::Discarded),
-            Call::SetVr(7),
-            Call::Stands((FarmMode::Lockout, [true, false, true], 0, 1)),
-            Call::Unlock,
-            Call::Stands((FarmMode::Open, [false; 3], 0, 2)),
-            Call::Ad(0, true, Verdict::Accepted),
-            Call::Stands((FarmMode::Open, [false; 3], 1, 2)),
-        ],
-    )
+fn a_receiver_locks_and_opens(rt: HostRuntime) {
+    let calls = [
+        Call::Ad(4, true, Verdict::Ahead),
+        Call::Ad(251, true, Verdict::Behind),
+        Call::Ad(5, true, Verdict::Outside),
+        Call::Ad(0, true, Verdict::Discarded),
+        Call::SetVr(7),
+        Call::Stands((FarmMode::Lockout, [true, false, true], 0, 1)),
+        Call::Unlock,
+        Call::Stands((FarmMode::Open, [false; 3], 0, 2)),
+        Call::Ad(0, true, Verdict::Accepted),
+        Call::Stands((FarmMode::Open, [false; 3], 1, 2)),
+    ];
+    run(&rt, 0, &calls);
 }
 
 #[test]
-fn a_receiver_waits_for_a_buffer(rt: HostRuntime) -> Result<(), Fail> {
-    run(
-        &rt,
-        255,
-        &[
-            Call::Ad(255, true, Verdict::Accepted),
-            Call::Ad(255, true, Verdict::Behind),
-            Call::Ad(0, false, Verdict::NoBuffer),
-            Call::Stands((FarmMode::Wait, [false, true, true], 0, 0)),
-            Call::Ad(0, true, Verdict::Discarded),
-            Call::Released,
-            Call::Stands((FarmMode::Open, [false, false, true], 0, 0)),
-            Call::Bd,
-            Call::SetVr(9),
-            Call::Ad(9, true, Verdict::Accepted),
-            Call::Stands((FarmMode::Open, [false; 3], 10, 2)),
-        ],
-    )
+fn a_receiver_waits_for_a_buffer(rt: HostRuntime) {
+    let calls = [
+        Call::Ad(255, true, Verdict::Accepted),
+        Call::Ad(255, true, Verdict::Behind),
+        Call::Ad(0, false, Verdict::NoBuffer),
+        Call::Stands((FarmMode::Wait, [false, true, true], 0, 0)),
+        Call::Ad(0, true, Verdict::Discarded),
+        Call::Released,
+        Call::Stands((FarmMode::Open, [false, false, true], 0, 0)),
+        Call::Bd,
+        Call::SetVr(9),
+        Call::Ad(9, true, Verdict::Accepted),
+        Call::Stands((FarmMode::Open, [false; 3], 10, 2)),
+    ];
+    run(&rt, 255, &calls);
 }
 
 #[test]
-fn no_receiver_has_other_fields(rt: HostRuntime) -> Result<(), Fail> {
-    let kept = Farm::new(10, 7)?.fields();
+fn no_receiver_has_other_fields(rt: HostRuntime) {
+    let kept = Farm::new(10, 7).expect(&rt, "a receiver").fields();
     for fields in [
         FarmFields { width: 0, ..kept },
         FarmFields { width: 9, ..kept },
@@ -127,35 +119,28 @@ fn no_receiver_has_other_fields(rt: HostRuntime) -> Result<(), Fail> {
     ] {
         equal(&rt, &Farm::restore(fields).err(), &Some(CopFault::State));
     }
-    Ok(())
 }
 
 #[test]
-fn a_receiver_reports(rt: HostRuntime) -> Result<(), Fail> {
-    run(
-        &rt,
-        0,
-        &[
-            Call::Ad(0, false, Verdict::NoBuffer),
-            Call::Report([0x01, 0x08, 0x18, 0x00]),
-            Call::Ad(0, true, Verdict::Discarded),
-            Call::Unlock,
-            Call::Report([0x01, 0x08, 0x02, 0x00]),
-        ],
-    )?;
-    run(
-        &rt,
-        0,
-        &[
-            Call::Ad(0, false, Verdict::NoBuffer),
-            Call::Ad(5, true, Verdict::Outside),
-            Call::Report([0x01, 0x08, 0x38, 0x00]),
-            Call::Released,
-            Call::Report([0x01, 0x08, 0x28, 0x00]),
-            Call::SetVr(9),
-            Call::Report([0x01, 0x08, 0x2a, 0x00]),
-        ],
-    )
+fn a_receiver_reports(rt: HostRuntime) {
+    let waits_and_opens = [
+        Call::Ad(0, false, Verdict::NoBuffer),
+        Call::Report([0x01, 0x08, 0x18, 0x00]),
+        Call::Ad(0, true, Verdict::Discarded),
+        Call::Unlock,
+        Call::Report([0x01, 0x08, 0x02, 0x00]),
+    ];
+    let waits_and_locks = [
+        Call::Ad(0, false, Verdict::NoBuffer),
+        Call::Ad(5, true, Verdict::Outside),
+        Call::Report([0x01, 0x08, 0x38, 0x00]),
+        Call::Released,
+        Call::Report([0x01, 0x08, 0x28, 0x00]),
+        Call::SetVr(9),
+        Call::Report([0x01, 0x08, 0x2a, 0x00]),
+    ];
+    run(&rt, 0, &waits_and_opens);
+    run(&rt, 0, &waits_and_locks);
 }
 
 #[test]

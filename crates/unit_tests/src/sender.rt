@@ -10,7 +10,6 @@ use cop1::{
 };
 use std::alloc::Global;
 use std::process::Abort;
-use std::test::Fail;
 use tc_frame::Command;
 
 const LOCKOUT: u8 = 0x20;
@@ -48,11 +47,11 @@ struct Both {
     sender: Sender,
 }
 
-fn new_both(alloc: Global, limit: u8, timer: u16) -> Result<Both, CopFault> {
-    Ok(Both {
-        sender: Sender::new(254, 127, limit, timer)?,
-        fop: Fop::new(alloc, 254, 127, limit, timer)?,
-    })
+fn new_both(rt: &impl Abort, alloc: Global, limit: u8, timer: u16) -> Both {
+    Both {
+        sender: Sender::new(254, 127, limit, timer).expect(rt, "the rules"),
+        fop: Fop::new(alloc, 254, 127, limit, timer).expect(rt, "a sender"),
+    }
 }
 
 fn peeked(fop: &Fop<u8>) -> Option<(u8, u8)> {
@@ -179,20 +178,15 @@ fn a_window_is_at_most_half_the_width(rt: HostRuntime) {
 
 // A sender that has sent a unit keeps to these numbers; none has those that differ.
 #[test]
-fn no_sender_has_other_numbers(rt: HostRuntime) -> Result<(), Fail> {
-    let kept = in_state(&rt, rt.alloc(), FopMode::S1)?.sender.fields();
+fn no_sender_has_other_numbers(rt: HostRuntime) {
+    let kept = in_state(&rt, rt.alloc(), FopMode::S1).sender.fields();
     equal(
         &rt,
         &(kept.room, kept.sent, kept.ticks),
         &(127, 1, Some(10)),
     );
-    has_none_of(&rt, &others(kept));
-    Ok(())
-}
-
-fn has_none_of(rt: &impl Abort, senders: &[SenderFields]) {
-    for fields in senders {
-        equal(rt, &Sender::restore(*fields).err(), &Some(CopFault::State));
+    for fields in others(kept) {
+        equal(&rt, &Sender::restore(fields).err(), &Some(CopFault::State));
     }
 }
 
@@ -226,8 +220,8 @@ fn has_no_timer(rt: &impl Abort, both: &mut Both) {
 }
 
 #[test]
-fn a_sender_counts_past_255(rt: HostRuntime) -> Result<(), Fail> {
-    let mut both = new_both(rt.alloc(), 3, 10)?;
+fn a_sender_counts_past_255(rt: HostRuntime) {
+    let mut both = new_both(&rt, rt.alloc(), 3, 10);
     run(
         &rt,
         &mut both,
@@ -258,49 +252,42 @@ fn a_sender_counts_past_255(rt: HostRuntime) -> Result<(), Fail> {
         &(FopMode::S1, 0, 0, 0),
     );
     has_no_timer(&rt, &mut both);
-    Ok(())
 }
 
 #[test]
-fn a_report_alerts(rt: HostRuntime) -> Result<(), Fail> {
+fn a_report_alerts(rt: HostRuntime) {
     for (flags, value, alert) in [
         (LOCKOUT, 2, Alert::Lockout),
         (0, 2, Alert::NnR),
         (WAIT, 1, Alert::Clcw),
         (RETRANSMIT, 1, Alert::Synch),
     ] {
-        let mut both = new_both(rt.alloc(), 3, 10)?;
+        let mut both = new_both(&rt, rt.alloc(), 3, 10);
         run(&rt, &mut both, &ONE_SENT);
         run(&rt, &mut both, &[Call::Report(flags, value, Some(alert))]);
         equal(&rt, &both.fop.state(), &FopMode::S6);
     }
-    Ok(())
 }
 
+// With a limit of 2 a timer that ends has the unit sent again first.
 #[test]
-fn a_timer_ends(rt: HostRuntime) -> Result<(), Fail> {
-    let mut both = new_both(rt.alloc(), 1, 2)?;
-    run(&rt, &mut both, &ONE_SENT);
-    run(
-        &rt,
-        &mut both,
-        &[Call::Tick(None), Call::Tick(Some(Alert::Timer))],
-    );
-    let mut both = new_both(rt.alloc(), 2, 2)?;
-    run(&rt, &mut both, &ONE_SENT);
-    run(
-        &rt,
-        &mut both,
-        &[
-            Call::Tick(None),
-            Call::Tick(None),
-            Call::Pull(Some((0, 10))),
-            Call::Tick(None),
-            Call::Tick(Some(Alert::Timer)),
-        ],
-    );
-    equal(&rt, &both.fop.state(), &FopMode::S6);
-    Ok(())
+fn a_timer_ends(rt: HostRuntime) {
+    let again = [
+        Call::Tick(None),
+        Call::Tick(None),
+        Call::Pull(Some((0, 10))),
+    ];
+    for (limit, before) in [(1, &again[..0]), (2, &again[..])] {
+        let mut both = new_both(&rt, rt.alloc(), limit, 2);
+        run(&rt, &mut both, &ONE_SENT);
+        run(&rt, &mut both, before);
+        run(
+            &rt,
+            &mut both,
+            &[Call::Tick(None), Call::Tick(Some(Alert::Timer))],
+        );
+        equal(&rt, &both.fop.state(), &FopMode::S6);
+    }
 }
 
 // The calls that lead a sender that has sent a unit to its next state.
@@ -320,18 +307,22 @@ const TO_S5: [Call; 2] = [
     Call::Direct(Directive::InitUnlock, Ok(None)),
 ];
 
-fn in_state(rt: &impl Abort, alloc: Global, state: FopMode) -> Result<Both, CopFault> {
-    let mut both = new_both(alloc, 3, 10)?;
-    run(rt, &mut both, &ONE_SENT);
+fn calls_to(state: FopMode) -> &'static [Call] {
     match state {
-        FopMode::S1 => {}
-        FopMode::S2 => run(rt, &mut both, &TO_S2),
-        FopMode::S3 => run(rt, &mut both, &TO_S3),
-        FopMode::S4 => run(rt, &mut both, &TO_S4),
-        FopMode::S5 => run(rt, &mut both, &TO_S5),
-        FopMode::S6 => run(rt, &mut both, &TO_S6),
+        FopMode::S1 => &[],
+        FopMode::S2 => &TO_S2,
+        FopMode::S3 => &TO_S3,
+        FopMode::S4 => &TO_S4,
+        FopMode::S5 => &TO_S5,
+        FopMode::S6 => &TO_S6,
     }
-    Ok(both)
+}
+
+fn in_state(rt: &impl Abort, alloc: Global, state: FopMode) -> Both {
+    let mut both = new_both(rt, alloc, 3, 10);
+    run(rt, &mut both, &ONE_SENT);
+    run(rt, &mut both, calls_to(state));
+    both
 }
 
 fn expected(directive: Directive, initial: bool) -> Result<Option<Alert>, CopFault> {
@@ -345,15 +336,9 @@ fn expected(directive: Directive, initial: bool) -> Result<Option<Alert>, CopFau
 }
 
 #[test]
-fn a_directive_has_its_states(rt: HostRuntime) -> Result<(), Fail> {
-    for state in [
-        FopMode::S1,
-        FopMode::S2,
-        FopMode::S3,
-        FopMode::S4,
-        FopMode::S5,
-        FopMode::S6,
-    ] {
+fn a_directive_has_its_states(rt: HostRuntime) {
+    use FopMode::{S1, S2, S3, S4, S5, S6};
+    for state in [S1, S2, S3, S4, S5, S6] {
         for directive in [
             Directive::InitWithoutCheck,
             Directive::InitWithCheck,
@@ -365,67 +350,80 @@ fn a_directive_has_its_states(rt: HostRuntime) -> Result<(), Fail> {
             Directive::SetLimit(1),
             Directive::SetTimer(1),
         ] {
-            let mut both = in_state(&rt, rt.alloc(), state)?;
+            let mut both = in_state(&rt, rt.alloc(), state);
             equal(&rt, &both.fop.state(), &state);
-            let answer = expected(directive, state == FopMode::S6);
+            let answer = expected(directive, state == S6);
             run(&rt, &mut both, &[Call::Direct(directive, answer)]);
         }
     }
-    Ok(())
 }
 
-// NN(R), V(S), the value of a report, and how many of the units between them it says were accepted.
-const SAYS: [(u8, u8, u8, Option<u8>); 15] = [
-    (3, 7, 5, Some(2)),
-    (3, 7, 3, Some(0)),
-    (3, 7, 7, Some(4)),
-    (3, 7, 8, None),
-    (3, 7, 2, None),
-    (250, 5, 250, Some(0)),
-    (250, 5, 255, Some(5)),
-    (250, 5, 0, Some(6)),
-    (250, 5, 5, Some(11)),
-    (250, 5, 6, None),
-    (250, 5, 249, None),
-    (9, 9, 9, Some(0)),
-    (9, 9, 10, None),
-    (0, 127, 127, Some(127)),
-    (0, 127, 128, None),
+// The value of a report, and how many of the units from NN(R) to V(S) it says were accepted.
+type Says = (u8, Option<u8>);
+
+// NN(R), V(S), and what reports say.
+const SAYS: [(u8, u8, &[Says]); 4] = [
+    (
+        3,
+        7,
+        &[
+            (5, Some(2)),
+            (3, Some(0)),
+            (7, Some(4)),
+            (8, None),
+            (2, None),
+        ],
+    ),
+    (
+        250,
+        5,
+        &[
+            (250, Some(0)),
+            (255, Some(5)),
+            (0, Some(6)),
+            (5, Some(11)),
+            (6, None),
+            (249, None),
+        ],
+    ),
+    (9, 9, &[(9, Some(0)), (10, None)]),
+    (0, 127, &[(127, Some(127)), (128, None)]),
 ];
+
+fn says(rt: &impl Abort, nn: u8, vs: u8, rows: &[Says]) {
+    for (value, accepted) in rows {
+        equal(rt, &accepted_beyond(nn, vs, *value), accepted);
+    }
+}
 
 #[test]
 fn a_report_says_what_was_accepted(rt: HostRuntime) {
-    for (nn, vs, value, accepted) in SAYS {
-        equal(&rt, &accepted_beyond(nn, vs, value), &accepted);
+    for (nn, vs, rows) in SAYS {
+        says(&rt, nn, vs, rows);
     }
 }
 
 // An alert leaves both numbers, so that later reports say what was accepted; an initiation ends this.
 #[test]
-fn a_report_after_an_alert_says_what_was_accepted(rt: HostRuntime) -> Result<(), Fail> {
-    let mut both = in_state(&rt, rt.alloc(), FopMode::S6)?;
-    says(&rt, &both.fop, &[(0, Some(0)), (1, Some(1)), (2, None)]);
-    run(
-        &rt,
-        &mut both,
-        &[Call::Direct(Directive::InitWithoutCheck, Ok(None))],
-    );
-    says(&rt, &both.fop, &[(0, None), (1, Some(0))]);
-    Ok(())
-}
-
-// What reports of these values say was accepted.
-fn says(rt: &impl Abort, fop: &Fop<u8>, rows: &[(u8, Option<u8>)]) {
-    for (value, accepted) in rows {
-        equal(rt, &accepted_beyond(fop.nn(), fop.vs(), *value), accepted);
+fn a_report_after_an_alert_says_what_was_accepted(rt: HostRuntime) {
+    let mut both = in_state(&rt, rt.alloc(), FopMode::S6);
+    for (calls, rows) in [
+        (&[][..], &[(0, Some(0)), (1, Some(1)), (2, None)][..]),
+        (
+            &[Call::Direct(Directive::InitWithoutCheck, Ok(None))],
+            &[(0, None), (1, Some(0))],
+        ),
+    ] {
+        run(&rt, &mut both, calls);
+        says(&rt, both.fop.nn(), both.fop.vs(), rows);
     }
 }
 
 // Where memory is refused, nothing has changed, and the same call is answered as ever once there is
 // some.
 #[test]
-fn a_sender_does_without_memory(rt: HostRuntime) -> Result<(), Fail> {
-    let mut fop = new_fop(&rt, rt.alloc())?;
+fn a_sender_does_without_memory(rt: HostRuntime) {
+    let mut fop = new_fop(&rt, rt.alloc());
     for unit in 0..20 {
         bypasses(&rt, &mut fop, unit);
     }
@@ -433,15 +431,14 @@ fn a_sender_does_without_memory(rt: HostRuntime) -> Result<(), Fail> {
         pulls_bypass(&rt, &mut fop, unit);
     }
     assert!(rt; !fop.waiting());
-    Ok(())
 }
 
-fn new_fop(rt: &(impl Abort + Eprint), alloc: Global) -> Result<Fop<u8>, CopFault> {
+fn new_fop(rt: &(impl Abort + Eprint), alloc: Global) -> Fop<u8> {
     match Fop::new(alloc, 254, 127, 3, 10) {
-        Ok(fop) => Ok(fop),
+        Ok(fop) => fop,
         Err(fault) => {
             says_refused(rt, fault, CopFault::Memory);
-            Fop::new(alloc, 254, 127, 3, 10)
+            Fop::new(alloc, 254, 127, 3, 10).expect(rt, "a sender")
         }
     }
 }
@@ -462,20 +459,19 @@ fn pulls_bypass(rt: &impl Abort, fop: &mut Fop<u8>, unit: u8) {
 
 #[test]
 fn a_sender_that_is_made_takes_no_memory(rt: HostRuntime) {
-    if let Ok(mut both) = new_both(rt.alloc(), 3, 10) {
-        let _ = eprintln!(rt; "set up");
-        run(&rt, &mut both, &ONE_SENT);
-        run(&rt, &mut both, &TO_S2);
-        run(
-            &rt,
-            &mut both,
-            &[
-                Call::Pull(Some((0, 10))),
-                Call::Report(0, 1, None),
-                Call::Tick(None),
-                Call::Submit(20, Ok(())),
-            ],
-        );
-        run(&rt, &mut both, &TO_S4);
-    }
+    let mut both = new_both(&rt, rt.alloc(), 3, 10);
+    let _ = eprintln!(rt; "set up");
+    run(&rt, &mut both, &ONE_SENT);
+    run(&rt, &mut both, &TO_S2);
+    run(
+        &rt,
+        &mut both,
+        &[
+            Call::Pull(Some((0, 10))),
+            Call::Report(0, 1, None),
+            Call::Tick(None),
+            Call::Submit(20, Ok(())),
+        ],
+    );
+    run(&rt, &mut both, &TO_S4);
 }
