@@ -8,7 +8,6 @@ use crate::{frames, packets};
 use map_service::{Assembler, Dropped, Limits, segment_count};
 use space_packet::{GapCheck, PacketSplitter, SequenceCounters, is_packet, packet_len};
 use std::process::Abort;
-use std::test::Fail;
 use tc_frame::{Check, Segment, SegmentFlags, SegmentHeader, TcSplitter, Unchecked};
 use tm_link::{Pointer, TmFrame};
 
@@ -49,13 +48,20 @@ fn codes_frames(rt: &impl Abort) {
     assert!(rt; tc_frame::decode(&DATA, Check::On).is_err());
 }
 
-fn codes_words(rt: &impl Abort) -> Result<(), Fail> {
-    let word = clcw::decode([0x01, 0x08, 0x08, 0x02])?;
-    equal(rt, &clcw::encode(&word)?, &[0x01, 0x08, 0x08, 0x02]);
-    Ok(())
+// Reads a word, and writes it.
+fn word_again(octets: [u8; 4]) -> Option<[u8; 4]> {
+    match clcw::decode(octets) {
+        Ok(word) => clcw::encode(&word).ok(),
+        Err(_) => None,
+    }
 }
 
-fn codes_telemetry(rt: &impl Abort) -> Result<(), Fail> {
+fn codes_words(rt: &impl Abort) {
+    let octets = [0x01, 0x08, 0x08, 0x02];
+    equal(rt, &word_again(octets), &Some(octets));
+}
+
+fn codes_telemetry(rt: &impl Abort) {
     let frame = TmFrame {
         scid: 1,
         vcid: 0,
@@ -66,25 +72,23 @@ fn codes_telemetry(rt: &impl Abort) -> Result<(), Fail> {
         ocf: [0x01, 0x08, 0x00, 0x00],
     };
     let mut out = [0; 20];
-    equal(rt, &tm_link::encode(&frame, &mut out)?, &20);
-    equal(rt, &tm_link::decode(&out, 20)?, &frame);
+    equal(rt, &tm_link::encode(&frame, &mut out), &Ok(20));
+    equal(rt, &tm_link::decode(&out, 20), &Ok(frame));
     assert!(rt; tm_link::decode(&out, 19).is_err());
-    Ok(())
 }
 
 #[test]
-fn reading_and_writing_takes_no_memory(rt: HostRuntime) -> Result<(), Fail> {
+fn reading_and_writing_takes_no_memory(rt: HostRuntime) {
     let _ = eprintln!(rt; "set up");
     codes_packets(&rt);
     codes_frames(&rt);
-    codes_words(&rt)?;
-    codes_telemetry(&rt)?;
+    codes_words(&rt);
+    codes_telemetry(&rt);
     let mut counters = SequenceCounters::new();
     let mut gaps = GapCheck::new();
     for _ in 0..3 {
         let _ = gaps.see(5, counters.next(5));
     }
-    Ok(())
 }
 
 #[test]

@@ -1,14 +1,13 @@
 // Packets in octets, worked by hand, and sequence counts.
 
-ghost use Rattle.std.specs.Prelude.{◌≡◌, ◌<◌, ◌+◌, ◌%◌, IfOk, Some, vec_len};
+ghost use Rattle.std.specs.Prelude.{◌≡◌, ◌<◌, ◌+◌, ◌%◌, Some, vec_len};
 ghost use Rattle.space_packet.specs.Counters.{gap_between};
 
 use crate::equal::equal;
 use crate::refusing::says_refused;
 use space_packet::*;
-use std::alloc::{AllocError, Global};
+use std::alloc::Global;
 use std::process::Abort;
-use std::test::Fail;
 
 const PACKET: [u8; 7] = [0x10, 0x05, 0xc0, 0x00, 0x00, 0x00, 0xaa];
 
@@ -39,41 +38,33 @@ fn written(packet: &Packet<'_>, out: &mut [u8]) -> Result<usize, PacketFault> {
     encode(packet, out)
 }
 
-// `len` octets. Where memory is refused, it asks again.
-fn octets_55(rt: &(impl Abort + Eprint), alloc: Global, len: usize) -> Result<Vec<u8>, AllocError>
-    ensures { IfOk result (λ octets. vec_len octets ≡ len) }
+/// `len` octets. Where memory is refused, it asks again.
+pub fn octets_of(rt: &(impl Abort + Eprint), alloc: Global, octet: u8, len: usize) -> Vec<u8>
+    ensures { vec_len result ≡ len }
 {
-    if let Ok(octets) = vec![in alloc; 0x55; len] {
-        return Ok(octets);
+    match vec![in alloc; octet; len] {
+        Ok(octets) => octets,
+        Err(_) => {
+            let _ = eprintln!(rt; "refused a growth");
+            vec![in alloc; octet; len].expect(rt, "octets")
+        }
     }
-    let _ = eprintln!(rt; "refused a growth");
-    vec![in alloc; 0x55; len]
 }
 
 #[test]
-fn the_longest_packet(rt: HostRuntime) -> Result<(), Fail> {
-    let mut octets = octets_55(&rt, rt.alloc(), 65542)?;
+fn the_longest_packet(rt: HostRuntime) {
+    let mut octets = octets_of(&rt, rt.alloc(), 0x55, 65542);
     octets.as_mut_slice()[..6].copy_from_slice(&[0x10, 0x05, 0xc0, 0x00, 0xff, 0xff]);
-    is_read_and_written(&rt, rt.alloc(), &octets)
+    let mut out = octets_of(&rt, rt.alloc(), 0x00, 65542);
+    is_written(&rt, octets.as_slice(), out.as_mut_slice());
 }
 
-fn is_read_and_written(
-    rt: &(impl Abort + Eprint),
-    alloc: Global,
-    octets: &[u8],
-) -> Result<(), Fail> {
-    let mut out = octets_55(rt, alloc, 65542)?;
-    out.as_mut_slice()[..6].copy_from_slice(&[0; 6]);
-    is_written(rt, octets, &mut out)
-}
-
-fn is_written(rt: &impl Abort, octets: &[u8], out: &mut [u8]) -> Result<(), Fail> {
-    let (packet, len) = decode(octets)?;
+fn is_written(rt: &impl Abort, octets: &[u8], out: &mut [u8]) {
+    let (packet, len) = decode(octets).expect(rt, "a packet");
     equal(rt, &len, &65542);
     equal(rt, &packet.payload.len(), &65536);
     equal(rt, &written(&packet, out), &Ok(65542));
     assert!(rt; *out == *octets);
-    Ok(())
 }
 
 #[test]

@@ -1,11 +1,10 @@
 // Frames in octets, worked by hand.
 
 use crate::equal::equal;
-use crate::packets::are_packets;
+use crate::packets::{are_packets, octets_of};
 use crate::refusing::says_refused;
-use std::alloc::{AllocError, Global};
+use std::alloc::Global;
 use std::process::Abort;
-use std::test::Fail;
 use tm_link::Gap::{First, Lost};
 use tm_link::*;
 
@@ -74,20 +73,17 @@ fn written(pointer: Pointer, out: &mut [u8]) -> Option<usize> {
 }
 
 #[test]
-fn an_idle_frame(rt: HostRuntime) -> Result<(), Fail> {
+fn an_idle_frame(rt: HostRuntime) {
     let mut out = [0; 16];
     equal(&rt, &written(Pointer::OnlyIdle, &mut out), &Some(16));
     assert!(rt; out.starts_with(&IDLE));
-    reports(&rt, frame(Pointer::OnlyIdle))?;
-    let mut builder = TmBuilder::new(rt.alloc(), 1, 0, 16)?;
-    builds_idle(&rt, &mut builder);
-    Ok(())
+    reports(&rt, frame(Pointer::OnlyIdle));
+    builds_idle(&rt, &mut builder_of(&rt, rt.alloc(), 16, &[]));
 }
 
-fn reports(rt: &impl Abort, frame: TmFrame<'_>) -> Result<(), Fail> {
-    let report = frame.report()?;
+fn reports(rt: &impl Abort, frame: TmFrame<'_>) {
+    let report = frame.report().expect(rt, "a report");
     equal(rt, &(report.vcid, report.value), &(2, 0));
-    Ok(())
 }
 
 fn builds_idle(rt: &impl Abort, builder: &mut TmBuilder) {
@@ -141,17 +137,18 @@ fn refusals(rt: HostRuntime) {
     );
 }
 
-// A builder of frames of 20 octets, with these packets queued.
+// A builder of frames of this length, with these packets queued.
 fn builder_of(
     rt: &(impl Abort + Eprint),
     alloc: Global,
+    length: usize,
     packets: &[&[u8]],
-) -> Result<TmBuilder, Fail> {
-    let mut builder = TmBuilder::new(alloc, 1, 0, 20)?;
+) -> TmBuilder {
+    let mut builder = TmBuilder::new(alloc, 1, 0, length).expect(rt, "a builder");
     for packet in packets {
         queue(rt, &mut builder, packet);
     }
-    Ok(builder)
+    builder
 }
 
 // The data field and the pointer of each frame that a builder of frames of 20 octets makes of packets.
@@ -160,8 +157,8 @@ fn builds(
     alloc: Global,
     packets: &[&[u8]],
     frames: &[(&[u8; 8], Pointer)],
-) -> Result<(), Fail> {
-    let mut builder = builder_of(rt, alloc, packets)?;
+) {
+    let mut builder = builder_of(rt, alloc, 20, packets);
     for (number, (payload, pointer)) in (0..=255u8).zip(frames) {
         let frame = TmFrame {
             mc_count: number,
@@ -171,7 +168,6 @@ fn builds(
         };
         builds_one(rt, &mut builder, frame);
     }
-    Ok(())
 }
 
 // The next frame, of 20 octets, is this one. Octets past it stay.
@@ -211,24 +207,22 @@ const FRAMES_OF_ONE: [(&[u8; 8], Pointer); 8] = [
 ];
 
 #[test]
-fn packets_in_frames(rt: HostRuntime) -> Result<(), Fail> {
-    builds(&rt, rt.alloc(), &FOUR, &FRAMES_OF_FOUR)
+fn packets_in_frames(rt: HostRuntime) {
+    builds(&rt, rt.alloc(), &FOUR, &FRAMES_OF_FOUR);
 }
 
 #[test]
-fn idle_packets_in_frames(rt: HostRuntime) -> Result<(), Fail> {
-    builds(&rt, rt.alloc(), &FOUR[..1], &FRAMES_OF_ONE)
+fn idle_packets_in_frames(rt: HostRuntime) {
+    builds(&rt, rt.alloc(), &FOUR[..1], &FRAMES_OF_ONE);
 }
 
 #[test]
-fn what_is_not_queued(rt: HostRuntime) -> Result<(), Fail> {
+fn what_is_not_queued(rt: HostRuntime) {
     for (vcid, length) in [(8, 20), (0, 15)] {
         let fault = TmBuilder::new(rt.alloc(), 1, vcid, length).err();
         equal(&rt, &fault, &Some(TmFault::FieldRange));
     }
-    let mut builder = TmBuilder::new(rt.alloc(), 1, 0, 2048)?;
-    queues_nothing(&rt, &mut builder);
-    Ok(())
+    queues_nothing(&rt, &mut builder_of(&rt, rt.alloc(), 2048, &[]));
 }
 
 fn queues_nothing(rt: &impl Abort, builder: &mut TmBuilder) {
@@ -238,25 +232,53 @@ fn queues_nothing(rt: &impl Abort, builder: &mut TmBuilder) {
     equal(rt, &builder.queue(&two), &Err(TmFault::NotAPacket));
     let mut out = [0; 2048];
     equal(rt, &builder.build([0; 4], &mut out), &2048);
-    let pointer = decode(&out, 2048).ok().map(|frame| frame.pointer);
-    equal(rt, &pointer, &Some(Pointer::OnlyIdle));
+    equal(rt, &pointer_of(&out), &Some(Pointer::OnlyIdle));
+}
+
+fn pointer_of(octets: &[u8]) -> Option<Pointer> {
+    match decode(octets, octets.len()) {
+        Ok(frame) => Some(frame.pointer),
+        Err(_) => None,
+    }
+}
+
+// The frames of a builder on their way to an extractor, and the packets that came out.
+#[derive(Drop)]
+struct Passage {
+    builder: TmBuilder,
+    extractor: Extractor,
+    found: Vec<Vec<u8>>,
+}
+
+fn passage_from(rt: &(impl Abort + Eprint), alloc: Global, builder: TmBuilder) -> Passage {
+    Passage {
+        builder,
+        extractor: extractor(rt, alloc),
+        found: Vec::new(alloc),
+    }
+}
+
+// A new extractor. Where memory is refused the call made again answers as ever.
+fn extractor(rt: &(impl Abort + Eprint), alloc: Global) -> Extractor {
+    match Extractor::new(alloc) {
+        Ok(extractor) => extractor,
+        Err(fault) => {
+            says_refused(rt, fault, TmFault::Memory);
+            Extractor::new(alloc).expect(rt, "an extractor")
+        }
+    }
 }
 
 // Takes a frame. Where memory is refused nothing has changed, and the call made again answers as ever.
-fn take(
-    rt: &(impl Abort + Eprint),
-    extractor: &mut Extractor,
-    octets: &[u8],
-    packets: &mut Vec<Vec<u8>>,
-) -> Result<Gap, TmFault> {
+fn take(rt: &(impl Abort + Eprint), passage: &mut Passage, octets: &[u8]) -> Result<Gap, TmFault> {
     let frame = decode(octets, octets.len())?;
-    let count = packets.len();
-    match extractor.frame(&frame, packets) {
+    let count = passage.found.len();
+    match passage.extractor.frame(&frame, &mut passage.found) {
         Ok(gap) => Ok(gap),
         Err(fault) => {
             says_refused(rt, fault, TmFault::Memory);
-            equal(rt, &packets.len(), &count);
-            extractor.frame(&frame, packets)
+            equal(rt, &passage.found.len(), &count);
+            passage.extractor.frame(&frame, &mut passage.found)
         }
     }
 }
@@ -268,88 +290,61 @@ fn extracts(
     packets: &[&[u8]],
     chosen: &[(u8, Gap, usize)],
     wanted: &[&[u8]],
-) -> Result<(), Fail> {
-    let mut builder = builder_of(rt, alloc, packets)?;
-    extracts_of(rt, alloc, &mut builder, chosen, wanted)
-}
-
-fn extracts_of(
-    rt: &(impl Abort + Eprint),
-    alloc: Global,
-    builder: &mut TmBuilder,
-    chosen: &[(u8, Gap, usize)],
-    wanted: &[&[u8]],
-) -> Result<(), Fail> {
-    let mut extractor = extractor(rt, alloc)?;
-    let mut found = Vec::new(alloc);
+) {
+    let mut passage = passage_from(rt, alloc, builder_of(rt, alloc, 20, packets));
     for number in 0..8 {
-        extracts_one(rt, builder, &mut extractor, &mut found, number, chosen);
+        extracts_one(rt, &mut passage, number, chosen);
     }
-    are_packets(rt, found.as_slice(), wanted);
-    Ok(())
+    are_packets(rt, passage.found.as_slice(), wanted);
 }
 
 // The builder's next frame, which has this number, is taken if it is among those that are chosen.
 fn extracts_one(
     rt: &(impl Abort + Eprint),
-    builder: &mut TmBuilder,
-    extractor: &mut Extractor,
-    found: &mut Vec<Vec<u8>>,
+    passage: &mut Passage,
     number: u8,
     chosen: &[(u8, Gap, usize)],
 ) {
     let mut out = [0; 2048];
-    builder.build([0x01, 0x08, 0x00, 0x00], &mut out);
+    passage.builder.build([0x01, 0x08, 0x00, 0x00], &mut out);
     for (count, gap, packets) in chosen {
         if *count == number {
-            finishes(rt, extractor, &out, found, *gap, *packets);
+            finishes(rt, passage, &out, *gap, *packets);
         }
     }
 }
 
-// The gap before a frame, and the number of packets once it is taken.
+// The gap before a frame of 20 octets, and the number of packets once it is taken.
 fn finishes(
     rt: &(impl Abort + Eprint),
-    extractor: &mut Extractor,
+    passage: &mut Passage,
     out: &[u8; 2048],
-    found: &mut Vec<Vec<u8>>,
     gap: Gap,
     packets: usize,
 ) {
-    equal(rt, &take(rt, extractor, &out[..20], found), &Ok(gap));
-    equal(rt, &found.len(), &packets);
-}
-
-// A new extractor. Where memory is refused the call made again answers as ever.
-fn extractor(rt: &(impl Abort + Eprint), alloc: Global) -> Result<Extractor, Fail> {
-    match Extractor::new(alloc) {
-        Ok(extractor) => Ok(extractor),
-        Err(fault) => {
-            says_refused(rt, fault, TmFault::Memory);
-            Ok(Extractor::new(alloc)?)
-        }
-    }
+    equal(rt, &take(rt, passage, &out[..20]), &Ok(gap));
+    equal(rt, &passage.found.len(), &packets);
 }
 
 #[test]
-fn a_lost_frame(rt: HostRuntime) -> Result<(), Fail> {
+fn a_lost_frame(rt: HostRuntime) {
     let chosen = [(0, First, 1), (2, Lost(1), 1), (3, Lost(0), 2)];
     let found = [FOUR[0], FOUR[3]];
-    extracts(&rt, rt.alloc(), &FOUR, &chosen, &found)
+    extracts(&rt, rt.alloc(), &FOUR, &chosen, &found);
 }
 
 #[test]
-fn a_frame_that_finishes_two_packets(rt: HostRuntime) -> Result<(), Fail> {
+fn a_frame_that_finishes_two_packets(rt: HostRuntime) {
     let packets: [&[u8]; 2] = [
         &[0x00, 0x05, 0xc0, 0x00, 0x00, 0x02, 0xaa, 0xab, 0xac],
         &[0x00, 0x05, 0xc0, 0x01, 0x00, 0x00, 0xbb],
     ];
     let chosen = [(0, First, 0), (1, Lost(0), 2)];
-    extracts(&rt, rt.alloc(), &packets, &chosen, &packets)
+    extracts(&rt, rt.alloc(), &packets, &chosen, &packets);
 }
 
 #[test]
-fn idle_packets_are_not_handed_out(rt: HostRuntime) -> Result<(), Fail> {
+fn idle_packets_are_not_handed_out(rt: HostRuntime) {
     let chosen = [
         (0, First, 1),
         (1, Lost(0), 1),
@@ -360,19 +355,19 @@ fn idle_packets_are_not_handed_out(rt: HostRuntime) -> Result<(), Fail> {
         (6, Lost(0), 1),
         (7, Lost(0), 1),
     ];
-    extracts(&rt, rt.alloc(), &FOUR[..1], &chosen, &FOUR[..1])
+    extracts(&rt, rt.alloc(), &FOUR[..1], &chosen, &FOUR[..1]);
 }
 
 #[test]
-fn parts_across_a_gap(rt: HostRuntime) -> Result<(), Fail> {
+fn parts_across_a_gap(rt: HostRuntime) {
     let chosen = [(0, First, 0), (3, Lost(2), 0)];
-    extracts(&rt, rt.alloc(), &[&LONG, &LONG], &chosen, &[])
+    extracts(&rt, rt.alloc(), &[&LONG, &LONG], &chosen, &[]);
 }
 
 #[test]
-fn a_frame_of_only_idle_data_between_halves(rt: HostRuntime) -> Result<(), Fail> {
-    let mut extractor = extractor(&rt, rt.alloc())?;
-    let mut found = Vec::new(rt.alloc());
+fn a_frame_of_only_idle_data_between_halves(rt: HostRuntime) {
+    let builder = builder_of(&rt, rt.alloc(), 20, &[]);
+    let mut passage = passage_from(&rt, rt.alloc(), builder);
     for (vc_count, pointer, payload, packets) in [
         (0, Pointer::At(0), &LONG[..8], 0),
         (1, Pointer::OnlyIdle, &[0x55; 8], 0),
@@ -385,110 +380,56 @@ fn a_frame_of_only_idle_data_between_halves(rt: HostRuntime) -> Result<(), Fail>
             payload,
             ..frame(pointer)
         };
-        takes(&rt, &mut extractor, &frame, &mut found);
-        equal(&rt, &found.len(), &packets);
+        takes(&rt, &mut passage, &frame);
+        equal(&rt, &passage.found.len(), &packets);
     }
-    Ok(())
 }
 
-fn takes(
-    rt: &(impl Abort + Eprint),
-    extractor: &mut Extractor,
-    frame: &TmFrame<'_>,
-    packets: &mut Vec<Vec<u8>>,
-) {
+fn takes(rt: &(impl Abort + Eprint), passage: &mut Passage, frame: &TmFrame<'_>) {
     let mut out = [0; 20];
     equal(rt, &encode(frame, &mut out), &Ok(20));
-    assert!(rt; take(rt, extractor, &out, packets).is_ok());
-}
-
-// The longest packet. Where memory is refused, it asks again.
-fn longest_packet(rt: &(impl Abort + Eprint), alloc: Global) -> Result<Vec<u8>, AllocError> {
-    if let Ok(octets) = vec![in alloc; 0x5a; 65542] {
-        return Ok(octets);
-    }
-    let _ = eprintln!(rt; "refused a growth");
-    vec![in alloc; 0x5a; 65542]
+    assert!(rt; take(rt, passage, &out).is_ok());
 }
 
 #[test]
-fn a_packet_across_many_frames(rt: HostRuntime) -> Result<(), Fail> {
-    let mut packet = longest_packet(&rt, rt.alloc())?;
-    for (octet, is) in packet.iter_mut().zip([0x00, 0x05, 0xc0, 0x00, 0xff, 0xff]) {
-        *octet = is;
-    }
-    goes_across(&rt, rt.alloc(), packet.as_slice())
+fn a_packet_across_many_frames(rt: HostRuntime) {
+    let mut packet = octets_of(&rt, rt.alloc(), 0x5a, 65542);
+    packet.as_mut_slice()[..6].copy_from_slice(&[0x00, 0x05, 0xc0, 0x00, 0xff, 0xff]);
+    goes_across(&rt, rt.alloc(), packet.as_slice());
 }
 
-fn goes_across(rt: &(impl Abort + Eprint), alloc: Global, packet: &[u8]) -> Result<(), Fail> {
-    let mut builder = TmBuilder::new(alloc, 1, 0, 2048)?;
-    queue(rt, &mut builder, packet);
-    comes_out(rt, alloc, &mut builder, packet)
-}
-
-fn comes_out(
-    rt: &(impl Abort + Eprint),
-    alloc: Global,
-    builder: &mut TmBuilder,
-    packet: &[u8],
-) -> Result<(), Fail> {
-    let mut extractor = extractor(rt, alloc)?;
-    let mut found = Vec::new(alloc);
+fn goes_across(rt: &(impl Abort + Eprint), alloc: Global, packet: &[u8]) {
+    let mut passage = passage_from(rt, alloc, builder_of(rt, alloc, 2048, &[packet]));
     for _ in 0..32 {
-        goes_on(rt, builder, &mut extractor, &mut found);
-        equal(rt, &found.len(), &0);
+        goes_on(rt, &mut passage);
+        equal(rt, &passage.found.len(), &0);
     }
-    goes_on(rt, builder, &mut extractor, &mut found);
-    are_packets(rt, found.as_slice(), &[packet]);
-    Ok(())
+    goes_on(rt, &mut passage);
+    are_packets(rt, passage.found.as_slice(), &[packet]);
 }
 
 // A frame of 2,048 octets is built and taken.
-fn goes_on(
-    rt: &(impl Abort + Eprint),
-    builder: &mut TmBuilder,
-    extractor: &mut Extractor,
-    found: &mut Vec<Vec<u8>>,
-) {
+fn goes_on(rt: &(impl Abort + Eprint), passage: &mut Passage) {
     let mut out = [0; 2048];
-    equal(rt, &builder.build([0; 4], &mut out), &2048);
-    assert!(rt; take(rt, extractor, &out, found).is_ok());
+    equal(rt, &passage.builder.build([0; 4], &mut out), &2048);
+    assert!(rt; take(rt, passage, &out).is_ok());
 }
 
 // A packet on its way across two frames, the first of which is taken.
 #[test]
-fn building_and_waiting_takes_no_memory(rt: HostRuntime) -> Result<(), Fail> {
-    let mut builder = TmBuilder::new(rt.alloc(), 1, 0, 20)?;
+fn building_and_waiting_takes_no_memory(rt: HostRuntime) {
     let packet = [0x00, 0x05, 0xc0, 0x00, 0x00, 0x02, 0xaa, 0xab, 0xac];
-    match (builder.queue(&packet), Extractor::new(rt.alloc())) {
-        (Ok(()), Ok(extractor)) => waits(&rt, rt.alloc(), &mut builder, extractor),
-        _ => {
-            let _ = eprintln!(rt; "refused a growth");
-        }
-    }
-    Ok(())
+    let builder = builder_of(&rt, rt.alloc(), 20, &[&packet]);
+    waits(&rt, &mut passage_from(&rt, rt.alloc(), builder));
 }
 
-fn waits(rt: &(impl Abort + Eprint), alloc: Global, builder: &mut TmBuilder, extractor: Extractor) {
-    let mut extractor = extractor;
-    let mut found = Vec::new(alloc);
+fn waits(rt: &(impl Abort + Eprint), passage: &mut Passage) {
     let _ = eprintln!(rt; "set up");
     let mut out = [0; 2048];
-    assert_eq!(rt; builder.build([0x01, 0x08, 0x00, 0x00], &mut out), 20);
-    finishes_none(rt, &mut extractor, &out[..20], &mut found);
-}
-
-fn finishes_none(
-    rt: &impl Abort,
-    extractor: &mut Extractor,
-    octets: &[u8],
-    found: &mut Vec<Vec<u8>>,
-) {
-    if let Ok(frame) = decode(octets, 20) {
-        equal(rt, &frame.pointer, &Pointer::At(0));
-        equal(rt, &extractor.frame(&frame, found), &Ok(Gap::First));
-        equal(rt, &found.len(), &0);
-    } else {
-        assert!(rt; false);
-    }
+    assert_eq!(rt;
+        passage.builder.build([0x01, 0x08, 0x00, 0x00], &mut out),
+        20
+    );
+    equal(rt, &pointer_of(&out[..20]), &Some(Pointer::At(0)));
+    finishes(rt, passage, &out, First, 0);
 }
