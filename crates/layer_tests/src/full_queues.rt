@@ -1,21 +1,19 @@
 // Queues that are full. The fault comes before memory is wanted, so a growth that is refused may not be said.
 
+use crate::configs::with_parts;
 use crate::frames::{P0, P1, THREE};
 use crate::node_calls::{Ask, asks};
 use cop1::{Directive, FopMode};
-use std::test::Fail;
 use tc_link::{Config, LinkFault};
 
 const FULL: Result<(), LinkFault> = Err(LinkFault::QueueFull);
 
 #[test]
-fn full_queues(rt: HostRuntime) -> Result<(), Fail> {
+fn full_queues(rt: HostRuntime) {
     use FopMode::S1;
     let config = Config {
         queue_slots: 2,
-        part: 4,
-        blocking: 1,
-        ..Config::default()
+        ..with_parts(4, 1)
     };
     let init = Ask::Directive(Directive::InitWithoutCheck, Ok(None));
     let rows = [
@@ -28,11 +26,11 @@ fn full_queues(rt: HostRuntime) -> Result<(), Fail> {
         (Ask::Advance, (S1, 2, 0, 2)),
         (Ask::Submit(&P1, Ok(())), (S1, 2, 0, 4)),
     ];
-    asks(&rt, rt.alloc(), &config, &rows)
+    asks(&rt, rt.alloc(), &config, &rows);
 }
 
 #[test]
-fn a_full_bypass_queue(rt: HostRuntime) -> Result<(), Fail> {
+fn a_full_bypass_queue(rt: HostRuntime) {
     use FopMode::S6;
     let config = Config {
         queue_slots: 1,
@@ -44,5 +42,5 @@ fn a_full_bypass_queue(rt: HostRuntime) -> Result<(), Fail> {
         (Ask::Advance, (S6, 0, 0, 0)),
         (Ask::Bypass(&P1, Ok(())), (S6, 0, 0, 0)),
     ];
-    asks(&rt, rt.alloc(), &config, &rows)
+    asks(&rt, rt.alloc(), &config, &rows);
 }

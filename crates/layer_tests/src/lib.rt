@@ -5,6 +5,8 @@
 #![tactic(auto)]
 
 #[cfg(test)]
+mod configs;
+#[cfg(test)]
 mod equal;
 #[cfg(test)]
 mod frames;

@@ -7,7 +7,12 @@ mod without_memory;
 use crate::equal::equal;
 use nodes::{PARAMETERS, Parameter};
 use std::process::Abort;
-use tc_link::{Config, LinkFault};
+use tc_link::{Config, Event, LinkFault, Reply, Sim, SimFault};
+
+/// Lets an event happen to a link. It says nothing of it, so the proof of a test has nothing of the link in it.
+pub fn step(sim: &mut Sim, event: Event<'_>) -> Result<Reply, SimFault> {
+    sim.step(event)
+}
 
 #[test]
 fn parameters(rt: HostRuntime) {

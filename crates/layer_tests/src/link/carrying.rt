@@ -1,5 +1,6 @@
 // Many packets over a link that loses frames.
 
+use super::step;
 use super::twins::records_of;
 use crate::equal::equal;
 use cop1::{Directive, FopMode};
@@ -41,6 +42,17 @@ struct Lengths {
     accepted: usize,
 }
 
+impl Lengths {
+    // No list has passed the one that it follows, with these numbers of frames acknowledged and packets taken.
+    fn are_ordered(self, acknowledged: usize, taken: usize) -> bool {
+        self.sent <= self.submitted
+            && self.accepted <= self.sent
+            && acknowledged <= self.accepted
+            && self.delivered == self.accepted
+            && taken <= self.delivered
+    }
+}
+
 // A link, the packets and their data fields, how many frames were sent, and how many packets were taken.
 #[derive(Drop)]
 struct Carrier<'a> {
@@ -76,7 +88,7 @@ fn lengths_of(sim: &Sim) -> Lengths {
 impl Carrier<'_> {
     // Lets an event happen, compares the lists, and says whether this is the reply.
     fn answers(&mut self, rt: &impl Abort, event: Event<'_>, reply: &Reply) -> bool {
-        let given = self.sim.step(event).expect(rt, "a reply");
+        let given = step(&mut self.sim, event).expect(rt, "a reply");
         self.looks_at(rt, &given);
         self.compares(rt);
         given == *reply
@@ -107,9 +119,7 @@ impl Carrier<'_> {
     fn compares(&mut self, rt: &impl Abort) {
         assert!(rt; self.go_on());
         let new = lengths_of(&self.sim);
-        assert!(rt; new.sent <= new.submitted && new.accepted <= new.sent);
-        assert!(rt; self.sim.acknowledged() <= new.accepted && new.delivered == new.accepted);
-        assert!(rt; self.taken <= new.delivered);
+        assert!(rt; new.are_ordered(self.sim.acknowledged(), self.taken));
         self.compared = new;
     }
 

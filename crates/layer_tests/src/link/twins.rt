@@ -1,12 +1,12 @@
 // Two links to which the same happens. Where one is refused memory nothing of it has changed, which the other
 // shows, and the call made again answers as ever.
 
+use super::step;
 use crate::equal::equal;
 use crate::refusing::says_refused;
 use cop1::FopMode;
 use std::alloc::Global;
 use std::process::Abort;
-use std::test::Fail;
 use tc_link::{Config, Event, Reply, Sim, SimFault, run};
 
 /// The state, and how many packets were submitted and delivered on MAP 4, frames sent, accepted and acknowledged,
@@ -25,14 +25,14 @@ pub fn records_of(sim: &Sim) -> Records {
     (sim.state(), numbers)
 }
 
-/// A new link. Where memory is refused the call made again answers as ever.
-pub fn new_link(rt: &(impl Abort + Eprint), alloc: Global, config: Config) -> Result<Sim, Fail> {
+// A new link. Where memory is refused the call made again answers as ever.
+fn new_link(rt: &(impl Abort + Eprint), alloc: Global, config: Config) -> Sim {
     match Sim::new(alloc, config) {
-        Err(SimFault::Memory) => {
-            says_refused(rt, SimFault::Memory.number(), 6);
-            Ok(Sim::new(alloc, config)?)
+        Err(fault) => {
+            says_refused(rt, fault.number(), 6);
+            Sim::new(alloc, config).expect(rt, "a link")
         }
-        made => Ok(made?),
+        Ok(sim) => sim,
     }
 }
 
@@ -42,13 +42,13 @@ fn run_link(
     alloc: Global,
     config: Config,
     events: &[Event<'_>],
-) -> Result<Sim, Fail> {
+) -> Sim {
     match run(alloc, config, events) {
-        Err(SimFault::Memory) => {
-            says_refused(rt, SimFault::Memory.number(), 6);
-            Ok(run(alloc, config, events)?)
+        Err(fault) => {
+            says_refused(rt, fault.number(), 6);
+            run(alloc, config, events).expect(rt, "a run")
         }
-        ran => Ok(ran?),
+        Ok(ran) => ran,
     }
 }
 
@@ -99,13 +99,13 @@ fn bears(
     other: Option<&Sim>,
     event: Event<'_>,
 ) -> Result<Reply, SimFault> {
-    match sim.step(event) {
+    match step(sim, event) {
         Err(SimFault::Memory) if takes_memory(event) => {
             says_refused(rt, SimFault::Memory.number(), 6);
             if let Some(other) = other {
                 are_alike(rt, sim, other);
             }
-            sim.step(event)
+            step(sim, event)
         }
         answer => answer,
     }
@@ -118,39 +118,12 @@ pub fn bear(
     config: Config,
     events: &[Event<'_>],
     records: Records,
-) -> Result<(), Fail> {
-    let mut one = new_link(rt, alloc, config)?;
-    bear_beside(rt, alloc, config, &mut one, events)?;
-    has_records(rt, &one, records);
-    Ok(())
-}
-
-fn has_records(rt: &impl Abort, sim: &Sim, records: Records) {
-    equal(rt, &records_of(sim), &records);
-}
-
-fn bear_beside(
-    rt: &(impl Abort + Eprint),
-    alloc: Global,
-    config: Config,
-    one: &mut Sim,
-    events: &[Event<'_>],
-) -> Result<(), Fail> {
-    let mut other = new_link(rt, alloc, config)?;
-    bear_as_run(rt, alloc, config, one, &mut other, events)
-}
-
-fn bear_as_run(
-    rt: &(impl Abort + Eprint),
-    alloc: Global,
-    config: Config,
-    one: &mut Sim,
-    other: &mut Sim,
-    events: &[Event<'_>],
-) -> Result<(), Fail> {
-    let ran = run_link(rt, alloc, config, events)?;
-    bear_each(rt, one, other, &ran, events);
-    Ok(())
+) {
+    let mut one = new_link(rt, alloc, config);
+    let mut other = new_link(rt, alloc, config);
+    let ran = run_link(rt, alloc, config, events);
+    bear_each(rt, &mut one, &mut other, &ran, events);
+    equal(rt, &records_of(&one), &records);
 }
 
 fn bear_each(

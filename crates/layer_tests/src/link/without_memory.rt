@@ -1,10 +1,10 @@
 // Sessions in which each growth is refused in turn. What they answer stands in rows/sim at the top.
 
 use super::twins::bear;
+use crate::configs::with_parts;
 use crate::frames::{DAMAGED, P0, P1, P2, THREE, UNLOCK};
 use crate::refusing::ends_growths;
 use cop1::{Directive, FopMode};
-use std::test::Fail;
 use tc_link::{Config, Event};
 
 // A frame is lost, and the frames from it on are sent again.
@@ -79,19 +79,21 @@ static REFUSALS: [Event<'static>; 8] = [
 ];
 
 #[test]
-fn sessions_without_memory(rt: HostRuntime) -> Result<(), Fail> {
+fn sessions_without_memory(rt: HostRuntime) {
     use FopMode::{S1, S5, S6};
-    let config = Config::default();
-    let alloc = rt.alloc();
-    let records = (S1, [3, 3, 3, 3, 3, 0]);
-    bear(&rt, alloc, config, &ONE_FRAME_LOST, records)?;
-    bear(&rt, alloc, config, &BOTH_WAYS, (S6, [0; 6]))?;
-    bear(&rt, alloc, config, &REFUSALS, (S5, [0; 6]))?;
-    let config = Config { timer: 1, ..config };
-    let records = (S6, [1, 1, 1, 1, 0, 0]);
-    bear(&rt, alloc, config, &WITHOUT_MEMORY, records)?;
-    ends_growths(&rt, alloc);
-    Ok(())
+    for (timer, events, records) in [
+        (10, &ONE_FRAME_LOST[..], (S1, [3, 3, 3, 3, 3, 0])),
+        (10, &BOTH_WAYS, (S6, [0; 6])),
+        (10, &REFUSALS, (S5, [0; 6])),
+        (1, &WITHOUT_MEMORY, (S6, [1, 1, 1, 1, 0, 0])),
+    ] {
+        let config = Config {
+            timer,
+            ..Config::default()
+        };
+        bear(&rt, rt.alloc(), config, events, records);
+    }
+    ends_growths(&rt, rt.alloc());
 }
 
 // Segments have at most 14 octets, so two packets and one.
@@ -127,21 +129,13 @@ static THREE_SEGMENTS: [Event<'static>; 13] = [
 ];
 
 #[test]
-fn several_without_memory(rt: HostRuntime) -> Result<(), Fail> {
-    use FopMode::S1;
-    let config = Config {
-        part: 14,
-        blocking: 1,
-        ..Config::default()
-    };
-    let records = (S1, [3, 3, 2, 2, 2, 0]);
-    bear(&rt, rt.alloc(), config, &THREE_PACKETS, records)?;
-    let config = Config {
-        part: 3,
-        ..Config::default()
-    };
-    let records = (S1, [1, 1, 3, 3, 3, 3]);
-    bear(&rt, rt.alloc(), config, &THREE_SEGMENTS, records)?;
+fn several_without_memory(rt: HostRuntime) {
+    for (part, blocking, events, numbers) in [
+        (14, 1, &THREE_PACKETS[..], [3, 3, 2, 2, 2, 0]),
+        (3, 0, &THREE_SEGMENTS, [1, 1, 3, 3, 3, 3]),
+    ] {
+        let config = with_parts(part, blocking);
+        bear(&rt, rt.alloc(), config, events, (FopMode::S1, numbers));
+    }
     ends_growths(&rt, rt.alloc());
-    Ok(())
 }

@@ -1,6 +1,7 @@
 // The node on the ground.
 
 use super::playing::{Node, plays};
+use crate::configs::{with_frames, with_parts};
 use crate::equal::equal;
 use crate::frames::*;
 use crate::refusing::says_refused;
@@ -8,7 +9,6 @@ use cop1::{Alert, CopFault, Directive, FopMode};
 use nodes::ValidConfig;
 use std::alloc::Global;
 use std::process::Abort;
-use std::test::Fail;
 use tc_frame::{Check, encode};
 use tc_link::{Config, Ground, Heard, HeardReport, LinkFault};
 use tm_link::{Gap, Pointer, TmFault, decode};
@@ -105,8 +105,8 @@ pub fn asks(
     alloc: Global,
     config: &Config,
     rows: &[(Ask<'_>, Standing)],
-) -> Result<(), Fail> {
-    plays::<Ground, _>(rt, alloc, config, rows)
+) {
+    plays::<Ground, _>(rt, alloc, config, rows);
 }
 
 // All that the reading calls show.
@@ -222,12 +222,8 @@ const NOT_OPEN: Result<(), LinkFault> = Err(LinkFault::NotOpen);
 const INIT: Ask<'static> = Ask::Directive(Directive::InitWithoutCheck, Ok(None));
 
 #[test]
-fn both_ways(rt: HostRuntime) -> Result<(), Fail> {
+fn both_ways(rt: HostRuntime) {
     use FopMode::{S1, S6};
-    let config = Config {
-        frame_length: 19,
-        ..Config::default()
-    };
     let window = Ask::Directive(Directive::SetWindow(128), Err(CopFault::Window));
     let terminate = Ask::Directive(Directive::Terminate, Ok(Some(Alert::Terminated)));
     let rows = [
@@ -273,16 +269,12 @@ fn both_ways(rt: HostRuntime) -> Result<(), Fail> {
         (Ask::Directive(Directive::SetVs(9), Ok(None)), (S6, 9, 9, 0)),
         (Ask::AcceptedBeyond(3, None), (S6, 9, 9, 0)),
     ];
-    asks(&rt, rt.alloc(), &config, &rows)
+    asks(&rt, rt.alloc(), &with_frames(19), &rows);
 }
 
 #[test]
-fn parts_that_are_sent(rt: HostRuntime) -> Result<(), Fail> {
+fn parts_that_are_sent(rt: HostRuntime) {
     use FopMode::S1;
-    let config = Config {
-        part: 3,
-        ..Config::default()
-    };
     let too_long = Err(LinkFault::TooLong);
     let rows = [
         (INIT, (S1, 0, 0, 0)),
@@ -293,12 +285,12 @@ fn parts_that_are_sent(rt: HostRuntime) -> Result<(), Fail> {
         (Ask::Pull(None), (S1, 3, 0, 3)),
         (Ask::Bypass(&P0, too_long), (S1, 3, 0, 3)),
     ];
-    asks(&rt, rt.alloc(), &config, &rows)
+    asks(&rt, rt.alloc(), &with_parts(3, 0), &rows);
 }
 
 // No packet has more than 7 octets here; and segments have at most 14, so two packets and one.
 #[test]
-fn several_packets_in_several_segments(rt: HostRuntime) -> Result<(), Fail> {
+fn several_packets_in_several_segments(rt: HostRuntime) {
     use FopMode::{S1, S6};
     let config = Config {
         max_packet: 7,
@@ -312,12 +304,7 @@ fn several_packets_in_several_segments(rt: HostRuntime) -> Result<(), Fail> {
         (Ask::Submit(&long, too_long), (S1, 0, 0, 0)),
         (Ask::Submit(&P0, Ok(())), (S1, 0, 0, 1)),
     ];
-    asks(&rt, rt.alloc(), &config, &rows)?;
-    let config = Config {
-        part: 14,
-        blocking: 1,
-        ..Config::default()
-    };
+    asks(&rt, rt.alloc(), &config, &rows);
     let rows = [
         (INIT, (S1, 0, 0, 0)),
         (Ask::Submit(&THREE, Ok(())), (S1, 0, 0, 2)),
@@ -325,5 +312,5 @@ fn several_packets_in_several_segments(rt: HostRuntime) -> Result<(), Fail> {
         (Ask::Pull(Some(&AD_1_WITH_P0)), (S1, 2, 0, 2)),
         (Ask::Pull(None), (S1, 2, 0, 2)),
     ];
-    asks(&rt, rt.alloc(), &config, &rows)
+    asks(&rt, rt.alloc(), &with_parts(14, 1), &rows);
 }

@@ -6,7 +6,6 @@ use crate::refusing::{ends_growths, says_refused};
 use nodes::ValidConfig;
 use std::alloc::Global;
 use std::process::Abort;
-use std::test::Fail;
 use tc_link::{Config, LinkFault};
 
 /// A node whose calls are tested.
@@ -26,12 +25,12 @@ pub fn plays<N: Node<C> + Drop, C>(
     alloc: Global,
     config: &Config,
     rows: &[C],
-) -> Result<(), Fail> {
-    let valid = config.valid()?;
+) {
+    let valid = config.valid().expect(rt, "a configuration");
     let mut node = match N::create(alloc, &valid) {
         Err(fault) => {
             says_refused(rt, fault.number(), 6);
-            N::create(alloc, &valid)?
+            N::create(alloc, &valid).expect(rt, "a node")
         }
         Ok(node) => node,
     };
@@ -44,5 +43,4 @@ pub fn plays<N: Node<C> + Drop, C>(
         node.answers(rt, call);
     }
     ends_growths(rt, alloc);
-    Ok(())
 }

@@ -1,6 +1,7 @@
 // The node on board.
 
 use super::playing::{Node, plays};
+use crate::configs::with_parts;
 use crate::equal::equal;
 use crate::frames::*;
 use crate::refusing::says_refused;
@@ -10,7 +11,6 @@ use map_service::Dropped;
 use nodes::{Arrival, ValidConfig};
 use std::alloc::Global;
 use std::process::Abort;
-use std::test::Fail;
 use tc_frame::{Check, Command, TcFault};
 use tc_link::{Config, LinkFault, Received, Spacecraft};
 use tm_link::{Pointer, TmFault};
@@ -195,7 +195,7 @@ fn sequence(n: u8, verdict: Verdict, ready: usize) -> Received {
 
 // Frames of another spacecraft or virtual channel change nothing, FARM-B included.
 #[test]
-fn foreign_frames(rt: HostRuntime) -> Result<(), Fail> {
+fn foreign_frames(rt: HostRuntime) {
     let rows = [
         Row::Receive(&AD_ON_CHANNEL_3, Received::Foreign),
         Row::Receive(&BD_ON_CHANNEL_3, Received::Foreign),
@@ -212,11 +212,11 @@ fn foreign_frames(rt: HostRuntime) -> Result<(), Fail> {
         Row::TakeBypass(Some(&P0)),
         Row::TakeBypass(None),
     ];
-    plays::<Spacecraft, _>(&rt, rt.alloc(), &Config::default(), &rows)
+    plays::<Spacecraft, _>(&rt, rt.alloc(), &Config::default(), &rows);
 }
 
 #[test]
-fn frames_in_sequence(rt: HostRuntime) -> Result<(), Fail> {
+fn frames_in_sequence(rt: HostRuntime) {
     let none = Received::Sequence {
         n: 1,
         verdict: Verdict::Accepted,
@@ -237,12 +237,12 @@ fn frames_in_sequence(rt: HostRuntime) -> Result<(), Fail> {
         Row::Telemetry(&P0, Ok(())),
         Row::Report([0x01, 0x08, 0x00, 0x02], 2, Pointer::At(0), &P0),
     ];
-    plays::<Spacecraft, _>(&rt, rt.alloc(), &Config::default(), &rows)
+    plays::<Spacecraft, _>(&rt, rt.alloc(), &Config::default(), &rows);
 }
 
 // There is room for one packet: with blocking a frame may have two.
 #[test]
-fn a_full_buffer(rt: HostRuntime) -> Result<(), Fail> {
+fn a_full_buffer(rt: HostRuntime) {
     let config = Config {
         ready_slots: 1,
         blocking: 1,
@@ -258,11 +258,11 @@ fn a_full_buffer(rt: HostRuntime) -> Result<(), Fail> {
         Row::Receive(&AD_1, sequence(1, Verdict::Accepted, 1)),
         idle([0x01, 0x08, 0x00, 0x02], 2),
     ];
-    plays::<Spacecraft, _>(&rt, rt.alloc(), &config, &rows)
+    plays::<Spacecraft, _>(&rt, rt.alloc(), &config, &rows);
 }
 
 #[test]
-fn frames_past_the_sequence(rt: HostRuntime) -> Result<(), Fail> {
+fn frames_past_the_sequence(rt: HostRuntime) {
     let config = Config {
         bypass_slots: 1,
         ..Config::default()
@@ -278,15 +278,11 @@ fn frames_past_the_sequence(rt: HostRuntime) -> Result<(), Fail> {
         Row::Receive(&SET_9, Received::Control(Command::SetVr(9))),
         idle([0x01, 0x08, 0x02, 0x09], 1),
     ];
-    plays::<Spacecraft, _>(&rt, rt.alloc(), &config, &rows)
+    plays::<Spacecraft, _>(&rt, rt.alloc(), &config, &rows);
 }
 
 #[test]
-fn parts_that_arrive(rt: HostRuntime) -> Result<(), Fail> {
-    let config = Config {
-        part: 3,
-        ..Config::default()
-    };
+fn parts_that_arrive(rt: HostRuntime) {
     let rows = [
         Row::Receive(&FIRST, sequence(0, Verdict::Accepted, 0)),
         Row::Receive(&CONTINUING, sequence(1, Verdict::Accepted, 0)),
@@ -295,5 +291,5 @@ fn parts_that_arrive(rt: HostRuntime) -> Result<(), Fail> {
         Row::Take(Some(&P0)),
         Row::Take(None),
     ];
-    plays::<Spacecraft, _>(&rt, rt.alloc(), &config, &rows)
+    plays::<Spacecraft, _>(&rt, rt.alloc(), &with_parts(3, 0), &rows);
 }

@@ -1,10 +1,10 @@
 // Telemetry that comes down: two packets of two frames each, of which none, 255 and 256 in a row are lost.
 
+use crate::configs::with_frames;
 use crate::equal::equal;
 use std::alloc::Global;
 use std::process::Abort;
-use std::test::Fail;
-use tc_link::{Config, Ground, Heard, HeardReport, Spacecraft};
+use tc_link::{Ground, Heard, HeardReport, Spacecraft};
 use tm_link::Gap;
 
 // A frame of 20 octets carries 8, so each of these packets fills two.
@@ -31,19 +31,13 @@ enum Event<'a> {
     Take(Option<&'a [u8]>),
 }
 
-fn happens(
-    rt: &impl Abort,
-    spacecraft: &mut Spacecraft,
-    ground: &mut Ground,
-    event: &Event<'_>,
-) -> Result<(), Fail> {
+fn happens(rt: &impl Abort, spacecraft: &mut Spacecraft, ground: &mut Ground, event: &Event<'_>) {
     match event {
-        Event::Queue(packet) => spacecraft.telemetry(packet)?,
+        Event::Queue(packet) => equal(rt, &spacecraft.telemetry(packet), &Ok(())),
         Event::Lose(frames) => loses(spacecraft, *frames),
         Event::Hear(gap, packets) => hears(rt, spacecraft, ground, *gap, *packets),
         Event::Take(packet) => takes(rt, ground, *packet),
     }
-    Ok(())
 }
 
 fn loses(spacecraft: &mut Spacecraft, frames: usize) {
@@ -79,42 +73,19 @@ fn takes(rt: &impl Abort, ground: &mut Ground, packet: Option<&[u8]>) {
 }
 
 // These events happen, one after another, between two new nodes.
-fn happen(rt: &impl Abort, alloc: Global, events: &[Event<'_>]) -> Result<(), Fail> {
-    let config = Config {
-        frame_length: 20,
-        ..Config::default()
-    };
-    assert!(rt; config.fault().is_none());
-    let mut spacecraft = Spacecraft::new(alloc, &config)?;
-    happen_to(rt, alloc, &config, &mut spacecraft, events)
-}
-
-fn happen_to(
-    rt: &impl Abort,
-    alloc: Global,
-    config: &Config,
-    spacecraft: &mut Spacecraft,
-    events: &[Event<'_>],
-) -> Result<(), Fail> {
-    assert!(rt; config.fault().is_none());
-    let mut ground = Ground::new(alloc, config)?;
-    each_happens(rt, spacecraft, &mut ground, events)
-}
-
-fn each_happens(
-    rt: &impl Abort,
-    spacecraft: &mut Spacecraft,
-    ground: &mut Ground,
-    events: &[Event<'_>],
-) -> Result<(), Fail> {
-    for event in events {
-        happens(rt, spacecraft, ground, event)?;
+fn happen(rt: &impl Abort, alloc: Global, events: &[&[Event<'_>]]) {
+    let valid = with_frames(20).valid().expect(rt, "a configuration");
+    let mut spacecraft = Spacecraft::of(alloc, &valid).expect(rt, "a spacecraft");
+    let mut ground = Ground::of(alloc, &valid).expect(rt, "a ground");
+    for part in events {
+        for event in *part {
+            happens(rt, &mut spacecraft, &mut ground, event);
+        }
     }
-    Ok(())
 }
 
 #[test]
-fn packets_over_losses(rt: HostRuntime) -> Result<(), Fail> {
+fn packets_over_losses(rt: HostRuntime) {
     let none_lost = [
         Event::Queue(&A),
         Event::Queue(&B),
@@ -126,30 +97,29 @@ fn packets_over_losses(rt: HostRuntime) -> Result<(), Fail> {
         Event::Take(Some(&B)),
         Event::Take(None),
     ];
-    happen(&rt, rt.alloc(), &none_lost)?;
-    // The second half of A is lost with 254 frames of only idle data; B comes.
-    let lost_255 = [
+    happen(&rt, rt.alloc(), &[&none_lost]);
+    // The second half of A is lost with 254 frames of only idle data, before B is queued.
+    let half_lost = [
         Event::Queue(&A),
         Event::Hear(Gap::First, 0),
         Event::Lose(255),
         Event::Queue(&B),
+    ];
+    let whole_comes = [
         Event::Hear(Gap::Lost(255), 0),
         Event::Hear(Gap::Lost(0), 1),
         Event::Take(Some(&B)),
         Event::Take(None),
     ];
-    happen(&rt, rt.alloc(), &lost_255)?;
     // One frame more is lost, the first half of B: by the counts none is missing, and what is handed out was
     // never queued.
-    let lost_256 = [
-        Event::Queue(&A),
-        Event::Hear(Gap::First, 0),
-        Event::Lose(255),
-        Event::Queue(&B),
+    let half_comes = [
         Event::Lose(1),
         Event::Hear(Gap::Lost(0), 1),
         Event::Take(Some(&A_THEN_B)),
         Event::Take(None),
     ];
-    happen(&rt, rt.alloc(), &lost_256)
+    for rest in [whole_comes, half_comes] {
+        happen(&rt, rt.alloc(), &[&half_lost, &rest]);
+    }
 }
