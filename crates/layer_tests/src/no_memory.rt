@@ -5,8 +5,9 @@ use crate::equal::equal;
 use crate::frames::{
     AD_0, AD_1, AD_ON_CHANNEL_3, BD_0, BD_NONE, IDLE, OF_SPACECRAFT_2, P0, UNLOCK,
 };
+use crate::link::step;
 use cop1::{Alert, CopFault, Directive};
-use nodes::{Config, Ground, Heard, LinkFault, Received, Spacecraft};
+use nodes::{Config, Ground, Heard, LinkFault, Received, Spacecraft, ValidConfig};
 use std::alloc::Global;
 use std::process::Abort;
 use tc_link::{Event, Reply, Sim, SimFault};
@@ -20,23 +21,25 @@ fn config() -> Config {
     }
 }
 
-fn new_ground(rt: &impl Abort, alloc: Global) -> Result<Ground, LinkFault> {
-    let config = config();
-    assert!(rt; config.fault().is_none());
-    Ground::new(alloc, &config)
+fn valid(rt: &impl Abort) -> ValidConfig {
+    config().valid().expect(rt, "a configuration")
+}
+
+fn says_set_up(rt: &impl Eprint) {
+    let _ = eprintln!(rt; "set up");
 }
 
 // A ground that has one packet to send under and one past the sequence control.
-fn ground(rt: &impl Abort, alloc: Global) -> Result<Ground, LinkFault> {
-    let mut ground = new_ground(rt, alloc)?;
-    takes_both(&mut ground)?;
-    Ok(ground)
+fn ground(rt: &impl Abort, alloc: Global) -> Ground {
+    let mut ground = Ground::of(alloc, &valid(rt)).expect(rt, "a ground");
+    takes_both(rt, &mut ground);
+    ground
 }
 
-fn takes_both(ground: &mut Ground) -> Result<(), LinkFault> {
+fn takes_both(rt: &impl Abort, ground: &mut Ground) {
     let _ = ground.directive(Directive::InitWithoutCheck);
-    ground.submit(4, &P0)?;
-    ground.bypass(4, &P0)
+    assert!(rt; ground.submit(4, &P0).is_ok());
+    assert!(rt; ground.bypass(4, &P0).is_ok());
 }
 
 fn refuses(rt: &impl Abort, ground: &mut Ground) {
@@ -62,16 +65,11 @@ fn hears(rt: &impl Abort, ground: &mut Ground) {
 
 #[test]
 fn a_ground_that_is_made_takes_no_memory(rt: HostRuntime) {
-    match ground(&rt, rt.alloc()) {
-        Ok(mut ground) => calls_ground(&rt, &mut ground),
-        Err(_) => {
-            let _ = eprintln!(rt; "refused a growth");
-        }
-    }
+    calls_ground(&rt, &mut ground(&rt, rt.alloc()));
 }
 
 fn calls_ground(rt: &(impl Abort + Eprint), ground: &mut Ground) {
-    let _ = eprintln!(rt; "set up");
+    says_set_up(rt);
     pulls(rt, ground, Some(15));
     passes(rt, ground);
     hears(rt, ground);
@@ -111,58 +109,38 @@ fn directs(rt: &impl Abort, ground: &mut Ground) {
 
 #[test]
 fn a_submission_committed_takes_no_memory(rt: HostRuntime) {
-    match ground(&rt, rt.alloc()) {
-        Ok(mut ground) => submits(&rt, &mut ground),
-        Err(_) => {
-            let _ = eprintln!(rt; "refused a growth");
-        }
-    }
+    submits(&rt, &mut ground(&rt, rt.alloc()));
 }
 
 fn submits(rt: &(impl Abort + Eprint), ground: &mut Ground) {
-    match ground.prepare(4, &P0) {
-        Ok(submission) => {
-            let _ = eprintln!(rt; "set up");
-            assert!(rt; submission.packets() == [&P0[..]].as_slice());
-            ground.commit(submission);
-            equal(rt, &ground.outstanding(), &2);
-        }
-        Err(_) => {
-            let _ = eprintln!(rt; "refused a growth");
-        }
-    }
+    let submission = ground.prepare(4, &P0).expect(rt, "a submission");
+    says_set_up(rt);
+    assert!(rt; submission.packets() == [&P0[..]].as_slice());
+    ground.commit(submission);
+    equal(rt, &ground.outstanding(), &2);
 }
 
-// A spacecraft that has a packet of each service, and one of telemetry.
-fn spacecraft(rt: &impl Abort, alloc: Global) -> Result<Spacecraft, LinkFault> {
-    let config = config();
-    assert!(rt; config.fault().is_none());
-    let mut spacecraft = Spacecraft::new(alloc, &config)?;
-    fills(&mut spacecraft)?;
-    Ok(spacecraft)
+fn new_spacecraft(rt: &impl Abort, alloc: Global) -> Spacecraft {
+    Spacecraft::of(alloc, &valid(rt)).expect(rt, "a spacecraft")
 }
 
-fn fills(spacecraft: &mut Spacecraft) -> Result<(), LinkFault> {
-    let _ = spacecraft.receive(&AD_0)?;
-    let _ = spacecraft.receive(&BD_0)?;
-    match spacecraft.telemetry(&[0x00, 0x05, 0xc0, 0x00, 0x00, 0x00, 0xaa]) {
-        Ok(()) => Ok(()),
-        Err(_) => Err(LinkFault::Memory),
-    }
+// It has a packet of each service, and one of telemetry.
+fn fills(rt: &impl Abort, spacecraft: &mut Spacecraft) {
+    assert!(rt; spacecraft.receive(&AD_0).is_ok());
+    assert!(rt; spacecraft.receive(&BD_0).is_ok());
+    let packet = [0x00, 0x05, 0xc0, 0x00, 0x00, 0x00, 0xaa];
+    assert!(rt; spacecraft.telemetry(&packet).is_ok());
 }
 
 #[test]
 fn a_spacecraft_that_is_made_takes_no_memory(rt: HostRuntime) {
-    match spacecraft(&rt, rt.alloc()) {
-        Ok(mut spacecraft) => calls_spacecraft(&rt, &mut spacecraft),
-        Err(_) => {
-            let _ = eprintln!(rt; "refused a growth");
-        }
-    }
+    let mut spacecraft = new_spacecraft(&rt, rt.alloc());
+    fills(&rt, &mut spacecraft);
+    calls_spacecraft(&rt, &mut spacecraft);
 }
 
 fn calls_spacecraft(rt: &(impl Abort + Eprint), spacecraft: &mut Spacecraft) {
-    let _ = eprintln!(rt; "set up");
+    says_set_up(rt);
     for octets in [&AD_0[..], &AD_1, &BD_NONE, &AD_ON_CHANNEL_3, &UNLOCK, &P0] {
         receives(rt, spacecraft, octets);
     }
@@ -195,42 +173,28 @@ fn reports(rt: &impl Abort, spacecraft: &mut Spacecraft) {
 
 #[test]
 fn an_arrival_committed_takes_no_memory(rt: HostRuntime) {
-    let config = config();
-    assert!(rt; config.fault().is_none());
-    match Spacecraft::new(rt.alloc(), &config) {
-        Ok(mut spacecraft) => arrives(&rt, &mut spacecraft),
-        Err(_) => {
-            let _ = eprintln!(rt; "refused a growth");
-        }
-    }
+    arrives(&rt, &mut new_spacecraft(&rt, rt.alloc()));
 }
 
 fn arrives(rt: &(impl Abort + Eprint), spacecraft: &mut Spacecraft) {
-    match spacecraft.prepare(&AD_0) {
-        Ok(arrival) => {
-            let _ = eprintln!(rt; "set up");
-            let received = spacecraft.commit(arrival);
-            assert!(rt; matches!(received, Received::Sequence { ready: 1, .. }));
-            assert!(rt; spacecraft.take().is_some());
-        }
-        Err(_) => {
-            let _ = eprintln!(rt; "refused a growth");
-        }
-    }
+    let arrival = spacecraft.prepare(&AD_0).expect(rt, "an arrival");
+    says_set_up(rt);
+    let received = spacecraft.commit(arrival);
+    assert!(rt; matches!(received, Received::Sequence { ready: 1, .. }));
+    assert!(rt; spacecraft.take().is_some());
 }
 
 // A link with frames on their way in both directions, of which the first up was accepted before.
-fn link(alloc: Global) -> Result<Sim, SimFault> {
-    let mut sim = Sim::new(alloc, config())?;
-    happen(&mut sim, &ON_THEIR_WAY)?;
-    Ok(sim)
+fn link(rt: &impl Abort, alloc: Global) -> Sim {
+    let mut sim = Sim::new(alloc, config()).expect(rt, "a link");
+    for event in &ON_THEIR_WAY {
+        happens(rt, &mut sim, *event);
+    }
+    sim
 }
 
-fn happen(sim: &mut Sim, events: &[Event<'_>]) -> Result<(), SimFault> {
-    for event in events {
-        let _ = sim.step(*event)?;
-    }
-    Ok(())
+fn happens(rt: &impl Abort, sim: &mut Sim, event: Event<'_>) {
+    assert!(rt; step(sim, event).is_ok());
 }
 
 static ON_THEIR_WAY: [Event<'static>; 14] = [
@@ -272,20 +236,15 @@ static WITHOUT_MEMORY: [Event<'static>; 17] = [
 
 #[test]
 fn events_of_a_link_takes_no_memory(rt: HostRuntime) {
-    match link(rt.alloc()) {
-        Ok(mut sim) => happen_without_memory(&rt, &mut sim),
-        Err(_) => {
-            let _ = eprintln!(rt; "refused a growth");
-        }
-    }
+    happen_without_memory(&rt, &mut link(&rt, rt.alloc()));
 }
 
 fn happen_without_memory(rt: &(impl Abort + Eprint), sim: &mut Sim) {
-    let _ = eprintln!(rt; "set up");
+    says_set_up(rt);
     for event in &WITHOUT_MEMORY {
         assert!(rt; !is_without_memory(sim, *event));
     }
-    equal(rt, &sim.step(Event::Take), &Ok(Reply::Nothing));
+    equal(rt, &step(sim, Event::Take), &Ok(Reply::Nothing));
     has_no_records(rt, sim);
 }
 
@@ -298,7 +257,7 @@ fn has_no_records(rt: &impl Abort, sim: &Sim) {
 }
 
 fn is_without_memory(sim: &mut Sim, event: Event<'_>) -> bool {
-    match sim.step(event) {
+    match step(sim, event) {
         Ok(_) => false,
         Err(fault) => fault == SimFault::Memory,
     }

@@ -18,8 +18,10 @@ fn played(
     if script.len() > 4096 {
         return Err(ScriptFault::Memory);
     }
-    let (mut world, program) = open(alloc, script)?;
-    play(alloc, room, &mut world, &program)
+    match open(alloc, script) {
+        Ok((mut world, program)) => play(alloc, room, &mut world, &program),
+        Err(fault) => Err(fault),
+    }
 }
 
 fn play(

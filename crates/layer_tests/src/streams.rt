@@ -11,7 +11,7 @@ use listings::{
 };
 use octets::{Splitter, remove_front};
 use space_packet::Packets;
-use std::alloc::{AllocError, Global};
+use std::alloc::Global;
 use std::io;
 use std::io::{ErrorKind, Read, Write};
 use std::process::Abort;
@@ -61,10 +61,10 @@ fn is_listed<S: Cutter + Drop, C: Listing<S> + Drop>(
 }
 
 #[test]
-fn each_listing(rt: HostRuntime) -> Result<(), AllocError> {
+fn each_listing(rt: HostRuntime) {
     lists_frames(&rt, rt.alloc());
     lists_data(&rt, rt.alloc());
-    lists_telemetry(&rt, rt.alloc())
+    lists_telemetry(&rt, rt.alloc());
 }
 
 fn lists_frames(rt: &impl Abort, alloc: Global) {
@@ -91,28 +91,25 @@ fn lists_data(rt: &impl Abort, alloc: Global) {
     is_listed(rt, alloc, &DATA[6..], splitter, packets, true, line);
 }
 
-fn lists_telemetry(rt: &impl Abort, alloc: Global) -> Result<(), AllocError> {
-    let frames = TelemetryListing::<Twenty>::new(alloc, 20)?;
+fn lists_telemetry(rt: &impl Abort, alloc: Global) {
+    let frames = TelemetryListing::<Twenty>::new(alloc, 20).expect(rt, "a listing");
     let cutter = FrameCutter::<Twenty>::new(alloc, 20);
     let lines = "1 scid=1 vcid=0 mc=0 vc=0 pointer=0 ocf=01080000 gap=-\n\
                  packet 0005C0000000AA\n";
     is_listed(rt, alloc, &TELEMETRY, cutter, frames, true, lines);
-    Ok(())
 }
 
 #[test]
-fn a_cutter_of_frames(rt: HostRuntime) -> Result<(), TmFault> {
-    let mut cutter = FrameCutter::<Twenty>::new(rt.alloc(), 20);
-    cuts_one(&rt, &mut cutter)
+fn a_cutter_of_frames(rt: HostRuntime) {
+    cuts_one(&rt, &mut FrameCutter::<Twenty>::new(rt.alloc(), 20));
 }
 
-fn cuts_one(rt: &impl Abort, cutter: &mut FrameCutter<Twenty>) -> Result<(), TmFault> {
-    cutter.feed(&TELEMETRY)?;
-    cutter.feed(&UNLOCK)?;
+fn cuts_one(rt: &impl Abort, cutter: &mut FrameCutter<Twenty>) {
+    equal(rt, &cutter.feed(&TELEMETRY), &Ok(()));
+    equal(rt, &cutter.feed(&UNLOCK), &Ok(()));
     assert!(rt; matches!(cutter.next(), Some(Ok(frame)) if frame == TELEMETRY.as_slice()));
     assert!(rt; cutter.next().is_none());
     equal(rt, &cutter.finish(), &Err(TmFault::Length));
-    Ok(())
 }
 
 #[test]
@@ -183,8 +180,8 @@ impl Write for Device {
 
 // What the reader or the writer inside answers is answered: how many octets, or its error.
 #[test]
-fn readers_and_writers_of_std(rt: HostRuntime) -> Result<(), AllocError> {
-    let octets = Vec::from_slice(rt.alloc(), b"unlock")?;
+fn readers_and_writers_of_std(rt: HostRuntime) {
+    let octets = Vec::from_slice(rt.alloc(), b"unlock").expect(&rt, "octets");
     let mut reader = Reader::new(Device {
         octets,
         calls_left: 2,
@@ -197,7 +194,6 @@ fn readers_and_writers_of_std(rt: HostRuntime) -> Result<(), AllocError> {
     };
     writes(&rt, &mut Writer::new(&mut device));
     equal(&rt, &device.octets.as_slice(), &b"unlock".as_slice());
-    Ok(())
 }
 
 fn reads(rt: &impl Abort, reader: &mut Reader<Device>) {
@@ -231,15 +227,14 @@ fn without_note(answer: io::Result<usize>) -> Result<usize, ErrorKind> {
 }
 
 #[test]
-fn texts_of_faults(rt: HostRuntime) -> Result<(), AllocError> {
+fn texts_of_faults(rt: HostRuntime) {
     for (fault, text) in [
         (ListingFault::Read, "read failed"),
         (ListingFault::Write, "write failed"),
         (ListingFault::Memory, "no memory"),
         (ListingFault::TooLong, "input too long"),
     ] {
-        let said = format!(in rt.alloc(); "{fault}")?;
+        let said = format!(in rt.alloc(); "{fault}").expect(&rt, "a text");
         equal(&rt, &said.as_str(), &text);
     }
-    Ok(())
 }
