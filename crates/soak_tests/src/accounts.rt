@@ -97,39 +97,24 @@ fn ground(rt: &(impl Abort + Eprint), alloc: Global, config: &Config, line: &str
 
 #[test]
 fn grounds(rt: HostRuntime) {
-    let mut config = Config {
-        width: 2,
-        window: 1,
-        queue_slots: 1,
-        ..Config::default()
-    };
-    ground(
-        &rt,
-        rt.alloc(),
-        &config,
-        "account Ground::new width 2 queue_slots 1",
-    );
-    config.queue_slots = 2;
-    ground(
-        &rt,
-        rt.alloc(),
-        &config,
-        "account Ground::new width 2 queue_slots 2",
-    );
-    config.queue_slots = 65_535;
-    ground(
-        &rt,
-        rt.alloc(),
-        &config,
-        "account Ground::new width 2 queue_slots 65535",
-    );
-    config.width = 254;
-    ground(
-        &rt,
-        rt.alloc(),
-        &config,
-        "account Ground::new width 254 queue_slots 65535",
-    )
+    for (width, queue_slots, line) in [
+        (2, 1, "account Ground::new width 2 queue_slots 1"),
+        (2, 2, "account Ground::new width 2 queue_slots 2"),
+        (2, 65_535, "account Ground::new width 2 queue_slots 65535"),
+        (
+            254,
+            65_535,
+            "account Ground::new width 254 queue_slots 65535",
+        ),
+    ] {
+        let config = Config {
+            width,
+            window: 1,
+            queue_slots,
+            ..Config::default()
+        };
+        ground(&rt, rt.alloc(), &config, line);
+    }
 }
 
 fn spacecraft(rt: &(impl Abort + Eprint), alloc: Global, config: &Config, line: &str) {
@@ -141,31 +126,26 @@ fn spacecraft(rt: &(impl Abort + Eprint), alloc: Global, config: &Config, line: 
 
 #[test]
 fn spacecrafts(rt: HostRuntime) {
-    let mut config = Config {
-        ready_slots: 1,
-        bypass_slots: 1,
-        ..Config::default()
-    };
-    spacecraft(
-        &rt,
-        rt.alloc(),
-        &config,
-        "account Spacecraft::new ready_slots 1 bypass_slots 1",
-    );
-    config.ready_slots = 64;
-    spacecraft(
-        &rt,
-        rt.alloc(),
-        &config,
-        "account Spacecraft::new ready_slots 64 bypass_slots 1",
-    );
-    config.bypass_slots = 64;
-    spacecraft(
-        &rt,
-        rt.alloc(),
-        &config,
-        "account Spacecraft::new ready_slots 64 bypass_slots 64",
-    )
+    for (ready_slots, bypass_slots, line) in [
+        (1, 1, "account Spacecraft::new ready_slots 1 bypass_slots 1"),
+        (
+            64,
+            1,
+            "account Spacecraft::new ready_slots 64 bypass_slots 1",
+        ),
+        (
+            64,
+            64,
+            "account Spacecraft::new ready_slots 64 bypass_slots 64",
+        ),
+    ] {
+        let config = Config {
+            ready_slots,
+            bypass_slots,
+            ..Config::default()
+        };
+        spacecraft(&rt, rt.alloc(), &config, line);
+    }
 }
 
 #[test]

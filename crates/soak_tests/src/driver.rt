@@ -1,7 +1,6 @@
 // A simulated link with ample memory. No function here says what it does: so the proof of a test has nothing of
 // the link's state in it, and the run compares what is answered.
 
-use crate::packets::command;
 use cop1::{Directive, FopMode};
 use std::alloc::Global;
 use std::process::Abort;
@@ -65,30 +64,9 @@ impl Link {
         assert!(rt; is_kept);
     }
 
-    /// Submits a packet of this size.
-    pub fn submits_command(
-        &mut self,
-        rt: &impl Abort,
-        alloc: Global,
-        map: u8,
-        size: usize,
-        count: usize,
-    ) {
-        let octets = command(rt, alloc, size, count);
-        self.submits(rt, map, octets.as_slice());
-    }
-
-    /// Gives a packet of this size past the sequence control.
-    pub fn bypasses_command(
-        &mut self,
-        rt: &impl Abort,
-        alloc: Global,
-        map: u8,
-        size: usize,
-        count: usize,
-    ) {
-        let octets = command(rt, alloc, size, count);
-        self.does(rt, Event::Bypass(map, octets.as_slice()));
+    /// Gives a packet past the sequence control.
+    pub fn bypasses(&mut self, rt: &impl Abort, map: u8, octets: &[u8]) {
+        self.does(rt, Event::Bypass(map, octets));
     }
 
     /// The ground sends at most this number of frames; the number of those that it sent.
@@ -147,18 +125,10 @@ impl Link {
         MOST
     }
 
-    /// Takes a packet of this size, which went past the sequence control.
-    pub fn takes_bypass_command(
-        &mut self,
-        rt: &impl Abort,
-        alloc: Global,
-        map: u8,
-        size: usize,
-        count: usize,
-    ) {
-        let octets = command(rt, alloc, size, count);
+    /// Takes this packet, which went past the sequence control.
+    pub fn takes_bypass(&mut self, rt: &impl Abort, map: u8, octets: &[u8]) {
         let reply = self.meets(rt, Event::TakeBypass);
-        assert!(rt; is_packet(&reply, map, octets.as_slice()));
+        assert!(rt; is_packet(&reply, map, octets));
     }
 
     // Sends what may be sent, and takes it on board; the report comes down.

@@ -27,7 +27,7 @@ fn carries(rt: &impl Abort, alloc: Global, config: Config, size: usize, number: 
     let mut link = Link::new(rt, alloc, config);
     link.opens(rt, Directive::InitWithCheck);
     for count in 0..number {
-        link.submits_command(rt, alloc, map_of(count), size, count);
+        link.submits(rt, map_of(count), &command(rt, alloc, size, count));
     }
     link.carries(rt);
     assert_eq!(rt; link.sim().submissions().len(), number);
@@ -43,7 +43,7 @@ fn submissions_one_at_a_time(rt: HostRuntime) {
     let mut link = Link::new(&rt, rt.alloc(), config());
     link.opens(&rt, Directive::InitWithoutCheck);
     for count in 0..1000 {
-        link.submits_command(&rt, rt.alloc(), 4, 7, count);
+        link.submits(&rt, 4, &command(&rt, rt.alloc(), 7, count));
         link.carries(&rt);
     }
 }
@@ -176,7 +176,7 @@ fn initiations(rt: HostRuntime) {
 
 fn initiates(rt: &impl Abort, alloc: Global, link: &mut Link, directive: Directive) {
     link.opens(rt, directive);
-    link.submits_command(rt, alloc, 4, 20, 0);
+    link.submits(rt, 4, &command(rt, alloc, 20, 0));
     link.carries(rt);
     assert_eq!(rt; link.sim().begun(), Some(directive));
     link.happens(rt, Event::Directive(Directive::Terminate));
@@ -197,8 +197,8 @@ fn frames_on_their_way(rt: HostRuntime) {
 fn fills_the_way(rt: &impl Abort, alloc: Global, link: &mut Link) {
     link.opens(rt, Directive::InitWithoutCheck);
     for count in 0..200 {
-        link.submits_command(rt, alloc, 0, 100, count);
-        link.bypasses_command(rt, alloc, 63, 100, count);
+        link.submits(rt, 0, &command(rt, alloc, 100, count));
+        link.bypasses(rt, 63, &command(rt, alloc, 100, count));
     }
     assert_eq!(rt; link.sends(rt, 500), 327);
     for _ in 0..200 {
@@ -217,7 +217,7 @@ fn brings(rt: &impl Abort, alloc: Global, link: &mut Link, state: FopMode) {
         FopMode::S6 => {}
         FopMode::S1 | FopMode::S2 | FopMode::S3 => {
             link.opens(rt, Directive::InitUnlock);
-            link.submits_command(rt, alloc, 4, 7, 0);
+            link.submits(rt, 4, &command(rt, alloc, 7, 0));
         }
     }
     if matches!(state, FopMode::S2 | FopMode::S3) {
@@ -232,7 +232,7 @@ fn brings(rt: &impl Abort, alloc: Global, link: &mut Link, state: FopMode) {
 // Two frames are sent, of which the first may be lost, so that the report asks for it again. Where none is, the one
 // buffer on board is full, so that the report asks to wait.
 fn loses(rt: &impl Abort, alloc: Global, link: &mut Link, is_lost: bool) {
-    link.submits_command(rt, alloc, 4, 7, 0);
+    link.submits(rt, 4, &command(rt, alloc, 7, 0));
     let _ = link.sends(rt, 2);
     if is_lost {
         link.happens(rt, Event::UpLose);
@@ -245,19 +245,13 @@ fn loses(rt: &impl Abort, alloc: Global, link: &mut Link, is_lost: bool) {
 // Packets past the sequence control in each state, of each size that a segment may have, and more than four on board.
 #[test]
 fn bypass_in_each_state(rt: HostRuntime) {
+    use FopMode::{S1, S2, S3, S4, S5, S6};
     let config = Config {
         bypass_slots: 64,
         ready_slots: 1,
         ..config()
     };
-    for state in [
-        FopMode::S1,
-        FopMode::S2,
-        FopMode::S3,
-        FopMode::S4,
-        FopMode::S5,
-        FopMode::S6,
-    ] {
+    for state in [S1, S2, S3, S4, S5, S6] {
         bypasses_in(&rt, rt.alloc(), config, state);
     }
 }
@@ -268,12 +262,12 @@ fn bypasses_in(rt: &impl Abort, alloc: Global, config: Config, state: FopMode) {
     let mut link = Link::new(rt, alloc, config);
     brings(rt, alloc, &mut link, state);
     for size in SIZES {
-        link.bypasses_command(rt, alloc, 63, size, size);
+        link.bypasses(rt, 63, &command(rt, alloc, size, size));
     }
     let _ = link.sends(rt, 100);
     let _ = link.arrives(rt);
     for size in SIZES {
-        link.takes_bypass_command(rt, alloc, 63, size, size);
+        link.takes_bypass(rt, 63, &command(rt, alloc, size, size));
     }
 }
 
@@ -283,7 +277,7 @@ fn packets_that_are_ready(rt: HostRuntime) {
     let mut link = Link::new(&rt, rt.alloc(), config());
     link.opens(&rt, Directive::InitSetVr(200));
     for count in 0..64 {
-        link.submits_command(&rt, rt.alloc(), 0, 600, count);
+        link.submits(&rt, 0, &command(&rt, rt.alloc(), 600, count));
     }
     assert_eq!(rt; link.sends(&rt, 100), 64);
     assert_eq!(rt; link.arrives(&rt), 64);
