@@ -125,7 +125,5 @@ module _ {H K : Holding} (k : Keeps H K) (room : ℕ) (b : K.Bypass) where
       begins = λ d is off. began d;
       terminated = so none;
       numbers = λ x off. so h;
-      windows = λ k small. so h;
-      limits = λ n. so h;
-      times = λ n. so h;
+      sets = λ d k n ticks plain most. so h;
     }) d

@@ -1,5 +1,6 @@
 -- What a directive may do at the sender.
-use Rattle.std.proofs.Common.{◌≡◌, ◌≢◌, ℕ, true, false, Result, Option, refl}
+use Rattle.std.proofs.Common.{◌≡◌, ◌≢◌, ◌≤◌, ℕ, true, false, Result, Option, refl, arith}
+use Rattle.std.proofs.lemmas.Bool.{ltb-false, or_parts}
 use Rattle.std.specs.Prelude.{nat_lt, ◌==◌, ◌||◌}
 use Rattle.tc_frame.specs.declared.frame.Command.TheVariants.{Unlock, SetVr}
 use Rattle.cop1.specs.declared.fault.CopFault.{CopFault}
@@ -36,10 +37,11 @@ pub record AtEachDirective {H K : Holding} (s : SenderOf H) (t : SenderOf K) (P 
     pub terminated : P Terminate (terminates s) (terminates t)
     pub numbers : (x : ℕ) → s.state ≡ S6
         → P (SetVs x) (obeys (record s { vs = x; nn = x })) (obeys (record t { vs = x; nn = x }))
-    pub windows : (k : ℕ) → ((k == 0) || nat_lt s.room k) ≡ false
-        → P (SetWindow k) (obeys (record s { window = k })) (obeys (record t { window = k }))
-    pub limits : (n : ℕ) → P (SetLimit n) (obeys (record s { limit = n })) (obeys (record t { limit = n }))
-    pub times : (n : ℕ) → P (SetTimer n) (obeys (record s { timer = n })) (obeys (record t { timer = n }))
+    -- the window, the limit and the timer are set, the window to no more than it was or its room is
+    pub sets : (d : Directive) (k n ticks : ℕ) → is_initiation d ≡ false
+        → ((most : ℕ) → s.window ≤ most → s.room ≤ most → k ≤ most)
+        → P d (obeys (record s { window = k; limit = n; timer = ticks }))
+        (obeys (record t { window = k; limit = n; timer = ticks }))
 
 module _ {H K : Holding} (s : SenderOf H) (w : K.Waiting) (q : K.Sent) (b : K.Bypass) (P : Directive
     → OutcomeOf H (Result (Option Alert) CopFault) → OutcomeOf K (Result (Option Alert) CopFault) → Type 0)
@@ -65,11 +67,14 @@ module _ {H K : Holding} (s : SenderOf H) (w : K.Waiting) (q : K.Sent) (b : K.By
   obeyed_both (SetVs x) = from (SetVs x) s.state refl (each.numbers x)
   obeyed_both (SetWindow k) =
       when (P (SetWindow k)) ((k == 0) || nat_lt s.room k) (λ t. each.refused (SetWindow k) Window (λ t. absurd cc))
-      (λ t. each.windows k t)
+      (λ small. each.sets (SetWindow k) k s.limit s.timer refl (λ most window room.
+      omega (arith, ltb-false s.room k (or_parts (k == 0) (nat_lt s.room k) small).1, room)))
   obeyed_both (SetLimit n) =
-      when (P (SetLimit n)) (n == 0) (λ t. each.refused (SetLimit n) Limit (λ t. absurd cc)) (λ t. each.limits n)
+      when (P (SetLimit n)) (n == 0) (λ t. each.refused (SetLimit n) Limit (λ t. absurd cc))
+      (λ t. each.sets (SetLimit n) s.window n s.timer refl (λ most window room. window))
   obeyed_both (SetTimer n) =
-      when (P (SetTimer n)) (n == 0) (λ t. each.refused (SetTimer n) Timer (λ t. absurd cc)) (λ t. each.times n)
+      when (P (SetTimer n)) (n == 0) (λ t. each.refused (SetTimer n) Timer (λ t. absurd cc))
+      (λ t. each.sets (SetTimer n) s.window s.limit n refl (λ most window room. window))
 
 -- at one sender of units
 pub obeyed : {U : Type 0} (s : FopState U) (P : Directive → FopOutcome U (Result (Option Alert) CopFault) → Type 0)

@@ -17,7 +17,5 @@ module _ {U : Type 0} (s : FopState U) where
     begins = λ d begins is. tt;
     terminated = tt;
     numbers = λ x is. tt;
-    windows = λ k is. tt;
-    limits = λ n. tt;
-    times = λ n. tt;
+    sets = λ d k n ticks plain most. tt;
   })

@@ -57,9 +57,7 @@ module _ (f : FopState SegmentView) where
     begins = λ d is off. omega (arith, ap length (begun_sent d is));
     terminated = omega arith;
     numbers = λ x off. omega arith;
-    windows = λ k small. omega arith;
-    limits = λ n. omega arith;
-    times = λ n. omega arith;
+    sets = λ d k n ticks plain most. omega arith;
   })
 
 -- ---- a pull: the queue gains at most the unit that is first sent

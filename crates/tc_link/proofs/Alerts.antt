@@ -92,9 +92,7 @@ module _ (s : FopState SegmentView) where
     begins = λ d begins off alert is. absurd cc;
     terminated = λ alert is. let only : alert ≡ Terminated = only_some Terminated alert is in rw only refl;
     numbers = λ x off alert is. absurd cc;
-    windows = λ k small alert is. absurd cc;
-    limits = λ n alert is. absurd cc;
-    times = λ n alert is. absurd cc;
+    sets = λ d k n ticks plain most alert is. absurd cc;
   })
 
 -- ---- a report

@@ -159,7 +159,5 @@ module _ (c : Config) (w : World) (k : Sound c w) (t : HasReports c w.down) wher
     begins = λ d is off same fits closed start. begun_idle off d is fits start;
     terminated = λ is fits off start. absurd cc;
     numbers = λ x so is fits off start. absurd cc;
-    windows = λ n small is fits off start. absurd cc;
-    limits = λ n is fits off start. absurd cc;
-    times = λ n is fits off start. absurd cc;
+    sets = λ d k n ticks plain most is fits off start. absurd cc;
   })

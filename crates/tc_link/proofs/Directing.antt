@@ -60,7 +60,6 @@ module _ (early : Bool) (c : Config) (d : Directive) (base : ℕ) (w : World) (g
         terminated = λ fits goes. off_keeps early c d base w g (after_alert s) refl g.linked.nn_octet (λ fits. tt) kept;
         numbers = λ x is fits goes. off_keeps early c d base w g (record s { vs = x; nn = x }) is fits (λ so. so)
             (inr refl);
-        windows = λ k small fits goes. same (record s { window = k }) refl refl refl refl refl refl;
-        limits = λ n fits goes. same (record s { limit = n }) refl refl refl refl refl refl;
-        times = λ n fits goes. same (record s { timer = n }) refl refl refl refl refl refl;
+        sets = λ e k n ticks plain most fits goes. rw plain
+            (same (record s { window = k; limit = n; timer = ticks }) refl refl refl refl refl refl);
       })

@@ -156,12 +156,9 @@ module _ (c : Config) (s : GroundState) (g : GroundNodeSteady c s) (k : GroundFi
     terminated = with_fits s (after_alert s.fop) (off s.fop s.pending k (after_alert s.fop) refl);
     numbers = λ x is. with_fits s (record s.fop { vs = x; nn = x })
         (as_was s.fop s.pending k (record s.fop { vs = x; nn = x }) refl refl refl);
-    windows = λ n small. with_fits s (record s.fop { window = n })
-        (as_was s.fop s.pending k (record s.fop { window = n }) refl refl refl);
-    limits = λ n. with_fits s (record s.fop { limit = n })
-        (as_was s.fop s.pending k (record s.fop { limit = n }) refl refl refl);
-    times = λ n. with_fits s (record s.fop { timer = n })
-        (as_was s.fop s.pending k (record s.fop { timer = n }) refl refl refl);
+    sets = λ d n limit ticks plain most.
+        let f : FopState SegmentView = record s.fop { window = n; limit = limit; timer = ticks } in
+        with_fits s f (as_was s.fop s.pending k f refl refl refl);
   })
 
   pub tick_settled : GroundFits (with_fop s (tick_step s.fop).after)

@@ -55,9 +55,7 @@ module _ (w : World) where
     begins = λ d is off goes. closed_not w.ground_node.fop.state off (goes is);
     terminated = λ goes. refl;
     numbers = λ x is goes. refl;
-    windows = λ k small goes. refl;
-    limits = λ n goes. refl;
-    times = λ n goes. refl;
+    sets = λ d k n ticks plain most goes. rw plain refl;
   })
 
   pub session_stays : (e : Event) → BeginsNoSession w e → StaysOpen (world_step w e)
@@ -84,9 +82,7 @@ module _ (w : World) where
     begins = λ d is off so closed. rw is refl;
     terminated = λ is off. absurd cc;
     numbers = λ x same is off. absurd cc;
-    windows = λ k small is off. absurd cc;
-    limits = λ n is off. absurd cc;
-    times = λ n is off. absurd cc;
+    sets = λ d k n ticks plain most is off. absurd cc;
   })
 
 -- ---- such a session stays so

@@ -1,7 +1,7 @@
 -- What holds of the world at every moment, in any session.
 use Rattle.tc_link.proofs.Common.{◌≡◌, ℕ, ◌-◌, ◌/◌, ◌∙◌, ◌<◌, ◌≤◌, Bool, true, false, List, [], ◌∷◌, ◌++◌, length}
-use Rattle.tc_link.proofs.Common.{Option, Some, None, Result, Ok, Err, refl, arith, length-append, ◌==◌, ◌||◌, nat_lt}
-use Rattle.tc_link.proofs.Common.{AllByRecursion, cond_both, ltb-false, eqb-false, or_parts, TcFault, On, SegmentView}
+use Rattle.tc_link.proofs.Common.{Option, Some, None, Result, Ok, Err, refl, arith, length-append, ◌==◌, nat_lt}
+use Rattle.tc_link.proofs.Common.{AllByRecursion, cond_both, eqb-false, TcFault, On, SegmentView}
 use Rattle.tc_link.proofs.Common.{BodyView, Ad, Bd, Bc, CopFault, Verdict, Accepted, Alert, Idle, Directive}
 use Rattle.tc_link.proofs.Common.{InitWithoutCheck, InitWithCheck, InitUnlock, InitSetVr, S6, FarmState, FarmEvent}
 use Rattle.tc_link.proofs.Common.{AdArrives, BdArrives, BufferReleased, farm_step, verdict_of, directive_step}
@@ -24,7 +24,7 @@ use Rattle.nodes.specs.Spacecraft.{command_event}
 use Rattle.nodes.proofs.Submitting.{bypass_fits}
 use Rattle.simulated_link.proofs.Reported.{frame_seen}
 use Rattle.tc_link.proofs.SteadyNodes.{settled_so, farm_so, report_so}
-use Rattle.tc_link.proofs.SteadyNodes.{tick_so, pull_so, gives_up, goes_same, steady_so}
+use Rattle.tc_link.proofs.SteadyNodes.{tick_so, pull_so, gives_up, steady_so}
 use Rattle.tc_link.proofs.Sound.{Commanded, FopSteady, GroundNodeSteady, SpacecraftSteady, Sound}
 use Rattle.tc_link.proofs.Submitting.{all_push}
 use Rattle.simulated_link.proofs.Leaving.{AtEachLoss, lost, pulled, up_arrives, down_arrives}
@@ -140,11 +140,9 @@ module _ (c : Config) (s : GroundState) (k : GroundNodeSteady c s) where
   set_vs_so : (x : ℕ) → x < 256 → FopSteady c (record s.fop { vs = x; nn = x })
   set_vs_so x lt = assumption (lt, k.fop)
 
-  set_window_so : (n : ℕ) → ((n == 0) || nat_lt s.fop.room n) ≡ false → FopSteady c (record s.fop { window = n })
-  set_window_so n small =
-      let most : n ≤ s.fop.room = ltb-false s.fop.room n (or_parts (n == 0) (nat_lt s.fop.room n) small).1 in
-      let window : n ≤ c.width / 2 = omega (arith, most, k.fop.room) in
-      assumption (window, k.fop)
+  sets_so : (n limit ticks : ℕ) → n ≤ c.width / 2
+      → FopSteady c (record s.fop { window = n; limit = limit; timer = ticks })
+  sets_so n limit ticks window = assumption (window, k.fop)
 
   begun_so : (d : Directive) → is_initiation d ≡ true → IsDirective d → s.fop.state ≡ S6 → FopSteady c (begun s.fop d)
   begun_so InitWithoutCheck is fits off =
@@ -165,11 +163,8 @@ module _ (c : Config) (s : GroundState) (k : GroundNodeSteady c s) where
     begins = λ d is off fits. with_so (begun s.fop d) (begun_so d is fits off);
     terminated = λ fits. with_so (after_alert s.fop) (gives_up c s.fop k.fop s.fop refl refl refl refl);
     numbers = λ x is fits. with_so (record s.fop { vs = x; nn = x }) (set_vs_so x fits);
-    windows = λ n small fits. with_so (record s.fop { window = n }) (set_window_so n small);
-    limits = λ n fits. with_so (record s.fop { limit = n })
-        (goes_same c s.fop k.fop (record s.fop { limit = n }) refl refl refl refl refl refl);
-    times = λ n fits. with_so (record s.fop { timer = n })
-        (goes_same c s.fop k.fop (record s.fop { timer = n }) refl refl refl refl refl refl);
+    sets = λ d n limit ticks plain most fits. with_so (record s.fop { window = n; limit = limit; timer = ticks })
+        (sets_so n limit ticks (most (c.width / 2) k.fop.window (omega (arith, k.fop.room))));
   })
 
   submitted_so : (m : ℕ) (octets : List ℕ) (o : Option LinkFault)
