@@ -2,6 +2,27 @@
 //! another library but `memcpy`, `memmove` and `memset`.
 #![tactic(auto)]
 
+// What a call makes of the receiver or the sender that the fields describe, and its answer; the fields describe it again
+// afterwards.
+macro_rules! step {
+    ($fields:ident, |$machine:ident| $call:expr) => {
+        match described($fields) {
+            Ok(mut $machine) => {
+                let answer = $call;
+                *$fields = kept(&$machine);
+                answer
+            }
+            Err(number) => number,
+        }
+    };
+    ($fields:ident, |$machine:ident| $event:expr, $answer:expr) => {
+        step!($fields, |$machine| {
+            $event;
+            $answer
+        })
+    };
+}
+
 mod assembly;
 mod checking;
 mod command_frame;

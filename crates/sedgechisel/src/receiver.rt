@@ -1,11 +1,11 @@
 // The receiver, FARM-1, whose state the caller keeps.
 
-ghost use Rattle.std.specs.Prelude.{◌≡◌, ◌↔◌, IsTrue, IfSome, IsSome};
+ghost use Rattle.std.specs.Prelude.{◌≡◌};
 ghost use Rattle.cop1.specs.Farm.{AdArrives, BdArrives, UnlockArrives, SetVrArrives, BufferReleased, verdict_of, new_farm};
 ghost use Rattle.octets.specs.Outcome.{map_ok};
 ghost use Rattle.sedgechisel.specs.Answers.{status_of, left_by};
 ghost use Rattle.sedgechisel.specs.ControlWords.{fields_of};
-ghost use Rattle.sedgechisel.specs.Receivers.{is_whole, farm_of, receiver_of, farm_described, farm_opened, farm_stepped, farm_report, answer_of, verdict_number, mode_number, flag_number};
+ghost use Rattle.sedgechisel.specs.Receivers.{receiver_of, farm_described, farm_opened, farm_stepped, IsStepped, farm_report, answer_of, verdict_number, mode_number, flag_number};
 
 use crate::control_word::{ControlWord, fields_from};
 use crate::numbers::DAMAGED;
@@ -49,7 +49,7 @@ pub extern "C" fn sedge_farm_ad(receiver: &mut Receiver, n: u8, buffer_free: boo
         ≡ left_by receiver_of (farm_stepped receiver.old (AdArrives n buffer_free)) receiver.old }
 {
     match described(receiver) {
-        Some(mut farm) => {
+        Ok(mut farm) => {
             let verdict = farm.ad(n, buffer_free);
             match verdict {
                 Verdict::Accepted => {
@@ -66,68 +66,40 @@ pub extern "C" fn sedge_farm_ad(receiver: &mut Receiver, n: u8, buffer_free: boo
             }
             number_of_verdict(verdict)
         }
-        None => DAMAGED,
+        Err(number) => number,
     }
 }
 
 /// A Type-BD frame has come.
 #[unsafe(no_mangle)]
 pub extern "C" fn sedge_farm_bd(receiver: &mut Receiver) -> u8
-    ensures answer { result ≡ status_of (farm_described receiver.old) }
-    ensures receiver { receiver.new
-        ≡ left_by receiver_of (farm_stepped receiver.old BdArrives) receiver.old }
+    ensures { IsStepped BdArrives receiver.old receiver.new result }
 {
-    let Some(mut farm) = described(receiver) else {
-        return DAMAGED;
-    };
-    farm.bd();
-    *receiver = kept(&farm);
-    0
+    step!(receiver, |farm| farm.bd(), 0)
 }
 
 /// The control command Unlock has come.
 #[unsafe(no_mangle)]
 pub extern "C" fn sedge_farm_unlock(receiver: &mut Receiver) -> u8
-    ensures answer { result ≡ status_of (farm_described receiver.old) }
-    ensures receiver { receiver.new
-        ≡ left_by receiver_of (farm_stepped receiver.old UnlockArrives) receiver.old }
+    ensures { IsStepped UnlockArrives receiver.old receiver.new result }
 {
-    let Some(mut farm) = described(receiver) else {
-        return DAMAGED;
-    };
-    farm.unlock();
-    *receiver = kept(&farm);
-    0
+    step!(receiver, |farm| farm.unlock(), 0)
 }
 
 /// The control command Set V(R) has come.
 #[unsafe(no_mangle)]
 pub extern "C" fn sedge_farm_set_vr(receiver: &mut Receiver, vr: u8) -> u8
-    ensures answer { result ≡ status_of (farm_described receiver.old) }
-    ensures receiver { receiver.new
-        ≡ left_by receiver_of (farm_stepped receiver.old (SetVrArrives vr)) receiver.old }
+    ensures { IsStepped (SetVrArrives vr) receiver.old receiver.new result }
 {
-    let Some(mut farm) = described(receiver) else {
-        return DAMAGED;
-    };
-    farm.set_vr(vr);
-    *receiver = kept(&farm);
-    0
+    step!(receiver, |farm| farm.set_vr(vr), 0)
 }
 
 /// There is room on board again.
 #[unsafe(no_mangle)]
 pub extern "C" fn sedge_farm_released(receiver: &mut Receiver) -> u8
-    ensures answer { result ≡ status_of (farm_described receiver.old) }
-    ensures receiver { receiver.new
-        ≡ left_by receiver_of (farm_stepped receiver.old BufferReleased) receiver.old }
+    ensures { IsStepped BufferReleased receiver.old receiver.new result }
 {
-    let Some(mut farm) = described(receiver) else {
-        return DAMAGED;
-    };
-    farm.released();
-    *receiver = kept(&farm);
-    0
+    step!(receiver, |farm| farm.released(), 0)
 }
 
 /// What the receiver reports for the virtual channel `vcid` (CCSDS 232.0-B-4, 4.2). Answers 0, or 255 where the
@@ -137,7 +109,7 @@ pub extern "C" fn sedge_farm_report(receiver: &Receiver, vcid: u8, word: &mut Co
     ensures answer { result ≡ status_of (farm_report receiver.now vcid) }
     ensures word { word.new ≡ left_by fields_of (farm_report receiver.now vcid) word.old }
 {
-    let Some(farm) = described(receiver) else {
+    let Ok(farm) = described(receiver) else {
         return DAMAGED;
     };
     if vcid >= 64 {
@@ -153,8 +125,8 @@ pub extern "C" fn sedge_farm_state(receiver: &Receiver) -> u8
     ensures { result ≡ answer_of mode_number (map_ok (λ s. s.state) (farm_described receiver.now)) }
 {
     match described(receiver) {
-        Some(farm) => number_of_mode(farm.state()),
-        None => DAMAGED,
+        Ok(farm) => number_of_mode(farm.state()),
+        Err(number) => number,
     }
 }
 
@@ -196,12 +168,11 @@ fn kept(farm: &Farm) -> Receiver
 
 // The receiver that the fields describe, unless they are damaged.
 #[inline(always)]
-fn described(fields: &Receiver) -> Option<Farm>
-    ensures whole { IsSome result ↔ IsTrue (is_whole fields.now) }
-    ensures farm { IfSome result (λ f. f ≡ farm_of fields.now) }
+fn described(fields: &Receiver) -> Result<Farm, u8>
+    ensures { result ≡ farm_described fields.now }
 {
     if fields.lockout > 1 || fields.wait > 1 || fields.retransmit > 1 {
-        return None;
+        return Err(DAMAGED);
     }
     let restored = Farm::restore(FarmFields {
         width: fields.width,
@@ -212,7 +183,7 @@ fn described(fields: &Receiver) -> Option<Farm>
         farm_b: fields.farm_b,
     });
     match restored {
-        Ok(farm) => Some(farm),
-        Err(_) => None,
+        Ok(farm) => Ok(farm),
+        Err(_) => Err(DAMAGED),
     }
 }

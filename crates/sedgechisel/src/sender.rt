@@ -87,15 +87,11 @@ pub extern "C" fn sedge_fop_next(sender: &mut KeptSender, number: &mut u8) -> u8
     ensures sender { sender.new ≡ left_by kept_of (after_step sender.old Next) sender.old }
     ensures describes { AreDescribed sender.new (after_step sender.old Next) }
 {
-    match described(sender) {
-        Ok(mut machine) => {
-            let next = machine.next();
-            *sender = kept(&machine);
-            *number = number_with(next);
-            number_of_next(next)
-        }
-        Err(number) => number,
-    }
+    step!(sender, |machine| {
+        let next = machine.next();
+        *number = number_with(next);
+        number_of_next(next)
+    })
 }
 
 /// A control word has come, and the sender is that of the virtual channel `vcid`. Answers the alert's number, 0 for none,
@@ -119,15 +115,11 @@ pub extern "C" fn sedge_fop_report(
     if word.vcid != vcid {
         return ABSENT;
     }
-    match described(sender) {
-        Ok(mut machine) => {
-            let answer = machine.report(&word_from(word));
-            *sender = kept(&machine);
-            *released = answer.released;
-            number_of_alert(answer.alert)
-        }
-        Err(number) => number,
-    }
+    step!(sender, |machine| {
+        let answer = machine.report(&word_from(word));
+        *released = answer.released;
+        number_of_alert(answer.alert)
+    })
 }
 
 /// A tick of the clock has passed. Answers the alert's number, 0 for none; or 255 where the sender is damaged.
@@ -137,14 +129,7 @@ pub extern "C" fn sedge_fop_tick(sender: &mut KeptSender) -> u8
     ensures sender { sender.new ≡ left_by kept_of (after_step sender.old Tick) sender.old }
     ensures describes { AreDescribed sender.new (after_step sender.old Tick) }
 {
-    match described(sender) {
-        Ok(mut machine) => {
-            let alert = machine.tick();
-            *sender = kept(&machine);
-            number_of_alert(alert)
-        }
-        Err(number) => number,
-    }
+    step!(sender, |machine| number_of_alert(machine.tick()))
 }
 
 fn number_of_alert(alert: Option<Alert>) -> u8
