@@ -156,17 +156,14 @@ fn no_packets(dropped: Option<Dropped>) -> TakenSegment
     }
 }
 
+// ClosedMap is 1.
 fn number_of(dropped: Option<Dropped>) -> u8
     ensures cause { cause_at result ≡ dropped }
     ensures number { IsCauseNumber result }
 {
     match dropped {
         None => 0,
-        Some(Dropped::ClosedMap) => 1,
-        Some(Dropped::Interrupted) => 2,
-        Some(Dropped::NoBeginning) => 3,
-        Some(Dropped::NotAPacket) => 4,
-        Some(Dropped::TooLong) => 5,
+        Some(cause) => cause as u8 + 1,
     }
 }
 

@@ -132,18 +132,13 @@ pub extern "C" fn sedge_fop_tick(sender: &mut KeptSender) -> u8
     step!(sender, |machine| number_of_alert(machine.tick()))
 }
 
+// Lockout is 1.
 fn number_of_alert(alert: Option<Alert>) -> u8
     ensures { result ≡ alert_answer alert }
 {
     match alert {
         None => 0,
-        Some(Alert::Lockout) => 1,
-        Some(Alert::NnR) => 2,
-        Some(Alert::Clcw) => 3,
-        Some(Alert::Synch) => 4,
-        Some(Alert::Limit) => 5,
-        Some(Alert::Timer) => 6,
-        Some(Alert::Terminated) => 7,
+        Some(alert) => alert as u8 + 1,
     }
 }
 

@@ -100,17 +100,11 @@ fn mode_from(number: u8) -> Option<FopMode>
     }
 }
 
+// S1 is 1.
 fn number_of_mode(mode: FopMode) -> u8
     ensures { result ≡ mode_number mode }
 {
-    match mode {
-        FopMode::S1 => 1,
-        FopMode::S2 => 2,
-        FopMode::S3 => 3,
-        FopMode::S4 => 4,
-        FopMode::S5 => 5,
-        FopMode::S6 => 6,
-    }
+    mode as u8 + 1
 }
 
 fn flag_from(number: u8) -> Option<bool>
