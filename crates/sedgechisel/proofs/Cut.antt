@@ -1,14 +1,14 @@
 -- Part k of a packet stands at place k times the size of a part.
 use Rattle.std.proofs.Common.{◌≡◌, ◌≤◌, ◌<◌, ℕ, zero, suc, ◌+◌, ◌-◌, ◌*◌, ◌/◌, ◌++◌, List, [], ◌∷◌, length, take, drop}
-use Rattle.std.proofs.Common.{min, false, Some, refl, sym, ap, ◌∙◌, arith, length-append}
+use Rattle.std.proofs.Common.{min, Bool, true, false, Some, refl, sym, ap, ◌∙◌, arith, length-append}
 use Rattle.std.proofs.Common.{length-drop, length-take, inl, inr}
-use Rattle.std.specs.Prelude.{◌==◌, nat_le, slice_get}
-use Rattle.std.proofs.lemmas.Bool.{cases_lt, le-leb, lt-leb, ne_eqb}
+use Rattle.std.specs.Prelude.{◌&&◌, ◌==◌, nat_le, slice_get}
+use Rattle.std.proofs.lemmas.Bool.{and_right, cases_lt, le-leb, lt-leb, ne_eqb}
 use Rattle.std.proofs.lemmas.List.{drop-drop, drop-take, map-append, take_all, take_min, take-append-le, take-take}
 use Rattle.std.proofs.lemmas.List.Folds.{concat-append}
+use Rattle.std.proofs.Math.Bool.{and-true}
 use Rattle.std.proofs.Math.Nat.{le-div_iff_mul-le}
 use Rattle.std.proofs.Math.Seq.{take-append-add}
-use Rattle.tc_frame.specs.declared.frame.SegmentFlags.TheVariants.{Last, Alone}
 use Rattle.tc_frame.specs.Layout.{SegmentView}
 use Rattle.std.specs.List.{concat}
 use Rattle.map_service.specs.Cutting.{pieces_of, segment_with, later_segments, parts_of, first_group, segments_of}
@@ -28,43 +28,44 @@ times_suc k part = omega arith
 behind : (t part : ℕ) (xs : List ℕ) → drop t (drop part xs) ≡ drop (part + t) xs
 behind t part xs = drop-drop t part xs
 
--- part k of those after the first, and of all
-later_at : (k part m : ℕ) (xs : List ℕ) → 1 ≤ part → k * part < length xs
-    → slice_get (later_segments m (pieces_of part xs)) k
-    ≡ Some (segment_with (flags_for false (nat_le (length xs - k * part) part)) m (take part (drop (k * part) xs)))
-later_at zero part m xs one there =
-    let start : zero * part ≡ 0 = omega arith in
-    let all : length xs - 0 ≡ length xs = omega arith in
-    elim (cases_lt part (length xs)) [
-      | inl lt ↦ rw (start, all, later_segments-more m part xs one lt, lt-leb (length xs) part lt) refl
-      | inr ge ↦ rw (start, all, later_segments-last m part xs (omega arith) ge, le-leb (length xs) part ge)
-          (ap (λ (p : List ℕ). Some (segment_with Last m p)) (sym (take_all part xs ge)))
-    ]
-later_at (suc k) part m xs one there =
-    let size = length-drop part xs in
-    let step = times_suc k part in
-    let left : length xs - (part + k * part) ≡ length (drop part xs) - k * part = omega arith in
-    rw (later_segments-more m part xs one (omega arith), step, left, sym (behind (k * part) part xs))
-    (later_at k part m (drop part xs) one (omega arith))
+-- the segments of what a packet has from its first segment on, or from a later one
+abbrev segments_from : Bool → ℕ → ℕ → List ℕ → List SegmentView
+segments_from true part m xs = parts_of part m xs
+segments_from false part m xs = later_segments m (pieces_of part xs)
 
-parts_at : (k part m : ℕ) (xs : List ℕ) → 1 ≤ part → k * part < length xs
-    → slice_get (parts_of part m xs) k
-    ≡ Some (segment_with (flags_for (k == 0) (nat_le (length xs - k * part) part)) m (take part (drop (k * part) xs)))
-parts_at zero part m xs one there =
+-- octets in one segment, and in several
+from-fit : (first : Bool) (m part : ℕ) (xs : List ℕ) → 1 ≤ length xs → length xs ≤ part
+    → segments_from first part m xs ≡ segment_with (flags_for first true) m xs ∷ []
+from-fit true m part xs some le = parts-fit m part xs some le
+from-fit false m part xs some le = later_segments-last m part xs some le
+
+from-more : (first : Bool) (m part : ℕ) (xs : List ℕ) → 1 ≤ part → part < length xs
+    → segments_from first part m xs
+    ≡ segment_with (flags_for first false) m (take part xs) ∷ segments_from false part m (drop part xs)
+from-more true m part xs one lt = parts-more m part xs one lt
+from-more false m part xs one lt = later_segments-more m part xs one lt
+
+part_at_place : (first : Bool) (k part m : ℕ) (xs : List ℕ) → 1 ≤ part → k * part < length xs
+    → slice_get (segments_from first part m xs) k
+    ≡ Some (segment_with (flags_for (first && (k == 0)) (nat_le (length xs - k * part) part)) m
+    (take part (drop (k * part) xs)))
+part_at_place first zero part m xs one there =
     let start : zero * part ≡ 0 = omega arith in
     let all : length xs - 0 ≡ length xs = omega arith in
+    let is : (first && (zero == 0)) ≡ first = and-true first in
     elim (cases_lt part (length xs)) [
-      | inl lt ↦ rw (start, all, parts-more m part xs one lt, lt-leb (length xs) part lt) refl
-      | inr ge ↦ rw (start, all, parts-fit m part xs (omega arith) ge, le-leb (length xs) part ge)
-          (ap (λ (p : List ℕ). Some (segment_with Alone m p)) (sym (take_all part xs ge)))
+      | inl lt ↦ rw (start, all, is, from-more first m part xs one lt, lt-leb (length xs) part lt) refl
+      | inr ge ↦ rw (start, all, is, from-fit first m part xs (omega arith) ge, le-leb (length xs) part ge)
+          (ap (λ (p : List ℕ). Some (segment_with (flags_for first true) m p)) (sym (take_all part xs ge)))
     ]
-parts_at (suc k) part m xs one there =
+part_at_place first (suc k) part m xs one there =
     let size = length-drop part xs in
     let step = times_suc k part in
     let left : length xs - (part + k * part) ≡ length (drop part xs) - k * part = omega arith in
-    let later : (suc k == 0) ≡ false = ne_eqb (suc k) 0 (λ (e : suc k ≡ 0). omega arith) in
-    rw (parts-more m part xs one (omega arith), later, step, left, sym (behind (k * part) part xs))
-    (later_at k part m (drop part xs) one (omega arith))
+    let later : (first && (suc k == 0)) ≡ false =
+    and_right first (suc k == 0) (ne_eqb (suc k) 0 (λ (e : suc k ≡ 0). omega arith)) in
+    rw (from-more first m part xs one (omega arith), later, step, left, sym (behind (k * part) part xs))
+    (part_at_place false k part m (drop part xs) one (omega arith))
 
 -- ---- parts of a packet among octets: from a place on, as many as the packet has
 
@@ -100,7 +101,7 @@ part_stands octets from len part m k count fits one there is =
     ap (take part) (behind_place octets from len start (omega arith))
     ∙ sym (take_min part (take (len - start) ys)) ∙ ap (λ (n : ℕ). take n (take (len - start) ys)) few
     ∙ take-take count (len - start) ys (omega (arith, is)) in
-    parts_at k part m xs one (omega arith)
+    part_at_place true k part m xs one (omega arith)
     ∙ ap (λ (n : ℕ). Some (segment_with (flags_for (k == 0) (nat_le (n - start) part)) m (take part (drop start xs))))
     size
     ∙ ap (λ (p : List ℕ). Some (segment_with (flags_for (k == 0) (nat_le (len - start) part)) m p)) held
@@ -115,24 +116,14 @@ octets-append xs ys =
     ∙ length-append (concat (payloads xs)) (concat (payloads ys))
 
 -- each part before the last has as many octets as a part may have
-before_later : (k part m : ℕ) (xs : List ℕ) → 1 ≤ part → k * part < length xs
-    → octets_before (later_segments m (pieces_of part xs)) k ≡ k * part
-before_later zero part m xs one there = omega arith
-before_later (suc k) part m xs one there =
-    let rest : List SegmentView = later_segments m (pieces_of part (drop part xs)) in
+before_part : (first : Bool) (k part m : ℕ) (xs : List ℕ) → 1 ≤ part → k * part < length xs
+    → octets_before (segments_from first part m xs) k ≡ k * part
+before_part first zero part m xs one there = omega arith
+before_part first (suc k) part m xs one there =
+    let rest : List SegmentView = segments_from false part m (drop part xs) in
     let step = times_suc k part in
-    let behind = before_later k part m (drop part xs) one (omega (arith, length-drop part xs)) in
-    rw (later_segments-more m part xs one (omega arith), step)
-    (length-append (take part xs) (concat (payloads (take k rest))) ∙ omega (arith, behind, length-take part xs))
-
-before_part : (k part m : ℕ) (xs : List ℕ) → 1 ≤ part → k * part < length xs
-    → octets_before (parts_of part m xs) k ≡ k * part
-before_part zero part m xs one there = omega arith
-before_part (suc k) part m xs one there =
-    let rest : List SegmentView = later_segments m (pieces_of part (drop part xs)) in
-    let step = times_suc k part in
-    let behind = before_later k part m (drop part xs) one (omega (arith, length-drop part xs)) in
-    rw (parts-more m part xs one (omega arith), step)
+    let behind = before_part false k part m (drop part xs) one (omega (arith, length-drop part xs)) in
+    rw (from-more first m part xs one (omega arith), step)
     (length-append (take part xs) (concat (payloads (take k rest))) ∙ omega (arith, behind, length-take part xs))
 
 abbrev part_with : ℕ → ℕ → Part
@@ -194,7 +185,7 @@ module _ (part n : ℕ) (rest : List ℕ) (none : rest_in rest ≡ []) (one : 1 
       let least : k * part ≤ n - 1 = (le-div_iff_mul-le one).0 (omega arith) in
       ap (λ (l : List SegmentView). octets_before l k) cut_here
       ∙ ap (λ (l : List SegmentView). length (concat (payloads l))) (take-append-le k parts later (omega arith))
-      ∙ before_part k part 0 (take n rest) one (omega (arith, length-take n rest))
+      ∙ before_part true k part 0 (take n rest) one (omega (arith, length-take n rest))
 
   pub before_behind : (k : ℕ) → (n - 1) / part + 1 ≤ k
       → octets_before (segments_of part 0 rest) k
