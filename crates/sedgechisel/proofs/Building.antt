@@ -64,18 +64,12 @@ builder_is b memory h =
 
 -- ---- a new builder
 
+abbrev opened : ℕ → ℕ → ℕ → KeptBuilder
+opened scid vcid total =
+    record { from = 0; count = 0; begun = 0; scid = scid; length = total; vcid = vcid; next_count = 0; idle_left = 0 }
+
 pub open_described : (scid vcid total : ℕ) (memory : List ℕ) → builder_fits scid vcid total ≡ true
-    → builder_described (record {
-      from = 0;
-      count = 0;
-      begun = 0;
-      scid = scid;
-      length = total;
-      vcid = vcid;
-      next_count = 0;
-      idle_left = 0;
-    }) memory
-    ≡ Ok (new_builder scid vcid total)
+    → builder_described (opened scid vcid total) memory ≡ Ok (new_builder scid vcid total)
 open_described scid vcid total memory fits =
     let nothing = no_more [] refl in
     rw (fits, le-leb 0 (length memory) (omega arith), le-leb 0 (length memory - 0) (omega arith), nothing.0, nothing.1)

@@ -6,7 +6,7 @@ use Rattle.tm_link.specs.declared.turn.Turn.{Turn}
 use Rattle.tm_link.specs.declared.fault.TmFault.TheVariants.{NotAPacket, Memory, Room, FieldRange}
 use Rattle.tm_link.specs.Faults.{fault_row}
 use Rattle.tm_link.specs.Building.{BuilderState, builder_fits, new_builder, is_to_send}
-use Rattle.tm_link.specs.Building.{after_queue, build_step}
+use Rattle.tm_link.specs.Building.{after_queue, state_with, build_step}
 use Rattle.tm_link.specs.Layout.{FrameView}
 use Rattle.sedgechisel.specs.declared.telemetry_builder.KeptBuilder.{KeptBuilder}
 use Rattle.sedgechisel.specs.Answers.{damaged, wrong_count}
@@ -32,18 +32,6 @@ has_numbers b room =
 abbrev pub is_builder : KeptBuilder → List ℕ → Bool
 is_builder b memory = has_numbers b (length memory) && (length (rest_in (whole_of b memory)) == 0)
 
-abbrev pub state_of : KeptBuilder → List ℕ → BuilderState
-state_of b memory = record {
-  scid = b.scid;
-  vcid = b.vcid;
-  total = b.length;
-  count = b.next_count;
-  idle_left = b.idle_left;
-  pending = pending_of b memory;
-  begun = b.begun;
-  sizes = map length (packets_in (whole_of b memory));
-}
-
 -- what it knows beside its octets
 abbrev pub turn_of : KeptBuilder → Turn
 turn_of b = record {
@@ -52,6 +40,11 @@ turn_of b = record {
   count = b.next_count;
   idle_left = b.idle_left;
   begun = b.begun;
+}
+
+abbrev pub state_of : KeptBuilder → List ℕ → BuilderState
+state_of b memory = record (state_with (turn_of b) b.length (pending_of b memory)) {
+  sizes = map length (packets_in (whole_of b memory));
 }
 
 abbrev pub builder_described : KeptBuilder → List ℕ → Result BuilderState ℕ
