@@ -43,36 +43,23 @@ frame_described f payload = map_ok (frame_with f.scid f.vcid) (body_described f 
 
 -- ---- from a frame to fields, those that its kind lacks 0, and to where its data stand
 
+abbrev pub unlock_fields : ℕ → ℕ → CommandFrame
+unlock_fields scid vcid =
+    record { scid = scid; vcid = vcid; kind = 2; n = 0; flags = 0; map = 0; command = 0; vr = 0 }
+
 abbrev pub segment_fields : ℕ → ℕ → ℕ → ℕ → SegmentView → CommandFrame
-segment_fields scid vcid kind n s = record {
-  scid = scid;
-  vcid = vcid;
+segment_fields scid vcid kind n s = record (unlock_fields scid vcid) {
   kind = kind;
   n = n;
   flags = flags_code s.header.flags;
   map = s.header.map;
-  command = 0;
-  vr = 0;
 }
-
-abbrev pub command_fields : ℕ → ℕ → ℕ → ℕ → CommandFrame
-command_fields scid vcid command vr =
-    record {
-      scid = scid;
-      vcid = vcid;
-      kind = 2;
-      n = 0;
-      flags = 0;
-      map = 0;
-      command = command;
-      vr = vr;
-    }
 
 abbrev pub fields_with : ℕ → ℕ → BodyView → CommandFrame
 fields_with scid vcid (Ad n s) = segment_fields scid vcid 0 n s
 fields_with scid vcid (Bd s) = segment_fields scid vcid 1 0 s
-fields_with scid vcid (Bc Unlock) = command_fields scid vcid 0 0
-fields_with scid vcid (Bc (SetVr x)) = command_fields scid vcid 1 x
+fields_with scid vcid (Bc Unlock) = unlock_fields scid vcid
+fields_with scid vcid (Bc (SetVr x)) = record (unlock_fields scid vcid) { command = 1; vr = x }
 
 abbrev pub fields_of : FrameView → CommandFrame
 fields_of f = fields_with f.scid f.vcid f.body
