@@ -47,14 +47,10 @@ pub extern "C" fn sedge_tc_decode(
     // So `sedge_tc_encode` writes this frame from the fields and the data there.
     ensures describes { DescribesFrame checked octets.now frame.new payload.new }
 {
-    match tc_frame::decode(octets, check_if(checked)) {
-        Ok(found) => {
-            *frame = fields_from(&found);
-            *payload = part_from(&found.body);
-            0
-        }
-        Err(fault) => fault.number(),
-    }
+    written!(tc_frame::decode(octets, check_if(checked)), |found| {
+        *frame = fields_from(&found);
+        *payload = part_from(&found.body);
+    })
 }
 
 /// Writes the frame that the fields and the data describe at the beginning of `out`, with its FECF or without, and says
@@ -76,13 +72,10 @@ pub extern "C" fn sedge_tc_encode(
         (frame_taken checked frame.now payload.now (length out.old)) out.old }
 {
     match frame_from(frame, payload) {
-        Ok(described) => match tc_frame::encode(&described, check_if(checked), out) {
-            Ok(count) => {
-                *total = count;
-                0
-            }
-            Err(fault) => fault.number(),
-        },
+        Ok(described) => written!(
+            tc_frame::encode(&described, check_if(checked), out),
+            |count| *total = count
+        ),
         Err(number) => number,
     }
 }
@@ -102,13 +95,7 @@ pub extern "C" fn sedge_tc_declared(octets: &[u8], checked: bool, total: &mut us
     } else {
         Unchecked::extent(octets)
     };
-    match declared {
-        Ok(count) => {
-            *total = count;
-            0
-        }
-        Err(fault) => fault.number(),
-    }
+    written!(declared, |count| *total = count)
 }
 
 // ---- from fields and data to a frame

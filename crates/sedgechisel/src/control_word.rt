@@ -30,13 +30,7 @@ pub extern "C" fn sedge_clcw_decode(octets: &[u8], word: &mut ControlWord) -> u8
         [first, second, third, fourth] => [*first, *second, *third, *fourth],
         _ => return WRONG_COUNT,
     };
-    match clcw::decode(four) {
-        Ok(found) => {
-            *word = fields_from(&found);
-            0
-        }
-        Err(fault) => fault.number(),
-    }
+    written!(clcw::decode(four), |found| *word = fields_from(&found))
 }
 
 /// Writes a control word as four octets, and answers 0, or 5 `Range` where a field is too large or a flag bit has no
@@ -50,13 +44,10 @@ pub extern "C" fn sedge_clcw_encode(word: &ControlWord, out: &mut [u8]) -> u8
     if out.len() != 4 {
         return WRONG_COUNT;
     }
-    match clcw::encode(&word_from(word)) {
-        Ok(octets) => {
-            out.copy_from_slice(&octets);
-            0
-        }
-        Err(fault) => fault.number(),
-    }
+    written!(
+        clcw::encode(&word_from(word)),
+        |octets| out.copy_from_slice(&octets)
+    )
 }
 
 pub(crate) fn fields_from(word: &Clcw) -> ControlWord

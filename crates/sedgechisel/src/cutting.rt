@@ -39,13 +39,7 @@ pub extern "C" fn sedge_map_count(octets: &[u8], limits: &CutLimits, segments: &
         ≡ left_by length (segments_described limits.now octets.now) segments.old }
 {
     match limits_from(limits) {
-        Ok(described) => match segment_count(octets, &described) {
-            Ok(count) => {
-                *segments = count;
-                0
-            }
-            Err(fault) => fault.number(),
-        },
+        Ok(described) => written!(segment_count(octets, &described), |count| *segments = count),
         Err(number) => number,
     }
 }

@@ -2,6 +2,19 @@
 //! another library but `memcpy`, `memmove` and `memset`.
 #![tactic(auto)]
 
+// What a crate's call gives is written, and the answer is 0; or it is the number of the call's fault.
+macro_rules! written {
+    ($call:expr, |$found:pat_param| $write:expr) => {
+        match $call {
+            Ok($found) => {
+                $write;
+                0
+            }
+            Err(fault) => fault.number(),
+        }
+    };
+}
+
 // What a call makes of the receiver or the sender that the fields describe, and its answer; the fields describe it again
 // afterwards.
 macro_rules! step {

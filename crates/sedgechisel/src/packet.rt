@@ -41,17 +41,13 @@ pub extern "C" fn sedge_packet_decode(
     // So `sedge_packet_encode` writes this packet from the fields and the data there.
     ensures describes { DescribesPacket octets.now packet.new payload.new }
 {
-    match space_packet::decode(octets) {
-        Ok((found, _)) => {
-            *packet = fields_from(&found);
-            *payload = Part {
-                from: 6,
-                count: found.payload.len(),
-            };
-            0
-        }
-        Err(fault) => fault.number(),
-    }
+    written!(space_packet::decode(octets), |(found, _)| {
+        *packet = fields_from(&found);
+        *payload = Part {
+            from: 6,
+            count: found.payload.len(),
+        };
+    })
 }
 
 /// Writes the packet that the fields and the data describe at the beginning of `out`, and says how many octets it has.
@@ -70,13 +66,10 @@ pub extern "C" fn sedge_packet_encode(
         (packet_taken packet.now payload.now (length out.old)) out.old }
 {
     match packet_from(packet, payload) {
-        Ok(described) => match space_packet::encode(&described, out) {
-            Ok(count) => {
-                *total = count;
-                0
-            }
-            Err(fault) => fault.number(),
-        },
+        Ok(described) => written!(
+            space_packet::encode(&described, out),
+            |count| *total = count
+        ),
         Err(number) => number,
     }
 }
@@ -91,13 +84,7 @@ pub extern "C" fn sedge_packet_declared(octets: &[u8], total: &mut usize) -> u8
     if octets.len() < 6 {
         return PacketFault::Truncated.number();
     }
-    match Packets::extent(octets) {
-        Ok(count) => {
-            *total = count;
-            0
-        }
-        Err(fault) => fault.number(),
-    }
+    written!(Packets::extent(octets), |count| *total = count)
 }
 
 fn packet_from<'a>(fields: &PacketFields, payload: &'a [u8]) -> Result<Packet<'a>, u8>

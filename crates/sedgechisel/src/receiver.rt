@@ -30,13 +30,7 @@ pub extern "C" fn sedge_farm_open(receiver: &mut Receiver, width: u8, vr: u8) ->
     ensures answer { result ≡ status_of (farm_opened width vr) }
     ensures receiver { receiver.new ≡ left_by receiver_of (farm_opened width vr) receiver.old }
 {
-    match Farm::new(width, vr) {
-        Ok(farm) => {
-            *receiver = kept(&farm);
-            0
-        }
-        Err(fault) => fault.number(),
-    }
+    written!(Farm::new(width, vr), |farm| *receiver = kept(&farm))
 }
 
 /// A Type-AD frame with the number `n` has come, and there is room for its data or not. Answers the verdict's number,

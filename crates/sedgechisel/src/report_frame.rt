@@ -39,17 +39,13 @@ pub extern "C" fn sedge_tm_decode(
     // So `sedge_tm_encode` writes this frame from the fields and the data there.
     ensures describes { DescribesFrame length octets.now frame.new payload.new }
 {
-    match tm_link::decode(octets, length) {
-        Ok(found) => {
-            *frame = fields_from(&found);
-            *payload = Part {
-                from: 6,
-                count: found.payload.len(),
-            };
-            0
-        }
-        Err(fault) => fault.number(),
-    }
+    written!(tm_link::decode(octets, length), |found| {
+        *frame = fields_from(&found);
+        *payload = Part {
+            from: 6,
+            count: found.payload.len(),
+        };
+    })
 }
 
 /// Writes the frame that the fields and the data describe at the beginning of `out`, and says how many octets it has.
@@ -67,13 +63,10 @@ pub extern "C" fn sedge_tm_encode(
     ensures out { out.new ≡ left_by (λ view. spelling view ++ drop (total_of view) out.old)
         (frame_taken frame.now payload.now (length out.old)) out.old }
 {
-    match tm_link::encode(&frame_from(frame, payload), out) {
-        Ok(count) => {
-            *total = count;
-            0
-        }
-        Err(fault) => fault.number(),
-    }
+    written!(
+        tm_link::encode(&frame_from(frame, payload), out),
+        |count| *total = count
+    )
 }
 
 fn frame_from<'a>(fields: &ReportFrame, payload: &'a [u8]) -> TmFrame<'a>

@@ -50,13 +50,10 @@ pub extern "C" fn sedge_fop_open(
 ) -> u8
     ensures { IsAnswered (sender_opened width window limit timer) sender.old sender.new result }
 {
-    match Sender::new(width, window, limit, timer) {
-        Ok(opened) => {
-            *sender = kept(&opened);
-            0
-        }
-        Err(fault) => fault.number(),
-    }
+    written!(
+        Sender::new(width, window, limit, timer),
+        |opened| *sender = kept(&opened)
+    )
 }
 
 /// A unit has come to be sent under sequence control, and waits. Answers 0, or 255 where the sender is damaged, or
@@ -66,13 +63,7 @@ pub extern "C" fn sedge_fop_submit(sender: &mut KeptSender) -> u8
     ensures { IsAnswered (submitted sender.old) sender.old sender.new result }
 {
     match described(sender) {
-        Ok(mut machine) => match machine.submit() {
-            Ok(()) => {
-                *sender = kept(&machine);
-                0
-            }
-            Err(fault) => fault.number(),
-        },
+        Ok(mut machine) => written!(machine.submit(), |()| *sender = kept(&machine)),
         Err(number) => number,
     }
 }

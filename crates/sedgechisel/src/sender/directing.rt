@@ -88,13 +88,7 @@ fn direct(sender: &mut KeptSender, directive: Directive) -> u8
     ensures { IsAnswered (directed sender.old directive) sender.old sender.new result }
 {
     match described(sender) {
-        Ok(mut machine) => match machine.directive(directive) {
-            Ok(_) => {
-                *sender = kept(&machine);
-                0
-            }
-            Err(fault) => fault.number(),
-        },
+        Ok(mut machine) => written!(machine.directive(directive), |_| *sender = kept(&machine)),
         Err(number) => number,
     }
 }
