@@ -297,25 +297,18 @@ burst_seen xs ys p q d h k =
     zero in
     octet_bits-are xs ys d.long p q (same_from_zero a b same none)
 
-take-octet_bits : (i : ℕ) (octets : List ℕ) → take (8 * i) (octet_bits octets) ≡ octet_bits (take i octets)
-take-octet_bits zero octets = refl
-take-octet_bits (suc i) [] = take-nil (8 * suc i)
-take-octet_bits (suc i) (x ∷ xs) =
+-- the bits of the first octets, and those of the octets after them
+cut-octet_bits : (i : ℕ) (octets : List ℕ) → (take (8 * i) (octet_bits octets) ≡ octet_bits (take i octets))
+    × (drop (8 * i) (octet_bits octets) ≡ octet_bits (drop i octets))
+cut-octet_bits zero octets = (refl, refl)
+cut-octet_bits (suc i) [] = (take-nil (8 * suc i), drop-nil (8 * suc i))
+cut-octet_bits (suc i) (x ∷ xs) =
     let count : 8 * suc i ≡ length (bits_of 8 x) + 8 * i = omega arith in
-    ap (λ (k : ℕ). take k (octet_bits (x ∷ xs))) count
-    ∙ ap (take (length (bits_of 8 x) + 8 * i)) (flat_map-cons (bits_of 8) x xs)
-    ∙ take-append-add (bits_of 8 x) (octet_bits xs) (8 * i)
-    ∙ ap (λ (z : List Bool). bits_of 8 x ++ z) (take-octet_bits i xs)
-    ∙ sym (flat_map-cons (bits_of 8) x (take i xs))
-
-drop-octet_bits : (i : ℕ) (octets : List ℕ) → drop (8 * i) (octet_bits octets) ≡ octet_bits (drop i octets)
-drop-octet_bits zero octets = refl
-drop-octet_bits (suc i) [] = drop-nil (8 * suc i)
-drop-octet_bits (suc i) (x ∷ xs) =
-    let count : 8 * suc i ≡ length (bits_of 8 x) + 8 * i = omega arith in
-    ap (λ (k : ℕ). drop k (octet_bits (x ∷ xs))) count
-    ∙ ap (drop (length (bits_of 8 x) + 8 * i)) (flat_map-cons (bits_of 8) x xs)
-    ∙ drop-append-add (bits_of 8 x) (octet_bits xs) (8 * i) ∙ drop-octet_bits i xs
+    let rest = cut-octet_bits i xs in
+    rw (count, flat_map-cons (bits_of 8) x xs, flat_map-cons (bits_of 8) x (take i xs)) (
+      take-append-add (bits_of 8 x) (octet_bits xs) (8 * i) ∙ ap (λ (z : List Bool). bits_of 8 x ++ z) rest.0,
+      drop-append-add (bits_of 8 x) (octet_bits xs) (8 * i) ∙ rest.1,
+    )
 
 -- two neighbouring octets are 16 neighbouring bits
 pub two_octets_burst : (xs ys : List ℕ) → DiffersInTwoOctets xs ys → DiffersInBurst xs ys
@@ -324,7 +317,7 @@ two_octets_burst xs ys d =
     record {
       place = 8 * d.place;
       long = d.long;
-      before = take-octet_bits d.place xs ∙ ap octet_bits d.before ∙ sym (take-octet_bits d.place ys);
-      behind = rw count (drop-octet_bits (d.place + 2) xs ∙ ap octet_bits d.behind
-          ∙ sym (drop-octet_bits (d.place + 2) ys));
+      before = (cut-octet_bits d.place xs).0 ∙ ap octet_bits d.before ∙ sym (cut-octet_bits d.place ys).0;
+      behind = rw count ((cut-octet_bits (d.place + 2) xs).1 ∙ ap octet_bits d.behind
+          ∙ sym (cut-octet_bits (d.place + 2) ys).1);
     }
