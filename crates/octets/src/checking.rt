@@ -1,6 +1,6 @@
 // The check of a frame: its value, its setting and its test.
 
-ghost use Rattle.std.specs.Prelude.{◌≡◌, ◌≤◌, ◌<◌, ◌-◌, ◌*◌, ◌^◌, ◌/◌, ◌%◌, ◌++◌, ◌↔◌, IsTrue, length, take, bit_xor, slice_index};
+ghost use Rattle.std.specs.Prelude.{◌≡◌, ◌≤◌, ◌<◌, ◌+◌, ◌-◌, ◌*◌, ◌^◌, ◌/◌, ◌%◌, ◌++◌, ◌↔◌, IsTrue, length, take, bit_xor, slice_index};
 ghost use Rattle.byteorder.specs.Endian.{big_bytes};
 ghost use Rattle.octets.specs.Check.{check_of, HoldsCheck};
 ghost use Rattle.octets.specs.Number.{IsOctets};
@@ -43,6 +43,18 @@ fn after_one(register: u16, octet: u8) -> u16
     ((register & 0xff) << 8) ^ entry(0, (register >> 8) as u8 ^ octet)
 }
 
+// The sum with what four octets add, of which the last is followed by `later` more octets.
+#[inline(always)]
+fn with_four(sum: u16, later: usize, octets: [u8; 4]) -> u16
+    requires { later ≤ 12 }
+    ensures { let x = slice_index octets in result
+        ≡ bit_xor (bit_xor (bit_xor (bit_xor sum (entry_at later (x 3))) (entry_at (later + 1) (x 2)))
+        (entry_at (later + 2) (x 1))) (entry_at (later + 3) (x 0)) }
+{
+    let [a, b, c, d] = octets;
+    sum ^ entry(later, d) ^ entry(later + 1, c) ^ entry(later + 2, b) ^ entry(later + 3, a)
+}
+
 // The register after sixteen octets. What each adds is looked up as it stands after the last, so
 // that no look waits for another, and what needs the register comes last.
 #[inline(always)]
@@ -51,22 +63,11 @@ fn after_sixteen(register: u16, octets: &[u8; 16]) -> u16
     ensures octets { IsOctets octets.now }
 {
     let [a, b, c, d, e, f, g, h, i, j, k, l, m, n, o, p] = *octets;
-    entry(0, p)
-        ^ entry(1, o)
-        ^ entry(2, n)
-        ^ entry(3, m)
-        ^ entry(4, l)
-        ^ entry(5, k)
-        ^ entry(6, j)
-        ^ entry(7, i)
-        ^ entry(8, h)
-        ^ entry(9, g)
-        ^ entry(10, f)
-        ^ entry(11, e)
-        ^ entry(12, d)
-        ^ entry(13, c)
-        ^ entry(14, (register % 256) as u8 ^ b)
-        ^ entry(15, (register / 256) as u8 ^ a)
+    let sum = with_four(0, 0, [m, n, o, p]);
+    let sum = with_four(sum, 4, [i, j, k, l]);
+    let sum = with_four(sum, 8, [e, f, g, h]);
+    let first = [(register / 256) as u8 ^ a, (register % 256) as u8 ^ b, c, d];
+    with_four(sum, 12, first)
 }
 
 // The register after eight octets, as after sixteen.
@@ -76,14 +77,9 @@ fn after_eight(register: u16, octets: &[u8; 8]) -> u16
     ensures octets { IsOctets octets.now }
 {
     let [a, b, c, d, e, f, g, h] = *octets;
-    entry(0, h)
-        ^ entry(1, g)
-        ^ entry(2, f)
-        ^ entry(3, e)
-        ^ entry(4, d)
-        ^ entry(5, c)
-        ^ entry(6, (register % 256) as u8 ^ b)
-        ^ entry(7, (register / 256) as u8 ^ a)
+    let sum = with_four(0, 0, [e, f, g, h]);
+    let first = [(register / 256) as u8 ^ a, (register % 256) as u8 ^ b, c, d];
+    with_four(sum, 4, first)
 }
 
 /// Sets the last two octets to the check of those before them (CCSDS 232.0-B-4, 4.1.4.2).
