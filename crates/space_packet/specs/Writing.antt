@@ -1,7 +1,8 @@
 -- The one spelling of a packet, and which packets have one.
 use Rattle.std.specs.Prelude.{ℕ, ◌+◌, ◌-◌, ◌*◌, List, ◌++◌, length, Bool, not, ◌&&◌, nat_lt, nat_le}
-use Rattle.std.specs.Prelude.{if◌then◌else◌, Result, Ok, Err}
+use Rattle.std.specs.Prelude.{Result}
 use Rattle.byteorder.specs.Endian.{big_bytes}
+use Rattle.octets.specs.Outcome.{count_written}
 use Rattle.space_packet.specs.declared.fault.PacketFault.{PacketFault}
 use Rattle.space_packet.specs.declared.fault.PacketFault.TheVariants as faults
 use Rattle.space_packet.specs.Layout.{PacketView, type_bit, secondary_bit, is_idle_with_secondary}
@@ -37,6 +38,4 @@ packet_fits p =
 -- how many octets are written where there is room for this many, or why none are
 abbrev pub encode_answer : PacketView → ℕ → Result ℕ PacketFault
 encode_answer p room =
-    if not (packet_fits p) then Err faults.FieldRange
-    else if nat_lt room (total_of p) then Err faults.Room
-    else Ok (total_of p)
+    count_written (packet_fits p) (total_of p) room faults.FieldRange faults.Room

@@ -1,8 +1,9 @@
 -- The one spelling of a frame, and which frames have one.
-use Rattle.std.specs.Prelude.{ℕ, ◌+◌, ◌-◌, ◌*◌, List, ◌++◌, length, Bool, not, ◌&&◌, nat_lt, nat_le}
-use Rattle.std.specs.Prelude.{if◌then◌else◌, Result, Ok, Err}
+use Rattle.std.specs.Prelude.{ℕ, ◌+◌, ◌-◌, ◌*◌, List, ◌++◌, length, Bool, ◌&&◌, nat_lt, nat_le}
+use Rattle.std.specs.Prelude.{Result}
 use Rattle.byteorder.specs.Endian.{big_bytes}
 use Rattle.octets.specs.Check.{check_of}
+use Rattle.octets.specs.Outcome.{count_written}
 use Rattle.tc_frame.specs.declared.frame.Check.{Check}
 use Rattle.tc_frame.specs.declared.frame.Check.TheVariants.{On, Off}
 use Rattle.tc_frame.specs.declared.fault.TcFault.{TcFault}
@@ -42,6 +43,4 @@ frame_fits check f =
 -- how many octets are written where there is room for this many, or why none are
 abbrev pub encode_answer : Check → FrameView → ℕ → Result ℕ TcFault
 encode_answer check f room =
-    if not (frame_fits check f) then Err faults.FieldRange
-    else if nat_lt room (total_of check f) then Err faults.Room
-    else Ok (total_of check f)
+    count_written (frame_fits check f) (total_of check f) room faults.FieldRange faults.Room

@@ -1,8 +1,9 @@
 -- The one spelling of a frame, and which frames have one.
-use Rattle.std.specs.Prelude.{ℕ, ◌+◌, ◌*◌, List, ◌∷◌, ◌++◌, length, Bool, not, ◌&&◌, nat_lt, nat_le}
-use Rattle.std.specs.Prelude.{if◌then◌else◌, Result, Ok, Err}
+use Rattle.std.specs.Prelude.{ℕ, ◌+◌, ◌*◌, List, ◌∷◌, ◌++◌, length, Bool, ◌&&◌, nat_lt, nat_le}
+use Rattle.std.specs.Prelude.{Result}
 use Rattle.byteorder.specs.Endian.{big_bytes}
 use Rattle.octets.specs.Check.{check_of}
+use Rattle.octets.specs.Outcome.{count_written}
 use Rattle.tm_link.specs.declared.fault.TmFault.{TmFault}
 use Rattle.tm_link.specs.declared.fault.TmFault.TheVariants as faults
 use Rattle.tm_link.specs.Layout.{FrameView, pointer_number, pointer_fits}
@@ -39,6 +40,4 @@ frame_fits f =
 -- how many octets are written where there is room for this many, or why none are
 abbrev pub encode_answer : FrameView → ℕ → Result ℕ TmFault
 encode_answer f room =
-    if not (frame_fits f) then Err faults.FieldRange
-    else if nat_lt room (total_of f) then Err faults.Room
-    else Ok (total_of f)
+    count_written (frame_fits f) (total_of f) room faults.FieldRange faults.Room
