@@ -14,6 +14,7 @@ use octets::first_two;
 /// `Truncated`, a version other than 000 by 2 `Version`, an idle packet with a secondary header by 3
 /// `IdleWithSecondary`, and then fewer octets than declared by 1 `Truncated`.
 /// Faults: 1 Truncated, 2 Version, 3 IdleWithSecondary.
+#[tactic(auto, using(crate::proofs::Readings::packet_again))]
 pub fn decode(octets: &[u8]) -> Result<(Packet<'_>, usize), PacketFault>
     ensures answer { map_ok found_view result ≡ packet_at octets.now }
 
