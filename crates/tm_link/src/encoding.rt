@@ -4,6 +4,7 @@ ghost use Rattle.std.specs.Prelude.{◌≡◌, ◌≤◌, ◌<◌, ◌+◌, ◌+
 ghost use Rattle.tm_link.specs.Layout.{frame_view, pointer_number, pointer_fits, IsTmFrame};
 ghost use Rattle.tm_link.specs.Writing.{total_of, header_octets, front_octets, spelling, frame_fits, encode_answer};
 
+use crate::builder::can_build;
 use crate::fault::TmFault;
 use crate::frame::{Pointer, TmFrame};
 use byteorder::{BigEndian, ByteOrder};
@@ -36,11 +37,8 @@ pub fn encode(frame: &TmFrame, out: &mut [u8]) -> Result<usize, TmFault>
 fn is_in_range(frame: &TmFrame) -> bool
     ensures { result ≡ frame_fits (frame_view frame.now) }
 {
-    frame.scid < 1024
-        && frame.vcid < 8
-        && 4 <= frame.payload.len()
-        && frame.payload.len() <= 2036
-        && is_pointer_in_range(frame.pointer, frame.payload.len())
+    let size = frame.payload.len();
+    can_build(frame.scid, frame.vcid, size + 12) && is_pointer_in_range(frame.pointer, size)
 }
 
 fn is_pointer_in_range(pointer: Pointer, size: usize) -> bool
