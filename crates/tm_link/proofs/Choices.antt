@@ -165,24 +165,29 @@ no_more all place tail (p ∷ ps) others marks s sized =
 
 -- ---- any choice
 
--- one frame that did not come
-came_not : (ps added left : Packets) (marks flags more : List Bool) (n : ℕ)
-    → complete_packets ps (marks ++ (replicate n false ++ more)) ≡ added ++ complete_packets left (flags ++ more)
-    → added ≡ []
-    → without_idle (complete_packets left (flags ++ more))
-    ≡ without_idle (complete_packets ps (marks ++ (replicate n false ++ more)))
-came_not ps added left marks flags more n e none =
-    ap without_idle (sym (e ∙ ap (λ (xs : Packets). xs ++ complete_packets left (flags ++ more)) none))
-
--- one that came
-came_one : (ps added left given : Packets) (marks flags more : List Bool) (n : ℕ)
-    → complete_packets ps (marks ++ (replicate n true ++ more)) ≡ added ++ complete_packets left (flags ++ more)
+-- one frame, which came or did not
+came_one : (came : Bool) (ps added left given : Packets) (marks flags more : List Bool) (n : ℕ)
+    → complete_packets ps (marks ++ (replicate n came ++ more)) ≡ added ++ complete_packets left (flags ++ more)
     → given ≡ without_idle added
     → given ++ without_idle (complete_packets left (flags ++ more))
-    ≡ without_idle (complete_packets ps (marks ++ (replicate n true ++ more)))
-came_one ps added left given marks flags more n e is =
+    ≡ without_idle (complete_packets ps (marks ++ (replicate n came ++ more)))
+came_one came ps added left given marks flags more n e is =
     ap (λ (xs : Packets). xs ++ without_idle (complete_packets left (flags ++ more))) is
     ∙ sym (without_idle-append added (complete_packets left (flags ++ more))) ∙ ap without_idle (sym e)
+
+-- the step of the next frame, and where the stream stands after it
+next_frame : (came : Bool) (f : FrameView) (frames : List FrameView) (all : Packets) (place : ℕ) (tail : List ℕ)
+    (ps : Packets) (others : List ℕ) (marks : List Bool) (count : ℕ)
+    → Stood all place tail ps (carried_octets (f ∷ frames) ++ others) → length marks ≡ length tail
+    → Follow all place count (f ∷ frames)
+    → (step : Stepped came ps tail marks f.pointer f.payload)
+    × Stood all (place + length (slice_of f)) step.0.begun step.0.left (carried_octets frames ++ others)
+next_frame came f frames all place tail ps others marks count stood sized follow =
+    let behind : List ℕ = carried_octets frames ++ others in
+    let here : Stood all place tail ps (slice_of f ++ behind) =
+    subst (Stood all place tail ps) (append_assoc (slice_of f) (carried_octets frames) others) stood in
+    let step = step_of came all place tail f.payload behind ps marks f.pointer here sized follow.1.some follow.2 in
+    (step, moved_on all place tail ps (slice_of f) behind came marks here step.0)
 
 extracted : (frames : List FrameView) (chosen : List Bool) (all : Packets) (place : ℕ) (tail : List ℕ) (ps : Packets)
     (others : List ℕ) (marks : List Bool) (s : ExtractorState) (n count : ℕ)
@@ -194,41 +199,30 @@ extracted [] chosen all place tail ps others marks s n count stood sized follow 
 extracted (f ∷ frames) [] all place tail ps others marks s n count stood sized follow near tied =
     sym (no_more all place tail ps (carried_octets (f ∷ frames) ++ others) marks stood sized)
 extracted (f ∷ frames) (false ∷ chosen) all place tail ps others marks s n count stood sized follow near tied =
-    let behind : List ℕ = carried_octets frames ++ others in
-    let here : Stood all place tail ps (slice_of f ++ behind) =
-    subst (Stood all place tail ps) (append_assoc (slice_of f) (carried_octets frames) others) stood in
-    let step : Stepped false ps tail marks f.pointer f.payload =
-    step_of false all place tail f.payload behind ps marks f.pointer here sized follow.1.some follow.2 in
-    let m = step.0 in
+    let next = next_frame false f frames all place tail ps others marks count stood sized follow in
+    let m = next.0.0 in
     extracted frames chosen all (place + length (slice_of f)) m.begun m.left others m.flags s (suc n)
-    ((count + 1) % 256)
-    (moved_on all place tail ps (slice_of f) behind false marks here m) m.sized follow.3
-    (near_lost s.last n chosen near) (tied_lost s.last s.part n count (kept tail marks) (kept m.begun m.flags) tied
-    step.1.1)
-    ∙ came_not ps m.added m.left marks m.flags (marks_of frames chosen) (length (slice_of f))
-    (m.comes (marks_of frames chosen)) step.1.0
+    ((count + 1) % 256) next.1 m.sized follow.3 (near_lost s.last n chosen near)
+    (tied_lost s.last s.part n count (kept tail marks) (kept m.begun m.flags) tied next.0.1.1)
+    ∙ came_one false ps m.added m.left [] marks m.flags (marks_of frames chosen) (length (slice_of f))
+    (m.comes (marks_of frames chosen)) (ap without_idle (sym next.0.1.0))
 extracted (f ∷ frames) (true ∷ chosen) all place tail ps others marks s n count stood sized follow near tied =
-    let behind : List ℕ = carried_octets frames ++ others in
-    let here : Stood all place tail ps (slice_of f ++ behind) =
-    subst (Stood all place tail ps) (append_assoc (slice_of f) (carried_octets frames) others) stood in
-    let step : Stepped true ps tail marks f.pointer f.payload =
-    step_of true all place tail f.payload behind ps marks f.pointer here sized follow.1.some follow.2 in
-    let m = step.0 in
+    let next = next_frame true f frames all place tail ps others marks count stood sized follow in
+    let m = next.0.0 in
     let part : part_over_gap (gap_of s.last f.vc_count) s.part ≡ kept tail marks =
     ap (λ (k : ℕ). part_over_gap (gap_of s.last k) s.part) follow.0
     ∙ tied_part s.last s.part n count (kept tail marks) chosen tied near in
     let given : (extract_step s f).packets ≡ without_idle m.added =
-    ap (λ (xs : List ℕ). without_idle (finished_packets xs f.pointer f.payload)) part ∙ ap without_idle step.1.0 in
+    ap (λ (xs : List ℕ). without_idle (finished_packets xs f.pointer f.payload)) part ∙ ap without_idle next.0.1.0 in
     let after : (extract_step s f).after.part ≡ kept m.begun m.flags =
-    ap (λ (xs : List ℕ). part_after xs f.pointer f.payload) part ∙ step.1.1 in
-    let next : (count + 1) % 256 ≡ (f.vc_count + 1 + 0) % 256 = omega (arith, follow.0) in
+    ap (λ (xs : List ℕ). part_after xs f.pointer f.payload) part ∙ next.0.1.1 in
+    let counted : (count + 1) % 256 ≡ (f.vc_count + 1 + 0) % 256 = omega (arith, follow.0) in
     ap (λ (xs : Packets). (extract_step s f).packets ++ xs)
     (extracted frames chosen all (place + length (slice_of f)) m.begun m.left others m.flags (extract_step s f).after 0
-    ((count + 1) % 256)
-    (moved_on all place tail ps (slice_of f) behind true marks here m) m.sized follow.3 (near_came s.last n chosen near)
-    (follow.1.count, next, λ is. after, λ (some : 0 < 0). absurd (omega arith)))
-    ∙ came_one ps m.added m.left (extract_step s f).packets marks m.flags (marks_of frames chosen) (length (slice_of f))
-    (m.comes (marks_of frames chosen)) given
+    ((count + 1) % 256) next.1 m.sized follow.3 (near_came s.last n chosen near)
+    (follow.1.count, counted, λ is. after, λ (some : 0 < 0). absurd (omega arith)))
+    ∙ came_one true ps m.added m.left (extract_step s f).packets marks m.flags (marks_of frames chosen)
+    (length (slice_of f)) (m.comes (marks_of frames chosen)) given
 
 -- a new extractor hands out what arrives
 pub extraction_exact : (packets : Packets) (frames : List FrameView) (rest : List ℕ)
