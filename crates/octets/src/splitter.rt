@@ -68,10 +68,9 @@ impl<W: Wire> Splitter<W> {
             × (failure last ≡ failure_after (lent_view result) (failure self.old)))) }
         ensures answer { lent_view result ≡ first_record W.HEAD W.extent_of (held self.old) }
     {
-        match self.advance() {
-            None => None,
-            Some(Err(_)) => Some(Err(self.fault())),
-            Some(Ok((from, end))) => Some(Ok(self.part(from, end))),
+        match self.advance()? {
+            Err(_) => Some(Err(self.fault())),
+            Ok((from, end)) => Some(Ok(self.part(from, end))),
         }
     }
 

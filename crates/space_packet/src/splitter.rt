@@ -54,10 +54,9 @@ impl PacketSplitter {
             × (refusal last ≡ failure_after (answer_view result) (refusal self.old)))) }
         ensures answer { answer_view result ≡ first_record 6 extent_at (octets_held self.old) }
     {
-        match self.splitter.next() {
-            None => None,
-            Some(Err(fault)) => Some(Err(*fault)),
-            Some(Ok(record)) => Some(Ok(record)),
+        match self.splitter.next()? {
+            Err(fault) => Some(Err(*fault)),
+            Ok(record) => Some(Ok(record)),
         }
     }
 

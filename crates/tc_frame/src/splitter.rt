@@ -58,10 +58,9 @@ impl<C: Wire<Fault = TcFault>> TcSplitter<C> {
         ensures answer { answer_view result
             ≡ first_record C.HEAD C.extent_of (octets_held self.old) }
     {
-        match self.splitter.next() {
-            None => None,
-            Some(Err(fault)) => Some(Err(*fault)),
-            Some(Ok(record)) => Some(Ok(record)),
+        match self.splitter.next()? {
+            Err(fault) => Some(Err(*fault)),
+            Ok(record) => Some(Ok(record)),
         }
     }
 
