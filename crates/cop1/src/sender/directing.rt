@@ -22,10 +22,18 @@ impl Sender {
         ensures answer { result ≡ (sender_step self.old (Direct directive)).answer }
     {
         match directive {
-            Directive::SetWindow(window) => return self.set_window(window),
-            Directive::SetLimit(limit) => return self.set_limit(limit),
-            Directive::SetTimer(timer) => return self.set_timer(timer),
-            Directive::Terminate => return self.terminate(),
+            Directive::SetWindow(window) if window == 0 || window > self.fields.room => {
+                return Err(CopFault::Window);
+            }
+            Directive::SetWindow(window) => self.fields.window = window,
+            Directive::SetLimit(0) => return Err(CopFault::Limit),
+            Directive::SetLimit(limit) => self.fields.limit = limit,
+            Directive::SetTimer(0) => return Err(CopFault::Timer),
+            Directive::SetTimer(timer) => self.fields.timer = timer,
+            Directive::Terminate if self.fields.state == FopMode::S6 => {
+                return Err(CopFault::WrongState);
+            }
+            Directive::Terminate => return Ok(self.alert(Alert::Terminated)),
             _ if self.fields.state != FopMode::S6 => return Err(CopFault::WrongState),
             Directive::InitWithoutCheck => self.begin(self.fields.vs, FopMode::S1, Control::Idle),
             Directive::InitWithCheck => {
@@ -62,52 +70,5 @@ impl Sender {
         self.fields.count = 1;
         self.fields.state = state;
         self.fields.control = control;
-    }
-
-    fn terminate(&mut self) -> Result<Option<Alert>, CopFault>
-        ensures after { self.new ≡ (sender_step self.old (Direct Directive.Terminate)).after }
-        ensures answer { result ≡ (sender_step self.old (Direct Directive.Terminate)).answer }
-    {
-        if self.fields.state == FopMode::S6 {
-            return Err(CopFault::WrongState);
-        }
-        Ok(self.alert(Alert::Terminated))
-    }
-
-    fn set_window(&mut self, window: u8) -> Result<Option<Alert>, CopFault>
-        ensures after { self.new
-            ≡ (sender_step self.old (Direct (Directive.SetWindow window))).after }
-        ensures answer { result
-            ≡ (sender_step self.old (Direct (Directive.SetWindow window))).answer }
-    {
-        if window == 0 || window > self.fields.room {
-            return Err(CopFault::Window);
-        }
-        self.fields.window = window;
-        Ok(None)
-    }
-
-    fn set_limit(&mut self, limit: u8) -> Result<Option<Alert>, CopFault>
-        ensures after { self.new ≡ (sender_step self.old (Direct (Directive.SetLimit limit))).after }
-        ensures answer { result
-            ≡ (sender_step self.old (Direct (Directive.SetLimit limit))).answer }
-    {
-        if limit == 0 {
-            return Err(CopFault::Limit);
-        }
-        self.fields.limit = limit;
-        Ok(None)
-    }
-
-    fn set_timer(&mut self, timer: u16) -> Result<Option<Alert>, CopFault>
-        ensures after { self.new ≡ (sender_step self.old (Direct (Directive.SetTimer timer))).after }
-        ensures answer { result
-            ≡ (sender_step self.old (Direct (Directive.SetTimer timer))).answer }
-    {
-        if timer == 0 {
-            return Err(CopFault::Timer);
-        }
-        self.fields.timer = timer;
-        Ok(None)
     }
 }
