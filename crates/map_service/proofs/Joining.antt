@@ -1,11 +1,11 @@
 -- What one more segment adds to what a list of segments of one MAP gives.
-use Rattle.std.proofs.Common.{◌≡◌, ℕ, List, [], ◌∷◌, ◌++◌, Option, Some, None, refl, sym, ap, ◌∙◌, append_assoc}
+use Rattle.std.proofs.Common.{◌≡◌, ℕ, List, [], ◌∷◌, ◌++◌, Option, Some, None, refl, sym, ap, ◌∙◌, append_assoc, arith}
 use Rattle.std.proofs.lemmas.List.{append-nil}
 use Rattle.tc_frame.specs.declared.frame.SegmentFlags.{SegmentFlags}
 use Rattle.tc_frame.specs.declared.frame.SegmentFlags.TheVariants.{First, Continuing, Last, Alone}
 use Rattle.tc_frame.specs.Layout.{SegmentView}
 use Rattle.map_service.specs.declared.limits.Limits.{Limits}
-use Rattle.map_service.specs.Assembly.{one_packet, packets_of, joined_data, up_to_last_from, up_to_last, up_to_end_from}
+use Rattle.map_service.specs.Assembly.{one_packet, packets_of, up_to_last_from, up_to_last, up_to_end_from}
 use Rattle.map_service.specs.Assembly.{up_to_end, block_packets, blocks_packets, part_from, ending_part}
 
 -- ---- segments that are all continuing end no block, give no packet and begin no part
@@ -40,33 +40,14 @@ ended Last octets None (Some joined) = Some (joined ++ octets)
 ended Last octets None None = None
 ended _ octets None all = None
 
-none_ended : (flags : SegmentFlags) (octets : List ℕ) → ended flags octets None None ≡ None
-none_ended Alone octets = refl
-none_ended _ octets = refl
-
-joined_data-ended : (flags : SegmentFlags) (octets o : List ℕ) (last all : Option (List ℕ))
-    → joined_data o (ended flags octets last all) ≡ ended flags octets (joined_data o last) (joined_data o all)
-joined_data-ended flags octets o (Some joined) all = refl
-joined_data-ended Last octets o None (Some joined) = ap (λ (xs : List ℕ). Some xs) (sym (append_assoc o joined octets))
-joined_data-ended Last octets o None None = refl
-joined_data-ended _ octets o None all = refl
-
 up_to_last_from-ended : (f flags : SegmentFlags) (octets o : List ℕ) (last all : Option (List ℕ))
     → up_to_last_from f o (ended flags octets last all)
     ≡ ended flags octets (up_to_last_from f o last) (up_to_end_from f o all)
-up_to_last_from-ended Alone flags octets o last all = sym (none_ended flags octets)
-up_to_last_from-ended First flags octets o last all = sym (none_ended flags octets)
-up_to_last_from-ended Continuing flags octets o last all = joined_data-ended flags octets o last all
-up_to_last_from-ended Last flags octets o last all = refl
-
-one_ended : (flags : SegmentFlags) (octets : List ℕ)
-    → up_to_last_from flags octets None ≡ ended flags octets None (Some [])
-one_ended Alone octets = refl
-one_ended _ octets = refl
+up_to_last_from-ended f flags octets o last all = grind (arith, append_assoc)
 
 pub up_to_last-push : (segments : List SegmentView) (s : SegmentView)
     → up_to_last (segments ++ s ∷ []) ≡ ended s.header.flags s.payload (up_to_last segments) (up_to_end segments)
-up_to_last-push [] s = one_ended s.header.flags s.payload
+up_to_last-push [] s = grind arith
 up_to_last-push (x ∷ segments) s =
     ap (up_to_last_from x.header.flags x.payload) (up_to_last-push segments s)
     ∙ up_to_last_from-ended x.header.flags s.header.flags s.payload x.payload (up_to_last segments) (up_to_end segments)
@@ -78,30 +59,13 @@ continued Continuing octets (Some joined) = Some (joined ++ octets)
 continued Continuing octets None = None
 continued _ octets all = None
 
-none_continued : (flags : SegmentFlags) (octets : List ℕ) → continued flags octets None ≡ None
-none_continued Alone octets = refl
-none_continued _ octets = refl
-
-joined_data-continued : (flags : SegmentFlags) (octets o : List ℕ) (all : Option (List ℕ))
-    → joined_data o (continued flags octets all) ≡ continued flags octets (joined_data o all)
-joined_data-continued Continuing octets o (Some joined) =
-    ap (λ (xs : List ℕ). Some xs) (sym (append_assoc o joined octets))
-joined_data-continued Continuing octets o None = refl
-joined_data-continued _ octets o all = refl
-
 up_to_end_from-continued : (f flags : SegmentFlags) (octets o : List ℕ) (all : Option (List ℕ))
     → up_to_end_from f o (continued flags octets all) ≡ continued flags octets (up_to_end_from f o all)
-up_to_end_from-continued Continuing flags octets o all = joined_data-continued flags octets o all
-up_to_end_from-continued _ flags octets o all = sym (none_continued flags octets)
-
-one_continued : (flags : SegmentFlags) (octets : List ℕ)
-    → up_to_end_from flags octets (Some []) ≡ continued flags octets (Some [])
-one_continued Continuing octets = ap (λ (xs : List ℕ). Some xs) (append-nil octets)
-one_continued _ octets = refl
+up_to_end_from-continued f flags octets o all = grind (arith, append_assoc)
 
 pub up_to_end-push : (segments : List SegmentView) (s : SegmentView)
     → up_to_end (segments ++ s ∷ []) ≡ continued s.header.flags s.payload (up_to_end segments)
-up_to_end-push [] s = one_continued s.header.flags s.payload
+up_to_end-push [] s = grind (arith, append-nil)
 up_to_end-push (x ∷ segments) s =
     ap (up_to_end_from x.header.flags x.payload) (up_to_end-push segments s)
     ∙ up_to_end_from-continued x.header.flags s.header.flags s.payload x.payload (up_to_end segments)
@@ -115,33 +79,14 @@ part_behind Continuing octets (Some part) = Some (part ++ octets)
 part_behind Continuing octets None = None
 part_behind Last octets part = None
 
-first_part_from : (flags : SegmentFlags) (octets o : List ℕ) (all later : Option (List ℕ))
-    → part_from First o (continued flags octets all) (part_behind flags octets later)
-    ≡ part_behind flags octets (part_from First o all later)
-first_part_from Alone octets o all (Some later) =
-    elim all as (λ a. part_behind Alone octets (Some later)
-    ≡ part_behind Alone octets (part_from First o a (Some later))) [ None ↦ refl | Some j ↦ refl ]
-first_part_from Alone octets o all None = refl
-first_part_from First octets o all later = refl
-first_part_from Continuing octets o (Some joined) later =
-    ap (λ (xs : List ℕ). Some xs) (sym (append_assoc o joined octets))
-first_part_from Continuing octets o None later = refl
-first_part_from Last octets o all later = refl
-
 part_from-behind : (f flags : SegmentFlags) (octets o : List ℕ) (all later : Option (List ℕ))
     → part_from f o (continued flags octets all) (part_behind flags octets later)
     ≡ part_behind flags octets (part_from f o all later)
-part_from-behind First flags octets o all later = first_part_from flags octets o all later
-part_from-behind _ flags octets o all later = refl
-
-one_part_from : (flags : SegmentFlags) (octets : List ℕ)
-    → part_from flags octets (Some []) None ≡ part_behind flags octets None
-one_part_from First octets = ap (λ (xs : List ℕ). Some xs) (append-nil octets)
-one_part_from _ octets = refl
+part_from-behind f flags octets o all later = grind (arith, append_assoc)
 
 pub ending_part-push : (segments : List SegmentView) (s : SegmentView)
     → ending_part (segments ++ s ∷ []) ≡ part_behind s.header.flags s.payload (ending_part segments)
-ending_part-push [] s = one_part_from s.header.flags s.payload
+ending_part-push [] s = grind (arith, append-nil)
 ending_part-push (x ∷ segments) s =
     rw (up_to_end-push segments s, ending_part-push segments s)
     (part_from-behind x.header.flags s.header.flags s.payload x.payload (up_to_end segments) (ending_part segments))
@@ -181,15 +126,10 @@ block_gives limits First flags octets o last all later given h =
     first_gives limits flags octets o last all later given h
 block_gives limits _ flags octets o last all later given h = refl
 
-one_gives : (limits : Limits) (flags : SegmentFlags) (octets : List ℕ)
-    → block_packets limits flags octets None ++ [] ≡ packets_behind limits flags octets None
-one_gives limits Alone octets = append-nil (packets_of limits octets)
-one_gives limits _ octets = refl
-
 pub blocks_packets-push : (limits : Limits) (segments : List SegmentView) (s : SegmentView)
     → blocks_packets limits (segments ++ s ∷ []) ≡ blocks_packets limits segments
     ++ packets_behind limits s.header.flags s.payload (ending_part segments)
-blocks_packets-push limits [] s = one_gives limits s.header.flags s.payload
+blocks_packets-push limits [] s = grind (arith, append-nil)
 blocks_packets-push limits (x ∷ segments) s =
     rw (up_to_last-push segments s, blocks_packets-push limits segments s)
     (block_gives limits x.header.flags s.header.flags s.payload x.payload (up_to_last segments) (up_to_end segments)
