@@ -2,7 +2,7 @@
 
 ghost use Rattle.std.specs.Prelude.{◌≡◌, ◌≤◌, ◌<◌, ◌++◌, [], ◌∷◌, length, take, Err, None, IfSome, IsOkUnless, OnOk, OnErr};
 ghost use Rattle.std.specs.List.{concat};
-ghost use Rattle.map_service.specs.Cutting.{segment_views, pieces_of, segment_with, later_segments, parts_of, longest_run, first_group, segments_of, cut_fault};
+ghost use Rattle.map_service.specs.Cutting.{segment_views, segment_with, parts_of, longest_run, first_group, segments_of, cut_fault};
 ghost use Rattle.map_service.specs.Packets.{packets_in, rest_in};
 
 use crate::fault::MapFault;
@@ -59,9 +59,14 @@ pub fn cut_packets<'a>(
     ensures memory { IsOkUnless result MapFault.Memory }
 {
     let before = segments.len();
-    if append_groups(octets, map, part, segments).is_err() {
-        segments.truncate(before);
-        return Err(MapFault::Memory);
+    let mut rest = octets;
+    'groups: while !rest.is_empty() {
+        let (group, behind) = rest.split_at(group_len(rest, part));
+        let Ok(()) = append_parts(group, map, part, segments) else {
+            segments.truncate(before);
+            return Err(MapFault::Memory);
+        };
+        rest = behind;
     }
     Ok(())
 }
@@ -83,28 +88,6 @@ fn append<'a>(
     Ok(())
 }
 
-// The parts after a first.
-fn append_following<'a>(
-    octets: &'a [u8],
-    map: u8,
-    part: usize,
-    segments: &mut Vec<Segment<'a>>,
-) -> Result<(), MapFault>
-    requires some_octet { 1 ≤ length octets.now }
-    requires some_part { 1 ≤ part }
-    ensures ok { OnOk result (segment_views segments.new.items
-        ≡ segment_views segments.old.items ++ later_segments map (pieces_of part octets.now)) }
-    ensures before { take (length segments.old.items) segments.new.items ≡ segments.old.items }
-{
-    let mut rest = octets;
-    'parts: while rest.len() > part {
-        let (piece, behind) = rest.split_at(part);
-        append(SegmentFlags::Continuing, map, piece, segments)?;
-        rest = behind;
-    }
-    append(SegmentFlags::Last, map, rest, segments)
-}
-
 fn append_parts<'a>(
     octets: &'a [u8],
     map: u8,
@@ -120,9 +103,14 @@ fn append_parts<'a>(
     if octets.len() <= part {
         return append(SegmentFlags::Alone, map, octets, segments);
     }
-    let (piece, behind) = octets.split_at(part);
-    append(SegmentFlags::First, map, piece, segments)?;
-    append_following(behind, map, part, segments)
+    let (first, mut rest) = octets.split_at(part);
+    append(SegmentFlags::First, map, first, segments)?;
+    'parts: while rest.len() > part {
+        let (piece, behind) = rest.split_at(part);
+        append(SegmentFlags::Continuing, map, piece, segments)?;
+        rest = behind;
+    }
+    append(SegmentFlags::Last, map, rest, segments)
 }
 
 // How many octets the longest run of the first packets has.
@@ -161,25 +149,4 @@ pub fn group_len(octets: &[u8], part: usize) -> usize
         }
         None => unreachable!(),
     }
-}
-
-fn append_groups<'a>(
-    octets: &'a [u8],
-    map: u8,
-    part: usize,
-    segments: &mut Vec<Segment<'a>>,
-) -> Result<(), MapFault>
-    requires some_part { 1 ≤ part }
-    requires whole { rest_in octets.now ≡ [] }
-    ensures ok { OnOk result (segment_views segments.new.items
-        ≡ segment_views segments.old.items ++ segments_of part map octets.now) }
-    ensures before { take (length segments.old.items) segments.new.items ≡ segments.old.items }
-{
-    let mut rest = octets;
-    'groups: while !rest.is_empty() {
-        let (group, behind) = rest.split_at(group_len(rest, part));
-        append_parts(group, map, part, segments)?;
-        rest = behind;
-    }
-    Ok(())
 }

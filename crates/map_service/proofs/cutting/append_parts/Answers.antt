@@ -1,7 +1,8 @@
-use Rattle.std.proofs.Common.{◌++◌, List, ap, sym, ◌∙◌}
+use Rattle.std.proofs.Common.{◌++◌, List, ap, sym, ◌∙◌, arith}
 use Rattle.tc_frame.specs.Layout.{SegmentView}
 use Rattle.map_service.specs.Cutting.{segment_views}
-use Rattle.map_service.proofs.Pieces.{ok_along, and_more, parts-fit, parts-cut}
+use Rattle.map_service.proofs.Pieces.{ok_along, and_more, parts-fit, parts-cut, later_segments-last, later_segments-cut}
+use Rattle.map_service.proofs.Pieces.{still_before}
 use Rattle.map_service.proofs.cutting.append_parts.Goals as goal
 
 pub returns-then-octets-part-clause-ok : goal.returns-then-octets-part-clause-ok
@@ -12,9 +13,30 @@ returns-then-octets-part-clause-ok c =
     (sym (parts-fit c.args.map c.args.part c.args.octets.now c.requires.some_octet c.if-octets-part.true)))
     c.append.ensures.ok
 
-pub returns-clause-ok : goal.returns-clause-ok
-returns-clause-ok c =
+pub parts-init : goal.parts-init
+parts-init c =
     let cut = parts-cut c.args.map c.args.part c.args.octets.now c.split_at.result.0.now c.split_at.result.1.now
     c.requires.some_part c.if-octets-part.false c.split_at.ensures.front c.split_at.ensures.back in
-    ok_along c.append_following.result _ _ (λ e. e ∙ and_more _ _ _ _ _ c.in_ok-append.ensures.ok cut)
-    c.append_following.ensures.ok
+    record {
+      some = omega (arith, c.split_at.ensures.back_len, c.if-octets-part.false);
+      views = and_more _ _ _ _ _ c.in_ok-append.ensures.ok cut;
+      before = c.append-2.ensures.before;
+    }
+
+pub parts-preserved : goal.parts-preserved
+parts-preserved c =
+    let split = c.split_at-in-parts in
+    let cut = later_segments-cut c.args.map c.args.part c.parts.rest.now split.result.0.now split.result.1.now
+    c.requires.some_part c.parts-test.true split.ensures.front split.ensures.back in
+    record {
+      some = omega (arith, split.ensures.back_len, c.parts-test.true);
+      views = and_more _ _ _ _ _ c.in_ok-append-2.ensures.ok cut ∙ c.parts.invariant.views;
+      before = still_before _ _ _ c.parts.invariant.before c.append-in-parts.ensures.before;
+    }
+
+pub returns-clause-ok : goal.returns-clause-ok
+returns-clause-ok c =
+    let old : List SegmentView = segment_views c.parts.segments.items in
+    let last = later_segments-last c.args.map c.args.part c.parts.rest.now c.parts.invariant.some c.parts-test.false in
+    ok_along c.append-3.result _ _ (λ e. e ∙ ap (λ (vs : List SegmentView). old ++ vs) (sym last)
+    ∙ c.parts.invariant.views) c.append-3.ensures.ok

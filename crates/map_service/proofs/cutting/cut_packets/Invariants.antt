@@ -1,7 +1,7 @@
 use Rattle.std.proofs.Common.{◌≡◌, ◌++◌, [], length, take}
 use Rattle.map_service.specs.Cutting.{segment_views, segments_of}
 use Rattle.map_service.specs.Packets.{rest_in}
-use Rattle.map_service.proofs.cutting.append_groups.Given as goal
+use Rattle.map_service.proofs.cutting.cut_packets.Given as goal
 
 abbrev pub invariant-groups : goal.invariant-groups
 invariant-groups l = record {

@@ -4,7 +4,7 @@ use Rattle.tc_frame.specs.Layout.{SegmentView}
 use Rattle.map_service.specs.Cutting.{segment_views, segments_of}
 use Rattle.map_service.proofs.Pieces.{and_others, still_before}
 use Rattle.map_service.proofs.Groups.{groups-cut, groups-none, none_from}
-use Rattle.map_service.proofs.cutting.append_groups.Goals as goal
+use Rattle.map_service.proofs.cutting.cut_packets.Goals as goal
 
 pub groups-preserved : goal.groups-preserved
 groups-preserved c =
@@ -14,7 +14,7 @@ groups-preserved c =
     c.split_at.ensures.front c.split_at.ensures.back in
     record {
       whole = cut.1;
-      views = and_others _ _ _ _ _ c.in_ok-append_parts.ensures.ok cut.0 ∙ c.groups.invariant.views;
+      views = and_others _ _ _ _ _ c.in-Ok.ensures.ok cut.0 ∙ c.groups.invariant.views;
       before = still_before _ _ _ c.groups.invariant.before c.append_parts.ensures.before;
     }
 
