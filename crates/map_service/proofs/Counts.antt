@@ -3,7 +3,9 @@ use Rattle.std.proofs.Common.{◌≡◌, ◌≤◌, ℕ, zero, suc, ◌+◌, ◌
 use Rattle.std.proofs.Common.{inl, inr, length-drop}
 use Rattle.std.proofs.lemmas.Bool.{cases_lt, le-leb, lt-leb}
 use Rattle.std.proofs.Math.Nat.{add-div_right, div-eq_of_lt}
-use Rattle.map_service.specs.Cutting.{pieces_within, pieces_of, later_segments, segments_of_pieces, parts_of}
+use Rattle.tc_frame.specs.declared.frame.SegmentFlags.{SegmentFlags}
+use Rattle.tc_frame.specs.declared.frame.SegmentFlags.TheVariants.{First, Continuing, Last, Alone}
+use Rattle.map_service.specs.Cutting.{pieces_within, pieces_of, flagged_segments, parts_of}
 
 count_within : (n part : ℕ) (xs : List ℕ) → 1 ≤ part → 1 ≤ length xs → length xs ≤ n
     → length (pieces_within n part xs) ≡ (length xs - 1) / part + 1
@@ -24,19 +26,15 @@ count_within (suc n) part xs one some le =
           rw (le-leb (length xs) part ge) (omega arith)
     ]
 
-later_segments-count : (m : ℕ) (pieces : List (List ℕ)) → length (later_segments m pieces) ≡ length pieces
-later_segments-count m [] = refl
-later_segments-count m (x ∷ []) = refl
-later_segments-count m (x ∷ y ∷ ys) = ap suc (later_segments-count m (y ∷ ys))
-
-segments_of_pieces-count : (m : ℕ) (pieces : List (List ℕ)) → length (segments_of_pieces m pieces) ≡ length pieces
-segments_of_pieces-count m [] = refl
-segments_of_pieces-count m (x ∷ []) = refl
-segments_of_pieces-count m (x ∷ y ∷ ys) = ap suc (later_segments-count m (y ∷ ys))
+flagged-count : (front single : SegmentFlags) (m : ℕ) (pieces : List (List ℕ))
+    → length (flagged_segments front single m pieces) ≡ length pieces
+flagged-count front single m [] = refl
+flagged-count front single m (x ∷ []) = refl
+flagged-count front single m (x ∷ y ∷ ys) = ap suc (flagged-count Continuing Last m (y ∷ ys))
 
 -- the parts of octets that aren't none
 pub parts-count : (part m : ℕ) (xs : List ℕ) → 1 ≤ part → 1 ≤ length xs
     → length (parts_of part m xs) ≡ (length xs - 1) / part + 1
 unfolding pieces_of
 parts-count part m xs one some =
-    segments_of_pieces-count m (pieces_of part xs) ∙ count_within (length xs) part xs one some (omega arith)
+    flagged-count First Alone m (pieces_of part xs) ∙ count_within (length xs) part xs one some (omega arith)

@@ -5,11 +5,11 @@ use Rattle.std.specs.List.{AllByRecursion, concat}
 use Rattle.std.proofs.lemmas.Bool.{cases_lt}
 use Rattle.std.proofs.lemmas.List.{append-nil, take_at, drop_at}
 use Rattle.tc_frame.specs.declared.frame.SegmentFlags.{SegmentFlags}
-use Rattle.tc_frame.specs.declared.frame.SegmentFlags.TheVariants.{First, Continuing, Last}
+use Rattle.tc_frame.specs.declared.frame.SegmentFlags.TheVariants.{First, Continuing, Last, Alone}
 use Rattle.tc_frame.specs.Layout.{SegmentView}
-use Rattle.map_service.specs.Cutting.{pieces_of, segment_with, later_segments, parts_of, payloads, flags_of, IsPart}
-use Rattle.map_service.specs.Cutting.{IsInParts}
-use Rattle.map_service.proofs.Pieces.{later_segments-last, later_segments-cut, parts-cut}
+use Rattle.map_service.specs.Cutting.{pieces_of, segment_with, flagged_segments, later_segments, parts_of, payloads}
+use Rattle.map_service.specs.Cutting.{flags_of, IsPart, IsInParts}
+use Rattle.map_service.proofs.Pieces.{pieces-fit, later_segments-last, flagged-cut}
 use Rattle.map_service.proofs.Parts.{parts-joined, parts-each}
 
 -- ---- the segments after a first
@@ -31,7 +31,7 @@ following_is (suc n) part m octets one some le =
       | inl lt ↦
           let rest = following_is n part m (drop part octets) one (omega (arith, length-drop part octets))
           (omega (arith, length-drop part octets)) in
-          let cut = later_segments-cut m part octets (take part octets) (drop part octets) one lt refl refl in
+          let cut = flagged-cut Continuing Last m part octets (take part octets) (drop part octets) one lt refl refl in
           subst (λ (xs : List SegmentView). IsFollowing part m octets xs) (sym cut) (record {
             between = suc rest.between;
             flags = ap (λ (fs : List SegmentFlags). Continuing ∷ fs) rest.flags;
@@ -48,7 +48,7 @@ in_parts part m octets one lt =
     (omega (arith, length-drop part octets)) in
     let cut : parts_of part m octets ≡ segment_with First m (take part octets)
     ∷ later_segments m (pieces_of part (drop part octets)) =
-    parts-cut m part octets (take part octets) (drop part octets) one lt refl refl in
+    flagged-cut First Alone m part octets (take part octets) (drop part octets) one lt refl refl in
     let full : AllByRecursion (IsFull part)
     (take (suc rest.between) (segment_with First m (take part octets)
     ∷ later_segments m (pieces_of part (drop part octets)))) =
@@ -93,44 +93,40 @@ some_behind part m (suc n) [] f each = absurd cc
 some_behind part m n (s ∷ segments) f each =
     omega (arith, each.0.least, length-append s.payload (concat (payloads segments)))
 
-only_following : (part m n : ℕ) (octets : List ℕ) (segments : List SegmentView) → 1 ≤ part
-    → flags_of segments ≡ replicate n Continuing ++ Last ∷ []
-    → concat (payloads segments) ≡ octets → AllByRecursion (IsPart part m) segments
-    → AllByRecursion (IsFull part) (take n segments) → segments ≡ later_segments m (pieces_of part octets)
-only_following part m zero octets [] one f joined each full = absurd cc
-only_following part m (suc n) octets [] one f joined each full = absurd cc
-only_following part m zero octets (s ∷ t ∷ ts) one f joined each full = absurd cc
-only_following part m zero octets (s ∷ []) one f joined each full =
-    let is : s.payload ≡ octets = sym (append-nil s.payload) ∙ joined in
-    let last : s.header.flags ≡ Last = cc in
-    ap (λ (x : SegmentView). x ∷ []) (segment_is s Last m octets last each.0.on_map is)
-    ∙ sym (later_segments-last m part octets (omega (arith, each.0.least, ap length is))
-    (omega (arith, each.0.most, ap length is)))
-only_following part m (suc n) octets (s ∷ segments) one f joined each full =
-    let behind : List ℕ = concat (payloads segments) in
-    let here : s.header.flags ≡ Continuing = cc in
-    let flags : flags_of segments ≡ replicate n Continuing ++ Last ∷ [] = cc in
-    let split = split_at_part part octets s.payload behind joined full.0 (some_behind part m n segments flags each.1) in
-    ap (λ (x : SegmentView). x ∷ segments) (segment_is s Continuing m s.payload here each.0.on_map refl)
-    ∙ ap (λ (xs : List SegmentView). segment_with Continuing m s.payload ∷ xs)
-    (only_following part m n behind segments one flags refl each.1 full.1)
-    ∙ sym (later_segments-cut m part octets s.payload behind one split.more split.front split.back)
+-- the flags of segments of which n follow a first, or of one alone
+abbrev flags_from : SegmentFlags → SegmentFlags → ℕ → List SegmentFlags
+flags_from front single zero = single ∷ []
+flags_from front single (suc n) = front ∷ (replicate n Continuing ++ Last ∷ [])
 
-only_at : (part m n : ℕ) (octets : List ℕ) (segments : List SegmentView) → 1 ≤ part
-    → flags_of segments ≡ First ∷ (replicate n Continuing ++ Last ∷ [])
+flags_behind : (n : ℕ) → replicate n Continuing ++ Last ∷ [] ≡ flags_from Continuing Last n
+flags_behind zero = refl
+flags_behind (suc n) = refl
+
+only_from : (front single : SegmentFlags) (part m n : ℕ) (octets : List ℕ) (segments : List SegmentView) → 1 ≤ part
+    → flags_of segments ≡ flags_from front single n
     → concat (payloads segments) ≡ octets → AllByRecursion (IsPart part m) segments
-    → AllByRecursion (IsFull part) (take (suc n) segments) → segments ≡ parts_of part m octets
-only_at part m n octets [] one f joined each full = absurd cc
-only_at part m n octets (s ∷ segments) one f joined each full =
+    → AllByRecursion (IsFull part) (take n segments)
+    → segments ≡ flagged_segments front single m (pieces_of part octets)
+only_from front single part m zero octets [] one f joined each full = absurd cc
+only_from front single part m (suc n) octets [] one f joined each full = absurd cc
+only_from front single part m zero octets (s ∷ t ∷ ts) one f joined each full = absurd cc
+only_from front single part m zero octets (s ∷ []) one f joined each full =
+    let is : s.payload ≡ octets = sym (append-nil s.payload) ∙ joined in
+    let here : s.header.flags ≡ single = cc in
+    ap (λ (x : SegmentView). x ∷ []) (segment_is s single m octets here each.0.on_map is)
+    ∙ sym (ap (flagged_segments front single m) (pieces-fit part octets (omega (arith, each.0.least, ap length is))
+    (omega (arith, each.0.most, ap length is))))
+only_from front single part m (suc n) octets (s ∷ segments) one f joined each full =
     let behind : List ℕ = concat (payloads segments) in
-    let here : s.header.flags ≡ First = cc in
+    let here : s.header.flags ≡ front = cc in
     let flags : flags_of segments ≡ replicate n Continuing ++ Last ∷ [] = cc in
     let split = split_at_part part octets s.payload behind joined full.0 (some_behind part m n segments flags each.1) in
-    ap (λ (x : SegmentView). x ∷ segments) (segment_is s First m s.payload here each.0.on_map refl)
-    ∙ ap (λ (xs : List SegmentView). segment_with First m s.payload ∷ xs)
-    (only_following part m n behind segments one flags refl each.1 full.1)
-    ∙ sym (parts-cut m part octets s.payload behind one split.more split.front split.back)
+    ap (λ (x : SegmentView). x ∷ segments) (segment_is s front m s.payload here each.0.on_map refl)
+    ∙ ap (λ (xs : List SegmentView). segment_with front m s.payload ∷ xs)
+    (only_from Continuing Last part m n behind segments one (flags ∙ flags_behind n) refl each.1 full.1)
+    ∙ sym (flagged-cut front single m part octets s.payload behind one split.more split.front split.back)
 
 pub only_in_parts : (part m : ℕ) (octets : List ℕ) (segments : List SegmentView) → 1 ≤ part
     → IsInParts part m octets segments → segments ≡ parts_of part m octets
-only_in_parts part m octets segments one h = only_at part m h.between octets segments one h.flags h.joined h.each h.full
+only_in_parts part m octets segments one h =
+    only_from First Alone part m (suc h.between) octets segments one h.flags h.joined h.each h.full

@@ -5,8 +5,10 @@ use Rattle.std.specs.List.{AllByRecursion, concat, flat_map}
 use Rattle.std.proofs.lemmas.Bool.{cases_lt, le-leb, lt-leb}
 use Rattle.std.proofs.lemmas.List.{append-nil, map-append, take-append-drop}
 use Rattle.std.proofs.lemmas.List.Folds.{concat-append}
+use Rattle.tc_frame.specs.declared.frame.SegmentFlags.{SegmentFlags}
+use Rattle.tc_frame.specs.declared.frame.SegmentFlags.TheVariants.{First, Continuing, Last, Alone}
 use Rattle.tc_frame.specs.Layout.{SegmentView}
-use Rattle.map_service.specs.Cutting.{pieces_within, pieces_of, later_segments, segments_of_pieces, parts_of}
+use Rattle.map_service.specs.Cutting.{pieces_within, pieces_of, flagged_segments, parts_of}
 use Rattle.map_service.specs.Cutting.{first_group, groups_within, groups_of, segments_of, payloads, IsPart}
 use Rattle.map_service.specs.Packets.{packets_in, rest_in}
 use Rattle.map_service.proofs.Groups.{group-front, group-some, all_of}
@@ -52,32 +54,22 @@ pieces-sizes part (x ∷ xs) one = sizes_within (length (x ∷ xs)) part (x ∷ 
 
 -- ---- their segments
 
-later_segments-payloads : (m : ℕ) (pieces : List (List ℕ)) → payloads (later_segments m pieces) ≡ pieces
-later_segments-payloads m [] = refl
-later_segments-payloads m (x ∷ []) = refl
-later_segments-payloads m (x ∷ y ∷ ys) = ap (λ (ps : List (List ℕ)). x ∷ ps) (later_segments-payloads m (y ∷ ys))
+flagged-payloads : (front single : SegmentFlags) (m : ℕ) (pieces : List (List ℕ))
+    → payloads (flagged_segments front single m pieces) ≡ pieces
+flagged-payloads front single m [] = refl
+flagged-payloads front single m (x ∷ []) = refl
+flagged-payloads front single m (x ∷ y ∷ ys) =
+    ap (λ (ps : List (List ℕ)). x ∷ ps) (flagged-payloads Continuing Last m (y ∷ ys))
 
-segments_of_pieces-payloads : (m : ℕ) (pieces : List (List ℕ)) → payloads (segments_of_pieces m pieces) ≡ pieces
-segments_of_pieces-payloads m [] = refl
-segments_of_pieces-payloads m (x ∷ []) = refl
-segments_of_pieces-payloads m (x ∷ y ∷ ys) = ap (λ (ps : List (List ℕ)). x ∷ ps) (later_segments-payloads m (y ∷ ys))
-
-later_segments-parts : (part m : ℕ) (pieces : List (List ℕ)) → AllByRecursion (IsPiece part) pieces
-    → AllByRecursion (IsPart part m) (later_segments m pieces)
-later_segments-parts part m [] h = tt
-later_segments-parts part m (x ∷ []) h = (record { on_map = refl; least = h.0.0; most = h.0.1 }, tt)
-later_segments-parts part m (x ∷ y ∷ ys) h =
-    (record { on_map = refl; least = h.0.0; most = h.0.1 }, later_segments-parts part m (y ∷ ys) h.1)
-
-segments_of_pieces-parts : (part m : ℕ) (pieces : List (List ℕ)) → AllByRecursion (IsPiece part) pieces
-    → AllByRecursion (IsPart part m) (segments_of_pieces m pieces)
-segments_of_pieces-parts part m [] h = tt
-segments_of_pieces-parts part m (x ∷ []) h = (record { on_map = refl; least = h.0.0; most = h.0.1 }, tt)
-segments_of_pieces-parts part m (x ∷ y ∷ ys) h =
-    (record { on_map = refl; least = h.0.0; most = h.0.1 }, later_segments-parts part m (y ∷ ys) h.1)
+flagged-parts : (front single : SegmentFlags) (part m : ℕ) (pieces : List (List ℕ))
+    → AllByRecursion (IsPiece part) pieces → AllByRecursion (IsPart part m) (flagged_segments front single m pieces)
+flagged-parts front single part m [] h = tt
+flagged-parts front single part m (x ∷ []) h = (record { on_map = refl; least = h.0.0; most = h.0.1 }, tt)
+flagged-parts front single part m (x ∷ y ∷ ys) h =
+    (record { on_map = refl; least = h.0.0; most = h.0.1 }, flagged-parts Continuing Last part m (y ∷ ys) h.1)
 
 pub parts-joined : (part m : ℕ) (xs : List ℕ) → 1 ≤ part → concat (payloads (parts_of part m xs)) ≡ xs
-parts-joined part m xs one = ap concat (segments_of_pieces-payloads m (pieces_of part xs)) ∙ pieces-joined part xs one
+parts-joined part m xs one = ap concat (flagged-payloads First Alone m (pieces_of part xs)) ∙ pieces-joined part xs one
 
 -- ---- groups
 
@@ -125,7 +117,7 @@ groups-parts part m [] one = tt
 groups-parts part m (g ∷ gs) one =
     all-append (IsPart part m) (parts_of part m (concat g))
     (flat_map (λ (h : List (List ℕ)). parts_of part m (concat h)) gs)
-    (segments_of_pieces-parts part m (pieces_of part (concat g)) (pieces-sizes part (concat g) one))
+    (flagged-parts First Alone part m (pieces_of part (concat g)) (pieces-sizes part (concat g) one))
     (groups-parts part m gs one)
 
 pub segments-parts : (part m : ℕ) (octets : List ℕ) → 1 ≤ part
@@ -133,4 +125,4 @@ pub segments-parts : (part m : ℕ) (octets : List ℕ) → 1 ≤ part
 segments-parts part m octets one = groups-parts part m (groups_of part (packets_in octets)) one
 
 pub parts-each : (part m : ℕ) (octets : List ℕ) → 1 ≤ part → AllByRecursion (IsPart part m) (parts_of part m octets)
-parts-each part m octets one = segments_of_pieces-parts part m (pieces_of part octets) (pieces-sizes part octets one)
+parts-each part m octets one = flagged-parts First Alone part m (pieces_of part octets) (pieces-sizes part octets one)

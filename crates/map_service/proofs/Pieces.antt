@@ -4,10 +4,11 @@ use Rattle.std.proofs.Common.{◌≡◌, ◌≤◌, ◌<◌, ℕ, zero, suc, Lis
 use Rattle.std.proofs.Common.{refl, sym, ap, ◌∙◌, arith, inl, inr, append_assoc, length-take, length-drop}
 use Rattle.std.proofs.lemmas.Bool.{cases_lt, le-leb, lt-leb}
 use Rattle.std.proofs.lemmas.List.{take-take}
+use Rattle.tc_frame.specs.declared.frame.SegmentFlags.{SegmentFlags}
 use Rattle.tc_frame.specs.declared.frame.SegmentFlags.TheVariants.{First, Continuing, Last, Alone}
 use Rattle.tc_frame.specs.Layout.{SegmentView}
-use Rattle.map_service.specs.Cutting.{pieces_within, pieces_of, segment_with, later_segments, segments_of_pieces}
-use Rattle.map_service.specs.Cutting.{parts_of}
+use Rattle.map_service.specs.Cutting.{pieces_within, pieces_of, segment_with, flagged_segments, later_segments}
+use Rattle.map_service.specs.Cutting.{segments_of_pieces, parts_of}
 
 -- what stands in front of a list that grew twice
 pub still_before : {A : Type 0} (xs ys zs : List A) → take (length xs) ys ≡ xs → take (length ys) zs ≡ ys
@@ -59,13 +60,18 @@ pub later_segments-last : (m part : ℕ) (xs : List ℕ) → 1 ≤ length xs →
     → later_segments m (pieces_of part xs) ≡ segment_with Last m xs ∷ []
 later_segments-last m part xs some le = ap (later_segments m) (pieces-fit part xs some le)
 
-pub later_segments-more : (m part : ℕ) (xs : List ℕ) → 1 ≤ part → part < length xs
-    → later_segments m (pieces_of part xs) ≡ segment_with Continuing m (take part xs)
+flagged-more : (front single : SegmentFlags) (m part : ℕ) (xs : List ℕ) → 1 ≤ part → part < length xs
+    → flagged_segments front single m (pieces_of part xs) ≡ segment_with front m (take part xs)
     ∷ later_segments m (pieces_of part (drop part xs))
-later_segments-more m part xs one lt =
+flagged-more front single m part xs one lt =
     let rest = pieces-some part (drop part xs) one (omega (arith, length-drop part xs)) in
     let is : pieces_of part (drop part xs) ≡ rest.0 ∷ rest.1 = rest.2 in
     rw (pieces-more part xs one lt, is) refl
+
+pub later_segments-more : (m part : ℕ) (xs : List ℕ) → 1 ≤ part → part < length xs
+    → later_segments m (pieces_of part xs) ≡ segment_with Continuing m (take part xs)
+    ∷ later_segments m (pieces_of part (drop part xs))
+later_segments-more = flagged-more Continuing Last
 
 -- octets in one segment, and in several
 pub parts-fit : (m part : ℕ) (xs : List ℕ) → 1 ≤ length xs → length xs ≤ part
@@ -74,10 +80,7 @@ parts-fit m part xs some le = ap (segments_of_pieces m) (pieces-fit part xs some
 
 pub parts-more : (m part : ℕ) (xs : List ℕ) → 1 ≤ part → part < length xs
     → parts_of part m xs ≡ segment_with First m (take part xs) ∷ later_segments m (pieces_of part (drop part xs))
-parts-more m part xs one lt =
-    let rest = pieces-some part (drop part xs) one (omega (arith, length-drop part xs)) in
-    let is : pieces_of part (drop part xs) ≡ rest.0 ∷ rest.1 = rest.2 in
-    rw (pieces-more part xs one lt, is) refl
+parts-more = flagged-more First Alone
 
 -- ---- segments that were added
 
@@ -100,12 +103,9 @@ and_others old new some others all e is =
     ∙ ap (λ (vs : List SegmentView). old ++ vs) (sym is)
 
 -- the same lemmas, where the front and what is after it have names of their own
-pub later_segments-cut : (m part : ℕ) (xs piece behind : List ℕ) → 1 ≤ part → part < length xs → piece ≡ take part xs
-    → behind ≡ drop part xs
-    → later_segments m (pieces_of part xs) ≡ segment_with Continuing m piece ∷ later_segments m (pieces_of part behind)
-later_segments-cut m part xs piece behind one lt front back = rw (front, back) (later_segments-more m part xs one lt)
-
-pub parts-cut : (m part : ℕ) (xs piece behind : List ℕ) → 1 ≤ part → part < length xs → piece ≡ take part xs
-    → behind ≡ drop part xs
-    → parts_of part m xs ≡ segment_with First m piece ∷ later_segments m (pieces_of part behind)
-parts-cut m part xs piece behind one lt front back = rw (front, back) (parts-more m part xs one lt)
+pub flagged-cut : (front single : SegmentFlags) (m part : ℕ) (xs piece behind : List ℕ) → 1 ≤ part → part < length xs
+    → piece ≡ take part xs → behind ≡ drop part xs
+    → flagged_segments front single m (pieces_of part xs) ≡ segment_with front m piece
+    ∷ later_segments m (pieces_of part behind)
+flagged-cut front single m part xs piece behind one lt taken left =
+    rw (taken, left) (flagged-more front single m part xs one lt)

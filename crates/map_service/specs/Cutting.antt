@@ -35,17 +35,21 @@ abbrev pub segment_with : SegmentFlags → ℕ → List ℕ → SegmentView
 segment_with flags m octets =
     record { header = record { flags = flags; map = m }; payload = octets }
 
--- the pieces after a first: continuing as often as needed, and a last
-abbrev pub later_segments : ℕ → List (List ℕ) → List SegmentView
-later_segments m [] = []
-later_segments m (x ∷ []) = segment_with Last m x ∷ []
-later_segments m (x ∷ y ∷ ys) = segment_with Continuing m x ∷ later_segments m (y ∷ ys)
+-- pieces as segments: one piece has the flags `single`; of several the first has the flags `front`,
+-- and those after it are continuing as often as needed, and a last
+abbrev pub flagged_segments : SegmentFlags → SegmentFlags → ℕ → List (List ℕ) → List SegmentView
+flagged_segments front single m [] = []
+flagged_segments front single m (x ∷ []) = segment_with single m x ∷ []
+flagged_segments front single m (x ∷ y ∷ ys) =
+    segment_with front m x ∷ flagged_segments Continuing Last m (y ∷ ys)
 
--- one piece stands alone, and the first of several is followed by the others
+-- the pieces after a first
+abbrev pub later_segments : ℕ → List (List ℕ) → List SegmentView
+later_segments = flagged_segments Continuing Last
+
+-- all pieces: one stands alone
 abbrev pub segments_of_pieces : ℕ → List (List ℕ) → List SegmentView
-segments_of_pieces m [] = []
-segments_of_pieces m (x ∷ []) = segment_with Alone m x ∷ []
-segments_of_pieces m (x ∷ y ∷ ys) = segment_with First m x ∷ later_segments m (y ∷ ys)
+segments_of_pieces = flagged_segments First Alone
 
 -- the segments of a packet, or of packets that go into one segment, on MAP m
 abbrev pub parts_of : ℕ → ℕ → List ℕ → List SegmentView

@@ -1,8 +1,8 @@
 use Rattle.std.proofs.Common.{◌++◌, List, ap, sym, ◌∙◌, arith}
+use Rattle.tc_frame.specs.declared.frame.SegmentFlags.TheVariants.{First, Continuing, Last, Alone}
 use Rattle.tc_frame.specs.Layout.{SegmentView}
 use Rattle.map_service.specs.Cutting.{segment_views}
-use Rattle.map_service.proofs.Pieces.{ok_along, and_more, parts-fit, parts-cut, later_segments-last, later_segments-cut}
-use Rattle.map_service.proofs.Pieces.{still_before}
+use Rattle.map_service.proofs.Pieces.{ok_along, and_more, parts-fit, later_segments-last, flagged-cut, still_before}
 use Rattle.map_service.proofs.cutting.append_parts.Goals as goal
 
 pub returns-then-octets-part-clause-ok : goal.returns-then-octets-part-clause-ok
@@ -15,10 +15,11 @@ returns-then-octets-part-clause-ok c =
 
 pub parts-init : goal.parts-init
 parts-init c =
-    let cut = parts-cut c.args.map c.args.part c.args.octets.now c.split_at.result.0.now c.split_at.result.1.now
-    c.requires.some_part c.if-octets-part.false c.split_at.ensures.front c.split_at.ensures.back in
+    let split = c.split_at in
+    let cut = flagged-cut First Alone c.args.map c.args.part c.args.octets.now split.result.0.now split.result.1.now
+    c.requires.some_part c.if-octets-part.false split.ensures.front split.ensures.back in
     record {
-      some = omega (arith, c.split_at.ensures.back_len, c.if-octets-part.false);
+      some = omega (arith, split.ensures.back_len, c.if-octets-part.false);
       views = and_more _ _ _ _ _ c.in_ok-append.ensures.ok cut;
       before = c.append-2.ensures.before;
     }
@@ -26,7 +27,7 @@ parts-init c =
 pub parts-preserved : goal.parts-preserved
 parts-preserved c =
     let split = c.split_at-in-parts in
-    let cut = later_segments-cut c.args.map c.args.part c.parts.rest.now split.result.0.now split.result.1.now
+    let cut = flagged-cut Continuing Last c.args.map c.args.part c.parts.rest.now split.result.0.now split.result.1.now
     c.requires.some_part c.parts-test.true split.ensures.front split.ensures.back in
     record {
       some = omega (arith, split.ensures.back_len, c.parts-test.true);
