@@ -261,10 +261,10 @@ module _ {U : Type 0} where
   control_goes s q _ [] none same is fits = rw same (in_state_goes s q s.state refl is fits)
   control_goes s q _ (u ∷ us) none same is fits = absurd (cc none)
 
-  pub next-goes : {s : SenderNumbers} {q : Queues U} → IsSender s → Fits s q
-      → first_bypass (is_due s.control) q.bypass ≡ None
+  pub next-goes : {s : SenderNumbers} {q : Queues U} {first : Option U} → IsSender s → Fits s q
+      → first ≡ first_bypass (is_due s.control) q.bypass → first ≡ None
       → Goes s q (pulls.pull_step s) (pulls.pull_step (with_queues s q))
-  next-goes {s = s} {q = q} is fits none = control_goes s q s.control q.bypass none refl is fits
+  next-goes {s = s} {q = q} is fits e none = control_goes s q s.control q.bypass (sym e ∙ none) refl is fits
 
   -- a bypass unit goes before any other
   bypass_goes : (s : SenderNumbers) (q : Queues U) (control : Control) (bypass : List U) (u : U)
@@ -277,7 +277,7 @@ module _ {U : Type 0} where
 
   pulled-by : (s : SenderNumbers) (q : Queues U) (first : Option U) → first_bypass (is_due s.control) q.bypass ≡ first
       → IsSender s → Fits s q → pulls.pull_step (with_queues s q) ≡ pulled_by s q first
-  pulled-by s q None e is fits = (next-goes is fits e).same
+  pulled-by s q None e is fits = (next-goes is fits (sym e) refl).same
   pulled-by s q (Some u) e is fits = bypass_goes s q s.control q.bypass u e
 
   -- ---- whatever comes

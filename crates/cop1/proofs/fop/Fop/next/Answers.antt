@@ -7,8 +7,7 @@ use Rattle.cop1.proofs.fop.Fop.next.Goals as goal
 
 pub take_first-requires : goal.take_first-requires
 take_first-requires g c =
-    let none = sym c.first_bypass.ensures.unit ∙ c.in_default.is in
-    let goes = next-goes c.self.invariant.sender c.self.invariant.fits none in
+    let goes = next-goes c.self.invariant.sender c.self.invariant.fits c.first_bypass.ensures.unit c.in_default.is in
     let within = c.fields-nn.ensures.holds.ranges.within in
     let after = c.next-next.ensures.after in
     let sent = ap (λ s. s.sent.count) after in
@@ -18,8 +17,7 @@ take_first-requires g c =
 
 pub invariant_of-self-2 : goal.invariant_of-self-2
 invariant_of-self-2 g c =
-    let none = sym c.first_bypass.ensures.unit ∙ c.in_default.is in
-    let goes = next-goes c.self.invariant.sender c.self.invariant.fits none in
+    let goes = next-goes c.self.invariant.sender c.self.invariant.fits c.first_bypass.ensures.unit c.in_default.is in
     let after = c.next-next.ensures.after in
     rw (c.take_first.ensures.sent, c.take_first.ensures.waiting, c.next-next.ensures.answer) (record {
       sender = c.fields-nn.ensures.holds;
@@ -30,27 +28,19 @@ invariant_of-self-2 g c =
       room = omega (arith, ap (λ s. s.room) after, goes.same_room, c.self.invariant.room);
     })
 
-pub returns-clause-after : goal.returns-clause-after
-returns-clause-after g c =
-    let none = sym c.first_bypass.ensures.unit ∙ c.in_default.is in
-    let goes = next-goes c.self.invariant.sender c.self.invariant.fits none in
+pub returns : goal.returns
+returns g c =
+    let goes = next-goes c.self.invariant.sender c.self.invariant.fits c.first_bypass.ensures.unit c.in_default.is in
     let bypass = c.first_bypass.ensures.bypass ∙ ap (λ unit. drop
     (if is_some unit then 1 else 0) c.self.inside.bypass.items) c.in_default.is in
-    rw (c.take_first.ensures.sent, c.take_first.ensures.waiting, bypass)
-    (rw (c.next-next.ensures.answer, c.next-next.ensures.after)
-    (sym (ap (λ o. o.after) goes.same) ∙ ap (λ s. (pull_step s).after) c.self.view_is))
-
-pub returns-clause-answer : goal.returns-clause-answer
-returns-clause-answer g c =
-    let none = sym c.first_bypass.ensures.unit ∙ c.in_default.is in
-    let goes = next-goes c.self.invariant.sender c.self.invariant.fits none in
-    rw (map-unit-marked_last, c.take_first.ensures.sent, c.next_at.ensures, ap (λ s. s.nn) c.fields-nn.ensures.fields)
-    (rw (c.next-next.ensures.answer, c.next-next.ensures.after)
-    (sym (ap (λ o. o.answer) goes.same) ∙ ap (λ s. (pull_step s).answer) c.self.view_is))
-
-pub returns-clause-placed : goal.returns-clause-placed
-returns-clause-placed g c =
-    let none = sym c.first_bypass.ensures.unit ∙ c.in_default.is in
-    let goes = next-goes c.self.invariant.sender c.self.invariant.fits none in
-    rw (map-unit-marked_last, c.take_first.ensures.sent, c.next_at.ensures, ap (λ s. s.nn) c.fields-nn.ensures.fields)
-    (rw (c.next-next.ensures.answer, c.next-next.ensures.after) goes.placed)
+    let nn = ap (λ s. s.nn) c.fields-nn.ensures.fields in
+    record {
+      after = rw (c.take_first.ensures.sent, c.take_first.ensures.waiting, bypass)
+          (rw (c.next-next.ensures.answer, c.next-next.ensures.after)
+          (sym (ap (λ o. o.after) goes.same) ∙ ap (λ s. (pull_step s).after) c.self.view_is));
+      answer = rw (map-unit-marked_last, c.take_first.ensures.sent, c.next_at.ensures, nn)
+          (rw (c.next-next.ensures.answer, c.next-next.ensures.after)
+          (sym (ap (λ o. o.answer) goes.same) ∙ ap (λ s. (pull_step s).answer) c.self.view_is));
+      placed = rw (map-unit-marked_last, c.take_first.ensures.sent, c.next_at.ensures, nn)
+          (rw (c.next-next.ensures.answer, c.next-next.ensures.after) goes.placed);
+    }

@@ -5,8 +5,8 @@ use Rattle.cop1.proofs.fop.Fop.peek.Goals as goal
 
 pub returns : goal.returns
 returns g c =
-    let none = sym c.oldest_bypass.ensures ∙ ap option_copied c.in_default.is in
-    let goes = next-goes c.self.invariant.sender c.self.invariant.fits none in
+    let none = ap option_copied c.in_default.is in
+    let goes = next-goes c.self.invariant.sender c.self.invariant.fits c.oldest_bypass.ensures none in
     rw (c.unit_at.ensures, ap (λ s. s.nn) c.fields.ensures.fields)
     (rw (c.next-next.ensures.answer, c.next-next.ensures.after)
     (sym goes.seen ∙ sym (ap (λ o. o.answer) goes.same) ∙ ap (λ s. (pull_step s).answer) c.self.view_is))
