@@ -10,7 +10,7 @@ impl Ground {
     ghost use Rattle.tm_link.specs.Extraction.{extract_step};
     ghost use Rattle.tm_link.specs.Layout.{frame_view, pointer_fits};
     ghost use Rattle.tm_link.specs.Reading.{frame_at};
-    ghost use Rattle.nodes.specs.Ground.{ground_step, Telemetry, is_own_telemetry, after_extraction, receive_frame_step, FinishesNothing};
+    ghost use Rattle.nodes.specs.Ground.{ground_step, Telemetry, is_own_telemetry, after_extraction, FinishesNothing};
 
     /// Takes octets that came from the spacecraft: exactly one telemetry frame (CCSDS 132.0-B-3, 4.1).
     /// The packets that it finishes wait to be taken, and the report that it carries goes to the sender
@@ -38,27 +38,7 @@ impl Ground {
         if !self.is_own_telemetry(&frame) {
             return Ok(Heard::Foreign);
         }
-        self.receive_frame(&frame)
-    }
-
-    fn is_own_telemetry(&self, frame: &TmFrame<'_>) -> bool
-        ensures { result ≡ is_own_telemetry self.now.config (frame_view frame.now) }
-    {
-        u32::from(frame.scid) == self.config.scid && u32::from(frame.vcid) == self.config.tm_vcid
-    }
-
-    fn receive_frame(&mut self, frame: &TmFrame<'_>) -> Result<Heard, LinkFault>
-        requires { IsTrue (pointer_fits frame.now.pointer (length frame.now.payload.now)) }
-        ensures answer { IfOk result
-            (λ heard. heard ≡ (receive_frame_step self.old (frame_view frame.now)).answer) }
-        ensures after { OnOk result
-            (self.new ≡ (receive_frame_step self.old (frame_view frame.now)).after) }
-        ensures err { OnErr result (self.new ≡ self.old) }
-        ensures fault { IfErr result (λ e. e ≡ LinkFault.Memory) }
-        ensures none { (extract_step self.old.extractor (frame_view frame.now)).packets ≡ []
-            → IsOk result }
-    {
-        let (gap, packets) = self.extract(frame)?;
+        let (gap, packets) = self.extract(&frame)?;
         let (report, alert) = match frame.report() {
             Err(fault) => (HeardReport::Refused(fault), None),
             Ok(word) => {
@@ -77,6 +57,12 @@ impl Ground {
             report,
             alert,
         })
+    }
+
+    fn is_own_telemetry(&self, frame: &TmFrame<'_>) -> bool
+        ensures { result ≡ is_own_telemetry self.now.config (frame_view frame.now) }
+    {
+        u32::from(frame.scid) == self.config.scid && u32::from(frame.vcid) == self.config.tm_vcid
     }
 
     // Takes out the packets that the frame finishes: says how many frames are missing before it, and how
