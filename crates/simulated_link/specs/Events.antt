@@ -1,5 +1,6 @@
 -- What an event answers, and which events take no memory.
-use Rattle.std.specs.Prelude.{◌≡◌, ℕ, List, [], ◌∷◌, false, Ok, IsSome}
+use Rattle.std.specs.Prelude.{◌≡◌, ◌≢◌, ℕ, List, [], ◌∷◌, false, Result, Ok, Err, IsSome}
+use Rattle.std.specs.Prelude.{IfOk, IfErr, OnOk, OnErr, IsOkUnless}
 use Rattle.tc_frame.specs.declared.frame.Check.TheVariants.{On}
 use Rattle.tc_frame.specs.Reading as command
 use Rattle.tm_link.specs.Building.{is_to_send}
@@ -8,6 +9,8 @@ use Rattle.link_events.specs.declared.event.Event.{Event}
 use Rattle.link_events.specs.declared.event.Event.TheVariants as events
 use Rattle.nodes.specs.Ground.{submit_fault, bypass_fault, FinishesNothing}
 use Rattle.nodes.specs.Spacecraft.{HandsNothingOn}
+use Rattle.simulated_link.specs.declared.fault.SimFault.{SimFault}
+use Rattle.simulated_link.specs.declared.fault.SimFault.TheVariants.{Memory}
 use Rattle.simulated_link.specs.declared.reply.Reply.{Reply}
 use Rattle.simulated_link.specs.Replies.{reply_view}
 use Rattle.simulated_link.specs.World.{World, world_step}
@@ -35,3 +38,14 @@ TakesNone w events.DownDeliver =
     (telemetry.frame_at w.ground_node.config.frame_length octets))
 TakesNone w (events.Telemetry octets) = is_to_send octets.now ≡ false
 TakesNone w _ = Unit {0}
+
+-- what a call that lets an event happen answers, and the world after it: the event has happened, or
+-- it is refused, or there was no memory for it, and then nothing has changed
+pub record LetsHappen (event : Event) (old new : World) (result : Result Reply SimFault) : Type 0
+  where
+    pub reply : IfOk result (IsReplyTo old event)
+    pub after : OnOk result (new ≡ (world_step old event).after)
+    pub err : OnErr result (new ≡ old)
+    pub refused : IfErr (world_step old event).answer (λ e. result ≡ Err e)
+    pub memory : IfOk (world_step old event).answer (λ _. IsOkUnless result Memory)
+    pub none : TakesNone old event → result ≢ Err Memory

@@ -21,8 +21,8 @@ use std::collections::VecDeque;
 use tm_link::TmFault;
 
 impl World {
-    ghost use Rattle.std.specs.Prelude.{◌≡◌, ◌≢◌, [], Ok, Err, Some, IfOk, OnOk, OnErr, IsOkUnless};
-    ghost use Rattle.simulated_link.specs.Events.{IsReplyTo, TakesNone};
+    ghost use Rattle.std.specs.Prelude.{◌≡◌, [], Some};
+    ghost use Rattle.simulated_link.specs.Events.{IsReplyTo, LetsHappen};
     ghost use Rattle.simulated_link.specs.World.{world_step, is_quiet, begins_clean, is_idle, begins_idle, session_begun};
 
     pub(crate) fn directive(&mut self, directive: Directive) -> Reply
@@ -64,12 +64,7 @@ impl World {
     }
 
     pub(crate) fn telemetry(&mut self, packet: &[u8]) -> Result<Reply, SimFault>
-        ensures reply { IfOk result (IsReplyTo self.old (Event.Telemetry packet.entry)) }
-        ensures after { OnOk result
-            (self.new ≡ (world_step self.old (Event.Telemetry packet.entry)).after) }
-        ensures err { OnErr result (self.new ≡ self.old) }
-        ensures fault { IsOkUnless result SimFault.Memory }
-        ensures none { TakesNone self.old (Event.Telemetry packet.entry) → result ≢ Err SimFault.Memory }
+        ensures { LetsHappen (Event.Telemetry packet.entry) self.old self.new result }
     {
         match self.spacecraft.telemetry(packet) {
             Ok(()) => Ok(Reply::Done),

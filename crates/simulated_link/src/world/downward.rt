@@ -11,15 +11,10 @@ use cop1::FopMode;
 use link_events::Event;
 
 impl World {
-    ghost use Rattle.std.specs.Prelude.{◌≡◌, ◌≢◌, Ok, Err, IfOk, IfErr, OnOk, OnErr, IsOkUnless};
-    ghost use Rattle.simulated_link.specs.Events.{IsReplyTo, TakesNone};
-    ghost use Rattle.simulated_link.specs.World.{world_step};
+    ghost use Rattle.simulated_link.specs.Events.{LetsHappen};
 
     pub(crate) fn report(&mut self) -> Result<Reply, SimFault>
-        ensures reply { IfOk result (IsReplyTo self.old Event.Report) }
-        ensures after { OnOk result (self.new ≡ (world_step self.old Event.Report).after) }
-        ensures err { OnErr result (self.new ≡ self.old) }
-        ensures memory { IsOkUnless result SimFault.Memory }
+        ensures { LetsHappen Event.Report self.old self.new result }
     {
         let Ok(mut octets) = Vec::with_capacity(self.alloc, self.spacecraft.frame_length()) else {
             return Err(SimFault::Memory);
@@ -34,14 +29,7 @@ impl World {
     }
 
     pub(crate) fn down_deliver(&mut self) -> Result<Reply, SimFault>
-        ensures reply { IfOk result (IsReplyTo self.old Event.DownDeliver) }
-        ensures after { OnOk result (self.new ≡ (world_step self.old Event.DownDeliver).after) }
-        ensures err { OnErr result (self.new ≡ self.old) }
-        ensures refused { IfErr (world_step self.old Event.DownDeliver).answer
-            (λ e. result ≡ Err e) }
-        ensures memory { IfOk (world_step self.old Event.DownDeliver).answer
-            (λ _. IsOkUnless result SimFault.Memory) }
-        ensures none { TakesNone self.old Event.DownDeliver → result ≢ Err SimFault.Memory }
+        ensures { LetsHappen Event.DownDeliver self.old self.new result }
     {
         let Some(octets) = self.down.front() else {
             return Err(SimFault::NothingInTransit);

@@ -8,14 +8,10 @@ use nodes::{Heard, Received};
 use tc_frame::Check;
 
 impl World {
-    ghost use Rattle.std.specs.Prelude.{◌≡◌, Ok, Err, IfOk, IfErr};
-    ghost use Rattle.simulated_link.specs.Events.{IsReplyTo};
-    ghost use Rattle.simulated_link.specs.World.{world_step};
+    ghost use Rattle.simulated_link.specs.Events.{LetsHappen};
 
     pub(crate) fn up_lose(&mut self) -> Result<Reply, SimFault>
-        ensures reply { IfOk result (IsReplyTo self.old Event.UpLose) }
-        ensures fault { IfErr result (λ e. (world_step self.old Event.UpLose).answer ≡ Err e) }
-        ensures after { self.new ≡ (world_step self.old Event.UpLose).after }
+        ensures { LetsHappen Event.UpLose self.old self.new result }
     {
         match self.up.pop_front() {
             Some(_) => Ok(Reply::Lost),
@@ -24,9 +20,7 @@ impl World {
     }
 
     pub(crate) fn down_lose(&mut self) -> Result<Reply, SimFault>
-        ensures reply { IfOk result (IsReplyTo self.old Event.DownLose) }
-        ensures fault { IfErr result (λ e. (world_step self.old Event.DownLose).answer ≡ Err e) }
-        ensures after { self.new ≡ (world_step self.old Event.DownLose).after }
+        ensures { LetsHappen Event.DownLose self.old self.new result }
     {
         match self.down.pop_front() {
             Some(_) => Ok(Reply::Lost),
@@ -35,10 +29,7 @@ impl World {
     }
 
     pub(crate) fn up_damage(&mut self, octets: &[u8]) -> Result<Reply, SimFault>
-        ensures reply { IfOk result (IsReplyTo self.old (Event.UpDamage octets.entry)) }
-        ensures fault { IfErr result
-            (λ e. (world_step self.old (Event.UpDamage octets.entry)).answer ≡ Err e) }
-        ensures after { self.new ≡ (world_step self.old (Event.UpDamage octets.entry)).after }
+        ensures { LetsHappen (Event.UpDamage octets.entry) self.old self.new result }
     {
         if self.up.is_empty() {
             return Err(SimFault::NothingInTransit);
@@ -51,10 +42,7 @@ impl World {
     }
 
     pub(crate) fn down_damage(&mut self, octets: &[u8]) -> Result<Reply, SimFault>
-        ensures reply { IfOk result (IsReplyTo self.old (Event.DownDamage octets.entry)) }
-        ensures fault { IfErr result
-            (λ e. (world_step self.old (Event.DownDamage octets.entry)).answer ≡ Err e) }
-        ensures after { self.new ≡ (world_step self.old (Event.DownDamage octets.entry)).after }
+        ensures { LetsHappen (Event.DownDamage octets.entry) self.old self.new result }
     {
         if self.down.is_empty() {
             return Err(SimFault::NothingInTransit);

@@ -1,6 +1,6 @@
 // What goes to the spacecraft: telecommand frames.
 
-ghost use Rattle.std.specs.Prelude.{◌≡◌, ◌≢◌, ◌<◌, ◌++◌, IfOk, IsOkUnless, option_to_list, option_map};
+ghost use Rattle.std.specs.Prelude.{◌≡◌, ◌<◌, ◌++◌, IfOk, option_to_list, option_map};
 ghost use Rattle.std.specs.Vec.{vec_len, vec_capacity};
 ghost use Rattle.map_service.specs.Views.{packets_view};
 ghost use Rattle.nodes.specs.Commands.{slices_view};
@@ -18,17 +18,12 @@ use link_events::Event;
 use std::alloc::{AllocError, Global};
 
 impl World {
-    ghost use Rattle.std.specs.Prelude.{Ok, Err, IfErr, OnOk, OnErr};
-    ghost use Rattle.simulated_link.specs.Events.{IsReplyTo, TakesNone};
+    ghost use Rattle.std.specs.Prelude.{OnOk, OnErr, IsOkUnless};
+    ghost use Rattle.simulated_link.specs.Events.{IsReplyTo, LetsHappen};
     ghost use Rattle.simulated_link.specs.World.{world_step};
 
     pub(crate) fn submit(&mut self, map: u8, octets: &[u8]) -> Result<Reply, SimFault>
-        ensures reply { IfOk result (IsReplyTo self.old (Event.Submit map octets.entry)) }
-        ensures after { OnOk result
-            (self.new ≡ (world_step self.old (Event.Submit map octets.entry)).after) }
-        ensures err { OnErr result (self.new ≡ self.old) }
-        ensures memory { IsOkUnless result SimFault.Memory }
-        ensures none { TakesNone self.old (Event.Submit map octets.entry) → result ≢ Err SimFault.Memory }
+        ensures { LetsHappen (Event.Submit map octets.entry) self.old self.new result }
     {
         let submission = match self.ground_node.prepare(map, octets) {
             Ok(submission) => submission,
@@ -52,12 +47,7 @@ impl World {
     }
 
     pub(crate) fn bypass(&mut self, map: u8, octets: &[u8]) -> Result<Reply, SimFault>
-        ensures reply { IfOk result (IsReplyTo self.old (Event.Bypass map octets.entry)) }
-        ensures after { OnOk result
-            (self.new ≡ (world_step self.old (Event.Bypass map octets.entry)).after) }
-        ensures err { OnErr result (self.new ≡ self.old) }
-        ensures memory { IsOkUnless result SimFault.Memory }
-        ensures none { TakesNone self.old (Event.Bypass map octets.entry) → result ≢ Err SimFault.Memory }
+        ensures { LetsHappen (Event.Bypass map octets.entry) self.old self.new result }
     {
         match self.ground_node.bypass(map, octets) {
             Ok(()) => Ok(Reply::Done),
@@ -85,13 +75,7 @@ impl World {
     }
 
     pub(crate) fn up_deliver(&mut self) -> Result<Reply, SimFault>
-        ensures reply { IfOk result (IsReplyTo self.old Event.UpDeliver) }
-        ensures after { OnOk result (self.new ≡ (world_step self.old Event.UpDeliver).after) }
-        ensures err { OnErr result (self.new ≡ self.old) }
-        ensures refused { IfErr (world_step self.old Event.UpDeliver).answer (λ e. result ≡ Err e) }
-        ensures memory { IfOk (world_step self.old Event.UpDeliver).answer
-            (λ _. IsOkUnless result SimFault.Memory) }
-        ensures none { TakesNone self.old Event.UpDeliver → result ≢ Err SimFault.Memory }
+        ensures { LetsHappen Event.UpDeliver self.old self.new result }
     {
         let Some(octets) = self.up.front() else {
             return Err(SimFault::NothingInTransit);

@@ -1,14 +1,16 @@
 use Rattle.simulated_link.proofs.Common.{◌≡◌, ◌≤◌, ◌+◌, length, sym, subst, arith, ahead_by, GroundState}
-use Rattle.simulated_link.proofs.Common.{[], ◌∷◌, ℕ, List, drop, refl, ap, ◌∙◌, octets_of, Ok, Down, World}
-use Rattle.simulated_link.proofs.Common.{WorldOutcome, world_step, down_deliver_step, FopMode}
+use Rattle.simulated_link.proofs.Common.{[], ℕ, List, drop, refl, ap, ◌∙◌, octets_of, Ok, Down, World}
+use Rattle.simulated_link.proofs.Common.{down_deliver_step, FopMode}
+use Rattle.std.proofs.Common.{rules}
 use Rattle.std.specs.Prelude.{◌||◌}
 use Rattle.tm_link.specs.Reading.{frame_at}
 use Rattle.link_events.specs.declared.event.Event.TheVariants.{DownDeliver}
+use Rattle.simulated_link.specs.declared.reply.Reply.TheVariants as replies
 use Rattle.simulated_link.specs.World.{is_confirmation, world_after_telemetry}
 use Rattle.simulated_link.specs.WorldFields.{world_of, IsSound}
-use Rattle.simulated_link.proofs.Transit.{none_there, first_there, down_may_lack}
+use Rattle.simulated_link.proofs.Transit.{IsFirst, none_there, first_there, happens, lacks}
 use Rattle.simulated_link.proofs.Counted.{heard_less}
-use Rattle.simulated_link.proofs.world.World.down_deliver.Goals.{then-self, else-self}
+use Rattle.simulated_link.proofs.world.World.down_deliver.Goals.{then-self, else-self, After-deref}
 use Rattle.simulated_link.proofs.world.World.down_deliver.Goals as goal
 
 -- NN(R) has moved so far
@@ -43,20 +45,17 @@ invariant_of-self-2 c =
     ≤ length c.self.inside.session.sent.items = omega (arith, c.self.invariant.counted, less, moved c) in
     assumption (counted, c.self.invariant)
 
--- nothing is on its way
+-- the first frame on its way
+came : (c : After-deref) → IsFirst c.deref.result.now c.self.inside.down.items
+came c =
+    first_there c.self.inside.down.items c.in-Some.octets.now c.deref.result.now c.in-Some.ensures.item.3.0
+    c.in-Some.ensures.lookup c.deref.ensures.value
+
 pub returns-in_default : goal.returns-in_default
 returns-in_default c =
     let none : c.args.self.now.down ≡ [] =
-    ap (λ (w : World). w.down) (sym c.self.view_is)
-    ∙ none_there c.self.inside.down.items c.in_default.ensures.item.3 in
-    record {
-      reply = tt;
-      after = tt;
-      err = refl;
-      refused = rw none refl;
-      memory = rw none tt;
-      none = λ takes is. cc is;
-    }
+    ap (λ (w : World). w.down) (sym c.self.view_is) ∙ none_there c.self.inside.down.items c.in_default.ensures.item.3 in
+    rw none (search rules)
 
 pub invariant_of-self : goal.invariant_of-self
 invariant_of-self c =
@@ -65,36 +64,30 @@ invariant_of-self c =
 
 pub returns-in_default-telemetry : goal.returns-in_default-telemetry
 returns-in_default-telemetry c =
-    let lacks = down_may_lack c.self.inside c.args.self.now c.in-Some.octets.now c.deref.result.now c.self.view_is
-    c.in-Some.ensures.item.3.0 c.in-Some.ensures.lookup c.deref.ensures.value
-    (λ none. cc (c.in_default-telemetry.ensures.none none)) in
-    record {
-      reply = tt;
-      after = tt;
-      err = ap (λ (s : GroundState). record (world_of c.self.inside) { ground_node = s })
-          c.in_default-telemetry.ensures.err ∙ c.self.view_is;
-      refused = lacks.refused;
-      memory = lacks.memory;
-      none = lacks.none;
-    }
+    let w : World = world_of c.self.inside in
+    let first = came (goal.at.returns-in_default-telemetry c).After-deref in
+    lacks c.self.inside c.args.self.now c.self.view_is DownDeliver
+    (record w { ground_node = c.telemetry.new.self })
+    (ap (λ (s : GroundState). record w { ground_node = s }) c.in_default-telemetry.ensures.err ∙ c.self.view_is)
+    (rw first tt)
+    (rw first (λ none. cc (c.in_default-telemetry.ensures.none none)))
 
 pub returns : goal.returns
 returns c =
     let w : World = world_of c.self.inside in
     let down : List (List ℕ) = octets_of (drop 1 c.self.inside.down.items) in
-    let octets : List ℕ = c.deref.result.now in
-    let came : w.down ≡ octets ∷ down =
-    first_there c.self.inside.down.items c.in-Some.octets.now octets c.in-Some.ensures.item.3.0
-    c.in-Some.ensures.lookup c.deref.ensures.value in
-    let step : down_deliver_step w (octets ∷ down) ≡ world_step c.args.self.now DownDeliver =
-    ap (down_deliver_step w) (sym came) ∙ ap (λ (x : World). world_step x DownDeliver) c.self.view_is in
-    record {
-      reply = sym (ap (λ (o : WorldOutcome). o.answer) step) ∙ ap (λ h. Ok (Down h)) (sym c.in-Ok.ensures.answer);
-      after = rw (c.pop_front.ensures.rest, confirmed c, moved c)
-          (ap (λ (t : GroundState). (world_after_telemetry w down (record { answer = c.in-Ok.heard; after = t })).after)
-          c.in-Ok.ensures.after ∙ ap (λ (o : WorldOutcome). o.after) step);
-      err = tt;
-      refused = rw (← step) tt;
-      memory = rw (← step) tt;
-      none = λ takes is. cc is;
-    }
+    let first = came (goal.at.returns c).After-deref in
+    happens c.self.inside c.args.self.now c.self.view_is DownDeliver (replies.Down c.in-Ok.heard)
+    (record w {
+      ground_node = c.telemetry.new.self;
+      down = octets_of c.pop_front.new.self.items;
+      session = record w.session {
+        confirmed = c.if-self.self;
+        acknowledged = c.self.inside.session.acknowledged + c.from.result;
+      };
+    })
+    (ap (λ (way : List (List ℕ)). (down_deliver_step w way).answer) first
+    ∙ ap (λ h. Ok (Down h)) (sym c.in-Ok.ensures.answer))
+    (rw (c.pop_front.ensures.rest, confirmed c, moved c)
+    (ap (λ (t : GroundState). (world_after_telemetry w down (record { answer = c.in-Ok.heard; after = t })).after)
+    c.in-Ok.ensures.after ∙ ap (λ (way : List (List ℕ)). (down_deliver_step w way).after) (sym first)))

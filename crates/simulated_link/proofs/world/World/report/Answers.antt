@@ -1,11 +1,12 @@
-use Rattle.simulated_link.proofs.Common.{◌≡◌, List, ℕ, [], ◌∷◌, ◌++◌, map, refl, ap, sym, ◌∙◌, subst, Ok, Clcw}
-use Rattle.simulated_link.proofs.Common.{octets_of, segment_octets, SpacecraftState, spacecraft_step, Report, World}
-use Rattle.simulated_link.proofs.Common.{world_step}
+use Rattle.simulated_link.proofs.Common.{◌≡◌, List, ℕ, [], ◌∷◌, ◌++◌, map, refl, ap, sym, ◌∙◌, Ok, Clcw, octets_of}
+use Rattle.simulated_link.proofs.Common.{segment_octets, SpacecraftState, spacecraft_step, Report, World}
 use Rattle.std.proofs.lemmas.List.{map_push}
 use Rattle.link_events.specs.declared.event.Event.TheVariants as events
+use Rattle.simulated_link.specs.declared.reply.Reply.TheVariants as replies
 use Rattle.simulated_link.specs.Replies.{Reported}
 use Rattle.simulated_link.specs.World.{delivered}
 use Rattle.simulated_link.specs.WorldFields.{world_of}
+use Rattle.simulated_link.proofs.Transit.{happens, lacks}
 use Rattle.simulated_link.proofs.world.World.report.Goals as goal
 
 -- the world with another spacecraft, and more on its way down
@@ -13,24 +14,18 @@ abbrev with_down : World → SpacecraftState → List (List ℕ) → World
 with_down w spacecraft down = record w { spacecraft = spacecraft; down = down }
 
 pub returns-in_default : goal.returns-in_default
-returns-in_default c = record {
-  reply = tt;
-  after = tt;
-  err = refl;
-  memory = refl;
-}
+returns-in_default c =
+    lacks c.self.inside c.args.self.now c.self.view_is events.Report c.args.self.now refl tt (λ none. none)
 
 pub invariant_of-self : goal.invariant_of-self
 invariant_of-self c = assumption c.self.invariant
 
 pub returns-then-is_err : goal.returns-then-is_err
-returns-then-is_err c = record {
-  reply = tt;
-  after = tt;
-  err = ap (λ xs. record (world_of c.self.inside) { down = octets_of xs }) c.try_reserve.ensures.items
-      ∙ c.self.view_is;
-  memory = refl;
-}
+returns-then-is_err c =
+    lacks c.self.inside c.args.self.now c.self.view_is events.Report
+    (record (world_of c.self.inside) { down = octets_of c.try_reserve.new.self.items })
+    (ap (λ xs. record (world_of c.self.inside) { down = octets_of xs }) c.try_reserve.ensures.items ∙ c.self.view_is)
+    tt (λ none. none)
 
 -- what is accepted stays, and so does what was delivered
 pub invariant_of-self-2 : goal.invariant_of-self-2
@@ -52,15 +47,10 @@ returns c =
     ap octets_of c.push_back_reserved.ensures.items
     ∙ map_push (λ v. v.items) c.try_reserve.new.self.items c.put_report.new.to
     ∙ ap (λ xs. octets_of xs ++ c.put_report.new.to.items ∷ []) c.try_reserve.ensures.items in
-    record {
-      reply = subst
-          (λ (x : World). (world_step x events.Report).answer ≡ Ok (Reported c.control_word-clcw.result))
-          c.self.view_is (ap (λ (r : Clcw). Ok (Reported r)) (sym c.control_word-clcw.ensures.report));
-      after = ap (λ (s : SpacecraftState). with_down w s (octets_of c.push_back_reserved.new.self.items))
-          c.put_report.ensures.after
-          ∙ ap (with_down w (spacecraft_step w.spacecraft Report).after)
-          (down ∙ ap (λ (o : List ℕ). w.down ++ o ∷ []) c.put_report.ensures.frame)
-          ∙ ap (λ (x : World). (world_step x events.Report).after) c.self.view_is;
-      err = tt;
-      memory = tt;
-    }
+    happens c.self.inside c.args.self.now c.self.view_is events.Report (replies.Reported c.control_word-clcw.result)
+    (with_down w c.put_report.new.spacecraft (octets_of c.push_back_reserved.new.self.items))
+    (ap (λ (r : Clcw). Ok (Reported r)) (sym c.control_word-clcw.ensures.report))
+    (ap (λ (s : SpacecraftState). with_down w s (octets_of c.push_back_reserved.new.self.items))
+    c.put_report.ensures.after
+    ∙ ap (with_down w (spacecraft_step w.spacecraft Report).after)
+    (down ∙ ap (λ (o : List ℕ). w.down ++ o ∷ []) c.put_report.ensures.frame))

@@ -3,29 +3,27 @@ use Rattle.simulated_link.proofs.Common.{sym, ◌∙◌, arith, append-nil, ◌=
 use Rattle.simulated_link.proofs.Common.{GroundState, submit_fault, PacketOn, packet_on, None, IfSome}
 use Rattle.std.specs.List.{flat_map}
 use Rattle.std.specs.Option.{is_some}
-use Rattle.simulated_link.specs.declared.world.World.TheInside.{Inside}
 use Rattle.std.proofs.lemmas.Grind.{flat_map-append}
 use Rattle.std.proofs.lemmas.List.{map_push}
 use Rattle.map_service.specs.Packets.{packets_in}
 use Rattle.nodes.specs.declared.ground_node.submission.Submission.{Submission}
 use Rattle.nodes.specs.Packets.{packet_view}
 use Rattle.link_events.specs.declared.event.Event.TheVariants as events
-use Rattle.simulated_link.proofs.Common.{◌≢◌, Option, Some, Result, Ok, Err, OnOk, subst, Event, SimFault, LinkFault}
-use Rattle.simulated_link.proofs.Common.{World, world_step, GroundOutcome, unless_refused, after_submission}
-use Rattle.std.proofs.Common.{IfOk, OnErr, IsOkUnless, IsSome}
+use Rattle.simulated_link.proofs.Common.{Option, Some, Result, Ok, Err, Event, LinkFault, World, GroundOutcome}
+use Rattle.simulated_link.proofs.Common.{unless_refused, after_submission}
 use Rattle.simulated_link.specs.declared.fault.SimFault.TheVariants.{Memory}
 use Rattle.simulated_link.specs.declared.reply.NodeFault.TheVariants.{Link}
-use Rattle.simulated_link.specs.declared.reply.Reply.{Reply}
-use Rattle.simulated_link.specs.declared.reply.Reply.TheVariants.{Refused}
-use Rattle.simulated_link.specs.Events.{IsReplyTo}
-use Rattle.simulated_link.specs.Replies.{Done, reply_to_submission}
+use Rattle.simulated_link.specs.declared.reply.Reply.TheVariants as replies
+use Rattle.simulated_link.specs.Events.{LetsHappen}
+use Rattle.simulated_link.specs.Replies.{reply_to_submission}
 use Rattle.simulated_link.specs.World.{submission_of, world_after_submission}
 use Rattle.simulated_link.specs.WorldFields.{world_of}
-use Rattle.simulated_link.proofs.Refusals.{refused, refused_for, submit_never}
+use Rattle.simulated_link.proofs.Refusals.{refused, submit_never}
 use Rattle.simulated_link.proofs.Counted.{submit_same}
-use Rattle.simulated_link.proofs.Transit.{lack}
+use Rattle.simulated_link.proofs.Transit.{happens, lacks}
 use Rattle.simulated_link.proofs.world.World.submit.Goals.{then-is_err-via-then-is_err}
 use Rattle.simulated_link.proofs.world.World.submit.Goals.{then-is_err-via-else-is_err+then-is_err-2}
+use Rattle.simulated_link.proofs.world.World.submit.Goals.{In-Ok}
 use Rattle.simulated_link.proofs.world.World.submit.Goals as goal
 
 -- the packets of these submissions that are on MAP m
@@ -49,14 +47,6 @@ one_more m ps p =
 taken : {A : Type 0} (fault : Option LinkFault) (x : A) → IfSome fault (λ f. Ok x ≡ Err f) → fault ≡ None
 taken None x refused = refl
 taken (Some f) x refused = cc refused
-
--- so want of memory is where packets are taken
-lacks : (inside : Inside) (now : World) (m : ℕ) (octets : List ℕ) (b : Submission) → world_of inside ≡ now
-    → IfSome (submit_fault inside.ground_node m octets) (λ f. Ok b ≡ Err f)
-    → IsSome (submit_fault now.ground_node m octets) → lack ≢ Err Memory
-lacks inside now m octets b view_is refused =
-    subst (λ (w : World). IsSome (submit_fault w.ground_node m octets) → lack ≢ Err Memory) view_is
-    (λ some. absurd (cc (some, ap is_some (taken (submit_fault inside.ground_node m octets) b refused))))
 
 abbrev after_submit : GroundState → ℕ → List ℕ → GroundState
 after_submit s m octets = (unless_refused (submit_fault s m octets) s (after_submission s m octets)).after
@@ -120,40 +110,29 @@ returns c =
     ∙ ap (after_submit s c.args.map) c.in-Ok.ensures.given.1 in
     let one : p c ∷ [] ≡ submission_of (p c) (step fault).answer =
     sym (ap (λ (reason : Option LinkFault). submission_of (p c) (step reason).answer) none) in
-    record {
-      reply = subst
-          (λ (x : World). (world_step x (events.Submit c.args.map c.args.octets)).answer ≡ Ok Done) c.self.view_is
-          (ap (λ (reason : Option LinkFault). Ok (reply_to_submission (step reason).answer)) none);
-      after = ap (λ (ps : List PacketOn). with_submissions (record (w c) { ground_node = c.commit.new.self }) ps)
-          (submissions c ∙ ap (λ (xs : List PacketOn). (w c).session.submissions ++ xs) one)
-          ∙ ap (λ (t : GroundState). with_submissions (record (w c) { ground_node = t })
-          ((w c).session.submissions ++ submission_of (p c) (step fault).answer)) committed
-          ∙ ap (λ (x : World). (world_step x (events.Submit c.args.map c.args.octets)).after) c.self.view_is;
-      err = tt;
-      memory = tt;
-      none = λ takes is. cc is;
-    }
+    happens c.self.inside c.args.self.now c.self.view_is (events.Submit c.args.map c.args.octets) replies.Done
+    (with_submissions (record (w c) { ground_node = c.commit.new.self })
+    (map packet_view c.push_reserved.new.self.items))
+    (ap (λ (reason : Option LinkFault). Ok (reply_to_submission (step reason).answer)) none)
+    (ap (with_submissions (record (w c) { ground_node = c.commit.new.self }))
+    (submissions c ∙ ap (λ (xs : List PacketOn). (w c).session.submissions ++ xs) one)
+    ∙ ap (λ (t : GroundState). with_submissions (record (w c) { ground_node = t })
+    ((w c).session.submissions ++ submission_of (p c) (step fault).answer)) committed)
 
--- where there is no memory
+-- where there is no memory for what is taken
+wants : (c : In-Ok) (new : World) → new ≡ c.args.self.now
+    → LetsHappen (events.Submit c.args.map c.args.octets) c.args.self.now new (Err Memory)
+wants c new same =
+    let none = taken (submit_fault c.self.inside.ground_node c.args.map c.args.octets.now) c.in-Ok.submission
+    c.in-Ok.ensures.refused in
+    lacks c.self.inside c.args.self.now c.self.view_is (events.Submit c.args.map c.args.octets) new same tt
+    (λ some. cc (some, ap is_some none))
+
 pub returns-in_default : goal.returns-in_default
-returns-in_default c = record {
-  reply = tt;
-  after = tt;
-  err = refl;
-  memory = refl;
-  none = lacks c.self.inside c.args.self.now c.args.map c.args.octets.now c.in-Ok.submission c.self.view_is
-      c.in-Ok.ensures.refused;
-}
+returns-in_default c = wants (goal.at.returns-in_default c).In-Ok c.args.self.now refl
 
 pub returns-in_default-copied : goal.returns-in_default-copied
-returns-in_default-copied c = record {
-  reply = tt;
-  after = tt;
-  err = refl;
-  memory = refl;
-  none = lacks c.self.inside c.args.self.now c.args.map c.args.octets.now c.in-Ok.submission c.self.view_is
-      c.in-Ok.ensures.refused;
-}
+returns-in_default-copied c = wants (goal.at.returns-in_default-copied c).In-Ok c.args.self.now refl
 
 pub invariant_of-self : goal.invariant_of-self
 invariant_of-self c = record {
@@ -181,70 +160,27 @@ returns-then-is_err c =
     ≡ c.args.self.now =
     ap (λ xs. with_submissions (world_of c.self.inside) (map packet_view xs)) c.try_reserve.ensures.items
     ∙ c.self.view_is in
-    record {
-      reply = tt;
-      after = tt;
-      err = elim c.then-is_err.branch [
-        | then-is_err-via-then-is_err x ↦ x.self-is ∙ same
-        | then-is_err-via-else-is_err+then-is_err-2 x ↦ x.self-is ∙ same
-      ];
-      memory = refl;
-      none = lacks c.self.inside c.args.self.now c.args.map c.args.octets.now c.in-Ok.submission c.self.view_is
-          c.in-Ok.ensures.refused;
-    }
+    wants (goal.at.returns-then-is_err c).In-Ok _ (elim c.then-is_err.branch [
+      | then-is_err-via-then-is_err x ↦ x.self-is ∙ same
+      | then-is_err-via-else-is_err+then-is_err-2 x ↦ x.self-is ∙ same
+    ])
 
 -- where the ground refuses
-module _ (c : goal.After-answer_to_refusal) where
-  abbrev s : GroundState
-  s = c.self.inside.ground_node
-
-  abbrev before : World
-  before = world_of c.self.inside
-
-  abbrev event : Event
-  event = events.Submit c.args.map c.args.octets
-
-  abbrev unless : Option LinkFault → GroundOutcome (Result (Unit {0}) LinkFault)
-  unless reason = unless_refused reason s (after_submission s c.args.map c.args.octets.now)
-
-  refuses : (P : Result Reply SimFault → Type 0) → P (Err Memory)
-      → (submit_fault s c.args.map c.args.octets.now ≡ Some c.in-Err.fault → P (Ok (Refused (Link c.in-Err.fault))))
-      → P c.answer_to_refusal.result
-  refuses P memory each =
-      refused P memory c.in-Err.fault (submit_fault s c.args.map c.args.octets.now) c.prepare.result c.in-Err.is
-      c.prepare.ensures.refused c.prepare.ensures.memory each c.answer_to_refusal.result c.answer_to_refusal.ensures
-
-  reply_before : IfOk c.answer_to_refusal.result (IsReplyTo before event)
-  reply_before =
-      refuses (λ x. IfOk x (IsReplyTo before event)) tt (ap (λ reason. Ok (reply_to_submission (unless reason).answer)))
-
-  after_before : OnOk c.answer_to_refusal.result (before ≡ (world_step before event).after)
-  after_before =
-      refuses (λ x. OnOk x (before ≡ (world_step before event).after)) tt
-      (λ why. ap (λ ps. record before { session = record before.session { submissions = ps } })
-      (sym (append-nil before.session.submissions))
-      ∙ sym (ap (λ reason. (world_after_submission before (packet_on c.args.map c.args.octets.now)
-      (unless reason)).after) why))
-
-pub returns-in-Err-clause-reply : goal.returns-in-Err-clause-reply
-returns-in-Err-clause-reply c =
-    subst (λ (w : World). IfOk c.answer_to_refusal.result (IsReplyTo w (event c))) c.self.view_is (reply_before c)
-
-pub returns-in-Err-clause-after : goal.returns-in-Err-clause-after
-returns-in-Err-clause-after c =
-    subst (λ (w : World). OnOk c.answer_to_refusal.result (w ≡ (world_step w (event c)).after)) c.self.view_is
-    (after_before c)
-
-pub returns-in-Err-clause-err : goal.returns-in-Err-clause-err
-returns-in-Err-clause-err c = refuses c (λ x. OnErr x (c.args.self.now ≡ c.args.self.now)) refl (λ why. tt)
-
-pub returns-in-Err-clause-memory : goal.returns-in-Err-clause-memory
-returns-in-Err-clause-memory c = refuses c (λ x. IsOkUnless x Memory) refl (λ why. tt)
-
-pub returns-in-Err-clause-none : goal.returns-in-Err-clause-none
-returns-in-Err-clause-none c =
-    subst (λ (w : World). IsSome (submit_fault w.ground_node c.args.map c.args.octets.now)
-    → c.answer_to_refusal.result ≢ Err Memory) c.self.view_is
-    (λ some. refused_for c.in-Err.fault (submit_fault (s c) c.args.map c.args.octets.now) c.prepare.result c.in-Err.is
-    c.prepare.ensures.refused (submit_never (s c) c.args.map c.args.octets.now) some c.answer_to_refusal.result
-    c.answer_to_refusal.ensures)
+pub returns-in-Err : goal.returns-in-Err
+returns-in-Err c =
+    let s : GroundState = c.self.inside.ground_node in
+    let w : World = world_of c.self.inside in
+    let now : World = c.args.self.now in
+    let event : Event = events.Submit c.args.map c.args.octets in
+    let fault : Option LinkFault = submit_fault s c.args.map c.args.octets.now in
+    let unless : Option LinkFault → GroundOutcome (Result (Unit {0}) LinkFault) =
+    λ reason. unless_refused reason s (after_submission s c.args.map c.args.octets.now) in
+    refused (LetsHappen event now now) c.in-Err.fault fault c.prepare.result c.in-Err.is c.prepare.ensures.refused
+    c.prepare.ensures.memory (submit_never s c.args.map c.args.octets.now)
+    (lacks c.self.inside now c.self.view_is event now refl tt)
+    (λ why. happens c.self.inside now c.self.view_is event (replies.Refused (Link c.in-Err.fault)) now
+    (ap (λ reason. Ok (reply_to_submission (unless reason).answer)) why)
+    (sym c.self.view_is ∙ ap (with_submissions w) (sym (append-nil w.session.submissions))
+    ∙ sym (ap (λ reason. (world_after_submission w (packet_on c.args.map c.args.octets.now) (unless reason)).after)
+    why)))
+    c.answer_to_refusal.result c.answer_to_refusal.ensures

@@ -1,17 +1,23 @@
-use Rattle.simulated_link.proofs.Common.{◌≡◌, ℕ, List, ◌++◌, length, map, Option, Some, None, option_map, refl, ap}
+use Rattle.simulated_link.proofs.Common.{◌≡◌, ℕ, List, ◌++◌, length, map, Option, Some, None, Err, option_map, refl, ap}
 use Rattle.simulated_link.proofs.Common.{sym, ◌∙◌, arith, length-map, SegmentView, segment_octets, octets_of}
 use Rattle.simulated_link.proofs.Common.{SpacecraftState, spacecraft_receive, segment_to_accept, AcceptanceView}
-use Rattle.simulated_link.proofs.Common.{acceptance_with, packets_accepted_on, [], ◌∷◌, drop, not, World}
-use Rattle.simulated_link.proofs.Common.{WorldOutcome, world_step, up_deliver_step, Ok, Up}
+use Rattle.simulated_link.proofs.Common.{acceptance_with, packets_accepted_on, [], not, World}
+use Rattle.simulated_link.proofs.Common.{up_deliver_step, On, Ok, Up}
 use Rattle.std.proofs.Common.{rules}
+use Rattle.tc_frame.specs.Reading.{frame_at}
+use Rattle.nodes.specs.Spacecraft.{HandsNothingOn}
 use Rattle.link_events.specs.declared.event.Event.TheVariants.{UpDeliver}
+use Rattle.simulated_link.specs.declared.fault.SimFault.TheVariants.{Memory}
+use Rattle.simulated_link.specs.declared.reply.Reply.TheVariants as replies
+use Rattle.simulated_link.specs.Events.{LetsHappen}
 use Rattle.simulated_link.specs.WorldFields.{world_of}
-use Rattle.simulated_link.proofs.Transit.{none_there, first_there, up_may_lack}
+use Rattle.simulated_link.proofs.Transit.{IsFirst, none_there, first_there, happens, lacks}
 use Rattle.simulated_link.specs.declared.acceptance.Acceptance.{Acceptance}
 use Rattle.simulated_link.specs.Acceptance.{acceptance_view}
 use Rattle.simulated_link.proofs.AcceptedSegments.{field_behind}
 use Rattle.simulated_link.proofs.Arrived.{arrival_accepts}
 use Rattle.simulated_link.proofs.Gained.{delivered_by, gained}
+use Rattle.simulated_link.proofs.world.World.up_deliver.Goals.{After-deref}
 use Rattle.simulated_link.proofs.world.World.up_deliver.Goals as goal
 
 field_of_view : (o : Option Acceptance)
@@ -76,47 +82,35 @@ invariant_of-self-2 c =
           ∙ ap (λ (s : SpacecraftState). delivered_by s.config m c.self.inside.session.before s.accepted) (sym after);
     }
 
--- nothing is on its way
+-- the first frame on its way
+came : (c : After-deref) → IsFirst c.deref.result.now c.self.inside.up.items
+came c =
+    first_there c.self.inside.up.items c.in-Some.octets.now c.deref.result.now c.in-Some.ensures.item.3.0
+    c.in-Some.ensures.lookup c.deref.ensures.value
+
+-- its data are handed on, and there is no memory for them
+wants : (c : After-deref) (new : World) → new ≡ c.args.self.now
+    → (HandsNothingOn c.self.inside.spacecraft (frame_at On c.deref.result.now) → ⊥)
+    → LetsHappen UpDeliver c.args.self.now new (Err Memory)
+wants c new same takes =
+    lacks c.self.inside c.args.self.now c.self.view_is UpDeliver new same (rw (came c) (search rules))
+    (rw (came c) takes)
+
 pub returns-in_default : goal.returns-in_default
 returns-in_default c =
     let none : c.args.self.now.up ≡ [] =
     ap (λ (w : World). w.up) (sym c.self.view_is) ∙ none_there c.self.inside.up.items c.in_default.ensures.item.3 in
-    record {
-      reply = tt;
-      after = tt;
-      err = refl;
-      refused = rw none refl;
-      memory = rw none tt;
-      none = λ takes is. cc is;
-    }
+    rw none (search rules)
 
 pub returns-in_default-prepare : goal.returns-in_default-prepare
 returns-in_default-prepare c =
-    let lacks = up_may_lack c.self.inside c.args.self.now c.in-Some.octets.now c.deref.result.now c.self.view_is
-    c.in-Some.ensures.item.3.0 c.in-Some.ensures.lookup c.deref.ensures.value
-    (λ none. cc (c.in_default-prepare.ensures.none none)) in
-    record {
-      reply = tt;
-      after = tt;
-      err = refl;
-      refused = lacks.refused;
-      memory = lacks.memory;
-      none = lacks.none;
-    }
+    wants (goal.at.returns-in_default-prepare c).After-deref c.args.self.now refl
+    (λ none. cc (c.in_default-prepare.ensures.none none))
 
 pub returns-in_default-acceptance_of : goal.returns-in_default-acceptance_of
 returns-in_default-acceptance_of c =
-    let lacks = up_may_lack c.self.inside c.args.self.now c.in-Some.octets.now c.deref.result.now c.self.view_is
-    c.in-Some.ensures.item.3.0 c.in-Some.ensures.lookup c.deref.ensures.value
-    (λ none. cc (c.in_default-acceptance_of.ensures.nothing (c.in-Ok.ensures.nothing none))) in
-    record {
-      reply = tt;
-      after = tt;
-      err = refl;
-      refused = lacks.refused;
-      memory = lacks.memory;
-      none = lacks.none;
-    }
+    wants (goal.at.returns-in_default-acceptance_of c).After-deref c.args.self.now refl
+    (λ none. cc (c.in_default-acceptance_of.ensures.nothing (c.in-Ok.ensures.nothing none)))
 
 pub invariant_of-self : goal.invariant_of-self
 invariant_of-self c = record {
@@ -129,52 +123,27 @@ invariant_of-self c = record {
 
 pub returns-then-is_err : goal.returns-then-is_err
 returns-then-is_err c =
-    let lacks = up_may_lack c.self.inside c.args.self.now c.in-Some.octets.now c.deref.result.now c.self.view_is
-    c.in-Some.ensures.item.3.0 c.in-Some.ensures.lookup c.deref.ensures.value
+    wants (goal.at.returns-then-is_err c).After-deref (world_of c.self.inside) c.self.view_is
     (λ none.
     let nothing : c.in-Ok-acceptance_of.acceptance ≡ None =
     cc (c.in-Ok-acceptance_of.ensures.nothing (c.in-Ok.ensures.nothing none)) in
-    cc (sym (c.make_room_for.ensures.none nothing) ∙ c.is_err.ensures.negation ∙ ap not c.if-is_err.true)) in
-    record {
-      reply = tt;
-      after = tt;
-      err = c.self.view_is;
-      refused = lacks.refused;
-      memory = lacks.memory;
-      none = lacks.none;
-    }
+    cc (sym (c.make_room_for.ensures.none nothing) ∙ c.is_err.ensures.negation ∙ ap not c.if-is_err.true))
 
 -- octets have arrived
-module _ (c : goal.After-record_accepted) where
-  abbrev w : World
-  w = world_of c.self.inside
-
-  step : up_deliver_step w (c.deref.result.now ∷ octets_of (drop 1 c.self.inside.up.items))
-      ≡ world_step c.args.self.now UpDeliver
-  step =
-      ap (up_deliver_step w) (sym (first_there c.self.inside.up.items c.in-Some.octets.now c.deref.result.now
-      c.in-Some.ensures.item.3.0 c.in-Some.ensures.lookup c.deref.ensures.value))
-      ∙ ap (λ (x : World). world_step x UpDeliver) c.self.view_is
-
-pub returns-clause-reply : goal.returns-clause-reply
-returns-clause-reply c =
-    sym (ap (λ (o : WorldOutcome). o.answer) (step c))
+pub returns : goal.returns
+returns c =
+    let w : World = world_of c.self.inside in
+    let first = came (goal.at.returns c).After-deref in
+    happens c.self.inside c.args.self.now c.self.view_is UpDeliver (replies.Up c.commit-received.result)
+    (record w { spacecraft = c.commit-received.new.self; up = octets_of c.pop_front.new.self.items })
+    (ap (λ (way : List (List ℕ)). (up_deliver_step w way).answer) first
     ∙ ap (λ r. Ok (Up r)) (sym (c.commit-received.ensures.answer
-    ∙ ap (λ (o : List ℕ). (spacecraft_receive (w c).spacecraft o).answer) c.in-Ok.ensures.octets))
-
-pub returns-clause-after : goal.returns-clause-after
-returns-clause-after c =
-    ap (λ (s : SpacecraftState). record (w c) { spacecraft = s; up = octets_of c.pop_front.new.self.items })
+    ∙ ap (λ (o : List ℕ). (spacecraft_receive w.spacecraft o).answer) c.in-Ok.ensures.octets)))
+    (ap (λ (s : SpacecraftState). record w { spacecraft = s; up = octets_of c.pop_front.new.self.items })
     (c.commit-received.ensures.after
-    ∙ ap (λ (o : List ℕ). (spacecraft_receive (w c).spacecraft o).after) c.in-Ok.ensures.octets)
-    ∙ ap (λ xs. record (w c) {
-      spacecraft = (spacecraft_receive (w c).spacecraft c.deref.result.now).after;
+    ∙ ap (λ (o : List ℕ). (spacecraft_receive w.spacecraft o).after) c.in-Ok.ensures.octets)
+    ∙ ap (λ xs. record w {
+      spacecraft = (spacecraft_receive w.spacecraft c.deref.result.now).after;
       up = octets_of xs;
     }) c.pop_front.ensures.rest
-    ∙ ap (λ (o : WorldOutcome). o.after) (step c)
-
-pub returns-clause-refused : goal.returns-clause-refused
-returns-clause-refused c = rw (← step c) (search rules)
-
-pub returns-clause-memory : goal.returns-clause-memory
-returns-clause-memory c = rw (← step c) (search rules)
+    ∙ ap (λ (way : List (List ℕ)). (up_deliver_step w way).after) (sym first))
