@@ -145,10 +145,15 @@ is_none (x ∷ xs) = false
 abbrev pub is_quiet : World → Bool
 is_quiet w = is_none w.up && is_none w.down
 
--- an initiation begins a clean session in a quiet world, and without a check only where V(R) = V(S)
+-- an initiation may begin a clean session or one by an idle start, and without a check only where
+-- V(R) = V(S)
+abbrev pub may_begin : World → Directive → Bool
+may_begin w InitWithoutCheck = w.spacecraft.farm.vr == w.ground_node.fop.vs
+may_begin w directive = is_initiation directive
+
+-- it begins a clean one in a quiet world
 abbrev pub begins_clean : World → Directive → Bool
-begins_clean w InitWithoutCheck = is_quiet w && (w.spacecraft.farm.vr == w.ground_node.fop.vs)
-begins_clean w directive = is_initiation directive && is_quiet w
+begins_clean w directive = may_begin w directive && is_quiet w
 
 -- a report has the value and the flags of this one; its FARM-B may differ
 abbrev pub says_as : Clcw → Result Clcw ClcwFault → Bool
@@ -171,11 +176,9 @@ is_idle w =
     is_none w.up && list_all (λ (octets : List ℕ). reports_as (report_now w)
     (telemetry_reading.frame_at w.ground_node.config.frame_length octets)) w.down
 
--- an initiation begins a session by an idle start in such a world, and without a check only where
--- V(R) = V(S)
+-- an initiation begins a session by an idle start in such a world
 abbrev pub begins_idle : World → Directive → Bool
-begins_idle w InitWithoutCheck = is_idle w && (w.spacecraft.farm.vr == w.ground_node.fop.vs)
-begins_idle w directive = is_initiation directive && is_idle w
+begins_idle w directive = may_begin w directive && is_idle w
 
 -- no session begins with an event: it is no initiation, or it comes while the sender is not in S6
 abbrev pub BeginsNoSession : World → Event → Type 0

@@ -1,17 +1,17 @@
 -- A session begins by an idle start.
-use Rattle.tc_link.proofs.Common.{◌≡◌, ℕ, ◌<◌, ◌⊎◌, inl, inr, Bool, true, false, [], length, drop, refl, arith, ◌==◌}
+use Rattle.tc_link.proofs.Common.{◌≡◌, ℕ, ◌+◌, ◌/◌, ◌<◌, ◌≤◌, ◌⊎◌, inl, inr, Bool, true, false, [], length, drop, refl}
 use Rattle.tc_link.proofs.Common.{and_parts, eqb-true, SegmentView, Idle, Directive, InitWithoutCheck, InitWithCheck}
 use Rattle.tc_link.proofs.Common.{InitUnlock, InitSetVr, S6, directive_step, FopState, FopOutcome, Config, is_closed}
 use Rattle.tc_link.proofs.Common.{directive_outcome, settle_step, World, world_after_directive, session_begun_by}
 use Rattle.tc_link.proofs.Common.{begins_idle, IsDirective, obeyed, begun, is_initiation, Alert, CopFault, Option}
-use Rattle.tc_link.proofs.Common.{None, Result, option_to_list, ◌++◌, IsChecked, report_now}
+use Rattle.tc_link.proofs.Common.{None, Result, option_to_list, ◌++◌, IsChecked, report_now, arith, ◌==◌}
 use Rattle.std.proofs.lemmas.List.{drop_all}
 use Rattle.cop1.specs.FopDirective.{obeys}
 use Rattle.simulated_link.specs.World.{is_idle}
-use Rattle.tc_link.proofs.Linked.{Held, Linked, Begun, Late}
+use Rattle.tc_link.proofs.Linked.{Carries, Held, Stage, In, Begun, Late}
 use Rattle.tc_link.proofs.Settled.{session_settled}
 use Rattle.tc_link.proofs.Closed.{closed_is}
-use Rattle.tc_link.proofs.Early.{IsEarly, ControlFits, zeros_plain, zeros_run, zeros_rise, zeros_count}
+use Rattle.tc_link.proofs.Early.{IsEarly, ControlFits, zeros, zeros_plain, zeros_run, zeros_rise, zeros_count}
 use Rattle.tc_link.proofs.Idle.{AllSay, idle_parts, all_last, all_same, all_zeros}
 use Rattle.tc_link.proofs.ReportsDown.{HasReports}
 use Rattle.tc_link.proofs.Sound.{Commanded, Sound}
@@ -39,10 +39,11 @@ module _ (c : Config) (w : World) (k : Sound c w) (t : HasReports c w.down) wher
     idle = let it : Commanded S6 w.ground_node.fop.control = rw off at k.ground_node.fop.commanded in it
 
     -- the reports on their way are as many of 0
-    linked_from : (d : Directive) (base : ℕ) (f : FopState SegmentView) (front : Bool) → base < 256
-        → is_idle w ≡ true → f.vs ≡ base → f.nn ≡ base → f.sent ≡ [] → f.waiting ≡ None
-        → is_closed f.state ≡ false → Linked c d base (begun_with d f) (zeros_plain t.reports) front [] t.reports
-    linked_from d base f front octet start vs nn sent waiting on =
+    session_from : (early front : Bool) (d : Directive) (base : ℕ) (f : FopState SegmentView) → base < 256
+        → is_idle w ≡ true → f.vs ≡ base → f.nn ≡ base → f.sent ≡ [] → f.waiting ≡ None → is_closed f.state ≡ false
+        → Stage early d base f.state f.control w.spacecraft.farm false front t.reports 0 0 0 (zeros t.reports)
+        → In early c d base (record (begun_with d f) { ground_node = settle_step (record w.ground_node { fop = f }) })
+    session_from early front d base f octet start vs nn sent waiting on stage =
         let rest : option_to_list f.waiting ++ w.ground_node.pending ≡ [] = rw waiting pending in
         let held : Held (is_closed f.state) base f.vs f.nn f.sent (option_to_list f.waiting ++ w.ground_node.pending)
         0 0 [] = rw on (record {
@@ -51,91 +52,65 @@ module _ (c : Config) (w : World) (k : Sound c w) (t : HasReports c w.down) wher
           sent_is = rw sent refl;
           rest_is = rest;
         }) in
-        record {
-          opened = refl;
-          base_octet = octet;
-          nn_octet = omega (arith, nn, octet);
-          held = held;
-          given = tt;
-          units_are = refl;
-          units_fit = tt;
-          sent_is = refl;
-          accepted_is = none_after;
-          acked_is = refl;
-          n_most = omega arith;
-          a_r = omega arith;
-          r_n = omega arith;
-          n_a = omega arith;
-          carries = rw (parts start).0 tt;
-          reporting = t.reporting;
-          counted = zeros_count t.reports;
-          up_is = tt;
-          fits = tt;
-          rises = zeros_rise t.reports;
-        }
-
-    without_check : begins_idle w InitWithoutCheck ≡ true
-        → Late c InitWithoutCheck w.ground_node.fop.vs (begun_with InitWithoutCheck (begun w.ground_node.fop
-        InitWithoutCheck))
-    without_check start =
-        let both = and_parts (is_idle w) (w.spacecraft.farm.vr == w.ground_node.fop.vs) start in
-        let same : w.spacecraft.farm.vr ≡ w.ground_node.fop.vs = eqb-true _ _ both.1 in
-        let octet : w.ground_node.fop.vs < 256 = k.ground_node.fop.vs_octet in
-        record {
+        let nn_octet : f.nn < 256 = omega (arith, nn, octet) in
+        let least : 0 ≤ 0 = omega arith in
+        let most : 0 ≤ 0 + c.width / 2 = omega arith in
+        let carries : Carries c w.up [] = rw (parts start).0 tt in
+        let session : In early c d base (begun_with d f) = record {
           plain = zeros_plain t.reports;
           ran = zeros_run t.reports;
-          front = false;
+          front = front;
           frames = [];
           reports = t.reports;
-          linked = linked_from InitWithoutCheck w.ground_node.fop.vs (begun w.ground_node.fop InitWithoutCheck) false
-              octet both.0 refl refl refl refl refl;
-          stage = record {
-            late = tt;
-            confirmed_is = λ checked. absurd (checked.1 refl);
-            confirmed_so = λ e. cc;
-            vr_is = omega (arith, same, octet);
-            first = λ e. cc;
-            down_is = all_zeros w.spacecraft w.ground_node.fop.vs t.reports octet same (parts both.0).1;
-            calm = λ checked. absurd (checked.1 refl);
-          };
-        }
+          linked = assumption (
+            nn_octet,
+            held,
+            none_after,
+            least,
+            most,
+            carries,
+            zeros_count t.reports,
+            zeros_rise t.reports,
+          );
+          stage = stage;
+        } in
+        session_settled early c d base (begun_with d f) session
 
     -- where it has to be confirmed
     checked_begins : (d : Directive) (base : ℕ) (f : FopState SegmentView) → base < 256 → IsChecked d
         → is_idle w ≡ true → IsEarly d f.state → is_closed f.state ≡ false → f.vs ≡ base
         → f.nn ≡ base → f.sent ≡ [] → f.waiting ≡ None → ControlFits d base f.control
         → InSession c (record (begun_with d f) { ground_node = settle_step (record w.ground_node { fop = f }) })
-    checked_begins d base f octet checked start early on vs nn sent waiting control =
-        let session : Begun c d base (begun_with d f) = record {
-          plain = zeros_plain t.reports;
-          ran = zeros_run t.reports;
-          front = true;
-          frames = [];
-          reports = t.reports;
-          linked = linked_from d base f true octet start vs nn sent waiting on;
-          stage = record {
-            checked = checked;
-            early = early;
-            command_is = control;
-            confirmed_not = refl;
-            front_is = refl;
-            none_sent = refl;
-            lasts = all_last w.spacecraft base t.reports (parts start).1;
-            same = λ e. all_same w.spacecraft t.reports k.spacecraft.farm.flags.asks (parts start).1;
-          };
-        } in
-        record { directive = d; base = base; session = inl (session_settled true c d base (begun_with d f) session) }
+    checked_begins d base f octet checked start early on vs nn sent waiting control = record {
+      directive = d;
+      base = base;
+      session = inl (session_from true true d base f octet start vs nn sent waiting on (assumption (
+        all_last w.spacecraft base t.reports (parts start).1,
+        all_same w.spacecraft t.reports k.spacecraft.farm.flags.asks (parts start).1,
+      )));
+    }
 
     begun_idle : (d : Directive) → is_initiation d ≡ true → IsDirective d → begins_idle w d ≡ true
         → InSession c (world_after_directive w d
         (directive_outcome w.ground_node (obeys (begun w.ground_node.fop d)))).after
     begun_idle InitWithoutCheck is fits start =
         let f : FopState SegmentView = begun w.ground_node.fop InitWithoutCheck in
-        let session = without_check start in
+        let both = and_parts (w.spacecraft.farm.vr == f.vs) (is_idle w) start in
+        let same : w.spacecraft.farm.vr ≡ f.vs = eqb-true _ _ both.0 in
+        let octet : f.vs < 256 = k.ground_node.fop.vs_octet in
         record {
           directive = InitWithoutCheck;
           base = f.vs;
-          session = inr (session_settled false c InitWithoutCheck f.vs (begun_with InitWithoutCheck f) session);
+          session = inr (session_from false false InitWithoutCheck f.vs f octet both.1 refl refl refl refl refl
+              (record {
+                late = tt;
+                confirmed_is = λ checked. absurd (checked.1 refl);
+                confirmed_so = λ e. cc;
+                vr_is = omega (arith, same, octet);
+                first = λ e. cc;
+                down_is = all_zeros w.spacecraft f.vs t.reports octet same (parts both.1).1;
+                calm = λ checked. absurd (checked.1 refl);
+              }));
         }
     begun_idle InitWithCheck is fits start =
         checked_begins InitWithCheck w.ground_node.fop.vs (begun w.ground_node.fop InitWithCheck)

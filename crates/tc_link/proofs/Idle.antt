@@ -1,12 +1,11 @@
 -- What the reports on their way say at an idle start: what the receiver would now.
 use Rattle.tc_link.proofs.Common.{◌≡◌, ℕ, ◌<◌, true, List, [], ◌∷◌, Ok, refl, ap, sym, ◌∙◌, arith, ◌==◌, list_all}
-use Rattle.tc_link.proofs.Common.{and_parts, eqb-true, Clcw, flags_number, Directive, InitWithoutCheck, InitWithCheck}
-use Rattle.tc_link.proofs.Common.{InitUnlock, InitSetVr, locks, waits, asks, report_of, Config, SpacecraftState, World}
-use Rattle.tc_link.proofs.Common.{begins_clean, begins_idle, reports_as, report_now}
+use Rattle.tc_link.proofs.Common.{and_parts, eqb-true, Clcw, flags_number, Directive, locks, waits, asks, report_of}
+use Rattle.tc_link.proofs.Common.{Config, SpacecraftState, World, begins_clean, begins_idle, reports_as, report_now}
 use Rattle.std.specs.Int.RustNames.{bit_and}
 use Rattle.clcw.specs.Reading.{clcw_at}
 use Rattle.tm_link.specs.Reading.{frame_at}
-use Rattle.simulated_link.specs.World.{is_none, is_quiet, is_idle, says_as}
+use Rattle.simulated_link.specs.World.{is_none, is_quiet, is_idle, may_begin, says_as}
 use Rattle.tc_link.proofs.Early.{WouldConfirm, AllGood, Lasts, AllSame, zeros}
 use Rattle.tc_link.proofs.Linked.{Tells, Reporting}
 use Rattle.tc_link.proofs.ReportsDown.{HasReports}
@@ -112,10 +111,6 @@ quiet_idle w h =
 
 -- a session that begins clean has an idle start
 pub clean_idle : (w : World) (d : Directive) → begins_clean w d ≡ true → begins_idle w d ≡ true
-clean_idle w InitWithoutCheck h =
-    let both = and_parts (is_quiet w) (w.spacecraft.farm.vr == w.ground_node.fop.vs) h in
-    rw (quiet_idle w both.0) both.1
-clean_idle w InitWithCheck h = quiet_idle w h
-clean_idle w InitUnlock h = quiet_idle w h
-clean_idle w (InitSetVr x) h = quiet_idle w h
-clean_idle w _ h = absurd cc
+clean_idle w d h =
+    let both = and_parts (may_begin w d) (is_quiet w) h in
+    rw (both.0, quiet_idle w both.1) refl

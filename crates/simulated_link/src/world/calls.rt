@@ -23,7 +23,7 @@ use tm_link::TmFault;
 impl World {
     ghost use Rattle.std.specs.Prelude.{◌≡◌, [], Some};
     ghost use Rattle.simulated_link.specs.Events.{IsReplyTo, LetsHappen};
-    ghost use Rattle.simulated_link.specs.World.{world_step, is_quiet, begins_clean, is_idle, begins_idle, session_begun};
+    ghost use Rattle.simulated_link.specs.World.{world_step, is_quiet, may_begin, begins_clean, is_idle, begins_idle, session_begun};
 
     pub(crate) fn directive(&mut self, directive: Directive) -> Reply
         ensures reply { IsReplyTo self.old (Event.Directive directive) result }
@@ -79,15 +79,21 @@ impl World {
         self.up.is_empty() && self.down.is_empty()
     }
 
-    fn begins_clean(&self, directive: Directive) -> bool
-        ensures { result ≡ begins_clean self.now directive }
+    fn may_begin(&self, directive: Directive) -> bool
+        ensures { result ≡ may_begin self.now directive }
     {
         match directive {
             Directive::InitWithoutCheck => {
-                self.is_quiet() && self.spacecraft.control_word().value == self.ground_node.vs()
+                self.spacecraft.control_word().value == self.ground_node.vs()
             }
-            _ => is_initiation(directive) && self.is_quiet(),
+            _ => is_initiation(directive),
         }
+    }
+
+    fn begins_clean(&self, directive: Directive) -> bool
+        ensures { result ≡ begins_clean self.now directive }
+    {
+        self.may_begin(directive) && self.is_quiet()
     }
 
     fn is_idle(&self) -> bool
@@ -100,12 +106,7 @@ impl World {
     fn begins_idle(&self, directive: Directive) -> bool
         ensures { result ≡ begins_idle self.now directive }
     {
-        match directive {
-            Directive::InitWithoutCheck => {
-                self.is_idle() && self.spacecraft.control_word().value == self.ground_node.vs()
-            }
-            _ => is_initiation(directive) && self.is_idle(),
-        }
+        self.may_begin(directive) && self.is_idle()
     }
 
     fn begin(&mut self, directive: Directive, clean: bool, idle: bool)
