@@ -224,6 +224,11 @@ world_refusal w fault = record { answer = Err fault; after = w }
 abbrev pub world_reply : ReplyView → World → WorldOutcome
 world_reply reply after = record { answer = Ok reply; after = after }
 
+-- what comes of the first frame on a way and the frames after it; there has to be one
+abbrev pub at_first : World → List (List ℕ) → (List ℕ → List (List ℕ) → WorldOutcome) → WorldOutcome
+at_first w [] outcome = world_refusal w NothingInTransit
+at_first w (octets ∷ way) outcome = outcome octets way
+
 -- packets are submitted
 
 abbrev pub submission_of : PacketOn → Result (Unit {0}) LinkFault → List PacketOn
@@ -287,13 +292,11 @@ abbrev pub world_after_receipt : World → List (List ℕ) → SpacecraftOutcome
 world_after_receipt w up o = world_reply (Up o.answer) (record w { up = up; spacecraft = o.after })
 
 abbrev pub up_deliver_step : World → List (List ℕ) → WorldOutcome
-up_deliver_step w [] = world_refusal w NothingInTransit
-up_deliver_step w (octets ∷ up) =
-    world_after_receipt w up (spacecraft_step w.spacecraft (spacecraft_calls.Receive octets))
+up_deliver_step w way = at_first w way (λ octets up. world_after_receipt w up
+    (spacecraft_step w.spacecraft (spacecraft_calls.Receive octets)))
 
 abbrev pub up_lose_step : World → List (List ℕ) → WorldOutcome
-up_lose_step w [] = world_refusal w NothingInTransit
-up_lose_step w (octets ∷ up) = world_reply Lost (record w { up = up })
+up_lose_step w way = at_first w way (λ octets up. world_reply Lost (record w { up = up }))
 
 abbrev pub up_damage_outcome : World → List (List ℕ) → Result FrameView TcFault → WorldOutcome
 up_damage_outcome w up (Ok frame) = world_refusal w NotDetectable
@@ -301,8 +304,8 @@ up_damage_outcome w up (Err fault) =
     world_reply (Up (received_cases.Invalid fault)) (record w { up = up })
 
 abbrev pub up_damage_step : World → List (List ℕ) → List ℕ → WorldOutcome
-up_damage_step w [] damaged = world_refusal w NothingInTransit
-up_damage_step w (octets ∷ up) damaged = up_damage_outcome w up (command.frame_at On damaged)
+up_damage_step w way damaged =
+    at_first w way (λ octets up. up_damage_outcome w up (command.frame_at On damaged))
 
 -- the spacecraft sends a telemetry frame
 
@@ -330,13 +333,11 @@ world_after_telemetry w down o =
     })
 
 abbrev pub down_deliver_step : World → List (List ℕ) → WorldOutcome
-down_deliver_step w [] = world_refusal w NothingInTransit
-down_deliver_step w (octets ∷ down) =
-    world_after_telemetry w down (ground_step w.ground_node (ground_calls.Telemetry octets))
+down_deliver_step w way = at_first w way (λ octets down. world_after_telemetry w down
+    (ground_step w.ground_node (ground_calls.Telemetry octets)))
 
 abbrev pub down_lose_step : World → List (List ℕ) → WorldOutcome
-down_lose_step w [] = world_refusal w NothingInTransit
-down_lose_step w (octets ∷ down) = world_reply Lost (record w { down = down })
+down_lose_step w way = at_first w way (λ octets down. world_reply Lost (record w { down = down }))
 
 abbrev pub down_damage_outcome : World → List (List ℕ) → Result telemetry.FrameView TmFault
     → WorldOutcome
@@ -345,10 +346,8 @@ down_damage_outcome w down (Err fault) =
     world_reply (Down (heard_cases.Invalid fault)) (record w { down = down })
 
 abbrev pub down_damage_step : World → List (List ℕ) → List ℕ → WorldOutcome
-down_damage_step w [] damaged = world_refusal w NothingInTransit
-down_damage_step w (octets ∷ down) damaged =
-    down_damage_outcome w down
-    (telemetry_reading.frame_at w.ground_node.config.frame_length damaged)
+down_damage_step w way damaged = at_first w way (λ octets down. down_damage_outcome w down
+    (telemetry_reading.frame_at w.ground_node.config.frame_length damaged))
 
 -- a tick passes, packets are taken on board, and telemetry is queued there
 
