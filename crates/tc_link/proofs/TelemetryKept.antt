@@ -204,9 +204,41 @@ module _ (c : Config) (d : Downlink) (g : Laid c d) where
     first : First c d g.way.gone b bs
     first = first_of c d g.way.gone g.way.going b bs g.each g.way.parts (g.way.down_is ∙ is)
 
-    counts : (came : Bool) → length (d.came ++ came ∷ []) ≡ length (g.way.gone ++ first.frame ∷ [])
-    counts came =
-        omega (arith, length-append d.came (came ∷ []), length-append g.way.gone (first.frame ∷ []), g.way.counted)
+    -- the frames that came, this one too or not
+    abbrev came_with : Bool → List FrameView
+    came_with came = choice (g.way.gone ++ first.frame ∷ []) (d.came ++ came ∷ [])
+
+    gone : (came : Bool) (new : World) → Sound c new → new.spacecraft.builder ≡ d.world.spacecraft.builder
+        → new.down ≡ bs → new.ground_node.extractor ≡ state_after new_extractor (came_with came)
+        → d.taken ++ new.ground_node.telemetry ≡ all_extracted new_extractor (came_with came)
+        → Laid c (record {
+          world = new;
+          queued = d.queued ++ [];
+          sent = d.sent ++ [];
+          came = d.came ++ came ∷ [];
+          taken = d.taken;
+        })
+    gone came new sound builder down state given =
+        laid_at c new d.taken (append-nil d.queued) (append-nil d.sent) refl (record {
+          sound = sound;
+          laid = rw builder g.laid;
+          count = rw builder g.count;
+          each = g.each;
+          way = record {
+            gone = g.way.gone ++ first.frame ∷ [];
+            going = first.after;
+            parts = first.parts;
+            counted = omega (
+              arith,
+              length-append d.came (came ∷ []),
+              length-append g.way.gone (first.frame ∷ []),
+              g.way.counted,
+            );
+            down_is = first.rest ∙ sym down;
+            state = state;
+            given = given;
+          };
+        })
 
     lost : Sound c (record d.world { down = bs })
         → Laid c (record {
@@ -217,25 +249,10 @@ module _ (c : Config) (d : Downlink) (g : Laid c d) where
           taken = d.taken;
         })
     lost sound =
-        let x = first in
         let v = g.way in
-        let same : choice (v.gone ++ x.frame ∷ []) (d.came ++ false ∷ []) ≡ choice v.gone d.came =
-        choice_more v.gone x.frame d.came false v.counted ∙ append-nil (choice v.gone d.came) in
-        laid_at c (record d.world { down = bs }) d.taken (append-nil d.queued) (append-nil d.sent) refl (record {
-          sound = sound;
-          laid = g.laid;
-          count = g.count;
-          each = g.each;
-          way = record {
-            gone = v.gone ++ x.frame ∷ [];
-            going = x.after;
-            parts = x.parts;
-            counted = counts false;
-            down_is = x.rest;
-            state = rw same v.state;
-            given = rw same v.given;
-          };
-        })
+        let same : came_with false ≡ choice v.gone d.came =
+        choice_more v.gone first.frame d.came false v.counted ∙ append-nil (choice v.gone d.came) in
+        gone false (record d.world { down = bs }) sound refl refl (rw same v.state) (rw same v.given)
 
     extracts : IsExtracted d.world.ground_node (extract_step d.world.ground_node.extractor first.frame)
         (down_deliver_step d.world (b ∷ bs)).after.ground_node
@@ -262,29 +279,15 @@ module _ (c : Config) (d : Downlink) (g : Laid c d) where
         let v = g.way in
         let s : GroundState = d.world.ground_node in
         let t : List FrameView = choice v.gone d.came in
-        let more : choice (v.gone ++ x.frame ∷ []) (d.came ++ true ∷ []) ≡ t ++ x.frame ∷ [] =
-        choice_more v.gone x.frame d.came true v.counted in
-        laid_at c (down_deliver_step d.world (b ∷ bs)).after d.taken (append-nil d.queued) (append-nil d.sent) refl
-        (record {
-          sound = sound;
-          laid = g.laid;
-          count = g.count;
-          each = g.each;
-          way = record {
-            gone = v.gone ++ x.frame ∷ [];
-            going = x.after;
-            parts = x.parts;
-            counted = counts true;
-            down_is = x.rest;
-            state = extracts.0 ∙ ap (λ e. (extract_step e x.frame).after) v.state
-                ∙ sym (state_more new_extractor t x.frame) ∙ ap (state_after new_extractor) (sym more);
-            given = ap (λ (ps : List (List ℕ)). d.taken ++ ps) extracts.1
-                ∙ sym (append_assoc d.taken s.telemetry (extract_step s.extractor x.frame).packets)
-                ∙ ap (λ (ps : List (List ℕ)). ps ++ (extract_step s.extractor x.frame).packets) v.given
-                ∙ ap (λ e. all_extracted new_extractor t ++ (extract_step e x.frame).packets) v.state
-                ∙ sym (extracted_more new_extractor t x.frame) ∙ ap (all_extracted new_extractor) (sym more);
-          };
-        })
+        let more : came_with true ≡ t ++ x.frame ∷ [] = choice_more v.gone x.frame d.came true v.counted in
+        gone true (down_deliver_step d.world (b ∷ bs)).after sound refl refl
+        (extracts.0 ∙ ap (λ e. (extract_step e x.frame).after) v.state ∙ sym (state_more new_extractor t x.frame)
+        ∙ ap (state_after new_extractor) (sym more))
+        (ap (λ (ps : List (List ℕ)). d.taken ++ ps) extracts.1
+        ∙ sym (append_assoc d.taken s.telemetry (extract_step s.extractor x.frame).packets)
+        ∙ ap (λ (ps : List (List ℕ)). ps ++ (extract_step s.extractor x.frame).packets) v.given
+        ∙ ap (λ e. all_extracted new_extractor t ++ (extract_step e x.frame).packets) v.state
+        ∙ sym (extracted_more new_extractor t x.frame) ∙ ap (all_extracted new_extractor) (sym more))
 
   -- ---- all events
 
