@@ -3,7 +3,8 @@ use Rattle.tc_link.proofs.Common.{◌≡◌, ◌<◌, ℕ, ◌+◌, get_or, leng
 use Rattle.tc_link.proofs.Common.{inl, refl, ap, sym, subst, ◌∙◌, AllByRecursion, Config, Event, SimFault}
 use Rattle.tc_link.proofs.Common.{ConfirmsExactly, IsHistory, HasPlainHistory, GoesOnByAStep, IsConfig, IsPromised}
 use Rattle.tc_link.proofs.Common.{IsPromisedOf, AllReadable, IsEvent, IsReached, SimState, sim_run, World, new_world}
-use Rattle.tc_link.proofs.Common.{world_step, world_run, IsClean, IsIdle}
+use Rattle.tc_link.proofs.Common.{world_step, world_run, IsClean, IsIdle, IsSettled, BeginsNoSession, directive_of}
+use Rattle.tc_link.proofs.Common.{IsChecking, HasNoFalseAlarm}
 use Rattle.std.proofs.Common.{OnErr}
 use Rattle.std.proofs.lemmas.List.{take_more}
 use Rattle.tc_link.specs.Promises.{HoldsAt, HoldsThroughout}
@@ -67,13 +68,19 @@ reached_run c events ranges all = record { config = c; ranges = ranges; events =
 
 -- ---- as a call leaves it
 
+-- of a call that lets an event happen, in a session that had an idle start
+pub record IsPromisedCall (w new : World) (e : Event) : Type 0 where
+  pub history : IsSettled w → BeginsNoSession w e → GoesOnByAStep w new
+  pub confirms : IsChecking (directive_of w) → ConfirmsExactly w new
+  pub no_false_alarm : IsChecking (directive_of w) → HasNoFalseAlarm w e
+
 module _ {A : Type 0} (w new : World) (e : Event) where
   pub reached_after : (r : Result A SimFault) → IsReached w → IsEvent e → OnOk r (new ≡ (world_step w e).after)
       → OnErr r (new ≡ w) → IsReached new
   reached_after (Ok x) reached fits ok err = subst IsReached (sym ok) (reached_step w e reached fits)
   reached_after (Err fault) reached fits ok err = subst IsReached (sym err) reached
 
-  pub confirmed_after : (r : Result A SimFault) → OnOk r (new ≡ (world_step w e).after) → OnErr r (new ≡ w)
+  confirmed_after : (r : Result A SimFault) → OnOk r (new ≡ (world_step w e).after) → OnErr r (new ≡ w)
       → ConfirmsExactly w (world_step w e).after → ConfirmsExactly w new
   confirmed_after (Ok x) ok err confirms = subst (ConfirmsExactly w) (sym ok) confirms
   confirmed_after (Err fault) ok err confirms =
@@ -81,7 +88,7 @@ module _ {A : Type 0} (w new : World) (e : Event) where
       ap (λ (x : World). x.session.confirmed) err in cc)
 
   -- a refused event leaves the plain link where it is
-  pub stepped_after : (r : Result A SimFault) → OnOk r (new ≡ (world_step w e).after) → OnErr r (new ≡ w)
+  stepped_after : (r : Result A SimFault) → OnOk r (new ≡ (world_step w e).after) → OnErr r (new ≡ w)
       → HasPlainHistory w → GoesOnByAStep w (world_step w e).after → GoesOnByAStep w new
   stepped_after (Ok x) ok err now step = subst (GoesOnByAStep w) (sym ok) step
   stepped_after (Err fault) ok err now step = record {
@@ -92,6 +99,14 @@ module _ {A : Type 0} (w new : World) (e : Event) where
     after = now.plain;
     step = inl refl;
     is = subst (λ (x : World). IsHistory x now.base now.plain) (sym err) now.is;
+  }
+
+  pub promised_after : (r : Result A SimFault) → OnOk r (new ≡ (world_step w e).after) → OnErr r (new ≡ w)
+      → HasPlainHistory w → IsPromisedOf w e → IsPromisedCall w new e
+  promised_after r ok err now promises = record {
+    history = λ settled goes. stepped_after r ok err now (promises.history settled goes);
+    confirms = λ checking. confirmed_after r ok err (promises.confirms checking);
+    no_false_alarm = promises.no_false_alarm;
   }
 
 -- ---- at each event of a run

@@ -1,8 +1,7 @@
-use Rattle.tc_link.proofs.Common.{subst, IsChecking, ConfirmsExactly, HasNoFalseAlarm, GoesOnByAStep, IsPromised}
-use Rattle.tc_link.proofs.Common.{IsPromisedOf, IsReached, SimState, World, IsClean, IsIdle, IsSettled}
-use Rattle.tc_link.proofs.Common.{BeginsNoSession, directive_of}
-use Rattle.tc_link.proofs.Promised.{readable_of, idle_of, promised, promised_of, reached_after, confirmed_after}
-use Rattle.tc_link.proofs.Promised.{stepped_after}
+use Rattle.tc_link.proofs.Common.{subst, IsPromised, IsPromisedOf, IsReached, SimState, World, IsClean, IsIdle}
+use Rattle.std.proofs.Common.{rules}
+use Rattle.tc_link.proofs.Promised.{readable_of, idle_of, promised, promised_of, reached_after, promised_after}
+use Rattle.tc_link.proofs.Promised.{IsPromisedCall}
 use Rattle.tc_link.proofs.sim.Sim.step.Goals as goal
 
 abbrev old : goal.After-step → World
@@ -28,46 +27,33 @@ was_idle c is = idle_of (old c) c.self.invariant is
 pub invariant_of-self : goal.invariant_of-self
 invariant_of-self c = reached c
 
-pub returns-clause-in_order : goal.returns-clause-in_order
-returns-clause-in_order c is = (clean c is).in_order
+-- what is promised of the call, where the session began clean
+called : (c : goal.After-step) → IsClean c.args.self.now.world
+    → IsPromisedCall c.args.self.now.world c.step.new.self c.args.event
+called c =
+    subst (λ (s : SimState). IsClean s.world → IsPromisedCall s.world c.step.new.self c.args.event) c.self.view_is
+    (λ is. promised_after (old c) c.step.new.self c.args.event c.step.result c.step.ensures.after c.step.ensures.err
+    (promised (old c) c.self.invariant (was_idle c is)).history (kept_of c (was_idle c is)))
 
-pub returns-clause-history : goal.returns-clause-history
-returns-clause-history c is = (clean c is).history
-
-pub returns-clause-one_step : goal.returns-clause-one_step
-returns-clause-one_step c =
-    subst (λ (s : SimState). IsClean s.world → IsSettled s.world → BeginsNoSession s.world c.args.event
-    → GoesOnByAStep s.world c.step.new.self) c.self.view_is
-    (λ is settled goes. stepped_after (old c) c.step.new.self c.args.event c.step.result c.step.ensures.after
-    c.step.ensures.err (promised (old c) c.self.invariant (was_idle c is)).history
-    ((kept_of c (was_idle c is)).history settled goes))
-
-pub returns-clause-window : goal.returns-clause-window
-returns-clause-window c is = (clean c is).window
-
-pub returns-clause-confirmed : goal.returns-clause-confirmed
-returns-clause-confirmed c is = (clean c is).confirmed
-
-pub returns-clause-confirms : goal.returns-clause-confirms
-returns-clause-confirms c =
-    subst (λ (s : SimState). IsClean s.world → IsChecking (directive_of s.world)
-    → ConfirmsExactly s.world c.step.new.self) c.self.view_is
-    (λ is checking. confirmed_after (old c) c.step.new.self c.args.event c.step.result c.step.ensures.after
-    c.step.ensures.err ((kept_of c (was_idle c is)).confirms checking))
-
-pub returns-clause-no_false_alarm : goal.returns-clause-no_false_alarm
-returns-clause-no_false_alarm c =
-    subst (λ (s : SimState). IsClean s.world → IsChecking (directive_of s.world)
-    → HasNoFalseAlarm s.world c.args.event) c.self.view_is (λ is. (kept_of c (was_idle c is)).no_false_alarm)
-
-pub returns-clause-from_idle : goal.returns-clause-from_idle
-returns-clause-from_idle c = (
-  kept c,
-  subst (λ (s : SimState). IsIdle s.world → IsPromisedOf s.world c.args.event) c.self.view_is (kept_of c),
-)
-
-pub returns-clause-clean : goal.returns-clause-clean
-returns-clause-clean c is = idle_of c.step.new.self (reached c) is
-
-pub returns-clause-readable : goal.returns-clause-readable
-returns-clause-readable c = readable_of c.step.new.self (reached c)
+pub returns : goal.returns
+returns c = record {
+  reply = search rules;
+  after = search rules;
+  err = search rules;
+  refused = search rules;
+  memory = search rules;
+  none = search rules;
+  in_order = λ is. (clean c is).in_order;
+  history = λ is. (clean c is).history;
+  one_step = λ is. (called c is).history;
+  window = λ is. (clean c is).window;
+  confirmed = λ is. (clean c is).confirmed;
+  confirms = λ is. (called c is).confirms;
+  no_false_alarm = λ is. (called c is).no_false_alarm;
+  from_idle = (
+    kept c,
+    subst (λ (s : SimState). IsIdle s.world → IsPromisedOf s.world c.args.event) c.self.view_is (kept_of c),
+  );
+  clean = idle_of c.step.new.self (reached c);
+  readable = readable_of c.step.new.self (reached c);
+}
