@@ -4,7 +4,7 @@ use Rattle.tc_link.proofs.Common.{Result, option_to_list, refl, ap, sym, subst, 
 use Rattle.tc_link.proofs.Common.{Clcw, SegmentView, segments_of, ahead_by, CopFault, Alert, Idle, Sent, Directive}
 use Rattle.tc_link.proofs.Common.{InitWithoutCheck, InitWithCheck, InitUnlock, InitSetVr, S1, S2, S3, S6}
 use Rattle.tc_link.proofs.Common.{is_initiation, directive_step, units_of, pull_step, without_oldest_mark, FopState}
-use Rattle.tc_link.proofs.Common.{FopOutcome, clcw_step, report_while_active, confirms, after_move_on, retransmits}
+use Rattle.tc_link.proofs.Common.{FopOutcome, clcw_step, report_while_active, after_move_on, retransmits}
 use Rattle.tc_link.proofs.Common.{after_new_value, tick_step, after_count, due_again, after_acknowledge, after_repeat}
 use Rattle.tc_link.proofs.Common.{after_alert, after_stop, after_restart, heard_active, obeyed, begun, pulled_out}
 use Rattle.tc_link.proofs.Common.{ticked, TmFault, Extracted, Config, LinkFault, FitsFrame, IsConfig, GroundState}

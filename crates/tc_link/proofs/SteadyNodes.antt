@@ -1,5 +1,5 @@
 -- What holds of each node at every moment, in any session.
-use Rattle.tc_link.proofs.Common.{◌≡◌, ℕ, ◌<◌, true, false, [], ◌∷◌, Some, None, refl, ◌∙◌, arith, ◌+◌, ◌%◌}
+use Rattle.tc_link.proofs.Common.{◌≡◌, ℕ, ◌<◌, true, false, ◌∷◌, Some, None, refl, ◌∙◌, arith, ◌+◌, ◌%◌}
 use Rattle.tc_link.proofs.Common.{AllByRecursion, Clcw, SegmentView, FarmMode, Open, Wait, Verdict, Accepted, Control}
 use Rattle.tc_link.proofs.Common.{Idle, Sent, FopMode, S1, S2, S3, S5, FarmState, FarmEvent, AdArrives, BdArrives}
 use Rattle.tc_link.proofs.Common.{BufferReleased, farm_step, after_verdict, after_unlock, after_set_vr, after_release}
