@@ -72,15 +72,7 @@ only_some x alert is = cc
 
 module _ (s : FopState SegmentView) where
   tick_only : Only Timer (tick_step s).answer
-  tick_only = ticked s (λ o. Only Timer o.answer) (record {
-    off = only_none Timer;
-    runs = λ left. only_none Timer;
-    stops = only_none Timer;
-    repeats = λ active. only_none Timer;
-    counts = only_none Timer;
-    commands = λ is. only_none Timer;
-    gives_up = only_some Timer;
-  })
+  tick_only = ticked s (λ o. Only Timer o.answer) (assumption (only_none Timer, only_some Timer))
 
   abbrev Caused : World → Directive → FopOutcome SegmentView (Result (Option Alert) CopFault) → Type 0
   Caused w d o = (alert : Alert) → replied_alert (reply_to_directive o.answer) ≡ Some alert
