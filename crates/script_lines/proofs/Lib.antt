@@ -1,4 +1,5 @@
 pub mod Parts
+pub mod Tables
 pub mod Numerals
 pub mod HexWords
 pub mod Spaces

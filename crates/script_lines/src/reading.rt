@@ -1,8 +1,8 @@
 // Reads the lines of a script.
 
-ghost use Rattle.std.specs.Prelude.{◌≡◌, [], option_map, Some, IfSome};
-ghost use Rattle.script_lines.specs.Lines.{Happening, line_in, line_of_words, line_of_one_word, line_of_two_words, line_of_three_words, most_for, setting_line, initiation, up_event, down_event, numbered_directive, event_with, step_line, line_view, IsWellRead};
-ghost use Rattle.script_lines.specs.Words.{words_in, number_in_word, octets_in_word};
+ghost use Rattle.std.specs.Prelude.{◌≡◌, [], map, option_map, Some, IfSome};
+ghost use Rattle.script_lines.specs.Lines.{Happening, line_in, line_of_words, line_of_one_word, line_of_two_words, line_of_three_words, most_for, setting_line, numbered_directive, event_with, step_line, line_view, IsWellRead};
+ghost use Rattle.script_lines.specs.Words.{words_in, number_in_word, octets_in_word, lookup};
 
 use crate::cutting::cut;
 use crate::line::{Carrier, Line, Step};
@@ -45,28 +45,28 @@ fn line_of_one_word<'a>(name: &'a [u8]) -> Option<Line<'a>>
     ensures line { option_map line_view result ≡ line_of_one_word name.now }
     ensures fits { IfSome result IsWellRead }
 {
-    if is(name, "terminate") {
-        return plain(Step::Terminate);
-    }
-    if is(name, "send") {
-        return plain(Step::Send);
-    }
-    if is(name, "report") {
-        return plain(Step::Report);
-    }
-    if is(name, "tick") {
-        return plain(Step::Tick);
-    }
-    if is(name, "take") {
-        return plain(Step::Take);
-    }
-    if is(name, "takebypass") {
-        return plain(Step::TakeBypass);
-    }
-    if is(name, "show") {
-        return plain(Step::Show);
-    }
-    None
+    beside(
+        name,
+        &[
+            ("terminate", Step::Terminate),
+            ("send", Step::Send),
+            ("report", Step::Report),
+            ("tick", Step::Tick),
+            ("take", Step::Take),
+            ("takebypass", Step::TakeBypass),
+            ("show", Step::Show),
+        ],
+    )
+}
+
+// The line of the step that stands beside a word.
+fn beside<'a>(word: &[u8], steps: &[(&str, Step)]) -> Option<Line<'a>>
+    ensures line { option_map line_view result
+        ≡ lookup (map (λ row. (row.0.now, step_line row.1 [])) steps.now) word.now }
+    ensures fits { IfSome result IsWellRead }
+{
+    let (_, step) = steps.iter().find(|row| is(word, row.0)).copied()?;
+    plain(step)
 }
 
 fn plain<'a>(step: Step) -> Option<Line<'a>>
@@ -74,48 +74,6 @@ fn plain<'a>(step: Step) -> Option<Line<'a>>
     ensures fits { IfSome result IsWellRead }
 {
     Some(Line::Played(step, b""))
-}
-
-fn initiation<'a>(word: &'a [u8]) -> Option<Line<'a>>
-    ensures line { option_map line_view result ≡ option_map Happening (initiation word.now) }
-    ensures fits { IfSome result IsWellRead }
-{
-    if is(word, "none") {
-        return plain(Step::InitWithoutCheck);
-    }
-    if is(word, "check") {
-        return plain(Step::InitWithCheck);
-    }
-    if is(word, "unlock") {
-        return plain(Step::InitUnlock);
-    }
-    None
-}
-
-fn up_event<'a>(word: &'a [u8]) -> Option<Line<'a>>
-    ensures line { option_map line_view result ≡ option_map Happening (up_event word.now) }
-    ensures fits { IfSome result IsWellRead }
-{
-    if is(word, "deliver") {
-        return plain(Step::UpDeliver);
-    }
-    if is(word, "lose") {
-        return plain(Step::UpLose);
-    }
-    None
-}
-
-fn down_event<'a>(word: &'a [u8]) -> Option<Line<'a>>
-    ensures line { option_map line_view result ≡ option_map Happening (down_event word.now) }
-    ensures fits { IfSome result IsWellRead }
-{
-    if is(word, "deliver") {
-        return plain(Step::DownDeliver);
-    }
-    if is(word, "lose") {
-        return plain(Step::DownLose);
-    }
-    None
 }
 
 fn byte_in(word: &[u8]) -> Option<u8>
@@ -165,13 +123,26 @@ fn line_of_two_words<'a>(name: &'a [u8], word: &'a [u8]) -> Option<Line<'a>>
         return carrier_line(Carrier::Telemetry, word);
     }
     if is(name, "init") {
-        return initiation(word);
+        return beside(
+            word,
+            &[
+                ("none", Step::InitWithoutCheck),
+                ("check", Step::InitWithCheck),
+                ("unlock", Step::InitUnlock),
+            ],
+        );
     }
     if is(name, "up") {
-        return up_event(word);
+        return beside(
+            word,
+            &[("deliver", Step::UpDeliver), ("lose", Step::UpLose)],
+        );
     }
     if is(name, "down") {
-        return down_event(word);
+        return beside(
+            word,
+            &[("deliver", Step::DownDeliver), ("lose", Step::DownLose)],
+        );
     }
     numbered_directive(name, word)
 }
