@@ -3,7 +3,7 @@
 use Rattle.std.specs.Prelude.{ℕ, Result, Ok, Err}
 use Rattle.listings.specs.declared.output.WriteFailed.{WriteFailed}
 use Rattle.listings.specs.declared.fault.ListingFault.{ListingFault}
-use Rattle.listings.specs.declared.fault.ListingFault.TheVariants.{Read, Write, Memory, TooLong}
+use Rattle.listings.specs.declared.fault.ListingFault.TheVariants.{Read, Write}
 
 abbrev pub failed_in : Result (Unit {0}) WriteFailed → ℕ
 failed_in (Ok _) = 0
@@ -11,15 +11,11 @@ failed_in (Err _) = 1
 
 abbrev pub reads_failed : ListingFault → ℕ
 reads_failed Read = 1
-reads_failed Write = 0
-reads_failed Memory = 0
-reads_failed TooLong = 0
+reads_failed fault = 0
 
 abbrev pub writes_failed : ListingFault → ℕ
-writes_failed Read = 0
 writes_failed Write = 1
-writes_failed Memory = 0
-writes_failed TooLong = 0
+writes_failed fault = 0
 
 abbrev pub reads_failed_in : {A : Type 0} → Result A ListingFault → ℕ
 reads_failed_in (Ok _) = 0
