@@ -20,6 +20,11 @@ use Rattle.listings.proofs.stream.list_pieces.Goals as goal
 abbrev done : Course → Result Course ListingFault
 done course = Ok course
 
+-- how many writes have failed after a call that answered so
+so_failed : (before now : ℕ) {r answer : Result Course ListingFault} → r ≡ answer
+    → now ≡ before + writes_failed_in r → now ≡ before + writes_failed_in answer
+so_failed before now is failed = failed ∙ ap (λ (x : Result Course ListingFault). before + writes_failed_in x) is
+
 pub loop-count-init : goal.loop-count-init
 loop-count-init g c =
     let given = g.R.Source.given c.args.reader.now in
@@ -75,13 +80,7 @@ loop-count-preserved g c =
       );
       read_failures = omega (arith, c.in-Ok.ensures.failures, c.loop-count.invariant.read_failures);
       write_failures =
-          omega (
-            arith,
-            c.list_piece.ensures.failures
-                ∙ ap (λ (r : Result Course ListingFault). g.W.Sink.failures c.loop-count.writer + writes_failed_in r)
-                went,
-            c.loop-count.invariant.write_failures,
-          );
+          omega (arith, so_failed _ _ went c.list_piece.ensures.failures, c.loop-count.invariant.write_failures);
     }
 
 pub returns-in_default-clause-writes : goal.returns-in_default-clause-writes
@@ -104,49 +103,33 @@ returns-in-Err-clause-writes g c =
       whole = tt;
       beginning = subst (IsBeginning (g.W.Sink.taken_octets c.list_piece.new.writer)) adds.all
           c.in-Err.ensures.beginning;
-      failed = omega (
-        arith,
-        c.list_piece.ensures.failures
-            ∙ ap (λ (r : Result Course ListingFault). g.W.Sink.failures c.loop-count.writer + writes_failed_in r)
-            c.in-Err.is,
-        c.loop-count.invariant.write_failures,
-      );
+      failed =
+          omega (arith, so_failed _ _ c.in-Err.is c.list_piece.ensures.failures, c.loop-count.invariant.write_failures);
     }
 
-pub returns-in-Ok-Refused-clause-writes : goal.returns-in-Ok-Refused-clause-writes
-returns-in-Ok-Refused-clause-writes g c =
-    let adds = adds_piece g.C.Listing.lines g.S.Cutter.layout g.met.S.Cutter.heads c.loop-count.invariant.up_to
-    c.in-Ok.ensures.given in
-    let went : c.list_piece.result ≡ done Refused = c.in-Ok-Refused.is ∙ ap done c.in-Ok-Refused.field-0-is in
-    let has = c.list_piece.ensures.refused went in
-    record {
-      whole = has.written_all ∙ adds.all;
-      beginning = tt;
-      failed = omega (
-        arith,
-        c.list_piece.ensures.failures
-            ∙ ap (λ (r : Result Course ListingFault). g.W.Sink.failures c.loop-count.writer + writes_failed_in r)
-            went,
-        c.loop-count.invariant.write_failures,
-      );
-    }
-
-pub returns-in-Ok-Refused-clause-good : goal.returns-in-Ok-Refused-clause-good
-returns-in-Ok-Refused-clause-good g c =
+pub returns-in-Ok-Refused : goal.returns-in-Ok-Refused
+returns-in-Ok-Refused g c =
     let adds = adds_piece g.C.Listing.lines g.S.Cutter.layout g.met.S.Cutter.heads c.loop-count.invariant.up_to
     c.in-Ok.ensures.given in
     let went : c.list_piece.result ≡ done Refused = c.in-Ok-Refused.is ∙ ap done c.in-Ok-Refused.field-0-is in
     let has = c.list_piece.ensures.refused went in
     let refused = stops g.C.Listing.lines g.S.Cutter.layout adds has.refused in
-    sym (is_bad g.C.Listing.lines g.S.Cutter.layout g.met.S.Cutter.heads c.args.listing.now _ refused)
-
-pub returns-in-Ok-Refused-clause-end : goal.returns-in-Ok-Refused-clause-end
-returns-in-Ok-Refused-clause-end g c =
-    let adds = adds_piece g.C.Listing.lines g.S.Cutter.layout g.met.S.Cutter.heads c.loop-count.invariant.up_to
-    c.in-Ok.ensures.given in
-    let went : c.list_piece.result ≡ done Refused = c.in-Ok-Refused.is ∙ ap done c.in-Ok-Refused.field-0-is in
-    let has = c.list_piece.ensures.refused went in
-    inr (stops g.C.Listing.lines g.S.Cutter.layout adds has.refused)
+    record {
+      reads = record {
+        goes_on = (_, adds.gave);
+        consumes = consumes_piece _ _ _ _ _ _ _ c.loop-count.invariant.up_to.gave
+            c.in-Ok.ensures.given c.loop-count.invariant.consumes c.in-Ok.ensures.consumes.0;
+        failed = omega (arith, c.in-Ok.ensures.failures, c.loop-count.invariant.read_failures);
+        too_long = λ e. cc e;
+      };
+      writes = record {
+        whole = has.written_all ∙ adds.all;
+        beginning = tt;
+        failed = omega (arith, so_failed _ _ went c.list_piece.ensures.failures, c.loop-count.invariant.write_failures);
+      };
+      good = sym (is_bad g.C.Listing.lines g.S.Cutter.layout g.met.S.Cutter.heads c.args.listing.now _ refused);
+      end = inr refused;
+    }
 
 pub returns-then-count-eq0-clause-writes : goal.returns-then-count-eq0-clause-writes
 returns-then-count-eq0-clause-writes g c =
