@@ -1,4 +1,4 @@
-use Rattle.std.proofs.Common.{◌≡◌, ◌∙◌, ◌++◌, List, ℕ, [], Result, Ok, OnOk, sym, ap, subst, arith}
+use Rattle.std.proofs.Common.{◌≡◌, ◌∙◌, ◌++◌, List, ℕ, [], Result, Ok, OnOk, refl, sym, ap, subst, arith}
 use Rattle.std.proofs.lemmas.List.{append-nil}
 use Rattle.std.specs.Prelude.{codes}
 use Rattle.octets.specs.Beginning.{IsBeginning}
@@ -20,27 +20,22 @@ takes : (r : Result (Unit {0}) WriteFailed) (before now line whole : List ℕ) �
     → OnOk r (now ≡ before ++ line) → IsBeginning now (before ++ line) → Takes r before now whole
 takes r before now line whole is ok beginning = subst (Takes r before now) (sym is) (ok, beginning)
 
+-- what is taken where there is no line
+takes_none : (before whole : List ℕ) → whole ≡ [] → Takes (Ok tt) before before whole
+takes_none before whole none =
+    takes (Ok tt) before before [] whole none (sym (append-nil before)) ([], refl)
+
 pub returns-in-Ok-Good : goal.returns-in-Ok-Good
 returns-in-Ok-Good g c =
-    let before : List ℕ = g.W.Sink.taken_octets c.args.errors.now in
-    let none : ending_line c.args.dumped.now ≡ [] =
-    ap ending_line (c.in-Ok-Good.is ∙ ap done (rw c.in-Ok-Good.is at c.in-Ok-Good.field-0-is)) in
-    record {
-      ok = sym (append-nil before) ∙ ap (λ (t : List ℕ). before ++ t) (sym none);
-      beginning = ([], ap (λ (t : List ℕ). before ++ t) none);
-      failures = omega arith;
-    }
+    let all = takes_none (g.W.Sink.taken_octets c.args.errors.now) _
+    (ap ending_line (c.in-Ok-Good.is ∙ ap done (rw c.in-Ok-Good.is at c.in-Ok-Good.field-0-is))) in
+    record { ok = all.0; beginning = all.1; failures = omega arith }
 
 pub returns-in-Ok-Faulty : goal.returns-in-Ok-Faulty
 returns-in-Ok-Faulty g c =
-    let before : List ℕ = g.W.Sink.taken_octets c.args.errors.now in
-    let none : ending_line c.args.dumped.now ≡ [] =
-    ap ending_line (c.in-Ok-Faulty.is ∙ ap done (rw c.in-Ok-Faulty.is at c.in-Ok-Faulty.field-0-is)) in
-    record {
-      ok = sym (append-nil before) ∙ ap (λ (t : List ℕ). before ++ t) (sym none);
-      beginning = ([], ap (λ (t : List ℕ). before ++ t) none);
-      failures = omega arith;
-    }
+    let all = takes_none (g.W.Sink.taken_octets c.args.errors.now) _
+    (ap ending_line (c.in-Ok-Faulty.is ∙ ap done (rw c.in-Ok-Faulty.is at c.in-Ok-Faulty.field-0-is))) in
+    record { ok = all.0; beginning = all.1; failures = omega arith }
 
 pub returns-in-Ok-Unreadable : goal.returns-in-Ok-Unreadable
 returns-in-Ok-Unreadable g c =
