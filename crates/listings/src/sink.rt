@@ -4,7 +4,8 @@ ghost use Rattle.std.specs.Prelude.{◌≡◌, ◌≤◌, ◌+◌, ◌++◌, ℕ
 ghost use Rattle.std.specs.Io.KnownBytes.{WriteAppends};
 ghost use Rattle.listings.specs.Devices.{taken, write_failed};
 
-use crate::device_log::{Call, DeviceLog};
+use crate::device_log::Call;
+use crate::logged::Logged;
 use std::io;
 use std::io::Write;
 
@@ -29,36 +30,9 @@ pub trait Sink {
 }
 
 /// A writer of the standard library as a sink.
-#[derive(Drop)]
-pub struct Writer<W> {
-    inner: W,
-    log: DeviceLog,
-}
+pub type Writer<W> = Logged<W>;
 
-impl<W> Writer<W> {
-    ghost use Rattle.std.specs.Prelude.{[], false};
-    ghost use Rattle.listings.specs.DeviceLog.{IsLogOf};
-
-    /// A sink that writes to this writer, and has taken nothing yet.
-    pub fn new(inner: W) -> Self
-        ensures inner { result.inner ≡ inner }
-        ensures log { IsLogOf result.log [] false 0 }
-    {
-        Writer {
-            inner,
-            log: DeviceLog::new(),
-        }
-    }
-
-    /// The writer inside.
-    pub fn get_ref(&self) -> &W
-        ensures { result.now ≡ self.now.inner }
-    {
-        &self.inner
-    }
-}
-
-impl<W: Write> Sink for Writer<W> {
+impl<W: Write> Sink for Logged<W> {
     ghost taken_octets = { λ s. s.log.octets };
 
     ghost failures = { λ s. s.log.failures };

@@ -5,7 +5,8 @@ ghost use Rattle.std.specs.Prelude.{Option, None, IfOk};
 ghost use Rattle.std.specs.Io.KnownBytes.{ReadConsumes};
 ghost use Rattle.listings.specs.Devices.{taken, read_failed, EndsOrNot};
 
-use crate::device_log::{Call, DeviceLog};
+use crate::device_log::Call;
+use crate::logged::Logged;
 use std::io;
 use std::io::Read;
 
@@ -36,36 +37,9 @@ pub trait Source {
 }
 
 /// A reader of the standard library as a source.
-#[derive(Drop)]
-pub struct Reader<R> {
-    inner: R,
-    log: DeviceLog,
-}
+pub type Reader<R> = Logged<R>;
 
-impl<R> Reader<R> {
-    ghost use Rattle.std.specs.Prelude.{[], false};
-    ghost use Rattle.listings.specs.DeviceLog.{IsLogOf};
-
-    /// A source that reads from this reader, and has given nothing yet.
-    pub fn new(inner: R) -> Self
-        ensures inner { result.inner ≡ inner }
-        ensures log { IsLogOf result.log [] false 0 }
-    {
-        Reader {
-            inner,
-            log: DeviceLog::new(),
-        }
-    }
-
-    /// The reader inside.
-    pub fn get_ref(&self) -> &R
-        ensures { result.now ≡ self.now.inner }
-    {
-        &self.inner
-    }
-}
-
-impl<R: Read> Source for Reader<R> {
+impl<R: Read> Source for Logged<R> {
     ghost given = { λ s. s.log.octets };
 
     ghost has_ended = { λ s. s.log.has_ended };
