@@ -50,8 +50,5 @@ at_most_twenty n small = length-decimal-le 20 n (omega arith) (omega arith) smal
 pub joined : (t x y : List ℕ) {u v z : List ℕ} → u ≡ t ++ x → v ≡ u ++ y → z ≡ x ++ y → v ≡ t ++ z
 joined t x y first second both = second ∙ ap (λ s. s ++ y) first ∙ append_assoc t x y ∙ ap (λ s. t ++ s) (sym both)
 
-pub at_most_three : (n : ℕ) → n < 256 → length (decimal n) ≤ 3
-at_most_three n small = length-decimal-le 3 n (omega arith) (omega arith) (omega arith)
-
 pub at_most_five : (n : ℕ) → n < 2 ^ 16 → length (decimal n) ≤ 5
 at_most_five n small = length-decimal-le 5 n (omega arith) (omega arith) (omega arith)

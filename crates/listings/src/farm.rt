@@ -1,6 +1,6 @@
 // The line of each TC frame as a receiver takes it: its verdict, and how the receiver stands then.
 
-ghost use Rattle.std.specs.Prelude.{◌≡◌, ◌+◌, ◌<◌, ◌≤◌, ◌++◌, codes, decimal, length, take, OnOk, IfOk, is_ok};
+ghost use Rattle.std.specs.Prelude.{◌≡◌, ◌+◌, ◌≤◌, ◌++◌, [], ◌∷◌, codes, decimal, length, take, OnOk, IfOk, is_ok};
 ghost use Rattle.tc_frame.specs.Layout.{body_view, frame_view};
 ghost use Rattle.tc_frame.specs.Reading.{frame_at};
 ghost use Rattle.tc_frame.specs.Splitting.{check_if};
@@ -8,9 +8,9 @@ ghost use Rattle.cop1.specs.Names.{verdict_row};
 ghost use Rattle.listings.specs.Written.{Appends};
 ghost use Rattle.listings.specs.FarmLines.{state_word, flag_number, flags_text, state_text, body_text, after_body, farm_line, after_record, farm_lines};
 
-use crate::lines::push_invalid;
+use crate::lines::{push_invalid, push_refused};
 use crate::listing::Listing;
-use crate::parts::{put_digit, put_field, put_number, put_one, put_word};
+use crate::parts::{put_field, put_number, put_word};
 use crate::text::Text;
 use cop1::{Farm, FarmMode, Verdict};
 use octets::Splitter;
@@ -20,7 +20,6 @@ use tc_frame::{Body, Check, Command, FrameLayout, TcFault, check_if, decode};
 fn put_state(room: &mut [u8], at: usize, state: FarmMode) -> usize
     requires { at + 7 ≤ length room.old }
     ensures put { take result room.new ≡ take at room.old ++ state_word state }
-    ensures room { length room.new ≡ length room.old }
     ensures next { result ≤ at + 7 }
 {
     match state {
@@ -33,7 +32,6 @@ fn put_state(room: &mut [u8], at: usize, state: FarmMode) -> usize
 fn put_verdict(room: &mut [u8], at: usize, verdict: Verdict) -> usize
     requires { at + 9 ≤ length room.old }
     ensures put { take result room.new ≡ take at room.old ++ (verdict_row verdict).1 }
-    ensures room { length room.new ≡ length room.old }
     ensures next { result ≤ at + 9 }
 {
     match verdict {
@@ -46,45 +44,42 @@ fn put_verdict(room: &mut [u8], at: usize, verdict: Verdict) -> usize
     }
 }
 
-fn number_of_flag(flag: bool) -> u8
-    ensures number { result ≡ flag_number flag }
-    ensures digit { result < 10 }
+#[tactic(auto, using(std::proofs::lemmas::Fmt::decimal_digit))]
+fn digit_of_flag(flag: bool) -> u8
+    ensures { result ∷ [] ≡ decimal (flag_number flag) }
 {
-    u8::from(flag)
+    if flag { b'1' } else { b'0' }
 }
 
 fn put_flag(room: &mut [u8], at: usize, word: &[u8; 3], flag: bool) -> usize
     requires { at + 4 ≤ length room.old }
     ensures put { take result room.new ≡ take at room.old
         ++ (word.now ++ decimal (flag_number flag)) }
-    ensures room { length room.new ≡ length room.old }
     ensures next { result ≡ at + 4 }
 {
     let next = put_word(room, at, word);
-    put_digit(room, next, number_of_flag(flag))
+    put_word(room, next, &[digit_of_flag(flag)])
 }
 
 fn put_flags(room: &mut [u8], at: usize, farm: &Farm) -> usize
     requires { at + 32 ≤ length room.old }
     ensures put { take result room.new ≡ take at room.old ++ flags_text farm.now }
-    ensures room { length room.new ≡ length room.old }
     ensures next { result ≤ at + 32 }
 {
     let next = put_flag(room, at, b" l=", farm.lockout());
     let next = put_flag(room, next, b" w=", farm.wait());
     let next = put_flag(room, next, b" t=", farm.retransmit());
-    let next = put_field(room, next, b" b=", farm.farm_b());
-    put_one(room, next, b'\n')
+    let next = put_field(room, next, b" b=", u16::from(farm.farm_b()));
+    put_word(room, next, b"\n")
 }
 
 fn put_receiver(room: &mut [u8], at: usize, farm: &Farm) -> usize
     requires { at + 64 ≤ length room.old }
     ensures put { take result room.new ≡ take at room.old ++ state_text farm.now }
-    ensures room { length room.new ≡ length room.old }
     ensures next { result ≤ at + 64 }
 {
     let next = put_state(room, at, farm.state());
-    let next = put_field(room, next, b" vr=", farm.vr());
+    let next = put_field(room, next, b" vr=", u16::from(farm.vr()));
     put_flags(room, next, farm)
 }
 
@@ -92,24 +87,22 @@ fn put_ad(room: &mut [u8], at: usize, n: u8, verdict: Verdict) -> usize
     requires { at + 32 ≤ length room.old }
     ensures put { take result room.new ≡ take at room.old
         ++ (codes "AD " ++ (decimal n ++ (codes " " ++ ((verdict_row verdict).1 ++ codes " ")))) }
-    ensures room { length room.new ≡ length room.old }
     ensures next { result ≤ at + 32 }
 {
-    let next = put_field(room, at, b"AD ", n);
-    let next = put_one(room, next, b' ');
+    let next = put_field(room, at, b"AD ", u16::from(n));
+    let next = put_word(room, next, b" ");
     let next = put_verdict(room, next, verdict);
-    put_one(room, next, b' ')
+    put_word(room, next, b" ")
 }
 
 fn put_set_vr(room: &mut [u8], at: usize, vr: u8) -> usize
     requires { at + 32 ≤ length room.old }
     ensures put { take result room.new ≡ take at room.old
         ++ (codes "BC set " ++ (decimal vr ++ codes " ")) }
-    ensures room { length room.new ≡ length room.old }
     ensures next { result ≤ at + 32 }
 {
-    let next = put_field(room, at, b"BC set ", vr);
-    put_one(room, next, b' ')
+    let next = put_field(room, at, b"BC set ", u16::from(vr));
+    put_word(room, next, b" ")
 }
 
 /// Gives a frame to the receiver, whose buffer is free, and puts what it made of it.
@@ -118,7 +111,6 @@ fn put_body(room: &mut [u8], at: usize, farm: &mut Farm, body: &Body) -> usize
     ensures put { take result room.new ≡ take at room.old
         ++ body_text farm.old (body_view body.now) }
     ensures farm { farm.new ≡ after_body farm.old (body_view body.now) }
-    ensures room { length room.new ≡ length room.old }
     ensures next { result ≤ at + 32 }
 {
     match body {
@@ -147,11 +139,10 @@ fn put_frame(room: &mut [u8], at: usize, farm: &mut Farm, index: u64, body: &Bod
     ensures put { take result room.new ≡ take at room.old ++ (decimal index ++ (codes " "
         ++ (body_text farm.old (body_view body.now) ++ state_text farm.new))) }
     ensures farm { farm.new ≡ after_body farm.old (body_view body.now) }
-    ensures room { length room.new ≡ length room.old }
     ensures next { result ≤ at + 128 }
 {
     let next = put_number(room, at, index);
-    let next = put_one(room, next, b' ');
+    let next = put_word(room, next, b" ");
     let next = put_body(room, next, farm, body);
     put_receiver(room, next, farm)
 }
@@ -180,10 +171,7 @@ fn push_frame(
             );
             Ok(true)
         }
-        Err(fault) => {
-            push_invalid(text, index, fault.number(), fault.name())?;
-            Ok(false)
-        }
+        Err(fault) => push_refused(text, index, fault.number(), fault.name()),
     }
 }
 

@@ -8,9 +8,9 @@ ghost use Rattle.listings.specs.Written.{Appends};
 ghost use Rattle.listings.specs.Text.{line_end};
 ghost use Rattle.listings.specs.FrameLines.{type_word, channel_text, segment_text, body_line, frame_line, frame_lines};
 
-use crate::lines::{push_invalid, push_octets};
+use crate::lines::{push_invalid, push_octets, push_refused};
 use crate::listing::Listing;
-use crate::parts::{put_field, put_number, put_one, put_short_field, put_word};
+use crate::parts::{put_field, put_number, put_word};
 use crate::text::Text;
 use octets::Splitter;
 use std::alloc::AllocError;
@@ -29,31 +29,20 @@ impl Model for FrameListing {
     ghost view = { λ l. tt };
 }
 
-impl FrameListing {
-    /// Appends the line of a record, and answers whether it is a frame.
-    fn push_frame(
-        &self,
-        text: &mut Text,
-        check: Check,
-        index: u64,
-        octets: &[u8],
-    ) -> Result<bool, AllocError>
-        ensures text { Appends result text.old text.new
-            (frame_line index (frame_at check octets.now)) }
-        ensures good { IfOk result (λ good. good ≡ is_ok (frame_at check octets.now)) }
-    {
-        match decode(octets, check) {
-            Ok(frame) => {
-                text.make_room(128)?;
-                text.len = put_channel(text.octets.as_mut_slice(), text.len, index, &frame);
-                push_body(text, &frame.body)?;
-                Ok(true)
-            }
-            Err(fault) => {
-                push_invalid(text, index, fault.number(), fault.name())?;
-                Ok(false)
-            }
+/// Appends the line of a record, and answers whether it is a frame.
+fn push_frame(text: &mut Text, check: Check, index: u64, octets: &[u8]) -> Result<bool, AllocError>
+    ensures text { Appends result text.old text.new
+        (frame_line index (frame_at check octets.now)) }
+    ensures good { IfOk result (λ good. good ≡ is_ok (frame_at check octets.now)) }
+{
+    match decode(octets, check) {
+        Ok(frame) => {
+            text.make_room(128)?;
+            text.len = put_channel(text.octets.as_mut_slice(), text.len, index, &frame);
+            push_body(text, &frame.body)?;
+            Ok(true)
         }
+        Err(fault) => push_refused(text, index, fault.number(), fault.name()),
     }
 }
 
@@ -71,25 +60,23 @@ fn put_channel(room: &mut [u8], at: usize, index: u64, frame: &TcFrame) -> usize
     requires { at + 64 ≤ length room.old }
     ensures put { take result room.new ≡ take at room.old
         ++ (decimal index ++ (codes " " ++ channel_text (frame_view frame.now))) }
-    ensures room { length room.new ≡ length room.old }
     ensures next { result ≤ at + 64 }
 {
     let next = put_number(room, at, index);
-    let next = put_one(room, next, b' ');
+    let next = put_word(room, next, b" ");
     let next = put_word(room, next, &word_of_type(&frame.body));
-    let next = put_short_field(room, next, b" scid=", frame.scid);
-    put_field(room, next, b" vcid=", frame.vcid)
+    let next = put_field(room, next, b" scid=", frame.scid);
+    put_field(room, next, b" vcid=", u16::from(frame.vcid))
 }
 
 fn put_header(room: &mut [u8], at: usize, header: SegmentHeader) -> usize
     requires { at + 32 ≤ length room.old }
     ensures put { take result room.new ≡ take at room.old ++ (codes " seg="
         ++ (decimal (flags_code header.flags) ++ (codes " map=" ++ (decimal header.map ++ codes " data=")))) }
-    ensures room { length room.new ≡ length room.old }
     ensures next { result ≤ at + 32 }
 {
-    let next = put_field(room, at, b" seg=", header.flags.code());
-    let next = put_field(room, next, b" map=", header.map);
+    let next = put_field(room, at, b" seg=", u16::from(header.flags.code()));
+    let next = put_field(room, next, b" map=", u16::from(header.map));
     put_word(room, next, b" data=")
 }
 
@@ -105,11 +92,10 @@ fn put_set_vr(room: &mut [u8], at: usize, vr: u8) -> usize
     requires { at + 32 ≤ length room.old }
     ensures put { take result room.new ≡ take at room.old
         ++ (codes " set " ++ (decimal vr ++ line_end)) }
-    ensures room { length room.new ≡ length room.old }
     ensures next { result ≤ at + 32 }
 {
-    let next = put_field(room, at, b" set ", vr);
-    put_one(room, next, b'\n')
+    let next = put_field(room, at, b" set ", u16::from(vr));
+    put_word(room, next, b"\n")
 }
 
 fn push_body(text: &mut Text, body: &Body) -> Result<(), AllocError>
@@ -118,7 +104,7 @@ fn push_body(text: &mut Text, body: &Body) -> Result<(), AllocError>
 {
     match body {
         Body::Ad { n, segment } => {
-            text.len = put_field(text.octets.as_mut_slice(), text.len, b" n=", *n);
+            text.len = put_field(text.octets.as_mut_slice(), text.len, b" n=", u16::from(*n));
             push_segment(text, segment)
         }
         Body::Bd { segment } => push_segment(text, segment),
@@ -137,7 +123,7 @@ impl<const CHECKED: bool> Listing<Splitter<FrameLayout<CHECKED>>> for FrameListi
     ghost lines = { frame_lines (check_if CHECKED) };
 
     fn take(&mut self, text: &mut Text, index: u64, octets: &[u8]) -> Result<bool, AllocError> {
-        self.push_frame(text, check_if(CHECKED), index, octets)
+        push_frame(text, check_if(CHECKED), index, octets)
     }
 
     fn refuse(text: &mut Text, index: u64, fault: TcFault) -> Result<(), AllocError> {

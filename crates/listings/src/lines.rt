@@ -1,10 +1,10 @@
 // Lines, and ends of lines, that several commands write.
 
-ghost use Rattle.std.specs.Prelude.{◌≡◌, ◌+◌, ◌*◌, ◌≤◌, ◌++◌, codes, decimal, length, take, vec_len};
+ghost use Rattle.std.specs.Prelude.{◌≡◌, ◌+◌, ◌*◌, ◌≤◌, ◌++◌, false, codes, decimal, length, take, vec_len, IfOk};
 ghost use Rattle.listings.specs.Text.{invalid_line, octets_line, line_end};
 ghost use Rattle.listings.specs.Written.{Appends};
 
-use crate::parts::{put_all, put_digits, put_number, put_octet, put_one, put_word};
+use crate::parts::{put_all, put_digits, put_field, put_number, put_word};
 use crate::text::Text;
 use std::alloc::AllocError;
 
@@ -17,17 +17,24 @@ pub fn push_invalid(text: &mut Text, index: u64, number: u8, name: &str) -> Resu
     push_name(text, name)
 }
 
+/// Appends the line of a record that was refused, and answers that it is not good.
+pub fn push_refused(text: &mut Text, index: u64, number: u8, name: &str) -> Result<bool, AllocError>
+    ensures text { Appends result text.old text.new (invalid_line index (number, name.now)) }
+    ensures good { IfOk result (λ good. good ≡ false) }
+{
+    push_invalid(text, index, number, name)?;
+    Ok(false)
+}
+
 fn put_invalid(room: &mut [u8], at: usize, index: u64, number: u8) -> usize
     requires { at + 64 ≤ length room.old }
     ensures put { take result room.new ≡ take at room.old
         ++ (decimal index ++ (codes " invalid " ++ (decimal number ++ codes " "))) }
-    ensures room { length room.new ≡ length room.old }
     ensures next { result ≤ at + 64 }
 {
     let next = put_number(room, at, index);
-    let next = put_word(room, next, b" invalid ");
-    let next = put_octet(room, next, number);
-    put_one(room, next, b' ')
+    let next = put_field(room, next, b" invalid ", u16::from(number));
+    put_word(room, next, b" ")
 }
 
 /// Appends a name, and ends the line.
@@ -42,11 +49,10 @@ pub fn push_name(text: &mut Text, name: &str) -> Result<(), AllocError>
 fn put_name(room: &mut [u8], at: usize, name: &str) -> usize
     requires { at + (2 * length name.now + 1) ≤ length room.old }
     ensures put { take result room.new ≡ take at room.old ++ (name.now ++ line_end) }
-    ensures room { length room.new ≡ length room.old }
     ensures next { result ≤ at + (2 * length name.now + 1) }
 {
     let next = put_all(room, at, name.as_bytes());
-    put_one(room, next, b'\n')
+    put_word(room, next, b"\n")
 }
 
 /// Appends octets as upper-case hexadecimal digits, and ends the line.
@@ -63,9 +69,8 @@ pub fn push_octets(text: &mut Text, octets: &[u8]) -> Result<(), AllocError>
 fn put_octets(room: &mut [u8], at: usize, octets: &[u8]) -> usize
     requires { at + (2 * length octets.now + 1) ≤ length room.old }
     ensures put { take result room.new ≡ take at room.old ++ octets_line octets.now }
-    ensures room { length room.new ≡ length room.old }
     ensures next { result ≤ at + (2 * length octets.now + 1) }
 {
     let next = put_digits(room, at, octets);
-    put_one(room, next, b'\n')
+    put_word(room, next, b"\n")
 }

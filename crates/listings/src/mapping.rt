@@ -13,9 +13,9 @@ ghost use Rattle.listings.specs.Written.{Appends};
 ghost use Rattle.listings.specs.MapLines.{MapState, map_limits, map_opened, is_bypass, dropped_line, on_map_line, cause_text, map_packets_text, outcome_text, bypass_text, body_text, after_body, record_text, after_record, map_lines};
 ghost use Rattle.listings.specs.ListedPackets.{accepted_in, listed_on};
 
-use crate::lines::{push_invalid, push_name, push_octets};
+use crate::lines::{push_invalid, push_name, push_octets, push_refused};
 use crate::listing::Listing;
-use crate::parts::{put_number, put_octet, put_one, put_word};
+use crate::parts::{put_field, put_number, put_word};
 use crate::text::Text;
 use cop1::{Farm, Verdict};
 use map_service::{Assembler, Dropped, Limits, Taken};
@@ -134,10 +134,7 @@ impl MapListing {
                 self.push_body(text, index, frame.body)?;
                 Ok(true)
             }
-            Err(fault) => {
-                push_invalid(text, index, fault.number(), fault.name())?;
-                Ok(false)
-            }
+            Err(fault) => push_refused(text, index, fault.number(), fault.name()),
         }
     }
 }
@@ -154,7 +151,6 @@ fn push_dropped(text: &mut Text, index: u64, cause: &str) -> Result<(), AllocErr
 fn put_dropped(room: &mut [u8], at: usize, index: u64) -> usize
     requires { at + 32 ≤ length room.old }
     ensures put { take result room.new ≡ take at room.old ++ (decimal index ++ codes " dropped ") }
-    ensures room { length room.new ≡ length room.old }
     ensures next { result ≤ at + 32 }
 {
     let next = put_number(room, at, index);
@@ -174,12 +170,10 @@ fn put_on_map(room: &mut [u8], at: usize, word: &[u8; 7], map: u8) -> usize
     requires { at + 16 ≤ length room.old }
     ensures put { take result room.new ≡ take at room.old
         ++ (word.now ++ (decimal map ++ codes " ")) }
-    ensures room { length room.new ≡ length room.old }
     ensures next { result ≤ at + 16 }
 {
-    let next = put_word(room, at, word);
-    let next = put_octet(room, next, map);
-    put_one(room, next, b' ')
+    let next = put_field(room, at, word, u16::from(map));
+    put_word(room, next, b" ")
 }
 
 fn push_cause(text: &mut Text, index: u64, dropped: Option<Dropped>) -> Result<(), AllocError>

@@ -7,9 +7,9 @@ ghost use Rattle.space_packet.specs.Reading.{packet_at};
 ghost use Rattle.listings.specs.Written.{Appends};
 ghost use Rattle.listings.specs.PacketLines.{kind_word, none_seen, process_text, sequence_text, gap_text, packet_line, after_packet, packet_lines};
 
-use crate::lines::{push_invalid, push_octets};
+use crate::lines::{push_invalid, push_octets, push_refused};
 use crate::listing::Listing;
-use crate::parts::{put_field, put_number, put_one, put_short_field, put_word};
+use crate::parts::{put_field, put_number, put_word};
 use crate::text::Text;
 use octets::Splitter;
 use space_packet::{GapCheck, Packet, PacketFault, PacketKind, Packets, decode};
@@ -50,43 +50,40 @@ fn word_of_kind(kind: PacketKind) -> [u8; 2]
     }
 }
 
-fn number_of_flag(flag: bool) -> u8
+fn number_of_flag(flag: bool) -> u16
     ensures { result ≡ secondary_bit flag }
 {
-    u8::from(flag)
+    u16::from(flag)
 }
 
-fn put_process(room: &mut [u8], at: usize, kind: &[u8; 2], secondary: u8, apid: u16) -> usize
+fn put_process(room: &mut [u8], at: usize, kind: &[u8; 2], secondary: u16, apid: u16) -> usize
     requires { at + 48 ≤ length room.old }
     ensures put { take result room.new ≡ take at room.old ++ process_text kind.now secondary apid }
-    ensures room { length room.new ≡ length room.old }
     ensures next { result ≤ at + 48 }
 {
     let next = put_word(room, at, kind);
     let next = put_field(room, next, b" secondary=", secondary);
-    put_short_field(room, next, b" apid=", apid)
+    put_field(room, next, b" apid=", apid)
 }
 
 fn put_sequence(room: &mut [u8], at: usize, packet: &Packet) -> usize
     requires { at + 32 ≤ length room.old }
     ensures put { take result room.new ≡ take at room.old ++ sequence_text (packet_view packet.now) }
-    ensures room { length room.new ≡ length room.old }
     ensures next { result ≤ at + 32 }
 {
-    let next = put_field(room, at, b" flags=", packet.flags);
-    put_short_field(room, next, b" count=", packet.count)
+    let next = put_field(room, at, b" flags=", u16::from(packet.flags));
+    put_field(room, next, b" count=", packet.count)
 }
 
 fn put_gap(room: &mut [u8], at: usize, gap: Option<u16>) -> usize
     requires { at + 32 ≤ length room.old }
     ensures put { take result room.new ≡ take at room.old ++ gap_text gap }
-    ensures room { length room.new ≡ length room.old }
     ensures next { result ≤ at + 32 }
 {
     match gap {
         None => put_word(room, at, b" gap=- data="),
         Some(gap) => {
-            let next = put_short_field(room, at, b" gap=", gap);
+            let next = put_field(room, at, b" gap=", gap);
             put_word(room, next, b" data=")
         }
     }
@@ -97,11 +94,10 @@ fn put_packet(room: &mut [u8], at: usize, index: u64, packet: &Packet, gap: Opti
     ensures put { take result room.new ≡ take at room.old ++ (decimal index ++ (codes " "
         ++ (process_text (kind_word packet.now.kind) (secondary_bit packet.now.secondary) packet.now.apid
         ++ (sequence_text (packet_view packet.now) ++ gap_text gap)))) }
-    ensures room { length room.new ≡ length room.old }
     ensures next { result ≤ at + 144 }
 {
     let next = put_number(room, at, index);
-    let next = put_one(room, next, b' ');
+    let next = put_word(room, next, b" ");
     let kind = word_of_kind(packet.kind);
     let secondary = number_of_flag(packet.secondary);
     let next = put_process(room, next, &kind, secondary, packet.apid);
@@ -121,10 +117,7 @@ impl Listing<Splitter<Packets>> for PacketListing {
                 push_octets(text, packet.payload)?;
                 Ok(true)
             }
-            Err(fault) => {
-                push_invalid(text, index, fault.number(), fault.name())?;
-                Ok(false)
-            }
+            Err(fault) => push_refused(text, index, fault.number(), fault.name()),
         }
     }
 

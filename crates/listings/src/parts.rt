@@ -1,28 +1,15 @@
 // Parts of a line, each put in place after the one before it. Each call answers the place after what it put.
 
-ghost use Rattle.std.specs.Prelude.{◌≡◌, ◌+◌, ◌*◌, ◌<◌, ◌≤◌, ◌%◌, ◌++◌, [], ◌∷◌};
+ghost use Rattle.std.specs.Prelude.{◌≡◌, ◌+◌, ◌*◌, ◌<◌, ◌≤◌, ◌%◌, ◌++◌};
 ghost use Rattle.std.specs.Prelude.{codes, decimal, length, take, slice_index};
 ghost use Rattle.hex.specs.Hex.{encode_upper, upper_digits};
 ghost use Rattle.listings.specs.FourDigits.{four_digits};
-
-/// Puts one octet.
-#[inline(always)]
-pub fn put_one(room: &mut [u8], at: usize, octet: u8) -> usize
-    requires { at < length room.old }
-    ensures put { take result room.new ≡ take at room.old ++ octet ∷ [] }
-    ensures room { length room.new ≡ length room.old }
-    ensures next { result ≡ at + 1 }
-{
-    room[at] = octet;
-    at + 1
-}
 
 /// Puts octets.
 #[inline(always)]
 pub fn put_all(room: &mut [u8], at: usize, octets: &[u8]) -> usize
     requires { at + length octets.now ≤ length room.old }
     ensures put { take result room.new ≡ take at room.old ++ octets.now }
-    ensures room { length room.new ≡ length room.old }
     ensures next { result ≡ at + length octets.now }
 {
     let next = at + octets.len();
@@ -35,129 +22,22 @@ pub fn put_all(room: &mut [u8], at: usize, octets: &[u8]) -> usize
 pub fn put_word<const N: usize>(room: &mut [u8], at: usize, word: &[u8; N]) -> usize
     requires { at + N ≤ length room.old }
     ensures put { take result room.new ≡ take at room.old ++ word.now }
-    ensures room { length room.new ≡ length room.old }
     ensures next { result ≡ at + N }
 {
     room[at..at + N].copy_from_slice(word);
     at + N
 }
 
-/// Puts a number of one decimal digit.
-#[inline(always)]
-#[tactic(auto, using(std::proofs::lemmas::Fmt::decimal_digit))]
-pub fn put_digit(room: &mut [u8], at: usize, number: u8) -> usize
-    requires room { at < length room.old }
-    requires digit { number < 10 }
-    ensures put { take result room.new ≡ take at room.old ++ decimal number }
-    ensures room { length room.new ≡ length room.old }
-    ensures next { result ≡ at + 1 }
-{
-    put_one(room, at, b'0' + number)
-}
-
-/// Puts an octet's decimal digits, which are at most three.
-#[inline(always)]
-#[tactic(auto, using(crate::proofs::Digits::at_most_three))]
-pub fn put_octet(room: &mut [u8], at: usize, number: u8) -> usize
-    requires { at + 3 ≤ length room.old }
-    ensures put { take result room.new ≡ take at room.old ++ decimal number }
-    ensures room { length room.new ≡ length room.old }
-    ensures next { result ≤ at + 3 }
-{
-    put_small(room, at, u16::from(number))
-}
-
-// Puts the decimal digits of a number below 1,000.
-#[inline(always)]
-#[tactic(auto, using(std::proofs::lemmas::Fmt::decimal_digit, crate::proofs::Digits::two_digits, crate::proofs::Digits::three_digits))]
-fn put_small(room: &mut [u8], at: usize, number: u16) -> usize
-    requires room { at + length (decimal number) ≤ length room.old }
-    requires small { number < 1000 }
-    ensures put { take result room.new ≡ take at room.old ++ decimal number }
-    ensures room { length room.new ≡ length room.old }
-    ensures next { result ≡ at + length (decimal number) }
-{
-    if number < 10 {
-        return put_digit(room, at, number as u8);
-    }
-    if number < 100 {
-        return put_word(
-            room,
-            at,
-            &[b'0' + (number / 10) as u8, b'0' + (number % 10) as u8],
-        );
-    }
-    put_word(
-        room,
-        at,
-        &[
-            b'0' + (number / 100) as u8,
-            b'0' + (number / 10 % 10) as u8,
-            b'0' + (number % 10) as u8,
-        ],
-    )
-}
-
-// Puts four decimal digits.
-#[inline(always)]
-fn put_four(room: &mut [u8], at: usize, number: u16) -> usize
-    requires room { at + 4 ≤ length room.old }
-    requires four { number < 10000 }
-    ensures put { take result room.new ≡ take at room.old ++ four_digits number }
-    ensures room { length room.new ≡ length room.old }
-    ensures next { result ≡ at + 4 }
-{
-    put_word(
-        room,
-        at,
-        &[
-            b'0' + (number / 1000) as u8,
-            b'0' + (number / 100 % 10) as u8,
-            b'0' + (number / 10 % 10) as u8,
-            b'0' + (number % 10) as u8,
-        ],
-    )
-}
-
-/// Puts a number's decimal digits, which are at most five.
+/// Puts a word, and a number's decimal digits after it, which are at most five.
 #[inline(always)]
 #[tactic(auto, using(crate::proofs::Digits::at_most_five))]
-pub fn put_short(room: &mut [u8], at: usize, number: u16) -> usize
-    requires { at + 5 ≤ length room.old }
-    ensures put { take result room.new ≡ take at room.old ++ decimal number }
-    ensures room { length room.new ≡ length room.old }
-    ensures next { result ≤ at + 5 }
-{
-    put_eight(room, at, u32::from(number))
-}
-
-/// Puts a word, and an octet's decimal digits after it.
-#[inline(always)]
-pub fn put_field<const N: usize>(room: &mut [u8], at: usize, word: &[u8; N], number: u8) -> usize
-    requires { at + (N + 3) ≤ length room.old }
-    ensures put { take result room.new ≡ take at room.old ++ (word.now ++ decimal number) }
-    ensures room { length room.new ≡ length room.old }
-    ensures next { result ≤ at + (N + 3) }
-{
-    let next = put_word(room, at, word);
-    put_octet(room, next, number)
-}
-
-/// Puts a word, and a number's decimal digits after it.
-#[inline(always)]
-pub fn put_short_field<const N: usize>(
-    room: &mut [u8],
-    at: usize,
-    word: &[u8; N],
-    number: u16,
-) -> usize
+pub fn put_field<const N: usize>(room: &mut [u8], at: usize, word: &[u8; N], number: u16) -> usize
     requires { at + (N + 5) ≤ length room.old }
     ensures put { take result room.new ≡ take at room.old ++ (word.now ++ decimal number) }
-    ensures room { length room.new ≡ length room.old }
     ensures next { result ≤ at + (N + 5) }
 {
     let next = put_word(room, at, word);
-    put_short(room, next, number)
+    put_eight(room, next, u32::from(number))
 }
 
 /// Puts the decimal digits of the number of a record, which are at most twenty.
@@ -166,7 +46,6 @@ pub fn put_short_field<const N: usize>(
 pub fn put_number(room: &mut [u8], at: usize, number: u64) -> usize
     requires { at + 20 ≤ length room.old }
     ensures put { take result room.new ≡ take at room.old ++ decimal number }
-    ensures room { length room.new ≡ length room.old }
     ensures next { result ≤ at + 20 }
 {
     if number < 100_000_000 {
@@ -182,7 +61,6 @@ fn put_eight(room: &mut [u8], at: usize, number: u32) -> usize
     requires room { at + length (decimal number) ≤ length room.old }
     requires eight { number < 100000000 }
     ensures put { take result room.new ≡ take at room.old ++ decimal number }
-    ensures room { length room.new ≡ length room.old }
     ensures next { result ≡ at + length (decimal number) }
 {
     if number < 10000 {
@@ -196,7 +74,6 @@ fn put_eight(room: &mut [u8], at: usize, number: u32) -> usize
 fn put_long(room: &mut [u8], at: usize, number: u64) -> usize
     requires { at + length (decimal number) ≤ length room.old }
     ensures put { take result room.new ≡ take at room.old ++ decimal number }
-    ensures room { length room.new ≡ length room.old }
     ensures next { result ≡ at + length (decimal number) }
 {
     if number < 10000 {
@@ -208,18 +85,51 @@ fn put_long(room: &mut [u8], at: usize, number: u64) -> usize
 
 // Puts the decimal digits of a number below 10,000.
 #[inline(always)]
-#[tactic(auto, using(crate::proofs::Digits::is_four))]
+#[tactic(auto, using(std::proofs::lemmas::Fmt::decimal_digit, crate::proofs::Digits::two_digits, crate::proofs::Digits::three_digits, crate::proofs::Digits::is_four))]
 fn put_upper(room: &mut [u8], at: usize, number: u16) -> usize
     requires room { at + length (decimal number) ≤ length room.old }
     requires four { number < 10000 }
     ensures put { take result room.new ≡ take at room.old ++ decimal number }
-    ensures room { length room.new ≡ length room.old }
     ensures next { result ≡ at + length (decimal number) }
 {
-    if number < 1000 {
-        return put_small(room, at, number);
+    match number {
+        0..=9 => put_word(room, at, &[b'0' + number as u8]),
+        10..=99 => put_word(
+            room,
+            at,
+            &[b'0' + (number / 10) as u8, b'0' + (number % 10) as u8],
+        ),
+        100..=999 => put_word(
+            room,
+            at,
+            &[
+                b'0' + (number / 100) as u8,
+                b'0' + (number / 10 % 10) as u8,
+                b'0' + (number % 10) as u8,
+            ],
+        ),
+        _ => put_four(room, at, number),
     }
-    put_four(room, at, number)
+}
+
+// Puts four decimal digits.
+#[inline(always)]
+fn put_four(room: &mut [u8], at: usize, number: u16) -> usize
+    requires room { at + 4 ≤ length room.old }
+    requires four { number < 10000 }
+    ensures put { take result room.new ≡ take at room.old ++ four_digits number }
+    ensures next { result ≡ at + 4 }
+{
+    put_word(
+        room,
+        at,
+        &[
+            b'0' + (number / 1000) as u8,
+            b'0' + (number / 100 % 10) as u8,
+            b'0' + (number / 10 % 10) as u8,
+            b'0' + (number % 10) as u8,
+        ],
+    )
 }
 
 /// Puts octets as upper-case hexadecimal digits.
@@ -227,7 +137,6 @@ fn put_upper(room: &mut [u8], at: usize, number: u16) -> usize
 pub fn put_digits(room: &mut [u8], at: usize, octets: &[u8]) -> usize
     requires { at + 2 * length octets.now ≤ length room.old }
     ensures put { take result room.new ≡ take at room.old ++ encode_upper octets.now }
-    ensures room { length room.new ≡ length room.old }
     ensures next { result ≡ at + 2 * length octets.now }
 {
     let next = at + 2 * octets.len();

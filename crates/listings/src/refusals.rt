@@ -4,7 +4,7 @@ ghost use Rattle.std.specs.Prelude.{◌≡◌, ◌++◌, OnOk, IfOk, is_ok};
 ghost use Rattle.listings.specs.Written.{Appends};
 ghost use Rattle.listings.specs.RefusalLines.{refusal_lines};
 
-use crate::lines::push_invalid;
+use crate::lines::{push_invalid, push_refused};
 use crate::listing::Listing;
 use crate::text::Text;
 use octets::Splitter;
@@ -28,10 +28,7 @@ impl Listing<Splitter<Checked>> for RefusalListing {
     fn take(&mut self, text: &mut Text, index: u64, octets: &[u8]) -> Result<bool, AllocError> {
         match decode(octets, Check::On) {
             Ok(_) => Ok(true),
-            Err(fault) => {
-                push_invalid(text, index, fault.number(), fault.name())?;
-                Ok(false)
-            }
+            Err(fault) => push_refused(text, index, fault.number(), fault.name()),
         }
     }
 

@@ -8,9 +8,9 @@ ghost use Rattle.tm_link.specs.Layout.{frame_view};
 ghost use Rattle.listings.specs.TelemetryLines.{counts_text, pointer_text, lost_text, frame_line, finished_line, finished_lines, telemetry_lines};
 
 use crate::frame_cutter::{FrameCutter, FrameLength};
-use crate::lines::{push_invalid, push_octets};
+use crate::lines::{push_invalid, push_octets, push_refused};
 use crate::listing::Listing;
-use crate::parts::{put_digits, put_field, put_number, put_one, put_short_field, put_word};
+use crate::parts::{put_digits, put_field, put_number, put_word};
 use crate::text::Text;
 use std::alloc::{AllocError, Global};
 use std::marker::{Model, PhantomData};
@@ -68,10 +68,7 @@ impl<K: FrameLength> Listing<FrameCutter<K>> for TelemetryListing<K> {
                 push_finished(text, self.packets.as_slice())?;
                 Ok(true)
             }
-            Err(fault) => {
-                push_invalid(text, index, fault.number(), fault.name())?;
-                Ok(false)
-            }
+            Err(fault) => push_refused(text, index, fault.number(), fault.name()),
         }
     }
 
@@ -84,26 +81,24 @@ fn put_counts(room: &mut [u8], at: usize, index: u64, frame: &TmFrame) -> usize
     requires { at + 64 ≤ length room.old }
     ensures put { take result room.new ≡ take at room.old
         ++ counts_text index (frame_view frame.now) }
-    ensures room { length room.new ≡ length room.old }
     ensures next { result ≤ at + 64 }
 {
     let next = put_number(room, at, index);
-    let next = put_short_field(room, next, b" scid=", frame.scid);
-    let next = put_field(room, next, b" vcid=", frame.vcid);
-    let next = put_field(room, next, b" mc=", frame.mc_count);
-    put_field(room, next, b" vc=", frame.vc_count)
+    let next = put_field(room, next, b" scid=", frame.scid);
+    let next = put_field(room, next, b" vcid=", u16::from(frame.vcid));
+    let next = put_field(room, next, b" mc=", u16::from(frame.mc_count));
+    put_field(room, next, b" vc=", u16::from(frame.vc_count))
 }
 
 fn put_pointer(room: &mut [u8], at: usize, pointer: Pointer) -> usize
     requires { at + 32 ≤ length room.old }
     ensures put { take result room.new ≡ take at room.old
         ++ (codes " pointer=" ++ (pointer_text pointer ++ codes " ocf=")) }
-    ensures room { length room.new ≡ length room.old }
     ensures next { result ≤ at + 32 }
 {
     match pointer {
         Pointer::At(place) => {
-            let next = put_short_field(room, at, b" pointer=", place);
+            let next = put_field(room, at, b" pointer=", place);
             put_word(room, next, b" ocf=")
         }
         Pointer::NoStart => put_word(room, at, b" pointer=none ocf="),
@@ -115,14 +110,13 @@ fn put_gap(room: &mut [u8], at: usize, gap: Gap) -> usize
     requires { at + 16 ≤ length room.old }
     ensures put { take result room.new ≡ take at room.old
         ++ (codes " gap=" ++ (lost_text gap ++ line_end)) }
-    ensures room { length room.new ≡ length room.old }
     ensures next { result ≤ at + 16 }
 {
     match gap {
         Gap::First => put_word(room, at, b" gap=-\n"),
         Gap::Lost(count) => {
-            let next = put_field(room, at, b" gap=", count);
-            put_one(room, next, b'\n')
+            let next = put_field(room, at, b" gap=", u16::from(count));
+            put_word(room, next, b"\n")
         }
     }
 }
@@ -131,7 +125,6 @@ fn put_frame(room: &mut [u8], at: usize, index: u64, frame: &TmFrame, gap: Gap) 
     requires { at + 128 ≤ length room.old }
     ensures put { take result room.new ≡ take at room.old
         ++ frame_line index (frame_view frame.now) gap }
-    ensures room { length room.new ≡ length room.old }
     ensures next { result ≤ at + 128 }
 {
     let next = put_counts(room, at, index, frame);
