@@ -9,17 +9,13 @@ abbrev pub failed_in : Result (Unit {0}) WriteFailed → ℕ
 failed_in (Ok _) = 0
 failed_in (Err _) = 1
 
-abbrev pub reads_failed : ListingFault → ℕ
-reads_failed Read = 1
-reads_failed fault = 0
-
 abbrev pub writes_failed : ListingFault → ℕ
 writes_failed Write = 1
 writes_failed fault = 0
 
 abbrev pub reads_failed_in : {A : Type 0} → Result A ListingFault → ℕ
-reads_failed_in (Ok _) = 0
-reads_failed_in (Err fault) = reads_failed fault
+reads_failed_in (Err Read) = 1
+reads_failed_in result = 0
 
 abbrev pub writes_failed_in : {A : Type 0} → Result A ListingFault → ℕ
 writes_failed_in (Ok _) = 0
