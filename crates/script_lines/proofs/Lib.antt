@@ -1,5 +1,4 @@
 pub mod Parts
-pub mod Tables
 pub mod Numerals
 pub mod HexWords
 pub mod Spaces

@@ -45,18 +45,16 @@ fn line_of_one_word<'a>(name: &'a [u8]) -> Option<Line<'a>>
     ensures line { option_map line_view result ≡ line_of_one_word name.now }
     ensures fits { IfSome result IsWellRead }
 {
-    beside(
-        name,
-        &[
-            ("terminate", Step::Terminate),
-            ("send", Step::Send),
-            ("report", Step::Report),
-            ("tick", Step::Tick),
-            ("take", Step::Take),
-            ("takebypass", Step::TakeBypass),
-            ("show", Step::Show),
-        ],
-    )
+    let steps = [
+        ("terminate", Step::Terminate),
+        ("send", Step::Send),
+        ("report", Step::Report),
+        ("tick", Step::Tick),
+        ("take", Step::Take),
+        ("takebypass", Step::TakeBypass),
+        ("show", Step::Show),
+    ];
+    beside(name, &steps)
 }
 
 // The line of the step that stands beside a word.
@@ -123,26 +121,20 @@ fn line_of_two_words<'a>(name: &'a [u8], word: &'a [u8]) -> Option<Line<'a>>
         return carrier_line(Carrier::Telemetry, word);
     }
     if is(name, "init") {
-        return beside(
-            word,
-            &[
-                ("none", Step::InitWithoutCheck),
-                ("check", Step::InitWithCheck),
-                ("unlock", Step::InitUnlock),
-            ],
-        );
+        let kinds = [
+            ("none", Step::InitWithoutCheck),
+            ("check", Step::InitWithCheck),
+            ("unlock", Step::InitUnlock),
+        ];
+        return beside(word, &kinds);
     }
     if is(name, "up") {
-        return beside(
-            word,
-            &[("deliver", Step::UpDeliver), ("lose", Step::UpLose)],
-        );
+        let kinds = [("deliver", Step::UpDeliver), ("lose", Step::UpLose)];
+        return beside(word, &kinds);
     }
     if is(name, "down") {
-        return beside(
-            word,
-            &[("deliver", Step::DownDeliver), ("lose", Step::DownLose)],
-        );
+        let kinds = [("deliver", Step::DownDeliver), ("lose", Step::DownLose)];
+        return beside(word, &kinds);
     }
     numbered_directive(name, word)
 }
