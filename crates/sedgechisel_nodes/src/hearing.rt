@@ -78,13 +78,7 @@ pub(crate) fn number_of_alert(alert: Option<Alert>) -> u8
 {
     match alert {
         None => 0,
-        Some(Alert::Lockout) => 1,
-        Some(Alert::NnR) => 2,
-        Some(Alert::Clcw) => 3,
-        Some(Alert::Synch) => 4,
-        Some(Alert::Limit) => 5,
-        Some(Alert::Timer) => 6,
-        Some(Alert::Terminated) => 7,
+        Some(alert) => alert as u8 + 1,
     }
 }
 

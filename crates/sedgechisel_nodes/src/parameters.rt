@@ -11,23 +11,7 @@ use nodes::{Config, Parameter};
 fn number_of_parameter(parameter: Parameter) -> u8
     ensures { result ≡ parameter_number parameter }
 {
-    match parameter {
-        Parameter::Scid => 1,
-        Parameter::Vcid => 2,
-        Parameter::TmVcid => 3,
-        Parameter::Width => 4,
-        Parameter::Window => 5,
-        Parameter::Limit => 6,
-        Parameter::Timer => 7,
-        Parameter::Part => 8,
-        Parameter::MaxPacket => 9,
-        Parameter::Maps => 10,
-        Parameter::ReadySlots => 11,
-        Parameter::BypassSlots => 12,
-        Parameter::QueueSlots => 13,
-        Parameter::FrameLength => 14,
-        Parameter::Blocking => 15,
-    }
+    parameter as u8 + 1
 }
 
 #[tactic(auto, using(crate::proofs::Named::named_again, crate::proofs::Named::none_again))]

@@ -28,14 +28,7 @@ pub struct GroundReading {
 pub(crate) fn number_of_mode(mode: FopMode) -> u8
     ensures { result ≡ mode_number mode }
 {
-    match mode {
-        FopMode::S1 => 1,
-        FopMode::S2 => 2,
-        FopMode::S3 => 3,
-        FopMode::S4 => 4,
-        FopMode::S5 => 5,
-        FopMode::S6 => 6,
-    }
+    mode as u8 + 1
 }
 
 fn reading(node: &Ground) -> GroundReading
@@ -77,14 +70,10 @@ pub struct BoardReading {
     pub state: u8,
 }
 
-fn number_of_farm_mode(mode: FarmMode) -> u8
-    ensures { result ≡ farm_mode_number mode }
+fn number_of_farm_mode(state: FarmMode) -> u8
+    ensures { result ≡ farm_mode_number state }
 {
-    match mode {
-        FarmMode::Open => 0,
-        FarmMode::Wait => 1,
-        FarmMode::Lockout => 2,
-    }
+    state as u8
 }
 
 fn board_reading(node: &Spacecraft) -> BoardReading

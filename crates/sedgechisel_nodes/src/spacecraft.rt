@@ -85,14 +85,7 @@ pub(crate) const NO_RECEIVED: KeptReceived = KeptReceived {
 fn number_of_verdict(verdict: Verdict) -> u8
     ensures { result ≡ (verdict_row verdict).0 }
 {
-    match verdict {
-        Verdict::Accepted => 0,
-        Verdict::Ahead => 1,
-        Verdict::NoBuffer => 2,
-        Verdict::Behind => 3,
-        Verdict::Outside => 4,
-        Verdict::Discarded => 5,
-    }
+    verdict as u8
 }
 
 fn number_of_dropped(dropped: Option<Dropped>) -> u8
@@ -100,11 +93,7 @@ fn number_of_dropped(dropped: Option<Dropped>) -> u8
 {
     match dropped {
         None => 0,
-        Some(Dropped::ClosedMap) => 1,
-        Some(Dropped::Interrupted) => 2,
-        Some(Dropped::NoBeginning) => 3,
-        Some(Dropped::NotAPacket) => 4,
-        Some(Dropped::TooLong) => 5,
+        Some(dropped) => dropped as u8 + 1,
     }
 }
 
