@@ -19,7 +19,7 @@ use tm_link::{Gap, decode};
 
 /// What came of telemetry.
 #[repr(C)]
-#[derive(Clone, Copy)]
+#[derive(Clone, Copy, Default)]
 pub struct KeptHeard {
     pub packets: usize,
     pub kind: u8,
@@ -31,20 +31,9 @@ pub struct KeptHeard {
     pub alert: u8,
 }
 
-pub(crate) const NO_HEARD: KeptHeard = KeptHeard {
-    packets: 0,
-    kind: 0,
-    fault: 0,
-    first: 0,
-    missing: 0,
-    report: 0,
-    word_fault: 0,
-    alert: 0,
-};
-
 /// A control word.
 #[repr(C)]
-#[derive(Clone, Copy)]
+#[derive(Clone, Copy, Default)]
 pub struct KeptWord {
     pub status: u8,
     pub vcid: u8,
@@ -52,14 +41,6 @@ pub struct KeptWord {
     pub farm_b: u8,
     pub value: u8,
 }
-
-pub(crate) const NO_WORD: KeptWord = KeptWord {
-    status: 0,
-    vcid: 0,
-    flags: 0,
-    farm_b: 0,
-    value: 0,
-};
 
 pub(crate) fn kept_word(word: &Clcw) -> KeptWord
     ensures { result ≡ word_kept word.now }
@@ -104,7 +85,7 @@ fn kept_report(report: HeardReport) -> (u8, u8)
 pub(crate) fn kept_heard(heard: Heard) -> KeptHeard
     ensures { result ≡ heard_kept heard }
 {
-    let none = NO_HEARD;
+    let none = KeptHeard::default();
     match heard {
         Heard::Invalid(fault) => KeptHeard {
             kind: 1,

@@ -57,7 +57,7 @@ impl Holds for SpacecraftHandle {
 
 /// What came of octets.
 #[repr(C)]
-#[derive(Clone, Copy)]
+#[derive(Clone, Copy, Default)]
 pub struct KeptReceived {
     pub ready: usize,
     pub kind: u8,
@@ -69,18 +69,6 @@ pub struct KeptReceived {
     pub command: u8,
     pub vr: u8,
 }
-
-pub(crate) const NO_RECEIVED: KeptReceived = KeptReceived {
-    ready: 0,
-    kind: 0,
-    fault: 0,
-    n: 0,
-    verdict: 0,
-    dropped: 0,
-    kept: false,
-    command: 0,
-    vr: 0,
-};
 
 fn number_of_verdict(verdict: Verdict) -> u8
     ensures { result ≡ (verdict_row verdict).0 }
@@ -100,7 +88,7 @@ fn number_of_dropped(dropped: Option<Dropped>) -> u8
 pub(crate) fn kept_received(received: Received) -> KeptReceived
     ensures { result ≡ received_kept received }
 {
-    let none = NO_RECEIVED;
+    let none = KeptReceived::default();
     match received {
         Received::Invalid(fault) => KeptReceived {
             kind: 1,

@@ -4,16 +4,14 @@ ghost use Rattle.std.specs.Prelude.{◌≡◌};
 ghost use Rattle.simulated_link.specs.Replies.{reply_view};
 ghost use Rattle.sedgechisel_nodes.specs.Links.{no_reply, refused_by, reply_kept, reply_octets};
 
-use crate::hearing::{
-    KeptHeard, KeptWord, NO_HEARD, NO_WORD, kept_heard, kept_word, number_of_alert,
-};
-use crate::spacecraft::{KeptReceived, NO_RECEIVED, kept_received};
+use crate::hearing::{KeptHeard, KeptWord, kept_heard, kept_word, number_of_alert};
+use crate::spacecraft::{KeptReceived, kept_received};
 use std::alloc::Global;
 use tc_link::{NodeFault, Reply};
 
 /// A reply: its kind, then what that kind has; the rest is 0.
 #[repr(C)]
-#[derive(Clone, Copy)]
+#[derive(Clone, Copy, Default)]
 pub struct KeptReply {
     pub count: usize,
     pub up: KeptReceived,
@@ -41,15 +39,8 @@ fn reply_of(kind: u8) -> KeptReply
     ensures { result ≡ record no_reply { kind = kind } }
 {
     KeptReply {
-        count: 0,
-        up: NO_RECEIVED,
-        down: NO_HEARD,
-        report: NO_WORD,
         kind,
-        by: 0,
-        fault: 0,
-        alert: 0,
-        map: 0,
+        ..KeptReply::default()
     }
 }
 
