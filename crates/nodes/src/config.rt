@@ -8,7 +8,8 @@ use crate::valid_config::ValidConfig;
 use map_service::Limits;
 
 /// The managed parameters, which both nodes keep to. V(R) and V(S) start at 0. With values of your own:
-/// `Config { scid: 42, ..Config::default() }`.
+/// `Config { scid: 42, ..Config::default() }`. For C the fields lie as they stand here.
+#[repr(C)]
 #[derive(Clone, Copy, Debug, PartialEq, Eq)]
 pub struct Config {
     /// The spacecraft identifier, 0 to 1,023; default 1.

@@ -1,6 +1,5 @@
 -- The ground of a program in C: what a call answers, and what the program holds then.
 use Rattle.std.specs.Prelude.{◌≡◌, ◌≢◌, ℕ, ◌⊎◌, length, Option, Some, None, IfSome, Result, Ok, Err}
-use Rattle.nodes.specs.declared.config.Config.{Config}
 use Rattle.cop1.specs.declared.vocabulary.Directive.{Directive}
 use Rattle.cop1.specs.declared.vocabulary.FopMode.{FopMode}
 use Rattle.cop1.specs.declared.vocabulary.FopMode.TheVariants.{S1, S2, S3, S4, S5, S6}
@@ -10,7 +9,6 @@ use Rattle.cop1.specs.Faults.{fault_row as cop_row}
 use Rattle.nodes.specs.Ground.{GroundState, GroundEvent, Direct, ground_step, outstanding}
 use Rattle.nodes.specs.declared.fault.LinkFault.{LinkFault}
 use Rattle.nodes.specs.Faults.{fault_row}
-use Rattle.sedgechisel_nodes.specs.declared.ground.KeptConfig.{KeptConfig}
 use Rattle.sedgechisel_nodes.specs.declared.reading.GroundReading.{GroundReading}
 use Rattle.sedgechisel_nodes.specs.Calls.{closed}
 
@@ -35,25 +33,6 @@ pub record IsSubmission (fault : GroundState → Option LinkFault) (event : Grou
   pub answer_is : IfSome old (λ s. IsAnswer (fault s) answer)
   pub after : answer ≡ 0 → new ≡ stepped old event
   pub unchanged : answer ≢ 0 → new ≡ old
-
-abbrev pub config_of : KeptConfig → Config
-config_of k = record {
-  scid = k.scid;
-  vcid = k.vcid;
-  tm_vcid = k.tm_vcid;
-  width = k.width;
-  window = k.window;
-  limit = k.limit;
-  timer = k.timer;
-  part = k.part;
-  max_packet = k.max_packet;
-  maps = k.maps;
-  ready_slots = k.ready_slots;
-  bypass_slots = k.bypass_slots;
-  queue_slots = k.queue_slots;
-  frame_length = k.frame_length;
-  blocking = k.blocking;
-}
 
 -- what a directive is answered: 0, or the number of the sender's refusal
 abbrev pub directed_number : Result (Option Alert) CopFault → ℕ

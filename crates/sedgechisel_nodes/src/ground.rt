@@ -3,7 +3,7 @@
 ghost use Rattle.std.specs.Prelude.{◌≡◌, ◌≢◌, Option, None};
 ghost use Rattle.nodes.specs.Ground.{GroundState, Submit, ground_step, submit_fault, new_ground};
 ghost use Rattle.sedgechisel_nodes.specs.Calls.{IsOpened};
-ghost use Rattle.sedgechisel_nodes.specs.Grounds.{number_of, config_of, IsAnswer, IsSubmission};
+ghost use Rattle.sedgechisel_nodes.specs.Grounds.{number_of, IsAnswer, IsSubmission};
 
 use crate::answers::{MEMORY, OUT_OF_RANGE};
 use crate::holds::{Holds, open, take};
@@ -85,60 +85,13 @@ pub extern "C" fn sedge_ground_submit(
     held!(alloc, ground, |node| submitted(&mut node, map, octets))
 }
 
-/// The managed parameters.
-#[repr(C)]
-#[derive(Clone, Copy)]
-pub struct KeptConfig {
-    pub scid: u32,
-    pub vcid: u32,
-    pub tm_vcid: u32,
-    pub width: u32,
-    pub window: u32,
-    pub limit: u32,
-    pub timer: u32,
-    pub part: u32,
-    pub max_packet: u32,
-    pub maps: u64,
-    pub ready_slots: u32,
-    pub bypass_slots: u32,
-    pub queue_slots: u32,
-    pub frame_length: u32,
-    pub blocking: u32,
-}
-
-pub(crate) fn config_from(kept: &KeptConfig) -> Config
-    ensures { result ≡ config_of kept.now }
-{
-    Config {
-        scid: kept.scid,
-        vcid: kept.vcid,
-        tm_vcid: kept.tm_vcid,
-        width: kept.width,
-        window: kept.window,
-        limit: kept.limit,
-        timer: kept.timer,
-        part: kept.part,
-        max_packet: kept.max_packet,
-        maps: kept.maps,
-        ready_slots: kept.ready_slots,
-        bypass_slots: kept.bypass_slots,
-        queue_slots: kept.queue_slots,
-        frame_length: kept.frame_length,
-        blocking: kept.blocking,
-    }
-}
-
 /// Opens a ground, in place of one that was there. Answers 0, or 254 where a parameter is out of its range, or 6 where
 /// there is no memory.
 #[unsafe(no_mangle)]
-pub extern "C" fn sedge_ground_open(
-    alloc: Global,
-    config: &KeptConfig,
-    ground: &mut GroundHandle,
-) -> u8
-    ensures { IsOpened (config_of config.now) new_ground ground.old.value ground.new.value result }
+pub extern "C" fn sedge_ground_open(alloc: Global, config: &Config, ground: &mut GroundHandle) -> u8
+    ensures { IsOpened config.now new_ground ground.old.value ground.new.value result }
 {
-    let Ok(config) = config_from(config).valid() else {
+    let Ok(config) = config.valid() else {
         return OUT_OF_RANGE;
     };
     match Ground::of(alloc, &config) {

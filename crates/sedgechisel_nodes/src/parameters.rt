@@ -2,10 +2,8 @@
 
 ghost use Rattle.std.specs.Prelude.{◌≡◌};
 ghost use Rattle.nodes.specs.Parameters.{out_of_range};
-ghost use Rattle.sedgechisel_nodes.specs.Grounds.{config_of};
 ghost use Rattle.sedgechisel_nodes.specs.ParameterNumbers.{parameter_number, first_number};
 
-use crate::ground::{KeptConfig, config_from};
 use nodes::{Config, Parameter};
 
 fn number_of_parameter(parameter: Parameter) -> u8
@@ -26,10 +24,10 @@ fn first_out_of_range(config: &Config) -> Option<Parameter>
 
 /// The number of the first parameter that is out of its range, from 1, in the order of the fields; 0 for none.
 #[unsafe(no_mangle)]
-pub extern "C" fn sedge_config_fault(config: &KeptConfig) -> u8
-    ensures { result ≡ first_number (out_of_range (config_of config.now)) }
+pub extern "C" fn sedge_config_fault(config: &Config) -> u8
+    ensures { result ≡ first_number (out_of_range config.now) }
 {
-    match first_out_of_range(&config_from(config)) {
+    match first_out_of_range(config) {
         Some(parameter) => number_of_parameter(parameter),
         None => 0,
     }

@@ -7,15 +7,13 @@ ghost use Rattle.tm_link.specs.Faults.{fault_row};
 ghost use Rattle.cop1.specs.Names.{verdict_row};
 ghost use Rattle.sedgechisel_nodes.specs.Boards.{stepped, dropped_number, received_kept};
 ghost use Rattle.sedgechisel_nodes.specs.Calls.{closed, IsOpened, IsStep};
-ghost use Rattle.sedgechisel_nodes.specs.Grounds.{config_of};
 
 use crate::answers::{MEMORY, OUT_OF_RANGE};
-use crate::ground::{KeptConfig, config_from};
 use crate::holds::{Holds, open, take};
 use cop1::Verdict;
 use kept::Kept;
 use map_service::Dropped;
-use nodes::{Received, Spacecraft};
+use nodes::{Config, Received, Spacecraft};
 use std::alloc::Global;
 use std::marker::Model;
 use tc_frame::Command;
@@ -127,12 +125,12 @@ pub(crate) fn kept_received(received: Received) -> KeptReceived
 #[unsafe(no_mangle)]
 pub extern "C" fn sedge_spacecraft_open(
     alloc: Global,
-    config: &KeptConfig,
+    config: &Config,
     spacecraft: &mut SpacecraftHandle,
 ) -> u8
-    ensures { IsOpened (config_of config.now) new_spacecraft spacecraft.old.value spacecraft.new.value result }
+    ensures { IsOpened config.now new_spacecraft spacecraft.old.value spacecraft.new.value result }
 {
-    let Ok(config) = config_from(config).valid() else {
+    let Ok(config) = config.valid() else {
         return OUT_OF_RANGE;
     };
     match Spacecraft::of(alloc, &config) {

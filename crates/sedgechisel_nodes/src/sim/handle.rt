@@ -2,16 +2,15 @@
 
 ghost use Rattle.std.specs.Prelude.{◌≡◌, Option, None};
 ghost use Rattle.sedgechisel_nodes.specs.Calls.{IsOpened};
-ghost use Rattle.sedgechisel_nodes.specs.Grounds.{config_of};
 ghost use Rattle.sedgechisel_nodes.specs.LinkState.{LinkState};
 ghost use Rattle.sedgechisel_nodes.specs.Links.{new_link, IsEventCall};
 
 use crate::answers::{MEMORY, OUT_OF_RANGE};
-use crate::ground::{KeptConfig, config_from};
 use crate::holds::{Holds, open, take};
 use crate::sim::link::Link;
 use crate::sim::reply::KeptReply;
 use kept::Kept;
+use nodes::Config;
 use std::alloc::Global;
 use std::marker::Model;
 use tc_link::Event;
@@ -54,14 +53,13 @@ impl Holds for SimHandle {
 /// Opens a link with two new nodes, in place of one that was there. Answers 0, or 254 where a parameter is out of its
 /// range, or 6 where there is no memory.
 #[unsafe(no_mangle)]
-pub extern "C" fn sedge_sim_open(alloc: Global, config: &KeptConfig, sim: &mut SimHandle) -> u8
-    ensures { IsOpened (config_of config.now) new_link sim.old.value sim.new.value result }
+pub extern "C" fn sedge_sim_open(alloc: Global, config: &Config, sim: &mut SimHandle) -> u8
+    ensures { IsOpened config.now new_link sim.old.value sim.new.value result }
 {
-    let config = config_from(config);
     if config.fault().is_some() {
         return OUT_OF_RANGE;
     }
-    match Link::new(alloc, &config) {
+    match Link::new(alloc, config) {
         Some(link) => open(sim, alloc, link),
         None => MEMORY,
     }
