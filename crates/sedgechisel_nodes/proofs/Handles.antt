@@ -18,7 +18,7 @@ use types.Run.{stop, fld, of_opd, no_more, and_then, returns, enter}
 use types.ByLocal.{alloc_all, pass_all, free_all, look_at, get, get_in, sets}
 use types.Part.{agg, sub, whole}
 use contract.Monad.{fact, fact_i}
-use contract.Running.{Running, tables}
+use contract.Running.{Running, MachineTables, tables}
 use denote.Builtin.{RawPtr}
 use denote.Exit.{Kept as Exits, yes, under, hidden}
 use denote.Param.{layout}
@@ -144,33 +144,57 @@ module _ (h : Handled) where
         fpack t (Valss (RawPtr ∷ [])) (within (shape the_type) (p, tt) (v ∷ [])) (ptr_val p ∷ [], tt) $
         fjoin t $ rewrite t 0 (λ (x : Ptr × Option h.node.Denot). ‵ (held x (v ∷ []))) (sym (h.made (p, m))) refl $ s)
 
-  module _ (k : Exits) where
-    abbrev pub of_ended : Ended
-    of_ended = record {
-      signature = record {
-        lifetimes = 0;
-        outlives = [];
-        params = plain (λ κs. Kr) ∷ [];
-        result = plain (λ κs. Hr);
-      };
-      kept = (k, tt);
+  abbrev pub of_ended : Exits → Ended
+  of_ended k = record {
+    signature = record {
+      lifetimes = 0;
+      outlives = [];
+      params = plain (λ κs. Kr) ∷ [];
+      result = plain (λ κs. Hr);
+    };
+    kept = (k, tt);
+  }
+
+  abbrev pub into_ended : Ended
+  into_ended = record {
+    signature = record {
+      lifetimes = 0;
+      outlives = [];
+      params = plain (λ κs. Hr) ∷ plain (λ κs. Z) ∷ [];
+      result = plain (λ κs. Kr);
+    };
+    kept = (yes, (yes, tt));
+  }
+
+  module _ {M : Type 1} (𝓤 : Ura M) (𝓛 : Logic 𝓤) where
+    open 𝓛 use {H}
+
+    abbrev pub of_clauses : (k : Exits) → Clauses 𝓤 (of_ended k)
+    of_clauses k = λ κs a. record {
+      ghost = Unit {0};
+      requires = λ g. emp 𝓤;
+      ensures = λ g r e. fact 𝓤 ((h.parts r).1 ≡ a.0.value);
     }
 
-    module _ {M : Type 1} (𝓤 : Ura M) (𝓛 : Logic 𝓤) where
-      abbrev pub of_clauses : Clauses 𝓤 of_ended
-      of_clauses = λ κs a. record {
-        ghost = Unit {0};
-        requires = λ g. emp 𝓤;
-        ensures = λ g r e. fact 𝓤 ((h.parts r).1 ≡ a.0.value);
-      }
+    abbrev pub into_clauses : Clauses 𝓤 into_ended
+    into_clauses = λ κs a. record {
+      ghost = Unit {0};
+      requires = λ g. emp 𝓤;
+      ensures = λ g r e. fact 𝓤 (r.value ≡ (h.parts a.0).1);
+    }
+
+    module _ (𝓜 : Model 𝓤 H) (𝓡 : Running 𝓤 H 𝓜) (name : Callee) where
+      abbrev 𝓣 : MachineTables 𝓤 H 𝓜
+      𝓣 = tables 𝓤 H 𝓜 𝓡 𝓡.env
+
+      -- the function of this name, whose code this is, meets these clauses
+      abbrev MeetsBy : Fn → (En : Ended) → Clauses 𝓤 En → Type 2
+      MeetsBy fn En c = Closed 𝓤 H 𝓣.C 𝓣.Λ name fn → Meets 𝓛 En.signature (𝓣.C name) (closing 𝓛 En c)
 
       -- `of` keeps the pointer alone
-      pub of_meets : (𝓜 : Model 𝓤 𝓛.H) (𝓡 : Running 𝓤 𝓛.H 𝓜) (name : Callee)
-          → Closed 𝓤 𝓛.H (tables 𝓤 𝓛.H 𝓜 𝓡 𝓡.env).C (tables 𝓤 𝓛.H 𝓜 𝓡 𝓡.env).Λ name of_function
-          → Meets 𝓛 of_ended.signature ((tables 𝓤 𝓛.H 𝓜 𝓡 𝓡.env).C name) (closing 𝓛 of_ended of_clauses)
-      of_meets 𝓜 𝓡 name closed =
-          let H = 𝓛.H in let 𝓣 = tables 𝓤 H 𝓜 𝓡 𝓡.env in let L = heap_laws.the_row_laws in
-          let En = of_ended in let c = of_clauses in let fn = of_function in
+      pub of_meets : (k : Exits) → MeetsBy of_function (of_ended k) (of_clauses k)
+      of_meets k closed =
+          let L = heap_laws.the_row_laws in let En = of_ended k in let c = of_clauses k in let fn = of_function in
           let hs : Stays En.signature.params En.kept = (stay_dropped (plain (λ _. Kr)) k, tt) in
           proved_at 𝓛 En hs c 𝓜 𝓡 (Goes-dropped 𝓛 0 (plain (λ _. Kr)) k (λ κs x f. refl), tt) name fn closed
           (λ z are.
@@ -195,60 +219,38 @@ module _ (h : Handled) where
           returns ! (look_at ! 0 refl) $ free_all ! refl $ keep ! (3 ∷ 0 ∷ 2 ∷ 1 ∷ []) $
           by ! (leaves 𝓛 En hs c z made d (tt, tt) (tt, tt)))))
 
-  abbrev pub into_ended : Ended
-  into_ended = record {
-    signature = record {
-      lifetimes = 0;
-      outlives = [];
-      params = plain (λ κs. Hr) ∷ plain (λ κs. Z) ∷ [];
-      result = plain (λ κs. Kr);
-    };
-    kept = (yes, (yes, tt));
-  }
-
-  module _ {M : Type 1} (𝓤 : Ura M) (𝓛 : Logic 𝓤) where
-    abbrev pub into_clauses : Clauses 𝓤 into_ended
-    into_clauses = λ κs a. record {
-      ghost = Unit {0};
-      requires = λ g. emp 𝓤;
-      ensures = λ g r e. fact 𝓤 (r.value ≡ (h.parts a.0).1);
-    }
-
-    -- `into_kept` puts the allocator beside the pointer
-    pub into_meets : (𝓜 : Model 𝓤 𝓛.H) (𝓡 : Running 𝓤 𝓛.H 𝓜) (name : Callee)
-        → Closed 𝓤 𝓛.H (tables 𝓤 𝓛.H 𝓜 𝓡 𝓡.env).C (tables 𝓤 𝓛.H 𝓜 𝓡 𝓡.env).Λ name into_function
-        → Meets 𝓛 into_ended.signature ((tables 𝓤 𝓛.H 𝓜 𝓡 𝓡.env).C name) (closing 𝓛 into_ended into_clauses)
-    into_meets 𝓜 𝓡 name closed =
-        let H = 𝓛.H in let 𝓣 = tables 𝓤 H 𝓜 𝓡 𝓡.env in let L = heap_laws.the_row_laws in
-        let En = into_ended in let c = into_clauses in let fn = into_function in
-        let hs : Stays En.signature.params En.kept =
-        (stay_dropped (plain (λ _. Hr)) yes, (stay_dropped (plain (λ _. Z)) yes, tt)) in
-        proved_at 𝓛 En hs c 𝓜 𝓡 (
-          Goes-dropped 𝓛 0 (plain (λ _. Hr)) yes (λ k x f. refl),
-          (Goes-dropped 𝓛 0 (plain (λ _. Z)) yes (λ k x f. refl), tt),
-        )
-        name fn closed (λ z are.
-        let κs = z.0.0 in let qs = z.0.1 in let Post : Val → SProp 𝓤 = (walk_of 𝓛 En hs c).post z in
-        let Run : List Val → SProp 𝓤 = λ ws. WpFn 𝓤 H 𝓣.C 𝓣.Λ fn ws Post in
-        let d = z.0.3.0 in let p = (h.parts d).0 in let m = (h.parts d).1 in let a = z.0.3.1.0 in
-        let Told : Type 0 = m ≡ m in
-        let g = one (layout Z) z.0.4.1.0 ((L.lawful 𝓛).typed a z.0.4.1.0 are.1.0) in
-        qed 𝓛 ((raw (alive 𝓛 En.signature κs qs) ⊛
-        ‵ (owns (types_at En.signature.params κs) z.0.3 z.0.4)) ∷ raw ((c κs z.0.3).requires z.1) ∷ []) ∵ split ! $
-        move ! (1 ∷ []) $ fsplit3 ! $
-        rewrite ! 1 (λ (us : List Val). ‵ (Z.own_val a us)) g.1 refl $ handle_open ! d z.0.4.0 (λ ws.
-        -- [what is kept; the allocator; nothing; the tokens]
-        let w : Val = alone (ptr_val p) in let made : Val = both (ptr_val p) g.0 in let gp = ptr_good p in
-        let was : Good (layout Hr) w = (and_tt (has_ty ty_ptr (ptr_val p)) gp.0, (gp.1, tt)) in
-        let good = kept_good h.node Z L ghosts p g.0 g.2 in
-        keep ! (3 ∷ 0 ∷ 1 ∷ []) $ suffices ! (Run (w ∷ g.0 ∷ [])) (subst (λ (us : List Val). ent 𝓤 (Run (w ∷ g.0 ∷ []))
-        (Run us)) (sym (λ i. ws i ++ (g.1 i ++ []))) (id⊢ 𝓤 (Run (w ∷ g.0 ∷ [])))) $
-        enter ! 𝓣.C 𝓣.Λ fn (w ∷ g.0 ∷ []) Post $ alloc_all ! (λ l. pass_all ! refl (was, (g.2, tt)) $
-        sets ! (of_opd ! (get_in ! (fld ! refl (stop !)) (sub ! 0 refl (whole !)))) refl gp $
-        sets ! (of_opd ! (get ! refl)) refl gp $
-        sets ! (agg ! (and_then ! (get ! refl) (and_then ! (get ! refl) (no_more !)))) refl good $
-        move ! (1 ∷ 2 ∷ []) $ kept_closes h.node Z L ghosts ! p g.0 a m $
-        use0 𝓛 (raw (fact 𝓤 Told)) (fact_i 𝓤 Told (emp 𝓤) refl) $
-        nothing ! $ nothing ! $ fjoin ! $ nothing ! $ fjoin ! $
-        returns ! (look_at ! 0 refl) $ free_all ! refl $ keep ! (3 ∷ 0 ∷ 2 ∷ 1 ∷ []) $
-        by ! (leaves 𝓛 En hs c z made (record { at = p; alloc = a; value = m }) (tt, (tt, tt)) (tt, (tt, tt))))))
+      -- `into_kept` puts the allocator beside the pointer
+      pub into_meets : MeetsBy into_function into_ended into_clauses
+      into_meets closed =
+          let L = heap_laws.the_row_laws in let En = into_ended in let c = into_clauses in let fn = into_function in
+          let hs : Stays En.signature.params En.kept =
+          (stay_dropped (plain (λ _. Hr)) yes, (stay_dropped (plain (λ _. Z)) yes, tt)) in
+          proved_at 𝓛 En hs c 𝓜 𝓡 (
+            Goes-dropped 𝓛 0 (plain (λ _. Hr)) yes (λ k x f. refl),
+            (Goes-dropped 𝓛 0 (plain (λ _. Z)) yes (λ k x f. refl), tt),
+          )
+          name fn closed (λ z are.
+          let κs = z.0.0 in let qs = z.0.1 in let Post : Val → SProp 𝓤 = (walk_of 𝓛 En hs c).post z in
+          let Run : List Val → SProp 𝓤 = λ ws. WpFn 𝓤 H 𝓣.C 𝓣.Λ fn ws Post in
+          let d = z.0.3.0 in let p = (h.parts d).0 in let m = (h.parts d).1 in let a = z.0.3.1.0 in
+          let Told : Type 0 = m ≡ m in
+          let g = one (layout Z) z.0.4.1.0 ((L.lawful 𝓛).typed a z.0.4.1.0 are.1.0) in
+          qed 𝓛 ((raw (alive 𝓛 En.signature κs qs) ⊛
+          ‵ (owns (types_at En.signature.params κs) z.0.3 z.0.4)) ∷ raw ((c κs z.0.3).requires z.1) ∷ []) ∵ split ! $
+          move ! (1 ∷ []) $ fsplit3 ! $
+          rewrite ! 1 (λ (us : List Val). ‵ (Z.own_val a us)) g.1 refl $ handle_open ! d z.0.4.0 (λ ws.
+          -- [what is kept; the allocator; nothing; the tokens]
+          let w : Val = alone (ptr_val p) in let made : Val = both (ptr_val p) g.0 in let gp = ptr_good p in
+          let was : Good (layout Hr) w = (and_tt (has_ty ty_ptr (ptr_val p)) gp.0, (gp.1, tt)) in
+          let good = kept_good h.node Z L ghosts p g.0 g.2 in
+          keep ! (3 ∷ 0 ∷ 1 ∷ []) $ suffices ! (Run (w ∷ g.0 ∷ [])) (subst (λ (us : List Val).
+          ent 𝓤 (Run (w ∷ g.0 ∷ [])) (Run us)) (sym (λ i. ws i ++ (g.1 i ++ []))) (id⊢ 𝓤 (Run (w ∷ g.0 ∷ [])))) $
+          enter ! 𝓣.C 𝓣.Λ fn (w ∷ g.0 ∷ []) Post $ alloc_all ! (λ l. pass_all ! refl (was, (g.2, tt)) $
+          sets ! (of_opd ! (get_in ! (fld ! refl (stop !)) (sub ! 0 refl (whole !)))) refl gp $
+          sets ! (of_opd ! (get ! refl)) refl gp $
+          sets ! (agg ! (and_then ! (get ! refl) (and_then ! (get ! refl) (no_more !)))) refl good $
+          move ! (1 ∷ 2 ∷ []) $ kept_closes h.node Z L ghosts ! p g.0 a m $
+          use0 𝓛 (raw (fact 𝓤 Told)) (fact_i 𝓤 Told (emp 𝓤) refl) $
+          nothing ! $ nothing ! $ fjoin ! $ nothing ! $ fjoin ! $
+          returns ! (look_at ! 0 refl) $ free_all ! refl $ keep ! (3 ∷ 0 ∷ 2 ∷ 1 ∷ []) $
+          by ! (leaves 𝓛 En hs c z made (record { at = p; alloc = a; value = m }) (tt, (tt, tt)) (tt, (tt, tt))))))

@@ -5,4 +5,4 @@ use Rattle.sedgechisel_nodes.proofs.spacecraft.SpacecraftHandleHolds.of.Statemen
 use Rattle.sedgechisel_nodes.proofs.spacecraft.SpacecraftHandleHolds.of.Code as code
 
 pub of_spec : {M : Type 1} → statement M
-of_spec 𝓤 𝓛 𝓜 𝓡 wired = of_meets of_spacecraft yes 𝓤 𝓛 𝓜 𝓡 _ (code.unfolded 𝓤 𝓛.H 𝓜 𝓡 wired)
+of_spec 𝓤 𝓛 𝓜 𝓡 wired = of_meets of_spacecraft 𝓤 𝓛 𝓜 𝓡 _ yes (code.unfolded 𝓤 𝓛.H 𝓜 𝓡 wired)

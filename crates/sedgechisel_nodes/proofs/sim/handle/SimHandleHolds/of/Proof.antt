@@ -5,4 +5,4 @@ use Rattle.sedgechisel_nodes.proofs.sim.handle.SimHandleHolds.of.Statement.{stat
 use Rattle.sedgechisel_nodes.proofs.sim.handle.SimHandleHolds.of.Code as code
 
 pub of_spec : {M : Type 1} → statement M
-of_spec 𝓤 𝓛 𝓜 𝓡 wired = of_meets of_link no 𝓤 𝓛 𝓜 𝓡 _ (code.unfolded 𝓤 𝓛.H 𝓜 𝓡 wired)
+of_spec 𝓤 𝓛 𝓜 𝓡 wired = of_meets of_link 𝓤 𝓛 𝓜 𝓡 _ no (code.unfolded 𝓤 𝓛.H 𝓜 𝓡 wired)
