@@ -60,9 +60,7 @@ received_kept (Control (SetVr vr)) = record no_received { kind = 5; command = 1;
 
 -- the receiver's state (CCSDS 232.1-B-2, 6.1.2)
 abbrev pub farm_mode_number : FarmMode → ℕ
-farm_mode_number Open = 0
-farm_mode_number Wait = 1
-farm_mode_number Lockout = 2
+farm_mode_number mode = elim mode [ Open ↦ 0 | Wait ↦ 1 | Lockout ↦ 2 ]
 
 abbrev pub board_reading_of : SpacecraftState → BoardReading
 board_reading_of s =

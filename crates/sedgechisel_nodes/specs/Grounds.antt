@@ -51,12 +51,7 @@ pub record IsDirected (directive : Directive) (old new : Option GroundState) (an
 
 -- the sender's state (CCSDS 232.1-B-2, 5.1)
 abbrev pub mode_number : FopMode → ℕ
-mode_number S1 = 1
-mode_number S2 = 2
-mode_number S3 = 3
-mode_number S4 = 4
-mode_number S5 = 5
-mode_number S6 = 6
+mode_number mode = elim mode [ S1 ↦ 1 | S2 ↦ 2 | S3 ↦ 3 | S4 ↦ 4 | S5 ↦ 5 | S6 ↦ 6 ]
 
 abbrev pub reading_of : GroundState → GroundReading
 reading_of s = record {
