@@ -7,7 +7,8 @@ use bitflags::{Flag, Flags};
 
 /// The flags of a control word, as the bits of its third octet (CCSDS 232.0-B-4, 4.2.1.8). A
 /// contract sees them as the sum of their values, `flags_number`.
-#[derive(Clone, Copy, Debug, PartialEq, Eq)]
+#[repr(C)]
+#[derive(Clone, Copy, Debug, Default, PartialEq, Eq)]
 pub struct ClcwFlags(u8);
 
 impl ClcwFlags {

@@ -2,8 +2,10 @@
 
 use crate::flags::ClcwFlags;
 
-/// A communications link control word for COP-1 (CCSDS 232.0-B-4, 4.2).
-#[derive(Clone, Copy, Debug, PartialEq, Eq)]
+/// A communications link control word for COP-1 (CCSDS 232.0-B-4, 4.2). For C the fields lie as they stand
+/// here.
+#[repr(C)]
+#[derive(Clone, Copy, Debug, Default, PartialEq, Eq)]
 pub struct Clcw {
     /// The status field, 3 bits, which is carried and not interpreted.
     pub status: u8,

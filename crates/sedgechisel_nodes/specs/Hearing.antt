@@ -2,7 +2,7 @@
 use Rattle.std.specs.Prelude.{ℕ, Option, Some, None, Result, Ok, Err}
 use Rattle.clcw.specs.declared.word.Clcw.{Clcw}
 use Rattle.clcw.specs.declared.fault.ClcwFault.{ClcwFault}
-use Rattle.clcw.specs.Flags.{flags_number}
+use Rattle.clcw.specs.Flags.{flags_from}
 use Rattle.clcw.specs.Reading.{clcw_at}
 use Rattle.clcw.specs.Faults.{fault_row as word_row}
 use Rattle.cop1.specs.declared.vocabulary.Alert.{Alert}
@@ -17,7 +17,6 @@ use Rattle.nodes.specs.declared.heard.Heard.TheVariants.{Invalid, Foreign, Frame
 use Rattle.nodes.specs.declared.heard.HeardReport.{HeardReport}
 use Rattle.nodes.specs.declared.heard.HeardReport.TheVariants.{Used, Refused, OtherChannel}
 use Rattle.sedgechisel_nodes.specs.declared.hearing.KeptHeard.{KeptHeard}
-use Rattle.sedgechisel_nodes.specs.declared.hearing.KeptWord.{KeptWord}
 
 abbrev pub alert_number : Option Alert → ℕ
 alert_number None = 0
@@ -61,17 +60,8 @@ heard_kept (Frame gap packets report alert) =
 
 -- ---- the report that a telemetry frame carries
 
-abbrev pub no_word : KeptWord
-no_word = record { status = 0; vcid = 0; flags = 0; farm_b = 0; value = 0 }
-
-abbrev pub word_kept : Clcw → KeptWord
-word_kept word = record {
-  status = word.status;
-  vcid = word.vcid;
-  flags = flags_number word.flags;
-  farm_b = word.farm_b;
-  value = word.value;
-}
+abbrev pub no_word : Clcw
+no_word = record { status = 0; vcid = 0; flags = flags_from 0; farm_b = 0; value = 0 }
 
 abbrev pub word_read : Result Clcw ClcwFault → Option Clcw
 word_read (Ok word) = Some word

@@ -24,7 +24,7 @@ use Rattle.sedgechisel_nodes.specs.declared.sim.reading.SimReading.{SimReading}
 use Rattle.sedgechisel_nodes.specs.Boards.{no_received, received_kept}
 use Rattle.sedgechisel_nodes.specs.Calls.{closed}
 use Rattle.sedgechisel_nodes.specs.Grounds.{mode_number}
-use Rattle.sedgechisel_nodes.specs.Hearing.{no_heard, heard_kept, no_word, word_kept}
+use Rattle.sedgechisel_nodes.specs.Hearing.{no_heard, heard_kept, no_word}
 use Rattle.sedgechisel_nodes.specs.LinkState.{LinkState}
 
 abbrev pub new_link : Config → LinkState
@@ -65,7 +65,7 @@ reply_kept (Refused fault) =
     record no_reply { kind = 3; by = (refused_by fault).0; fault = (refused_by fault).1 }
 reply_kept (Alerted alert) = record no_reply { kind = 4; alert = (alert_row alert).0 }
 reply_kept (Sent octets) = record no_reply { kind = 5; count = length octets }
-reply_kept (Reported word) = record no_reply { kind = 6; report = word_kept word }
+reply_kept (Reported word) = record no_reply { kind = 6; report = word }
 reply_kept (Up received) = record no_reply { kind = 7; up = received_kept received }
 reply_kept (Down heard) = record no_reply { kind = 8; down = heard_kept heard }
 reply_kept (Packet p) = record no_reply { kind = 9; count = length p.octets; map = p.on_map }

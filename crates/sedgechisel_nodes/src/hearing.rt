@@ -1,16 +1,15 @@
 // The ground of a program in C: telemetry and reports, the clock, and packets past the sequence control.
 
-ghost use Rattle.std.specs.Prelude.{◌≡◌, ◌≢◌, option_map, None, IfSome};
+ghost use Rattle.std.specs.Prelude.{◌≡◌, ◌≢◌, None, IfSome};
 ghost use Rattle.tm_link.specs.Reading.{frame_at};
 ghost use Rattle.nodes.specs.Ground.{Bypass, Telemetry, Tick, ground_step, bypass_fault};
 ghost use Rattle.sedgechisel_nodes.specs.Calls.{closed, IsRead, IsStep};
 ghost use Rattle.sedgechisel_nodes.specs.Grounds.{stepped, IsAnswer, IsSubmission};
-ghost use Rattle.sedgechisel_nodes.specs.Hearing.{alert_number, gap_kept, report_kept, heard_kept, word_kept, report_in};
+ghost use Rattle.sedgechisel_nodes.specs.Hearing.{alert_number, gap_kept, report_kept, heard_kept, report_in};
 
 use crate::answers::MEMORY;
 use crate::ground::{GroundHandle, number_of};
 use crate::room::write;
-use bitflags::Flags;
 use clcw::Clcw;
 use cop1::Alert;
 use nodes::{Ground, Heard, HeardReport};
@@ -29,29 +28,6 @@ pub struct KeptHeard {
     pub report: u8,
     pub word_fault: u8,
     pub alert: u8,
-}
-
-/// A control word.
-#[repr(C)]
-#[derive(Clone, Copy, Default)]
-pub struct KeptWord {
-    pub status: u8,
-    pub vcid: u8,
-    pub flags: u8,
-    pub farm_b: u8,
-    pub value: u8,
-}
-
-pub(crate) fn kept_word(word: &Clcw) -> KeptWord
-    ensures { result ≡ word_kept word.now }
-{
-    KeptWord {
-        status: word.status,
-        vcid: word.vcid,
-        flags: word.flags.bits(),
-        farm_b: word.farm_b,
-        value: word.value,
-    }
 }
 
 pub(crate) fn number_of_alert(alert: Option<Alert>) -> u8
@@ -137,14 +113,14 @@ pub extern "C" fn sedge_ground_telemetry(
 }
 
 // The report that a telemetry frame of this length carries.
-fn report_in(octets: &[u8], length: usize) -> Option<KeptWord>
-    ensures { result ≡ option_map word_kept (report_in (frame_at length octets.now)) }
+fn report_in(octets: &[u8], length: usize) -> Option<Clcw>
+    ensures { result ≡ report_in (frame_at length octets.now) }
 {
     let Ok(frame) = decode(octets, length) else {
         return None;
     };
     match frame.report() {
-        Ok(word) => Some(kept_word(&word)),
+        Ok(word) => Some(word),
         Err(_) => None,
     }
 }
@@ -156,10 +132,9 @@ pub extern "C" fn sedge_ground_report(
     alloc: Global,
     ground: &mut GroundHandle,
     octets: &[u8],
-    report: &mut KeptWord,
+    report: &mut Clcw,
 ) -> u8
-    ensures { IsRead (λ s. option_map word_kept
-        (report_in (frame_at s.config.frame_length octets.now)))
+    ensures { IsRead (λ s. report_in (frame_at s.config.frame_length octets.now))
         ground.old.value ground.new.value result report.old report.new }
 {
     held!(

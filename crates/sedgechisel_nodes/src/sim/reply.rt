@@ -4,8 +4,9 @@ ghost use Rattle.std.specs.Prelude.{◌≡◌};
 ghost use Rattle.simulated_link.specs.Replies.{reply_view};
 ghost use Rattle.sedgechisel_nodes.specs.Links.{no_reply, refused_by, reply_kept, reply_octets};
 
-use crate::hearing::{KeptHeard, KeptWord, kept_heard, kept_word, number_of_alert};
+use crate::hearing::{KeptHeard, kept_heard, number_of_alert};
 use crate::spacecraft::{KeptReceived, kept_received};
+use clcw::Clcw;
 use std::alloc::Global;
 use tc_link::{NodeFault, Reply};
 
@@ -16,7 +17,7 @@ pub struct KeptReply {
     pub count: usize,
     pub up: KeptReceived,
     pub down: KeptHeard,
-    pub report: KeptWord,
+    pub report: Clcw,
     pub kind: u8,
     pub by: u8,
     pub fault: u8,
@@ -68,7 +69,7 @@ pub(crate) fn kept_reply(reply: &Reply) -> KeptReply
             ..reply_of(5)
         },
         Reply::Reported(word) => KeptReply {
-            report: kept_word(word),
+            report: *word,
             ..reply_of(6)
         },
         Reply::Up(received) => KeptReply {
