@@ -3,12 +3,11 @@
 ghost use Rattle.std.specs.Prelude.{◌≤◌};
 
 use crate::equal::equal;
+use crate::packets::P0;
 use map_service::{Limits, MapFault, cut};
 use std::alloc::Global;
 use std::process::Abort;
 use tc_frame::{Body, Check, Segment, TcFrame, encode};
-
-const P0: [u8; 7] = [0x10, 0x05, 0xc0, 0x00, 0x00, 0x00, 0xaa];
 
 // A frame that carries the segment, in octets, and how many these are.
 fn written(segment: Segment<'_>) -> ([u8; 16], usize) {

@@ -8,7 +8,8 @@ use octets::Wire;
 use std::process::Abort;
 use tc_frame::*;
 
-const DATA: [u8; 13] = [
+/// A Type-AD frame with number 3, which carries a packet on MAP 4, without a check.
+pub const DATA: [u8; 13] = [
     0x00, 0x01, 0x08, 0x0c, 0x03, 0xc4, 0x10, 0x05, 0xc0, 0x00, 0x00, 0x00, 0xaa,
 ];
 

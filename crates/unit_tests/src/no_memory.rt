@@ -4,18 +4,15 @@
 ghost use Rattle.std.specs.Prelude.{◌≡◌, ◌≤◌};
 
 use crate::equal::equal;
-use crate::{frames, packets};
+use crate::frames::DATA;
+use crate::packets::P0;
+use crate::segments::segment;
+use crate::{frames, packets, telemetry};
 use map_service::{Assembler, Dropped, Limits, segment_count};
 use space_packet::{GapCheck, PacketSplitter, SequenceCounters, is_packet, packet_len};
 use std::process::Abort;
-use tc_frame::{Check, Segment, SegmentFlags, SegmentHeader, TcSplitter, Unchecked};
+use tc_frame::{Check, Segment, SegmentFlags, TcSplitter, Unchecked};
 use tm_link::{Pointer, TmFrame};
-
-const P0: [u8; 7] = [0x10, 0x05, 0xc0, 0x00, 0x00, 0x00, 0xaa];
-
-const DATA: [u8; 13] = [
-    0x00, 0x01, 0x08, 0x0c, 0x03, 0xc4, 0x10, 0x05, 0xc0, 0x00, 0x00, 0x00, 0xaa,
-];
 
 // Reads a packet, and writes it: how many octets were read and written.
 fn packet_again(octets: &[u8], out: &mut [u8]) -> Option<(usize, usize)> {
@@ -63,13 +60,8 @@ fn codes_words(rt: &impl Abort) {
 
 fn codes_telemetry(rt: &impl Abort) {
     let frame = TmFrame {
-        scid: 1,
-        vcid: 0,
-        mc_count: 0,
-        vc_count: 0,
-        pointer: Pointer::OnlyIdle,
         payload: &[0x55; 8],
-        ocf: [0x01, 0x08, 0x00, 0x00],
+        ..telemetry::frame(Pointer::OnlyIdle)
     };
     let mut out = [0; 20];
     equal(rt, &tm_link::encode(&frame, &mut out), &Ok(20));
@@ -122,11 +114,6 @@ const LIMITS: Limits = Limits {
     maps: 1,
     blocking: false,
 };
-
-fn segment(flags: SegmentFlags, map: u8, payload: &[u8]) -> Segment<'_> {
-    let header = SegmentHeader { flags, map };
-    Segment { header, payload }
-}
 
 // The segment hands out nothing, and this is dropped.
 fn drops(

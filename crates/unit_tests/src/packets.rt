@@ -9,7 +9,8 @@ use space_packet::*;
 use std::alloc::Global;
 use std::process::Abort;
 
-const PACKET: [u8; 7] = [0x10, 0x05, 0xc0, 0x00, 0x00, 0x00, 0xaa];
+/// A command packet of 7 octets, with the sequence count 0.
+pub const P0: [u8; 7] = [0x10, 0x05, 0xc0, 0x00, 0x00, 0x00, 0xaa];
 
 fn packet(payload: &[u8]) -> Packet<'_> {
     Packet {
@@ -24,7 +25,7 @@ fn packet(payload: &[u8]) -> Packet<'_> {
 
 #[test]
 fn a_packet(rt: HostRuntime) {
-    equal(&rt, &decode(&PACKET), &Ok((packet(&[0xaa]), 7)));
+    equal(&rt, &decode(&P0), &Ok((packet(&[0xaa]), 7)));
     let mut out = [0x55; 9];
     equal(&rt, &written(&packet(&[0xaa]), &mut out), &Ok(7));
     equal(
@@ -70,8 +71,8 @@ fn is_written(rt: &impl Abort, octets: &[u8], out: &mut [u8]) {
 #[test]
 fn refused_octets(rt: HostRuntime) {
     for (octets, fault) in [
-        (&PACKET[..5], PacketFault::Truncated),
-        (&PACKET[..6], PacketFault::Truncated),
+        (&P0[..5], PacketFault::Truncated),
+        (&P0[..6], PacketFault::Truncated),
         (b"\x20\x05\xc0\x00\x00\x00\xaa", PacketFault::Version),
         (
             b"\x0f\xff\xc0\x00\x00\x00\x55",
@@ -130,11 +131,11 @@ pub fn ends(rt: &impl Abort, splitter: &PacketSplitter, answer: Result<(), Packe
 #[test]
 fn a_packet_octet_by_octet(rt: HostRuntime) {
     let mut splitter = PacketSplitter::new(rt.alloc());
-    for octet in PACKET {
+    for octet in P0 {
         hands_out(&rt, &mut splitter, None);
         feed(&rt, &mut splitter, &[octet]);
     }
-    hands_out(&rt, &mut splitter, Some(Ok(PACKET.as_slice())));
+    hands_out(&rt, &mut splitter, Some(Ok(P0.as_slice())));
     hands_out(&rt, &mut splitter, None);
     ends(&rt, &splitter, Ok(()));
 }

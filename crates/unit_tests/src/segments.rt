@@ -3,12 +3,11 @@
 mod assembling;
 
 use crate::equal::equal;
+use crate::packets::P0;
 use map_service::*;
 use std::alloc::Global;
 use std::process::Abort;
 use tc_frame::{Segment, SegmentFlags, SegmentHeader};
-
-const P0: [u8; 7] = [0x10, 0x05, 0xc0, 0x00, 0x00, 0x00, 0xaa];
 
 // P0, P1 and P2.
 const THREE: [u8; 21] = [
@@ -31,7 +30,8 @@ fn limits(part: u32, blocking: bool) -> Limits {
     }
 }
 
-fn segment(flags: SegmentFlags, map: u8, payload: &[u8]) -> Segment<'_> {
+/// A segment with these flags, on this MAP.
+pub fn segment(flags: SegmentFlags, map: u8, payload: &[u8]) -> Segment<'_> {
     let header = SegmentHeader { flags, map };
     Segment { header, payload }
 }

@@ -262,8 +262,7 @@ fn a_report_alerts(rt: HostRuntime) {
         (WAIT, 1, Alert::Clcw),
         (RETRANSMIT, 1, Alert::Synch),
     ] {
-        let mut both = new_both(&rt, rt.alloc(), 3, 10);
-        run(&rt, &mut both, &ONE_SENT);
+        let mut both = in_state(&rt, rt.alloc(), FopMode::S1);
         run(&rt, &mut both, &[Call::Report(flags, value, Some(alert))]);
         equal(&rt, &both.fop.state(), &FopMode::S6);
     }
@@ -295,17 +294,13 @@ const TO_S2: [Call; 1] = [Call::Report(RETRANSMIT, 0, None)];
 
 const TO_S3: [Call; 1] = [Call::Report(RETRANSMIT + WAIT, 0, None)];
 
-const TO_S6: [Call; 1] = [Call::Direct(Directive::Terminate, Ok(Some(Alert::Terminated)))];
+const TERMINATE: Call = Call::Direct(Directive::Terminate, Ok(Some(Alert::Terminated)));
 
-const TO_S4: [Call; 2] = [
-    Call::Direct(Directive::Terminate, Ok(Some(Alert::Terminated))),
-    Call::Direct(Directive::InitWithCheck, Ok(None)),
-];
+const TO_S6: [Call; 1] = [TERMINATE];
 
-const TO_S5: [Call; 2] = [
-    Call::Direct(Directive::Terminate, Ok(Some(Alert::Terminated))),
-    Call::Direct(Directive::InitUnlock, Ok(None)),
-];
+const TO_S4: [Call; 2] = [TERMINATE, Call::Direct(Directive::InitWithCheck, Ok(None))];
+
+const TO_S5: [Call; 2] = [TERMINATE, Call::Direct(Directive::InitUnlock, Ok(None))];
 
 fn calls_to(state: FopMode) -> &'static [Call] {
     match state {

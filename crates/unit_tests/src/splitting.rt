@@ -108,16 +108,21 @@ fn ends(rt: &impl Abort, splitter: &Splitter<Blocks>, answer: Result<(), BlockFa
 // Three blocks and the beginning of a fourth.
 const STREAM: [u8; 8] = [2, 7, 1, 3, 8, 9, 4, 1];
 
+// The three blocks, and that the fourth is cut short.
+fn hands_out_three(rt: &impl Abort, splitter: &mut Splitter<Blocks>) {
+    for block in [&STREAM[..2], &STREAM[2..3], &STREAM[3..6]] {
+        hands_out(rt, splitter, Some(Ok(block)));
+    }
+    hands_out(rt, splitter, None);
+    ends(rt, splitter, Err(BlockFault::Truncated));
+}
+
 #[test]
 fn a_stream_fed_whole(rt: HostRuntime) {
     let mut splitter: Splitter<Blocks> = Splitter::new(rt.alloc());
     ends(&rt, &splitter, Ok(()));
     feed(&rt, &mut splitter, &STREAM);
-    hands_out(&rt, &mut splitter, Some(Ok(&STREAM[..2])));
-    hands_out(&rt, &mut splitter, Some(Ok(&STREAM[2..3])));
-    hands_out(&rt, &mut splitter, Some(Ok(&STREAM[3..6])));
-    hands_out(&rt, &mut splitter, None);
-    ends(&rt, &splitter, Err(BlockFault::Truncated));
+    hands_out_three(&rt, &mut splitter);
     feed(&rt, &mut splitter, &[5, 6]);
     hands_out(&rt, &mut splitter, Some(Ok(&[4, 1, 5, 6][..])));
     ends(&rt, &splitter, Ok(()));
@@ -176,9 +181,5 @@ fn handing_out_takes_no_memory(rt: HostRuntime) {
         return;
     }
     let _ = eprintln!(rt; "set up");
-    hands_out(&rt, &mut splitter, Some(Ok(&STREAM[..2])));
-    hands_out(&rt, &mut splitter, Some(Ok(&STREAM[2..3])));
-    hands_out(&rt, &mut splitter, Some(Ok(&STREAM[3..6])));
-    hands_out(&rt, &mut splitter, None);
-    ends(&rt, &splitter, Err(BlockFault::Truncated));
+    hands_out_three(&rt, &mut splitter);
 }

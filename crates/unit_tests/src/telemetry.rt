@@ -26,7 +26,8 @@ const LONG: [u8; 16] = [
     0x00, 0x05, 0xc0, 0x00, 0x00, 0x09, 0xaa, 0xaa, 0xaa, 0xaa, 0xaa, 0xaa, 0xaa, 0xaa, 0xaa, 0xaa,
 ];
 
-fn frame(pointer: Pointer) -> TmFrame<'static> {
+/// A frame whose counts are 0, with this pointer.
+pub fn frame(pointer: Pointer) -> TmFrame<'static> {
     TmFrame {
         scid: 1,
         vcid: 0,
