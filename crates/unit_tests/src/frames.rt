@@ -3,7 +3,7 @@
 ghost use Rattle.std.specs.Prelude.{◌<◌};
 
 use crate::equal::equal;
-use crate::refusing::says_refused;
+use crate::refusing::again;
 use octets::Wire;
 use std::process::Abort;
 use tc_frame::*;
@@ -159,10 +159,8 @@ fn feed<C: Wire<Fault = TcFault>>(
     splitter: &mut TcSplitter<C>,
     octets: &[u8],
 ) {
-    if let Err(fault) = splitter.feed(octets) {
-        says_refused(rt, fault, TcFault::Memory);
-        equal(rt, &splitter.feed(octets), &Ok(()));
-    }
+    let fed = again(rt, TcFault::Memory, || splitter.feed(octets));
+    equal(rt, &fed, &Ok(()));
 }
 
 /// The next record, or the fault of its length.

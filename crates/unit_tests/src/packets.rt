@@ -4,7 +4,7 @@ ghost use Rattle.std.specs.Prelude.{◌≡◌, ◌<◌, ◌+◌, ◌%◌, Some, 
 ghost use Rattle.space_packet.specs.Counters.{gap_between};
 
 use crate::equal::equal;
-use crate::refusing::says_refused;
+use crate::refusing::again;
 use space_packet::*;
 use std::alloc::Global;
 use std::process::Abort;
@@ -93,10 +93,8 @@ fn faults_by_number_and_name(rt: HostRuntime) {
 
 // Feeds. Where memory is refused nothing has changed, and the call made again answers as ever.
 fn feed(rt: &(impl Abort + Eprint), splitter: &mut PacketSplitter, octets: &[u8]) {
-    if let Err(fault) = splitter.feed(octets) {
-        says_refused(rt, fault, PacketFault::Memory);
-        equal(rt, &splitter.feed(octets), &Ok(()));
-    }
+    let fed = again(rt, PacketFault::Memory, || splitter.feed(octets));
+    equal(rt, &fed, &Ok(()));
 }
 
 /// These packets came out.

@@ -1,7 +1,7 @@
 // Runs of the sender.
 
 use crate::equal::equal;
-use crate::refusing::says_refused;
+use crate::refusing::{again, says_refused};
 use bitflags::Flags;
 use clcw::{Clcw, ClcwFlags};
 use cop1::{
@@ -429,13 +429,7 @@ fn a_sender_does_without_memory(rt: HostRuntime) {
 }
 
 fn new_fop(rt: &(impl Abort + Eprint), alloc: Global) -> Fop<u8> {
-    match Fop::new(alloc, 254, 127, 3, 10) {
-        Ok(fop) => fop,
-        Err(fault) => {
-            says_refused(rt, fault, CopFault::Memory);
-            Fop::new(alloc, 254, 127, 3, 10).expect(rt, "a sender")
-        }
-    }
+    again(rt, CopFault::Memory, || Fop::new(alloc, 254, 127, 3, 10)).expect(rt, "a sender")
 }
 
 // The unit is its number among those that pass the sequence control.

@@ -2,7 +2,7 @@
 
 use crate::equal::equal;
 use crate::packets::{are_packets, octets_of};
-use crate::refusing::says_refused;
+use crate::refusing::{again, says_refused};
 use std::alloc::Global;
 use std::process::Abort;
 use tm_link::Gap::{First, Lost};
@@ -181,10 +181,8 @@ fn builds_one(rt: &impl Abort, builder: &mut TmBuilder, frame: TmFrame<'_>) {
 
 // Queues. Where memory is refused nothing has changed, and the call made again answers as ever.
 fn queue(rt: &(impl Abort + Eprint), builder: &mut TmBuilder, packet: &[u8]) {
-    if let Err(fault) = builder.queue(packet) {
-        says_refused(rt, fault, TmFault::Memory);
-        equal(rt, &builder.queue(packet), &Ok(()));
-    }
+    let queued = again(rt, TmFault::Memory, || builder.queue(packet));
+    equal(rt, &queued, &Ok(()));
 }
 
 // The frames of FOUR: the last ends in an idle packet, which goes on in a next one.
@@ -261,13 +259,7 @@ fn passage_from(rt: &(impl Abort + Eprint), alloc: Global, builder: TmBuilder) -
 
 // A new extractor. Where memory is refused the call made again answers as ever.
 fn extractor(rt: &(impl Abort + Eprint), alloc: Global) -> Extractor {
-    match Extractor::new(alloc) {
-        Ok(extractor) => extractor,
-        Err(fault) => {
-            says_refused(rt, fault, TmFault::Memory);
-            Extractor::new(alloc).expect(rt, "an extractor")
-        }
-    }
+    again(rt, TmFault::Memory, || Extractor::new(alloc)).expect(rt, "an extractor")
 }
 
 // Takes a frame. Where memory is refused nothing has changed, and the call made again answers as ever.

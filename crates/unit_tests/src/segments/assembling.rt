@@ -3,7 +3,7 @@
 use super::*;
 use crate::equal::equal;
 use crate::packets::are_packets;
-use crate::refusing::says_refused;
+use crate::refusing::again;
 use map_service::Dropped::{ClosedMap, Interrupted, NoBeginning, NotAPacket, TooLong};
 use tc_frame::SegmentFlags::{Alone, Continuing, First, Last};
 
@@ -17,26 +17,12 @@ fn takes(
     dropped: Option<Dropped>,
     packets: &[&[u8]],
 ) {
-    match take(rt, assembler, segment) {
+    match again(rt, MapFault::Memory, || assembler.take(segment)) {
         Ok(taken) => {
             equal(rt, &taken.dropped, &dropped);
             are_packets(rt, taken.packets.as_slice(), packets);
         }
         Err(fault) => equal(rt, &fault.name(), &"none"),
-    }
-}
-
-fn take(
-    rt: &(impl Abort + Eprint),
-    assembler: &mut Assembler,
-    segment: &Segment,
-) -> Result<Taken, MapFault> {
-    match assembler.take(segment) {
-        Ok(taken) => Ok(taken),
-        Err(fault) => {
-            says_refused(rt, fault, MapFault::Memory);
-            assembler.take(segment)
-        }
     }
 }
 
