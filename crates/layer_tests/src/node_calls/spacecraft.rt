@@ -177,11 +177,9 @@ fn is_read(rt: &impl Abort, octets: &[u8], fields: ([u8; 4], u8, Pointer), data:
     }
 }
 
-const DATA: [u8; 7] = [0x55; 7];
-
 // A frame of only idle data.
 fn idle(word: [u8; 4], number: u8) -> Row<'static> {
-    Row::Report(word, number, Pointer::OnlyIdle, &DATA)
+    Row::Report(word, number, Pointer::OnlyIdle, &IDLE_DATA)
 }
 
 fn sequence(n: u8, verdict: Verdict, ready: usize) -> Received {
