@@ -94,7 +94,8 @@ fn hears(rt: &(impl Abort + Eprint), ground: &mut Ground, octets: &[u8], want: H
     equal(rt, &telemetry(rt, ground, octets), &Ok(want));
 }
 
-fn takes(rt: &impl Abort, ground: &mut Ground, want: Option<&[u8]>) {
+/// Takes this packet of telemetry, or there is none.
+pub fn takes(rt: &impl Abort, ground: &mut Ground, want: Option<&[u8]>) {
     let taken = ground.take_telemetry();
     assert!(rt; taken.as_ref().map(|taken| taken.as_slice()) == want);
 }
@@ -207,8 +208,8 @@ fn peek(ground: &Ground, out: &mut [u8; 1024]) -> Option<usize> {
     }
 }
 
-// A frame of this channel whose report goes to the sender.
-fn heard(gap: Gap, packets: usize) -> Heard {
+/// A frame of this channel whose report goes to the sender.
+pub fn heard(gap: Gap, packets: usize) -> Heard {
     Heard::Frame {
         gap,
         packets,

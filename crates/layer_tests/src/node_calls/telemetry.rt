@@ -1,10 +1,11 @@
 // Telemetry that comes down: two packets of two frames each, of which none, 255 and 256 in a row are lost.
 
+use super::ground::{heard, takes};
 use crate::configs::with_frames;
 use crate::equal::equal;
 use std::alloc::Global;
 use std::process::Abort;
-use tc_link::{Ground, Heard, HeardReport, Spacecraft};
+use tc_link::{Ground, Spacecraft};
 use tm_link::Gap;
 
 // A frame of 20 octets carries 8, so each of these packets fills two.
@@ -56,20 +57,9 @@ fn hears(
 ) {
     let mut out = [0; 2048];
     let size = spacecraft.report(&mut out);
-    let heard = ground.telemetry(out.get(..size).unwrap_or_default());
+    let answer = ground.telemetry(out.get(..size).unwrap_or_default());
     // The sender, in S6, does not use the report for anything.
-    let want = Heard::Frame {
-        gap,
-        packets,
-        report: HeardReport::Used,
-        alert: None,
-    };
-    equal(rt, &heard, &Ok(want));
-}
-
-fn takes(rt: &impl Abort, ground: &mut Ground, packet: Option<&[u8]>) {
-    let taken = ground.take_telemetry();
-    assert!(rt; taken.as_ref().map(|taken| taken.as_slice()) == packet);
+    equal(rt, &answer, &Ok(heard(gap, packets)));
 }
 
 // These events happen, one after another, between two new nodes.
