@@ -8,6 +8,7 @@ use crate::equal::equal;
 use nodes::{PARAMETERS, Parameter};
 use std::process::Abort;
 use tc_link::{Config, Event, LinkFault, Reply, Sim, SimFault};
+use tm_link::TmFault;
 
 /// Lets an event happen to a link. It says nothing of it, so the proof of a test has nothing of the link in it.
 pub fn step(sim: &mut Sim, event: Event<'_>) -> Result<Reply, SimFault> {
@@ -51,4 +52,5 @@ fn names(rt: HostRuntime) {
     equal(&rt, &Parameter::named(b"colour"), &None);
     let fault = LinkFault::Memory;
     equal(&rt, &(fault.number(), fault.name()), &(6, "Memory"));
+    equal(&rt, &TmFault::Memory.number(), &7);
 }

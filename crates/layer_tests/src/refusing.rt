@@ -10,6 +10,35 @@ pub fn says_refused(rt: &(impl Abort + Eprint), number: u8, memory: u8) {
     equal(rt, &number, &memory);
 }
 
+/// What a call of a node answers. Where it may answer a fault for want of memory, and does, nothing that is seen of the
+/// node has changed, and the call made again answers as ever.
+pub fn answer_of<N, S, T, F, Seen, Call>(
+    rt: &(impl Abort + Eprint),
+    node: &mut N,
+    seen: Seen,
+    refusal: Option<F>,
+    call: Call,
+) -> Result<T, F>
+where
+    S: PartialEq + Drop,
+    F: Copy + PartialEq,
+    Seen: Fn(&N) -> S,
+    Call: Fn(&mut N) -> Result<T, F>,
+    requires seen { Seen.IsAlwaysCallable seen }
+    requires call { Call.IsAlwaysCallable call }
+{
+    let before = seen(node);
+    match call(node) {
+        Ok(made) => Ok(made),
+        Err(fault) if refusal == Some(fault) => {
+            let _ = eprintln!(rt; "refused a growth");
+            assert!(rt; seen(node) == before);
+            call(node)
+        }
+        Err(fault) => Err(fault),
+    }
+}
+
 /// A growth after all others of a test.
 pub fn ends_growths(rt: &(impl Abort + Eprint), alloc: Global) {
     if Vec::<u8>::with_capacity(alloc, 1).is_err() {

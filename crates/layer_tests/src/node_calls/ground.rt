@@ -4,7 +4,7 @@ use super::playing::{Node, plays};
 use crate::configs::{with_frames, with_parts};
 use crate::equal::equal;
 use crate::frames::*;
-use crate::refusing::says_refused;
+use crate::refusing::{answer_of, says_refused};
 use cop1::{Alert, CopFault, Directive, FopMode};
 use nodes::ValidConfig;
 use std::alloc::Global;
@@ -49,36 +49,18 @@ impl<'a> Node<(Ask<'a>, Standing)> for Ground {
 
 fn answers(rt: &(impl Abort + Eprint), ground: &mut Ground, ask: &Ask<'_>) {
     match ask {
-        Ask::Submit(octets, want) => submits(rt, ground, octets, *want),
-        Ask::Bypass(octets, want) => bypasses(rt, ground, octets, *want),
+        Ask::Submit(octets, want) => equal(rt, &submit(rt, ground, octets), want),
+        Ask::Bypass(octets, want) => equal(rt, &put(rt, ground, true, octets), want),
         Ask::Directive(directive, want) => obeys(rt, ground, *directive, *want),
         Ask::Pull(want) => pulls(rt, ground, *want),
         Ask::Advance => ground.advance(),
         Ask::Tick(want) => equal(rt, &ground.tick(), want),
-        Ask::Telemetry(octets, want) => hears(rt, ground, octets, *want),
+        Ask::Telemetry(octets, want) => equal(rt, &telemetry(rt, ground, octets), &Ok(*want)),
         Ask::TakeTelemetry(want) => takes(rt, ground, *want),
         Ask::AcceptedBeyond(value, want) => {
             equal(rt, &ground.accepted_beyond(*value), want);
         }
     }
-}
-
-fn submits(
-    rt: &(impl Abort + Eprint),
-    ground: &mut Ground,
-    octets: &[u8],
-    want: Result<(), LinkFault>,
-) {
-    equal(rt, &submit(rt, ground, octets), &want);
-}
-
-fn bypasses(
-    rt: &(impl Abort + Eprint),
-    ground: &mut Ground,
-    octets: &[u8],
-    want: Result<(), LinkFault>,
-) {
-    equal(rt, &put(rt, ground, true, octets), &want);
 }
 
 fn obeys(
@@ -88,10 +70,6 @@ fn obeys(
     want: Result<Option<Alert>, CopFault>,
 ) {
     equal(rt, &ground.directive(directive), &want);
-}
-
-fn hears(rt: &(impl Abort + Eprint), ground: &mut Ground, octets: &[u8], want: Heard) {
-    equal(rt, &telemetry(rt, ground, octets), &Ok(want));
 }
 
 /// Takes this packet of telemetry, or there is none.
@@ -140,29 +118,17 @@ fn submit(rt: &(impl Abort + Eprint), ground: &mut Ground, octets: &[u8]) -> Res
 }
 
 // Submits on MAP 4, or passes the sequence control.
-fn put_once(ground: &mut Ground, bypass: bool, octets: &[u8]) -> Result<(), LinkFault> {
-    match bypass {
-        true => ground.bypass(4, octets),
-        false => ground.submit(4, octets),
-    }
-}
-
-// The same, made again where memory is refused.
 fn put(
     rt: &(impl Abort + Eprint),
     ground: &mut Ground,
     bypass: bool,
     octets: &[u8],
 ) -> Result<(), LinkFault> {
-    let before = seen(ground);
-    match put_once(ground, bypass, octets) {
-        Err(LinkFault::Memory) => {
-            says_refused(rt, LinkFault::Memory.number(), 6);
-            assert!(rt; seen(ground) == before);
-            put_once(ground, bypass, octets)
-        }
-        answer => answer,
-    }
+    let put = |ground: &mut Ground| match bypass {
+        true => ground.bypass(4, octets),
+        false => ground.submit(4, octets),
+    };
+    answer_of(rt, ground, seen, Some(LinkFault::Memory), put)
 }
 
 // Receives. Octets that are no frame, and frames of only idle data, take no memory.
@@ -171,21 +137,15 @@ fn telemetry(
     ground: &mut Ground,
     octets: &[u8],
 ) -> Result<Heard, LinkFault> {
-    let before = seen(ground);
-    match ground.telemetry(octets) {
-        Err(fault) if has_packets(octets) => {
-            says_refused(rt, fault.number(), 6);
-            assert!(rt; seen(ground) == before);
-            ground.telemetry(octets)
-        }
-        answer => answer,
-    }
+    let hear = |ground: &mut Ground| ground.telemetry(octets);
+    answer_of(rt, ground, seen, refusal_of(octets), hear)
 }
 
-fn has_packets(octets: &[u8]) -> bool {
+// The fault for want of memory, where octets are a frame with packets.
+fn refusal_of(octets: &[u8]) -> Option<LinkFault> {
     match decode(octets, octets.len()) {
-        Ok(frame) => frame.pointer != Pointer::OnlyIdle,
-        Err(_) => false,
+        Ok(frame) if frame.pointer != Pointer::OnlyIdle => Some(LinkFault::Memory),
+        _ => None,
     }
 }
 

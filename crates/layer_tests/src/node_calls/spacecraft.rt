@@ -4,8 +4,8 @@ use super::playing::{Node, plays};
 use crate::configs::with_parts;
 use crate::equal::equal;
 use crate::frames::*;
-use crate::refusing::says_refused;
-use clcw::decode;
+use crate::refusing::{answer_of, says_refused};
+use clcw::{Clcw, decode};
 use cop1::Verdict;
 use map_service::Dropped;
 use nodes::{Arrival, ValidConfig};
@@ -37,10 +37,10 @@ impl<'a> Node<Row<'a>> for Spacecraft {
 
     fn answers(&mut self, rt: &(impl Abort + Eprint), call: &Row<'a>) {
         match call {
-            Row::Receive(octets, want) => receives(rt, self, octets, *want),
+            Row::Receive(octets, want) => equal(rt, &receive(rt, self, octets), &Ok(*want)),
             Row::Take(want) => takes(rt, &self.take(), *want),
             Row::TakeBypass(want) => takes(rt, &self.take_bypass(), *want),
-            Row::Telemetry(packet, want) => queues(rt, self, packet, *want),
+            Row::Telemetry(packet, want) => equal(rt, &telemetry(rt, self, packet), want),
             Row::Report(word, number, pointer, data) => {
                 reports(rt, self, *word, *number, *pointer, data)
             }
@@ -48,26 +48,8 @@ impl<'a> Node<Row<'a>> for Spacecraft {
     }
 }
 
-fn receives(
-    rt: &(impl Abort + Eprint),
-    spacecraft: &mut Spacecraft,
-    octets: &[u8],
-    want: Received,
-) {
-    equal(rt, &receive(rt, spacecraft, octets), &Ok(want));
-}
-
 fn takes(rt: &impl Abort, taken: &Option<(u8, Vec<u8>)>, want: Option<&[u8]>) {
     assert!(rt; is_packet(taken, want));
-}
-
-fn queues(
-    rt: &(impl Abort + Eprint),
-    spacecraft: &mut Spacecraft,
-    packet: &[u8],
-    want: Result<(), TmFault>,
-) {
-    equal(rt, &telemetry(rt, spacecraft, packet), &want);
 }
 
 // Whether a packet that was taken is this one, on MAP 4.
@@ -86,15 +68,8 @@ fn receive(
     octets: &[u8],
 ) -> Result<Received, LinkFault> {
     let ahead = ready_ahead(rt, spacecraft, octets);
-    let before = spacecraft.control_word();
-    let answer = match spacecraft.receive(octets) {
-        Err(fault) if is_frame(octets) => {
-            says_refused(rt, fault.number(), 6);
-            assert!(rt; spacecraft.control_word() == before);
-            spacecraft.receive(octets)
-        }
-        answer => answer,
-    };
+    let receive = |spacecraft: &mut Spacecraft| spacecraft.receive(octets);
+    let answer = answer_of(rt, spacecraft, word_of, refusal_of(octets), receive);
     if let Ok(Received::Sequence { ready, .. }) = answer {
         equal(rt, &ready, &ahead);
     }
@@ -104,7 +79,7 @@ fn receive(
 // How many packets octets will make ready when they arrive. Octets that are no frame take no memory.
 fn ready_ahead(rt: &(impl Abort + Eprint), spacecraft: &Spacecraft, octets: &[u8]) -> usize {
     let ahead = match spacecraft.prepare(octets) {
-        Err(fault) if is_frame(octets) => {
+        Err(fault) if refusal_of(octets) == Some(fault) => {
             says_refused(rt, fault.number(), 6);
             spacecraft.prepare(octets)
         }
@@ -128,8 +103,16 @@ fn ready_of(rt: &impl Abort, arrival: &Arrival, octets: &[u8]) -> usize {
     }
 }
 
-fn is_frame(octets: &[u8]) -> bool {
-    tc_frame::decode(octets, Check::On).is_ok()
+// The fault for want of memory, where octets are a frame.
+fn refusal_of(octets: &[u8]) -> Option<LinkFault> {
+    match tc_frame::decode(octets, Check::On) {
+        Ok(_) => Some(LinkFault::Memory),
+        Err(_) => None,
+    }
+}
+
+fn word_of(spacecraft: &Spacecraft) -> Clcw {
+    spacecraft.control_word()
 }
 
 // Queues a packet.
@@ -138,15 +121,8 @@ fn telemetry(
     spacecraft: &mut Spacecraft,
     packet: &[u8],
 ) -> Result<(), TmFault> {
-    let before = spacecraft.control_word();
-    match spacecraft.telemetry(packet) {
-        Err(TmFault::Memory) => {
-            says_refused(rt, TmFault::Memory.number(), 7);
-            assert!(rt; spacecraft.control_word() == before);
-            spacecraft.telemetry(packet)
-        }
-        answer => answer,
-    }
+    let queue = |spacecraft: &mut Spacecraft| spacecraft.telemetry(packet);
+    answer_of(rt, spacecraft, word_of, Some(TmFault::Memory), queue)
 }
 
 // Sends a frame. Octets past it stay.
