@@ -17,42 +17,40 @@ fn notes(rt: &impl Eprint, line: &str) {
     let _ = eprintln!(rt; "{line}");
 }
 
-// Units of 8 octets.
-fn sender(rt: &(impl Abort + Eprint), alloc: Global, width: u8, line: &str) {
+// Notes the account before something is made or done, and the account of this name while it lives.
+fn keeps<T: Drop, F: FnOnce() -> T>(rt: &impl Eprint, line: &str, make: F)
+    requires { F.IsAlwaysCallable make }
+{
     notes(rt, "account before");
-    let _fop: Fop<u64> = Fop::new(alloc, width, 1, 3, 10).expect(rt, "a sender");
+    let _made = make();
     notes(rt, line);
 }
 
+// Units of 8 octets.
 #[test]
 fn senders(rt: HostRuntime) {
-    sender(&rt, rt.alloc(), 2, "account Fop::new width 2");
-    sender(&rt, rt.alloc(), 254, "account Fop::new width 254")
-}
-
-fn splitter(rt: &impl Eprint, alloc: Global) {
-    notes(rt, "account before");
-    let _splitter = Splitter::<Packets>::new(alloc);
-    notes(rt, "account Splitter::new");
-}
-
-fn builder(rt: &(impl Abort + Eprint), alloc: Global) {
-    notes(rt, "account before");
-    let _builder = TmBuilder::new(alloc, 1, 0, 2048).expect(rt, "a builder");
-    notes(rt, "account TmBuilder::new");
-}
-
-fn extractor(rt: &(impl Abort + Eprint), alloc: Global) {
-    notes(rt, "account before");
-    let _extractor = Extractor::new(alloc).expect(rt, "an extractor");
-    notes(rt, "account Extractor::new");
+    for (width, line) in [
+        (2, "account Fop::new width 2"),
+        (254, "account Fop::new width 254"),
+    ] {
+        keeps(&rt, line, || {
+            Fop::<u64>::new(rt.alloc(), width, 1, 3, 10).expect(&rt, "a sender")
+        });
+    }
 }
 
 #[test]
 fn cutters_and_builders(rt: HostRuntime) {
-    splitter(&rt, rt.alloc());
-    builder(&rt, rt.alloc());
-    extractor(&rt, rt.alloc())
+    let alloc = rt.alloc();
+    keeps(&rt, "account Splitter::new", || {
+        Splitter::<Packets>::new(alloc)
+    });
+    keeps(&rt, "account TmBuilder::new", || {
+        TmBuilder::new(alloc, 1, 0, 2048).expect(&rt, "a builder")
+    });
+    keeps(&rt, "account Extractor::new", || {
+        Extractor::new(alloc).expect(&rt, "an extractor")
+    });
 }
 
 fn opens_part(rt: &(impl Abort + Eprint), alloc: Global, max_packet: u32, line: &str) {
@@ -66,33 +64,31 @@ fn opens_part(rt: &(impl Abort + Eprint), alloc: Global, max_packet: u32, line: 
         flags: SegmentFlags::First,
         map: 63,
     };
-    let mut assembler = Assembler::new(alloc, limits);
-    notes(rt, "account before");
-    let taken = assembler.take(&Segment {
+    let segment = Segment {
         header,
         payload: &[0x10],
-    });
-    assert!(rt; taken.is_ok());
-    drop(taken);
-    notes(rt, line);
+    };
+    let mut assembler = Assembler::new(alloc, limits);
+    keeps(rt, line, || assert!(rt; assembler.take(&segment).is_ok()));
 }
 
 #[test]
 fn open_parts(rt: HostRuntime) {
-    opens_part(&rt, rt.alloc(), 7, "account open part max_packet 7");
-    opens_part(
-        &rt,
-        rt.alloc(),
-        65_542,
-        "account open part max_packet 65542",
-    )
+    for (max_packet, line) in [
+        (7, "account open part max_packet 7"),
+        (65_542, "account open part max_packet 65542"),
+    ] {
+        opens_part(&rt, rt.alloc(), max_packet, line);
+    }
 }
 
 fn ground(rt: &(impl Abort + Eprint), alloc: Global, config: &Config, line: &str) {
     assert!(rt; config.fault().is_none());
-    notes(rt, "account before");
-    let _ground = Ground::new(alloc, config).expect(rt, "a ground");
-    notes(rt, line);
+    keeps(
+        rt,
+        line,
+        || Ground::new(alloc, config).expect(rt, "a ground"),
+    );
 }
 
 #[test]
@@ -119,9 +115,9 @@ fn grounds(rt: HostRuntime) {
 
 fn spacecraft(rt: &(impl Abort + Eprint), alloc: Global, config: &Config, line: &str) {
     assert!(rt; config.fault().is_none());
-    notes(rt, "account before");
-    let _spacecraft = Spacecraft::new(alloc, config).expect(rt, "a spacecraft");
-    notes(rt, line);
+    keeps(rt, line, || {
+        Spacecraft::new(alloc, config).expect(rt, "a spacecraft")
+    });
 }
 
 #[test]
@@ -150,16 +146,12 @@ fn spacecrafts(rt: HostRuntime) {
 
 #[test]
 fn links(rt: HostRuntime) {
-    ground(&rt, rt.alloc(), &Config::default(), "account Ground::new");
-    spacecraft(
-        &rt,
-        rt.alloc(),
-        &Config::default(),
-        "account Spacecraft::new",
-    );
-    notes(&rt, "account before");
-    let _sim = Sim::new(rt.alloc(), Config::default()).expect(&rt, "a link");
-    notes(&rt, "account Sim::new");
+    let config = Config::default();
+    ground(&rt, rt.alloc(), &config, "account Ground::new");
+    spacecraft(&rt, rt.alloc(), &config, "account Spacecraft::new");
+    keeps(&rt, "account Sim::new", || {
+        Sim::new(rt.alloc(), config).expect(&rt, "a link")
+    });
 }
 
 fn splits(rt: &impl Abort, splitter: &mut Splitter<Packets>, octets: &[u8]) {
