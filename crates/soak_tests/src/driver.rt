@@ -24,6 +24,13 @@ impl Link {
         }
     }
 
+    /// A link whose session is open.
+    pub fn opened(rt: &impl Abort, alloc: Global, config: Config, directive: Directive) -> Link {
+        let mut link = Link::new(rt, alloc, config);
+        link.opens(rt, directive);
+        link
+    }
+
     pub fn sim(&self) -> &Sim {
         &self.sim
     }

@@ -24,8 +24,7 @@ fn map_of(count: usize) -> u8 {
 
 // A session that carries this number of packets of a size, on MAPs in turn.
 fn carries(rt: &impl Abort, alloc: Global, config: Config, size: usize, number: usize) {
-    let mut link = Link::new(rt, alloc, config);
-    link.opens(rt, Directive::InitWithCheck);
+    let mut link = Link::opened(rt, alloc, config, Directive::InitWithCheck);
     for count in 0..number {
         link.submits(rt, map_of(count), &command(rt, alloc, size, count));
     }
@@ -40,8 +39,7 @@ fn a_thousand_submissions(rt: HostRuntime) {
 
 #[test]
 fn submissions_one_at_a_time(rt: HostRuntime) {
-    let mut link = Link::new(&rt, rt.alloc(), config());
-    link.opens(&rt, Directive::InitWithoutCheck);
+    let mut link = Link::opened(&rt, rt.alloc(), config(), Directive::InitWithoutCheck);
     for count in 0..1000 {
         link.submits(&rt, 4, &command(&rt, rt.alloc(), 7, count));
         link.carries(&rt);
@@ -102,8 +100,7 @@ fn blocks(rt: HostRuntime) {
         ready_slots: 1,
         ..config()
     };
-    let mut link = Link::new(&rt, rt.alloc(), config);
-    link.opens(&rt, Directive::InitUnlock);
+    let mut link = Link::opened(&rt, rt.alloc(), config, Directive::InitUnlock);
     for number in [1, 2, 3, 4, 63, 64, 65, 144, 145, 146, 1000] {
         let octets = commands(&rt, rt.alloc(), 7, number);
         link.submits(&rt, 63, octets.as_slice());
@@ -123,8 +120,8 @@ fn maps(rt: HostRuntime) {
 }
 
 fn opens_maps(rt: &impl Abort, alloc: Global, maps: u64, open: u8, shut: u8, octets: &[u8]) {
-    let mut link = Link::new(rt, alloc, Config { maps, ..config() });
-    link.opens(rt, Directive::InitWithoutCheck);
+    let config = Config { maps, ..config() };
+    let mut link = Link::opened(rt, alloc, config, Directive::InitWithoutCheck);
     link.submits(rt, open, octets);
     let reply = link.meets(rt, Event::Submit(shut, octets));
     assert_eq!(rt;
@@ -190,23 +187,18 @@ fn frames_on_their_way(rt: HostRuntime) {
         bypass_slots: 64,
         ..config()
     };
-    let mut link = Link::new(&rt, rt.alloc(), config);
-    fills_the_way(&rt, rt.alloc(), &mut link);
-}
-
-fn fills_the_way(rt: &impl Abort, alloc: Global, link: &mut Link) {
-    link.opens(rt, Directive::InitWithoutCheck);
+    let mut link = Link::opened(&rt, rt.alloc(), config, Directive::InitWithoutCheck);
     for count in 0..200 {
-        link.submits(rt, 0, &command(rt, alloc, 100, count));
-        link.bypasses(rt, 63, &command(rt, alloc, 100, count));
+        link.submits(&rt, 0, &command(&rt, rt.alloc(), 100, count));
+        link.bypasses(&rt, 63, &command(&rt, rt.alloc(), 100, count));
     }
-    assert_eq!(rt; link.sends(rt, 500), 327);
+    assert_eq!(rt; link.sends(&rt, 500), 327);
     for _ in 0..200 {
-        link.happens(rt, Event::Report);
+        link.happens(&rt, Event::Report);
     }
-    assert_eq!(rt; link.hears(rt), 200);
-    assert_eq!(rt; link.arrives(rt), 327);
-    link.carries(rt)
+    assert_eq!(rt; link.hears(&rt), 200);
+    assert_eq!(rt; link.arrives(&rt), 327);
+    link.carries(&rt);
 }
 
 // Brings the ground's sender into a state, in a session that began by Unlock or by this directive.
@@ -274,8 +266,7 @@ fn bypasses_in(rt: &impl Abort, alloc: Global, config: Config, state: FopMode) {
 // 64 packets that are ready on board, none of them taken before the last is.
 #[test]
 fn packets_that_are_ready(rt: HostRuntime) {
-    let mut link = Link::new(&rt, rt.alloc(), config());
-    link.opens(&rt, Directive::InitSetVr(200));
+    let mut link = Link::opened(&rt, rt.alloc(), config(), Directive::InitSetVr(200));
     for count in 0..64 {
         link.submits(&rt, 0, &command(&rt, rt.alloc(), 600, count));
     }
