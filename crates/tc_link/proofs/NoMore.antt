@@ -155,7 +155,8 @@ module _ (c : Config) (w : World) (k : Sound c w) (off : IsOff w) (none_up : num
         begins = λ d is closed goes. closed_not s.state closed (goes d refl is);
         terminated = λ goes. with_so (after_alert s) refl;
         numbers = λ x is goes. with_so (record s { vs = x; nn = x }) off;
-        sets = λ d k n ticks plain most goes. rw plain (with_so (record s { window = k; limit = n; timer = ticks }) off);
+        sets = λ d k n ticks plain most goes. rw plain
+            (with_so (record s { window = k; limit = n; timer = ticks }) off);
       })
 
   tick_so : Over w (record w { ground_node = with_fop w.ground_node (tick_step w.ground_node.fop).after })

@@ -19,7 +19,8 @@ first : (word : List ℕ) (rows : List (Bor (List ℕ) × Step)) → lookup (map
     ≡ option_map line (find (λ row. bytes_eq word row.0.now) rows)
 first word [] = refl
 first word (a ∷ rows) =
-    elim (bytes_eq word a.0.now) as (λ is. cond is (Some (line a)) (lookup (map (λ row. (row.0.now, line row)) rows) word)
+    elim (bytes_eq word a.0.now)
+    as (λ is. cond is (Some (line a)) (lookup (map (λ row. (row.0.now, line row)) rows) word)
     ≡ option_map line (cond is (Some a) (find (λ row. bytes_eq word row.0.now) rows)))
     [ true ↦ refl | false ↦ first word rows ]
 
