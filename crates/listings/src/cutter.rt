@@ -3,7 +3,7 @@
 ghost use Rattle.std.specs.Prelude.{◌≡◌, ◌<◌, ◌++◌, ◌↔◌, ℕ, List, Option, length, IsNone, IsErr, IfErr, OnOk, OnErr};
 ghost use Rattle.std.specs.Borrow.{sem};
 ghost use Rattle.std.specs.Io.BufRead.{Rests};
-ghost use Rattle.octets.specs.Holding.{held as octets_held, failure as failure_met, rest_after, failure_after, lent_view};
+ghost use Rattle.octets.specs.Holding.{held as splitter_held, rest_after, failure_after, lent_view};
 ghost use Rattle.listings.specs.Layouts.{Layout, HasHeads, first_by};
 
 use octets::{Splitter, Wire};
@@ -55,9 +55,9 @@ impl<L: Wire> Cutter for Splitter<L> {
 
     ghost layout = { record { head = L.HEAD; extent = L.extent_of; truncated = L.truncated_fault } };
 
-    ghost held = { octets_held };
+    ghost held = { λ s. (splitter_held s).octets };
 
-    ghost failure = { failure_met };
+    ghost failure = { λ s. (splitter_held s).failure };
 
     ghost memory_fault = { L.memory_fault };
 

@@ -1,17 +1,39 @@
 -- What a splitter holds, and what it answers.
-use Rattle.std.specs.Prelude.{◌≤◌, ◌-◌, ℕ, List, length, take, drop, Option, Some, None, Result, Ok}
-use Rattle.std.specs.Prelude.{Err}
+use Rattle.std.specs.Prelude.{◌≡◌, ◌≤◌, ◌<◌, ◌-◌, ◌++◌, ◌↔◌, ℕ, List, [], length, take, drop}
+use Rattle.std.specs.Prelude.{Option, Some, None, IsNone, Result, Ok, Err, IsOk, IsErr, IfErr, OnOk}
+use Rattle.std.specs.Prelude.{OnErr}
 use Rattle.std.specs.Borrow.{Bor}
 use Rattle.octets.specs.declared.splitter.Splitter.{Splitter}
 use Rattle.octets.specs.declared.wire.Wire as wire
 
--- the octets that were fed and not handed out
-abbrev pub held : {W F : Type 0} {layout : wire.Ghosts W F} → Splitter W F layout → List ℕ
-held s = drop s.start s.octets.items
+-- the octets that were fed and not handed out, and the fault of a refused extent, once one was met
+pub record Held (F : Type 0) : Type 0 where
+  pub octets : List ℕ
+  pub failure : Option F
 
--- the fault of a refused extent, once one was met
-abbrev pub failure : {W F : Type 0} {layout : wire.Ghosts W F} → Splitter W F layout → Option F
-failure s = s.failed
+abbrev pub held : {W F : Type 0} {layout : wire.Ghosts W F} → Splitter W F layout → Held F
+held s = record { octets = drop s.start s.octets.items; failure = s.failed }
+
+-- before anything is fed
+abbrev pub nothing_held : {F : Type 0} → Held F
+nothing_held = record { octets = []; failure = None }
+
+-- what a call answers and leaves that takes more octets; at a fault, which is want of memory, all
+-- is as it was
+pub record IsFed {T F : Type 0} (octets : List ℕ) (memory : F) (old new : Held F)
+    (answer : Result T F) : Type 0 where
+  pub ok : OnOk answer (new.octets ≡ old.octets ++ octets)
+  pub err : OnErr answer (new.octets ≡ old.octets)
+  pub fault : IfErr answer (λ e. e ≡ memory)
+  pub failure : new.failure ≡ old.failure
+  pub none : octets ≡ [] → IsOk answer
+
+-- what a call answers that asks whether the stream may end: the fault says that octets are left,
+-- and no extent of theirs was refused
+pub record IsFinished {T F : Type 0} (cut_short : F) (h : Held F) (answer : Result T F)
+    : Type 0 where
+  pub truncated : IsErr answer ↔ ((0 < length h.octets) × IsNone h.failure)
+  pub fault : IfErr answer (λ e. e ≡ cut_short)
 
 -- what is held after an answer
 abbrev pub rest_after : {F : Type 0} → Option (Result (List ℕ) F) → List ℕ → List ℕ
@@ -24,6 +46,12 @@ abbrev pub failure_after : {F : Type 0} → Option (Result (List ℕ) F) → Opt
 failure_after None f = f
 failure_after (Some (Err e)) f = Some e
 failure_after (Some (Ok r)) f = f
+
+abbrev pub held_after : {F : Type 0} → Option (Result (List ℕ) F) → Held F → Held F
+held_after answer h = record {
+  octets = rest_after answer h.octets;
+  failure = failure_after answer h.failure;
+}
 
 -- an answer without where its octets lie in memory
 abbrev pub answer_view : {F : Type 0} → Option (Result (Bor (List ℕ)) F)

@@ -6,4 +6,5 @@ pub mod Outcome
 pub mod Records
 pub mod Table
 pub mod Holding
+pub mod Lending
 pub mod Appending

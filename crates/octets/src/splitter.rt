@@ -1,6 +1,7 @@
 // The records of a stream that comes in pieces.
 
-ghost use Rattle.std.specs.Prelude.{◌≡◌, ◌≤◌, ◌<◌, ◌-◌, ◌++◌, ◌↔◌, [], length, take, drop, vec_len, None, Some, IsNone, IsSome, IsErr, IsOk, IfErr, OnOk, OnErr};
+ghost use Rattle.std.specs.Prelude.{◌≡◌, ◌≤◌, ◌-◌, length, take, drop, vec_len, Some, IsSome};
+ghost use Rattle.std.specs.Borrow.{sem};
 
 use crate::front::remove_front;
 use crate::wire::Wire;
@@ -19,16 +20,14 @@ pub struct Splitter<W: Wire> {
 }
 
 impl<W: Wire> Splitter<W> {
-    ghost use Rattle.octets.specs.Holding.{held, failure, rest_after, failure_after, lent_view, place_view, IsWithin};
+    ghost use Rattle.octets.specs.Holding.{held, nothing_held, held_after, lent_view, place_view, IsFed, IsFinished, IsWithin};
+    ghost use Rattle.octets.specs.Lending.{EndsAfter};
     ghost use Rattle.octets.specs.Records.{first_record};
     ghost use Rattle.octets.specs.contracts.splitter.Splitter.{the_row};
-    ghost use Rattle.std.specs.Borrow.{sem};
-    ghost use Rattle.std.specs.Io.BufRead.{Rests};
 
     /// A splitter that holds nothing; it takes no memory until it is fed.
     pub fn new(alloc: Global) -> Self
-        ensures held { held result ≡ [] }
-        ensures failure { failure result ≡ None }
+        ensures { held result ≡ nothing_held }
     {
         Splitter {
             octets: Vec::new(alloc),
@@ -42,11 +41,7 @@ impl<W: Wire> Splitter<W> {
     /// Faults: the layout's `memory()`. Memory: yes, for one octet or more. Cost: n and the octets
     /// held.
     pub fn feed(&mut self, octets: &[u8]) -> Result<(), W::Fault>
-        ensures ok { OnOk result (held self.new ≡ held self.old ++ octets.now) }
-        ensures err { OnErr result (held self.new ≡ held self.old) }
-        ensures fault { IfErr result (λ e. e ≡ W.memory_fault) }
-        ensures failure { failure self.new ≡ failure self.old }
-        ensures none { octets.now ≡ [] → IsOk result }
+        ensures { IsFed octets.now W.memory_fault (held self.old) (held self.new) result }
     {
         if self.start > 0 {
             remove_front(&mut self.octets, self.start);
@@ -63,10 +58,9 @@ impl<W: Wire> Splitter<W> {
     /// every later one answer its fault.
     /// Faults: the layout's, of a length.
     pub fn next(&mut self) -> Option<Result<&[u8], &W::Fault>>
-        ensures* rests { sem 𝓛 (Rests (the_row W.row W.Fault.row W.Wire) self.entry (λ last.
-            (held last ≡ rest_after (lent_view result) (held self.old))
-            × (failure last ≡ failure_after (lent_view result) (failure self.old)))) }
-        ensures answer { lent_view result ≡ first_record W.HEAD W.extent_of (held self.old) }
+        ensures* rests { sem 𝓛 (EndsAfter (the_row W.row W.Fault.row W.Wire) self.entry held
+            (lent_view result)) }
+        ensures answer { lent_view result ≡ first_record W.HEAD W.extent_of (held self.old).octets }
     {
         match self.advance()? {
             Err(_) => Some(Err(self.fault())),
@@ -78,9 +72,7 @@ impl<W: Wire> Splitter<W> {
     /// was refused.
     /// Faults: the layout's `truncated()`.
     pub fn finish(&self) -> Result<(), W::Fault>
-        ensures truncated { IsErr result
-            ↔ ((0 < length (held self.now)) × IsNone (failure self.now)) }
-        ensures fault { IfErr result (λ e. e ≡ W.truncated_fault) }
+        ensures { IsFinished W.truncated_fault (held self.now) result }
     {
         if self.start < self.octets.len() && self.failed.is_none() {
             return Err(W::truncated());
@@ -92,12 +84,10 @@ impl<W: Wire> Splitter<W> {
     fn advance(&mut self) -> Option<Result<(usize, usize), W::Fault>>
         ensures octets { self.new.octets.items ≡ self.old.octets.items }
         ensures answer { place_view self.old.octets.items result
-            ≡ first_record W.HEAD W.extent_of (held self.old) }
+            ≡ first_record W.HEAD W.extent_of (held self.old).octets }
         ensures within { IsWithin self.old.octets.items result }
         ensures held { held self.new
-            ≡ rest_after (place_view self.old.octets.items result) (held self.old) }
-        ensures failure { failure self.new
-            ≡ failure_after (place_view self.old.octets.items result) (failure self.old) }
+            ≡ held_after (place_view self.old.octets.items result) (held self.old) }
     {
         let left = self.octets.len() - self.start;
         if left < W::HEAD {

@@ -1,13 +1,15 @@
 -- What a splitter of packets holds.
-use Rattle.std.specs.Prelude.{ℕ, List, Option}
-use Rattle.octets.specs.Holding.{held, failure}
+use Rattle.std.specs.Prelude.{ℕ, List, Option, Result}
+use Rattle.std.specs.Borrow.{Fml, MutBor}
+use Rattle.octets.specs.Holding.{Held, held}
+use Rattle.octets.specs.Lending as lending
+use Rattle.space_packet.specs.contracts.splitter.PacketSplitter.{the_row}
 use Rattle.space_packet.specs.declared.fault.PacketFault.{PacketFault}
 use Rattle.space_packet.specs.declared.splitter.PacketSplitter.{PacketSplitter}
 
--- the octets that were fed and not handed out
-abbrev pub octets_held : PacketSplitter → List ℕ
-octets_held s = held s.splitter
+abbrev pub held_in : PacketSplitter → Held PacketFault
+held_in s = held s.splitter
 
--- the fault of a refused header, once one was met
-abbrev pub refusal : PacketSplitter → Option PacketFault
-refusal s = failure s.splitter
+-- once what the answer lends is let go
+abbrev pub EndsAfter : MutBor PacketSplitter → Option (Result (List ℕ) PacketFault) → Fml
+EndsAfter s answer = lending.EndsAfter the_row s held_in answer

@@ -1,6 +1,7 @@
 // Frames taken from a stream that comes in pieces.
 
-ghost use Rattle.std.specs.Prelude.{◌≡◌, ◌<◌, ◌++◌, ◌↔◌, [], None, length, IsNone, IsErr, IsOk, IfErr, OnOk, OnErr};
+ghost use Rattle.std.specs.Prelude.{◌≡◌};
+ghost use Rattle.std.specs.Borrow.{sem};
 
 use crate::fault::TcFault;
 use octets::{Splitter, Wire};
@@ -15,17 +16,13 @@ pub struct TcSplitter<C: Wire<Fault = TcFault>> {
 }
 
 impl<C: Wire<Fault = TcFault>> TcSplitter<C> {
-    ghost use Rattle.octets.specs.Holding.{rest_after, failure_after, answer_view};
+    ghost use Rattle.octets.specs.Holding.{nothing_held, answer_view, IsFed, IsFinished};
     ghost use Rattle.octets.specs.Records.{first_record};
-    ghost use Rattle.tc_frame.specs.Holding.{octets_held, refusal};
-    ghost use Rattle.tc_frame.specs.contracts.splitter.TcSplitter.{the_row};
-    ghost use Rattle.std.specs.Borrow.{sem};
-    ghost use Rattle.std.specs.Io.BufRead.{Rests};
+    ghost use Rattle.tc_frame.specs.Holding.{held_in, EndsAfter};
 
     /// A splitter that holds nothing; it takes no memory until it is fed.
     pub fn new(alloc: Global) -> Self
-        ensures held { octets_held result ≡ [] }
-        ensures refusal { refusal result ≡ None }
+        ensures { held_in result ≡ nothing_held }
     {
         TcSplitter {
             splitter: Splitter::new(alloc),
@@ -35,11 +32,7 @@ impl<C: Wire<Fault = TcFault>> TcSplitter<C> {
     /// Takes more octets of the stream. At a fault the splitter is as it was.
     /// Faults: 12 Memory. Memory: yes, for one octet or more. Cost: n and the octets held.
     pub fn feed(&mut self, octets: &[u8]) -> Result<(), TcFault>
-        ensures ok { OnOk result (octets_held self.new ≡ octets_held self.old ++ octets.now) }
-        ensures err { OnErr result (octets_held self.new ≡ octets_held self.old) }
-        ensures fault { IfErr result (λ e. e ≡ TcFault.Memory) }
-        ensures refusal { refusal self.new ≡ refusal self.old }
-        ensures none { octets.now ≡ [] → IsOk result }
+        ensures { IsFed octets.now TcFault.Memory (held_in self.old) (held_in self.new) result }
     {
         if self.splitter.feed(octets).is_err() {
             return Err(TcFault::Memory);
@@ -52,11 +45,9 @@ impl<C: Wire<Fault = TcFault>> TcSplitter<C> {
     /// one answer that fault.
     /// Faults: 5 Length.
     pub fn next(&mut self) -> Option<Result<&[u8], TcFault>>
-        ensures* rests { sem 𝓛 (Rests (the_row C.row C.Wire) self.entry (λ last.
-            (octets_held last ≡ rest_after (answer_view result) (octets_held self.old))
-            × (refusal last ≡ failure_after (answer_view result) (refusal self.old)))) }
+        ensures* rests { sem 𝓛 (EndsAfter C.row C.Wire self.entry (answer_view result)) }
         ensures answer { answer_view result
-            ≡ first_record C.HEAD C.extent_of (octets_held self.old) }
+            ≡ first_record C.HEAD C.extent_of (held_in self.old).octets }
     {
         match self.splitter.next()? {
             Err(fault) => Some(Err(*fault)),
@@ -67,9 +58,7 @@ impl<C: Wire<Fault = TcFault>> TcSplitter<C> {
     /// Whether the stream may end here. The fault says that octets are left, and no record was refused.
     /// Faults: 1 Short.
     pub fn finish(&self) -> Result<(), TcFault>
-        ensures short { IsErr result
-            ↔ ((0 < length (octets_held self.now)) × IsNone (refusal self.now)) }
-        ensures fault { IfErr result (λ e. e ≡ TcFault.Short) }
+        ensures { IsFinished TcFault.Short (held_in self.now) result }
     {
         if self.splitter.finish().is_err() {
             return Err(TcFault::Short);
