@@ -8,7 +8,7 @@ use Rattle.space_packet.specs.declared.fault.PacketFault.{PacketFault}
 use Rattle.space_packet.specs.declared.splitter.PacketSplitter.{PacketSplitter}
 
 abbrev pub held_in : PacketSplitter → Held PacketFault
-held_in s = held s.splitter
+held_in s = held s.0
 
 -- once what the answer lends is let go
 abbrev pub EndsAfter : MutBor PacketSplitter → Option (Result (List ℕ) PacketFault) → Fml

@@ -11,9 +11,7 @@ use std::alloc::Global;
 /// Takes a stream of packets apart, however it was cut into pieces (CCSDS 133.0-B-2, 4.1.3). A
 /// record is as long as its header declares, and is not decoded.
 #[derive(Drop)]
-pub struct PacketSplitter {
-    splitter: Splitter<Packets>,
-}
+pub struct PacketSplitter(Splitter<Packets>);
 
 impl PacketSplitter {
     ghost use Rattle.octets.specs.Holding.{nothing_held, answer_view, IsFed, IsFinished};
@@ -25,9 +23,7 @@ impl PacketSplitter {
     pub fn new(alloc: Global) -> Self
         ensures { held_in result ≡ nothing_held }
     {
-        PacketSplitter {
-            splitter: Splitter::new(alloc),
-        }
+        PacketSplitter(Splitter::new(alloc))
     }
 
     /// Takes more octets of the stream. At a fault the splitter is as it was.
@@ -35,7 +31,7 @@ impl PacketSplitter {
     pub fn feed(&mut self, octets: &[u8]) -> Result<(), PacketFault>
         ensures { IsFed octets.now PacketFault.Memory (held_in self.old) (held_in self.new) result }
     {
-        self.splitter.feed(octets)
+        self.0.feed(octets)
     }
 
     /// The next whole packet's octets, lent, or the fault of its header; `None` while octets are
@@ -45,7 +41,7 @@ impl PacketSplitter {
         ensures* rests { sem 𝓛 (EndsAfter self.entry (answer_view result)) }
         ensures answer { answer_view result ≡ first_record 6 extent_at (held_in self.old).octets }
     {
-        match self.splitter.next()? {
+        match self.0.next()? {
             Err(fault) => Some(Err(*fault)),
             Ok(record) => Some(Ok(record)),
         }
@@ -56,6 +52,6 @@ impl PacketSplitter {
     pub fn finish(&self) -> Result<(), PacketFault>
         ensures { IsFinished PacketFault.Truncated (held_in self.now) result }
     {
-        self.splitter.finish()
+        self.0.finish()
     }
 }

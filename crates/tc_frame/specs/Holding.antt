@@ -10,7 +10,7 @@ use Rattle.tc_frame.specs.declared.splitter.TcSplitter.{TcSplitter}
 
 abbrev pub held_in : {C : Type 0} {layout : wire.Ghosts C TcFault} → TcSplitter C layout
     → Held TcFault
-held_in s = held s.splitter
+held_in s = held s.0
 
 -- once what the answer lends is let go
 abbrev pub EndsAfter : (C : RattleType) (layout : wire.Ghosts C.Denot TcFault)

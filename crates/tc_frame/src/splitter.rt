@@ -11,9 +11,7 @@ use std::alloc::Global;
 /// (`TcSplitter<Unchecked>`), however it was cut into pieces (CCSDS 232.0-B-4, 4.1.2.7). A record
 /// is as long as its head declares, and is not decoded.
 #[derive(Drop)]
-pub struct TcSplitter<C: Wire<Fault = TcFault>> {
-    splitter: Splitter<C>,
-}
+pub struct TcSplitter<C: Wire<Fault = TcFault>>(Splitter<C>);
 
 impl<C: Wire<Fault = TcFault>> TcSplitter<C> {
     ghost use Rattle.octets.specs.Holding.{nothing_held, answer_view, IsFed, IsFinished};
@@ -24,9 +22,7 @@ impl<C: Wire<Fault = TcFault>> TcSplitter<C> {
     pub fn new(alloc: Global) -> Self
         ensures { held_in result ≡ nothing_held }
     {
-        TcSplitter {
-            splitter: Splitter::new(alloc),
-        }
+        TcSplitter(Splitter::new(alloc))
     }
 
     /// Takes more octets of the stream. At a fault the splitter is as it was.
@@ -34,7 +30,7 @@ impl<C: Wire<Fault = TcFault>> TcSplitter<C> {
     pub fn feed(&mut self, octets: &[u8]) -> Result<(), TcFault>
         ensures { IsFed octets.now TcFault.Memory (held_in self.old) (held_in self.new) result }
     {
-        if self.splitter.feed(octets).is_err() {
+        if self.0.feed(octets).is_err() {
             return Err(TcFault::Memory);
         }
         Ok(())
@@ -49,7 +45,7 @@ impl<C: Wire<Fault = TcFault>> TcSplitter<C> {
         ensures answer { answer_view result
             ≡ first_record C.HEAD C.extent_of (held_in self.old).octets }
     {
-        match self.splitter.next()? {
+        match self.0.next()? {
             Err(fault) => Some(Err(*fault)),
             Ok(record) => Some(Ok(record)),
         }
@@ -60,7 +56,7 @@ impl<C: Wire<Fault = TcFault>> TcSplitter<C> {
     pub fn finish(&self) -> Result<(), TcFault>
         ensures { IsFinished TcFault.Short (held_in self.now) result }
     {
-        if self.splitter.finish().is_err() {
+        if self.0.finish().is_err() {
             return Err(TcFault::Short);
         }
         Ok(())
