@@ -26,10 +26,8 @@ pub fn encode(packet: &Packet, out: &mut [u8]) -> Result<usize, PacketFault>
         return Err(PacketFault::FieldRange);
     }
     let total = 6 + packet.payload.len();
-    if out.len() < total {
-        return Err(PacketFault::Room);
-    }
-    put_packet(packet, &mut out[..total]);
+    let (room, _) = out.split_at_mut_checked(total).ok_or(PacketFault::Room)?;
+    put_packet(packet, room);
     Ok(total)
 }
 

@@ -28,10 +28,8 @@ pub fn encode(frame: &TcFrame, check: Check, out: &mut [u8]) -> Result<usize, Tc
         return Err(TcFault::FieldRange);
     }
     let total = frame.total(check);
-    if out.len() < total {
-        return Err(TcFault::Room);
-    }
-    put_frame(frame, check, &mut out[..total]);
+    let (room, _) = out.split_at_mut_checked(total).ok_or(TcFault::Room)?;
+    put_frame(frame, check, room);
     Ok(total)
 }
 

@@ -27,10 +27,8 @@ pub fn encode(frame: &TmFrame, out: &mut [u8]) -> Result<usize, TmFault>
         return Err(TmFault::FieldRange);
     }
     let total = frame.payload.len() + 12;
-    if out.len() < total {
-        return Err(TmFault::Room);
-    }
-    put_frame(frame, &mut out[..total]);
+    let (room, _) = out.split_at_mut_checked(total).ok_or(TmFault::Room)?;
+    put_frame(frame, room);
     Ok(total)
 }
 
