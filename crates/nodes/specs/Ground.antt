@@ -32,6 +32,7 @@ use Rattle.nodes.specs.declared.heard.Heard.TheVariants.{Invalid, Foreign, Frame
 use Rattle.nodes.specs.declared.heard.HeardReport.TheVariants.{Used, Refused, OtherChannel}
 use Rattle.nodes.specs.Commands.{are_commands}
 use Rattle.nodes.specs.Parameters.{limits_of}
+use Rattle.nodes.specs.Steps.{Outcome}
 
 -- a ground node
 pub record GroundState : Type 0 where
@@ -45,10 +46,8 @@ pub record GroundState : Type 0 where
   pub extractor : ExtractorState
   pub telemetry : List (List ℕ)
 
--- what a call answers, and the ground after it
-pub record GroundOutcome (A : Type 0) : Type 0 where
-  pub answer : A
-  pub after : GroundState
+abbrev pub GroundOutcome : Type 0 → Type 0
+GroundOutcome A = Outcome GroundState A
 
 abbrev pub new_ground : Config → GroundState
 new_ground c = record {

@@ -14,4 +14,5 @@ pub mod Parameters
 pub mod SegmentCode
 pub mod Spacecraft
 pub mod SpacecraftFields
+pub mod Steps
 pub mod Submissions

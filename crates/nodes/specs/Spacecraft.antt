@@ -28,6 +28,7 @@ use Rattle.nodes.specs.declared.received.Received.TheVariants.{Control}
 use Rattle.nodes.specs.Parameters.{limits_of}
 use Rattle.nodes.specs.BypassSegments.{is_kept}
 use Rattle.nodes.specs.Packets.{PacketOn, packet_on, put_on_map}
+use Rattle.nodes.specs.Steps.{Outcome}
 
 -- a spacecraft
 pub record SpacecraftState : Type 0 where
@@ -43,10 +44,8 @@ pub record SpacecraftState : Type 0 where
   -- what builds the telemetry frames
   pub builder : BuilderState
 
--- what a call answers, and the spacecraft after it
-pub record SpacecraftOutcome (A : Type 0) : Type 0 where
-  pub answer : A
-  pub after : SpacecraftState
+abbrev pub SpacecraftOutcome : Type 0 → Type 0
+SpacecraftOutcome A = Outcome SpacecraftState A
 
 abbrev pub new_spacecraft : Config → SpacecraftState
 new_spacecraft c = record {

@@ -11,6 +11,7 @@ impl Ground {
     ghost use Rattle.tm_link.specs.Layout.{frame_view, pointer_fits};
     ghost use Rattle.tm_link.specs.Reading.{frame_at};
     ghost use Rattle.nodes.specs.Ground.{ground_step, Telemetry, is_own_telemetry, after_extraction, FinishesNothing};
+    ghost use Rattle.nodes.specs.Steps.{TakesStep};
 
     /// Takes octets that came from the spacecraft: exactly one telemetry frame (CCSDS 132.0-B-3, 4.1).
     /// The packets that it finishes wait to be taken, and the report that it carries goes to the sender
@@ -19,12 +20,7 @@ impl Ground {
     /// Faults: 6 Memory. Memory: only where a packet is finished. Cost: n, the packets finished and the
     /// segments released.
     pub fn telemetry(&mut self, octets: &[u8]) -> Result<Heard, LinkFault>
-        ensures answer { IfOk result
-            (λ heard. heard ≡ (ground_step self.old (Telemetry octets.now)).answer) }
-        ensures after { OnOk result
-            (self.new ≡ (ground_step self.old (Telemetry octets.now)).after) }
-        ensures err { OnErr result (self.new ≡ self.old) }
-        ensures fault { IfErr result (λ e. e ≡ LinkFault.Memory) }
+        ensures step { TakesStep (ground_step self.old (Telemetry octets.now)) self.old self.new result }
 
         // It takes no memory for octets that are no frame, nor for a frame of another spacecraft or
         // virtual channel, nor for one that finishes no packet.

@@ -11,7 +11,7 @@ use map_service::Prepared;
 use tc_frame::{Body, Check, Command, Segment, TcFrame, decode};
 
 impl Spacecraft {
-    ghost use Rattle.std.specs.Prelude.{◌≡◌, ◌≤◌, ◌<◌, length, false, None, IsOk, IfOk, IfErr, IfSome, OnOk, OnErr, option_map};
+    ghost use Rattle.std.specs.Prelude.{◌≡◌, ◌≤◌, ◌<◌, length, false, None, IsOk, IfOk, IfErr, IfSome, option_map};
     ghost use Rattle.cop1.specs.Farm.{verdict_of};
     ghost use Rattle.tc_frame.specs.declared.frame.Check.TheVariants.{On};
     ghost use Rattle.tc_frame.specs.Layout.{Ad, Bc, frame_view, segment_view};
@@ -21,18 +21,14 @@ impl Spacecraft {
     ghost use Rattle.nodes.specs.Acceptance.{segment_in_body};
     ghost use Rattle.nodes.specs.Arriving.{accepted_of, IsAcceptable, IsArrivalOf, IsArrivalAt, after_accepting, after_keeping};
     ghost use Rattle.nodes.specs.Spacecraft.{spacecraft_step, Receive, is_free, is_own_frame, is_accepted, HandsNothingOn, after_segment, body_outcome, receive_sequence_step, receive_bypass_step};
+    ghost use Rattle.nodes.specs.Steps.{TakesStep};
 
     /// Takes octets that came from the ground: exactly one telecommand frame, with its FECF (CCSDS
     /// 232.0-B-4, 4.1). It is `prepare` and then `commit`. At a fault the spacecraft is as it was.
     /// Faults: 6 Memory. Memory: only for a Type-AD frame that is accepted or a Type-BD frame that is
     /// kept. Cost: n*, and the packets made ready.
     pub fn receive(&mut self, octets: &[u8]) -> Result<Received, LinkFault>
-        ensures answer { IfOk result
-            (λ r. r ≡ (spacecraft_step self.old (Receive octets.now)).answer) }
-        ensures after { OnOk result
-            (self.new ≡ (spacecraft_step self.old (Receive octets.now)).after) }
-        ensures err { OnErr result (self.new ≡ self.old) }
-        ensures fault { IfErr result (λ e. e ≡ LinkFault.Memory) }
+        ensures step { TakesStep (spacecraft_step self.old (Receive octets.now)) self.old self.new result }
 
         // It takes no memory for octets of which nothing is handed on.
         ensures none { HandsNothingOn self.old (frame_at On octets.now) → IsOk result }

@@ -38,7 +38,7 @@ invariant_of-self-2 c =
     let t : GroundState = c.telemetry.new.self in
     let less : ahead_by t.fop.nn s.fop.nn + length t.fop.sent ≤ length s.fop.sent =
     subst (λ (x : GroundState). ahead_by x.fop.nn s.fop.nn + length x.fop.sent ≤ length s.fop.sent)
-    (sym c.in-Ok.ensures.after)
+    (sym c.in-Ok.ensures.step.after)
     (heard_less s c.state-mode.ensures.holds (omega (arith, c.nn-nn.ensures, c.nn-nn.type_inv))
     (frame_at s.config.frame_length c.deref.result.now)) in
     let counted : c.self.inside.session.acknowledged + c.from.result + length t.fop.sent
@@ -60,7 +60,7 @@ returns-in_default c =
 pub invariant_of-self : goal.invariant_of-self
 invariant_of-self c =
     subst (λ (s : GroundState). IsSound (record c.self.inside { ground_node = s }))
-    (sym c.in_default-telemetry.ensures.err) c.self.invariant
+    (sym c.in_default-telemetry.ensures.step.err) c.self.invariant
 
 pub returns-in_default-telemetry : goal.returns-in_default-telemetry
 returns-in_default-telemetry c =
@@ -68,7 +68,7 @@ returns-in_default-telemetry c =
     let first = came (goal.at.returns-in_default-telemetry c).After-deref in
     lacks c.self.inside c.args.self.now c.self.view_is DownDeliver
     (record w { ground_node = c.telemetry.new.self })
-    (ap (λ (s : GroundState). record w { ground_node = s }) c.in_default-telemetry.ensures.err ∙ c.self.view_is)
+    (ap (λ (s : GroundState). record w { ground_node = s }) c.in_default-telemetry.ensures.step.err ∙ c.self.view_is)
     (rw first tt)
     (rw first (λ none. cc (c.in_default-telemetry.ensures.none none)))
 
@@ -87,7 +87,7 @@ returns c =
       };
     })
     (ap (λ (way : List (List ℕ)). (down_deliver_step w way).answer) first
-    ∙ ap (λ h. Ok (Down h)) (sym c.in-Ok.ensures.answer))
+    ∙ ap (λ h. Ok (Down h)) (sym c.in-Ok.ensures.step.answer))
     (rw (c.pop_front.ensures.rest, confirmed c, moved c)
     (ap (λ (t : GroundState). (world_after_telemetry w down (record { answer = c.in-Ok.heard; after = t })).after)
-    c.in-Ok.ensures.after ∙ ap (λ (way : List (List ℕ)). (down_deliver_step w way).after) (sym first)))
+    c.in-Ok.ensures.step.after ∙ ap (λ (way : List (List ℕ)). (down_deliver_step w way).after) (sym first)))
