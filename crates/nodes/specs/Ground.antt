@@ -1,7 +1,7 @@
 -- The ground: what it holds, and what each of its calls answers and leaves.
 use Rattle.std.specs.Prelude.{◌≡◌, ℕ, ◌+◌, List, [], ◌∷◌, ◌++◌, length, map, option_to_list, Bool}
 use Rattle.std.specs.Prelude.{true, false, not, ◌&&◌, ◌==◌, nat_lt, if◌then◌else◌, Option, Some}
-use Rattle.std.specs.Prelude.{None, Result, Ok, Err}
+use Rattle.std.specs.Prelude.{None, IfSome, Result, Ok, Err, OnOk, OnErr, IsOkUnless}
 use Rattle.clcw.specs.declared.word.Clcw.{Clcw}
 use Rattle.clcw.specs.declared.fault.ClcwFault.{ClcwFault}
 use Rattle.clcw.specs.Reading.{clcw_at}
@@ -26,7 +26,7 @@ use Rattle.tm_link.specs.Extraction.{ExtractorState, Extracted, new_extractor, e
 use Rattle.nodes.specs.declared.config.Config.{Config}
 use Rattle.nodes.specs.declared.fault.LinkFault.{LinkFault}
 use Rattle.nodes.specs.declared.fault.LinkFault.TheVariants.{NotOpen, ClosedMap, NotCommand}
-use Rattle.nodes.specs.declared.fault.LinkFault.TheVariants.{TooLong, QueueFull}
+use Rattle.nodes.specs.declared.fault.LinkFault.TheVariants.{TooLong, QueueFull, Memory}
 use Rattle.nodes.specs.declared.heard.Heard.{Heard}
 use Rattle.nodes.specs.declared.heard.Heard.TheVariants.{Invalid, Foreign, Frame}
 use Rattle.nodes.specs.declared.heard.HeardReport.TheVariants.{Used, Refused, OtherChannel}
@@ -118,6 +118,17 @@ abbrev pub unless_refused : Option LinkFault → GroundState → GroundState
     → GroundOutcome (Result (Unit {0}) LinkFault)
 unless_refused None s next = record { answer = Ok tt; after = next }
 unless_refused (Some fault) s next = record { answer = Err fault; after = s }
+
+-- what a call answers that submits, and the ground before and after it: it is refused for this
+-- fault, or has this outcome, or there was no memory and the ground is as it was
+pub record Submits (fault : Option LinkFault)
+    (outcome : GroundOutcome (Result (Unit {0}) LinkFault)) (old new : GroundState)
+    (result : Result (Unit {0}) LinkFault) : Type 0 where
+  pub after : OnOk result (new ≡ outcome.after)
+  pub taken : OnOk result (outcome.answer ≡ Ok tt)
+  pub refused : IfSome fault (λ fault. result ≡ Err fault)
+  pub memory : fault ≡ None → IsOkUnless result Memory
+  pub err : OnErr result (new ≡ old)
 
 -- ---- packets are sent past the sequence control, each as one segment that stands alone
 

@@ -9,9 +9,9 @@ use map_service::{cut_packets, segment_count};
 
 impl Ground {
     ghost use Rattle.std.specs.Prelude.{◌≡◌, ◌<◌, ◌⊎◌, ℕ, ◌+◌, length, true, false, not, nat_lt, if◌then◌else◌};
-    ghost use Rattle.std.specs.Prelude.{Err, None, Ok, Some, IfOk, IfErr, IfSome, OnOk, OnErr, IsOkUnless};
+    ghost use Rattle.std.specs.Prelude.{Err, None, Ok, Some, IfOk, IfErr, IfSome, IsOkUnless};
     ghost use Rattle.nodes.specs.Commands.{commands_fault};
-    ghost use Rattle.nodes.specs.Ground.{ground_step, Submit, Bypass, submit_fault, bypass_fault};
+    ghost use Rattle.nodes.specs.Ground.{ground_step, Submit, Bypass, Submits, submit_fault, bypass_fault};
     ghost use Rattle.nodes.specs.Ground.{unsent_segments, segments_on, is_over_slots};
     ghost use Rattle.nodes.specs.Parameters.{limits_of};
     ghost use Rattle.nodes.specs.Submissions.{IsSubmissionAt, segments_held};
@@ -25,15 +25,8 @@ impl Ground {
     /// Faults: 1 NotOpen, 2 ClosedMap, 3 NotCommand, 4 TooLong, 5 QueueFull, 6 Memory. Memory: yes.
     /// Cost: n.
     pub fn submit(&mut self, map: u8, octets: &[u8]) -> Result<(), LinkFault>
-        ensures after { OnOk result
-            (self.new ≡ (ground_step self.old (Submit map octets.now)).after) }
-        ensures taken { OnOk result
-            ((ground_step self.old (Submit map octets.now)).answer ≡ Ok tt) }
-        ensures refused { IfSome (submit_fault self.old map octets.now)
-            (λ fault. result ≡ Err fault) }
-        ensures memory { submit_fault self.old map octets.now ≡ None
-            → IsOkUnless result LinkFault.Memory }
-        ensures err { OnErr result (self.new ≡ self.old) }
+        ensures { Submits (submit_fault self.old map octets.now)
+            (ground_step self.old (Submit map octets.now)) self.old self.new result }
     {
         let submission = self.prepare(map, octets)?;
         self.commit(submission);
@@ -150,15 +143,8 @@ impl Ground {
     /// ground is as it was.
     /// Faults: 2 ClosedMap, 3 NotCommand, 4 TooLong, 5 QueueFull, 6 Memory. Memory: yes. Cost: n.
     pub fn bypass(&mut self, map: u8, octets: &[u8]) -> Result<(), LinkFault>
-        ensures after { OnOk result
-            (self.new ≡ (ground_step self.old (Bypass map octets.now)).after) }
-        ensures taken { OnOk result
-            ((ground_step self.old (Bypass map octets.now)).answer ≡ Ok tt) }
-        ensures refused { IfSome (bypass_fault self.old map octets.now)
-            (λ fault. result ≡ Err fault) }
-        ensures memory { bypass_fault self.old map octets.now ≡ None
-            → IsOkUnless result LinkFault.Memory }
-        ensures err { OnErr result (self.new ≡ self.old) }
+        ensures { Submits (bypass_fault self.old map octets.now)
+            (ground_step self.old (Bypass map octets.now)) self.old self.new result }
     {
         if let Some(fault) = self.bypass_fault(map, octets) {
             return Err(fault);
