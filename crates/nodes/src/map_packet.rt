@@ -31,8 +31,6 @@ impl Model for MapPacket {
 }
 
 impl MapPacket {
-    ghost use Rattle.std.specs.Prelude.{◌<◌, true};
-    ghost use Rattle.map_service.specs.Packets.{is_packet};
     ghost use Rattle.nodes.specs.Packets.{packet_on, packet_view, lent_packet};
     ghost use Rattle.nodes.specs.PacketFields.{IsPacketOn};
 
@@ -52,8 +50,7 @@ impl MapPacket {
 
     pub(crate) fn into_parts(self) -> (u8, Vec<u8>)
         ensures parts { packet_view result ≡ self }
-        ensures map { result.0 < 64 }
-        ensures packet { is_packet result.1.items ≡ true }
+        ensures packet { IsPacketOn (packet_view result) }
     {
         let MapPacket { map, octets } = self;
         (map, octets)

@@ -49,14 +49,14 @@ impl Model for Spacecraft {
 }
 
 impl Spacecraft {
-    ghost use Rattle.std.specs.Prelude.{◌≡◌, ◌<◌, ◌++◌, drop, take, true, Ok, option_map, IfOk, IfSome, IfErr, OnOk, OnErr, IsOkUnless, IsTrue};
+    ghost use Rattle.std.specs.Prelude.{◌≡◌, ◌++◌, drop, take, Ok, option_map, IfOk, IfSome, IfErr, OnOk, OnErr, IsOkUnless, IsTrue};
     ghost use Rattle.clcw.specs.Writing.{fits};
     ghost use Rattle.cop1.specs.Report.{report_of};
-    ghost use Rattle.map_service.specs.Packets.{is_packet};
     ghost use Rattle.tm_link.specs.Building.{queue_fault};
     ghost use Rattle.tm_link.specs.Layout.{IsTmFrame};
     ghost use Rattle.tm_link.specs.Writing.{spelling};
     ghost use Rattle.nodes.specs.Spacecraft.{new_spacecraft, spacecraft_step, Take, TakeBypass, Telemetry, Report, IsOwnFrame};
+    ghost use Rattle.nodes.specs.PacketFields.{IsPacketOn};
     ghost use Rattle.nodes.specs.Packets.{packet_view, lent_packet};
     ghost use Rattle.nodes.specs.Parameters.{IsConfig};
 
@@ -134,8 +134,7 @@ impl Spacecraft {
         ensures after { self.new ≡ (spacecraft_step self.old Take).after }
 
         // It is exactly one packet, on one of the 64 MAPs.
-        ensures map { IfSome result (λ p. p.0 < 64) }
-        ensures packet { IfSome result (λ p. is_packet p.1.items ≡ true) }
+        ensures packet { IfSome result (λ p. IsPacketOn (packet_view p)) }
     {
         let Some(packet) = self.ready.pop_front() else {
             return None;
@@ -154,8 +153,7 @@ impl Spacecraft {
         ensures after { self.new ≡ (spacecraft_step self.old TakeBypass).after }
 
         // It is exactly one packet, on one of the 64 MAPs.
-        ensures map { IfSome result (λ p. p.0 < 64) }
-        ensures packet { IfSome result (λ p. is_packet p.1.items ≡ true) }
+        ensures packet { IfSome result (λ p. IsPacketOn (packet_view p)) }
     {
         match self.bypass.pop_front() {
             Some(packet) => Some(packet.into_parts()),
