@@ -1,7 +1,6 @@
 // What goes to the spacecraft next.
 
 ghost use Rattle.std.specs.Prelude.{◌≡◌, true, Some};
-ghost use Rattle.tc_frame.specs.declared.frame.Check.TheVariants.{On};
 ghost use Rattle.tc_frame.specs.Layout.{frame_view};
 ghost use Rattle.tc_frame.specs.Writing.{frame_fits};
 ghost use Rattle.nodes.specs.Frames.{size_of, written_over, BeginsWith};
@@ -18,7 +17,7 @@ impl Ground {
     /// segment past the sequence control, or a segment with its number N(S). The ground stays as it is.
     pub fn peek(&self) -> Option<TcFrame<'_>>
         ensures frame { option_map frame_view result ≡ (ground_step self.now Pull).answer }
-        ensures fits { IfSome result (λ f. frame_fits On (frame_view f) ≡ true) }
+        ensures fits { IfSome result (λ f. frame_fits Check.On (frame_view f) ≡ true) }
     {
         let body = match self.fop.peek() {
             Peeked::Nothing => return None,
@@ -69,7 +68,7 @@ impl Ground {
 
 // Writes a frame, with its check, at the beginning of `out`, and says how many octets it has.
 fn written(frame: &TcFrame<'_>, out: &mut [u8; 1024]) -> usize
-    requires { frame_fits On (frame_view frame.now) ≡ true }
+    requires { frame_fits Check.On (frame_view frame.now) ≡ true }
     ensures count { Some result ≡ size_of (Some (frame_view frame.now)) }
     ensures frame { out.new ≡ written_over out.old (Some (frame_view frame.now)) }
     ensures spells { BeginsWith out.new (Some (frame_view frame.now)) }

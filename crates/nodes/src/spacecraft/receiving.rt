@@ -12,15 +12,11 @@ use tc_frame::{Body, Check, Command, Segment, TcFrame, decode};
 
 impl Spacecraft {
     ghost use Rattle.std.specs.Prelude.{◌≡◌, ◌≤◌, ◌<◌, length, false, None, IsOk, IfOk, IfErr, IfSome, option_map};
-    ghost use Rattle.cop1.specs.Farm.{verdict_of};
-    ghost use Rattle.tc_frame.specs.declared.frame.Check.TheVariants.{On};
-    ghost use Rattle.tc_frame.specs.Layout.{Ad, Bc, frame_view, segment_view};
+    ghost use Rattle.tc_frame.specs.Layout.{Ad, Bd, Bc, frame_view, segment_view};
     ghost use Rattle.tc_frame.specs.Reading.{frame_at};
-    ghost use Rattle.nodes.specs.BypassSegments.{is_kept};
-    ghost use Rattle.nodes.specs.Parameters.{limits_of};
     ghost use Rattle.nodes.specs.Acceptance.{segment_in_body};
     ghost use Rattle.nodes.specs.Arriving.{accepted_of, IsAcceptable, IsArrivalOf, IsArrivalAt, after_accepting, after_keeping};
-    ghost use Rattle.nodes.specs.Spacecraft.{spacecraft_step, Receive, is_free, is_own_frame, is_accepted, HandsNothingOn, after_segment, body_outcome, receive_sequence_step, receive_bypass_step};
+    ghost use Rattle.nodes.specs.Spacecraft.{spacecraft_step, Receive, is_free, is_own_frame, hands_on, HandsNothingOn, after_segment, body_outcome};
     ghost use Rattle.nodes.specs.Steps.{TakesStep};
 
     /// Takes octets that came from the ground: exactly one telecommand frame, with its FECF (CCSDS
@@ -31,7 +27,7 @@ impl Spacecraft {
         ensures step { TakesStep (spacecraft_step self.old (Receive octets.now)) self.old self.new result }
 
         // It takes no memory for octets of which nothing is handed on.
-        ensures none { HandsNothingOn self.old (frame_at On octets.now) → IsOk result }
+        ensures none { HandsNothingOn self.old (frame_at Check.On octets.now) → IsOk result }
     {
         let arrival = self.prepare(octets)?;
         Ok(self.commit(arrival))
@@ -46,8 +42,8 @@ impl Spacecraft {
         ensures fault { IfErr result (λ e. e ≡ LinkFault.Memory) }
 
         // It takes no memory for octets of which nothing is handed on.
-        ensures none { HandsNothingOn self.now (frame_at On octets.now) → IsOk result }
-        ensures nothing { HandsNothingOn self.now (frame_at On octets.now)
+        ensures none { HandsNothingOn self.now (frame_at Check.On octets.now) → IsOk result }
+        ensures nothing { HandsNothingOn self.now (frame_at Check.On octets.now)
             → IfOk result (λ a. accepted_of a ≡ None) }
     {
         let frame = match decode(octets, Check::On) {
@@ -145,12 +141,12 @@ impl Spacecraft {
         ensures octets { IfOk result (λ a. a.octets.now ≡ octets.now) }
         ensures arrival { IfOk result (IsArrivalOf
             self.now
-            (receive_sequence_step self.now n (segment_view segment.entry))
+            (body_outcome self.now (Ad n (segment_view segment.entry)))
             (segment_in_body self.now (Ad n (segment_view segment.entry)))) }
         ensures fault { IfErr result (λ e. e ≡ LinkFault.Memory) }
-        ensures none { is_accepted (verdict_of self.now.farm n (is_free self.now)) ≡ false
+        ensures none { hands_on self.now (Ad n (segment_view segment.entry)) ≡ false
             → IsOk result }
-        ensures nothing { is_accepted (verdict_of self.now.farm n (is_free self.now)) ≡ false
+        ensures nothing { hands_on self.now (Ad n (segment_view segment.entry)) ≡ false
             → IfOk result (λ a. accepted_of a ≡ None) }
     {
         let mut farm = self.farm;
@@ -194,11 +190,10 @@ impl Spacecraft {
     ) -> Result<Arrival<'a>, LinkFault>
         ensures octets { IfOk result (λ a. a.octets.now ≡ octets.now) }
         ensures arrival { IfOk result (IsArrivalOf
-            self.now (receive_bypass_step self.now (segment_view segment.entry)) None) }
+            self.now (body_outcome self.now (Bd (segment_view segment.entry))) None) }
         ensures nothing { IfOk result (λ a. accepted_of a ≡ None) }
         ensures fault { IfErr result (λ e. e ≡ LinkFault.Memory) }
-        ensures none { is_kept (limits_of self.now.config) (segment_view segment.entry) ≡ false
-            → IsOk result }
+        ensures none { hands_on self.now (Bd (segment_view segment.entry)) ≡ false → IsOk result }
     {
         let mut farm = self.farm;
         farm.bd();
