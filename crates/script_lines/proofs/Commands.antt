@@ -1,31 +1,32 @@
 -- A line that is read is spelled so.
 use Rattle.std.proofs.Common.{◌≡◌, ◌∙◌, ◌≤◌, ◌<◌, ◌^◌, ◌==◌, ◌&&◌, ◌++◌, ℕ, Bool, true, false, cond, List, [], ◌∷◌}
-use Rattle.std.proofs.Common.{Option, Some, None, inl, inr, refl, sym, ap, subst, arith}
+use Rattle.std.proofs.Common.{suc, Option, Some, None, inl, inr, refl, sym, ap, subst, arith}
 use Rattle.std.specs.Prelude.{codes, decimal, ◌↔◌, ◌⊎◌, option_map, option_and_then}
-use Rattle.std.specs.List.{find, join_with_byte}
-use Rattle.std.specs.Option.{unwrap_or}
+use Rattle.std.specs.List.{find, join_with_byte, Contains}
+use Rattle.std.specs.Option.{unwrap_or, option_or}
 use Rattle.std.specs.Str.{bytes_eq}
 use Rattle.std.proofs.lemmas.Bool.{and_parts, eqb-true}
+use Rattle.std.proofs.lemmas.Map.Views.{Contains-from_lookup}
 use Rattle.std.proofs.lemmas.List.Splits.{join_with_byte-slice_split}
 use Rattle.std.proofs.lemmas.Slice.Eq.{bytes_eq-Decides}
 use Rattle.std.proofs.lemmas.Option.{same_Some}
 use denote.Bor.{Bor}
+use Rattle.cop1.specs.declared.vocabulary.Directive.{Directive}
 use Rattle.cop1.specs.declared.vocabulary.Directive.TheVariants as directives
 use Rattle.nodes.specs.declared.parameter.Parameter.{Parameter}
 use Rattle.nodes.specs.declared.parameter.Parameter.TheVariants as parameters
 use Rattle.nodes.specs.Parameters.{all_in_order, row_of, parameter_named}
 use Rattle.link_events.specs.declared.event.Event.{Event}
 use Rattle.link_events.specs.declared.event.Event.TheVariants as events
-use Rattle.script_lines.specs.Lines.{ScriptLine, Skipped, Setting, Happening, Unreadable, borrow_of, line_of_one_word}
-use Rattle.script_lines.specs.Lines.{initiation, up_event, down_event, numbered_directive}
-use Rattle.script_lines.specs.Lines.{line_of_two_words, submission_line}
-use Rattle.script_lines.specs.Lines.{most_for, setting_line, line_of_three_words, line_of_words, line_in}
+use Rattle.script_lines.specs.Lines.{ScriptLine, Skipped, Setting, Happening, Showing, Unreadable, borrow_of}
+use Rattle.script_lines.specs.Lines.{plain_lines, plain_line, line_of_two_words, submission_line, most_for}
+use Rattle.script_lines.specs.Lines.{setting_line, line_of_three_words, line_of_words, readable_line, line_in}
 use Rattle.script_lines.specs.Words.{words_in, number_in_word, octets_in_word}
 use Rattle.script_lines.specs.Spelling as spelling
-use Rattle.script_lines.specs.Spelling.{Spells, IsHex}
+use Rattle.script_lines.specs.Spelling.{Spells, IsHex, plain_events}
 use Rattle.script_lines.proofs.HexWords.{read_octets}
 use Rattle.script_lines.proofs.Numerals.{read}
-use Rattle.script_lines.proofs.Spelled.{spelled, most_small}
+use Rattle.script_lines.proofs.Spelled.{spelled, most_small, agree}
 
 -- ---- what is found
 
@@ -75,22 +76,36 @@ one_more : {name text word spelled : List ℕ} → name ≡ text → word ≡ sp
 one_more {name = name} {text = text} {word = word} {spelled = spelled} is same =
     ap (λ (n : List ℕ). n ++ 32 ∷ word) is ∙ ap (λ (w : List ℕ). text ++ 32 ∷ w) same
 
--- ---- lines of one word
+-- ---- lines with neither a number nor octets
 
-at : {what other : ScriptLine} {text name : List ℕ} → Spells what text → name ≡ text → Some what ≡ Some other
-    → Spells other name
-at {what = what} {other = other} spells is same = moved spells (same_Some what other same) is
+-- the event whose text a line is
+abbrev event_in : List (Event × List ℕ) → List ℕ → Option Event
+event_in [] line = None
+event_in (row ∷ more) line = cond (bytes_eq line row.1) (Some row.0) (event_in more line)
 
-one_word : (name : List ℕ) (what : ScriptLine) → line_of_one_word name ≡ Some what → Spells what name
-one_word name what e =
-    let P = λ (other : ScriptLine). Spells other name in
-    tested P e (at spelling.terminate) (λ f.
-    tested P f (at spelling.send) (λ g.
-    tested P g (at spelling.report) (λ h.
-    tested P h (at spelling.tick) (λ i.
-    tested P i (at spelling.take) (λ j.
-    tested P j (at spelling.takebypass) (λ k.
-    tested P k (at spelling.show) (λ l. cc l)))))))
+in_row : (rows : List (Event × List ℕ)) (line : List ℕ) (event : Event) → event_in rows line ≡ Some event
+    → Contains rows (event, line)
+in_row [] line event e = absurd (cc e)
+in_row ((one, text) ∷ more) line event e =
+    tested (λ (a : Event). Contains ((one, text) ∷ more) (a, line)) {word = line} {name = text} {one = Some one} e
+    (λ is same.
+    (0, omega arith, ap (λ (t : List ℕ). (one, t)) (sym is) ∙ ap (λ (a : Event). (a, line)) (same_Some one event same)))
+    (λ f. let has = in_row more line event f in (suc has.0, omega (arith, has.1), has.2))
+
+-- what a line spells as a whole
+abbrev spelled_by : List ℕ → Option ScriptLine
+spelled_by line =
+    cond (bytes_eq line (codes "show")) (Some Showing) (option_map Happening (event_in plain_events line))
+
+plain : (line : List ℕ) (what : ScriptLine) → plain_line line ≡ Some what → Spells what line
+plain line what e =
+    let has = Contains-from_lookup (λ x y. (bytes_eq-Decides x y).0) line what plain_lines e in
+    let found = agree (λ row. spelled_by row.0) (λ row. Some row.1) plain_lines (line, what) refl has in
+    tested (λ (other : ScriptLine). Spells other line) found
+    (λ is same. moved spelling.show (same_Some Showing what same) is)
+    (λ f.
+    let event = mapped Happening (event_in plain_events line) what f in
+    moved (spelling.plain event.0 line (in_row plain_events line event.0 event.1)) event.2 refl)
 
 -- ---- lines of two words
 
@@ -98,13 +113,13 @@ module _ (name word : List ℕ) where
   abbrev Pair : ScriptLine → Type 0
   Pair what = Spells what (name ++ 32 ∷ word)
 
-  with_number : (text : List ℕ) (most : ℕ) (event : ℕ → Event) (a : Event) → most < 2 ^ 64
+  with_number : (text : List ℕ) (most : ℕ) (event : ℕ → Event) (a : ScriptLine) → most < 2 ^ 64
       → ((x : ℕ) → x ≤ most → Spells (Happening (event x)) (text ++ 32 ∷ decimal x)) → name ≡ text
-      → option_map event (number_in_word most word) ≡ Some a → Pair (Happening a)
+      → option_map (λ x. Happening (event x)) (number_in_word most word) ≡ Some a → Pair a
   with_number text most event a small spells is e =
-      let n = mapped event (number_in_word most word) a e in
+      let n = mapped (λ x. Happening (event x)) (number_in_word most word) a e in
       let number = read most n.0 word small n.1 in
-      moved (spells n.0 number.1) (ap Happening n.2) (one_more is number.0)
+      moved (spells n.0 number.1) n.2 (one_more is number.0)
 
   with_octets : (text : List ℕ) (event : List ℕ → Event) (a : ScriptLine)
       → ((octets hex : List ℕ) → IsHex octets hex → Spells (Happening (event octets)) (text ++ 32 ∷ hex)) → name ≡ text
@@ -113,53 +128,17 @@ module _ (name word : List ℕ) where
       let o = mapped (λ octets. Happening (event octets)) (octets_in_word word) a e in
       moved (spells o.0 word (read_octets o.0 word o.1)) o.2 (one_more is refl)
 
-  of_kind : {event : Event} {text kind : List ℕ} → Spells (Happening event) (text ++ 32 ∷ kind) → name ≡ text
-      → (a : Event) → word ≡ kind → Some event ≡ Some a → Pair (Happening a)
-  of_kind {event = event} spells is a same e = moved spells (ap Happening (same_Some event a e)) (one_more is same)
-
-  happens : (o : Option Event) (what : ScriptLine) → ((a : Event) → o ≡ Some a → Pair (Happening a))
-      → option_map Happening o ≡ Some what → Pair what
-  happens o what each e =
-      let a = mapped Happening o what e in
-      moved (each a.0 a.1) a.2 refl
-
-  initiated : name ≡ codes "init" → (a : Event) → initiation word ≡ Some a → Pair (Happening a)
-  initiated is a e =
-      let P = λ (event : Event). Pair (Happening event) in
-      tested P e (of_kind spelling.init_none is a) (λ f.
-      tested P f (of_kind spelling.init_check is a) (λ g.
-      tested P g (of_kind spelling.init_unlock is a) (λ h. cc h)))
-
-  goes_up : name ≡ codes "up" → (a : Event) → up_event word ≡ Some a → Pair (Happening a)
-  goes_up is a e =
-      let P = λ (event : Event). Pair (Happening event) in
-      tested P e (of_kind spelling.up_deliver is a) (λ f. tested P f (of_kind spelling.up_lose is a) (λ g. cc g))
-
-  goes_down : name ≡ codes "down" → (a : Event) → down_event word ≡ Some a → Pair (Happening a)
-  goes_down is a e =
-      let P = λ (event : Event). Pair (Happening event) in
-      tested P e (of_kind spelling.down_deliver is a) (λ f. tested P f (of_kind spelling.down_lose is a) (λ g. cc g))
-
-  directive : (a : Event) → numbered_directive name word ≡ Some a → Pair (Happening a)
-  directive a e =
-      let P = λ (event : Event). Pair (Happening event) in
-      tested P e (with_number (codes "vs") 255 (λ x. events.Directive (directives.SetVs x)) a (omega arith) spelling.vs)
-      (λ f.
-      tested P f (with_number (codes "window") 255 (λ x. events.Directive (directives.SetWindow x)) a (omega arith)
-      spelling.window) (λ g.
-      tested P g (with_number (codes "limit") 255 (λ x. events.Directive (directives.SetLimit x)) a (omega arith)
-      spelling.limit) (λ h.
-      tested P h (with_number (codes "timer") 65535 (λ x. events.Directive (directives.SetTimer x)) a (omega arith)
-      spelling.timer) (λ k. cc k))))
-
   two_words : (what : ScriptLine) → line_of_two_words name word ≡ Some what → Pair what
   two_words what e =
-      tested Pair e (with_octets (codes "telemetry") (λ octets. events.Telemetry (borrow_of octets)) what
-      spelling.telemetry) (λ f.
-      tested Pair f (λ is. happens (initiation word) what (initiated is)) (λ g.
-      tested Pair g (λ is. happens (up_event word) what (goes_up is)) (λ h.
-      tested Pair h (λ is. happens (down_event word) what (goes_down is))
-      (happens (numbered_directive name word) what directive))))
+      let sets = λ (directive : ℕ → Directive) (x : ℕ). events.Directive (directive x) in
+      tested Pair e (with_number (codes "vs") 255 (sets directives.SetVs) what (omega arith) spelling.vs) (λ f.
+      tested Pair f (with_number (codes "window") 255 (sets directives.SetWindow) what (omega arith) spelling.window)
+      (λ g.
+      tested Pair g (with_number (codes "limit") 255 (sets directives.SetLimit) what (omega arith) spelling.limit) (λ h.
+      tested Pair h (with_number (codes "timer") 65535 (sets directives.SetTimer) what (omega arith) spelling.timer)
+      (λ i.
+      tested Pair i (with_octets (codes "telemetry") (λ octets. events.Telemetry (borrow_of octets)) what
+      spelling.telemetry) (λ k. cc k)))))
 
 -- ---- lines of three words
 
@@ -230,25 +209,32 @@ module _ (name first second : List ℕ) where
 
 spelled_words : (words : List (List ℕ)) (what : ScriptLine) → line_of_words words ≡ Some what
     → Spells what (join_with_byte 32 words)
-spelled_words [] what e = cc e
-spelled_words (name ∷ []) what e = one_word name what e
 spelled_words (name ∷ word ∷ []) what e = two_words name word what e
 spelled_words (name ∷ first ∷ second ∷ []) what e = three_words name first second what e
-spelled_words (name ∷ first ∷ second ∷ third ∷ more) what e = cc e
+spelled_words words what e = cc e
 
-by_words : (line : List ℕ) (what : ScriptLine) (o : Option ScriptLine) → line_of_words (words_in line) ≡ o
+by_words : (line : List ℕ) (what : ScriptLine) → line_of_words (words_in line) ≡ Some what → Spells what line
+by_words line what e =
+    moved (spelled_words (words_in line) what e) refl (sym (join_with_byte-slice_split 32 line))
+
+by_table : (line : List ℕ) (what : ScriptLine) (o : Option ScriptLine) → plain_line line ≡ o
+    → option_or o (line_of_words (words_in line)) ≡ Some what → Spells what line
+by_table line what (Some other) is e = plain line what (is ∙ e)
+by_table line what None is e = by_words line what e
+
+by_reading : (line : List ℕ) (what : ScriptLine) (o : Option ScriptLine) → readable_line line ≡ o
     → unwrap_or o Unreadable ≡ what → (what ≡ Unreadable → ⊥) → Spells what line
-by_words line what (Some other) is e readable =
-    moved (spelled_words (words_in line) other is) e (sym (join_with_byte-slice_split 32 line))
-by_words line what None is e readable = absurd (readable (sym e))
+by_reading line what (Some other) is e readable =
+    moved (by_table line other (plain_line line) refl is) e refl
+by_reading line what None is e readable = absurd (readable (sym e))
 
 by_first : (octet : ℕ) (more : List ℕ) (what : ScriptLine) (note : Bool) → (octet == 35) ≡ note
-    → cond note Skipped (unwrap_or (line_of_words (words_in (octet ∷ more))) Unreadable) ≡ what
+    → cond note Skipped (unwrap_or (readable_line (octet ∷ more)) Unreadable) ≡ what
     → (what ≡ Unreadable → ⊥) → Spells what (octet ∷ more)
 by_first octet more what true is e readable =
     moved (spelling.note more) e (ap (λ (x : ℕ). x ∷ more) (eqb-true octet 35 is))
 by_first octet more what false is e readable =
-    by_words (octet ∷ more) what (line_of_words (words_in (octet ∷ more))) refl e readable
+    by_reading (octet ∷ more) what (readable_line (octet ∷ more)) refl e readable
 
 spells : (line : List ℕ) (what : ScriptLine) → line_in line ≡ what → (what ≡ Unreadable → ⊥) → Spells what line
 spells [] what e readable = moved spelling.empty e refl

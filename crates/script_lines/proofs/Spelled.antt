@@ -1,15 +1,18 @@
 -- A line that is spelled is read so.
-use Rattle.std.proofs.Common.{◌≡◌, ◌∙◌, ◌≤◌, ◌<◌, ◌^◌, ℕ, true, List, [], ◌∷◌, ◌++◌, Option, Some, refl, ap, arith}
-use Rattle.std.specs.Prelude.{◌⊎◌, codes, decimal}
+use Rattle.std.proofs.Common.{◌≡◌, ◌∙◌, ◌≤◌, ◌<◌, ◌^◌, ℕ, zero, suc, true, List, [], ◌∷◌, ◌++◌, Option, Some}
+use Rattle.std.proofs.Common.{refl, sym, ap, arith}
+use Rattle.std.specs.Prelude.{◌⊎◌, codes, decimal, length, map, slice_index_or}
+use Rattle.std.specs.List.{Contains}
 use Rattle.std.specs.Option.{unwrap_or}
 use Rattle.nodes.specs.declared.parameter.Parameter.{Parameter}
 use Rattle.nodes.specs.declared.parameter.Parameter.TheVariants as parameters
 use Rattle.nodes.specs.Parameters.{row_of}
 use Rattle.nodes.proofs.InRange.{named}
-use Rattle.script_lines.specs.Lines.{ScriptLine, Setting, Unreadable, most_for, setting_line, line_of_words, line_in}
+use Rattle.script_lines.specs.Lines.{ScriptLine, Setting, Happening, Unreadable, most_for, setting_line}
+use Rattle.script_lines.specs.Lines.{line_of_words, line_in}
 use Rattle.script_lines.specs.Words.{words_in}
 use Rattle.script_lines.specs.Spelling as spelling
-use Rattle.script_lines.specs.Spelling.{Spells}
+use Rattle.script_lines.specs.Spelling.{Spells, plain_events}
 use Rattle.script_lines.proofs.HexWords.{spelled_octets}
 use Rattle.script_lines.proofs.Numerals.{printed}
 use Rattle.script_lines.proofs.Spaces.{is_word, number_word, hex_word, two_words, three_words}
@@ -36,6 +39,16 @@ set p n le = let number = printed (most_for p) n (most_small p) le in rw (named 
 
 -- ---- lines
 
+agree_at : {A B : Type 0} (f g : A → B) (all : List A) (a : A) (k : ℕ) → map f all ≡ map g all → k < length all
+    → slice_index_or all k a ≡ a → f a ≡ g a
+agree_at f g [] a k same less is = absurd (omega (arith, less))
+agree_at f g (one ∷ more) a zero same less is = ap f (sym is) ∙ cc same ∙ ap g is
+agree_at f g (one ∷ more) a (suc k) same less is = agree_at f g more a k (cc same) (omega (arith, less)) is
+
+-- two functions that make one list of a table agree at each of its rows
+pub agree : {A B : Type 0} (f g : A → B) (all : List A) (a : A) → map f all ≡ map g all → Contains all a → f a ≡ g a
+agree f g all a same has = agree_at f g all a has.0 same has.1 has.2
+
 -- a name and a number
 numbered : (name : List ℕ) (x : ℕ) → is_word name ≡ true → x < 2 ^ 64
     → meant (words_in (name ++ 32 ∷ decimal x)) ≡ meant (name ∷ decimal x ∷ [])
@@ -44,6 +57,9 @@ numbered name x is small = ap meant (two_words name (decimal x) is (number_word 
 pub spelled : {line : List ℕ} {what : ScriptLine} → Spells what line → line_in line ≡ what
 spelled spelling.empty = refl
 spelled (spelling.note text) = refl
+spelled spelling.show = refl
+spelled (spelling.plain event line has) =
+    agree (λ row. line_in row.1) (λ row. Happening row.0) plain_events (event, line) refl has
 spelled (spelling.config p n fits) =
     let le = least_most p n fits in
     let below : n < 2 ^ 64 = omega (arith, le, most_small p) in
@@ -62,9 +78,6 @@ spelled (spelling.bypass map octets hex le is) =
 spelled (spelling.telemetry octets hex is) =
     let read = spelled_octets octets hex is in
     ap meant (two_words (codes "telemetry") hex refl (hex_word is)) ∙ rw read refl
-spelled spelling.init_none = refl
-spelled spelling.init_check = refl
-spelled spelling.init_unlock = refl
 spelled (spelling.init_set x le) =
     let number = printed 255 x (omega arith) le in
     ap meant (three_words (codes "init") (codes "set") (decimal x) refl refl (number_word x (omega arith)))
@@ -77,20 +90,9 @@ spelled (spelling.limit x le) =
     numbered (codes "limit") x refl (omega arith) ∙ rw (printed 255 x (omega arith) le) refl
 spelled (spelling.timer x le) =
     numbered (codes "timer") x refl (omega arith) ∙ rw (printed 65535 x (omega arith) le) refl
-spelled spelling.terminate = refl
-spelled spelling.send = refl
-spelled spelling.report = refl
-spelled spelling.up_deliver = refl
-spelled spelling.up_lose = refl
 spelled (spelling.up_damage octets hex is) =
     let read = spelled_octets octets hex is in
     ap meant (three_words (codes "up") (codes "damage") hex refl refl (hex_word is)) ∙ rw read refl
-spelled spelling.down_deliver = refl
-spelled spelling.down_lose = refl
 spelled (spelling.down_damage octets hex is) =
     let read = spelled_octets octets hex is in
     ap meant (three_words (codes "down") (codes "damage") hex refl refl (hex_word is)) ∙ rw read refl
-spelled spelling.tick = refl
-spelled spelling.take = refl
-spelled spelling.takebypass = refl
-spelled spelling.show = refl

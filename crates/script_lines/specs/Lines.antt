@@ -1,6 +1,8 @@
 -- What each line of a script says.
 use Rattle.std.specs.Prelude.{◌≤◌, ℕ, max, ◌==◌, ◌&&◌, if◌then◌else◌, List, [], ◌∷◌, codes, Option}
 use Rattle.std.specs.Prelude.{Some, None, option_map, option_and_then, unwrap_or}
+use Rattle.std.specs.Map.{lookup}
+use Rattle.std.specs.Option.{option_or}
 use Rattle.std.specs.Str.{bytes_eq}
 use denote.Bor.{Bor}
 use Rattle.cop1.specs.declared.vocabulary.Directive.TheVariants.{InitWithoutCheck, InitWithCheck}
@@ -17,7 +19,7 @@ use Rattle.script_lines.specs.declared.line.Line as code
 use Rattle.script_lines.specs.declared.line.Line.TheVariants as lines
 use Rattle.script_lines.specs.declared.line.Step.{Step}
 use Rattle.script_lines.specs.declared.line.Step.TheVariants as steps
-use Rattle.script_lines.specs.Words.{words_in, number_in_word, octets_in_word, lookup}
+use Rattle.script_lines.specs.Words.{words_in, number_in_word, octets_in_word}
 
 pub data ScriptLine : Type 0 where
   -- it is empty, or a note
@@ -33,53 +35,44 @@ pub data ScriptLine : Type 0 where
 abbrev pub borrow_of : List ℕ → Bor (List ℕ)
 borrow_of octets = record { ref_ptr = (0, 0); now = octets }
 
--- ---- lines of one word, of two and of three
+-- ---- lines with neither a number nor octets, by their whole text
 
-abbrev pub line_of_one_word : List ℕ → Option ScriptLine
-line_of_one_word = lookup (
-    (codes "terminate", Happening (events.Directive Terminate))
+abbrev pub plain_lines : List (List ℕ × ScriptLine)
+plain_lines =
+    (codes "init none", Happening (events.Directive InitWithoutCheck))
+    ∷ (codes "init check", Happening (events.Directive InitWithCheck))
+    ∷ (codes "init unlock", Happening (events.Directive InitUnlock))
+    ∷ (codes "terminate", Happening (events.Directive Terminate))
     ∷ (codes "send", Happening events.Send)
     ∷ (codes "report", Happening events.Report)
+    ∷ (codes "up deliver", Happening events.UpDeliver)
+    ∷ (codes "up lose", Happening events.UpLose)
+    ∷ (codes "down deliver", Happening events.DownDeliver)
+    ∷ (codes "down lose", Happening events.DownLose)
     ∷ (codes "tick", Happening events.Tick)
     ∷ (codes "take", Happening events.Take)
     ∷ (codes "takebypass", Happening events.TakeBypass)
     ∷ (codes "show", Showing)
-    ∷ [])
+    ∷ []
 
-abbrev pub initiation : List ℕ → Option Event
-initiation = lookup (
-    (codes "none", events.Directive InitWithoutCheck)
-    ∷ (codes "check", events.Directive InitWithCheck)
-    ∷ (codes "unlock", events.Directive InitUnlock)
-    ∷ [])
+abbrev pub plain_line : List ℕ → Option ScriptLine
+plain_line line = lookup (bytes_eq line) plain_lines
 
-abbrev pub up_event : List ℕ → Option Event
-up_event = lookup ((codes "deliver", events.UpDeliver) ∷ (codes "lose", events.UpLose) ∷ [])
-
-abbrev pub down_event : List ℕ → Option Event
-down_event = lookup ((codes "deliver", events.DownDeliver) ∷ (codes "lose", events.DownLose) ∷ [])
-
--- a directive with a number
-abbrev pub numbered_directive : List ℕ → List ℕ → Option Event
-numbered_directive name word =
-    if bytes_eq name (codes "vs") then option_map (λ x. events.Directive (SetVs x))
-    (number_in_word 255 word)
-    else if bytes_eq name (codes "window") then option_map (λ x. events.Directive (SetWindow x))
-    (number_in_word 255 word)
-    else if bytes_eq name (codes "limit") then option_map (λ x. events.Directive (SetLimit x))
-    (number_in_word 255 word)
-    else if bytes_eq name (codes "timer") then option_map (λ x. events.Directive (SetTimer x))
-    (number_in_word 65535 word)
-    else None
+-- ---- lines of two words and of three
 
 abbrev pub line_of_two_words : List ℕ → List ℕ → Option ScriptLine
 line_of_two_words name word =
-    if bytes_eq name (codes "telemetry") then option_map
+    if bytes_eq name (codes "vs") then option_map
+    (λ x. Happening (events.Directive (SetVs x))) (number_in_word 255 word)
+    else if bytes_eq name (codes "window") then option_map
+    (λ x. Happening (events.Directive (SetWindow x))) (number_in_word 255 word)
+    else if bytes_eq name (codes "limit") then option_map
+    (λ x. Happening (events.Directive (SetLimit x))) (number_in_word 255 word)
+    else if bytes_eq name (codes "timer") then option_map
+    (λ x. Happening (events.Directive (SetTimer x))) (number_in_word 65535 word)
+    else if bytes_eq name (codes "telemetry") then option_map
     (λ octets. Happening (events.Telemetry (borrow_of octets))) (octets_in_word word)
-    else if bytes_eq name (codes "init") then option_map Happening (initiation word)
-    else if bytes_eq name (codes "up") then option_map Happening (up_event word)
-    else if bytes_eq name (codes "down") then option_map Happening (down_event word)
-    else option_map Happening (numbered_directive name word)
+    else None
 
 -- a submission, by sequence control or past it
 abbrev pub submission_line : (ℕ → Bor (List ℕ) → Event) → List ℕ → List ℕ → Option ScriptLine
@@ -114,18 +107,19 @@ line_of_three_words name first second =
     else None
 
 abbrev pub line_of_words : List (List ℕ) → Option ScriptLine
-line_of_words [] = None
-line_of_words (name ∷ []) = line_of_one_word name
 line_of_words (name ∷ word ∷ []) = line_of_two_words name word
 line_of_words (name ∷ first ∷ second ∷ []) = line_of_three_words name first second
-line_of_words (name ∷ first ∷ second ∷ third ∷ more) = None
+line_of_words words = None
 
 -- ---- a line
+
+abbrev pub readable_line : List ℕ → Option ScriptLine
+readable_line line = option_or (plain_line line) (line_of_words (words_in line))
 
 abbrev pub line_in : List ℕ → ScriptLine
 line_in [] = Skipped
 line_in (octet ∷ more) =
-    if octet == 35 then Skipped else unwrap_or (line_of_words (words_in (octet ∷ more))) Unreadable
+    if octet == 35 then Skipped else unwrap_or (readable_line (octet ∷ more)) Unreadable
 
 -- ---- a line as the code has it: its octets are still digits
 

@@ -1,9 +1,11 @@
 -- How each line of a script is spelled.
 use Rattle.std.specs.Prelude.{◌≡◌, ◌≤◌, ◌<◌, ◌/◌, ◌%◌, ◌⊎◌, ℕ, List, [], ◌∷◌, ◌++◌, codes}
 use Rattle.std.specs.Prelude.{decimal, slice_index}
+use Rattle.std.specs.List.{Contains}
 use Rattle.cop1.specs.declared.vocabulary.Directive.TheVariants as directives
 use Rattle.nodes.specs.declared.parameter.Parameter.{Parameter}
 use Rattle.nodes.specs.Parameters.{row_of}
+use Rattle.link_events.specs.declared.event.Event.{Event}
 use Rattle.link_events.specs.declared.event.Event.TheVariants as events
 use Rattle.script_lines.specs.Lines.{ScriptLine, Skipped, Setting, Happening, Showing, borrow_of}
 
@@ -30,11 +32,32 @@ pub data IsHex : List ℕ → List ℕ → Type 0 where
 
 -- ---- lines
 
+-- the events with neither a number nor octets, and the text of each
+abbrev pub plain_events : List (Event × List ℕ)
+plain_events =
+    (events.Directive directives.InitWithoutCheck, codes "init none")
+    ∷ (events.Directive directives.InitWithCheck, codes "init check")
+    ∷ (events.Directive directives.InitUnlock, codes "init unlock")
+    ∷ (events.Directive directives.Terminate, codes "terminate")
+    ∷ (events.Send, codes "send")
+    ∷ (events.Report, codes "report")
+    ∷ (events.UpDeliver, codes "up deliver")
+    ∷ (events.UpLose, codes "up lose")
+    ∷ (events.DownDeliver, codes "down deliver")
+    ∷ (events.DownLose, codes "down lose")
+    ∷ (events.Tick, codes "tick")
+    ∷ (events.Take, codes "take")
+    ∷ (events.TakeBypass, codes "takebypass")
+    ∷ []
+
 -- The lines that say a thing. Numbers are spelled as they are printed; each parameter has those up
 -- to 65,542 and those of its range.
 pub data Spells : ScriptLine → List ℕ → Type 0 where
   empty : Spells Skipped []
   note : (text : List ℕ) → Spells Skipped (codes "#" ++ text)
+  show : Spells Showing (codes "show")
+  plain : (event : Event) (line : List ℕ) → Contains plain_events (event, line)
+      → Spells (Happening event) line
   config : (parameter : Parameter) (n : ℕ) → (n ≤ 65542) ⊎ (n ≤ (row_of parameter).most)
       → Spells (Setting parameter n)
       (codes "config " ++ ((row_of parameter).name ++ (codes " " ++ decimal n)))
@@ -46,9 +69,6 @@ pub data Spells : ScriptLine → List ℕ → Type 0 where
       (codes "bypass " ++ (decimal map ++ (codes " " ++ hex)))
   telemetry : (octets hex : List ℕ) → IsHex octets hex
       → Spells (Happening (events.Telemetry (borrow_of octets))) (codes "telemetry " ++ hex)
-  init_none : Spells (Happening (events.Directive directives.InitWithoutCheck)) (codes "init none")
-  init_check : Spells (Happening (events.Directive directives.InitWithCheck)) (codes "init check")
-  init_unlock : Spells (Happening (events.Directive directives.InitUnlock)) (codes "init unlock")
   init_set : (x : ℕ) → x ≤ 255
       → Spells (Happening (events.Directive (directives.InitSetVr x)))
       (codes "init set " ++ decimal x)
@@ -61,18 +81,7 @@ pub data Spells : ScriptLine → List ℕ → Type 0 where
       → Spells (Happening (events.Directive (directives.SetLimit x))) (codes "limit " ++ decimal x)
   timer : (x : ℕ) → x ≤ 65535
       → Spells (Happening (events.Directive (directives.SetTimer x))) (codes "timer " ++ decimal x)
-  terminate : Spells (Happening (events.Directive directives.Terminate)) (codes "terminate")
-  send : Spells (Happening events.Send) (codes "send")
-  report : Spells (Happening events.Report) (codes "report")
-  up_deliver : Spells (Happening events.UpDeliver) (codes "up deliver")
-  up_lose : Spells (Happening events.UpLose) (codes "up lose")
   up_damage : (octets hex : List ℕ) → IsHex octets hex
       → Spells (Happening (events.UpDamage (borrow_of octets))) (codes "up damage " ++ hex)
-  down_deliver : Spells (Happening events.DownDeliver) (codes "down deliver")
-  down_lose : Spells (Happening events.DownLose) (codes "down lose")
   down_damage : (octets hex : List ℕ) → IsHex octets hex
       → Spells (Happening (events.DownDamage (borrow_of octets))) (codes "down damage " ++ hex)
-  tick : Spells (Happening events.Tick) (codes "tick")
-  take : Spells (Happening events.Take) (codes "take")
-  takebypass : Spells (Happening events.TakeBypass) (codes "takebypass")
-  show : Spells Showing (codes "show")

@@ -1,8 +1,11 @@
 // A line of a script, and what is played of it.
 
-ghost use Rattle.std.specs.Prelude.{◌≡◌};
-ghost use Rattle.script_lines.specs.Lines.{carrier_of, plain_event};
+ghost use Rattle.std.specs.Prelude.{◌≡◌, [], map, option_map};
+ghost use Rattle.std.specs.Map.{lookup};
+ghost use Rattle.std.specs.Str.{bytes_eq};
+ghost use Rattle.script_lines.specs.Lines.{carrier_of, plain_event, plain_line, step_line};
 
+use crate::words::is;
 use cop1::Directive;
 use link_events::Event;
 use nodes::Parameter;
@@ -102,4 +105,36 @@ pub fn plain_event(step: Step) -> Option<Event<'static>>
         Step::Carrying(_) | Step::Show => return None,
     };
     Some(event)
+}
+
+// The step that stands beside a text.
+fn beside(text: &[u8], steps: &[(&str, Step)]) -> Option<Step>
+    ensures { option_map (λ step. step_line step []) result
+        ≡ lookup (bytes_eq text.now) (map (λ row. (row.0.now, step_line row.1 [])) steps.now) }
+{
+    let (_, step) = steps.iter().find(|row| is(text, row.0)).copied()?;
+    Some(step)
+}
+
+/// The step of a line with neither a number nor octets.
+pub(crate) fn plain_step(line: &[u8]) -> Option<Step>
+    ensures { option_map (λ step. step_line step []) result ≡ plain_line line.now }
+{
+    let steps = [
+        ("init none", Step::InitWithoutCheck),
+        ("init check", Step::InitWithCheck),
+        ("init unlock", Step::InitUnlock),
+        ("terminate", Step::Terminate),
+        ("send", Step::Send),
+        ("report", Step::Report),
+        ("up deliver", Step::UpDeliver),
+        ("up lose", Step::UpLose),
+        ("down deliver", Step::DownDeliver),
+        ("down lose", Step::DownLose),
+        ("tick", Step::Tick),
+        ("take", Step::Take),
+        ("takebypass", Step::TakeBypass),
+        ("show", Step::Show),
+    ];
+    beside(line, &steps)
 }

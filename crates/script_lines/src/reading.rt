@@ -1,11 +1,11 @@
 // Reads the lines of a script.
 
-ghost use Rattle.std.specs.Prelude.{◌≡◌, [], map, option_map, Some, IfSome};
-ghost use Rattle.script_lines.specs.Lines.{Happening, line_in, line_of_words, line_of_one_word, line_of_two_words, line_of_three_words, most_for, setting_line, numbered_directive, event_with, step_line, line_view, IsWellRead};
-ghost use Rattle.script_lines.specs.Words.{words_in, number_in_word, octets_in_word, lookup};
+ghost use Rattle.std.specs.Prelude.{◌≡◌, [], option_map, Some, IfSome};
+ghost use Rattle.script_lines.specs.Lines.{Happening, line_in, line_of_words, line_of_two_words, line_of_three_words, most_for, setting_line, event_with, step_line, line_view, IsWellRead};
+ghost use Rattle.script_lines.specs.Words.{words_in, number_in_word, octets_in_word};
 
 use crate::cutting::cut;
-use crate::line::{Carrier, Line, Step};
+use crate::line::{Carrier, Line, Step, plain_step};
 use crate::words::{is, is_octets, number_in_word};
 use nodes::Parameter;
 
@@ -18,7 +18,10 @@ pub fn read_line(line: &[u8]) -> Line<'_>
     match line {
         [] => Line::Skipped,
         [b'#', ..] => Line::Skipped,
-        _ => line_of_words(line).unwrap_or(Line::Unreadable),
+        _ => match plain_step(line) {
+            Some(step) => Line::Played(step, b""),
+            None => line_of_words(line).unwrap_or(Line::Unreadable),
+        },
     }
 }
 
@@ -27,10 +30,7 @@ fn line_of_words(line: &[u8]) -> Option<Line<'_>>
     ensures fits { IfSome result IsWellRead }
 {
     let (name, after) = cut(line, b' ');
-    let Some(after) = after else {
-        return line_of_one_word(name);
-    };
-    let (first, after) = cut(after, b' ');
+    let (first, after) = cut(after?, b' ');
     let Some(after) = after else {
         return line_of_two_words(name, first);
     };
@@ -39,32 +39,6 @@ fn line_of_words(line: &[u8]) -> Option<Line<'_>>
         None => line_of_three_words(name, first, second),
         Some(_) => None,
     }
-}
-
-fn line_of_one_word<'a>(name: &'a [u8]) -> Option<Line<'a>>
-    ensures line { option_map line_view result ≡ line_of_one_word name.now }
-    ensures fits { IfSome result IsWellRead }
-{
-    let steps = [
-        ("terminate", Step::Terminate),
-        ("send", Step::Send),
-        ("report", Step::Report),
-        ("tick", Step::Tick),
-        ("take", Step::Take),
-        ("takebypass", Step::TakeBypass),
-        ("show", Step::Show),
-    ];
-    beside(name, &steps)
-}
-
-// The line of the step that stands beside a word.
-fn beside<'a>(word: &[u8], steps: &[(&str, Step)]) -> Option<Line<'a>>
-    ensures line { option_map line_view result
-        ≡ lookup (map (λ row. (row.0.now, step_line row.1 [])) steps.now) word.now }
-    ensures fits { IfSome result IsWellRead }
-{
-    let (_, step) = steps.iter().find(|row| is(word, row.0)).copied()?;
-    plain(step)
 }
 
 fn plain<'a>(step: Step) -> Option<Line<'a>>
@@ -79,27 +53,6 @@ fn byte_in(word: &[u8]) -> Option<u8>
 {
     let number = number_in_word(word, 255)?;
     Some(number as u8)
-}
-
-fn numbered_directive<'a>(name: &'a [u8], word: &'a [u8]) -> Option<Line<'a>>
-    ensures line { option_map line_view result
-        ≡ option_map Happening (numbered_directive name.now word.now) }
-    ensures fits { IfSome result IsWellRead }
-{
-    if is(name, "vs") {
-        return plain(Step::SetVs(byte_in(word)?));
-    }
-    if is(name, "window") {
-        return plain(Step::SetWindow(byte_in(word)?));
-    }
-    if is(name, "limit") {
-        return plain(Step::SetLimit(byte_in(word)?));
-    }
-    if is(name, "timer") {
-        let ticks = number_in_word(word, 65535)?;
-        return plain(Step::SetTimer(ticks as u16));
-    }
-    None
 }
 
 fn carrier_line<'a>(carrier: Carrier, word: &'a [u8]) -> Option<Line<'a>>
@@ -117,26 +70,23 @@ fn line_of_two_words<'a>(name: &'a [u8], word: &'a [u8]) -> Option<Line<'a>>
     ensures line { option_map line_view result ≡ line_of_two_words name.now word.now }
     ensures fits { IfSome result IsWellRead }
 {
+    if is(name, "vs") {
+        return plain(Step::SetVs(byte_in(word)?));
+    }
+    if is(name, "window") {
+        return plain(Step::SetWindow(byte_in(word)?));
+    }
+    if is(name, "limit") {
+        return plain(Step::SetLimit(byte_in(word)?));
+    }
+    if is(name, "timer") {
+        let ticks = number_in_word(word, 65535)?;
+        return plain(Step::SetTimer(ticks as u16));
+    }
     if is(name, "telemetry") {
         return carrier_line(Carrier::Telemetry, word);
     }
-    if is(name, "init") {
-        let kinds = [
-            ("none", Step::InitWithoutCheck),
-            ("check", Step::InitWithCheck),
-            ("unlock", Step::InitUnlock),
-        ];
-        return beside(word, &kinds);
-    }
-    if is(name, "up") {
-        let kinds = [("deliver", Step::UpDeliver), ("lose", Step::UpLose)];
-        return beside(word, &kinds);
-    }
-    if is(name, "down") {
-        let kinds = [("deliver", Step::DownDeliver), ("lose", Step::DownLose)];
-        return beside(word, &kinds);
-    }
-    numbered_directive(name, word)
+    None
 }
 
 // The greatest number that is readable for a parameter.
