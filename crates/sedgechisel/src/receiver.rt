@@ -4,12 +4,10 @@ ghost use Rattle.std.specs.Prelude.{◌≡◌};
 ghost use Rattle.cop1.specs.Farm.{AdArrives, BdArrives, UnlockArrives, SetVrArrives, BufferReleased, verdict_of, new_farm};
 ghost use Rattle.octets.specs.Outcome.{map_ok};
 ghost use Rattle.sedgechisel.specs.Answers.{status_of, left_by};
-ghost use Rattle.sedgechisel.specs.ControlWords.{fields_of};
 ghost use Rattle.sedgechisel.specs.Receivers.{receiver_of, farm_described, farm_opened, farm_stepped, IsStepped, farm_report, answer_of, verdict_number, mode_number, flag_number};
 
-use crate::control_word::{ControlWord, fields_from};
 use crate::numbers::DAMAGED;
-use clcw::ClcwFault;
+use clcw::{Clcw, ClcwFault};
 use cop1::{Farm, FarmFields, FarmMode, Verdict};
 
 /// A receiver (CCSDS 232.1-B-2, 6.1): its window width, V(R), the flags, each 0 or 1, and FARM-B.
@@ -99,9 +97,9 @@ pub extern "C" fn sedge_farm_released(receiver: &mut Receiver) -> u8
 /// What the receiver reports for the virtual channel `vcid` (CCSDS 232.0-B-4, 4.2). Answers 0, or 255 where the
 /// receiver is damaged, or 5 `Range` where the virtual channel is not below 64.
 #[unsafe(no_mangle)]
-pub extern "C" fn sedge_farm_report(receiver: &Receiver, vcid: u8, word: &mut ControlWord) -> u8
+pub extern "C" fn sedge_farm_report(receiver: &Receiver, vcid: u8, word: &mut Clcw) -> u8
     ensures answer { result ≡ status_of (farm_report receiver.now vcid) }
-    ensures word { word.new ≡ left_by fields_of (farm_report receiver.now vcid) word.old }
+    ensures word { word.new ≡ left_by (λ found. found) (farm_report receiver.now vcid) word.old }
 {
     let Ok(farm) = described(receiver) else {
         return DAMAGED;
@@ -109,7 +107,7 @@ pub extern "C" fn sedge_farm_report(receiver: &Receiver, vcid: u8, word: &mut Co
     if vcid >= 64 {
         return ClcwFault::Range.number();
     }
-    *word = fields_from(&farm.report(vcid));
+    *word = farm.report(vcid);
     0
 }
 

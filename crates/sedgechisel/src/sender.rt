@@ -7,12 +7,11 @@ mod directing;
 ghost use Rattle.std.specs.Prelude.{◌≡◌};
 ghost use Rattle.cop1.specs.NumbersStep.{Submit, Next, Tick};
 ghost use Rattle.sedgechisel.specs.Answers.{left_by};
-ghost use Rattle.sedgechisel.specs.ControlWords.{word_of};
 ghost use Rattle.sedgechisel.specs.Receivers.{answer_of};
 ghost use Rattle.sedgechisel.specs.Senders.{kept_of, sender_opened, stepped, after_step, submitted, reported, after_report, alert_answer, next_answer, next_number, AreDescribed, IsAnswered};
 
-use crate::control_word::{ControlWord, word_from};
 use crate::numbers::ABSENT;
+use clcw::Clcw;
 use cop1::{Alert, Sender, SenderNext};
 use describing::{described, kept};
 use tc_frame::Command;
@@ -92,22 +91,22 @@ pub extern "C" fn sedge_fop_next(sender: &mut KeptSender, number: &mut u8) -> u8
 pub extern "C" fn sedge_fop_report(
     sender: &mut KeptSender,
     vcid: u8,
-    word: &ControlWord,
+    word: &Clcw,
     released: &mut u8,
 ) -> u8
     ensures answer { result ≡ answer_of
-        (λ o. alert_answer o.answer) (reported sender.old vcid (word_of word.now)) }
+        (λ o. alert_answer o.answer) (reported sender.old vcid word.now) }
     ensures released { released.new
-        ≡ left_by (λ o. o.gone) (reported sender.old vcid (word_of word.now)) released.old }
+        ≡ left_by (λ o. o.gone) (reported sender.old vcid word.now) released.old }
     ensures sender { sender.new
-        ≡ left_by kept_of (after_report sender.old vcid (word_of word.now)) sender.old }
-    ensures describes { AreDescribed sender.new (after_report sender.old vcid (word_of word.now)) }
+        ≡ left_by kept_of (after_report sender.old vcid word.now) sender.old }
+    ensures describes { AreDescribed sender.new (after_report sender.old vcid word.now) }
 {
     if word.vcid != vcid {
         return ABSENT;
     }
     step!(sender, |machine| {
-        let answer = machine.report(&word_from(word));
+        let answer = machine.report(word);
         *released = answer.released;
         number_of_alert(answer.alert)
     })
