@@ -1,6 +1,7 @@
 -- What a caller in C is answered: 0, or the number of the first fault; and what a call leaves in a
 -- struct of the caller's.
-use Rattle.std.specs.Prelude.{ℕ, List, Option, Some, None, Result, Ok, Err}
+use Rattle.std.specs.Prelude.{◌≡◌, ℕ, List, ◌++◌, drop, Option, Some, None, Result, Ok, Err}
+use Rattle.sedgechisel.specs.declared.part.Part.{Part}
 
 -- a struct has a value that no such value of a crate has
 abbrev pub damaged : ℕ
@@ -31,6 +32,29 @@ status_of (Err number) = number
 abbrev pub left_by : {A S : Type 0} → (A → S) → Result A ℕ → S → S
 left_by fields (Ok x) old = fields x
 left_by fields (Err number) old = old
+
+-- what a call answers and leaves where it writes: what spells the value that was found, or what was
+-- there
+pub record IsWritten {A S : Type 0} (fields : A → S) (found : Result A ℕ) (old new : S)
+    (number : ℕ) : Type 0 where
+  pub answer : number ≡ status_of found
+  pub left : new ≡ left_by fields found old
+
+-- what a call answers and leaves where it reads octets: the fields of the value that was found, and
+-- where its data stand in the octets; or what was there
+pub record IsRead {A S : Type 0} (fields : A → S) (place : A → Part) (found : Result A ℕ)
+    (old new : S) (old_part new_part : Part) (number : ℕ) : Type 0 where
+  pub answer : number ≡ status_of found
+  pub struct_is : new ≡ left_by fields found old
+  pub part_is : new_part ≡ left_by place found old_part
+
+-- what a call answers and leaves where it writes octets: the spelling of the value at their
+-- beginning, and how many octets that has; or what was there
+pub record IsSpelled {A : Type 0} (spelling : A → List ℕ) (total_of : A → ℕ) (taken : Result A ℕ)
+    (old new : List ℕ) (old_total new_total : ℕ) (number : ℕ) : Type 0 where
+  pub answer : number ≡ status_of taken
+  pub total_is : new_total ≡ left_by total_of taken old_total
+  pub out_is : new ≡ left_by (λ x. spelling x ++ drop (total_of x) old) taken old
 
 -- the answer of a call that has first another's answer
 abbrev pub and_then : {A B : Type 0} → Result A ℕ → (A → Result B ℕ) → Result B ℕ

@@ -1,6 +1,7 @@
 -- Space packets as C has them.
 use Rattle.std.specs.Prelude.{◌≡◌, ℕ, List, length, take, drop, ◌&&◌, ◌==◌, nat_lt, if◌then◌else◌}
 use Rattle.std.specs.Prelude.{Result, Ok, Err}
+use Rattle.octets.specs.Outcome.{map_ok}
 use Rattle.space_packet.specs.Faults.{fault_row}
 use Rattle.space_packet.specs.Layout.{PacketView, type_bit, secondary_bit}
 use Rattle.space_packet.specs.Reading.{kind_at, extent_at, packet_at}
@@ -38,9 +39,9 @@ part_of p = record { from = 6; count = length p.payload }
 
 -- ---- the calls
 
--- the packet that octets begin with, and how many octets it has
-abbrev pub packet_read : List ℕ → Result (PacketView × ℕ) ℕ
-packet_read octets = numbered fault_row (packet_at octets)
+-- the packet that octets begin with
+abbrev pub packet_read : List ℕ → Result PacketView ℕ
+packet_read octets = map_ok (λ found. found.0) (numbered fault_row (packet_at octets))
 
 -- the packet that is written where there is so much room
 abbrev pub packet_taken : PacketFields → List ℕ → ℕ → Result PacketView ℕ
@@ -57,5 +58,5 @@ total_declared octets =
 -- what the fields and the octets at the place describe is the packet that was read
 abbrev pub DescribesPacket : List ℕ → PacketFields → Part → Type 0
 DescribesPacket octets p part =
-    (view : PacketView) (n : ℕ) → packet_read octets ≡ Ok (view, n)
+    (view : PacketView) → packet_read octets ≡ Ok view
     → packet_described p (take part.count (drop part.from octets)) ≡ Ok view

@@ -1,5 +1,5 @@
 -- The receiver as C keeps it.
-use Rattle.std.specs.Prelude.{◌≡◌, ℕ, ◌%◌, Bool, true, false, not, ◌&&◌, ◌==◌, nat_lt, nat_le}
+use Rattle.std.specs.Prelude.{ℕ, ◌%◌, Bool, true, false, not, ◌&&◌, ◌==◌, nat_lt, nat_le}
 use Rattle.std.specs.Prelude.{if◌then◌else◌, Result, Ok, Err}
 use Rattle.clcw.specs.declared.word.Clcw.{Clcw}
 use Rattle.cop1.specs.declared.farm.FarmMode.{FarmMode}
@@ -10,7 +10,7 @@ use Rattle.cop1.specs.Names.{verdict_row}
 use Rattle.cop1.specs.Report.{report_of}
 use Rattle.octets.specs.Outcome.{map_ok}
 use Rattle.sedgechisel.specs.declared.receiver.Receiver.{Receiver}
-use Rattle.sedgechisel.specs.Answers.{damaged, status_of, left_by}
+use Rattle.sedgechisel.specs.Answers.{damaged, IsWritten}
 
 abbrev pub flag_number : Bool → ℕ
 flag_number true = 1
@@ -64,10 +64,9 @@ farm_opened width vr = if is_width width then Ok (new_farm width vr) else Err 1
 abbrev pub farm_stepped : Receiver → FarmEvent → Result FarmState ℕ
 farm_stepped r event = map_ok (λ s. farm_step s event) (farm_described r)
 
--- a call answers so, and leaves this in the struct, where an event came to the receiver
-pub record IsStepped (event : FarmEvent) (old new : Receiver) (number : ℕ) : Type 0 where
-  pub answer : number ≡ status_of (farm_described old)
-  pub receiver : new ≡ left_by receiver_of (farm_stepped old event) old
+-- what a call answers and leaves in the struct, where an event came to the receiver
+abbrev pub IsStepped : FarmEvent → Receiver → Receiver → ℕ → Type 0
+IsStepped event old new number = IsWritten receiver_of (farm_stepped old event) old new number
 
 -- what the receiver reports for a virtual channel; 5 Range where that is 64 or more
 abbrev pub farm_report : Receiver → ℕ → Result Clcw ℕ

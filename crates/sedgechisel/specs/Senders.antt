@@ -21,7 +21,7 @@ use Rattle.cop1.specs.Numbers.{SenderNumbers, SenderOutcome, new_sender}
 use Rattle.cop1.specs.NumbersStep.{SenderInput, SenderAnswer, Submit, Report, Direct, sender_step}
 use Rattle.octets.specs.Outcome.{map_ok}
 use Rattle.sedgechisel.specs.declared.sender.KeptSender.{KeptSender}
-use Rattle.sedgechisel.specs.Answers.{damaged, absent, status_of, left_by, and_then, if_there}
+use Rattle.sedgechisel.specs.Answers.{damaged, absent, and_then, if_there, IsWritten}
 use Rattle.sedgechisel.specs.Numbers.{found_by}
 use Rattle.sedgechisel.specs.Receivers.{flag_number}
 
@@ -149,11 +149,10 @@ abbrev pub AreDescribed : KeptSender → Result SenderNumbers ℕ → Type 0
 AreDescribed k (Ok s) = sender_described k ≡ Ok s
 AreDescribed k (Err number) = Unit {0}
 
--- a call answers so, and leaves this in the struct, where the sender was this before
+-- what a call answers and leaves in the struct, where the sender is this after it
 pub record IsAnswered (after : Result SenderNumbers ℕ) (old new : KeptSender) (number : ℕ)
     : Type 0 where
-  pub answer : number ≡ status_of after
-  pub sender : new ≡ left_by kept_of after old
+  pub written : IsWritten kept_of after old new number
   pub describes : AreDescribed new after
 
 -- ---- the calls

@@ -1,11 +1,11 @@
 // Telecommand transfer frames.
 
-ghost use Rattle.std.specs.Prelude.{◌≡◌, ◌++◌, length, drop};
+ghost use Rattle.std.specs.Prelude.{◌≡◌, length};
 ghost use Rattle.octets.specs.Outcome.{map_ok};
 ghost use Rattle.tc_frame.specs.Layout.{body_view, frame_view, segment_view};
 ghost use Rattle.tc_frame.specs.Splitting.{check_if};
 ghost use Rattle.tc_frame.specs.Writing.{total_of, spelling};
-ghost use Rattle.sedgechisel.specs.Answers.{status_of, left_by};
+ghost use Rattle.sedgechisel.specs.Answers.{IsRead, IsSpelled, IsWritten};
 ghost use Rattle.sedgechisel.specs.Commands.{segment_described, command_described, body_described, frame_described, fields_of, part_of, part_with, frame_read, frame_taken, total_declared, DescribesFrame};
 
 use crate::numbers::DAMAGED;
@@ -40,9 +40,8 @@ pub extern "C" fn sedge_tc_decode(
     frame: &mut CommandFrame,
     payload: &mut Part,
 ) -> u8
-    ensures answer { result ≡ status_of (frame_read checked octets.now) }
-    ensures frame { frame.new ≡ left_by fields_of (frame_read checked octets.now) frame.old }
-    ensures payload { payload.new ≡ left_by part_of (frame_read checked octets.now) payload.old }
+    ensures read { IsRead fields_of part_of (frame_read checked octets.now)
+        frame.old frame.new payload.old payload.new result }
 
     // So `sedge_tc_encode` writes this frame from the fields and the data there.
     ensures describes { DescribesFrame checked octets.now frame.new payload.new }
@@ -63,13 +62,9 @@ pub extern "C" fn sedge_tc_encode(
     out: &mut [u8],
     total: &mut usize,
 ) -> u8
-    ensures answer { result
-        ≡ status_of (frame_taken checked frame.now payload.now (length out.old)) }
-    ensures total { total.new ≡ left_by (total_of (check_if checked))
-        (frame_taken checked frame.now payload.now (length out.old)) total.old }
-    ensures out { let check = check_if checked in
-        out.new ≡ left_by (λ view. spelling check view ++ drop (total_of check view) out.old)
-        (frame_taken checked frame.now payload.now (length out.old)) out.old }
+    ensures { IsSpelled (spelling (check_if checked)) (total_of (check_if checked))
+        (frame_taken checked frame.now payload.now (length out.old))
+        out.old out.new total.old total.new result }
 {
     match frame_from(frame, payload) {
         Ok(described) => written!(
@@ -84,8 +79,7 @@ pub extern "C" fn sedge_tc_encode(
 /// or 5 `Length` where it declares fewer than any frame has.
 #[unsafe(no_mangle)]
 pub extern "C" fn sedge_tc_declared(octets: &[u8], checked: bool, total: &mut usize) -> u8
-    ensures answer { result ≡ status_of (total_declared checked octets.now) }
-    ensures total { total.new ≡ left_by (λ n. n) (total_declared checked octets.now) total.old }
+    ensures { IsWritten (λ n. n) (total_declared checked octets.now) total.old total.new result }
 {
     if octets.len() < 5 {
         return TcFault::Short.number();

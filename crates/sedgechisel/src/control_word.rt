@@ -1,7 +1,7 @@
 // The communications link control word.
 
-ghost use Rattle.std.specs.Prelude.{◌≡◌, length};
-ghost use Rattle.sedgechisel.specs.Answers.{status_of, left_by};
+ghost use Rattle.std.specs.Prelude.{length};
+ghost use Rattle.sedgechisel.specs.Answers.{IsWritten};
 ghost use Rattle.sedgechisel.specs.ControlWords.{word_read, word_written};
 
 use crate::numbers::WRONG_COUNT;
@@ -11,8 +11,7 @@ use clcw::Clcw;
 /// not four.
 #[unsafe(no_mangle)]
 pub extern "C" fn sedge_clcw_decode(octets: &[u8], word: &mut Clcw) -> u8
-    ensures answer { result ≡ status_of (word_read octets.now) }
-    ensures word { word.new ≡ left_by (λ found. found) (word_read octets.now) word.old }
+    ensures { IsWritten (λ found. found) (word_read octets.now) word.old word.new result }
 {
     let four = match octets {
         [first, second, third, fourth] => [*first, *second, *third, *fourth],
@@ -25,9 +24,7 @@ pub extern "C" fn sedge_clcw_decode(octets: &[u8], word: &mut Clcw) -> u8
 /// name, or 254 where the output does not have four octets.
 #[unsafe(no_mangle)]
 pub extern "C" fn sedge_clcw_encode(word: &Clcw, out: &mut [u8]) -> u8
-    ensures answer { result ≡ status_of (word_written word.now (length out.old)) }
-    ensures out { out.new
-        ≡ left_by (λ octets. octets) (word_written word.now (length out.old)) out.old }
+    ensures { IsWritten (λ octets. octets) (word_written word.now (length out.old)) out.old out.new result }
 {
     if out.len() != 4 {
         return WRONG_COUNT;

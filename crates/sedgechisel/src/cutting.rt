@@ -4,7 +4,7 @@ ghost use Rattle.std.specs.Prelude.{◌≡◌, ◌≤◌, ◌<◌, ◌+◌, ◌*
 ghost use Rattle.tc_frame.specs.Layout.{flags_code};
 ghost use Rattle.map_service.specs.Cutting.{parts_of, segments_of};
 ghost use Rattle.map_service.specs.Packets.{rest_in};
-ghost use Rattle.sedgechisel.specs.Answers.{status_of, left_by};
+ghost use Rattle.sedgechisel.specs.Answers.{status_of, left_by, IsWritten};
 ghost use Rattle.sedgechisel.specs.Cuttings.{limits_described, segments_described, segment_described, part_described, flags_for, part_at, part_in, segment_in, segment_at, DescribesSegment};
 
 use crate::numbers::{ABSENT, DAMAGED};
@@ -34,9 +34,7 @@ struct Place {
 /// `TooLong`.
 #[unsafe(no_mangle)]
 pub extern "C" fn sedge_map_count(octets: &[u8], limits: &CutLimits, segments: &mut usize) -> u8
-    ensures answer { result ≡ status_of (segments_described limits.now octets.now) }
-    ensures segments { segments.new
-        ≡ left_by length (segments_described limits.now octets.now) segments.old }
+    ensures { IsWritten length (segments_described limits.now octets.now) segments.old segments.new result }
 {
     match limits_from(limits) {
         Ok(described) => written!(segment_count(octets, &described), |count| *segments = count),

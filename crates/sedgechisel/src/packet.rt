@@ -1,10 +1,10 @@
 // Space packets.
 
-ghost use Rattle.std.specs.Prelude.{◌≡◌, ◌++◌, length, drop};
+ghost use Rattle.std.specs.Prelude.{◌≡◌, length};
 ghost use Rattle.octets.specs.Outcome.{map_ok};
 ghost use Rattle.space_packet.specs.Layout.{packet_view, type_bit, secondary_bit};
 ghost use Rattle.space_packet.specs.Writing.{total_of, spelling};
-ghost use Rattle.sedgechisel.specs.Answers.{status_of, left_by};
+ghost use Rattle.sedgechisel.specs.Answers.{IsRead, IsSpelled, IsWritten};
 ghost use Rattle.sedgechisel.specs.Packets.{packet_described, fields_of, part_of, packet_read, packet_taken, total_declared, DescribesPacket};
 
 use crate::numbers::DAMAGED;
@@ -32,11 +32,8 @@ pub extern "C" fn sedge_packet_decode(
     packet: &mut PacketFields,
     payload: &mut Part,
 ) -> u8
-    ensures answer { result ≡ status_of (packet_read octets.now) }
-    ensures packet { packet.new
-        ≡ left_by (λ found. fields_of found.0) (packet_read octets.now) packet.old }
-    ensures payload { payload.new
-        ≡ left_by (λ found. part_of found.0) (packet_read octets.now) payload.old }
+    ensures read { IsRead fields_of part_of (packet_read octets.now)
+        packet.old packet.new payload.old payload.new result }
 
     // So `sedge_packet_encode` writes this packet from the fields and the data there.
     ensures describes { DescribesPacket octets.now packet.new payload.new }
@@ -59,11 +56,8 @@ pub extern "C" fn sedge_packet_encode(
     out: &mut [u8],
     total: &mut usize,
 ) -> u8
-    ensures answer { result ≡ status_of (packet_taken packet.now payload.now (length out.old)) }
-    ensures total { total.new
-        ≡ left_by total_of (packet_taken packet.now payload.now (length out.old)) total.old }
-    ensures out { out.new ≡ left_by (λ view. spelling view ++ drop (total_of view) out.old)
-        (packet_taken packet.now payload.now (length out.old)) out.old }
+    ensures { IsSpelled spelling total_of (packet_taken packet.now payload.now (length out.old))
+        out.old out.new total.old total.new result }
 {
     match packet_from(packet, payload) {
         Ok(described) => written!(
@@ -78,8 +72,7 @@ pub extern "C" fn sedge_packet_encode(
 /// octets, or 2 `Version`, or 3 `IdleWithSecondary`.
 #[unsafe(no_mangle)]
 pub extern "C" fn sedge_packet_declared(octets: &[u8], total: &mut usize) -> u8
-    ensures answer { result ≡ status_of (total_declared octets.now) }
-    ensures total { total.new ≡ left_by (λ n. n) (total_declared octets.now) total.old }
+    ensures { IsWritten (λ n. n) (total_declared octets.now) total.old total.new result }
 {
     if octets.len() < 6 {
         return PacketFault::Truncated.number();

@@ -3,7 +3,7 @@
 ghost use Rattle.std.specs.Prelude.{◌≡◌};
 ghost use Rattle.cop1.specs.Farm.{AdArrives, BdArrives, UnlockArrives, SetVrArrives, BufferReleased, verdict_of, new_farm};
 ghost use Rattle.octets.specs.Outcome.{map_ok};
-ghost use Rattle.sedgechisel.specs.Answers.{status_of, left_by};
+ghost use Rattle.sedgechisel.specs.Answers.{left_by, IsWritten};
 ghost use Rattle.sedgechisel.specs.Receivers.{receiver_of, farm_described, farm_opened, farm_stepped, IsStepped, farm_report, answer_of, verdict_number, mode_number, flag_number};
 
 use crate::numbers::DAMAGED;
@@ -25,8 +25,7 @@ pub struct Receiver {
 /// Opens a receiver that expects `vr`, and answers 0, or 1 `Width` where the width is not even, 2 to 254.
 #[unsafe(no_mangle)]
 pub extern "C" fn sedge_farm_open(receiver: &mut Receiver, width: u8, vr: u8) -> u8
-    ensures answer { result ≡ status_of (farm_opened width vr) }
-    ensures receiver { receiver.new ≡ left_by receiver_of (farm_opened width vr) receiver.old }
+    ensures { IsWritten receiver_of (farm_opened width vr) receiver.old receiver.new result }
 {
     written!(Farm::new(width, vr), |farm| *receiver = kept(&farm))
 }
@@ -98,8 +97,7 @@ pub extern "C" fn sedge_farm_released(receiver: &mut Receiver) -> u8
 /// receiver is damaged, or 5 `Range` where the virtual channel is not below 64.
 #[unsafe(no_mangle)]
 pub extern "C" fn sedge_farm_report(receiver: &Receiver, vcid: u8, word: &mut Clcw) -> u8
-    ensures answer { result ≡ status_of (farm_report receiver.now vcid) }
-    ensures word { word.new ≡ left_by (λ found. found) (farm_report receiver.now vcid) word.old }
+    ensures { IsWritten (λ found. found) (farm_report receiver.now vcid) word.old word.new result }
 {
     let Ok(farm) = described(receiver) else {
         return DAMAGED;

@@ -1,10 +1,10 @@
 // Telemetry transfer frames.
 
-ghost use Rattle.std.specs.Prelude.{◌≡◌, ◌<◌, ◌++◌, length, drop, IsTrue};
-ghost use Rattle.tm_link.specs.Layout.{frame_view, pointer_number, pointer_fits};
+ghost use Rattle.std.specs.Prelude.{◌≡◌, length};
+ghost use Rattle.tm_link.specs.Layout.{frame_view, pointer_number};
 ghost use Rattle.tm_link.specs.Reading.{pointer_at};
 ghost use Rattle.tm_link.specs.Writing.{total_of, spelling};
-ghost use Rattle.sedgechisel.specs.Answers.{status_of, left_by};
+ghost use Rattle.sedgechisel.specs.Answers.{IsRead, IsSpelled};
 ghost use Rattle.sedgechisel.specs.Telemetry.{frame_described, fields_of, part_of, frame_read, frame_taken, DescribesFrame};
 
 use crate::part::Part;
@@ -32,9 +32,8 @@ pub extern "C" fn sedge_tm_decode(
     frame: &mut ReportFrame,
     payload: &mut Part,
 ) -> u8
-    ensures answer { result ≡ status_of (frame_read length octets.now) }
-    ensures frame { frame.new ≡ left_by fields_of (frame_read length octets.now) frame.old }
-    ensures payload { payload.new ≡ left_by part_of (frame_read length octets.now) payload.old }
+    ensures read { IsRead fields_of part_of (frame_read length octets.now)
+        frame.old frame.new payload.old payload.new result }
 
     // So `sedge_tm_encode` writes this frame from the fields and the data there.
     ensures describes { DescribesFrame length octets.now frame.new payload.new }
@@ -57,11 +56,8 @@ pub extern "C" fn sedge_tm_encode(
     out: &mut [u8],
     total: &mut usize,
 ) -> u8
-    ensures answer { result ≡ status_of (frame_taken frame.now payload.now (length out.old)) }
-    ensures total { total.new
-        ≡ left_by total_of (frame_taken frame.now payload.now (length out.old)) total.old }
-    ensures out { out.new ≡ left_by (λ view. spelling view ++ drop (total_of view) out.old)
-        (frame_taken frame.now payload.now (length out.old)) out.old }
+    ensures { IsSpelled spelling total_of (frame_taken frame.now payload.now (length out.old))
+        out.old out.new total.old total.new result }
 {
     written!(
         tm_link::encode(&frame_from(frame, payload), out),

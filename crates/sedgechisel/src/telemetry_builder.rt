@@ -1,11 +1,11 @@
 // Building telemetry frames of packets in the caller's memory.
 
-ghost use Rattle.std.specs.Prelude.{◌≡◌, ◌≤◌, ◌+◌, ◌-◌, ◌++◌, ◌==◌, ℕ, List, [], length, take, drop, map, true, Ok, IfOk, OnErr, IfSome, is_some};
+ghost use Rattle.std.specs.Prelude.{◌≡◌, ◌≤◌, ◌+◌, ◌-◌, ◌++◌, ◌==◌, ℕ, List, [], length, take, map, true, Ok, IfOk, OnErr, IfSome, is_some};
 ghost use Rattle.space_packet.specs.Packets.{packets_in};
 ghost use Rattle.tm_link.specs.Building.{left_after, after_send, after_fill, with_next_count};
 ghost use Rattle.tm_link.specs.Layout.{IsTmFrame};
 ghost use Rattle.tm_link.specs.Writing.{spelling};
-ghost use Rattle.sedgechisel.specs.Answers.{status_of, left_by};
+ghost use Rattle.sedgechisel.specs.Answers.{status_of, IsSpelled};
 ghost use Rattle.sedgechisel.specs.Builders.{pending_of, has_numbers, is_builder, state_of, builder_described, builder_opened, queued_at, built_at, turn_of};
 
 use crate::assembly::add;
@@ -98,12 +98,9 @@ pub extern "C" fn sedge_tm_builder_build(
     out: &mut [u8],
     total: &mut usize,
 ) -> u8
-    ensures answer { result
-        ≡ status_of (built_at builder.old ocf.now memory.now (length out.old)) }
-    ensures total { total.new ≡ left_by (λ r. builder.old.length)
-        (built_at builder.old ocf.now memory.now (length out.old)) total.old }
-    ensures out { out.new ≡ left_by (λ r. spelling r.0 ++ drop builder.old.length out.old)
-        (built_at builder.old ocf.now memory.now (length out.old)) out.old }
+    ensures spelled { IsSpelled (λ r. spelling r.0) (λ r. builder.old.length)
+        (built_at builder.old ocf.now memory.now (length out.old))
+        out.old out.new total.old total.new result }
 
     // So `sedge_tm_decode` reads this frame.
     ensures spells { IfOk (built_at builder.old ocf.now memory.now (length out.old))

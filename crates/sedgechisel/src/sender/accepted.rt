@@ -1,8 +1,7 @@
 // What a report says of the units that are not acknowledged (CCSDS 232.1-B-2, 5.1).
 
-ghost use Rattle.std.specs.Prelude.{◌≡◌};
 ghost use Rattle.cop1.specs.Accepted.{accepted_beyond};
-ghost use Rattle.sedgechisel.specs.Answers.{status_of, left_by, if_there};
+ghost use Rattle.sedgechisel.specs.Answers.{if_there, IsWritten};
 ghost use Rattle.sedgechisel.specs.Senders.{accepted_by};
 
 use super::KeptSender;
@@ -15,8 +14,7 @@ use cop1::accepted_beyond;
 /// beyond V(S), and nothing is written then.
 #[unsafe(no_mangle)]
 pub extern "C" fn sedge_fop_accepted_beyond(sender: &KeptSender, value: u8, accepted: &mut u8) -> u8
-    ensures answer { result ≡ status_of (accepted_by sender.now value) }
-    ensures accepted { accepted.new ≡ left_by (λ n. n) (accepted_by sender.now value) accepted.old }
+    ensures { IsWritten (λ n. n) (accepted_by sender.now value) accepted.old accepted.new result }
 {
     match described(sender) {
         Ok(machine) => {
@@ -31,17 +29,13 @@ pub extern "C" fn sedge_fop_accepted_beyond(sender: &KeptSender, value: u8, acce
 /// nothing is written then.
 #[unsafe(no_mangle)]
 pub extern "C" fn sedge_accepted_beyond(nn: u8, vs: u8, value: u8, accepted: &mut u8) -> u8
-    ensures answer { result ≡ status_of (if_there (accepted_beyond nn vs value)) }
-    ensures accepted { accepted.new
-        ≡ left_by (λ n. n) (if_there (accepted_beyond nn vs value)) accepted.old }
+    ensures { IsWritten (λ n. n) (if_there (accepted_beyond nn vs value)) accepted.old accepted.new result }
 {
     write_accepted(nn, vs, value, accepted)
 }
 
 fn write_accepted(nn: u8, vs: u8, value: u8, accepted: &mut u8) -> u8
-    ensures answer { result ≡ status_of (if_there (accepted_beyond nn vs value)) }
-    ensures accepted { accepted.new
-        ≡ left_by (λ n. n) (if_there (accepted_beyond nn vs value)) accepted.old }
+    ensures { IsWritten (λ n. n) (if_there (accepted_beyond nn vs value)) accepted.old accepted.new result }
 {
     match accepted_beyond(nn, vs, value) {
         Some(count) => {
