@@ -11,19 +11,22 @@ use space_packet::PacketFault;
 use tc_frame::TcFault;
 use tm_link::TmFault;
 
+// The name of the one of these that has the number; "?" where none has it.
+macro_rules! named {
+    ($number:ident, $kind:ident: $($at:literal => $one:ident),+) => {
+        match $number {
+            $($at => spelled($kind::$one.name()),)+
+            _ => spelled("?"),
+        }
+    };
+}
+
 /// A fault of control words, by its number.
 #[unsafe(no_mangle)]
 pub extern "C" fn sedge_clcw_fault_name(fault: u8) -> Text
     ensures { result.text ≡ text_of (clcw_fault_word fault) }
 {
-    match fault {
-        1 => spelled(ClcwFault::Kind.name()),
-        2 => spelled(ClcwFault::Version.name()),
-        3 => spelled(ClcwFault::Cop.name()),
-        4 => spelled(ClcwFault::Spare.name()),
-        5 => spelled(ClcwFault::Range.name()),
-        _ => spelled("?"),
-    }
+    named!(fault, ClcwFault: 1 => Kind, 2 => Version, 3 => Cop, 4 => Spare, 5 => Range)
 }
 
 /// A refusal of the receiver or of the sender, by its number.
@@ -31,18 +34,9 @@ pub extern "C" fn sedge_clcw_fault_name(fault: u8) -> Text
 pub extern "C" fn sedge_cop_fault_name(fault: u8) -> Text
     ensures { result.text ≡ text_of (cop_fault_word fault) }
 {
-    match fault {
-        1 => spelled(CopFault::Width.name()),
-        2 => spelled(CopFault::Window.name()),
-        3 => spelled(CopFault::Limit.name()),
-        4 => spelled(CopFault::Timer.name()),
-        5 => spelled(CopFault::Memory.name()),
-        6 => spelled(CopFault::NotOpen.name()),
-        7 => spelled(CopFault::Busy.name()),
-        8 => spelled(CopFault::WrongState.name()),
-        9 => spelled(CopFault::State.name()),
-        _ => spelled("?"),
-    }
+    named!(fault, CopFault:
+        1 => Width, 2 => Window, 3 => Limit, 4 => Timer, 5 => Memory, 6 => NotOpen, 7 => Busy,
+        8 => WrongState, 9 => State)
 }
 
 /// A verdict of the receiver, by its number.
@@ -50,15 +44,8 @@ pub extern "C" fn sedge_cop_fault_name(fault: u8) -> Text
 pub extern "C" fn sedge_verdict_name(verdict: u8) -> Text
     ensures { result.text ≡ text_of (verdict_word verdict) }
 {
-    match verdict {
-        0 => spelled(Verdict::Accepted.name()),
-        1 => spelled(Verdict::Ahead.name()),
-        2 => spelled(Verdict::NoBuffer.name()),
-        3 => spelled(Verdict::Behind.name()),
-        4 => spelled(Verdict::Outside.name()),
-        5 => spelled(Verdict::Discarded.name()),
-        _ => spelled("?"),
-    }
+    named!(verdict, Verdict:
+        0 => Accepted, 1 => Ahead, 2 => NoBuffer, 3 => Behind, 4 => Outside, 5 => Discarded)
 }
 
 /// An alert of the sender, by its number.
@@ -66,16 +53,8 @@ pub extern "C" fn sedge_verdict_name(verdict: u8) -> Text
 pub extern "C" fn sedge_alert_name(alert: u8) -> Text
     ensures { result.text ≡ text_of (alert_word alert) }
 {
-    match alert {
-        1 => spelled(Alert::Lockout.name()),
-        2 => spelled(Alert::NnR.name()),
-        3 => spelled(Alert::Clcw.name()),
-        4 => spelled(Alert::Synch.name()),
-        5 => spelled(Alert::Limit.name()),
-        6 => spelled(Alert::Timer.name()),
-        7 => spelled(Alert::Terminated.name()),
-        _ => spelled("?"),
-    }
+    named!(alert, Alert:
+        1 => Lockout, 2 => NnR, 3 => Clcw, 4 => Synch, 5 => Limit, 6 => Timer, 7 => Terminated)
 }
 
 /// A fault of telecommand frames, by its number.
@@ -83,21 +62,9 @@ pub extern "C" fn sedge_alert_name(alert: u8) -> Text
 pub extern "C" fn sedge_tc_fault_name(fault: u8) -> Text
     ensures { result.text ≡ text_of (tc_fault_word fault) }
 {
-    match fault {
-        1 => spelled(TcFault::Short.name()),
-        2 => spelled(TcFault::Version.name()),
-        3 => spelled(TcFault::ReservedType.name()),
-        4 => spelled(TcFault::Spare.name()),
-        5 => spelled(TcFault::Length.name()),
-        6 => spelled(TcFault::Check.name()),
-        7 => spelled(TcFault::BypassNumber.name()),
-        8 => spelled(TcFault::EmptyData.name()),
-        9 => spelled(TcFault::Command.name()),
-        10 => spelled(TcFault::Room.name()),
-        11 => spelled(TcFault::FieldRange.name()),
-        12 => spelled(TcFault::Memory.name()),
-        _ => spelled("?"),
-    }
+    named!(fault, TcFault:
+        1 => Short, 2 => Version, 3 => ReservedType, 4 => Spare, 5 => Length, 6 => Check,
+        7 => BypassNumber, 8 => EmptyData, 9 => Command, 10 => Room, 11 => FieldRange, 12 => Memory)
 }
 
 /// A fault of space packets, by its number.
@@ -105,15 +72,9 @@ pub extern "C" fn sedge_tc_fault_name(fault: u8) -> Text
 pub extern "C" fn sedge_packet_fault_name(fault: u8) -> Text
     ensures { result.text ≡ text_of (packet_fault_word fault) }
 {
-    match fault {
-        1 => spelled(PacketFault::Truncated.name()),
-        2 => spelled(PacketFault::Version.name()),
-        3 => spelled(PacketFault::IdleWithSecondary.name()),
-        4 => spelled(PacketFault::Room.name()),
-        5 => spelled(PacketFault::FieldRange.name()),
-        6 => spelled(PacketFault::Memory.name()),
-        _ => spelled("?"),
-    }
+    named!(fault, PacketFault:
+        1 => Truncated, 2 => Version, 3 => IdleWithSecondary, 4 => Room, 5 => FieldRange,
+        6 => Memory)
 }
 
 /// A fault of telemetry frames, by its number.
@@ -121,19 +82,9 @@ pub extern "C" fn sedge_packet_fault_name(fault: u8) -> Text
 pub extern "C" fn sedge_tm_fault_name(fault: u8) -> Text
     ensures { result.text ≡ text_of (tm_fault_word fault) }
 {
-    match fault {
-        1 => spelled(TmFault::Length.name()),
-        2 => spelled(TmFault::Version.name()),
-        3 => spelled(TmFault::Check.name()),
-        4 => spelled(TmFault::Status.name()),
-        5 => spelled(TmFault::Pointer.name()),
-        6 => spelled(TmFault::NoOcf.name()),
-        7 => spelled(TmFault::Memory.name()),
-        8 => spelled(TmFault::NotAPacket.name()),
-        9 => spelled(TmFault::Room.name()),
-        10 => spelled(TmFault::FieldRange.name()),
-        _ => spelled("?"),
-    }
+    named!(fault, TmFault:
+        1 => Length, 2 => Version, 3 => Check, 4 => Status, 5 => Pointer, 6 => NoOcf, 7 => Memory,
+        8 => NotAPacket, 9 => Room, 10 => FieldRange)
 }
 
 /// Why octets are not cut, by its number.
@@ -141,12 +92,7 @@ pub extern "C" fn sedge_tm_fault_name(fault: u8) -> Text
 pub extern "C" fn sedge_map_fault_name(fault: u8) -> Text
     ensures { result.text ≡ text_of (map_fault_word fault) }
 {
-    match fault {
-        1 => spelled(MapFault::NotAPacket.name()),
-        2 => spelled(MapFault::TooLong.name()),
-        3 => spelled(MapFault::Memory.name()),
-        _ => spelled("?"),
-    }
+    named!(fault, MapFault: 1 => NotAPacket, 2 => TooLong, 3 => Memory)
 }
 
 /// Why what came on a MAP was dropped, by its number.
@@ -154,12 +100,6 @@ pub extern "C" fn sedge_map_fault_name(fault: u8) -> Text
 pub extern "C" fn sedge_dropped_name(cause: u8) -> Text
     ensures { result.text ≡ text_of (dropped_word cause) }
 {
-    match cause {
-        1 => spelled(Dropped::ClosedMap.name()),
-        2 => spelled(Dropped::Interrupted.name()),
-        3 => spelled(Dropped::NoBeginning.name()),
-        4 => spelled(Dropped::NotAPacket.name()),
-        5 => spelled(Dropped::TooLong.name()),
-        _ => spelled("?"),
-    }
+    named!(cause, Dropped:
+        1 => ClosedMap, 2 => Interrupted, 3 => NoBeginning, 4 => NotAPacket, 5 => TooLong)
 }
