@@ -15,8 +15,8 @@ macro_rules! written {
     };
 }
 
-// What a call makes of the receiver or the sender that the fields describe, and its answer; the fields describe it again
-// afterwards.
+// What a call makes of the receiver or the sender that the fields describe, and its answer; the fields describe it
+// again afterwards.
 macro_rules! step {
     ($fields:ident, |$machine:ident| $call:expr) => {
         match described($fields) {

@@ -84,9 +84,9 @@ pub extern "C" fn sedge_fop_next(sender: &mut KeptSender, number: &mut u8) -> u8
     })
 }
 
-/// A control word has come, and the sender is that of the virtual channel `vcid`. Answers the alert's number, 0 for none,
-/// and how many units are acknowledged; or 253 where the word reports on another channel, or 255 where the sender is
-/// damaged.
+/// A control word has come, and the sender is that of the virtual channel `vcid`. Answers the alert's number, 0 for
+/// none, and how many units are acknowledged; or 253 where the word reports on another channel, or 255 where the sender
+/// is damaged.
 #[unsafe(no_mangle)]
 pub extern "C" fn sedge_fop_report(
     sender: &mut KeptSender,

@@ -10,8 +10,8 @@ use crate::numbers::ABSENT;
 use cop1::accepted_beyond;
 
 /// How many of the units that were sent and not acknowledged were accepted on board when a report of this value was
-/// made, the oldest ones; after an alert too. Answers 0, or 255 where the sender is damaged, or 253 where the value lies
-/// beyond V(S), and nothing is written then.
+/// made, the oldest ones; after an alert too. Answers 0, or 255 where the sender is damaged, or 253 where the value
+/// lies beyond V(S), and nothing is written then.
 #[unsafe(no_mangle)]
 pub extern "C" fn sedge_fop_accepted_beyond(sender: &KeptSender, value: u8, accepted: &mut u8) -> u8
     ensures { IsWritten (λ n. n) (accepted_by sender.now value) accepted.old accepted.new result }
