@@ -7,7 +7,6 @@ pub mod Extractors
 pub mod Fields
 pub mod Maps
 pub mod Names
-pub mod Numbers
 pub mod Packets
 pub mod Receivers
 pub mod Senders

@@ -16,7 +16,7 @@ use Rattle.sedgechisel.specs.declared.assembly.TakenSegment.{TakenSegment}
 use Rattle.sedgechisel.specs.declared.part.Part.{Part}
 use Rattle.sedgechisel.specs.Answers.{damaged}
 use Rattle.map_service.specs.Causes.{cause_row}
-use Rattle.sedgechisel.specs.Numbers.{found_by}
+use Rattle.c_words.specs.Words.{found_by}
 
 -- ---- what the structs describe
 

@@ -1,6 +1,6 @@
 -- The words for numbers, which are those of the crates.
-use Rattle.std.specs.Prelude.{ℕ, List, [], ◌∷◌, ◌++◌, ◌-◌, length, replicate, codes, Option, Some}
-use Rattle.std.specs.Prelude.{None}
+use Rattle.std.specs.Prelude.{ℕ, List, [], ◌∷◌}
+use Rattle.c_words.specs.Words.{name_if, name_by}
 use Rattle.clcw.specs.declared.fault.ClcwFault.TheVariants as clcw
 use Rattle.clcw.specs.Faults as clcw_faults
 use Rattle.cop1.specs.declared.fault.CopFault.TheVariants as cop
@@ -18,20 +18,6 @@ use Rattle.map_service.specs.declared.fault.MapFault.TheVariants as map
 use Rattle.map_service.specs.Faults as map_faults
 use Rattle.map_service.specs.Causes.{cause_row}
 use Rattle.sedgechisel.specs.Maps.{cause_at}
-use Rattle.sedgechisel.specs.Numbers.{found_by}
-
--- a word, and zeros up to 20 octets
-abbrev pub text_of : List ℕ → List ℕ
-text_of word = word ++ replicate (20 - length word) 0
-
--- the name, and "?" for none
-abbrev pub name_if : {A : Type 0} → (A → ℕ × List ℕ) → Option A → List ℕ
-name_if row None = codes "?"
-name_if row (Some x) = (row x).1
-
--- the name of the one of these that has the number
-abbrev pub name_by : {A : Type 0} → (A → ℕ × List ℕ) → List A → ℕ → List ℕ
-name_by row xs n = name_if row (found_by (λ x. (row x).0) xs n)
 
 abbrev pub clcw_fault_word : ℕ → List ℕ
 clcw_fault_word n =

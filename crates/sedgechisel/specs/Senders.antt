@@ -22,7 +22,7 @@ use Rattle.cop1.specs.NumbersStep.{SenderInput, SenderAnswer, Submit, Report, Di
 use Rattle.octets.specs.Outcome.{map_ok}
 use Rattle.sedgechisel.specs.declared.sender.KeptSender.{KeptSender}
 use Rattle.sedgechisel.specs.Answers.{damaged, absent, and_then, if_there, IsWritten}
-use Rattle.sedgechisel.specs.Numbers.{found_by}
+use Rattle.c_words.specs.Words.{found_by}
 use Rattle.sedgechisel.specs.Receivers.{flag_number}
 
 -- ---- from a sender to fields

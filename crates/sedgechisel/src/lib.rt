@@ -50,4 +50,4 @@ mod report_frame;
 mod sender;
 mod telemetry_builder;
 mod telemetry_extractor;
-mod text;
+mod version;

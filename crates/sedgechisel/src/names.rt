@@ -1,25 +1,16 @@
 // The names of numbers, as the crates give them; "?" for a number that is none.
 
 ghost use Rattle.std.specs.Prelude.{◌≡◌};
-ghost use Rattle.sedgechisel.specs.Names.{text_of, clcw_fault_word, cop_fault_word, verdict_word, alert_word, tc_fault_word, packet_fault_word, tm_fault_word, map_fault_word, dropped_word};
+ghost use Rattle.c_words.specs.Words.{text_of};
+ghost use Rattle.sedgechisel.specs.Names.{clcw_fault_word, cop_fault_word, verdict_word, alert_word, tc_fault_word, packet_fault_word, tm_fault_word, map_fault_word, dropped_word};
 
-use crate::text::{Text, spelled};
+use c_words::{Text, named};
 use clcw::ClcwFault;
 use cop1::{Alert, CopFault, Verdict};
 use map_service::{Dropped, MapFault};
 use space_packet::PacketFault;
 use tc_frame::TcFault;
 use tm_link::TmFault;
-
-// The name of the one of these that has the number; "?" where none has it.
-macro_rules! named {
-    ($number:ident, $kind:ident: $($at:literal => $one:ident),+) => {
-        match $number {
-            $($at => spelled($kind::$one.name()),)+
-            _ => spelled("?"),
-        }
-    };
-}
 
 /// A fault of control words, by its number.
 #[unsafe(no_mangle)]

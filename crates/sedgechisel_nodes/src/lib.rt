@@ -37,4 +37,3 @@ mod room;
 mod sim;
 mod spacecraft;
 mod taking;
-mod text;

@@ -1,0 +1,33 @@
+//! The words that both libraries for C hand out.
+#![tactic(auto)]
+
+ghost use Rattle.std.specs.Prelude.{◌≡◌, ◌≤◌, length};
+ghost use Rattle.c_words.specs.Words.{text_of};
+
+/// A word of at most 19 octets, with zeros after it.
+#[repr(C)]
+#[derive(Clone, Copy)]
+pub struct Text {
+    pub text: [u8; 20],
+}
+
+/// The word as C has it.
+pub fn spelled(word: &str) -> Text
+    requires { length word.now ≤ 19 }
+    ensures { result.text ≡ text_of word.now }
+{
+    let mut text = [0; 20];
+    text[..word.len()].copy_from_slice(word.as_bytes());
+    Text { text }
+}
+
+/// The name of the one of these that has the number; "?" where none has it.
+#[macro_export]
+macro_rules! named {
+    ($number:ident, $kind:ident: $($at:literal => $one:ident),+) => {
+        match $number {
+            $($at => $crate::spelled($kind::$one.name()),)+
+            _ => $crate::spelled("?"),
+        }
+    };
+}
