@@ -5,22 +5,4 @@
 #![tactic(auto)]
 
 #[cfg(test)]
-mod configs;
-#[cfg(test)]
-mod equal;
-#[cfg(test)]
-mod frames;
-#[cfg(test)]
-mod full_queues;
-#[cfg(test)]
-mod link;
-#[cfg(test)]
-mod no_memory;
-#[cfg(test)]
-mod node_calls;
-#[cfg(test)]
-mod refusing;
-#[cfg(test)]
-mod scripts;
-#[cfg(test)]
-mod streams;
+mod tests;

@@ -3,20 +3,4 @@
 #![tactic(auto)]
 
 #[cfg(test)]
-mod accounts;
-#[cfg(test)]
-mod driver;
-#[cfg(test)]
-mod packets;
-#[cfg(test)]
-mod pair;
-#[cfg(test)]
-mod random;
-#[cfg(test)]
-mod ranges;
-#[cfg(test)]
-mod scripts;
-#[cfg(test)]
-mod streams;
-#[cfg(test)]
-mod telemetry;
+mod tests;

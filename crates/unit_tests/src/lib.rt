@@ -5,28 +5,4 @@
 #![tactic(auto)]
 
 #[cfg(test)]
-mod as_octets;
-#[cfg(test)]
-mod checking;
-#[cfg(test)]
-mod control_words;
-#[cfg(test)]
-mod equal;
-#[cfg(test)]
-mod frames;
-#[cfg(test)]
-mod no_memory;
-#[cfg(test)]
-mod packets;
-#[cfg(test)]
-mod receiver;
-#[cfg(test)]
-mod refusing;
-#[cfg(test)]
-mod segments;
-#[cfg(test)]
-mod sender;
-#[cfg(test)]
-mod splitting;
-#[cfg(test)]
-mod telemetry;
+mod tests;

@@ -1,0 +1,277 @@
+// The node on the ground.
+
+use super::playing::{Node, plays};
+use crate::tests::configs::{with_frames, with_parts};
+use crate::tests::equal::equal;
+use crate::tests::frames::*;
+use crate::tests::refusing::{answer_of, says_refused};
+use cop1::{Alert, CopFault, Directive, FopMode};
+use nodes::ValidConfig;
+use std::alloc::Global;
+use std::process::Abort;
+use tc_frame::{Check, encode};
+use tc_link::{Config, Ground, Heard, HeardReport, LinkFault};
+use tm_link::{Gap, Pointer, TmFault, decode};
+
+/// A call of a ground, and what it answers.
+#[derive(Clone, Copy)]
+pub enum Ask<'a> {
+    Submit(&'a [u8], Result<(), LinkFault>),
+    Bypass(&'a [u8], Result<(), LinkFault>),
+    Directive(Directive, Result<Option<Alert>, CopFault>),
+    Pull(Option<&'a [u8]>),
+    Advance,
+    Tick(Option<Alert>),
+    Telemetry(&'a [u8], Heard),
+    TakeTelemetry(Option<&'a [u8]>),
+    // What a report of this value says was accepted.
+    AcceptedBeyond(u8, Option<u8>),
+}
+
+/// The sender's state, V(S), NN(R), and how many segments are not acknowledged.
+pub type Standing = (FopMode, u8, u8, usize);
+
+impl<'a> Node<(Ask<'a>, Standing)> for Ground {
+    fn create(alloc: Global, config: &ValidConfig) -> Result<Ground, LinkFault> {
+        Ground::of(alloc, config)
+    }
+
+    fn length_of_frames(&self) -> usize {
+        self.frame_length()
+    }
+
+    fn answers(&mut self, rt: &(impl Abort + Eprint), call: &(Ask<'a>, Standing)) {
+        let (ask, standing) = call;
+        answers(rt, self, ask);
+        equal(rt, &seen(self), standing);
+    }
+}
+
+fn answers(rt: &(impl Abort + Eprint), ground: &mut Ground, ask: &Ask<'_>) {
+    match ask {
+        Ask::Submit(octets, want) => equal(rt, &submit(rt, ground, octets), want),
+        Ask::Bypass(octets, want) => equal(rt, &put(rt, ground, true, octets), want),
+        Ask::Directive(directive, want) => obeys(rt, ground, *directive, *want),
+        Ask::Pull(want) => pulls(rt, ground, *want),
+        Ask::Advance => ground.advance(),
+        Ask::Tick(want) => equal(rt, &ground.tick(), want),
+        Ask::Telemetry(octets, want) => equal(rt, &telemetry(rt, ground, octets), &Ok(*want)),
+        Ask::TakeTelemetry(want) => takes(rt, ground, *want),
+        Ask::AcceptedBeyond(value, want) => {
+            equal(rt, &ground.accepted_beyond(*value), want);
+        }
+    }
+}
+
+fn obeys(
+    rt: &impl Abort,
+    ground: &mut Ground,
+    directive: Directive,
+    want: Result<Option<Alert>, CopFault>,
+) {
+    equal(rt, &ground.directive(directive), &want);
+}
+
+/// Takes this packet of telemetry, or there is none.
+pub fn takes(rt: &impl Abort, ground: &mut Ground, want: Option<&[u8]>) {
+    let taken = ground.take_telemetry();
+    assert!(rt; taken.as_ref().map(|taken| taken.as_slice()) == want);
+}
+
+/// A new ground answers the calls of these rows so, and stands so after each.
+pub fn asks(
+    rt: &(impl Abort + Eprint),
+    alloc: Global,
+    config: &Config,
+    rows: &[(Ask<'_>, Standing)],
+) {
+    plays::<Ground, _>(rt, alloc, config, rows);
+}
+
+// All that the reading calls show.
+fn seen(ground: &Ground) -> Standing {
+    (
+        ground.state(),
+        ground.vs(),
+        ground.nn(),
+        ground.outstanding(),
+    )
+}
+
+// What `prepare` refuses, on MAP 4.
+fn fault_of(rt: &(impl Abort + Eprint), ground: &Ground, octets: &[u8]) -> Option<LinkFault> {
+    match ground.prepare(4, octets) {
+        Err(LinkFault::Memory) => {
+            says_refused(rt, LinkFault::Memory.number(), 6);
+            ground.prepare(4, octets).err()
+        }
+        prepared => prepared.err(),
+    }
+}
+
+// Submits what was prepared: the answers are the same.
+fn submit(rt: &(impl Abort + Eprint), ground: &mut Ground, octets: &[u8]) -> Result<(), LinkFault> {
+    let fault = fault_of(rt, ground, octets);
+    let answer = put(rt, ground, false, octets);
+    equal(rt, &answer.err(), &fault);
+    answer
+}
+
+// Submits on MAP 4, or passes the sequence control.
+fn put(
+    rt: &(impl Abort + Eprint),
+    ground: &mut Ground,
+    bypass: bool,
+    octets: &[u8],
+) -> Result<(), LinkFault> {
+    let put = |ground: &mut Ground| match bypass {
+        true => ground.bypass(4, octets),
+        false => ground.submit(4, octets),
+    };
+    answer_of(rt, ground, seen, Some(LinkFault::Memory), put)
+}
+
+// Receives. Octets that are no frame, and frames of only idle data, take no memory.
+fn telemetry(
+    rt: &(impl Abort + Eprint),
+    ground: &mut Ground,
+    octets: &[u8],
+) -> Result<Heard, LinkFault> {
+    let hear = |ground: &mut Ground| ground.telemetry(octets);
+    answer_of(rt, ground, seen, refusal_of(octets), hear)
+}
+
+// The fault for want of memory, where octets are a frame with packets.
+fn refusal_of(octets: &[u8]) -> Option<LinkFault> {
+    match decode(octets, octets.len()) {
+        Ok(frame) if frame.pointer != Pointer::OnlyIdle => Some(LinkFault::Memory),
+        _ => None,
+    }
+}
+
+// Pulls the frame that is peeked at before. Octets past it stay.
+fn pulls(rt: &impl Abort, ground: &mut Ground, want: Option<&[u8]>) {
+    let mut peeked = [0; 1024];
+    let total = peek(ground, &mut peeked);
+    let mut out = [0; 1024];
+    let size = ground.pull(&mut out);
+    equal(rt, &size, &total);
+    assert!(rt; out == peeked);
+    assert!(rt; size.and_then(|size| out.get(..size)) == want);
+}
+
+// Writes the frame that goes next: how many octets it has.
+fn peek(ground: &Ground, out: &mut [u8; 1024]) -> Option<usize> {
+    match ground.peek() {
+        Some(frame) => encode(&frame, Check::On, out).ok(),
+        None => None,
+    }
+}
+
+/// A frame of this channel whose report goes to the sender.
+pub fn heard(gap: Gap, packets: usize) -> Heard {
+    Heard::Frame {
+        gap,
+        packets,
+        report: HeardReport::Used,
+        alert: None,
+    }
+}
+
+const NOT_OPEN: Result<(), LinkFault> = Err(LinkFault::NotOpen);
+
+const INIT: Ask<'static> = Ask::Directive(Directive::InitWithoutCheck, Ok(None));
+
+#[test]
+fn both_ways(rt: HostRuntime) {
+    use FopMode::{S1, S6};
+    let window = Ask::Directive(Directive::SetWindow(128), Err(CopFault::Window));
+    let terminate = Ask::Directive(Directive::Terminate, Ok(Some(Alert::Terminated)));
+    let rows = [
+        (Ask::Submit(&P0, NOT_OPEN), (S6, 0, 0, 0)),
+        (INIT, (S1, 0, 0, 0)),
+        (Ask::Submit(&P0, Ok(())), (S1, 0, 0, 1)),
+        (Ask::Submit(&P1, Ok(())), (S1, 0, 0, 2)),
+        (Ask::Bypass(&P1, Ok(())), (S1, 0, 0, 2)),
+        (Ask::Pull(Some(&BD_1)), (S1, 0, 0, 2)),
+        (Ask::Pull(Some(&AD_0)), (S1, 1, 0, 2)),
+        (Ask::Tick(None), (S1, 1, 0, 2)),
+        (
+            Ask::Telemetry(&WITH_P0, heard(Gap::First, 1)),
+            (S1, 1, 0, 2),
+        ),
+        (
+            Ask::Telemetry(&OF_SPACECRAFT_2, Heard::Foreign),
+            (S1, 1, 0, 2),
+        ),
+        (Ask::Telemetry(&OF_CHANNEL_1, Heard::Foreign), (S1, 1, 0, 2)),
+        (Ask::Telemetry(&IDLE, heard(Gap::Lost(0), 0)), (S1, 1, 0, 2)),
+        (
+            Ask::Telemetry(&P0, Heard::Invalid(TmFault::Length)),
+            (S1, 1, 0, 2),
+        ),
+        (Ask::TakeTelemetry(Some(&P0)), (S1, 1, 0, 2)),
+        (Ask::TakeTelemetry(None), (S1, 1, 0, 2)),
+        (Ask::Pull(Some(&AD_1)), (S1, 2, 0, 2)),
+        (
+            Ask::Telemetry(&IDLE_1, heard(Gap::Lost(0), 0)),
+            (S1, 2, 1, 1),
+        ),
+        (Ask::Pull(None), (S1, 2, 1, 1)),
+        (Ask::Submit(&P0, Ok(())), (S1, 2, 1, 2)),
+        (Ask::Advance, (S1, 3, 1, 2)),
+        (window, (S1, 3, 1, 2)),
+        (Ask::AcceptedBeyond(2, Some(1)), (S1, 3, 1, 2)),
+        (terminate, (S6, 3, 1, 0)),
+        (Ask::AcceptedBeyond(0, None), (S6, 3, 1, 0)),
+        (Ask::AcceptedBeyond(1, Some(0)), (S6, 3, 1, 0)),
+        (Ask::AcceptedBeyond(3, Some(2)), (S6, 3, 1, 0)),
+        (Ask::AcceptedBeyond(4, None), (S6, 3, 1, 0)),
+        (Ask::Directive(Directive::SetVs(9), Ok(None)), (S6, 9, 9, 0)),
+        (Ask::AcceptedBeyond(3, None), (S6, 9, 9, 0)),
+    ];
+    asks(&rt, rt.alloc(), &with_frames(19), &rows);
+}
+
+#[test]
+fn parts_that_are_sent(rt: HostRuntime) {
+    use FopMode::S1;
+    let too_long = Err(LinkFault::TooLong);
+    let rows = [
+        (INIT, (S1, 0, 0, 0)),
+        (Ask::Submit(&P0, Ok(())), (S1, 0, 0, 3)),
+        (Ask::Pull(Some(&FIRST)), (S1, 1, 0, 3)),
+        (Ask::Pull(Some(&CONTINUING)), (S1, 2, 0, 3)),
+        (Ask::Pull(Some(&LAST)), (S1, 3, 0, 3)),
+        (Ask::Pull(None), (S1, 3, 0, 3)),
+        (Ask::Bypass(&P0, too_long), (S1, 3, 0, 3)),
+    ];
+    asks(&rt, rt.alloc(), &with_parts(3, 0), &rows);
+}
+
+// No packet has more than 7 octets here; and segments have at most 14, so two packets and one.
+#[test]
+fn several_packets_in_several_segments(rt: HostRuntime) {
+    use FopMode::{S1, S6};
+    let config = Config {
+        max_packet: 7,
+        ..Config::default()
+    };
+    let long: [u8; 8] = [0x10, 0x05, 0xc0, 0x00, 0x00, 0x01, 0xaa, 0xab];
+    let too_long = Err(LinkFault::TooLong);
+    let rows = [
+        (Ask::Bypass(&long, too_long), (S6, 0, 0, 0)),
+        (INIT, (S1, 0, 0, 0)),
+        (Ask::Submit(&long, too_long), (S1, 0, 0, 0)),
+        (Ask::Submit(&P0, Ok(())), (S1, 0, 0, 1)),
+    ];
+    asks(&rt, rt.alloc(), &config, &rows);
+    let rows = [
+        (INIT, (S1, 0, 0, 0)),
+        (Ask::Submit(&THREE, Ok(())), (S1, 0, 0, 2)),
+        (Ask::Pull(Some(&AD_BOTH)), (S1, 1, 0, 2)),
+        (Ask::Pull(Some(&AD_1_WITH_P0)), (S1, 2, 0, 2)),
+        (Ask::Pull(None), (S1, 2, 0, 2)),
+    ];
+    asks(&rt, rt.alloc(), &with_parts(14, 1), &rows);
+}

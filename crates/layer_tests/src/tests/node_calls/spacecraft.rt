@@ -1,0 +1,269 @@
+// The node on board.
+
+use super::playing::{Node, plays};
+use crate::tests::configs::with_parts;
+use crate::tests::equal::equal;
+use crate::tests::frames::*;
+use crate::tests::refusing::{answer_of, says_refused};
+use clcw::{Clcw, decode};
+use cop1::Verdict;
+use map_service::Dropped;
+use nodes::{Arrival, ValidConfig};
+use std::alloc::Global;
+use std::process::Abort;
+use tc_frame::{Check, Command, TcFault};
+use tc_link::{Config, LinkFault, Received, Spacecraft};
+use tm_link::{Pointer, TmFault};
+
+// A call of a spacecraft, and what it answers: of a report the control word, the count of the channel, where a
+// packet starts, and the first 7 octets of the data.
+#[derive(Clone, Copy)]
+enum Row<'a> {
+    Receive(&'a [u8], Received),
+    Take(Option<&'a [u8]>),
+    TakeBypass(Option<&'a [u8]>),
+    Telemetry(&'a [u8], Result<(), TmFault>),
+    Report([u8; 4], u8, Pointer, &'a [u8]),
+}
+
+impl<'a> Node<Row<'a>> for Spacecraft {
+    fn create(alloc: Global, config: &ValidConfig) -> Result<Spacecraft, LinkFault> {
+        Spacecraft::of(alloc, config)
+    }
+
+    fn length_of_frames(&self) -> usize {
+        self.frame_length()
+    }
+
+    fn answers(&mut self, rt: &(impl Abort + Eprint), call: &Row<'a>) {
+        match call {
+            Row::Receive(octets, want) => equal(rt, &receive(rt, self, octets), &Ok(*want)),
+            Row::Take(want) => takes(rt, &self.take(), *want),
+            Row::TakeBypass(want) => takes(rt, &self.take_bypass(), *want),
+            Row::Telemetry(packet, want) => equal(rt, &telemetry(rt, self, packet), want),
+            Row::Report(word, number, pointer, data) => {
+                reports(rt, self, *word, *number, *pointer, data)
+            }
+        }
+    }
+}
+
+fn takes(rt: &impl Abort, taken: &Option<(u8, Vec<u8>)>, want: Option<&[u8]>) {
+    assert!(rt; is_packet(taken, want));
+}
+
+// Whether a packet that was taken is this one, on MAP 4.
+fn is_packet(taken: &Option<(u8, Vec<u8>)>, want: Option<&[u8]>) -> bool {
+    match (taken, want) {
+        (Some((map, octets)), Some(packet)) => *map == 4 && octets.as_slice() == packet,
+        (None, None) => true,
+        _ => false,
+    }
+}
+
+// Receives. Octets that are no frame take no memory.
+fn receive(
+    rt: &(impl Abort + Eprint),
+    spacecraft: &mut Spacecraft,
+    octets: &[u8],
+) -> Result<Received, LinkFault> {
+    let ahead = ready_ahead(rt, spacecraft, octets);
+    let receive = |spacecraft: &mut Spacecraft| spacecraft.receive(octets);
+    let answer = answer_of(rt, spacecraft, word_of, refusal_of(octets), receive);
+    if let Ok(Received::Sequence { ready, .. }) = answer {
+        equal(rt, &ready, &ahead);
+    }
+    answer
+}
+
+// How many packets octets will make ready when they arrive. Octets that are no frame take no memory.
+fn ready_ahead(rt: &(impl Abort + Eprint), spacecraft: &Spacecraft, octets: &[u8]) -> usize {
+    let ahead = match spacecraft.prepare(octets) {
+        Err(fault) if refusal_of(octets) == Some(fault) => {
+            says_refused(rt, fault.number(), 6);
+            spacecraft.prepare(octets)
+        }
+        ahead => ahead,
+    };
+    match ahead {
+        Ok(arrival) => ready_of(rt, &arrival, octets),
+        Err(_) => 0,
+    }
+}
+
+// How many packets an arrival of these octets will make ready.
+fn ready_of(rt: &impl Abort, arrival: &Arrival, octets: &[u8]) -> usize {
+    match arrival.accepted() {
+        Some((segment, packets)) => {
+            let end = octets.len().wrapping_sub(2);
+            assert!(rt; octets.get(6..end) == Some(segment.payload));
+            packets.len()
+        }
+        None => 0,
+    }
+}
+
+// The fault for want of memory, where octets are a frame.
+fn refusal_of(octets: &[u8]) -> Option<LinkFault> {
+    match tc_frame::decode(octets, Check::On) {
+        Ok(_) => Some(LinkFault::Memory),
+        Err(_) => None,
+    }
+}
+
+fn word_of(spacecraft: &Spacecraft) -> Clcw {
+    spacecraft.control_word()
+}
+
+// Queues a packet.
+fn telemetry(
+    rt: &(impl Abort + Eprint),
+    spacecraft: &mut Spacecraft,
+    packet: &[u8],
+) -> Result<(), TmFault> {
+    let queue = |spacecraft: &mut Spacecraft| spacecraft.telemetry(packet);
+    answer_of(rt, spacecraft, word_of, Some(TmFault::Memory), queue)
+}
+
+// Sends a frame. Octets past it stay.
+fn reports(
+    rt: &impl Abort,
+    spacecraft: &mut Spacecraft,
+    word: [u8; 4],
+    number: u8,
+    pointer: Pointer,
+    data: &[u8],
+) {
+    assert!(rt; decode(word).ok() == Some(spacecraft.control_word()));
+    let mut out = [0xee; 2048];
+    let size = spacecraft.report(&mut out);
+    let (octets, rest) = out.split_at_checked(size).unwrap_or_default();
+    assert!(rt; rest.iter().all(|octet| *octet == 0xee));
+    is_read(rt, octets, (word, number, pointer), data);
+}
+
+// A telemetry frame has this control word, count and pointer, and its data begins so.
+fn is_read(rt: &impl Abort, octets: &[u8], fields: ([u8; 4], u8, Pointer), data: &[u8]) {
+    match tm_link::decode(octets, octets.len()) {
+        Ok(frame) => {
+            equal(rt, &(frame.ocf, frame.vc_count, frame.pointer), &fields);
+            assert!(rt; frame.payload.starts_with(data));
+        }
+        Err(_) => assert!(rt; false),
+    }
+}
+
+// A frame of only idle data.
+fn idle(word: [u8; 4], number: u8) -> Row<'static> {
+    Row::Report(word, number, Pointer::OnlyIdle, &IDLE_DATA)
+}
+
+fn sequence(n: u8, verdict: Verdict, ready: usize) -> Received {
+    Received::Sequence {
+        n,
+        verdict,
+        ready,
+        dropped: None,
+    }
+}
+
+// Frames of another spacecraft or virtual channel change nothing, FARM-B included.
+#[test]
+fn foreign_frames(rt: HostRuntime) {
+    let rows = [
+        Row::Receive(&AD_ON_CHANNEL_3, Received::Foreign),
+        Row::Receive(&BD_ON_CHANNEL_3, Received::Foreign),
+        Row::Receive(&UNLOCK_ON_CHANNEL_3, Received::Foreign),
+        Row::Receive(&BD_TO_SPACECRAFT_2, Received::Foreign),
+        Row::Receive(&UNLOCK_TO_SPACECRAFT_2, Received::Foreign),
+        Row::Receive(&SET_9_TO_SPACECRAFT_2, Received::Foreign),
+        idle([0x01, 0x08, 0x00, 0x00], 0),
+        Row::Receive(&BD_0, Received::Bypass { kept: true }),
+        Row::Receive(&BD_TO_SPACECRAFT_2, Received::Foreign),
+        Row::Receive(&BD_ON_CHANNEL_3, Received::Foreign),
+        idle([0x01, 0x08, 0x02, 0x00], 1),
+        Row::Take(None),
+        Row::TakeBypass(Some(&P0)),
+        Row::TakeBypass(None),
+    ];
+    plays::<Spacecraft, _>(&rt, rt.alloc(), &Config::default(), &rows);
+}
+
+#[test]
+fn frames_in_sequence(rt: HostRuntime) {
+    let none = Received::Sequence {
+        n: 1,
+        verdict: Verdict::Accepted,
+        ready: 0,
+        dropped: Some(Dropped::NotAPacket),
+    };
+    let rows = [
+        Row::Receive(&AD_0[..14], Received::Invalid(TcFault::Length)),
+        Row::Receive(&AD_TO_SPACECRAFT_3, Received::Foreign),
+        idle([0x01, 0x08, 0x00, 0x00], 0),
+        Row::Receive(&AD_0, sequence(0, Verdict::Accepted, 1)),
+        Row::Receive(&AD_0, sequence(0, Verdict::Behind, 0)),
+        Row::Receive(&AD_NONE, none),
+        idle([0x01, 0x08, 0x00, 0x02], 1),
+        Row::Take(Some(&P0)),
+        Row::Take(None),
+        Row::Telemetry(&P0[..6], Err(TmFault::NotAPacket)),
+        Row::Telemetry(&P0, Ok(())),
+        Row::Report([0x01, 0x08, 0x00, 0x02], 2, Pointer::At(0), &P0),
+    ];
+    plays::<Spacecraft, _>(&rt, rt.alloc(), &Config::default(), &rows);
+}
+
+// There is room for one packet: with blocking a frame may have two.
+#[test]
+fn a_full_buffer(rt: HostRuntime) {
+    let config = Config {
+        ready_slots: 1,
+        blocking: 1,
+        ..Config::default()
+    };
+    let rows = [
+        Row::Receive(&AD_BOTH, sequence(0, Verdict::Accepted, 2)),
+        Row::Receive(&AD_1, sequence(1, Verdict::NoBuffer, 0)),
+        Row::Take(Some(&P0)),
+        idle([0x01, 0x08, 0x18, 0x01], 0),
+        Row::Take(Some(&P1)),
+        idle([0x01, 0x08, 0x08, 0x01], 1),
+        Row::Receive(&AD_1, sequence(1, Verdict::Accepted, 1)),
+        idle([0x01, 0x08, 0x00, 0x02], 2),
+    ];
+    plays::<Spacecraft, _>(&rt, rt.alloc(), &config, &rows);
+}
+
+#[test]
+fn frames_past_the_sequence(rt: HostRuntime) {
+    let config = Config {
+        bypass_slots: 1,
+        ..Config::default()
+    };
+    let rows = [
+        Row::Receive(&BD_0, Received::Bypass { kept: true }),
+        Row::Receive(&BD_1, Received::Bypass { kept: true }),
+        Row::Receive(&BD_FIRST, Received::Bypass { kept: false }),
+        Row::TakeBypass(Some(&P1)),
+        Row::TakeBypass(None),
+        idle([0x01, 0x08, 0x06, 0x00], 0),
+        Row::Receive(&UNLOCK, Received::Control(Command::Unlock)),
+        Row::Receive(&SET_9, Received::Control(Command::SetVr(9))),
+        idle([0x01, 0x08, 0x02, 0x09], 1),
+    ];
+    plays::<Spacecraft, _>(&rt, rt.alloc(), &config, &rows);
+}
+
+#[test]
+fn parts_that_arrive(rt: HostRuntime) {
+    let rows = [
+        Row::Receive(&FIRST, sequence(0, Verdict::Accepted, 0)),
+        Row::Receive(&CONTINUING, sequence(1, Verdict::Accepted, 0)),
+        Row::Take(None),
+        Row::Receive(&LAST, sequence(2, Verdict::Accepted, 1)),
+        Row::Take(Some(&P0)),
+        Row::Take(None),
+    ];
+    plays::<Spacecraft, _>(&rt, rt.alloc(), &with_parts(3, 0), &rows);
+}

@@ -1,0 +1,168 @@
+// Scripts played by hand, and each of their growths refused in turn. What scripts answer stands in rows/sim at
+// the top.
+
+use super::equal::equal;
+use nodes::Parameter;
+use script::{Carrier, Line, Program, ScriptFault, Step, open, play_some, read_line};
+use simulated_link::World;
+use std::alloc::Global;
+use std::process::Abort;
+
+// Whether the session had an idle start, and all that the script answers, in a text that grows from this
+// room.
+fn played(
+    alloc: Global,
+    script: &[u8],
+    room: usize,
+) -> Result<(Option<bool>, String), ScriptFault> {
+    if script.len() > 4096 {
+        return Err(ScriptFault::Memory);
+    }
+    match open(alloc, script) {
+        Ok((mut world, program)) => play(alloc, room, &mut world, &program),
+        Err(fault) => Err(fault),
+    }
+}
+
+fn play(
+    alloc: Global,
+    room: usize,
+    world: &mut World,
+    program: &Program<'_>,
+) -> Result<(Option<bool>, String), ScriptFault> {
+    let Ok(mut text) = String::with_capacity(alloc, room) else {
+        return Err(ScriptFault::Memory);
+    };
+    match play_all(alloc, world, &mut text, program) {
+        true => Ok((world.opening().map(|opening| opening.idle), text)),
+        false => Err(ScriptFault::Memory),
+    }
+}
+
+// Whether there was memory for all lines.
+fn play_all(alloc: Global, world: &mut World, text: &mut String, program: &Program<'_>) -> bool {
+    let mut rest = program.all();
+    for _ in 0..4096 {
+        match play_some(alloc, world, text, rest) {
+            Ok(Some(left)) => rest = left,
+            Ok(None) => return true,
+            Err(_) => return false,
+        }
+    }
+    false
+}
+
+// A script is answered so, or its session had such a start. Where memory is refused the script opened and played
+// again answers as ever.
+fn plays(
+    rt: &(impl Abort + Eprint),
+    alloc: Global,
+    room: usize,
+    script: &str,
+    answers: Option<&str>,
+    idle: Option<bool>,
+) {
+    let told = match played(alloc, script.as_bytes(), room) {
+        Err(ScriptFault::Memory) => {
+            let _ = eprintln!(rt; "refused a growth");
+            played(alloc, script.as_bytes(), room)
+        }
+        told => told,
+    };
+    match told {
+        Ok((start, text)) => {
+            equal(rt, &start, &idle);
+            assert!(rt; answers.is_none_or(|answers| answers == text.as_str()));
+        }
+        Err(_) => assert!(rt; false),
+    }
+}
+
+const BOTH_WAYS: [&str; 2] = [
+    "# a packet goes up, and one comes down\nconfig limit 2\ninit none\nsubmit 4 1005c0000000AA\nsend\n\
+     up deliver\ntake\ntake\ntelemetry 0005c0000000AA\nreport\ndown deliver\nwindow 0\nshow",
+    "ok\nok\nsent 0001080E00C41005C0000000AAE75D\nAD 0 accepted ready\n\
+     packet 4 1005C0000000AA\nnothing\nok\nreport 01080001\ngap=- packets=1\nrefused 2 Window\n\
+     clean=yes state=S1 submitted=1 delivered=1 sent=1 accepted=1 acknowledged=1 outstanding=0\n",
+];
+
+#[test]
+fn scripts_that_are_played(rt: HostRuntime) {
+    let [script, answers] = BOTH_WAYS;
+    for room in [0, 4096] {
+        plays(&rt, rt.alloc(), room, script, Some(answers), Some(true));
+    }
+}
+
+// A stale report confirms a session that did not begin clean.
+const A_STALE_REPORT: &str = "init none\nreport\nsubmit 4 1005C0000000AA\nsend\nup deliver\n\
+    terminate\ninit set 0\nsend\nup lose\ndown deliver\nsubmit 4 1005C0000000AA\nsend\nup deliver\n\
+    report\ndown deliver\n";
+
+// Reports are on their way as the session begins, two of them with another FARM-B. Each has the value and the
+// flags that the receiver would report.
+const FOUR_REPORTS_ON_THEIR_WAY: &str = "report\nreport\nbypass 4 1005C0000000AA\nsend\n\
+    up deliver\nreport\nreport\ninit check\ndown deliver\ndown deliver\ndown deliver\ndown deliver\n";
+
+// An old report differs in its retransmit flag alone from what the receiver would report.
+const AN_OLD_FLAG: &str = "init none\nreport\nsubmit 4 1005C0000000AA\nsubmit 4 1005C0010000AB\n\
+    send\nsend\nup lose\nup deliver\nterminate\nvs 0\ninit check\ndown deliver\nreport\ndown deliver\n";
+
+// One frame of three is accepted, and a report on it is on its way when the next session begins.
+const ONE_OF_THREE_ACCEPTED: &str =
+    "config limit 1\nconfig timer 1\ninit check\nreport\ndown deliver\n\
+    submit 4 1005C0000000AA\nsubmit 4 1005C0010000AB\nsubmit 4 1005C0020000AC\nsend\nsend\nsend\n\
+    up deliver\nup lose\nup lose\ntick\nreport\nreport\ndown deliver\ninit set 3\nsend\ndown deliver\n\
+    up deliver\nreport\ndown deliver\n";
+
+#[test]
+fn idle_starts(rt: HostRuntime) {
+    for (script, idle) in [
+        ("show\n", None),
+        (A_STALE_REPORT, Some(false)),
+        (FOUR_REPORTS_ON_THEIR_WAY, Some(true)),
+        (AN_OLD_FLAG, Some(false)),
+        (ONE_OF_THREE_ACCEPTED, Some(true)),
+    ] {
+        plays(&rt, rt.alloc(), 4096, script, None, idle);
+    }
+}
+
+// Lines one by one, and scripts that are not opened: no memory is wanted to say so.
+#[test]
+fn lines_that_are_read(rt: HostRuntime) {
+    reads_lines(&rt);
+    for (script, want) in [
+        (
+            "# a note\nsubmit 4 -\nsubmit 04 -\n",
+            ScriptFault::Unreadable(3),
+        ),
+        (
+            "config window 1\nconfig window 128\n",
+            ScriptFault::OutOfRange("window"),
+        ),
+    ] {
+        equal(&rt, &fault_of(rt.alloc(), script), &Some(want));
+    }
+}
+
+fn fault_of(alloc: Global, script: &str) -> Option<ScriptFault> {
+    played(alloc, script.as_bytes(), 0).err()
+}
+
+fn reads_lines(rt: &impl Abort) {
+    assert!(rt;
+        matches!(
+            read_line(b"submit 4 0f"),
+            Line::Played(Step::Carrying(Carrier::Submit(4)), b"0f")
+        )
+    );
+    assert!(rt;
+        matches!(
+            read_line(b"config maps 18446744073709551615"),
+            Line::Setting(Parameter::Maps, u64::MAX)
+        )
+    );
+    assert!(rt; matches!(read_line(b"submit 4 0F "), Line::Unreadable));
+    assert!(rt; matches!(read_line(b"# submit"), Line::Skipped));
+}

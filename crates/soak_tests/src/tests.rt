@@ -1,0 +1,11 @@
+// The tests by what they are of, and what several of them use.
+
+mod accounts;
+mod driver;
+mod packets;
+mod pair;
+mod random;
+mod ranges;
+mod scripts;
+mod streams;
+mod telemetry;

@@ -1,0 +1,200 @@
+// What values ask for, and what they give back: tools/accounts preloads a library that keeps an account of the
+// memory at each line on standard error that begins with 'account', and compares what it says.
+
+use super::pair::Pair;
+use cop1::Fop;
+use map_service::{Assembler, Limits};
+use nodes::{Config, Ground, Spacecraft};
+use octets::Splitter;
+use space_packet::Packets;
+use std::alloc::Global;
+use std::process::Abort;
+use tc_frame::{Segment, SegmentFlags, SegmentHeader};
+use tc_link::Sim;
+use tm_link::{Extractor, TmBuilder};
+
+fn notes(rt: &impl Eprint, line: &str) {
+    let _ = eprintln!(rt; "{line}");
+}
+
+// Notes the account before something is made or done, and the account of this name while it lives.
+fn keeps<T: Drop, F: FnOnce() -> T>(rt: &impl Eprint, line: &str, make: F)
+    requires { F.IsAlwaysCallable make }
+{
+    notes(rt, "account before");
+    let _made = make();
+    notes(rt, line);
+}
+
+// Units of 8 octets.
+#[test]
+fn senders(rt: HostRuntime) {
+    for (width, line) in [
+        (2, "account Fop::new width 2"),
+        (254, "account Fop::new width 254"),
+    ] {
+        keeps(&rt, line, || {
+            Fop::<u64>::new(rt.alloc(), width, 1, 3, 10).expect(&rt, "a sender")
+        });
+    }
+}
+
+#[test]
+fn cutters_and_builders(rt: HostRuntime) {
+    let alloc = rt.alloc();
+    keeps(&rt, "account Splitter::new", || {
+        Splitter::<Packets>::new(alloc)
+    });
+    keeps(&rt, "account TmBuilder::new", || {
+        TmBuilder::new(alloc, 1, 0, 2048).expect(&rt, "a builder")
+    });
+    keeps(&rt, "account Extractor::new", || {
+        Extractor::new(alloc).expect(&rt, "an extractor")
+    });
+}
+
+fn opens_part(rt: &(impl Abort + Eprint), alloc: Global, max_packet: u32, line: &str) {
+    let limits = Limits {
+        part: 1016,
+        max_packet,
+        maps: u64::MAX,
+        blocking: false,
+    };
+    let header = SegmentHeader {
+        flags: SegmentFlags::First,
+        map: 63,
+    };
+    let segment = Segment {
+        header,
+        payload: &[0x10],
+    };
+    let mut assembler = Assembler::new(alloc, limits);
+    keeps(rt, line, || assert!(rt; assembler.take(&segment).is_ok()));
+}
+
+#[test]
+fn open_parts(rt: HostRuntime) {
+    for (max_packet, line) in [
+        (7, "account open part max_packet 7"),
+        (65_542, "account open part max_packet 65542"),
+    ] {
+        opens_part(&rt, rt.alloc(), max_packet, line);
+    }
+}
+
+fn ground(rt: &(impl Abort + Eprint), alloc: Global, config: &Config, line: &str) {
+    assert!(rt; config.fault().is_none());
+    keeps(
+        rt,
+        line,
+        || Ground::new(alloc, config).expect(rt, "a ground"),
+    );
+}
+
+#[test]
+fn grounds(rt: HostRuntime) {
+    for (width, queue_slots, line) in [
+        (2, 1, "account Ground::new width 2 queue_slots 1"),
+        (2, 2, "account Ground::new width 2 queue_slots 2"),
+        (2, 65_535, "account Ground::new width 2 queue_slots 65535"),
+        (
+            254,
+            65_535,
+            "account Ground::new width 254 queue_slots 65535",
+        ),
+    ] {
+        let config = Config {
+            width,
+            window: 1,
+            queue_slots,
+            ..Config::default()
+        };
+        ground(&rt, rt.alloc(), &config, line);
+    }
+}
+
+fn spacecraft(rt: &(impl Abort + Eprint), alloc: Global, config: &Config, line: &str) {
+    assert!(rt; config.fault().is_none());
+    keeps(rt, line, || {
+        Spacecraft::new(alloc, config).expect(rt, "a spacecraft")
+    });
+}
+
+#[test]
+fn spacecrafts(rt: HostRuntime) {
+    for (ready_slots, bypass_slots, line) in [
+        (1, 1, "account Spacecraft::new ready_slots 1 bypass_slots 1"),
+        (
+            64,
+            1,
+            "account Spacecraft::new ready_slots 64 bypass_slots 1",
+        ),
+        (
+            64,
+            64,
+            "account Spacecraft::new ready_slots 64 bypass_slots 64",
+        ),
+    ] {
+        let config = Config {
+            ready_slots,
+            bypass_slots,
+            ..Config::default()
+        };
+        spacecraft(&rt, rt.alloc(), &config, line);
+    }
+}
+
+#[test]
+fn links(rt: HostRuntime) {
+    let config = Config::default();
+    ground(&rt, rt.alloc(), &config, "account Ground::new");
+    spacecraft(&rt, rt.alloc(), &config, "account Spacecraft::new");
+    keeps(&rt, "account Sim::new", || {
+        Sim::new(rt.alloc(), config).expect(&rt, "a link")
+    });
+}
+
+fn splits(rt: &impl Abort, splitter: &mut Splitter<Packets>, octets: &[u8]) {
+    for _ in 0..10_000 {
+        splitter.feed(octets).expect(rt, "room");
+        assert!(rt; matches!(splitter.next(), Some(Ok(_))));
+        assert!(rt; splitter.next().is_none());
+    }
+}
+
+// 10,000 packets of 100 octets, each fed and handed out.
+#[test]
+fn a_splitter_for_ever(rt: HostRuntime) {
+    let packet = super::packets::command(&rt, rt.alloc(), 100, 0);
+    let mut splitter = Splitter::<Packets>::new(rt.alloc());
+    notes(&rt, "account before");
+    splits(&rt, &mut splitter, packet.as_slice());
+    notes(&rt, "account a splitter for ever");
+}
+
+// 10,000 packets of 100 octets, each queued on board, sent, and taken on the ground.
+#[test]
+fn telemetry_for_ever(rt: HostRuntime) {
+    let mut pair = Pair::new(&rt, rt.alloc(), &Config::default());
+    notes(&rt, "account before");
+    for count in 0..10_000 {
+        pair.queues(&rt, rt.alloc(), 100, count);
+        for _ in 0..3 {
+            let _ = pair.hears(&rt);
+        }
+        pair.takes(&rt, rt.alloc(), 100, count);
+    }
+    notes(&rt, "account telemetry for ever");
+}
+
+// 10,000 packets of 3,000 octets in turn under and past the sequence control, each taken on board.
+#[test]
+fn commands_for_ever(rt: HostRuntime) {
+    let mut pair = Pair::new(&rt, rt.alloc(), &Config::default());
+    notes(&rt, "account before");
+    pair.begins(&rt);
+    for count in 0..10_000 {
+        pair.carries(&rt, rt.alloc(), count);
+    }
+    notes(&rt, "account commands for ever");
+}

@@ -1,0 +1,15 @@
+// The tests by what they are of, and what several of them use.
+
+mod as_octets;
+mod checking;
+mod control_words;
+mod equal;
+mod frames;
+mod no_memory;
+mod packets;
+mod receiver;
+mod refusing;
+mod segments;
+mod sender;
+mod splitting;
+mod telemetry;
