@@ -149,23 +149,17 @@ fn short(blocking: bool) -> Limits {
     }
 }
 
+// MAPs that are closed, a part that is interrupted, and then parts of 8 octets, in each place. With no part open,
+// nothing is too long for one.
 #[test]
-fn closed_maps_and_interruptions(rt: HostRuntime) {
-    let rows: [Row; 6] = [
+fn closed_maps_interruptions_and_long_parts(rt: HostRuntime) {
+    let rows: [Row; 14] = [
         (Alone, 5, (0, 7), Some(ClosedMap), &[]),
         (Alone, 64, (0, 7), Some(ClosedMap), &[]),
         (First, 4, (0, 3), None, &[]),
         (First, 4, (7, 9), Some(Interrupted), &[]),
         (Last, 5, (9, 14), Some(ClosedMap), &[]),
         (Last, 4, (9, 14), None, &[&P1]),
-    ];
-    joins(&rt, rt.alloc(), short(false), &rows);
-}
-
-// A part of 8 octets, in each place. With no part open, nothing is too long for one.
-#[test]
-fn parts_too_long(rt: HostRuntime) {
-    let rows: [Row; 8] = [
         (First, 4, (0, 8), Some(TooLong), &[]),
         (Continuing, 4, (0, 8), Some(NoBeginning), &[]),
         (First, 4, (0, 7), None, &[]),
