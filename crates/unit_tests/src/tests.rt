@@ -5,6 +5,7 @@ mod checking;
 mod control_words;
 mod equal;
 mod frames;
+mod names;
 mod no_memory;
 mod packets;
 mod receiver;

@@ -42,6 +42,4 @@ fn words_without_octets(rt: HostRuntime) {
         ..word
     };
     equal(&rt, &encode(&no_name).err(), &Some(ClcwFault::Range));
-    let fault = ClcwFault::Range;
-    equal(&rt, &(fault.number(), fault.name()), &(5, "Range"));
 }

@@ -147,12 +147,6 @@ fn a_wrong_octet(rt: HostRuntime) {
     }
 }
 
-#[test]
-fn faults_by_number_and_name(rt: HostRuntime) {
-    let fault = TcFault::FieldRange;
-    equal(&rt, &(fault.number(), fault.name()), &(11, "FieldRange"));
-}
-
 // Feeds. Where memory is refused nothing has changed, and the call made again answers as ever.
 fn feed<C: Wire<Fault = TcFault>>(
     rt: &(impl Abort + Eprint),

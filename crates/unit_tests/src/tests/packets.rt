@@ -83,14 +83,6 @@ fn refused_octets(rt: HostRuntime) {
     }
 }
 
-#[test]
-fn faults_by_number_and_name(rt: HostRuntime) {
-    let fault = PacketFault::FieldRange;
-    equal(&rt, &(fault.number(), fault.name()), &(5, "FieldRange"));
-    let text = format!(in rt.alloc(); "{}", PacketFault::FieldRange);
-    equal(&rt, &text.ok().as_deref(), &Some("5 FieldRange"));
-}
-
 // Feeds. Where memory is refused nothing has changed, and the call made again answers as ever.
 fn feed(rt: &(impl Abort + Eprint), splitter: &mut PacketSplitter, octets: &[u8]) {
     let fed = again(rt, PacketFault::Memory, || splitter.feed(octets));

@@ -171,12 +171,6 @@ fn refused_octets(rt: HostRuntime) {
 }
 
 #[test]
-fn faults_by_number_and_name(rt: HostRuntime) {
-    let fault = MapFault::TooLong;
-    equal(&rt, &(fault.number(), fault.name()), &(2, "TooLong"));
-}
-
-#[test]
 fn segments_counted(rt: HostRuntime) {
     let short = Limits {
         max_packet: 6,

@@ -115,8 +115,6 @@ fn faults(rt: HostRuntime) {
         octets::append_check(&mut damaged);
         equal(&rt, &fault_of(&damaged, 16), &Some(fault));
     }
-    let (range, no_ocf) = (TmFault::FieldRange, TmFault::NoOcf);
-    equal(&rt, &(range.number(), no_ocf.name()), &(10, "NoOcf"));
 }
 
 fn fault_of(octets: &[u8], length: usize) -> Option<TmFault> {

@@ -190,8 +190,3 @@ fn alone_too_long(rt: HostRuntime) {
         takes_each(&rt, &mut assembler, &THREE, &[of_both]);
     }
 }
-
-#[test]
-fn causes_by_name(rt: HostRuntime) {
-    equal(&rt, &NoBeginning.name(), &"NoBeginning");
-}
