@@ -1,5 +1,6 @@
 // Configurations that several tests share.
 
+use nodes::Parameter;
 use tc_link::Config;
 
 /// Segments of at most this number of octets, in which packets are joined (1) or not (0).
@@ -11,10 +12,9 @@ pub fn with_parts(part: u32, blocking: u32) -> Config {
     }
 }
 
-/// Telemetry frames of this length.
-pub fn with_frames(frame_length: u32) -> Config {
-    Config {
-        frame_length,
-        ..Config::default()
-    }
+/// One parameter has this value, and the others have their default values.
+pub fn with_value(parameter: Parameter, value: u32) -> Config {
+    let mut config = Config::default();
+    config.set(parameter, u64::from(value));
+    config
 }

@@ -1,9 +1,10 @@
 // Queues that are full. The fault comes before memory is wanted, so a growth that is refused may not be said.
 
-use super::configs::with_parts;
+use super::configs::{with_parts, with_value};
 use super::frames::{P0, P1, THREE};
 use super::node_calls::{Ask, asks};
 use cop1::{Directive, FopMode};
+use nodes::Parameter;
 use tc_link::{Config, LinkFault};
 
 const FULL: Result<(), LinkFault> = Err(LinkFault::QueueFull);
@@ -32,10 +33,7 @@ fn full_queues(rt: HostRuntime) {
 #[test]
 fn a_full_bypass_queue(rt: HostRuntime) {
     use FopMode::S6;
-    let config = Config {
-        queue_slots: 1,
-        ..Config::default()
-    };
+    let config = with_value(Parameter::QueueSlots, 1);
     let rows = [
         (Ask::Bypass(&P0, Ok(())), (S6, 0, 0, 0)),
         (Ask::Bypass(&P1, FULL), (S6, 0, 0, 0)),

@@ -2,11 +2,13 @@
 
 use super::step;
 use super::twins::records_of;
+use crate::tests::configs::with_value;
 use crate::tests::equal::equal;
 use cop1::{Directive, FopMode};
+use nodes::Parameter;
 use std::alloc::Global;
 use std::process::Abort;
-use tc_link::{Config, Event, Reply, Sim};
+use tc_link::{Event, Reply, Sim};
 
 const COUNT: usize = 600;
 
@@ -214,10 +216,7 @@ fn every_seventh_frame_lost(rt: HostRuntime) {
 }
 
 fn carries(rt: &impl Abort, alloc: Global, packets: &[Vec<u8>], fields: &[Vec<u8>]) {
-    let config = Config {
-        timer: 1,
-        ..Config::default()
-    };
+    let config = with_value(Parameter::Timer, 1);
     let compared = Lengths {
         submitted: 0,
         delivered: 0,

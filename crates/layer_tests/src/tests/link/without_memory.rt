@@ -1,11 +1,12 @@
 // Sessions in which each growth is refused in turn. What they answer stands in rows/sim at the top.
 
 use super::twins::bear;
-use crate::tests::configs::with_parts;
+use crate::tests::configs::{with_parts, with_value};
 use crate::tests::frames::{DAMAGED, P0, P1, P2, THREE, UNLOCK};
 use crate::tests::refusing::ends_growths;
 use cop1::{Directive, FopMode};
-use tc_link::{Config, Event};
+use nodes::Parameter;
+use tc_link::Event;
 
 // A frame is lost, and the frames from it on are sent again.
 static ONE_FRAME_LOST: [Event<'static>; 20] = [
@@ -87,10 +88,7 @@ fn sessions_without_memory(rt: HostRuntime) {
         (10, &REFUSALS, (S5, [0; 6])),
         (1, &WITHOUT_MEMORY, (S6, [1, 1, 1, 1, 0, 0])),
     ] {
-        let config = Config {
-            timer,
-            ..Config::default()
-        };
+        let config = with_value(Parameter::Timer, timer);
         bear(&rt, rt.alloc(), config, events, records);
     }
     ends_growths(&rt, rt.alloc());

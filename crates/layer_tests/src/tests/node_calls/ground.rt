@@ -1,12 +1,12 @@
 // The node on the ground.
 
 use super::playing::{Node, plays};
-use crate::tests::configs::{with_frames, with_parts};
+use crate::tests::configs::{with_parts, with_value};
 use crate::tests::equal::equal;
 use crate::tests::frames::*;
 use crate::tests::refusing::{answer_of, says_refused};
 use cop1::{Alert, CopFault, Directive, FopMode};
-use nodes::ValidConfig;
+use nodes::{Parameter, ValidConfig};
 use std::alloc::Global;
 use std::process::Abort;
 use tc_frame::{Check, encode};
@@ -230,7 +230,8 @@ fn both_ways(rt: HostRuntime) {
         (Ask::Directive(Directive::SetVs(9), Ok(None)), (S6, 9, 9, 0)),
         (Ask::AcceptedBeyond(3, None), (S6, 9, 9, 0)),
     ];
-    asks(&rt, rt.alloc(), &with_frames(19), &rows);
+    let config = with_value(Parameter::FrameLength, 19);
+    asks(&rt, rt.alloc(), &config, &rows);
 }
 
 #[test]
@@ -253,10 +254,7 @@ fn parts_that_are_sent(rt: HostRuntime) {
 #[test]
 fn several_packets_in_several_segments(rt: HostRuntime) {
     use FopMode::{S1, S6};
-    let config = Config {
-        max_packet: 7,
-        ..Config::default()
-    };
+    let config = with_value(Parameter::MaxPacket, 7);
     let long: [u8; 8] = [0x10, 0x05, 0xc0, 0x00, 0x00, 0x01, 0xaa, 0xab];
     let too_long = Err(LinkFault::TooLong);
     let rows = [

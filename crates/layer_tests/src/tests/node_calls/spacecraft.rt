@@ -1,14 +1,14 @@
 // The node on board.
 
 use super::playing::{Node, plays};
-use crate::tests::configs::with_parts;
+use crate::tests::configs::{with_parts, with_value};
 use crate::tests::equal::equal;
 use crate::tests::frames::*;
 use crate::tests::refusing::{answer_of, says_refused};
 use clcw::{Clcw, decode};
 use cop1::Verdict;
 use map_service::Dropped;
-use nodes::{Arrival, ValidConfig};
+use nodes::{Arrival, Parameter, ValidConfig};
 use std::alloc::Global;
 use std::process::Abort;
 use tc_frame::{Check, Command, TcFault};
@@ -237,10 +237,7 @@ fn a_full_buffer(rt: HostRuntime) {
 
 #[test]
 fn frames_past_the_sequence(rt: HostRuntime) {
-    let config = Config {
-        bypass_slots: 1,
-        ..Config::default()
-    };
+    let config = with_value(Parameter::BypassSlots, 1);
     let rows = [
         Row::Receive(&BD_0, Received::Bypass { kept: true }),
         Row::Receive(&BD_1, Received::Bypass { kept: true }),

@@ -1,8 +1,9 @@
 // Telemetry that comes down: two packets of two frames each, of which none, 255 and 256 in a row are lost.
 
 use super::ground::{heard, takes};
-use crate::tests::configs::with_frames;
+use crate::tests::configs::with_value;
 use crate::tests::equal::equal;
+use nodes::Parameter;
 use std::alloc::Global;
 use std::process::Abort;
 use tc_link::{Ground, Spacecraft};
@@ -64,7 +65,8 @@ fn hears(
 
 // These events happen, one after another, between two new nodes.
 fn happen(rt: &impl Abort, alloc: Global, events: &[&[Event<'_>]]) {
-    let valid = with_frames(20).valid().expect(rt, "a configuration");
+    let config = with_value(Parameter::FrameLength, 20);
+    let valid = config.valid().expect(rt, "a configuration");
     let mut spacecraft = Spacecraft::of(alloc, &valid).expect(rt, "a spacecraft");
     let mut ground = Ground::of(alloc, &valid).expect(rt, "a ground");
     for part in events {
