@@ -3,6 +3,7 @@
 use super::driver::Link;
 use super::packets::{command, measurement};
 use cop1::Directive;
+use nodes::Parameter::{Blocking, BypassSlots, FrameLength, Scid, TmVcid, Vcid};
 use rand::RngExt;
 use rand_pcg::Pcg32;
 use std::alloc::Global;
@@ -144,15 +145,10 @@ fn anything_at_the_least(rt: HostRuntime) {
 
 #[test]
 fn anything_at_the_greatest(rt: HostRuntime) {
-    let config = Config {
-        scid: 1023,
-        vcid: 63,
-        tm_vcid: 7,
-        bypass_slots: 64,
-        frame_length: 2048,
-        blocking: 1,
-        ..Config::default()
-    };
+    let mut config = Config::default();
+    for parameter in [Scid, Vcid, TmVcid, BypassSlots, FrameLength, Blocking] {
+        config.set(parameter, parameter.most());
+    }
     soaks(&rt, rt.alloc(), config, 2)
 }
 
