@@ -238,19 +238,19 @@ fn loses(rt: &impl Abort, alloc: Global, link: &mut Link, is_lost: bool) {
 #[test]
 fn bypass_in_each_state(rt: HostRuntime) {
     use FopMode::{S1, S2, S3, S4, S5, S6};
-    let config = Config {
-        bypass_slots: 64,
-        ready_slots: 1,
-        ..config()
-    };
     for state in [S1, S2, S3, S4, S5, S6] {
-        bypasses_in(&rt, rt.alloc(), config, state);
+        bypasses_in(&rt, rt.alloc(), state);
     }
 }
 
 const SIZES: [usize; 10] = [7, 8, 9, 22, 255, 256, 500, 501, 1015, 1016];
 
-fn bypasses_in(rt: &impl Abort, alloc: Global, config: Config, state: FopMode) {
+fn bypasses_in(rt: &impl Abort, alloc: Global, state: FopMode) {
+    let config = Config {
+        bypass_slots: 64,
+        ready_slots: 1,
+        ..config()
+    };
     let mut link = Link::new(rt, alloc, config);
     brings(rt, alloc, &mut link, state);
     for size in SIZES {
