@@ -32,31 +32,27 @@ report_kept Used = (0, 0)
 report_kept (Refused fault) = (1, (word_row fault).0)
 report_kept OtherChannel = (2, 0)
 
-abbrev pub no_heard : KeptHeard
-no_heard = record {
-  packets = 0;
-  kind = 0;
+-- what was heard, of this kind and with no fault
+abbrev pub heard_of : (kind packets : ℕ) (gap report : ℕ × ℕ) (alert : ℕ) → KeptHeard
+heard_of kind packets gap report alert = record {
+  packets = packets;
+  kind = kind;
   fault = 0;
-  first = 0;
-  missing = 0;
-  report = 0;
-  word_fault = 0;
-  alert = 0;
+  first = gap.0;
+  missing = gap.1;
+  report = report.0;
+  word_fault = report.1;
+  alert = alert;
 }
+
+abbrev pub no_heard : KeptHeard
+no_heard = heard_of 0 0 (0, 0) (0, 0) 0
 
 abbrev pub heard_kept : Heard → KeptHeard
 heard_kept (Invalid fault) = record no_heard { kind = 1; fault = (fault_row fault).0 }
 heard_kept Foreign = record no_heard { kind = 2 }
 heard_kept (Frame gap packets report alert) =
-    record no_heard {
-      packets = packets;
-      kind = 3;
-      first = (gap_kept gap).0;
-      missing = (gap_kept gap).1;
-      report = (report_kept report).0;
-      word_fault = (report_kept report).1;
-      alert = alert_number alert;
-    }
+    heard_of 3 packets (gap_kept gap) (report_kept report) (alert_number alert)
 
 -- ---- the report that a telemetry frame carries
 
