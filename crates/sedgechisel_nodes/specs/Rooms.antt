@@ -1,6 +1,7 @@
 -- What is taken out into the caller's room.
 use Rattle.std.specs.Prelude.{◌≡◌, ◌≢◌, ℕ, List, ◌++◌, drop, length, nat_lt, if◌then◌else◌}
 use Rattle.std.specs.Prelude.{Option, Some, None, option_map, IfSome}
+use Rattle.std.specs.Option.{unwrap_or}
 use Rattle.nodes.specs.Packets.{PacketOn}
 use Rattle.sedgechisel_nodes.specs.Calls.{closed}
 
@@ -38,6 +39,17 @@ pub record IsHanding {S : Type 0} (answer_of : Option (List ℕ) → ℕ → ℕ
   pub answer_is : IfSome old (λ s. answer ≡ answer_of (octets s) (length out))
   pub handed_out : answer ≡ 0 → IfSome old (λ s. IsHandedOut (octets s) count' out out')
   pub unwritten : answer ≢ 0 → (count' ≡ count) × (out' ≡ out)
+
+-- what a call answers and writes that sends a frame of what the handle holds, where one goes: the
+-- size of the frame, the room with the frame over its beginning, and what is held after it
+pub record IsSent {S : Type 0} (size : S → Option ℕ) (over : S → List ℕ → List ℕ) (after : S → S)
+    (old new : Option S) (answer count count' : ℕ) (out out' : List ℕ) : Type 0 where
+  pub none : old ≡ None → answer ≡ closed
+  pub answer_is : IfSome old (λ s. answer ≡ room_answer (size s) (length out))
+  pub after_is : answer ≡ 0 → new ≡ option_map after old
+  pub counted : answer ≡ 0 → IfSome old (λ s. count' ≡ unwrap_or (size s) 0)
+  pub frame : answer ≡ 0 → IfSome old (λ s. out' ≡ over s out)
+  pub unchanged : answer ≢ 0 → (new ≡ old) × (count' ≡ count) × (out' ≡ out)
 
 abbrev pub octets_on : Option PacketOn → Option (List ℕ)
 octets_on packet = option_map (λ p. p.octets) packet

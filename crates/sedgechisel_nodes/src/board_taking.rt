@@ -1,12 +1,11 @@
 // The packets that a program in C takes of its spacecraft, and the frames that it sends.
 
-ghost use Rattle.std.specs.Prelude.{◌≡◌, ◌≢◌, ◌++◌, drop, length, option_map, true, false, Some, None, IfSome};
+ghost use Rattle.std.specs.Prelude.{◌≡◌, ◌≢◌, ◌++◌, drop, length, option_map, true, false, Some};
 ghost use Rattle.tm_link.specs.Writing.{spelling};
 ghost use Rattle.nodes.specs.Packets.{lent_packet};
 ghost use Rattle.nodes.specs.Spacecraft.{Report, spacecraft_step};
-ghost use Rattle.sedgechisel_nodes.specs.Boards.{stepped, next_packet, after_taking, IsDescribed, IsTaken};
-ghost use Rattle.sedgechisel_nodes.specs.Calls.{closed};
-ghost use Rattle.sedgechisel_nodes.specs.Rooms.{room_answer};
+ghost use Rattle.sedgechisel_nodes.specs.Boards.{next_packet, after_taking, IsDescribed, IsTaken};
+ghost use Rattle.sedgechisel_nodes.specs.Rooms.{room_answer, IsSent};
 
 use crate::answers::ROOM;
 use crate::room::{copy, describe, hand_out_on};
@@ -156,15 +155,10 @@ pub extern "C" fn sedge_spacecraft_report(
     out: &mut [u8],
     count: &mut usize,
 ) -> u8
-    ensures none { spacecraft.old.value ≡ None → result ≡ closed }
-    ensures answer { IfSome spacecraft.old.value
-        (λ s. result ≡ room_answer (Some s.config.frame_length) (length out.old)) }
-    ensures after { result ≡ 0 → spacecraft.new.value ≡ stepped spacecraft.old.value Report }
-    ensures count { result ≡ 0 → IfSome spacecraft.old.value (λ s. count.new ≡ s.config.frame_length) }
-    ensures frame { result ≡ 0 → IfSome spacecraft.old.value (λ s. out.new
-        ≡ spelling (spacecraft_step s Report).answer ++ drop count.new out.old) }
-    ensures unchanged { result ≢ 0 → (spacecraft.new.value ≡ spacecraft.old.value)
-        × (count.new ≡ count.old) × (out.new ≡ out.old) }
+    ensures { IsSent (λ s. Some s.config.frame_length)
+        (λ s room. spelling (spacecraft_step s Report).answer ++ drop s.config.frame_length room)
+        (λ s. (spacecraft_step s Report).after)
+        spacecraft.old.value spacecraft.new.value result count.old count.new out.old out.new }
 {
     held!(alloc, spacecraft, |node| reported(&mut node, out, count))
 }

@@ -1,15 +1,15 @@
 // The frames that a program in C takes of its ground, and the packets of telemetry.
 
-ghost use Rattle.std.specs.Prelude.{◌≡◌, ◌≢◌, true, length, Some, None, IfSome};
+ghost use Rattle.std.specs.Prelude.{◌≡◌, ◌≢◌, true, length, Some};
 ghost use Rattle.std.specs.Option.{unwrap_or};
 ghost use Rattle.tc_frame.specs.declared.frame.Check.TheVariants.{On};
 ghost use Rattle.tc_frame.specs.Layout.{frame_view};
 ghost use Rattle.tc_frame.specs.Writing.{frame_fits};
 ghost use Rattle.nodes.specs.Frames.{size_of, written_over};
 ghost use Rattle.nodes.specs.Ground.{Pull, TakeTelemetry, ground_step};
-ghost use Rattle.sedgechisel_nodes.specs.Calls.{closed, IsRead};
+ghost use Rattle.sedgechisel_nodes.specs.Calls.{IsRead};
 ghost use Rattle.sedgechisel_nodes.specs.Grounds.{stepped};
-ghost use Rattle.sedgechisel_nodes.specs.Rooms.{room_answer, next_answer, count_of, IsHanding};
+ghost use Rattle.sedgechisel_nodes.specs.Rooms.{room_answer, next_answer, count_of, IsHanding, IsSent};
 
 use crate::answers::ROOM;
 use crate::ground::GroundHandle;
@@ -84,16 +84,9 @@ pub extern "C" fn sedge_ground_pull(
     out: &mut [u8],
     count: &mut usize,
 ) -> u8
-    ensures none { ground.old.value ≡ None → result ≡ closed }
-    ensures answer { IfSome ground.old.value
-        (λ s. result ≡ room_answer (size_of (ground_step s Pull).answer) (length out.old)) }
-    ensures after { result ≡ 0 → ground.new.value ≡ stepped ground.old.value Pull }
-    ensures count { result ≡ 0 → IfSome ground.old.value
-        (λ s. count.new ≡ unwrap_or (size_of (ground_step s Pull).answer) 0) }
-    ensures frame { result ≡ 0 → IfSome ground.old.value
-        (λ s. out.new ≡ written_over out.old (ground_step s Pull).answer) }
-    ensures unchanged { result ≢ 0 → (ground.new.value ≡ ground.old.value)
-        × (count.new ≡ count.old) × (out.new ≡ out.old) }
+    ensures { IsSent (λ s. size_of (ground_step s Pull).answer)
+        (λ s room. written_over room (ground_step s Pull).answer) (λ s. (ground_step s Pull).after)
+        ground.old.value ground.new.value result count.old count.new out.old out.new }
 {
     held!(alloc, ground, |node| {
         let answer = write_next(&node, out, count);
