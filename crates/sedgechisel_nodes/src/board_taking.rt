@@ -49,8 +49,8 @@ fn described(
     })
 }
 
-/// Writes the MAP of the oldest packet of sequence-controlled frames, and how many octets it has; or 0 octets alone where
-/// none waits. Answers 0, or 255 where there is no spacecraft.
+/// Writes the MAP of the oldest packet of sequence-controlled frames, and how many octets it has; or 0 octets alone
+/// where none waits. Answers 0, or 255 where there is no spacecraft.
 #[unsafe(no_mangle)]
 pub extern "C" fn sedge_spacecraft_next(
     alloc: Global,
@@ -63,8 +63,8 @@ pub extern "C" fn sedge_spacecraft_next(
     described(alloc, spacecraft, false, map, count)
 }
 
-/// Writes the MAP of the oldest packet that came past the sequence control, and how many octets it has; or 0 octets alone
-/// where none waits. Answers 0, or 255 where there is no spacecraft.
+/// Writes the MAP of the oldest packet that came past the sequence control, and how many octets it has; or 0 octets
+/// alone where none waits. Answers 0, or 255 where there is no spacecraft.
 #[unsafe(no_mangle)]
 pub extern "C" fn sedge_spacecraft_next_bypass(
     alloc: Global,
@@ -85,7 +85,8 @@ fn taken(
     out: &mut [u8],
     count: &mut usize,
 ) -> u8
-    ensures { IsTaken past spacecraft.old.value spacecraft.new.value result map.old map.new count.old count.new out.old out.new }
+    ensures { IsTaken past
+        spacecraft.old.value spacecraft.new.value result map.old map.new count.old count.new out.old out.new }
 {
     held!(alloc, spacecraft, |node| {
         let answer = hand_out_on(next_packet(&node, past), map, out, count);
@@ -96,8 +97,8 @@ fn taken(
     })
 }
 
-/// Takes the oldest packet of sequence-controlled frames (CCSDS 232.0-B-4, 4.4). Answers 0, or 252 where the room is too
-/// short, or 255 where there is no spacecraft.
+/// Takes the oldest packet of sequence-controlled frames (CCSDS 232.0-B-4, 4.4). Answers 0, or 252 where the room is
+/// too short, or 255 where there is no spacecraft.
 #[unsafe(no_mangle)]
 pub extern "C" fn sedge_spacecraft_take(
     alloc: Global,
@@ -106,13 +107,14 @@ pub extern "C" fn sedge_spacecraft_take(
     out: &mut [u8],
     count: &mut usize,
 ) -> u8
-    ensures { IsTaken false spacecraft.old.value spacecraft.new.value result map.old map.new count.old count.new out.old out.new }
+    ensures { IsTaken false
+        spacecraft.old.value spacecraft.new.value result map.old map.new count.old count.new out.old out.new }
 {
     taken(alloc, spacecraft, false, map, out, count)
 }
 
-/// Takes the oldest packet that came past the sequence control (CCSDS 232.0-B-4, 4.4). Answers 0, or 252 where the room is
-/// too short, or 255 where there is no spacecraft.
+/// Takes the oldest packet that came past the sequence control (CCSDS 232.0-B-4, 4.4). Answers 0, or 252 where the room
+/// is too short, or 255 where there is no spacecraft.
 #[unsafe(no_mangle)]
 pub extern "C" fn sedge_spacecraft_take_bypass(
     alloc: Global,
@@ -121,7 +123,8 @@ pub extern "C" fn sedge_spacecraft_take_bypass(
     out: &mut [u8],
     count: &mut usize,
 ) -> u8
-    ensures { IsTaken true spacecraft.old.value spacecraft.new.value result map.old map.new count.old count.new out.old out.new }
+    ensures { IsTaken true
+        spacecraft.old.value spacecraft.new.value result map.old map.new count.old count.new out.old out.new }
 {
     taken(alloc, spacecraft, true, map, out, count)
 }

@@ -80,7 +80,8 @@ pub extern "C" fn sedge_ground_submit(
     map: u8,
     octets: &[u8],
 ) -> u8
-    ensures { IsSubmission (λ s. submit_fault s map octets.now) (Submit map octets.now) ground.old.value ground.new.value result }
+    ensures { IsSubmission (λ s. submit_fault s map octets.now) (Submit map octets.now)
+        ground.old.value ground.new.value result }
 {
     held!(alloc, ground, |node| submitted(&mut node, map, octets))
 }

@@ -125,8 +125,8 @@ fn report_in(octets: &[u8], length: usize) -> Option<Clcw>
     }
 }
 
-/// Writes the report that a telemetry frame carries, of whichever spacecraft and virtual channel (CCSDS 232.0-B-4, 4.2); the
-/// ground stays as it is. Answers 0, or 253 where the octets are no frame or carry no report, or 255.
+/// Writes the report that a telemetry frame carries, of whichever spacecraft and virtual channel (CCSDS 232.0-B-4,
+/// 4.2); the ground stays as it is. Answers 0, or 253 where the octets are no frame or carry no report, or 255.
 #[unsafe(no_mangle)]
 pub extern "C" fn sedge_ground_report(
     alloc: Global,
@@ -171,7 +171,8 @@ pub extern "C" fn sedge_ground_bypass(
     map: u8,
     octets: &[u8],
 ) -> u8
-    ensures { IsSubmission (λ s. bypass_fault s map octets.now) (Bypass map octets.now) ground.old.value ground.new.value result }
+    ensures { IsSubmission (λ s. bypass_fault s map octets.now) (Bypass map octets.now)
+        ground.old.value ground.new.value result }
 {
     held!(alloc, ground, |node| bypassed(&mut node, map, octets))
 }

@@ -56,8 +56,8 @@ pub extern "C" fn sedge_ground_read(
     read!(alloc, ground, read, |node| reading(&node))
 }
 
-/// What is read of a spacecraft: the octets of a telemetry frame, and the report that the next one carries, its flags as
-/// the bits of the third octet (CCSDS 232.0-B-4, 4.2.1); and the receiver's state.
+/// What is read of a spacecraft: the octets of a telemetry frame, and the report that the next one carries, its flags
+/// as the bits of the third octet (CCSDS 232.0-B-4, 4.2.1); and the receiver's state.
 #[repr(C)]
 #[derive(Clone, Copy)]
 pub struct BoardReading {
@@ -99,14 +99,15 @@ pub extern "C" fn sedge_spacecraft_read(
     spacecraft: &mut SpacecraftHandle,
     read: &mut BoardReading,
 ) -> u8
-    ensures { IsRead (λ s. Some (board_reading_of s)) spacecraft.old.value spacecraft.new.value result read.old read.new }
+    ensures { IsRead (λ s. Some (board_reading_of s))
+        spacecraft.old.value spacecraft.new.value result read.old read.new }
 {
     read!(alloc, spacecraft, read, |node| board_reading(&node))
 }
 
-/// Writes how many of the segments that were sent and not acknowledged were accepted on board when a report of this value
-/// was made, the oldest ones; after an alert too, until V(S) is set or an initiation begins (CCSDS 232.1-B-2, 5.1). Answers
-/// 0, or 253 where the value is beyond V(S), or 255 where there is no ground.
+/// Writes how many of the segments that were sent and not acknowledged were accepted on board when a report of this
+/// value was made, the oldest ones; after an alert too, until V(S) is set or an initiation begins (CCSDS 232.1-B-2,
+/// 5.1). Answers 0, or 253 where the value is beyond V(S), or 255 where there is no ground.
 #[unsafe(no_mangle)]
 pub extern "C" fn sedge_ground_accepted_beyond(
     alloc: Global,

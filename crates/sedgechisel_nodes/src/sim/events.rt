@@ -1,5 +1,6 @@
-// The events of a simulated link of a program in C: each answers 0, and writes the reply; or 6 where there was no memory, 7
-// where no frame is on its way, 8 where the receiver would accept the damaged frame, 255 where there is no link.
+// The events of a simulated link of a program in C: each answers 0, and writes the reply; or 6 where there was no
+// memory, 7 where no frame is on its way, 8 where the receiver would accept the damaged frame, 255 where there is no
+// link.
 
 ghost use Rattle.cop1.specs.declared.vocabulary.Directive.{Directive};
 ghost use Rattle.link_events.specs.declared.event.Event.{Event};
@@ -53,7 +54,8 @@ pub extern "C" fn sedge_sim_init_without_check(
     sim: &mut SimHandle,
     reply: &mut KeptReply,
 ) -> u8
-    ensures { IsEventCall (Event.Directive Directive.InitWithoutCheck) sim.old.value sim.new.value result reply.old reply.new }
+    ensures { IsEventCall (Event.Directive Directive.InitWithoutCheck)
+        sim.old.value sim.new.value result reply.old reply.new }
 {
     direct(alloc, sim, Directive::InitWithoutCheck, reply)
 }
@@ -65,7 +67,8 @@ pub extern "C" fn sedge_sim_init_with_check(
     sim: &mut SimHandle,
     reply: &mut KeptReply,
 ) -> u8
-    ensures { IsEventCall (Event.Directive Directive.InitWithCheck) sim.old.value sim.new.value result reply.old reply.new }
+    ensures { IsEventCall (Event.Directive Directive.InitWithCheck)
+        sim.old.value sim.new.value result reply.old reply.new }
 {
     direct(alloc, sim, Directive::InitWithCheck, reply)
 }
@@ -77,7 +80,8 @@ pub extern "C" fn sedge_sim_init_unlock(
     sim: &mut SimHandle,
     reply: &mut KeptReply,
 ) -> u8
-    ensures { IsEventCall (Event.Directive Directive.InitUnlock) sim.old.value sim.new.value result reply.old reply.new }
+    ensures { IsEventCall (Event.Directive Directive.InitUnlock)
+        sim.old.value sim.new.value result reply.old reply.new }
 {
     direct(alloc, sim, Directive::InitUnlock, reply)
 }
@@ -90,7 +94,8 @@ pub extern "C" fn sedge_sim_init_set_vr(
     vr: u8,
     reply: &mut KeptReply,
 ) -> u8
-    ensures { IsEventCall (Event.Directive (Directive.InitSetVr vr)) sim.old.value sim.new.value result reply.old reply.new }
+    ensures { IsEventCall (Event.Directive (Directive.InitSetVr vr))
+        sim.old.value sim.new.value result reply.old reply.new }
 {
     direct(alloc, sim, Directive::InitSetVr(vr), reply)
 }
@@ -115,7 +120,8 @@ pub extern "C" fn sedge_sim_set_vs(
     vs: u8,
     reply: &mut KeptReply,
 ) -> u8
-    ensures { IsEventCall (Event.Directive (Directive.SetVs vs)) sim.old.value sim.new.value result reply.old reply.new }
+    ensures { IsEventCall (Event.Directive (Directive.SetVs vs))
+        sim.old.value sim.new.value result reply.old reply.new }
 {
     direct(alloc, sim, Directive::SetVs(vs), reply)
 }
@@ -128,7 +134,8 @@ pub extern "C" fn sedge_sim_set_window(
     window: u8,
     reply: &mut KeptReply,
 ) -> u8
-    ensures { IsEventCall (Event.Directive (Directive.SetWindow window)) sim.old.value sim.new.value result reply.old reply.new }
+    ensures { IsEventCall (Event.Directive (Directive.SetWindow window))
+        sim.old.value sim.new.value result reply.old reply.new }
 {
     direct(alloc, sim, Directive::SetWindow(window), reply)
 }
@@ -141,7 +148,8 @@ pub extern "C" fn sedge_sim_set_limit(
     limit: u8,
     reply: &mut KeptReply,
 ) -> u8
-    ensures { IsEventCall (Event.Directive (Directive.SetLimit limit)) sim.old.value sim.new.value result reply.old reply.new }
+    ensures { IsEventCall (Event.Directive (Directive.SetLimit limit))
+        sim.old.value sim.new.value result reply.old reply.new }
 {
     direct(alloc, sim, Directive::SetLimit(limit), reply)
 }
@@ -154,7 +162,8 @@ pub extern "C" fn sedge_sim_set_timer(
     ticks: u16,
     reply: &mut KeptReply,
 ) -> u8
-    ensures { IsEventCall (Event.Directive (Directive.SetTimer ticks)) sim.old.value sim.new.value result reply.old reply.new }
+    ensures { IsEventCall (Event.Directive (Directive.SetTimer ticks))
+        sim.old.value sim.new.value result reply.old reply.new }
 {
     direct(alloc, sim, Directive::SetTimer(ticks), reply)
 }

@@ -31,8 +31,8 @@ fn submission_of(sim: &Sim, k: usize) -> Option<(u8, &[u8])>
     }
 }
 
-/// Writes the MAP of submission k, from 0, and how many octets it has. Answers 0, or 253 where there is none, or 255 where
-/// there is no link.
+/// Writes the MAP of submission k, from 0, and how many octets it has. Answers 0, or 253 where there is none, or 255
+/// where there is no link.
 #[unsafe(no_mangle)]
 pub extern "C" fn sedge_sim_submission_length(
     alloc: Global,
