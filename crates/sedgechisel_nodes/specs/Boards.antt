@@ -1,5 +1,5 @@
 -- The spacecraft of a program in C: what a call answers, and what the program holds then.
-use Rattle.std.specs.Prelude.{◌≡◌, ◌≢◌, ℕ, List, length, Bool, true, false, Option, Some, None}
+use Rattle.std.specs.Prelude.{◌≡◌, ◌≢◌, ℕ, List, Bool, true, false, Option, Some, None}
 use Rattle.std.specs.Prelude.{option_map, IfSome}
 use Rattle.tc_frame.specs.declared.frame.Command.TheVariants.{Unlock, SetVr}
 use Rattle.tc_frame.specs.Faults.{fault_row}
@@ -20,7 +20,7 @@ use Rattle.sedgechisel_nodes.specs.declared.reading.BoardReading.{BoardReading}
 use Rattle.sedgechisel_nodes.specs.declared.spacecraft.KeptReceived.{KeptReceived}
 use Rattle.sedgechisel_nodes.specs.Calls.{closed}
 use Rattle.sedgechisel_nodes.specs.Rooms.{next_answer, count_of, octets_on, map_left}
-use Rattle.sedgechisel_nodes.specs.Rooms.{IsHandedOut}
+use Rattle.sedgechisel_nodes.specs.Rooms.{IsHanding}
 
 abbrev pub stepped : Option SpacecraftState → SpacecraftEvent → Option SpacecraftState
 stepped None event = None
@@ -98,11 +98,8 @@ pub record IsDescribed (past : Bool) (old new : Option SpacecraftState) (answer 
 -- the same of a call that takes it
 pub record IsTaken (past : Bool) (old new : Option SpacecraftState) (answer m m' : ℕ)
     (count count' : ℕ) (out out' : List ℕ) : Type 0 where
-  pub none : old ≡ None → answer ≡ closed
-  pub answer_is : IfSome old (λ s. answer
-      ≡ next_answer (octets_on (next_packet past s)) (length out))
+  pub packet : IsHanding next_answer (λ s. octets_on (next_packet past s))
+      old answer count count' out out'
   pub after : answer ≡ 0 → new ≡ option_map (after_taking past) old
   pub on_map : answer ≡ 0 → IfSome old (λ s. m' ≡ map_left (next_packet past s) m)
-  pub packet : answer ≡ 0
-      → IfSome old (λ s. IsHandedOut (octets_on (next_packet past s)) count' out out')
-  pub unchanged : answer ≢ 0 → (new ≡ old) × (m' ≡ m) × (count' ≡ count) × (out' ≡ out)
+  pub unchanged : answer ≢ 0 → (new ≡ old) × (m' ≡ m)
