@@ -3,11 +3,10 @@
 use Prim.Native.Nat.{suc}
 use Rattle.std.proofs.Common.{◌≡◌, ℕ, List, [], ◌∷◌, ◌++◌, refl, sym, subst}
 use seplogic.Ra.Ura.{Ura}
-use mir.Syntax.{Sym, Callee, Fn, Local, local, value_local, ty_ptr, Body, assign, aggregate, seq, return, rv_opd, copy}
+use mir.Syntax.{Callee, Fn, Local, local, value_local, ty_ptr, Body, assign, aggregate, seq, return, rv_opd, copy}
 use mir.Syntax.{place, field}
 use mir.Val.{Val, vstruct, vcons, vnil, of_list, has_ty}
-use base.Stored.{Coded}
-use base.Fml.{Fml, Lft, fsep}
+use base.Fml.{Fml, fsep}
 use base.Logic.{SProp, ent, emp, id⊢}
 use prog.Model.{Model}
 use prog.Wp.{WpFn, Closed}
@@ -47,26 +46,14 @@ use Rattle.kept.proofs.Values.{both, both_tt, ptr_good, kept_good, Kept, kept_op
 -- a handle's type: what it keeps, and its values as a pointer and what is kept there
 pub record Handled : Type 2 where
   pub node : RattleType
-  pub name : Sym
-  pub D : Type 0
-  pub parts : D → Ptr × Option node.Denot
-  pub make : Ptr × Option node.Denot → D
+  pub type : Owning
+  pub parts : type.D → Ptr × Option node.Denot
+  pub make : Ptr × Option node.Denot → type.D
   pub made : (x : Ptr × Option node.Denot) → parts (make x) ≡ x
-  pub coded : Coded D
-  pub shr_at : D → ℕ → ℕ → Lft → Fml
 
 abbrev pub handled : (node : RattleType) (T : Owning) (parts : T.D → Ptr × Option node.Denot)
     (make : Ptr × Option node.Denot → T.D) → ((x : Ptr × Option node.Denot) → parts (make x) ≡ x) → Handled
-handled node T parts make made = record {
-  node = node;
-  name = T.name;
-  D = T.D;
-  parts = parts;
-  make = make;
-  made = made;
-  coded = T.coded;
-  shr_at = T.shr_at;
-}
+handled node T parts make made = record { node = node; type = T; parts = parts; make = make; made = made }
 
 abbrev Z : RattleType
 Z = heap.the_row
@@ -75,20 +62,17 @@ abbrev alone : Val → Val
 alone v = vstruct (vcons v vnil)
 
 module _ (h : Handled) where
+  -- one pointer, which owns what is kept there
   abbrev pub the_type : Owning
-  the_type = record {
-    name = h.name;
+  the_type = record h.type {
     args = [];
     types = [];
     parts = RawPtr-field ∷ [];
-    D = h.D;
     as_values = λ d. ((h.parts d).0, tt);
-    coded = h.coded;
     heap = λ d. kept_owns heap_token h.node (h.parts d).0 (h.parts d).1;
     exit =
         λ k. hidden
         (under (λ d. intos (RawPtr-field ∷ []) ((h.parts d).0, tt)) (exits_of k (rows (RawPtr-field ∷ []))));
-    shr_at = h.shr_at;
   }
 
   abbrev pub Hr : RattleType
@@ -129,7 +113,7 @@ module _ (h : Handled) where
   held x vs = fsep ((Struct (shape the_type)).own_val (x.0, tt) vs) (kept_owns heap_token h.node x.0 x.1)
 
   module _ {M : Type 1} {𝓤 : Ura M} {𝓛 : Logic 𝓤} {K : Type 0} {Γ : List (Item 𝓤)} {G : Goal 𝓤 𝓛.H} where
-    handle_open : K → (d : h.D) (vs : List Val) → (vs ≡ alone (ptr_val (h.parts d).0) ∷ []
+    handle_open : K → (d : h.type.D) (vs : List Val) → (vs ≡ alone (ptr_val (h.parts d).0) ∷ []
         → Seq K 𝓛 (‵ (kept_owns heap_token h.node (h.parts d).0 (h.parts d).1) ∷ Γ) G)
         → Seq K 𝓛 (‵ (Hr.own_val d vs) ∷ Γ) G
     handle_open t d vs k =
