@@ -1,5 +1,5 @@
 pub mod Answered
 mod Copied
-pub mod Handles
+pub mod Handled
 mod Named
 pub mod NodeHandles

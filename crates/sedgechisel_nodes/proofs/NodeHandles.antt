@@ -3,10 +3,10 @@ use Rattle.std.proofs.Common.{refl}
 use Rattle.nodes.specs.contracts.ground_node.Ground as ground_node
 use Rattle.nodes.specs.contracts.spacecraft.Spacecraft as spacecraft_node
 use Rattle.sedgechisel_nodes.specs.contracts.sim.link.Link as link
-use Rattle.sedgechisel_nodes.specs.contracts.ground.GroundHandle as ground_handle
-use Rattle.sedgechisel_nodes.specs.contracts.spacecraft.SpacecraftHandle as spacecraft_handle
-use Rattle.sedgechisel_nodes.specs.contracts.sim.handle.SimHandle as link_handle
-use Rattle.sedgechisel_nodes.proofs.Handles.{Handled, handled}
+use Rattle.sedgechisel_nodes.specs.contracts.handles.GroundHandle as ground_handle
+use Rattle.sedgechisel_nodes.specs.contracts.handles.SpacecraftHandle as spacecraft_handle
+use Rattle.sedgechisel_nodes.specs.contracts.handles.SimHandle as link_handle
+use Rattle.sedgechisel_nodes.proofs.Handled.{Handled, handled}
 
 abbrev pub of_ground : Handled
 of_ground = handled ground_node.the_row ground_handle.the_type

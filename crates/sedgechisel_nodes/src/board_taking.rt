@@ -8,8 +8,8 @@ ghost use Rattle.sedgechisel_nodes.specs.Boards.{next_packet, after_taking, IsDe
 ghost use Rattle.sedgechisel_nodes.specs.Rooms.{room_answer, IsSent};
 
 use crate::answers::ROOM;
+use crate::handles::SpacecraftHandle;
 use crate::room::{copy, describe, hand_out_on};
-use crate::spacecraft::SpacecraftHandle;
 use nodes::Spacecraft;
 use std::alloc::Global;
 

@@ -3,7 +3,7 @@
 ghost use Rattle.cop1.specs.declared.vocabulary.Directive.{Directive};
 ghost use Rattle.sedgechisel_nodes.specs.Grounds.{IsDirected};
 
-use crate::ground::GroundHandle;
+use crate::handles::GroundHandle;
 use cop1::Directive;
 use std::alloc::Global;
 

@@ -8,7 +8,8 @@ ghost use Rattle.sedgechisel_nodes.specs.Grounds.{stepped, IsAnswer, IsSubmissio
 ghost use Rattle.sedgechisel_nodes.specs.Hearing.{alert_number, gap_kept, report_kept, heard_kept, report_in};
 
 use crate::answers::MEMORY;
-use crate::ground::{GroundHandle, number_of};
+use crate::ground::number_of;
+use crate::handles::GroundHandle;
 use crate::room::write;
 use clcw::Clcw;
 use cop1::Alert;

@@ -28,6 +28,7 @@ mod answers;
 mod board_taking;
 mod directing;
 mod ground;
+mod handles;
 mod hearing;
 mod holds;
 mod names;

@@ -6,9 +6,8 @@ ghost use Rattle.cop1.specs.Accepted.{accepted_beyond};
 ghost use Rattle.sedgechisel_nodes.specs.Calls.{IsRead};
 ghost use Rattle.sedgechisel_nodes.specs.Grounds.{mode_number, reading_of};
 
-use crate::ground::GroundHandle;
+use crate::handles::{GroundHandle, SpacecraftHandle};
 use crate::room::write;
-use crate::spacecraft::SpacecraftHandle;
 use bitflags::Flags;
 use cop1::{FarmMode, FopMode};
 use nodes::{Ground, Spacecraft};

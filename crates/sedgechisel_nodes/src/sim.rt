@@ -1,8 +1,7 @@
 // The simulated link of a program in C.
 
 mod events;
-mod handle;
-mod link;
+pub(crate) mod link;
 mod reading;
 mod records;
 mod reply;

@@ -1,57 +1,20 @@
-// The spacecraft of a program in C.
+// What the spacecraft of a program in C receives, and the packets that it is to send as telemetry.
 
-ghost use Rattle.std.specs.Prelude.{◌≡◌, ◌≢◌, Option, None, IfSome, Ok};
-ghost use Rattle.nodes.specs.Spacecraft.{SpacecraftState, Receive, Telemetry, spacecraft_step, new_spacecraft};
+ghost use Rattle.std.specs.Prelude.{◌≡◌, ◌≢◌, None, IfSome, Ok};
+ghost use Rattle.nodes.specs.Spacecraft.{Receive, Telemetry, spacecraft_step};
 ghost use Rattle.tm_link.specs.Building.{queue_fault};
 ghost use Rattle.tm_link.specs.Faults.{fault_row};
 ghost use Rattle.cop1.specs.Names.{verdict_row};
 ghost use Rattle.sedgechisel_nodes.specs.Boards.{stepped, dropped_number, received_kept};
-ghost use Rattle.sedgechisel_nodes.specs.Calls.{closed, IsOpened, IsStep};
+ghost use Rattle.sedgechisel_nodes.specs.Calls.{closed, IsStep};
 
-use crate::answers::{MEMORY, OUT_OF_RANGE};
-use crate::holds::{Holds, open, take};
+use crate::answers::MEMORY;
+use crate::handles::SpacecraftHandle;
 use cop1::Verdict;
-use kept::Kept;
 use map_service::Dropped;
-use nodes::{Config, Received, Spacecraft};
+use nodes::Received;
 use std::alloc::Global;
-use std::marker::Model;
 use tc_frame::Command;
-
-/// A spacecraft, or none, which is null.
-#[repr(C)]
-pub struct SpacecraftHandle {
-    at: *mut u8,
-    pub ghost value: { Option SpacecraftState },
-}
-
-impl Model for SpacecraftHandle {
-    ghost use Rattle.kept.specs.Keeping.{kept_owns, heap_token};
-    ghost use Rattle.nodes.specs.contracts.spacecraft.Spacecraft.{the_row};
-
-    ghost also_owns = { λ h. kept_owns heap_token the_row h.at h.value };
-}
-
-impl Holds for SpacecraftHandle {
-    type Node = Spacecraft;
-
-    ghost held = { λ h. h.value };
-
-    fn of(kept: Kept<Spacecraft, Global>) -> SpacecraftHandle
-        ensures { result.value ≡ kept.value }
-    {
-        let Kept { at, alloc: _ } = kept;
-        SpacecraftHandle { at: at as *mut u8 }
-    }
-
-    fn into_kept(self, alloc: Global) -> Kept<Spacecraft, Global> {
-        let SpacecraftHandle { at } = self;
-        Kept {
-            at: at as *mut Spacecraft,
-            alloc,
-        }
-    }
-}
 
 /// What came of octets.
 #[repr(C)]
@@ -120,30 +83,6 @@ pub(crate) fn kept_received(received: Received) -> KeptReceived
             ..none
         },
     }
-}
-
-#[unsafe(no_mangle)]
-pub extern "C" fn sedge_spacecraft_open(
-    alloc: Global,
-    config: &Config,
-    spacecraft: &mut SpacecraftHandle,
-) -> u8
-    ensures { IsOpened config.now new_spacecraft spacecraft.old.value spacecraft.new.value result }
-{
-    let Ok(config) = config.valid() else {
-        return OUT_OF_RANGE;
-    };
-    match Spacecraft::of(alloc, &config) {
-        Ok(node) => open(spacecraft, alloc, node),
-        Err(_) => MEMORY,
-    }
-}
-
-#[unsafe(no_mangle)]
-pub extern "C" fn sedge_spacecraft_close(alloc: Global, spacecraft: &mut SpacecraftHandle)
-    ensures { spacecraft.new.value ≡ None }
-{
-    drop(take(spacecraft, alloc));
 }
 
 /// Takes octets that came from the ground. Answers 0, or 6 where there was no memory, or 255.

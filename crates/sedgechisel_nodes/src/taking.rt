@@ -12,7 +12,7 @@ ghost use Rattle.sedgechisel_nodes.specs.Grounds.{stepped};
 ghost use Rattle.sedgechisel_nodes.specs.Rooms.{room_answer, next_answer, count_of, IsHanding, IsSent};
 
 use crate::answers::ROOM;
-use crate::ground::GroundHandle;
+use crate::handles::GroundHandle;
 use crate::room::{count_of, hand_out};
 use nodes::Ground;
 use std::alloc::Global;

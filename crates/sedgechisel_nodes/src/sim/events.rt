@@ -6,11 +6,18 @@ ghost use Rattle.cop1.specs.declared.vocabulary.Directive.{Directive};
 ghost use Rattle.link_events.specs.declared.event.Event.{Event};
 ghost use Rattle.sedgechisel_nodes.specs.Links.{IsEventCall};
 
-use crate::sim::handle::{SimHandle, happen};
+use crate::handles::SimHandle;
 use crate::sim::reply::KeptReply;
 use cop1::Directive;
 use std::alloc::Global;
 use tc_link::Event;
+
+// Lets an event happen to the link, where there is one.
+fn happen(alloc: Global, sim: &mut SimHandle, event: Event<'_>, reply: &mut KeptReply) -> u8
+    ensures { IsEventCall event.entry sim.old.value sim.new.value result reply.old reply.new }
+{
+    held!(alloc, sim, |link| link.step(alloc, event, reply))
+}
 
 /// Packets are submitted on a MAP.
 #[unsafe(no_mangle)]

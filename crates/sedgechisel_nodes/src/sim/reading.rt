@@ -5,9 +5,9 @@ ghost use Rattle.sedgechisel_nodes.specs.Calls.{IsRead};
 ghost use Rattle.sedgechisel_nodes.specs.Links.{begun_number, link_reading_of};
 ghost use Rattle.sedgechisel_nodes.specs.Rooms.{next_answer, IsHanding};
 
+use crate::handles::SimHandle;
 use crate::reading::number_of_mode;
 use crate::room::hand_out;
-use crate::sim::handle::SimHandle;
 use cop1::Directive;
 use std::alloc::Global;
 use tc_link::Sim;

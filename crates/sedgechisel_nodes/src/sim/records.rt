@@ -8,8 +8,8 @@ ghost use Rattle.sedgechisel_nodes.specs.Links.{record_of, entry_of};
 ghost use Rattle.sedgechisel_nodes.specs.Rooms.{entry_answer, IsHanding};
 
 use crate::answers::ABSENT;
+use crate::handles::SimHandle;
 use crate::room::{hand_out, write};
-use crate::sim::handle::SimHandle;
 use std::alloc::Global;
 use tc_link::Sim;
 

@@ -7,8 +7,8 @@ ghost use Rattle.sedgechisel_nodes.specs.Links.{submission_of, IsPacketIfThere};
 ghost use Rattle.sedgechisel_nodes.specs.Rooms.{entry_answer, octets_on, map_left, IsHanding};
 
 use crate::answers::ABSENT;
+use crate::handles::SimHandle;
 use crate::room::{describe, hand_out_on};
-use crate::sim::handle::SimHandle;
 use std::alloc::Global;
 use tc_link::Sim;
 

@@ -1,8 +1,8 @@
 use denote.Exit.{yes}
-use Rattle.sedgechisel_nodes.proofs.Handles.{of_meets}
+use Rattle.sedgechisel_nodes.proofs.Handled.{of_meets}
 use Rattle.sedgechisel_nodes.proofs.NodeHandles.{of_spacecraft}
-use Rattle.sedgechisel_nodes.proofs.spacecraft.SpacecraftHandleHolds.of.Statement.{statement}
-use Rattle.sedgechisel_nodes.proofs.spacecraft.SpacecraftHandleHolds.of.Code as code
+use Rattle.sedgechisel_nodes.proofs.handles.SpacecraftHandleHolds.of.Statement.{statement}
+use Rattle.sedgechisel_nodes.proofs.handles.SpacecraftHandleHolds.of.Code as code
 
 pub of_spec : {M : Type 1} → statement M
 of_spec 𝓤 𝓛 𝓜 𝓡 wired = of_meets of_spacecraft 𝓤 𝓛 𝓜 𝓡 _ yes (code.unfolded 𝓤 𝓛.H 𝓜 𝓡 wired)

@@ -1,0 +1,7 @@
+use Rattle.sedgechisel_nodes.proofs.Handled.{into_meets}
+use Rattle.sedgechisel_nodes.proofs.NodeHandles.{of_spacecraft}
+use Rattle.sedgechisel_nodes.proofs.handles.SpacecraftHandleHolds.into_kept.Statement.{statement}
+use Rattle.sedgechisel_nodes.proofs.handles.SpacecraftHandleHolds.into_kept.Code as code
+
+pub into_kept_spec : {M : Type 1} → statement M
+into_kept_spec 𝓤 𝓛 𝓜 𝓡 wired = into_meets of_spacecraft 𝓤 𝓛 𝓜 𝓡 _ (code.unfolded 𝓤 𝓛.H 𝓜 𝓡 wired)

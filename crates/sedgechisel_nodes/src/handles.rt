@@ -1,0 +1,189 @@
+// The handles of a program in C, which are opened and closed.
+
+ghost use Rattle.std.specs.Prelude.{◌≡◌, Option, None};
+ghost use Rattle.kept.specs.Keeping.{kept_owns, heap_token};
+ghost use Rattle.nodes.specs.Ground.{GroundState, new_ground};
+ghost use Rattle.nodes.specs.Spacecraft.{SpacecraftState, new_spacecraft};
+ghost use Rattle.nodes.specs.contracts.ground_node.Ground as ground_node;
+ghost use Rattle.nodes.specs.contracts.spacecraft.Spacecraft as spacecraft_node;
+ghost use Rattle.sedgechisel_nodes.specs.Calls.{IsOpened};
+ghost use Rattle.sedgechisel_nodes.specs.LinkState.{LinkState};
+ghost use Rattle.sedgechisel_nodes.specs.Links.{new_link};
+ghost use Rattle.sedgechisel_nodes.specs.contracts.sim.link.Link as link;
+
+use crate::answers::{MEMORY, OUT_OF_RANGE};
+use crate::holds::{Holds, open, take};
+use crate::sim::link::Link;
+use kept::Kept;
+use nodes::{Config, Ground, Spacecraft};
+use std::alloc::Global;
+use std::marker::Model;
+
+// Opens a node that is made of parameters in their ranges, in place of one that was there. Answers 0, or 254 where a
+// parameter is out of its range, or 6 where there is no memory.
+macro_rules! opened {
+    ($alloc:expr, $handle:expr, $config:expr, $make:path) => {{
+        let Ok(valid) = $config.valid() else {
+            return OUT_OF_RANGE;
+        };
+        match $make($alloc, &valid) {
+            Ok(node) => open($handle, $alloc, node),
+            Err(_) => MEMORY,
+        }
+    }};
+}
+
+/// A ground, or none, which is null.
+#[repr(C)]
+pub struct GroundHandle {
+    at: *mut u8,
+    pub ghost value: { Option GroundState },
+}
+
+impl Model for GroundHandle {
+    ghost also_owns = { λ h. kept_owns heap_token ground_node.the_row h.at h.value };
+}
+
+impl Holds for GroundHandle {
+    type Node = Ground;
+
+    ghost held = { λ h. h.value };
+
+    fn of(kept: Kept<Ground, Global>) -> GroundHandle
+        ensures { result.value ≡ kept.value }
+    {
+        let Kept { at, alloc: _ } = kept;
+        GroundHandle { at: at as *mut u8 }
+    }
+
+    fn into_kept(self, alloc: Global) -> Kept<Ground, Global> {
+        let GroundHandle { at } = self;
+        Kept {
+            at: at as *mut Ground,
+            alloc,
+        }
+    }
+}
+
+/// Opens a ground, in place of one that was there. Answers 0, or 254 where a parameter is out of its range, or 6 where
+/// there is no memory.
+#[unsafe(no_mangle)]
+pub extern "C" fn sedge_ground_open(alloc: Global, config: &Config, ground: &mut GroundHandle) -> u8
+    ensures { IsOpened config.now new_ground ground.old.value ground.new.value result }
+{
+    opened!(alloc, ground, config, Ground::of)
+}
+
+/// Closes the ground, where there is one.
+#[unsafe(no_mangle)]
+pub extern "C" fn sedge_ground_close(alloc: Global, ground: &mut GroundHandle)
+    ensures { ground.new.value ≡ None }
+{
+    drop(take(ground, alloc));
+}
+
+/// A spacecraft, or none, which is null.
+#[repr(C)]
+pub struct SpacecraftHandle {
+    at: *mut u8,
+    pub ghost value: { Option SpacecraftState },
+}
+
+impl Model for SpacecraftHandle {
+    ghost also_owns = { λ h. kept_owns heap_token spacecraft_node.the_row h.at h.value };
+}
+
+impl Holds for SpacecraftHandle {
+    type Node = Spacecraft;
+
+    ghost held = { λ h. h.value };
+
+    fn of(kept: Kept<Spacecraft, Global>) -> SpacecraftHandle
+        ensures { result.value ≡ kept.value }
+    {
+        let Kept { at, alloc: _ } = kept;
+        SpacecraftHandle { at: at as *mut u8 }
+    }
+
+    fn into_kept(self, alloc: Global) -> Kept<Spacecraft, Global> {
+        let SpacecraftHandle { at } = self;
+        Kept {
+            at: at as *mut Spacecraft,
+            alloc,
+        }
+    }
+}
+
+/// Opens a spacecraft, in place of one that was there. Answers as `sedge_ground_open`.
+#[unsafe(no_mangle)]
+pub extern "C" fn sedge_spacecraft_open(
+    alloc: Global,
+    config: &Config,
+    spacecraft: &mut SpacecraftHandle,
+) -> u8
+    ensures { IsOpened config.now new_spacecraft spacecraft.old.value spacecraft.new.value result }
+{
+    opened!(alloc, spacecraft, config, Spacecraft::of)
+}
+
+/// Closes the spacecraft, where there is one.
+#[unsafe(no_mangle)]
+pub extern "C" fn sedge_spacecraft_close(alloc: Global, spacecraft: &mut SpacecraftHandle)
+    ensures { spacecraft.new.value ≡ None }
+{
+    drop(take(spacecraft, alloc));
+}
+
+/// A simulated link, or none, which is null.
+#[repr(C)]
+pub struct SimHandle {
+    at: *mut u8,
+    pub ghost value: { Option LinkState },
+}
+
+impl Model for SimHandle {
+    ghost also_owns = { λ h. kept_owns heap_token link.the_row h.at h.value };
+}
+
+impl Holds for SimHandle {
+    type Node = Link;
+
+    ghost held = { λ h. h.value };
+
+    fn of(kept: Kept<Link, Global>) -> SimHandle
+        ensures { result.value ≡ kept.value }
+    {
+        let Kept { at, alloc: _ } = kept;
+        SimHandle { at: at as *mut u8 }
+    }
+
+    fn into_kept(self, alloc: Global) -> Kept<Link, Global> {
+        let SimHandle { at } = self;
+        Kept {
+            at: at as *mut Link,
+            alloc,
+        }
+    }
+}
+
+/// Opens a link with two new nodes, in place of one that was there. Answers as `sedge_ground_open`.
+#[unsafe(no_mangle)]
+pub extern "C" fn sedge_sim_open(alloc: Global, config: &Config, sim: &mut SimHandle) -> u8
+    ensures { IsOpened config.now new_link sim.old.value sim.new.value result }
+{
+    if config.fault().is_some() {
+        return OUT_OF_RANGE;
+    }
+    match Link::new(alloc, config) {
+        Some(link) => open(sim, alloc, link),
+        None => MEMORY,
+    }
+}
+
+/// Closes the link, where there is one.
+#[unsafe(no_mangle)]
+pub extern "C" fn sedge_sim_close(alloc: Global, sim: &mut SimHandle)
+    ensures { sim.new.value ≡ None }
+{
+    drop(take(sim, alloc));
+}
