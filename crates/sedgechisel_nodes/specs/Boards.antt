@@ -12,7 +12,7 @@ use Rattle.nodes.specs.declared.received.Received.{Received}
 use Rattle.nodes.specs.declared.received.Received.TheVariants.{Invalid, Foreign, Sequence, Bypass}
 use Rattle.nodes.specs.declared.received.Received.TheVariants.{Control}
 use Rattle.nodes.specs.Packets.{PacketOn}
-use Rattle.nodes.specs.Spacecraft.{SpacecraftState, SpacecraftEvent, Take, TakeBypass}
+use Rattle.nodes.specs.Spacecraft.{SpacecraftState, Take, TakeBypass}
 use Rattle.nodes.specs.Spacecraft.{spacecraft_step}
 use Rattle.clcw.specs.Flags.{flags_number}
 use Rattle.cop1.specs.Report.{report_of}
@@ -21,10 +21,6 @@ use Rattle.sedgechisel_nodes.specs.declared.spacecraft.KeptReceived.{KeptReceive
 use Rattle.sedgechisel_nodes.specs.Calls.{closed}
 use Rattle.sedgechisel_nodes.specs.Rooms.{next_answer, count_of, octets_on, map_left}
 use Rattle.sedgechisel_nodes.specs.Rooms.{IsHanding}
-
-abbrev pub stepped : Option SpacecraftState → SpacecraftEvent → Option SpacecraftState
-stepped None event = None
-stepped (Some s) event = Some (spacecraft_step s event).after
 
 abbrev pub dropped_number : Option Dropped → ℕ
 dropped_number None = 0

@@ -1,5 +1,6 @@
 -- The ground of a program in C: what a call answers, and what the program holds then.
-use Rattle.std.specs.Prelude.{◌≡◌, ◌≢◌, ℕ, ◌⊎◌, length, Option, Some, None, IfSome, Result, Ok, Err}
+use Rattle.std.specs.Prelude.{◌≡◌, ◌≢◌, ℕ, ◌⊎◌, length, Option, Some, None, option_map, IfSome}
+use Rattle.std.specs.Prelude.{Result, Ok, Err}
 use Rattle.cop1.specs.declared.vocabulary.Directive.{Directive}
 use Rattle.cop1.specs.declared.vocabulary.FopMode.{FopMode}
 use Rattle.cop1.specs.declared.vocabulary.FopMode.TheVariants.{S1, S2, S3, S4, S5, S6}
@@ -14,8 +15,7 @@ use Rattle.sedgechisel_nodes.specs.Calls.{closed}
 
 -- the ground after a call, where there is one
 abbrev pub stepped : Option GroundState → GroundEvent → Option GroundState
-stepped None event = None
-stepped (Some s) event = Some (ground_step s event).after
+stepped old event = option_map (λ s. (ground_step s event).after) old
 
 abbrev pub number_of : Result (Unit {0}) LinkFault → ℕ
 number_of (Ok x) = 0

@@ -87,11 +87,6 @@ link_step l event = record {
   octets = octets_after (world_step l.world event).answer;
 }
 
--- the link after an event, where there is one
-abbrev pub linked : Option LinkState → Event → Option LinkState
-linked None event = None
-linked (Some l) event = Some (link_step l event)
-
 -- the reply of the world is written
 abbrev pub IsReply : Result ReplyView SimFault → KeptReply → Type 0
 IsReply (Ok view) reply = reply ≡ reply_kept view
@@ -102,7 +97,7 @@ pub record IsEventCall (event : Event) (old new : Option LinkState) (answer : �
     (reply reply' : KeptReply) : Type 0 where
   pub none : old ≡ None → answer ≡ closed
   pub answer_is : IfSome old (λ l. IsStepAnswer (world_step l.world event).answer answer)
-  pub after : answer ≡ 0 → new ≡ linked old event
+  pub after : answer ≡ 0 → new ≡ option_map (λ l. link_step l event) old
   pub replied : answer ≡ 0 → IfSome old (λ l. IsReply (world_step l.world event).answer reply')
   pub unchanged : answer ≢ 0 → (new ≡ old) × (reply' ≡ reply)
 

@@ -1,11 +1,11 @@
 // What the spacecraft of a program in C receives, and the packets that it is to send as telemetry.
 
-ghost use Rattle.std.specs.Prelude.{◌≡◌, ◌≢◌, None, IfSome, Ok};
+ghost use Rattle.std.specs.Prelude.{◌≡◌, ◌≢◌, None, option_map, IfSome, Ok};
 ghost use Rattle.nodes.specs.Spacecraft.{Receive, Telemetry, spacecraft_step};
 ghost use Rattle.tm_link.specs.Building.{queue_fault};
 ghost use Rattle.tm_link.specs.Faults.{fault_row};
 ghost use Rattle.cop1.specs.Names.{verdict_row};
-ghost use Rattle.sedgechisel_nodes.specs.Boards.{stepped, dropped_number, received_kept};
+ghost use Rattle.sedgechisel_nodes.specs.Boards.{dropped_number, received_kept};
 ghost use Rattle.sedgechisel_nodes.specs.Calls.{closed, IsStep};
 
 use crate::answers::MEMORY;
@@ -119,8 +119,8 @@ pub extern "C" fn sedge_spacecraft_telemetry(
         (λ s. (spacecraft_step s (Telemetry packet.now)).answer ≡ Ok tt) }
     ensures fault { result ≢ 0 → IfSome spacecraft.old.value
         (λ s. result ≡ (fault_row (queue_fault packet.now)).0) }
-    ensures after { result ≡ 0
-        → spacecraft.new.value ≡ stepped spacecraft.old.value (Telemetry packet.now) }
+    ensures after { result ≡ 0 → spacecraft.new.value
+        ≡ option_map (λ s. (spacecraft_step s (Telemetry packet.now)).after) spacecraft.old.value }
     ensures unchanged { result ≢ 0 → spacecraft.new.value ≡ spacecraft.old.value }
 {
     held!(alloc, spacecraft, |node| match node.telemetry(packet) {
