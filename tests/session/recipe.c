@@ -1,0 +1,251 @@
+/* Follows the steps after an alert (docs/TOUR.md, "A session with losses") over random links with delays and losses,
+ * until that many sessions have begun: `recipe SESSIONS`. On board each packet has to be the next one that was wanted
+ * on its MAP: none twice, and none left out that was said to be accepted. recipe.py and recipe.rs do the same, and
+ * write the same lines. With a second word, `early`, it believes the first report after an alert, whenever that was
+ * made. */
+#include "sedgechisel.h"
+#include "sedgechisel_nodes.h"
+#include <stdio.h>
+#include <stdlib.h>
+#include <string.h>
+
+enum { PACKETS = 12, SLOWEST = 4, LONGEST = 30, ON_THEIR_WAY = 4096, LONGEST_RUN = 600 };
+
+struct frame {
+    long arrives;
+    size_t count;
+    uint8_t octets[1024];
+};
+
+/* One direction: frames arrive in order, each within `delay` ticks, or are lost. */
+struct way {
+    uint32_t delay, losses;
+    long last;
+    size_t first, count;
+    struct frame frames[ON_THEIR_WAY];
+};
+
+struct packet {
+    uint8_t map;
+    size_t count;
+    uint8_t octets[LONGEST];
+};
+
+static uint32_t state, sessions;
+static int is_early;
+static unsigned long begun, alerts, taken_in_all, ticks;
+static struct way up, down;
+static struct sedge_ground ground;
+static struct sedge_spacecraft spacecraft;
+static struct sedge_config config;
+/* The packets of a run, and the number of segments of those before each; ticks between takes. */
+static struct packet packets[PACKETS];
+static long segments[PACKETS + 1];
+static uint32_t pause;
+/* The tick at which a frame was last sent up; segments known to be accepted; packets submitted, and of them those that
+ * an earlier session had; packets taken. */
+static long sent, accepted;
+static size_t submitted, known, taken[2];
+
+static uint32_t draw(uint32_t below) {
+    state = state * 1664525 + 1013904223;
+    return (state >> 16) % below;
+}
+
+static void wrong(const char *what) {
+    printf("after %lu sessions: %s\n", begun, what);
+    exit(1);
+}
+
+static void expect(int holds, const char *call) {
+    if (!holds) wrong(call);
+}
+
+static struct sedge_ground_reading read_ground(void) {
+    struct sedge_ground_reading reading;
+    expect(sedge_ground_read(&ground, &reading) == 0, "sedge_ground_read");
+    return reading;
+}
+
+/* A place for the next frame on a way, which `send` then sends. */
+static struct frame *place_on(struct way *way) {
+    expect(way->count < ON_THEIR_WAY, "too many frames are on their way");
+    return &way->frames[(way->first + way->count) % ON_THEIR_WAY];
+}
+
+static void send(struct way *way, long now, struct frame *frame) {
+    long soonest = now + 1 + (long)draw(way->delay);
+    way->last = soonest > way->last ? soonest : way->last;
+    frame->arrives = way->last;
+    if (draw(10) >= way->losses) way->count++;
+}
+
+/* The next frame that has arrived, or none. */
+static struct frame *arrived(struct way *way, long now) {
+    struct frame *frame = &way->frames[way->first];
+    if (way->count == 0 || frame->arrives > now) return NULL;
+    way->first = (way->first + 1) % ON_THEIR_WAY;
+    way->count--;
+    return frame;
+}
+
+static void begin_way(struct way *way, uint32_t delay) {
+    way->delay = delay;
+    way->losses = draw(5);
+    way->last = 0;
+    way->first = way->count = 0;
+}
+
+static void begin_packets(void) {
+    size_t k;
+    for (k = 0; k < PACKETS; k++) {
+        struct packet *it = &packets[k];
+        size_t length;
+        it->map = (uint8_t)(4 + draw(2));
+        length = 1 + draw(24);
+        it->count = 6 + length;
+        memset(it->octets, (int)k, it->count);
+        memcpy(it->octets, "\x10\x05\xc0", 3);
+        it->octets[4] = 0;
+        it->octets[5] = (uint8_t)(length - 1);
+        segments[k + 1] = segments[k] + (long)((it->count + config.part - 1) / config.part);
+    }
+}
+
+/* Two new nodes over a link, and packets that are wanted on board. */
+static void begin_run(void) {
+    const struct sedge_config defaults = {1, 2, 0, 254, 127, 3, 10, 1016, 65542, ~(uint64_t)0, 64, 4, 500, 32, 0};
+    uint32_t delay;
+    config = defaults;
+    config.window = 1 + draw(8);
+    config.width = 2 * config.window + 2 * draw(4);
+    config.limit = 1 + draw(4);
+    config.part = 4 + draw(24);
+    config.ready_slots = 1 + draw(4);
+    delay = 1 + draw(SLOWEST);
+    config.timer = 2 * delay + 1 + draw(3);
+    begin_way(&up, delay);
+    begin_way(&down, delay);
+    pause = 1 + draw(3);
+    begin_packets();
+    sent = -99;
+    accepted = 0;
+    submitted = known = taken[0] = taken[1] = 0;
+    expect(sedge_ground_open(&config, &ground) == 0, "sedge_ground_open");
+    expect(sedge_spacecraft_open(&config, &spacecraft) == 0, "sedge_spacecraft_open");
+}
+
+/* The packet of this number among those on a MAP, or none. */
+static const struct packet *wanted(uint8_t map, size_t number) {
+    size_t k;
+    for (k = 0; k < PACKETS; k++) {
+        if (packets[k].map == map && number-- == 0) return &packets[k];
+    }
+    return NULL;
+}
+
+/* Takes a packet on board, which has to be the next of its MAP; whether there was one. */
+static int take(void) {
+    uint8_t map, octets[LONGEST];
+    size_t count;
+    const struct packet *next;
+    expect(sedge_spacecraft_take(&spacecraft, &map, octets, sizeof octets, &count) == 0, "sedge_spacecraft_take");
+    if (count == 0) return 0;
+    next = wanted(map, taken[map - 4]);
+    if (next == NULL || next->count != count || memcmp(next->octets, octets, count) != 0) {
+        wrong("a packet came that is not the next one");
+    }
+    taken[map - 4]++;
+    taken_in_all++;
+    return 1;
+}
+
+static void begin(uint8_t value) {
+    uint8_t more;
+    if (sedge_ground_accepted_beyond(&ground, value, &more) != 0) wrong("nothing is known of what was sent");
+    accepted += more;
+    for (submitted = PACKETS; segments[submitted] > accepted; submitted--) continue;
+    known = submitted;
+    accepted = segments[submitted];
+    if (draw(4) == 0) {
+        expect(sedge_ground_init_set_vr(&ground, (uint8_t)draw(256)) == 0, "sedge_ground_init_set_vr");
+    } else {
+        expect(sedge_ground_set_vs(&ground, value) == 0, "sedge_ground_set_vs");
+        expect(sedge_ground_init_unlock(&ground) == 0, "sedge_ground_init_unlock");
+    }
+    begun++;
+    if (begun % 1000 == 0) {
+        printf("%lu sessions: %lu alerts, %lu packets, %lu ticks\n", begun, alerts, taken_in_all, ticks);
+    }
+}
+
+static void hear(const struct frame *frame, long now) {
+    uint8_t nn = read_ground().nn;
+    struct sedge_heard heard;
+    struct sedge_clcw report;
+    expect(sedge_ground_telemetry(&ground, frame->octets, frame->count, &heard) == 0, "sedge_ground_telemetry");
+    accepted += (uint8_t)(read_ground().nn - nn);
+    alerts += heard.alert != 0;
+    if (heard.alert != 0 || read_ground().state != SEDGE_FOP_S6 || heard.kind != 3 || heard.report != 0) return;
+    expect(sedge_ground_report(&ground, frame->octets, frame->count, &report) == 0, "sedge_ground_report");
+    if ((is_early || now - sent > 2 * (long)up.delay) && (report.flags & SEDGE_CLCW_WAIT) == 0) begin(report.value);
+}
+
+static void submit_and_send(long now) {
+    for (; submitted < PACKETS; submitted++) {
+        const struct packet *it = &packets[submitted];
+        expect(sedge_ground_submit(&ground, it->map, it->octets, it->count) == 0, "sedge_ground_submit");
+    }
+    for (;;) {
+        struct frame *frame = place_on(&up);
+        expect(sedge_ground_pull(&ground, frame->octets, sizeof frame->octets, &frame->count) == 0, "sedge_ground_pull");
+        if (frame->count == 0) return;
+        sent = now;
+        send(&up, now, frame);
+    }
+}
+
+static void tick(long now) {
+    struct frame *frame;
+    struct sedge_received received;
+    while ((frame = arrived(&up, now)) != NULL) {
+        expect(sedge_spacecraft_receive(&spacecraft, frame->octets, frame->count, &received) == 0, "receive");
+    }
+    while (draw(pause) == 0 && take()) continue;
+    frame = place_on(&down);
+    expect(sedge_spacecraft_report(&spacecraft, frame->octets, sizeof frame->octets, &frame->count) == 0, "report");
+    send(&down, now, frame);
+    while ((frame = arrived(&down, now)) != NULL) hear(frame, now);
+    alerts += sedge_ground_tick(&ground) != 0;
+    if (draw(50) == 0 && read_ground().state != SEDGE_FOP_S6) {
+        expect(sedge_ground_terminate(&ground) == 0, "sedge_ground_terminate");
+        alerts++;
+    }
+    if (read_ground().state != SEDGE_FOP_S6) submit_and_send(now);
+}
+
+/* Goes on until all packets came, as long as a run may be; those that were said to be accepted have come then. */
+static void play(void) {
+    long now;
+    int has_ended = 0;
+    begin_run();
+    for (now = 0; now < LONGEST_RUN && !has_ended && begun < sessions; now++) {
+        struct sedge_ground_reading reading;
+        ticks++;
+        tick(now);
+        reading = read_ground();
+        has_ended = submitted == PACKETS && reading.state == SEDGE_FOP_S1 && reading.outstanding == 0;
+    }
+    while (take()) continue;
+    if (taken[0] + taken[1] < (has_ended ? PACKETS : known)) wrong("a packet that was said to be accepted did not come");
+}
+
+int main(int count, char **words) {
+    if (count < 2) return 2;
+    sessions = (uint32_t)strtoul(words[1], NULL, 10);
+    is_early = count > 2 && strcmp(words[2], "early") == 0;
+    while (begun < sessions) play();
+    sedge_ground_close(&ground);
+    sedge_spacecraft_close(&spacecraft);
+    return 0;
+}
