@@ -185,7 +185,9 @@ static void senders(void) {
         WANT(is_answer(answer, SEDGE_COP_WRONG_STATE, fop, &kept, sizeof kept));
     } else if (which == 13) {
         WANT(memcmp(fop, &kept, sizeof kept) == 0 && (answer == SEDGE_ABSENT || answer == SEDGE_DAMAGED || answer == SEDGE_OK));
-        WANT(answer == SEDGE_OK ? *number == (uint8_t)(value - fop->nn) : is_kept(number));
+        const uint8_t ahead = fop->vs == fop->nn ? 0 : (uint8_t)(value - fop->nn);
+        WANT(answer == SEDGE_OK ? *number == ahead : is_kept(number));
+        WANT(answer == SEDGE_DAMAGED || (answer == SEDGE_OK) == (ahead <= (uint8_t)(fop->vs - fop->nn)));
     } else if (which == 12 && word.vcid != vcid) {
         WANT(answer == SEDGE_ABSENT && memcmp(fop, &kept, sizeof kept) == 0 && is_kept(number));
         return;

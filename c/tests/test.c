@@ -404,7 +404,11 @@ static void what_was_accepted(void) {
         WANT(same == accepted);
     }
     WANT(sedge_fop_init_without_check(&fop) == SEDGE_OK);
-    WANT(sedge_fop_accepted_beyond(&fop, 0, &accepted) == SEDGE_ABSENT);
+    for (value = 0; value < 256; value++) {
+        accepted = same = 99;
+        WANT(sedge_fop_accepted_beyond(&fop, (uint8_t)value, &accepted) == SEDGE_OK && accepted == 0);
+        WANT(sedge_accepted_beyond(7, 7, (uint8_t)value, &same) == SEDGE_OK && same == 0);
+    }
 }
 
 static void the_directives(void) {

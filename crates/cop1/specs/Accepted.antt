@@ -1,9 +1,14 @@
 -- What a report's value says of the units that were sent and not acknowledged (CCSDS 232.1-B-2,
 -- 5.1).
-use Rattle.std.specs.Prelude.{ℕ, Option, Some, None, nat_lt, if◌then◌else◌}
+use Rattle.std.specs.Prelude.{ℕ, Option, Some, None, nat_lt, if◌then◌else◌, ◌==◌}
 use Rattle.cop1.specs.Modulo.{ahead_by}
 
--- how many of them, the oldest ones, were accepted; none where the value lies beyond V(S)
+-- how many of them, the oldest ones, were accepted: 0 where there are none of them; none where
+-- there are, and the value lies beyond V(S)
 abbrev pub accepted_beyond : (nn vs value : ℕ) → Option ℕ
 accepted_beyond nn vs value =
-    if nat_lt (ahead_by vs nn) (ahead_by value nn) then None else Some (ahead_by value nn)
+    if vs == nn
+    then Some 0
+    else if nat_lt (ahead_by vs nn) (ahead_by value nn)
+    then None
+    else Some (ahead_by value nn)

@@ -106,7 +106,9 @@ pub extern "C" fn sedge_spacecraft_read(
 
 /// Writes how many of the segments that were sent and not acknowledged were accepted on board when a report of this
 /// value was made, the oldest ones; after an alert too, until V(S) is set or an initiation begins (CCSDS 232.1-B-2,
-/// 5.1). Answers 0, or 253 where the value is beyond V(S), or 255 where there is no ground.
+/// 5.1). Where V(S) is NN(R) there are none of them, and it writes 0 whatever the value. Answers 0, or 253 where V(S) is
+/// not NN(R) and the value does not lie from NN(R) to V(S), so that nothing is known of them, or 255 where there is no
+/// ground.
 #[unsafe(no_mangle)]
 pub extern "C" fn sedge_ground_accepted_beyond(
     alloc: Global,

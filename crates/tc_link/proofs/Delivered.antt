@@ -6,7 +6,7 @@ use Rattle.tc_link.proofs.Common.{eqb-true, eqb-false, cond_both, ltb-true, appe
 use Rattle.tc_link.proofs.Common.{length-take-le, length-map, SegmentView, segment_octets, Limits, is_open, assembled}
 use Rattle.tc_link.proofs.Common.{segments_of, assembled_begins, Clcw, Directive, InitWithoutCheck, S1}
 use Rattle.tc_link.proofs.Common.{units_of, ahead_by, Config, PacketOn, limits_of, unsent_segments, is_closed}
-use Rattle.tc_link.proofs.Common.{WereAccepted, World, IsSettled, accepted, delivered, PlainLink}
+use Rattle.tc_link.proofs.Common.{◌==◌, WereAccepted, World, IsSettled, accepted, delivered, PlainLink}
 use Rattle.tc_link.proofs.Common.{IsHistory, HasPlainHistory, IsNear, Rises, number_of}
 use Rattle.tc_link.proofs.Common.{IsChecking}
 use Rattle.std.specs.List.{flat_map}
@@ -148,16 +148,18 @@ module _ (early : Bool) {Reached : PlainLink → Type 0} (c : Config) (d : Direc
       → p.a ≤ v → v ≤ p.r → said_by w value ≡ Some (v - p.a)
   said_is half_most ends value v is low high =
       let l = g.linked in
-      let vs_is : w.ground_node.fop.vs ≡ (base + p.n) % 256 = ends.0 in
-      let nn_is : w.ground_node.fop.nn ≡ (base + p.a) % 256 = ends.1 in
-      let ahead : ahead_by value w.ground_node.fop.nn ≡ v - p.a =
+      let s = w.ground_node.fop in
+      let vs_is : s.vs ≡ (base + p.n) % 256 = ends.0 in
+      let nn_is : s.nn ≡ (base + p.a) % 256 = ends.1 in
+      let ahead : ahead_by value s.nn ≡ v - p.a =
       omega (arith, is, nn_is, low, high, l.r_n, l.n_a, half_most) in
-      let room : ahead_by w.ground_node.fop.vs w.ground_node.fop.nn ≡ p.n - p.a =
+      let room : ahead_by s.vs s.nn ≡ p.n - p.a =
       omega (arith, vs_is, nn_is, l.a_r, l.r_n, l.n_a, half_most) in
-      cond_both (nat_lt (ahead_by w.ground_node.fop.vs w.ground_node.fop.nn) (ahead_by value w.ground_node.fop.nn))
-      None (Some (ahead_by value w.ground_node.fop.nn)) (λ o. o ≡ Some (v - p.a))
-      (λ t. absurd (omega (arith, ltb-true _ _ t, ahead, room, low, high, l.r_n)))
-      (λ t. ap Some ahead)
+      cond_both (s.vs == s.nn) (Some 0) _ (λ o. o ≡ Some (v - p.a))
+      (λ t. ap Some (omega (arith, eqb-true _ _ t, room, nn_is, low, high, l.r_n)))
+      (λ t. cond_both (nat_lt (ahead_by s.vs s.nn) (ahead_by value s.nn)) None (Some (ahead_by value s.nn))
+      (λ o. o ≡ Some (v - p.a)) (λ t. absurd (omega (arith, ltb-true _ _ t, ahead, room, low, high, l.r_n)))
+      (λ t. ap Some ahead))
 
   said_all : (half_most : c.width / 2 ≤ 127) → Ends → (low : ℕ) → (rs : List Clcw) (vs : List ℕ)
       → p.a ≤ low → DownIs base rs vs → Rises low vs p.r

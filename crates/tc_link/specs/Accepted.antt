@@ -1,7 +1,6 @@
 -- What the reports on their way say of the segments that were sent and are not acknowledged. They
 -- say it after an alert too, when the sender obeys no report.
 use Rattle.std.specs.Prelude.{◌≡◌, ◌≢◌, ◌≤◌, ◌⊎◌, ℕ, ◌+◌, List, [], length, take, Option, Some}
-use Rattle.std.specs.Prelude.{IfSome}
 use Rattle.std.specs.List.{AllByRecursion}
 use Rattle.cop1.specs.Accepted.{accepted_beyond}
 use Rattle.cop1.specs.declared.vocabulary.FopMode.TheVariants.{S6}
@@ -28,10 +27,6 @@ WereAccepted w k =
 abbrev pub said_by : World → ℕ → Option ℕ
 said_by w value = accepted_beyond w.ground_node.fop.nn w.ground_node.fop.vs value
 
--- if it says a number, that many were accepted
-abbrev pub SaysTrue : World → ℕ → Type 0
-SaysTrue w value = IfSome (said_by w value) (WereAccepted w)
-
 -- it says a number, and that many were accepted
 abbrev pub SaysHowMany : World → ℕ → Type 0
 SaysHowMany w value = (k : ℕ) × (said_by w value ≡ Some k) × WereAccepted w k
@@ -43,12 +38,11 @@ AcceptsNoMore w =
     → accepted (world_run w events) ≡ accepted w
 
 pub record SaysWhatWasAccepted (w : World) : Type 0 where
-  -- what a report says was accepted was: in any state, whatever the directives
-  pub never_false : IsSettled w → AllByRecursion (SaysTrue w) (values_down w)
-  -- while the numbers are the session's, each report says a number; by `HasPlainHistory` it is
-  -- exactly the number of those that were accepted when the report was made
-  pub each : IsSettled w → KeepsNumbers w → AllByRecursion (SaysHowMany w) (values_down w)
-  -- and V(R), which a report made now has, says how many are accepted now, which are all
+  -- each report says a number, and what it says was accepted was: in any state, whatever the
+  -- directives; while the numbers are the session's, it is by `HasPlainHistory` exactly the number of
+  -- those that were accepted when the report was made
+  pub each : IsSettled w → AllByRecursion (SaysHowMany w) (values_down w)
+  -- while they are, V(R), which a report made now has, says how many are accepted now, which are all
   pub now : IsSettled w → KeepsNumbers w
       → (k : ℕ) × (said_by w w.spacecraft.farm.vr ≡ Some k)
       × (w.session.acknowledged + k ≡ length (accepted w))

@@ -10,8 +10,9 @@ use crate::numbers::ABSENT;
 use cop1::accepted_beyond;
 
 /// How many of the units that were sent and not acknowledged were accepted on board when a report of this value was
-/// made, the oldest ones; after an alert too. Answers 0, or 255 where the sender is damaged, or 253 where the value
-/// lies beyond V(S), and nothing is written then.
+/// made, the oldest ones; after an alert too. Where V(S) is NN(R) there are none of them, and 0 is written whatever the
+/// value. Answers 0, or 255 where the sender is damaged, or 253 where V(S) is not NN(R) and the value does not lie
+/// from NN(R) to V(S), so that nothing is known of these units; nothing is written then.
 #[unsafe(no_mangle)]
 pub extern "C" fn sedge_fop_accepted_beyond(sender: &KeptSender, value: u8, accepted: &mut u8) -> u8
     ensures { IsWritten (λ n. n) (accepted_by sender.now value) accepted.old accepted.new result }
@@ -25,8 +26,8 @@ pub extern "C" fn sedge_fop_accepted_beyond(sender: &KeptSender, value: u8, acce
     }
 }
 
-/// The same of a sender with these numbers for NN(R) and V(S). Answers 0, or 253 where the value lies beyond V(S), and
-/// nothing is written then.
+/// The same of a sender with these numbers for NN(R) and V(S). Answers 0, or 253 where nothing is known, and nothing is
+/// written then.
 #[unsafe(no_mangle)]
 pub extern "C" fn sedge_accepted_beyond(nn: u8, vs: u8, value: u8, accepted: &mut u8) -> u8
     ensures { IsWritten (λ n. n) (if_there (accepted_beyond nn vs value)) accepted.old accepted.new result }

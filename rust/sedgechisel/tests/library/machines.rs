@@ -195,8 +195,9 @@ fn what_was_accepted() {
     assert_eq!((fop.terminate(), fop.state()), (Ok(()), FopState::S6));
     assert_eq!([0, 1, 2, 3, 255].map(|it| fop.accepted_beyond(it)), [Some(0), Some(1), Some(2), None, None]);
     fop.init_without_check().unwrap();
-    assert_eq!([1, 2].map(|it| fop.accepted_beyond(it)), [None, Some(0)]);
+    assert_eq!([1, 2, 3].map(|it| fop.accepted_beyond(it)), [Some(0); 3]);
     assert_eq!([250, 1, 5, 6].map(|it| accepted_beyond(250, 5, it)), [Some(0), Some(7), Some(11), None]);
+    assert_eq!([249, 250, 251].map(|it| accepted_beyond(250, 250, it)), [Some(0); 3]);
 }
 
 #[test]

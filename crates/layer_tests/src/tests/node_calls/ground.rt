@@ -228,7 +228,7 @@ fn both_ways(rt: HostRuntime) {
         (Ask::AcceptedBeyond(3, Some(2)), (S6, 3, 1, 0)),
         (Ask::AcceptedBeyond(4, None), (S6, 3, 1, 0)),
         (Ask::Directive(Directive::SetVs(9), Ok(None)), (S6, 9, 9, 0)),
-        (Ask::AcceptedBeyond(3, None), (S6, 9, 9, 0)),
+        (Ask::AcceptedBeyond(3, Some(0)), (S6, 9, 9, 0)),
     ];
     let config = with_value(Parameter::FrameLength, 19);
     asks(&rt, rt.alloc(), &config, &rows);
