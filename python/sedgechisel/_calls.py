@@ -21,8 +21,13 @@ def _call(name: str, answer: Any, *kinds: Any) -> Callable[..., Any]:
 class _Struct(ctypes.Structure):
     """A struct of the header: it compares by its fields, shows them, and holds no number that does not fit."""
 
+    _kinds: Dict[str, Any] = {}
+
+    def __init_subclass__(cls) -> None:
+        cls._kinds = {it[0]: it[1] for it in cls._fields_}
+
     def __setattr__(self, name: str, value: Any) -> None:
-        kinds: Dict[str, Any] = {it[0]: it[1] for it in self._fields_}
+        kinds = self._kinds
         if name not in kinds and not isinstance(getattr(type(self), name, None), property):
             raise AttributeError(f"{type(self).__name__} has no field {name}")
         _within(name, kinds.get(name), value)
@@ -49,7 +54,7 @@ def _written(call: Callable[..., Any], fault: Type[Fault], most: int, *values: A
     """The octets that a call writes, and says the number of, given this room."""
     out, total = ctypes.create_string_buffer(most), c_size_t()
     fault._look_at(call(*values, out, most, byref(total)))
-    return out.raw[:total.value]
+    return ctypes.string_at(out, total.value)
 
 
 def _count_of(call: Callable[..., Any], fault: Type[Fault], *values: Any) -> int:
@@ -119,7 +124,7 @@ class Clcw(_Struct):
     @classmethod
     def decode(cls, octets: bytes) -> Clcw:
         """Reads four octets; a ClcwFault where they are none, or not four."""
-        octets, word = _octets_of("octets", octets), cls()
+        octets, word = _octets_of("octets", octets), cls.__new__(cls)
         ClcwFault._look_at(_clcw_decode(octets, len(octets), byref(word)))
         return word
 
@@ -427,7 +432,7 @@ class TcFrame(_Struct):
     def decode(cls, octets: bytes, checked: bool = True) -> Tuple[TcFrame, bytes]:
         """Reads all of the octets as one frame, which ends with its FECF unless `checked` is False: the frame, and the
         data after the segment header, which a control frame lacks. A TcFault of 1 to 9 where they are none."""
-        octets, frame, part = _octets_of("octets", octets), cls(), _Part()
+        octets, frame, part = _octets_of("octets", octets), cls.__new__(cls), _Part()
         TcFault._look_at(_tc_decode(octets, len(octets), checked, byref(frame), byref(part)))
         return frame, part.of(octets)
 
@@ -486,7 +491,7 @@ class Packet(_Struct):
     @classmethod
     def decode(cls, octets: bytes) -> Tuple[Packet, bytes]:
         """Reads the packet that the octets begin with: the packet, and its data field. A PacketFault where there is none."""
-        octets, packet, part = _octets_of("octets", octets), cls(), _Part()
+        octets, packet, part = _octets_of("octets", octets), cls.__new__(cls), _Part()
         PacketFault._look_at(_packet_decode(octets, len(octets), byref(packet), byref(part)))
         return packet, part.of(octets)
 
@@ -547,7 +552,7 @@ class TmFrame(_Struct):
     def decode(cls, octets: bytes, length: Optional[int] = None) -> Tuple[TmFrame, bytes]:
         """Reads all of the octets as one frame of the channel's length, or of their own: the frame, and its data. A
         TmFault of 1 to 6 where they are none."""
-        octets, frame, part = _octets_of("octets", octets), cls(), _Part()
+        octets, frame, part = _octets_of("octets", octets), cls.__new__(cls), _Part()
         length = len(octets) if length is None else length
         TmFault._look_at(_tm_decode(octets, len(octets), length, byref(frame), byref(part)))
         return frame, part.of(octets)
@@ -622,7 +627,7 @@ class TmExtractor(Single):
         data, extracted = _octets_of("data", data), _TmExtracted()
         TmFault._look_at(_tm_extractor_frame(byref(self._extractor), byref(frame), data, len(data), self._memory,
                                              len(self._memory), byref(extracted)))
-        packets = [self._memory.raw[:extracted.joined]] if extracted.joined else []
+        packets = [ctypes.string_at(self._memory, extracted.joined)] if extracted.joined else []
         while _tm_packet(data, len(data), byref(extracted.packets)):
             packets.append(extracted.packets.of(data))
         return packets, None if extracted.first else extracted.lost
@@ -638,6 +643,7 @@ _tm_packet = _call("tm_packet", c_bool, *_OCTETS, POINTER(_Part))
 
 # ---- Packets in segments ----
 
+_IN_MEMORY = 1
 _dropped_word = _word_of("dropped")
 
 
@@ -671,7 +677,7 @@ class Map(Single):
         dropped, in the word of tctool, or None. A MapFault, 255 Damaged, for flags that are none."""
         data, taken = _octets_of("data", data), _Taken()
         MapFault._look_at(_map_take(byref(self._map), flags, data, len(data), self._memory, len(self._memory), byref(taken)))
-        whole = (b"", self._memory.raw, data)[taken.where][:taken.count]
+        whole = ctypes.string_at(self._memory, taken.count) if taken.where == _IN_MEMORY else data[:taken.count]
         return list(_packets_of(whole)), _dropped_word(taken.dropped) if taken.dropped else None
 
 

@@ -34,6 +34,8 @@ def within(name: str, kind: Any, value: Any) -> None:
 
 def octets_of(name: str, value: Any) -> bytes:
     """Octets as `bytes`; a TypeError where there are none, as in a number or a str."""
+    if type(value) is bytes:
+        return value
     if isinstance(value, bytes):
         return bytes(value)
     try:
@@ -43,18 +45,19 @@ def octets_of(name: str, value: Any) -> bytes:
 
 
 def call_of(library: ctypes.PyDLL, name: str, answer: Any, *kinds: Any) -> Callable[..., Any]:
-    """A call of a library, of which each number has its name and its kind. A number that its kind does not hold is an
-    OverflowError, where ctypes would cut it."""
+    """A call of a library, of which each number that a caller gives has its name and its kind. A number that its kind
+    does not hold is an OverflowError, where ctypes would cut it."""
     call: Any = getattr(library, "sedge_" + name)
-    named = [it if isinstance(it, tuple) else (name, it) for it in kinds]
-    call.restype, call.argtypes = answer, [kind for _, kind in named]
+    call.restype, call.argtypes = answer, [it[1] if isinstance(it, tuple) else it for it in kinds]
+    numbers = [(place, *it) for place, it in enumerate(kinds) if isinstance(it, tuple)]
 
     def checked(*values: Any) -> Any:
-        for (own, kind), value in zip(named, values):
-            within(own, kind, value)
+        for place, own, kind in numbers:
+            within(own, kind, values[place])
         return call(*values)
 
-    return checked
+    made: Callable[..., Any] = checked if numbers else call
+    return made
 
 
 class Single:

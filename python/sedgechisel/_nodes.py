@@ -142,7 +142,7 @@ class Handle(Single):
         """What a call writes, given room for the most octets that it may write."""
         out, count = ctypes.create_string_buffer(most), c_size_t()
         self._asked(call(byref(self._handle), *values, out, most, byref(count)))
-        return out.raw[:count.value]
+        return ctypes.string_at(out, count.value)
 
 
 _HANDLE, _OCTETS, _GIVEN = POINTER(_Raw), (c_char_p, c_size_t), (c_char_p, c_size_t, POINTER(c_size_t))
