@@ -33,12 +33,17 @@ class _Struct(ctypes.Structure):
         _within(name, kinds.get(name), value)
         super().__setattr__(name, value)
 
+    def _values(self) -> Dict[str, Any]:
+        """Its fields by their names. The octets between them are not looked at."""
+        return {name: getattr(self, name) for name in (it.lstrip("_") for it in self._kinds)}
+
     def __eq__(self, other: object) -> bool:
-        return bytes(self) == bytes(other) if isinstance(other, type(self)) else NotImplemented
+        if not isinstance(other, type(self)):
+            return NotImplemented
+        return self._values() == other._values()
 
     def __repr__(self) -> str:
-        names = (it[0].lstrip("_") for it in self._fields_)
-        return f"{type(self).__name__}({', '.join(f'{it}={getattr(self, it)!r}' for it in names)})"
+        return f"{type(self).__name__}({', '.join(f'{name}={it!r}' for name, it in self._values().items())})"
 
 
 class _Part(ctypes.Structure):
