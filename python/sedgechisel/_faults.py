@@ -25,7 +25,7 @@ def word_of(kind: str, library: ctypes.PyDLL = FIRST) -> Callable[[int], str]:
 
 class Fault(Exception):
     """What the library refuses: its `number` and its `name`, as the headers for C have them, and its `meaning`. Its
-    text is all three."""
+    text is all three. Faults of one kind are equal where their numbers are."""
 
     number: int
     name: str
@@ -43,6 +43,12 @@ class Fault(Exception):
 
     def __reduce__(self) -> Tuple[Type[Fault], Tuple[int]]:
         return type(self), (self.number,)
+
+    def __eq__(self, other: object) -> bool:
+        return isinstance(other, Fault) and (type(other), other.number) == (type(self), self.number)
+
+    def __hash__(self) -> int:
+        return hash((type(self), self.number))
 
     @classmethod
     def _name_of(cls, number: int) -> str:
