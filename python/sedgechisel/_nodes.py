@@ -91,7 +91,8 @@ class Handle(Single):
         config = Config(**fields) if config is None else config
         if not isinstance(config, Config):
             raise TypeError(f"{config!r} is not a Config; parameters are given by name, as in timer=3")
-        self._handle = _Raw()
+        if not hasattr(self, "_handle"):
+            self._handle = _Raw()
         answer = type(self)._opens(byref(config), byref(self._handle))
         if answer == _OUT_OF_RANGE:
             raise ConfigFault(_config_fault(byref(config)))
