@@ -16,7 +16,8 @@ from ._calls import (
     SequenceFlags, TcFrame, TmBuilder, TmExtractor, TmFrame, Verdict, accepted_beyond, check, check_append, check_holds,
     segments, version)
 from ._faults import (
-    CheckFault, ClcwFault, ConfigFault, CopFault, Fault, LinkFault, MapFault, PacketFault, SimFault, TcFault, TmFault)
+    CheckFault, ClcwFault, ConfigFault, CopFault, Fault, LinkFault, MapFault, PacketFault, SimFault, TcFault,
+    TelemetryFault, TmFault)
 from ._link import Begun, Link
 from ._nodes import Arrived, Config, Ground, Heard, Received, Report, Spacecraft, State
 
@@ -25,5 +26,5 @@ __all__ = [
     "NO_START", "ONLY_IDLE", "Alert", "Arrived", "Begun", "CheckFault", "Clcw", "ClcwFault", "Command", "Config",
     "ConfigFault", "CopFault", "Farm", "Fault", "Flags", "Fop", "Ground", "Heard", "Kind", "Link", "LinkFault", "Map",
     "MapFault", "Mode", "Next", "Packet", "PacketFault", "PacketKind", "Received", "Report", "Segment", "SequenceFlags",
-    "SimFault", "Spacecraft", "State", "TcFault", "TcFrame", "TmBuilder", "TmExtractor", "TmFault", "TmFrame",
-    "Verdict", "accepted_beyond", "check", "check_append", "check_holds", "segments", "version"]
+    "SimFault", "Spacecraft", "State", "TcFault", "TcFrame", "TelemetryFault", "TmBuilder", "TmExtractor", "TmFault",
+    "TmFrame", "Verdict", "accepted_beyond", "check", "check_append", "check_holds", "segments", "version"]

@@ -151,6 +151,12 @@ class TmFault(Fault):
     }
 
 
+class TelemetryFault(TmFault):
+    """Why a packet is not queued on board to be sent as telemetry."""
+
+    _meanings = {7: "there was no memory", 8: TmFault._meanings[8]}
+
+
 class MapFault(Fault):
     """Why octets are not cut into segments, or a MAP is refused."""
 

@@ -7,14 +7,14 @@ from enum import IntEnum
 from typing import Any, Callable, List, Optional, Tuple
 
 from ._calls import Alert, Clcw
-from ._faults import CopFault, LinkFault, SimFault, TmFault
+from ._faults import CopFault, LinkFault, SimFault, TelemetryFault
 from ._library import octets_of
 from ._nodes import (
     _DIRECTIVES, _GIVEN, _HANDLE, _MAP, _OCTETS, Heard, Received, Sender, State, _call, _closing, _Heard, _opening,
     _Received)
 
 _REFUSED = 3
-_REFUSED_BY = {1: LinkFault, 2: CopFault, 3: TmFault}
+_REFUSED_BY = {1: LinkFault, 2: CopFault, 3: TelemetryFault}
 _SUBMITTED, _DELIVERED, _SENT, _ACCEPTED = range(1, 5)
 
 
@@ -52,8 +52,8 @@ class Link(Sender):
     """A simulated link: a ground, a spacecraft of the same parameters, and the frames on their way between them, first
     in, first out. It keeps the records of its session, which begins with each initiation that the ground accepts.
 
-    An event that a node refuses is its fault, as of `Ground` and `Spacecraft`. A LinkFault or TmFault, Memory, and a
-    SimFault say that there was no memory; each event may be one. Nothing has changed then."""
+    An event that a node refuses is its fault, as of `Ground` and `Spacecraft`. A LinkFault or TelemetryFault, Memory,
+    and a SimFault say that there was no memory; each event may be one. Nothing has changed then."""
 
     _opens, _closes = _opening("sim"), _closing("sim")
 

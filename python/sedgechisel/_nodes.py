@@ -9,7 +9,7 @@ from types import TracebackType
 from typing import Any, Callable, Dict, Optional, Tuple, Type, TypeVar
 
 from ._calls import Alert, Clcw, Command, Mode, Verdict, _dropped_word, _Struct
-from ._faults import ClcwFault, ConfigFault, CopFault, Fault, LinkFault, TcFault, TmFault
+from ._faults import ClcwFault, ConfigFault, CopFault, Fault, LinkFault, TcFault, TelemetryFault, TmFault
 from ._library import NODES, Single, call_of, octets_of as _octets_of
 
 _ABSENT, _OUT_OF_RANGE, _NONE = 253, 254, 255
@@ -448,10 +448,10 @@ class Spacecraft(Handle):
         return self._taken(_spacecraft_take_bypass)
 
     def telemetry(self, packet: bytes) -> None:
-        """A packet is to be sent as telemetry. A TmFault: 8 NotAPacket where the octets are not exactly one packet, or
-        an idle packet; 7 Memory."""
+        """A packet is to be sent as telemetry. A TelemetryFault: 8 NotAPacket where the octets are not exactly one
+        packet, or an idle packet; 7 Memory."""
         packet = _octets_of("packet", packet)
-        self._asked(_spacecraft_telemetry(byref(self._handle), packet, len(packet)), TmFault)
+        self._asked(_spacecraft_telemetry(byref(self._handle), packet, len(packet)), TelemetryFault)
 
     def report(self) -> bytes:
         """Takes the next telemetry frame, which reports on the receiver: as many octets as `frame_length` says."""
