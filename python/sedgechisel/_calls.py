@@ -9,7 +9,9 @@ from typing import Any, Callable, Dict, Iterator, List, Optional, Tuple, Type
 
 from ._faults import (
     CheckFault, ClcwFault, CopFault, Fault, MapFault, PacketFault, TcFault, Text, TmFault, word_of as _word_of)
-from ._library import FIRST, Single, call_of, octets_of as _octets_of, within as _within
+from ._library import (
+    FIRST, Single, call_of, number_of as _number_of, octets_of as _octets_of, room_of as _room_of,
+    struct_of as _struct_of, within as _within)
 
 _ABSENT, _DAMAGED = 253, 255
 
@@ -340,7 +342,7 @@ class Fop(_Struct):
         """A Clcw has come, and the sender is that of the virtual channel vcid: the Alert, and how many of the oldest
         units are acknowledged. None, and nothing changes, for a word that reports on another channel."""
         released = c_uint8()
-        answer = _fop_report(byref(self), vcid, byref(word), byref(released))
+        answer = _fop_report(byref(self), vcid, _struct_of("word", Clcw, word), byref(released))
         if answer == _ABSENT:
             return None
         CopFault._look_at(answer == _DAMAGED and answer)
@@ -593,7 +595,7 @@ class TmBuilder(Single):
     that is none, or another length."""
 
     def __init__(self, scid: int, vcid: int, length: int, room: int = 65542) -> None:
-        self._builder, self._memory = _TmBuilder(), ctypes.create_string_buffer(room)
+        self._builder, self._memory = _TmBuilder(), _room_of("room", room)
         TmFault._look_at(_tm_builder_open(byref(self._builder), scid, vcid, length))
 
     @property
@@ -621,7 +623,7 @@ class TmExtractor(Single):
     packets it hands out those that need no more memory."""
 
     def __init__(self, longest: int = 65542) -> None:
-        if not 7 <= longest <= 65542:
+        if not 7 <= _number_of("longest", longest) <= 65542:
             raise ValueError(f"longest: {longest} is not in 7 to 65542")
         self._extractor, self._memory = _TmExtractor(), ctypes.create_string_buffer(longest + 2036)
 
@@ -630,8 +632,9 @@ class TmExtractor(Single):
         and the number of frames missing before it, modulo 256, or None for the first. A TmFault, 10 FieldRange for a
         pointer after the data, and 7 Memory where the packets need more memory; then the frame counts as missing."""
         data, extracted = _octets_of("data", data), _TmExtracted()
-        TmFault._look_at(_tm_extractor_frame(byref(self._extractor), byref(frame), data, len(data), self._memory,
-                                             len(self._memory), byref(extracted)))
+        TmFault._look_at(_tm_extractor_frame(
+            byref(self._extractor), _struct_of("frame", TmFrame, frame), data, len(data), self._memory,
+            len(self._memory), byref(extracted)))
         packets = [ctypes.string_at(self._memory, extracted.joined)] if extracted.joined else []
         while _tm_packet(data, len(data), byref(extracted.packets)):
             packets.append(extracted.packets.of(data))
@@ -675,7 +678,7 @@ class Map(Single):
     an alone segment may hold several whole packets."""
 
     def __init__(self, longest: int = 65542, blocking: bool = False) -> None:
-        self._map, self._memory = _Map(blocking=bool(blocking)), ctypes.create_string_buffer(longest)
+        self._map, self._memory = _Map(blocking=bool(blocking)), _room_of("longest", longest)
 
     def take(self, flags: int, data: bytes) -> Tuple[List[bytes], Optional[str]]:
         """Takes the next segment, its Segment flags and its data: the packets that are whole now, and why something was

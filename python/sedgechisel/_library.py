@@ -2,7 +2,7 @@
 from __future__ import annotations
 
 import ctypes
-from ctypes import c_uint8, c_uint16, c_uint32, c_uint64
+from ctypes import byref, c_size_t, c_uint8, c_uint16, c_uint32, c_uint64
 from os import path
 from typing import Any, Callable, Dict, Tuple, TypeVar
 
@@ -23,13 +23,23 @@ def _load(name: str) -> ctypes.PyDLL:
         raise ImportError(_LOST.format(file=file, why=why), name="sedgechisel", path=file) from None
 
 
+def number_of(name: str, value: Any) -> int:
+    """A number; a TypeError where there is none."""
+    if not isinstance(value, int):
+        raise TypeError(f"{name}: {value!r} is not a number")
+    return value
+
+
 def within(name: str, kind: Any, value: Any) -> None:
     """A number that its kind does not hold is an OverflowError, and what is no number a TypeError."""
-    if kind in _MOST:
-        if not isinstance(value, int):
-            raise TypeError(f"{name}: {value!r} is not a number")
-        if not 0 <= value <= _MOST[kind]:
-            raise OverflowError(f"{name}: {value} is not in 0 to {_MOST[kind]}")
+    if kind in _MOST and not 0 <= number_of(name, value) <= _MOST[kind]:
+        raise OverflowError(f"{name}: {value} is not in 0 to {_MOST[kind]}")
+
+
+def room_of(name: str, count: Any) -> Any:
+    """Memory of this many octets."""
+    within(name, c_size_t, count)
+    return ctypes.create_string_buffer(count)
 
 
 def octets_of(name: str, value: Any) -> bytes:
@@ -42,6 +52,13 @@ def octets_of(name: str, value: Any) -> bytes:
         return bytes(memoryview(value))
     except TypeError:
         raise TypeError(f"{name}: {value!r} is not bytes") from None
+
+
+def struct_of(name: str, kind: Any, value: Any) -> Any:
+    """A struct of this kind as a call takes it; a TypeError where the value is none."""
+    if not isinstance(value, kind):
+        raise TypeError(f"{name}: {value!r} is not a {kind.__name__}")
+    return byref(value)
 
 
 def call_of(library: ctypes.PyDLL, name: str, answer: Any, *kinds: Any) -> Callable[..., Any]:

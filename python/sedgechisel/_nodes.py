@@ -90,7 +90,7 @@ class Handle(Single):
             raise TypeError("a Config or its fields, but not both")
         config = Config(**fields) if config is None else config
         if not isinstance(config, Config):
-            raise TypeError(f"{config!r} is not a Config; parameters are given by name, as in timer=3")
+            raise TypeError(f"config: {config!r} is not a Config; parameters are given by name, as in timer=3")
         if not hasattr(self, "_handle"):
             self._handle = _Raw()
         answer = type(self)._opens(byref(config), byref(self._handle))
