@@ -667,10 +667,15 @@ class _Limits(ctypes.Structure):
     _fields_ = [("part", c_uint32), ("max_packet", c_uint32), ("blocking", c_uint8)]
 
 
-def _packets_of(octets: bytes) -> Iterator[bytes]:
+def _parts_of(octets: bytes) -> Iterator[_Part]:
+    """Where the packets are in the octets, one after another; a part is as it is until the next is asked for."""
     part = _Part()
     while _map_packet(octets, len(octets), byref(part)):
-        yield part.of(octets)
+        yield part
+
+
+def _packets_of(octets: bytes) -> Iterator[bytes]:
+    return (part.of(octets) for part in _parts_of(octets))
 
 
 class Map(Single):
@@ -690,18 +695,32 @@ class Map(Single):
 
 
 def segments(octets: bytes, part: int, longest: int = 65542, blocking: bool = False) -> List[Tuple[Segment, bytes]]:
-    """The segments of a packet, or with blocking of packets one after another, of at most `part` octets each: for each its
-    Segment flags and its data. A MapFault where the octets are no packet, or one of more than `longest`."""
+    """The segments of a packet, or with blocking of packets one after another, of at most `part` octets each: for each
+    its Segment flags and its data. A MapFault where the octets are no packet, or one of more than `longest`."""
     for name, value in (("part", part), ("longest", longest)):
         _within(name, c_uint32, value)
     octets, limits = _octets_of("octets", octets), _Limits(part, longest, bool(blocking))
     flags, data = c_uint8(), _Part()
     cut: List[Tuple[Segment, bytes]] = []
-    count = _count_of(_map_count, MapFault, octets, len(octets), byref(limits))
-    for k in range(count):
-        MapFault._look_at(_map_segment(octets, len(octets), byref(limits), k, byref(flags), byref(data)))
-        cut.append((Segment(flags.value), data.of(octets)))
+    _count_of(_map_count, MapFault, octets, len(octets), byref(limits))
+    for group in _groups_of(octets, part):
+        for k in range(_count_of(_map_count, MapFault, group, len(group), byref(limits))):
+            MapFault._look_at(_map_segment(group, len(group), byref(limits), k, byref(flags), byref(data)))
+            cut.append((Segment(flags.value), data.of(group)))
     return cut
+
+
+def _groups_of(octets: bytes, part: int) -> Iterator[bytes]:
+    """The packets that go into one segment together, or a packet that has more than `part` octets, from the left. A
+    segment is asked for among those of its group, since the library looks at all packets that it is given."""
+    start = end = 0
+    for packet in _parts_of(octets):
+        next_end = packet.start + packet.count
+        if next_end - start > part and end > start:
+            yield octets[start:end]
+            start = end
+        end = next_end
+    yield octets[start:end]
 
 
 _map_take = _call("map_take", c_uint8, POINTER(_Map), ("flags", c_uint8), *_OCTETS, *_OCTETS, POINTER(_Taken))
