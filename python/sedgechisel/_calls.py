@@ -5,6 +5,7 @@ from __future__ import annotations
 import ctypes
 from ctypes import POINTER, byref, c_bool, c_char_p, c_size_t, c_uint8, c_uint16, c_uint32
 from enum import IntEnum, IntFlag
+from threading import RLock
 from typing import Any, Callable, Dict, Iterator, List, Optional, Tuple, Type
 
 from ._faults import (
@@ -626,16 +627,18 @@ class TmExtractor(Single):
         if not 7 <= _number_of("longest", longest) <= 65542:
             raise ValueError(f"longest: {longest} is not in 7 to 65542")
         self._extractor, self._memory = _TmExtractor(), ctypes.create_string_buffer(longest + 2036)
+        self._lock = RLock()
 
     def take(self, frame: TmFrame, data: bytes) -> Tuple[List[bytes], Optional[int]]:
         """Takes the next frame that came, a TmFrame and its data: the packets whose last octets it has, but for idle ones,
         and the number of frames missing before it, modulo 256, or None for the first. A TmFault, 10 FieldRange for a
         pointer after the data, and 7 Memory where the packets need more memory; then the frame counts as missing."""
         data, extracted = _octets_of("data", data), _TmExtracted()
-        TmFault._look_at(_tm_extractor_frame(
-            byref(self._extractor), _struct_of("frame", TmFrame, frame), data, len(data), self._memory,
-            len(self._memory), byref(extracted)))
-        packets = [ctypes.string_at(self._memory, extracted.joined)] if extracted.joined else []
+        with self._lock:
+            TmFault._look_at(_tm_extractor_frame(
+                byref(self._extractor), _struct_of("frame", TmFrame, frame), data, len(data), self._memory,
+                len(self._memory), byref(extracted)))
+            packets = [ctypes.string_at(self._memory, extracted.joined)] if extracted.joined else []
         while _tm_packet(data, len(data), byref(extracted.packets)):
             packets.append(extracted.packets.of(data))
         return packets, None if extracted.first else extracted.lost
@@ -684,13 +687,16 @@ class Map(Single):
 
     def __init__(self, longest: int = 65542, blocking: bool = False) -> None:
         self._map, self._memory = _Map(blocking=bool(blocking)), _room_of("longest", longest)
+        self._lock = RLock()
 
     def take(self, flags: int, data: bytes) -> Tuple[List[bytes], Optional[str]]:
         """Takes the next segment, its Segment flags and its data: the packets that are whole now, and why something was
         dropped, in the word of tctool, or None. A MapFault, 255 Damaged, for flags that are none."""
         data, taken = _octets_of("data", data), _Taken()
-        MapFault._look_at(_map_take(byref(self._map), flags, data, len(data), self._memory, len(self._memory), byref(taken)))
-        whole = ctypes.string_at(self._memory, taken.count) if taken.where == _IN_MEMORY else data[:taken.count]
+        with self._lock:
+            MapFault._look_at(_map_take(
+                byref(self._map), flags, data, len(data), self._memory, len(self._memory), byref(taken)))
+            whole = ctypes.string_at(self._memory, taken.count) if taken.where == _IN_MEMORY else data[:taken.count]
         return list(_packets_of(whole)), _dropped_word(taken.dropped) if taken.dropped else None
 
 

@@ -59,7 +59,8 @@ class Link(Sender):
 
     def _event(self, name: str, *values: Any) -> _Reply:
         reply = _Reply()
-        self._asked(_events[name](byref(self._handle), *values, byref(reply)), SimFault)
+        with self._lock:
+            self._asked(_events[name](byref(self._handle), *values, byref(reply)), SimFault)
         if reply.kind == _REFUSED:
             raise _REFUSED_BY[reply.by](reply.fault)
         return reply
@@ -81,7 +82,8 @@ class Link(Sender):
 
     def send(self) -> Optional[bytes]:
         """The ground sends a frame, which is on its way up then; None where nothing is to be sent."""
-        return self._octets(self._event("send"))
+        with self._lock:
+            return self._octets(self._event("send"))
 
     def up_deliver(self) -> Received:
         """The first frame on its way up arrives; SimFault 7 where there is none, as of the five calls like it."""
@@ -116,8 +118,9 @@ class Link(Sender):
         return Alert(self._event("tick").alert)
 
     def _taken(self, name: str) -> Optional[Tuple[int, bytes]]:
-        reply = self._event(name)
-        packet = self._octets(reply)
+        with self._lock:
+            reply = self._event(name)
+            packet = self._octets(reply)
         return None if packet is None else (reply.map, packet)
 
     def take(self) -> Optional[Tuple[int, bytes]]:
@@ -180,11 +183,12 @@ class Link(Sender):
 
     def _entries(self, record: int, map: int = 0) -> List[bytes]:
         entries, length = c_size_t(), c_size_t()
-        self._asked(_sim_count(byref(self._handle), record, map, byref(entries)))
         found = []
-        for k in range(entries.value):
-            self._asked(_sim_entry_length(byref(self._handle), record, map, k, byref(length)))
-            found.append(self._given(_sim_entry, length.value, record, map, k))
+        with self._lock:
+            self._asked(_sim_count(byref(self._handle), record, map, byref(entries)))
+            for k in range(entries.value):
+                self._asked(_sim_entry_length(byref(self._handle), record, map, k, byref(length)))
+                found.append(self._given(_sim_entry, length.value, record, map, k))
         return found
 
     @property
@@ -192,9 +196,10 @@ class Link(Sender):
         """What was submitted in the session, in order: the MAP and the octets of each submission."""
         map, length = c_uint8(), c_size_t()
         found = []
-        for k in range(self._number(_sim_submissions)):
-            self._asked(_sim_submission_length(byref(self._handle), k, byref(map), byref(length)))
-            found.append((map.value, self._given(_sim_submission, length.value, k, byref(map))))
+        with self._lock:
+            for k in range(self._number(_sim_submissions)):
+                self._asked(_sim_submission_length(byref(self._handle), k, byref(map), byref(length)))
+                found.append((map.value, self._given(_sim_submission, length.value, k, byref(map))))
         return found
 
     def submitted(self, map: int) -> List[bytes]:

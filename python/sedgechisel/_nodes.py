@@ -5,6 +5,7 @@ import ctypes
 from ctypes import POINTER, byref, c_bool, c_char_p, c_size_t, c_uint8, c_uint16, c_uint32, c_uint64, c_void_p
 from dataclasses import dataclass
 from enum import IntEnum
+from threading import RLock
 from types import TracebackType
 from typing import Any, Callable, Dict, Optional, Tuple, Type, TypeVar
 
@@ -92,7 +93,7 @@ class Handle(Single):
         if not isinstance(config, Config):
             raise TypeError(f"config: {config!r} is not a Config; parameters are given by name, as in timer=3")
         if not hasattr(self, "_handle"):
-            self._handle = _Raw()
+            self._handle, self._lock = _Raw(), RLock()
         answer = type(self)._opens(byref(config), byref(self._handle))
         if answer == _OUT_OF_RANGE:
             raise ConfigFault(_config_fault(byref(config)))
@@ -100,7 +101,8 @@ class Handle(Single):
 
     def close(self) -> None:
         """Closes it, and gives its memory back; again does nothing."""
-        type(self)._closes(byref(self._handle))
+        with self._lock:
+            type(self)._closes(byref(self._handle))
 
     @property
     def closed(self) -> bool:
