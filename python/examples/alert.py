@@ -3,6 +3,7 @@ those of docs/TOUR.md, "A session with losses"; the first session begins by them
 Run it by PYTHONPATH=DIR/lib/python python3 python/examples/alert.py, or paste it into a notebook."""
 import collections
 import random
+import sys
 
 import sedgechisel as sc
 
@@ -23,7 +24,8 @@ def arrived(way):
         yield way.popleft()[1]
 
 
-# The tick of the last alert; how many packets are submitted, and how many segments are known to be accepted.
+# The tick of the last alert, since which nothing is pulled; how many packets are submitted, and how many segments are
+# known to be accepted.
 now, stopped, submitted, accepted = 0, 0, 0, 0
 with sc.Ground(config) as ground, sc.Spacecraft(config) as spacecraft:
     while accepted < SEGMENTS * len(packets):
@@ -37,10 +39,15 @@ with sc.Ground(config) as ground, sc.Spacecraft(config) as spacecraft:
             nn, heard = ground.nn, ground.telemetry(frame)
             accepted += (ground.nn - nn) % 256
             alert = alert or heard.alert
+            # What was pulled last has arrived or is lost DELAY later, and this report was made DELAY ago. So it was
+            # made with nothing on its way up if it comes more than a round trip later.
             is_quiet = ground.state == sc.State.S6 and not alert and now - stopped > ROUND_TRIP
             if is_quiet and heard.report == sc.Report.USED:
-                value = sc.Clcw.decode(sc.TmFrame.decode(frame)[0].ocf).value
-                accepted += ground.accepted_beyond(value) or 0
+                value = ground.report_in(frame).value
+                beyond = ground.accepted_beyond(value)
+                if beyond is None:
+                    sys.exit(f"tick {now}: V(R) is {value}; nothing is known of what was sent and not acknowledged")
+                accepted += beyond
                 submitted = accepted // SEGMENTS
                 print(f"tick {now}: segments accepted: {accepted}; a session begins at packet {submitted}")
                 accepted = submitted * SEGMENTS  # of a packet that is accepted in part, all segments are sent again

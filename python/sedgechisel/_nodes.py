@@ -361,8 +361,9 @@ class Ground(Sender):
 
     def accepted_beyond(self, value: int) -> Optional[int]:
         """How many of the segments that were sent and not acknowledged were accepted on board when a report of this
-        value was made, the oldest ones; None where the value is beyond V(S). After an alert too, in S6, until V(S) is
-        set or an initiation begins (232.1-B-2, 5.1)."""
+        value was made, the oldest ones. Where V(S) = NN(R) it is 0, whatever the value. Elsewhere None, where the value
+        is beyond V(S): nothing is known of them. After an alert too, in S6, until V(S) is set or an initiation begins
+        (232.1-B-2, 5.1)."""
         accepted = c_uint8()
         answer = _ground_accepted_beyond(byref(self._handle), value, byref(accepted))
         if answer == _ABSENT:
