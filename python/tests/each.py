@@ -1,0 +1,489 @@
+"""Each member of each enumeration once, each method with the longest values, each argument with a wrong one, and
+threads that share an object."""
+import ctypes
+import enum
+import inspect
+import sys
+import threading
+
+from wanted import says
+
+COMMAND = bytes.fromhex("1005c0000000aa")
+
+
+# ---- Enumerations. The octets are spelled by 232.0-B-4, 4.1 and 4.2, and 133.0-B-2, 4.1. ----
+
+
+def each_member_of_each_enumeration(it):
+    """Each member comes of a call, or names what a call read."""
+    found = [*verdicts(it), *alerts(it), *senders(it), *read(it), *arrivals(it), *links(it)]
+    wanted = [member for kind in vars(it).values() if isinstance(kind, enum.EnumMeta) for member in kind]
+    assert all(isinstance(one, enum.Enum) for one in found)
+    names = {f"{type(one).__name__}.{one.name}" for one in found}
+    # Terminate answers nothing: its alert has its word alone.
+    assert {f"{type(one).__name__}.{one.name}" for one in wanted} - names == {"Alert.TERMINATED"}
+
+
+def verdicts(it):
+    farm = it.Farm(10)
+    found = [farm.ad(0), farm.ad(2), farm.ad(0), farm.mode, farm.ad(1, False), farm.mode]
+    farm.released()
+    found += [farm.ad(100), farm.mode, farm.ad(1)]
+    verdict, mode = it.Verdict, it.Mode
+    assert found == [verdict.ACCEPTED, verdict.AHEAD, verdict.BEHIND, mode.OPEN, verdict.NO_BUFFER, mode.WAIT,
+                     verdict.OUTSIDE, mode.LOCKOUT, verdict.DISCARDED]
+    assert [one.word for one in verdict] == ["accepted", "ahead", "nobuffer", "behind", "outside", "discarded"]
+    return found
+
+
+def active(it, limit=2):
+    """A sender in S1 whose unit 0 is sent and not acknowledged."""
+    fop = it.Fop(width=10, window=5, limit=limit, timer=2)
+    fop.init_without_check()
+    fop.submit()
+    assert fop.next() == (it.Next.FIRST, 0)
+    return fop
+
+
+def alerts(it):
+    retransmit, wait, lockout = it.Flags.RETRANSMIT, it.Flags.WAIT, it.Flags.LOCKOUT
+    rows = (("LOCKOUT", 2, lockout, 0), ("NNR", 2, 0, 2), ("CLCW", 2, wait, 0), ("SYNCH", 2, retransmit, 1),
+            ("LIMIT", 1, retransmit, 0), ("NONE", 2, 0, 1))
+    found = [active(it, limit).report(2, it.Clcw(vcid=2, flags=flags, value=value)) for _, limit, flags, value in rows]
+    assert found == [(it.Alert[name], 1 if name == "NONE" else 0) for name, *_ in rows]
+    assert active(it).report(2, it.Clcw(vcid=3)) is None
+    last = active(it, 1)
+    assert (last.tick(), last.tick(), last.tick()) == (it.Alert.NONE, it.Alert.TIMER, it.Alert.NONE)
+    words = ["", "Lockout", "NnR", "Clcw", "Synch", "Limit", "Timer", "Terminated"]
+    assert [one.word for one in it.Alert] == words
+    return [*(alert for alert, _ in found), active_alert(it)]
+
+
+def active_alert(it):
+    fop = active(it, 1)
+    fop.tick()
+    return fop.tick()
+
+
+def senders(it):
+    """What is next, and the states of a sender by a ground, whose reports these are."""
+    fop = it.Fop(width=10, window=5, limit=2, timer=2)
+    found = [fop.next()]
+    fop.init_unlock()
+    found += [fop.next()]
+    fop.terminate()
+    fop.init_set_vr(7)
+    found += [fop.next()]
+    again = active(it)
+    again.report(0, it.Clcw(flags=it.Flags.RETRANSMIT))
+    found += [again.next()]
+    which = it.Next
+    assert found == [(which.NOTHING, 0), (which.UNLOCK, 0), (which.SET_VR, 7), (which.AGAIN, 0)]
+    states = []
+    with it.Ground() as ground:
+        def hears(word):
+            ground.telemetry(it.TmFrame(scid=1, pointer=it.ONLY_IDLE, ocf=word.encode()).encode(bytes(52)))
+            states.append(ground.state)
+
+        states.append(ground.state)
+        ground.init_unlock()
+        hears(it.Clcw(vcid=2, flags=it.Flags.LOCKOUT))
+        ground.terminate()
+        ground.init_with_check()
+        states.append(ground.state)
+        hears(it.Clcw(vcid=2))
+        ground.submit(4, COMMAND)
+        ground.pull()
+        hears(it.Clcw(vcid=2, flags=it.Flags.RETRANSMIT | it.Flags.WAIT))
+        hears(it.Clcw(vcid=2, flags=it.Flags.RETRANSMIT))
+    assert [one.name for one in states] == ["S6", "S5", "S4", "S1", "S3", "S2"]
+    return [*(one for one, _ in found), which.FIRST, *states]
+
+
+def read(it):
+    """What names the fields of frames, packets and control words."""
+    segments = [it.TcFrame.decode(bytes.fromhex(f"0001080603{flags}aa"), False) for flags in ("04", "44", "84", "c4")]
+    assert all(data == b"\xaa" and (frame.n, frame.map) == (3, 4) for frame, data in segments)
+    frames = [segments[0][0], *(it.TcFrame.decode(bytes.fromhex(octets), False)[0] for octets in (
+        "20010806003faa", "300108050000", "3001080700820007"))]
+    kinds = [it.Kind(frame.kind) for frame in frames]
+    assert kinds == [it.Kind.AD, it.Kind.BD, it.Kind.BC, it.Kind.BC] and frames[1].map == 63
+    commands = [it.Command(frame.command) for frame in frames[2:]]
+    assert commands == [it.Command.UNLOCK, it.Command.SET_VR] and frames[3].vr == 7
+    flags = [it.Segment(frame.flags) for frame, _ in segments]
+    assert flags == [it.Segment.CONTINUING, it.Segment.FIRST, it.Segment.LAST, it.Segment.ALONE]
+    packets = [it.Packet.decode(bytes.fromhex(octets))[0] for octets in (
+        "00050001000055", "10054001000055", "18058001000055", "1805c001000055")]
+    assert [packet.secondary for packet in packets] == [0, 0, 1, 1] and {packet.apid for packet in packets} == {5}
+    types = [it.PacketKind(packet.kind) for packet in packets]
+    assert types == [it.PacketKind.TELEMETRY, *[it.PacketKind.TELECOMMAND] * 3]
+    sequence = [it.SequenceFlags(packet.flags) for packet in packets]
+    assert [one.name for one in sequence] == ["CONTINUATION", "FIRST", "LAST", "UNSEGMENTED"]
+    words = [it.Clcw.decode(bytes.fromhex(f"0108{flag}07")) for flag in ("08", "10", "20", "40", "80")]
+    bits = [it.Flags(word.flags) for word in words]
+    assert [one.name for one in bits] == ["RETRANSMIT", "WAIT", "LOCKOUT", "NO_BIT_LOCK", "NO_RF"]
+    return [*kinds, *commands, *flags, *types, *sequence, *bits]
+
+
+def arrivals(it):
+    """What octets were that arrived, each with what its kind has."""
+    kind, idle = it.Arrived, {"pointer": it.ONLY_IDLE}
+    config = it.Config(maps=1 << 4, part=3)
+    segment = it.TcFrame(scid=1, vcid=2, flags=it.Segment.ALONE, map=5)
+    with it.Spacecraft(config) as board, it.Ground(config) as ground:
+        came = [board.receive(b"1"), board.receive(it.TcFrame(scid=2, flags=3).encode(b"1")),
+                board.receive(segment.encode(COMMAND))]
+        segment.map, segment.kind = 4, it.Kind.BD
+        came += [board.receive(segment.encode(COMMAND))]
+        came += [board.receive(it.TcFrame(scid=1, vcid=2, kind=it.Kind.BC, command=one, vr=1).encode())
+                 for one in (it.Command.UNLOCK, it.Command.SET_VR)]
+        assert came == [
+            it.Received(kind.INVALID, fault=it.TcFault(1)), it.Received(kind.FOREIGN),
+            it.Received(kind.AD, n=0, verdict=it.Verdict.ACCEPTED, dropped="ClosedMap"),
+            it.Received(kind.BD, kept=True), it.Received(kind.BC, command=it.Command.UNLOCK),
+            it.Received(kind.BC, command=it.Command.SET_VR, vr=1)], came
+        rows = ((4, it.Segment.LAST, "NoBeginning"), (4, it.Segment.FIRST, None), (4, it.Segment.FIRST, "Interrupted"),
+                (4, it.Segment.LAST, "NotAPacket"))
+        for n, (map, flags, dropped) in enumerate(rows, 1):
+            segment = it.TcFrame(scid=1, vcid=2, n=n, flags=flags, map=map)
+            assert board.receive(segment.encode(COMMAND[:5])) == it.Received(
+                kind.AD, n=n, verdict=it.Verdict.ACCEPTED, dropped=dropped)
+        heard = [ground.telemetry(octets) for octets in (
+            b"1", it.TmFrame(scid=2, **idle).encode(bytes(52)),
+            it.TmFrame(scid=1, ocf=b"\x80\0\0\0", **idle).encode(bytes(52)),
+            it.TmFrame(scid=1, vc_count=3, ocf=it.Clcw(vcid=3).encode(), **idle).encode(bytes(52)),
+            it.TmFrame(scid=1, vc_count=4, ocf=it.Clcw(vcid=2).encode(), **idle).encode(bytes(52)))]
+        assert heard == [
+            it.Heard(kind.INVALID, fault=it.TmFault(1)), it.Heard(kind.FOREIGN),
+            it.Heard(kind.TM, gap=None, report=it.Report.NONE, word_fault=it.ClcwFault(1)),
+            it.Heard(kind.TM, gap=2, report=it.Report.OTHER), it.Heard(kind.TM, gap=0, report=it.Report.USED)], heard
+    with it.Spacecraft(max_packet=7) as board:
+        long = it.TcFrame(scid=1, vcid=2, flags=it.Segment.ALONE)
+        assert board.receive(long.encode(it.Packet(kind=1).encode(b"12"))).dropped == "TooLong"
+    return [one.kind for one in came + heard] + [one.report for one in heard[2:]]
+
+
+def links(it):
+    """How a session begins."""
+    with it.Link() as link:
+        found = [link.begun]
+        for begins in (link.init_without_check, link.init_with_check, link.init_unlock, lambda: link.init_set_vr(7)):
+            begins()
+            found.append(link.begun)
+            link.terminate()
+    assert [one.name for one in found] == ["NOT", "WITHOUT_CHECK", "WITH_CHECK", "UNLOCK", "SET_VR"]
+    return found
+
+
+# ---- Methods. ----
+
+
+def each_method_with_the_longest_values(it):
+    """Each public method is called, with the longest octets and the largest numbers that it takes or gives."""
+    called = set()
+    sys.setprofile(lambda frame, event, _: called.add(frame.f_code) if event == "call" else None)
+    try:
+        for calls in (longest_frames, longest_telemetry, longest_segments, longest_machines, longest_nodes,
+                      longest_link):
+            calls(it)
+    finally:
+        sys.setprofile(None)
+    missing = sorted(code.co_qualname if hasattr(code, "co_qualname") else code.co_name
+                     for code in public_code(it) if code not in called)
+    assert not missing, missing
+
+
+def public_code(it):
+    """The code of each public function, method and property."""
+    for owner in (vars(it)[name] for name in it.__all__):
+        kinds = owner.__mro__ if isinstance(owner, type) else ()
+        own = {name: one for kind in reversed(kinds) for name, one in vars(kind).items()} or {owner: owner}
+        for name, one in own.items():
+            one = getattr(one, "fget", None) or getattr(one, "__func__", one)
+            is_public = name == "__init__" or not str(name).startswith("_")
+            if is_public and inspect.isfunction(one) and one.__module__.startswith(it.__name__ + "."):
+                if not one.__code__.co_filename.startswith("<"):
+                    yield one.__code__
+
+
+# The longest data field, and the packets of it.
+DATA = bytes(range(256)) * 256
+
+
+def packets(it):
+    return [it.Packet(apid=2046, count=16383, kind=kind, secondary=1, flags=3).encode(DATA) for kind in (0, 1)]
+
+
+def longest_frames(it):
+    _, command = packets(it)
+    assert it.Packet.decode(command) == (it.Packet(2046, 16383, 1, 1, 3), DATA)
+    assert it.Packet.declared(command[:6]) == len(command) == 65542 and command[:6].hex() == "1ffeffffffff"
+    frame = it.TcFrame(scid=1023, vcid=63, kind=it.Kind.AD, n=255, flags=it.Segment.ALONE, map=63)
+    for checked, most in ((True, 1016), (False, 1018)):
+        octets = frame.encode(DATA[:most], checked)
+        assert len(octets) == 1024 and octets[:6].hex() == "03ffffffffff" and octets[6:6 + most] == DATA[:most]
+        assert it.TcFrame.decode(octets, checked) == (frame, DATA[:most])
+        assert it.TcFrame.declared(octets[:5], checked) == 1024
+        says(it.TcFault, "11 FieldRange", frame.encode, DATA[:most + 1], checked)
+    frame = it.TmFrame(scid=1023, vcid=7, mc_count=255, vc_count=255, pointer=2035, ocf=b"\xff\xfe\xfd\xfc")
+    octets = frame.encode(DATA[:2036])
+    assert len(octets) == 2048 and octets[:6].hex() == "3fffffff1ff3" and octets[2042:2046] == frame.ocf
+    assert it.TmFrame.decode(octets, 2048) == it.TmFrame.decode(octets) == (frame, DATA[:2036])
+    word = it.Clcw(status=7, vcid=63, flags=0xF8, farm_b=3, value=255)
+    assert word.encode().hex() == "1dfcfeff" and it.Clcw.decode(word.encode()) == word
+    assert it.check_append(DATA) == DATA[:-2] + it.check(DATA[:-2]).to_bytes(2, "big")
+    assert it.check_holds(it.check_append(DATA)) and it.check_append(b"..") == b"\xff\xff"
+
+
+def longest_telemetry(it):
+    packet, _ = packets(it)
+    builder, extractor, found = it.TmBuilder(1023, 7, 2048, room=2 * len(packet)), it.TmExtractor(65542), []
+    builder.queue(packet), builder.queue(packet)
+    assert builder.waiting == 2 * 65542
+    says(it.TmFault, "7 Memory", builder.queue, bytes.fromhex("0005c0000000aa"))
+    while builder.waiting:
+        octets = builder.build(b"\xff\xfe\xfd\xfc")
+        assert len(octets) == 2048
+        found += extractor.take(*it.TmFrame.decode(octets))[0]
+    assert found == [packet] * 2
+    frame = it.TmFrame(vc_count=63, pointer=it.ONLY_IDLE)
+    assert extractor.take(frame, bytes(2036)) == ([], 254)  # the last count was 64, of 65 frames
+
+
+def longest_segments(it):
+    _, command = packets(it)
+    cut, board = it.segments(command, 1016), it.Map(65542)
+    assert len(cut) == 65 and b"".join(data for _, data in cut) == command
+    assert [board.take(*segment) for segment in cut] == [([], None)] * 64 + [([command], None)]
+    assert it.segments(command, 2**32 - 1, 2**32 - 1) == [(it.Segment.ALONE, command)]
+    assert it.Map(65542).take(it.Segment.ALONE, command) == ([command], None)
+    two = command + COMMAND
+    assert it.segments(two, len(two), blocking=True) == [(it.Segment.ALONE, two)]
+    assert it.Map(65542, True).take(it.Segment.ALONE, two) == ([command, COMMAND], None)
+    says(it.MapFault, "2 TooLong", it.segments, command, 1016, 65541)
+    assert it.Map(65541).take(it.Segment.ALONE, command) == ([], "TooLong")
+
+
+def longest_machines(it):
+    farm = it.Farm(254, 255)
+    farm.bd(), farm.set_vr(254), farm.unlock(), farm.released()
+    assert (farm.ad(254, True), farm.ad(255)) == (it.Verdict.ACCEPTED, it.Verdict.ACCEPTED)
+    assert farm.report(63) == it.Clcw(vcid=63, farm_b=3, value=0) and farm.mode == it.Mode.OPEN
+    fop = it.Fop(width=254, window=127, limit=255, timer=65535)
+    for directs in (lambda: fop.set_vs(255), lambda: fop.set_window(127), lambda: fop.set_limit(255),
+                    lambda: fop.set_timer(65535), fop.init_with_check, fop.terminate, fop.init_unlock, fop.terminate,
+                    lambda: fop.init_set_vr(255), fop.terminate, fop.init_without_check):
+        directs()
+    assert (fop.timer, fop.room, fop.vs, fop.nn, fop.window, fop.limit) == (65535, 127, 255, 255, 127, 255)
+    for k in range(127):
+        fop.submit()
+        assert fop.next() == (it.Next.FIRST, (255 + k) % 256)
+    assert fop.tick() == it.Alert.NONE and fop.ticks == 65534 and (fop.sent, fop.vs) == (127, 126)
+    assert fop.accepted_beyond(126) == it.accepted_beyond(255, 126, 126) == 127 and fop.accepted_beyond(127) is None
+    assert fop.report(63, it.Clcw(vcid=63, value=126)) == (it.Alert.NONE, 127)
+    # Nothing is sent and not acknowledged, whatever the value.
+    assert {fop.accepted_beyond(value) for value in range(256)} == {0}
+    assert {it.accepted_beyond(126, 126, value) for value in range(256)} == {0}
+    assert it.version.count(".") == 2 and it.Alert.NNR.word == "NnR" and it.Verdict.AHEAD.word == "ahead"
+    for kind in (fault for fault in vars(it).values() if isinstance(fault, type) and issubclass(fault, it.Fault)):
+        assert kind(255).number == 255
+
+
+def largest(it):
+    return it.Config(scid=1023, vcid=63, tm_vcid=7, width=254, window=127, limit=255, timer=65535, part=1016,
+                     max_packet=65542, maps=2**64 - 1, ready_slots=64, bypass_slots=64, queue_slots=65535,
+                     frame_length=2048, blocking=1)
+
+
+def directs(node):
+    """Each directive, with the largest number that it takes."""
+    for directive, *number in (
+            (node.set_vs, 255), (node.set_window, 127), (node.set_limit, 255), (node.set_timer, 65535),
+            (node.init_without_check,), (node.terminate,), (node.init_with_check,), (node.terminate,),
+            (node.init_unlock,), (node.terminate,), (node.init_set_vr, 255)):
+        directive(*number)
+
+
+def longest_nodes(it):
+    packet, command = packets(it)
+    assert largest(it).fault() is None and it.Config(scid=2**32 - 1).fault() == "scid"
+    with it.Ground(largest(it)) as ground, it.Spacecraft(largest(it)) as board:
+        directs(ground)
+        octets = ground.pull()
+        assert it.TcFrame.decode(octets)[0] == it.TcFrame(scid=1023, vcid=63, kind=it.Kind.BC, command=1, vr=255)
+        assert board.receive(octets) == it.Received(it.Arrived.BC, command=it.Command.SET_VR, vr=255)
+        assert board.control_word == it.Clcw(vcid=63, farm_b=1, value=255) and board.mode == it.Mode.OPEN
+        down = board.report()
+        assert len(down) == ground.frame_length == board.frame_length == 2048
+        assert ground.report_in(down) == board.control_word
+        assert ground.telemetry(down) == it.Heard(it.Arrived.TM, report=it.Report.USED)
+        ground.submit(63, command)
+        assert (ground.state, ground.vs, ground.nn, ground.outstanding) == (it.State.S1, 255, 255, 65)
+        frames = [ground.pull() for _ in range(65)]
+        assert [len(frame) for frame in frames] == [1024] * 64 + [526] and ground.pull() is None
+        accepted = {"kind": it.Arrived.AD, "verdict": it.Verdict.ACCEPTED}
+        assert [board.receive(frame) for frame in frames] == [
+            it.Received(n=(255 + k) % 256, ready=k // 64, **accepted) for k in range(65)]
+        assert board.take() == (63, command) and board.take() is None and ground.accepted_beyond(64) == 65
+        ground.bypass(63, it.Packet(kind=1).encode(DATA[:1010]))
+        octets = ground.pull()
+        assert len(octets) == 1024 and board.receive(octets) == it.Received(it.Arrived.BD, kept=True)
+        assert board.take_bypass() == (63, octets[6:-2]) and board.take_bypass() is None
+        for _ in range(255):
+            board.report()
+        board.telemetry(packet)
+        heard = [ground.telemetry(board.report()) for _ in range(33)]
+        assert [one.gap for one in heard] == [255] + [0] * 32 and [one.packets for one in heard] == [0] * 32 + [1]
+        assert (ground.nn, ground.outstanding) == (64, 0) and ground.take_telemetry() == packet
+        assert ground.take_telemetry() is None and ground.tick() == it.Alert.NONE and not ground.closed
+        ground.close()
+        assert ground.closed
+
+
+def longest_link(it):
+    packet, command = packets(it)
+    with it.Link(largest(it)) as link:
+        directs(link)
+        assert len(link.send()) == 10 and link.up_deliver().vr == 255
+        assert link.report() == it.Clcw(vcid=63, farm_b=1, value=255)
+        assert link.down_deliver() == it.Heard(it.Arrived.TM, report=it.Report.USED)
+        assert (link.begun, link.clean, link.idle, link.confirmed) == (it.Begun.SET_VR, True, True, True)
+        link.submit(63, command), link.bypass(63, it.Packet(kind=1).encode(DATA[:1010]))
+        assert [len(link.send()) for _ in range(66)] == [1024] * 65 + [526] and link.send() is None
+        came = [link.up_deliver() for _ in range(66)]
+        assert [one.ready for one in came] == [0] * 65 + [1] and link.take() == (63, command) and link.take() is None
+        assert link.take_bypass() == (63, it.Packet(kind=1).encode(DATA[:1010])) and link.take_bypass() is None
+        assert link.submitted(63) == link.delivered(63) == [command] and link.submissions == [(63, command)]
+        assert link.sent == link.accepted and [len(one) for one in link.sent] == [1017] * 64 + [519]
+        assert (link.state, link.acknowledged, link.outstanding) == (it.State.S1, 0, 65)
+        link.telemetry(packet)
+        for _ in range(33):
+            link.report()
+        assert sum(link.down_deliver().packets for _ in range(33)) == 1 and link.acknowledged == 65
+        link.submit(63, command), link.send(), link.send(), link.report(), link.report()
+        assert link.up_damage(DATA) == it.Received(it.Arrived.INVALID, fault=it.TcFault(5))
+        assert link.down_damage(DATA) == it.Heard(it.Arrived.INVALID, fault=it.TmFault(1))
+        assert link.up_lose() is None and link.down_lose() is None and link.tick() == it.Alert.NONE
+
+
+# ---- Arguments. ----
+
+
+def owners(it):
+    """What has methods, and one of each."""
+    return (it.Clcw(), it.Farm(10), it.Fop(10, 5, 1, 1), it.TcFrame(), it.Packet(), it.TmFrame(),
+            it.TmBuilder(1, 0, 20), it.TmExtractor(), it.Map(), it.Ground(), it.Spacecraft(), it.Link())
+
+
+def callables(it):
+    """Each call that takes a value, and its name."""
+    for one in owners(it):
+        yield type(one).__name__, type(one)
+        for name in dir(type(one)):
+            if name[0] != "_" and callable(getattr(type(one), name)):
+                yield f"{type(one).__name__}.{name}", getattr(one, name)
+    yield "Config", it.Config
+    for name in ("accepted_beyond", "check", "check_append", "check_holds", "segments"):
+        yield name, getattr(it, name)
+
+
+def each_wrong_argument(it):
+    """A value of a wrong type is a TypeError, and a number that does not fit an OverflowError; both name it."""
+    right = {"int": 1, "Optional[int]": 1, "bytes": bytes(4), "bool": False, "Clcw": it.Clcw(), "TmFrame": it.TmFrame(),
+             "Optional[Config]": None}
+    wrong = {"int": ("1", 1.0, None, b"1"), "bytes": ("1", 1, None), "Clcw": ("1", 1, None, it.TmFrame()),
+             "TmFrame": ("1", 1, None, it.Clcw()), "Optional[Config]": ("1", 1, it.Clcw()), "Optional[int]": ("1", 1.0)}
+    tried = 0
+    for name, call in callables(it):
+        parameters = {own: one for own, one in inspect.signature(call).parameters.items() if own != "fields"}
+        given = {own: right[one.annotation] for own, one in parameters.items()}
+        for own, kind in ((own, one.annotation) for own, one in parameters.items() if one.annotation in wrong):
+            for value in wrong[kind]:
+                says(TypeError, f"{own}: ", call, **{**given, own: value})
+            tried += 1
+            for value in (-1, 2**64) if "int" in kind else ():
+                says(ValueError if name == "TmExtractor" else OverflowError, f"{own}: {value} is not in ", call,
+                     **{**given, own: value})
+    assert tried > 100, tried
+    for one in (*owners(it)[:6], it.Config()):
+        for own, kind in one._fields_:
+            if own != "_ocf":
+                says(TypeError, f"{own}: '1' is not a number", setattr, one, own, "1")
+                says(OverflowError, f"{own}: -1 is not in 0 to", setattr, one, own, -1)
+                says(OverflowError, f"{own}: {1 << 8 * ctypes.sizeof(kind)} is not in", setattr, one, own,
+                     1 << 8 * ctypes.sizeof(kind))
+        says(AttributeError, "", setattr, one, "other", 1)
+
+
+# ---- Threads. ----
+
+
+class Between:
+    """Stands in place of a call of the library: after it another thread does something, or waits for the lock."""
+
+    def __init__(self, call, does):
+        self.call, self.thread = call, threading.Thread(target=does)
+
+    def __call__(self, *values):
+        answer = self.call(*values)
+        if not self.thread.ident:
+            self.thread.start()
+            self.thread.join(0.1)
+        return answer
+
+
+def between(module, name, does, method):
+    """What a method answers where another thread does something after this call of the method."""
+    call = getattr(module, name)
+    stand = Between(call, does)
+    setattr(module, name, stand)
+    try:
+        answer = method()
+        stand.thread.join()
+    finally:
+        setattr(module, name, call)
+    assert stand.thread.ident
+    return answer
+
+
+def threads_that_share(it):
+    """Where a method makes several calls of the library, no method of another thread comes between them."""
+    calls, link_calls = it._calls, it._link
+    board = it.Map(7)
+    board.take(it.Segment.FIRST, COMMAND[:3])
+
+    def takes():
+        other = COMMAND[:-1] + b"\xbb"
+        board.take(it.Segment.FIRST, other[:3]), board.take(it.Segment.LAST, other[3:])
+
+    assert between(calls, "_map_take", takes, lambda: board.take(it.Segment.LAST, COMMAND[3:])) == ([COMMAND], None)
+    extractor, packet = it.TmExtractor(16), bytes.fromhex("0005c0000004") + b"abcde"
+    halves = [(it.TmFrame(pointer=0), packet[:6]), (it.TmFrame(pointer=it.NO_START, vc_count=1), packet[6:])]
+    extractor.take(*halves[0])
+    third = it.TmFrame(pointer=0, vc_count=2), bytes.fromhex("0005c0010009")
+    assert between(calls, "_tm_extractor_frame", lambda: extractor.take(*third),
+                   lambda: extractor.take(*halves[1])) == ([packet], 0)
+    with it.Link() as link:
+        link.init_without_check()
+        link.submit(4, COMMAND), link.submit(5, COMMAND)
+        events = {**link_calls._events}
+        for name in ("send", "take"):
+            events[name] = Between(events[name], link.tick)
+        kept, link_calls._events = link_calls._events, events
+        try:
+            assert len(link.send()) == 15 and link.up_deliver().ready == 1
+            assert link.take() == (4, COMMAND)
+        finally:
+            link_calls._events = kept
+        for name in ("send", "take"):
+            events[name].thread.join()
+
+        def begins():
+            link.terminate(), link.init_without_check()
+
+        assert between(link_calls, "_sim_count", begins, lambda: link.submitted(4)) == [COMMAND]
+        link.submit(4, COMMAND)
+        assert between(link_calls, "_sim_submissions", begins, lambda: link.submissions) == [(4, COMMAND)]
+
+
+TESTS = (each_member_of_each_enumeration, each_method_with_the_longest_values, each_wrong_argument, threads_that_share)

@@ -1,0 +1,304 @@
+"""The package beside the headers for C: its calls with their parameters, its structs, its enumerations; and each method
+beside the calls that it makes, by its text."""
+import ast
+import ctypes
+import enum
+import os
+import re
+
+TOP = os.path.dirname(os.path.dirname(os.path.dirname(os.path.realpath(__file__))))
+MODULES = ("_faults", "_calls", "_nodes", "_link")
+
+# What only tells how many octets are next, which the package does not ask: it gives room for the most.
+NOT_CALLED = {"sedge_ground_next", "sedge_ground_next_telemetry", "sedge_spacecraft_next",
+              "sedge_spacecraft_next_bypass"}
+
+# Structs that have another name than their class, the fields that have another name in Python, and classes that stand
+# for the handles of all three kinds of node.
+STRUCTS = {"_GroundReading": "ground_reading", "_SpacecraftReading": "spacecraft_reading", "_Reading": "sim_reading"}
+FIELDS = {"from": "start", "ocf": "_ocf", "link": "node"}
+HANDLES = ("ground", "spacecraft", "sim")
+
+# Each enumeration with its enum in the headers, and the members that have another name there; and those of which the
+# headers have the numbers in a note.
+ENUMS = {"Verdict": "verdict", "Mode": "farm_mode", "Alert": "alert", "Next": "next", "Kind": "tc_kind",
+         "Segment": "segment_flags", "Command": "command", "PacketKind": "packet_kind", "Flags": "clcw_flags",
+         "State": "fop_state", "Begun": "begun"}
+MEMBERS = {"SEDGE_NO_ALERT": "NONE"}
+NOTED = {"SequenceFlags": "CONTINUATION FIRST LAST UNSEGMENTED", "Report": "USED NONE OTHER",
+         "Arrived": "- INVALID FOREIGN AD BD BC TM"}
+
+
+def text_of(file):
+    with open(f"{TOP}/{file}", encoding="utf-8") as it:
+        return it.read()
+
+
+def header():
+    text = text_of("c/include/sedgechisel.h") + text_of("c/include/sedgechisel_nodes.h")
+    return re.sub(r"/\*.*?\*/", "", text, flags=re.S)
+
+
+def modules_of(it):
+    return [getattr(it, name) for name in MODULES]
+
+
+# ---- Calls. ----
+
+
+def header_calls():
+    """Of each call its answer, and its parameters, each as its type and its name."""
+    for answer, name, words in re.findall(r"^([a-z][\w ]*?) (sedge_\w+)\(([^)]*)\);", header(), re.M):
+        words = [" ".join(it.split()) for it in words.split(",") if it.strip() != "void"]
+        parameters = []
+        for it, after in zip(words, [*words[1:], ""]):
+            kind, own = re.fullmatch(r"(.*?)(\w+)", it).groups()
+            kind = re.sub(r"\b(const|struct)\b", "", kind).replace(" ", "")
+            is_counted = kind == "uint8_t*" and re.fullmatch(r"size_t \w+", after)
+            parameters.append(("octets" if is_counted else kind, own))
+        yield name, (answer.replace("struct ", ""), parameters)
+
+
+def struct_names(it):
+    """The structs of the package by their names in the headers, as `sedge_tc_frame`."""
+    for module in modules_of(it):
+        for name, kind in vars(module).items():
+            if isinstance(kind, type) and issubclass(kind, ctypes.Structure) and kind.__module__ == module.__name__:
+                if name not in ("_Struct", "_Raw"):
+                    words = STRUCTS.get(name) or re.sub(r"(?<=[a-z])(?=[A-Z])", "_", name.lstrip("_")).lower()
+                    yield kind, f"sedge_{words}"
+
+
+def spelled(kind, structs):
+    """A type of ctypes as the headers have it."""
+    simple = {ctypes.c_uint8: "uint8_t", ctypes.c_uint16: "uint16_t", ctypes.c_uint32: "uint32_t",
+              ctypes.c_size_t: "size_t", ctypes.c_bool: "bool", ctypes.c_char_p: "octets", None: "void",
+              ctypes.c_void_p: "void*", ctypes.c_char: "char"}
+    if kind in simple or kind in structs:
+        return simple.get(kind) or structs[kind]
+    return f"{spelled(kind._type_, structs)}*"
+
+
+def calls_of_the_headers(it):
+    """Each call of the headers is called with its types, and numbers are given by the names of its parameters."""
+    structs = {**dict(struct_names(it)), it._nodes._Raw: "handle"}
+    bound = {name: call for library in (it._library.FIRST, it._library.NODES) for name, call in vars(library).items()
+             if name.startswith("sedge_")}
+    wanted = {name: call for name, call in header_calls() if name not in NOT_CALLED}
+    assert sorted(bound) == sorted(wanted), sorted({*bound} ^ {*wanted})
+    for name, (answer, parameters) in wanted.items():
+        kinds = [re.sub(f"sedge_({'|'.join(HANDLES)})\\*", "handle*", kind) for kind, _ in parameters]
+        shown = [spelled(kind, structs) for kind in bound[name].argtypes]
+        assert shown == kinds and spelled(bound[name].restype, structs) == answer, f"{name}: {shown}, and not {kinds}"
+    for where, call in named_calls(it):
+        name, numbers = made_of(call)
+        parameters = wanted[name][1]
+        for place, own, kind in numbers:
+            assert parameters[place] == (spelled(kind, structs), own), f"{where}: {own} is not {parameters[place]}"
+    assert len(wanted) > 100
+
+
+def made_of(call):
+    """The name of the C call that a call makes, and the numbers that it tests: their places, names and types."""
+    if not getattr(call, "__closure__", None):
+        return call.__name__, []
+    kept = dict(zip(call.__code__.co_freevars, (cell.cell_contents for cell in call.__closure__)))
+    return kept["call"].__name__, kept["numbers"]
+
+
+def is_call(value):
+    return hasattr(value, "argtypes") or getattr(value, "__qualname__", "") == "call_of.<locals>.checked"
+
+
+def named_calls(it):
+    """The calls that the modules keep: a variable, or an entry of a dictionary, has one each."""
+    for module in modules_of(it):
+        for name, value in vars(module).items():
+            if is_call(value):
+                yield f"{module.__name__}.{name}", value
+            elif isinstance(value, dict) and name[0] == "_":
+                yield from ((f"{module.__name__}.{name}[{key}]", it) for key, it in value.items() if is_call(it))
+
+
+def calls_by_their_names(it):
+    """A variable has the call of its own name, and an entry that of its key."""
+    known = dict(named_calls(it))
+    for where, call in known.items():
+        name = made_of(call)[0]
+        _, own, key = re.fullmatch(r"(.*)\._(\w+?)(?:\[(\w+)\])?", where).groups()
+        prefix = {"events": "sim", "ground_directives": "ground"}.get(own)
+        assert name == f"sedge_{prefix}_{key}" if key else name == f"sedge_{own}", f"{where} is {name}"
+    for kind, prefix in zip((it.Ground, it.Spacecraft, it.Link), HANDLES):
+        assert made_of(kind._opens)[0] == f"sedge_{prefix}_open" and made_of(kind._closes)[0] == f"sedge_{prefix}_close"
+    assert len(known) > 100
+
+
+# ---- Structs and enumerations. ----
+
+
+def structs_of_the_headers(it):
+    """Each struct has the fields of its header, in order, with their types; a size_t has 64 bits."""
+    structs, wanted = dict(struct_names(it)), {}
+    for name, body in re.findall(r"^struct (sedge_\w+) \{(.*?)^\};", header(), re.M | re.S):
+        fields = re.findall(r"(?:struct )?(\w+) (\*?)(\w+)(\[\d+\])?;", body.replace("uint64_t", "size_t"))
+        wanted[name] = [(FIELDS.get(own, own), kind + star + many) for kind, star, own, many in fields]
+    shown = {name: [(own, field_of(field, structs)) for own, field in kind._fields_] for kind, name in structs.items()}
+    shown.update({f"sedge_{kind}": [("node", spelled(it._nodes._Raw._fields_[0][1], {}))] for kind in HANDLES})
+    for name in sorted({*wanted, *shown}):
+        assert shown.get(name) == wanted.get(name), f"{name}: {shown.get(name)}, and not {wanted.get(name)}"
+    assert len(wanted) > 20
+
+
+def field_of(kind, structs):
+    many = f"[{kind._length_}]" if hasattr(kind, "_length_") else ""
+    return spelled(kind._type_ if many else kind, structs) + many
+
+
+def enumerations_of_the_headers(it):
+    """Each enumeration has the members of its enum, with their numbers."""
+    bodies = dict(re.findall(r"^enum sedge_(\w+) \{(.*?)^\};", header(), re.M | re.S))
+    classes = {name: kind for name, kind in vars(it).items() if isinstance(kind, enum.EnumMeta)}
+    assert {*classes} == {*ENUMS, *NOTED}
+    for name, own in ENUMS.items():
+        numbers = {case: int(number, 0) for case, number in re.findall(r"(SEDGE_\w+) = (\w+)", bodies[own])}
+        members = {case: member.value for case, member in classes[name].__members__.items()}
+        assert sorted(members.values()) == sorted(numbers.values()), name
+        for case, number in numbers.items():
+            member = classes[name](number).name
+            assert MEMBERS.get(case) == member or is_name_of(member, case), f"{name}.{member} is {case}"
+    for name, members in NOTED.items():
+        assert [(member.name, member.value) for member in classes[name]] == [
+            (member, number) for number, member in enumerate(members.split()) if member != "-"], name
+    pointers = dict(re.findall(r"SEDGE_POINTER_(\w+) = (\d+)", bodies["pointer"]))
+    assert pointers == {"ONLY_IDLE": str(it.ONLY_IDLE), "NO_START": str(it.NO_START)}
+
+
+def is_name_of(member, case):
+    return f"_{case}".replace("_", "").endswith(member.replace("_", ""))
+
+
+# ---- Methods. ----
+
+# The calls of each class have this prefix, and those of no class none.
+PREFIXES = {"Clcw": "clcw", "Farm": "farm", "Fop": "fop", "TcFrame": "tc", "Packet": "packet", "TmFrame": "tm",
+            "TmBuilder": "tm_builder", "TmExtractor": "tm_extractor", "Map": "map", "Config": "config",
+            "Ground": "ground", "Spacecraft": "spacecraft", "Link": "sim", "Sender": "directive"}
+# Methods that make other calls than the one of their own name, and what these are.
+OTHERS = {
+    "Farm.__init__": "farm_open", "Farm.mode": "farm_state", "Fop.__init__": "fop_open",
+    "TmBuilder.__init__": "tm_builder_open", "TmExtractor.take": "tm_extractor_frame tm_packet",
+    "segments": "map_count map_count map_segment", "_parts_of": "map_packet",
+    "Alert.word": "alert_word", "Verdict.word": "verdict_word", "Map.take": "map_take dropped_word",
+    "_Received.value": "dropped_word", "Handle.__init__": "config_fault", "Ground.report_in": "ground_report",
+    "Ground._read": "ground_read", "Ground._direct": "ground_directives", "Spacecraft._read": "spacecraft_read",
+    "Link._read": "sim_read", "Link._event": "events", "Link._octets": "sim_octets",
+    "Link._entries": "sim_count sim_entry_length sim_entry",
+    "Link.submissions": "sim_submissions sim_submission_length sim_submission",
+}
+# Methods that make no call themselves, and what they make it by.
+BY = {
+    "Link.submitted": "_entries _SUBMITTED", "Link.delivered": "_entries _DELIVERED", "Link.sent": "_entries _SENT",
+    "Link.accepted": "_entries _ACCEPTED",
+    **{f"Ground.{name}": f"_read {name}" for name in ("state", "vs", "nn", "outstanding", "frame_length")},
+    "Ground._shown": "_read state vs nn", "Spacecraft._shown": "_read state value", "Spacecraft.mode": "_read state",
+    "Spacecraft.frame_length": "_read frame_length",
+    "Spacecraft.control_word": "_read status vcid flags farm_b value",
+    **{f"Link.{name}": f"_read {name}" for name in ("state", "outstanding", "acknowledged", "begun", "clean", "idle",
+                                                    "confirmed")},
+    "Link._shown": "_read state outstanding acknowledged",
+}
+# Methods that make none at all.
+NONE = {"TmFrame.__init__", "TmFrame.ocf", "TmBuilder.waiting", "TmExtractor.__init__", "Map.__init__", "Clcw.__init__",
+        "TcFrame.__init__", "Packet.__init__", "Config.__init__", "Spacecraft._taken", "Link._direct", "Link._taken",
+        "Sender._direct"}
+# What a method keeps for itself, wherever it does.
+KEPT = {"room", "longest", "blocking"}
+
+
+def functions(module):
+    """Each function of a module and of its classes, by its name."""
+    for node in ast.parse(text_of(f"python/sedgechisel/{module}.py")).body:
+        if isinstance(node, ast.FunctionDef):
+            yield node.name, node
+        elif isinstance(node, ast.ClassDef):
+            yield from ((f"{node.name}.{one.name}", one) for one in node.body if isinstance(one, ast.FunctionDef))
+
+
+def calls_in(function, known):
+    """The calls that a function makes, in the order of its text: those that a module keeps, and those of which the
+    name is given (`_event`, `_direct`, `_taken`)."""
+    for node in ast.walk(function):
+        if isinstance(node, ast.Name) and node.id.lstrip("_") in known and node.id[0] == "_":
+            yield node.lineno, node.col_offset, node.id[1:], None
+        if isinstance(node, ast.Call) and isinstance(node.func, ast.Attribute):
+            given = [one.value for one in node.args if isinstance(one, ast.Constant) and isinstance(one.value, str)]
+            if node.func.attr in ("_event", "_taken") and given:
+                yield node.lineno, node.col_offset, f"sim_{given[0]}", given[0]
+            elif node.func.attr == "_direct" and given:
+                yield node.lineno, node.col_offset, f"directive_{given[0]}", given[0]
+
+
+def reads_in(function):
+    """What a function makes its call by: `_entries` and the record, or `_read` and the fields that it reads."""
+    found = []
+    for node in ast.walk(function):
+        if isinstance(node, ast.Call) and getattr(node.func, "attr", "") in ("_entries", "_read"):
+            found += [node.func.attr, *(one.id for one in node.args[:1])]
+    read = [node for node in ast.walk(function) if isinstance(node, ast.Attribute)
+            and (isinstance(node.value, ast.Call) or getattr(node.value, "id", "") in ("it", "read"))]
+    fields = {node.attr: (node.lineno, node.col_offset) for node in read}
+    return " ".join(found + sorted((it for it in fields if it not in ("_entries", "_read", "name")), key=fields.get))
+
+
+def methods_and_their_calls(it):
+    """Each method makes the call of its own name, or those that stand above."""
+    known = {where.rpartition("._")[2].partition("[")[0] for where, _ in named_calls(it)} | {
+        "alert_word", "verdict_word", "dropped_word"}
+    seen = set()
+    for name, function in ((name, one) for module in MODULES[1:] for name, one in functions(module)):
+        made = " ".join(call for *_, call, _ in sorted(calls_in(function, known), key=lambda it: it[:2]))
+        owner, _, own = name.rpartition(".")
+        default = f"{PREFIXES[owner]}_{own}" if owner in PREFIXES else own
+        if owner in ("Handle", "_Struct", "_Part", "_Heard") or (not owner and default not in known):
+            assert made == OTHERS.get(name, ""), f"{name} calls {made}"
+        elif name in BY:
+            assert reads_in(function) == BY[name] and not made, f"{name} reads {reads_in(function)}"
+        else:
+            wanted = "" if name in NONE else OTHERS.get(name, default)
+            if name == "Link.send":
+                assert "self._octets(self._event(" in ast.unparse(function)
+            assert made == wanted, f"{name} calls {made}, and not {wanted}"
+        seen.add(name)
+    assert {*OTHERS, *BY, *NONE} <= seen, {*OTHERS, *BY, *NONE} - seen
+
+
+def methods_and_their_arguments(it):
+    """Each method gives each of its arguments to its call, in order, octets with their number; and a constructor gives
+    the fields in theirs."""
+    for name, function in ((name, one) for module in MODULES[1:] for name, one in functions(module)):
+        owner, _, own = name.rpartition(".")
+        if owner not in PREFIXES and owner or own.startswith("_") and own != "__init__":
+            continue
+        given = (*function.args.args, *function.args.kwonlyargs)
+        parameters = [one.arg for one in given if one.arg not in ("self", "cls")]
+        octets = [one for one in parameters if one in ("octets", "data", "packet", "packets", "ocf")
+                  and name not in ("TmFrame.__init__", "TmFrame.ocf")]
+        text = " ".join(ast.unparse(statement) for statement in function.body
+                        if not isinstance(getattr(statement, "value", None), ast.Constant))
+        places = []
+        for one in parameters:
+            given = (rf"(?<![\w.\"'=]){one}, len\({one}\)|_counted\('{one}', {one}\)" if one in octets
+                     else rf"(?<=[(, ]){one}(?=[,)])(?! *=)|self\.{one} = {one}|bool\({one}\)")
+            found = [match.start() for match in re.finditer(given, text)]
+            assert found, f"{name} does not give {one}: {text}"
+            places += [found[-1]] if one not in KEPT else []
+        assert places == sorted(places), f"{name} gives {parameters} in another order: {text}"
+        if own == "__init__" and hasattr(getattr(it, owner, None), "_fields_") and owner not in ("Farm", "Fop"):
+            fields = [field.lstrip("_") for field, _ in getattr(it, owner)._fields_]
+            assert sorted(parameters) == sorted(fields), name
+            first = re.search(r"super\(\).__init__\((.*?)\)", text)[1].split(", ")
+            assert first + (["ocf"] if owner == "TmFrame" else []) == fields, f"{name}: {first}"
+
+
+TESTS = (calls_of_the_headers, calls_by_their_names, structs_of_the_headers, enumerations_of_the_headers,
+         methods_and_their_calls, methods_and_their_arguments)
