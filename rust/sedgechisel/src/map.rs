@@ -8,6 +8,7 @@ use core::iter::FusedIterator;
 reasons! {
     /// Why octets of a MAP are dropped (CCSDS 232.0-B-4, 4.1.3.2.2).
     Dropped {
+        ClosedMap = 1, "the segment: its MAP is not open";
         Interrupted = 2, "the part that was open: a first or an alone segment came before its last";
         NoBeginning = 3, "the segment: it continues or ends a packet, and no part is open";
         NotAPacket = 4, "what was joined is not exactly one packet, or what stood alone is not one, or with blocking \

@@ -52,17 +52,16 @@ fn in_memory(answer: u8) -> Result<(), LinkFault> {
 mod tests {
     use super::*;
 
-    /// Each name is the word of the library.
+    /// Each number has the word of the library here, and none where the library has none.
     #[test]
     fn names_are_those_of_the_library_of_nodes() {
-        for it in (1..=u8::MAX).filter_map(LinkFault::from_number) {
-            assert_eq!(it.name(), ffi::nodes::sedge_link_fault_name(it.number()).as_str());
-        }
-        for it in (1..=u8::MAX).filter_map(SimFault::from_number) {
-            assert_eq!(it.name(), ffi::nodes::sedge_sim_fault_name(it.number()).as_str());
-        }
-        for it in (1..=u8::MAX).filter_map(Parameter::from_number) {
-            assert_eq!(it.name(), ffi::nodes::sedge_parameter_name(it.number()).as_str());
+        for it in 0..=u8::MAX {
+            let word = ffi::nodes::sedge_link_fault_name(it);
+            assert_eq!(LinkFault::from_number(it).map_or("?", LinkFault::name), word.as_str());
+            let word = ffi::nodes::sedge_sim_fault_name(it);
+            assert_eq!(SimFault::from_number(it).map_or("?", SimFault::name), word.as_str());
+            let word = ffi::nodes::sedge_parameter_name(it);
+            assert_eq!(Parameter::from_number(it).map_or("?", Parameter::name), word.as_str());
         }
     }
 }

@@ -149,7 +149,7 @@ impl<'a> Segment<'a> {
 }
 
 impl Command {
-    fn from_raw(command: u8, vr: u8) -> Self {
+    pub(crate) fn from_raw(command: u8, vr: u8) -> Self {
         match command {
             ffi::SEDGE_UNLOCK => Self::Unlock,
             ffi::SEDGE_SET_VR => Self::SetVr(vr),

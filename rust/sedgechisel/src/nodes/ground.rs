@@ -2,7 +2,7 @@
 
 use super::{in_memory, taken, Config, LinkFault, OpenFault};
 use crate::ffi::nodes as raw;
-use crate::numbers::done;
+use crate::numbers::{done, never};
 use crate::{Alert, Clcw, ClcwFault, CopFault, FopState, TcFrame, TmFault};
 use alloc::vec::Vec;
 use core::fmt;
@@ -43,16 +43,18 @@ impl Heard {
         match heard.kind {
             1 => Self::Invalid(TmFault::of(heard.fault)),
             2 => Self::Foreign,
-            _ => Self::Frame {
+            3 => Self::Frame {
                 gap: (heard.first == 0).then_some(heard.missing),
                 packets: heard.packets,
                 report: match heard.report {
                     0 => HeardReport::Used,
                     1 => HeardReport::None(ClcwFault::of(heard.word_fault)),
-                    _ => HeardReport::Other,
+                    2 => HeardReport::Other,
+                    _ => never(),
                 },
                 alert: alert_of(heard.alert),
             },
+            _ => never(),
         }
     }
 }

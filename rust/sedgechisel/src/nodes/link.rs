@@ -297,7 +297,8 @@ impl Link {
             raw::SEDGE_BEGUN_WITHOUT_CHECK => Some(Begun::WithoutCheck),
             raw::SEDGE_BEGUN_WITH_CHECK => Some(Begun::WithCheck),
             raw::SEDGE_BEGUN_UNLOCK => Some(Begun::Unlock),
-            _ => Some(Begun::SetVr(read.vr)),
+            raw::SEDGE_BEGUN_SET_VR => Some(Begun::SetVr(read.vr)),
+            _ => never(),
         }
     }
 

@@ -2,7 +2,7 @@
 
 use super::{in_memory, taken, Config, LinkFault, OpenFault};
 use crate::ffi::nodes as raw;
-use crate::numbers::done;
+use crate::numbers::{done, never};
 use crate::{Clcw, Command, Dropped, FarmMode, TcFault, TmFault, TmFrame, Verdict};
 use alloc::vec::Vec;
 use core::fmt;
@@ -46,8 +46,8 @@ impl Received {
                 dropped: (received.dropped != 0).then(|| Dropped::of(received.dropped)),
             },
             4 => Self::Bypass { kept: received.kept },
-            _ if received.command == crate::ffi::SEDGE_UNLOCK => Self::Control(Command::Unlock),
-            _ => Self::Control(Command::SetVr(received.vr)),
+            5 => Self::Control(Command::from_raw(received.command, received.vr)),
+            _ => never(),
         }
     }
 }

@@ -126,6 +126,19 @@ fn refusals() {
     assert_eq!((fault.number(), fault.name(), fault.to_string().len() > 11), (5, "QueueFull", true));
 }
 
+/// A segment of a MAP that is closed on board is dropped. Its frame is accepted all the same.
+#[test]
+fn a_map_that_is_closed_on_board() {
+    let mut ground = Ground::new(&Config::default()).unwrap();
+    let mut spacecraft = Spacecraft::new(&Config { maps: 1 << 4, ..Config::default() }).unwrap();
+    ground.init_without_check().unwrap();
+    ground.submit(5, &octets_of(P0)).unwrap();
+    let (verdict, dropped) = (Verdict::Accepted, Some(Dropped::ClosedMap));
+    let received = Received::Sequence { n: 0, verdict, ready: 0, dropped };
+    assert_eq!(spacecraft.receive(&sent(&mut ground).unwrap()), Ok(received));
+    assert_eq!((word_of(&spacecraft), spacecraft.take()), ([0x01, 0x08, 0x00, 0x01], None));
+}
+
 /// The first parameter that is out of its range is named.
 #[test]
 fn parameters_out_of_their_ranges() {
