@@ -47,8 +47,8 @@ macro_rules! calls {
             ["tick"] => Ok($ground
                 .tick()
                 .map_or("ok".into(), |it| format!("alert {}", it.name()))),
-            ["take"] => Ok(packet_text($spacecraft.take())),
-            ["takebypass"] => Ok(packet_text($spacecraft.take_bypass())),
+            ["take"] => $spacecraft.take().map(packet_text).map_err(refused),
+            ["takebypass"] => $spacecraft.take_bypass().map(packet_text).map_err(refused),
             ["init", "none"] => done($ground.init_without_check()),
             ["init", "check"] => done($ground.init_with_check()),
             ["init", "unlock"] => done($ground.init_unlock()),

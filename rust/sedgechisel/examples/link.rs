@@ -34,7 +34,7 @@ fn main() -> Result<(), Box<dyn Error>> {
             submitted += 1;
         }
         carry_up(&mut ground, &mut spacecraft, &mut link)?;
-        while let Some((map, packet)) = spacecraft.take() {
+        while let Some((map, packet)) = spacecraft.take()? {
             println!("MAP {map} {}", packet.iter().map(|it| format!("{it:02X}")).collect::<String>());
         }
         let nn = ground.nn();

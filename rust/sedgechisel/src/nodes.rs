@@ -12,7 +12,6 @@ pub use spacecraft::{Received, Spacecraft};
 
 use crate::ffi;
 use crate::numbers::{done, never};
-use alloc::vec;
 use alloc::vec::Vec;
 
 faults! {
@@ -27,14 +26,22 @@ faults! {
     }
 }
 
-/// A packet, of so many octets, that a call takes out; nothing if there is none.
-fn taken(count: usize, take: impl FnOnce(&mut [u8], &mut usize) -> u8) -> Option<Vec<u8>> {
+/// Room for so many octets, if there is memory for it.
+fn room_for(count: usize) -> Option<Vec<u8>> {
+    let mut room = Vec::new();
+    room.try_reserve_exact(count).ok()?;
+    room.resize(count, 0);
+    Some(room)
+}
+
+/// A packet, of so many octets, that a call takes out; nothing if there is none. The call is made where there is room.
+fn taken(count: usize, take: impl FnOnce(&mut [u8], &mut usize) -> u8) -> Result<Option<Vec<u8>>, LinkFault> {
     if count == 0 {
-        return None;
+        return Ok(None);
     }
-    let (mut packet, mut written) = (vec![0; count], 0);
+    let (mut packet, mut written) = (room_for(count).ok_or(LinkFault::Memory)?, 0);
     done(take(&mut packet, &mut written));
-    Some(packet)
+    Ok(Some(packet))
 }
 
 /// Calls that can be refused for want of memory alone.

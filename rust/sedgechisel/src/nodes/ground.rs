@@ -183,8 +183,9 @@ impl Ground {
         found.then(|| Clcw::from_raw(word))
     }
 
-    /// Takes the oldest packet that telemetry frames carried, if one waits.
-    pub fn take_telemetry(&mut self) -> Option<Vec<u8>> {
+    /// Takes the oldest packet that telemetry frames carried, if one waits. Refused with 6
+    /// [`Memory`](LinkFault::Memory) alone; the packet waits then.
+    pub fn take_telemetry(&mut self) -> Result<Option<Vec<u8>>, LinkFault> {
         let mut count = 0;
         done(raw::sedge_ground_next_telemetry(self.0.get(), &mut count));
         taken(count, |out, written| raw::ground_take_telemetry(self.0.get(), out, written))

@@ -1,11 +1,10 @@
 //! The simulated link between two nodes.
 
 use super::ground::alert_of;
-use super::{taken, Config, Heard, LinkFault, OpenFault, Received};
+use super::{room_for, Config, Heard, LinkFault, OpenFault, Received};
 use crate::ffi::nodes as raw;
-use crate::numbers::never;
-use crate::{Alert, Clcw, CopFault, FopState, TmFault};
-use alloc::vec;
+use crate::numbers::{done, never};
+use crate::{Alert, Clcw, CopFault, FopState, Packet, TcFrame, TmFault};
 use alloc::vec::Vec;
 use core::fmt;
 
@@ -119,9 +118,20 @@ impl Link {
         }
     }
 
-    /// The frame or the packet of the last event.
-    fn octets(&mut self, count: usize) -> Option<Vec<u8>> {
-        taken(count, |out, written| raw::sim_octets(self.0.get(), out, written))
+    /// An event that gives a frame or a packet, of at most so many octets; it happens where there is room for them. They
+    /// are returned in room for exactly them, if there is memory for that too.
+    fn given(
+        &mut self, most: usize, call: impl FnOnce(&mut raw::Sim, &mut raw::Reply) -> u8,
+    ) -> Result<Option<(u8, Vec<u8>)>, SimFault> {
+        let room = room_for(most).ok_or(SimFault::Memory)?;
+        let reply = self.event(call)?;
+        if reply.count == 0 {
+            return Ok(None);
+        }
+        let (mut octets, mut written) = (room_for(reply.count).unwrap_or(room), 0);
+        done(raw::sim_octets(self.0.get(), &mut octets, &mut written));
+        octets.truncate(written);
+        Ok(Some((reply.map, octets)))
     }
 
     /// [`Ground::init_without_check`](crate::Ground::init_without_check).
@@ -190,8 +200,8 @@ impl Link {
     /// The ground sends a frame, which is on its way up then; or `None`, if nothing is to be sent now. Refused with 6
     /// [`Memory`](SimFault::Memory) alone.
     pub fn send(&mut self) -> Result<Option<Vec<u8>>, SimFault> {
-        let reply = self.event(|sim, reply| raw::sedge_sim_send(sim, reply))?;
-        Ok(self.octets(reply.count))
+        let frame = self.given(TcFrame::LONGEST, |sim, reply| raw::sedge_sim_send(sim, reply))?;
+        Ok(frame.map(|(_, octets)| octets))
     }
 
     /// The first frame on its way up arrives. Refused with 7 [`NothingInTransit`](SimFault::NothingInTransit) if there
@@ -247,21 +257,15 @@ impl Link {
         }
     }
 
-    /// A packet of sequence-controlled frames is taken on board, with its MAP, if one waits.
-    pub fn take(&mut self) -> Option<(u8, Vec<u8>)> {
-        self.packet(|sim, reply| raw::sedge_sim_take(sim, reply))
+    /// A packet of sequence-controlled frames is taken on board, with its MAP, if one waits. Refused with 6
+    /// [`Memory`](SimFault::Memory) alone.
+    pub fn take(&mut self) -> Result<Option<(u8, Vec<u8>)>, SimFault> {
+        self.given(Packet::LONGEST, |sim, reply| raw::sedge_sim_take(sim, reply))
     }
 
     /// The same of the packets that came past the sequence control.
-    pub fn take_bypass(&mut self) -> Option<(u8, Vec<u8>)> {
-        self.packet(|sim, reply| raw::sedge_sim_take_bypass(sim, reply))
-    }
-
-    fn packet(&mut self, call: impl FnOnce(&mut raw::Sim, &mut raw::Reply) -> u8) -> Option<(u8, Vec<u8>)> {
-        match self.event(call) {
-            Ok(reply) => self.octets(reply.count).map(|packet| (reply.map, packet)),
-            Err(_) => never(),
-        }
+    pub fn take_bypass(&mut self) -> Result<Option<(u8, Vec<u8>)>, SimFault> {
+        self.given(Packet::LONGEST, |sim, reply| raw::sedge_sim_take_bypass(sim, reply))
     }
 
     fn read(&self) -> raw::SimReading {
@@ -320,27 +324,29 @@ impl Link {
         self.read().confirmed
     }
 
-    /// What was submitted in the session, in order: the MAP and the octets of each submission.
-    pub fn submissions(&self) -> impl ExactSizeIterator<Item = (u8, Vec<u8>)> + '_ {
+    /// What was submitted in the session, in order: the MAP and the octets of each submission, or for one for which there
+    /// is no room 6 [`Memory`](SimFault::Memory).
+    pub fn submissions(&self) -> impl ExactSizeIterator<Item = Result<(u8, Vec<u8>), SimFault>> + '_ {
         let (mut map, mut count, mut written) = (0, 0, 0);
         (0..self.0.number(|it, count| raw::sedge_sim_submissions(it, count))).map(move |k| {
             self.0.read(|it| raw::sedge_sim_submission_length(it, k, &mut map, &mut count));
-            let mut octets = vec![0; count];
+            let mut octets = room_for(count).ok_or(SimFault::Memory)?;
             self.0.read(|it| raw::sim_submission(it, k, &mut map, &mut octets, &mut written));
-            (map, octets)
+            Ok((map, octets))
         })
     }
 
-    /// The entries of a record of the session, in their order.
-    pub fn record(&self, record: Record) -> impl ExactSizeIterator<Item = Vec<u8>> + '_ {
+    /// The entries of a record of the session, in their order, or for one for which there is no room 6
+    /// [`Memory`](SimFault::Memory).
+    pub fn record(&self, record: Record) -> impl ExactSizeIterator<Item = Result<Vec<u8>, SimFault>> + '_ {
         let (number, map) = record.raw();
         let (mut entries, mut count, mut written) = (0, 0, 0);
         self.0.read(|it| raw::sedge_sim_count(it, number, map, &mut entries));
         (0..entries).map(move |k| {
             self.0.read(|it| raw::sedge_sim_entry_length(it, number, map, k, &mut count));
-            let mut entry = vec![0; count];
+            let mut entry = room_for(count).ok_or(SimFault::Memory)?;
             self.0.read(|it| raw::sim_entry(it, number, map, k, &mut entry, &mut written));
-            entry
+            Ok(entry)
         })
     }
 }

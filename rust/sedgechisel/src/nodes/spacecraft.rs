@@ -62,7 +62,7 @@ impl Received {
 /// let frame = [0x00, 0x01, 0x08, 0x0e, 0x00, 0xc4, 0x10, 0x05, 0xc0, 0x00, 0x00, 0x00, 0xaa, 0xe7, 0x5d];
 /// let received = spacecraft.receive(&frame)?;
 /// assert_eq!(received, Received::Sequence { n: 0, verdict: Verdict::Accepted, ready: 1, dropped: None });
-/// assert_eq!(spacecraft.take(), Some((4, frame[6..13].to_vec())));
+/// assert_eq!(spacecraft.take()?, Some((4, frame[6..13].to_vec())));
 /// # Ok::<(), Box<dyn std::error::Error>>(())
 /// ```
 pub struct Spacecraft(raw::Own<raw::Spacecraft>);
@@ -94,21 +94,23 @@ impl Spacecraft {
         Ok(Received::from_raw(&received))
     }
 
-    /// Takes the oldest packet of sequence-controlled frames, with its MAP, if one waits.
-    pub fn take(&mut self) -> Option<(u8, Vec<u8>)> {
+    /// Takes the oldest packet of sequence-controlled frames, with its MAP, if one waits. Refused with 6
+    /// [`Memory`](LinkFault::Memory) alone; the packet waits then.
+    pub fn take(&mut self) -> Result<Option<(u8, Vec<u8>)>, LinkFault> {
         let (mut map, mut count) = (0, 0);
         done(raw::sedge_spacecraft_next(self.0.get(), &mut map, &mut count));
-        let packet = taken(count, |out, written| raw::spacecraft_take(self.0.get(), &mut map, out, written));
-        packet.map(|packet| (map, packet))
+        let packet = taken(count, |out, written| raw::spacecraft_take(self.0.get(), &mut map, out, written))?;
+        Ok(packet.map(|packet| (map, packet)))
     }
 
-    /// Takes the oldest packet that came past the sequence control, with its MAP, if one is kept.
-    pub fn take_bypass(&mut self) -> Option<(u8, Vec<u8>)> {
+    /// Takes the oldest packet that came past the sequence control, with its MAP, if one is kept. Refused with 6
+    /// [`Memory`](LinkFault::Memory) alone; the packet is kept then.
+    pub fn take_bypass(&mut self) -> Result<Option<(u8, Vec<u8>)>, LinkFault> {
         let (mut map, mut count) = (0, 0);
         done(raw::sedge_spacecraft_next_bypass(self.0.get(), &mut map, &mut count));
         let packet =
-            taken(count, |out, written| raw::spacecraft_take_bypass(self.0.get(), &mut map, out, written));
-        packet.map(|packet| (map, packet))
+            taken(count, |out, written| raw::spacecraft_take_bypass(self.0.get(), &mut map, out, written))?;
+        Ok(packet.map(|packet| (map, packet)))
     }
 
     /// Queues a packet to be sent as telemetry. Refused with 8 [`NotAPacket`](TmFault::NotAPacket) (the octets are not

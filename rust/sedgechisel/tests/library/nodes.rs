@@ -71,9 +71,9 @@ fn a_frame_is_lost() {
     assert_eq!(ground.telemetry(&reported(&mut spacecraft)), Ok(used(Some(0), 0)));
     assert_eq!((ground.state(), ground.outstanding(), sent(&mut ground)), (FopState::S1, 0, None));
     for packet in [P0, P1, P2] {
-        assert_eq!(spacecraft.take(), Some((4, octets_of(packet))));
+        assert_eq!(spacecraft.take(), Ok(Some((4, octets_of(packet)))));
     }
-    assert_eq!(spacecraft.take(), None);
+    assert_eq!(spacecraft.take(), Ok(None));
 }
 
 /// The buffer on board is full, and the ground waits until a packet is taken (examples/full_buffer.script).
@@ -89,7 +89,7 @@ fn the_buffer_is_full() {
     assert_eq!((word_of(&spacecraft), spacecraft.mode()), ([0x01, 0x08, 0x18, 0x01], FarmMode::Wait));
     assert_eq!(ground.telemetry(&reported(&mut spacecraft)), Ok(used(None, 0)));
     assert_eq!((ground.state(), sent(&mut ground)), (FopState::S3, None));
-    assert_eq!(spacecraft.take(), Some((4, octets_of(P0))));
+    assert_eq!(spacecraft.take(), Ok(Some((4, octets_of(P0)))));
     assert_eq!((word_of(&spacecraft), spacecraft.mode()), ([0x01, 0x08, 0x08, 0x01], FarmMode::Open));
     assert_eq!(ground.telemetry(&reported(&mut spacecraft)), Ok(used(Some(0), 0)));
     assert_eq!(sent(&mut ground), Some(second.clone()));
@@ -136,7 +136,7 @@ fn a_map_that_is_closed_on_board() {
     let (verdict, dropped) = (Verdict::Accepted, Some(Dropped::ClosedMap));
     let received = Received::Sequence { n: 0, verdict, ready: 0, dropped };
     assert_eq!(spacecraft.receive(&sent(&mut ground).unwrap()), Ok(received));
-    assert_eq!((word_of(&spacecraft), spacecraft.take()), ([0x01, 0x08, 0x00, 0x01], None));
+    assert_eq!((word_of(&spacecraft), spacecraft.take()), ([0x01, 0x08, 0x00, 0x01], Ok(None)));
 }
 
 /// The first parameter that is out of its range is named.
@@ -205,7 +205,7 @@ fn submissions_and_reports() {
     link.init_without_check().unwrap();
     link.submit(4, &octets_of(P0)).unwrap();
     link.submit(63, &octets_of(P1)).unwrap();
-    assert!(link.submissions().eq([(4, octets_of(P0)), (63, octets_of(P1))]));
+    assert!(link.submissions().eq([Ok((4, octets_of(P0))), Ok((63, octets_of(P1)))]));
     let (ground, mut spacecraft) = pair(&Config::default());
     let frame = reported(&mut spacecraft);
     assert_eq!(ground.report_in(&frame), Some(spacecraft.control_word()));
@@ -238,7 +238,7 @@ fn telemetry_that_is_lost() {
                 ground.telemetry(&frame).unwrap();
             }
         }
-        while let Some(packet) = ground.take_telemetry() {
+        while let Some(packet) = ground.take_telemetry().unwrap() {
             taken.push(Packet::decode(&packet).unwrap().count);
         }
     }

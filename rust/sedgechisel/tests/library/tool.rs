@@ -255,7 +255,7 @@ fn board_lines(index: usize, spacecraft: &mut Spacecraft, octets: &[u8]) -> Stri
         Received::Sequence { ready, dropped, .. } => {
             let dropped = dropped.map(|it| format!("{index} dropped {}\n", it.name()));
             let mut packets = Vec::new();
-            while let Some((map, packet)) = spacecraft.take() {
+            while let Some((map, packet)) = spacecraft.take().unwrap() {
                 packets.push(format!("packet {map} {}\n", hex(&packet)));
             }
             assert_eq!(packets.len(), ready);
@@ -263,7 +263,7 @@ fn board_lines(index: usize, spacecraft: &mut Spacecraft, octets: &[u8]) -> Stri
         }
         Received::Bypass { kept: false } => format!("{index} dropped Bypass\n"),
         Received::Bypass { kept: true } => {
-            let (map, packet) = spacecraft.take_bypass().unwrap();
+            let (map, packet) = spacecraft.take_bypass().unwrap().unwrap();
             format!("bypass {map} {}\n", hex(&packet))
         }
         Received::Control(_) => String::new(),
