@@ -149,16 +149,21 @@ pub fn segments<'a>(octets: &'a [u8], limits: &Limits) -> Result<Segments<'a>, M
         ffi::Limits { part: limits.part, max_packet: limits.max_packet, blocking: limits.blocking.into() };
     let mut count = 0;
     MapFault::judge(ffi::map_count(octets, &limits, &mut count))?;
-    Ok(Segments { octets, limits, count, next: 0 })
+    Ok(Segments { octets, limits, left: count, rest: octets, begun: 0 })
 }
 
-/// The segments that octets are cut into, by [`segments`]: of each its flags and its data.
+/// The segments that octets are cut into, by [`segments`]: of each its flags and its data. All of them take time in
+/// proportion to the number of packets and segments.
 #[derive(Clone, Debug)]
 pub struct Segments<'a> {
     octets: &'a [u8],
     limits: ffi::Limits,
-    count: usize,
-    next: usize,
+    /// The number of segments that are left.
+    left: usize,
+    /// The packets of these segments.
+    rest: &'a [u8],
+    /// The number of segments that were returned of the first of these packets.
+    begun: usize,
 }
 
 impl<'a> Segments<'a> {
@@ -166,12 +171,29 @@ impl<'a> Segments<'a> {
     /// packets.
     #[must_use]
     pub fn get(&self, k: usize) -> Option<(SegmentFlags, &'a [u8])> {
-        let (mut flags, mut data) = (0, ffi::Part::default());
-        match ffi::map_segment(self.octets, &self.limits, k, &mut flags, &mut data) {
-            ffi::SEDGE_OK => Some((SegmentFlags::of(flags), data.of(self.octets))),
-            ffi::SEDGE_ABSENT => None,
-            _ => never(),
+        let (flags, data) = place(self.octets, &self.limits, k)?;
+        Some((flags, data.of(self.octets)))
+    }
+
+    /// The packets that are left, up to the one with which they have more octets than a segment. What comes after these
+    /// changes nothing of the next segment.
+    fn first_packets(&self) -> &'a [u8] {
+        let mut last = ffi::Part::default();
+        let mut end = 0;
+        while end <= self.limits.part as usize && ffi::map_packet(self.rest, &mut last) {
+            end = last.from + last.count;
         }
+        &self.rest[..end]
+    }
+}
+
+/// The flags of segment `k`, and where its data are, if there are that many.
+fn place(octets: &[u8], limits: &ffi::Limits, k: usize) -> Option<(SegmentFlags, ffi::Part)> {
+    let (mut flags, mut data) = (0, ffi::Part::default());
+    match ffi::map_segment(octets, limits, k, &mut flags, &mut data) {
+        ffi::SEDGE_OK => Some((SegmentFlags::of(flags), data)),
+        ffi::SEDGE_ABSENT => None,
+        _ => never(),
     }
 }
 
@@ -179,14 +201,18 @@ impl<'a> Iterator for Segments<'a> {
     type Item = (SegmentFlags, &'a [u8]);
 
     fn next(&mut self) -> Option<Self::Item> {
-        let segment = self.get(self.next)?;
-        self.next += 1;
-        Some(segment)
+        self.left = self.left.checked_sub(1)?;
+        let packets = self.first_packets();
+        let (flags, data) = place(packets, &self.limits, self.begun)?;
+        (self.rest, self.begun) = match flags {
+            SegmentFlags::First | SegmentFlags::Continuing => (self.rest, self.begun + 1),
+            SegmentFlags::Last | SegmentFlags::Alone => (&self.rest[data.from + data.count..], 0),
+        };
+        Some((flags, data.of(packets)))
     }
 
     fn size_hint(&self) -> (usize, Option<usize>) {
-        let left = self.count - self.next;
-        (left, Some(left))
+        (self.left, Some(self.left))
     }
 }
 

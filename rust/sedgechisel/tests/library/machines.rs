@@ -1,7 +1,8 @@
 //! The receiver, the sender, and packets in segments: rows worked by hand, the receiver's table, and each refusal.
 
-use crate::common::octets_of;
+use crate::common::{octets_of, Chance};
 use sedgechisel::*;
+use std::time::Instant;
 
 /// The receiver's fields: width 10, V(R), the flags and FARM-B.
 fn fields(vr: u8, lockout: u8, wait: u8, retransmit: u8, farm_b: u8) -> FarmFields {
@@ -334,6 +335,63 @@ fn segments_of_packets() {
     let mut thirds = segments(&one, &limits(3, false)).unwrap();
     assert_eq!((thirds.len(), thirds.get(2), thirds.get(3)), (3, Some((Last, &one[6..])), None));
     assert_eq!((thirds.next(), thirds.len(), thirds.get(usize::MAX)), (Some((First, &one[..3])), 2, None));
+}
+
+/// Packets that have at most `part` octets together go into one segment, and one that has more is cut.
+fn cut_plainly(packets: &[Vec<u8>], part: usize) -> Vec<(SegmentFlags, Vec<u8>)> {
+    let mut groups: Vec<Vec<u8>> = Vec::new();
+    for packet in packets {
+        match groups.last_mut() {
+            Some(group) if group.len() + packet.len() <= part => group.extend(packet),
+            _ => groups.push(packet.clone()),
+        }
+    }
+    let cut = |group: Vec<u8>| {
+        let last = (group.len() - 1) / part;
+        let flags = move |k| match (k == 0, k == last) {
+            (true, true) => SegmentFlags::Alone,
+            (true, false) => SegmentFlags::First,
+            (false, true) => SegmentFlags::Last,
+            (false, false) => SegmentFlags::Continuing,
+        };
+        group.chunks(part).enumerate().map(|(k, data)| (flags(k), data.to_vec())).collect::<Vec<_>>()
+    };
+    groups.into_iter().flat_map(cut).collect()
+}
+
+#[test]
+fn segments_of_random_packets() {
+    let mut chance = Chance(9);
+    for _ in 0..2000 {
+        let (many, part) = (1 + chance.below(20), 1 + chance.below(60));
+        let mut packet = || {
+            let more = chance.below(24);
+            [&[0x10, 5, 0xc0, 0, 0, more as u8][..], &chance.octets(more + 1)].concat()
+        };
+        let packets: Vec<Vec<u8>> = (0..many).map(|_| packet()).collect();
+        let (octets, wanted) = (packets.concat(), cut_plainly(&packets, part as usize));
+        let mut cut = segments(&octets, &Limits { part, max_packet: 30, blocking: true }).unwrap();
+        for (k, (flags, data)) in wanted.iter().enumerate() {
+            assert_eq!((cut.len(), cut.get(k)), (wanted.len() - k, Some((*flags, &data[..]))));
+            assert_eq!(cut.next(), Some((*flags, &data[..])));
+        }
+        assert_eq!((cut.len(), cut.next(), cut.next(), cut.get(wanted.len())), (0, None, None, None));
+    }
+}
+
+/// Sixteen times as many packets take no more than some sixteen times as long.
+#[test]
+fn many_packets_are_cut_in_time() {
+    let limits = Limits { part: 7, max_packet: 7, blocking: true };
+    let time = |count| {
+        let octets = octets_of(ONE).repeat(count);
+        let begun = Instant::now();
+        assert_eq!(segments(&octets, &limits).unwrap().count(), count);
+        begun.elapsed()
+    };
+    let least = |count| (0..5).map(|_| time(count)).min().unwrap();
+    let (few, many) = (least(1000), least(16_000));
+    assert!(many < few * 64, "{many:?} for 16,000 packets, and {few:?} for 1,000");
 }
 
 #[test]
