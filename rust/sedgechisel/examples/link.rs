@@ -47,8 +47,10 @@ fn main() -> Result<(), Box<dyn Error>> {
             println!("round {round}: all are acknowledged");
             return Ok(());
         }
+        // The report of this round was made when all frames had arrived or were lost: nothing was on its way up. An older
+        // one would say too little, and what was accepted since would be sent again.
         if let (FopState::S6, Some(vr)) = (ground.state(), value) {
-            let more = ground.accepted_beyond(vr).ok_or("a report beyond V(S)")?;
+            let more = ground.accepted_beyond(vr).ok_or("nothing is known of what is not acknowledged")?;
             accepted += more;
             println!("round {round}: {more} more were accepted; again from packet {accepted}");
             submitted = accepted;

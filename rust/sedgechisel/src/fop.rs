@@ -281,9 +281,11 @@ impl Fop {
     }
 
     /// The number of units, of those sent and not acknowledged, that were accepted on board when a report of this
-    /// value was made: the oldest ones, those with the numbers from NN(R) to `value` - 1 (CCSDS 232.1-B-2, 5.1). It
-    /// says so after an alert too, until V(S) is set or an initiation begins. `None` if the value is beyond V(S), so
-    /// that the report says nothing of these units.
+    /// value was made: the oldest ones, those with the numbers from NN(R) to `value` - 1 (CCSDS 232.1-B-2, 5.1). Where
+    /// V(S) = NN(R) that is 0, whatever the value. It says so after an alert too, until V(S) is set or an initiation
+    /// begins. `None` if V(S) is not NN(R) and the value is beyond V(S): then nothing is known of these units. A report
+    /// that was made while frames were on their way up says too little for what is sent again (docs/TOUR.md, "A session
+    /// with losses").
     #[must_use]
     pub fn accepted_beyond(&self, value: u8) -> Option<u8> {
         let mut accepted = 0;

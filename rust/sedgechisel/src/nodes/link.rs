@@ -118,8 +118,8 @@ impl Link {
         }
     }
 
-    /// An event that gives a frame or a packet, of at most so many octets; it happens where there is room for them. They
-    /// are returned in room for exactly them, if there is memory for that too.
+    /// An event that gives a frame or a packet, of at most so many octets; it happens where there is room for them.
+    /// They are returned in room for exactly them, if there is memory for that too.
     fn given(
         &mut self, most: usize, call: impl FnOnce(&mut raw::Sim, &mut raw::Reply) -> u8,
     ) -> Result<Option<(u8, Vec<u8>)>, SimFault> {
@@ -324,8 +324,8 @@ impl Link {
         self.read().confirmed
     }
 
-    /// What was submitted in the session, in order: the MAP and the octets of each submission, or for one for which there
-    /// is no room 6 [`Memory`](SimFault::Memory).
+    /// What was submitted in the session, in order: the MAP and the octets of each submission, or for one for which
+    /// there is no room 6 [`Memory`](SimFault::Memory).
     pub fn submissions(&self) -> impl ExactSizeIterator<Item = Result<(u8, Vec<u8>), SimFault>> + '_ {
         let (mut map, mut count, mut written) = (0, 0, 0);
         (0..self.0.number(|it, count| raw::sedge_sim_submissions(it, count))).map(move |k| {

@@ -187,7 +187,8 @@ fn a_sender_gives_up() {
     assert_eq!((fop.state(), fop.fields().sent), (FopState::S6, 0));
 }
 
-/// After an alert a report still says which of the two units sent were accepted, until an initiation begins.
+/// After an alert a report still says which of the two units sent were accepted, until an initiation begins: then there
+/// are no such units, so the number is 0. Where a report is beyond V(S), nothing is known of them.
 #[test]
 fn what_was_accepted() {
     let mut fop = a_sender();
@@ -196,9 +197,10 @@ fn what_was_accepted() {
     assert_eq!((fop.terminate(), fop.state()), (Ok(()), FopState::S6));
     assert_eq!([0, 1, 2, 3, 255].map(|it| fop.accepted_beyond(it)), [Some(0), Some(1), Some(2), None, None]);
     fop.init_without_check().unwrap();
-    assert_eq!([1, 2, 3].map(|it| fop.accepted_beyond(it)), [Some(0); 3]);
+    assert_eq!([1, 2, 255].map(|it| fop.accepted_beyond(it)), [Some(0); 3]);
     assert_eq!([250, 1, 5, 6].map(|it| accepted_beyond(250, 5, it)), [Some(0), Some(7), Some(11), None]);
     assert_eq!([249, 250, 251].map(|it| accepted_beyond(250, 250, it)), [Some(0); 3]);
+    assert_eq!(accepted_beyond(5, 9, 200), None);
 }
 
 #[test]

@@ -183,6 +183,8 @@ fn accepted_after_an_alert() {
     let accepted: Vec<_> = (0..5).map(|value| ground.accepted_beyond(value)).collect();
     assert_eq!(accepted, [Some(0), Some(1), Some(2), Some(3), None]);
     assert_eq!(ground.accepted_beyond(spacecraft.control_word().value), Some(2));
+    ground.set_vs(2).unwrap();
+    assert_eq!([0, 2, 3, 200].map(|value| ground.accepted_beyond(value)), [Some(0); 4]);
 }
 
 /// A node may go to another thread, and is let go of there.
