@@ -1,8 +1,12 @@
 //! The library as a program in Rust meets it.
 
+#[cfg(feature = "nodes")]
+mod allocator;
 mod codecs;
 mod common;
 mod machines;
+#[cfg(feature = "nodes")]
+mod memory;
 #[cfg(feature = "nodes")]
 mod nodes;
 mod session;

@@ -1,0 +1,388 @@
+//! The memory of the nodes and of the link: all of it is given back, whatever happened; and a call answers that there was
+//! none only where an allocation was refused, and has changed nothing then.
+
+use crate::allocator::{live, refusing, Refusals};
+use crate::common::Chance;
+use sedgechisel::*;
+use std::collections::VecDeque;
+use std::fmt::Debug;
+
+/// What a call is refused by.
+trait Fault: PartialEq + Debug {
+    fn is_memory(&self) -> bool;
+}
+
+macro_rules! faults {
+    ($($name:ident $memory:pat,)*) => {
+        $(impl Fault for $name {
+            fn is_memory(&self) -> bool {
+                matches!(self, $memory)
+            }
+        })*
+    };
+}
+
+faults! {
+    OpenFault OpenFault::Memory,
+    LinkFault LinkFault::Memory,
+    SimFault SimFault::Memory,
+    TmFault TmFault::Memory,
+    CopFault CopFault::Damaged,
+}
+
+/// Two of a kind, which are given the same calls. Of one some allocations are refused, and where it answers that there
+/// was no memory the call is made again; so if they answer alike, what was refused changed nothing.
+struct Twins<N> {
+    tried: N,
+    plain: N,
+}
+
+/// Random calls of twins, and how many were refused for want of memory.
+struct Trial {
+    chance: Chance,
+    refused: u32,
+}
+
+impl Trial {
+    /// Makes a call of which some allocations are refused, until it is not refused for want of memory.
+    fn tried<T, E: Fault>(&mut self, mut call: impl FnMut() -> Result<T, E>) -> Result<T, E> {
+        let refusals = Refusals { after: self.chance.below(6), all: self.chance.once_in(2) };
+        match refusing(refusals, &mut call) {
+            (Err(fault), is_refused) if fault.is_memory() => {
+                assert!(is_refused, "{fault:?}, and no allocation was refused");
+                self.refused += 1;
+                call()
+            }
+            (answer, _) => answer,
+        }
+    }
+
+    fn twins<N, E: Fault>(&mut self, make: impl Fn() -> Result<N, E>) -> Twins<N> {
+        let tried = self.tried(&make).expect("a configuration in its ranges");
+        Twins { tried, plain: make().expect("a configuration in its ranges") }
+    }
+
+    /// Gives both a call, which answers alike, and not that there was no memory where none was refused.
+    fn both<N, T: PartialEq + Debug, E: Fault>(
+        &mut self, twins: &mut Twins<N>, call: impl Fn(&mut N) -> Result<T, E>,
+    ) {
+        let answer = self.tried(|| call(&mut twins.tried));
+        let wanted = call(&mut twins.plain);
+        assert!(!wanted.as_ref().is_err_and(E::is_memory), "{wanted:?}, and no allocation was refused");
+        assert_eq!(answer, wanted);
+    }
+
+    /// What both show alike, by a call that is never refused.
+    fn shown<N, T: PartialEq + Debug>(&mut self, twins: &mut Twins<N>, call: impl Fn(&mut N) -> T) -> T {
+        let answer = self.tried(|| Ok::<T, LinkFault>(call(&mut twins.tried)));
+        assert_eq!(answer, Ok(call(&mut twins.plain)));
+        answer.unwrap()
+    }
+
+    fn any_config(&mut self) -> Config {
+        let chance = &mut self.chance;
+        let half = 1 + chance.below(20) as u8;
+        Config {
+            width: 2 * half,
+            window: 1 + chance.below(half.into()) as u8,
+            limit: 1 + chance.below(4) as u8,
+            timer: 1 + chance.below(20) as u16,
+            part: 1 + if chance.once_in(2) { chance.below(30) } else { chance.below(1016) } as u16,
+            max_packet: 7 + chance.below(400),
+            maps: 0xf0 | u64::from(chance.below(u32::MAX)),
+            ready_slots: 1 + chance.below(5) as u8,
+            bypass_slots: 1 + chance.below(3) as u8,
+            queue_slots: 1 + chance.below(100) as u16,
+            frame_length: 16 + chance.below(2033) as u16,
+            blocking: chance.once_in(2),
+            ..Config::default()
+        }
+    }
+
+    /// A packet mostly, with a secondary header or without one; or several; or octets that are none.
+    fn any_packets(&mut self, kind: PacketKind) -> Vec<u8> {
+        let chance = &mut self.chance;
+        let many = if chance.once_in(4) { 1 + chance.below(60) } else { 1 };
+        let mut octets = Vec::new();
+        for _ in 0..many {
+            let count = 1 + if chance.once_in(16) { chance.below(600) } else { chance.below(20) };
+            let data = chance.octets(count);
+            let (secondary, flags) = (chance.once_in(4), SequenceFlags::Unsegmented);
+            let packet = Packet { kind, secondary, apid: 5, flags, count: 0, data: &data };
+            octets.extend(&*packet.encode(&mut [0; 700]).unwrap());
+        }
+        self.damaged(octets)
+    }
+
+    /// Some have a bit turned.
+    fn damaged(&mut self, mut octets: Vec<u8>) -> Vec<u8> {
+        if self.chance.once_in(16) {
+            let place = self.chance.below(octets.len() as u32) as usize;
+            octets[place] ^= 1 << self.chance.below(8);
+        }
+        octets
+    }
+
+    /// A MAP, which may be closed, or none.
+    fn any_map(&mut self) -> u8 {
+        let more = if self.chance.once_in(8) { self.chance.below(200) } else { 0 };
+        (4 + self.chance.below(4) + more) as u8
+    }
+
+    /// The first frame on its way: some are lost, and some damaged.
+    fn arriving(&mut self, way: &mut VecDeque<Vec<u8>>) -> Option<Vec<u8>> {
+        let octets = way.pop_front().filter(|_| !self.chance.once_in(8))?;
+        Some(self.damaged(octets))
+    }
+}
+
+/// The directives to a sender, of a ground or of a link.
+macro_rules! directed {
+    ($trial:expr, $twins:expr) => {{
+        let number = if $trial.chance.once_in(4) { $trial.chance.octet() } else { 1 };
+        match $trial.chance.below(10) {
+            0 | 1 => $trial.both($twins, |it| it.init_without_check()),
+            2 => $trial.both($twins, |it| it.init_with_check()),
+            3 => $trial.both($twins, |it| it.init_unlock()),
+            4 => $trial.both($twins, |it| it.init_set_vr(number)),
+            5 => $trial.both($twins, |it| it.set_vs(number)),
+            6 => $trial.both($twins, |it| it.set_window(number)),
+            7 => $trial.both($twins, |it| it.set_limit(number)),
+            8 => $trial.both($twins, |it| it.set_timer(number.into())),
+            _ if $trial.chance.once_in(8) => $trial.both($twins, |it| it.terminate()),
+            _ => {}
+        }
+    }};
+}
+
+/// Two nodes, and the frames between them.
+struct Nodes {
+    ground: Twins<Ground>,
+    spacecraft: Twins<Spacecraft>,
+    up: VecDeque<Vec<u8>>,
+    down: VecDeque<Vec<u8>>,
+}
+
+impl Nodes {
+    /// On board MAPs may be closed that are open on the ground.
+    fn new(trial: &mut Trial) -> Self {
+        let config = trial.any_config();
+        let maps = if trial.chance.once_in(2) { u64::MAX } else { config.maps };
+        Self {
+            ground: trial.twins(|| Ground::new(&Config { maps, ..config })),
+            spacecraft: trial.twins(|| Spacecraft::new(&config)),
+            up: VecDeque::new(),
+            down: VecDeque::new(),
+        }
+    }
+
+    fn step(&mut self, trial: &mut Trial) {
+        let Self { ground, spacecraft, up, down } = self;
+        match trial.chance.below(16) {
+            0 => directed!(trial, ground),
+            1..=4 => submitted(ground, trial),
+            5..=7 => up.extend(sent(ground, trial)),
+            8..=10 => {
+                if let Some(octets) = trial.arriving(up) {
+                    trial.both(spacecraft, |it| it.receive(&octets));
+                }
+            }
+            11 => down.push_back(reported(spacecraft, trial)),
+            12 => {
+                if let Some(octets) = trial.arriving(down) {
+                    trial.both(ground, |it| it.telemetry(&octets));
+                    trial.shown(ground, |it| it.report_in(&octets));
+                }
+            }
+            13 => {
+                let packet = trial.any_packets(PacketKind::Telemetry);
+                trial.both(spacecraft, |it| it.telemetry(&packet));
+            }
+            14 => {
+                trial.both(spacecraft, |it| it.take());
+                trial.both(spacecraft, |it| it.take_bypass());
+                trial.both(ground, |it| it.take_telemetry());
+            }
+            _ => drop(trial.shown(ground, |it| it.tick().map(Alert::number))),
+        }
+        self.are_read(trial);
+    }
+
+    fn are_read(&mut self, trial: &mut Trial) {
+        let value = trial.chance.octet();
+        trial.shown(&mut self.ground, |it| {
+            (it.state(), it.vs(), it.nn(), it.outstanding(), it.accepted_beyond(value), it.frame_length())
+        });
+        trial.shown(&mut self.spacecraft, |it| (it.mode(), it.control_word(), it.frame_length()));
+    }
+}
+
+fn submitted(ground: &mut Twins<Ground>, trial: &mut Trial) {
+    let (map, packets) = (trial.any_map(), trial.any_packets(PacketKind::Telecommand));
+    if trial.chance.once_in(4) {
+        trial.both(ground, |it| it.bypass(map, &packets));
+    } else {
+        trial.both(ground, |it| it.submit(map, &packets));
+    }
+}
+
+/// The frame that goes on the link next.
+fn sent(ground: &mut Twins<Ground>, trial: &mut Trial) -> Option<Vec<u8>> {
+    let (count, room) = trial.shown(ground, |it| {
+        let mut room = [0; TcFrame::LONGEST];
+        (it.pull(&mut room).map(|frame| frame.len()), room)
+    });
+    count.map(|it| room[..it].to_vec())
+}
+
+/// The next telemetry frame.
+fn reported(spacecraft: &mut Twins<Spacecraft>, trial: &mut Trial) -> Vec<u8> {
+    let (count, room) = trial.shown(spacecraft, |it| {
+        let mut room = [0; TmFrame::LONGEST];
+        (it.report(&mut room).len(), room)
+    });
+    room[..count].to_vec()
+}
+
+/// An event of the link, and at times what it has recorded.
+fn happens(link: &mut Twins<Link>, trial: &mut Trial) {
+    let (map, octets) = (trial.any_map(), trial.any_packets(PacketKind::Telecommand));
+    match trial.chance.below(20) {
+        0 => directed!(trial, link),
+        1..=4 => trial.both(link, |it| it.submit(map, &octets)),
+        5 => trial.both(link, |it| it.bypass(map, &octets)),
+        6..=8 => trial.both(link, |it| it.send()),
+        9..=11 => trial.both(link, |it| it.up_deliver()),
+        12 if trial.chance.once_in(2) => trial.both(link, |it| it.up_lose()),
+        12 => trial.both(link, |it| it.up_damage(&octets)),
+        13 => trial.both(link, |it| it.report()),
+        14 => trial.both(link, |it| it.down_deliver()),
+        15 if trial.chance.once_in(2) => trial.both(link, |it| it.down_lose()),
+        15 => trial.both(link, |it| it.down_damage(&octets)),
+        16 => drop(trial.shown(link, |it| it.tick().map(Alert::number))),
+        17 => trial.both(link, |it| it.take()),
+        18 => trial.both(link, |it| it.take_bypass()),
+        _ => {
+            let packet = trial.any_packets(PacketKind::Telemetry);
+            trial.both(link, |it| it.telemetry(&packet));
+        }
+    }
+    if trial.chance.once_in(16) {
+        is_recorded(link, trial);
+    }
+}
+
+fn is_recorded(link: &mut Twins<Link>, trial: &mut Trial) {
+    trial.shown(link, |it| (it.state(), it.outstanding(), it.acknowledged(), it.begun()));
+    trial.shown(link, |it| (it.is_clean(), it.is_idle(), it.is_confirmed()));
+    let (place, map) = (trial.chance.below(4) as usize, trial.any_map());
+    for record in [Record::Submitted(map), Record::Delivered(map), Record::Sent, Record::Received] {
+        trial.both(link, |it| it.record(record).nth(place).transpose());
+    }
+    trial.both(link, |it| it.submissions().nth(place).transpose());
+}
+
+/// Plays sessions, of which nothing is left; returns how many calls were refused for want of memory.
+fn leaves_nothing(sessions: u32, seed: u64, mut session: impl FnMut(&mut Trial)) -> u32 {
+    let mut trial = Trial { chance: Chance(seed), refused: 0 };
+    for number in 0..sessions {
+        let before = live();
+        session(&mut trial);
+        assert_eq!(live(), before, "after session {number}");
+    }
+    trial.refused
+}
+
+#[test]
+fn the_memory_of_random_nodes() {
+    let refused = leaves_nothing(300, 12, |trial| {
+        let mut nodes = Nodes::new(trial);
+        (0..200).for_each(|_| nodes.step(trial));
+    });
+    assert!(refused > 1000, "{refused}");
+}
+
+#[test]
+fn the_memory_of_random_links() {
+    let refused = leaves_nothing(200, 13, |trial| {
+        let config = trial.any_config();
+        let mut link = trial.twins(|| Link::new(&config));
+        (0..200).for_each(|_| happens(&mut link, trial));
+    });
+    assert!(refused > 1000, "{refused}");
+}
+
+/// A node that is dropped has given back all that it took, whichever node and whatever the length of its frames.
+#[test]
+fn the_memory_of_each_node() {
+    fn leaves<N>(make: impl Fn(&Config) -> N, give: impl Fn(&mut N)) {
+        for frame_length in 16..=2048 {
+            let before = live();
+            let mut node = make(&Config { frame_length, ..Config::default() });
+            give(&mut node);
+            assert!(live().allocations > before.allocations && live().octets > before.octets);
+            drop(node);
+            assert_eq!(live(), before, "where frames have {frame_length} octets");
+        }
+    }
+    let packet = [0x10, 5, 0xc0, 0, 0, 0, 0xaa];
+    leaves(|it| Ground::new(it).unwrap(), |it| it.bypass(4, &packet).unwrap());
+    leaves(|it| Spacecraft::new(it).unwrap(), |it| it.telemetry(&packet).unwrap());
+    leaves(|it| Link::new(it).unwrap(), |it| it.bypass(4, &packet).unwrap());
+}
+
+/// Where a node is not opened, nothing is kept.
+#[test]
+fn nodes_that_are_not_opened() {
+    fn leaves<N: Debug>(make: impl Fn(&Config) -> Result<N, OpenFault>) {
+        let before = live();
+        for after in 0..20 {
+            let refusals = Refusals { after, all: true };
+            let (made, is_refused) = refusing(refusals, || make(&Config::default()));
+            assert_eq!(made.err(), is_refused.then_some(OpenFault::Memory));
+            let (made, _) = refusing(refusals, || make(&Config { limit: 0, ..Config::default() }));
+            assert_eq!(made.err(), Some(OpenFault::OutOfRange(Parameter::Limit)));
+        }
+        assert!(refusing(Refusals::default(), || make(&Config::default())).1);
+        assert_eq!(live(), before);
+    }
+    leaves(Ground::new);
+    leaves(Spacecraft::new);
+    leaves(Link::new);
+}
+
+/// A packet with this number, of 7 to 306 octets.
+fn numbered(kind: PacketKind, number: u16) -> Vec<u8> {
+    let data = Chance(number.into()).octets(1 + u32::from(number) % 300);
+    let flags = SequenceFlags::Unsegmented;
+    let packet = Packet { kind, secondary: false, apid: 5, flags, count: number, data: &data };
+    packet.encode(&mut [0; 400]).unwrap().to_vec()
+}
+
+/// 2,000 packets wait to be sent, and then 3,000 packets of telemetry: each comes as it was, and none is refused.
+#[test]
+fn long_queues() {
+    let config = Config { queue_slots: 2000, frame_length: 2048, ..Config::default() };
+    let (mut ground, mut spacecraft) = (Ground::new(&config).unwrap(), Spacecraft::new(&config).unwrap());
+    let (mut up, mut down) = ([0; TcFrame::LONGEST], [0; TmFrame::LONGEST]);
+    ground.init_without_check().unwrap();
+    (1..=2000).for_each(|it| ground.submit(4, &numbered(PacketKind::Telecommand, it)).unwrap());
+    let mut taken = 0;
+    while ground.outstanding() > 0 {
+        while let Some(frame) = ground.pull(&mut up) {
+            spacecraft.receive(frame).unwrap();
+            let packet = spacecraft.take().unwrap();
+            taken += 1;
+            assert_eq!(packet, Some((4, numbered(PacketKind::Telecommand, taken))));
+        }
+        ground.telemetry(spacecraft.report(&mut down)).unwrap();
+    }
+    (1..=3000).for_each(|it| spacecraft.telemetry(&numbered(PacketKind::Telemetry, it)).unwrap());
+    for _ in 0..300 {
+        ground.telemetry(spacecraft.report(&mut down)).unwrap();
+    }
+    for number in 1..=3000 {
+        assert_eq!(ground.take_telemetry(), Ok(Some(numbered(PacketKind::Telemetry, number))));
+    }
+    assert_eq!((taken, ground.take_telemetry()), (2000, Ok(None)));
+}
