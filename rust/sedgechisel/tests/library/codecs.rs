@@ -40,6 +40,7 @@ fn faults_are_errors() {
     assert_eq!(TcFault::from_number(12), None);
     assert_eq!(TmFault::Version.to_string(), "2 Version: the version number is not 00 (4.1.2.2)");
     assert_eq!((Verdict::NoBuffer.to_string(), Alert::NnR.name()), ("nobuffer".into(), "NnR"));
+    assert_eq!(Alert::Terminated.to_string(), "7 Terminated: the directive Terminate");
 }
 
 #[test]
@@ -194,6 +195,37 @@ fn space_packets() {
     let mut out = vec![0; Packet::LONGEST];
     assert_eq!(longest.encode(&mut out).map(|it| &*it), Ok(&octets[..65542]));
     assert_eq!(Packet::decode(&octets[..65541]), Err(PacketFault::Truncated));
+}
+
+/// The sequence flags are the first two bits of the third octet.
+#[test]
+fn flags_of_packets() {
+    for (flags, octet) in [
+        (SequenceFlags::Continuation, 0x00),
+        (SequenceFlags::First, 0x40),
+        (SequenceFlags::Last, 0x80),
+        (SequenceFlags::Unsegmented, 0xc0),
+    ] {
+        let octets = [0x10, 0x05, octet, 0x00, 0x00, 0x00, 0xaa];
+        let packet = Packet::decode(&octets).unwrap();
+        assert_eq!((packet.flags, packet.kind), (flags, PacketKind::Telecommand));
+        assert_eq!(packet.encode(&mut [0; 7]).map(|it| &*it), Ok(&octets[..]));
+    }
+}
+
+/// The segment flags are the first two bits of the sixth octet.
+#[test]
+fn flags_of_segments() {
+    for (flags, octet) in [
+        (SegmentFlags::Continuing, 0x04),
+        (SegmentFlags::First, 0x44),
+        (SegmentFlags::Last, 0x84),
+        (SegmentFlags::Alone, 0xc4),
+    ] {
+        let segment = Segment { flags, map: 4, data: &[0xaa] };
+        let frame = TcFrame { scid: 1, vcid: 2, body: Body::Ad { n: 3, segment } };
+        is_spelled(frame, &format!("0001080603{octet:02x}aa"), false);
+    }
 }
 
 #[test]

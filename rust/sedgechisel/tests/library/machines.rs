@@ -157,6 +157,8 @@ fn a_sender_sends_again() {
     let FopFields { nn, sent, due, .. } = fop.fields();
     assert_eq!((nn, sent, due), (1, 2, 2));
     assert_eq!((fop.next(), fop.next()), (Some(Next::Again(1)), Some(Next::Again(2))));
+    let wait = Clcw { wait: true, ..word(true, 1) };
+    assert_eq!((fop.report(2, &wait), fop.state(), fop.next()), (reported(0, None), FopState::S3, None));
     assert_eq!((fop.report(2, &word(false, 3)), fop.state()), (reported(2, None), FopState::S1));
     assert_eq!((fop.fields().sent, fop.fields().ticks), (0, 0));
     assert_eq!(fop.report(2, &word(false, 4)), reported(0, Some(Alert::NnR)));
@@ -185,6 +187,25 @@ fn a_sender_gives_up() {
     send_first(&mut fop, 0);
     assert_eq!((0..100).find_map(|tick| fop.tick().map(|alert| (tick, alert))), Some((29, Alert::Timer)));
     assert_eq!((fop.state(), fop.fields().sent), (FopState::S6, 0));
+}
+
+/// Each reason to give up, once: two units were sent, and this report comes, in S1 with the limit 3 or 1.
+#[test]
+fn why_a_sender_gives_up() {
+    let flags = |lockout, wait, retransmit| Clcw { vcid: 2, lockout, wait, retransmit, ..Clcw::default() };
+    for (limit, word, alert) in [
+        (3, Clcw { value: 1, ..flags(true, false, false) }, Alert::Lockout),
+        (3, Clcw { value: 3, ..flags(false, false, false) }, Alert::NnR),
+        (3, Clcw { value: 1, ..flags(false, true, false) }, Alert::Clcw),
+        (3, Clcw { value: 2, ..flags(false, false, true) }, Alert::Synch),
+        (1, Clcw { value: 1, ..flags(false, false, true) }, Alert::Limit),
+    ] {
+        let mut fop = Fop::new(254, 127, limit, 10).unwrap();
+        fop.init_without_check().unwrap();
+        (0..2).for_each(|it| send_first(&mut fop, it));
+        assert_eq!(fop.report(2, &word).and_then(|it| it.alert), Some(alert));
+        assert_eq!((fop.state(), fop.terminate()), (FopState::S6, Err(CopFault::WrongState)));
+    }
 }
 
 /// After an alert a report still says which of the two units sent were accepted, until an initiation begins: then there

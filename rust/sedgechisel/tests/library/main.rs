@@ -4,6 +4,8 @@
 mod allocator;
 mod codecs;
 mod common;
+#[cfg(feature = "nodes")]
+mod link;
 mod machines;
 #[cfg(feature = "nodes")]
 mod memory;

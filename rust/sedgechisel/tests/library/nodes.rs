@@ -139,6 +139,120 @@ fn a_map_that_is_closed_on_board() {
     assert_eq!((word_of(&spacecraft), spacecraft.take()), ([0x01, 0x08, 0x00, 0x01], Ok(None)));
 }
 
+/// What a spacecraft makes of each kind of octets.
+#[test]
+fn what_a_spacecraft_receives() {
+    let config = Config { maps: 0b110000, max_packet: 8, ..Config::default() };
+    let mut spacecraft = Spacecraft::new(&config).unwrap();
+    let mut given = |scid, vcid, body| {
+        let mut room = [0; 64];
+        let frame = TcFrame { scid, vcid, body };
+        spacecraft.receive(frame.encode(true, &mut room).unwrap()).unwrap()
+    };
+    for (scid, vcid) in [(2, 2), (1, 3)] {
+        assert_eq!(given(scid, vcid, Body::Bc(Command::Unlock)), Received::Foreign);
+    }
+    let (one, nine) = (octets_of(P0), octets_of("1005C0000002AABBCC"));
+    let segment = |flags, map, data| Segment { flags, map, data };
+    for (flags, map, data, kept) in [
+        (SegmentFlags::Alone, 4, &one[..], true),
+        (SegmentFlags::First, 4, &one[..], false),
+        (SegmentFlags::Alone, 6, &one[..], false),
+    ] {
+        let body = Body::Bd { segment: segment(flags, map, data) };
+        assert_eq!(given(1, 2, body), Received::Bypass { kept });
+    }
+    assert_eq!(given(1, 2, Body::Bc(Command::SetVr(7))), Received::Control(Command::SetVr(7)));
+    for (n, (flags, map, data, ready, dropped)) in (7..).zip([
+        (SegmentFlags::Alone, 4, &one[..], 1, None),
+        (SegmentFlags::Alone, 6, &one[..], 0, Some(Dropped::ClosedMap)),
+        (SegmentFlags::First, 5, &one[..4], 0, None),
+        (SegmentFlags::Alone, 5, &one[..], 1, Some(Dropped::Interrupted)),
+        (SegmentFlags::Continuing, 5, &one[..4], 0, Some(Dropped::NoBeginning)),
+        (SegmentFlags::Alone, 5, &one[..6], 0, Some(Dropped::NotAPacket)),
+        (SegmentFlags::Alone, 5, &nine[..], 0, Some(Dropped::TooLong)),
+    ]) {
+        let body = Body::Ad { n, segment: segment(flags, map, data) };
+        assert_eq!(given(1, 2, body), Received::Sequence { n, verdict: Verdict::Accepted, ready, dropped });
+    }
+    assert_eq!([spacecraft.take(), spacecraft.take()], [4, 5].map(|map| Ok(Some((map, octets_of(P0))))));
+    assert_eq!(spacecraft.take_bypass(), Ok(Some((4, octets_of(P0)))));
+    assert_eq!((spacecraft.take(), spacecraft.take_bypass()), (Ok(None), Ok(None)));
+}
+
+/// What a ground makes of each kind of report, and of octets that are not its own.
+#[test]
+fn what_a_ground_hears() {
+    let mut ground = Ground::new(&Config::default()).unwrap();
+    let given = |scid, vcid, vc_count, ocf| {
+        let pointer = Pointer::OnlyIdle;
+        let frame = TmFrame { scid, vcid, mc_count: 0, vc_count, pointer, ocf, data: &[0x55; 52] };
+        frame.encode(&mut [0; 64]).unwrap().to_vec()
+    };
+    let good = [0x01, 0x08, 0x00, 0x00];
+    assert_eq!(ground.telemetry(&given(2, 0, 0, good)), Ok(Heard::Foreign));
+    assert_eq!(ground.telemetry(&given(1, 1, 0, good)), Ok(Heard::Foreign));
+    assert_eq!(ground.telemetry(&given(1, 0, 0, good)[1..]), Ok(Heard::Invalid(TmFault::Length)));
+    ground.init_without_check().unwrap();
+    let rows = [
+        (5, good, None, HeardReport::Used, None),
+        (6, [0x81, 0x08, 0x00, 0x00], Some(0), HeardReport::None(ClcwFault::Kind), None),
+        (8, [0x21, 0x08, 0x00, 0x00], Some(1), HeardReport::None(ClcwFault::Version), None),
+        (9, [0x02, 0x08, 0x00, 0x00], Some(0), HeardReport::None(ClcwFault::Cop), None),
+        (8, [0x01, 0x09, 0x00, 0x00], Some(254), HeardReport::None(ClcwFault::Spare), None),
+        (9, [0x01, 0x0c, 0x20, 0x00], Some(0), HeardReport::Other, None),
+        (10, [0x01, 0x08, 0x20, 0x00], Some(0), HeardReport::Used, Some(Alert::Lockout)),
+    ];
+    for (vc_count, ocf, gap, report, alert) in rows {
+        let heard = Heard::Frame { gap, packets: 0, report, alert };
+        assert_eq!(ground.telemetry(&given(1, 0, vc_count, ocf)), Ok(heard));
+    }
+    assert_eq!(ground.state(), FopState::S6);
+}
+
+/// Each directive to the ground does what its name says.
+#[test]
+fn the_directives_to_a_ground() {
+    let mut ground = Ground::new(&Config { frame_length: 128, ..Config::default() }).unwrap();
+    assert_eq!((ground.frame_length(), ground.state(), ground.vs()), (128, FopState::S6, 0));
+    assert_eq!((ground.init_with_check(), ground.state()), (Ok(()), FopState::S4));
+    assert_eq!((ground.terminate(), ground.state()), (Ok(()), FopState::S6));
+    assert_eq!((ground.init_unlock(), ground.state()), (Ok(()), FopState::S5));
+    let control = |ground: &mut Ground| {
+        TcFrame::decode(&sent(ground).unwrap(), true).map(|it| it.body == Body::Bc(Command::SetVr(9)))
+    };
+    assert_eq!((control(&mut ground), ground.terminate()), (Ok(false), Ok(())));
+    assert_eq!(
+        (ground.init_set_vr(9), ground.state(), ground.vs(), ground.nn()),
+        (Ok(()), FopState::S5, 9, 9)
+    );
+    assert_eq!((control(&mut ground), ground.set_vs(5)), (Ok(true), Err(CopFault::WrongState)));
+    assert_eq!((ground.terminate(), ground.set_vs(5), ground.vs(), ground.nn()), (Ok(()), Ok(()), 5, 5));
+    assert_eq!((ground.set_window(0), ground.set_window(1)), (Err(CopFault::Window), Ok(())));
+    assert_eq!((ground.set_limit(0), ground.set_limit(1)), (Err(CopFault::Limit), Ok(())));
+    assert_eq!((ground.set_timer(0), ground.set_timer(2)), (Err(CopFault::Timer), Ok(())));
+    assert_eq!((ground.init_without_check(), ground.state()), (Ok(()), FopState::S1));
+    ground.submit(4, &octets_of(P0)).unwrap();
+    ground.submit(4, &octets_of(P1)).unwrap();
+    assert!(sent(&mut ground).is_some() && sent(&mut ground).is_none());
+    assert_eq!((ground.vs(), ground.nn(), ground.outstanding()), (6, 5, 2));
+    assert_eq!((ground.tick(), ground.tick(), ground.state()), (None, Some(Alert::Timer), FopState::S6));
+}
+
+/// Bypass packets go before others, in any state; the oldest one that is not taken is overwritten.
+#[test]
+fn past_the_sequence_control() {
+    let (mut ground, mut spacecraft) =
+        pair(&Config { bypass_slots: 1, frame_length: 20, ..Config::default() });
+    for packet in [P0, P1] {
+        ground.bypass(4, &octets_of(packet)).unwrap();
+        assert_eq!(spacecraft.receive(&sent(&mut ground).unwrap()), Ok(Received::Bypass { kept: true }));
+    }
+    assert_eq!((spacecraft.frame_length(), reported(&mut spacecraft).len()), (20, 20));
+    assert_eq!((spacecraft.take(), spacecraft.take_bypass()), (Ok(None), Ok(Some((4, octets_of(P1))))));
+    assert_eq!(spacecraft.take_bypass(), Ok(None));
+}
+
 /// The first parameter that is out of its range is named.
 #[test]
 fn parameters_out_of_their_ranges() {
@@ -147,22 +261,23 @@ fn parameters_out_of_their_ranges() {
     assert_eq!(Ground::new(&config).err(), Some(OpenFault::OutOfRange(Parameter::Limit)));
     assert_eq!(Spacecraft::new(&config).unwrap_err().to_string(), "6 limit is out of its range");
     let wrong = [
-        (Config { scid: 1024, ..config }, "scid"),
-        (Config { vcid: 64, ..config }, "vcid"),
-        (Config { tm_vcid: 8, ..config }, "tm_vcid"),
-        (Config { width: 3, ..config }, "width"),
-        (Config { width: 252, ..config }, "window"),
-        (Config { limit: 1, timer: 0, ..config }, "timer"),
-        (Config { limit: 1, part: 1017, ..config }, "part"),
-        (Config { limit: 1, max_packet: 6, ..config }, "max_packet"),
-        (Config { limit: 1, ready_slots: 65, ..config }, "ready_slots"),
-        (Config { limit: 1, bypass_slots: 0, ..config }, "bypass_slots"),
-        (Config { limit: 1, queue_slots: 0, ..config }, "queue_slots"),
-        (Config { limit: 1, frame_length: 15, ..config }, "frame_length"),
+        (Config { scid: 1024, ..config }, Parameter::Scid, "scid"),
+        (Config { vcid: 64, ..config }, Parameter::Vcid, "vcid"),
+        (Config { tm_vcid: 8, ..config }, Parameter::TmVcid, "tm_vcid"),
+        (Config { width: 3, ..config }, Parameter::Width, "width"),
+        (Config { width: 252, ..config }, Parameter::Window, "window"),
+        (Config { limit: 1, timer: 0, ..config }, Parameter::Timer, "timer"),
+        (Config { limit: 1, part: 1017, ..config }, Parameter::Part, "part"),
+        (Config { limit: 1, max_packet: 6, ..config }, Parameter::MaxPacket, "max_packet"),
+        (Config { limit: 1, ready_slots: 65, ..config }, Parameter::ReadySlots, "ready_slots"),
+        (Config { limit: 1, bypass_slots: 0, ..config }, Parameter::BypassSlots, "bypass_slots"),
+        (Config { limit: 1, queue_slots: 0, ..config }, Parameter::QueueSlots, "queue_slots"),
+        (Config { limit: 1, frame_length: 15, ..config }, Parameter::FrameLength, "frame_length"),
     ];
-    for (config, name) in wrong {
-        assert_eq!(config.fault().map(Parameter::name), Some(name));
+    for (config, parameter, name) in wrong {
+        assert_eq!((config.fault(), parameter.name()), (Some(parameter), name));
     }
+    assert_eq!((Parameter::Maps.name(), Parameter::Blocking.name()), ("maps", "blocking"));
     assert_eq!(Config { limit: 1, ..config }.fault(), None);
 }
 
