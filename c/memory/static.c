@@ -1,6 +1,6 @@
 /* The memory of libsedgechisel_nodes in static places, for programs without malloc: the three functions that the
- * library calls. SEDGE_PLACES says how many places there are of each size in octets, the smallest first, each a
- * multiple of 16:
+ * library calls. SEDGE_PLACES says how many places there are of each size in octets, the smallest first, each once and
+ * a multiple of 16, or the file does not compile:
  *     -D'SEDGE_PLACES=PLACES(112, 40) PLACES(352, 1) PLACES(65552, 1)'
  * docs/C.md says how many a node takes at most. What is asked for gets a free place of the first size that is enough,
  * so where there are as many of each size as are used at once, nothing is ever refused. Each call takes time in
@@ -14,6 +14,19 @@ struct place {
     bool found;
     void *at; /* where none was found, any address but null */
 };
+
+/* A size that is no multiple of 16, or no more than the one before it, does not compile: above_N is the number after
+ * the size before N. */
+enum {
+    none_before,
+#define PLACES(octets, count) above_##octets, size_##octets = octets,
+    SEDGE_PLACES
+#undef PLACES
+};
+#define PLACES(octets, count) \
+    typedef char sizes_ascend_in_multiples_of_16_##octets[octets % 16 == 0 && octets >= above_##octets ? 1 : -1];
+SEDGE_PLACES
+#undef PLACES
 
 /* The places, each size a member of its own. */
 static union {
