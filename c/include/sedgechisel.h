@@ -103,15 +103,17 @@ struct sedge_clcw {
     uint8_t value;  /* the report value, V(R) of the receiver */
 };
 
-/* Reads four octets as a control word. Returns 0, or the first of 1 to 4 of sedge_clcw_fault, or SEDGE_WRONG_COUNT
- * if the octets are not four. */
+/* Reads four octets as a control word, of whichever virtual channel: compare vcid with your own before you use its
+ * value or its flags (sedge_fop_report does so itself). Returns 0, or the first of 1 to 4 of sedge_clcw_fault, or
+ * SEDGE_WRONG_COUNT if the octets are not four. */
 uint8_t sedge_clcw_decode(const uint8_t *octets, size_t count, struct sedge_clcw *word);
 
 /* Writes a control word as four octets. Returns 0, or SEDGE_CLCW_RANGE, or SEDGE_WRONG_COUNT if the room is not
  * four octets. */
 uint8_t sedge_clcw_encode(const struct sedge_clcw *word, uint8_t *out, size_t room);
 
-/* ---- The receiver FARM-1 of one virtual channel (232.1-B-2, section 6). ---- */
+/* ---- The receiver FARM-1 of one virtual channel (232.1-B-2, section 6). Give it the frames of its own spacecraft and
+ * channel alone: compare scid and vcid of each frame with your own first, since no call here sees them. ---- */
 
 /* Why a call of the receiver or of the sender is refused. */
 enum sedge_cop_fault {
@@ -295,9 +297,11 @@ uint8_t sedge_fop_submit(struct sedge_fop *fop);
  * SEDGE_DAMAGED, with nothing written. */
 uint8_t sedge_fop_next(struct sedge_fop *fop, uint8_t *number);
 
-/* A control word has arrived, and the sender is that of the virtual channel vcid. Returns the alert, of sedge_alert,
- * and writes the number of units that are acknowledged, the oldest of those sent; or with nothing written and nothing
- * changed it returns the first of SEDGE_ABSENT, if the word reports on another channel, and SEDGE_DAMAGED. */
+/* A control word has arrived, and the sender is that of the virtual channel vcid. The call compares this with the vcid
+ * of the word; the caller has compared the scid of the telemetry frame that carried it. Returns the alert, of
+ * sedge_alert, and writes the number of units that are acknowledged, the oldest of those sent; or with nothing written
+ * and nothing changed it returns the first of SEDGE_ABSENT, if the word reports on another channel, and
+ * SEDGE_DAMAGED. */
 uint8_t sedge_fop_report(struct sedge_fop *fop, uint8_t vcid, const struct sedge_clcw *word, uint8_t *released);
 
 /* A tick of the clock has passed. Returns the alert, of sedge_alert, or SEDGE_DAMAGED. */
@@ -364,8 +368,9 @@ struct sedge_tc_frame {
 };
 
 /* Reads all of the octets as one frame, which ends with its FECF if checked is true, and writes where the data after
- * the segment header are; a control frame has none, and the part is {0, 0}. Returns 0, or the first of 1 to 9 of
- * sedge_tc_fault. */
+ * the segment header are; a control frame has none, and the part is {0, 0}. The frame may be of any spacecraft and
+ * virtual channel: compare scid and vcid with your own before a receiver is told of it. Returns 0, or the first of 1 to
+ * 9 of sedge_tc_fault. */
 uint8_t sedge_tc_decode(const uint8_t *octets, size_t count, bool checked, struct sedge_tc_frame *frame,
                         struct sedge_part *data);
 
@@ -455,8 +460,9 @@ struct sedge_tm_frame {
     uint8_t ocf[4];   /* the operational control field, as sedge_clcw_encode writes it (4.1.5) */
 };
 
-/* Reads all of the octets as one frame of this length, and writes where its data are. Returns 0, or the first of 1 to 6
- * of sedge_tm_fault. */
+/* Reads all of the octets as one frame of this length, and writes where its data are. The frame may be of any
+ * spacecraft and virtual channel: compare scid and vcid with your own before an extractor is given it, and scid before
+ * its control word is used. Returns 0, or the first of 1 to 6 of sedge_tm_fault. */
 uint8_t sedge_tm_decode(const uint8_t *octets, size_t count, size_t length, struct sedge_tm_frame *frame,
                         struct sedge_part *data);
 
@@ -522,8 +528,8 @@ struct sedge_tm_extracted {
     uint8_t lost;              /* the number of frames missing before it, modulo 256, and 0 for the first (4.1.2.6) */
 };
 
-/* Takes the next frame that came, its fields and its data as sedge_tm_decode gives them. Hand its packets on before the
- * next call:
+/* Takes the next frame of the spacecraft and the virtual channel that came, its fields and its data as sedge_tm_decode
+ * gives them. Hand its packets on before the next call:
  *
  *     if (extracted.joined > 0) hand_on(memory, extracted.joined);
  *     struct sedge_part packet = extracted.packets;
