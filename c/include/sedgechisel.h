@@ -548,9 +548,10 @@ bool sedge_tm_packet(const uint8_t *data, size_t data_count, struct sedge_part *
 
 /* ---- Packets in segments, for one MAP (232.0-B-4, 4.1.3.2.2), with blocking or without it. ---- */
 
-/* Why octets of a MAP are dropped. */
+/* Why octets of a MAP are dropped: by sedge_map_take from 2 on, by a node (sedgechisel_nodes.h) from 1 on. */
 enum sedge_dropped {
     SEDGE_NOT_DROPPED = 0,
+    SEDGE_DROPPED_CLOSED_MAP = 1,   /* the segment: its MAP is not open */
     SEDGE_DROPPED_INTERRUPTED = 2,  /* the part that was open: a first or an alone segment came before its last */
     SEDGE_DROPPED_NO_BEGINNING = 3, /* the segment: it continues or ends a packet, and no part is open */
     SEDGE_DROPPED_NOT_A_PACKET = 4, /* what was joined is not exactly one packet, or what stood alone is not one, or

@@ -181,7 +181,7 @@ struct sedge_received {
     uint8_t fault;   /* 1: why they are no frame, of sedge_tc_fault */
     uint8_t n;       /* 3: its number, N(S) */
     uint8_t verdict; /* 3: of sedge_verdict */
-    uint8_t dropped; /* 3: why octets on its MAP were dropped: 1 if it is closed, or of sedge_dropped; 0 for none */
+    uint8_t dropped; /* 3: why octets on its MAP were dropped, of sedge_dropped; 0 for none */
     bool kept;       /* 4: whether it carried a packet, which is kept */
     uint8_t command; /* 5: Unlock (0) or Set V(R) (1) */
     uint8_t vr;      /* 5: the number of Set V(R) */
