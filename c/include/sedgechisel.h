@@ -564,7 +564,8 @@ enum sedge_dropped {
 enum sedge_where {
     SEDGE_NO_PACKET = 0,
     SEDGE_IN_MEMORY = 1, /* one packet, the first octets of the memory */
-    SEDGE_IN_DATA = 2    /* the segment's data: one packet, or with blocking one or more, one after another */
+    SEDGE_IN_DATA = 2    /* the segment's data: one packet, or with blocking one or more, one after another, of which
+                          * there are at most 145 (1,016 / 7), whatever the sender's limits are */
 };
 
 /* A MAP on board, which the caller keeps with its memory: as many octets as the longest packet may have. Begin it as

@@ -54,7 +54,7 @@ struct sedge_config {
     uint32_t window;
     uint32_t limit;
     uint32_t timer;      /* in ticks */
-    uint32_t part;       /* in octets */
+    uint32_t part;       /* in octets; the ground's alone, since a spacecraft takes segments of up to 1,016 */
     uint32_t max_packet; /* in octets */
     uint64_t maps;       /* bit m is set where MAP m is open */
     uint32_t ready_slots;
