@@ -105,7 +105,7 @@ uint8_t sedge_ground_submit(struct sedge_ground *ground, uint8_t map, const uint
  * applies, or SEDGE_NODE_MEMORY. */
 uint8_t sedge_ground_bypass(struct sedge_ground *ground, uint8_t map, const uint8_t *octets, size_t count);
 
-/* Writes how many octets the frame that goes on the link next has, 6 to 1,024; 0 where nothing is to be sent. Returns
+/* Writes how many octets the frame that goes on the link next has, 8 to 1,024; 0 where nothing is to be sent. Returns
  * 0. */
 uint8_t sedge_ground_next(struct sedge_ground *ground, size_t *count);
 
@@ -130,7 +130,7 @@ uint8_t sedge_ground_telemetry(struct sedge_ground *ground, const uint8_t *octet
                                struct sedge_heard *heard);
 
 /* Writes the report that a telemetry frame carries, of whichever spacecraft and virtual channel (232.0-B-4, 4.2); the
- * ground stays as it was. Returns 0, or SEDGE_NODE_ABSENT if the octets are no frame, or the frame carries no report. */
+ * ground stays as it was. Returns 0, or SEDGE_NODE_ABSENT if the octets are no frame or the frame carries no report. */
 uint8_t sedge_ground_report(struct sedge_ground *ground, const uint8_t *octets, size_t count,
                             struct sedge_clcw *report);
 
