@@ -78,7 +78,9 @@ struct sedge_ground {
     void *node;
 };
 
-/* Opens a ground, in place of one that the handle holds. Returns 0, SEDGE_NODE_OUT_OF_RANGE or SEDGE_NODE_MEMORY. */
+/* Opens a ground, in place of one that the handle holds, which is let go of once the new one is made: a refusal leaves
+ * it, and until then both have memory. Where there is memory for one alone, close the handle first. Returns 0,
+ * SEDGE_NODE_OUT_OF_RANGE or SEDGE_NODE_MEMORY. */
 uint8_t sedge_ground_open(const struct sedge_config *config, struct sedge_ground *ground);
 
 /* Closes the ground, where there is one; the handle holds none then. */
@@ -167,8 +169,8 @@ struct sedge_spacecraft {
     void *node;
 };
 
-/* Opens a spacecraft, in place of one that the handle holds. Returns 0, SEDGE_NODE_OUT_OF_RANGE or
- * SEDGE_NODE_MEMORY. */
+/* Opens a spacecraft, in place of one that the handle holds, as sedge_ground_open does. Returns 0,
+ * SEDGE_NODE_OUT_OF_RANGE or SEDGE_NODE_MEMORY. */
 uint8_t sedge_spacecraft_open(const struct sedge_config *config, struct sedge_spacecraft *spacecraft);
 
 /* Closes the spacecraft, where there is one; the handle holds none then. */
@@ -233,8 +235,8 @@ struct sedge_sim {
     void *link;
 };
 
-/* Opens a link with two new nodes, in place of one that the handle holds. Returns 0, SEDGE_NODE_OUT_OF_RANGE or
- * SEDGE_NODE_MEMORY. */
+/* Opens a link with two new nodes, in place of one that the handle holds, as sedge_ground_open does. Returns 0,
+ * SEDGE_NODE_OUT_OF_RANGE or SEDGE_NODE_MEMORY. */
 uint8_t sedge_sim_open(const struct sedge_config *config, struct sedge_sim *sim);
 
 /* Closes the link, where there is one; the handle holds none then. */
