@@ -16,7 +16,7 @@
  * Every call but sedge_ground_tick returns 0, SEDGE_NODE_OK, or a number of the enum that it names. Where the number
  * is not 0, nothing is written and the node is as it was. SEDGE_NODE_NONE is the answer of every call to a handle
  * that holds none. Memory comes from the functions rattle_alloc, rattle_realloc and rattle_dealloc, which malloc.c
- * and static.c have (docs/C.md).
+ * and static.c have (docs/C.md); sedgechisel_memory.h says what each does.
  *
  * What is taken out is written at the beginning of the caller's room, out, which has room octets. Where it does not
  * fit, the answer is SEDGE_NODE_ROOM, and nothing is taken out. How many octets are next is asked before, by a call
