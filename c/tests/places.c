@@ -1,11 +1,15 @@
-/* The places of docs/C.md, in memory/static.c, of a ground, or with BOARD of a spacecraft: at full queues all are
- * used and nothing is refused; with one place less of the size LESS, a call answers that there was no memory, and the
- * status is 2. */
+/* The places of docs/C.md, in memory/static.c, of a ground, or with BOARD of a spacecraft, with BLOCKED of one with
+ * blocking: at full queues all are used and nothing is refused; with one place less of the size LESS, a call answers
+ * that there was no memory, and the status is 2. */
 #ifndef LESS
 #define LESS 0
 #endif
 #define BUT(octets, count) PLACES(octets, (count) - (LESS == octets))
-#ifdef BOARD
+#if defined(BLOCKED)
+#define SEDGE_PLACES                                                                                                   \
+    BUT(16, 150) BUT(64, 1) BUT(96, 1) BUT(192, 1) BUT(384, 1) BUT(768, 1) BUT(1536, 1) BUT(2336, 1) BUT(3072, 1)      \
+    BUT(5504, 1) BUT(6144, 1)
+#elif defined(BOARD)
 #define SEDGE_PLACES BUT(16, 1) BUT(64, 1) BUT(208, 5) BUT(2336, 1) BUT(5504, 1)
 #else
 #define SEDGE_PLACES BUT(96, 1) BUT(112, 12) BUT(128, 2) BUT(256, 1) BUT(352, 1) BUT(65552, 1)
@@ -15,11 +19,16 @@
 #include <stdio.h>
 #include <stdlib.h>
 
-enum { WIDTH = 8, PART = 100, LONG = 200, READY = 2, BYPASS = 2, QUEUE = 8 };
+#ifdef BLOCKED
+enum { LONG = 16, BLOCKING = 1 };
+#else
+enum { LONG = 200, BLOCKING = 0 };
+#endif
+enum { WIDTH = 8, PART = 100, READY = 2, BYPASS = 2, QUEUE = 8, SHORT = 7, MOST = 1016 / SHORT };
 
 /* Two MAPs are open. */
 static const struct sedge_config config = {1,    2,    0, WIDTH, WIDTH / 2, 3,     10, PART,
-                                           LONG, 0x03, READY, BYPASS, QUEUE, 64, 0};
+                                           LONG, 0x03, READY, BYPASS, QUEUE, 64, BLOCKING};
 static uint8_t packet[LONG] = {0x10, 0x05, 0xc0, 0x00, 0x00, LONG - 7}, octets[1024];
 
 /* The answer is this one, or the program ends: by 2 where there was no memory. */
@@ -27,28 +36,41 @@ static void gives(size_t wanted, size_t answer) {
     if (answer != wanted) exit(answer == SEDGE_NODE_MEMORY || answer == 7 ? 2 : 1);
 }
 
-#ifdef BOARD
-/* A Type-AD frame arrives, with these octets of the packet, and is accepted. */
-static size_t arrives(struct sedge_spacecraft *spacecraft, uint8_t n, uint8_t flags, uint8_t map, size_t from,
+#if defined(BOARD) || defined(BLOCKED)
+/* A Type-AD frame arrives with these octets, and is accepted. */
+static size_t arrives(struct sedge_spacecraft *spacecraft, uint8_t n, uint8_t flags, uint8_t map, const uint8_t *data,
                       size_t count) {
     struct sedge_tc_frame frame = {1, 2, SEDGE_TC_AD, n, flags, map, 0, 0};
     struct sedge_received received;
     size_t total;
-    gives(0, sedge_tc_encode(&frame, packet + from, count, true, octets, sizeof octets, &total));
+    gives(0, sedge_tc_encode(&frame, data, count, true, octets, sizeof octets, &total));
     gives(0, sedge_spacecraft_receive(spacecraft, octets, total, &received));
     gives(SEDGE_ACCEPTED, received.verdict);
     return received.ready;
 }
 
-/* A packet of telemetry waits, a packet is ready, and on each MAP a part is open, when one of these becomes whole. */
+/* The last segment of a packet, or with blocking one of as many packets as it may hold, from a ground whose `part` is
+ * the greatest. */
+static void is_last(struct sedge_spacecraft *spacecraft, uint8_t n) {
+#ifdef BLOCKED
+    static uint8_t packets[MOST][SHORT];
+    size_t k;
+    for (k = 0; k < MOST; k++) packets[k][0] = 0x10, packets[k][1] = 5, packets[k][2] = 0xc0;
+    gives(MOST, arrives(spacecraft, n, SEDGE_SEGMENT_ALONE, 0, packets[0], sizeof packets));
+#else
+    gives(1, arrives(spacecraft, n, SEDGE_SEGMENT_LAST, 0, packet + LONG / 2, LONG - LONG / 2));
+#endif
+}
+
+/* A packet of telemetry waits, a packet is ready, and on each MAP a part is open, when another packet becomes whole. */
 static void fill(void) {
     struct sedge_spacecraft spacecraft = {0};
     gives(0, sedge_spacecraft_open(&config, &spacecraft));
     gives(0, sedge_spacecraft_telemetry(&spacecraft, packet, LONG));
-    gives(1, arrives(&spacecraft, 0, SEDGE_SEGMENT_ALONE, 0, 0, LONG));
-    gives(0, arrives(&spacecraft, 1, SEDGE_SEGMENT_FIRST, 0, 0, PART));
-    gives(0, arrives(&spacecraft, 2, SEDGE_SEGMENT_FIRST, 1, 0, PART));
-    gives(1, arrives(&spacecraft, 3, SEDGE_SEGMENT_LAST, 0, PART, LONG - PART));
+    gives(1, arrives(&spacecraft, 0, SEDGE_SEGMENT_ALONE, 0, packet, LONG));
+    gives(0, arrives(&spacecraft, 1, SEDGE_SEGMENT_FIRST, 0, packet, LONG / 2));
+    gives(0, arrives(&spacecraft, 2, SEDGE_SEGMENT_FIRST, 1, packet, LONG / 2));
+    is_last(&spacecraft, 3);
     sedge_spacecraft_close(&spacecraft);
 }
 #else
