@@ -162,6 +162,36 @@ static void past_the_sequence_control(void) {
     WANT(live == 0);
 }
 
+/* A frame on a MAP that is closed on board is accepted, and its octets are dropped. */
+static void on_a_closed_map(void) {
+    struct sedge_config whole = config, board;
+    struct sedge_ground ground = {0};
+    struct sedge_spacecraft spacecraft = {0};
+    struct sedge_received received = {0};
+    struct sedge_spacecraft_reading read = {0};
+    size_t count = 0;
+    uint8_t map = 99;
+    whole.part = 1016;
+    board = whole;
+    board.maps = 1 << 4;
+    while (again(sedge_ground_open(&whole, &ground)))
+        ;
+    while (again(sedge_spacecraft_open(&board, &spacecraft)))
+        ;
+    WANT(sedge_ground_init_without_check(&ground) == 0);
+    while (again(sedge_ground_submit(&ground, 5, packet, sizeof packet)))
+        ;
+    WANT(sedge_ground_pull(&ground, up, sizeof up, &count) == 0 && count == 15);
+    WANT(sedge_spacecraft_receive(&spacecraft, up, count, &received) == 0);
+    WANT(received.kind == 3 && received.n == 0 && received.verdict == SEDGE_ACCEPTED && received.ready == 0);
+    WANT(received.dropped == SEDGE_DROPPED_CLOSED_MAP);
+    WANT(sedge_spacecraft_next(&spacecraft, &map, &count) == 0 && map == 99 && count == 0);
+    WANT(sedge_spacecraft_read(&spacecraft, &read) == 0 && read.value == 1 && read.flags == 0);
+    sedge_ground_close(&ground);
+    sedge_spacecraft_close(&spacecraft);
+    WANT(live == 0);
+}
+
 static void handles_that_hold_none(void) {
     struct sedge_config wrong = config;
     struct sedge_ground ground = {0};
@@ -352,6 +382,7 @@ int main(void) {
     WANT(tried == 0);
     session();
     past_the_sequence_control();
+    on_a_closed_map();
     link();
     all = tried;
 #ifndef OVER_MEMORY
@@ -361,6 +392,7 @@ int main(void) {
         tried = 0;
         session();
         past_the_sequence_control();
+        on_a_closed_map();
         link();
     }
     printf(failures ? "%d failed\n" : "all as wanted, %d failed of %ld allocations\n", failures, all);
