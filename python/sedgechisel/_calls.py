@@ -507,7 +507,7 @@ class Packet(_Struct):
     def encode(self, data: bytes) -> bytes:
         """The octets of the packet with this data field; a PacketFault where a field is out of its range."""
         data = _octets_of("data", data)
-        return _written(_packet_encode, PacketFault, 65542, byref(self), data, len(data))
+        return _written(_packet_encode, PacketFault, len(data) + 6, byref(self), data, len(data))
 
     @staticmethod
     def declared(octets: bytes) -> int:
