@@ -406,7 +406,7 @@ fn a_report_after_an_alert_says_what_was_accepted(rt: HostRuntime) {
         (&[][..], &[(0, Some(0)), (1, Some(1)), (2, None)][..]),
         (
             &[Call::Direct(Directive::InitWithoutCheck, Ok(None))],
-            &[(0, None), (1, Some(0))],
+            &[(0, Some(0)), (1, Some(0)), (2, Some(0))],
         ),
     ] {
         run(&rt, &mut both, calls);
