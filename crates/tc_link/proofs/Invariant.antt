@@ -72,6 +72,11 @@ module _ (w : World) where
   opening_stays : (e : Event) → BeginsNoSession w e → (world_step w e).after.session.opening ≡ w.session.opening
   opening_stays e goes = ap (λ (o : Option Opening × ℕ). o.0) (session_stays e goes)
 
+  -- and so it had an idle start
+  pub idle_goes : (e : Event) → IsIdle w → BeginsNoSession w e → IsIdle (world_step w e).after
+  idle_goes e idle goes =
+      ap (λ (o : Option Opening × ℕ). option_map (λ (x : Opening). x.idle) o.0) (session_stays e goes) ∙ idle
+
   abbrev Begins : Directive → FopOutcome SegmentView (Result (Option Alert) CopFault) → Type 0
   Begins d o = is_initiation d ≡ true → is_closed w.ground_node.fop.state ≡ true
       → session_after_directive w d (directive_outcome w.ground_node o).answer ≡ session_begun_by w d

@@ -6,6 +6,7 @@ pub mod Board
 pub mod Carried
 pub mod Closed
 pub mod Common
+pub mod Counting
 pub mod Delivered
 pub mod Directing
 pub mod Early
@@ -15,6 +16,7 @@ pub mod Fitting
 pub mod Hearing
 pub mod Idle
 pub mod Invariant
+pub mod Known
 pub mod LateTelemetry
 pub mod Linked
 pub mod Lists

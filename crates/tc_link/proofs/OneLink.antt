@@ -1,7 +1,7 @@
 -- The plain link of a session is one link, since the records and what is on its way leave no choice.
 use Rattle.tc_link.proofs.Common.{◌≡◌, ℕ, ◌+◌, ◌/◌, ◌%◌, ◌≤◌, List, [], ◌∷◌, length, take, map, inl, inr, refl, sym}
-use Rattle.tc_link.proofs.Common.{Option, subst, ap, ◌∙◌, arith, option_map, AllByRecursion, length-take-le}
-use Rattle.tc_link.proofs.Common.{length-map, SegmentView, segment_octets, Config, IsConfig, Event, Opening, IsHistory}
+use Rattle.tc_link.proofs.Common.{subst, ap, ◌∙◌, arith, AllByRecursion, length-take-le}
+use Rattle.tc_link.proofs.Common.{length-map, SegmentView, segment_octets, Config, IsConfig, Event, IsHistory}
 use Rattle.tc_link.proofs.Common.{HasPlainHistory, GoesOnByAStep, IsNear, Rises, number_of, numbered, PlainLink}
 use Rattle.tc_link.proofs.Common.{PlainRun, AtMostOneStep, new_link, more, IsEvent, KeepsSession, World, IsIdle}
 use Rattle.tc_link.proofs.Common.{IsSettled, BeginsNoSession, accepted, world_step, world_run}
@@ -9,7 +9,7 @@ use Rattle.tc_link.specs.OneLink.{HistoriesAre, HasOneLink, IsUnsent, EachHasOne
 use Rattle.tc_link.specs.PlainLink.{PlainStep, none}
 use Rattle.tc_link.proofs.Beginning.{InSession}
 use Rattle.tc_link.proofs.Delivered.{has_plain_history, unsettled}
-use Rattle.tc_link.proofs.Invariant.{Holding, late_step, session_stays, step_holds, reached_holds}
+use Rattle.tc_link.proofs.Invariant.{Holding, idle_goes, late_step, step_holds, reached_holds}
 use Rattle.tc_link.proofs.Steps.{goes_on_by_a_step}
 use Rattle.tc_link.proofs.Transit.{rises_to}
 use Rattle.tc_link.proofs.Sound.{Sound}
@@ -61,7 +61,7 @@ all_zero (v ∷ vs) low up = (omega (arith, rises_to v 0 vs up.1), all_zero vs v
 -- ---- in all worlds
 
 module _ (w : World) (b : ℕ) (p : PlainLink) (h : IsHistory w b p) where
-  sent_count : length w.session.sent ≡ p.n
+  pub sent_count : length w.session.sent ≡ p.n
   sent_count =
       ap length h.sent ∙ length-map (take p.n p.units) segment_octets ∙ length-take-le p.n p.units h.order.2
 
@@ -128,10 +128,6 @@ settled_goes c w k s e fits settled goes = elim s.session [
         | inr without ↦ inr (next.linked.opened ∙ sym g.linked.opened ∙ without)
       ])
 ]
-
-idle_goes : (w : World) (e : Event) → IsIdle w → BeginsNoSession w e → IsIdle (world_step w e).after
-idle_goes w e idle goes =
-    ap (λ (o : Option Opening × ℕ). option_map (λ (x : Opening). x.idle) o.0) (session_stays w e goes) ∙ idle
 
 one_in : (c : Config) (w : World) → Sound c w → HasOneLink w
 one_in c w k = one_link w (subst IsConfig (sym k.ground_node.config) k.ranges)

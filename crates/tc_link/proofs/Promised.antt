@@ -12,6 +12,7 @@ use Rattle.tc_link.proofs.Accepted.{says_what_was_accepted}
 use Rattle.tc_link.proofs.Carried.{all_readable}
 use Rattle.tc_link.proofs.Delivered.{is_in_order, has_plain_history}
 use Rattle.tc_link.proofs.Invariant.{reached_holds}
+use Rattle.tc_link.proofs.Known.{moves_with_records}
 use Rattle.tc_link.proofs.Submitting.{all_push}
 use Rattle.tc_link.proofs.Locks.{has_no_false_alarm, confirms_exactly}
 use Rattle.tc_link.proofs.Steps.{goes_on_by_a_step}
@@ -42,6 +43,7 @@ promised_of w e r fits is =
     let s = h.session is in
     record {
       history = goes_on_by_a_step r.config w h.sound s e fits;
+      numbers = moves_with_records r.config w h e fits is;
       confirms = λ checking. confirms_exactly r.config w h.sound s checking e;
       no_false_alarm = λ checking. has_no_false_alarm r.config w h.sound s checking e fits;
     }

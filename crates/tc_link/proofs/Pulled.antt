@@ -187,6 +187,30 @@ module _ (early : Bool) (c : Config) (d : Directive) (base : ℕ) (w : World) (k
             stage = one_more early c d base w g active;
           })
 
+      -- a unit that is sent again is one of those that were sent, and not the next one
+      was_sent : (x : ℕ × SegmentView) → oldest_marked 0 w.ground_node.fop.sent ≡ Some x
+          → (g.plain.a + x.0 < g.plain.n) × (slice_get g.plain.units (g.plain.a + x.0) ≡ Some x.1)
+      was_sent x is =
+          let p = g.plain in
+          let l = g.linked in
+          let stands = oldest_stands 0 w.ground_node.fop.sent x is in
+          let within : slice_get (drop p.a (take p.n p.units)) x.0 ≡ Some x.1 =
+          let place : stands.0 ≡ x.0 = omega (arith, stands.1) in rw (← (holds_on l on).sent_is, ← place) stands.2 in
+          let in_sent : slice_get (take p.n p.units) (p.a + x.0) ≡ Some x.1 =
+          get_drop (take p.n p.units) p.a x.0 x.1 within in
+          let below : p.a + x.0 < p.n =
+          omega (arith, slice_get_within _ (p.a + x.0) x.1 in_sent, length-take-le p.n p.units l.n_most) in
+          (below, get_take p.units p.n (p.a + x.0) x.1 in_sent)
+
+      pub not_next : (x : ℕ × SegmentView) → oldest_marked 0 w.ground_node.fop.sent ≡ Some x
+          → ((w.ground_node.fop.nn + x.0) % 256 == w.ground_node.fop.vs) ≡ false
+      not_next x is =
+          let l = g.linked in
+          let was = holds_on l on in
+          let below = (was_sent x is).0 in
+          ne_eqb ((w.ground_node.fop.nn + x.0) % 256) w.ground_node.fop.vs
+          (λ e. omega (arith, was.nn_is, was.vs_is, below, l.n_a, k.ranges.width))
+
       -- a unit is sent again
       again_keeps : (x : ℕ × SegmentView) → oldest_marked 0 w.ground_node.fop.sent ≡ Some x
           → Leaves (pulls (record (after_restart w.ground_node.fop)
@@ -197,14 +221,9 @@ module _ (early : Bool) (c : Config) (d : Directive) (base : ℕ) (w : World) (k
           let l = g.linked in
           let was = holds_on l on in
           let s = w.ground_node.fop in
-          let stands = oldest_stands 0 s.sent x is in
-          let within : slice_get (drop p.a (take p.n p.units)) x.0 ≡ Some x.1 =
-          let place : stands.0 ≡ x.0 = omega (arith, stands.1) in rw (← was.sent_is, ← place) stands.2 in
-          let in_sent : slice_get (take p.n p.units) (p.a + x.0) ≡ Some x.1 =
-          get_drop (take p.n p.units) p.a x.0 x.1 within in
-          let below : p.a + x.0 < p.n =
-          omega (arith, slice_get_within _ (p.a + x.0) x.1 in_sent, length-take-le p.n p.units l.n_most) in
-          let unit_is : slice_get p.units (p.a + x.0) ≡ Some x.1 = get_take p.units p.n (p.a + x.0) x.1 in_sent in
+          let sent = was_sent x is in
+          let below : p.a + x.0 < p.n = sent.0 in
+          let unit_is : slice_get p.units (p.a + x.0) ≡ Some x.1 = sent.1 in
           let number_is : (s.nn + x.0) % 256 ≡ (base + (p.a + x.0)) % 256 = omega (arith, was.nn_is) in
           let held : Held (is_closed s.state) base s.vs s.nn (without_oldest_mark s.sent)
           (unsent_segments w.ground_node) p.a p.n p.units =
@@ -222,9 +241,7 @@ module _ (early : Bool) (c : Config) (d : Directive) (base : ℕ) (w : World) (k
           up_push d base ((s.nn + x.0) % 256) (p.a + x.0) x.1 g.front g.frames p.up number_is l.up_is in
           let fits : Fits (c.width / 2) p.n p.units p.r (p.up ++ (p.a + x.0, x.1) ∷ []) =
           fits_push (c.width / 2) p.n (p.a + x.0) x.1 p.units p.r p.up l.r_n (omega arith) below unit_is l.fits in
-          let other : ((s.nn + x.0) % 256 == s.vs) ≡ false =
-          ne_eqb ((s.nn + x.0) % 256) s.vs (λ e. omega (arith, number_is, was.vs_is, below, l.n_a, k.ranges.width)) in
-          let field : first_sent s.vs frame ≡ [] = rw other refl in
+          let field : first_sent s.vs frame ≡ [] = rw (not_next x is) refl in
           let sent_is : w.session.sent ++ first_sent s.vs frame ≡ map segment_octets (take p.n p.units) =
           ap (λ xs. w.session.sent ++ xs) field ∙ append-nil w.session.sent ∙ l.sent_is in
           session_settled early c d base (record w {

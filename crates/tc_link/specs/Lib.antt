@@ -1,9 +1,11 @@
 pub mod Accepted
 pub mod Confirmation
+pub mod Counting
 pub mod FalseAlarms
 pub mod History
 pub mod InOrder
 pub mod InTransit
+pub mod Known
 pub mod OneLink
 pub mod PlainLink
 pub mod Promises

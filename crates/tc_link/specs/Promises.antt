@@ -10,6 +10,7 @@ use Rattle.tc_link.specs.FalseAlarms.{HasNoFalseAlarm}
 use Rattle.tc_link.specs.History.{HasPlainHistory, GoesOnByAStep}
 use Rattle.tc_link.specs.InOrder.{IsInOrder}
 use Rattle.tc_link.specs.InTransit.{KeepsToWindow}
+use Rattle.tc_link.specs.Known.{SetsNoNumber, MovesWithRecords}
 use Rattle.tc_link.specs.Reached.{IsEvent}
 use Rattle.tc_link.specs.Readable.{AllReadable}
 use Rattle.simulated_link.specs.World.{World, new_world, world_step, world_run, IsClean, IsIdle}
@@ -27,6 +28,9 @@ pub record IsPromised (w : World) : Type 0 where
 pub record IsPromisedOf (w : World) (event : Event) : Type 0 where
   -- once the session is settled, and while it goes on
   pub history : IsSettled w → BeginsNoSession w event → GoesOnByAStep w (world_step w event).after
+  -- V(S) and NN(R) change with the records alone, at an alert too
+  pub numbers : BeginsNoSession w event → SetsNoNumber w event
+      → MovesWithRecords w (world_step w event).after
   -- in a session begun by check, Unlock or Set V(R)
   pub confirms : IsChecking (directive_of w) → ConfirmsExactly w (world_step w event).after
   pub no_false_alarm : IsChecking (directive_of w) → HasNoFalseAlarm w event

@@ -1,5 +1,6 @@
 // What holds of each run, whatever a program keeps of it.
 
+ghost use Rattle.tc_link.specs.Counting.{KeepsWhatIsKnown};
 ghost use Rattle.tc_link.specs.OneLink.{EachGoesOnAsOne, EachHasOneLink};
 ghost use Rattle.tc_link.specs.Promises.{HoldsOfAllRuns};
 ghost use Rattle.tc_link.specs.Taken.{HandsOutWhatIsDelivered, HandsOutWhatIsSubmitted};
@@ -27,4 +28,12 @@ pub fn law_of_taking()
 pub fn law_of_plain_links()
     ensures one { EachHasOneLink }
     ensures goes_on { EachGoesOnAsOne }
+{}
+
+/// Since a session with an idle start began, and until a directive sets V(S): V(S) is what it was then
+/// plus the number of segments sent since, and NN(R) is that plus the number of those that are
+/// acknowledged, modulo 256. So an alert keeps what is known: in S6 V(S) is NN(R) only where all that
+/// was sent is acknowledged.
+pub fn law_of_numbers()
+    ensures { KeepsWhatIsKnown }
 {}

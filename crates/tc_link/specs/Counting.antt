@@ -1,0 +1,33 @@
+-- In a session V(S) and NN(R) count on from what V(S) was when it began.
+use Rattle.std.specs.Prelude.{◌≡◌, ℕ, ◌+◌, ◌%◌, List, [], ◌∷◌, length}
+use Rattle.std.specs.List.{AllByRecursion}
+use Rattle.link_events.specs.declared.event.Event.{Event}
+use Rattle.tc_link.specs.Known.{SetsNoNumber}
+use Rattle.tc_link.specs.Reached.{IsEvent, IsReached}
+use Rattle.tc_link.specs.Taken.{BeginsSession}
+use Rattle.simulated_link.specs.World.{World, KeepsSession, IsIdle, world_step, world_run}
+
+-- no event of a list sets V(S)
+abbrev pub SetsNone : World → List Event → Type 0
+SetsNone w [] = Unit {0}
+SetsNone w (event ∷ more) = SetsNoNumber w event × SetsNone (world_step w event).after more
+
+-- V(S) is this number plus the number of segments that were sent, and NN(R) this number plus the
+-- number of those that are acknowledged, modulo 256. So the two are equal only where all that was
+-- sent is acknowledged.
+pub record CountsFrom (base : ℕ) (w : World) : Type 0 where
+  pub vs : w.ground_node.fop.vs ≡ (base + length w.session.sent) % 256
+  pub nn : w.ground_node.fop.nn ≡ (base + w.session.acknowledged) % 256
+  pub all : w.ground_node.fop.vs ≡ w.ground_node.fop.nn
+      → w.session.acknowledged ≡ length w.session.sent
+
+-- They count from V(S) as it was when a session with an idle start began, in each state and after
+-- each alert, while no directive sets V(S).
+abbrev pub KeepsWhatIsKnown : Type 0
+KeepsWhatIsKnown =
+    (w : World) (initiation : Event) (since : List Event) → IsReached w
+    → BeginsSession w initiation → KeepsSession (world_step w initiation).after since
+    → SetsNone (world_step w initiation).after since
+    → AllByRecursion IsEvent (initiation ∷ since) → IsIdle (world_step w initiation).after
+    → CountsFrom (world_step w initiation).after.ground_node.fop.vs
+    (world_run (world_step w initiation).after since)

@@ -1,0 +1,20 @@
+-- V(S) and NN(R) change with the records of the session alone, so an alert keeps what is known.
+use Rattle.std.specs.Prelude.{◌≡◌, ℕ, ◌+◌, ◌%◌, length, false}
+use Rattle.cop1.specs.declared.vocabulary.Directive.TheVariants.{SetVs}
+use Rattle.nodes.specs.Ground.{is_closed}
+use Rattle.link_events.specs.declared.event.Event.{Event}
+use Rattle.link_events.specs.declared.event.Event.TheVariants as events
+use Rattle.simulated_link.specs.World.{World}
+
+-- an event does not set V(S): it is no such directive, or comes while the sender is not in S6
+abbrev pub SetsNoNumber : World → Event → Type 0
+SetsNoNumber w event =
+    (x : ℕ) → event ≡ events.Directive (SetVs x) → is_closed w.ground_node.fop.state ≡ false
+
+-- From one world to another V(S) goes up by the number of segments that were first sent, and NN(R)
+-- by the number of those that were acknowledged, modulo 256. So both stay where the records do.
+pub record MovesWithRecords (old new : World) : Type 0 where
+  pub vs : (new.ground_node.fop.vs + length old.session.sent) % 256
+      ≡ (old.ground_node.fop.vs + length new.session.sent) % 256
+  pub nn : (new.ground_node.fop.nn + old.session.acknowledged) % 256
+      ≡ (old.ground_node.fop.nn + new.session.acknowledged) % 256
