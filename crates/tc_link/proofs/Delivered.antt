@@ -105,7 +105,7 @@ module _ (early : Bool) {Reached : PlainLink → Type 0} (c : Config) (d : Direc
   abbrev p : PlainLink
   p = g.plain
 
-  all_accepted : w.ground_node.fop.state ≡ S1 → outstanding w.ground_node ≡ []
+  pub all_accepted : w.ground_node.fop.state ≡ S1 → outstanding w.ground_node ≡ []
       → length p.units ≤ p.r
   all_accepted on nothing =
       let l = g.linked in

@@ -21,6 +21,7 @@ pub mod LateTelemetry
 pub mod Linked
 pub mod Lists
 pub mod Locks
+pub mod Made
 pub mod NoMore
 pub mod OneLink
 pub mod Promised

@@ -6,15 +6,21 @@ use Rattle.tc_link.proofs.Common.{assembled-other, is_to_send, TmFault, Config, 
 use Rattle.tc_link.proofs.Common.{SpacecraftState, SpacecraftOutcome, spacecraft_step, spacecraft_take}
 use Rattle.tc_link.proofs.Common.{spacecraft_take_bypass, spacecraft_telemetry, Event, Opening, KeepsSession, World}
 use Rattle.tc_link.proofs.Common.{WorldOutcome, IsIdle, delivered, world_step, world_run, run_answers}
-use Rattle.tc_link.proofs.Common.{world_after_take}
+use Rattle.tc_link.proofs.Common.{world_after_take, inl, inr, Bool, true, false, S1, take_all, Directive, PlainLink}
+use Rattle.std.proofs.lemmas.List.{append_cancel_left}
+use Rattle.tc_link.proofs.Made.{made, made-append, receives_made, all_made, first_made}
 use Rattle.std.proofs.Math.Seq.{take-append_seam, drop-append_seam}
 use Rattle.nodes.specs.Delivery.{packets_of_map, delivered_on}
 use Rattle.nodes.specs.Spacecraft.{Receive}
 use Rattle.nodes.proofs.Delivering.{delivers}
 use Rattle.tc_link.specs.Taken.{BeginsSession, handed_out, taken, taken_since, ready_on, HandsOutWhatIsDelivered}
-use Rattle.tc_link.specs.Taken.{HandsOutWhatIsSubmitted}
+use Rattle.tc_link.specs.Taken.{HandsOutWhatIsSubmitted, HandsOutAsSubmitted, all_submitted}
+use Rattle.nodes.specs.Ground.{outstanding}
+use Rattle.octets.specs.Beginning.{IsBeginning}
+use Rattle.tc_link.proofs.Linked.{In}
+use Rattle.tc_link.proofs.Sound.{Sound}
 use Rattle.simulated_link.proofs.AcceptedSegments.{accepts_segment}
-use Rattle.tc_link.proofs.Delivered.{is_in_order}
+use Rattle.tc_link.proofs.Delivered.{is_in_order, all_accepted}
 use Rattle.simulated_link.proofs.Gained.{config_stays}
 use Rattle.tc_link.proofs.Invariant.{opened, session_stays, begun_is, step_holds, run_holds, reached_holds}
 use Rattle.simulated_link.proofs.Leaving.{AtEachLoss, lost, pulled, up_arrives, down_arrives}
@@ -26,6 +32,7 @@ record Passes (old : SpacecraftState) (out : List PacketOn) (new : SpacecraftSta
   segments : List SegmentView
   accepted : new.accepted ≡ old.accepted ++ segments
   more : List PacketOn
+  made_is : more ≡ made (limits_of old.config) old.accepted segments
   ready : out ++ new.ready ≡ old.ready ++ more
   delivered : (m : ℕ) → delivered_on m new ≡ delivered_on m old ++ packets_of_map m more
 
@@ -43,6 +50,7 @@ passes_none old new out config accepted ready = record {
   segments = [];
   accepted = accepted ∙ sym (append-nil old.accepted);
   more = [];
+  made_is = refl;
   ready = ready ∙ sym (append-nil old.ready);
   delivered = λ m. rw (config, accepted) (sym (append-nil (delivered_on m old)));
 }
@@ -54,6 +62,11 @@ passes_both s t u xs ys first then = record {
   accepted = then.accepted ∙ ap (λ a. a ++ then.segments) first.accepted
       ∙ append_assoc s.accepted first.segments then.segments;
   more = first.more ++ then.more;
+  made_is = ap (λ r. r ++ then.more) first.made_is
+      ∙ ap (λ r. made (limits_of s.config) s.accepted first.segments ++ r) (then.made_is
+      ∙ ap (λ (c : Config). made (limits_of c) t.accepted then.segments) first.config
+      ∙ ap (λ a. made (limits_of s.config) a then.segments) first.accepted)
+      ∙ sym (made-append (limits_of s.config) s.accepted first.segments then.segments);
   ready = append_assoc xs ys u.ready
       ∙ ap (λ r. xs ++ r) then.ready
       ∙ sym (append_assoc xs t.ready then.more)
@@ -75,6 +88,7 @@ receives s octets =
       segments = option_to_list (segment_to_accept s octets);
       accepted = accepts_segment s octets;
       more = has.more;
+      made_is = append_cancel_left s.ready has.more _ (sym has.ready ∙ receives_made s octets);
       ready = has.ready;
       delivered = has.delivered;
     }
@@ -193,3 +207,72 @@ hands_out_what_is_submitted w e since m r b keeps fits idle =
           ∙ ap (λ d. d ++ order.0) (sym (hands_out_what_is_delivered w e since m b keeps))
           ∙ append_assoc (taken_since start since m) (ready_on new m) order.0,
     )
+
+-- ---- over all MAPs
+
+module _ (old new : World) (out : List PacketOn) (s : Since old out new)
+    (begins : old.session.before ≡ length old.spacecraft.accepted) where
+  -- what was accepted since is what the session has accepted
+  since_is : s.passes.segments ≡ drop new.session.before new.spacecraft.accepted
+  since_is =
+      sym (ap (λ n. drop n new.spacecraft.accepted) (ap (λ (o : Option Opening × ℕ). o.1) s.same ∙ begins)
+      ∙ ap (drop (length old.spacecraft.accepted)) s.passes.accepted
+      ∙ drop-append_seam old.spacecraft.accepted s.passes.segments)
+
+  module _ (early : Bool) (c : Config) (d : Directive) (base : ℕ) (k : Sound c new) (g : In early c d base new) where
+    abbrev p : PlainLink
+    p = g.plain
+
+    abbrev was : List SegmentView
+    was = old.spacecraft.accepted
+
+    old_config : old.spacecraft.config ≡ c
+    old_config = sym s.passes.config ∙ k.spacecraft.config
+
+    more_is : s.passes.more ≡ made (limits_of c) was (take p.r p.units)
+    more_is =
+        s.passes.made_is
+        ∙ ap (λ (x : Config). made (limits_of x) was s.passes.segments) old_config
+        ∙ ap (made (limits_of c) was) (since_is ∙ g.linked.accepted_is)
+
+    units_made : made (limits_of c) was p.units ≡ all_submitted new
+    units_made = ap (made (limits_of c) was) g.linked.units_are
+        ∙ all_made c k.ranges.part.0 was new.session.submissions g.linked.given
+
+    begins_all : IsBeginning s.passes.more (all_submitted new)
+    begins_all = (
+      made (limits_of c) (was ++ take p.r p.units) (drop p.r p.units),
+      sym units_made
+          ∙ first_made c k.ranges.part.0 was p.units p.r
+          ∙ ap (λ ps. ps ++ made (limits_of c) (was ++ take p.r p.units) (drop p.r p.units)) (sym more_is),
+    )
+
+    all_passed : new.ground_node.fop.state ≡ S1 → outstanding new.ground_node ≡ [] → s.passes.more ≡ all_submitted new
+    all_passed on nothing =
+        more_is
+        ∙ ap (made (limits_of c) was) (take_all p.r p.units (all_accepted early c d base new g on nothing))
+        ∙ units_made
+
+pub hands_out_as_submitted : HandsOutAsSubmitted
+hands_out_as_submitted w e since r b keeps fits idle =
+    let start : World = (world_step w e).after in
+    let new : World = world_run start since in
+    let out = taken since (run_answers start since) in
+    let s = since_then start since keeps in
+    let begins = begins_there w e b in
+    let h = run_holds r.config since start fits.1 (step_holds r.config w (reached_holds w r) e fits.0) in
+    let still : IsIdle new = ap (λ (o : Option Opening × ℕ). option_map (λ (x : Opening). x.idle) o.0) s.same ∙ idle in
+    let t = h.session still in
+    let k = h.sound in
+    record {
+      passed = s.passes.more;
+      order = s.passes.ready;
+      begins = elim t.session [
+        | inl g ↦ begins_all start new out s begins true r.config t.directive t.base k g
+        | inr g ↦ begins_all start new out s begins false r.config t.directive t.base k g
+      ];
+      complete = elim t.session [
+        | inl g ↦ all_passed start new out s begins true r.config t.directive t.base k g
+        | inr g ↦ all_passed start new out s begins false r.config t.directive t.base k g
+      ];
+    }

@@ -1,12 +1,14 @@
 -- What is taken on board in a session, and what it has to do with what is delivered.
-use Rattle.std.specs.Prelude.{◌≡◌, ℕ, List, [], ◌∷◌, ◌++◌, true, Result, Ok}
+use Rattle.std.specs.Prelude.{◌≡◌, ℕ, List, [], ◌∷◌, ◌++◌, flat_map, true, Result, Ok}
 use Rattle.std.specs.List.{AllByRecursion}
 use Rattle.octets.specs.Beginning.{IsBeginning}
+use Rattle.map_service.specs.Packets.{packets_in}
 use Rattle.cop1.specs.declared.vocabulary.Directive.{Directive}
+use Rattle.cop1.specs.declared.vocabulary.FopMode.TheVariants.{S1}
 use Rattle.cop1.specs.Directives.{is_initiation}
 use Rattle.nodes.specs.Delivery.{packets_of_map}
-use Rattle.nodes.specs.Ground.{is_closed}
-use Rattle.nodes.specs.Packets.{PacketOn}
+use Rattle.nodes.specs.Ground.{is_closed, outstanding}
+use Rattle.nodes.specs.Packets.{PacketOn, put_on_map}
 use Rattle.link_events.specs.declared.event.Event.{Event}
 use Rattle.link_events.specs.declared.event.Event.TheVariants as events
 use Rattle.simulated_link.specs.declared.fault.SimFault.{SimFault}
@@ -67,3 +69,29 @@ HandsOutWhatIsSubmitted =
     → BeginsSession w initiation → KeepsSession (world_step w initiation).after since
     → AllByRecursion IsEvent (initiation ∷ since) → IsIdle (world_step w initiation).after
     → HandsOutInOrder (world_step w initiation).after since m
+
+-- the packets of what was submitted in the session, each with its MAP, in the order of submission
+-- over all MAPs
+abbrev pub all_submitted : World → List PacketOn
+all_submitted w =
+    flat_map (λ (p : PacketOn). put_on_map p.on_map (packets_in p.octets)) w.session.submissions
+
+-- Over all MAPs the packets that were taken since this moment, followed by those that are ready,
+-- are those that were ready then, followed by the first ones of those that were submitted; in S1,
+-- with nothing outstanding, by all of them.
+pub record HandsOutInOneOrder (w : World) (since : List Event) : Type 0 where
+  pub passed : List PacketOn
+  pub order : taken since (run_answers w since) ++ (world_run w since).spacecraft.ready
+      ≡ w.spacecraft.ready ++ passed
+  pub begins : IsBeginning passed (all_submitted (world_run w since))
+  pub complete : (world_run w since).ground_node.fop.state ≡ S1
+      → outstanding (world_run w since).ground_node ≡ []
+      → passed ≡ all_submitted (world_run w since)
+
+-- so it is in a run, where the session had an idle start
+abbrev pub HandsOutAsSubmitted : Type 0
+HandsOutAsSubmitted =
+    (w : World) (initiation : Event) (since : List Event) → IsReached w
+    → BeginsSession w initiation → KeepsSession (world_step w initiation).after since
+    → AllByRecursion IsEvent (initiation ∷ since) → IsIdle (world_step w initiation).after
+    → HandsOutInOneOrder (world_step w initiation).after since

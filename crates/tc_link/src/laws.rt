@@ -3,7 +3,7 @@
 ghost use Rattle.tc_link.specs.Counting.{KeepsWhatIsKnown};
 ghost use Rattle.tc_link.specs.OneLink.{EachGoesOnAsOne, EachHasOneLink};
 ghost use Rattle.tc_link.specs.Promises.{HoldsOfAllRuns};
-ghost use Rattle.tc_link.specs.Taken.{HandsOutWhatIsDelivered, HandsOutWhatIsSubmitted};
+ghost use Rattle.tc_link.specs.Taken.{HandsOutAsSubmitted, HandsOutWhatIsDelivered, HandsOutWhatIsSubmitted};
 
 /// For each configuration in its ranges and each list of events, what `run` promises of each event holds
 /// by the rules of the nodes and the link themselves. So it holds of a program with a loop of its own,
@@ -16,10 +16,14 @@ pub fn law_of_sessions()
 /// that are ready, are those that were ready then, followed by those that the session has
 /// delivered. So it is in each run, whatever came before the session, until the next one begins
 /// (`delivered`). In a session that had an idle start, what `take` hands out on a MAP after the
-/// packets that were ready is therefore a prefix of what is submitted on it (`submitted`).
+/// packets that were ready is therefore a prefix of what is submitted on it (`submitted`). Over all
+/// MAPs too: in such a session what `take` hands out, each packet with its MAP, followed by what is
+/// ready, is what was ready then, followed by a prefix of what is submitted, in the order of
+/// submission; by all of it in S1 with nothing outstanding (`order`).
 pub fn law_of_taking()
     ensures delivered { HandsOutWhatIsDelivered }
     ensures submitted { HandsOutWhatIsSubmitted }
+    ensures order { HandsOutAsSubmitted }
 {}
 
 /// The plain link whose history a settled session is, is one link: the records of the session and
