@@ -10,7 +10,7 @@ use Rattle.tc_link.proofs.Sound.{Sound}
 
 module _ (early : Bool) (c : Config) (d : Directive) (base : ℕ) (w : World) (k : Sound c w) (g : In early c d base w)
   where
-    eases_keep : (spacecraft : SpacecraftState) → spacecraft.accepted ≡ w.spacecraft.accepted
+    pub eases_keep : (spacecraft : SpacecraftState) → spacecraft.accepted ≡ w.spacecraft.accepted
         → Eases d base g.front w.spacecraft.farm spacecraft.farm
         → Next early c d base g.plain (record w { spacecraft = spacecraft })
     eases_keep spacecraft accepted eases =

@@ -5,11 +5,12 @@ use Rattle.tc_link.proofs.Common.{InitWithoutCheck, InitWithCheck, InitUnlock, I
 use Rattle.tc_link.proofs.Common.{FopOutcome, begun, obeyed, is_initiation, is_closed, Config, directive_outcome, Event}
 use Rattle.tc_link.proofs.Common.{World, world_step, world_run, KeepsSession, IsIdle, IsEvent, session_begun_by}
 use Rattle.simulated_link.specs.World.{Session}
+use Rattle.tc_link.proofs.AnyPast.{past_holds}
 use Rattle.tc_link.specs.Counting.{SetsNone, CountsFrom, KeepsWhatIsKnown}
 use Rattle.tc_link.specs.Known.{MovesWithRecords}
 use Rattle.tc_link.proofs.Closed.{closed_is}
 use Rattle.tc_link.proofs.Delivered.{has_plain_history}
-use Rattle.tc_link.proofs.Invariant.{Holding, begun_is, idle_goes, step_holds, reached_holds}
+use Rattle.tc_link.proofs.Invariant.{Holding, begun_is, idle_goes, step_holds}
 use Rattle.tc_link.proofs.Known.{with_same, octet, moves_with_records}
 use Rattle.tc_link.proofs.OneLink.{sent_count}
 
@@ -80,7 +81,7 @@ module _ (c : Config) (base : ℕ) where
 pub keeps_what_is_known : KeepsWhatIsKnown
 keeps_what_is_known w e since r b keeps quiet fits idle =
     let start : World = (world_step w e).after in
-    let h = step_holds r.config w (reached_holds w r) e fits.0 in
+    let h = step_holds r.config w (past_holds w r) e fits.0 in
     let f = start.ground_node.fop in
     let s = subst (λ (e : Event). (world_step w e).after.session ≡ session_begun_by w b.0) (sym b.1)
     (begun_is w b.0 b.2 b.3) in

@@ -135,7 +135,7 @@ settled_fits s k = settled_keeps GroundFits s (λ waiting pending on off. record
   unsent = λ running. subst All (sym (on running)) (k.unsent running);
 })
 
-with_fits : (s : GroundState) (f : FopState SegmentView) → Fit f s.pending → GroundFits (with_fop s f)
+pub with_fits : (s : GroundState) (f : FopState SegmentView) → Fit f s.pending → GroundFits (with_fop s f)
 with_fits s f k = settled_fits (record s { fop = f }) k
 
 module _ (c : Config) (s : GroundState) (g : GroundNodeSteady c s) (k : GroundFits s) where

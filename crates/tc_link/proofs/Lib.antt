@@ -1,5 +1,6 @@
 pub mod Accepted
 pub mod Alerts
+pub mod AnyPast
 pub mod Arriving
 pub mod Beginning
 pub mod Board

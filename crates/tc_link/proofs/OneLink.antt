@@ -9,7 +9,8 @@ use Rattle.tc_link.specs.OneLink.{HistoriesAre, HasOneLink, IsUnsent, EachHasOne
 use Rattle.tc_link.specs.PlainLink.{PlainStep, none}
 use Rattle.tc_link.proofs.Beginning.{InSession}
 use Rattle.tc_link.proofs.Delivered.{has_plain_history, unsettled}
-use Rattle.tc_link.proofs.Invariant.{Holding, idle_goes, late_step, step_holds, reached_holds}
+use Rattle.tc_link.proofs.AnyPast.{past_holds}
+use Rattle.tc_link.proofs.Invariant.{Holding, idle_goes, late_step, step_holds}
 use Rattle.tc_link.proofs.Steps.{goes_on_by_a_step}
 use Rattle.tc_link.proofs.Transit.{rises_to}
 use Rattle.tc_link.proofs.Sound.{Sound}
@@ -175,7 +176,7 @@ module _ (c : Config) where
 
 pub each_goes_on_as_one : EachGoesOnAsOne
 each_goes_on_as_one w r idle settled =
-    let h = reached_holds w r in
+    let h = past_holds w r in
     record {
       ran = ran r.config w h idle settled;
       steps = steps r.config w h idle settled;

@@ -11,42 +11,58 @@ use Rattle.tc_link.specs.Promises.{HoldsAt, HoldsThroughout}
 use Rattle.tc_link.proofs.Accepted.{says_what_was_accepted}
 use Rattle.tc_link.proofs.Carried.{all_readable}
 use Rattle.tc_link.proofs.Delivered.{is_in_order, has_plain_history}
-use Rattle.tc_link.proofs.Invariant.{reached_holds}
+use Rattle.tc_link.proofs.Invariant.{Holding, reached_holds}
 use Rattle.tc_link.proofs.Known.{moves_with_records}
 use Rattle.tc_link.proofs.Submitting.{all_push}
 use Rattle.tc_link.proofs.Locks.{has_no_false_alarm, confirms_exactly}
 use Rattle.tc_link.proofs.Steps.{goes_on_by_a_step}
 use Rattle.tc_link.proofs.Windows.{keeps_to_window, is_confirmed_exactly}
 
+module _ (c : Config) (w : World) (h : Holding c w) where
+  readable_so : AllReadable w
+  readable_so = all_readable c w h.sound h.carried h.reports
+
+  promised_so : IsIdle w → IsPromised w
+  promised_so is =
+      let s = h.session is in
+      record {
+        in_order = is_in_order c w h.sound s;
+        history = has_plain_history c w h.sound s;
+        window = keeps_to_window c w h.sound s;
+        confirmed = is_confirmed_exactly c w h.sound s;
+        says = says_what_was_accepted c w h.sound s;
+      }
+
+  promised_of_so : (e : Event) → IsEvent e → IsIdle w → IsPromisedOf w e
+  promised_of_so e fits is =
+      let s = h.session is in
+      record {
+        history = goes_on_by_a_step c w h.sound s e fits;
+        numbers = moves_with_records c w h e fits is;
+        confirms = λ checking. confirms_exactly c w h.sound s checking e;
+        no_false_alarm = λ checking. has_no_false_alarm c w h.sound s checking e fits;
+      }
+
+  pub holds_so : (e : Event) → IsEvent e → HoldsAt w e
+  holds_so e fits = record {
+    clean = λ is. (promised_so (h.clean is), promised_of_so e fits (h.clean is));
+    from_idle = λ is. (promised_so is, promised_of_so e fits is);
+    clean_is_idle = h.clean;
+    readable = readable_so;
+  }
+
 -- a session that began clean had an idle start
 pub idle_of : (w : World) → IsReached w → IsClean w → IsIdle w
 idle_of w r is = (reached_holds w r).clean is
 
 pub readable_of : (w : World) → IsReached w → AllReadable w
-readable_of w r = let h = reached_holds w r in all_readable r.config w h.sound h.carried h.reports
+readable_of w r = readable_so r.config w (reached_holds w r)
 
 pub promised : (w : World) → IsReached w → IsIdle w → IsPromised w
-promised w r is =
-    let h = reached_holds w r in
-    let s = h.session is in
-    record {
-      in_order = is_in_order r.config w h.sound s;
-      history = has_plain_history r.config w h.sound s;
-      window = keeps_to_window r.config w h.sound s;
-      confirmed = is_confirmed_exactly r.config w h.sound s;
-      says = says_what_was_accepted r.config w h.sound s;
-    }
+promised w r is = promised_so r.config w (reached_holds w r) is
 
 pub promised_of : (w : World) (e : Event) → IsReached w → IsEvent e → IsIdle w → IsPromisedOf w e
-promised_of w e r fits is =
-    let h = reached_holds w r in
-    let s = h.session is in
-    record {
-      history = goes_on_by_a_step r.config w h.sound s e fits;
-      numbers = moves_with_records r.config w h e fits is;
-      confirms = λ checking. confirms_exactly r.config w h.sound s checking e;
-      no_false_alarm = λ checking. has_no_false_alarm r.config w h.sound s checking e fits;
-    }
+promised_of w e r fits is = promised_of_so r.config w (reached_holds w r) e fits is
 
 -- ---- how worlds are reached
 
@@ -119,12 +135,7 @@ parts [] e after all = (tt, all.0)
 parts (x ∷ xs) e after all = let t = parts xs e after all.1 in ((all.0, t.0), t.1)
 
 pub holds_at : (w : World) (e : Event) → IsReached w → IsEvent e → HoldsAt w e
-holds_at w e r fits = record {
-  clean = λ is. (promised w r (idle_of w r is), promised_of w e r fits (idle_of w r is));
-  from_idle = λ is. (promised w r is, promised_of w e r fits is);
-  clean_is_idle = idle_of w r;
-  readable = readable_of w r;
-}
+holds_at w e r fits = holds_so r.config w (reached_holds w r) e fits
 
 pub holds_throughout : (c : Config) (events : List Event) → IsConfig c → AllByRecursion IsEvent events
     → HoldsThroughout c events

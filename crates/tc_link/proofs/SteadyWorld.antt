@@ -35,9 +35,9 @@ use Rattle.nodes.specs.Ground as ground
 
 -- ---- the spacecraft
 
-record Grows (c : Config) (s t : SpacecraftState) : Type 0 where
-  steady : SpacecraftSteady c t
-  accepted : length s.accepted ≤ length t.accepted
+pub record Grows (c : Config) (s t : SpacecraftState) : Type 0 where
+  pub steady : SpacecraftSteady c t
+  pub accepted : length s.accepted ≤ length t.accepted
 
 module _ (c : Config) (s : SpacecraftState) (k : SpacecraftSteady c s) where
   -- the receiver steps, and the spacecraft is as it was but for what no field speaks of
@@ -52,7 +52,7 @@ module _ (c : Config) (s : SpacecraftState) (k : SpacecraftSteady c s) where
         idle_left = rw builder k.idle_left;
       }
 
-  sequence_so : (n : ℕ) (u : SegmentView) (v : Verdict) → Grows c s (sequence_outcome s n u v).after
+  pub sequence_so : (n : ℕ) (u : SegmentView) (v : Verdict) → Grows c s (sequence_outcome s n u v).after
   sequence_so n u Accepted =
       record {
         steady = steps_so (AdArrives n (is_free s)) (sequence_outcome s n u Accepted).after refl refl refl;
@@ -64,13 +64,13 @@ module _ (c : Config) (s : SpacecraftState) (k : SpacecraftSteady c s) where
         accepted = omega arith;
       }
 
-  bypass_so : (u : SegmentView) (kept : Bool) → Grows c s (bypass_outcome s u kept).after
+  pub bypass_so : (u : SegmentView) (kept : Bool) → Grows c s (bypass_outcome s u kept).after
   bypass_so u true =
       record { steady = steps_so BdArrives (bypass_outcome s u true).after refl refl refl; accepted = omega arith }
   bypass_so u false =
       record { steady = steps_so BdArrives (bypass_outcome s u false).after refl refl refl; accepted = omega arith }
 
-  body_so : (f : BodyView) → Grows c s (body_outcome s f).after
+  pub body_so : (f : BodyView) → Grows c s (body_outcome s f).after
   body_so (Ad n u) = sequence_so n u (verdict_of s.farm n (is_free s))
   body_so (Bd u) = bypass_so u (is_kept (limits_of s.config) u)
   body_so (Bc command) =

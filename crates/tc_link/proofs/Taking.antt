@@ -22,7 +22,8 @@ use Rattle.tc_link.proofs.Sound.{Sound}
 use Rattle.simulated_link.proofs.AcceptedSegments.{accepts_segment}
 use Rattle.tc_link.proofs.Delivered.{is_in_order, all_accepted}
 use Rattle.simulated_link.proofs.Gained.{config_stays}
-use Rattle.tc_link.proofs.Invariant.{opened, session_stays, begun_is, step_holds, run_holds, reached_holds}
+use Rattle.tc_link.proofs.AnyPast.{past_holds}
+use Rattle.tc_link.proofs.Invariant.{opened, session_stays, begun_is, step_holds, run_holds}
 use Rattle.simulated_link.proofs.Leaving.{AtEachLoss, lost, pulled, up_arrives, down_arrives}
 use Rattle.link_events.specs.declared.event.Event.TheVariants as events
 
@@ -198,7 +199,7 @@ hands_out_what_is_submitted w e since m r b keeps fits idle =
     let start : World = (world_step w e).after in
     let new : World = world_run start since in
     let s = since_then start since keeps in
-    let h = run_holds r.config since start fits.1 (step_holds r.config w (reached_holds w r) e fits.0) in
+    let h = run_holds r.config since start fits.1 (step_holds r.config w (past_holds w r) e fits.0) in
     let still : IsIdle new = ap (λ (o : Option Opening × ℕ). option_map (λ (x : Opening). x.idle) o.0) s.same ∙ idle in
     let order = (is_in_order r.config new h.sound (h.session still)).in_order m in (
       ready_on new m ++ order.0,
@@ -260,7 +261,7 @@ hands_out_as_submitted w e since r b keeps fits idle =
     let out = taken since (run_answers start since) in
     let s = since_then start since keeps in
     let begins = begins_there w e b in
-    let h = run_holds r.config since start fits.1 (step_holds r.config w (reached_holds w r) e fits.0) in
+    let h = run_holds r.config since start fits.1 (step_holds r.config w (past_holds w r) e fits.0) in
     let still : IsIdle new = ap (λ (o : Option Opening × ℕ). option_map (λ (x : Opening). x.idle) o.0) s.same ∙ idle in
     let t = h.session still in
     let k = h.sound in

@@ -2,8 +2,9 @@
 use Rattle.std.specs.Prelude.{◌≡◌, ℕ, ◌+◌, ◌%◌, List, [], ◌∷◌, length}
 use Rattle.std.specs.List.{AllByRecursion}
 use Rattle.link_events.specs.declared.event.Event.{Event}
+use Rattle.tc_link.specs.AnyPast.{HasAnyPast}
 use Rattle.tc_link.specs.Known.{SetsNoNumber}
-use Rattle.tc_link.specs.Reached.{IsEvent, IsReached}
+use Rattle.tc_link.specs.Reached.{IsEvent}
 use Rattle.tc_link.specs.Taken.{BeginsSession}
 use Rattle.simulated_link.specs.World.{World, KeepsSession, IsIdle, world_step, world_run}
 
@@ -25,7 +26,7 @@ pub record CountsFrom (base : ℕ) (w : World) : Type 0 where
 -- each alert, while no directive sets V(S).
 abbrev pub KeepsWhatIsKnown : Type 0
 KeepsWhatIsKnown =
-    (w : World) (initiation : Event) (since : List Event) → IsReached w
+    (w : World) (initiation : Event) (since : List Event) → HasAnyPast w
     → BeginsSession w initiation → KeepsSession (world_step w initiation).after since
     → SetsNone (world_step w initiation).after since
     → AllByRecursion IsEvent (initiation ∷ since) → IsIdle (world_step w initiation).after

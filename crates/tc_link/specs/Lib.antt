@@ -1,4 +1,5 @@
 pub mod Accepted
+pub mod AnyPast
 pub mod Confirmation
 pub mod Counting
 pub mod FalseAlarms

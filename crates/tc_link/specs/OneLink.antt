@@ -5,7 +5,8 @@ use Rattle.nodes.specs.Parameters.{IsConfig}
 use Rattle.link_events.specs.declared.event.Event.{Event}
 use Rattle.tc_link.specs.History.{IsHistory}
 use Rattle.tc_link.specs.PlainLink.{PlainLink, PlainRun, AtMostOneStep, new_link}
-use Rattle.tc_link.specs.Reached.{IsEvent, IsReached}
+use Rattle.tc_link.specs.AnyPast.{HasAnyPast}
+use Rattle.tc_link.specs.Reached.{IsEvent}
 use Rattle.simulated_link.specs.World.{KeepsSession, World, IsIdle, IsSettled, BeginsNoSession}
 use Rattle.simulated_link.specs.World.{world_step, world_run}
 
@@ -48,6 +49,6 @@ pub record GoesOnAsOne (w : World) : Type 0 where
 abbrev pub EachHasOneLink : Type 0
 EachHasOneLink = (w : World) → IsConfig w.ground_node.config → HasOneLink w × HasUnsentLink w
 
--- and in those that a run leads to, from an idle start on
+-- and in those that any past leads to, from an idle start on
 abbrev pub EachGoesOnAsOne : Type 0
-EachGoesOnAsOne = (w : World) → IsReached w → IsIdle w → IsSettled w → GoesOnAsOne w
+EachGoesOnAsOne = (w : World) → HasAnyPast w → IsIdle w → IsSettled w → GoesOnAsOne w

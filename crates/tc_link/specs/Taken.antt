@@ -12,7 +12,8 @@ use Rattle.nodes.specs.Packets.{PacketOn, put_on_map}
 use Rattle.link_events.specs.declared.event.Event.{Event}
 use Rattle.link_events.specs.declared.event.Event.TheVariants as events
 use Rattle.simulated_link.specs.declared.fault.SimFault.{SimFault}
-use Rattle.tc_link.specs.Reached.{IsEvent, IsReached}
+use Rattle.tc_link.specs.AnyPast.{HasAnyPast}
+use Rattle.tc_link.specs.Reached.{IsEvent}
 use Rattle.simulated_link.specs.Replies.{ReplyView, Packet}
 use Rattle.simulated_link.specs.World.{World, KeepsSession, IsIdle, submitted, delivered}
 use Rattle.simulated_link.specs.World.{world_step, world_run, run_answers}
@@ -62,10 +63,10 @@ abbrev pub HandsOutInOrder : World → List Event → ℕ → Type 0
 HandsOutInOrder w since m =
     IsBeginning (taken_since w since m) (ready_on w m ++ submitted (world_run w since) m)
 
--- so it is in a run, where the session had an idle start
+-- so it is after any past, where the session had an idle start
 abbrev pub HandsOutWhatIsSubmitted : Type 0
 HandsOutWhatIsSubmitted =
-    (w : World) (initiation : Event) (since : List Event) (m : ℕ) → IsReached w
+    (w : World) (initiation : Event) (since : List Event) (m : ℕ) → HasAnyPast w
     → BeginsSession w initiation → KeepsSession (world_step w initiation).after since
     → AllByRecursion IsEvent (initiation ∷ since) → IsIdle (world_step w initiation).after
     → HandsOutInOrder (world_step w initiation).after since m
@@ -88,10 +89,10 @@ pub record HandsOutInOneOrder (w : World) (since : List Event) : Type 0 where
       → outstanding (world_run w since).ground_node ≡ []
       → passed ≡ all_submitted (world_run w since)
 
--- so it is in a run, where the session had an idle start
+-- so it is after any past, where the session had an idle start
 abbrev pub HandsOutAsSubmitted : Type 0
 HandsOutAsSubmitted =
-    (w : World) (initiation : Event) (since : List Event) → IsReached w
+    (w : World) (initiation : Event) (since : List Event) → HasAnyPast w
     → BeginsSession w initiation → KeepsSession (world_step w initiation).after since
     → AllByRecursion IsEvent (initiation ∷ since) → IsIdle (world_step w initiation).after
     → HandsOutInOneOrder (world_step w initiation).after since

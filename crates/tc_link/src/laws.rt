@@ -1,5 +1,6 @@
 // What holds of each run, whatever a program keeps of it.
 
+ghost use Rattle.tc_link.specs.AnyPast.{HoldsAfterAnyPast, RunsAsEvents};
 ghost use Rattle.tc_link.specs.Counting.{KeepsWhatIsKnown};
 ghost use Rattle.tc_link.specs.OneLink.{EachGoesOnAsOne, EachHasOneLink};
 ghost use Rattle.tc_link.specs.Promises.{HoldsOfAllRuns};
@@ -10,6 +11,16 @@ ghost use Rattle.tc_link.specs.Taken.{HandsOutAsSubmitted, HandsOutWhatIsDeliver
 /// whose calls of the two nodes are such events. Nothing is run, and no memory is taken.
 pub fn law_of_sessions()
     ensures { HoldsOfAllRuns }
+{}
+
+/// What `run` promises of each event holds whatever came before: a run of events and takes of
+/// telemetry, among which any octets from outside the link reach either node, and a new node takes the
+/// place of one, at any moment and with anything on its way (`promised`). A new node ends the session,
+/// and so do octets but for those that `after_receiving` and `after_hearing` name; a session that
+/// begins later by an idle start has every promise. A run of events alone is one of these (`runs`).
+pub fn law_of_any_past()
+    ensures promised { HoldsAfterAnyPast }
+    ensures runs { RunsAsEvents }
 {}
 
 /// Since a session began, on each MAP: the packets that `take` has handed out, followed by those
@@ -34,10 +45,10 @@ pub fn law_of_plain_links()
     ensures goes_on { EachGoesOnAsOne }
 {}
 
-/// Since a session with an idle start began, and until a directive sets V(S): V(S) is what it was then
-/// plus the number of segments sent since, and NN(R) is that plus the number of those that are
-/// acknowledged, modulo 256. So an alert keeps what is known: in S6 V(S) is NN(R) only where all that
-/// was sent is acknowledged.
+/// Since a session with an idle start began, whatever came before it, and until a directive sets
+/// V(S): V(S) is what it was then plus the number of segments sent since, and NN(R) is that plus the
+/// number of those that are acknowledged, modulo 256. So an alert keeps what is known: in S6 V(S) is
+/// NN(R) only where all that was sent is acknowledged.
 pub fn law_of_numbers()
     ensures { KeepsWhatIsKnown }
 {}

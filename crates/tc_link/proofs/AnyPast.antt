@@ -1,0 +1,248 @@
+-- Whatever came before, the world is sound, and so is a session that had an idle start.
+use Rattle.tc_link.proofs.Common.{◌≡◌, ℕ, Bool, true, false, List, [], ◌∷◌, map, Result, Ok, Err, refl, subst, arith}
+use Rattle.tc_link.proofs.Common.{AllByRecursion, cond_both, ◌==◌, Clcw, TcFault, On, SegmentView, BodyView, Ad, Bd, Bc}
+use Rattle.tc_link.proofs.Common.{Verdict, Accepted, Directive, TmFault, Extracted, clcw_step, Config, Event}
+use Rattle.tc_link.proofs.Common.{World, new_world, world_step, world_run, inl, inr, GroundState}
+use Rattle.tc_link.proofs.Common.{SpacecraftState, SpacecraftOutcome, frame_outcome, body_outcome, sequence_outcome}
+use Rattle.tc_link.proofs.Common.{bypass_outcome, verdict_of, is_free, is_kept, limits_of, is_own_frame, with_fop}
+use Rattle.tc_link.proofs.Common.{after_extraction, telemetry_outcome, ap, sym, FarmState, FarmEvent, AdArrives}
+use Rattle.tc_link.proofs.Common.{farm_step, after_verdict}
+use Rattle.cop1.specs.declared.farm.Verdict.TheVariants.{Behind, Discarded}
+use Rattle.nodes.specs.Spacecraft.{after_farm}
+use Rattle.clcw.specs.Reading.{clcw_at}
+use Rattle.clcw.specs.declared.fault.ClcwFault.{ClcwFault}
+use Rattle.nodes.specs.Ground.{GroundOutcome, own_frame_outcome, is_own_telemetry, new_ground, ground_take_telemetry}
+use Rattle.nodes.specs.declared.heard.Heard.{Heard}
+use Rattle.nodes.specs.declared.received.Received.{Received}
+use Rattle.nodes.specs.Spacecraft.{new_spacecraft}
+use Rattle.tc_frame.specs.Layout.{FrameView}
+use Rattle.tc_frame.specs.Reading as command
+use Rattle.tm_link.specs.Extraction.{ExtractorState, extract_step}
+use Rattle.tm_link.specs.Layout as telemetry
+use Rattle.tm_link.specs.Reading as telemetry_reading
+use Rattle.tc_link.specs.AnyPast.{LinkStep, Happens, TakeTelemetry, Receives, Hears, NewGround, NewSpacecraft}
+use Rattle.tc_link.specs.AnyPast.{IsLinkStep, with_nodes, received, heard, link_step, link_run}
+use Rattle.tc_link.specs.AnyPast.{HasAnyPast, HoldsAfterAnyPast, RunsAsEvents}
+use Rattle.tc_link.proofs.Beginning.{InSession}
+use Rattle.tc_link.proofs.Board.{eases_keep}
+use Rattle.tc_link.proofs.Eased.{bypass_eases}
+use Rattle.tc_link.proofs.Fitting.{GroundFits, with_fits, heard_fits}
+use Rattle.tc_link.proofs.Invariant.{Holding, new_holds, step_holds}
+use Rattle.tc_link.proofs.Linked.{In, beside, run_to}
+use Rattle.tc_link.proofs.Promised.{holds_so}
+use Rattle.tc_link.proofs.SteadyNodes.{settled_so, report_so}
+use Rattle.tc_link.proofs.SteadyWorld.{sequence_so, bypass_so, body_so, new_sound}
+use Rattle.tc_link.proofs.Sound.{GroundNodeSteady, SpacecraftSteady}
+
+-- ---- the session goes on
+
+-- with another extractor, and other packets of telemetry
+abbrev with_telemetry : World → ExtractorState → List (List ℕ) → World
+with_telemetry w extractor packets =
+    record w { ground_node = record w.ground_node { extractor = extractor; telemetry = packets } }
+
+module _ (c : Config) (w : World) (x : ExtractorState) (packets : List (List ℕ)) where
+  heard_in : (early : Bool) (d : Directive) (base : ℕ) → In early c d base w
+      → In early c d base (with_telemetry w x packets)
+  heard_in early d base g = beside g (with_telemetry w x packets) g.ran (assumption g.linked) g.stage
+
+  heard_session : InSession c w → InSession c (with_telemetry w x packets)
+  heard_session s = record {
+    directive = s.directive;
+    base = s.base;
+    session = elim s.session [
+      | inl g ↦ inl (heard_in true s.directive s.base g)
+      | inr g ↦ inr (heard_in false s.directive s.base g)
+    ];
+  }
+
+  telemetry_holds : Holding c w → Holding c (with_telemetry w x packets)
+  telemetry_holds h = record {
+    sound = record {
+      ranges = h.sound.ranges;
+      ground_node = assumption h.sound.ground_node;
+      spacecraft = h.sound.spacecraft;
+      before = h.sound.before;
+    };
+    reports = h.reports;
+    carried = record {
+      frames = h.carried.frames;
+      carries = h.carried.carries;
+      fits = record { sent = h.carried.fits.sent; unsent = h.carried.fits.unsent };
+    };
+    clean = h.clean;
+    session = λ is. heard_session (h.session is);
+  }
+
+-- where a Type-BD frame arrived
+module _ (c : Config) (w : World) (h : Holding c w) (u : SegmentView) (kept : Bool) where
+  abbrev bypassed : World
+  bypassed = record w { spacecraft = (bypass_outcome w.spacecraft u kept).after }
+
+  same_accepted : (kept : Bool) → (bypass_outcome w.spacecraft u kept).after.accepted ≡ w.spacecraft.accepted
+  same_accepted true = refl
+  same_accepted false = refl
+
+  bypassed_in : (early : Bool) (d : Directive) (base : ℕ) → In early c d base w → In early c d base bypassed
+  bypassed_in early d base g =
+      run_to g (eases_keep early c d base w h.sound g (bypass_outcome w.spacecraft u kept).after (same_accepted kept)
+      (bypass_eases d base g.front w.spacecraft u kept))
+
+  bypassed_session : InSession c w → InSession c bypassed
+  bypassed_session s = record {
+    directive = s.directive;
+    base = s.base;
+    session = elim s.session [
+      | inl g ↦ inl (bypassed_in true s.directive s.base g)
+      | inr g ↦ inr (bypassed_in false s.directive s.base g)
+    ];
+  }
+
+  bypassed_holds : Holding c bypassed
+  bypassed_holds = record {
+    sound = record {
+      ranges = h.sound.ranges;
+      ground_node = h.sound.ground_node;
+      spacecraft = (bypass_so c w.spacecraft h.sound.spacecraft u kept).steady;
+      before = rw (same_accepted kept) h.sound.before;
+    };
+    reports = h.reports;
+    carried = record { frames = h.carried.frames; carries = h.carried.carries; fits = h.carried.fits };
+    clean = h.clean;
+    session = λ is. bypassed_session (h.session is);
+  }
+
+-- ---- each step
+
+module _ (c : Config) (w : World) (h : Holding c w) where
+  take_holds : (packets : List (List ℕ))
+      → Holding c (record w { ground_node = (ground_take_telemetry w.ground_node packets).after })
+  take_holds [] = h
+  take_holds (packet ∷ left) = telemetry_holds c w w.ground_node.extractor left h
+
+  -- no session goes on with these nodes
+  nodes_hold : (ground_node : GroundState) (spacecraft : SpacecraftState) → GroundNodeSteady c ground_node
+      → GroundFits ground_node → SpacecraftSteady c spacecraft → Holding c (with_nodes w ground_node spacecraft)
+  nodes_hold ground_node spacecraft steady fits board = record {
+    sound = record { ranges = h.sound.ranges; ground_node = steady; spacecraft = board; before = omega arith };
+    reports = h.reports;
+    carried = record { frames = h.carried.frames; carries = h.carried.carries; fits = fits };
+    clean = λ is. absurd cc;
+    session = λ is. absurd cc;
+  }
+
+  -- ---- the spacecraft receives octets
+
+  abbrev Receives_well : SpacecraftOutcome Received → Type 0
+  Receives_well o = Holding c (received w o)
+
+  board_holds : (after : SpacecraftState) → SpacecraftSteady c after → Holding c (with_nodes w w.ground_node after)
+  board_holds after steady = nodes_hold w.ground_node after h.sound.ground_node h.carried.fits steady
+
+  -- the receiver leaves the frame, and is as it was
+  left_holds : (e : FarmEvent) → farm_step w.spacecraft.farm e ≡ w.spacecraft.farm
+      → Holding c (record w { spacecraft = after_farm w.spacecraft e })
+  left_holds e same =
+      subst (λ (farm : FarmState). Holding c (record w { spacecraft = record w.spacecraft { farm = farm } }))
+      (sym same) h
+
+  sequence_holds : (n : ℕ) (u : SegmentView) (v : Verdict) → verdict_of w.spacecraft.farm n (is_free w.spacecraft) ≡ v
+      → Receives_well (sequence_outcome w.spacecraft n u v)
+  sequence_holds n u Behind is =
+      left_holds (AdArrives n (is_free w.spacecraft)) (ap (after_verdict w.spacecraft.farm) is)
+  sequence_holds n u Discarded is =
+      left_holds (AdArrives n (is_free w.spacecraft)) (ap (after_verdict w.spacecraft.farm) is)
+  sequence_holds n u Accepted is = board_holds _ (sequence_so c w.spacecraft h.sound.spacecraft n u Accepted).steady
+  sequence_holds n u v is = board_holds _ (sequence_so c w.spacecraft h.sound.spacecraft n u v).steady
+
+  bypass_holds : (u : SegmentView) (kept : Bool) → Receives_well (bypass_outcome w.spacecraft u kept)
+  bypass_holds u true = bypassed_holds c w h u true
+  bypass_holds u false = bypassed_holds c w h u false
+
+  body_holds : (f : BodyView) → Receives_well (body_outcome w.spacecraft f)
+  body_holds (Ad n u) = sequence_holds n u (verdict_of w.spacecraft.farm n (is_free w.spacecraft)) refl
+  body_holds (Bd u) = bypass_holds u (is_kept (limits_of w.spacecraft.config) u)
+  body_holds (Bc command) = board_holds _ (body_so c w.spacecraft h.sound.spacecraft (Bc command)).steady
+
+  received_holds : (r : Result FrameView TcFault) → Receives_well (frame_outcome w.spacecraft r)
+  received_holds (Err fault) = h
+  received_holds (Ok frame) =
+      cond_both (is_own_frame w.spacecraft.config frame) (body_outcome w.spacecraft frame.body) _ Receives_well
+      (λ t. body_holds frame.body) (λ t. h)
+
+  -- ---- the ground hears octets
+
+  abbrev Hears_well : GroundOutcome Heard → Type 0
+  Hears_well o = Holding c (heard w o)
+
+  extracted_holds : (x : Extracted) → Holding c (record w { ground_node = after_extraction w.ground_node x })
+  extracted_holds x = telemetry_holds c w x.after _ h
+
+  used_holds : (x : Extracted) (report : Clcw)
+      → Holding c (with_nodes w (with_fop (after_extraction w.ground_node x) (clcw_step w.ground_node.fop report).after)
+      w.spacecraft)
+  used_holds x report =
+      let s : GroundState = w.ground_node in
+      let k = h.sound.ground_node in
+      nodes_hold _ w.spacecraft
+      (settled_so c (record (after_extraction s x) { fop = (clcw_step s.fop report).after }) k.config
+      (report_so c s.fop k.fop report))
+      (with_fits (after_extraction s x) (clcw_step s.fop report).after
+      (heard_fits s.fop s.pending h.carried.fits report)) h.sound.spacecraft
+
+  word_holds : (x : Extracted) (r : Result Clcw ClcwFault) → Hears_well (own_frame_outcome w.ground_node x r)
+  word_holds x (Err fault) = extracted_holds x
+  word_holds x (Ok report) =
+      cond_both (report.vcid == w.ground_node.config.vcid) _ _ Hears_well (λ t. used_holds x report)
+      (λ t. extracted_holds x)
+
+  heard_holds : (r : Result telemetry.FrameView TmFault) → Hears_well (telemetry_outcome w.ground_node r)
+  heard_holds (Err fault) = h
+  heard_holds (Ok frame) =
+      cond_both (is_own_telemetry w.ground_node.config frame) _ _ Hears_well
+      (λ t. word_holds (extract_step w.ground_node.extractor frame) (clcw_at frame.ocf)) (λ t. h)
+
+  -- ---- a node is new
+
+  new_ground_steady : GroundNodeSteady c (new_ground w.ground_node.config)
+  new_ground_steady = rw h.sound.ground_node.config (new_sound c h.sound.ranges).ground_node
+
+  new_spacecraft_steady : SpacecraftSteady c (new_spacecraft w.spacecraft.config)
+  new_spacecraft_steady = rw h.sound.spacecraft.config (new_sound c h.sound.ranges).spacecraft
+
+  link_step_holds : (s : LinkStep) → IsLinkStep s → Holding c (link_step w s)
+  link_step_holds (Happens event) fits = step_holds c w h event fits
+  link_step_holds TakeTelemetry fits = take_holds w.ground_node.telemetry
+  link_step_holds (Receives octets) fits = received_holds (command.frame_at On octets)
+  link_step_holds (Hears octets) fits =
+      heard_holds (telemetry_reading.frame_at w.ground_node.config.frame_length octets)
+  link_step_holds NewGround fits =
+      nodes_hold (new_ground w.ground_node.config) w.spacecraft new_ground_steady
+      (record { sent = λ running. tt; unsent = λ running. tt }) h.sound.spacecraft
+  link_step_holds NewSpacecraft fits =
+      board_holds (new_spacecraft w.spacecraft.config) new_spacecraft_steady
+
+-- ---- a run
+
+link_run_holds : (c : Config) (steps : List LinkStep) (w : World) → AllByRecursion IsLinkStep steps → Holding c w
+    → Holding c (link_run w steps)
+link_run_holds c [] w fits h = h
+link_run_holds c (s ∷ more) w fits h =
+    link_run_holds c more (link_step w s) fits.1 (link_step_holds c w h s fits.0)
+
+pub past_holds : (w : World) → (p : HasAnyPast w) → Holding p.config w
+past_holds w p =
+    subst (Holding p.config) p.led
+    (link_run_holds p.config p.steps (new_world p.config) p.numbers (new_holds p.config p.ranges))
+
+pub holds_after_any_past : HoldsAfterAnyPast
+holds_after_any_past c steps event ranges all fits =
+    holds_so c (link_run (new_world c) steps)
+    (link_run_holds c steps (new_world c) all (new_holds c ranges)) event fits
+
+events_run : (w : World) (events : List Event) → link_run w (map (λ event. Happens event) events) ≡ world_run w events
+events_run w [] = refl
+events_run w (e ∷ es) = events_run (world_step w e).after es
+
+pub runs_as_events : RunsAsEvents
+runs_as_events c events = events_run (new_world c) events

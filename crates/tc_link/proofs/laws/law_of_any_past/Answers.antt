@@ -1,0 +1,8 @@
+use Rattle.tc_link.proofs.AnyPast.{holds_after_any_past, runs_as_events}
+use Rattle.tc_link.proofs.laws.law_of_any_past.Goals as goal
+
+pub returns-clause-promised : goal.returns-clause-promised
+returns-clause-promised c = holds_after_any_past
+
+pub returns-clause-runs : goal.returns-clause-runs
+returns-clause-runs c = runs_as_events

@@ -1,0 +1,105 @@
+-- A run of the link in which more may happen than its events: octets from outside the link reach a
+-- node, and a new node takes the place of one.
+use Rattle.std.specs.Prelude.{◌≡◌, ℕ, List, [], ◌∷◌, length, map}
+use Rattle.std.specs.List.{AllByRecursion}
+use Rattle.cop1.specs.declared.farm.Verdict.TheVariants.{Behind, Discarded}
+use Rattle.nodes.specs.declared.config.Config.{Config}
+use Rattle.nodes.specs.declared.heard.Heard.{Heard}
+use Rattle.nodes.specs.declared.heard.Heard.TheVariants as heard_cases
+use Rattle.nodes.specs.declared.heard.HeardReport.TheVariants.{Used}
+use Rattle.nodes.specs.declared.received.Received.{Received}
+use Rattle.nodes.specs.declared.received.Received.TheVariants as received_cases
+use Rattle.nodes.specs.Ground.{GroundState, GroundOutcome, new_ground, ground_step}
+use Rattle.nodes.specs.Ground as ground_calls
+use Rattle.nodes.specs.Parameters.{IsConfig}
+use Rattle.nodes.specs.Spacecraft.{SpacecraftState, SpacecraftOutcome, new_spacecraft}
+use Rattle.nodes.specs.Spacecraft.{spacecraft_step}
+use Rattle.nodes.specs.Spacecraft as spacecraft_calls
+use Rattle.link_events.specs.declared.event.Event.{Event}
+use Rattle.tc_link.specs.Promises.{HoldsAt}
+use Rattle.tc_link.specs.Reached.{IsEvent}
+use Rattle.simulated_link.specs.World.{World, new_world, no_session, world_step, world_run}
+
+pub data LinkStep : Type 0 where
+  -- an event happens
+  Happens : (event : Event) → LinkStep
+  -- a packet of telemetry is taken on the ground
+  TakeTelemetry : LinkStep
+  -- any octets from outside the link reach the spacecraft, or the ground: noise, damage that a
+  -- decoder does not see, a frame out of its order, one that came before, or another's
+  Receives : (octets : List ℕ) → LinkStep
+  Hears : (octets : List ℕ) → LinkStep
+  -- a new node takes the place of the ground, or of the spacecraft: it begins anew, or another is
+  -- handed the link
+  NewGround : LinkStep
+  NewSpacecraft : LinkStep
+
+abbrev pub IsLinkStep : LinkStep → Type 0
+IsLinkStep (Happens event) = IsEvent event
+IsLinkStep _ = Unit {0}
+
+-- these nodes are on the link, and no session goes on; what is on its way stays
+abbrev pub with_nodes : World → GroundState → SpacecraftState → World
+with_nodes w ground_node spacecraft = record w {
+  ground_node = ground_node;
+  spacecraft = spacecraft;
+  session = record no_session { before = length spacecraft.accepted };
+}
+
+-- a session goes on beside octets of no frame, a frame for another, one of Type-BD, and one of
+-- Type-AD that the receiver leaves as behind, which is one that came before, or discards
+abbrev pub after_receiving : World → SpacecraftState → Received → World
+after_receiving w after (received_cases.Invalid fault) = record w { spacecraft = after }
+after_receiving w after received_cases.Foreign = record w { spacecraft = after }
+after_receiving w after (received_cases.Bypass kept) = record w { spacecraft = after }
+after_receiving w after (received_cases.Sequence n Behind ready dropped) =
+    record w { spacecraft = after }
+after_receiving w after (received_cases.Sequence n Discarded ready dropped) =
+    record w { spacecraft = after }
+after_receiving w after _ = with_nodes w w.ground_node after
+
+-- and beside any octets whose report does not reach the sender
+abbrev pub after_hearing : World → GroundState → Heard → World
+after_hearing w after (heard_cases.Frame gap packets Used alert) = with_nodes w after w.spacecraft
+after_hearing w after _ = record w { ground_node = after }
+
+abbrev pub received : World → SpacecraftOutcome Received → World
+received w o = after_receiving w o.after o.answer
+
+abbrev pub heard : World → GroundOutcome Heard → World
+heard w o = after_hearing w o.after o.answer
+
+abbrev pub link_step : World → LinkStep → World
+link_step w (Happens event) = (world_step w event).after
+link_step w TakeTelemetry =
+    record w { ground_node = (ground_step w.ground_node ground_calls.TakeTelemetry).after }
+link_step w (Receives octets) =
+    received w (spacecraft_step w.spacecraft (spacecraft_calls.Receive octets))
+link_step w (Hears octets) = heard w (ground_step w.ground_node (ground_calls.Telemetry octets))
+link_step w NewGround = with_nodes w (new_ground w.ground_node.config) w.spacecraft
+link_step w NewSpacecraft = with_nodes w w.ground_node (new_spacecraft w.spacecraft.config)
+
+abbrev pub link_run : World → List LinkStep → World
+link_run w [] = w
+link_run w (step ∷ more) = link_run (link_step w step) more
+
+-- a run of such steps leads from a new world to this one
+pub record HasAnyPast (w : World) : Type 0 where
+  pub config : Config
+  pub ranges : IsConfig config
+  pub steps : List LinkStep
+  pub numbers : AllByRecursion IsLinkStep steps
+  pub led : link_run (new_world config) steps ≡ w
+
+-- for every configuration in its ranges, list of such steps and event that comes next
+abbrev pub HoldsAfterAnyPast : Type 0
+HoldsAfterAnyPast =
+    (c : Config) (steps : List LinkStep) (event : Event) → IsConfig c
+    → AllByRecursion IsLinkStep steps → IsEvent event
+    → HoldsAt (link_run (new_world c) steps) event
+
+-- a run of events alone is one of these
+abbrev pub RunsAsEvents : Type 0
+RunsAsEvents =
+    (c : Config) (events : List Event)
+    → link_run (new_world c) (map (λ event. Happens event) events) ≡ world_run (new_world c) events
