@@ -69,7 +69,7 @@ module _ (w : World) where
   session_stays (events.DownDamage octets) goes = lost w StaysOpen opening_losses (events.DownDamage octets) tt
   session_stays _ goes = refl
 
-  opening_stays : (e : Event) → BeginsNoSession w e → (world_step w e).after.session.opening ≡ w.session.opening
+  pub opening_stays : (e : Event) → BeginsNoSession w e → (world_step w e).after.session.opening ≡ w.session.opening
   opening_stays e goes = ap (λ (o : Option Opening × ℕ). o.0) (session_stays e goes)
 
   -- and so it had an idle start

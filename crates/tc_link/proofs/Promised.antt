@@ -71,7 +71,7 @@ run_push : (w : World) (events : List Event) (e : Event)
 run_push w [] e = refl
 run_push w (x ∷ xs) e = run_push (world_step w x).after xs e
 
-reached_step : (w : World) (e : Event) → IsReached w → IsEvent e → IsReached (world_step w e).after
+pub reached_step : (w : World) (e : Event) → IsReached w → IsEvent e → IsReached (world_step w e).after
 reached_step w e r fits = record {
   config = r.config;
   ranges = r.ranges;

@@ -52,7 +52,7 @@ module _ (c : Config) (w : World) (k : Sound c w) where
       (omega (arith, total, k.ranges.frame_length)) refl (data_length b k.spacecraft.idle_left) in
       rw (← total) (frame_again b.total (telemetry_writing.spelling f) f spelled)
 
-  tells_now : Tells c (telemetry_writing.spelling (spacecraft_report w.spacecraft).answer)
+  pub tells_now : Tells c (telemetry_writing.spelling (spacecraft_report w.spacecraft).answer)
       (report_of w.spacecraft.farm w.spacecraft.config.vcid)
   tells_now = record {
     frame = (spacecraft_report w.spacecraft).answer;

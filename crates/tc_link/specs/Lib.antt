@@ -9,6 +9,7 @@ pub mod InTransit
 pub mod Known
 pub mod OneLink
 pub mod PlainLink
+pub mod Progress
 pub mod Promises
 pub mod Reached
 pub mod Readable

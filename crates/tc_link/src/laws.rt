@@ -3,6 +3,8 @@
 ghost use Rattle.tc_link.specs.AnyPast.{HoldsAfterAnyPast, RunsAsEvents};
 ghost use Rattle.tc_link.specs.Counting.{KeepsWhatIsKnown};
 ghost use Rattle.tc_link.specs.OneLink.{EachGoesOnAsOne, EachHasOneLink};
+ghost use Rattle.tc_link.specs.Progress.{EachAcknowledges, EachBegins, EachEnds, EachIsDelivered};
+ghost use Rattle.tc_link.specs.Progress.{EachMakesProgress};
 ghost use Rattle.tc_link.specs.Promises.{HoldsOfAllRuns};
 ghost use Rattle.tc_link.specs.Taken.{HandsOutAsSubmitted, HandsOutWhatIsDelivered, HandsOutWhatIsSubmitted};
 
@@ -51,4 +53,20 @@ pub fn law_of_plain_links()
 /// NN(R) only where all that was sent is acknowledged.
 pub fn law_of_numbers()
     ensures { KeepsWhatIsKnown }
+{}
+
+/// There is no deadlock, in any session. Wherever a run leads while the sender is Active, exchanges in
+/// which nothing is lost end with an alert, or with nothing outstanding; in a session that had an idle
+/// start all that was submitted is delivered then. One exchange more than the window needs for what
+/// the ground holds is enough (`progress`): each after the first acknowledges as many units as the
+/// window has room for, or all (`acknowledges`). No alert comes in a session that had an idle start by
+/// CLCW check, Unlock or Set V(R), where the transmission count is below its limit (`delivered`).
+/// Before the confirmation such exchanges end with an alert, or the sender is Active (`begins`). So
+/// from any state but S6 they end with an alert or with nothing outstanding (`ends`).
+pub fn law_of_progress()
+    ensures progress { EachMakesProgress }
+    ensures acknowledges { EachAcknowledges }
+    ensures delivered { EachIsDelivered }
+    ensures begins { EachBegins }
+    ensures ends { EachEnds }
 {}

@@ -1,0 +1,549 @@
+-- The numbers of the sender, at every moment of a run, in any session: while it is on, those of the units that it sent
+-- are the ones from NN(R) to V(S) - 1; and all numbers are octets, those that are on their way too.
+use Rattle.tc_link.proofs.Common.{ap, ◌≡◌, ◌<◌, ◌≤◌, ℕ, ◌+◌, ◌%◌, Bool, true, false, List, [], ◌∷◌, ◌++◌, length, map}
+use Rattle.tc_link.proofs.Common.{drop, Option, Some, None, Result, Ok, Err, refl, sym, subst, ◌∙◌, arith, cond_both}
+use Rattle.tc_link.proofs.Common.{nat_lt, ltb-true, ltb-false, length-append, length-drop, length-map, AllByRecursion}
+use Rattle.tc_link.proofs.Common.{Clcw, On, SegmentView, SentUnit, BodyView, Ad, Bd, Bc, Command, Unlock, SetVr}
+use Rattle.tc_link.proofs.Common.{Control, Idle, Due, Sent, ahead_by, Alert, CopFault, Directive, InitWithoutCheck}
+use Rattle.tc_link.proofs.Common.{InitWithCheck, InitUnlock, InitSetVr, is_initiation, begun, obeyed, directive_step}
+use Rattle.tc_link.proofs.Common.{FopState, FopOutcome, S1, S3, S6, clcw_step, report_while_active, after_move_on}
+use Rattle.tc_link.proofs.Common.{after_acknowledge, after_new_value, retransmits, heard_active, pull_step, pulled_out}
+use Rattle.tc_link.proofs.Common.{PulledUnit, after_restart, without_oldest_mark, unmarked_unit, marked_unit, units_of}
+use Rattle.tc_link.proofs.Common.{tick_step, ticked, after_repeat, after_stop, after_count, due_again, after_alert}
+use Rattle.tc_link.proofs.Common.{FarmState, FarmMode, Open, Wait, Verdict, Accepted, verdict_of, farm_step}
+use Rattle.tc_link.proofs.Common.{after_verdict, after_unlock, after_set_vr, after_release, BufferReleased, report_of}
+use Rattle.tc_link.proofs.Common.{Config, FitsFrame, frame_of, frame_to_send, GroundState, with_fop, is_closed}
+use Rattle.tc_link.proofs.Common.{settle_step, after_extraction, extract_step, submit_fault, bypass_fault}
+use Rattle.tc_link.proofs.Common.{after_submission, after_bypass, unless_refused, LinkFault, directive_outcome}
+use Rattle.tc_link.proofs.Common.{IsDirective, IsEvent, PacketOn, SpacecraftState, SpacecraftOutcome, body_outcome}
+use Rattle.tc_link.proofs.Common.{sequence_outcome, bypass_outcome, is_free, is_kept, limits_of, spacecraft_take}
+use Rattle.tc_link.proofs.Common.{spacecraft_take_bypass, spacecraft_telemetry, is_to_send, Event, IsReached, World}
+use Rattle.tc_link.proofs.Common.{WorldOutcome, new_world, world_step, world_run, world_after_pull, up_deliver_step}
+use Rattle.tc_link.proofs.Common.{down_deliver_step, TmFault}
+use Rattle.tc_frame.specs.Reading.{frame_at}
+use Rattle.tc_frame.specs.Writing.{spelling}
+use Rattle.cop1.specs.declared.farm.FarmMode.TheVariants.{Lockout}
+use Rattle.cop1.specs.FopPull.{after_send_first}
+use Rattle.cop1.specs.FopWords.{is_outside}
+use Rattle.nodes.specs.declared.received.Received.{Received}
+use Rattle.simulated_link.specs.World.{world_after_telemetry}
+use Rattle.simulated_link.proofs.Leaving.{AtEachLoss, lost, up_arrives, down_arrives}
+use Rattle.simulated_link.proofs.Reported.{reported}
+use Rattle.link_events.specs.declared.event.Event.TheVariants as events
+use Rattle.tc_link.proofs.Arriving.{own_arrives}
+use Rattle.tc_link.proofs.Closed.{closed_not, active_on}
+use Rattle.tc_link.proofs.Fitting.{moved}
+use Rattle.tc_link.proofs.Hearing.{used_is}
+use Rattle.tc_link.proofs.Invariant.{Holding, step_holds, new_holds}
+use Rattle.tc_link.proofs.Linked.{Carries, carries_push, Tells, Reporting}
+use Rattle.tc_link.proofs.Queue.{oldest_stands}
+use Rattle.tc_link.proofs.ReportFrames.{reporting_now}
+use Rattle.tc_link.proofs.Settled.{settled_keeps}
+use Rattle.tc_link.proofs.Sound.{Commanded}
+use Rattle.tc_link.proofs.Spelled.{Goes, reads_back, fits_at}
+use Rattle.tc_link.proofs.Submitting.{all_append}
+use Rattle.tc_link.proofs.ProgressSender.{without_length}
+
+-- ---- the sender
+
+abbrev pub IsOctetIn : Command → Type 0
+IsOctetIn Unlock = Unit {0}
+IsOctetIn (SetVr x) = x < 256
+
+abbrev pub IsOctetOf : Control → Type 0
+IsOctetOf Idle = Unit {0}
+IsOctetOf (Due command) = IsOctetIn command
+IsOctetOf (Sent command) = IsOctetIn command
+
+pub record Numbered (f : FopState SegmentView) : Type 0 where
+  pub vs : f.vs < 256
+  pub nn : f.nn < 256
+  pub command : IsOctetOf f.control
+  pub numbered : is_closed f.state ≡ false → ahead_by f.vs f.nn ≡ length f.sent
+  pub most : length f.sent ≤ 127
+
+module _ (s : FopState SegmentView) (k : Numbered s) where
+  abbrev Numbers : {A : Type 0} → FopOutcome SegmentView A → Type 0
+  Numbers o = Numbered o.after
+
+  -- nothing is sent, and the sender is off
+  gives_up : (f : FopState SegmentView) → f.vs ≡ s.vs → f.nn < 256 → Numbered (after_alert f)
+  gives_up f vs nn = record {
+    vs = rw vs k.vs;
+    nn = nn;
+    command = tt;
+    numbered = λ on. absurd cc;
+    most = omega arith;
+  }
+
+  -- as many are sent, with the same numbers
+  same_numbers : (f : FopState SegmentView) → f.vs ≡ s.vs → f.nn ≡ s.nn → length f.sent ≡ length s.sent
+      → (is_closed f.state ≡ false → is_closed s.state ≡ false) → IsOctetOf f.control → Numbered f
+  same_numbers f vs nn sent on command = record {
+    vs = rw vs k.vs;
+    nn = rw nn k.nn;
+    command = command;
+    numbered = λ runs. rw (vs, nn) (k.numbered (on runs) ∙ sym sent);
+    most = omega (arith, sent, k.most);
+  }
+
+  module _ (v : ℕ) (octet : v < 256) (on : is_closed s.state ≡ false) (inside : is_outside s v ≡ false) where
+    -- the units before a number are acknowledged
+    acknowledged : (f : FopState SegmentView) → f.vs ≡ s.vs → f.nn ≡ v
+        → length f.sent ≡ length (drop (ahead_by v s.nn) s.sent) → IsOctetOf f.control → Numbered f
+    acknowledged f vs nn sent command =
+        let fewer = length-drop (ahead_by v s.nn) s.sent in
+        let below = ltb-false (ahead_by s.vs s.nn) (ahead_by v s.nn) inside in
+        let numbered = k.numbered on in
+        record {
+          vs = rw vs k.vs;
+          nn = rw nn octet;
+          command = command;
+          numbered = λ runs. omega (arith, vs, nn, sent, fewer, below, numbered, octet, k.vs, k.nn, k.most);
+          most = omega (arith, sent, fewer, k.most);
+        }
+
+  marked_length : (us : List (SentUnit SegmentView)) → length (map marked_unit us) ≡ length us
+  marked_length us = length-map us marked_unit
+
+  module _ (r : Clcw) (octet : r.value < 256) where
+    again_numbers : is_closed s.state ≡ false → (again : Bool) → Numbered (retransmits s again)
+    again_numbers on true =
+        same_numbers (retransmits s true) refl refl (marked_length s.sent) (λ t. on) k.command
+    again_numbers on false = same_numbers (retransmits s false) refl refl refl (λ t. on) k.command
+
+    active_numbers : is_closed s.state ≡ false → Numbers (report_while_active s r)
+    active_numbers on =
+        let left = drop (ahead_by r.value s.nn) s.sent in
+        heard_active s r (λ o. Numbers o) (record {
+          locked = λ t. gives_up s refl k.nn;
+          outside = λ t. gives_up s refl k.nn;
+          waiting = λ none waiting. gives_up s refl k.nn;
+          asks_none = λ asking at. gives_up s refl k.nn;
+          same = k;
+          ceases = λ none at were. gives_up s refl k.nn;
+          moves = λ inside. acknowledged r.value octet on inside (after_move_on (after_acknowledge s r.value)) refl refl
+              refl k.command;
+          others_over = λ inside asking one. gives_up (after_new_value s r.value) refl octet;
+          others_wait = λ inside asking. acknowledged r.value octet on inside
+              (record (after_new_value s r.value) { state = S3 }) refl refl refl k.command;
+          others_again = λ inside asking. acknowledged r.value octet on inside
+              (retransmits (after_new_value s r.value) true) refl refl (marked_length left) k.command;
+          all_over = λ asking one. gives_up s refl k.nn;
+          all_wait = λ asking. same_numbers (record s { state = S3 }) refl refl refl (λ t. on) k.command;
+          all_again = λ asking. again_numbers on;
+        })
+
+    report_numbers : Numbers (clcw_step s r)
+    report_numbers = reported s r (λ o. Numbers o) (record {
+      active = λ active. active_numbers (active_on s.state active);
+      alerted = λ is x cause. gives_up s refl k.nn;
+      checked = λ is confirms. same_numbers (record s { state = S1; ticks = None }) refl refl refl (λ t. rw is refl)
+          k.command;
+      commanded = λ is confirms. same_numbers (record s { state = S1; ticks = None; control = Idle }) refl refl refl
+          (λ t. rw is refl) tt;
+      same = k;
+    })
+
+  due_octet : (control : Control) → IsOctetOf control → IsOctetOf (due_again control)
+  due_octet Idle is = tt
+  due_octet (Due command) is = is
+  due_octet (Sent command) is = is
+
+  tick_numbers : Numbers (tick_step s)
+  tick_numbers = ticked s (λ o. Numbers o) (record {
+    off = k;
+    runs = λ left. same_numbers (record s { ticks = Some left }) refl refl refl (λ t. t) k.command;
+    stops = same_numbers (after_stop s) refl refl refl (λ t. t) k.command;
+    repeats = λ active. same_numbers (after_repeat (after_stop s)) refl refl (marked_length s.sent) (λ t. t) k.command;
+    counts = same_numbers (after_count (after_stop s)) refl refl refl (λ t. t) k.command;
+    commands = λ is. same_numbers (record (after_count (after_stop s)) { control = due_again s.control }) refl refl refl
+        (λ t. t) (due_octet s.control k.command);
+    gives_up = gives_up (after_stop s) refl k.nn;
+  })
+
+  sent_octet : (c : Command) → s.control ≡ Due c → IsOctetIn c
+  sent_octet c is = let it : IsOctetOf (Due c) = rw is at k.command in it
+
+  pull_numbers : s.window ≤ 127 → Numbers (pull_step s)
+  pull_numbers most = pulled_out s (λ o. Numbers o) (record {
+    none = k;
+    command = λ c is. same_numbers (record (after_restart s) { control = Sent c }) refl refl refl (λ t. t)
+        (sent_octet c is);
+    bypass = λ u us is. same_numbers (record s { bypass = us }) refl refl refl (λ t. t) k.command;
+    again = λ active x is. same_numbers (record (after_restart s) { sent = without_oldest_mark s.sent }) refl refl
+        (without_length s.sent) (λ t. t) k.command;
+    first = λ active u is room.
+        let longer = length-append s.sent (unmarked_unit u ∷ []) in
+        let numbered = k.numbered (active_on s.state active) in
+        let room : ahead_by s.vs s.nn < s.window = ltb-true (ahead_by s.vs s.nn) s.window room in
+        record {
+          vs = omega arith;
+          nn = k.nn;
+          command = k.command;
+          numbered = λ on. omega (arith, longer, numbered, room, most, k.vs, k.nn);
+          most = omega (arith, longer, numbered, room, most);
+        };
+  })
+
+  -- a session begins with this number
+  begins_at : (x : ℕ) → x < 256 → (f : FopState SegmentView) → f.vs ≡ x → f.nn ≡ x → f.sent ≡ []
+      → IsOctetOf f.control → Numbered f
+  begins_at x octet f vs nn sent command = record {
+    vs = rw vs octet;
+    nn = rw nn octet;
+    command = command;
+    numbered = λ on. omega (arith, vs, nn, ap length sent, octet);
+    most = omega (arith, ap length sent);
+  }
+
+  begun_numbers : (d : Directive) → is_initiation d ≡ true → IsDirective d → s.control ≡ Idle → Numbered (begun s d)
+  begun_numbers InitWithoutCheck is fits idle =
+      begins_at s.vs k.vs (begun s InitWithoutCheck) refl refl refl (rw idle tt)
+  begun_numbers InitWithCheck is fits idle =
+      begins_at s.vs k.vs (begun s InitWithCheck) refl refl refl (rw idle tt)
+  begun_numbers InitUnlock is fits idle = begins_at s.vs k.vs (begun s InitUnlock) refl refl refl tt
+  begun_numbers (InitSetVr x) is fits idle = begins_at x fits (begun s (InitSetVr x)) refl refl refl fits
+  begun_numbers _ is fits idle = absurd cc
+
+  directive_numbers : (s.state ≡ S6 → s.control ≡ Idle) → (d : Directive) → IsDirective d → Numbers (directive_step s d)
+  directive_numbers idle = obeyed s (λ d o. IsDirective d → Numbers o) (record {
+    refused = λ d fault on fits. k;
+    begins = λ d is off fits. begun_numbers d is fits (idle off);
+    terminated = λ fits. gives_up s refl k.nn;
+    numbers = λ x off fits. record {
+      vs = fits;
+      nn = fits;
+      command = k.command;
+      numbered = λ on. closed_not s.state off on;
+      most = k.most;
+    };
+    sets = λ d k' n ticks plain most fits. same_numbers (record s { window = k'; limit = n; timer = ticks }) refl
+        refl refl (λ t. t) k.command;
+  })
+
+-- ---- the ground
+
+settled_numbers : (s : GroundState) → Numbered s.fop → Numbered (settle_step s).fop
+settled_numbers s k = settled_keeps (λ (t : GroundState). Numbered t.fop) s (λ waiting pending on off. record {
+  vs = k.vs;
+  nn = k.nn;
+  command = k.command;
+  numbered = k.numbered;
+  most = k.most;
+})
+
+with_numbers : (s : GroundState) (f : FopState SegmentView) → Numbered f → Numbered (with_fop s f).fop
+with_numbers s f k = settled_numbers (record s { fop = f }) k
+
+module _ (s : GroundState) (k : Numbered s.fop) where
+  directed_numbers : (r : Result (Option Alert) CopFault) (f : FopState SegmentView) → Numbered f
+      → Numbered (directive_outcome s (record { after = f; answer = r; gone = 0 })).after.fop
+  directed_numbers (Ok alert) f is = with_numbers s f is
+  directed_numbers (Err fault) f is = k
+
+  submitted_numbers : (m : ℕ) (octets : List ℕ) (o : Option LinkFault)
+      → Numbered (unless_refused o s (after_submission s m octets)).after.fop
+  submitted_numbers m octets (Some fault) = k
+  submitted_numbers m octets None = settled_numbers _ k
+
+  bypassed_numbers : (m : ℕ) (octets : List ℕ) (o : Option LinkFault)
+      → Numbered (unless_refused o s (after_bypass s m octets)).after.fop
+  bypassed_numbers m octets (Some fault) = k
+  bypassed_numbers m octets None = record {
+    vs = k.vs;
+    nn = k.nn;
+    command = k.command;
+    numbered = k.numbered;
+    most = k.most;
+  }
+
+-- ---- the receiver
+
+module _ (s : FarmState) (octet : s.vr < 256) where
+  verdict_octet : (v : Verdict) → (after_verdict s v).vr < 256
+  verdict_octet Accepted = omega arith
+  verdict_octet _ = octet
+
+  unlock_octet : (m : FarmMode) → (after_unlock s m).vr < 256
+  unlock_octet Open = octet
+  unlock_octet Wait = octet
+  unlock_octet Lockout = octet
+
+  set_octet : (x : ℕ) (m : FarmMode) → x < 256 → (after_set_vr s x m).vr < 256
+  set_octet x Open is = is
+  set_octet x Wait is = is
+  set_octet x Lockout is = octet
+
+  release_octet : (m : FarmMode) → (after_release s m).vr < 256
+  release_octet Open = octet
+  release_octet Wait = octet
+  release_octet Lockout = octet
+
+abbrev pub IsOctetBody : BodyView → Type 0
+IsOctetBody (Bc command) = IsOctetIn command
+IsOctetBody _ = Unit {0}
+
+module _ (s : SpacecraftState) (octet : s.farm.vr < 256) where
+  sequence_octet : (n : ℕ) (u : SegmentView) (v : Verdict) → (sequence_outcome s n u v).after.farm.vr < 256
+  sequence_octet n u Accepted = verdict_octet s.farm octet (verdict_of s.farm n (is_free s))
+  sequence_octet n u _ = verdict_octet s.farm octet (verdict_of s.farm n (is_free s))
+
+  bypass_octet : (u : SegmentView) (kept : Bool) → (bypass_outcome s u kept).after.farm.vr < 256
+  bypass_octet u true = octet
+  bypass_octet u false = octet
+
+  body_octet : (f : BodyView) → IsOctetBody f → (body_outcome s f).after.farm.vr < 256
+  body_octet (Ad n u) is = sequence_octet n u (verdict_of s.farm n (is_free s))
+  body_octet (Bd u) is = bypass_octet u (is_kept (limits_of s.config) u)
+  body_octet (Bc Unlock) is = unlock_octet s.farm octet s.farm.state
+  body_octet (Bc (SetVr x)) is = set_octet s.farm octet x s.farm.state is
+
+  taken_octet : (ps : List PacketOn) → (spacecraft_take s ps).after.farm.vr < 256
+  taken_octet [] = octet
+  taken_octet (p ∷ left) =
+      cond_both (nat_lt (length left) s.config.ready_slots) (farm_step s.farm BufferReleased) s.farm
+      (λ (farm : FarmState). farm.vr < 256) (λ t. release_octet s.farm octet s.farm.state) (λ t. octet)
+
+  bypass_taken_octet : (ps : List PacketOn) → (spacecraft_take_bypass s ps).after.farm.vr < 256
+  bypass_taken_octet [] = octet
+  bypass_taken_octet (p ∷ left) = octet
+
+  queued_octet : (octets : List ℕ) → (spacecraft_telemetry s octets).after.farm.vr < 256
+  queued_octet octets =
+      cond_both (is_to_send octets) _ _ (λ (o : SpacecraftOutcome (Result (Unit {0}) TmFault)). o.after.farm.vr < 256)
+      (λ t. octet) (λ t. octet)
+
+-- ---- what is on its way
+
+pub record UpOctets (c : Config) (up : List (List ℕ)) : Type 0 where
+  pub frames : List BodyView
+  pub carries : Carries c up frames
+  pub are : AllByRecursion IsOctetBody frames
+
+abbrev IsOctetReport : Clcw → Type 0
+IsOctetReport r = r.value < 256
+
+pub record DownOctets (c : Config) (down : List (List ℕ)) : Type 0 where
+  pub reports : List Clcw
+  pub reporting : Reporting c down reports
+  pub are : AllByRecursion IsOctetReport reports
+
+record FirstUp (c : Config) (b : List ℕ) (bs : List (List ℕ)) : Type 0 where
+  frame : BodyView
+  reads : frame_at On b ≡ Ok (frame_of c frame)
+  is : IsOctetBody frame
+  rest : UpOctets c bs
+
+first_up : (c : Config) (b : List ℕ) (bs : List (List ℕ)) (fs : List BodyView) → Carries c (b ∷ bs) fs
+    → AllByRecursion IsOctetBody fs → FirstUp c b bs
+first_up c b bs [] carries all = elim carries [ ]
+first_up c b bs (f ∷ fs) carries all = record {
+  frame = f;
+  reads = carries.0;
+  is = all.0;
+  rest = record { frames = fs; carries = carries.1; are = all.1 };
+}
+
+record FirstDown (c : Config) (b : List ℕ) (bs : List (List ℕ)) : Type 0 where
+  report : Clcw
+  tells : Tells c b report
+  is : IsOctetReport report
+  rest : DownOctets c bs
+
+first_down : (c : Config) (b : List ℕ) (bs : List (List ℕ)) (rs : List Clcw) → Reporting c (b ∷ bs) rs
+    → AllByRecursion IsOctetReport rs → FirstDown c b bs
+first_down c b bs [] reporting all = elim reporting [ ]
+first_down c b bs (r ∷ rs) reporting all = record {
+  report = r;
+  tells = reporting.0;
+  is = all.0;
+  rest = record { reports = rs; reporting = reporting.1; are = all.1 };
+}
+
+-- ---- the world
+
+pub record HasOctets (c : Config) (w : World) : Type 0 where
+  pub sender : Numbered w.ground_node.fop
+  pub vr : w.spacecraft.farm.vr < 256
+  pub up : UpOctets c w.up
+  pub down : DownOctets c w.down
+
+module _ (c : Config) (w : World) (h : Holding c w) (k : HasOctets c w) where
+  abbrev s : FopState SegmentView
+  s = w.ground_node.fop
+
+  abbrev After : WorldOutcome → Type 0
+  After o = HasOctets c o.after
+
+  up_of : (b : List ℕ) (bs : List (List ℕ)) → w.up ≡ b ∷ bs → FirstUp c b bs
+  up_of b bs is = first_up c b bs k.up.frames (subst (λ u. Carries c u k.up.frames) is k.up.carries) k.up.are
+
+  down_of : (b : List ℕ) (bs : List (List ℕ)) → w.down ≡ b ∷ bs → FirstDown c b bs
+  down_of b bs is =
+      first_down c b bs k.down.reports (subst (λ d. Reporting c d k.down.reports) is k.down.reporting) k.down.are
+
+  losses : AtEachLoss w After
+  losses = record {
+    refused = λ fault. k;
+    up = λ b bs is reply silent. record { sender = k.sender; vr = k.vr; up = (up_of b bs is).rest; down = k.down };
+    down = λ b bs is reply silent. record { sender = k.sender; vr = k.vr; up = k.up; down = (down_of b bs is).rest };
+  }
+
+  with_sender : (g : GroundState) → Numbered g.fop → HasOctets c (record w { ground_node = g })
+  with_sender g sender = record { sender = sender; vr = k.vr; up = k.up; down = k.down }
+
+  with_craft : (s : SpacecraftState) → s.farm.vr < 256 → HasOctets c (record w { spacecraft = s })
+  with_craft s vr = record { sender = k.sender; vr = vr; up = k.up; down = k.down }
+
+  -- ---- a frame is sent
+
+  abbrev Pulls : FopOutcome SegmentView (PulledUnit SegmentView) → Type 0
+  Pulls o = Numbered o.after
+      → After (world_after_pull w (with_fop w.ground_node o.after) (frame_to_send w.ground_node.config o.answer))
+
+  pushed : (f : BodyView) → Goes f → IsOctetBody f
+      → UpOctets c (w.up ++ spelling On (frame_of w.ground_node.config f) ∷ [])
+  pushed f goes is = record {
+    frames = k.up.frames ++ f ∷ [];
+    carries = carries_push c (spelling On (frame_of w.ground_node.config f)) f w.up k.up.frames
+        (rw h.sound.ground_node.config (reads_back c f h.sound.ranges goes)) k.up.carries;
+    are = all_append IsOctetBody k.up.frames (f ∷ []) k.up.are (is, tt);
+  }
+
+  sent_after : (f : FopState SegmentView) (b : BodyView) → Goes b → IsOctetBody b → Numbered f
+      → After (world_after_pull w (with_fop w.ground_node f) (Some (frame_of w.ground_node.config b)))
+  sent_after f b goes is numbers = record {
+    sender = with_numbers w.ground_node f numbers;
+    vr = k.vr;
+    up = pushed b goes is;
+    down = k.down;
+  }
+
+  sends : Pulls (pull_step s)
+  sends = pulled_out s Pulls (record {
+    none = λ numbers. with_sender (with_fop w.ground_node s) (with_numbers w.ground_node s numbers);
+    command = λ command is numbers.
+        sent_after (record (after_restart s) { control = Sent command }) (Bc command) tt
+        (sent_octet s k.sender command is) numbers;
+    bypass = λ u us is numbers.
+        let fit : AllByRecursion FitsFrame (u ∷ us) = rw is at h.sound.ground_node.fop.bypass_fits in
+        sent_after (record s { bypass = us }) (Bd u) fit.0 tt numbers;
+    again = λ active x is numbers.
+        let stands = oldest_stands 0 s.sent x is in
+        let fit : FitsFrame x.1 =
+        fits_at (units_of s.sent) stands.0 x.1 (h.carried.fits.sent (active_on s.state active)) stands.2 in
+        sent_after (record (after_restart s) { sent = without_oldest_mark s.sent }) (Ad ((s.nn + x.0) % 256) x.1) fit tt
+        numbers;
+    first = λ active u is room numbers.
+        let fit : FitsFrame u = (moved s w.ground_node.pending h.carried.fits u is (active_on s.state active)).0 in
+        sent_after (after_send_first s u) (Ad s.vs u) fit tt numbers;
+  })
+
+  small_window : s.window ≤ 127
+  small_window = omega (arith, h.sound.ground_node.fop.window, h.sound.ranges.width)
+
+  -- ---- a frame arrives
+
+  arrives : (b : List ℕ) (bs : List (List ℕ)) → w.up ≡ b ∷ bs → After (up_deliver_step w (b ∷ bs))
+  arrives b bs is =
+      let first = up_of b bs is in
+      subst (λ (o : SpacecraftOutcome Received). HasOctets c (record w { up = bs; spacecraft = o.after }))
+      (sym (own_arrives w.spacecraft c first.frame (frame_at On b) h.sound.spacecraft.config first.reads)) (record {
+        sender = k.sender;
+        vr = body_octet w.spacecraft k.vr first.frame first.is;
+        up = first.rest;
+        down = k.down;
+      })
+
+  hears : (b : List ℕ) (bs : List (List ℕ)) → w.down ≡ b ∷ bs → After (down_deliver_step w (b ∷ bs))
+  hears b bs is =
+      let first = down_of b bs is in
+      let x = extract_step w.ground_node.extractor first.tells.frame in
+      subst (λ o. After (world_after_telemetry w bs o))
+      (sym (used_is c w.ground_node b first.report h.sound.ground_node.config first.tells)) (record {
+        sender = with_numbers (after_extraction w.ground_node x) (clcw_step s first.report).after
+            (report_numbers s k.sender first.report first.is);
+        vr = k.vr;
+        up = k.up;
+        down = first.rest;
+      })
+
+  off_idle : s.state ≡ S6 → s.control ≡ Idle
+  off_idle off =
+      let idle : Commanded S6 s.control = rw off at h.sound.ground_node.fop.commanded in idle
+
+  step_octets : (e : Event) → IsEvent e → After (world_step w e)
+  step_octets (events.Submit m octets) fits =
+      record {
+        sender = submitted_numbers w.ground_node k.sender m octets.now (submit_fault w.ground_node m octets.now);
+        vr = k.vr;
+        up = k.up;
+        down = k.down;
+      }
+  step_octets (events.Bypass m octets) fits =
+      record {
+        sender = bypassed_numbers w.ground_node k.sender m octets.now (bypass_fault w.ground_node m octets.now);
+        vr = k.vr;
+        up = k.up;
+        down = k.down;
+      }
+  step_octets (events.Directive d) fits =
+      record {
+        sender = directed_numbers w.ground_node k.sender (directive_step s d).answer (directive_step s d).after
+            (directive_numbers s k.sender off_idle d fits);
+        vr = k.vr;
+        up = k.up;
+        down = k.down;
+      }
+  step_octets events.Send fits = sends (pull_numbers s k.sender small_window)
+  step_octets events.UpDeliver fits = up_arrives w After k arrives
+  step_octets events.Report fits = record {
+    sender = k.sender;
+    vr = k.vr;
+    up = k.up;
+    down = record {
+      reports = k.down.reports ++ report_of w.spacecraft.farm w.spacecraft.config.vcid ∷ [];
+      reporting = reporting_now c w h.sound k.down.reports k.down.reporting;
+      are = all_append IsOctetReport k.down.reports (report_of w.spacecraft.farm w.spacecraft.config.vcid ∷ [])
+          k.down.are (k.vr, tt);
+    };
+  }
+  step_octets events.DownDeliver fits = down_arrives w After k hears
+  step_octets events.Tick fits =
+      with_sender (with_fop w.ground_node (tick_step s).after)
+      (with_numbers w.ground_node (tick_step s).after (tick_numbers s k.sender))
+  step_octets events.Take fits =
+      with_craft (spacecraft_take w.spacecraft w.spacecraft.ready).after
+      (taken_octet w.spacecraft k.vr w.spacecraft.ready)
+  step_octets events.TakeBypass fits =
+      with_craft (spacecraft_take_bypass w.spacecraft w.spacecraft.bypass).after
+      (bypass_taken_octet w.spacecraft k.vr w.spacecraft.bypass)
+  step_octets (events.Telemetry octets) fits =
+      with_craft (spacecraft_telemetry w.spacecraft octets.now).after (queued_octet w.spacecraft k.vr octets.now)
+  step_octets e fits = lost w After losses e tt
+
+run_octets : (c : Config) (es : List Event) (w : World) → AllByRecursion IsEvent es → Holding c w → HasOctets c w
+    → HasOctets c (world_run w es)
+run_octets c [] w fits h k = k
+run_octets c (e ∷ es) w fits h k =
+    run_octets c es (world_step w e).after fits.1 (step_holds c w h e fits.0) (step_octets c w h k e fits.0)
+
+new_octets : (c : Config) → HasOctets c (new_world c)
+new_octets c = record {
+  sender = record {
+    vs = omega arith;
+    nn = omega arith;
+    command = tt;
+    numbered = λ on. absurd cc;
+    most = omega arith;
+  };
+  vr = omega arith;
+  up = record { frames = []; carries = tt; are = tt };
+  down = record { reports = []; reporting = tt; are = tt };
+}
+
+pub reached_octets : (w : World) → (r : IsReached w) → HasOctets r.config w
+reached_octets w r =
+    subst (HasOctets r.config) r.led
+    (run_octets r.config r.events (new_world r.config) r.octets (new_holds r.config r.ranges) (new_octets r.config))

@@ -1,0 +1,163 @@
+-- How schedules are put together: an alert comes in one of their parts, or each leads to what the next one starts from.
+use Rattle.tc_link.proofs.Common.{◌≡◌, ◌⊎◌, inl, inr, ℕ, zero, suc, true, List, [], ◌∷◌, ◌++◌}
+use Rattle.tc_link.proofs.Common.{refl, ap, sym, subst, ◌∙◌, replicate, Config, Event, World}
+use Rattle.tc_link.proofs.Common.{WorldOutcome, world_step, world_run, IsIdle, IsSettled, IsReached, IsEvent}
+use Rattle.tc_link.proofs.Common.{BeginsNoSession, option_map, Opening, directive_of}
+use Rattle.std.specs.Prelude.{IsSome}
+use Rattle.simulated_link.proofs.Leaving.{pulled, up_arrives, down_arrives}
+use Rattle.tc_link.specs.FalseAlarms.{alert_in}
+use Rattle.tc_link.specs.Progress.{Schedule, followed_by, times, AlertsIn}
+use Rattle.tc_link.proofs.Invariant.{reached_holds, opening_stays, idle_goes, Holding}
+use Rattle.tc_link.proofs.ProgressLive.{Live, reached_live}
+use Rattle.tc_link.proofs.ProgressNumbers.{HasOctets, reached_octets}
+use Rattle.tc_link.proofs.Promised.{reached_step}
+use Rattle.link_events.specs.declared.event.Event.TheVariants as events
+
+-- ---- a session goes on
+
+-- an event of an exchange: nothing is lost, and no directive is given
+abbrev pub IsCalm : Event → Type 0
+IsCalm events.Send = Unit {0}
+IsCalm events.UpDeliver = Unit {0}
+IsCalm events.Report = Unit {0}
+IsCalm events.DownDeliver = Unit {0}
+IsCalm events.Tick = Unit {0}
+IsCalm events.Take = Unit {0}
+IsCalm _ = ⊥
+
+pub calm_fits : (e : Event) → IsCalm e → IsEvent e
+calm_fits events.Send calm = tt
+calm_fits events.UpDeliver calm = tt
+calm_fits events.Report calm = tt
+calm_fits events.DownDeliver calm = tt
+calm_fits events.Tick calm = tt
+calm_fits events.Take calm = tt
+calm_fits _ calm = elim calm [ ]
+
+pub calm_goes : (w : World) (e : Event) → IsCalm e → BeginsNoSession w e
+calm_goes w events.Send calm = λ d is. absurd (cc is)
+calm_goes w events.UpDeliver calm = λ d is. absurd (cc is)
+calm_goes w events.Report calm = λ d is. absurd (cc is)
+calm_goes w events.DownDeliver calm = λ d is. absurd (cc is)
+calm_goes w events.Tick calm = λ d is. absurd (cc is)
+calm_goes w events.Take calm = λ d is. absurd (cc is)
+calm_goes w _ calm = elim calm [ ]
+
+module _ (w : World) where
+  abbrev StaysConfirmed : WorldOutcome → Type 0
+  StaysConfirmed o = w.session.confirmed ≡ true → o.after.session.confirmed ≡ true
+
+  calm_confirmed : (e : Event) → IsCalm e → StaysConfirmed (world_step w e)
+  calm_confirmed events.Send calm = pulled w StaysConfirmed (λ reply up sent silent is. is)
+  calm_confirmed events.UpDeliver calm = up_arrives w StaysConfirmed (λ is. is) (λ b bs same is. is)
+  calm_confirmed events.Report calm = λ is. is
+  calm_confirmed events.DownDeliver calm =
+      down_arrives w StaysConfirmed (λ is. is) (λ b bs same is. rw is refl)
+  calm_confirmed events.Tick calm = λ is. is
+  calm_confirmed events.Take calm = λ is. is
+  calm_confirmed _ calm = elim calm [ ]
+
+pub going_step : (w : World) → IsReached w → (e : Event) → IsCalm e → IsReached (world_step w e).after
+going_step w g e calm = reached_step w e g (calm_fits e calm)
+
+-- what is known of it
+pub record Known (w : World) : Type 0 where
+  pub config : Config
+  pub holds : Holding config w
+  pub live : Live w
+  pub octets : HasOctets config w
+
+pub known : (w : World) → IsReached w → Known w
+known w g = record {
+  config = g.config;
+  holds = reached_holds w g;
+  live = reached_live w g;
+  octets = reached_octets w g;
+}
+
+-- ---- the session goes on
+
+pub idle_step : (w : World) (e : Event) → IsCalm e → IsIdle w → IsIdle (world_step w e).after
+idle_step w e calm idle = idle_goes w e idle (calm_goes w e calm)
+
+pub directive_stays : (w : World) (e : Event) → IsCalm e → directive_of (world_step w e).after ≡ directive_of w
+directive_stays w e calm =
+    ap (λ o. option_map (λ (o : Opening). o.directive) o) (opening_stays w e (calm_goes w e calm))
+
+pub settled_step : (w : World) (e : Event) → IsCalm e → IsSettled w → IsSettled (world_step w e).after
+settled_step w e calm settled = elim settled [
+  | inl confirmed ↦ inl (calm_confirmed w e calm confirmed)
+  | inr without ↦ inr (directive_stays w e calm ∙ without)
+]
+
+-- ---- where a list of events leads
+
+pub run_append : (w : World) (es fs : List Event) → world_run w (es ++ fs) ≡ world_run (world_run w es) fs
+run_append w [] fs = refl
+run_append w (e ∷ es) fs = run_append (world_step w e).after es fs
+
+pub alerts_first : (w : World) (es fs : List Event) → AlertsIn w es → AlertsIn w (es ++ fs)
+alerts_first w [] fs a = absurd a
+alerts_first w (e ∷ es) fs a = elim a [
+  | inl now ↦ inl now
+  | inr later ↦ inr (alerts_first (world_step w e).after es fs later)
+]
+
+pub alerts_then : (w : World) (es fs : List Event) → AlertsIn (world_run w es) fs → AlertsIn w (es ++ fs)
+alerts_then w [] fs a = a
+alerts_then w (e ∷ es) fs a = inr (alerts_then (world_step w e).after es fs a)
+
+-- an alert is answered, or the session goes on and this holds
+abbrev pub Ends : (World → Type 0) → World → List Event → Type 0
+Ends P w es = AlertsIn w es ⊎ (IsReached (world_run w es) × P (world_run w es))
+
+module _ (P Q : World → Type 0) where
+  pub ends_then : (first next : Schedule) (w : World) → Ends P w (first w)
+      → ((v : World) → IsReached v → P v → Ends Q v (next v)) → Ends Q w (followed_by first next w)
+  ends_then first next w start more = elim start [
+    | inl a ↦ inl (alerts_first w (first w) (next (world_run w (first w))) a)
+    | inr s ↦ (
+        let v = world_run w (first w) in
+        elim (more v s.0 s.1) [
+          | inl a ↦ inl (alerts_then w (first w) (next v) a)
+          | inr t ↦ inr (subst (λ (x : World). IsReached x × Q x) (sym (run_append w (first w) (next v))) t)
+        ])
+  ]
+
+-- one event, so many times
+module _ (P : ℕ → World → Type 0) (e : Event) (calm : IsCalm e)
+    (each : (n : ℕ) (w : World) → IsReached w → P (suc n) w
+    → IsSome (alert_in (world_step w e).answer) ⊎ P n (world_step w e).after) where
+  pub ends_repeat : (n : ℕ) (w : World) → IsReached w → P n w → Ends (P zero) w (replicate n e)
+  ends_repeat zero w g p = inr (g, p)
+  ends_repeat (suc n) w g p = elim (each n w g p) [
+    | inl a ↦ inl (inl a)
+    | inr q ↦ elim (ends_repeat n (world_step w e).after (going_step w g e calm) q) [
+      | inl a ↦ inl (inr a)
+      | inr t ↦ inr t
+    ]
+  ]
+
+-- a schedule, so many times
+module _ (P : ℕ → World → Type 0) (schedule : Schedule)
+    (each : (n : ℕ) (w : World) → IsReached w → P (suc n) w → Ends (P n) w (schedule w)) where
+  pub ends_times : (n : ℕ) (w : World) → IsReached w → P n w → Ends (P zero) w (times n schedule w)
+  ends_times zero w g p = inr (g, p)
+  ends_times (suc n) w g p =
+      ends_then (P n) (P zero) schedule (times n schedule) w (each n w g p) (λ v h q. ends_times n v h q)
+
+-- one event
+pub ends_once : (P : World → Type 0) (w : World) (e : Event) → IsCalm e → IsReached w
+    → IsSome (alert_in (world_step w e).answer) ⊎ P (world_step w e).after → Ends P w (e ∷ [])
+ends_once P w e calm g one = elim one [
+  | inl a ↦ inl (inl a)
+  | inr p ↦ inr (going_step w g e calm, p)
+]
+
+-- what holds then says more
+pub ends_so : (P Q : World → Type 0) (w : World) (es : List Event) → Ends P w es
+    → ((v : World) → IsReached v → P v → Q v) → Ends Q w es
+ends_so P Q w es ends says = elim ends [
+  | inl a ↦ inl a
+  | inr t ↦ inr (t.0, says (world_run w es) t.0 t.1)
+]

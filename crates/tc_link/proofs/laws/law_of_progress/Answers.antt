@@ -1,0 +1,19 @@
+use Rattle.tc_link.proofs.ProgressBegin.{each_begins, each_ends}
+use Rattle.tc_link.proofs.Progress.{each_makes_progress, each_acknowledges}
+use Rattle.tc_link.proofs.ProgressSure.{each_is_delivered}
+use Rattle.tc_link.proofs.laws.law_of_progress.Goals as goal
+
+pub returns-clause-progress : goal.returns-clause-progress
+returns-clause-progress c = each_makes_progress
+
+pub returns-clause-delivered : goal.returns-clause-delivered
+returns-clause-delivered c = each_is_delivered
+
+pub returns-clause-begins : goal.returns-clause-begins
+returns-clause-begins c = each_begins
+
+pub returns-clause-acknowledges : goal.returns-clause-acknowledges
+returns-clause-acknowledges c = each_acknowledges
+
+pub returns-clause-ends : goal.returns-clause-ends
+returns-clause-ends c = each_ends
