@@ -39,10 +39,11 @@ AcceptsNoMore w =
 
 pub record SaysWhatWasAccepted (w : World) : Type 0 where
   -- each report says a number, and what it says was accepted was: in any state, whatever the
-  -- directives; while the numbers are the session's, it is by `HasPlainHistory` exactly the number of
-  -- those that were accepted when the report was made
+  -- directives; while the numbers are the session's, it is by `HasPlainHistory` exactly the number
+  -- of those that were accepted when the report was made
   pub each : IsSettled w → AllByRecursion (SaysHowMany w) (values_down w)
-  -- while they are, V(R), which a report made now has, says how many are accepted now, which are all
+  -- while they are, V(R), which a report made now has, says how many are accepted now, which are
+  -- all
   pub now : IsSettled w → KeepsNumbers w
       → (k : ℕ) × (said_by w w.spacecraft.farm.vr ≡ Some k)
       × (w.session.acknowledged + k ≡ length (accepted w))
