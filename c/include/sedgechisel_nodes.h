@@ -127,7 +127,7 @@ struct sedge_heard {
     uint8_t alert;      /* 3, 0: of sedge_alert; 0 for none */
 };
 
-/* Octets came from the spacecraft. Returns 0 or SEDGE_NODE_MEMORY. */
+/* Octets came from the spacecraft. Returns 0, or SEDGE_NODE_MEMORY where they finish a packet. */
 uint8_t sedge_ground_telemetry(struct sedge_ground *ground, const uint8_t *octets, size_t count,
                                struct sedge_heard *heard);
 
@@ -189,7 +189,7 @@ struct sedge_received {
     uint8_t vr;      /* 5: the number of Set V(R) */
 };
 
-/* Octets came from the ground. Returns 0 or SEDGE_NODE_MEMORY. */
+/* Octets came from the ground. Returns 0, or SEDGE_NODE_MEMORY where a frame's data are handed on. */
 uint8_t sedge_spacecraft_receive(struct sedge_spacecraft *spacecraft, const uint8_t *octets, size_t count,
                                  struct sedge_received *received);
 
@@ -286,8 +286,9 @@ struct sedge_reply {
 };
 
 /* An event happens. Each call returns 0 and writes the reply; or a number of sedge_sim_fault, and nothing happens.
- * What a node refuses is a reply. The octets of a frame that was sent, and of a packet that was taken, stay to be
- * read until the next event (sedge_sim_octets). */
+ * SEDGE_SIM_MEMORY is none of directives, losing, damaging, ticks and taking. What a node refuses is a reply. The
+ * octets of a frame that was sent, and of a packet that was taken, stay to be read until the next event
+ * (sedge_sim_octets). */
 uint8_t sedge_sim_submit(struct sedge_sim *sim, uint8_t map, const uint8_t *octets, size_t count,
                          struct sedge_reply *reply);
 uint8_t sedge_sim_bypass(struct sedge_sim *sim, uint8_t map, const uint8_t *octets, size_t count,

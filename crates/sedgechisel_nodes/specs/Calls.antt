@@ -29,11 +29,12 @@ pub record IsRead {S V : Type 0} (read : S → Option V) (old new : Option S) (a
   pub unchanged : new ≡ old
 
 -- what a call answers and writes that takes a step of what the handle holds: 0, or 6 where there
--- was no memory
-pub record IsStep {S V : Type 0} (after : S → S) (said : S → V) (old new : Option S) (answer : ℕ)
-    (v v' : V) : Type 0 where
+-- was no memory for a step that takes some
+pub record IsStep {S V : Type 0} (TakesNone : S → Type 0) (after : S → S) (said : S → V)
+    (old new : Option S) (answer : ℕ) (v v' : V) : Type 0 where
   pub none : old ≡ None → answer ≡ closed
   pub answer_is : IfSome old (λ s. (answer ≡ 0) ⊎ (answer ≡ 6))
+  pub takes_none : IfSome old (λ s. TakesNone s → answer ≡ 0)
   pub after_is : answer ≡ 0 → new ≡ option_map after old
   pub said_is : answer ≡ 0 → IfSome old (λ s. v' ≡ said s)
   pub unchanged : answer ≢ 0 → (new ≡ old) × (v' ≡ v)

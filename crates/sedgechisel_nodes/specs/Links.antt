@@ -16,6 +16,7 @@ use Rattle.simulated_link.specs.declared.reply.NodeFault.{NodeFault}
 use Rattle.simulated_link.specs.declared.reply.NodeFault.TheVariants.{Link, Cop, Tm}
 use Rattle.simulated_link.specs.declared.fault.SimFault.{SimFault}
 use Rattle.simulated_link.specs.SimFaults.{fault_row}
+use Rattle.simulated_link.specs.Events.{TakesNone}
 use Rattle.simulated_link.specs.Replies.{ReplyView, Done, Nothing, Lost, Refused, Alerted, Sent}
 use Rattle.simulated_link.specs.Replies.{Reported, Up, Down, Packet}
 use Rattle.simulated_link.specs.World.{World, new_world, world_step, submitted, delivered, accepted}
@@ -97,6 +98,7 @@ pub record IsEventCall (event : Event) (old new : Option LinkState) (answer : �
     (reply reply' : KeptReply) : Type 0 where
   pub none : old ≡ None → answer ≡ closed
   pub answer_is : IfSome old (λ l. IsStepAnswer (world_step l.world event).answer answer)
+  pub takes_none : IfSome old (λ l. TakesNone l.world event → answer ≢ 6)
   pub after : answer ≡ 0 → new ≡ option_map (λ l. link_step l event) old
   pub replied : answer ≡ 0 → IfSome old (λ l. IsReply (world_step l.world event).answer reply')
   pub unchanged : answer ≢ 0 → (new ≡ old) × (reply' ≡ reply)

@@ -2,7 +2,7 @@
 
 ghost use Rattle.std.specs.Prelude.{◌≡◌, ◌≢◌, None, IfSome};
 ghost use Rattle.tm_link.specs.Reading.{frame_at};
-ghost use Rattle.nodes.specs.Ground.{Bypass, Telemetry, Tick, ground_step, bypass_fault};
+ghost use Rattle.nodes.specs.Ground.{Bypass, Telemetry, Tick, ground_step, bypass_fault, FinishesNothing};
 ghost use Rattle.sedgechisel_nodes.specs.Calls.{closed, IsRead, IsStep};
 ghost use Rattle.sedgechisel_nodes.specs.Grounds.{stepped, IsAnswer, IsSubmission};
 ghost use Rattle.sedgechisel_nodes.specs.Hearing.{alert_number, gap_kept, report_kept, heard_kept, report_in};
@@ -92,7 +92,8 @@ pub(crate) fn kept_heard(heard: Heard) -> KeptHeard
     }
 }
 
-/// Takes octets that came from the spacecraft. Answers 0, or 6 where there was no memory, or 255.
+/// Takes octets that came from the spacecraft. Answers 0, or 6 where there was no memory for a packet that they finish,
+/// or 255.
 #[unsafe(no_mangle)]
 pub extern "C" fn sedge_ground_telemetry(
     alloc: Global,
@@ -100,7 +101,8 @@ pub extern "C" fn sedge_ground_telemetry(
     octets: &[u8],
     heard: &mut KeptHeard,
 ) -> u8
-    ensures { IsStep (λ s. (ground_step s (Telemetry octets.now)).after)
+    ensures { IsStep (λ s. FinishesNothing s (frame_at s.config.frame_length octets.now))
+        (λ s. (ground_step s (Telemetry octets.now)).after)
         (λ s. heard_kept (ground_step s (Telemetry octets.now)).answer)
         ground.old.value ground.new.value result heard.old heard.new }
 {

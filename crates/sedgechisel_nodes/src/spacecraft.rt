@@ -1,7 +1,9 @@
 // What the spacecraft of a program in C receives, and the packets that it is to send as telemetry.
 
 ghost use Rattle.std.specs.Prelude.{◌≡◌, ◌≢◌, None, option_map, IfSome, Ok};
-ghost use Rattle.nodes.specs.Spacecraft.{Receive, Telemetry, spacecraft_step};
+ghost use Rattle.tc_frame.specs.declared.frame.Check.TheVariants.{On};
+ghost use Rattle.tc_frame.specs.Reading.{frame_at};
+ghost use Rattle.nodes.specs.Spacecraft.{Receive, Telemetry, spacecraft_step, HandsNothingOn};
 ghost use Rattle.tm_link.specs.Building.{queue_fault};
 ghost use Rattle.tm_link.specs.Faults.{fault_row};
 ghost use Rattle.cop1.specs.Names.{verdict_row};
@@ -85,7 +87,7 @@ pub(crate) fn kept_received(received: Received) -> KeptReceived
     }
 }
 
-/// Takes octets that came from the ground. Answers 0, or 6 where there was no memory, or 255.
+/// Takes octets that came from the ground. Answers 0, or 6 where there was no memory to hand a frame's data on, or 255.
 #[unsafe(no_mangle)]
 pub extern "C" fn sedge_spacecraft_receive(
     alloc: Global,
@@ -93,7 +95,8 @@ pub extern "C" fn sedge_spacecraft_receive(
     octets: &[u8],
     received: &mut KeptReceived,
 ) -> u8
-    ensures { IsStep (λ s. (spacecraft_step s (Receive octets.now)).after)
+    ensures { IsStep (λ s. HandsNothingOn s (frame_at On octets.now))
+        (λ s. (spacecraft_step s (Receive octets.now)).after)
         (λ s. received_kept (spacecraft_step s (Receive octets.now)).answer)
         spacecraft.old.value spacecraft.new.value result received.old received.new }
 {

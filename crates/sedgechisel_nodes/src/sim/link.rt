@@ -25,6 +25,7 @@ impl Model for Link {
 
 impl Link {
     ghost use Rattle.std.specs.Prelude.{◌≡◌, ◌≢◌, [], IfSome};
+    ghost use Rattle.simulated_link.specs.Events.{TakesNone};
     ghost use Rattle.simulated_link.specs.World.{new_world, world_step};
     ghost use Rattle.sedgechisel_nodes.specs.Links.{IsStepAnswer, IsReply, link_step};
 
@@ -56,6 +57,7 @@ impl Link {
     // Lets an event happen, and writes the reply. Answers 0, or the number of the refusal.
     pub(crate) fn step(&mut self, alloc: Global, event: Event<'_>, reply: &mut KeptReply) -> u8
         ensures answer { IsStepAnswer (world_step self.old.world event.entry).answer result }
+        ensures takes_none { TakesNone self.old.world event.entry → result ≢ 6 }
         ensures after { result ≡ 0 → self.new ≡ link_step self.old event.entry }
         ensures replied { result ≡ 0
             → IsReply (world_step self.old.world event.entry).answer reply.new }
