@@ -1,29 +1,23 @@
 /* The memory of libsedgechisel_nodes, over malloc: the three functions that the library calls, and all that it calls but
  * memcpy, memmove and memset. Each is asked for an alignment of at most 16, which malloc keeps to on the processors that
  * the library is built for. A place for 0 octets has an address of its own too. */
-#include <stdbool.h>
-#include <stddef.h>
+#include <sedgechisel_memory.h>
 #include <stdlib.h>
-
-struct place {
-    bool found;
-    void *at; /* where none was found, any address but null */
-};
 
 static char nowhere;
 
-static struct place place_at(void *at)
+static struct sedge_place place_at(void *at)
 {
-    struct place place = {at != NULL, at != NULL ? at : &nowhere};
+    struct sedge_place place = {at != NULL, at != NULL ? at : &nowhere};
     return place;
 }
 
-struct place rattle_alloc(size_t count, size_t align)
+struct sedge_place rattle_alloc(size_t count, size_t align)
 {
     return place_at(malloc(count > 0 ? count : align));
 }
 
-struct place rattle_realloc(void *at, size_t kept, size_t count, size_t align)
+struct sedge_place rattle_realloc(void *at, size_t kept, size_t count, size_t align)
 {
     (void)kept;
     return place_at(realloc(at, count > 0 ? count : align));

@@ -5,15 +5,9 @@
  * docs/C.md says how many a node takes at most. What is asked for gets a free place of the first size that is enough,
  * so where there are as many of each size as are used at once, nothing is ever refused. Each call takes time in
  * proportion to the number of sizes. Nothing here is for two threads at once. */
-#include <stdbool.h>
-#include <stddef.h>
+#include <sedgechisel_memory.h>
 #include <stdint.h>
 #include <string.h>
-
-struct place {
-    bool found;
-    void *at; /* where none was found, any address but null */
-};
 
 /* A size that is no multiple of 16, or no more than the one before it, does not compile: above_N is the number after
  * the size before N. */
@@ -52,9 +46,9 @@ static struct size {
 
 #define END (sizes + sizeof sizes / sizeof *sizes)
 
-static struct place place_of(struct size *size)
+static struct sedge_place place_of(struct size *size)
 {
-    struct place place = {true, size->free};
+    struct sedge_place place = {true, size->free};
     if (size->free != NULL)
         memcpy(&size->free, size->free, sizeof size->free);
     else
@@ -62,9 +56,9 @@ static struct place place_of(struct size *size)
     return place;
 }
 
-struct place rattle_alloc(size_t count, size_t align)
+struct sedge_place rattle_alloc(size_t count, size_t align)
 {
-    struct place none = {false, &memory};
+    struct sedge_place none = {false, &memory};
     (void)align; /* at most 16 */
     for (struct size *size = sizes; size < END; size++)
         if (count <= size->octets && (size->free != NULL || size->used < size->count)) return place_of(size);
@@ -86,9 +80,9 @@ void rattle_dealloc(void *at)
     size->free = at;
 }
 
-struct place rattle_realloc(void *at, size_t kept, size_t count, size_t align)
+struct sedge_place rattle_realloc(void *at, size_t kept, size_t count, size_t align)
 {
-    struct place place = {true, at};
+    struct sedge_place place = {true, at};
     if (count <= size_at(at)->octets) return place;
     place = rattle_alloc(count, align);
     if (!place.found) return place;

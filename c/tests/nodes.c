@@ -1,6 +1,7 @@
 /* Both nodes and the simulated link through libsedgechisel_nodes: a session, rooms that are too short, handles that
  * hold none, and each allocation refused in turn. The memory is malloc's, counted, with one allocation refused; or,
  * with OVER_MEMORY, that of a file of c/memory. */
+#include "sedgechisel_memory.h"
 #include "sedgechisel_nodes.h"
 #include <stdio.h>
 #include <stdlib.h>
@@ -21,22 +22,17 @@ static int failures;
 static long tried, refused = -1, live;
 
 #ifndef OVER_MEMORY
-struct place {
-    bool found;
-    void *at;
-};
-
 static char nowhere;
 
-struct place rattle_alloc(size_t count, size_t align) {
-    struct place none = {false, &nowhere}, some = {true, NULL};
+struct sedge_place rattle_alloc(size_t count, size_t align) {
+    struct sedge_place none = {false, &nowhere}, some = {true, NULL};
     if (tried++ == refused || (some.at = malloc(count > 0 ? count : align)) == NULL) return none;
     live++;
     return some;
 }
 
-struct place rattle_realloc(void *at, size_t kept, size_t count, size_t align) {
-    struct place none = {false, &nowhere}, some = {true, NULL};
+struct sedge_place rattle_realloc(void *at, size_t kept, size_t count, size_t align) {
+    struct sedge_place none = {false, &nowhere}, some = {true, NULL};
     (void)kept;
     if (tried++ == refused || (some.at = realloc(at, count > 0 ? count : align)) == NULL) return none;
     return some;
