@@ -1,8 +1,12 @@
 /* Random calls of libsedgechisel_nodes: `random_nodes COUNT`. Each call answers with one of its numbers; one that
  * refuses has written nothing and left the node as it was, as far as it is read; and one that writes octets has written
- * those that it says. Octets end where a page begins that may not be touched. Memory is malloc's, and one allocation in
- * some is refused. Ends with 0 where all is as wanted and all memory is given back, and says what is not. */
+ * those that it says. What is taken out was put in: packets past the sequence control and of telemetry, and on board
+ * those of one segment; of the link each submission, and in a session with an idle start each packet delivered. Octets
+ * end where a page begins that may not be touched. One allocation in some is refused, and only a call during which one
+ * was answers that there was no memory. Ends with 0 where all is as wanted and all memory is given back, and says what
+ * is not. */
 #define _DEFAULT_SOURCE
+#include "memory.h"
 #include <sedgechisel_nodes.h>
 #include <stdio.h>
 #include <stdlib.h>
@@ -31,40 +35,21 @@ static uint32_t below(uint32_t limit) {
 
 /* ---- Memory. ---- */
 
-struct place {
-    bool found;
-    void *at;
-};
-
-static char nowhere;
-static long live, refused;
-
-static struct place place_at(void *at) {
-    struct place place = {at != NULL, at != NULL ? at : &nowhere};
-    return place;
+static bool is_refused(void) {
+    return below(64) == 0;
 }
 
-static int is_refused(void) {
-    int is = below(64) == 0;
-    refused += is;
-    return is;
+/* The allocations that were refused when the call began. */
+static long before_call;
+
+static uint8_t looked_at(uint8_t memory, uint8_t answer, int line) {
+    if (answer == memory && refused == before_call && failures++ < 20)
+        printf("%s:%d: no memory, and no allocation was refused\n", __FILE__, line);
+    return answer;
 }
 
-struct place rattle_alloc(size_t count, size_t align) {
-    struct place place = place_at(is_refused() ? NULL : malloc(count > 0 ? count : align));
-    live += place.found;
-    return place;
-}
-
-struct place rattle_realloc(void *at, size_t kept, size_t count, size_t align) {
-    (void)kept;
-    return place_at(is_refused() ? NULL : realloc(at, count > 0 ? count : align));
-}
-
-void rattle_dealloc(void *at) {
-    live--;
-    free(at);
-}
+/* A call, and which of its answers says that there was no memory. */
+#define CALL(memory, call) (before_call = refused, looked_at((memory), (call), __LINE__))
 
 /* ---- Octets. ---- */
 
@@ -90,17 +75,37 @@ static uint8_t *any_octets(size_t count) {
     return at;
 }
 
-/* A packet, or several, or mostly one; rarely something else. Its type is 1 for a command. */
+/* A packet, mostly, or several, or many short ones; rarely something else. Its type is 1 for a command. */
 static uint8_t *any_packets(int type, size_t *count) {
     size_t many = below(8) == 0 ? 2 : 1, each = 7 + (below(64) == 0 ? below(3000) : below(60)), i;
-    uint8_t *at = any_octets(*count = many * each);
+    uint8_t *at;
+    if (below(32) == 0) many = 30 + below(200), each = 7 + below(2);
+    at = any_octets(*count = many * each);
     for (i = 0; i < many; i++) {
-        at[i * each] = (uint8_t)(type << 4);
+        at[i * each] = (uint8_t)(type << 4 | (below(4) == 0) << 3);
         at[i * each + 4] = (uint8_t)((each - 7) >> 8);
         at[i * each + 5] = (uint8_t)(each - 7);
     }
     if (below(16) == 0) at[below((uint32_t)*count)] ^= (uint8_t)(1 << below(8));
     return at;
+}
+
+/* The FNV-1a hash of octets. */
+static uint64_t hash_of(const uint8_t *octets, size_t count) {
+    uint64_t hash = 0xcbf29ce484222325u;
+    while (count-- > 0) hash = (hash ^ *octets++) * 0x100000001b3u;
+    return hash;
+}
+
+/* The packets that were put in, by bits of their hashes. */
+static uint8_t put_in[1 << 24];
+
+static void put(const uint8_t *octets, size_t count) {
+    put_in[hash_of(octets, count) >> 40] = 1;
+}
+
+static bool was_put(const uint8_t *octets, size_t count) {
+    return put_in[hash_of(octets, count) >> 40] != 0;
 }
 
 /* Room to be written, each octet 0x55 so far. */
@@ -127,15 +132,36 @@ static struct sedge_ground ground;
 static struct sedge_spacecraft spacecraft;
 static struct sedge_sim sim;
 static uint8_t up[1024], down[2048];
-static size_t up_count, down_count;
+static size_t up_count, down_count, ground_part;
+
+/* The submissions of the link's session. */
+static struct {
+    size_t count;
+    uint64_t hash;
+    uint8_t map;
+} submissions[1 << 16];
+static size_t submitted;
+
+static uint64_t any_maps(void) {
+    return below(2) ? ~(uint64_t)0 : (uint64_t)below(UINT32_MAX) << 32 | below(UINT32_MAX);
+}
 
 static void any_config(void) {
     static const struct sedge_config usual = {1, 2, 0, 20, 8, 3, 5, 40, 2000, ~(uint64_t)0, 5, 2, 30, 64, 0};
     config = usual;
     config.blocking = below(2);
     config.part = 1 + below(1016);
+    config.maps = any_maps();
+    if (below(4) == 0) config.max_packet = 7 + below(60);
+    if (below(4) == 0) config.queue_slots = 1200;
     config.frame_length = below(4) == 0 ? 16 + below(2033) : 64;
     if (below(16) == 0) ((uint32_t *)(void *)&config)[below(sizeof config / 4)] = below(70000);
+}
+
+/* Each of the packets that octets are is put in. */
+static void puts_all(const uint8_t *octets, size_t count) {
+    struct sedge_part packet = {0, 0};
+    while (sedge_map_packet(octets, count, &packet)) put(octets + packet.from, packet.count);
 }
 
 /* What a call answered that may be refused by numbers up to this one, and by a handle that holds none. */
@@ -160,18 +186,39 @@ static uint8_t directs(struct sedge_reply *reply) {
     }
 }
 
+/* Opens a ground, and a spacecraft whose MAPs and longest packet may be others. */
+static void opens_nodes(void) {
+    uint8_t answer = CALL(SEDGE_NODE_MEMORY, sedge_ground_open(&config, &ground));
+    WANT(is_answer(answer, SEDGE_NODE_OUT_OF_RANGE, &config));
+    if (answer == SEDGE_NODE_OK) ground_part = config.part;
+    if (below(4) == 0) config.maps = any_maps();
+    if (below(4) == 0) config.max_packet = 7 + below(60);
+    answer = CALL(SEDGE_NODE_MEMORY, sedge_spacecraft_open(&config, &spacecraft));
+    WANT(is_answer(answer, SEDGE_NODE_OUT_OF_RANGE, &config));
+}
+
+/* All is closed, and no memory is held. */
+static void closes_all(void) {
+    sedge_ground_close(&ground);
+    sedge_spacecraft_close(&spacecraft);
+    sedge_sim_close(&sim);
+    submitted = 0;
+    WANT(live == 0);
+}
+
 static void opens(void) {
+    if (below(8) == 0) closes_all();
     any_config();
     if (below(2)) {
-        WANT(is_answer(sedge_ground_open(&config, &ground), SEDGE_NODE_OUT_OF_RANGE, &config));
-        WANT(is_answer(sedge_spacecraft_open(&config, &spacecraft), SEDGE_NODE_OUT_OF_RANGE, &config));
+        opens_nodes();
     } else {
-        uint8_t answer = sedge_sim_open(&config, &sim);
+        uint8_t answer = CALL(SEDGE_NODE_MEMORY, sedge_sim_open(&config, &sim));
         WANT(answer == (sedge_config_fault(&config) ? SEDGE_NODE_OUT_OF_RANGE : 0) || answer == SEDGE_NODE_MEMORY);
+        if (answer == SEDGE_NODE_OK) submitted = 0;
     }
     if (below(8) == 0) sedge_ground_close(&ground);
     if (below(8) == 0) sedge_spacecraft_close(&spacecraft);
-    if (below(8) == 0) sedge_sim_close(&sim);
+    if (below(8) == 0) sedge_sim_close(&sim), submitted = 0;
 }
 
 static void submits(void) {
@@ -181,10 +228,11 @@ static void submits(void) {
     sedge_ground_read(&ground, &before);
     sedge_ground_next(&ground, &next);
     if (below(4) == 0) {
-        answer = sedge_ground_bypass(&ground, map, octets, count);
+        answer = CALL(SEDGE_NODE_MEMORY, sedge_ground_bypass(&ground, map, octets, count));
     } else {
-        answer = sedge_ground_submit(&ground, map, octets, count);
+        answer = CALL(SEDGE_NODE_MEMORY, sedge_ground_submit(&ground, map, octets, count));
     }
+    if (answer == SEDGE_NODE_OK) puts_all(octets, count);
     WANT(is_answer(answer, SEDGE_NODE_MEMORY, ground.node));
     sedge_ground_read(&ground, &after);
     sedge_ground_next(&ground, &later);
@@ -209,7 +257,7 @@ static void receives(void) {
     if (below(8) == 0) up_count = below(60);
     octets = any_octets(up_count);
     if (below(8) != 0) memcpy(octets, up, up_count);
-    answer = sedge_spacecraft_receive(&spacecraft, octets, up_count, &received);
+    answer = CALL(SEDGE_NODE_MEMORY, sedge_spacecraft_receive(&spacecraft, octets, up_count, &received));
     WANT(is_answer(answer, SEDGE_NODE_MEMORY, spacecraft.node) && (answer == 0 || answer >= SEDGE_NODE_MEMORY));
     WANT(answer == SEDGE_NODE_OK ? received.kind >= 1 && received.kind <= 5 && received.verdict <= 5
                                  : received.kind == 77 && received.ready == 77);
@@ -225,6 +273,7 @@ static void takes(void) {
     answer = (is_bypass ? sedge_spacecraft_take_bypass : sedge_spacecraft_take)(&spacecraft, &later, out, room, &count);
     look_at_written(answer, next, room, count, out);
     WANT(later == (answer == SEDGE_NODE_OK ? map : 99));
+    if (answer == SEDGE_NODE_OK && (is_bypass || count <= ground_part)) WANT(count == 0 || was_put(out, count));
 }
 
 static void reports(void) {
@@ -249,7 +298,7 @@ static void hears(void) {
     answer = sedge_ground_report(&ground, octets, down_count, &word);
     WANT(ground.node == NULL ? answer == SEDGE_NODE_NONE : answer == SEDGE_NODE_OK || answer == SEDGE_NODE_ABSENT);
     WANT(answer == SEDGE_NODE_OK ? word.vcid < 64 : word.vcid == 77);
-    answer = sedge_ground_telemetry(&ground, octets, down_count, &heard);
+    answer = CALL(SEDGE_NODE_MEMORY, sedge_ground_telemetry(&ground, octets, down_count, &heard));
     WANT(is_answer(answer, SEDGE_NODE_MEMORY, ground.node) && (answer == 0 || answer >= SEDGE_NODE_MEMORY));
     WANT(answer == SEDGE_NODE_OK ? heard.kind >= 1 && heard.kind <= 3 && heard.alert <= 7 : heard.kind == 77);
 }
@@ -257,7 +306,8 @@ static void hears(void) {
 static void telemetry(void) {
     size_t count, next = 0, room, given = 99;
     uint8_t *octets = any_packets(0, &count), *out, answer;
-    answer = sedge_spacecraft_telemetry(&spacecraft, octets, count);
+    answer = CALL(SEDGE_TM_MEMORY, sedge_spacecraft_telemetry(&spacecraft, octets, count));
+    if (answer == SEDGE_NODE_OK) put(octets, count);
     WANT(is_answer(answer, SEDGE_TM_FIELD_RANGE, spacecraft.node) && (answer == 0 || answer >= 7));
     answer = sedge_ground_next_telemetry(&ground, &next);
     WANT(is_answer(answer, SEDGE_NODE_OK, ground.node) && (next == 0 || next >= 7));
@@ -265,6 +315,7 @@ static void telemetry(void) {
     out = room_of(room = any_room(next));
     answer = sedge_ground_take_telemetry(&ground, out, room, &given);
     look_at_written(answer, next, room, given, out);
+    WANT(answer != SEDGE_NODE_OK || given == 0 || was_put(out, given));
 }
 
 static void clocks(void) {
@@ -282,12 +333,33 @@ static void clocks(void) {
 
 /* ---- The link. ---- */
 
+/* The link has another submission. */
+static uint8_t submits_to_link(uint8_t map, const uint8_t *octets, size_t count, struct sedge_reply *reply) {
+    uint8_t answer = sedge_sim_submit(&sim, map, octets, count, reply);
+    if (answer != 0 || reply->kind != SEDGE_REPLY_DONE) return answer;
+    submissions[submitted].count = count;
+    submissions[submitted].hash = hash_of(octets, count);
+    submissions[submitted++].map = map;
+    return answer;
+}
+
+/* A directive to the link; a session that begins has no submissions. */
+static uint8_t directs_link(struct sedge_reply *reply) {
+    struct sedge_sim_reading before = {.state = 0}, after = {.state = 0};
+    uint8_t answer;
+    sedge_sim_read(&sim, &before);
+    answer = directs(reply);
+    sedge_sim_read(&sim, &after);
+    if (before.state == SEDGE_FOP_S6 && after.state != SEDGE_FOP_S6) submitted = 0;
+    return answer;
+}
+
 static uint8_t happens(struct sedge_reply *reply) {
     size_t count;
     uint8_t *octets = any_packets(1, &count), map = (uint8_t)below(64);
     switch (below(16)) {
-    case 0: return directs(reply);
-    case 1: return sedge_sim_submit(&sim, map, octets, count, reply);
+    case 0: return directs_link(reply);
+    case 1: return submits_to_link(map, octets, count, reply);
     case 2: return sedge_sim_bypass(&sim, map, octets, count, reply);
     case 3: return sedge_sim_telemetry(&sim, octets, count, reply);
     case 4: case 5: return sedge_sim_send(&sim, reply);
@@ -301,6 +373,17 @@ static uint8_t happens(struct sedge_reply *reply) {
     case 14: return sedge_sim_take_bypass(&sim, reply);
     default: return sedge_sim_tick(&sim, reply);
     }
+}
+
+/* In a session with an idle start packet k delivered on a MAP is packet k submitted on it. */
+static void look_at_delivered(uint8_t map, size_t k, const uint8_t *octets, size_t count) {
+    static uint8_t packet[MOST];
+    struct sedge_sim_reading read = {.state = 0};
+    size_t given = 99;
+    sedge_sim_read(&sim, &read);
+    if (!read.idle) return;
+    WANT(sedge_sim_entry(&sim, SEDGE_SUBMITTED, map, k, packet, sizeof packet, &given) == SEDGE_NODE_OK);
+    WANT(given == count && memcmp(packet, octets, count) == 0);
 }
 
 static void look_at_records(void) {
@@ -319,31 +402,34 @@ static void look_at_records(void) {
     } else {
         WANT(answer == SEDGE_NODE_ABSENT && count == 99);
     }
+    if (answer == SEDGE_NODE_OK && record == SEDGE_DELIVERED) look_at_delivered(map, k, out, count);
 }
 
 static void look_at_submissions(void) {
-    size_t submissions = 99, next = 99, count = 99, room, k;
-    uint8_t map = 99, *out, answer = sedge_sim_submissions(&sim, &submissions);
+    size_t all = 99, next = 99, count = 99, room, k;
+    uint8_t map = 99, *out, answer = sedge_sim_submissions(&sim, &all);
     WANT(is_answer(answer, SEDGE_NODE_OK, sim.link));
     if (answer != SEDGE_NODE_OK) return;
-    k = submissions == 0 ? 0 : below((uint32_t)submissions + 1);
+    WANT(all == submitted);
+    k = all == 0 ? 0 : below((uint32_t)all + 1);
     answer = sedge_sim_submission_length(&sim, k, &map, &next);
-    WANT(answer == (k < submissions ? SEDGE_NODE_OK : SEDGE_NODE_ABSENT));
-    WANT(answer == SEDGE_NODE_OK ? map < 64 && next >= 7 : map == 99 && next == 99);
+    WANT(answer == (k < all ? SEDGE_NODE_OK : SEDGE_NODE_ABSENT));
+    WANT(k < all ? map == submissions[k].map && next == submissions[k].count : map == 99 && next == 99);
     out = room_of(room = answer == SEDGE_NODE_OK ? any_room(next) : 20);
     answer = sedge_sim_submission(&sim, k, &map, out, room, &count);
-    if (k < submissions) {
+    if (k < all) {
         look_at_written(answer, next, room, count, out);
     } else {
         WANT(answer == SEDGE_NODE_ABSENT && count == 99 && map == 99);
     }
+    WANT(answer != SEDGE_NODE_OK || hash_of(out, count) == submissions[k].hash);
 }
 
 static void links(void) {
     struct sedge_reply reply = {.kind = 77};
     struct sedge_sim_reading read = {.state = 99};
     size_t count = 99, room;
-    uint8_t answer = happens(&reply), *out;
+    uint8_t answer = CALL(SEDGE_SIM_MEMORY, happens(&reply)), *out;
     WANT(sim.link == NULL ? answer == SEDGE_NODE_NONE || answer == 0
                           : answer == 0 || (answer >= SEDGE_SIM_MEMORY && answer <= SEDGE_SIM_NOT_DETECTABLE));
     WANT(reply.kind <= SEDGE_REPLY_PACKET || reply.kind == 77);
@@ -364,15 +450,14 @@ int main(int count, char **words) {
     static void (*const kinds[])(void) = {submits, submits, pulls, pulls, receives, receives, takes, takes,
                                           reports, hears, telemetry, clocks, links, links, links, links};
     unsigned long left;
+    uint32_t stay = 500;
     if (count != 2 || make_regions() != 0) return 2;
     for (left = strtoul(words[1], NULL, 10); left > 0; left--) {
-        if (below(500) == 0) opens();
+        if (below(stay) == 0) opens(), stay = below(8) == 0 ? 20000 : 500;
         kinds[below(sizeof kinds / sizeof *kinds)]();
     }
-    sedge_ground_close(&ground);
-    sedge_spacecraft_close(&spacecraft);
-    sedge_sim_close(&sim);
-    WANT(live == 0 && refused > 0);
+    closes_all();
+    WANT(refused > 0);
     printf(failures ? "%d failed\n" : "all as wanted\n", failures);
     return failures != 0;
 }
