@@ -1,0 +1,136 @@
+/* The octets that nodes ask for, as docs/C.md has them, over random configurations: `asked COUNT`. When a node is opened,
+ * and at the first submission, the first packet past the sequence control, the first segment of a packet on board, its
+ * last one, and the first packet of telemetry. A simulated link asks for those of both nodes and for a number that is
+ * the same for all configurations. When all is closed no memory is held. Ends with 0 where all is so. */
+#include "memory.h"
+#include <sedgechisel_nodes.h>
+#include <stdint.h>
+#include <stdio.h>
+#include <stdlib.h>
+
+/* The octets of a ground and of a spacecraft, of a place in a list of segments or of packets on board, and of the
+ * extractor's packet. */
+enum { GROUND = 344, SPACECRAFT = 2336, PLACE = 32, EXTRACTOR = 65542, FRAME = 1016 };
+
+static int failures;
+
+#define WANT(holds)                                                                                                    \
+    do {                                                                                                               \
+        if (!(holds) && failures++ < 20) printf("%s:%d: not so: %s\n", __FILE__, __LINE__, #holds);                    \
+    } while (0)
+
+static bool is_refused(void) {
+    return false;
+}
+
+static uint64_t state = 0x9e3779b97f4a7c15u;
+
+/* A number below the limit (xorshift64*, Marsaglia and Vigna). */
+static uint32_t below(uint32_t limit) {
+    state ^= state >> 12;
+    state ^= state << 25;
+    state ^= state >> 27;
+    return (uint32_t)((state * 2685821657736338717u) >> 33) % limit;
+}
+
+/* The octets that a call asked for, which has to answer 0. */
+#define ASKED(call) (asked = 0, (call) == 0 ? asked : SIZE_MAX)
+
+static struct sedge_config config;
+static struct sedge_ground ground;
+static struct sedge_spacecraft spacecraft;
+static struct sedge_sim sim;
+static uint8_t packet[65542], octets[1024];
+
+/* Every parameter is anywhere in its range. */
+static void any_config(void) {
+    static const struct sedge_config usual = {1, 2, 0, 2, 1, 3, 5, 1, 7, ~(uint64_t)0, 1, 1, 1, 16, 0};
+    config = usual;
+    config.width = 2 + 2 * below(127);
+    config.window = 1 + below(config.width / 2);
+    config.part = 1 + below(1016);
+    config.max_packet = 7 + (below(2) ? below(65536) : below(2000));
+    config.ready_slots = 1 + below(64);
+    config.bypass_slots = 1 + below(64);
+    config.queue_slots = 1 + (below(2) ? below(65535) : below(300));
+    config.frame_length = 16 + below(2033);
+    config.blocking = below(2);
+}
+
+/* A packet of as many octets; its type is 1 for a command. */
+static void make_packet(int type, size_t count) {
+    packet[0] = (uint8_t)(type << 4);
+    packet[1] = 5;
+    packet[4] = (uint8_t)((count - 7) >> 8);
+    packet[5] = (uint8_t)(count - 7);
+}
+
+/* The most octets that a packet may have in one segment of at most as many octets; 0 where no packet fits. */
+static size_t most_alone(size_t part) {
+    size_t most = config.max_packet < part ? config.max_packet : part;
+    return most < 7 ? 0 : most;
+}
+
+static void asks_on_ground(void) {
+    size_t most = most_alone(config.part), count = most == 0 ? 0 : 7 + below((uint32_t)most - 6);
+    size_t list = config.blocking ? 4 * 16 : 0; /* of the packets of a submission */
+    WANT(ASKED(sedge_ground_open(&config, &ground))
+         == GROUND + 16 * config.width + PLACE * config.queue_slots + EXTRACTOR);
+    WANT(live == 4 && sedge_ground_init_without_check(&ground) == 0 && live == 4);
+    if (count == 0) return;
+    make_packet(1, count);
+    WANT(ASKED(sedge_ground_submit(&ground, 63, packet, count)) == count + list && live == 5);
+    WANT(ASKED(sedge_ground_bypass(&ground, 63, packet, count)) == count + 4 * PLACE && live == 7);
+}
+
+/* The next Type-AD frame arrives, with these octets of the packet. */
+static uint8_t arrives(uint8_t n, uint8_t flags, size_t from, size_t count) {
+    struct sedge_tc_frame frame = {1, 2, SEDGE_TC_AD, n, flags, 9, 0, 0};
+    struct sedge_received received;
+    size_t total;
+    if (sedge_tc_encode(&frame, packet + from, count, true, octets, sizeof octets, &total) != 0) return 1;
+    if (sedge_spacecraft_receive(&spacecraft, octets, total, &received) != 0) return 2;
+    return received.verdict != SEDGE_ACCEPTED || received.dropped != 0;
+}
+
+static void asks_on_board(void) {
+    size_t count = 7 + below((uint32_t)most_alone(FRAME) - 6), half = 1 + below((uint32_t)count - 1);
+    WANT(ASKED(sedge_spacecraft_open(&config, &spacecraft))
+         == SPACECRAFT + PLACE * (config.ready_slots + 170) + PLACE * config.bypass_slots);
+    WANT(live == 3);
+    make_packet(1, count);
+    WANT(ASKED(arrives(0, SEDGE_SEGMENT_FIRST, 0, half)) == config.max_packet && live == 4);
+    WANT(ASKED(arrives(1, SEDGE_SEGMENT_LAST, half, count - half)) == count && live == 4);
+    make_packet(0, count = 7 + below(config.max_packet - 6));
+    WANT(ASKED(sedge_spacecraft_telemetry(&spacecraft, packet, count)) == (count < 8 ? 8 : count) + 16 && live == 6);
+}
+
+/* What a link asks for beside its two nodes is the same for all. */
+static void asks_of_link(void) {
+    static size_t same;
+    size_t nodes = 16 * config.width + PLACE * config.queue_slots + EXTRACTOR
+                   + PLACE * (config.ready_slots + 170) + PLACE * config.bypass_slots;
+    size_t more = ASKED(sedge_sim_open(&config, &sim)) - nodes;
+    if (same == 0) same = more;
+    WANT(more == same && more < 65536);
+}
+
+int main(int count, char **words) {
+    unsigned long left;
+    if (count != 2) return 2;
+    for (left = strtoul(words[1], NULL, 10); left > 0; left--) {
+        any_config();
+        asks_on_ground();
+        sedge_ground_close(&ground);
+        WANT(live == 0);
+        asks_on_board();
+        sedge_spacecraft_close(&spacecraft);
+        WANT(live == 0);
+        asks_of_link();
+        sedge_sim_close(&sim);
+        WANT(live == 0);
+    }
+    WANT(refused == 0);
+    printf(failures ? "%d failed\n" : "all as wanted\n", failures);
+    return failures != 0;
+}
