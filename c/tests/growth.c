@@ -1,0 +1,144 @@
+/* The time of calls does not grow with what waits: each queue that a program can make long is filled to some length and
+ * to ten times that, and the same 300 pairs of calls, one that puts in and one that takes out, are timed at both. Ends
+ * with 0 where the longer takes at most four times as long, the least of some tries each; a call that goes over all
+ * that waits takes ten times as long. The time is that of the processor, since other programs run beside this one. */
+#define _POSIX_C_SOURCE 199309L
+#include <sedgechisel_nodes.h>
+#include <stdio.h>
+#include <stdlib.h>
+#include <time.h>
+
+enum { PAIRS = 300, TRIES = 7, MOST_TIMES = 4 };
+
+static struct sedge_config config = {1, 2, 0, 254, 127, 3, 10, 1016, 65542, ~(uint64_t)0, 64, 4, 65535, 2048, 0};
+static struct sedge_ground ground;
+static struct sedge_spacecraft spacecraft;
+static uint8_t octets[2048], packet[600] = {0x00, 5, 0xc0, 0, 593 >> 8, 593 & 0xff};
+static uint8_t command[7] = {0x10, 5, 0xc0, 0, 0, 0, 0xaa}, small[7] = {0x00, 5, 0xc0, 0, 0, 0, 0xaa}, out[65542];
+static size_t count;
+
+/* A call has to answer 0. */
+static void ends(uint8_t answer, int line) {
+    if (answer == 0) return;
+    printf("growth.c:%d: answered %d\n", line, answer);
+    exit(3);
+}
+
+#define DONE(call) ends((call), __LINE__)
+
+/* ---- Telemetry that waits on board. ---- */
+
+static void waits_on_board(size_t length) {
+    while (length-- > 0) DONE(sedge_spacecraft_telemetry(&spacecraft, packet, sizeof packet));
+}
+
+static void report_and_queue(void) {
+    DONE(sedge_spacecraft_report(&spacecraft, octets, sizeof octets, &count));
+    DONE(sedge_spacecraft_telemetry(&spacecraft, packet, sizeof packet));
+}
+
+/* ---- Telemetry that waits on the ground. ---- */
+
+static void comes_down(void) {
+    struct sedge_heard heard;
+    DONE(sedge_spacecraft_report(&spacecraft, octets, sizeof octets, &count));
+    DONE(sedge_ground_telemetry(&ground, octets, count, &heard));
+    DONE(heard.kind != 3 || heard.alert != 0);
+}
+
+static void waits_on_ground(size_t length) {
+    while (length-- > 0) {
+        DONE(sedge_spacecraft_telemetry(&spacecraft, small, sizeof small));
+        if (length % 200 == 0) comes_down();
+    }
+}
+
+static void hear_and_take(void) {
+    DONE(sedge_spacecraft_telemetry(&spacecraft, small, sizeof small));
+    comes_down();
+    DONE(sedge_ground_take_telemetry(&ground, out, sizeof out, &count));
+    DONE(count != sizeof small);
+}
+
+/* ---- Segments that wait to be sent. ---- */
+
+static void is_pending(size_t length) {
+    DONE(sedge_ground_init_without_check(&ground));
+    while (length-- > 0) DONE(sedge_ground_submit(&ground, 4, command, sizeof command));
+}
+
+static void pull_and_submit(void) {
+    struct sedge_received received;
+    uint8_t map;
+    DONE(sedge_ground_pull(&ground, octets, sizeof octets, &count));
+    DONE(sedge_spacecraft_receive(&spacecraft, octets, count, &received));
+    DONE(sedge_spacecraft_take(&spacecraft, &map, out, sizeof out, &count));
+    DONE(count != sizeof command);
+    comes_down();
+    DONE(sedge_ground_submit(&ground, 4, command, sizeof command));
+}
+
+/* ---- Packets past the sequence control that wait to be sent. ---- */
+
+static void is_past(size_t length) {
+    while (length-- > 0) DONE(sedge_ground_bypass(&ground, 4, command, sizeof command));
+}
+
+static void pull_and_bypass(void) {
+    DONE(sedge_ground_pull(&ground, octets, sizeof octets, &count));
+    DONE(count != 15);
+    DONE(sedge_ground_bypass(&ground, 4, command, sizeof command));
+}
+
+/* ---- Times. ---- */
+
+static double seconds(void) {
+    struct timespec now;
+    clock_gettime(CLOCK_PROCESS_CPUTIME_ID, &now);
+    return (double)now.tv_sec + (double)now.tv_nsec / 1e9;
+}
+
+static double time_of(void (*pair)(void)) {
+    double before = seconds();
+    int k;
+    for (k = 0; k < PAIRS; k++) pair();
+    return seconds() - before;
+}
+
+/* The least time of the pairs at a queue of this length. */
+static double least_time(void (*fill)(size_t), void (*pair)(void), size_t length) {
+    double least = 1e9;
+    int k;
+    DONE(sedge_ground_open(&config, &ground));
+    DONE(sedge_spacecraft_open(&config, &spacecraft));
+    fill(length);
+    for (k = 0; k < TRIES; k++) {
+        double time = time_of(pair);
+        if (time < least) least = time;
+    }
+    sedge_ground_close(&ground);
+    sedge_spacecraft_close(&spacecraft);
+    return least;
+}
+
+int main(void) {
+    static const struct {
+        const char *name;
+        void (*fill)(size_t);
+        void (*pair)(void);
+        size_t length;
+    } queues[] = {{"telemetry on board, 6 and 60 MB", waits_on_board, report_and_queue, 10000},
+                  {"packets of telemetry on the ground, 20,000 and 200,000", waits_on_ground, hear_and_take, 20000},
+                  {"segments pending, 6,500 and 65,000", is_pending, pull_and_submit, 6500},
+                  {"packets past the sequence control, 6,500 and 65,000", is_past, pull_and_bypass, 6500}};
+    int failures = 0;
+    size_t k;
+    for (k = 0; k < sizeof queues / sizeof *queues; k++) {
+        double one = least_time(queues[k].fill, queues[k].pair, queues[k].length);
+        double ten = least_time(queues[k].fill, queues[k].pair, 10 * queues[k].length);
+        int is_good = ten <= MOST_TIMES * one + 1e-3;
+        printf("%s: %.2f and %.2f ms%s\n", queues[k].name, one * 1e3, ten * 1e3, is_good ? "" : ", which is too long");
+        failures += !is_good;
+    }
+    return failures != 0;
+}
