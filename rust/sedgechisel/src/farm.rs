@@ -87,7 +87,8 @@ pub struct FarmFields {
     pub farm_b: u8,
 }
 
-/// The receiver FARM-1 of one virtual channel (CCSDS 232.1-B-2, section 6).
+/// The receiver FARM-1 of one virtual channel (CCSDS 232.1-B-2, section 6). It is given the frames of its own
+/// spacecraft and channel alone; no call here sees whose a frame is.
 #[derive(Clone, Debug, PartialEq, Eq)]
 pub struct Farm(ffi::Farm);
 

@@ -18,7 +18,7 @@
 //! let octets = [0x00, 0x01, 0x08, 0x0e, 0x00, 0xc4, 0x10, 0x05, 0xc0, 0x00, 0x00, 0x00, 0xaa, 0xe7, 0x5d];
 //! let mut farm = Farm::new(10, 0)?;
 //! let frame = TcFrame::decode(&octets, true)?;
-//! if let Body::Ad { n, segment } = frame.body {
+//! if let TcFrame { scid: 1, vcid: 2, body: Body::Ad { n, segment } } = frame {
 //!     assert_eq!(farm.ad(n, true), Verdict::Accepted);
 //!     assert_eq!((segment.flags, segment.map, segment.data.len()), (SegmentFlags::Alone, 4, 7));
 //! }

@@ -91,9 +91,9 @@ impl<'m> TmExtractor<'m> {
         ffi::Part { from: self.kept.from, count: self.kept.count }.of(self.memory)
     }
 
-    /// Takes the next frame that came. Where frames are missing before it, the part is dropped. Refused with the first
-    /// of 10 [`FieldRange`](TmFault::FieldRange), for a pointer after the data, and 7 [`Memory`](TmFault::Memory); then
-    /// the frame counts as missing.
+    /// Takes the next frame of its spacecraft and channel that came. Where frames are missing before it, the part is
+    /// dropped. Refused with the first of 10 [`FieldRange`](TmFault::FieldRange), for a pointer after the data, and 7
+    /// [`Memory`](TmFault::Memory); then the frame counts as missing.
     pub fn take<'t>(&'t mut self, frame: &TmFrame<'t>) -> Result<Extracted<'t>, TmFault> {
         let mut extracted = ffi::TmExtracted::default();
         let answer = ffi::tm_extract(&mut self.kept, &frame.raw(), frame.data, self.memory, &mut extracted);
