@@ -1,7 +1,8 @@
-/* The octets that nodes ask for, as docs/C.md has them, over random configurations: `asked COUNT`. When a node is opened,
- * and at the first submission, the first packet past the sequence control, the first segment of a packet on board, its
- * last one, and the first packet of telemetry. A simulated link asks for those of both nodes and for a number that is
- * the same for all configurations. When all is closed no memory is held. Ends with 0 where all is so. */
+/* The octets that nodes ask for, as docs/C.md has them, over random configurations: `asked COUNT`. When a node is
+ * opened, and at the first submission, the first packet past the sequence control, the first segment of a packet on
+ * board, its last one, and the first packet of telemetry. A simulated link asks for those of both nodes and for a
+ * number that is the same for all configurations. When all is closed no memory is held. Ends with 0 where all is so,
+ * and writes the rows that docs/C.md has to have of it. */
 #include "memory.h"
 #include <sedgechisel_nodes.h>
 #include <stdint.h>
@@ -131,6 +132,9 @@ int main(int count, char **words) {
         WANT(live == 0);
     }
     WANT(refused == 0);
-    printf(failures ? "%d failed\n" : "all as wanted\n", failures);
+    printf("| ground | %d; 16 * `width`; %d * `queue_slots`; 65,542 | 1 each |\n", GROUND, PLACE);
+    printf("| spacecraft | %d,%03d; %d * (`ready_slots` + 170); %d * `bypass_slots` | 1 each |\n", SPACECRAFT / 1000,
+           SPACECRAFT % 1000, PLACE, PLACE);
+    if (failures > 0) printf("%d failed\n", failures);
     return failures != 0;
 }

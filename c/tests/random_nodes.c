@@ -142,6 +142,11 @@ static struct {
 } submissions[1 << 16];
 static size_t submitted;
 
+/* One of few MAPs, mostly, or of those below the limit. */
+static uint8_t any_map(uint32_t limit) {
+    return (uint8_t)below(below(8) == 0 ? limit : 4);
+}
+
 static uint64_t any_maps(void) {
     return below(2) ? ~(uint64_t)0 : (uint64_t)below(UINT32_MAX) << 32 | below(UINT32_MAX);
 }
@@ -150,7 +155,7 @@ static void any_config(void) {
     static const struct sedge_config usual = {1, 2, 0, 20, 8, 3, 5, 40, 2000, ~(uint64_t)0, 5, 2, 30, 64, 0};
     config = usual;
     config.blocking = below(2);
-    config.part = 1 + below(1016);
+    config.part = 1 + below(below(2) ? 1016 : 30);
     config.maps = any_maps();
     if (below(4) == 0) config.max_packet = 7 + below(60);
     if (below(4) == 0) config.queue_slots = 1200;
@@ -186,13 +191,14 @@ static uint8_t directs(struct sedge_reply *reply) {
     }
 }
 
-/* Opens a ground, and a spacecraft whose MAPs and longest packet may be others. */
+/* Opens a ground, and a spacecraft whose MAPs, longest packet and blocking may be others. */
 static void opens_nodes(void) {
     uint8_t answer = CALL(SEDGE_NODE_MEMORY, sedge_ground_open(&config, &ground));
     WANT(is_answer(answer, SEDGE_NODE_OUT_OF_RANGE, &config));
     if (answer == SEDGE_NODE_OK) ground_part = config.part;
     if (below(4) == 0) config.maps = any_maps();
     if (below(4) == 0) config.max_packet = 7 + below(60);
+    config.blocking ^= below(4) == 0;
     answer = CALL(SEDGE_NODE_MEMORY, sedge_spacecraft_open(&config, &spacecraft));
     WANT(is_answer(answer, SEDGE_NODE_OUT_OF_RANGE, &config));
 }
@@ -224,7 +230,7 @@ static void opens(void) {
 static void submits(void) {
     struct sedge_ground_reading before = {0}, after = {0};
     size_t count, next = 0, later = 0;
-    uint8_t *octets = any_packets(1, &count), map = (uint8_t)below(below(8) == 0 ? 256 : 64), answer;
+    uint8_t *octets = any_packets(1, &count), map = any_map(256), answer;
     sedge_ground_read(&ground, &before);
     sedge_ground_next(&ground, &next);
     if (below(4) == 0) {
@@ -251,6 +257,9 @@ static void pulls(void) {
     if (answer == SEDGE_NODE_OK && count > 0) memcpy(up, out, up_count = count);
 }
 
+/* Why octets on a MAP were dropped, as it happened. */
+static bool has_dropped[SEDGE_DROPPED_TOO_LONG + 1];
+
 static void receives(void) {
     struct sedge_received received = {77, 77, 77, 77, 77, 77, false, 77, 77};
     uint8_t *octets, answer;
@@ -261,6 +270,9 @@ static void receives(void) {
     WANT(is_answer(answer, SEDGE_NODE_MEMORY, spacecraft.node) && (answer == 0 || answer >= SEDGE_NODE_MEMORY));
     WANT(answer == SEDGE_NODE_OK ? received.kind >= 1 && received.kind <= 5 && received.verdict <= 5
                                  : received.kind == 77 && received.ready == 77);
+    if (answer != SEDGE_NODE_OK) return;
+    WANT(received.dropped <= SEDGE_DROPPED_TOO_LONG);
+    has_dropped[received.dropped] = true;
 }
 
 static void takes(void) {
@@ -356,7 +368,7 @@ static uint8_t directs_link(struct sedge_reply *reply) {
 
 static uint8_t happens(struct sedge_reply *reply) {
     size_t count;
-    uint8_t *octets = any_packets(1, &count), map = (uint8_t)below(64);
+    uint8_t *octets = any_packets(1, &count), map = any_map(64);
     switch (below(16)) {
     case 0: return directs_link(reply);
     case 1: return submits_to_link(map, octets, count, reply);
@@ -458,6 +470,7 @@ int main(int count, char **words) {
     }
     closes_all();
     WANT(refused > 0);
+    WANT(has_dropped[SEDGE_DROPPED_CLOSED_MAP] && has_dropped[SEDGE_DROPPED_TOO_LONG]);
     printf(failures ? "%d failed\n" : "all as wanted\n", failures);
     return failures != 0;
 }
