@@ -418,31 +418,23 @@ def each_wrong_argument(it):
 # ---- Threads. ----
 
 
-class Between:
-    """Stands in place of a call of the library: after it another thread does something, or waits for the lock."""
+def between(module, name, does, method, is_after=True):
+    """What a method answers where another thread does something after this call of the method, or before it."""
+    call, thread = getattr(module, name), threading.Thread(target=does)
 
-    def __init__(self, call, does):
-        self.call, self.thread = call, threading.Thread(target=does)
+    def stand(*values):
+        answer = call(*values) if is_after or thread.ident else None
+        if not thread.ident:
+            thread.start()
+            thread.join(0.1)
+        return call(*values) if answer is None else answer
 
-    def __call__(self, *values):
-        answer = self.call(*values)
-        if not self.thread.ident:
-            self.thread.start()
-            self.thread.join(0.1)
-        return answer
-
-
-def between(module, name, does, method):
-    """What a method answers where another thread does something after this call of the method."""
-    call = getattr(module, name)
-    stand = Between(call, does)
     setattr(module, name, stand)
     try:
         answer = method()
-        stand.thread.join()
+        thread.join()
     finally:
         setattr(module, name, call)
-    assert stand.thread.ident
     return answer
 
 
@@ -466,17 +458,9 @@ def threads_that_share(it):
     with it.Link() as link:
         link.init_without_check()
         link.submit(4, COMMAND), link.submit(5, COMMAND)
-        events = {**link_calls._events}
-        for name in ("send", "take"):
-            events[name] = Between(events[name], link.tick)
-        kept, link_calls._events = link_calls._events, events
-        try:
-            assert len(link.send()) == 15 and link.up_deliver().ready == 1
-            assert link.take() == (4, COMMAND)
-        finally:
-            link_calls._events = kept
-        for name in ("send", "take"):
-            events[name].thread.join()
+        assert len(between(link_calls, "_sim_octets", link.tick, link.send, is_after=False)) == 15
+        assert link.up_deliver().ready == 1
+        assert between(link_calls, "_sim_octets", link.tick, link.take, is_after=False) == (4, COMMAND)
 
         def begins():
             link.terminate(), link.init_without_check()
