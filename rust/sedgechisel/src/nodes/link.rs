@@ -123,14 +123,15 @@ impl Link {
     fn given(
         &mut self, most: usize, call: impl FnOnce(&mut raw::Sim, &mut raw::Reply) -> u8,
     ) -> Result<Option<(u8, Vec<u8>)>, SimFault> {
-        let room = room_for(most).ok_or(SimFault::Memory)?;
+        let mut room = Vec::new();
+        room.try_reserve_exact(most).map_err(|_| SimFault::Memory)?;
         let reply = self.event(call)?;
         if reply.count == 0 {
             return Ok(None);
         }
         let (mut octets, mut written) = (room_for(reply.count).unwrap_or(room), 0);
+        octets.resize(reply.count, 0);
         done(raw::sim_octets(self.0.get(), &mut octets, &mut written));
-        octets.truncate(written);
         Ok(Some((reply.map, octets)))
     }
 

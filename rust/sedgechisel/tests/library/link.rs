@@ -50,10 +50,13 @@ fn sessions_begin() {
         assert_eq!(link.send(), Ok(Some(control_frame(command))));
         assert_eq!(link.up_deliver(), Ok(Received::Control(command)));
     }
-    link.terminate().unwrap();
-    link.set_vs(5).unwrap();
-    link.init_without_check().unwrap();
-    assert_eq!(opening(&link), (Some(Begun::WithoutCheck), [false, false, false]));
+    // The receiver expects 9 now.
+    for vs in [5, 9] {
+        link.terminate().unwrap();
+        link.set_vs(vs).unwrap();
+        link.init_without_check().unwrap();
+        assert_eq!(opening(&link), (Some(Begun::WithoutCheck), [vs == 9, vs == 9, false]));
+    }
 }
 
 /// Two packets, of which the first arrives; the report on it takes it from what is outstanding.

@@ -220,8 +220,7 @@ fn what_was_accepted() {
     fop.init_without_check().unwrap();
     assert_eq!([1, 2, 255].map(|it| fop.accepted_beyond(it)), [Some(0); 3]);
     assert_eq!([250, 1, 5, 6].map(|it| accepted_beyond(250, 5, it)), [Some(0), Some(7), Some(11), None]);
-    assert_eq!([249, 250, 251].map(|it| accepted_beyond(250, 250, it)), [Some(0); 3]);
-    assert_eq!(accepted_beyond(5, 9, 200), None);
+    assert_eq!((accepted_beyond(5, 9, 200), accepted_beyond(9, 9, 200)), (None, Some(0)));
 }
 
 #[test]

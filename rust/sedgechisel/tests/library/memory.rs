@@ -1,5 +1,5 @@
-//! The memory of the nodes and of the link: all of it is given back, whatever happened; and a call answers that there was
-//! none only where an allocation was refused, and has changed nothing then.
+//! The memory of the nodes and of the link: all of it is given back, whatever happened; and a call answers that there
+//! was none only where an allocation was refused, and has changed nothing then.
 
 use crate::allocator::{live, refusing, Refusals};
 use crate::common::Chance;
@@ -368,7 +368,8 @@ fn long_queues() {
     ground.init_without_check().unwrap();
     (1..=2000).for_each(|it| ground.submit(4, &numbered(PacketKind::Telecommand, it)).unwrap());
     let mut taken = 0;
-    while ground.outstanding() > 0 {
+    // A window of 127 is sent in each round.
+    for _ in 0..16 {
         while let Some(frame) = ground.pull(&mut up) {
             spacecraft.receive(frame).unwrap();
             let packet = spacecraft.take().unwrap();
@@ -377,6 +378,7 @@ fn long_queues() {
         }
         ground.telemetry(spacecraft.report(&mut down)).unwrap();
     }
+    assert_eq!(ground.outstanding(), 0);
     (1..=3000).for_each(|it| spacecraft.telemetry(&numbered(PacketKind::Telemetry, it)).unwrap());
     for _ in 0..300 {
         ground.telemetry(spacecraft.report(&mut down)).unwrap();

@@ -180,6 +180,26 @@ fn what_a_spacecraft_receives() {
     assert_eq!((spacecraft.take(), spacecraft.take_bypass()), (Ok(None), Ok(None)));
 }
 
+/// A spacecraft says why octets are no frame.
+#[test]
+fn octets_that_are_no_frame() {
+    let mut spacecraft = Spacecraft::new(&Config::default()).unwrap();
+    for (digits, fault) in [
+        ("400108070000", TcFault::Version),
+        ("100108070000", TcFault::ReservedType),
+        ("040108070000", TcFault::Spare),
+        ("300108080000", TcFault::Length),
+        ("300108070100", TcFault::BypassNumber),
+        ("0001080703c4", TcFault::EmptyData),
+        ("300108070001", TcFault::Command),
+    ] {
+        // The last two octets are the FECF.
+        let mut octets = octets_of(&format!("{digits}0000"));
+        check_append(&mut octets).unwrap();
+        assert_eq!(spacecraft.receive(&octets), Ok(Received::Invalid(fault)));
+    }
+}
+
 /// What a ground makes of each kind of report, and of octets that are not its own.
 #[test]
 fn what_a_ground_hears() {
@@ -279,6 +299,102 @@ fn parameters_out_of_their_ranges() {
     }
     assert_eq!((Parameter::Maps.name(), Parameter::Blocking.name()), ("maps", "blocking"));
     assert_eq!(Config { limit: 1, ..config }.fault(), None);
+}
+
+/// A configuration of which no parameter has its default.
+const OTHER: Config = Config {
+    scid: 1023,
+    vcid: 61,
+    tm_vcid: 6,
+    width: 20,
+    window: 2,
+    limit: 2,
+    timer: 300,
+    part: 15,
+    max_packet: 8,
+    maps: 1 << 63,
+    ready_slots: 2,
+    bypass_slots: 3,
+    queue_slots: 5,
+    frame_length: 30,
+    blocking: true,
+};
+
+const P3: &str = "1005C0030001AAAA";
+
+/// Each parameter of the ground does what it says: 7 and 8 octets go into one segment, and 8 and 8 into two.
+#[test]
+fn parameters_of_the_ground() {
+    let (mut ground, mut spacecraft) = pair(&OTHER);
+    ground.init_without_check().unwrap();
+    let [seven, eight] = [P0, P3].map(octets_of);
+    let (fifteen, sixteen) = ([&seven[..], &eight].concat(), eight.repeat(2));
+    assert_eq!(ground.submit(62, &seven), Err(LinkFault::ClosedMap));
+    assert_eq!(ground.submit(63, &octets_of("1005C0000002AABBCC")), Err(LinkFault::TooLong));
+    assert_eq!((ground.submit(63, &fifteen), ground.outstanding()), (Ok(()), 1));
+    assert_eq!((ground.submit(63, &sixteen), ground.outstanding()), (Ok(()), 3));
+    assert_eq!((ground.submit(63, &sixteen), ground.outstanding()), (Ok(()), 5));
+    assert_eq!(ground.submit(63, &seven), Err(LinkFault::QueueFull));
+    let frames = [sent(&mut ground).unwrap(), sent(&mut ground).unwrap()];
+    assert_eq!(sent(&mut ground), None);
+    for ((n, octets), data) in (0..).zip(&frames).zip([&fifteen, &eight]) {
+        let segment = Segment { flags: SegmentFlags::Alone, map: 63, data };
+        assert_eq!(
+            TcFrame::decode(octets, true),
+            Ok(TcFrame { scid: 1023, vcid: 61, body: Body::Ad { n, segment } })
+        );
+    }
+    assert_eq!(ground.telemetry(&reported(&mut spacecraft)), Ok(used(None, 0)));
+    assert_eq!((1..).find_map(|tick| ground.tick().map(|alert| (tick, alert))), Some((600, Alert::Timer)));
+}
+
+/// Each parameter of the spacecraft does what it says: three packets wait where one frame brought two to one.
+#[test]
+fn parameters_of_the_spacecraft() {
+    let mut spacecraft = Spacecraft::new(&OTHER).unwrap();
+    let [seven, eight] = [P0, P3].map(octets_of);
+    let mut given = |map, data: &[u8], n: Option<u8>| {
+        let (segment, mut room) = (Segment { flags: SegmentFlags::Alone, map, data }, [0; 64]);
+        let body = n.map_or(Body::Bd { segment }, |n| Body::Ad { n, segment });
+        let frame = TcFrame { scid: 1023, vcid: 61, body };
+        spacecraft.receive(frame.encode(true, &mut room).unwrap()).unwrap()
+    };
+    for (map, data, kept) in
+        [(63, &seven, true), (62, &seven, false), (63, &octets_of("1005C0000002AABBCC"), false)]
+    {
+        assert_eq!(given(map, data, None), Received::Bypass { kept });
+    }
+    for _ in 0..3 {
+        assert_eq!(given(63, &eight, None), Received::Bypass { kept: true });
+    }
+    assert_eq!(given(63, &seven, Some(0)), sequence(0, Verdict::Accepted, 1));
+    assert_eq!(given(63, &[&seven[..], &eight].concat(), Some(1)), sequence(1, Verdict::Accepted, 2));
+    assert_eq!(given(63, &seven, Some(2)), sequence(2, Verdict::NoBuffer, 0));
+    assert_eq!(given(63, &seven, Some(248)), sequence(248, Verdict::Discarded, 0));
+    assert_eq!(spacecraft.take(), Ok(Some((63, seven.clone()))));
+    assert_eq!(spacecraft.mode(), FarmMode::Wait);
+    assert_eq!((spacecraft.take(), spacecraft.mode()), (Ok(Some((63, seven.clone()))), FarmMode::Open));
+    for _ in 0..3 {
+        assert_eq!(spacecraft.take_bypass(), Ok(Some((63, eight.clone()))));
+    }
+    assert_eq!(spacecraft.take_bypass(), Ok(None));
+    let frame = reported(&mut spacecraft);
+    let found = TmFrame::decode(&frame, 30).unwrap();
+    assert_eq!((found.scid, found.vcid, found.data.len()), (1023, 6, 18));
+}
+
+/// The windows of a receiver have half the width each.
+#[test]
+fn the_width_of_a_board() {
+    for (n, verdict) in
+        [(9, Verdict::Ahead), (10, Verdict::Outside), (246, Verdict::Behind), (245, Verdict::Outside)]
+    {
+        let mut spacecraft = Spacecraft::new(&OTHER).unwrap();
+        let segment = Segment { flags: SegmentFlags::Alone, map: 63, data: &octets_of(P0) };
+        let frame = TcFrame { scid: 1023, vcid: 61, body: Body::Ad { n, segment } };
+        let mut room = [0; 64];
+        assert_eq!(spacecraft.receive(frame.encode(true, &mut room).unwrap()), Ok(sequence(n, verdict, 0)));
+    }
 }
 
 /// After an alert a report that was not heard still says what was accepted.
