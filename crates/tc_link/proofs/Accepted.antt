@@ -45,10 +45,10 @@ module _ (c : Config) (w : World) (k : Sound c w) (early : Bool) (d : Directive)
     how_many : (value v : ℕ) → value ≡ (base + v) % 256 → g.plain.a ≤ v → v ≤ g.plain.r → SaysHowMany w value
     how_many value v is low high = elim (kept_of (is_closed w.ground_node.fop.state) _ _ _ _ _ _ _ _ g.linked.held) [
       | inl both ↦ (
-          v - g.plain.a,
-          said_is early c d base w g half_most both value v is low high,
-          were (v - g.plain.a) (omega (arith, low, high)),
-        )
+        v - g.plain.a,
+        said_is early c d base w g half_most both value v is low high,
+        were (v - g.plain.a) (omega (arith, low, high)),
+      )
       | inr one ↦ none_said one value
     ]
 

@@ -1,6 +1,6 @@
 -- Progress: exchanges end with an alert, or with all delivered.
-use Rattle.tc_link.proofs.Common.{sym, subst, ◌∙◌, ◌≡◌, ◌≤◌, inl, inr, ℕ, zero, suc, ◌-◌, ◌*◌, List, [], ◌∷◌, length}
-use Rattle.tc_link.proofs.Common.{refl, arith, SegmentView, S1, IsActive, World, world_run}
+use Rattle.tc_link.proofs.Common.{sym, subst, ◌∙◌, ◌≡◌, ◌≤◌, inl, inr, ℕ, zero, suc, ◌-◌, ◌*◌, []}
+use Rattle.tc_link.proofs.Common.{refl, arith, S1, IsActive, World, world_run}
 use Rattle.tc_link.proofs.Common.{IsReached}
 use Rattle.std.proofs.lemmas.List.{nil_from_length}
 use Rattle.nodes.specs.Ground.{outstanding}

@@ -1,6 +1,6 @@
 -- What progress rests on, at every moment of a run, in any session: the timer runs where a unit is sent and not
 -- acknowledged, what is pending moves up, and a receiver waits only where no buffer is free.
-use Rattle.tc_link.proofs.Common.{Control, Due, ◌≡◌, ◌≢◌, ◌≤◌, ◌⊎◌, inl, inr, ℕ, zero, suc, ◌-◌, Bool, true, false}
+use Rattle.tc_link.proofs.Common.{Control, Due, ◌≡◌, ◌≢◌, ◌≤◌, ◌⊎◌, inl, inr, ℕ, ◌-◌, Bool, true, false}
 use Rattle.tc_link.proofs.Common.{List, [], ◌∷◌, length, map, drop, Option, Some, None, refl, sym, ◌∙◌, arith, subst}
 use Rattle.tc_link.proofs.Common.{Result, Ok, Err, AllByRecursion, ◌==◌, nat_lt, cond_both, eqb-false, ltb-false}
 use Rattle.tc_link.proofs.Common.{length-append, Clcw, SegmentView, BodyView, Ad, Bd, Bc, ahead_by, Alert, CopFault}

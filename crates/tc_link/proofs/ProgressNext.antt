@@ -239,9 +239,9 @@ module _ (most k : ℕ) where
       let within = marked_within p.j s.sent p.marked in
       let through : (p.j ≡ length s.sent) × ((unsent_segments w.ground_node ≡ []) ⊎ (k ≤ length s.sent)) = elim p.left [
         | inl few ↦ (
-            omega (arith, few, within),
-            inl (nil_from_length (unsent_segments w.ground_node) (omega (arith, few))),
-          )
+          omega (arith, few, within),
+          inl (nil_from_length (unsent_segments w.ground_node) (omega (arith, few))),
+        )
         | inr t ↦ (t.1, t.2)
       ] in
       let last : (s.nn + p.j) % 256 ≡ s.vs = omega (arith, numbers.numbered, through.0, numbers.vs, numbers.nn) in

@@ -2,9 +2,9 @@
 -- limit.
 use Rattle.tc_link.proofs.Common.{IsReached, IsActive, not, true, ◌∙◌, IsIdle, IsSettled, ◌≡◌, ◌≤◌, ◌⊎◌, inl, inr, ℕ}
 use Rattle.tc_link.proofs.Common.{zero, suc, ◌-◌, ◌*◌, List, [], ◌∷◌, ◌++◌, length, Option, Some, None, Ok, refl, ap}
-use Rattle.tc_link.proofs.Common.{sym, subst, arith, option_map, cond_both, replicate, AllByRecursion, Alert, NnR}
+use Rattle.tc_link.proofs.Common.{sym, subst, arith, cond_both, replicate, AllByRecursion, Alert, NnR}
 use Rattle.tc_link.proofs.Common.{Synch, Limit, FopState, S1, S2, FopOutcome, tick_step, with_fop, Event, World}
-use Rattle.tc_link.proofs.Common.{world_step, world_run, directive_of, IsChecking, Opening}
+use Rattle.tc_link.proofs.Common.{world_step, world_run, directive_of, IsChecking}
 use Rattle.std.specs.Prelude.{IsSome}
 use Rattle.cop1.specs.declared.vocabulary.Alert.TheVariants.{Lockout, Clcw as ClcwAlert, Timer, Terminated}
 use Rattle.simulated_link.specs.Replies.{reply_to_alert}
