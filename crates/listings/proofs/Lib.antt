@@ -4,3 +4,4 @@ pub mod Beginnings
 pub mod ListedPackets
 pub mod Remaining
 pub mod Digits
+pub mod Lanes

@@ -30,6 +30,7 @@ impl Model for FrameListing {
 }
 
 /// Appends the line of a record, and answers whether it is a frame.
+#[inline(always)]
 fn push_frame(text: &mut Text, check: Check, index: u64, octets: &[u8]) -> Result<bool, AllocError>
     ensures text { Appends result text.old text.new
         (frame_line index (frame_at check octets.now)) }
@@ -46,6 +47,7 @@ fn push_frame(text: &mut Text, check: Check, index: u64, octets: &[u8]) -> Resul
     }
 }
 
+#[inline(always)]
 fn word_of_type(body: &Body) -> [u8; 2]
     ensures { result ≡ type_word (body_view body.now) }
 {
@@ -56,6 +58,7 @@ fn word_of_type(body: &Body) -> [u8; 2]
     }
 }
 
+#[inline(always)]
 fn put_channel(room: &mut [u8], at: usize, index: u64, frame: &TcFrame) -> usize
     requires { at + 64 ≤ length room.old }
     ensures put { take result room.new ≡ take at room.old
@@ -69,6 +72,7 @@ fn put_channel(room: &mut [u8], at: usize, index: u64, frame: &TcFrame) -> usize
     put_field(room, next, b" vcid=", u16::from(frame.vcid))
 }
 
+#[inline(always)]
 fn put_header(room: &mut [u8], at: usize, header: SegmentHeader) -> usize
     requires { at + 32 ≤ length room.old }
     ensures put { take result room.new ≡ take at room.old ++ (codes " seg="
@@ -80,6 +84,7 @@ fn put_header(room: &mut [u8], at: usize, header: SegmentHeader) -> usize
     put_word(room, next, b" data=")
 }
 
+#[inline(always)]
 fn push_segment(text: &mut Text, segment: &Segment) -> Result<(), AllocError>
     requires { text.old.len + 32 ≤ vec_len text.old.octets }
     ensures { Appends result text.old text.new (segment_text (segment_view segment.now)) }
@@ -88,6 +93,7 @@ fn push_segment(text: &mut Text, segment: &Segment) -> Result<(), AllocError>
     push_octets(text, segment.payload)
 }
 
+#[inline(always)]
 fn put_set_vr(room: &mut [u8], at: usize, vr: u8) -> usize
     requires { at + 32 ≤ length room.old }
     ensures put { take result room.new ≡ take at room.old
@@ -98,6 +104,7 @@ fn put_set_vr(room: &mut [u8], at: usize, vr: u8) -> usize
     put_word(room, next, b"\n")
 }
 
+#[inline(always)]
 fn push_body(text: &mut Text, body: &Body) -> Result<(), AllocError>
     requires { text.old.len + 64 ≤ vec_len text.old.octets }
     ensures { Appends result text.old text.new (body_line (body_view body.now)) }

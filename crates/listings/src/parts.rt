@@ -1,9 +1,11 @@
 // Parts of a line, each put in place after the one before it. Each call answers the place after what it put.
 
 ghost use Rattle.std.specs.Prelude.{◌≡◌, ◌+◌, ◌*◌, ◌<◌, ◌≤◌, ◌%◌, ◌++◌};
-ghost use Rattle.std.specs.Prelude.{codes, decimal, length, take, slice_index};
+ghost use Rattle.std.specs.Prelude.{◌/◌, bit_and, codes, decimal, drop, length, map, take, slice_index};
 ghost use Rattle.hex.specs.Hex.{encode_upper, upper_digits};
 ghost use Rattle.listings.specs.FourDigits.{four_digits};
+
+use std::simd::prelude::*;
 
 /// Puts octets.
 #[inline(always)]
@@ -144,7 +146,78 @@ pub fn put_digits(room: &mut [u8], at: usize, octets: &[u8]) -> usize
     next
 }
 
+const UPPER: [u8; 16] = *b"0123456789ABCDEF";
+
+// The first digit of each octet. Lanes below 16 are looked up in the table.
+#[inline(always)]
+fn high_digits(octets: u8x16) -> u8x16
+    ensures { result ≡ map (λ x. slice_index upper_digits (x / 16)) octets }
+{
+    u8x16::from_array(UPPER).swizzle_dyn(octets >> u8x16::splat(4))
+}
+
+// The second digit of each octet.
+#[inline(always)]
+fn low_digits(octets: u8x16) -> u8x16
+    ensures { result ≡ map (λ x. slice_index upper_digits (x % 16)) octets }
+{
+    u8x16::from_array(UPPER).swizzle_dyn(octets & u8x16::splat(15))
+}
+
+// Lanes from 16 on are those of the second digits.
+#[inline(always)]
+fn digits_of_sixteen(octets: u8x16) -> u8x32
+    ensures { result ≡ encode_upper octets }
+{
+    let high = high_digits(octets);
+    high.shuffle(
+        low_digits(octets),
+        [
+            0, 16, 1, 17, 2, 18, 3, 19, 4, 20, 5, 21, 6, 22, 7, 23, 8, 24, 9, 25, 10, 26, 11, 27,
+            12, 28, 13, 29, 14, 30, 15, 31,
+        ],
+    )
+}
+
+// Writes the digits of the sixteen octets from a place on.
+#[inline(always)]
+fn write_sixteen(digits: &mut [u8], octets: &[u8], at: usize)
+    requires octets { at + 16 ≤ length octets.now }
+    requires digits { length digits.old ≡ 2 * length octets.now }
+    ensures len { length digits.new ≡ length digits.old }
+    ensures written { take (2 * (at + 16)) digits.new
+        ≡ take (2 * at) digits.old ++ encode_upper (take 16 (drop at octets.now)) }
+{
+    let sixteen = u8x16::from_slice(&octets[at..]);
+    digits_of_sixteen(sixteen).copy_to_slice(&mut digits[2 * at..]);
+}
+
 fn write_digits(digits: &mut [u8], octets: &[u8])
+    requires { length digits.old ≡ 2 * length octets.now }
+    ensures { digits.new ≡ encode_upper octets.now }
+{
+    if octets.len() < 16 {
+        write_few(digits, octets);
+    } else {
+        write_many(digits, octets);
+    }
+}
+
+// The octets after the last whole sixteen are written with those before them, some of which are written again.
+#[inline(always)]
+fn write_many(digits: &mut [u8], octets: &[u8])
+    requires octets { 16 ≤ length octets.now }
+    requires digits { length digits.old ≡ 2 * length octets.now }
+    ensures { digits.new ≡ encode_upper octets.now }
+{
+    let whole = octets.len() / 16;
+    'sixteens: for k in 0..whole {
+        write_sixteen(digits, octets, 16 * k);
+    }
+    write_sixteen(digits, octets, octets.len() - 16);
+}
+
+fn write_few(digits: &mut [u8], octets: &[u8])
     requires { length digits.old ≡ 2 * length octets.now }
     ensures { digits.new ≡ encode_upper octets.now }
 {

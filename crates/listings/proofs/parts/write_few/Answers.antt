@@ -1,7 +1,7 @@
 use Rattle.std.proofs.Common.{arith}
 use Rattle.hex.specs.Hex.{upper_digits}
 use Rattle.hex.proofs.Pairs.{encode_step, encode_done}
-use Rattle.listings.proofs.parts.write_digits.Goals as goal
+use Rattle.listings.proofs.parts.write_few.Goals as goal
 
 pub octets-preserved : goal.octets-preserved
 octets-preserved c =
