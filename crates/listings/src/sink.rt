@@ -4,8 +4,7 @@ ghost use Rattle.std.specs.Prelude.{◌≡◌, ◌≤◌, ◌+◌, ◌++◌, ℕ
 ghost use Rattle.std.specs.Io.KnownBytes.{WriteAppends};
 ghost use Rattle.listings.specs.Devices.{taken, write_failed};
 
-use crate::device_log::Call;
-use crate::logged::Logged;
+use crate::device_log::{Call, DeviceLog};
 use std::io;
 use std::io::Write;
 
@@ -29,10 +28,37 @@ pub trait Sink {
         ensures appends { WriteAppends (contents self.old) (contents self.new) result text.now };
 }
 
-/// A writer of the standard library as a sink.
-pub type Writer<W> = Logged<W>;
+/// A writer of the standard library as a sink, of which contracts see what its writes did.
+#[derive(Drop)]
+pub struct Writer<W> {
+    inner: W,
+    log: DeviceLog,
+}
 
-impl<W: Write> Sink for Logged<W> {
+impl<W> Writer<W> {
+    ghost use Rattle.std.specs.Prelude.{[], false};
+    ghost use Rattle.listings.specs.DeviceLog.{IsLogOf};
+
+    /// This writer, of which no write was made yet.
+    pub fn new(inner: W) -> Self
+        ensures inner { result.inner ≡ inner }
+        ensures log { IsLogOf result.log [] false 0 }
+    {
+        Writer {
+            inner,
+            log: DeviceLog::new(),
+        }
+    }
+
+    /// The writer inside.
+    pub fn get_ref(&self) -> &W
+        ensures { result.now ≡ self.now.inner }
+    {
+        &self.inner
+    }
+}
+
+impl<W: Write> Sink for Writer<W> {
     ghost taken_octets = { λ s. s.log.octets };
 
     ghost failures = { λ s. s.log.failures };

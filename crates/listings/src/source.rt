@@ -5,8 +5,7 @@ ghost use Rattle.std.specs.Prelude.{Option, None, IfOk};
 ghost use Rattle.std.specs.Io.KnownBytes.{ReadConsumes};
 ghost use Rattle.listings.specs.Devices.{taken, read_failed, EndsOrNot};
 
-use crate::device_log::Call;
-use crate::logged::Logged;
+use crate::device_log::{Call, DeviceLog};
 use std::io;
 use std::io::Read;
 
@@ -36,10 +35,37 @@ pub trait Source {
             result piece.new };
 }
 
-/// A reader of the standard library as a source.
-pub type Reader<R> = Logged<R>;
+/// A reader of the standard library as a source, of which contracts see what its reads did.
+#[derive(Drop)]
+pub struct Reader<R> {
+    inner: R,
+    log: DeviceLog,
+}
 
-impl<R: Read> Source for Logged<R> {
+impl<R> Reader<R> {
+    ghost use Rattle.std.specs.Prelude.{[], false};
+    ghost use Rattle.listings.specs.DeviceLog.{IsLogOf};
+
+    /// This reader, of which no read was made yet.
+    pub fn new(inner: R) -> Self
+        ensures inner { result.inner ≡ inner }
+        ensures log { IsLogOf result.log [] false 0 }
+    {
+        Reader {
+            inner,
+            log: DeviceLog::new(),
+        }
+    }
+
+    /// The reader inside.
+    pub fn get_ref(&self) -> &R
+        ensures { result.now ≡ self.now.inner }
+    {
+        &self.inner
+    }
+}
+
+impl<R: Read> Source for Reader<R> {
     ghost given = { λ s. s.log.octets };
 
     ghost has_ended = { λ s. s.log.has_ended };
