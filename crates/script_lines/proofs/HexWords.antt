@@ -13,7 +13,6 @@ use Rattle.hex.specs.Hex.{pair_value, value_at, ◌>>=◌}
 use Rattle.hex.specs.declared.error.FromHexError.{FromHexError}
 use Rattle.hex.proofs.HexLemmas.{decode_of-even, decode_of-ok, IsDigits-lower_digits, IsDigits-upper_digits}
 use Rattle.hex.proofs.Pairs.{cons_byte, decode_pairs-ok_pair}
-use Rattle.script_lines.specs.Lines.{octets_of_digits}
 use Rattle.script_lines.specs.Words.{octets_in_word}
 use Rattle.script_lines.specs.Spelling.{IsHexDigit, IsPairs, no_pair, pair, IsHex, no_octets, some_octets}
 
@@ -166,14 +165,3 @@ read_octets octets digits e = read_word digits octets (bytes_eq digits (codes "-
 -- a word is these octets exactly where it spells them
 pub octets_as_words : (octets digits : List ℕ) → (octets_in_word digits ≡ Some octets) ↔ IsHex octets digits
 octets_as_words octets digits = (read_octets octets digits, spelled_octets octets digits)
-
--- digits that decode are read as the octets
-pub decoded : (digits octets : List ℕ) → bytes_eq digits (codes "-") ≡ false → decode_of digits ≡ Ok octets
-    → octets ≡ octets_of_digits digits
-unfolding octets_in_word
-decoded [] octets other e =
-    ap (λ (r : Result (List ℕ) FromHexError). result_unwrap_or r [])
-    (sym e ∙ decode_of-even [] refl ∙ spelled_pairs 0 no_pair)
-decoded (digit ∷ more) octets other e =
-    let long : (length (digit ∷ more) == 0) ≡ false = grind (arith) in
-    rw (other, long, e) refl

@@ -17,4 +17,4 @@ pub use line::{Carrier, Line, Step, carrier_of, plain_event};
 pub use program::{Program, Rest};
 pub use reading::read_line;
 pub use scripts::{Reading, read_script};
-pub use words::octets_of_digits;
+pub use words::octets_in_word;

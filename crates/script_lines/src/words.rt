@@ -1,11 +1,10 @@
 // Numbers and octets as words.
 
-ghost use Rattle.std.specs.Prelude.{◌≡◌, ◌≤◌, ◌<◌, ◌^◌, true, is_some, IfOk, IfSome, SomeIff};
+ghost use Rattle.std.specs.Prelude.{◌≡◌, ◌≤◌, ◌<◌, ◌^◌, true, is_some, option_map, Ok, None, IfOk, IfSome, SomeIff};
 ghost use Rattle.std.specs.Result.{result_ok};
 ghost use Rattle.std.specs.Str.{bytes_eq};
 ghost use Rattle.std.specs.Str.Parse.{digits_value};
 ghost use Rattle.hex.specs.Hex.{is_hex_digit, decode_of};
-ghost use Rattle.script_lines.specs.Lines.{octets_of_digits};
 ghost use Rattle.script_lines.specs.Words.{starts_well, is_numeral, number_in_word, octets_in_word};
 
 use std::alloc::{AllocError, Global};
@@ -82,17 +81,22 @@ pub fn is_octets(word: &[u8]) -> bool
     is(word, "-") || (!word.is_empty() && are_pairs(word))
 }
 
-/// The octets of a word of digits that is octets.
+/// The octets that a word is, as pairs of digits; `-` is none. A word that is not octets has none, however
+/// little memory there is.
 /// Faults: `AllocError`. Memory: yes. Cost: n.
 #[tactic(auto, unfolding(crate::specs::Words::octets_in_word))]
-pub fn octets_of_digits(alloc: Global, digits: &[u8]) -> Result<Vec<u8>, AllocError>
-    ensures { IfOk result (λ octets. octets.items ≡ octets_of_digits digits.now) }
+pub fn octets_in_word(alloc: Global, word: &[u8]) -> Result<Option<Vec<u8>>, AllocError>
+    ensures octets { IfOk result (λ octets. option_map (λ some. some.items) octets ≡ octets_in_word word.now) }
+    ensures none { octets_in_word word.now ≡ None → result ≡ Ok None }
 {
-    if is(digits, "-") {
-        return Ok(Vec::new(alloc));
+    if is(word, "-") {
+        return Ok(Some(Vec::new(alloc)));
     }
-    match hex::decode(alloc, digits) {
-        Ok(octets) => Ok(octets),
+    if !is_octets(word) {
+        return Ok(None);
+    }
+    match hex::decode(alloc, word) {
+        Ok(octets) => Ok(Some(octets)),
         Err(_) => Err(AllocError),
     }
 }
