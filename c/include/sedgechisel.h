@@ -369,7 +369,7 @@ struct sedge_tc_frame {
 
 /* Reads all of the octets as one frame, which ends with its FECF if checked is true, and writes where the data after
  * the segment header are; a control frame has none, and the part is {0, 0}. The frame may be of any spacecraft and
- * virtual channel: compare scid and vcid with your own before a receiver is told of it. Returns 0, or the first of 1 to
+ * virtual channel: compare scid and vcid with your own before a receiver is given it. Returns 0, or the first of 1 to
  * 9 of sedge_tc_fault. */
 uint8_t sedge_tc_decode(const uint8_t *octets, size_t count, bool checked, struct sedge_tc_frame *frame,
                         struct sedge_part *data);

@@ -286,9 +286,8 @@ struct sedge_reply {
 };
 
 /* An event happens. Each call returns 0 and writes the reply; or a number of sedge_sim_fault, and nothing happens.
- * SEDGE_SIM_MEMORY is none of directives, losing, damaging, ticks and taking. What a node refuses is a reply. The
- * octets of a frame that was sent, and of a packet that was taken, stay to be read until the next event
- * (sedge_sim_octets). */
+ * No directive, loss, damage, tick or take answers SEDGE_SIM_MEMORY. What a node refuses is a reply. The octets of a
+ * frame that was sent, and of a packet that was taken, stay to be read until the next event (sedge_sim_octets). */
 uint8_t sedge_sim_submit(struct sedge_sim *sim, uint8_t map, const uint8_t *octets, size_t count,
                          struct sedge_reply *reply);
 uint8_t sedge_sim_bypass(struct sedge_sim *sim, uint8_t map, const uint8_t *octets, size_t count,

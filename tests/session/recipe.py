@@ -1,7 +1,7 @@
 """Follows the steps after an alert (docs/TOUR.md, "A session with losses") over random links with delays and losses,
 until that many sessions have begun: `recipe.py SESSIONS`. On board each packet has to be the next one that was wanted
-on its MAP: none twice, and none left out that was said to be accepted. recipe.c and recipe.rs do the same, and write the
-same lines. With a second word, `early`, it believes the first report after an alert, whenever that was made."""
+on its MAP: none twice, and none left out that was said to be accepted. recipe.c and recipe.rs do the same, and write
+the same lines. With a second word, `early`, it believes the first report after an alert, whenever that was made."""
 import collections
 import sys
 
@@ -82,11 +82,12 @@ class Run:
         self.accepted += more
         self.submitted = max(k for k in range(PACKETS + 1) if self.segments[k] <= self.accepted)
         self.known, self.accepted = self.submitted, self.segments[self.submitted]
-        if draw(4) == 0:
+        how = draw(4)
+        if how == 0:
             ground.init_set_vr(draw(256))
         else:
             ground.set_vs(value)
-            ground.init_unlock()
+            ground.init_with_check() if how == 1 else ground.init_unlock()
         begun += 1
         if begun % 1000 == 0:
             print(f"{begun} sessions: {alerts} alerts, {taken_in_all} packets, {ticks} ticks")
@@ -96,10 +97,9 @@ class Run:
         self.accepted += (ground.nn - nn) % 256
         if heard.alert or ground.state != sc.State.S6 or heard.report != sc.Report.USED:
             return heard.alert
-        report = ground.report_in(frame)
         is_made_after = now - self.sent > 2 * self.delay
-        if (IS_EARLY or is_made_after) and not report.flags & sc.Flags.WAIT:
-            self.begin(ground, report.value)
+        if IS_EARLY or is_made_after:
+            self.begin(ground, ground.report_in(frame).value)
         return heard.alert
 
     def tick(self, ground, spacecraft, now):
@@ -125,7 +125,7 @@ class Run:
             self.up.send(now, frame)
 
     def play(self):
-        """Goes on until all packets came, as long as a run may be; those that were said to be accepted have come then."""
+        """Goes on until all packets came, as long as a run may be; what was said to be accepted has come then."""
         global ticks
         with sc.Ground(self.config) as ground, sc.Spacecraft(self.config) as spacecraft:
             for now in range(LONGEST_RUN):
@@ -136,8 +136,9 @@ class Run:
                     break
             while self.take(spacecraft):
                 pass
-            if sum(self.taken.values()) < (PACKETS if has_ended else self.known):
-                wrong("a packet that was said to be accepted did not come")
+            for map_, taken in self.taken.items():
+                if taken < sum(it[0] == map_ for it in self.packets[:PACKETS if has_ended else self.known]):
+                    wrong("a packet that was said to be accepted did not come")
 
 
 while begun < SESSIONS:

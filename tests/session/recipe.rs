@@ -170,11 +170,16 @@ impl Run {
             .unwrap_or(0);
         self.known = self.submitted;
         self.accepted = self.segments[self.submitted];
-        if all.draw(4) == 0 {
-            self.ground.init_set_vr(all.draw(256))?;
-        } else {
-            self.ground.set_vs(value)?;
-            self.ground.init_unlock()?;
+        match all.draw(4) {
+            0 => self.ground.init_set_vr(all.draw(256))?,
+            how => {
+                self.ground.set_vs(value)?;
+                if how == 1 {
+                    self.ground.init_with_check()?;
+                } else {
+                    self.ground.init_unlock()?;
+                }
+            }
         }
         all.begun += 1;
         if all.begun % 1000 == 0 {
@@ -207,7 +212,7 @@ impl Run {
             .report_in(frame)
             .ok_or("a frame without a report")?;
         let is_made_after = now - self.sent > 2 * i64::from(self.up.delay);
-        if (all.is_early || is_made_after) && !report.wait {
+        if all.is_early || is_made_after {
             self.begin(all, report.value)?;
         }
         Ok(())
@@ -262,8 +267,11 @@ impl Run {
             }
         }
         while self.take(all)? {}
-        if self.taken.iter().sum::<usize>() < if has_ended { PACKETS } else { self.known } {
-            all.wrong("a packet that was said to be accepted did not come");
+        let known = &self.packets[..if has_ended { PACKETS } else { self.known }];
+        for (map, taken) in (4..).zip(self.taken) {
+            if taken < known.iter().filter(|it| it.0 == map).count() {
+                all.wrong("a packet that was said to be accepted did not come");
+            }
         }
         Ok(())
     }

@@ -5,7 +5,7 @@
 
 use anyhow::{Context, Error, Result};
 use cop1::{Alert, CopFault, Directive, FopMode};
-use nodes::{Config, Ground, Heard, Spacecraft};
+use nodes::{Config, Ground, Heard, HeardReport, Spacecraft};
 use tm_link::decode;
 
 // The number of packets, of 7 octets each, that are sent on MAP 4. Each is one segment.
@@ -67,7 +67,7 @@ fn play(rt: &HostRuntime, ground: &mut Ground, spacecraft: &mut Spacecraft) -> R
             return Ok(());
         }
         if let (FopMode::S6, Some(vr)) = (ground.state(), value) {
-            let more = ground.accepted_beyond(vr).context("a report beyond V(S)")?;
+            let more = ground.accepted_beyond(vr).context("nothing is known of what is not acknowledged")?;
             accepted = accepted.wrapping_add(usize::from(more));
             println!(rt; "round {round}: {more} more were accepted; again from packet {accepted}")?;
             submitted = accepted;
@@ -131,7 +131,11 @@ fn carry_down(
         return Ok((None, None));
     }
     match ground.telemetry(&down[..size])? {
-        Heard::Frame { alert, .. } => Ok((value_of(&down[..size]), alert)),
+        Heard::Frame {
+            alert,
+            report: HeardReport::Used,
+            ..
+        } => Ok((value_of(&down[..size]), alert)),
         _ => Ok((None, None)),
     }
 }

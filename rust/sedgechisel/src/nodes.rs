@@ -26,7 +26,7 @@ faults! {
     }
 }
 
-/// Room for so many octets, if there is memory for it.
+/// Room for a number of octets, if there is memory for it.
 fn room_for(count: usize) -> Option<Vec<u8>> {
     let mut room = Vec::new();
     room.try_reserve_exact(count).ok()?;
@@ -34,7 +34,7 @@ fn room_for(count: usize) -> Option<Vec<u8>> {
     Some(room)
 }
 
-/// A packet, of so many octets, that a call takes out; nothing if there is none. The call is made where there is room.
+/// A packet of `count` octets that a call takes out; nothing if there is none. The call is made where there is room.
 fn taken(count: usize, take: impl FnOnce(&mut [u8], &mut usize) -> u8) -> Result<Option<Vec<u8>>, LinkFault> {
     if count == 0 {
         return Ok(None);

@@ -118,7 +118,7 @@ impl Link {
         }
     }
 
-    /// An event that gives a frame or a packet, of at most so many octets; it happens where there is room for them.
+    /// An event that gives a frame or a packet of at most `most` octets; it happens where there is room for them.
     /// They are returned in room for exactly them, if there is memory for that too.
     fn given(
         &mut self, most: usize, call: impl FnOnce(&mut raw::Sim, &mut raw::Reply) -> u8,
