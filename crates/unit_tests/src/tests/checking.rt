@@ -2,6 +2,7 @@
 
 use super::equal::equal;
 use octets::{append_check, check, check_holds, first_two};
+use std::process::Abort;
 
 // The check bit by bit: a register preset to ones, shifted once a bit.
 fn plain_check(octets: &[u8]) -> u16 {
@@ -22,6 +23,10 @@ fn plain_check(octets: &[u8]) -> u16 {
 // The last three rows are the vectors of ECSS-E-ST-70-41C, annex B.
 #[test]
 fn known_checks(rt: HostRuntime) {
+    has_known_checks(&rt);
+}
+
+fn has_known_checks(rt: &impl Abort) {
     for (octets, known) in [
         (&b"123456789"[..], 0x29b1),
         (&[0, 0][..], 0x1d0f),
@@ -30,7 +35,7 @@ fn known_checks(rt: HostRuntime) {
         (&[0xab, 0xcd, 0xef, 0x01][..], 0x04a2),
         (&[0x14, 0x56, 0xf8, 0x9a, 0x00, 0x01][..], 0x7fd5),
     ] {
-        equal(&rt, &check(octets), &known);
+        equal(rt, &check(octets), &known);
     }
 }
 
@@ -64,11 +69,22 @@ fn the_table_is_the_plain_program(rt: HostRuntime) {
 
 #[test]
 fn a_check_is_set_and_holds(rt: HostRuntime) {
+    sets_a_check(&rt);
+}
+
+fn sets_a_check(rt: &impl Abort) {
     let mut octets = *b"123456789\x00\x00";
     assert!(rt; !check_holds(&octets));
     append_check(&mut octets);
-    equal(&rt, &first_two(&octets[9..]), &0x29b1);
+    equal(rt, &first_two(&octets[9..]), &0x29b1);
     assert!(rt; check_holds(&octets));
     assert!(rt; !check_holds(&octets[..10]));
     assert!(rt; !check_holds(&[]));
+}
+
+#[test]
+fn a_check_takes_no_memory(rt: HostRuntime) {
+    let _ = eprintln!(rt; "set up");
+    has_known_checks(&rt);
+    sets_a_check(&rt);
 }

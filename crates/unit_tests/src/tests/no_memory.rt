@@ -76,11 +76,19 @@ fn reading_and_writing_takes_no_memory(rt: HostRuntime) {
     codes_frames(&rt);
     codes_words(&rt);
     codes_telemetry(&rt);
+    counts_packets(&rt);
+}
+
+// The packet with count 3 does not come.
+fn counts_packets(rt: &impl Abort) {
     let mut counters = SequenceCounters::new();
     let mut gaps = GapCheck::new();
-    for _ in 0..3 {
-        let _ = gaps.see(5, counters.next(5));
+    for (count, gap) in [(0, None), (1, Some(0)), (2, Some(0))] {
+        equal(rt, &counters.next(5), &count);
+        equal(rt, &gaps.see(5, count), &gap);
     }
+    equal(rt, &counters.next(5), &3);
+    equal(rt, &gaps.see(5, counters.next(5)), &Some(1));
 }
 
 #[test]

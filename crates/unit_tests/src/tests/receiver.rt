@@ -33,7 +33,10 @@ fn report(farm: &Farm) -> Option<[u8; 4]> {
 
 fn answers(rt: &impl Abort, farm: &mut Farm, call: Call) {
     match call {
-        Call::Ad(n, free, verdict) => equal(rt, &farm.ad(n, free), &verdict),
+        Call::Ad(n, free, verdict) => {
+            equal(rt, &farm.verdict(n, free), &verdict);
+            equal(rt, &farm.ad(n, free), &verdict);
+        }
         Call::Bd => farm.bd(),
         Call::Unlock => farm.unlock(),
         Call::SetVr(vr) => farm.set_vr(vr),
@@ -64,6 +67,10 @@ fn run(rt: &impl Abort, vr: u8, calls: &[Call]) {
 // A width of 10 has a positive and a negative window of 5 each.
 #[test]
 fn a_receiver_locks_and_opens(rt: HostRuntime) {
+    locks_and_opens(&rt);
+}
+
+fn locks_and_opens(rt: &impl Abort) {
     let calls = [
         Call::Ad(4, true, Verdict::Ahead),
         Call::Ad(251, true, Verdict::Behind),
@@ -76,11 +83,15 @@ fn a_receiver_locks_and_opens(rt: HostRuntime) {
         Call::Ad(0, true, Verdict::Accepted),
         Call::Stands((FarmMode::Open, [false; 3], 1, 2)),
     ];
-    run(&rt, 0, &calls);
+    run(rt, 0, &calls);
 }
 
 #[test]
 fn a_receiver_waits_for_a_buffer(rt: HostRuntime) {
+    waits_for_a_buffer(&rt);
+}
+
+fn waits_for_a_buffer(rt: &impl Abort) {
     let calls = [
         Call::Ad(255, true, Verdict::Accepted),
         Call::Ad(255, true, Verdict::Behind),
@@ -94,24 +105,32 @@ fn a_receiver_waits_for_a_buffer(rt: HostRuntime) {
         Call::Ad(9, true, Verdict::Accepted),
         Call::Stands((FarmMode::Open, [false; 3], 10, 2)),
     ];
-    run(&rt, 255, &calls);
+    run(rt, 255, &calls);
 }
 
 #[test]
 fn no_receiver_has_other_fields(rt: HostRuntime) {
-    let kept = Farm::new(10, 7).expect(&rt, "a receiver").fields();
+    has_no_other_fields(&rt);
+}
+
+fn has_no_other_fields(rt: &impl Abort) {
+    let kept = Farm::new(10, 7).expect(rt, "a receiver").fields();
     for fields in [
         FarmFields { width: 0, ..kept },
         FarmFields { width: 9, ..kept },
         FarmFields { wait: true, ..kept },
         FarmFields { farm_b: 4, ..kept },
     ] {
-        equal(&rt, &Farm::restore(fields).err(), &Some(CopFault::State));
+        equal(rt, &Farm::restore(fields).err(), &Some(CopFault::State));
     }
 }
 
 #[test]
 fn a_receiver_reports(rt: HostRuntime) {
+    reports(&rt);
+}
+
+fn reports(rt: &impl Abort) {
     let waits_and_opens = [
         Call::Ad(0, false, Verdict::NoBuffer),
         Call::Report([0x01, 0x08, 0x18, 0x00]),
@@ -128,14 +147,28 @@ fn a_receiver_reports(rt: HostRuntime) {
         Call::SetVr(9),
         Call::Report([0x01, 0x08, 0x2a, 0x00]),
     ];
-    run(&rt, 0, &waits_and_opens);
-    run(&rt, 0, &waits_and_locks);
+    run(rt, 0, &waits_and_opens);
+    run(rt, 0, &waits_and_locks);
 }
 
 #[test]
 fn no_receiver_has_another_width(rt: HostRuntime) {
+    has_no_other_width(&rt);
+}
+
+fn has_no_other_width(rt: &impl Abort) {
     for width in [0, 3, 255] {
         let fault = Farm::new(width, 0).err();
-        equal(&rt, &fault, &Some(CopFault::Width));
+        equal(rt, &fault, &Some(CopFault::Width));
     }
+}
+
+#[test]
+fn a_receiver_takes_no_memory(rt: HostRuntime) {
+    let _ = eprintln!(rt; "set up");
+    locks_and_opens(&rt);
+    waits_for_a_buffer(&rt);
+    reports(&rt);
+    has_no_other_fields(&rt);
+    has_no_other_width(&rt);
 }
