@@ -1,6 +1,7 @@
 // The tests by what they are of, and what several of them use.
 
 mod accounts;
+mod apart;
 mod driver;
 mod packets;
 mod pair;

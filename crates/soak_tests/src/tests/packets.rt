@@ -3,12 +3,14 @@
 use std::alloc::Global;
 use std::process::Abort;
 
-// A packet of this size, from 7 to 65,542 octets, with this first octet and this sequence count.
+// A packet of this size, from 7 to 65,542 octets, with this first octet and this sequence count. Every second one has a
+// secondary header.
 fn packet(rt: &impl Abort, alloc: Global, kind: u8, size: usize, count: usize) -> Vec<u8> {
     let [.., high, low] = count.to_be_bytes();
     let [.., long, short] = size.wrapping_sub(7).to_be_bytes();
     let mut octets = vec![in alloc; low; size].expect(rt, "a packet");
-    let head = [kind, 0x05, 0xc0 | high, low, long, short];
+    let secondary = if low % 2 == 1 { 0x08 } else { 0 };
+    let head = [kind | secondary, 0x05, 0xc0 | high, low, long, short];
     for (octet, is) in octets.iter_mut().zip(head) {
         *octet = is;
     }

@@ -1,8 +1,9 @@
 // Both nodes with ample memory, between which telemetry frames come down.
 
 use super::packets::{command, measurement};
-use cop1::Directive;
-use nodes::{Config, Ground, Heard, Spacecraft};
+use cop1::{Directive, Verdict};
+use map_service::Dropped;
+use nodes::{Config, Ground, Heard, LinkFault, Received, Spacecraft};
 use std::alloc::Global;
 use std::process::Abort;
 
@@ -15,10 +16,16 @@ pub struct Pair {
 
 impl Pair {
     pub fn new(rt: &impl Abort, alloc: Global, config: &Config) -> Pair {
-        let valid = config.valid().expect(rt, "a configuration");
+        Pair::apart(rt, alloc, config, config)
+    }
+
+    /// Nodes that are configured apart.
+    pub fn apart(rt: &impl Abort, alloc: Global, ground: &Config, spacecraft: &Config) -> Pair {
+        let of_ground = ground.valid().expect(rt, "a configuration");
+        let of_spacecraft = spacecraft.valid().expect(rt, "a configuration");
         Pair {
-            ground: Ground::of(alloc, &valid).expect(rt, "a ground"),
-            spacecraft: Spacecraft::of(alloc, &valid).expect(rt, "a spacecraft"),
+            ground: Ground::of(alloc, &of_ground).expect(rt, "a ground"),
+            spacecraft: Spacecraft::of(alloc, &of_spacecraft).expect(rt, "a spacecraft"),
         }
     }
 
@@ -88,6 +95,59 @@ impl Pair {
         assert!(rt; is_on(self.spacecraft.take_bypass(), 0, short));
         let _ = self.hears(rt);
         assert_eq!(rt; self.ground.outstanding(), 0);
+    }
+}
+
+impl Pair {
+    // The next frame goes up, is accepted and makes nothing ready: why its octets are dropped, where they are.
+    fn drops_one(&mut self, rt: &impl Abort) -> Option<Dropped> {
+        let mut out = [0; 1024];
+        let size = self.ground.pull(&mut out).expect(rt, "a frame");
+        match self.spacecraft.receive(out.get(..size).unwrap_or_default()) {
+            Ok(
+                Received::Sequence {
+                    verdict: Verdict::Accepted,
+                    ready: 0,
+                    dropped,
+                    ..
+                },
+            ) => dropped,
+            received => panic!(rt; "{received:?}"),
+        }
+    }
+
+    /// A packet goes up in segments, of which no packet comes, and the report comes down.
+    pub fn drops(
+        &mut self,
+        rt: &impl Abort,
+        map: u8,
+        packet: &Vec<u8>,
+        causes: &[Option<Dropped>],
+    ) {
+        assert!(rt; self.ground.submit(map, packet.as_slice()).is_ok());
+        for cause in causes {
+            let dropped = self.drops_one(rt);
+            assert_eq!(rt; dropped, *cause);
+        }
+        let _ = self.hears(rt);
+        assert_eq!(rt; self.ground.outstanding(), 0);
+    }
+
+    /// A packet goes up past the sequence control, and is not kept.
+    pub fn keeps_nothing(&mut self, rt: &impl Abort, map: u8, packet: &Vec<u8>) {
+        let mut out = [0; 1024];
+        assert!(rt; self.ground.bypass(map, packet.as_slice()).is_ok());
+        let size = self.ground.pull(&mut out).expect(rt, "a frame");
+        let received = self.spacecraft.receive(out.get(..size).unwrap_or_default());
+        assert_eq!(rt; received, Ok(Received::Bypass { kept: false }));
+    }
+
+    /// The ground refuses a packet under the sequence control and past it.
+    pub fn refuses(&mut self, rt: &impl Abort, map: u8, packet: &Vec<u8>, fault: LinkFault) {
+        let submitted = self.ground.submit(map, packet.as_slice());
+        assert_eq!(rt; submitted, Err(fault));
+        let bypassed = self.ground.bypass(map, packet.as_slice());
+        assert_eq!(rt; bypassed, Err(fault));
     }
 }
 

@@ -1,7 +1,7 @@
 // Sessions at the ends of every range: MAPs, windows, segments, packets, identifiers, what is on its way.
 
 use super::driver::Link;
-use super::packets::{command, commands};
+use super::packets::{command, commands, measurement};
 use cop1::{Directive, FopMode};
 use std::alloc::Global;
 use std::process::Abort;
@@ -108,6 +108,23 @@ fn blocks(rt: HostRuntime) {
     link.carries(&rt);
 }
 
+// A submission of 100 segments, each of two packets.
+#[test]
+fn segments_that_are_blocked(rt: HostRuntime) {
+    let config = Config {
+        blocking: 1,
+        part: 14,
+        ..config()
+    };
+    let mut link = Link::opened(&rt, rt.alloc(), config, Directive::InitWithCheck);
+    for number in [200, 201] {
+        let octets = commands(&rt, rt.alloc(), 7, number);
+        link.submits(&rt, 63, octets.as_slice());
+    }
+    link.carries(&rt);
+    assert_eq!(rt; link.sim().sent().len(), 201);
+}
+
 // Each MAP, with only it closed and with only it open.
 #[test]
 fn maps(rt: HostRuntime) {
@@ -199,6 +216,24 @@ fn frames_on_their_way(rt: HostRuntime) {
     assert_eq!(rt; link.hears(&rt), 200);
     assert_eq!(rt; link.arrives(&rt), 327);
     link.carries(&rt);
+}
+
+// 4,000 packets of telemetry, 290 in a frame.
+#[test]
+fn telemetry_on_its_way(rt: HostRuntime) {
+    let config = Config {
+        frame_length: 2048,
+        ..config()
+    };
+    let mut link = Link::new(&rt, rt.alloc(), config);
+    for count in 0..4000 {
+        let packet = measurement(&rt, rt.alloc(), 7, count);
+        link.does(&rt, Event::Telemetry(packet.as_slice()));
+    }
+    for _ in 0..14 {
+        link.happens(&rt, Event::Report);
+    }
+    assert_eq!(rt; link.hears(&rt), 14);
 }
 
 // Brings the ground's sender into a state, in a session that began by Unlock or by this directive.

@@ -53,8 +53,8 @@ fn repeated(rt: &impl Abort, alloc: Global, record: &[u8], number: usize) -> Vec
     octets
 }
 
-// Lengths of a stream: two octets, just past 64 KiB, past twice as much, and some megabytes.
-const LENGTHS: [usize; 4] = [2, 65_600, 131_200, 4_000_000];
+// Lengths of a stream: two octets, just past 64 KiB, past twice as much, and as much as 10^6 of the shortest packets.
+const LENGTHS: [usize; 4] = [2, 65_600, 131_200, 7_000_000];
 
 fn cuts_each_length<S: Cutter + Drop>(rt: &impl Abort, alloc: Global, cutter: S, record: &[u8]) {
     let mut cutter = cutter;
