@@ -17,7 +17,6 @@ use octets::Splitter;
 use std::alloc::AllocError;
 use tc_frame::{Body, Check, Command, FrameLayout, TcFault, check_if, decode};
 
-#[inline(always)]
 fn put_state(room: &mut [u8], at: usize, state: FarmMode) -> usize
     requires { at + 7 ≤ length room.old }
     ensures put { take result room.new ≡ take at room.old ++ state_word state }
@@ -30,7 +29,6 @@ fn put_state(room: &mut [u8], at: usize, state: FarmMode) -> usize
     }
 }
 
-#[inline(always)]
 fn put_verdict(room: &mut [u8], at: usize, verdict: Verdict) -> usize
     requires { at + 9 ≤ length room.old }
     ensures put { take result room.new ≡ take at room.old ++ (verdict_row verdict).1 }
@@ -47,14 +45,12 @@ fn put_verdict(room: &mut [u8], at: usize, verdict: Verdict) -> usize
 }
 
 #[tactic(auto, using(std::proofs::lemmas::Fmt::decimal_digit))]
-#[inline(always)]
 fn digit_of_flag(flag: bool) -> u8
     ensures { result ∷ [] ≡ decimal (flag_number flag) }
 {
     if flag { b'1' } else { b'0' }
 }
 
-#[inline(always)]
 fn put_flag(room: &mut [u8], at: usize, word: &[u8; 3], flag: bool) -> usize
     requires { at + 4 ≤ length room.old }
     ensures put { take result room.new ≡ take at room.old
@@ -65,7 +61,6 @@ fn put_flag(room: &mut [u8], at: usize, word: &[u8; 3], flag: bool) -> usize
     put_word(room, next, &[digit_of_flag(flag)])
 }
 
-#[inline(always)]
 fn put_flags(room: &mut [u8], at: usize, farm: &Farm) -> usize
     requires { at + 32 ≤ length room.old }
     ensures put { take result room.new ≡ take at room.old ++ flags_text farm.now }
@@ -78,7 +73,6 @@ fn put_flags(room: &mut [u8], at: usize, farm: &Farm) -> usize
     put_word(room, next, b"\n")
 }
 
-#[inline(always)]
 fn put_receiver(room: &mut [u8], at: usize, farm: &Farm) -> usize
     requires { at + 64 ≤ length room.old }
     ensures put { take result room.new ≡ take at room.old ++ state_text farm.now }
@@ -89,7 +83,6 @@ fn put_receiver(room: &mut [u8], at: usize, farm: &Farm) -> usize
     put_flags(room, next, farm)
 }
 
-#[inline(always)]
 fn put_ad(room: &mut [u8], at: usize, n: u8, verdict: Verdict) -> usize
     requires { at + 32 ≤ length room.old }
     ensures put { take result room.new ≡ take at room.old
@@ -102,7 +95,6 @@ fn put_ad(room: &mut [u8], at: usize, n: u8, verdict: Verdict) -> usize
     put_word(room, next, b" ")
 }
 
-#[inline(always)]
 fn put_set_vr(room: &mut [u8], at: usize, vr: u8) -> usize
     requires { at + 32 ≤ length room.old }
     ensures put { take result room.new ≡ take at room.old
@@ -114,7 +106,6 @@ fn put_set_vr(room: &mut [u8], at: usize, vr: u8) -> usize
 }
 
 /// Gives a frame to the receiver, whose buffer is free, and puts what it made of it.
-#[inline(always)]
 fn put_body(room: &mut [u8], at: usize, farm: &mut Farm, body: &Body) -> usize
     requires { at + 32 ≤ length room.old }
     ensures put { take result room.new ≡ take at room.old
@@ -143,7 +134,6 @@ fn put_body(room: &mut [u8], at: usize, farm: &mut Farm, body: &Body) -> usize
 }
 
 /// Gives a frame to the receiver, and puts its line.
-#[inline(always)]
 fn put_frame(room: &mut [u8], at: usize, farm: &mut Farm, index: u64, body: &Body) -> usize
     requires { at + 128 ≤ length room.old }
     ensures put { take result room.new ≡ take at room.old ++ (decimal index ++ (codes " "
@@ -158,7 +148,6 @@ fn put_frame(room: &mut [u8], at: usize, farm: &mut Farm, index: u64, body: &Bod
 }
 
 /// Gives a record to the receiver, appends its line, and answers whether it is a frame.
-#[inline(always)]
 fn push_frame(
     text: &mut Text,
     farm: &mut Farm,

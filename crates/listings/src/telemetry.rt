@@ -77,7 +77,6 @@ impl<K: FrameLength> Listing<FrameCutter<K>> for TelemetryListing<K> {
     }
 }
 
-#[inline(always)]
 fn put_counts(room: &mut [u8], at: usize, index: u64, frame: &TmFrame) -> usize
     requires { at + 64 ≤ length room.old }
     ensures put { take result room.new ≡ take at room.old
@@ -91,7 +90,6 @@ fn put_counts(room: &mut [u8], at: usize, index: u64, frame: &TmFrame) -> usize
     put_field(room, next, b" vc=", u16::from(frame.vc_count))
 }
 
-#[inline(always)]
 fn put_pointer(room: &mut [u8], at: usize, pointer: Pointer) -> usize
     requires { at + 32 ≤ length room.old }
     ensures put { take result room.new ≡ take at room.old
@@ -108,7 +106,6 @@ fn put_pointer(room: &mut [u8], at: usize, pointer: Pointer) -> usize
     }
 }
 
-#[inline(always)]
 fn put_gap(room: &mut [u8], at: usize, gap: Gap) -> usize
     requires { at + 16 ≤ length room.old }
     ensures put { take result room.new ≡ take at room.old
@@ -124,7 +121,6 @@ fn put_gap(room: &mut [u8], at: usize, gap: Gap) -> usize
     }
 }
 
-#[inline(always)]
 fn put_frame(room: &mut [u8], at: usize, index: u64, frame: &TmFrame, gap: Gap) -> usize
     requires { at + 128 ≤ length room.old }
     ensures put { take result room.new ≡ take at room.old
@@ -138,7 +134,6 @@ fn put_frame(room: &mut [u8], at: usize, index: u64, frame: &TmFrame, gap: Gap) 
 }
 
 /// Appends the line of each packet that is finished.
-#[inline(always)]
 fn push_finished(text: &mut Text, packets: &[Vec<u8>]) -> Result<(), AllocError>
     ensures { Appends result text.old text.new (finished_lines (octets_of packets.now)) }
 {
@@ -148,7 +143,6 @@ fn push_finished(text: &mut Text, packets: &[Vec<u8>]) -> Result<(), AllocError>
     Ok(())
 }
 
-#[inline(always)]
 fn push_packet(text: &mut Text, packet: &[u8]) -> Result<(), AllocError>
     ensures { Appends result text.old text.new (finished_line packet.now) }
 {
