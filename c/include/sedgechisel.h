@@ -248,9 +248,13 @@ enum sedge_next {
 };
 
 /* A sender, which the caller keeps. Begin it with sedge_fop_open; its fields may be read at any time. Each call checks
- * that the fields are those of a sender: the ranges below; in S1 to S5 the number of units sent is V(S) - NN(R), modulo
- * 256; in S6 no unit is sent or waits, and the timer is off; only S5 has a control command. If they are not, it returns
- * SEDGE_DAMAGED and changes nothing. */
+ * that the fields are those that a sender comes to. If they are not, it returns SEDGE_DAMAGED and changes nothing:
+ * - the ranges below; V(S) - NN(R), modulo 256, is at most room, and in S1 to S5 it is the number of units sent;
+ * - units are sent in S1 to S3 alone, in S2 and S3 at least one; in S6 none waits;
+ * - the timer runs in S1 to S3 just while units are sent, in S4, and in S5 once the command is sent; in S6 it is off;
+ * - only S5 has a control command, and always one; the number of Set V(R) is V(S).
+ * The count may be any from 1. So a sender of such fields goes on: while it awaits a report the timer runs, or a
+ * command is due. */
 struct sedge_fop {
     uint16_t timer;  /* the timer's value in ticks, at least 1 */
     uint16_t ticks;  /* the ticks that are left while the timer runs, and 0 while it is off */

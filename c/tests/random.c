@@ -144,18 +144,40 @@ static struct sedge_fop *any_sender(void) {
     if (below(2) == 0) return fop;
     fop->room = (uint8_t)(1 + below(127));
     fop->state = (uint8_t)(1 + below(6));
-    fop->sent = fop->state == SEDGE_FOP_S6 ? 0 : (uint8_t)below(fop->room + 1u);
-    fop->vs = (uint8_t)(fop->nn + fop->sent);
+    fop->sent = fop->state <= SEDGE_FOP_S3 ? (uint8_t)below(fop->room + 1u) : 0;
+    fop->vs = (uint8_t)(fop->nn + (fop->state == SEDGE_FOP_S6 ? below(fop->room + 2u) : fop->sent));
     fop->due = (uint8_t)below(fop->sent + 1u);
     fop->window = (uint8_t)(1 + below(fop->room));
     fop->waiting = fop->state == SEDGE_FOP_S6 ? 0 : (uint8_t)below(2);
     fop->limit = (uint8_t)(1 + below(255));
     fop->count = (uint8_t)(1 + below(3));
     fop->timer = (uint16_t)(1 + below(65535));
-    fop->ticks = fop->state == SEDGE_FOP_S6 ? 0 : (uint16_t)below(fop->timer + 1u);
     fop->control = fop->state == SEDGE_FOP_S5 ? (uint8_t)(1 + below(4)) : SEDGE_CONTROL_IDLE;
-    fop->vr = fop->control >= SEDGE_CONTROL_SET_VR_DUE ? (uint8_t)below(256) : 0;
+    fop->vr = fop->control >= SEDGE_CONTROL_SET_VR_DUE ? (uint8_t)(fop->vs + (below(8) == 0)) : 0;
+    fop->ticks = (uint16_t)(1 + below(fop->timer));
+    if (fop->state == SEDGE_FOP_S6 || (fop->state <= SEDGE_FOP_S3 && fop->sent == 0) || below(8) == 0) fop->ticks = 0;
     return fop;
+}
+
+/* The numbers of a sender: what each of the profile's rules leaves of them. */
+static int is_sender(const struct sedge_fop *fop) {
+    const int between = (uint8_t)(fop->vs - fop->nn), runs = fop->ticks > 0, control = fop->control;
+    const int sets = control == SEDGE_CONTROL_SET_VR_DUE || control == SEDGE_CONTROL_SET_VR_SENT;
+    const int due = control == SEDGE_CONTROL_SET_VR_DUE || control == SEDGE_CONTROL_UNLOCK_DUE;
+    if (fop->waiting > 1 || control > SEDGE_CONTROL_SET_VR_SENT || (!sets && fop->vr != 0)) return 0;
+    if (fop->timer == 0 || fop->limit == 0 || fop->count == 0 || fop->window == 0) return 0;
+    if (fop->room > 127 || fop->window > fop->room || between > fop->room || fop->due > fop->sent) return 0;
+    if (fop->state != SEDGE_FOP_S5 && control != SEDGE_CONTROL_IDLE) return 0;
+    switch (fop->state) {
+    case SEDGE_FOP_S1: return between == fop->sent && runs == (fop->sent > 0);
+    case SEDGE_FOP_S2: case SEDGE_FOP_S3: return between == fop->sent && runs && fop->sent > 0;
+    case SEDGE_FOP_S4: return between == 0 && fop->sent == 0 && runs;
+    case SEDGE_FOP_S5:
+        return between == 0 && fop->sent == 0 && control != SEDGE_CONTROL_IDLE && (due || runs)
+               && (!sets || fop->vr == fop->vs);
+    case SEDGE_FOP_S6: return fop->sent == 0 && !fop->waiting && !runs;
+    default: return 0;
+    }
 }
 
 static void senders(void) {
@@ -195,7 +217,8 @@ static void senders(void) {
         WANT(answer <= SEDGE_ALERT_TERMINATED || answer == SEDGE_DAMAGED);
         WANT(answer != SEDGE_DAMAGED || (memcmp(fop, &kept, sizeof kept) == 0 && is_kept(number)));
     }
-    WANT(answer == SEDGE_DAMAGED || which == 0 || sedge_fop_tick(fop) != SEDGE_DAMAGED);
+    WANT(which == 0 || (answer == SEDGE_DAMAGED) == !is_sender(&kept));
+    WANT(answer == SEDGE_DAMAGED || (which == 0 && answer != SEDGE_OK) || is_sender(fop));
 }
 
 static void telecommand_frames(void) {

@@ -463,20 +463,24 @@ static void is_damaged_sender(struct sedge_fop fop) {
     WANT(memcmp(&fop, &kept, sizeof fop) == 0);
 }
 
-static void damaged_senders(void) {
-    static const struct sedge_fop good = {10, 4, 5, SEDGE_FOP_S5, 7, 5, 1, 2, 1, 5, 3, 1, SEDGE_CONTROL_SET_VR_SENT, 5};
-    struct sedge_fop fop = good;
-    WANT(sedge_fop_tick(&fop) == SEDGE_NO_ALERT && fop.ticks == 3);
 #define DAMAGED(field, value)                                                                                          \
     fop = good;                                                                                                        \
     fop.field = value;                                                                                                 \
     is_damaged_sender(fop)
+
+static void damaged_senders(void) {
+    static const struct sedge_fop good = {10, 4, 5, SEDGE_FOP_S3, 7, 5, 1, 2, 1, 5, 3, 1, SEDGE_CONTROL_IDLE, 0};
+    struct sedge_fop fop = good;
+    WANT(sedge_fop_tick(&fop) == SEDGE_NO_ALERT && fop.ticks == 3);
     DAMAGED(timer, 0);
+    DAMAGED(ticks, 0);
     DAMAGED(room, 128);
     DAMAGED(room, 4);
     DAMAGED(state, 0);
     DAMAGED(state, 7);
-    DAMAGED(state, SEDGE_FOP_S1);
+    DAMAGED(state, SEDGE_FOP_S4);
+    DAMAGED(state, SEDGE_FOP_S5);
+    DAMAGED(state, SEDGE_FOP_S6);
     DAMAGED(vs, 8);
     DAMAGED(waiting, 2);
     DAMAGED(sent, 3);
@@ -486,6 +490,33 @@ static void damaged_senders(void) {
     DAMAGED(count, 0);
     DAMAGED(control, 5);
     DAMAGED(control, SEDGE_CONTROL_UNLOCK_SENT);
+    DAMAGED(vr, 1);
+}
+
+/* In S1 with nothing sent, in S4 and S6, and in S5 with the command on its way. */
+static void damaged_senders_without_units(void) {
+    struct sedge_fop good = {10, 4, 5, SEDGE_FOP_S5, 7, 7, 1, 0, 0, 5, 3, 1, SEDGE_CONTROL_SET_VR_SENT, 7}, fop = good;
+    WANT(sedge_fop_tick(&fop) == SEDGE_NO_ALERT && fop.ticks == 3);
+    DAMAGED(ticks, 0);
+    DAMAGED(nn, 6);
+    DAMAGED(vr, 8);
+    DAMAGED(control, SEDGE_CONTROL_UNLOCK_SENT);
+    good.vr = good.control = SEDGE_CONTROL_IDLE;
+    is_damaged_sender(good);
+    good.state = SEDGE_FOP_S4;
+    WANT((fop = good, sedge_fop_tick(&fop)) == SEDGE_NO_ALERT && fop.ticks == 3);
+    DAMAGED(ticks, 0);
+    DAMAGED(state, SEDGE_FOP_S1);
+    good.state = SEDGE_FOP_S1;
+    good.ticks = 0;
+    WANT((fop = good, sedge_fop_tick(&fop)) == SEDGE_NO_ALERT && fop.ticks == 0);
+    DAMAGED(state, SEDGE_FOP_S2);
+    DAMAGED(state, SEDGE_FOP_S6);
+    good.state = SEDGE_FOP_S6;
+    good.waiting = 0;
+    good.nn = 2;
+    WANT((fop = good, sedge_fop_tick(&fop)) == SEDGE_NO_ALERT && fop.state == SEDGE_FOP_S6);
+    DAMAGED(nn, 1);
 }
 
 /* ---- Telecommand frames. ---- */
@@ -947,6 +978,7 @@ int main(void) {
     the_directives();
     refusals_of_a_sender();
     damaged_senders();
+    damaged_senders_without_units();
     telecommand_frames();
     refused_telecommand_frames();
     a_wrong_octet();

@@ -1,5 +1,6 @@
 -- How the fields of a sender of units change: as the rules over numbers say, and the queues with them.
-use Rattle.std.proofs.Common.{◌≡◌, Option, refl, sym, ap, subst, ◌∙◌, arith}
+use Rattle.std.proofs.Common.{◌≡◌, ◌≤◌, Option, refl, sym, ap, subst, ◌∙◌, arith}
+use Rattle.std.specs.Prelude.{◌↔◌, IsSome}
 use Rattle.circular_buffer.specs.Buffer.{Buffer, buffer, keep_last}
 use Rattle.cop1.specs.declared.fop.Fop.TheInside.{Inside}
 use Rattle.cop1.specs.Units.{IsFop, FopOutcome}
@@ -18,10 +19,14 @@ module _ {U : Type 0} where
         numbered = λ h. is.sender.agrees.numbered h ∙ sym (sent ∙ is.fits.units);
         within = omega (arith, sent, is.fits.units, is.sender.ranges.within);
         window = is.sender.ranges.window;
+        repeating = λ h two. omega (arith, sent, is.fits.units, is.sender.agrees.repeating h two);
         unsent = λ h. ap (marked_last s.sent.due)
             (no_units f.sent.items s.sent.count is.fits.units (is.sender.agrees.unsent h));
         unsubmitted = λ h. no_unit f.waiting s.waiting is.fits.waiting (is.sender.agrees.unsubmitted h);
+        timed = λ h. subst (λ n. IsSome s.ticks ↔ 1 ≤ n) (sym (sent ∙ is.fits.units)) (is.sender.agrees.timed h);
+        checking = is.sender.agrees.checking;
         untimed = is.sender.agrees.untimed;
+        commanding = is.sender.agrees.commanding;
         commanded = is.sender.agrees.commanded;
         limit = is.sender.ranges.limit;
         timer = is.sender.ranges.timer;

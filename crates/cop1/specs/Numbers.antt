@@ -1,12 +1,15 @@
 -- The sender's numbers (CCSDS 232.1-B-2, 5.1), for units that its caller keeps, and what is so of
 -- every sender.
-use Rattle.std.specs.Prelude.{◌≡◌, ◌≢◌, ◌≤◌, ◌<◌, ℕ, ◌+◌, ◌-◌, ◌==◌, Bool, true, false, min}
-use Rattle.std.specs.Prelude.{if◌then◌else◌, Option, Some, None, IfSome}
+use Rattle.std.specs.Prelude.{◌≡◌, ◌≢◌, ◌≤◌, ◌<◌, ◌↔◌, ℕ, ◌+◌, ◌-◌, ◌==◌, Bool, true, false, min}
+use Rattle.std.specs.Prelude.{if◌then◌else◌, Option, Some, None, IfSome, IsSome, is_some, IsTrue}
+use Rattle.tc_frame.specs.declared.frame.Command.{Command}
+use Rattle.tc_frame.specs.declared.frame.Command.TheVariants.{Unlock, SetVr}
 use Rattle.cop1.specs.Modulo.{ahead_by}
-use Rattle.cop1.specs.FopVariables.{Holding, SenderOf, OutcomeOf}
+use Rattle.cop1.specs.FopVariables.{IsActive, Holding, SenderOf, OutcomeOf}
 use Rattle.cop1.specs.FopNew.{new_sender_of}
-use Rattle.cop1.specs.declared.vocabulary.FopMode.TheVariants.{S5, S6}
-use Rattle.cop1.specs.declared.vocabulary.Control.TheVariants.{Idle}
+use Rattle.cop1.specs.declared.vocabulary.FopMode.TheVariants.{S1, S4, S5, S6}
+use Rattle.cop1.specs.declared.vocabulary.Control.{Control}
+use Rattle.cop1.specs.declared.vocabulary.Control.TheVariants.{Idle, Due, Sent}
 
 -- how many units are sent, and how many of the last of them are due to be sent again
 pub record Counted : Type 0 where
@@ -62,6 +65,7 @@ pub record HasRanges (s : SenderNumbers) : Type 0 where
   -- frame sequence numbers count modulo 256
   pub vs : s.vs < 256
   pub nn : s.nn < 256
+  pub apart : ahead_by s.vs s.nn ≤ s.room
   pub within : s.sent.count ≤ s.room
   pub room : s.room ≤ 127
   -- the window is from 1 to half the receiver's width
@@ -74,15 +78,31 @@ pub record HasRanges (s : SenderNumbers) : Type 0 where
   pub ticks : IfSome s.ticks (λ left. 1 ≤ left)
   pub count : 1 ≤ s.count
 
+-- a command to set V(R) sets it to V(S)
+abbrev pub SetsTo : ℕ → Command → Type 0
+SetsTo vs Unlock = Unit {0}
+SetsTo vs (SetVr vr) = vr ≡ vs
+
+-- in S5 a control command is due, or it is sent and the timer runs
+abbrev pub IsCommanding : ℕ → Bool → Control → Type 0
+IsCommanding vs runs Idle = ⊥
+IsCommanding vs runs (Due command) = SetsTo vs command
+IsCommanding vs runs (Sent command) = IsTrue runs × SetsTo vs command
+
 -- what the state says of the other numbers
 pub record AgreesWithState (s : SenderNumbers) : Type 0 where
   -- in S1 to S5 the units that are sent have the numbers from NN(R) to V(S) - 1
   pub numbered : s.state ≢ S6 → ahead_by s.vs s.nn ≡ s.sent.count
-  -- in S6 nothing is there to be numbered, and the timer is off
-  pub unsent : s.state ≡ S6 → s.sent.count ≡ 0
+  -- in S2 and S3 there are some, in S4 to S6 none, and in S6 none waits either
+  pub repeating : IsActive s.state → s.state ≢ S1 → 1 ≤ s.sent.count
+  pub unsent : (IsActive s.state → ⊥) → s.sent.count ≡ 0
   pub unsubmitted : s.state ≡ S6 → s.waiting ≡ false
+  -- the timer runs in S1 to S3 while units are sent, and in S4, and is off in S6
+  pub timed : IsActive s.state → IsSome s.ticks ↔ 1 ≤ s.sent.count
+  pub checking : s.state ≡ S4 → IsSome s.ticks
   pub untimed : s.state ≡ S6 → s.ticks ≡ None
   -- a control command is there in S5 alone
+  pub commanding : s.state ≡ S5 → IsCommanding s.vs (is_some s.ticks) s.control
   pub commanded : s.state ≢ S5 → s.control ≡ Idle
 
 -- what is so of every sender

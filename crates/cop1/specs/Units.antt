@@ -1,11 +1,13 @@
 -- The sender of units, each of those sent with a mark where it is to be sent again, and what is so
 -- of every one.
 use Rattle.std.specs.Prelude.{◌≡◌, ◌≢◌, ◌≤◌, ℕ, Bool, true, false, List, [], ◌∷◌, ◌++◌, length, map}
-use Rattle.std.specs.Prelude.{drop, ◌+◌, if◌then◌else◌, Option, Some, None, IfSome}
+use Rattle.std.specs.Prelude.{drop, ◌+◌, ◌↔◌, if◌then◌else◌, Option, Some, None, IfSome, IsSome}
+use Rattle.std.specs.Prelude.{is_some}
 use Rattle.cop1.specs.Modulo.{ahead_by}
-use Rattle.cop1.specs.FopVariables.{Holding, SenderOf, OutcomeOf}
+use Rattle.cop1.specs.FopVariables.{IsActive, Holding, SenderOf, OutcomeOf}
 use Rattle.cop1.specs.FopNew.{new_sender_of}
-use Rattle.cop1.specs.declared.vocabulary.FopMode.TheVariants.{S5, S6}
+use Rattle.cop1.specs.Numbers.{IsCommanding}
+use Rattle.cop1.specs.declared.vocabulary.FopMode.TheVariants.{S1, S4, S5, S6}
 use Rattle.cop1.specs.declared.vocabulary.Control.TheVariants.{Idle}
 
 -- a unit of the sent queue, and whether it is marked to be sent again
@@ -78,11 +80,16 @@ pub record IsFop {U : Type 0} (s : FopState U) : Type 0 where
   pub numbered : s.state ≢ S6 → ahead_by s.vs s.nn ≡ length s.sent
   pub within : length s.sent ≤ s.room
   pub window : s.window ≤ s.room
-  -- in S6 nothing is queued to be numbered, and the timer is off
-  pub unsent : s.state ≡ S6 → s.sent ≡ []
+  -- in S2 and S3 there are some, in S4 to S6 none, and in S6 none waits either
+  pub repeating : IsActive s.state → s.state ≢ S1 → 1 ≤ length s.sent
+  pub unsent : (IsActive s.state → ⊥) → s.sent ≡ []
   pub unsubmitted : s.state ≡ S6 → s.waiting ≡ None
+  -- the timer runs in S1 to S3 while units are sent, and in S4, and is off in S6
+  pub timed : IsActive s.state → IsSome s.ticks ↔ 1 ≤ length s.sent
+  pub checking : s.state ≡ S4 → IsSome s.ticks
   pub untimed : s.state ≡ S6 → s.ticks ≡ None
   -- a control command is there in S5 alone
+  pub commanding : s.state ≡ S5 → IsCommanding s.vs (is_some s.ticks) s.control
   pub commanded : s.state ≢ S5 → s.control ≡ Idle
   pub limit : 1 ≤ s.limit
   pub timer : 1 ≤ s.timer

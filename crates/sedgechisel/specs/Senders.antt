@@ -2,6 +2,7 @@
 use Rattle.std.specs.Prelude.{◌≡◌, ℕ, Bool, true, false, not, [], ◌∷◌, ◌&&◌, ◌==◌, nat_le}
 use Rattle.std.specs.Prelude.{if◌then◌else◌, Option, Some, None, is_some, Result, Ok, Err}
 use Rattle.clcw.specs.declared.word.Clcw.{Clcw}
+use Rattle.tc_frame.specs.declared.frame.Command.{Command}
 use Rattle.tc_frame.specs.declared.frame.Command.TheVariants.{Unlock, SetVr}
 use Rattle.cop1.specs.declared.fault.CopFault.{CopFault}
 use Rattle.cop1.specs.declared.vocabulary.Alert.{Alert}
@@ -118,8 +119,10 @@ fields_described k = fields_with k (mode_at k.state) (flag_at k.waiting) (contro
 -- the ranges of a sender's numbers
 abbrev pub has_ranges : SenderNumbers → Bool
 has_ranges s =
-    nat_le s.sent.count s.room && nat_le s.room 127 && nat_le 1 s.window && nat_le s.window s.room
-    && nat_le s.sent.due s.sent.count && nat_le 1 s.limit && nat_le 1 s.timer && nat_le 1 s.count
+    nat_le (ahead_by s.vs s.nn) s.room
+    && nat_le s.sent.count s.room && nat_le s.room 127 && nat_le 1 s.window
+    && nat_le s.window s.room && nat_le s.sent.due s.sent.count && nat_le 1 s.limit
+    && nat_le 1 s.timer && nat_le 1 s.count
 
 abbrev pub is_idle : Control → Bool
 is_idle Idle = true
@@ -130,11 +133,30 @@ is_idle (Sent command) = false
 abbrev pub is_numbered : SenderNumbers → Bool
 is_numbered s = ahead_by s.vs s.nn == s.sent.count
 
--- in S6 nothing is there, and a control command is there in S5 alone
+-- a command to set V(R) sets it to V(S)
+abbrev pub sets_to : ℕ → Command → Bool
+sets_to vs Unlock = true
+sets_to vs (SetVr vr) = vr == vs
+
+-- a control command is due, or it is sent and the timer runs
+abbrev pub is_commanding : ℕ → Bool → Control → Bool
+is_commanding vs runs Idle = false
+is_commanding vs runs (Due command) = sets_to vs command
+is_commanding vs runs (Sent command) = runs && sets_to vs command
+
+-- the timer runs while units are sent
+abbrev pub is_timed : SenderNumbers → Bool
+is_timed s = if is_some s.ticks then nat_le 1 s.sent.count else s.sent.count == 0
+
+-- units are sent in S1 to S3 alone, and in S2 and S3 there are some; the timer runs while there
+-- are, and in S4; a control command is there in S5 alone; in S6 nothing is there
 abbrev pub agrees_in : SenderNumbers → FopMode → Bool
-agrees_in s S5 = is_numbered s
+agrees_in s S1 = is_numbered s && is_idle s.control && is_timed s
+agrees_in s S4 = is_numbered s && is_idle s.control && is_some s.ticks && (s.sent.count == 0)
+agrees_in s S5 =
+    is_numbered s && (s.sent.count == 0) && is_commanding s.vs (is_some s.ticks) s.control
 agrees_in s S6 = (s.sent.count == 0) && not s.waiting && not (is_some s.ticks) && is_idle s.control
-agrees_in s _ = is_numbered s && is_idle s.control
+agrees_in s _ = is_numbered s && is_idle s.control && is_some s.ticks && nat_le 1 s.sent.count
 
 -- a sender has such numbers
 abbrev pub is_sender : SenderNumbers → Bool

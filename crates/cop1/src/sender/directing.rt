@@ -1,16 +1,16 @@
 // What a directive does at the sender.
 
-use super::Sender;
+ghost use Rattle.std.specs.Prelude.{◌≡◌};
+ghost use Rattle.cop1.specs.FopDirective.{after_begin};
+ghost use Rattle.cop1.specs.SenderFields.{numbers_of};
+
+use super::{Sender, SenderFields};
 use crate::fault::CopFault;
 use crate::vocabulary::{Alert, Control, Directive, FopMode};
 use tc_frame::Command;
 
 impl Sender {
-    ghost use Rattle.std.specs.Prelude.{◌≡◌, ◌≢◌};
-    ghost use Rattle.cop1.specs.declared.vocabulary.FopMode.{FopMode};
-    ghost use Rattle.cop1.specs.declared.vocabulary.Control.{Control};
-    ghost use Rattle.cop1.specs.declared.vocabulary.Directive.{Directive};
-    ghost use Rattle.cop1.specs.FopDirective.{after_begin};
+    ghost use Rattle.std.specs.Prelude.{◌≡◌};
     ghost use Rattle.cop1.specs.NumbersStep.{sender_step, Direct};
 
     /// Follows a directive; the alert is that of `Terminate`, and all units are let go of (CCSDS
@@ -35,16 +35,20 @@ impl Sender {
             }
             Directive::Terminate => return Ok(self.alert(Alert::Terminated)),
             _ if self.fields.state != FopMode::S6 => return Err(CopFault::WrongState),
-            Directive::InitWithoutCheck => self.begin(self.fields.vs, FopMode::S1, Control::Idle),
+            Directive::InitWithoutCheck => {
+                self.fields = begun(self.fields, self.fields.vs, FopMode::S1, Control::Idle);
+            }
             Directive::InitWithCheck => {
-                self.begin(self.fields.vs, FopMode::S4, Control::Idle);
-                self.restart();
+                self.fields = begun(self.fields, self.fields.vs, FopMode::S4, Control::Idle);
+                self.fields.ticks = Some(self.fields.timer);
             }
             Directive::InitUnlock => {
-                self.begin(self.fields.vs, FopMode::S5, Control::Due(Command::Unlock));
+                let due = Control::Due(Command::Unlock);
+                self.fields = begun(self.fields, self.fields.vs, FopMode::S5, due);
             }
             Directive::InitSetVr(number) => {
-                self.begin(number, FopMode::S5, Control::Due(Command::SetVr(number)));
+                let due = Control::Due(Command::SetVr(number));
+                self.fields = begun(self.fields, number, FopMode::S5, due);
             }
             Directive::SetVs(number) => {
                 self.fields.vs = number;
@@ -53,22 +57,26 @@ impl Sender {
         }
         Ok(None)
     }
+}
 
-    // Leaves S6 with this number for V(S) and NN(R).
-    fn begin(&mut self, number: u8, state: FopMode, control: Control)
-        requires initial { self.old.state ≡ FopMode.S6 }
-        requires commanded { state ≢ FopMode.S5 → control ≡ Control.Idle }
-        ensures { self.new ≡ record (after_begin self.old) {
-          vs = number;
-          nn = number;
-          state = state;
-          control = control;
-        } }
-    {
-        self.fields.vs = number;
-        self.fields.nn = number;
-        self.fields.count = 1;
-        self.fields.state = state;
-        self.fields.control = control;
+// It leaves S6 with this number for V(S) and NN(R).
+fn begun(fields: SenderFields, number: u8, state: FopMode, control: Control) -> SenderFields
+    ensures { numbers_of result ≡ record (after_begin (numbers_of fields)) {
+      vs = number;
+      nn = number;
+      state = state;
+      control = control;
+    } }
+{
+    SenderFields {
+        state,
+        vs: number,
+        nn: number,
+        waiting: false,
+        sent: 0,
+        due: 0,
+        count: 1,
+        control,
+        ..fields
     }
 }

@@ -3,6 +3,7 @@
 ghost use Rattle.std.specs.Prelude.{◌≡◌};
 
 use super::Sender;
+use super::words::acknowledged;
 use crate::vocabulary::{Alert, Control, FopMode};
 use bitflags::Flags;
 use clcw::{Clcw, ClcwFlags};
@@ -17,7 +18,7 @@ pub struct ReportAnswer {
 }
 
 impl Sender {
-    ghost use Rattle.std.specs.Prelude.{◌≡◌, ◌<◌, true, false};
+    ghost use Rattle.std.specs.Prelude.{◌≡◌, ◌≢◌, ◌<◌, ◌≤◌, true, false};
     ghost use Rattle.cop1.specs.declared.vocabulary.FopMode.{FopMode};
     ghost use Rattle.cop1.specs.NumbersStep.{report_answer, sender_step, Report};
     ghost use Rattle.cop1.specs.FopReport.{report_while_active, report_in_S4, report_in_S5, nothing_new, move_on, ask_again, retransmits, ask_for_others, ask_for_all};
@@ -93,7 +94,7 @@ impl Sender {
         ensures answer { result ≡ report_answer (move_on self.old value) }
     {
         let released = value.wrapping_sub(self.fields.nn);
-        self.acknowledge(value);
+        self.fields = acknowledged(self.fields, value);
         self.fields.count = 1;
         self.fields.ticks = if self.fields.sent == 0 {
             None
@@ -111,11 +112,12 @@ impl Sender {
     fn ask_for_others(&mut self, value: u8, wait: bool) -> ReportAnswer
         requires active { IsActive self.old.state }
         requires inside { is_outside self.old value ≡ false }
+        requires others { value ≢ self.old.vs }
         ensures after { self.new ≡ (ask_for_others self.old value wait).after }
         ensures answer { result ≡ report_answer (ask_for_others self.old value wait) }
     {
         let released = value.wrapping_sub(self.fields.nn);
-        self.acknowledge(value);
+        self.fields = acknowledged(self.fields, value);
         self.fields.count = 1;
         let alert = self.ask_again(wait, true);
         ReportAnswer { released, alert }
@@ -123,7 +125,8 @@ impl Sender {
 
     // Rule 8: nothing is acknowledged, and all that was sent asked for.
     fn ask_for_all(&mut self, wait: bool) -> Option<Alert>
-        requires { IsActive self.old.state }
+        requires active { IsActive self.old.state }
+        requires sent { 1 ≤ self.old.sent.count }
         ensures after { self.new ≡ (ask_for_all self.old wait).after }
         ensures answer { result ≡ (ask_for_all self.old wait).answer }
     {
@@ -134,6 +137,7 @@ impl Sender {
     // Units are asked for again, which may be sent once alone, or not while the receiver waits.
     fn ask_again(&mut self, wait: bool, repeats: bool) -> Option<Alert>
         requires active { IsActive self.old.state }
+        requires sent { 1 ≤ self.old.sent.count }
         requires countable { repeats ≡ true → self.old.count < 255 }
         ensures after { self.new ≡ (ask_again self.old wait (retransmits self.old repeats)).after }
         ensures answer { result ≡ (ask_again self.old wait (retransmits self.old repeats)).answer }

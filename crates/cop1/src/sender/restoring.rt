@@ -1,15 +1,18 @@
 // A sender from what was kept of it.
 
 ghost use Rattle.std.specs.Prelude.{◌≡◌, ◌↔◌, IsTrue, IsOk, IfOk, IfErr};
-ghost use Rattle.cop1.specs.Numbers.{IsSender, HasRanges, AgreesWithState};
+ghost use Rattle.cop1.specs.Numbers.{IsSender, HasRanges, AgreesWithState, IsCommanding, SetsTo};
 ghost use Rattle.cop1.specs.SenderFields.{numbers_of};
 
 use super::{Sender, SenderFields};
 use crate::fault::CopFault;
 use crate::vocabulary::{Control, FopMode};
+use tc_frame::Command;
 
 impl Sender {
-    /// The sender with these numbers, which `fields` gave. Refuses numbers that no sender has.
+    /// The sender with these numbers, which `fields` gave. Refuses numbers that no sender comes to; the
+    /// transmission count alone may be any from 1. So a sender goes on: where something is awaited, the
+    /// timer runs or a command is due.
     /// Faults: 9 State.
     pub fn restore(fields: SenderFields) -> Result<Sender, CopFault>
         ensures fields { IfOk result (λ s. s ≡ numbers_of fields) }
@@ -38,6 +41,7 @@ fn has_ranges(fields: SenderFields) -> bool
     fields.room <= 127
         && fields.window >= 1
         && fields.window <= fields.room
+        && fields.vs.wrapping_sub(fields.nn) <= fields.room
         && fields.sent <= fields.room
         && fields.due <= fields.sent
         && fields.limit >= 1
@@ -50,14 +54,34 @@ fn agrees_with_state(fields: SenderFields) -> bool
     ensures { IsTrue result ↔ AgreesWithState (numbers_of fields) }
 {
     let is_numbered = fields.sent == fields.vs.wrapping_sub(fields.nn);
+    let is_idle = fields.control == Control::Idle;
+    let runs = fields.ticks.is_some();
     match fields.state {
-        FopMode::S5 => is_numbered,
-        FopMode::S6 => {
-            fields.sent == 0
-                && !fields.waiting
-                && fields.ticks.is_none()
-                && fields.control == Control::Idle
-        }
-        _ => is_numbered && fields.control == Control::Idle,
+        FopMode::S1 => is_numbered && is_idle && runs == (fields.sent > 0),
+        FopMode::S2 | FopMode::S3 => is_numbered && is_idle && runs && fields.sent > 0,
+        FopMode::S4 => is_numbered && is_idle && runs && fields.sent == 0,
+        FopMode::S5 => is_numbered
+            && fields.sent == 0
+            && is_commanding(fields.vs, runs, fields.control),
+        FopMode::S6 => fields.sent == 0 && !fields.waiting && is_idle && !runs,
+    }
+}
+
+fn is_commanding(vs: u8, runs: bool, control: Control) -> bool
+    ensures { IsTrue result ↔ IsCommanding vs runs control }
+{
+    match control {
+        Control::Idle => false,
+        Control::Due(command) => sets_to(vs, command),
+        Control::Sent(command) => runs && sets_to(vs, command),
+    }
+}
+
+fn sets_to(vs: u8, command: Command) -> bool
+    ensures { IsTrue result ↔ SetsTo vs command }
+{
+    match command {
+        Command::Unlock => true,
+        Command::SetVr(vr) => vr == vs,
     }
 }

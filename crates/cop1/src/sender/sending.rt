@@ -19,8 +19,8 @@ pub enum SenderNext {
 }
 
 impl Sender {
-    ghost use Rattle.std.specs.Prelude.{◌≡◌, ◌≢◌, ◌<◌};
-    ghost use Rattle.cop1.specs.declared.vocabulary.FopMode.{FopMode};
+    ghost use Rattle.std.specs.Prelude.{◌≡◌, ◌<◌};
+    ghost use Rattle.cop1.specs.FopVariables.{IsActive};
     ghost use Rattle.cop1.specs.FopPull.{next_sequence, next_waiting, after_send_first};
     ghost use Rattle.cop1.specs.Numbers.{TheWaiting};
     ghost use Rattle.cop1.specs.NumbersStep.{next_of, sender_step, Next};
@@ -35,8 +35,8 @@ impl Sender {
         ensures answer { result ≡ (sender_step self.old Next).answer }
     {
         if let Control::Due(command) = self.fields.control {
-            self.fields.control = Control::Sent(command);
             self.restart();
+            self.fields.control = Control::Sent(command);
             return SenderNext::Control(command);
         }
         match self.fields.state {
@@ -46,7 +46,7 @@ impl Sender {
     }
 
     fn next_sequence(&mut self) -> SenderNext
-        requires { self.old.state ≢ FopMode.S6 }
+        requires { IsActive self.old.state }
         ensures after { self.new ≡ (next_sequence self.old).after }
         ensures answer { result ≡ next_of (next_sequence self.old).answer }
     {
@@ -61,7 +61,7 @@ impl Sender {
     }
 
     fn next_waiting(&mut self) -> SenderNext
-        requires { self.old.state ≢ FopMode.S6 }
+        requires { IsActive self.old.state }
         ensures after { self.new ≡ (next_waiting self.old).after }
         ensures answer { result ≡ next_of (next_waiting self.old).answer }
     {
@@ -75,7 +75,7 @@ impl Sender {
 
     // The unit that waits is sent, and there is room for it.
     fn send_first(&mut self)
-        requires active { self.old.state ≢ FopMode.S6 }
+        requires active { IsActive self.old.state }
         requires room { self.old.sent.count < self.old.room }
         ensures { self.new ≡ after_send_first self.old TheWaiting }
     {
@@ -85,6 +85,6 @@ impl Sender {
         self.fields.waiting = false;
         self.fields.sent += 1;
         self.fields.vs = self.fields.vs.wrapping_add(1);
-        self.restart();
+        self.fields.ticks = Some(self.fields.timer);
     }
 }

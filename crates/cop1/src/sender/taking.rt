@@ -5,7 +5,7 @@ use crate::fault::CopFault;
 use crate::vocabulary::FopMode;
 
 impl Sender {
-    ghost use Rattle.std.specs.Prelude.{◌≡◌};
+    ghost use Rattle.std.specs.Prelude.{◌≡◌, OnErr};
     ghost use Rattle.cop1.specs.Numbers.{IsSender};
     ghost use Rattle.cop1.specs.NumbersStep.{sender_step, Submit};
 
@@ -16,6 +16,7 @@ impl Sender {
         ensures after { self.new ≡ (sender_step self.old Submit).after }
         ensures answer { result ≡ (sender_step self.old Submit).answer }
         ensures holds { IsSender self.new }
+        ensures err { OnErr result (self.new ≡ self.old) }
     {
         if self.fields.state == FopMode::S6 {
             return Err(CopFault::NotOpen);

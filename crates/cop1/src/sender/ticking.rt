@@ -4,9 +4,9 @@ use super::Sender;
 use crate::vocabulary::{Alert, Control, FopMode};
 
 impl Sender {
-    ghost use Rattle.std.specs.Prelude.{◌≡◌, ◌≢◌};
-    ghost use Rattle.cop1.specs.declared.vocabulary.FopMode.{FopMode};
+    ghost use Rattle.std.specs.Prelude.{◌≡◌, IsSome};
     ghost use Rattle.cop1.specs.FopTick.{timer_ended};
+    ghost use Rattle.cop1.specs.FopWords.{after_stop};
     ghost use Rattle.cop1.specs.NumbersStep.{sender_step, Tick};
 
     /// A tick of the clock has passed; an alert where the sender gives up, and all units are let go
@@ -20,14 +20,13 @@ impl Sender {
             self.fields.ticks = Some(left - 1);
             return None;
         }
-        self.fields.ticks = None;
         self.timer_ended()
     }
 
     fn timer_ended(&mut self) -> Option<Alert>
-        requires { self.old.state ≢ FopMode.S6 }
-        ensures after { self.new ≡ (timer_ended self.old self.old.state).after }
-        ensures alert { result ≡ (timer_ended self.old self.old.state).answer }
+        requires { IsSome self.old.ticks }
+        ensures after { self.new ≡ (timer_ended (after_stop self.old) self.old.state).after }
+        ensures alert { result ≡ (timer_ended (after_stop self.old) self.old.state).answer }
     {
         if self.fields.state == FopMode::S4 || self.fields.count >= self.fields.limit {
             return self.alert(Alert::Timer);

@@ -1,12 +1,18 @@
 // The words of the sender's rules: restart, acknowledge, repeat, alert.
 
-use super::Sender;
+ghost use Rattle.std.specs.Prelude.{◌≡◌, ◌≤◌};
+ghost use Rattle.cop1.specs.Modulo.{ahead_by};
+ghost use Rattle.cop1.specs.FopWords.{after_acknowledge};
+ghost use Rattle.cop1.specs.SenderFields.{numbers_of};
+
+use super::{Sender, SenderFields};
 use crate::vocabulary::{Alert, Control, FopMode};
 
 impl Sender {
-    ghost use Rattle.std.specs.Prelude.{◌≡◌, ◌<◌, ◌≢◌, false};
+    ghost use Rattle.std.specs.Prelude.{◌≡◌, ◌<◌, ◌≤◌, ◌≢◌};
     ghost use Rattle.cop1.specs.declared.vocabulary.FopMode.{FopMode};
-    ghost use Rattle.cop1.specs.FopWords.{after_restart, after_acknowledge, after_repeat, alerts, is_outside};
+    ghost use Rattle.cop1.specs.FopVariables.{IsActive};
+    ghost use Rattle.cop1.specs.FopWords.{after_restart, after_repeat, alerts, is_outside};
 
     pub(super) fn is_outside(&self, value: u8) -> bool
         ensures { result ≡ is_outside self.now value }
@@ -15,25 +21,16 @@ impl Sender {
     }
 
     pub(super) fn restart(&mut self)
-        requires { self.old.state ≢ FopMode.S6 }
+        requires begun { self.old.state ≢ FopMode.S6 }
+        requires sent { IsActive self.old.state → 1 ≤ self.old.sent.count }
         ensures { self.new ≡ after_restart self.old }
     {
         self.fields.ticks = Some(self.fields.timer);
     }
 
-    // The units before a value that is not outside are let go of.
-    pub(super) fn acknowledge(&mut self, value: u8)
-        requires active { self.old.state ≢ FopMode.S6 }
-        requires inside { is_outside self.old value ≡ false }
-        ensures { self.new ≡ after_acknowledge self.old value }
-    {
-        self.fields.sent -= value.wrapping_sub(self.fields.nn);
-        self.fields.due = self.fields.due.min(self.fields.sent);
-        self.fields.nn = value;
-    }
-
     pub(super) fn repeat(&mut self)
-        requires active { self.old.state ≢ FopMode.S6 }
+        requires active { IsActive self.old.state }
+        requires sent { 1 ≤ self.old.sent.count }
         requires countable { self.old.count < 255 }
         ensures { self.new ≡ after_repeat self.old }
     {
@@ -53,5 +50,19 @@ impl Sender {
         self.fields.ticks = None;
         self.fields.control = Control::Idle;
         Some(alert)
+    }
+}
+
+// The units before a value that is not outside are let go of.
+pub(super) fn acknowledged(fields: SenderFields, value: u8) -> SenderFields
+    requires { ahead_by value fields.nn ≤ fields.sent }
+    ensures { numbers_of result ≡ after_acknowledge (numbers_of fields) value }
+{
+    let sent = fields.sent - value.wrapping_sub(fields.nn);
+    SenderFields {
+        sent,
+        due: fields.due.min(sent),
+        nn: value,
+        ..fields
     }
 }

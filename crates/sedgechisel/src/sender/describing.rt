@@ -13,7 +13,7 @@ use tc_frame::Command;
 
 // The sender that the fields describe, unless they are damaged.
 #[inline(always)]
-#[tactic(auto, using(crate::proofs::Kept::described_none))]
+#[tactic(auto, using(crate::proofs::Kept::described_some, crate::proofs::Kept::described_none))]
 pub(super) fn described(sender: &KeptSender) -> Result<Sender, u8>
     ensures { result ≡ sender_described sender.now }
 {

@@ -190,7 +190,7 @@ fn no_sender_has_other_numbers(rt: HostRuntime) {
     }
 }
 
-fn others(kept: SenderFields) -> [SenderFields; 7] {
+fn others(kept: SenderFields) -> [SenderFields; 12] {
     [
         SenderFields { sent: 2, ..kept },
         SenderFields { due: 2, ..kept },
@@ -201,7 +201,32 @@ fn others(kept: SenderFields) -> [SenderFields; 7] {
             ..kept
         },
         SenderFields {
+            ticks: None,
+            ..kept
+        },
+        SenderFields {
+            sent: 0,
+            nn: kept.vs,
+            ..kept
+        },
+        SenderFields {
+            state: FopMode::S4,
+            ..kept
+        },
+        SenderFields {
+            state: FopMode::S5,
+            control: Control::Due(Command::Unlock),
+            ..kept
+        },
+        SenderFields {
             state: FopMode::S6,
+            ..kept
+        },
+        SenderFields {
+            state: FopMode::S6,
+            sent: 0,
+            vs: kept.nn.wrapping_add(128),
+            ticks: None,
             ..kept
         },
         SenderFields {
@@ -381,7 +406,11 @@ const SAYS: [(u8, u8, &[Says]); 4] = [
             (249, None),
         ],
     ),
-    (9, 9, &[(9, Some(0)), (10, Some(0)), (8, Some(0)), (137, Some(0))]),
+    (
+        9,
+        9,
+        &[(9, Some(0)), (10, Some(0)), (8, Some(0)), (137, Some(0))],
+    ),
     (0, 127, &[(127, Some(127)), (128, None)]),
 ];
 

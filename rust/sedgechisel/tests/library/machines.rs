@@ -260,7 +260,7 @@ fn senders_that_are_none() {
         timer: 10,
         ticks: 4,
         room: 5,
-        state: FopState::S5,
+        state: FopState::S3,
         vs: 7,
         nn: 5,
         waiting: true,
@@ -269,15 +269,22 @@ fn senders_that_are_none() {
         window: 5,
         limit: 3,
         count: 1,
-        control: Control::Sent(Command::SetVr(5)),
+        control: Control::Idle,
     };
+    let sets = Control::Sent(Command::SetVr(7));
+    let commands = FopFields { state: FopState::S5, nn: 7, sent: 0, due: 0, control: sets, ..good };
     assert_eq!(Fop::restore(good).map(|it| it.fields()), Ok(good));
+    assert_eq!(Fop::restore(commands).map(|it| it.fields()), Ok(commands));
     for wrong in [
         FopFields { timer: 0, ..good },
         FopFields { room: 128, ..good },
         FopFields { room: 4, ..good },
-        FopFields { state: FopState::S1, ..good },
+        FopFields { state: FopState::S5, ..good },
         FopFields { state: FopState::S6, ..good },
+        FopFields { ticks: 0, ..good },
+        FopFields { ticks: 0, ..commands },
+        FopFields { state: FopState::S1, ..commands },
+        FopFields { control: Control::Sent(Command::SetVr(5)), ..commands },
         FopFields { vs: 8, ..good },
         FopFields { sent: 3, ..good },
         FopFields { due: 3, ..good },
