@@ -1,6 +1,7 @@
 // The tests by what they are of, and what several of them use.
 
 mod configs;
+mod endings;
 mod equal;
 mod frames;
 mod full_queues;

@@ -1,0 +1,71 @@
+// How a run of the tool ends, as docs/PROFILE.md has it: the status and the line for each outcome and each fault.
+
+use super::equal::equal;
+use listings::{ListingFault, Writer};
+use std::alloc::Global;
+use std::process::Abort;
+use stream_commands::{Outcome, ending};
+
+type Dumped = Result<Outcome, ListingFault>;
+
+static ENDINGS: [(Dumped, u8, &str); 9] = [
+    (Ok(Outcome::Good), 0, ""),
+    (Ok(Outcome::Faulty), 1, ""),
+    (
+        Ok(Outcome::Unreadable(1)),
+        1,
+        "tctool: line 1: unreadable\n",
+    ),
+    (
+        Ok(Outcome::Unreadable(18_446_744_073_709_551_615)),
+        1,
+        "tctool: line 18446744073709551615: unreadable\n",
+    ),
+    (
+        Ok(Outcome::OutOfRange("queue_slots")),
+        1,
+        "tctool: config out of range: queue_slots\n",
+    ),
+    (Err(ListingFault::Read), 3, "tctool: read failed\n"),
+    (Err(ListingFault::Write), 3, "tctool: write failed\n"),
+    (Err(ListingFault::Memory), 3, "tctool: no memory\n"),
+    (Err(ListingFault::TooLong), 3, "tctool: input too long\n"),
+];
+
+#[test]
+fn each_ending(rt: HostRuntime) {
+    for (dumped, status, line) in &ENDINGS {
+        ends(&rt, rt.alloc(), dumped, *status, line);
+    }
+}
+
+fn ends(rt: &impl Abort, alloc: Global, dumped: &Dumped, status: u8, line: &str) {
+    let mut written = Vec::new(alloc);
+    equal(rt, &ending(dumped, &mut Writer::new(&mut written)), &status);
+    equal(rt, &written.as_slice(), &line.as_bytes());
+}
+
+// Where standard error is closed, or closes within the line, the status is the same.
+#[test]
+fn endings_at_a_closed_sink(rt: HostRuntime) {
+    for (dumped, status, line) in &ENDINGS {
+        ends_in(&rt, dumped, *status, line, &mut []);
+        ends_in(&rt, dumped, *status, line, &mut [b'.'; 20]);
+    }
+}
+
+// Into room for no line that is longer. Octets past the line stay.
+fn ends_in(rt: &impl Abort, dumped: &Dumped, status: u8, line: &str, room: &mut [u8]) {
+    equal(rt, &ending(dumped, &mut Writer::new(&mut *room)), &status);
+    let count = line.len().min(room.len());
+    equal(rt, &&room[..count], &&line.as_bytes()[..count]);
+    assert!(rt; room[count..].iter().all(|octet| *octet == b'.'));
+}
+
+#[test]
+fn an_ending_takes_no_memory(rt: HostRuntime) {
+    let _ = eprintln!(rt; "set up");
+    for (dumped, status, line) in &ENDINGS {
+        ends_in(&rt, dumped, *status, line, &mut [b'.'; 64]);
+    }
+}
