@@ -1,16 +1,21 @@
 // Calls of the nodes and of the simulated link that take no memory: tools/refusals runs these tests with all allocations
 // refused after the words 'set up'.
 
+use super::configs::with_value;
 use super::equal::equal;
 use super::frames::{
     AD_0, AD_1, AD_ON_CHANNEL_3, BD_0, BD_NONE, IDLE, OF_SPACECRAFT_2, P0, UNLOCK,
 };
 use super::link::step;
-use cop1::{Alert, CopFault, Directive};
-use nodes::{Config, Ground, Heard, LinkFault, Received, Spacecraft, ValidConfig};
+use cop1::{Alert, CopFault, Directive, Verdict};
+use nodes::{
+    Config, Ground, Heard, HeardReport, LinkFault, Parameter, Received, Spacecraft, ValidConfig,
+};
 use std::alloc::Global;
 use std::process::Abort;
-use tc_link::{Event, Reply, Sim, SimFault};
+use tc_frame::{Command, TcFault};
+use tc_link::{Event, NodeFault, Reply, Sim, SimFault};
+use tm_link::{Gap, TmFault};
 
 fn config() -> Config {
     Config {
@@ -55,11 +60,19 @@ fn refuses(rt: &impl Abort, ground: &mut Ground) {
     equal(rt, &window, &Err(CopFault::Window));
 }
 
+// A report that tells the sender nothing new.
+const FIRST_HEARD: Heard = Heard::Frame {
+    gap: Gap::First,
+    packets: 0,
+    report: HeardReport::Used,
+    alert: None,
+};
+
 fn hears(rt: &impl Abort, ground: &mut Ground) {
-    let idle = ground.telemetry(&IDLE);
-    assert!(rt; matches!(idle, Ok(Heard::Frame { packets: 0, .. })));
+    equal(rt, &ground.telemetry(&IDLE), &Ok(FIRST_HEARD));
     equal(rt, &ground.telemetry(&OF_SPACECRAFT_2), &Ok(Heard::Foreign));
-    assert!(rt; matches!(ground.telemetry(&P0), Ok(Heard::Invalid(_))));
+    let invalid = Heard::Invalid(TmFault::Length);
+    equal(rt, &ground.telemetry(&P0), &Ok(invalid));
     assert!(rt; ground.take_telemetry().is_none());
 }
 
@@ -141,13 +154,21 @@ fn a_spacecraft_that_is_made_takes_no_memory(rt: HostRuntime) {
 
 fn calls_spacecraft(rt: &(impl Abort + Eprint), spacecraft: &mut Spacecraft) {
     says_set_up(rt);
-    for octets in [&AD_0[..], &AD_1, &BD_NONE, &AD_ON_CHANNEL_3, &UNLOCK, &P0] {
-        receives(rt, spacecraft, octets);
+    for (octets, received) in [
+        (&AD_0[..], dropped(0, Verdict::Behind)),
+        (&AD_1, dropped(1, Verdict::NoBuffer)),
+        (&BD_NONE, Received::Bypass { kept: false }),
+        (&AD_ON_CHANNEL_3, Received::Foreign),
+        (&UNLOCK, Received::Control(Command::Unlock)),
+        (&P0, Received::Invalid(TcFault::ReservedType)),
+    ] {
+        receives(rt, spacecraft, octets, received);
     }
     for _ in 0..3 {
         reports(rt, spacecraft);
     }
-    assert!(rt; spacecraft.telemetry(&P0[1..]).is_err());
+    let queued = spacecraft.telemetry(&P0[1..]);
+    equal(rt, &queued, &Err(TmFault::NotAPacket));
     for is_there in [true, false] {
         equal(rt, &are_taken(spacecraft), &[is_there; 2]);
     }
@@ -161,9 +182,20 @@ fn are_taken(spacecraft: &mut Spacecraft) -> [bool; 2] {
     ]
 }
 
-fn receives(rt: &impl Abort, spacecraft: &mut Spacecraft, octets: &[u8]) {
-    assert!(rt; spacecraft.receive(octets).is_ok());
-    assert!(rt; spacecraft.prepare(octets).is_ok());
+// What is made of a Type-AD frame with this number that is not accepted.
+fn dropped(n: u8, verdict: Verdict) -> Received {
+    Received::Sequence {
+        n,
+        verdict,
+        ready: 0,
+        dropped: None,
+    }
+}
+
+fn receives(rt: &impl Abort, spacecraft: &mut Spacecraft, octets: &[u8], received: Received) {
+    let arrival = spacecraft.prepare(octets).expect(rt, "an arrival");
+    assert!(rt; arrival.accepted().is_none());
+    equal(rt, &spacecraft.receive(octets), &Ok(received));
 }
 
 fn reports(rt: &impl Abort, spacecraft: &mut Spacecraft) {
@@ -214,24 +246,76 @@ static ON_THEIR_WAY: [Event<'static>; 14] = [
     Event::Telemetry(&[0x00, 0x05, 0xc0, 0x00, 0x00, 0x00, 0xaa]),
 ];
 
-static WITHOUT_MEMORY: [Event<'static>; 17] = [
-    Event::UpDeliver,
-    Event::UpDamage(&[]),
-    Event::UpLose,
-    Event::DownDeliver,
-    Event::DownDamage(&[]),
-    Event::DownLose,
-    Event::Tick,
-    Event::Submit(64, &P0),
-    Event::Submit(4, &[]),
-    Event::Bypass(4, &[]),
-    Event::Telemetry(&[]),
-    Event::Directive(Directive::Terminate),
-    Event::Directive(Directive::InitSetVr(3)),
-    Event::Take,
-    Event::Take,
-    Event::TakeBypass,
-    Event::TakeBypass,
+// An answer of the link, whose packet is P0 where it has one.
+#[derive(Clone, Copy, Debug, PartialEq, Eq)]
+enum Answer {
+    Done,
+    Nothing,
+    Lost,
+    Refused(NodeFault),
+    Alert(Alert),
+    Up(Received),
+    Down(Heard),
+    P0On(u8),
+    Fault(SimFault),
+    // It is none that this test looks for.
+    Other,
+}
+
+fn answered(sim: &mut Sim, event: Event<'_>) -> Answer {
+    match step(sim, event) {
+        Ok(Reply::Done) => Answer::Done,
+        Ok(Reply::Nothing) => Answer::Nothing,
+        Ok(Reply::Lost) => Answer::Lost,
+        Ok(Reply::Refused(fault)) => Answer::Refused(fault),
+        Ok(Reply::Alert(alert)) => Answer::Alert(alert),
+        Ok(Reply::Up(received)) => Answer::Up(received),
+        Ok(Reply::Down(heard)) => Answer::Down(heard),
+        Ok(Reply::Packet(map, octets)) if octets.as_slice() == P0.as_slice() => Answer::P0On(map),
+        Ok(_) => Answer::Other,
+        Err(fault) => Answer::Fault(fault),
+    }
+}
+
+const NOTHING_IN_TRANSIT: Answer = Answer::Fault(SimFault::NothingInTransit);
+
+const CLOSED: Answer = Answer::Refused(NodeFault::Link(LinkFault::ClosedMap));
+
+const NO_COMMAND: Answer = Answer::Refused(NodeFault::Link(LinkFault::NotCommand));
+
+const NO_PACKET: Answer = Answer::Refused(NodeFault::Tm(TmFault::NotAPacket));
+
+const DAMAGED: Answer = Answer::Down(Heard::Invalid(TmFault::Length));
+
+const TERMINATED: Answer = Answer::Alert(Alert::Terminated);
+
+// The frame with number 1 finds no room, since the packet of the first was not taken.
+const NO_BUFFER: Answer = Answer::Up(Received::Sequence {
+    n: 1,
+    verdict: Verdict::NoBuffer,
+    ready: 0,
+    dropped: None,
+});
+
+static WITHOUT_MEMORY: [(Event<'static>, Answer); 18] = [
+    (Event::UpDeliver, NO_BUFFER),
+    (Event::UpDamage(&[]), NOTHING_IN_TRANSIT),
+    (Event::UpLose, NOTHING_IN_TRANSIT),
+    (Event::DownDeliver, Answer::Down(FIRST_HEARD)),
+    (Event::DownDamage(&[]), DAMAGED),
+    (Event::DownLose, Answer::Lost),
+    (Event::Tick, Answer::Done),
+    (Event::Submit(64, &P0), CLOSED),
+    (Event::Submit(4, &[]), NO_COMMAND),
+    (Event::Bypass(4, &[]), NO_COMMAND),
+    (Event::Telemetry(&[]), NO_PACKET),
+    (Event::Directive(Directive::Terminate), TERMINATED),
+    (Event::Directive(Directive::InitSetVr(3)), Answer::Done),
+    (Event::Take, Answer::P0On(4)),
+    (Event::Take, Answer::Nothing),
+    (Event::TakeBypass, Answer::P0On(4)),
+    (Event::TakeBypass, Answer::Nothing),
+    (Event::Take, Answer::Nothing),
 ];
 
 #[test]
@@ -241,10 +325,9 @@ fn events_of_a_link_takes_no_memory(rt: HostRuntime) {
 
 fn happen_without_memory(rt: &(impl Abort + Eprint), sim: &mut Sim) {
     says_set_up(rt);
-    for event in &WITHOUT_MEMORY {
-        assert!(rt; !is_without_memory(sim, *event));
+    for (event, is) in &WITHOUT_MEMORY {
+        equal(rt, &answered(sim, *event), is);
     }
-    equal(rt, &step(sim, Event::Take), &Ok(Reply::Nothing));
     has_no_records(rt, sim);
 }
 
@@ -256,9 +339,33 @@ fn has_no_records(rt: &impl Abort, sim: &Sim) {
     assert!(rt; sim.accepted().is_empty() && sim.acknowledged() == 0);
 }
 
-fn is_without_memory(sim: &mut Sim, event: Event<'_>) -> bool {
-    match step(sim, event) {
-        Ok(_) => false,
-        Err(fault) => fault == SimFault::Memory,
+// Each parameter next to its range, and a window that is too wide for the width.
+#[test]
+fn judging_a_configuration_takes_no_memory(rt: HostRuntime) {
+    says_set_up(&rt);
+    is_judged(&rt, &Config::default(), None);
+    for (parameter, value, fault) in [
+        (Parameter::Scid, 1024, "scid"),
+        (Parameter::Vcid, 64, "vcid"),
+        (Parameter::TmVcid, 8, "tm_vcid"),
+        (Parameter::Width, 253, "width"),
+        (Parameter::Width, 252, "window"),
+        (Parameter::Window, 128, "window"),
+        (Parameter::Limit, 0, "limit"),
+        (Parameter::Timer, 65_536, "timer"),
+        (Parameter::Part, 1017, "part"),
+        (Parameter::MaxPacket, 65_543, "max_packet"),
+        (Parameter::ReadySlots, 65, "ready_slots"),
+        (Parameter::BypassSlots, 65, "bypass_slots"),
+        (Parameter::QueueSlots, 0, "queue_slots"),
+        (Parameter::FrameLength, 2049, "frame_length"),
+        (Parameter::Blocking, 2, "blocking"),
+    ] {
+        is_judged(&rt, &with_value(parameter, value), Some(fault));
     }
+}
+
+fn is_judged(rt: &impl Abort, config: &Config, fault: Option<&str>) {
+    equal(rt, &config.fault(), &fault);
+    equal(rt, &config.valid().err(), &fault);
 }

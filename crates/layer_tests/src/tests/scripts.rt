@@ -4,6 +4,7 @@
 use super::equal::equal;
 use nodes::Parameter;
 use script::{Carrier, Line, Program, ScriptFault, Step, open, play_some, read_line};
+use script_lines::octets_in_word;
 use simulated_link::World;
 use std::alloc::Global;
 use std::process::Abort;
@@ -165,4 +166,37 @@ fn reads_lines(rt: &impl Abort) {
     );
     assert!(rt; matches!(read_line(b"submit 4 0F "), Line::Unreadable));
     assert!(rt; matches!(read_line(b"# submit"), Line::Skipped));
+}
+
+// Words that are octets, and words that are not.
+#[test]
+fn words_of_octets(rt: HostRuntime) {
+    for (word, octets) in [
+        (&b"-"[..], Some(&[][..])),
+        (b"0f", Some(&[0x0f])),
+        (b"0FaB", Some(&[0x0f, 0xab])),
+        (b"", None),
+        (b"0", None),
+        (b"0g", None),
+        (b"--", None),
+    ] {
+        are_in_word(&rt, rt.alloc(), word, octets);
+    }
+}
+
+fn are_in_word(rt: &(impl Abort + Eprint), alloc: Global, word: &[u8], octets: Option<&[u8]>) {
+    match octets_again(rt, alloc, word) {
+        Some(found) => equal(rt, &Some(found.as_slice()), &octets),
+        None => equal(rt, &None, &octets),
+    }
+}
+
+fn octets_again(rt: &(impl Abort + Eprint), alloc: Global, word: &[u8]) -> Option<Vec<u8>> {
+    match octets_in_word(alloc, word) {
+        Ok(octets) => octets,
+        Err(_) => {
+            let _ = eprintln!(rt; "refused a growth");
+            octets_in_word(alloc, word).expect(rt, "octets")
+        }
+    }
 }

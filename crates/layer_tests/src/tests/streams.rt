@@ -207,6 +207,7 @@ fn reads(rt: &impl Abort, reader: &mut Reader<Device>) {
         equal(rt, &without_note(reader.read(&mut piece)), &answer);
         equal(rt, &piece, octets);
     }
+    assert!(rt; reader.get_ref().octets.is_empty());
 }
 
 fn writes(rt: &impl Abort, writer: &mut Writer<&mut Device>) {
@@ -217,6 +218,7 @@ fn writes(rt: &impl Abort, writer: &mut Writer<&mut Device>) {
     ] {
         equal(rt, &without_note(writer.write(text)), &answer);
     }
+    equal(rt, &writer.get_ref().octets.len(), &6);
 }
 
 fn without_note(answer: io::Result<usize>) -> Result<usize, ErrorKind> {
