@@ -75,6 +75,22 @@ static void packets_in_frames(void) {
     WANT(builder.count == 0 && builder.idle_left == 3);
 }
 
+/* Where a packet fits only after the octets that wait are moved to the front of the memory, they are moved so, though
+ * the places overlap: 8 octets of 23 are sent, 15 wait from place 8 on, and 7 more need the place from 15 on. */
+static void moves_overlapping_octets(void) {
+    struct sedge_tm_builder builder;
+    uint8_t memory[23];
+    WANT(sedge_tm_builder_open(&builder, 1, 0, 20) == SEDGE_OK);
+    WANT(queue(&builder, LONG, 16, memory, 23) == SEDGE_OK && queue(&builder, FOUR[0], 7, memory, 23) == SEDGE_OK);
+    builds(&builder, memory, 23, "\x00\x05\xc0\x00\x00\x09\xaa\xab", 0, 0);
+    WANT(builder.from == 8 && builder.count == 15);
+    WANT(queue(&builder, FOUR[1], 7, memory, 23) == SEDGE_OK && builder.from + builder.count == 22);
+    WANT(memcmp(memory + builder.from, LONG + 8, 8) == 0);
+    WANT(memcmp(memory + builder.from + 8, FOUR[0], 7) == 0 && memcmp(memory + builder.from + 15, FOUR[1], 7) == 0);
+    builds(&builder, memory, 23, "\xac\xad\xae\xaf\xb0\xb1\xb2\xb3", SEDGE_POINTER_NO_START, 1);
+    builds(&builder, memory, 23, "\x00\x05\xc0\x00\x00\x00\xaa\x00", 0, 2);
+}
+
 static void idle_packets_in_frames(void) {
     struct sedge_tm_builder builder;
     uint8_t memory[7];
@@ -423,6 +439,7 @@ static void packets_through_frames(uint16_t length, int losing) {
 
 int main(void) {
     packets_in_frames();
+    moves_overlapping_octets();
     idle_packets_in_frames();
     refusals_of_a_builder();
     damaged_builders();
