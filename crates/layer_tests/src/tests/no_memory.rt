@@ -257,7 +257,7 @@ enum Answer {
     Up(Received),
     Down(Heard),
     P0On(u8),
-    Fault(SimFault),
+    NothingInTransit,
     // It is none that this test looks for.
     Other,
 }
@@ -271,13 +271,20 @@ fn answered(sim: &mut Sim, event: Event<'_>) -> Answer {
         Ok(Reply::Alert(alert)) => Answer::Alert(alert),
         Ok(Reply::Up(received)) => Answer::Up(received),
         Ok(Reply::Down(heard)) => Answer::Down(heard),
-        Ok(Reply::Packet(map, octets)) if octets.as_slice() == P0.as_slice() => Answer::P0On(map),
+        Ok(Reply::Packet(map, octets)) => answer_of_packet(map, octets.as_slice()),
         Ok(_) => Answer::Other,
-        Err(fault) => Answer::Fault(fault),
+        Err(SimFault::NothingInTransit) => Answer::NothingInTransit,
+        Err(_) => Answer::Other,
     }
 }
 
-const NOTHING_IN_TRANSIT: Answer = Answer::Fault(SimFault::NothingInTransit);
+fn answer_of_packet(map: u8, octets: &[u8]) -> Answer {
+    if octets == P0.as_slice() {
+        Answer::P0On(map)
+    } else {
+        Answer::Other
+    }
+}
 
 const CLOSED: Answer = Answer::Refused(NodeFault::Link(LinkFault::ClosedMap));
 
@@ -299,8 +306,8 @@ const NO_BUFFER: Answer = Answer::Up(Received::Sequence {
 
 static WITHOUT_MEMORY: [(Event<'static>, Answer); 18] = [
     (Event::UpDeliver, NO_BUFFER),
-    (Event::UpDamage(&[]), NOTHING_IN_TRANSIT),
-    (Event::UpLose, NOTHING_IN_TRANSIT),
+    (Event::UpDamage(&[]), Answer::NothingInTransit),
+    (Event::UpLose, Answer::NothingInTransit),
     (Event::DownDeliver, Answer::Down(FIRST_HEARD)),
     (Event::DownDamage(&[]), DAMAGED),
     (Event::DownLose, Answer::Lost),
