@@ -210,7 +210,7 @@ module _ (c : Config) (w : World) (h : Holding c w) where
   new_spacecraft_steady : SpacecraftSteady c (new_spacecraft w.spacecraft.config)
   new_spacecraft_steady = rw h.sound.spacecraft.config (new_sound c h.sound.ranges).spacecraft
 
-  link_step_holds : (s : LinkStep) → IsLinkStep s → Holding c (link_step w s)
+  pub link_step_holds : (s : LinkStep) → IsLinkStep s → Holding c (link_step w s)
   link_step_holds (Happens event) fits = step_holds c w h event fits
   link_step_holds TakeTelemetry fits = take_holds w.ground_node.telemetry
   link_step_holds (Receives octets) fits = received_holds (command.frame_at On octets)

@@ -47,6 +47,7 @@ pub mod Reports
 pub mod ReportsDown
 pub mod Runs
 pub mod Settled
+pub mod Silence
 pub mod Sound
 pub mod Spelled
 pub mod SteadyNodes

@@ -13,6 +13,7 @@ pub mod Progress
 pub mod Promises
 pub mod Reached
 pub mod Readable
+pub mod Silence
 pub mod SimFields
 pub mod Simulation
 pub mod Taken

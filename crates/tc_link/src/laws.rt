@@ -6,6 +6,7 @@ ghost use Rattle.tc_link.specs.OneLink.{EachGoesOnAsOne, EachHasOneLink};
 ghost use Rattle.tc_link.specs.Progress.{EachAcknowledges, EachBegins, EachEnds, EachIsDelivered};
 ghost use Rattle.tc_link.specs.Progress.{EachMakesProgress};
 ghost use Rattle.tc_link.specs.Promises.{HoldsOfAllRuns};
+ghost use Rattle.tc_link.specs.Silence.{SilenceIsIdle};
 ghost use Rattle.tc_link.specs.Taken.{HandsOutAsSubmitted, HandsOutWhatIsDelivered, HandsOutWhatIsSubmitted};
 
 /// For each configuration in its ranges and each list of events, what `run` promises of each event holds
@@ -69,4 +70,14 @@ pub fn law_of_progress()
     ensures delivered { EachIsDelivered }
     ensures begins { EachBegins }
     ensures ends { EachEnds }
+{}
+
+/// Silence makes an idle start. After any past, once nothing is on its way up: no frame is sent up,
+/// no octets from outside reach the spacecraft, no new one takes its place, and no packet is taken from
+/// it while its wait flag stands. When as many frames are gone as were on their way down at first, by
+/// arriving, being lost or damaged, then an initiation begins a session by an idle start; one without a
+/// check does so where V(R) = V(S). Reports, ticks, submissions, directives, telemetry and a new ground
+/// node may come meanwhile.
+pub fn law_of_silence()
+    ensures { SilenceIsIdle }
 {}

@@ -1,0 +1,39 @@
+-- What comes of silence: where nothing is sent up for a round trip, the link is idle.
+use Rattle.std.specs.Prelude.{◌≡◌, ◌≤◌, ◌+◌, ℕ, List, [], ◌∷◌, length, true, false}
+use Rattle.std.specs.List.{AllByRecursion}
+use Rattle.link_events.specs.declared.event.Event.TheVariants as events
+use Rattle.tc_link.specs.AnyPast.{LinkStep, Happens, Receives, NewSpacecraft, IsLinkStep}
+use Rattle.tc_link.specs.AnyPast.{HasAnyPast, link_step, link_run}
+use Rattle.tc_link.specs.Telemetry.{came_by}
+use Rattle.simulated_link.specs.World.{World, world_step, is_idle}
+
+-- A step keeps silence: no frame is sent up, no octets from outside reach the spacecraft, no new
+-- one takes its place, and no packet is taken from it while its wait flag stands.
+abbrev pub IsSilent : World → LinkStep → Type 0
+IsSilent w (Happens events.Send) = ⊥
+IsSilent w (Happens events.Take) = w.spacecraft.farm.wait ≡ false
+IsSilent w (Receives octets) = ⊥
+IsSilent w NewSpacecraft = ⊥
+IsSilent w _ = Unit {0}
+
+-- each of these steps does
+abbrev pub KeepsSilence : World → List LinkStep → Type 0
+KeepsSilence w [] = Unit {0}
+KeepsSilence w (step ∷ more) = IsSilent w step × KeepsSilence (link_step w step) more
+
+-- how many frames are no longer on their way down, by a step: one that arrives, is lost or damaged
+abbrev pub gone_by : World → LinkStep → ℕ
+gone_by w (Happens event) = length (came_by event (world_step w event).answer)
+gone_by w _ = 0
+
+-- and by such steps
+abbrev pub gone_down : World → List LinkStep → ℕ
+gone_down w [] = 0
+gone_down w (step ∷ more) = gone_by w step + gone_down (link_step w step) more
+
+-- After any past, once nothing is on its way up: where silence is kept until as many frames are
+-- gone as were on their way down then, the link is idle.
+abbrev pub SilenceIsIdle : Type 0
+SilenceIsIdle =
+    (w : World) (steps : List LinkStep) → HasAnyPast w → AllByRecursion IsLinkStep steps → w.up ≡ []
+    → KeepsSilence w steps → length w.down ≤ gone_down w steps → is_idle (link_run w steps) ≡ true
