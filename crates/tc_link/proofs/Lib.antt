@@ -4,6 +4,8 @@ pub mod AnyPast
 pub mod Arriving
 pub mod Beginning
 pub mod Board
+pub mod BypassKept
+pub mod BypassOrder
 pub mod Carried
 pub mod Closed
 pub mod Common
@@ -48,6 +50,7 @@ pub mod ReportsDown
 pub mod Runs
 pub mod Settled
 pub mod Silence
+pub mod SomeOf
 pub mod Sound
 pub mod Spelled
 pub mod SteadyNodes

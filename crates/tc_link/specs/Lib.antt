@@ -1,5 +1,6 @@
 pub mod Accepted
 pub mod AnyPast
+pub mod Bypass
 pub mod Confirmation
 pub mod Counting
 pub mod FalseAlarms

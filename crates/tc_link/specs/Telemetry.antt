@@ -91,11 +91,10 @@ abbrev pub packets_down : Downlink → List (List ℕ)
 packets_down d = d.taken ++ d.world.ground_node.telemetry
 
 -- some of these packets, in order, each once
-pub data AreSomeOf : List (List ℕ) → List (List ℕ) → Type 0 where
+pub data AreSomeOf {P : Type 0} : List P → List P → Type 0 where
   none : AreSomeOf [] []
-  one : {p : List ℕ} {some all : List (List ℕ)} → AreSomeOf some all
-      → AreSomeOf (p ∷ some) (p ∷ all)
-  without : {p : List ℕ} {some all : List (List ℕ)} → AreSomeOf some all → AreSomeOf some (p ∷ all)
+  one : {p : P} {some all : List P} → AreSomeOf some all → AreSomeOf (p ∷ some) (p ∷ all)
+  without : {p : P} {some all : List P} → AreSomeOf some all → AreSomeOf some (p ∷ all)
 
 pub record IsTelemetryInOrder (d : Downlink) : Type 0 where
   -- the frames that were sent lay out the packets that were queued, up to what the builder holds

@@ -1,6 +1,7 @@
 // What holds of each run, whatever a program keeps of it.
 
 ghost use Rattle.tc_link.specs.AnyPast.{HoldsAfterAnyPast, RunsAsEvents};
+ghost use Rattle.tc_link.specs.Bypass.{BypassKeepsOrder};
 ghost use Rattle.tc_link.specs.Counting.{KeepsWhatIsKnown};
 ghost use Rattle.tc_link.specs.OneLink.{EachGoesOnAsOne, EachHasOneLink};
 ghost use Rattle.tc_link.specs.Progress.{EachAcknowledges, EachBegins, EachEnds, EachIsDelivered};
@@ -80,4 +81,14 @@ pub fn law_of_progress()
 /// node may come meanwhile.
 pub fn law_of_silence()
     ensures { SilenceIsIdle }
+{}
+
+/// A packet that goes past the sequence control comes at most once, and in order. After any past, and since
+/// any moment: the packets that `take_bypass` has handed out, those that wait on board, those in Type-BD
+/// frames on their way up and those that wait on the ground are together, in this order and each with its
+/// MAP, some of those that were on board, on their way and on the ground then, followed by those that the
+/// ground has accepted since. In a new link there are none then. No octets from outside the link reach
+/// the spacecraft since; no session is needed, and any frame may be lost.
+pub fn law_of_bypass()
+    ensures { BypassKeepsOrder }
 {}
