@@ -1,0 +1,180 @@
+#include "sedgechisel.h"
+
+#include <limits.h>
+#include <string.h>
+
+/* What is never reached: the library is proved to end without it. */
+#ifndef UNREACHABLE
+#define UNREACHABLE for (;;) {}
+#endif
+
+/* Where the machine's numbers are little-endian, as they are in memory here, they are read and written whole, and octet
+ * by octet elsewhere. */
+#if defined __BYTE_ORDER__ && defined __ORDER_LITTLE_ENDIAN__ && !defined SEDGE_BY_OCTETS
+#if __BYTE_ORDER__ == __ORDER_LITTLE_ENDIAN__
+#define LITTLE
+#endif
+#endif
+
+typedef char octets_have_8_bits[CHAR_BIT == 8 ? 1 : -1];
+typedef char an_int_has_at_least_32_bits[INT_MAX >= 2147483647 ? 1 : -1];
+typedef char addresses_have_32_to_64_bits[sizeof(uintptr_t) >= 4 && sizeof(uintptr_t) <= 8 ? 1 : -1];
+typedef char counts_have_the_bits_of_addresses[sizeof(size_t) == sizeof(uintptr_t) ? 1 : -1];
+
+/* Memory from an address on. */
+#define OCTETS(at) ((unsigned char *)(uintptr_t)(at))
+
+/* The address of a place, as a number. */
+static uint64_t address(const void *place)
+{
+    return (uint64_t)(uintptr_t)place;
+}
+
+/* The first address in some room that 16 divides, as it does each frame's and each struct's where this was compiled. */
+static uint64_t aligned(void *room)
+{
+    return (address(room) + 15) & ~15ULL;
+}
+
+/* The address; and for a null pointer one that is not null. The compiler takes null for no slice at all, so the code of
+ * a call keeps slices away from it. Nothing is read or written there: a null pointer is not given (sedgechisel.h). */
+static uint64_t some(uint64_t at)
+{
+    return at + (at == 0 ? 0x1000 : 0);
+}
+
+static uint32_t get8(uint64_t at)
+{
+    return *OCTETS(at);
+}
+
+static uint32_t get16(uint64_t at)
+{
+#ifdef LITTLE
+    uint16_t value;
+    memcpy(&value, OCTETS(at), 2);
+    return value;
+#else
+    const unsigned char *o = OCTETS(at);
+    return (uint32_t)o[0] | (uint32_t)o[1] << 8;
+#endif
+}
+
+static uint32_t get32(uint64_t at)
+{
+#ifdef LITTLE
+    uint32_t value;
+    memcpy(&value, OCTETS(at), 4);
+    return value;
+#else
+    const unsigned char *o = OCTETS(at);
+    return (uint32_t)o[0] | (uint32_t)o[1] << 8 | (uint32_t)o[2] << 16 | (uint32_t)o[3] << 24;
+#endif
+}
+
+static uint64_t get64(uint64_t at)
+{
+#ifdef LITTLE
+    uint64_t value;
+    memcpy(&value, OCTETS(at), 8);
+    return value;
+#else
+    return (uint64_t)get32(at) | (uint64_t)get32(at + 4) << 32;
+#endif
+}
+
+/* The lowest 8 bits of a number are written. */
+static void put8(uint64_t at, uint32_t value)
+{
+    *OCTETS(at) = (unsigned char)(value & 255);
+}
+
+/* The lowest 16 bits. */
+static void put16(uint64_t at, uint32_t value)
+{
+#ifdef LITTLE
+    const uint16_t lowest = (uint16_t)(value & 0xffff);
+    memcpy(OCTETS(at), &lowest, 2);
+#else
+    unsigned char *o = OCTETS(at);
+    o[0] = (unsigned char)(value & 255);
+    o[1] = (unsigned char)(value >> 8 & 255);
+#endif
+}
+
+static void put32(uint64_t at, uint32_t value)
+{
+#ifdef LITTLE
+    memcpy(OCTETS(at), &value, 4);
+#else
+    unsigned char *o = OCTETS(at);
+    o[0] = (unsigned char)(value & 255);
+    o[1] = (unsigned char)(value >> 8 & 255);
+    o[2] = (unsigned char)(value >> 16 & 255);
+    o[3] = (unsigned char)(value >> 24);
+#endif
+}
+
+static void put64(uint64_t at, uint64_t value)
+{
+#ifdef LITTLE
+    memcpy(OCTETS(at), &value, 8);
+#else
+    put32(at, (uint32_t)(value & 0xffffffffU));
+    put32(at + 4, (uint32_t)(value >> 32));
+#endif
+}
+
+/* Moves octets, which may overlap. */
+static void copy(uint64_t to, uint64_t from, uint64_t count)
+{
+    if (count > 0) memmove(OCTETS(to), OCTETS(from), (size_t)count);
+}
+
+static void fill(uint64_t to, uint32_t value, uint64_t count)
+{
+    if (count > 0) memset(OCTETS(to), (int)(value & 255), (size_t)count);
+}
+
+static uint32_t rotl32(uint32_t x, uint32_t count)
+{
+    return x << count | x >> ((32 - count) & 31);
+}
+
+static uint64_t rotl64(uint64_t x, uint64_t count)
+{
+    return x << count | x >> ((64 - count) & 63);
+}
+
+/* A shift to the right that keeps the sign. */
+static uint32_t sar32(uint32_t x, uint32_t count)
+{
+    return x >> 31 ? ~(~x >> count) : x >> count;
+}
+
+static uint64_t sar64(uint64_t x, uint64_t count)
+{
+    return x >> 63 ? ~(~x >> count) : x >> count;
+}
+
+/* A number of fewer bits, the highest of them this, made longer with its sign. */
+static uint32_t extend32(uint32_t x, uint32_t highest)
+{
+    return ((x & (2 * highest - 1)) ^ highest) - highest;
+}
+
+static uint64_t extend64(uint64_t x, uint64_t highest)
+{
+    return ((x & (2 * highest - 1)) ^ highest) - highest;
+}
+
+/* What is compared without a sign as the number is with one. */
+static uint32_t ordered32(uint32_t x)
+{
+    return x ^ 0x80000000U;
+}
+
+static uint64_t ordered64(uint64_t x)
+{
+    return x ^ 0x8000000000000000ULL;
+}
