@@ -566,6 +566,7 @@ static void tm_link_decoding_fields_of(uint64_t p0, uint64_t p1, uint64_t p2, ui
 static void sedgechisel_telemetry_extractor_start(uint64_t p0, uint64_t p1, uint64_t p2, uint64_t p3, uint64_t p4,
     uint64_t p5, uint64_t p6, uint64_t p7, uint64_t p8);
 static uint32_t sedgechisel_sender_directing_direct(uint64_t p0, uint64_t p1);
+static void cop1_sender_Sender_restore(uint64_t p0, uint64_t p1);
 static void sedge_alert_name_at(uint64_t result, uint32_t alert);
 static uint32_t sedge_check_at(uint64_t octets, uint64_t count);
 static uint32_t sedge_check_append_at(uint64_t octets, uint64_t count);
@@ -1009,227 +1010,544 @@ l2:;
 
 static uint32_t sedgechisel_sender_directing_direct(uint64_t p0, uint64_t p1)
 {
-    uint32_t v2 = 0, v3 = 0, v4 = 0, v5 = 0, v6 = 0, v7 = 0, v8 = 0, v9 = 0, v10 = 0, v11 = 0, v12 = 0, v13 = 0,
-        v14 = 0, v15 = 0, v16 = 0, v17 = 0, v18 = 0, v19 = 0, v20 = 0, v21 = 0, v22 = 0, v23 = 0, v24 = 0, v25 = 0,
-        v26 = 0, v27 = 0, v28 = 0, v29 = 0, v30 = 0, v31 = 0, v32 = 0, v33 = 0, v34 = 0, v35 = 0;
-    v2 = 255;
-    v3 = get8(p0 + 5);
-    v4 = v3 - 1;
-    if ((v4 & 255) > 5) return v2;
-    v5 = 1;
-    v6 = get8(p0 + 8);
-    if (v6 > 1) return v2;
-    v7 = get16(p1 + 2);
-    v8 = get8(p1 + 1);
-    v9 = get8(p1);
-    v10 = 0;
-    v11 = 4;
-    v12 = get8(p0 + 15);
-    v13 = v12;
-    v14 = get8(p0 + 14);
-    switch (v14 - 3) {
+    unsigned char frame_octets[48 + 15];
+    uint32_t v3 = 0, v4 = 0, v5 = 0, v6 = 0, v7 = 0, v8 = 0, v9 = 0, v10 = 0, v11 = 0, v12 = 0, v13 = 0, v14 = 0,
+        v15 = 0, v16 = 0, v17 = 0, v18 = 0, v19 = 0, v20 = 0, v21 = 0, v22 = 0, v23 = 0, v24 = 0, v25 = 0, v26 = 0,
+        v27 = 0, v28 = 0, v29 = 0, v30 = 0, v31 = 0, v32 = 0, v33 = 0, v34 = 0, v35 = 0, v36 = 0, v37 = 0;
+    uint64_t v2 = 0;
+    v2 = aligned(frame_octets);
+    if (ordered64(v2) < 0x8000000000000010ULL) UNREACHABLE;
+    v3 = get16(p1 + 2);
+    v4 = get8(p1 + 1);
+    v5 = get8(p1);
+    put64(v2 + 14, 0);
+    put64(v2 + 8, 0);
+    put64(v2, 0);
+    v6 = 255;
+    v7 = get8(p0 + 5) - 1;
+    if ((v7 & 255) > 5) return v6;
+    v8 = 1;
+    v9 = get8(p0 + 8);
+    if (v9 > 1) return v6;
+    v10 = get8(p0 + 15);
+    v11 = 1;
+    v12 = get8(p0 + 14);
+    switch (v12 - 3) {
     case 0:
-        goto l3;
+        goto l6;
     case 1:
-        v5 = 2;
-        v13 = v12;
-        goto l3;
+        v11 = 2;
+        goto l6;
     default:
-        goto l4;
+        goto l7;
     }
-l4:;
-    v11 = 2;
-    if (v14 > 2) return v2;
-    if ((v12 & 255) != 0) return v2;
-    v10 = 1;
-    v13 = 0;
-    v5 = v14;
-l3:;
-    v15 = get16(p0);
-    if (v15 == 0) return v2;
-    v16 = get8(p0 + 12);
-    if ((v16 & 255) == 0) return v2;
-    v17 = get8(p0 + 10);
-    v18 = get8(p0 + 9);
-    if ((v17 & 255) > (v18 & 255)) return v2;
-    v14 = get8(p0 + 4);
-    if ((v18 & 255) > (v14 & 255)) return v2;
-    if (extend32(v14, 0x80) > 0x7fffffffU) return v2;
-    v19 = get8(p0 + 11);
-    if (((v19 - 1) & 255) >= (v14 & 255)) return v2;
-    v20 = get8(p0 + 13);
-    if ((v20 & 255) == 0) return 255;
-    v21 = get16(p0 + 2);
-    v22 = get8(p0 + 6);
-    v23 = get8(p0 + 7);
-    v24 = v22 - v23;
-    if ((v3 - 1) < 4) {
-        if (v5 == 0) {
-            v2 = 255;
-            if ((v18 & 255) == (v24 & 255)) goto l7;
-            return v2;
-        }
-        return 255;
-    }
-    switch (v3 - 5) {
-    case 1:
-        v2 = 255;
-        if (v5 != 0) return v2;
-        if ((((uint32_t)((v18 & 255) == 0) & ~v6) & (uint32_t)((v21 & 0xffff) == 0)) != 0) goto l7;
-        return v2;
-    default:
-        goto l8;
-    }
-l8:;
-    v2 = 255;
-    if ((v18 & 255) != (v24 & 255)) return v2;
 l7:;
-    switch (v9) {
+    if (v12 > 2) return v6;
+    v8 = 0;
+    v11 = v12;
+    if ((v10 & 255) != 0) return v6;
+l6:;
+    put8(v2 + 47, v10);
+    put8(v2 + 46, v8);
+    put8(v2 + 45, v11);
+    put8(v2 + 32, v9);
+    put8(v2 + 29, v7);
+    put16(v2 + 38, get16(p0));
+    put8(v2 + 44, get8(p0 + 13));
+    v7 = get16(p0 + 2);
+    put16(v2 + 42, v7);
+    put32(v2 + 33, get32(p0 + 9));
+    put16(v2 + 30, get16(p0 + 6));
+    put8(v2 + 28, get8(p0 + 4));
+    put8(v2 + 37, 0);
+    put16(v2 + 40, v7 != 0);
+    cop1_sender_Sender_restore(v2, v2 + 28);
+    if (get8(v2) != 0) return v6;
+    v13 = get8(v2 + 21);
+    v10 = get8(v2 + 19);
+    v7 = get8(v2 + 18);
+    v14 = get16(v2 + 16);
+    v15 = get16(v2 + 14);
+    v11 = get16(v2 + 12);
+    v12 = get8(v2 + 10);
+    v16 = get8(v2 + 9);
+    v17 = get8(v2 + 8);
+    v18 = get8(v2 + 7);
+    v19 = get8(v2 + 6);
+    v8 = get8(v2 + 5);
+    v6 = get8(v2 + 4);
+    v9 = get8(v2 + 3);
+    v20 = get8(v2 + 2);
+    v21 = get8(v2 + 20);
+    switch (v5) {
     case 4:
-        if ((v4 & 255) == 5) return 8;
-        v2 = 0;
-        v4 = 6;
-        v14 = 0;
-        v7 = 0;
-        v24 = 0;
+        if ((v9 & 255) == 5) {
+            v6 = 8;
+            return v6;
+        }
+        v9 = 0;
+        v24 = 6;
+        v25 = 0;
+        v3 = 0;
+        v26 = v6;
         v27 = 0;
         v28 = 0;
-        goto l12;
+        v29 = 0;
+        goto l2;
     case 6:
-        v25 = v22;
-        v26 = v23;
-        v19 = v8;
-        if (((v8 - 1) & 255) < (v14 & 255)) goto l16;
-        return 2;
+        v5 = v9;
+        v22 = v6;
+        v23 = v8;
+        v16 = v4;
+        if (((v4 - 1) & 255) < (v20 & 255)) goto l10;
+        v6 = 2;
+        return v6;
     case 7:
-        v25 = v22;
-        v26 = v23;
-        v16 = v8;
-        if ((v8 & 255) != 0) goto l16;
-        return 3;
+        v5 = v9;
+        v22 = v6;
+        v23 = v8;
+        v12 = v4;
+        if ((v4 & 255) != 0) goto l10;
+        v6 = 3;
+        return v6;
     case 8:
-        v25 = v22;
-        v26 = v23;
-        v15 = v7;
-        if ((v7 & 0xffff) != 0) goto l16;
-        return 4;
+        v5 = v9;
+        v22 = v6;
+        v23 = v8;
+        v11 = v3;
+        if ((v3 & 0xffff) != 0) goto l10;
+        v6 = 4;
+        return v6;
     default:
-        v29 = 5;
-        if ((v4 & 255) == 5) {
-            v2 = 0;
-            v30 = (v21 & 0xffff) != 0;
-            v4 = 6;
-            v31 = 1;
-            v25 = v8;
-            v26 = v8;
-            v32 = v8;
-            v33 = v22;
-            v34 = 1;
-            v35 = v9;
-            v14 = 0;
-            v7 = 0;
-            v24 = 0;
-            v27 = 0;
+        if ((v9 & 255) == 5) {
+            v30 = 3;
             v28 = 0;
-            switch (v9) {
+            v24 = 6;
+            v31 = 4;
+            v32 = 1;
+            v22 = v4;
+            v23 = v4;
+            v33 = 0;
+            v34 = 0;
+            v35 = v5;
+            v36 = v11;
+            v27 = 0;
+            v37 = 0;
+            v26 = v6;
+            v3 = 0;
+            v9 = 0;
+            v25 = 0;
+            v29 = 0;
+            switch (v5) {
             case 1:
-                v20 = 1;
-                v14 = 0;
-                v4 = 4;
-                v2 = v6;
-                v7 = 0;
-                v23 = v22;
-                v24 = v18;
-                v27 = v17;
-                v28 = v15;
-                goto l12;
+                goto l3;
             case 2:
-                v35 = 0;
-                v34 = 5;
-                v31 = 1;
-                v33 = v22;
-                v9 = 1;
-                goto l13;
+                v30 = 4;
+                v28 = 0;
+                v35 = 1;
+                v5 = v15;
+                v36 = v14;
+                v27 = 0;
+                v37 = 0;
+                v26 = v6;
+                v3 = 1;
+                v9 = 0;
+                goto l3;
             case 3:
-                goto l15;
+                goto l9;
             case 4:
-                goto l12;
+                goto l2;
             case 5:
-                goto l16;
+                goto l10;
             default:
-                goto l13;
+                v28 = 0;
+                v35 = 1;
+                v5 = v15;
+                v36 = v14;
+                v27 = 0;
+                v37 = 0;
+                v26 = v6;
+                v30 = 0;
+                v3 = 0;
+                v9 = 0;
+                goto l3;
             }
         }
-        return 8;
+        v6 = 8;
+        return v6;
     }
-l16:;
-    v30 = (v21 & 0xffff) != 0;
-    v31 = v20;
-    v22 = v26;
-    v33 = v25;
-    v34 = v3;
-    v9 = v5;
-    v35 = v5;
-    switch (v5) {
+l10:;
+    v30 = v5;
+    v5 = v15;
+    v35 = v7;
+    v36 = v14;
+    v28 = v17;
+    v27 = v18;
+    v37 = v19;
+    v6 = v23;
+    v26 = v22;
+    v3 = v10;
+    v9 = v10;
+    switch (v10) {
     case 1:
-        goto l26;
+        v6 = v21 & 255;
+        v3 = (v6 != 0) ? 3U : 1U;
+        if (v6 == 1) goto l20;
+        goto l4;
     case 2:
-        goto l14;
+        goto l21;
     default:
-        goto l13;
+        goto l3;
     }
-l26:;
-    v9 = 1;
-    v29 = v3;
-    v8 = v25;
-    v31 = v20;
-    v32 = v12;
-    v22 = v26;
-    v33 = v25;
-    v34 = v3;
-    v35 = 0;
-    if (v10 != 0) goto l13;
-l15:;
-    v9 = 3;
-    v22 = v26;
-    v33 = v8;
-    v34 = v29;
+l21:;
+    v6 = v21 & 255;
+    v3 = (v6 != 0) ? 4U : 2U;
+    if (v6 != 1) goto l4;
+l20:;
+    v4 = v13;
+    v32 = v7;
+    v28 = v17;
+    v33 = v18;
+    v34 = v19;
+    v31 = v30;
+    v5 = v3;
+l9:;
+    v3 = v5;
+    v5 = v15;
     v35 = v32;
-    goto l13;
-l14:;
-    v31 = v20;
-    v22 = v26;
-    v33 = v25;
-    v34 = v3;
-    v9 = v11;
-    v35 = v13;
-l13:;
-    v23 = v22;
-    v28 = (v30 != 0) ? v21 : 0U;
-    v4 = v34;
-    v2 = v6;
-    v14 = v35;
-    v7 = v9;
-    v22 = v33;
-    v24 = v18;
-    v27 = v17;
-    v20 = v31;
-l12:;
-    put16(p0, v15);
-    put8(p0 + 15, v14);
-    put8(p0 + 14, v7);
-    put8(p0 + 13, v20);
-    put8(p0 + 12, v16);
-    put8(p0 + 11, v19);
-    put8(p0 + 10, v27);
-    put8(p0 + 9, v24);
-    put8(p0 + 8, v2);
-    put8(p0 + 7, v23);
-    put8(p0 + 6, v22);
-    put8(p0 + 5, v4);
-    put16(p0 + 2, v28);
+    v36 = v14;
+    v27 = v33;
+    v37 = v34;
+    v6 = v23;
+    v26 = v22;
+    v30 = v31;
+    v9 = v4;
+    goto l3;
+l4:;
+    v9 = 0;
+    v5 = v15;
+    v35 = v7;
+    v36 = v14;
+    v28 = v17;
+    v27 = v18;
+    v37 = v19;
+    v6 = v23;
+    v26 = v22;
+l3:;
+    v29 = ((v5 & 255) != 0) ? v36 : 0U;
+    v24 = v30 + 1;
+    v25 = v37 & 1;
+    v8 = v6;
+    v7 = v35;
+l2:;
+    put16(p0, v11);
+    put8(p0 + 15, v9);
+    put8(p0 + 14, v3);
+    put8(p0 + 13, v7);
+    put8(p0 + 12, v12);
+    put8(p0 + 11, v16);
+    put8(p0 + 10, v28);
+    put8(p0 + 9, v27);
+    put8(p0 + 8, v25);
+    put8(p0 + 7, v8);
+    put8(p0 + 6, v26);
+    put8(p0 + 5, v24);
+    put8(p0 + 4, v20);
+    put16(p0 + 2, v29);
+    v6 = 0;
+    return v6;
+}
+
+static void cop1_sender_Sender_restore(uint64_t p0, uint64_t p1)
+{
+    uint32_t v2 = 0, v3 = 0, v4 = 0, v5 = 0, v6 = 0, v7 = 0, v8 = 0, v9 = 0, v10 = 0, v11 = 0, v12 = 0, v13 = 0,
+        v14 = 0, v15 = 0, v16 = 0, v17 = 0, v18 = 0, v19 = 0, v20 = 0, v21 = 0, v22 = 0, v23 = 0, v24 = 0, v25 = 0,
+        v26 = 0, v27 = 0, v28 = 0, v29 = 0, v30 = 0, v31 = 0, v32 = 0, v33 = 0, v34 = 0, v35 = 0, v36 = 0, v37 = 0,
+        v38 = 0, v39 = 0, v40 = 0;
     v2 = 0;
-    return v2;
+    v3 = 8;
+    v4 = 1;
+    v5 = get8(p1);
+    if (extend32(v5, 0x80) > 0x7fffffffU) goto l3;
+    v6 = get8(p1 + 7);
+    v7 = v5 & 255;
+    if (((v6 - 1) & 255) >= v7) goto l3;
+    v8 = get8(p1 + 2);
+    v9 = get8(p1 + 3);
+    v10 = v8 - v9;
+    if ((v10 & 255) > v7) goto l3;
+    v11 = get8(p1 + 5);
+    v7 = v11 & 255;
+    if (v7 > (v5 & 255)) goto l3;
+    v12 = get8(p1 + 6);
+    if ((v12 & 255) > v7) goto l3;
+    v13 = get8(p1 + 8);
+    if ((v13 & 255) == 0) goto l3;
+    v14 = get16(p1 + 10);
+    if ((v14 & 0xffff) == 0) goto l3;
+    v2 = 0;
+    v4 = 1;
+    v15 = get8(p1 + 12);
+    v16 = get16(p1 + 14);
+    if ((uint32_t)((v15 & 255) != 1 || (v16 & 0xffff) != 0) != 1) goto l3;
+    v17 = get8(p1 + 16);
+    if ((v17 & 255) == 0) goto l3;
+    v18 = get8(p1 + 19);
+    v19 = get8(p1 + 18);
+    v20 = get8(p1 + 17);
+    v21 = get8(p1 + 13);
+    v22 = get8(p1 + 9);
+    v23 = get8(p1 + 4);
+    v24 = get8(p1 + 1);
+    switch (v24) {
+    case 1:
+    case 2:
+        goto l7;
+    case 3:
+        v2 = 0;
+        if ((v11 & 255) != (v10 & 255)) goto l3;
+        if (v20 != 0) goto l3;
+        if ((v15 & 255) != 1) goto l3;
+        v7 = 0;
+        v10 = 0;
+        v26 = 0;
+        v27 = 0;
+        v28 = 0;
+        v29 = 0;
+        v30 = 0;
+        v31 = 0;
+        v32 = 0;
+        v33 = 0;
+        v34 = 0;
+        v35 = 0;
+        v36 = 0;
+        v37 = 0;
+        v38 = 0;
+        v39 = 0;
+        v40 = 0;
+        if ((v11 & 255) == 0) goto l6;
+        goto l1;
+    case 4:
+        v33 = 0;
+        v2 = v11 & 255;
+        if (v2 != (v10 & 255)) goto l4;
+        if (v2 != 0) goto l4;
+        v2 = v20;
+        v7 = v20;
+        v10 = v20;
+        v26 = v20;
+        v27 = v20;
+        v28 = v20;
+        v29 = v20;
+        v30 = v20;
+        v31 = v20;
+        v32 = v20;
+        v34 = v20;
+        v35 = v20;
+        v36 = 0;
+        v37 = v20;
+        v38 = v20;
+        v39 = v20;
+        v40 = v20;
+        switch (v20) {
+        case 1:
+            if ((v19 & 255) == 0) goto l6;
+            v2 = 0;
+            v7 = 0;
+            v10 = 0;
+            v26 = 0;
+            v27 = 0;
+            v28 = 0;
+            v29 = 0;
+            v30 = 0;
+            v31 = 0;
+            v32 = 0;
+            v33 = 0;
+            v34 = 0;
+            v35 = 0;
+            v36 = 0;
+            v37 = 0;
+            v38 = 0;
+            v39 = 0;
+            v40 = 0;
+            if ((v18 & 255) == (v8 & 255)) goto l6;
+            goto l1;
+        case 2:
+            v4 = 1;
+            v2 = 0;
+            if ((v15 & 255) != 1) goto l3;
+            if ((v19 & 255) == 0) goto l6;
+            v2 = 0;
+            v7 = 0;
+            v10 = 0;
+            v26 = 0;
+            v27 = 0;
+            v28 = 0;
+            v29 = 0;
+            v30 = 0;
+            v31 = 0;
+            v32 = 0;
+            v33 = 0;
+            v34 = 0;
+            v35 = 0;
+            v36 = 0;
+            v37 = 0;
+            v38 = 0;
+            v39 = 0;
+            v40 = 0;
+            if ((v18 & 255) == (v8 & 255)) goto l6;
+            goto l1;
+        default:
+            goto l1;
+        }
+    case 5:
+        v2 = 0;
+        if ((v11 & 255) != 0) goto l3;
+        if ((v23 & 1) != 0) goto l3;
+        if (v20 != 0) goto l3;
+        v7 = 0;
+        v10 = 0;
+        v26 = 0;
+        v27 = 0;
+        v28 = 0;
+        v29 = 0;
+        v30 = 0;
+        v31 = 0;
+        v32 = 0;
+        v33 = 0;
+        v34 = 0;
+        v35 = 0;
+        v36 = 0;
+        v37 = 0;
+        v38 = 0;
+        v39 = 0;
+        v40 = 0;
+        if ((v15 & 255) != 1) goto l6;
+        goto l1;
+    default:
+        v4 = 1;
+        v2 = 0;
+        v25 = v11 & 255;
+        if (v25 != (v10 & 255)) goto l3;
+        if (v20 != 0) goto l3;
+        v7 = 0;
+        v10 = 0;
+        v26 = 0;
+        v27 = 0;
+        v28 = 0;
+        v29 = 0;
+        v30 = 0;
+        v31 = 0;
+        v32 = 0;
+        v33 = 0;
+        v34 = 0;
+        v35 = 0;
+        v36 = 0;
+        v37 = 0;
+        v38 = 0;
+        v39 = 0;
+        v40 = 0;
+        if (((uint32_t)(v25 == 0) ^ (uint32_t)((v15 & 255) == 1)) != 0) goto l6;
+        goto l1;
+    }
+l7:;
+    v2 = 0;
+    if ((v11 & 255) != (v10 & 255)) goto l3;
+    if (v20 != 0) goto l3;
+    if ((v15 & 255) != 1) goto l3;
+    v7 = 0;
+    v10 = 0;
+    v26 = 0;
+    v27 = 0;
+    v28 = 0;
+    v29 = 0;
+    v30 = 0;
+    v31 = 0;
+    v32 = 0;
+    v33 = 0;
+    v34 = 0;
+    v35 = 0;
+    v36 = 0;
+    v37 = 0;
+    v38 = 0;
+    v39 = 0;
+    v40 = 0;
+    if ((v11 & 255) == 0) goto l1;
+l6:;
+    v4 = 0;
+    v2 = v5;
+    v7 = v24;
+    v10 = v8;
+    v26 = v9;
+    v27 = v23;
+    v28 = v11;
+    v29 = v12;
+    v30 = v6;
+    v31 = v13;
+    v32 = v22;
+    v33 = v14;
+    v34 = v15;
+    v35 = v21;
+    v36 = v16;
+    v37 = v17;
+    v38 = v20;
+    v39 = v19;
+    v40 = v18;
+    v3 = 0;
+    goto l1;
+l4:;
+    v2 = 0;
+    v7 = 0;
+    v10 = 0;
+    v26 = 0;
+    v27 = 0;
+    v28 = 0;
+    v29 = 0;
+    v30 = 0;
+    v31 = 0;
+    v32 = 0;
+    goto l2;
+l3:;
+    v7 = 0;
+    v10 = 0;
+    v26 = 0;
+    v27 = 0;
+    v28 = 0;
+    v29 = 0;
+    v30 = 0;
+    v31 = 0;
+    v32 = 0;
+    v33 = 0;
+l2:;
+    v34 = 0;
+    v35 = 0;
+    v36 = 0;
+    v37 = 0;
+    v38 = 0;
+    v39 = 0;
+    v40 = 0;
+l1:;
+    put8(p0, v4);
+    put8(p0 + 21, v40);
+    put8(p0 + 20, v39);
+    put8(p0 + 19, v38);
+    put8(p0 + 18, v37);
+    put16(p0 + 16, v36);
+    put8(p0 + 15, v35);
+    put8(p0 + 14, v34);
+    put16(p0 + 12, v33);
+    put8(p0 + 11, v32);
+    put8(p0 + 10, v31);
+    put8(p0 + 9, v30);
+    put8(p0 + 8, v29);
+    put8(p0 + 7, v28);
+    put8(p0 + 6, v27);
+    put8(p0 + 5, v26);
+    put8(p0 + 4, v10);
+    put8(p0 + 3, v7);
+    put8(p0 + 2, v2);
+    put8(p0 + 1, v3);
+    return;
 }
 
 static void sedge_alert_name_at(uint64_t result, uint32_t alert)
@@ -3542,419 +3860,395 @@ static uint32_t sedge_fop_init_without_check_at(uint64_t fop)
 
 static uint32_t sedge_fop_next_at(uint64_t fop, uint64_t number)
 {
-    uint32_t v2 = 0, v3 = 0, v4 = 0, v5 = 0, v6 = 0, v7 = 0, v8 = 0, v9 = 0, v10 = 0, v11 = 0, v12 = 0, v13 = 0,
-        v14 = 0, v15 = 0, v16 = 0, v17 = 0, v18 = 0, v19 = 0, v20 = 0;
-    v2 = 255;
-    v3 = get8(fop + 5);
-    v4 = v3 - 1;
-    if ((v4 & 255) > 5) return v2;
+    unsigned char frame_octets[48 + 15];
+    uint32_t v3 = 0, v4 = 0, v5 = 0, v6 = 0, v7 = 0, v8 = 0, v9 = 0, v10 = 0, v11 = 0, v12 = 0, v13 = 0, v14 = 0,
+        v15 = 0, v16 = 0, v17 = 0, v18 = 0, v19 = 0;
+    uint64_t v2 = 0;
+    v2 = aligned(frame_octets);
+    if (ordered64(v2) < 0x8000000000000010ULL) UNREACHABLE;
+    put64(v2 + 14, 0);
+    put64(v2 + 8, 0);
+    put64(v2, 0);
+    v3 = 255;
+    v4 = get8(fop + 5) - 1;
+    if ((v4 & 255) > 5) return v3;
     v5 = 1;
     v6 = get8(fop + 8);
-    if (v6 > 1) return v2;
+    if (v6 > 1) return v3;
     v7 = get8(fop + 15);
-    v8 = 4;
-    v9 = 2;
-    v10 = get8(fop + 14);
-    switch (v10 - 3) {
+    v8 = 1;
+    v9 = get8(fop + 14);
+    switch (v9 - 3) {
     case 0:
-        goto l5;
-    case 1:
-        v5 = 2;
-        v9 = 2;
-        goto l5;
-    default:
-        goto l6;
-    }
-l6:;
-    v8 = 2;
-    if (v10 > 2) return v2;
-    if ((v7 & 255) != 0) return v2;
-    v9 = 1;
-    v5 = v10;
-l5:;
-    v11 = get8(fop + 13);
-    if (v11 == 0) return v2;
-    v12 = get16(fop);
-    if ((v12 & 0xffff) == 0) return v2;
-    v13 = get8(fop + 12);
-    if ((v13 & 255) == 0) return v2;
-    v14 = get8(fop + 10);
-    v10 = get8(fop + 9);
-    if ((v14 & 255) > (v10 & 255)) return v2;
-    v15 = get8(fop + 4);
-    if ((v10 & 255) > (v15 & 255)) return v2;
-    if (extend32(v15, 0x80) > 0x7fffffffU) return v2;
-    v16 = get8(fop + 11);
-    if (((v16 - 1) & 255) >= (v15 & 255)) return v2;
-    v17 = get16(fop + 2);
-    v18 = get8(fop + 6);
-    v19 = get8(fop + 7);
-    v20 = v18 - v19;
-    if ((v3 - 1) < 4) {
-        v2 = 255;
-        if (v5 != 0) return v2;
-        if ((v10 & 255) != (v20 & 255)) return v2;
-        if ((v4 & 255) <= 1) {
-            if ((v14 & 255) != 0) {
-                put8(number, v10 + v19 - v14);
-                v14 = v14 - 1;
-                v2 = 4;
-                v7 = 0;
-                v8 = 0;
-                v17 = v12;
-                goto l2;
-            }
-            if ((v16 & 255) <= (v10 & 255)) goto l3;
-            if ((v6 & 1) == 0) goto l3;
-            put8(number, v18);
-            v11 = ((v10 & 255) != 0) ? v11 : 1U;
-            v18 = v18 + 1;
-            v10 = v10 + 1;
-            v2 = 3;
-            v7 = 0;
-            v6 = 0;
-            v8 = 0;
-            v14 = 0;
-            v17 = v12;
-            goto l2;
-        }
         goto l3;
-    }
-    switch (v3 - 5) {
     case 1:
-        v2 = 255;
-        if (v5 != 0) return v2;
-        if ((v10 & 255) != 0) return v2;
-        if ((v6 & 1) != 0) return v2;
-        if ((v17 & 0xffff) == 0) goto l3;
-        return v2;
+        v8 = 2;
+        goto l3;
     default:
-        v2 = 255;
-        if ((v10 & 255) != (v20 & 255)) return v2;
-        if (v5 != 1) {
-            v2 = 0;
-            put8(number, 0);
-            v7 = (v5 != 0) ? v7 : 0U;
-            v8 = (v5 != 0) ? v8 : 0U;
-            goto l2;
-        }
-        put8(number, v7);
-        v2 = v9;
-        v17 = v12;
-        goto l2;
+        goto l4;
     }
+l4:;
+    if (v9 > 2) return v3;
+    v5 = 0;
+    v8 = v9;
+    if ((v7 & 255) != 0) return v3;
 l3:;
-    v7 = 0;
-    put8(number, 0);
-    v8 = 0;
-    v2 = 0;
-l2:;
-    put16(fop, v12);
-    put8(fop + 15, v7);
-    put8(fop + 14, v8);
+    put8(v2 + 47, v7);
+    put8(v2 + 46, v5);
+    put8(v2 + 45, v8);
+    put8(v2 + 32, v6);
+    put8(v2 + 29, v4);
+    put16(v2 + 38, get16(fop));
+    put8(v2 + 44, get8(fop + 13));
+    v4 = get16(fop + 2);
+    put16(v2 + 42, v4);
+    put32(v2 + 33, get32(fop + 9));
+    put16(v2 + 30, get16(fop + 6));
+    put8(v2 + 28, get8(fop + 4));
+    put8(v2 + 37, 0);
+    put16(v2 + 40, v4 != 0);
+    cop1_sender_Sender_restore(v2, v2 + 28);
+    if (get8(v2) != 0) return v3;
+    v6 = 1;
+    v9 = get8(v2 + 21);
+    v10 = get8(v2 + 20);
+    v11 = get8(v2 + 18);
+    v5 = get16(v2 + 12);
+    v12 = get8(v2 + 10);
+    v13 = get8(v2 + 9);
+    v4 = get8(v2 + 8);
+    v7 = get8(v2 + 7);
+    v14 = get8(v2 + 6);
+    v15 = get8(v2 + 5);
+    v16 = get8(v2 + 4);
+    v8 = get8(v2 + 3);
+    v17 = get8(v2 + 2);
+    v18 = get8(v2 + 19);
+    if (v18 != 1) {
+        v19 = get16(v2 + 16);
+        v6 = get16(v2 + 14);
+        if ((v8 & 255) <= 1) {
+            if ((v4 & 255) != 0) goto l11;
+            if ((v14 & 1) != 0) {
+                v3 = v7 & 255;
+                if ((v13 & 255) > v3) {
+                    put8(number, v16);
+                    v6 = 1;
+                    v11 = (v3 != 0) ? v11 : 1U;
+                    v16 = v16 + 1;
+                    v7 = v7 + 1;
+                    v3 = 3;
+                    v14 = 0;
+                    v4 = 0;
+                    goto l10;
+                }
+            }
+        }
+        v3 = 0;
+        put8(number, 0);
+        goto l9;
+    l11:;
+        put8(number, v7 + v15 - v4);
+        v4 = v4 - 1;
+        v3 = 4;
+        v6 = 1;
+    l10:;
+        v19 = v5;
+    l9:;
+        if (v18 == 0) {
+            v10 = 0;
+            v9 = 0;
+            goto l6;
+        }
+        goto l7;
+    }
+    v3 = v10 & 255;
+    put8(number, (v3 != 0) ? v9 : 0U);
+    v3 = (v3 != 0) ? 2U : 1U;
+    v19 = v5;
+l7:;
+    v18 = v10 & 255;
+    v10 = (v18 != 0) ? 4U : 2U;
+    v9 = (v18 == 1) ? v9 : 0U;
+l6:;
+    put16(fop, v5);
+    put8(fop + 15, v9);
+    put8(fop + 14, v10);
     put8(fop + 13, v11);
-    put8(fop + 12, v13);
-    put8(fop + 11, v16);
-    put8(fop + 10, v14);
-    put8(fop + 9, v10);
-    put8(fop + 8, v6);
-    put8(fop + 7, v19);
-    put8(fop + 6, v18);
-    put8(fop + 5, v3);
-    put8(fop + 4, v15);
-    put16(fop + 2, v17);
-    return v2;
+    put8(fop + 12, v12);
+    put8(fop + 11, v13);
+    put8(fop + 10, v4);
+    put8(fop + 9, v7);
+    put8(fop + 8, v14 & 1);
+    put8(fop + 7, v15);
+    put8(fop + 6, v16);
+    put8(fop + 5, v8 + 1);
+    put8(fop + 4, v17);
+    put16(fop + 2, ((v6 & 255) != 0) ? v19 : 0U);
+    return v3;
 }
 
 static uint32_t sedge_fop_report_at(uint64_t fop, uint32_t vcid, uint64_t word, uint64_t released)
 {
-    uint32_t v4 = 0, v5 = 0, v6 = 0, v7 = 0, v8 = 0, v9 = 0, v10 = 0, v11 = 0, v12 = 0, v13 = 0, v14 = 0, v15 = 0,
-        v16 = 0, v17 = 0, v18 = 0, v19 = 0, v20 = 0, v21 = 0, v22 = 0;
-    v4 = 253;
-    if (get8(word + 1) != (vcid & 255)) return v4;
-    vcid = get8(fop + 5);
-    v5 = vcid - 1;
-    if ((v5 & 255) <= 5) {
-        v6 = 1;
-        v7 = get8(fop + 8);
-        if (v7 <= 1) {
-            v8 = get8(fop + 15);
-            v9 = 4;
-            v10 = 1;
-            v11 = get8(fop + 14);
-            switch (v11 - 3) {
-            case 0:
-                goto l12;
-            case 1:
-                v11 = 3;
-                v10 = 2;
-                goto l12;
-            default:
+    unsigned char frame_octets[48 + 15];
+    uint32_t v5 = 0, v6 = 0, v7 = 0, v8 = 0, v9 = 0, v10 = 0, v11 = 0, v12 = 0, v13 = 0, v14 = 0, v15 = 0, v16 = 0,
+        v17 = 0, v18 = 0, v19 = 0, v20 = 0, v21 = 0, v22 = 0, v23 = 0, v24 = 0, v25 = 0;
+    uint64_t v4 = 0;
+    v4 = aligned(frame_octets);
+    if (ordered64(v4) < 0x8000000000000010ULL) UNREACHABLE;
+    v5 = 253;
+    if (get8(word + 1) != (vcid & 255)) return v5;
+    put64(v4 + 14, 0);
+    put64(v4 + 8, 0);
+    put64(v4, 0);
+    v5 = get8(fop + 5) - 1;
+    if ((v5 & 255) > 5) {
+        v5 = 255;
+        return v5;
+    }
+    vcid = 1;
+    v6 = get8(fop + 8);
+    if (v6 > 1) {
+        v5 = 255;
+        return v5;
+    }
+    v7 = get8(fop + 15);
+    v8 = 1;
+    v9 = get8(fop + 14);
+    switch (v9 - 3) {
+    case 0:
+        goto l9;
+    case 1:
+        v8 = 2;
+        goto l9;
+    default:
+        goto l10;
+    }
+l10:;
+    if (v9 > 2) {
+        v5 = 255;
+        return v5;
+    }
+    vcid = 0;
+    v8 = v9;
+    if ((v7 & 255) != 0) {
+        v5 = 255;
+        return v5;
+    }
+l9:;
+    put8(v4 + 47, v7);
+    put8(v4 + 46, vcid);
+    put8(v4 + 45, v8);
+    put8(v4 + 32, v6);
+    put8(v4 + 29, v5);
+    put16(v4 + 38, get16(fop));
+    put8(v4 + 44, get8(fop + 13));
+    v5 = get16(fop + 2);
+    put16(v4 + 42, v5);
+    put32(v4 + 33, get32(fop + 9));
+    put16(v4 + 30, get16(fop + 6));
+    put8(v4 + 28, get8(fop + 4));
+    vcid = 0;
+    put8(v4 + 37, 0);
+    put16(v4 + 40, v5 != 0);
+    cop1_sender_Sender_restore(v4, v4 + 28);
+    if (get8(v4) != 0) {
+        v5 = 255;
+        return v5;
+    }
+    v10 = get8(v4 + 21);
+    v5 = get8(v4 + 20);
+    v6 = get8(v4 + 19);
+    v11 = get8(v4 + 18);
+    v12 = get16(v4 + 16);
+    v13 = get16(v4 + 14);
+    v14 = get16(v4 + 12);
+    v15 = get8(v4 + 10);
+    v16 = get8(v4 + 9);
+    v9 = get8(v4 + 8);
+    v7 = get8(v4 + 7);
+    v17 = get8(v4 + 6);
+    v18 = get8(v4 + 5);
+    v19 = get8(v4 + 4);
+    v20 = get8(v4 + 2);
+    v8 = 6;
+    v21 = get8(v4 + 3);
+    switch ((uint32_t)((uint64_t)v21 & 255)) {
+    case 3:
+        v8 = 6;
+        vcid = 0;
+        v22 = get8(word + 2);
+        if ((v22 & 32) == 0) {
+            if (get8(word + 4) == (v19 & 255)) {
+                if ((v22 & 8) != 0) goto l6;
+                vcid = 0;
+                if ((v22 & 16) != 0) {
+                    v5 = 3;
+                    v22 = 0;
+                    goto l4;
+                }
+                v12 = 0;
+                v13 = 0;
                 goto l13;
             }
-        l13:;
-            v9 = 2;
-            if (v11 > 2) return 255;
-            if ((v8 & 255) != 0) return 255;
-            v6 = 0;
-            v10 = v11;
-            v11 = 1;
-        l12:;
-            v12 = get8(fop + 13);
-            if (v12 != 0) {
-                v13 = get16(fop);
-                if ((v13 & 0xffff) != 0) {
-                    v14 = get8(fop + 12);
-                    if ((v14 & 255) != 0) {
-                        v15 = get8(fop + 10);
-                        v16 = get8(fop + 9);
-                        if ((v15 & 255) <= (v16 & 255)) {
-                            v17 = get8(fop + 4);
-                            if ((v16 & 255) <= (v17 & 255)) {
-                                if (extend32(v17, 0x80) <= 0x7fffffffU) {
-                                    v4 = 255;
-                                    v18 = get8(fop + 11);
-                                    if (((v18 - 1) & 255) >= (v17 & 255)) return v4;
-                                    v19 = get16(fop + 2);
-                                    v20 = get8(fop + 6);
-                                    v21 = get8(fop + 7);
-                                    v22 = v20 - v21;
-                                    if ((vcid - 1) < 4) goto l33;
-                                    switch (vcid - 5) {
-                                    case 1:
-                                        goto l34;
-                                    default:
-                                        goto l32;
-                                    }
-                                l34:;
-                                    v4 = 255;
-                                    if (((v16 | v10) & 255) != 0) return v4;
-                                    if ((v7 & 1) != 0) return v4;
-                                    if ((v19 & 0xffff) != 0) return v4;
-                                    v16 = 0;
-                                    v6 = 6;
-                                    goto l4;
-                                l33:;
-                                    v4 = 255;
-                                    if (v10 != 0) return v4;
-                                    if ((v16 & 255) != (v22 & 255)) return v4;
-                                    vcid = get8(word + 2);
-                                    if ((v5 & 255) == 3) goto l30;
-                                    v10 = 0;
-                                    if ((vcid & 32) == 0) goto l31;
-                                    v4 = 1;
-                                    goto l28;
-                                l32:;
-                                    v4 = 255;
-                                    if ((v16 & 255) != (v22 & 255)) return v4;
-                                    if ((get8(word + 2) & 56) != 0) goto l23;
-                                    if (get8(word + 4) != (v20 & 255)) goto l23;
-                                    goto l5;
-                                l31:;
-                                    v11 = get8(word + 4);
-                                    v9 = v11 - v21;
-                                    if ((v16 & 255) >= (v9 & 255)) goto l35;
-                                    v4 = 2;
-                                    goto l28;
-                                l35:;
-                                    if ((vcid & 24) == 16) goto l29;
-                                    if ((vcid & 8) == 0) goto l37;
-                                    v4 = v11 & 255;
-                                    if (v4 != (v20 & 255)) goto l36;
-                                    v4 = 4;
-                                    goto l28;
-                                l37:;
-                                    if ((v21 & 255) != (v11 & 255)) goto l38;
-                                    if ((v5 & 255) == 0) goto l25;
-                                    v4 = 4;
-                                    goto l28;
-                                l38:;
-                                    put8(released, v9);
-                                    vcid = v21 - v11 + v16;
-                                    v9 = vcid & 255;
-                                    v4 = v15 & 255;
-                                    v15 = (v9 < v4) ? v9 : v4;
-                                    v5 = 0;
-                                    v6 = 1;
-                                    v10 = 0;
-                                    v12 = 1;
-                                    v16 = 0;
-                                    v21 = v11;
-                                    v4 = 0;
-                                    v19 = v13;
-                                    if (v9 == 0) goto l3;
-                                    goto l2;
-                                l36:;
-                                    vcid = vcid & 16;
-                                    if ((v21 & 255) == v4) goto l39;
-                                    v12 = 1;
-                                    if ((v14 & 255) != 1) goto l40;
-                                    v4 = 5;
-                                    v21 = v11;
-                                    v10 = v9;
-                                    goto l28;
-                                l40:;
-                                    v16 = v21 - v11 + v16;
-                                    if (vcid == 0) goto l41;
-                                    vcid = v16 & 255;
-                                    v4 = v15 & 255;
-                                    v15 = (vcid < v4) ? vcid : v4;
-                                    v12 = 1;
-                                    v6 = 3;
-                                    v21 = v11;
-                                    goto l24;
-                                l41:;
-                                    put8(released, v9);
-                                    v5 = 0;
-                                    v6 = 2;
-                                    v10 = 0;
-                                    v12 = 2;
-                                    v15 = v16;
-                                    vcid = v16;
-                                    v21 = v11;
-                                    goto l6;
-                                l39:;
-                                    if ((v14 & 255) == 1) goto l26;
-                                    if ((v5 & 255) == 1) goto l27;
-                                    if (v12 >= (v14 & 255)) goto l27;
-                                    if (vcid != 0) goto l27;
-                                    v5 = 0;
-                                    put8(released, 0);
-                                    v12 = v12 + 1;
-                                    v6 = 2;
-                                    v10 = 0;
-                                    v15 = v16;
-                                    vcid = v16;
-                                    goto l6;
-                                l30:;
-                                    v10 = 0;
-                                    if ((vcid & 32) == 0) goto l42;
-                                    v4 = 1;
-                                    goto l28;
-                                l42:;
-                                    if (get8(word + 4) == (v20 & 255)) goto l43;
-                                    v4 = 2;
-                                    goto l28;
-                                l43:;
-                                    if ((vcid & 8) == 0) goto l44;
-                                    v4 = 4;
-                                    goto l28;
-                                l44:;
-                                    if ((vcid & 16) == 0) goto l5;
-                                l29:;
-                                    v4 = 3;
-                                l28:;
-                                    put8(released, v10);
-                                    v5 = 0;
-                                    goto l7;
-                                l27:;
-                                    v5 = 0;
-                                    put8(released, 0);
-                                    v6 = (vcid != 0) ? 3U : 2U;
-                                    v10 = 0;
-                                    v4 = 0;
-                                    vcid = v16;
-                                    if ((v19 & 0xffff) == 0) goto l3;
-                                    goto l2;
-                                l26:;
-                                    v5 = 0;
-                                    put8(released, 0);
-                                    v4 = 5;
-                                    goto l7;
-                                l25:;
-                                    v6 = 1;
-                                l24:;
-                                    put8(released, v9);
-                                    v5 = 0;
-                                    v10 = 0;
-                                    v4 = 0;
-                                    vcid = v16;
-                                    if ((v19 & 0xffff) == 0) goto l3;
-                                    goto l2;
-                                l23:;
-                                    v5 = 0;
-                                    put8(released, 0);
-                                    switch (v10) {
-                                    case 1:
-                                        goto l46;
-                                    case 2:
-                                        goto l47;
-                                    default:
-                                        goto l45;
-                                    }
-                                l47:;
-                                    v10 = v9;
-                                    if (v6 == 0) goto l45;
-                                    goto l8;
-                                l46:;
-                                    v10 = v11;
-                                    if (v6 != 0) goto l8;
-                                l45:;
-                                    v6 = 5;
-                                    v4 = 0;
-                                    vcid = v16;
-                                    if ((v19 & 0xffff) != 0) goto l2;
-                                    goto l3;
-                                }
-                                return 255;
-                            }
-                            return 255;
-                        }
-                        return 255;
-                    }
-                    return 255;
-                }
-                return 255;
-            }
-            return 255;
+            v5 = 2;
+            v22 = 0;
+            goto l4;
         }
-        return 255;
+        v5 = 1;
+        v22 = 0;
+        goto l4;
+    case 4:
+        v8 = 5;
+        if ((get8(word + 2) & 56) != 0) goto l12;
+        if (get8(word + 4) != (v19 & 255)) goto l12;
+        v8 = 1;
+        v22 = v17 & 1;
+        vcid = 0;
+        v5 = 0;
+        goto l3;
+    case 5:
+        goto l12;
+    default:
+        v8 = 6;
+        v22 = 0;
+        v23 = get8(word + 2);
+        if ((v23 & 32) == 0) {
+            v24 = get8(word + 4);
+            vcid = v24 - v18;
+            if (((v19 - v18) & 255) >= (vcid & 255)) {
+                if ((v23 & 24) != 16) {
+                    if ((v23 & 8) == 0) {
+                        if ((v18 & 255) != (v24 & 255)) goto l14;
+                        vcid = 0;
+                        if ((v21 & 255) == 0) goto l13;
+                        goto l6;
+                    }
+                    v25 = v24 & 255;
+                    if (v25 != (v19 & 255)) {
+                        v23 = v23 & 16;
+                        if ((v18 & 255) == v25) {
+                            v24 = v15 & 255;
+                            if (v24 != 1) {
+                                vcid = 0;
+                                if (v23 == 0) {
+                                    v8 = 2;
+                                    if (!((v21 & 255) != 1 && (v11 & 255) < v24)) goto l12;
+                                    v13 = 1;
+                                    v11 = v11 + 1;
+                                    v12 = v14;
+                                    v9 = v7;
+                                    goto l12;
+                                }
+                                v8 = 3;
+                                goto l12;
+                            }
+                            v5 = 5;
+                            goto l5;
+                        }
+                        v11 = 1;
+                        if ((v15 & 255) != 1) {
+                            v7 = v18 - v24 + v7;
+                            if (v23 == 0) {
+                                v13 = 1;
+                                v11 = 2;
+                                v12 = v14;
+                                v9 = v7;
+                                v18 = v24;
+                                v8 = 2;
+                                goto l12;
+                            }
+                            v8 = v7 & 255;
+                            v9 = v9 & 255;
+                            v9 = (v8 < v9) ? v8 : v9;
+                            v8 = 3;
+                            v11 = 1;
+                            v18 = v24;
+                            goto l12;
+                        }
+                        v5 = 5;
+                        v18 = v24;
+                        goto l4;
+                    }
+                    v5 = 4;
+                    goto l5;
+                }
+                v5 = 3;
+                goto l5;
+            }
+            v5 = 2;
+            goto l5;
+        }
+        v5 = 1;
+        goto l5;
     }
-    return 255;
-l8:;
-    v4 = 0;
-    v6 = 5;
-    v5 = v8;
-    vcid = v16;
-    if ((v19 & 0xffff) == 0) goto l3;
-    goto l2;
-l7:;
-    v6 = 6;
-    v10 = 0;
-    v15 = 0;
-    v16 = 0;
-    v7 = 0;
-    goto l3;
-l6:;
-    v4 = 0;
-    v19 = v13;
-    goto l2;
-l5:;
-    v6 = 1;
-l4:;
+l14:;
+    v7 = v18 - v24 + v7;
+    v8 = v7 & 255;
+    v9 = v9 & 255;
+    v9 = (v8 < v9) ? v8 : v9;
+    v12 = (v8 != 0) ? v14 : 0U;
+    v13 = v8 != 0;
+    v11 = 1;
+    v18 = v24;
+l13:;
+    v8 = 1;
+l12:;
+    put8(released, vcid);
+    vcid = v6;
+    switch (v6) {
+    case 1:
+        v5 = v5 & 255;
+        v6 = (v5 != 0) ? 3U : 1U;
+        if (v5 == 1) goto l32;
+        vcid = 0;
+        goto l31;
+    case 2:
+        v5 = v5 & 255;
+        v6 = (v5 != 0) ? 4U : 2U;
+        if (v5 == 1) goto l32;
+        vcid = 0;
+        goto l31;
+    default:
+        goto l31;
+    }
+l32:;
+    vcid = v10;
+l31:;
     v5 = 0;
-    put8(released, 0);
-    v10 = 0;
-    v4 = 0;
+    v12 = ((v13 & 255) != 0) ? v12 : 0U;
+    v22 = v17 & 1;
+    goto l2;
+l6:;
+    v5 = 4;
+    v22 = 0;
+    goto l4;
+l5:;
+    vcid = 0;
+l4:;
+    v7 = 0;
+    v9 = 0;
 l3:;
-    v19 = 0;
-    vcid = v16;
+    put8(released, vcid);
+    vcid = 0;
+    v6 = 0;
+    v12 = 0;
 l2:;
-    put16(fop, v13);
-    put8(fop + 15, v5);
-    put8(fop + 14, v10);
-    put8(fop + 13, v12);
-    put8(fop + 12, v14);
-    put8(fop + 11, v18);
-    put8(fop + 10, v15);
-    put8(fop + 9, vcid);
-    put8(fop + 8, v7);
-    put8(fop + 7, v21);
-    put8(fop + 6, v20);
-    put8(fop + 5, v6);
-    put8(fop + 4, v17);
-    put16(fop + 2, v19);
-    return v4;
+    put16(fop, v14);
+    put8(fop + 15, vcid);
+    put8(fop + 14, v6);
+    put8(fop + 13, v11);
+    put8(fop + 12, v15);
+    put8(fop + 11, v16);
+    put8(fop + 10, v9);
+    put8(fop + 9, v7);
+    put8(fop + 8, v22);
+    put8(fop + 7, v18);
+    put8(fop + 6, v19);
+    put8(fop + 5, v8);
+    put8(fop + 4, v20);
+    put16(fop + 2, v12);
+    return v5;
 }
 
 static uint32_t sedge_fop_set_limit_at(uint64_t fop, uint32_t limit)
@@ -4015,105 +4309,114 @@ static uint32_t sedge_fop_set_window_at(uint64_t fop, uint32_t window)
 
 static uint32_t sedge_fop_submit_at(uint64_t fop)
 {
-    uint32_t v1 = 0, v2 = 0, v3 = 0, v4 = 0, v5 = 0, v6 = 0, v7 = 0, v8 = 0, v9 = 0, v10 = 0;
-    v1 = 255;
-    v2 = get8(fop + 5);
-    if (((v2 - 1) & 255) > 5) return v1 & 255;
-    v3 = 1;
-    v1 = 255;
-    v4 = get8(fop + 8);
-    if (v4 > 1) return v1 & 255;
-    v5 = get8(fop + 15);
-    v6 = 4;
+    unsigned char frame_octets[48 + 15];
+    uint32_t v2 = 0, v3 = 0, v4 = 0, v5 = 0, v6 = 0, v7 = 0, v8 = 0, v9 = 0, v10 = 0, v11 = 0, v12 = 0, v13 = 0,
+        v14 = 0, v15 = 0, v16 = 0, v17 = 0;
+    uint64_t v1 = 0;
+    v1 = aligned(frame_octets);
+    if (ordered64(v1) < 0x8000000000000010ULL) UNREACHABLE;
+    put64(v1 + 14, 0);
+    put64(v1 + 8, 0);
+    put64(v1, 0);
+    v2 = 255;
+    v3 = get8(fop + 5) - 1;
+    if ((v3 & 255) > 5) return v2;
+    v4 = 1;
+    v5 = get8(fop + 8);
+    if (v5 > 1) return v2;
+    v6 = get8(fop + 15);
     v7 = 1;
     v8 = get8(fop + 14);
     switch (v8 - 3) {
     case 0:
-        goto l6;
+        goto l3;
     case 1:
-        v8 = 3;
         v7 = 2;
-        goto l6;
+        goto l3;
     default:
-        goto l7;
-    }
-l7:;
-    v6 = 2;
-    v1 = 255;
-    if (v8 > 2) return v1 & 255;
-    v1 = 255;
-    if ((v5 & 255) != 0) return v1 & 255;
-    v3 = 0;
-    v7 = v8;
-    v8 = 1;
-l6:;
-    v1 = 255;
-    if (get8(fop + 13) == 0) return v1 & 255;
-    v1 = 255;
-    if ((get16(fop) & 0xffff) == 0) return v1 & 255;
-    v1 = 255;
-    if ((get8(fop + 12) & 255) == 0) return v1 & 255;
-    v1 = 255;
-    v9 = get8(fop + 9);
-    if ((get8(fop + 10) & 255) > (v9 & 255)) return v1 & 255;
-    v1 = 255;
-    v10 = get8(fop + 4);
-    if ((v9 & 255) > (v10 & 255)) return v1 & 255;
-    v1 = 255;
-    if (extend32(v10, 0x80) > 0x7fffffffU) return v1 & 255;
-    v1 = 255;
-    if (((get8(fop + 11) - 1) & 255) >= (v10 & 255)) return v1 & 255;
-    v10 = get8(fop + 6) - get8(fop + 7);
-    if ((v2 - 1) < 4) {
-        v1 = 255;
-        if (v7 != 0) return v1 & 255;
-        if ((v9 & 255) == (v10 & 255)) goto l9;
-        return v1 & 255;
-    }
-    switch (v2 - 5) {
-    case 1:
         goto l4;
-    default:
-        goto l10;
     }
-l10:;
-    v1 = 255;
-    if ((v9 & 255) != (v10 & 255)) return v1 & 255;
-l9:;
-    v1 = 7;
-    if ((v4 & 1) != 0) return v1 & 255;
-    v1 = v7;
-    switch (v7) {
-    case 1:
-        if (v3 == 0) {
-            v1 = 0;
-            v7 = v8;
-            goto l1;
-        }
-        v7 = v8;
-        goto l12;
-    case 2:
-        goto l13;
-    default:
-        goto l1;
-    }
-l13:;
-    if (v3 == 0) goto l2;
-    v7 = v6;
-l12:;
-    v1 = v5;
-    goto l1;
 l4:;
-    v1 = (((v7 | v9) & 255) != 0) ? ~0U : (((v4 & 1) != 0) ? ~0U : (((get16(fop + 2) & 0xffff) != 0) ? ~0U : 6U));
-    return v1 & 255;
-l2:;
-    v1 = 0;
-    v7 = v6;
-l1:;
-    put8(fop + 15, v1);
-    put8(fop + 14, v7);
+    if (v8 > 2) return v2;
+    v4 = 0;
+    v7 = v8;
+    if ((v6 & 255) != 0) return v2;
+l3:;
+    put8(v1 + 47, v6);
+    put8(v1 + 46, v4);
+    put8(v1 + 45, v7);
+    put8(v1 + 32, v5);
+    put8(v1 + 29, v3);
+    put16(v1 + 38, get16(fop));
+    put8(v1 + 44, get8(fop + 13));
+    v3 = get16(fop + 2);
+    put16(v1 + 42, v3);
+    put32(v1 + 33, get32(fop + 9));
+    put16(v1 + 30, get16(fop + 6));
+    put8(v1 + 28, get8(fop + 4));
+    put8(v1 + 37, 0);
+    put16(v1 + 40, v3 != 0);
+    cop1_sender_Sender_restore(v1, v1 + 28);
+    if (get8(v1) != 0) return v2;
+    v2 = get8(v1 + 3);
+    if (v2 == 5) {
+        v2 = 6;
+        return v2;
+    }
+    if ((get8(v1 + 6) & 1) != 0) {
+        v2 = 7;
+        return v2;
+    }
+    v9 = get8(v1 + 21);
+    v10 = get8(v1 + 20);
+    v5 = get8(v1 + 18);
+    v7 = get16(v1 + 16);
+    v6 = get8(v1 + 14);
+    v8 = get16(v1 + 12);
+    v11 = get8(v1 + 10);
+    v12 = get8(v1 + 9);
+    v13 = get8(v1 + 8);
+    v14 = get8(v1 + 7);
+    v15 = get8(v1 + 5);
+    v16 = get8(v1 + 4);
+    v17 = get8(v1 + 2);
+    v3 = get8(v1 + 19);
+    v4 = v3;
+    switch (v3) {
+    case 1:
+        v4 = v10 & 255;
+        v3 = (v4 != 0) ? 3U : 1U;
+        if (v4 == 1) goto l9;
+        v4 = 0;
+        goto l8;
+    case 2:
+        v4 = v10 & 255;
+        v3 = (v4 != 0) ? 4U : 2U;
+        if (v4 == 1) goto l9;
+        v4 = 0;
+        goto l8;
+    default:
+        goto l8;
+    }
+l9:;
+    v4 = v9;
+l8:;
+    put16(fop, v8);
+    put8(fop + 15, v4);
+    put8(fop + 14, v3);
+    put8(fop + 13, v5);
+    put8(fop + 12, v11);
+    put8(fop + 11, v12);
+    put8(fop + 10, v13);
+    put8(fop + 9, v14);
     put8(fop + 8, 1);
-    return 0U & 255U;
+    put8(fop + 7, v15);
+    put8(fop + 6, v16);
+    put8(fop + 5, v2 + 1);
+    put8(fop + 4, v17);
+    v2 = 0;
+    put16(fop + 2, ((v6 & 255) != 0) ? v7 : 0U);
+    return v2;
 }
 
 static uint32_t sedge_fop_terminate_at(uint64_t fop)
@@ -4132,155 +4435,152 @@ static uint32_t sedge_fop_terminate_at(uint64_t fop)
 
 static uint32_t sedge_fop_tick_at(uint64_t fop)
 {
-    uint32_t v1 = 0, v2 = 0, v3 = 0, v4 = 0, v5 = 0, v6 = 0, v7 = 0, v8 = 0, v9 = 0, v10 = 0, v11 = 0, v12 = 0,
-        v13 = 0, v14 = 0, v15 = 0, v16 = 0;
-    v1 = 255;
-    v2 = get8(fop + 5);
-    v3 = v2 - 1;
-    if ((v3 & 255) > 5) return v1;
+    unsigned char frame_octets[48 + 15];
+    uint32_t v2 = 0, v3 = 0, v4 = 0, v5 = 0, v6 = 0, v7 = 0, v8 = 0, v9 = 0, v10 = 0, v11 = 0, v12 = 0, v13 = 0,
+        v14 = 0, v15 = 0, v16 = 0, v17 = 0, v18 = 0, v19 = 0;
+    uint64_t v1 = 0;
+    v1 = aligned(frame_octets);
+    if (ordered64(v1) < 0x8000000000000010ULL) UNREACHABLE;
+    put64(v1 + 14, 0);
+    put64(v1 + 8, 0);
+    put64(v1, 0);
+    v2 = 255;
+    v3 = get8(fop + 5) - 1;
+    if ((v3 & 255) > 5) return v2;
     v4 = 1;
     v5 = get8(fop + 8);
-    if (v5 > 1) return v1;
+    if (v5 > 1) return v2;
     v6 = get8(fop + 15);
-    v7 = 4;
-    v8 = 1;
-    v9 = get8(fop + 14);
-    switch (v9 - 3) {
+    v7 = 1;
+    v8 = get8(fop + 14);
+    switch (v8 - 3) {
     case 0:
-        goto l11;
+        goto l10;
     case 1:
-        v9 = 3;
-        v8 = 2;
-        goto l11;
+        v7 = 2;
+        goto l10;
     default:
-        goto l12;
+        goto l11;
     }
-l12:;
-    v7 = 2;
-    if (v9 > 2) return v1;
-    if ((v6 & 255) != 0) return v1;
-    v4 = 0;
-    v8 = v9;
-    v9 = 1;
 l11:;
-    v10 = get8(fop + 13);
-    if (v10 == 0) return v1;
-    v11 = get16(fop);
-    if ((v11 & 0xffff) == 0) return v1;
-    v12 = get8(fop + 12);
-    if ((v12 & 255) == 0) return v1;
-    v13 = get8(fop + 10);
-    v14 = get8(fop + 9);
-    if ((v13 & 255) > (v14 & 255)) return v1;
-    v15 = get8(fop + 4);
-    if ((v14 & 255) > (v15 & 255)) return v1;
-    if (extend32(v15, 0x80) > 0x7fffffffU) return v1;
-    if (((get8(fop + 11) - 1) & 255) >= (v15 & 255)) return v1;
-    v15 = get16(fop + 2);
-    v16 = get8(fop + 6) - get8(fop + 7);
-    if ((v2 - 1) < 4) {
-        v1 = 255;
-        if (v8 != 0) return v1;
-        if ((v14 & 255) == (v16 & 255)) goto l14;
-        return v1;
-    }
-    switch (v2 - 5) {
-    case 1:
-        v1 = 255;
-        if (((v14 | v8) & 255) != 0) return v1;
-        if ((v5 & 1) != 0) return v1;
-        v11 = 0;
-        v16 = 0;
-        if ((v15 & 0xffff) == 0) goto l9;
-        return v1;
-    default:
-        goto l15;
-    }
-l15:;
-    v1 = 255;
-    if ((v14 & 255) != (v16 & 255)) return v1;
-l14:;
-    v1 = v15 & 0xffff;
-    if (v1 != 0) {
-        v16 = 1;
-        if (v1 == 1) {
-            v15 = 0;
-            v1 = 6;
-            if ((v3 & 255) == 3) goto l3;
-            if ((v12 & 255) <= v10) goto l3;
-            switch (v2 - 1) {
-            case 2:
-                v16 = 1;
-                v10 = v10 + 1;
-                goto l9;
-            case 3:
-                UNREACHABLE;
-            case 4:
-                v16 = 1;
-                v10 = v10 + 1;
-                if (v8 != 2) goto l9;
-                goto l8;
-            default:
-                v16 = 1;
-                v10 = v10 + 1;
-                v13 = v14;
-                goto l9;
-            }
+    if (v8 > 2) return v2;
+    v4 = 0;
+    v7 = v8;
+    if ((v6 & 255) != 0) return v2;
+l10:;
+    put8(v1 + 47, v6);
+    put8(v1 + 46, v4);
+    put8(v1 + 45, v7);
+    put8(v1 + 32, v5);
+    put8(v1 + 29, v3);
+    put16(v1 + 38, get16(fop));
+    put8(v1 + 44, get8(fop + 13));
+    v3 = get16(fop + 2);
+    put16(v1 + 42, v3);
+    put32(v1 + 33, get32(fop + 9));
+    put16(v1 + 30, get16(fop + 6));
+    put8(v1 + 28, get8(fop + 4));
+    put8(v1 + 37, 0);
+    put16(v1 + 40, v3 != 0);
+    cop1_sender_Sender_restore(v1, v1 + 28);
+    if (get8(v1) != 0) return v2;
+    v9 = get8(v1 + 21);
+    v2 = get8(v1 + 20);
+    v3 = get8(v1 + 19);
+    v7 = get8(v1 + 18);
+    v4 = get16(v1 + 16);
+    v10 = get16(v1 + 12);
+    v8 = get8(v1 + 10);
+    v11 = get8(v1 + 9);
+    v12 = get8(v1 + 8);
+    v13 = get8(v1 + 7);
+    v14 = get8(v1 + 6);
+    v15 = get8(v1 + 5);
+    v16 = get8(v1 + 4);
+    v6 = get8(v1 + 3);
+    v17 = get8(v1 + 2);
+    v18 = get16(v1 + 14);
+    if ((v18 & 255) != 1) goto l8;
+    if ((v4 & 0xffff) < 2) {
+        v4 = 0;
+        v19 = 6;
+        if (v6 == 3) goto l3;
+        if ((v8 & 255) <= (v7 & 255)) goto l3;
+        switch (v6) {
+        case 2:
+            v7 = v7 + 1;
+            v6 = 2;
+            v4 = v10;
+            goto l8;
+        case 3:
+            UNREACHABLE;
+        case 4:
+        case 5:
+            v7 = v7 + 1;
+            v4 = v10;
+            if (v3 != 2) goto l8;
+            goto l7;
+        default:
+            v7 = v7 + 1;
+            v4 = v10;
+            v12 = v13;
+            goto l8;
         }
-        v11 = v15 - 1;
-        goto l9;
     }
-    v11 = 0;
-    v16 = 0;
-    goto l9;
-l9:;
-    v15 = v8;
-    switch (v8) {
+    v4 = v4 - 1;
+    goto l8;
+l8:;
+    v5 = v3;
+    switch (v3) {
     case 1:
-        goto l8;
-    case 2:
         goto l7;
+    case 2:
+        v2 = v2 & 255;
+        v3 = (v2 != 0) ? 4U : 2U;
+        if (v2 == 1) goto l5;
+        v5 = 0;
+        goto l4;
     default:
         goto l4;
     }
-l8:;
-    if (v4 == 0) {
-        v15 = 0;
-        v8 = v9;
+l7:;
+    v2 = v2 & 255;
+    v3 = (v2 != 0) ? 3U : 1U;
+    if (v2 != 1) {
+        v5 = 0;
         goto l4;
     }
-    v8 = v9;
-    goto l6;
-l7:;
-    if (v4 == 0) goto l5;
-    v8 = v7;
-l6:;
-    v15 = v6;
-    goto l4;
 l5:;
-    v15 = 0;
-    v8 = v7;
+    v5 = v9;
 l4:;
-    v1 = 0;
-    v3 = (v16 != 0) ? v11 : 0U;
+    v2 = 0;
+    v18 = ((v18 & 255) != 0) ? v4 : 0U;
+    v19 = v6 + 1;
+    v4 = v14 & 1;
     goto l2;
 l3:;
-    v2 = 6;
-    v8 = 0;
-    v13 = 0;
-    v14 = 0;
     v5 = 0;
     v3 = 0;
+    v12 = 0;
+    v13 = 0;
+    v2 = 6;
+    v18 = 0;
 l2:;
-    put8(fop + 15, v15);
-    put8(fop + 14, v8);
-    put8(fop + 13, v10);
-    put8(fop + 10, v13);
-    put8(fop + 9, v14);
-    put8(fop + 8, v5);
-    put8(fop + 5, v2);
-    put16(fop + 2, v3);
-    return v1;
+    put16(fop, v10);
+    put8(fop + 15, v5);
+    put8(fop + 14, v3);
+    put8(fop + 13, v7);
+    put8(fop + 12, v8);
+    put8(fop + 11, v11);
+    put8(fop + 10, v12);
+    put8(fop + 9, v13);
+    put8(fop + 8, v4);
+    put8(fop + 7, v15);
+    put8(fop + 6, v16);
+    put8(fop + 5, v19);
+    put8(fop + 4, v17);
+    put16(fop + 2, v18);
+    return v2;
 }
 
 static uint32_t sedge_tm_builder_build_at(uint64_t builder, uint64_t ocf, uint64_t ocf_count, uint64_t memory,
@@ -4540,63 +4840,69 @@ static uint32_t sedge_accepted_beyond_at(uint32_t nn, uint32_t vs, uint32_t valu
 
 static uint32_t sedge_fop_accepted_beyond_at(uint64_t fop, uint32_t value, uint64_t accepted)
 {
-    uint32_t v3 = 0, v4 = 0, v5 = 0, v6 = 0, v7 = 0, v8 = 0, v9 = 0, v10 = 0;
-    v3 = 255;
-    v4 = get8(fop + 5);
-    if (((v4 - 1) & 255) > 5) return v3;
-    v5 = get8(fop + 8);
-    if (v5 > 1) return v3;
-    v3 = 255;
-    v6 = 2;
-    v7 = get8(fop + 14);
-    if (((v7 - 3) & 255) >= 2) {
-        if ((v7 & 255) > 2) return v3;
-        v6 = v7;
-        if ((get8(fop + 15) & 255) != 0) return v3;
-    }
-    if (get16(fop) == 0) return v3;
-    if ((get8(fop + 12) & 255) == 0) return v3;
-    v8 = get8(fop + 9);
-    if ((get8(fop + 10) & 255) > (v8 & 255)) return v3;
-    v7 = get8(fop + 4);
-    if ((v8 & 255) > (v7 & 255)) return v3;
-    if (extend32(v7, 0x80) > 0x7fffffffU) return v3;
-    if (((get8(fop + 11) - 1) & 255) >= (v7 & 255)) return v3;
-    v3 = 255;
-    if (get8(fop + 13) == 0) return v3;
-    v9 = get8(fop + 6);
-    v10 = get8(fop + 7);
-    v7 = v9 - v10;
-    if ((v4 - 1) < 4) {
-        v3 = 255;
-        if ((v6 & 255) != 0) return v3;
-        if ((v8 & 255) == (v7 & 255)) goto l4;
-        return v3;
-    }
-    switch (v4 - 5) {
+    unsigned char frame_octets[48 + 15];
+    uint32_t v4 = 0, v5 = 0, v6 = 0, v7 = 0, v8 = 0, v9 = 0, v10 = 0;
+    uint64_t v3 = 0;
+    v3 = aligned(frame_octets);
+    if (ordered64(v3) < 0x8000000000000010ULL) UNREACHABLE;
+    put64(v3 + 14, 0);
+    put64(v3 + 8, 0);
+    put64(v3, 0);
+    v4 = 255;
+    v5 = get8(fop + 5) - 1;
+    if ((v5 & 255) > 5) return v4 & 255;
+    v6 = 1;
+    v7 = get8(fop + 8);
+    if (v7 > 1) return v4 & 255;
+    v8 = get8(fop + 15);
+    v9 = 1;
+    v10 = get8(fop + 14);
+    switch (v10 - 3) {
+    case 0:
+        goto l3;
     case 1:
-        v3 = 255;
-        if ((v6 & 255) != 0) return v3;
-        if ((v8 & 255) != 0) return v3;
-        if ((v5 & 1) != 0) return v3;
-        if ((get16(fop + 2) & 0xffff) == 0) goto l4;
-        return v3;
+        v9 = 2;
+        goto l3;
     default:
-        goto l5;
+        goto l4;
     }
-l5:;
-    v3 = 255;
-    if ((v8 & 255) != (v7 & 255)) return v3;
 l4:;
-    v4 = 0;
-    if ((v9 & 255) != (v10 & 255)) {
-        v3 = 253;
-        v4 = value - v10;
-        if ((v7 & 255) < (v4 & 255)) return v3;
+    if (v10 > 2) return v4 & 255;
+    v6 = 0;
+    v9 = v10;
+    if ((v8 & 255) != 0) return v4 & 255;
+l3:;
+    put8(v3 + 47, v8);
+    put8(v3 + 46, v6);
+    put8(v3 + 45, v9);
+    put8(v3 + 32, v7);
+    put8(v3 + 29, v5);
+    put16(v3 + 38, get16(fop));
+    put8(v3 + 44, get8(fop + 13));
+    v4 = get16(fop + 2);
+    put16(v3 + 42, v4);
+    put32(v3 + 33, get32(fop + 9));
+    put16(v3 + 30, get16(fop + 6));
+    put8(v3 + 28, get8(fop + 4));
+    v5 = 0;
+    put8(v3 + 37, 0);
+    put16(v3 + 40, v4 != 0);
+    cop1_sender_Sender_restore(v3, v3 + 28);
+    v4 = get8(v3);
+    if (v4 != 0) {
+        v4 = (v4 != 0) ? ~0U : 0U;
+        return v4 & 255;
     }
-    put8(accepted, v4);
-    v3 = 0;
-    return v3;
+    v7 = get8(v3 + 4);
+    v6 = get8(v3 + 5);
+    if ((v7 & 255) != (v6 & 255)) {
+        v4 = 253;
+        v5 = value - v6;
+        if (((v7 - v6) & 255) < (v5 & 255)) return v4 & 255;
+    }
+    put8(accepted, v5);
+    v4 = 0;
+    return v4 & 255;
 }
 
 /* ---- The structs of the header, in the layout that the functions know. ---- */
