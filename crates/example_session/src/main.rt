@@ -67,7 +67,9 @@ fn play(rt: &HostRuntime, ground: &mut Ground, spacecraft: &mut Spacecraft) -> R
             return Ok(());
         }
         if let (FopMode::S6, Some(vr)) = (ground.state(), value) {
-            let more = ground.accepted_beyond(vr).context("nothing is known of what is not acknowledged")?;
+            let more = ground
+                .accepted_beyond(vr)
+                .context("nothing is known of what is not acknowledged")?;
             accepted = accepted.wrapping_add(usize::from(more));
             println!(rt; "round {round}: {more} more were accepted; again from packet {accepted}")?;
             submitted = accepted;
