@@ -6,6 +6,8 @@ import shlex
 import subprocess
 import threading
 
+from entries import entries
+
 ROOT = os.path.dirname(os.path.dirname(os.path.realpath(__file__)))
 TCTOOL = os.path.abspath(os.environ.get("TCTOOL", f"{ROOT}/crates/tctool/out/tctool"))
 REPEATED = re.compile(r"\{(?:(\w+)\.\.(\w+)|(\d+))\*([^{}]*)\}")
@@ -26,15 +28,11 @@ def spelled(text):
 
 
 class Row:
-    """What a file says: `runs` has each input with what is written of it, `records` each line of octets."""
+    """What an entry says: `runs` has each input with what is written of it, `records` each line of octets."""
 
-    def __init__(self, file):
-        self.name, self.words, self.has, self.records = os.path.relpath(file, ROOT), [], [], []
+    def __init__(self, name, says, head):
+        self.name, self.says, self.words, self.has, self.records = name, says, [], [], []
         self.status, self.error, self.pieces, self.rest, kind, lines = 0, None, [], None, "script", []
-        with open(file, encoding="utf-8", newline="\n") as text:
-            self.says, *head = text.read().removesuffix("\n").split("\n")
-        if not re.match(r"# .*\.$", self.says):
-            raise ValueError(f"{self.name}: its first line does not say what it shows")
         for at, line in enumerate(head):
             key, _, value = line.partition(":")
             if key in ("octets", "script", "each") and not value:
@@ -95,11 +93,19 @@ class Row:
             yield octets[:end], written, left > 0
 
 
+def is_named(row, name):
+    """Whether this folder, file or name is one of the row; that of rows/sim/room.rows is rows/sim/room/NAME."""
+    place = os.path.relpath(name, ROOT).removesuffix(".rows")
+    return f"{row.name}/".startswith(f"{place}/") or f"/{row.name}".endswith(f"/{name}")
+
+
 def rows(names=()):
-    """The rows of these files or folders, or all."""
-    files = sorted(glob.glob(f"{ROOT}/rows/**/*.row", recursive=True))
-    wanted = [os.path.abspath(it) for it in names] or [ROOT]
-    return [Row(it) for it in files if any(it == at or it.startswith(f"{at}/") for at in wanted)]
+    """The rows that these name, or all."""
+    every = []
+    for file in sorted(glob.glob(f"{ROOT}/rows/**/*.rows", recursive=True)):
+        stem = os.path.relpath(file, ROOT).removesuffix(".rows")
+        every += [Row(f"{stem}/{name}", says, lines) for name, says, lines in entries(file)]
+    return [row for row in every if not names or any(is_named(row, it) for it in names)]
 
 
 def feed(pipe, octets, piece):

@@ -1,0 +1,63 @@
+"""Reads files of entries: rows (rows/README.md), and the wrong bodies and controls of `wrong_bodies/` and `controls/`.
+
+An entry begins with a line `## NAME` and a line that says what it is. Lines of its own follow, and an empty line stands
+before the next one. An edit has lines `file:`, `old:` (a text that is in that file once) and `new:`, as in a file of
+`must-fail/`. `python3 tools/entries.py FOLDER [CRATE [NAME ..] ..]` writes wrong bodies as such files: for
+tools/wrong_bodies."""
+import glob
+import os
+import re
+import sys
+
+
+def entries(path):
+    """The name of each entry of a file, what it says, and its lines."""
+    with open(path, encoding="utf-8", newline="\n") as file:
+        before, *texts = re.split(r"^## ", file.read(), flags=re.M)
+    names = set()
+    for at, text in enumerate(texts, 1):
+        text = text.removesuffix("\n")
+        name, says, *lines = (text if at == len(texts) else text.removesuffix("\n")).split("\n")
+        if before or name in names or not re.fullmatch(r"\w+", name) or not re.fullmatch(r"[^ #].*\.", says):
+            raise ValueError(f"{path}: the entry {name} has no name of its own, or no sentence")
+        names.add(name)
+        yield name, says, lines
+
+
+def puts(lines):
+    """What an edit puts in: a file, the text that goes (None where the file is new), and the one that comes."""
+    file, old = None, None
+    for line in lines:
+        key, _, value = line.partition(": ")
+        if key == "file":
+            file, old = value, None
+        elif key == "old":
+            old = value
+        elif key == "new":
+            yield file, old, value
+            old = None
+
+
+def main(folder, *words):
+    """Writes a file CRATE/NAME.edit for each wrong body of these crates, or for those named after their crate."""
+    crates = {}
+    for word in words or [os.path.basename(it)[:-6] for it in glob.glob("wrong_bodies/*.edits")]:
+        if os.path.isfile(f"wrong_bodies/{word}.edits"):
+            crates[word] = named = []
+        elif crates:
+            named.append(word)
+        else:
+            return f"tools/wrong_bodies: there is no wrong_bodies/{word}.edits"
+    for crate, named in crates.items():
+        every = {name: lines for name, _, lines in entries(f"wrong_bodies/{crate}.edits")}
+        for name in named or every:
+            if name not in every:
+                return f"tools/wrong_bodies: there is no {name} in wrong_bodies/{crate}.edits"
+            os.makedirs(f"{folder}/{crate}", exist_ok=True)
+            with open(f"{folder}/{crate}/{name}.edit", "w", encoding="utf-8") as file:
+                file.write("\n".join([*every[name], ""]))
+    return None
+
+
+if __name__ == "__main__":
+    sys.exit(main(*sys.argv[1:]))
