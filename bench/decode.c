@@ -2,7 +2,7 @@
  * and without. Prints a row for each, and fails where the two do not answer the same, or where the library takes more
  * than 1.3 times as long on 1,024 octets with the check. */
 #define _POSIX_C_SOURCE 199309L
-#include "decode.h"
+#include "plain.h"
 #include <stdio.h>
 #include <string.h>
 #include <time.h>

@@ -1,6 +1,6 @@
 /* A telecommand frame with its check, read in plain C (CCSDS 232.0-B-4, 4.1), over the structs of the library. The check
  * takes eight octets a turn by eight tables ("slicing by eight"). */
-#include "decode.h"
+#include "plain.h"
 #include <string.h>
 
 static uint16_t tables[8][256];

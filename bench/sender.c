@@ -3,7 +3,7 @@
  * acknowledges all that was sent; in the second some ask for units again, and some come late. Prints a row for each, and
  * fails where they do not answer the same, or where the library takes more than 1.3 times as long as plain C that tests. */
 #define _POSIX_C_SOURCE 199309L
-#include "sender.h"
+#include "plain.h"
 #include <stdint.h>
 #include <stdio.h>
 #include <time.h>
