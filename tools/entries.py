@@ -1,9 +1,9 @@
 """Reads files of entries: rows (rows/README.md), and the wrong bodies and controls of `wrong_bodies/` and `controls/`.
 
-An entry begins with a line `## NAME` and a line that says what it is. Lines of its own follow, and an empty line stands
-before the next one. An edit has lines `file:`, `old:` (a text that is in that file once) and `new:`, as in a file of
-`must-fail/`. `python3 tools/entries.py FOLDER [CRATE [NAME ..] ..]` writes wrong bodies as such files: for
-tools/wrong_bodies."""
+An entry begins with `## NAME: ` and a sentence, which goes on to the next line where it is long. Lines of its own
+follow, and an empty line stands before the next entry. An edit has lines `file:`, `old:` (a text that is in that file
+once) and `new:`, as in a file of `must-fail/`. `python3 tools/entries.py FOLDER [CRATE [NAME ..] ..]` writes wrong
+bodies as such files: for tools/wrong_bodies."""
 import glob
 import os
 import re
@@ -17,9 +17,12 @@ def entries(path):
     names = set()
     for at, text in enumerate(texts, 1):
         text = text.removesuffix("\n")
-        name, says, *lines = (text if at == len(texts) else text.removesuffix("\n")).split("\n")
-        if before or name in names or not re.fullmatch(r"\w+", name) or not re.fullmatch(r"[^ #].*\.", says):
-            raise ValueError(f"{path}: the entry {name} has no name of its own, or no sentence")
+        head, *lines = (text if at == len(texts) else text.removesuffix("\n")).split("\n")
+        if not head.endswith("."):
+            head, lines = " ".join([head, *lines[:1]]), lines[1:]
+        name, _, says = head.partition(": ")
+        if before or name in names or not re.fullmatch(r"\w+", name) or not says.endswith("."):
+            raise ValueError(f"{path}: an entry has no name of its own, or no sentence: {head}")
         names.add(name)
         yield name, says, lines
 
