@@ -1,8 +1,8 @@
 /* Both nodes and the simulated link through libsedgechisel_nodes: a session, rooms that are too short, handles that
  * hold none, and each allocation refused in turn. The memory is malloc's, counted, with one allocation refused; or,
  * with OVER_MEMORY, that of a file of c/memory. */
+#include "config.h"
 #include "sedgechisel_memory.h"
-#include "sedgechisel_nodes.h"
 #include <stdio.h>
 #include <stdlib.h>
 #include <string.h>
@@ -46,7 +46,7 @@ void rattle_dealloc(void *at) {
 
 /* ---- The link. ---- */
 
-static const struct sedge_config config = {1, 2, 0, 254, 127, 3, 10, 3, 65542, ~(uint64_t)0, 64, 4, 1000, 64, 0};
+static struct sedge_config config = DEFAULTS;
 static const uint8_t packet[] = {0x10, 0x05, 0xc0, 0x00, 0x00, 0x00, 0xaa};
 static uint8_t up[1024], down[2048], out[65542];
 
@@ -372,6 +372,7 @@ static void names(void) {
 
 int main(void) {
     long all;
+    config.part = 3;
     handles_that_hold_none();
     links_that_are_none();
     names();

@@ -15,7 +15,7 @@
 #define SEDGE_PLACES BUT(96, 1) BUT(112, 12) BUT(128, 2) BUT(256, 1) BUT(352, 1) BUT(65552, 1)
 #endif
 #include "../memory/static.c"
-#include "sedgechisel_nodes.h"
+#include "config.h"
 #include <stdio.h>
 #include <stdlib.h>
 
@@ -26,9 +26,7 @@ enum { LONG = 200, BLOCKING = 0 };
 #endif
 enum { WIDTH = 8, PART = 100, READY = 2, BYPASS = 2, QUEUE = 8, SHORT = 7, MOST = 1016 / SHORT };
 
-/* Two MAPs are open. */
-static const struct sedge_config config = {1,    2,    0, WIDTH, WIDTH / 2, 3,     10, PART,
-                                           LONG, 0x03, READY, BYPASS, QUEUE, 64, BLOCKING};
+static struct sedge_config config = DEFAULTS;
 static uint8_t packet[LONG] = {0x10, 0x05, 0xc0, 0x00, 0x00, LONG - 7}, octets[1024];
 
 /* The answer is this one, or the program ends: by 2 where there was no memory. */
@@ -89,7 +87,14 @@ static void fill(void) {
 }
 #endif
 
+/* Two MAPs are open. */
+static void set(void) {
+    config.width = WIDTH, config.window = WIDTH / 2, config.part = PART, config.max_packet = LONG, config.maps = 3;
+    config.ready_slots = READY, config.bypass_slots = BYPASS, config.queue_slots = QUEUE, config.blocking = BLOCKING;
+}
+
 int main(void) {
+    set();
     fill();
     for (const struct size *size = sizes; size < END; size++)
         if (size->used != size->count) printf("%zu of %zu of %zu octets\n", size->used, size->count, size->octets);

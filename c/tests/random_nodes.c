@@ -6,8 +6,8 @@
  * was answers that there was no memory. Ends with 0 where all is as wanted and all memory is given back, and says what
  * is not. */
 #define _DEFAULT_SOURCE
+#include "config.h"
 #include "memory.h"
-#include <sedgechisel_nodes.h>
 #include <stdio.h>
 #include <stdlib.h>
 #include <string.h>
@@ -152,8 +152,9 @@ static uint64_t any_maps(void) {
 }
 
 static void any_config(void) {
-    static const struct sedge_config usual = {1, 2, 0, 20, 8, 3, 5, 40, 2000, ~(uint64_t)0, 5, 2, 30, 64, 0};
-    config = usual;
+    config = (struct sedge_config)DEFAULTS;
+    config.width = 20, config.window = 8, config.timer = 5, config.max_packet = 2000;
+    config.ready_slots = 5, config.bypass_slots = 2, config.queue_slots = 30;
     config.blocking = below(2);
     config.part = 1 + below(below(2) ? 1016 : 30);
     config.maps = any_maps();

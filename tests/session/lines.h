@@ -3,15 +3,15 @@
 #ifndef LINES_H
 #define LINES_H
 
+#include "../../c/tests/config.h"
 #include "sedgechisel.h"
-#include "sedgechisel_nodes.h"
 #include <stdio.h>
 #include <stdlib.h>
 #include <string.h>
 
 enum { LONGEST_LINE = 4096 };
 
-static struct sedge_config config = {1, 2, 0, 254, 127, 3, 10, 1016, 65542, ~(uint64_t)0, 64, 4, 1000, 64, 0};
+static struct sedge_config config = DEFAULTS;
 static uint8_t octets[LONGEST_LINE], packet[65542];
 
 static void give_up(const char *why) {

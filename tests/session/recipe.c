@@ -3,8 +3,8 @@
  * on its MAP: none twice, and none left out that was said to be accepted. recipe.py and recipe.rs do the same, and
  * write the same lines. With a second word, `early`, it believes the first report after an alert, whenever that was
  * made. */
+#include "../../c/tests/config.h"
 #include "sedgechisel.h"
-#include "sedgechisel_nodes.h"
 #include <stdio.h>
 #include <stdlib.h>
 #include <string.h>
@@ -114,9 +114,9 @@ static void begin_packets(void) {
 
 /* Two new nodes over a link, and packets that are wanted on board. */
 static void begin_run(void) {
-    const struct sedge_config defaults = {1, 2, 0, 254, 127, 3, 10, 1016, 65542, ~(uint64_t)0, 64, 4, 500, 32, 0};
     uint32_t delay;
-    config = defaults;
+    config = (struct sedge_config)DEFAULTS;
+    config.queue_slots = 500, config.frame_length = 32;
     config.window = 1 + draw(8);
     config.width = 2 * config.window + 2 * draw(4);
     config.limit = 1 + draw(4);
