@@ -4,12 +4,14 @@
 //! A `Config` has the numbers that both nodes keep to. A `Spacecraft` receives telecommand frames,
 //! hands out the packets that they carry, and sends telemetry frames that report on them. A `Ground`
 //! sends telecommand frames until they are accepted, and hands out the packets of telemetry frames.
+//! An `Event` is what may happen on a link between the two.
 #![tactic(auto)]
 
 mod bypass_segments;
 mod commands;
 mod config;
 mod data_field;
+mod event;
 mod fault;
 mod ground_node;
 mod heard;
@@ -24,6 +26,7 @@ mod valid_config;
 
 pub use config::Config;
 pub use data_field::data_field_of;
+pub use event::Event;
 pub use fault::LinkFault;
 pub use ground_node::{Ground, Submission};
 pub use heard::{Heard, HeardReport};

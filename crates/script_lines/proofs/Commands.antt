@@ -16,8 +16,8 @@ use Rattle.cop1.specs.declared.vocabulary.Directive.TheVariants as directives
 use Rattle.nodes.specs.declared.parameter.Parameter.{Parameter}
 use Rattle.nodes.specs.declared.parameter.Parameter.TheVariants as parameters
 use Rattle.nodes.specs.Parameters.{all_in_order, row_of, parameter_named}
-use Rattle.link_events.specs.declared.event.Event.{Event}
-use Rattle.link_events.specs.declared.event.Event.TheVariants as events
+use Rattle.nodes.specs.declared.event.Event.{Event}
+use Rattle.nodes.specs.declared.event.Event.TheVariants as events
 use Rattle.script_lines.specs.Lines.{ScriptLine, Skipped, Setting, Happening, Showing, Unreadable, borrow_of}
 use Rattle.script_lines.specs.Lines.{plain_lines, plain_line, line_of_two_words, submission_line, most_for}
 use Rattle.script_lines.specs.Lines.{setting_line, line_of_three_words, line_of_words, readable_line, line_in}

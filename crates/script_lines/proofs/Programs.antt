@@ -3,7 +3,7 @@ use Rattle.std.proofs.Common.{◌≡◌, ◌∙◌, ◌+◌, ◌++◌, ◌&&◌,
 use Rattle.std.proofs.Common.{Option, Some, None, is_some, cond, ◌||◌, append-nil, refl, sym, ap, arith}
 use Rattle.std.proofs.lemmas.Bool.{and_parts}
 use Rattle.nodes.specs.declared.config.Config.{Config}
-use Rattle.link_events.specs.declared.event.Event.{Event}
+use Rattle.nodes.specs.declared.event.Event.{Event}
 use Rattle.script_lines.specs.declared.line.Carrier.{Carrier}
 use Rattle.script_lines.specs.declared.line.Step.{Step}
 use Rattle.script_lines.specs.Words.{lines_in}

@@ -11,8 +11,8 @@ use Rattle.cop1.specs.declared.vocabulary.Directive.TheVariants.{SetVs}
 use Rattle.cop1.specs.declared.vocabulary.Directive.TheVariants.{SetWindow, SetLimit, SetTimer}
 use Rattle.nodes.specs.declared.parameter.Parameter.{Parameter}
 use Rattle.nodes.specs.Parameters.{row_of, parameter_named}
-use Rattle.link_events.specs.declared.event.Event.{Event}
-use Rattle.link_events.specs.declared.event.Event.TheVariants as events
+use Rattle.nodes.specs.declared.event.Event.{Event}
+use Rattle.nodes.specs.declared.event.Event.TheVariants as events
 use Rattle.script_lines.specs.declared.line.Carrier.{Carrier}
 use Rattle.script_lines.specs.declared.line.Carrier.TheVariants as carriers
 use Rattle.script_lines.specs.declared.line.Line as code

@@ -5,8 +5,8 @@ use Rattle.std.specs.List.{Contains}
 use Rattle.cop1.specs.declared.vocabulary.Directive.TheVariants as directives
 use Rattle.nodes.specs.declared.parameter.Parameter.{Parameter}
 use Rattle.nodes.specs.Parameters.{row_of}
-use Rattle.link_events.specs.declared.event.Event.{Event}
-use Rattle.link_events.specs.declared.event.Event.TheVariants as events
+use Rattle.nodes.specs.declared.event.Event.{Event}
+use Rattle.nodes.specs.declared.event.Event.TheVariants as events
 use Rattle.script_lines.specs.Lines.{ScriptLine, Skipped, Setting, Happening, Showing, borrow_of}
 
 -- ---- HEX

@@ -7,8 +7,7 @@ ghost use Rattle.script_lines.specs.Lines.{carrier_of, plain_event, plain_line, 
 
 use crate::words::is;
 use cop1::Directive;
-use link_events::Event;
-use nodes::Parameter;
+use nodes::{Event, Parameter};
 use std::mem::size_of;
 
 /// What a line of a script says.

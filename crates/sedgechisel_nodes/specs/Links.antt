@@ -11,7 +11,7 @@ use Rattle.nodes.specs.Faults.{fault_row as link_row}
 use Rattle.nodes.specs.Ground.{outstanding}
 use Rattle.nodes.specs.Packets.{PacketOn}
 use Rattle.nodes.specs.declared.config.Config.{Config}
-use Rattle.link_events.specs.declared.event.Event.{Event}
+use Rattle.nodes.specs.declared.event.Event.{Event}
 use Rattle.simulated_link.specs.declared.reply.NodeFault.{NodeFault}
 use Rattle.simulated_link.specs.declared.reply.NodeFault.TheVariants.{Link, Cop, Tm}
 use Rattle.simulated_link.specs.declared.fault.SimFault.{SimFault}

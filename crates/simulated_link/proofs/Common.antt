@@ -67,6 +67,6 @@ pub use Rattle.simulated_link.specs.World.{world_after_pull, first_in, accepted,
 pub use Rattle.simulated_link.specs.World.{world_reply, up_lose_step, up_damage_outcome, up_damage_step}
 pub use Rattle.simulated_link.specs.World.{down_lose_step, down_damage_outcome, down_damage_step}
 pub use Rattle.simulated_link.specs.WorldFields.{packets_accepted_on}
-pub use Rattle.link_events.specs.declared.event.Event.{Event}
+pub use Rattle.nodes.specs.declared.event.Event.{Event}
 pub use Rattle.simulated_link.specs.declared.fault.SimFault.{SimFault}
 pub use Rattle.simulated_link.specs.declared.fault.SimFault.TheVariants.{NotDetectable}

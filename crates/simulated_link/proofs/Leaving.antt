@@ -14,7 +14,7 @@ use Rattle.tm_link.specs.Reading as telemetry_reading
 use Rattle.nodes.specs.Ground as ground
 use Rattle.nodes.specs.declared.heard.Heard.TheVariants as heard_cases
 use Rattle.nodes.specs.declared.received.Received.TheVariants as received_cases
-use Rattle.link_events.specs.declared.event.Event.TheVariants as events
+use Rattle.nodes.specs.declared.event.Event.TheVariants as events
 
 -- ---- frames that are lost or damaged
 

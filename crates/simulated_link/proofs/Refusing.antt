@@ -2,7 +2,7 @@
 use Rattle.simulated_link.proofs.Common.{◌≡◌, refl, Event, World, WorldOutcome, world_step}
 use Rattle.std.proofs.Common.{IfErr}
 use Rattle.simulated_link.proofs.Leaving.{AtEachLoss, lost, pulled, up_arrives, down_arrives}
-use Rattle.link_events.specs.declared.event.Event.TheVariants as events
+use Rattle.nodes.specs.declared.event.Event.TheVariants as events
 
 abbrev Keeps : World → WorldOutcome → Type 0
 Keeps w o = IfErr o.answer (λ _. o.after ≡ w)

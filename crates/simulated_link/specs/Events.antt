@@ -5,8 +5,8 @@ use Rattle.tc_frame.specs.declared.frame.Check.TheVariants.{On}
 use Rattle.tc_frame.specs.Reading as command
 use Rattle.tm_link.specs.Building.{is_to_send}
 use Rattle.tm_link.specs.Reading as telemetry
-use Rattle.link_events.specs.declared.event.Event.{Event}
-use Rattle.link_events.specs.declared.event.Event.TheVariants as events
+use Rattle.nodes.specs.declared.event.Event.{Event}
+use Rattle.nodes.specs.declared.event.Event.TheVariants as events
 use Rattle.nodes.specs.Ground.{submit_fault, bypass_fault, FinishesNothing}
 use Rattle.nodes.specs.Spacecraft.{HandsNothingOn}
 use Rattle.simulated_link.specs.declared.fault.SimFault.{SimFault}

@@ -18,7 +18,7 @@ mod session;
 mod world;
 
 pub use fault::SimFault;
-pub use link_events::Event;
+pub use nodes::Event;
 pub use opening::Opening;
 pub use reply::{NodeFault, Reply};
 pub use world::World;

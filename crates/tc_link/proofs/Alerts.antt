@@ -21,7 +21,7 @@ use Rattle.tc_link.proofs.Reports.{IsLate, IsAllowed, active_led, asked}
 use Rattle.tc_link.proofs.Transit.{DownIs, Ranks, bit}
 use Rattle.tc_link.proofs.Windows.{report_told}
 use Rattle.simulated_link.proofs.Leaving.{AtEachLoss, lost, pulled, up_arrives}
-use Rattle.link_events.specs.declared.event.Event.TheVariants as events
+use Rattle.nodes.specs.declared.event.Event.TheVariants as events
 use Rattle.tc_link.proofs.Sound.{Sound}
 
 -- ---- answers without an alert

@@ -25,7 +25,7 @@ use Rattle.nodes.specs.declared.heard.HeardReport.TheVariants.{Used}
 use Rattle.simulated_link.proofs.Leaving.{AtEachLoss, lost, up_arrives, down_arrives}
 use Rattle.simulated_link.specs.World.{world_after_bypass}
 use Rattle.tm_link.specs.Reading.{frame_at}
-use Rattle.link_events.specs.declared.event.Event.TheVariants as events
+use Rattle.nodes.specs.declared.event.Event.TheVariants as events
 use Rattle.tc_link.specs.AnyPast.{LinkStep, Happens, TakeTelemetry, Receives, Hears, NewGround, NewSpacecraft}
 use Rattle.tc_link.specs.AnyPast.{IsLinkStep, link_step, link_run, after_hearing}
 use Rattle.tc_link.specs.Bypass.{packet_of, packet_in, bypass_up, bypass_queued, bypass_held, bypass_accepted_by}

@@ -18,7 +18,7 @@ use Rattle.tc_link.proofs.Spelled.{Goes, reads_back, fits_at}
 use Rattle.tc_link.proofs.ReportsDown.{HasReports}
 use Rattle.tm_link.specs.declared.fault.TmFault.TheVariants as faults
 use Rattle.tm_link.specs.Layout as telemetry
-use Rattle.link_events.specs.declared.event.Event.TheVariants as events
+use Rattle.nodes.specs.declared.event.Event.TheVariants as events
 use Rattle.tc_link.proofs.Sound.{Sound}
 
 pub record Carried (c : Config) (w : World) : Type 0 where

@@ -24,7 +24,7 @@ use Rattle.tc_link.proofs.SteadyWorld.{step_sound, new_sound}
 use Rattle.tc_link.proofs.Submitting.{submits, bypasses}
 use Rattle.tc_link.proofs.Closed.{closed_not, closed_is}
 use Rattle.simulated_link.proofs.Leaving.{AtEachLoss, lost, pulled, up_arrives, down_arrives}
-use Rattle.link_events.specs.declared.event.Event.TheVariants as events
+use Rattle.nodes.specs.declared.event.Event.TheVariants as events
 use Rattle.tc_link.proofs.Sound.{Sound}
 
 -- ---- such an event leaves the session's opening as it is, and another begins one

@@ -23,7 +23,7 @@ use Rattle.simulated_link.proofs.Leaving.{AtEachLoss, lost, up_arrives, down_arr
 use Rattle.simulated_link.proofs.Reported.{reported, frame_seen}
 use Rattle.tm_link.specs.Layout as telemetry
 use Rattle.tm_link.specs.Reading as telemetry_reading
-use Rattle.link_events.specs.declared.event.Event.TheVariants as events
+use Rattle.nodes.specs.declared.event.Event.TheVariants as events
 use Rattle.tc_link.proofs.Sound.{Sound}
 
 -- ---- the sender's numbers are the same

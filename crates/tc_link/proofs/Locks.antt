@@ -23,7 +23,7 @@ use Rattle.tc_link.proofs.SteadyWorld.{step_sound}
 use Rattle.tc_link.proofs.Transit.{UpIs}
 use Rattle.tc_link.proofs.Windows.{state_by}
 use Rattle.simulated_link.proofs.Leaving.{AtEachLoss, lost, pulled, up_arrives, down_arrives}
-use Rattle.link_events.specs.declared.event.Event.TheVariants as events
+use Rattle.nodes.specs.declared.event.Event.TheVariants as events
 use Rattle.tc_link.proofs.Sound.{Sound}
 
 -- ---- what leaves the receiver as it is

@@ -17,7 +17,7 @@ use Rattle.cop1.specs.FopTick.{tick_with, timer_ended, while_below}
 use Rattle.cop1.specs.Units.{oldest_of}
 use Rattle.nodes.specs.Ground.{outstanding}
 use Rattle.simulated_link.proofs.Leaving.{pulled}
-use Rattle.link_events.specs.declared.event.Event.TheVariants as events
+use Rattle.nodes.specs.declared.event.Event.TheVariants as events
 use Rattle.tc_link.specs.FalseAlarms.{alert_in}
 use Rattle.tc_link.specs.Progress.{followed_by, times, most_sent, all_sent, all_taken, all_arrived, reported, all_heard}
 use Rattle.tc_link.specs.Progress.{are_marked, ticks_left, awaits, timer_run_out, round_trip, exchange, AlertsIn}

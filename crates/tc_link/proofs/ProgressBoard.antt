@@ -2,7 +2,7 @@
 use Rattle.tc_link.proofs.Common.{◌≡◌, inr, ℕ, zero, suc, List, [], ◌∷◌, length, refl, arith, PacketOn, GroundState}
 use Rattle.tc_link.proofs.Common.{spacecraft_take, world_after_take, up_deliver_step, World}
 use Rattle.tc_link.proofs.Common.{IsReached}
-use Rattle.link_events.specs.declared.event.Event.TheVariants as events
+use Rattle.nodes.specs.declared.event.Event.TheVariants as events
 use Rattle.tc_link.specs.Progress.{followed_by, all_taken, next_arrived, all_arrived}
 use Rattle.tc_link.proofs.ProgressRuns.{Ends, ends_then, ends_repeat, ends_times, ends_once}
 

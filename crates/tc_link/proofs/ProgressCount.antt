@@ -19,7 +19,7 @@ use Rattle.simulated_link.proofs.Leaving.{AtEachLoss, lost, pulled, up_arrives, 
 use Rattle.simulated_link.proofs.Reported.{reported, frame_seen}
 use Rattle.tm_link.specs.Layout as telemetry
 use Rattle.tm_link.specs.Reading as telemetry_reading
-use Rattle.link_events.specs.declared.event.Event.TheVariants as events
+use Rattle.nodes.specs.declared.event.Event.TheVariants as events
 use Rattle.tc_link.specs.Progress.{are_marked}
 use Rattle.tc_link.proofs.Settled.{settled_keeps}
 use Rattle.tc_link.proofs.ProgressGround.{with_same}

@@ -13,7 +13,7 @@ use Rattle.std.proofs.lemmas.Bool.{false_from_ne_true, not-true, not-false}
 use Rattle.simulated_link.specs.Replies.{reply_to_alert}
 use Rattle.simulated_link.specs.World.{world_after_telemetry}
 use Rattle.simulated_link.proofs.Leaving.{pulled}
-use Rattle.link_events.specs.declared.event.Event.TheVariants as events
+use Rattle.nodes.specs.declared.event.Event.TheVariants as events
 use Rattle.tm_link.specs.Writing as telemetry_writing
 use Rattle.tc_link.specs.FalseAlarms.{alert_in}
 use Rattle.tc_link.specs.Progress.{awaits, most_sent, followed_by, all_sent, all_taken, all_arrived, reported}

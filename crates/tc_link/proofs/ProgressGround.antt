@@ -8,7 +8,7 @@ use Rattle.tc_link.proofs.Common.{unsent_segments, World, world_step, down_deliv
 use Rattle.tc_link.proofs.Common.{IsReached}
 use Rattle.nodes.specs.Ground.{outstanding}
 use Rattle.simulated_link.specs.World.{world_after_telemetry}
-use Rattle.link_events.specs.declared.event.Event.TheVariants as events
+use Rattle.nodes.specs.declared.event.Event.TheVariants as events
 use Rattle.tc_link.proofs.Closed.{active_on}
 use Rattle.tc_link.proofs.Hearing.{used, used_is}
 use Rattle.tc_link.proofs.Linked.{Tells}

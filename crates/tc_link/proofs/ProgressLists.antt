@@ -1,7 +1,7 @@
 -- The events of an exchange, and that a session goes on with them.
 use Rattle.tc_link.proofs.Common.{ℕ, zero, suc, List, [], ◌∷◌, length, replicate, cond_both}
 use Rattle.tc_link.proofs.Common.{AllByRecursion, Event, World, world_step, world_run, IsIdle}
-use Rattle.link_events.specs.declared.event.Event.TheVariants as events
+use Rattle.nodes.specs.declared.event.Event.TheVariants as events
 use Rattle.tc_link.specs.Progress.{awaits, most_sent}
 use Rattle.tc_link.specs.Progress.{Schedule, followed_by, times, all_sent, all_taken, next_arrived, all_arrived}
 use Rattle.tc_link.specs.Progress.{reported}

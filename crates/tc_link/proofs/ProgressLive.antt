@@ -40,7 +40,7 @@ use Rattle.tc_link.proofs.SteadyWorld.{step_sound, new_sound}
 use Rattle.tc_frame.specs.Reading as command
 use Rattle.tm_link.specs.Layout as telemetry
 use Rattle.tm_link.specs.Reading as telemetry_reading
-use Rattle.link_events.specs.declared.event.Event.TheVariants as events
+use Rattle.nodes.specs.declared.event.Event.TheVariants as events
 
 -- ---- the sender's timer
 

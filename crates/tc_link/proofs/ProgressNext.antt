@@ -19,7 +19,7 @@ use Rattle.tc_frame.specs.Writing.{spelling}
 use Rattle.cop1.specs.Farm.{after_type_b}
 use Rattle.cop1.specs.FopPull.{after_send_first, pulls, BypassPulled, SequencePulled, NothingPulled}
 use Rattle.nodes.specs.declared.received.Received.{Received}
-use Rattle.link_events.specs.declared.event.Event.TheVariants as events
+use Rattle.nodes.specs.declared.event.Event.TheVariants as events
 use Rattle.tm_link.specs.Writing as telemetry_writing
 use Rattle.tc_link.specs.Progress.{awaits, followed_by, all_sent, all_taken, next_arrived, all_arrived, reported}
 use Rattle.tc_link.specs.Progress.{all_heard, are_marked, ticks_left, timer_run_out, round_trip, exchange}

@@ -29,7 +29,7 @@ use Rattle.nodes.specs.declared.received.Received.{Received}
 use Rattle.simulated_link.specs.World.{world_after_telemetry}
 use Rattle.simulated_link.proofs.Leaving.{AtEachLoss, lost, up_arrives, down_arrives}
 use Rattle.simulated_link.proofs.Reported.{reported}
-use Rattle.link_events.specs.declared.event.Event.TheVariants as events
+use Rattle.nodes.specs.declared.event.Event.TheVariants as events
 use Rattle.tc_link.proofs.Arriving.{own_arrives}
 use Rattle.tc_link.proofs.Closed.{closed_not, active_on}
 use Rattle.tc_link.proofs.Fitting.{moved}

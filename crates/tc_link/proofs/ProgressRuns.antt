@@ -11,7 +11,7 @@ use Rattle.tc_link.proofs.Invariant.{reached_holds, opening_stays, idle_goes, Ho
 use Rattle.tc_link.proofs.ProgressLive.{Live, reached_live}
 use Rattle.tc_link.proofs.ProgressNumbers.{HasOctets, reached_octets}
 use Rattle.tc_link.proofs.Promised.{reached_step}
-use Rattle.link_events.specs.declared.event.Event.TheVariants as events
+use Rattle.nodes.specs.declared.event.Event.TheVariants as events
 
 -- ---- a session goes on
 

@@ -8,7 +8,7 @@ use Rattle.tc_link.proofs.Common.{world_step, world_run, directive_of, IsCheckin
 use Rattle.std.specs.Prelude.{IsSome}
 use Rattle.cop1.specs.declared.vocabulary.Alert.TheVariants.{Lockout, Clcw as ClcwAlert, Timer, Terminated}
 use Rattle.simulated_link.specs.Replies.{reply_to_alert}
-use Rattle.link_events.specs.declared.event.Event.TheVariants as events
+use Rattle.nodes.specs.declared.event.Event.TheVariants as events
 use Rattle.tc_link.specs.FalseAlarms.{alert_in, IsUnderCheck, HasCause}
 use Rattle.tc_link.specs.Progress.{awaits, Schedule, followed_by, times, all_sent, all_taken, all_arrived, reported}
 use Rattle.tc_link.specs.Progress.{all_heard, are_marked, ticks_left, timer_run_out, round_trip, exchange, AlertsIn}

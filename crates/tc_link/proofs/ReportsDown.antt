@@ -4,7 +4,7 @@ use Rattle.tc_link.proofs.Common.{world_step}
 use Rattle.simulated_link.proofs.Leaving.{AtEachLoss, lost, pulled, up_arrives, down_arrives}
 use Rattle.tc_link.proofs.Linked.{Reporting}
 use Rattle.tc_link.proofs.ReportFrames.{reporting_now}
-use Rattle.link_events.specs.declared.event.Event.TheVariants as events
+use Rattle.nodes.specs.declared.event.Event.TheVariants as events
 use Rattle.tc_link.proofs.Sound.{Sound}
 
 pub record HasReports (c : Config) (down : List (List ℕ)) : Type 0 where

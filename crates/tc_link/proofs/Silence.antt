@@ -14,7 +14,7 @@ use Rattle.simulated_link.proofs.Leaving.{lost, first_on, up_arrives, down_arriv
 use Rattle.simulated_link.specs.World.{is_idle}
 use Rattle.tm_link.specs.Reading.{frame_at}
 use Rattle.tm_link.specs.Writing.{spelling}
-use Rattle.link_events.specs.declared.event.Event.TheVariants as events
+use Rattle.nodes.specs.declared.event.Event.TheVariants as events
 use Rattle.tc_link.specs.AnyPast.{LinkStep, Happens, TakeTelemetry, Hears, NewGround, IsLinkStep, link_step, link_run}
 use Rattle.tc_link.specs.AnyPast.{after_hearing}
 use Rattle.tc_link.specs.Silence.{IsSilent, KeepsSilence, gone_by, gone_down, SilenceIsIdle}

@@ -30,7 +30,7 @@ use Rattle.tc_link.proofs.Submitting.{all_push}
 use Rattle.simulated_link.proofs.Leaving.{AtEachLoss, lost, pulled, up_arrives, down_arrives}
 use Rattle.tm_link.specs.Layout as telemetry
 use Rattle.tm_link.specs.Reading as telemetry_reading
-use Rattle.link_events.specs.declared.event.Event.TheVariants as events
+use Rattle.nodes.specs.declared.event.Event.TheVariants as events
 use Rattle.nodes.specs.Ground as ground
 
 -- ---- the spacecraft

@@ -25,7 +25,7 @@ use Rattle.simulated_link.proofs.Gained.{config_stays}
 use Rattle.tc_link.proofs.AnyPast.{past_holds}
 use Rattle.tc_link.proofs.Invariant.{opened, session_stays, begun_is, step_holds, run_holds}
 use Rattle.simulated_link.proofs.Leaving.{AtEachLoss, lost, pulled, up_arrives, down_arrives}
-use Rattle.link_events.specs.declared.event.Event.TheVariants as events
+use Rattle.nodes.specs.declared.event.Event.TheVariants as events
 
 -- from the one state to the other these packets were handed out, and some more were made ready
 record Passes (old : SpacecraftState) (out : List PacketOn) (new : SpacecraftState) : Type 0 where

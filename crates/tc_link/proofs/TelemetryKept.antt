@@ -40,7 +40,7 @@ use Rattle.tc_frame.specs.Layout as command_layout
 use Rattle.tc_frame.specs.Reading as command
 use Rattle.nodes.specs.declared.heard.Heard.TheVariants as heard_cases
 use Rattle.nodes.specs.declared.received.Received.TheVariants as received_cases
-use Rattle.link_events.specs.declared.event.Event.TheVariants as events
+use Rattle.nodes.specs.declared.event.Event.TheVariants as events
 use Rattle.tc_link.proofs.Sound.{Sound}
 
 -- a frame that was sent: of the link's channel, and read as it was sent

@@ -5,7 +5,7 @@ use Rattle.std.specs.List.{AllByRecursion}
 use Rattle.cop1.specs.Accepted.{accepted_beyond}
 use Rattle.cop1.specs.declared.vocabulary.FopMode.TheVariants.{S6}
 use Rattle.cop1.specs.FopVariables.{IsActive}
-use Rattle.link_events.specs.declared.event.Event.{Event}
+use Rattle.nodes.specs.declared.event.Event.{Event}
 use Rattle.tc_link.specs.InTransit.{numbers_up, values_down}
 use Rattle.tc_link.specs.Reached.{IsEvent}
 use Rattle.simulated_link.specs.World.{World, world_run, IsSettled, KeepsSession, accepted}

@@ -15,7 +15,7 @@ use Rattle.nodes.specs.Parameters.{IsConfig}
 use Rattle.nodes.specs.Spacecraft.{SpacecraftState, SpacecraftOutcome, new_spacecraft}
 use Rattle.nodes.specs.Spacecraft.{spacecraft_step}
 use Rattle.nodes.specs.Spacecraft as spacecraft_calls
-use Rattle.link_events.specs.declared.event.Event.{Event}
+use Rattle.nodes.specs.declared.event.Event.{Event}
 use Rattle.tc_link.specs.Promises.{HoldsAt}
 use Rattle.tc_link.specs.Reached.{IsEvent}
 use Rattle.simulated_link.specs.World.{World, new_world, no_session, world_step, world_run}

@@ -5,8 +5,8 @@ use Rattle.tc_frame.specs.declared.frame.Check.TheVariants.{On}
 use Rattle.tc_frame.specs.Layout.{SegmentView, BodyView, Ad, Bd, Bc}
 use Rattle.tc_frame.specs.Reading as command
 use Rattle.nodes.specs.Packets.{PacketOn, packet_on}
-use Rattle.link_events.specs.declared.event.Event.{Event}
-use Rattle.link_events.specs.declared.event.Event.TheVariants as events
+use Rattle.nodes.specs.declared.event.Event.{Event}
+use Rattle.nodes.specs.declared.event.Event.TheVariants as events
 use Rattle.simulated_link.specs.declared.fault.SimFault.{SimFault}
 use Rattle.simulated_link.specs.Replies.{ReplyView, Done, Packet}
 use Rattle.simulated_link.specs.World.{World, world_step}

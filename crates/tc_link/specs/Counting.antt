@@ -1,7 +1,7 @@
 -- In a session V(S) and NN(R) count on from what V(S) was when it began.
 use Rattle.std.specs.Prelude.{◌≡◌, ℕ, ◌+◌, ◌%◌, List, [], ◌∷◌, length}
 use Rattle.std.specs.List.{AllByRecursion}
-use Rattle.link_events.specs.declared.event.Event.{Event}
+use Rattle.nodes.specs.declared.event.Event.{Event}
 use Rattle.tc_link.specs.AnyPast.{HasAnyPast}
 use Rattle.tc_link.specs.Known.{SetsNoNumber}
 use Rattle.tc_link.specs.Reached.{IsEvent}

@@ -10,8 +10,8 @@ use Rattle.cop1.specs.declared.vocabulary.Alert.TheVariants.{Timer, Terminated}
 use Rattle.cop1.specs.declared.vocabulary.Directive.TheVariants.{InitWithCheck, Terminate}
 use Rattle.cop1.specs.FopReport.{asks}
 use Rattle.nodes.specs.declared.config.Config.{Config}
-use Rattle.link_events.specs.declared.event.Event.{Event}
-use Rattle.link_events.specs.declared.event.Event.TheVariants as events
+use Rattle.nodes.specs.declared.event.Event.{Event}
+use Rattle.nodes.specs.declared.event.Event.TheVariants as events
 use Rattle.simulated_link.specs.declared.fault.SimFault.{SimFault}
 use Rattle.tc_link.specs.InTransit.{report_carried}
 use Rattle.simulated_link.specs.Replies.{ReplyView, replied_alert}

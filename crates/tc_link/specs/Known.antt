@@ -2,8 +2,8 @@
 use Rattle.std.specs.Prelude.{◌≡◌, ℕ, ◌+◌, ◌%◌, length, false}
 use Rattle.cop1.specs.declared.vocabulary.Directive.TheVariants.{SetVs}
 use Rattle.nodes.specs.Ground.{is_closed}
-use Rattle.link_events.specs.declared.event.Event.{Event}
-use Rattle.link_events.specs.declared.event.Event.TheVariants as events
+use Rattle.nodes.specs.declared.event.Event.{Event}
+use Rattle.nodes.specs.declared.event.Event.TheVariants as events
 use Rattle.simulated_link.specs.World.{World}
 
 -- an event does not set V(S): it is no such directive, or comes while the sender is not in S6

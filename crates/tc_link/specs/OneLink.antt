@@ -2,7 +2,7 @@
 use Rattle.std.specs.Prelude.{◌≡◌, ℕ, ◌%◌, List, []}
 use Rattle.std.specs.List.{AllByRecursion}
 use Rattle.nodes.specs.Parameters.{IsConfig}
-use Rattle.link_events.specs.declared.event.Event.{Event}
+use Rattle.nodes.specs.declared.event.Event.{Event}
 use Rattle.tc_link.specs.History.{IsHistory}
 use Rattle.tc_link.specs.PlainLink.{PlainLink, PlainRun, AtMostOneStep, new_link}
 use Rattle.tc_link.specs.AnyPast.{HasAnyPast}

@@ -8,8 +8,8 @@ use Rattle.cop1.specs.Units.{SentUnit}
 use Rattle.cop1.specs.FopVariables.{IsActive}
 use Rattle.cop1.specs.declared.vocabulary.FopMode.{FopMode}
 use Rattle.cop1.specs.declared.vocabulary.FopMode.TheVariants.{S1, S4, S5}
-use Rattle.link_events.specs.declared.event.Event.{Event}
-use Rattle.link_events.specs.declared.event.Event.TheVariants as events
+use Rattle.nodes.specs.declared.event.Event.{Event}
+use Rattle.nodes.specs.declared.event.Event.TheVariants as events
 use Rattle.nodes.specs.Ground.{outstanding, is_closed}
 use Rattle.simulated_link.specs.World.{World, world_step, world_run, IsIdle, submitted}
 use Rattle.simulated_link.specs.World.{directive_of, is_initialising}

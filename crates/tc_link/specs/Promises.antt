@@ -3,7 +3,7 @@ use Rattle.std.specs.Prelude.{◌≡◌, List, ◌∷◌, ◌++◌}
 use Rattle.std.specs.List.{AllByRecursion}
 use Rattle.nodes.specs.declared.config.Config.{Config}
 use Rattle.nodes.specs.Parameters.{IsConfig}
-use Rattle.link_events.specs.declared.event.Event.{Event}
+use Rattle.nodes.specs.declared.event.Event.{Event}
 use Rattle.tc_link.specs.Accepted.{SaysWhatWasAccepted}
 use Rattle.tc_link.specs.Confirmation.{IsChecking, ConfirmsExactly, IsConfirmedExactly}
 use Rattle.tc_link.specs.FalseAlarms.{HasNoFalseAlarm}

@@ -4,8 +4,8 @@ use Rattle.std.specs.List.{AllByRecursion}
 use Rattle.cop1.specs.declared.vocabulary.Directive.{Directive}
 use Rattle.cop1.specs.Directives.{vs_carried}
 use Rattle.nodes.specs.declared.config.Config.{Config}
-use Rattle.link_events.specs.declared.event.Event.{Event}
-use Rattle.link_events.specs.declared.event.Event.TheVariants as events
+use Rattle.nodes.specs.declared.event.Event.{Event}
+use Rattle.nodes.specs.declared.event.Event.TheVariants as events
 use Rattle.nodes.specs.Parameters.{IsConfig}
 use Rattle.simulated_link.specs.World.{World, new_world, world_run}
 

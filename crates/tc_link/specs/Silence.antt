@@ -1,7 +1,7 @@
 -- What comes of silence: where nothing is sent up for a round trip, the link is idle.
 use Rattle.std.specs.Prelude.{◌≡◌, ◌≤◌, ◌+◌, ℕ, List, [], ◌∷◌, length, true, false}
 use Rattle.std.specs.List.{AllByRecursion}
-use Rattle.link_events.specs.declared.event.Event.TheVariants as events
+use Rattle.nodes.specs.declared.event.Event.TheVariants as events
 use Rattle.tc_link.specs.AnyPast.{LinkStep, Happens, Receives, NewSpacecraft, IsLinkStep}
 use Rattle.tc_link.specs.AnyPast.{HasAnyPast, link_step, link_run}
 use Rattle.tc_link.specs.Telemetry.{came_by}

@@ -1,7 +1,7 @@
 -- A simulated link with the answers of a run.
 use Rattle.std.specs.Prelude.{ℕ, List, [], ◌∷◌, ◌++◌, Option, Some, None, Result, Ok, Err}
 use Rattle.nodes.specs.declared.config.Config.{Config}
-use Rattle.link_events.specs.declared.event.Event.{Event}
+use Rattle.nodes.specs.declared.event.Event.{Event}
 use Rattle.simulated_link.specs.declared.fault.SimFault.{SimFault}
 use Rattle.simulated_link.specs.declared.fault.SimFault.TheVariants as faults
 use Rattle.simulated_link.specs.Replies.{ReplyView}

@@ -9,8 +9,8 @@ use Rattle.cop1.specs.Directives.{is_initiation}
 use Rattle.nodes.specs.Delivery.{packets_of_map}
 use Rattle.nodes.specs.Ground.{is_closed, outstanding}
 use Rattle.nodes.specs.Packets.{PacketOn, put_on_map}
-use Rattle.link_events.specs.declared.event.Event.{Event}
-use Rattle.link_events.specs.declared.event.Event.TheVariants as events
+use Rattle.nodes.specs.declared.event.Event.{Event}
+use Rattle.nodes.specs.declared.event.Event.TheVariants as events
 use Rattle.simulated_link.specs.declared.fault.SimFault.{SimFault}
 use Rattle.tc_link.specs.AnyPast.{HasAnyPast}
 use Rattle.tc_link.specs.Reached.{IsEvent}

@@ -12,8 +12,8 @@ use Rattle.nodes.specs.Ground as ground_calls
 use Rattle.nodes.specs.Parameters.{IsConfig}
 use Rattle.nodes.specs.Spacecraft.{spacecraft_step}
 use Rattle.nodes.specs.Spacecraft as spacecraft_calls
-use Rattle.link_events.specs.declared.event.Event.{Event}
-use Rattle.link_events.specs.declared.event.Event.TheVariants as events
+use Rattle.nodes.specs.declared.event.Event.{Event}
+use Rattle.nodes.specs.declared.event.Event.TheVariants as events
 use Rattle.simulated_link.specs.declared.fault.SimFault.{SimFault}
 use Rattle.tc_link.specs.Reached.{IsEvent}
 use Rattle.simulated_link.specs.Replies.{ReplyView, Done}

@@ -3,7 +3,7 @@
 ghost use Rattle.tc_link.specs.Reached.{IsEvent};
 
 use cop1::Directive;
-pub use link_events::Event;
+use nodes::Event;
 
 // The numbers that an event sets are octets; this does nothing.
 pub(crate) fn keeps_octets(event: Event<'_>)

@@ -10,13 +10,12 @@ mod laws;
 mod sim;
 mod telemetry_law;
 
-pub use event::Event;
 pub use laws::{
     law_of_any_past, law_of_bypass, law_of_numbers, law_of_plain_links, law_of_progress,
     law_of_sessions, law_of_silence, law_of_taking,
 };
 pub use nodes::{
-    Config, Ground, Heard, HeardReport, LinkFault, Received, Spacecraft, law_of_delivery,
+    Config, Event, Ground, Heard, HeardReport, LinkFault, Received, Spacecraft, law_of_delivery,
 };
 pub use sim::{Sim, run};
 pub use simulated_link::{NodeFault, Reply, SimFault};

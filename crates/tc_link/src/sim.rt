@@ -2,9 +2,9 @@
 
 mod runs;
 
-use crate::event::{Event, keeps_octets};
+use crate::event::keeps_octets;
 use cop1::{Directive, FopMode};
-use nodes::Config;
+use nodes::{Config, Event};
 pub use runs::run;
 use simulated_link::{Reply, SimFault, World};
 use std::alloc::Global;

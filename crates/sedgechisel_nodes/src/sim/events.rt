@@ -3,7 +3,7 @@
 // link.
 
 ghost use Rattle.cop1.specs.declared.vocabulary.Directive.{Directive};
-ghost use Rattle.link_events.specs.declared.event.Event.{Event};
+ghost use Rattle.nodes.specs.declared.event.Event.{Event};
 ghost use Rattle.sedgechisel_nodes.specs.Links.{IsEventCall};
 
 use crate::handles::SimHandle;

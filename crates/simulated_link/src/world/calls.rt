@@ -16,7 +16,7 @@ use crate::opening::Opening;
 use crate::reply::{NodeFault, Reply};
 use clcw::Clcw;
 use cop1::{Alert, Directive};
-use link_events::Event;
+use nodes::Event;
 use std::collections::VecDeque;
 use tm_link::TmFault;
 

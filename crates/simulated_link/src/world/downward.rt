@@ -8,7 +8,7 @@ use crate::fault::SimFault;
 use crate::putting::put_report;
 use crate::reply::Reply;
 use cop1::FopMode;
-use link_events::Event;
+use nodes::Event;
 
 impl World {
     ghost use Rattle.simulated_link.specs.Events.{LetsHappen};

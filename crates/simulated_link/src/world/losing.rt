@@ -3,8 +3,7 @@
 use super::World;
 use crate::fault::SimFault;
 use crate::reply::Reply;
-use link_events::Event;
-use nodes::{Heard, Received};
+use nodes::{Event, Heard, Received};
 use tc_frame::Check;
 
 impl World {

@@ -3,7 +3,7 @@
 use super::World;
 use crate::fault::SimFault;
 use crate::reply::Reply;
-use link_events::Event;
+use nodes::Event;
 
 impl World {
     ghost use Rattle.std.specs.Prelude.{◌≡◌, ◌≢◌, Ok, Err, IfOk, IfErr, OnOk, OnErr, IsOkUnless};

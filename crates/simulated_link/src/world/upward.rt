@@ -14,7 +14,7 @@ use crate::map_lists::{append_on, make_room};
 use crate::outgoing::next_frame;
 use crate::refusal::answer_to_refusal;
 use crate::reply::Reply;
-use link_events::Event;
+use nodes::Event;
 use std::alloc::{AllocError, Global};
 
 impl World {

@@ -8,8 +8,8 @@ ghost use Rattle.tc_link.specs.Simulation.{sim_run, refused_field};
 ghost use Rattle.simulated_link.specs.World.{IsClean, IsIdle};
 
 use super::Sim;
-use crate::event::{Event, keeps_octets};
-use nodes::Config;
+use crate::event::keeps_octets;
+use nodes::{Config, Event};
 use simulated_link::SimFault;
 use std::alloc::Global;
 

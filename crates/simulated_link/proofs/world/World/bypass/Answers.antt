@@ -1,6 +1,6 @@
 use Rattle.simulated_link.proofs.Common.{Result, Ok, Option, ap, sym, ◌∙◌, LinkFault, GroundState, GroundOutcome}
 use Rattle.simulated_link.proofs.Common.{unless_refused, Event, World}
-use Rattle.link_events.specs.declared.event.Event.TheVariants as events
+use Rattle.nodes.specs.declared.event.Event.TheVariants as events
 use Rattle.nodes.specs.Ground.{bypass_fault, after_bypass}
 use Rattle.simulated_link.specs.declared.reply.Reply.TheVariants as replies
 use Rattle.simulated_link.specs.declared.reply.NodeFault.TheVariants.{Link}

@@ -1,7 +1,7 @@
 use Rattle.simulated_link.proofs.Common.{◌≡◌, List, ℕ, [], ◌∷◌, ◌++◌, map, refl, ap, sym, ◌∙◌, Ok, Clcw, octets_of}
 use Rattle.simulated_link.proofs.Common.{segment_octets, SpacecraftState, spacecraft_step, Report, World}
 use Rattle.std.proofs.lemmas.List.{map_push}
-use Rattle.link_events.specs.declared.event.Event.TheVariants as events
+use Rattle.nodes.specs.declared.event.Event.TheVariants as events
 use Rattle.simulated_link.specs.declared.reply.Reply.TheVariants as replies
 use Rattle.simulated_link.specs.Replies.{Reported}
 use Rattle.simulated_link.specs.World.{delivered}

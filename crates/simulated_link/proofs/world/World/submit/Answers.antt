@@ -8,7 +8,7 @@ use Rattle.std.proofs.lemmas.List.{map_push}
 use Rattle.map_service.specs.Packets.{packets_in}
 use Rattle.nodes.specs.declared.ground_node.submission.Submission.{Submission}
 use Rattle.nodes.specs.Packets.{packet_view}
-use Rattle.link_events.specs.declared.event.Event.TheVariants as events
+use Rattle.nodes.specs.declared.event.Event.TheVariants as events
 use Rattle.simulated_link.proofs.Common.{Option, Some, Result, Ok, Err, Event, LinkFault, World, GroundOutcome}
 use Rattle.simulated_link.proofs.Common.{unless_refused, after_submission}
 use Rattle.simulated_link.specs.declared.fault.SimFault.TheVariants.{Memory}

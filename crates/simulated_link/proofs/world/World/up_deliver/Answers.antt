@@ -6,7 +6,7 @@ use Rattle.simulated_link.proofs.Common.{up_deliver_step, On, Ok, Up}
 use Rattle.std.proofs.Common.{rules}
 use Rattle.tc_frame.specs.Reading.{frame_at}
 use Rattle.nodes.specs.Spacecraft.{HandsNothingOn}
-use Rattle.link_events.specs.declared.event.Event.TheVariants.{UpDeliver}
+use Rattle.nodes.specs.declared.event.Event.TheVariants.{UpDeliver}
 use Rattle.simulated_link.specs.declared.fault.SimFault.TheVariants.{Memory}
 use Rattle.simulated_link.specs.declared.reply.Reply.TheVariants as replies
 use Rattle.simulated_link.specs.Events.{LetsHappen}

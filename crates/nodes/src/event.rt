@@ -1,8 +1,8 @@
-// What may happen on a simulated link.
+// What may happen on a link between the two nodes.
 
 use cop1::Directive;
 
-/// What may happen on a simulated link.
+/// What may happen on a link between the two nodes. `simulated_link` lets it happen, and scripts spell it.
 #[derive(Clone, Copy, Debug, PartialEq, Eq)]
 pub enum Event<'a> {
     /// Packets are submitted on a MAP.
