@@ -166,6 +166,7 @@ module _ {U : Type 0} where
     pub same : f ≡ pulled (next_outcome o) q
     pub fits : Fits o.after (taken_from (next_of o.answer) q)
     pub same_room : o.after.room ≡ s.room
+    pub same_nn : o.after.nn ≡ s.nn
     pub placed : IsPlaced (taken_from (next_of o.answer) q).units (next_at o.after.nn (next_of o.answer))
     -- the unit is there before it goes
     pub seen : seen_at (taken_from (next_of o.answer) q).units (next_at o.after.nn (next_of o.answer))
@@ -175,7 +176,7 @@ module _ {U : Type 0} where
       → Goes s q (pulls.pulls s NothingPulled) (pulls.pulls (with_queues s q) NothingPulled)
   nothing_goes s q fits =
       let fit : Fits s q = record { waiting = fits.waiting; units = fits.units } in
-      record { same = refl; fits = fit; same_room = refl; placed = tt; seen = refl }
+      record { same = refl; fits = fit; same_room = refl; same_nn = refl; placed = tt; seen = refl }
 
   module _ (s : SenderNumbers) (q : Queues U) (is : IsSender s) (fits : Fits s q)
       (numbered : ahead_by s.vs s.nn ≡ s.sent.count) where
@@ -191,6 +192,7 @@ module _ {U : Type 0} where
               (rw (none-marked 0 s.sent.count q.units fits.units) refl);
           fits = record { waiting = refl; units = rw waits (omega (arith, more, fits.units)) };
           same_room = refl;
+          same_nn = refl;
           placed = rw waits (omega (arith, more, place));
           seen = rw (waits, place, slice_get-push q.units u) refl;
         }
@@ -222,6 +224,7 @@ module _ {U : Type 0} where
           same = rw (oldest, place, unit, without_oldest_mark-last s.sent.due q.units some within) refl;
           fits = record { waiting = fits.waiting; units = fits.units };
           same_room = refl;
+          same_nn = refl;
           placed = omega (arith, place, fits.units, some, within);
           seen = refl;
         }
@@ -255,6 +258,7 @@ module _ {U : Type 0} where
         same = refl;
         fits = record { waiting = fits.waiting; units = fits.units };
         same_room = refl;
+        same_nn = refl;
         placed = tt;
         seen = refl;
       })

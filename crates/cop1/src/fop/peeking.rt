@@ -37,9 +37,8 @@ impl<U: Drop> Fop<U> {
         if let Some(unit) = oldest_bypass(&self.sender, &self.bypass) {
             return Peeked::Bypass(unit);
         }
-        let mut sender = self.sender;
-        let next = sender.next();
-        unit_at(next, sender.fields().nn, &self.waiting, &self.sent)
+        let nn = self.sender.fields().nn;
+        unit_at(self.sender.peek(), nn, &self.waiting, &self.sent)
     }
 }
 

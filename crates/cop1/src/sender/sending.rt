@@ -20,63 +20,68 @@ pub enum SenderNext {
 
 impl Sender {
     ghost use Rattle.std.specs.Prelude.{◌≡◌, ◌<◌};
+    ghost use Rattle.cop1.specs.Modulo.{ahead_by};
     ghost use Rattle.cop1.specs.FopVariables.{IsActive};
-    ghost use Rattle.cop1.specs.FopPull.{next_sequence, next_waiting, after_send_first};
+    ghost use Rattle.cop1.specs.FopPull.{after_send_first};
     ghost use Rattle.cop1.specs.Numbers.{TheWaiting};
-    ghost use Rattle.cop1.specs.NumbersStep.{next_of, sender_step, Next};
+    ghost use Rattle.cop1.specs.NumbersStep.{sender_step, Next};
 
-    /// Takes what goes on the link next, by the first rule that applies: the control command of S5,
-    /// where it is due; in S1 and S2 the oldest unit that is due to be sent again; in S1 and S2 the
-    /// unit that waits, where the window has room for it (CCSDS 232.1-B-2, 5.2). What the caller sends
-    /// past the sequence control goes after a command that is due (`fields().control` is `Due`), and
-    /// before units.
-    pub fn next(&mut self) -> SenderNext
-        ensures after { self.new ≡ (sender_step self.old Next).after }
-        ensures answer { result ≡ (sender_step self.old Next).answer }
+    /// What goes on the link next, by the first rule that applies: the control command of S5, where it
+    /// is due; in S1 and S2 the oldest unit that is due to be sent again; in S1 and S2 the unit that
+    /// waits, where the window has room for it (CCSDS 232.1-B-2, 5.2). What the caller sends past the
+    /// sequence control goes after a command that is due (`fields().control` is `Due`), and before
+    /// units. The sender stays as it is.
+    pub fn peek(&self) -> SenderNext
+        ensures { result ≡ (sender_step self.now Next).answer }
     {
-        if let Control::Due(command) = self.fields.control {
-            self.restart();
-            self.fields.control = Control::Sent(command);
+        let fields = &self.fields;
+        if let Control::Due(command) = fields.control {
             return SenderNext::Control(command);
         }
-        match self.fields.state {
-            FopMode::S1 | FopMode::S2 => self.next_sequence(),
+        match fields.state {
+            FopMode::S1 | FopMode::S2 if fields.due > 0 => {
+                SenderNext::Again(fields.nn.wrapping_add(fields.sent - fields.due))
+            }
+            FopMode::S1 | FopMode::S2 if fields.waiting && fields.sent < fields.window => {
+                SenderNext::First(fields.vs)
+            }
             _ => SenderNext::Nothing,
         }
     }
 
-    fn next_sequence(&mut self) -> SenderNext
-        requires { IsActive self.old.state }
-        ensures after { self.new ≡ (next_sequence self.old).after }
-        ensures answer { result ≡ next_of (next_sequence self.old).answer }
+    /// Takes what goes on the link next, which `peek` gives, and counts it as sent.
+    pub fn next(&mut self) -> SenderNext
+        ensures after { self.new ≡ (sender_step self.old Next).after }
+        ensures answer { result ≡ (sender_step self.old Next).answer }
     {
-        if self.fields.due == 0 {
-            return self.next_waiting();
-        }
-        let place = self.fields.sent - self.fields.due;
-        let number = self.fields.nn.wrapping_add(place);
-        self.fields.due -= 1;
-        self.restart();
-        SenderNext::Again(number)
+        let next = self.peek();
+        self.send(next);
+        next
     }
 
-    fn next_waiting(&mut self) -> SenderNext
-        requires { IsActive self.old.state }
-        ensures after { self.new ≡ (next_waiting self.old).after }
-        ensures answer { result ≡ next_of (next_waiting self.old).answer }
+    // What `peek` gave is sent.
+    fn send(&mut self, next: SenderNext)
+        requires { next ≡ (sender_step self.old Next).answer }
+        ensures { self.new ≡ (sender_step self.old Next).after }
     {
-        if !self.fields.waiting || self.fields.sent >= self.fields.window {
-            return SenderNext::Nothing;
+        match next {
+            SenderNext::Nothing => {}
+            SenderNext::Control(command) => {
+                self.fields.ticks = Some(self.fields.timer);
+                self.fields.control = Control::Sent(command);
+            }
+            SenderNext::First(_) => self.send_first(),
+            SenderNext::Again(_) => {
+                self.fields.due -= 1;
+                self.restart();
+            }
         }
-        let number = self.fields.vs;
-        self.send_first();
-        SenderNext::First(number)
     }
 
     // The unit that waits is sent, and there is room for it.
     fn send_first(&mut self)
         requires active { IsActive self.old.state }
-        requires room { self.old.sent.count < self.old.room }
+        requires room { ahead_by self.old.vs self.old.nn < self.old.window }
         ensures { self.new ≡ after_send_first self.old TheWaiting }
     {
         if self.fields.sent == 0 {

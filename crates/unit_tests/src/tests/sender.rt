@@ -110,6 +110,11 @@ fn number_alone(answer: Option<(u8, u8)>) -> Option<u8> {
     }
 }
 
+fn pulls_number(rt: &impl Abort, sender: &mut Sender, number: Option<u8>) {
+    equal(rt, &number_of(sender.peek()), &number);
+    equal(rt, &number_of(sender.next()), &number);
+}
+
 fn answer_of_sender(rt: &impl Abort, sender: &mut Sender, call: Call) {
     match call {
         Call::Submit(_, answer) => equal(rt, &sender.submit(), &without_unit(answer)),
@@ -118,7 +123,7 @@ fn answer_of_sender(rt: &impl Abort, sender: &mut Sender, call: Call) {
             alerts(rt, sender.report(&report(flags, value)).alert, alert)
         }
         Call::Tick(alert) => alerts(rt, sender.tick(), alert),
-        Call::Pull(answer) => equal(rt, &number_of(sender.next()), &number_alone(answer)),
+        Call::Pull(answer) => pulls_number(rt, sender, number_alone(answer)),
     }
 }
 

@@ -7,6 +7,5 @@ pub returns : goal.returns
 returns g c =
     let none = ap option_copied c.in_default.is in
     let goes = next-goes c.self.invariant.sender c.self.invariant.fits c.oldest_bypass.ensures none in
-    rw (c.unit_at.ensures, ap (λ s. s.nn) c.fields.ensures.fields)
-    (rw (c.next-next.ensures.answer, c.next-next.ensures.after)
-    (sym goes.seen ∙ sym (ap (λ o. o.answer) goes.same) ∙ ap (λ s. (pull_step s).answer) c.self.view_is))
+    rw (c.unit_at.ensures, ap (λ s. s.nn) c.fields-nn.ensures.fields, sym goes.same_nn, c.peek.ensures)
+    (sym goes.seen ∙ sym (ap (λ o. o.answer) goes.same) ∙ ap (λ s. (pull_step s).answer) c.self.view_is)
