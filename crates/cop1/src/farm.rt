@@ -229,14 +229,6 @@ impl Farm {
         }
     }
 
-    /// What `ad` would answer; the receiver stays as it is.
-    pub fn verdict(&self, n: u8, buffer_free: bool) -> Verdict
-        ensures { result ≡ verdict_of self.now n buffer_free }
-    {
-        let mut farm = *self;
-        farm.ad(n, buffer_free)
-    }
-
     #[inline(always)]
     fn place(&self, n: u8) -> Place
         ensures { result ≡ place_of self.now n }

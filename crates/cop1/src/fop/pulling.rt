@@ -40,7 +40,7 @@ pub enum Next<U> {
 }
 
 impl<U: Drop> Fop<U> {
-    ghost use Rattle.std.specs.Prelude.{◌≡◌, slice_get, option_copied};
+    ghost use Rattle.std.specs.Prelude.{◌≡◌};
     ghost use Rattle.cop1.specs.UnitsNext.{units_of, seen_at, pulled_view, IsPlaced};
     ghost use Rattle.std.specs.Borrow.{sem};
     ghost use Rattle.cop1.specs.UnitsLent.{EndsAs};
@@ -62,14 +62,6 @@ impl<U: Drop> Fop<U> {
         let nn = self.sender.fields().nn;
         take_first(next, &mut self.waiting, &mut self.sent);
         next_at(nn, next)
-    }
-
-    #[tactic(auto, using(crate::proofs::Marks::marks))]
-    /// The unit at a place of the sent queue, the oldest at place 0.
-    pub fn unit(&self, place: usize) -> Option<&U>
-        ensures { option_copied result ≡ slice_get (units_of self.now.sent) place }
-    {
-        self.sent.get(place)
     }
 
     /// Takes what goes on the link next, as `next` does, and hands it out. A unit of the sent queue is
