@@ -1,12 +1,12 @@
 -- Command packets (CCSDS 133.0-B-2, 4.1.3.3).
-use Rattle.std.specs.Prelude.{ℕ, List, map, Bool, true, false, not, ◌&&◌, ◌==◌, Result, Ok, Err}
+use Rattle.std.specs.Prelude.{ℕ, List, map, Bool, true, false, not, ◌&&◌, Result, Ok, Err}
 use Rattle.std.specs.Prelude.{Option, Some, None, if◌then◌else◌}
 use Rattle.std.specs.List.{list_all}
 use denote.Bor.{Bor}
 use Rattle.space_packet.specs.declared.fault.PacketFault.{PacketFault}
 use Rattle.space_packet.specs.declared.packet.PacketKind.{PacketKind}
 use Rattle.space_packet.specs.declared.packet.PacketKind.TheVariants.{Telemetry, Telecommand}
-use Rattle.space_packet.specs.Layout.{PacketView}
+use Rattle.space_packet.specs.Layout.{PacketView, is_idle_apid}
 use Rattle.space_packet.specs.Reading.{packet_at}
 use Rattle.map_service.specs.Packets.{packets_in, are_taken, is_some_over}
 use Rattle.map_service.specs.declared.limits.Limits.{Limits}
@@ -19,7 +19,7 @@ is_telecommand Telecommand = true
 
 -- a packet to the spacecraft that isn't an idle one
 abbrev pub is_command_packet : PacketView → Bool
-is_command_packet p = is_telecommand p.kind && not (p.apid == 2047)
+is_command_packet p = is_telecommand p.kind && not (is_idle_apid p.apid)
 
 abbrev pub finds_command : Result (PacketView × ℕ) PacketFault → Bool
 finds_command (Ok p) = is_command_packet p.0

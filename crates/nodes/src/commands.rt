@@ -8,7 +8,7 @@ ghost use Rattle.nodes.specs.Submissions.{packets_held};
 
 use crate::fault::LinkFault;
 use map_service::Limits;
-use space_packet::{Packet, PacketKind, decode};
+use space_packet::{Packet, PacketKind, decode, is_idle_apid};
 use std::alloc::Global;
 
 // The packets of a submission: its octets are one, or several are in them.
@@ -106,7 +106,7 @@ fn is_command_packet(packet: &Packet<'_>) -> bool
     ensures { result ≡ is_command_packet (packet_view packet.now) }
 {
     match packet.kind {
-        PacketKind::Telecommand => packet.apid != 2047,
+        PacketKind::Telecommand => !is_idle_apid(packet.apid),
         PacketKind::Telemetry => false,
     }
 }

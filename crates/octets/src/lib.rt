@@ -13,6 +13,6 @@ mod wire;
 pub use checking::{append_check, check, check_holds};
 pub use front::remove_front;
 pub use laws::{law_of_cutting, law_of_damage, law_of_records, law_of_refusal, law_of_spellings};
-pub use number::first_two;
+pub use number::{first_two, low_eleven};
 pub use splitter::Splitter;
 pub use wire::Wire;

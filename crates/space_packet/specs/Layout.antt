@@ -38,9 +38,13 @@ abbrev pub secondary_bit : Bool → ℕ
 secondary_bit true = 1
 secondary_bit false = 0
 
--- an idle packet, which is one of APID 2047, with a secondary header
+-- the APID of idle packets (4.1.3.3.4)
+abbrev pub is_idle_apid : ℕ → Bool
+is_idle_apid apid = apid == 2047
+
+-- an idle packet with a secondary header
 abbrev pub is_idle_with_secondary : ℕ → Bool → Bool
-is_idle_with_secondary apid secondary = (apid == 2047) && secondary
+is_idle_with_secondary apid secondary = is_idle_apid apid && secondary
 
 -- ---- the packet
 

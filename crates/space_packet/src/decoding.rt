@@ -6,8 +6,8 @@ ghost use Rattle.space_packet.specs.Layout.{PacketView, packet_view, is_idle_wit
 ghost use Rattle.space_packet.specs.Reading.{found_view, extent_at, kind_at, packet_at};
 
 use crate::fault::PacketFault;
-use crate::packet::{Packet, PacketKind};
-use octets::first_two;
+use crate::packet::{Packet, PacketKind, is_idle_apid};
+use octets::{first_two, low_eleven};
 
 /// Reads the packet that the octets begin with (CCSDS 133.0-B-2, 4.1), and says how many octets it has.
 /// It borrows its data from them. What follows it is not looked at. Refuses fewer than 6 octets by 1
@@ -70,7 +70,7 @@ pub(crate) fn declared_len(head: &[u8]) -> Result<usize, PacketFault>
 pub(crate) fn is_idle_with(apid: u16, secondary: bool) -> bool
     ensures { result ≡ is_idle_with_secondary apid secondary }
 {
-    apid == 2047 && secondary
+    is_idle_apid(apid) && secondary
 }
 
 fn kind_of(first: u16) -> PacketKind
@@ -87,12 +87,6 @@ fn has_secondary(first: u16) -> bool
     ensures { result ≡ (first / 2048 % 2 == 1) }
 {
     (first >> 11) & 1 == 1
-}
-
-fn low_eleven(number: u16) -> u16
-    ensures { result ≡ number % 2048 }
-{
-    number & 0x7ff
 }
 
 fn low_fourteen(number: u16) -> u16

@@ -22,6 +22,6 @@ pub use fault::PacketFault;
 pub use gaps::GapCheck;
 pub use laws::{law_of_reading, law_of_records, law_of_spelling};
 pub use layout::Packets;
-pub use packet::{Packet, PacketKind};
+pub use packet::{Packet, PacketKind, is_idle_apid};
 pub use splitter::PacketSplitter;
 pub use whole::{is_packet, packet_len};

@@ -1,5 +1,8 @@
 // The space packet as a value.
 
+ghost use Rattle.std.specs.Prelude.{◌≡◌};
+ghost use Rattle.space_packet.specs.Layout.{is_idle_apid};
+
 /// What a packet is a part of: reports from the spacecraft, or commands to it (the packet type,
 /// CCSDS 133.0-B-2, 4.1.3.3.2).
 #[derive(Clone, Copy, Debug, PartialEq, Eq)]
@@ -27,4 +30,11 @@ pub struct Packet<'a> {
     pub count: u16,
     /// The packet data field, of 1 to 65,536 octets (4.1.4).
     pub payload: &'a [u8],
+}
+
+/// Whether packets of this application process are idle (CCSDS 133.0-B-2, 4.1.3.3.4).
+pub fn is_idle_apid(apid: u16) -> bool
+    ensures { result ≡ is_idle_apid apid }
+{
+    apid == 2047
 }

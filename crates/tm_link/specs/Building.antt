@@ -1,9 +1,10 @@
 -- Building the frames of a stream of packets (this project's rule for CCSDS 132.0-B-3, 4.1.4 and
 -- 4.2.2).
-use Rattle.std.specs.Prelude.{◌≢◌, ℕ, ◌+◌, ◌-◌, ◌%◌, max, List, [], ◌∷◌, ◌++◌, length, take, drop}
-use Rattle.std.specs.Prelude.{replicate, Bool, not, ◌&&◌, ◌==◌, nat_lt, nat_le, if◌then◌else◌}
+use Rattle.std.specs.Prelude.{◌≡◌, ℕ, ◌+◌, ◌-◌, ◌%◌, max, List, [], ◌∷◌, ◌++◌, length, take, drop}
+use Rattle.std.specs.Prelude.{replicate, Bool, false, not, ◌&&◌, ◌==◌, nat_lt, nat_le}
+use Rattle.std.specs.Prelude.{if◌then◌else◌}
 use Rattle.byteorder.specs.Endian.{big_bytes}
-use Rattle.space_packet.specs.Layout.{PacketView, IsPacket}
+use Rattle.space_packet.specs.Layout.{PacketView, IsPacket, is_idle_apid}
 use Rattle.space_packet.specs.Packets.{is_packet}
 use Rattle.tm_link.specs.declared.frame.Pointer.{Pointer}
 use Rattle.tm_link.specs.declared.frame.Pointer.TheVariants.{At, NoStart, OnlyIdle}
@@ -59,7 +60,7 @@ is_to_send octets = is_packet octets && not (is_idle octets)
 -- the octets are this packet, which isn't idle
 pub record IsToSend (p : PacketView) (octets : List ℕ) : Type 0 where
   pub packet : IsPacket p octets
-  pub not_idle : p.apid ≢ 2047
+  pub not_idle : is_idle_apid p.apid ≡ false
 
 abbrev pub queue_fault : List ℕ → TmFault
 queue_fault octets = if is_to_send octets then faults.Memory else faults.NotAPacket

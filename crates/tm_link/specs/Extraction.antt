@@ -7,6 +7,7 @@ use Rattle.std.specs.declared.alloc.Global.{Global}
 use Rattle.octets.specs.Number.{number_of}
 use Rattle.octets.specs.Records.{records_of, rest_of}
 use Rattle.space_packet.specs.declared.fault.PacketFault.{PacketFault}
+use Rattle.space_packet.specs.Layout.{is_idle_apid}
 use Rattle.space_packet.specs.Reading.{extent_at}
 use Rattle.tm_link.specs.declared.frame.Pointer.{Pointer}
 use Rattle.tm_link.specs.declared.frame.Pointer.TheVariants.{At, NoStart, OnlyIdle}
@@ -94,9 +95,9 @@ part_after part (At p) payload = opened_part (rest_of 6 extent_at (drop p payloa
 
 -- ---- a frame
 
--- a packet of APID 2047
+-- an idle packet
 abbrev pub is_idle : List ℕ → Bool
-is_idle packet = number_of (take 2 packet) % 2048 == 2047
+is_idle packet = is_idle_apid (number_of (take 2 packet) % 2048)
 
 -- all packets but idle ones
 abbrev pub without_idle : List (List ℕ) → List (List ℕ)

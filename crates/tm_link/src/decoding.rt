@@ -7,7 +7,7 @@ ghost use Rattle.tm_link.specs.Reading.{is_length_wrong, is_check_wrong, is_poin
 
 use crate::fault::TmFault;
 use crate::frame::{Pointer, TmFrame};
-use octets::{check_holds, first_two};
+use octets::{check_holds, first_two, low_eleven};
 
 /// Reads all of the octets as one frame of `length` octets, 12 more than its data (CCSDS 132.0-B-3,
 /// 4.1), or says the first of the faults that applies. A length outside 16 to 2,048 is 1 `Length`. The
@@ -109,12 +109,6 @@ fn four_of(octets: &[u8], place: usize) -> [u8; 4]
         octets[place + 2],
         octets[place + 3],
     ]
-}
-
-pub(crate) fn low_eleven(number: u16) -> u16
-    ensures { result ≡ number % 2048 }
-{
-    number & 0x7ff
 }
 
 fn low_three(number: u16) -> u8

@@ -7,9 +7,10 @@ ghost use Rattle.tm_link.specs.Extraction.{completed_packet, finished_packets, w
 ghost use Rattle.tm_link.specs.Layout.{pointer_fits};
 ghost use Rattle.tm_link.specs.Splitting.{rest_in_frame};
 
-use crate::ending::{Ending, ending_with, first_len, is_idle_with};
+use crate::ending::{Ending, ending_with, is_idle_with};
 use crate::fault::TmFault;
 use crate::frame::Pointer;
+use space_packet::packet_len;
 use std::alloc::Global;
 
 // Appends the packets that are finished with a frame's data, and answers what stands after those that
@@ -67,7 +68,7 @@ fn split<'a>(alloc: Global, octets: &'a [u8], found: &mut Vec<Vec<u8>>) -> Resul
     ensures fault { IfErr result (λ e. e ≡ TmFault.Memory) }
 {
     let mut rest = octets;
-    while let Some(size) = first_len(rest) {
+    while let Some(size) = packet_len(rest) {
         hand_out(alloc, &rest[..size], &rest[..0], found)?;
         rest = &rest[size..];
     }

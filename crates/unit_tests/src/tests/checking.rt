@@ -1,7 +1,7 @@
 // The check of frames, and its table against the plain program.
 
 use super::equal::equal;
-use octets::{append_check, check, check_holds, first_two};
+use octets::{append_check, check, check_holds, first_two, low_eleven};
 use std::process::Abort;
 
 // The check bit by bit: a register preset to ones, shifted once a bit.
@@ -77,6 +77,7 @@ fn sets_a_check(rt: &impl Abort) {
     assert!(rt; !check_holds(&octets));
     append_check(&mut octets);
     equal(rt, &first_two(&octets[9..]), &0x29b1);
+    equal(rt, &low_eleven(0x29b1), &0x1b1);
     assert!(rt; check_holds(&octets));
     assert!(rt; !check_holds(&octets[..10]));
     assert!(rt; !check_holds(&[]));

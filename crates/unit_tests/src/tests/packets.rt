@@ -158,6 +158,13 @@ fn gap_of_two(check: &mut GapCheck, apid: u16, last: u16, count: u16) -> Option<
 }
 
 #[test]
+fn an_idle_packet(rt: HostRuntime) {
+    for (apid, is_idle) in [(0, false), (2046, false), (2047, true)] {
+        equal(&rt, &is_idle_apid(apid), &is_idle);
+    }
+}
+
+#[test]
 fn counts(rt: HostRuntime) {
     let mut counters = SequenceCounters::new();
     equal(&rt, &counters.next(5), &0);

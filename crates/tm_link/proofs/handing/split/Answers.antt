@@ -3,7 +3,8 @@ use Rattle.std.proofs.lemmas.List.{append-nil}
 use Rattle.octets.specs.Records.{records_of}
 use Rattle.space_packet.specs.Reading.{extent_at}
 use Rattle.tm_link.specs.Extraction.{without_idle, octets_of}
-use Rattle.tm_link.proofs.Records.{records-none, records-next, rest-none, rest-next, handed_on, none_handed-first}
+use Rattle.space_packet.proofs.WholePackets.{no_more}
+use Rattle.tm_link.proofs.Records.{records-next, rest-next, handed_on, none_handed-first}
 use Rattle.tm_link.proofs.handing.split.Goals as goal
 
 pub loop-size-preserved : goal.loop-size-preserved
@@ -16,12 +17,12 @@ loop-size-preserved c =
     c.in_ok-hand_out.ensures.ok ∙ ap (λ (x : List ℕ). before ++ without_idle (x ∷ [])) packet in
     let more : List (List ℕ) = records_of 6 extent_at (take (length rest - n) (drop n rest)) in
     let next : take n rest ∷ more ≡ records_of 6 extent_at rest =
-    records-next rest n (sym c.first_len.ensures.size ∙ c.in-Some.is) in
+    records-next rest n c.in-Some.ensures.first c.in-Some.ensures.within.1 in
     record {
       handed = handed_on before (octets_of c.hand_out.new.found.items) (take n rest) more handed
           ∙ ap (λ (xs : List (List ℕ)). before ++ without_idle xs) next ∙ c.loop-size.invariant.handed;
       none = λ none. (none_handed-first (take n rest) more (ap without_idle next ∙ c.loop-size.invariant.none none)).1;
-      left = rest-next rest n (sym c.first_len.ensures.size ∙ c.in-Some.is) ∙ c.loop-size.invariant.left;
+      left = rest-next rest n c.in-Some.ensures.first c.in-Some.ensures.within.1 ∙ c.loop-size.invariant.left;
     }
 
 pub returns-clause-ok : goal.returns-clause-ok
@@ -29,12 +30,12 @@ returns-clause-ok c =
     let found : List (List ℕ) = octets_of c.loop-size.found.items in
     sym (append-nil found)
     ∙ ap (λ (xs : List (List ℕ)). found ++ without_idle xs)
-    (sym (records-none c.loop-size.rest.now (sym c.first_len.ensures.size ∙ c.in_default.is)))
+    (sym (no_more c.loop-size.rest.now (sym c.in_default.ensures.first)).0)
     ∙ c.loop-size.invariant.handed
 
 pub returns-clause-rest : goal.returns-clause-rest
 returns-clause-rest c =
-    sym (rest-none c.loop-size.rest.now (sym c.first_len.ensures.size ∙ c.in_default.is)) ∙ c.loop-size.invariant.left
+    sym (no_more c.loop-size.rest.now (sym c.in_default.ensures.first)).1 ∙ c.loop-size.invariant.left
 
 pub returns-in_err-hand_out-clause-none : goal.returns-in_err-hand_out-clause-none
 returns-in_err-hand_out-clause-none c = λ none.
@@ -42,7 +43,7 @@ returns-in_err-hand_out-clause-none c = λ none.
     let n : ℕ = c.in-Some.size in
     let packet : take n rest ++ [] ≡ take n rest = append-nil (take n rest) in
     let next : take n rest ∷ records_of 6 extent_at (take (length rest - n) (drop n rest))
-    ≡ records_of 6 extent_at rest = records-next rest n (sym c.first_len.ensures.size ∙ c.in-Some.is) in
+    ≡ records_of 6 extent_at rest = records-next rest n c.in-Some.ensures.first c.in-Some.ensures.within.1 in
     let first : without_idle (take n rest ∷ []) ≡ [] =
     (none_handed-first (take n rest) (records_of 6 extent_at (take (length rest - n) (drop n rest)))
     (ap without_idle next ∙ c.loop-size.invariant.none none)).0 in
