@@ -15,10 +15,11 @@ use Rattle.map_service.specs.Assembly.{is_open, is_too_long}
 use Rattle.map_service.specs.Packets.{packets_in, rest_in, is_packet, are_packets}
 use Rattle.map_service.specs.declared.deciding.Step.TheVariants.{HandOut}
 use Rattle.map_service.specs.Deciding.{step_outcome}
-use Rattle.map_service.specs.Taking.{TakeOutcome, one_fault, several_fault, alone_fault, drop_outcome, packets_outcome}
-use Rattle.map_service.specs.Taking.{part_outcome, interruption, cell, take_step}
+use Rattle.map_service.specs.Taking.{TakeOutcome, one_fault, several_fault, alone_fault, drop_outcome}
+use Rattle.map_service.specs.Taking.{packets_outcome, part_outcome, interruption, cell, take_step, alone_packets}
 use Rattle.map_service.proofs.Groups.{IsWhole, packets-split, again}
 use Rattle.map_service.proofs.Passage.{one-from}
+use Rattle.map_service.specs.Taking.{is_dropped_at_once}
 
 abbrev pub AreWhole : List (List ℕ) → Type 0
 AreWhole packets = AllByRecursion (λ (p : List ℕ). is_packet p ≡ true) packets
@@ -40,11 +41,16 @@ alone_by : (limits : Limits) (octets : List ℕ) (blocking : Bool)
 alone_by limits octets true e = refl
 alone_by limits octets false e = (one-from octets (one_whole limits octets e)).1
 
+-- the packets of an alone segment that is handed out
+pub alone_packets_are : (limits : Limits) (octets : List ℕ) → alone_fault limits octets ≡ None
+    → packets_in octets ≡ alone_packets limits octets
+alone_packets_are limits octets none = alone_by limits octets limits.blocking none
+
 -- an alone segment that is handed out, the part that is open being dropped
 pub handed_out : (limits : Limits) (part : Option (List ℕ)) (octets : List ℕ) → alone_fault limits octets ≡ None
     → step_outcome limits HandOut (interruption part) part octets ≡ cell limits Alone part octets
 handed_out limits part octets none =
-    rw none (ap (handing (interruption part)) (alone_by limits octets limits.blocking none))
+    rw none (ap (handing (interruption part)) (alone_packets_are limits octets none))
 
 pub lone_whole : (p : List ℕ) → IsWhole (p ∷ []) → is_packet p ≡ true
 lone_whole p h =
@@ -101,3 +107,34 @@ taken_whole P limits part s none whole =
     cond_both (is_open limits s.header.map) (cell limits s.header.flags part s.payload) _ (λ o. P o.packets)
     (λ t. whole (cell limits s.header.flags part s.payload).packets (open_below limits s.header.map t)
     (cell_whole limits s.header.flags part s.payload)) (λ t. none)
+
+-- ---- what is dropped with no memory taken hands nothing out
+
+abbrev HandsNothingOut : TakeOutcome → Type 0
+HandsNothingOut o = is_dropped_at_once o.dropped ≡ true → o.packets ≡ []
+
+given : (part : Option (List ℕ)) (packets : List (List ℕ)) (fault : Option Dropped)
+    → HandsNothingOut (packets_outcome (interruption part) packets fault)
+given None packets None e = absurd (cc e)
+given (Some part) packets None e = absurd (cc e)
+given part packets (Some cause) e = refl
+
+opened : (limits : Limits) (earlier : Option Dropped) (octets : List ℕ)
+    → HandsNothingOut (part_outcome limits earlier octets)
+opened limits earlier octets =
+    cond_both (is_too_long limits octets) (drop_outcome TooLong) _ HandsNothingOut (λ t e. refl) (λ t e. refl)
+
+in_cell : (limits : Limits) (flags : SegmentFlags) (part : Option (List ℕ)) (octets : List ℕ)
+    → HandsNothingOut (cell limits flags part octets)
+in_cell limits Alone part octets = given part (alone_packets limits octets) (alone_fault limits octets)
+in_cell limits First part octets = opened limits (interruption part) octets
+in_cell limits Continuing None octets = λ e. refl
+in_cell limits Continuing (Some part) octets = opened limits None (part ++ octets)
+in_cell limits Last None octets = λ e. refl
+in_cell limits Last (Some part) octets = given None ((part ++ octets) ∷ []) (one_fault limits (part ++ octets))
+
+pub none_at_once : (limits : Limits) (part : Option (List ℕ)) (s : SegmentView)
+    → HandsNothingOut (take_step limits part s)
+none_at_once limits part s =
+    cond_both (is_open limits s.header.map) (cell limits s.header.flags part s.payload) _ HandsNothingOut
+    (λ t. in_cell limits s.header.flags part s.payload) (λ t e. refl)

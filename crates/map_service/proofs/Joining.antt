@@ -1,12 +1,15 @@
 -- What one more segment adds to what a list of segments of one MAP gives.
-use Rattle.std.proofs.Common.{◌≡◌, ℕ, List, [], ◌∷◌, ◌++◌, Option, Some, None, refl, sym, ap, ◌∙◌, append_assoc, arith}
+use Rattle.std.proofs.Common.{◌≡◌, ℕ, List, [], ◌∷◌, ◌++◌, Option, Some, None, refl, sym, ap, ◌∙◌, append_assoc}
+use Rattle.std.proofs.Common.{arith, Bool, true, false, eqb}
 use Rattle.std.proofs.lemmas.List.{append-nil}
 use Rattle.tc_frame.specs.declared.frame.SegmentFlags.{SegmentFlags}
 use Rattle.tc_frame.specs.declared.frame.SegmentFlags.TheVariants.{First, Continuing, Last, Alone}
 use Rattle.tc_frame.specs.Layout.{SegmentView}
 use Rattle.map_service.specs.declared.limits.Limits.{Limits}
-use Rattle.map_service.specs.Assembly.{one_packet, packets_of, up_to_last_from, up_to_last, up_to_end_from}
-use Rattle.map_service.specs.Assembly.{up_to_end, block_packets, blocks_packets, part_from, ending_part}
+use Rattle.map_service.specs.Assembly.{one_packet, packets_of, up_to_last_from, up_to_last, up_to_end_from, up_to_end}
+use Rattle.map_service.specs.Assembly.{block_packets, blocks_packets, part_from, ending_part, is_open, of_map}
+use Rattle.map_service.specs.Assembly.{assembled}
+use Rattle.std.proofs.lemmas.List.Elements.{filter-append}
 
 -- ---- segments that are all continuing end no block, give no packet and begin no part
 
@@ -135,3 +138,31 @@ blocks_packets-push limits (x ∷ segments) s =
     (block_gives limits x.header.flags s.header.flags s.payload x.payload (up_to_last segments) (up_to_end segments)
     (ending_part segments) (blocks_packets limits segments)
     (λ j e. let known = all_go_on limits segments j e in (known.unended, known.given, known.unbegun)))
+
+-- ---- what a beginning of a list of segments gives
+
+blocks_begin : (limits : Limits) (xs ys : List SegmentView)
+    → (more : List (List ℕ)) × (blocks_packets limits (xs ++ ys) ≡ blocks_packets limits xs ++ more)
+blocks_begin limits xs [] =
+    ([], ap (blocks_packets limits) (append-nil xs) ∙ sym (append-nil (blocks_packets limits xs)))
+blocks_begin limits xs (y ∷ ys) =
+    let rest = blocks_begin limits (xs ++ y ∷ []) ys in
+    let one : List (List ℕ) = packets_behind limits y.header.flags y.payload (ending_part xs) in (
+      one ++ rest.0,
+      ap (blocks_packets limits) (sym (append_assoc xs (y ∷ []) ys))
+          ∙ rest.1
+          ∙ ap (λ (ps : List (List ℕ)). ps ++ rest.0) (blocks_packets-push limits xs y)
+          ∙ append_assoc (blocks_packets limits xs) one rest.0,
+    )
+
+begins_by : (limits : Limits) (m : ℕ) (xs ys : List SegmentView) (opened : Bool) → is_open limits m ≡ opened
+    → (more : List (List ℕ)) × (assembled limits m (xs ++ ys) ≡ assembled limits m xs ++ more)
+begins_by limits m xs ys true h =
+    let rest = blocks_begin limits (of_map m xs) (of_map m ys) in
+    (rest.0, rw (h, filter-append (λ (x : SegmentView). eqb x.header.map m) xs ys) rest.1)
+begins_by limits m xs ys false h = ([], rw h refl)
+
+-- the packets of a beginning are a beginning of the packets
+pub assembled_begins : (limits : Limits) (m : ℕ) (xs ys : List SegmentView)
+    → (more : List (List ℕ)) × (assembled limits m (xs ++ ys) ≡ assembled limits m xs ++ more)
+assembled_begins limits m xs ys = begins_by limits m xs ys _ refl

@@ -1,10 +1,10 @@
 -- Packets that were cut or joined are assembled again.
-use Rattle.std.proofs.Common.{◌≡◌, ◌≢◌, ◌≤◌, ◌<◌, ◌⊎◌, ℕ, zero, suc, ◌-◌, List, [], ◌∷◌, ◌++◌, length, take, drop, Bool}
-use Rattle.std.proofs.Common.{true, false, cond, eqb, ltb, not, Option, Some, None, refl, sym, ap, subst, ◌∙◌, arith}
-use Rattle.std.proofs.Common.{inl, inr, append_assoc, length-drop, length-append}
+use Rattle.std.proofs.Common.{◌≡◌, ◌≢◌, ◌≤◌, ◌<◌, ◌⊎◌, ℕ, zero, suc, ◌-◌, List, [], ◌∷◌, ◌++◌, length, take, drop}
+use Rattle.std.proofs.Common.{Bool, true, false, cond, eqb, ltb, not, Option, Some, None, refl, sym, ap, subst, ◌∙◌}
+use Rattle.std.proofs.Common.{arith, inl, inr, append_assoc, length-drop, length-append}
 use Rattle.std.specs.List.{AllByRecursion, concat, flat_map}
 use Rattle.std.proofs.lemmas.Bool.{cases_lt, lt-ltb, le-ltb, ltb-false, ltb-true, ne_eqb, eq-eqb, eqb-true, and_parts}
-use Rattle.std.proofs.lemmas.Bool.{or_parts}
+use Rattle.std.proofs.lemmas.Bool.{or_parts, eqb-false}
 use Rattle.std.proofs.lemmas.List.{append-nil}
 use Rattle.std.proofs.lemmas.List.Elements.{filter-append}
 use Rattle.octets.specs.Records.{IsRecord}
@@ -15,15 +15,18 @@ use Rattle.tc_frame.specs.Layout.{SegmentView}
 use Rattle.map_service.specs.declared.fault.MapFault.TheVariants.{NotAPacket, TooLong}
 use Rattle.map_service.specs.declared.limits.Limits.{Limits}
 use Rattle.map_service.specs.Assembly.{is_open, of_map, one_packet, packets_of, joined_data, up_to_last_from}
-use Rattle.map_service.specs.Assembly.{up_to_last, up_to_end_from, up_to_end, block_packets, blocks_packets, assembled}
-use Rattle.map_service.specs.Assembly.{part_from, ending_part, unless_too_long, open_part}
-use Rattle.map_service.specs.Cutting.{pieces_of, later_segments, segments_of_pieces, parts_of, longest_run, first_group}
-use Rattle.map_service.specs.Cutting.{groups_within, groups_of, segments_of, cut_fault, payloads, IsPart}
+use Rattle.map_service.specs.Assembly.{up_to_last, up_to_end_from, up_to_end, block_packets, blocks_packets}
+use Rattle.map_service.specs.Assembly.{assembled, part_from, ending_part, unless_too_long, open_part}
+use Rattle.map_service.specs.Cutting.{pieces_of, later_segments, segments_of_pieces, parts_of, longest_run}
+use Rattle.map_service.specs.Cutting.{first_group, groups_within, groups_of, segments_of, cut_fault, payloads, IsPart}
 use Rattle.map_service.specs.Packets.{packets_in, rest_in, are_packets, is_packet, is_some_over}
 use Rattle.map_service.proofs.Groups.{IsWhole, again, none_from, all_of, packets-split, behind-each, group-front}
 use Rattle.map_service.proofs.Groups.{group-some}
-use Rattle.map_service.proofs.Pieces.{pieces-some, pieces-more, parts-fit}
+use Rattle.map_service.proofs.Parts.{pieces-some, pieces-more, parts-fit}
 use Rattle.map_service.proofs.Parts.{pieces-joined, groups_joined, segments-joined, segments-parts}
+use Rattle.octets.specs.Beginning.{IsBeginning}
+use Rattle.map_service.specs.Cutting.{Submission, IsSubmitted, segments_of_all, packets_on}
+use Rattle.map_service.proofs.Joining.{assembled_begins}
 
 -- ---- lists of segments, one after another
 
@@ -474,3 +477,93 @@ closed-passed limits m segments octets one opened none =
     (own-append part m segments octets one)
     ∙ ap (unless_too_long limits) (closed_by part m octets (of_map m segments) one h.some h.whole
     (groups-end part m (groups_of part (packets_in octets)))))
+
+-- ---- what is assembled of the segments of a run of calls
+
+-- one call, seen from any MAP
+one_call : (limits : Limits) (m : ℕ) (segments : List SegmentView) (s : Submission) (b : Bool) → eqb s.on_map m ≡ b
+    → 1 ≤ limits.part → IsSubmitted limits s
+    → assembled limits m (segments ++ segments_of limits.part s.on_map s.octets) ≡ assembled limits m segments
+    ++ cond b (packets_in s.octets) []
+one_call limits m segments s true own one h =
+    let is : s.on_map ≡ m = eqb-true _ _ own in
+    subst (λ (k : ℕ). assembled limits k (segments ++ segments_of limits.part s.on_map s.octets)
+    ≡ assembled limits k segments ++ packets_in s.octets) is
+    (given-passed limits s.on_map segments s.octets one h.opened h.cut)
+one_call limits m segments s false other one h =
+    let ne : m ≢ s.on_map = λ e. eqb-false _ _ other (sym e) in
+    ap (λ (xs : List SegmentView). cond (is_open limits m) (blocks_packets limits xs) [])
+    (other-append limits.part s.on_map m segments s.octets one ne)
+    ∙ sym (append-nil (assembled limits m segments))
+
+all_calls : (limits : Limits) (m : ℕ) (segments : List SegmentView) (submissions : List Submission) → 1 ≤ limits.part
+    → AllByRecursion (IsSubmitted limits) submissions
+    → assembled limits m (segments ++ segments_of_all limits.part submissions) ≡ assembled limits m segments
+    ++ packets_on m submissions
+all_calls limits m segments [] one h =
+    ap (assembled limits m) (append-nil segments) ∙ sym (append-nil (assembled limits m segments))
+all_calls limits m segments (s ∷ submissions) one h =
+    let here : List SegmentView = segments_of limits.part s.on_map s.octets in
+    let behind : List SegmentView = segments_of_all limits.part submissions in
+    let packets : List (List ℕ) = cond (eqb s.on_map m) (packets_in s.octets) [] in
+    ap (assembled limits m) (sym (append_assoc segments here behind))
+    ∙ all_calls limits m (segments ++ here) submissions one h.1
+    ∙ ap (λ (ps : List (List ℕ)). ps ++ packets_on m submissions)
+    (one_call limits m segments s (eqb s.on_map m) refl one h.0)
+    ∙ append_assoc (assembled limits m segments) packets (packets_on m submissions)
+
+nothing : (limits : Limits) (opened : Bool) → cond opened (blocks_packets limits []) [] ≡ []
+nothing limits true = refl
+nothing limits false = refl
+
+pub all_assembled : (limits : Limits) (m : ℕ) (submissions : List Submission) → 1 ≤ limits.part
+    → AllByRecursion (IsSubmitted limits) submissions
+    → assembled limits m (segments_of_all limits.part submissions) ≡ packets_on m submissions
+all_assembled limits m submissions one h =
+    all_calls limits m [] submissions one h
+    ∙ ap (λ (ps : List (List ℕ)). ps ++ packets_on m submissions) (nothing limits (is_open limits m))
+
+-- what is assembled of a beginning of the segments begins the packets
+pub some_assembled : (limits : Limits) (m : ℕ) (submissions : List Submission) (segments : List SegmentView)
+    → 1 ≤ limits.part → AllByRecursion (IsSubmitted limits) submissions
+    → IsBeginning segments (segments_of_all limits.part submissions)
+    → IsBeginning (assembled limits m segments) (packets_on m submissions)
+some_assembled limits m submissions segments one h b =
+    let begins = assembled_begins limits m segments b.0 in
+    (begins.0, sym (all_assembled limits m submissions one h) ∙ ap (assembled limits m) b.1 ∙ begins.1)
+
+-- ---- and nothing is left open
+
+one_closed : (limits : Limits) (m : ℕ) (segments : List SegmentView) (s : Submission) (b : Bool) → eqb s.on_map m ≡ b
+    → 1 ≤ limits.part → IsSubmitted limits s
+    → open_part limits m segments ≡ None
+    → open_part limits m (segments ++ segments_of limits.part s.on_map s.octets) ≡ None
+one_closed limits m segments s true own one h none =
+    let is : s.on_map ≡ m = eqb-true _ _ own in
+    subst (λ (k : ℕ). open_part limits k (segments ++ segments_of limits.part s.on_map s.octets) ≡ None) is
+    (closed-passed limits s.on_map segments s.octets one h.opened h.cut)
+one_closed limits m segments s false other one h none =
+    let ne : m ≢ s.on_map = λ e. eqb-false _ _ other (sym e) in
+    ap (λ (xs : List SegmentView). cond (is_open limits m) (unless_too_long limits (ending_part xs)) None)
+    (other-append limits.part s.on_map m segments s.octets one ne) ∙ none
+
+all_closed_behind : (limits : Limits) (m : ℕ) (segments : List SegmentView) (submissions : List Submission)
+    → 1 ≤ limits.part → AllByRecursion (IsSubmitted limits) submissions
+    → open_part limits m segments ≡ None
+    → open_part limits m (segments ++ segments_of_all limits.part submissions) ≡ None
+all_closed_behind limits m segments [] one h none = ap (open_part limits m) (append-nil segments) ∙ none
+all_closed_behind limits m segments (s ∷ submissions) one h none =
+    ap (open_part limits m) (sym (append_assoc segments (segments_of limits.part s.on_map s.octets)
+    (segments_of_all limits.part submissions)))
+    ∙ all_closed_behind limits m (segments ++ segments_of limits.part s.on_map s.octets) submissions one h.1
+    (one_closed limits m segments s (eqb s.on_map m) refl one h.0 none)
+
+none_open : (limits : Limits) (opened : Bool) → cond opened (unless_too_long limits (ending_part [])) None ≡ None
+none_open limits true = refl
+none_open limits false = refl
+
+pub all_closed : (limits : Limits) (m : ℕ) (submissions : List Submission) → 1 ≤ limits.part
+    → AllByRecursion (IsSubmitted limits) submissions
+    → open_part limits m (segments_of_all limits.part submissions) ≡ None
+all_closed limits m submissions one h =
+    all_closed_behind limits m [] submissions one h (none_open limits (is_open limits m))

@@ -1,17 +1,26 @@
 -- One part among those of all MAPs, as the assembler holds them.
-use Rattle.std.proofs.Common.{◌≡◌, ◌<◌, ℕ, List, [], length, map, replicate, Option, None, Bool, true, false, cond}
-use Rattle.std.proofs.Common.{refl, ap, sym, ◌∙◌, get_or, set, arith, inl, inr}
+use Rattle.std.proofs.Common.{◌<◌, ℕ, suc, List, [], ◌∷◌, length, get_or, arith, ◌≡◌, map, replicate, Option, None}
+use Rattle.std.proofs.Common.{Bool, true, false, cond, refl, ap, sym, ◌∙◌, set, inl, inr}
+use Rattle.std.specs.List.{AllByRecursion}
 use Rattle.std.specs.declared.vec.Vec.{Vec}
 use Rattle.std.proofs.lemmas.Bool.{cases_lt}
 use Rattle.std.proofs.lemmas.List.{map-set, get_or-map, get_or-replicate, get_or_past, length-replicate}
 use Rattle.tc_frame.specs.Layout.{SegmentView}
 use Rattle.map_service.specs.declared.limits.Limits.{Limits}
 use Rattle.map_service.specs.Assembly.{is_open, open_part}
-use Rattle.map_service.specs.declared.prepared.Change.{Change}
+use Rattle.map_service.specs.declared.assembling.Change.{Change}
 use Rattle.map_service.specs.Exactness.{AssemblerState, part_on_map, step_at, after_step}
 use Rattle.map_service.specs.Preparing.{part_after}
 use Rattle.map_service.specs.Views.{part_view}
 use Rattle.map_service.proofs.Steps.{no_such_map}
+
+pub all_by_places : {X : Type 0} (P : X → Type 0) (xs : List X) (d : X)
+    → ((i : ℕ) → i < length xs → P (get_or xs i d)) → AllByRecursion P xs
+all_by_places P [] d at = tt
+all_by_places P (y ∷ ys) d at =
+    (at 0 (omega arith), all_by_places P ys d (λ i lt. at (suc i) (omega arith)))
+
+-- ---- one part among those of all MAPs, as the assembler holds them
 
 nothing_open : (b : Bool) → (let part : Option (List ℕ) = cond b None None in part) ≡ None
 nothing_open true = refl

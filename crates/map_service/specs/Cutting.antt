@@ -1,8 +1,8 @@
 -- Packets as segments of a MAP (CCSDS 232.0-B-4, 4.1.3.2.2): cut where they are long, joined where
 -- they are short.
 use Rattle.std.specs.Prelude.{◌≡◌, ◌≤◌, ◌<◌, ◌⊎◌, ℕ, zero, suc, ◌+◌, ◌-◌, List, [], ◌∷◌, length}
-use Rattle.std.specs.Prelude.{take, drop, map, replicate, ◌++◌, not, nat_lt, nat_le, if◌then◌else◌}
-use Rattle.std.specs.Prelude.{Option, None, Some}
+use Rattle.std.specs.Prelude.{take, drop, map, replicate, ◌++◌, not, nat_lt, nat_le}
+use Rattle.std.specs.Prelude.{if◌then◌else◌, Option, None, Some, ◌==◌, true}
 use Rattle.std.specs.List.{AllByRecursion, concat, flat_map}
 use Rattle.tc_frame.specs.declared.frame.SegmentFlags.{SegmentFlags}
 use Rattle.tc_frame.specs.declared.frame.SegmentFlags.TheVariants.{First, Continuing, Last, Alone}
@@ -12,6 +12,7 @@ use Rattle.map_service.specs.declared.fault.MapFault.{MapFault}
 use Rattle.map_service.specs.declared.fault.MapFault.TheVariants.{NotAPacket, TooLong}
 use Rattle.map_service.specs.declared.limits.Limits.{Limits}
 use Rattle.map_service.specs.Packets.{packets_in, are_taken, is_some_over}
+use Rattle.map_service.specs.Assembly.{is_open}
 
 -- segments without where their data lie in memory
 abbrev pub segment_views : List Segment → List SegmentView
@@ -34,6 +35,11 @@ pieces_of part octets = pieces_within (length octets) part octets
 abbrev pub segment_with : SegmentFlags → ℕ → List ℕ → SegmentView
 segment_with flags m octets =
     record { header = record { flags = flags; map = m }; payload = octets }
+
+-- octets that have at most `part` are one segment, which stands alone
+abbrev pub alone_segment : ℕ → ℕ → List ℕ → Option SegmentView
+alone_segment part m octets =
+    if nat_lt part (length octets) then None else Some (segment_with Alone m octets)
 
 -- pieces as segments: one piece has the flags `single`; of several the first has the flags `front`,
 -- and those after it are continuing as often as needed, and a last
@@ -138,3 +144,24 @@ pub record IsGrouped (part : ℕ) (packets : List (List ℕ)) (groups : List (Li
     pub joined : flat_map (λ g. g) groups ≡ packets
     pub each : AllByRecursion (IsGroup part) groups
     pub longest : AreLongest part groups
+
+-- ---- what a run of calls puts on the link, and which packets it hands over on each MAP
+
+-- octets that one call hands over on a MAP
+pub record Submission : Type 0 where
+  pub on_map : ℕ
+  pub octets : List ℕ
+
+-- the MAP is open, and the octets are cut
+pub record IsSubmitted (limits : Limits) (s : Submission) : Type 0 where
+  pub opened : is_open limits s.on_map ≡ true
+  pub cut : cut_fault limits s.octets ≡ None
+
+-- the segments of the calls, in their order
+abbrev pub segments_of_all : ℕ → List Submission → List SegmentView
+segments_of_all part submissions = flat_map (λ s. segments_of part s.on_map s.octets) submissions
+
+-- the packets that were handed over on MAP m, in their order
+abbrev pub packets_on : ℕ → List Submission → List (List ℕ)
+packets_on m submissions =
+    flat_map (λ s. if s.on_map == m then packets_in s.octets else []) submissions

@@ -1,14 +1,11 @@
 pub mod AssemblerFields
 pub mod Assembly
-pub mod AtOnce
 pub mod Causes
 pub mod Cutting
 pub mod Deciding
 pub mod Exactness
 pub mod Faults
-pub mod LonePacket
 pub mod Packets
 pub mod Preparing
 pub mod Taking
 pub mod Views
-pub mod History

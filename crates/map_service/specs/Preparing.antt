@@ -3,9 +3,9 @@ use Rattle.std.specs.Prelude.{◌≡◌, ◌≤◌, ℕ, List, ◌++◌, length,
 use Rattle.std.specs.Prelude.{IfSome}
 use Rattle.std.specs.Vec.{vec_capacity}
 use Rattle.tc_frame.specs.Layout.{SegmentView}
-use Rattle.map_service.specs.declared.prepared.Change.{Change}
-use Rattle.map_service.specs.declared.prepared.Change.TheVariants.{Same, Closed, Opened, Grown}
-use Rattle.map_service.specs.declared.prepared.Prepared.{Prepared}
+use Rattle.map_service.specs.declared.assembling.Change.{Change}
+use Rattle.map_service.specs.declared.assembling.Change.TheVariants.{Same, Closed, Opened, Grown}
+use Rattle.map_service.specs.declared.assembling.Prepared.{Prepared}
 use Rattle.map_service.specs.declared.limits.Limits.{Limits}
 use Rattle.map_service.specs.Exactness.{AssemblerState, part_on_map}
 use Rattle.map_service.specs.Taking.{TakeOutcome, take_step}

@@ -1,12 +1,14 @@
 -- How the assembler takes a segment: a line for each cell of its table.
 use Rattle.std.specs.Prelude.{ℕ, List, [], ◌∷◌, ◌++◌, not, if◌then◌else◌, Option, Some, None}
+use Rattle.std.specs.Prelude.{◌&&◌, ◌≡◌, Result, IsOk, Bool, true, false}
 use Rattle.tc_frame.specs.declared.frame.SegmentFlags.{SegmentFlags}
 use Rattle.tc_frame.specs.declared.frame.SegmentFlags.TheVariants.{First, Continuing, Last, Alone}
 use Rattle.tc_frame.specs.Layout.{SegmentView}
 use Rattle.map_service.specs.declared.limits.Limits.{Limits}
 use Rattle.map_service.specs.declared.dropped.Dropped.{Dropped}
 use Rattle.map_service.specs.declared.dropped.Dropped.TheVariants.{ClosedMap, Interrupted}
-use Rattle.map_service.specs.declared.dropped.Dropped.TheVariants.{NoBeginning, NotAPacket, TooLong}
+use Rattle.map_service.specs.declared.dropped.Dropped.TheVariants.{NoBeginning, NotAPacket}
+use Rattle.map_service.specs.declared.dropped.Dropped.TheVariants.{TooLong}
 use Rattle.map_service.specs.Packets.{packets_in, are_packets, is_packet, is_some_over}
 use Rattle.map_service.specs.Assembly.{is_open, is_too_long}
 
@@ -78,3 +80,42 @@ abbrev pub take_step : Limits → Option (List ℕ) → SegmentView → TakeOutc
 take_step limits part s =
     if is_open limits s.header.map then cell_at limits part s
     else record { dropped = Some ClosedMap; packets = []; part = part }
+
+-- ---- the segment that is one packet by itself, and is handed out where it stands
+
+-- the outcome where one packet is handed out, and there is nothing else
+abbrev pub packet_outcome : List ℕ → TakeOutcome
+packet_outcome packet = record { dropped = None; packets = packet ∷ []; part = None }
+
+abbrev pub unless_fault : Option Dropped → List ℕ → Option (List ℕ)
+unless_fault None octets = Some octets
+unless_fault (Some cause) octets = None
+
+abbrev pub lone_packet_cell : Limits → SegmentFlags → Option (List ℕ) → List ℕ → Option (List ℕ)
+lone_packet_cell limits Alone None octets = unless_fault (one_fault limits octets) octets
+lone_packet_cell limits Alone (Some part) octets = None
+lone_packet_cell limits First part octets = None
+lone_packet_cell limits Continuing part octets = None
+lone_packet_cell limits Last part octets = None
+
+-- the packet that an alone segment of an open MAP is, where no part is open there and nothing is
+-- blocked
+abbrev pub lone_packet_at : Limits → Option (List ℕ) → SegmentView → Option (List ℕ)
+lone_packet_at limits part s =
+    if is_open limits s.header.map
+    && not limits.blocking then lone_packet_cell limits s.header.flags part s.payload else None
+
+-- ---- which segments are dropped with no memory taken
+
+-- what is dropped with no memory taken first
+abbrev pub is_dropped_at_once : Option Dropped → Bool
+is_dropped_at_once None = false
+is_dropped_at_once (Some ClosedMap) = true
+is_dropped_at_once (Some Interrupted) = false
+is_dropped_at_once (Some NoBeginning) = true
+is_dropped_at_once (Some NotAPacket) = false
+is_dropped_at_once (Some TooLong) = true
+
+-- there is an answer, memory or not, where what is dropped takes none
+abbrev pub IsSureAtOnce : {A E : Type 0} → TakeOutcome → Result A E → Type 0
+IsSureAtOnce o result = is_dropped_at_once o.dropped ≡ true → IsOk result

@@ -1,20 +1,58 @@
 // Joining segments to packets.
 
-mod lone_packet;
+ghost use Rattle.std.specs.Prelude.{◌≡◌, ◌≤◌, ◌++◌, [], ◌∷◌, List, length, false, Some, None, option_map};
+ghost use Rattle.std.specs.Prelude.{IfSome, IsOk, IfOk, IfErr, OnOk, OnErr, if◌then◌else◌};
+ghost use Rattle.std.specs.Vec.{vec_capacity};
+ghost use Rattle.tc_frame.specs.Layout.{segment_view};
+ghost use Rattle.map_service.specs.Assembly.{is_too_long};
+ghost use Rattle.map_service.specs.Preparing.{outcome_of, part_after, HasRoom};
+ghost use Rattle.map_service.specs.Taking.{packets_outcome, one_fault, cell_at, lone_packet_cell, IsSureAtOnce};
+ghost use Rattle.map_service.specs.Views.{part_view, packets_view, ready_view};
 
-ghost use Rattle.std.specs.Prelude.{◌≡◌, [], List, length, IsOk, IfOk, IfErr, OnOk, OnErr};
-ghost use Rattle.map_service.specs.Views.{packets_view, ready_view};
-
-use crate::cells::{no_packets, prepared_cell};
-use crate::dropped::{Dropped, Taken};
+use crate::deciding::{Decision, Step, decide};
+use crate::dropped::Dropped;
 use crate::fault::MapFault;
 use crate::limits::Limits;
-use crate::prepared::{Change, Prepared, put};
+use crate::packets::{copied_packets, fault_of_one};
 use smallvec::SmallVec;
-use std::alloc::Global;
+use std::alloc::{AllocError, Global};
 use std::array;
 use std::marker::Model;
-use tc_frame::Segment;
+use tc_frame::{Segment, SegmentFlags};
+
+/// What an assembler answers to a segment.
+#[derive(Drop)]
+pub struct Taken {
+    /// What was dropped, where anything was: the later of two.
+    pub dropped: Option<Dropped>,
+    /// The packets that are whole now, in order, each as its octets.
+    pub packets: Vec<Vec<u8>>,
+}
+
+// What becomes of the part that is open on the segment's MAP.
+#[derive(Drop)]
+enum Change {
+    // It is as it was.
+    Same,
+    // No part is open.
+    Closed,
+    // This part is open, with room for the longest packet.
+    Opened(Vec<u8>),
+    // The segment's data are added to it.
+    Grown,
+}
+
+/// What comes of a segment, with all the memory that this needs: `Assembler::prepare` makes it, and
+/// `Assembler::commit` does it.
+#[derive(Drop)]
+pub struct Prepared {
+    /// What is dropped, where anything is: the later of two.
+    pub dropped: Option<Dropped>,
+    /// The packets that are whole then, in order, each as its octets. A list of one takes no memory
+    /// of its own.
+    pub packets: SmallVec<Vec<u8>, 1>,
+    change: Change,
+}
 
 /// Joins the segments of each MAP to packets (CCSDS 232.0-B-4, 4.1.3.2.2). It keeps the part that
 /// is open on each MAP, which is the data of a first segment and of the continuing ones since. In
@@ -39,12 +77,12 @@ impl Model for Assembler {
 }
 
 impl Assembler {
-    ghost use Rattle.std.specs.Prelude.{None, replicate};
-    ghost use Rattle.tc_frame.specs.Layout.{SegmentView, segment_view};
-    ghost use Rattle.map_service.specs.Exactness.{AssemblerState, part_on_map, step_at, after_step};
+    ghost use Rattle.std.specs.Prelude.{IsSome, replicate};
+    ghost use Rattle.tc_frame.specs.Layout.{SegmentView};
+    ghost use Rattle.map_service.specs.Exactness.{AssemblerState, lone_packet, part_on_map, step_at, after_step};
     ghost use Rattle.map_service.specs.Exactness.{HasPartsOf, IsTakenExactly};
-    ghost use Rattle.map_service.specs.AtOnce.{IsSureAtOnce};
-    ghost use Rattle.map_service.specs.Preparing.{IsPrepared, part_after, HasRoom};
+    ghost use Rattle.map_service.specs.Preparing.{IsPrepared};
+    ghost use Rattle.map_service.specs.Taking.{packet_outcome};
 
     /// An assembler with no part open. It takes no memory.
     pub fn new(alloc: Global, limits: Limits) -> Assembler
@@ -141,6 +179,29 @@ impl Assembler {
         prepared.packets
     }
 
+    /// The packet that an alone segment is, in the segment's own octets, where `take` would hand out
+    /// just this, drop nothing and change nothing, so that the segment need not be taken: its MAP is
+    /// open and no part is, there is no blocking, and it is exactly one packet of at most `max_packet`
+    /// octets. `None` for any other segment.
+    /// Cost: n.
+    pub fn lone_packet<'a>(&self, segment: &Segment<'a>) -> Option<&'a [u8]>
+        ensures packet { option_map (λ octets. octets.now) result
+            ≡ lone_packet self.now (segment_view segment.now) }
+        ensures outcome { IfSome result
+            (λ octets. step_at self.now (segment_view segment.now) ≡ packet_outcome octets.now) }
+        ensures state { IsSome result → after_step self.now (segment_view segment.now) ≡ self.now }
+    {
+        let map = segment.header.map;
+        if self.limits.blocking || !self.limits.is_open(map) {
+            return None;
+        }
+        let part = &self.parts[usize::from(map)];
+        if !is_lone_packet(&self.limits, part, segment) {
+            return None;
+        }
+        Some(segment.payload)
+    }
+
     // Changes the part that is open on the segment's MAP, where this MAP is open.
     fn put(&mut self, segment: &Segment, change: Change)
         requires part { part_after
@@ -157,6 +218,118 @@ impl Assembler {
         }
         let part = &mut self.parts[usize::from(map)];
         put(&self.limits, part, change, segment.payload);
+    }
+}
+
+// Changes the part.
+fn put(limits: &Limits, part: &mut Option<Vec<u8>>, change: Change, octets: &[u8])
+    requires room { IfSome part.old (λ begun. limits.now.max_packet ≤ vec_capacity begun) }
+    requires fits { HasRoom limits.now.max_packet change (part_view part.old) octets.now }
+    ensures part { part_view part.new ≡ part_after change (part_view part.old) octets.now }
+    ensures room { IfSome part.new (λ begun. limits.now.max_packet ≤ vec_capacity begun) }
+{
+    match change {
+        Change::Same => {}
+        Change::Closed => *part = None,
+        Change::Opened(new) => *part = Some(new),
+        Change::Grown => {
+            if let Some(begun) = part {
+                let _ = begun.extend_from_slice(octets);
+            }
+        }
+    }
+}
+
+// No packet is handed out.
+fn no_packets(alloc: Global, dropped: Option<Dropped>, change: Change) -> Prepared
+    ensures dropped { result.dropped ≡ dropped }
+    ensures packets { ready_view result.packets ≡ [] }
+    ensures change { result.change ≡ change }
+{
+    Prepared {
+        dropped,
+        packets: SmallVec::new(alloc),
+        change,
+    }
+}
+
+// The part that a first segment opens, with room for the longest packet.
+fn begun(alloc: Global, limits: &Limits, octets: &[u8]) -> Result<Vec<u8>, AllocError>
+    requires { is_too_long limits.now octets.now ≡ false }
+    ensures octets { IfOk result (λ part. part.items ≡ octets.now) }
+    ensures room { IfOk result (λ part. limits.now.max_packet ≤ vec_capacity part) }
+{
+    let mut part = Vec::with_capacity(alloc, limits.max_packet as usize)?;
+    part.extend_from_slice(octets)?;
+    Ok(part)
+}
+
+// A part that a last segment ends, judged as a whole.
+fn ended(alloc: Global, limits: &Limits, part: &[u8], octets: &[u8]) -> Result<Prepared, AllocError>
+    ensures outcome { IfOk result (λ p. outcome_of p (Some part.now) octets.now
+        ≡ packets_outcome None ((part.now ++ octets.now) ∷ [])
+        (one_fault limits.now (part.now ++ octets.now))) }
+    ensures change { IfOk result (λ p. p.change ≡ Change.Closed) }
+{
+    let mut joined = Vec::with_capacity(alloc, part.len() + octets.len())?;
+    joined.extend_from_slice(part)?;
+    joined.extend_from_slice(octets)?;
+    let dropped = fault_of_one(limits, &joined);
+    let mut packets = SmallVec::new(alloc);
+    if dropped.is_none() {
+        packets.push_reserved(joined);
+    }
+    Ok(Prepared {
+        dropped,
+        packets,
+        change: Change::Closed,
+    })
+}
+
+// A segment comes on an open MAP.
+fn prepared_cell(
+    alloc: Global,
+    limits: &Limits,
+    part: &Option<Vec<u8>>,
+    segment: &Segment,
+) -> Result<Prepared, AllocError>
+    ensures outcome { IfOk result (λ p. outcome_of p (part_view part.now) segment.now.payload.now
+        ≡ cell_at limits.now (part_view part.now) (segment_view segment.now)) }
+    ensures room { IfOk result (λ p. HasRoom
+        limits.now.max_packet p.change (part_view part.now) segment.now.payload.now) }
+    ensures none { IsSureAtOnce
+        (cell_at limits.now (part_view part.now) (segment_view segment.now)) result }
+{
+    let octets = segment.payload;
+    let Decision { step, dropped } = decide(limits, segment.header.flags, part.as_deref(), octets);
+    match step {
+        Step::Close => Ok(no_packets(alloc, dropped, Change::Closed)),
+        Step::HandOut => Ok(Prepared {
+            dropped,
+            packets: copied_packets(alloc, limits, octets)?,
+            change: Change::Closed,
+        }),
+        Step::Begin => {
+            let part = begun(alloc, limits, octets)?;
+            Ok(no_packets(alloc, dropped, Change::Opened(part)))
+        }
+        Step::Add => Ok(no_packets(alloc, dropped, Change::Grown)),
+        Step::End => {
+            let Some(begun) = part else { unreachable!() };
+            ended(alloc, limits, begun, octets)
+        }
+    }
+}
+
+// Whether a segment of an open MAP is one packet, with no part open.
+fn is_lone_packet(limits: &Limits, part: &Option<Vec<u8>>, segment: &Segment) -> bool
+    ensures { lone_packet_cell
+        limits.now segment.now.header.flags (part_view part.now) segment.now.payload.now
+        ≡ if result then Some segment.now.payload.now else None }
+{
+    match (segment.header.flags, part) {
+        (SegmentFlags::Alone, None) => fault_of_one(limits, segment.payload).is_none(),
+        _ => false,
     }
 }
 

@@ -1,13 +1,15 @@
-// Cutting packets into segments.
+// Cutting packets into segments, and counting these.
 
-ghost use Rattle.std.specs.Prelude.{◌≡◌, ◌≤◌, ◌<◌, ◌++◌, [], ◌∷◌, length, take, Err, None, IfSome, IsOkUnless, OnOk, OnErr};
+ghost use Rattle.std.specs.Prelude.{◌≡◌, ◌≤◌, ◌<◌, ◌++◌, ℕ, [], ◌∷◌, length, take, option_map, Err, None};
+ghost use Rattle.std.specs.Prelude.{IfSome, IfOk, IsOk, IsOkUnless, OnOk, OnErr};
 ghost use Rattle.std.specs.List.{concat};
-ghost use Rattle.map_service.specs.Cutting.{segment_views, segment_with, parts_of, longest_run, first_group, segments_of, cut_fault};
+ghost use Rattle.tc_frame.specs.Layout.{segment_view};
+ghost use Rattle.map_service.specs.Cutting.{segment_views, segment_with, alone_segment, parts_of, longest_run, first_group, segments_of, cut_fault};
 ghost use Rattle.map_service.specs.Packets.{packets_in, rest_in};
 
 use crate::fault::MapFault;
 use crate::limits::Limits;
-use crate::packets::{has_packet_over, holds_packets};
+use crate::packets::cut_fault;
 use space_packet::packet_len;
 use tc_frame::{Segment, SegmentFlags, SegmentHeader};
 
@@ -33,11 +35,8 @@ pub fn cut<'a>(
     ensures refused { IfSome (cut_fault limits.now octets.now) (λ fault. result ≡ Err fault) }
     ensures memory { cut_fault limits.now octets.now ≡ None → IsOkUnless result MapFault.Memory }
 {
-    if !holds_packets(octets, limits.blocking) {
-        return Err(MapFault::NotAPacket);
-    }
-    if has_packet_over(octets, limits.max_packet as usize) {
-        return Err(MapFault::TooLong);
+    if let Some(fault) = cut_fault(limits, octets) {
+        return Err(fault);
     }
     cut_packets(octets, map, limits.part as usize, segments)
 }
@@ -71,18 +70,30 @@ pub fn cut_packets<'a>(
     Ok(())
 }
 
-fn append<'a>(
-    flags: SegmentFlags,
-    map: u8,
-    payload: &'a [u8],
-    segments: &mut Vec<Segment<'a>>,
-) -> Result<(), MapFault>
-    ensures ok { OnOk result (segment_views segments.new.items
-        ≡ segment_views segments.old.items ++ segment_with flags map payload.now ∷ []) }
-    ensures before { take (length segments.old.items) segments.new.items ≡ segments.old.items }
+/// The segment that octets are on this MAP, where they have at most `part`: it stands alone. `None` where
+/// they have more.
+pub fn alone_segment(octets: &[u8], map: u8, part: usize) -> Option<Segment<'_>>
+    ensures { option_map segment_view result ≡ alone_segment part map octets.now }
+{
+    if octets.len() > part {
+        return None;
+    }
+    Some(segment_with(SegmentFlags::Alone, map, octets))
+}
+
+fn segment_with(flags: SegmentFlags, map: u8, payload: &[u8]) -> Segment<'_>
+    ensures { segment_view result ≡ segment_with flags map payload.now }
 {
     let header = SegmentHeader { flags, map };
-    if segments.push(Segment { header, payload }).is_err() {
+    Segment { header, payload }
+}
+
+fn append<'a>(segment: Segment<'a>, segments: &mut Vec<Segment<'a>>) -> Result<(), MapFault>
+    ensures ok { OnOk result (segment_views segments.new.items
+        ≡ segment_views segments.old.items ++ segment_view segment.entry ∷ []) }
+    ensures before { take (length segments.old.items) segments.new.items ≡ segments.old.items }
+{
+    if segments.push(segment).is_err() {
         return Err(MapFault::Memory);
     }
     Ok(())
@@ -100,17 +111,17 @@ fn append_parts<'a>(
         ≡ segment_views segments.old.items ++ parts_of part map octets.now) }
     ensures before { take (length segments.old.items) segments.new.items ≡ segments.old.items }
 {
-    if octets.len() <= part {
-        return append(SegmentFlags::Alone, map, octets, segments);
+    if let Some(segment) = alone_segment(octets, map, part) {
+        return append(segment, segments);
     }
     let (first, mut rest) = octets.split_at(part);
-    append(SegmentFlags::First, map, first, segments)?;
+    append(segment_with(SegmentFlags::First, map, first), segments)?;
     'parts: while rest.len() > part {
         let (piece, behind) = rest.split_at(part);
-        append(SegmentFlags::Continuing, map, piece, segments)?;
+        append(segment_with(SegmentFlags::Continuing, map, piece), segments)?;
         rest = behind;
     }
-    append(SegmentFlags::Last, map, rest, segments)
+    append(segment_with(SegmentFlags::Last, map, rest), segments)
 }
 
 // How many octets the longest run of the first packets has.
@@ -145,8 +156,38 @@ pub fn group_len(octets: &[u8], part: usize) -> usize
             if len > part {
                 return len;
             }
-            run_len(octets, part)
+            len + run_len(octets.split_at(len).1, part - len)
         }
         None => unreachable!(),
     }
+}
+
+/// How many segments `cut` makes of these octets, on any MAP. Refuses as `cut` does.
+/// Faults: 1 NotAPacket, 2 TooLong. Cost: the number of packets.
+pub fn segment_count(octets: &[u8], limits: &Limits) -> Result<usize, MapFault>
+    requires some_part { 1 ≤ limits.now.part }
+    ensures count { IfOk result (λ n. (m : ℕ)
+        → n ≡ length (segments_of limits.now.part m octets.now)) }
+    ensures refused { IfSome (cut_fault limits.now octets.now) (λ fault. result ≡ Err fault) }
+    ensures ok { cut_fault limits.now octets.now ≡ None → IsOk result }
+{
+    if let Some(fault) = cut_fault(limits, octets) {
+        return Err(fault);
+    }
+    Ok(count_segments(octets, limits.part as usize))
+}
+
+fn count_segments(octets: &[u8], part: usize) -> usize
+    requires some_part { 1 ≤ part }
+    requires whole { rest_in octets.now ≡ [] }
+    ensures { (m : ℕ) → result ≡ length (segments_of part m octets.now) }
+{
+    let mut rest = octets;
+    let mut count = 0;
+    'groups: while !rest.is_empty() {
+        let (group, behind) = rest.split_at(group_len(rest, part));
+        count += (group.len() - 1) / part + 1;
+        rest = behind;
+    }
+    count
 }

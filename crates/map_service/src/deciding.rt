@@ -1,12 +1,13 @@
 // The table of the assembler: a segment of an open MAP against the part that is open there.
 
 ghost use Rattle.std.specs.Prelude.{◌≡◌, Some, option_copied, nat_lt, if◌then◌else◌};
-ghost use Rattle.map_service.specs.Taking.{interruption, cell};
+ghost use Rattle.map_service.specs.Packets.{packets_in};
+ghost use Rattle.map_service.specs.Taking.{interruption, cell, alone_packets};
 ghost use Rattle.map_service.specs.Deciding.{outcome_of, Fits};
 
 use crate::dropped::Dropped;
-use crate::judging::fault_of_alone;
 use crate::limits::Limits;
+use crate::packets::fault_of_alone;
 use tc_frame::SegmentFlags;
 
 /// What is to be done with a segment's data, wherever the open part is kept.
@@ -65,12 +66,13 @@ fn interruption(part: Option<&[u8]>) -> Option<Dropped>
 }
 
 /// Decides what is to be done with a segment's data on an open MAP, by the part that is open.
-#[tactic(auto, using(crate::proofs::Handed::handed_out))]
+#[tactic(auto, using(crate::proofs::Handed::handed_out, crate::proofs::Handed::alone_packets_are))]
 pub fn decide(limits: &Limits, flags: SegmentFlags, part: Option<&[u8]>, octets: &[u8]) -> Decision
     ensures outcome { outcome_of limits.now result (option_copied part.entry) octets.now
         ≡ cell limits.now flags (option_copied part.entry) octets.now }
     ensures handed { result.step ≡ Step.HandOut
-        → result.dropped ≡ interruption (option_copied part.entry) }
+        → (result.dropped ≡ interruption (option_copied part.entry))
+        × (packets_in octets.now ≡ alone_packets limits.now octets.now) }
     ensures fits { Fits limits.now.max_packet result.step (option_copied part.entry) octets.now }
 {
     match (flags, part) {

@@ -35,12 +35,3 @@ impl Dropped {
         }
     }
 }
-
-/// What an assembler answers to a segment.
-#[derive(Drop)]
-pub struct Taken {
-    /// What was dropped, where anything was: the later of two.
-    pub dropped: Option<Dropped>,
-    /// The packets that are whole now, in order, each as its octets.
-    pub packets: Vec<Vec<u8>>,
-}

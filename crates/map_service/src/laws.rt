@@ -1,12 +1,16 @@
-// What follows from the definitions of packets and of assembly; these functions do nothing.
+// What follows from the definitions of packets, of assembly and of cutting; these functions do nothing.
 
-ghost use Rattle.std.specs.Prelude.{◌≡◌, ◌≢◌, ◌++◌, ℕ, List, [], ◌∷◌, true};
+ghost use Rattle.std.specs.Prelude.{◌≡◌, ◌≢◌, ◌≤◌, ◌<◌, ◌++◌, ◌∷◌, [], ℕ, List, length, true, None};
+ghost use Rattle.std.specs.List.{AllByRecursion, concat};
 ghost use Rattle.octets.specs.Beginning.{IsBeginning};
 ghost use Rattle.octets.specs.Number.{IsOctets};
 ghost use Rattle.space_packet.specs.Layout.{IsSomePacket};
+ghost use Rattle.tc_frame.specs.declared.frame.SegmentFlags.TheVariants.{Alone};
 ghost use Rattle.tc_frame.specs.Layout.{SegmentView};
 ghost use Rattle.map_service.specs.declared.limits.Limits.{Limits};
-ghost use Rattle.map_service.specs.Assembly.{assembled, open_part};
+ghost use Rattle.map_service.specs.Assembly.{is_open, assembled, open_part};
+ghost use Rattle.map_service.specs.Cutting.{segment_with, parts_of, groups_of, segments_of, cut_fault, payloads, IsPart, IsInParts, IsGrouped};
+ghost use Rattle.map_service.specs.Cutting.{Submission, IsSubmitted, segments_of_all, packets_on};
 ghost use Rattle.map_service.specs.Packets.{packets_in, is_packet, are_packets, ArePackets};
 ghost use Rattle.map_service.specs.Taking.{take_step};
 
@@ -44,4 +48,72 @@ pub fn law_of_steps()
     ensures other_parts { (limits : Limits) (segments : List SegmentView) (s : SegmentView)
         (m : ℕ) → m ≢ s.header.map
         → open_part limits m (segments ++ s ∷ []) ≡ open_part limits m segments }
+{}
+
+/// One packet is one alone segment where it has at most `part` octets, and otherwise is cut in the
+/// only way: all parts but the last have exactly `part` octets, and the last has 1 to `part`.
+pub fn law_of_parts()
+    ensures packet { (part m : ℕ) (octets : List ℕ) → is_packet octets ≡ true
+        → segments_of part m octets ≡ parts_of part m octets }
+    ensures alone { (part m : ℕ) (octets : List ℕ) → 1 ≤ length octets → length octets ≤ part
+        → parts_of part m octets ≡ segment_with Alone m octets ∷ [] }
+    ensures parts { (part m : ℕ) (octets : List ℕ) → 1 ≤ part → part < length octets
+        → IsInParts part m octets (parts_of part m octets) }
+    ensures only { (part m : ℕ) (octets : List ℕ) (segments : List SegmentView) → 1 ≤ part
+        → IsInParts part m octets segments → segments ≡ parts_of part m octets }
+{}
+
+/// Packets are grouped in the only way in which the groups are these packets in their order, each
+/// fits in a part or is one packet, and the first packet after it would not have fitted into it.
+pub fn law_of_groups()
+    ensures found { (part : ℕ) (packets : List (List ℕ))
+        → IsGrouped part packets (groups_of part packets) }
+    ensures only { (part : ℕ) (packets : List (List ℕ)) (groups : List (List (List ℕ)))
+        → IsGrouped part packets groups → groups ≡ groups_of part packets }
+{}
+
+/// The segments of octets that are cut hold these octets, in their order, and each is on their MAP
+/// with 1 to `part` octets.
+pub fn law_of_segments()
+    ensures joined { (limits : Limits) (m : ℕ) (octets : List ℕ)
+        → 1 ≤ limits.part → cut_fault limits octets ≡ None
+        → concat (payloads (segments_of limits.part m octets)) ≡ octets }
+    ensures each { (part m : ℕ) (octets : List ℕ) → 1 ≤ part
+        → AllByRecursion (IsPart part m) (segments_of part m octets) }
+{}
+
+/// Packets that were cut are assembled again, whatever came before: on an open MAP the segments of
+/// packets add just these packets, and leave no part open. No other MAP sees them.
+pub fn law_of_passage()
+    ensures given { (limits : Limits) (m : ℕ) (segments : List SegmentView) (octets : List ℕ)
+        → 1 ≤ limits.part → is_open limits m ≡ true → cut_fault limits octets ≡ None
+        → assembled limits m (segments ++ segments_of limits.part m octets)
+        ≡ assembled limits m segments ++ packets_in octets }
+    ensures closed { (limits : Limits) (m : ℕ) (segments : List SegmentView) (octets : List ℕ)
+        → 1 ≤ limits.part → is_open limits m ≡ true → cut_fault limits octets ≡ None
+        → open_part limits m (segments ++ segments_of limits.part m octets) ≡ None }
+    ensures others { (limits : Limits) (part m k : ℕ) (segments : List SegmentView)
+        (octets : List ℕ) → 1 ≤ part → k ≢ m
+        → (assembled limits k (segments ++ segments_of part m octets)
+        ≡ assembled limits k segments)
+        × (open_part limits k (segments ++ segments_of part m octets)
+        ≡ open_part limits k segments) }
+{}
+
+#[tactic(auto, using(crate::proofs::Passage::all_assembled, crate::proofs::Passage::all_closed, crate::proofs::Passage::some_assembled))]
+/// What calls handed over is assembled again, whatever MAPs they were on: of all their segments, on
+/// each MAP, just its packets in their order, with no part open; of a beginning of the segments, a
+/// beginning of the packets.
+pub fn law_of_histories()
+    ensures all { (limits : Limits) (m : ℕ) (submissions : List Submission) → 1 ≤ limits.part
+        → AllByRecursion (IsSubmitted limits) submissions
+        → assembled limits m (segments_of_all limits.part submissions) ≡ packets_on m submissions }
+    ensures closed { (limits : Limits) (m : ℕ) (submissions : List Submission) → 1 ≤ limits.part
+        → AllByRecursion (IsSubmitted limits) submissions
+        → open_part limits m (segments_of_all limits.part submissions) ≡ None }
+    ensures beginning { (limits : Limits) (m : ℕ) (submissions : List Submission)
+        (segments : List SegmentView) → 1 ≤ limits.part
+        → AllByRecursion (IsSubmitted limits) submissions
+        → IsBeginning segments (segments_of_all limits.part submissions)
+        → IsBeginning (assembled limits m segments) (packets_on m submissions) }
 {}

@@ -5,29 +5,22 @@
 #![tactic(auto)]
 
 mod assembling;
-mod cells;
-mod counting;
 mod cutting;
-mod cutting_laws;
 mod deciding;
 mod dropped;
 mod fault;
-mod judging;
 mod laws;
 mod limits;
 mod packets;
-mod prepared;
 
-pub use assembling::Assembler;
-pub use counting::segment_count;
-pub use cutting::{cut, cut_packets, group_len};
-pub use cutting_laws::{
-    law_of_groups, law_of_histories, law_of_parts, law_of_passage, law_of_segments,
-};
+pub use assembling::{Assembler, Prepared, Taken};
+pub use cutting::{alone_segment, cut, cut_packets, group_len, segment_count};
 pub use deciding::{Decision, Step, decide};
-pub use dropped::{Dropped, Taken};
+pub use dropped::Dropped;
 pub use fault::MapFault;
-pub use judging::fault_of_one;
-pub use laws::{law_of_beginnings, law_of_packets, law_of_steps};
+pub use laws::{
+    law_of_beginnings, law_of_groups, law_of_histories, law_of_packets, law_of_parts,
+    law_of_passage, law_of_segments, law_of_steps,
+};
 pub use limits::Limits;
-pub use prepared::Prepared;
+pub use packets::fault_of_one;

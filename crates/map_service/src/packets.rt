@@ -1,43 +1,118 @@
-// Octets as whole packets, one after another.
+// Octets as whole packets, one after another: whether they are taken, and the packets that they are.
 
-ghost use Rattle.std.specs.Prelude.{◌≡◌};
+ghost use Rattle.std.specs.Prelude.{◌≡◌, Some, None, IfOk, if◌then◌else◌};
+ghost use Rattle.map_service.specs.Cutting.{cut_fault};
 ghost use Rattle.map_service.specs.Packets.{packets_in, are_packets, are_taken, is_some_over};
+ghost use Rattle.map_service.specs.Taking.{one_fault, alone_fault, alone_packets};
+ghost use Rattle.map_service.specs.Views.{ready_view};
 
+use crate::dropped::Dropped;
+use crate::fault::MapFault;
+use crate::limits::Limits;
+use smallvec::SmallVec;
 use space_packet::{is_packet, packet_len};
+use std::alloc::{AllocError, Global};
 
-// Whether the octets are one or more whole packets.
-pub(crate) fn are_whole_packets(octets: &[u8]) -> bool
-    ensures { result ≡ are_packets octets.now }
+// Whether one of the packets that octets are is too long; none where they are not one or more packets.
+fn are_packets_over(octets: &[u8], most: usize) -> Option<bool>
+    ensures { result ≡ if are_packets octets.now
+        then Some (is_some_over most (packets_in octets.now)) else None }
 {
     if octets.is_empty() {
-        return false;
+        return None;
     }
     let mut rest = octets;
+    let mut over = false;
     'packets: while let Some(len) = packet_len(rest) {
+        over |= len > most;
         rest = rest.split_at(len).1;
     }
-    rest.is_empty()
-}
-
-pub(crate) fn holds_packets(octets: &[u8], blocking: bool) -> bool
-    ensures { result ≡ are_taken blocking octets.now }
-{
-    if blocking {
-        return are_whole_packets(octets);
+    if !rest.is_empty() {
+        return None;
     }
-    is_packet(octets)
+    Some(over)
 }
 
-// Whether one of the packets has more octets than this.
-pub(crate) fn has_packet_over(octets: &[u8], most: usize) -> bool
-    ensures { result ≡ is_some_over most (packets_in octets.now) }
+// The same of exactly one packet, or with blocking of one or more.
+#[tactic(auto, using(crate::proofs::Whole::one_over))]
+fn are_taken_over(limits: &Limits, octets: &[u8]) -> Option<bool>
+    ensures { result ≡ if are_taken limits.now.blocking octets.now
+        then Some (is_some_over limits.now.max_packet (packets_in octets.now)) else None }
 {
+    if limits.blocking {
+        are_packets_over(octets, limits.max_packet as usize)
+    } else if is_packet(octets) {
+        Some(limits.is_too_long(octets.len()))
+    } else {
+        None
+    }
+}
+
+// Why octets are not cut, where they are not.
+pub(crate) fn cut_fault(limits: &Limits, octets: &[u8]) -> Option<MapFault>
+    ensures { result ≡ cut_fault limits.now octets.now }
+{
+    match are_taken_over(limits, octets) {
+        None => Some(MapFault::NotAPacket),
+        Some(true) => Some(MapFault::TooLong),
+        Some(false) => None,
+    }
+}
+
+/// Why octets that should be exactly one packet are dropped, where they are: `TooLong`, then `NotAPacket`.
+pub fn fault_of_one(limits: &Limits, octets: &[u8]) -> Option<Dropped>
+    ensures { result ≡ one_fault limits.now octets.now }
+{
+    if limits.is_too_long(octets.len()) {
+        return Some(Dropped::TooLong);
+    }
+    if !is_packet(octets) {
+        return Some(Dropped::NotAPacket);
+    }
+    None
+}
+
+// Why the octets of an alone segment are dropped, where they are.
+pub(crate) fn fault_of_alone(limits: &Limits, octets: &[u8]) -> Option<Dropped>
+    ensures { result ≡ alone_fault limits.now octets.now }
+{
+    if !limits.blocking {
+        return fault_of_one(limits, octets);
+    }
+    match are_packets_over(octets, limits.max_packet as usize) {
+        None => Some(Dropped::NotAPacket),
+        Some(true) => Some(Dropped::TooLong),
+        Some(false) => None,
+    }
+}
+
+// The packets of an alone segment of which there is no fault, each copied: its octets, or with blocking
+// the packets that they are.
+pub(crate) fn copied_packets(
+    alloc: Global,
+    limits: &Limits,
+    octets: &[u8],
+) -> Result<SmallVec<Vec<u8>, 1>, AllocError>
+    ensures { IfOk result (λ v. ready_view v ≡ alone_packets limits.now octets.now) }
+{
+    if limits.blocking {
+        return each_copied(alloc, octets);
+    }
+    let mut packets = SmallVec::new(alloc);
+    packets.push(Vec::from_slice(alloc, octets)?)?;
+    Ok(packets)
+}
+
+// The packets that octets are, one after another, as far as they are whole, each copied.
+fn each_copied(alloc: Global, octets: &[u8]) -> Result<SmallVec<Vec<u8>, 1>, AllocError>
+    ensures { IfOk result (λ v. ready_view v ≡ packets_in octets.now) }
+{
+    let mut packets = SmallVec::new(alloc);
     let mut rest = octets;
     'packets: while let Some(len) = packet_len(rest) {
-        if len > most {
-            return true;
-        }
-        rest = rest.split_at(len).1;
+        let (packet, behind) = rest.split_at(len);
+        packets.push(Vec::from_slice(alloc, packet)?)?;
+        rest = behind;
     }
-    false
+    Ok(packets)
 }

@@ -12,10 +12,9 @@ use Rattle.map_service.specs.Assembly.{is_open}
 use Rattle.map_service.specs.Cutting.{segment_with, segment_views, segments_of, IsPart}
 use Rattle.map_service.specs.Packets.{is_packet, packets_in, are_taken, is_some_over}
 use Rattle.map_service.specs.declared.limits.Limits.{Limits}
-use Rattle.map_service.proofs.Parts.{segments-parts}
+use Rattle.map_service.proofs.Parts.{segments-parts, parts-fit}
 use Rattle.map_service.proofs.Groups.{in-one}
 use Rattle.map_service.proofs.Passage.{one-from, IsCuttable, cuttable_from}
-use Rattle.map_service.proofs.Pieces.{parts-fit}
 use Rattle.space_packet.proofs.WholePackets.{no_more}
 use Rattle.nodes.specs.declared.fault.LinkFault.{LinkFault}
 use Rattle.nodes.specs.declared.fault.LinkFault.TheVariants.{NotOpen, ClosedMap, NotCommand, TooLong, QueueFull}

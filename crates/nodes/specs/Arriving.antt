@@ -2,7 +2,7 @@
 use Rattle.std.specs.Prelude.{◌≡◌, ◌≤◌, ℕ, List, length, true, Option, Some, None, option_map}
 use Rattle.std.specs.Prelude.{IfSome}
 use Rattle.tc_frame.specs.Layout.{SegmentView, segment_view}
-use Rattle.map_service.specs.declared.prepared.Prepared.{Prepared}
+use Rattle.map_service.specs.declared.assembling.Prepared.{Prepared}
 use Rattle.map_service.specs.Assembly.{open_part}
 use Rattle.map_service.specs.Preparing.{IsPreparedBy}
 use Rattle.map_service.specs.Views.{ready_view}

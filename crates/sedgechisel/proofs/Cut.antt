@@ -14,10 +14,9 @@ use Rattle.std.specs.List.{concat}
 use Rattle.map_service.specs.Cutting.{pieces_of, segment_with, later_segments, parts_of, first_group, segments_of}
 use Rattle.map_service.specs.Cutting.{payloads}
 use Rattle.map_service.specs.Packets.{packets_in, rest_in}
-use Rattle.map_service.proofs.Counts.{parts-count}
+use Rattle.map_service.proofs.Parts.{parts-count, parts-joined}
 use Rattle.map_service.proofs.Groups.{groups-cut}
-use Rattle.map_service.proofs.Parts.{parts-joined}
-use Rattle.map_service.proofs.Pieces.{later_segments-last, later_segments-more, parts-fit, parts-more}
+use Rattle.map_service.proofs.Parts.{later_segments-last, later_segments-more, parts-fit, parts-more}
 use Rattle.sedgechisel.specs.declared.cutting.Place.{Place}
 use Rattle.sedgechisel.specs.declared.part.Part.{Part}
 use Rattle.sedgechisel.specs.Cuttings.{flags_for, octets_before, part_at, part_in, segment_in}

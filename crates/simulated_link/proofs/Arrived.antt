@@ -4,7 +4,7 @@ use Rattle.simulated_link.proofs.Common.{SegmentView, segment_octets, segment_to
 use Rattle.simulated_link.proofs.Common.{AcceptanceView, acceptance_with}
 use Rattle.tc_frame.specs.declared.frame.Segment.{Segment}
 use Rattle.tc_frame.specs.Layout.{segment_view}
-use Rattle.map_service.specs.declared.prepared.Prepared.{Prepared}
+use Rattle.map_service.specs.declared.assembling.Prepared.{Prepared}
 use Rattle.map_service.specs.Taking.{TakeOutcome}
 use Rattle.map_service.specs.Views.{ready_view}
 use Rattle.nodes.specs.declared.spacecraft.arrival.Arrival.{Arrival}

@@ -99,6 +99,13 @@ fn a_packet_that_fits(rt: HostRuntime) {
 }
 
 #[test]
+fn octets_that_stand_alone(rt: HostRuntime) {
+    let whole = segment(SegmentFlags::Alone, 4, &P0);
+    equal(&rt, &alone_segment(&P0, 4, 7), &Some(whole));
+    equal(&rt, &alone_segment(&P0, 4, 6), &None);
+}
+
+#[test]
 fn packets_joined(rt: HostRuntime) {
     let joined = [
         segment(SegmentFlags::Alone, 4, &THREE[..14]),

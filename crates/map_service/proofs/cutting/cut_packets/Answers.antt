@@ -2,7 +2,7 @@ use Rattle.std.proofs.Common.{◌≡◌, ◌++◌, List, [], ℕ, ap, sym, ◌�
 use Rattle.std.proofs.lemmas.List.{append-nil}
 use Rattle.tc_frame.specs.Layout.{SegmentView}
 use Rattle.map_service.specs.Cutting.{segment_views, segments_of}
-use Rattle.map_service.proofs.Pieces.{and_others, still_before}
+use Rattle.map_service.proofs.Parts.{and_others, still_before}
 use Rattle.map_service.proofs.Groups.{groups-cut, groups-none, none_from}
 use Rattle.map_service.proofs.cutting.cut_packets.Goals as goal
 

@@ -1,5 +1,7 @@
-use Rattle.std.proofs.Common.{◌≡◌, length, ap, sym, ◌∙◌, arith}
-use Rattle.map_service.specs.Packets.{rest_in}
+use Rattle.std.proofs.Common.{◌≡◌, ℕ, ◌+◌, ◌-◌, List, length, ap, sym, ◌∙◌, arith}
+use Rattle.std.specs.List.{concat}
+use Rattle.map_service.specs.Cutting.{longest_run}
+use Rattle.map_service.specs.Packets.{packets_in, rest_in}
 use Rattle.space_packet.proofs.WholePackets.{no_more}
 use Rattle.map_service.proofs.Groups.{group-over, group-run, run-more}
 use Rattle.map_service.proofs.cutting.group_len.Goals as goal
@@ -17,16 +19,13 @@ unreachable-requires c =
 
 pub returns-clause-group : goal.returns-clause-group
 returns-clause-group c =
-    c.run_len.ensures.run
-    ∙ sym (group-run c.args.part c.in-Some.len c.args.octets.now c.in-Some.ensures.first c.in-Some.ensures.within.1
-    c.if-len-part.false)
-
-pub returns-clause-some : goal.returns-clause-some
-returns-clause-some c =
-    omega (
-      arith,
-      c.in-Some.ensures.within.0,
-      c.run_len.ensures.run,
-      run-more c.args.part c.in-Some.len
-          c.args.octets.now c.in-Some.ensures.first c.in-Some.ensures.within.1 c.if-len-part.false,
-    )
+    let part : ℕ = c.args.part in
+    let len : ℕ = c.in-Some.len in
+    let octets : List ℕ = c.args.octets.now in
+    let first = c.in-Some.ensures.first in
+    let within = c.in-Some.ensures.within.1 in
+    ap (λ (k : ℕ). len + k)
+    (c.run_len.ensures.run
+    ∙ ap (λ (xs : List ℕ). length (concat (longest_run (part - len) (packets_in xs)))) c.split_at.ensures.back)
+    ∙ sym (group-run part len octets first within c.if-len-part.false
+    ∙ run-more part len octets first within c.if-len-part.false)

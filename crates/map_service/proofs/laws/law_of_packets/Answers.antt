@@ -1,5 +1,5 @@
 use Rattle.space_packet.proofs.WholePackets.{packet_from, is_packet-again}
-use Rattle.map_service.proofs.Spelled.{several_are, several_again}
+use Rattle.map_service.proofs.Whole.{several_are, several_again}
 use Rattle.map_service.proofs.laws.law_of_packets.Goals as goal
 
 pub returns-clause-one : goal.returns-clause-one

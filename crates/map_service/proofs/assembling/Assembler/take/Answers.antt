@@ -2,7 +2,7 @@ use Rattle.std.proofs.Common.{ap, ◌∙◌}
 use Rattle.tc_frame.specs.Layout.{SegmentView, segment_view}
 use Rattle.map_service.specs.Exactness.{AssemblerState, part_on_map}
 use Rattle.map_service.specs.Taking.{TakeOutcome}
-use Rattle.map_service.proofs.AtOnce.{none_at_once}
+use Rattle.map_service.proofs.Handed.{none_at_once}
 use Rattle.map_service.proofs.Steps.{taken_exactly}
 use Rattle.map_service.proofs.assembling.Assembler.take.Goals as goal
 

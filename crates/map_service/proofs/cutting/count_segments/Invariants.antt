@@ -1,7 +1,7 @@
 use Rattle.std.proofs.Common.{◌≡◌, ◌≤◌, ℕ, ◌+◌, [], length}
 use Rattle.map_service.specs.Cutting.{segments_of}
 use Rattle.map_service.specs.Packets.{rest_in}
-use Rattle.map_service.proofs.counting.count_segments.Given as goal
+use Rattle.map_service.proofs.cutting.count_segments.Given as goal
 
 abbrev pub invariant-groups : goal.invariant-groups
 invariant-groups l = record {

@@ -1,6 +1,6 @@
 use Rattle.map_service.proofs.Parts.{segments-joined, segments-parts}
 use Rattle.map_service.proofs.Passage.{cuttable_from}
-use Rattle.map_service.proofs.cutting_laws.law_of_segments.Goals as goal
+use Rattle.map_service.proofs.laws.law_of_segments.Goals as goal
 
 pub returns-clause-joined : goal.returns-clause-joined
 returns-clause-joined c =

@@ -1,5 +1,5 @@
 use Rattle.map_service.proofs.Grouping.{is_grouped, only_grouped}
-use Rattle.map_service.proofs.cutting_laws.law_of_groups.Goals as goal
+use Rattle.map_service.proofs.laws.law_of_groups.Goals as goal
 
 pub returns-clause-found : goal.returns-clause-found
 returns-clause-found c = is_grouped

@@ -3,7 +3,7 @@ use Rattle.std.proofs.lemmas.List.{append-nil, map_push}
 use Rattle.map_service.specs.Packets.{packets_in}
 use Rattle.map_service.specs.Views.{ready_view}
 use Rattle.space_packet.proofs.WholePackets.{no_more, one_more-by_len}
-use Rattle.map_service.proofs.judging.copied_packets.Goals as goal
+use Rattle.map_service.proofs.packets.each_copied.Goals as goal
 
 pub packets-preserved : goal.packets-preserved
 packets-preserved c =

@@ -2,7 +2,7 @@ use Rattle.std.proofs.Common.{List, [], cond, None, ap}
 use Rattle.tc_frame.specs.Layout.{SegmentView}
 use Rattle.map_service.specs.Assembly.{is_open, ending_part, unless_too_long, blocks_packets}
 use Rattle.map_service.proofs.Passage.{given-passed, closed-passed, other-append}
-use Rattle.map_service.proofs.cutting_laws.law_of_passage.Goals as goal
+use Rattle.map_service.proofs.laws.law_of_passage.Goals as goal
 
 pub returns-clause-given : goal.returns-clause-given
 returns-clause-given c = given-passed

@@ -1,7 +1,6 @@
-use Rattle.map_service.proofs.Pieces.{parts-fit}
+use Rattle.map_service.proofs.Parts.{parts-fit, in_parts, only_in_parts}
 use Rattle.map_service.proofs.Passage.{one-from, one-group}
-use Rattle.map_service.proofs.InParts.{in_parts, only_in_parts}
-use Rattle.map_service.proofs.cutting_laws.law_of_parts.Goals as goal
+use Rattle.map_service.proofs.laws.law_of_parts.Goals as goal
 
 pub returns-clause-packet : goal.returns-clause-packet
 returns-clause-packet c = λ part m octets h. one-group part m octets (one-from octets h).1

@@ -1,7 +1,7 @@
 use Rattle.std.proofs.Common.{◌≡◌, ◌++◌, length}
 use Rattle.map_service.specs.Packets.{packets_in}
 use Rattle.map_service.specs.Views.{ready_view}
-use Rattle.map_service.proofs.judging.copied_packets.Given as goal
+use Rattle.map_service.proofs.packets.each_copied.Given as goal
 
 abbrev pub invariant-packets : goal.invariant-packets
 invariant-packets l = packets_in l.fn.octets ≡ ready_view l.packets ++ packets_in l.rest

@@ -2,9 +2,9 @@ use Rattle.std.proofs.Common.{◌≡◌, ◌≤◌, ℕ, ◌+◌, ◌-◌, ◌/�
 use Rattle.std.proofs.Math.Nat.{div-le_self}
 use Rattle.tc_frame.specs.Layout.{SegmentView}
 use Rattle.map_service.specs.Cutting.{parts_of, segments_of}
-use Rattle.map_service.proofs.Counts.{parts-count}
+use Rattle.map_service.proofs.Parts.{parts-count}
 use Rattle.map_service.proofs.Groups.{groups-cut, groups-none, none_from}
-use Rattle.map_service.proofs.counting.count_segments.Goals as goal
+use Rattle.map_service.proofs.cutting.count_segments.Goals as goal
 
 pub groups-preserved : goal.groups-preserved
 groups-preserved c =

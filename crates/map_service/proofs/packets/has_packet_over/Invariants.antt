@@ -1,9 +1,0 @@
-use Rattle.std.proofs.Common.{◌≡◌, length}
-use Rattle.map_service.specs.Packets.{packets_in, is_some_over}
-use Rattle.map_service.proofs.packets.has_packet_over.Given as goal
-
-abbrev pub invariant-packets : goal.invariant-packets
-invariant-packets l = is_some_over l.most (packets_in l.rest) ≡ is_some_over l.most (packets_in l.fn.octets)
-
-abbrev pub decreases-packets : goal.decreases-packets
-decreases-packets l = length l.rest
