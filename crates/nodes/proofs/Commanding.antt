@@ -6,6 +6,7 @@ use Rattle.std.specs.Prelude.{◌&&◌, ◌||◌, option_map}
 use Rattle.std.specs.List.{list_all}
 use Rattle.std.proofs.lemmas.Bool.{eq-eqb, ne_eqb, eqb-true, and_parts}
 use Rattle.map_service.proofs.Passage.{one-from}
+use Rattle.map_service.proofs.Whole.{over-more, one_over}
 use Rattle.std.proofs.lemmas.List.{take-take, drop_all}
 use Rattle.std.proofs.Math.Bool.{and-true, or-false}
 use Rattle.space_packet.specs.declared.fault.PacketFault.{PacketFault}
@@ -56,10 +57,7 @@ no_more_read b e h = no_more b (none_read b e h)
 
 pub over_more : (most : ℕ) (b : List ℕ) (p : PacketView) (n : ℕ) → IsFirstPacket p n b
     → is_some_over most (packets_in b) ≡ ltb most n || is_some_over most (packets_in (drop n b))
-over_more most b p n h =
-    let len : length (take n b) ≡ n = omega (arith, h.within, length-take n b) in
-    ap (is_some_over most) (one_more b p n h).0
-    ∙ ap (λ (k : ℕ). ltb most k || is_some_over most (packets_in (drop n b))) len
+over_more most b p n h = over-more most n b (first_read b p n h) h.within
 
 -- ---- octets that are exactly one
 
@@ -177,6 +175,5 @@ pub one_fault : (limits : Limits) (octets : List ℕ) (over : Bool) → limits.b
     → commands_fault limits octets ≡ cond over (Some TooLong) None
 one_fault limits octets over blocking all is =
     let long : is_some_over limits.max_packet (packets_in octets) ≡ over =
-    ap (is_some_over limits.max_packet) (one_packet octets all)
-    ∙ or-false (ltb limits.max_packet (length octets)) ∙ is in
+    one_over limits.max_packet octets (and_parts _ _ all).0 ∙ is in
     rw (blocking, all, long) refl

@@ -1,7 +1,6 @@
 -- What is known of packets that the ground does not refuse: their segments fit into frames.
 use Rattle.std.proofs.Common.{◌≡◌, ◌≤◌, ◌<◌, ◌+◌, ℕ, zero, suc, get_or, Bool, true, false, not, cond, List, [], ◌∷◌}
-use Rattle.std.proofs.Common.{length}
-use Rattle.std.proofs.Common.{Option, Some, None, refl, ◌∙◌, arith, length-append}
+use Rattle.std.proofs.Common.{length, Option, Some, None, refl, sym, subst, ◌∙◌, arith, length-append}
 use Rattle.std.specs.Prelude.{◌==◌, option_to_list}
 use Rattle.std.specs.List.{AllByRecursion}
 use Rattle.std.proofs.lemmas.Bool.{ltb-true, ltb-false, and_parts, not-false}
@@ -9,10 +8,10 @@ use Rattle.tc_frame.specs.declared.frame.SegmentFlags.TheVariants.{Alone}
 use Rattle.tc_frame.specs.declared.frame.Segment.{Segment}
 use Rattle.tc_frame.specs.Layout.{SegmentView, segment_view}
 use Rattle.map_service.specs.Assembly.{is_open}
-use Rattle.map_service.specs.Cutting.{segment_with, segment_views, segments_of, IsPart}
+use Rattle.map_service.specs.Cutting.{segment_with, segment_views, alone_segment, segments_of, IsPart}
 use Rattle.map_service.specs.Packets.{is_packet, packets_in, are_taken, is_some_over}
 use Rattle.map_service.specs.declared.limits.Limits.{Limits}
-use Rattle.map_service.proofs.Parts.{segments-parts, parts-fit}
+use Rattle.map_service.proofs.Parts.{segments-parts, alone-some, parts-alone}
 use Rattle.map_service.proofs.Groups.{in-one}
 use Rattle.map_service.proofs.Passage.{one-from, IsCuttable, cuttable_from}
 use Rattle.space_packet.proofs.WholePackets.{no_more}
@@ -93,19 +92,21 @@ cuttable limits octets h =
     let over : is_some_over limits.max_packet (packets_in octets) ≡ false = (passed _ _ _ command.1).0 in
     cuttable_from limits octets (rw (taken, over) refl)
 
--- those that fit into one segment
-pub in_one_segment : (limits : Limits) (m : ℕ) (octets : List ℕ) → commands_fault limits octets ≡ None
-    → length octets ≤ limits.part
-    → segments_of limits.part m octets ≡ segment_with Alone m octets ∷ []
-in_one_segment limits m octets h le =
+-- those that go into one segment
+pub one_segment : (limits : Limits) (m : ℕ) (octets : List ℕ) (s : SegmentView) → commands_fault limits octets ≡ None
+    → Some s ≡ alone_segment limits.part m octets
+    → s ∷ [] ≡ segments_of limits.part m octets
+one_segment limits m octets s h e =
     let is = cuttable limits octets h in
-    in-one limits.part m octets is.whole is.some le ∙ parts-fit m limits.part octets is.some le
+    parts-alone limits.part m octets s is.some e
+    ∙ sym (in-one limits.part m octets is.whole is.some (alone-some limits.part m octets s e).1)
 
-pub alone_fits : (limits : Limits) (m : ℕ) (octets : List ℕ) → commands_fault limits octets ≡ None → m < 64
-    → limits.part ≤ 1016
-    → length octets ≤ limits.part → FitsFrame (segment_with Alone m octets)
-alone_fits limits m octets h lt most le =
-    record { map = lt; least = (cuttable limits octets h).some; most = omega arith }
+pub one_fits : (limits : Limits) (m : ℕ) (octets : List ℕ) (s : SegmentView) → commands_fault limits octets ≡ None
+    → m < 64 → limits.part ≤ 1016 → Some s ≡ alone_segment limits.part m octets → FitsFrame s
+one_fits limits m octets s h lt most e =
+    let is = alone-some limits.part m octets s e in
+    subst FitsFrame (sym is.0)
+    (record { map = lt; least = (cuttable limits octets h).some; most = omega (arith, is.1) })
 
 -- what the ground does not refuse
 pub not_refused : (s : GroundState) (m : ℕ) (octets : List ℕ) → is_closed s.fop.state ≡ false

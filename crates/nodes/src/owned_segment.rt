@@ -2,16 +2,15 @@
 
 ghost use Rattle.std.specs.Prelude.{◌≡◌, IfOk, IsOkUnless};
 ghost use Rattle.std.specs.List.{AllByRecursion};
-ghost use Rattle.tc_frame.specs.declared.frame.SegmentFlags.TheVariants.{Alone};
 ghost use Rattle.tc_frame.specs.Layout.{segment_view};
-ghost use Rattle.map_service.specs.Cutting.{segment_views, segment_with};
+ghost use Rattle.map_service.specs.Cutting.{segment_views};
 ghost use Rattle.nodes.specs.OwnedFields.{FitsFrame};
 
 use crate::fault::LinkFault;
 use std::alloc::Global;
 use std::collections::VecDeque;
 use std::marker::Model;
-use tc_frame::{Segment, SegmentFlags, SegmentHeader};
+use tc_frame::{Segment, SegmentHeader};
 
 /// A segment with the octets that it holds, which fits into a frame.
 #[derive(Drop)]
@@ -46,23 +45,6 @@ impl OwnedSegment {
             }),
             Err(_) => Err(LinkFault::Memory),
         }
-    }
-
-    // A copy of octets, as a segment that stands alone.
-    pub(crate) fn alone(alloc: Global, map: u8, octets: &[u8]) -> Result<OwnedSegment, LinkFault>
-        requires { FitsFrame (segment_with Alone map octets.now) }
-        ensures copied { IfOk result (λ owned. owned ≡ segment_with Alone map octets.now) }
-        ensures fault { IsOkUnless result LinkFault.Memory }
-    {
-        let header = SegmentHeader {
-            flags: SegmentFlags::Alone,
-            map,
-        };
-        let segment = Segment {
-            header,
-            payload: octets,
-        };
-        OwnedSegment::new(alloc, &segment)
     }
 
     pub(crate) fn segment(&self) -> Segment<'_>

@@ -5,11 +5,15 @@ use super::submission::{Segments, Submission};
 use crate::commands::{commands_in, is_one_command};
 use crate::fault::LinkFault;
 use crate::owned_segment::{OwnedSegment, own};
-use map_service::{cut_packets, segment_count};
+use map_service::{alone_segment, cut_packets, segment_count};
+use tc_frame::Segment;
 
 impl Ground {
     ghost use Rattle.std.specs.Prelude.{◌≡◌, ◌<◌, ◌⊎◌, ℕ, ◌+◌, length, true, false, not, nat_lt, if◌then◌else◌};
     ghost use Rattle.std.specs.Prelude.{Err, None, Ok, Some, IfOk, IfErr, IfSome, IsOkUnless};
+    ghost use Rattle.tc_frame.specs.declared.frame.SegmentFlags.TheVariants.{Alone};
+    ghost use Rattle.tc_frame.specs.Layout.{segment_view};
+    ghost use Rattle.map_service.specs.Cutting.{segment_with};
     ghost use Rattle.nodes.specs.Commands.{commands_fault};
     ghost use Rattle.nodes.specs.Ground.{ground_step, Submit, Bypass, Submits, submit_fault, bypass_fault};
     ghost use Rattle.nodes.specs.Ground.{unsent_segments, segments_on, is_over_slots};
@@ -93,11 +97,11 @@ impl Ground {
         ensures places { IfSome result (λ _. is_over_slots self.now map octets.now ≡ false) }
     {
         let part = self.config.part as usize;
-        if octets.len() <= part {
+        if let Some(segment) = alone_segment(octets, map, part) {
             if !self.has_places(1) {
                 return None;
             }
-            return match OwnedSegment::alone(self.alloc, map, octets) {
+            return match OwnedSegment::new(self.alloc, &segment) {
                 Ok(segment) => Some(Segments::One(segment)),
                 Err(_) => None,
             };
@@ -146,32 +150,36 @@ impl Ground {
         ensures { Submits (bypass_fault self.old map octets.now)
             (ground_step self.old (Bypass map octets.now)) self.old self.new result }
     {
-        if let Some(fault) = self.bypass_fault(map, octets) {
-            return Err(fault);
-        }
-        let copied = OwnedSegment::alone(self.alloc, map, octets)?;
+        let segment = self.bypass_segment(map, octets)?;
+        let copied = OwnedSegment::new(self.alloc, &segment)?;
         if self.fop.bypass(copied).is_err() {
             return Err(LinkFault::Memory);
         }
         Ok(())
     }
 
-    fn bypass_fault(&self, map: u8, octets: &[u8]) -> Option<LinkFault>
-        ensures { result ≡ bypass_fault self.now map octets.now }
+    // The segment that one command packet is.
+    fn bypass_segment<'a>(&self, map: u8, octets: &'a [u8]) -> Result<Segment<'a>, LinkFault>
+        ensures ok { IfOk result (λ s. segment_view s ≡ segment_with Alone map octets.now) }
+        ensures passed { IfOk result (λ _. bypass_fault self.now map octets.now ≡ None) }
+        ensures err { IfErr result (λ e. bypass_fault self.now map octets.now ≡ Some e) }
     {
         let limits = self.config.limits();
         if !limits.is_open(map) {
-            return Some(LinkFault::ClosedMap);
+            return Err(LinkFault::ClosedMap);
         }
         if !is_one_command(octets) {
-            return Some(LinkFault::NotCommand);
+            return Err(LinkFault::NotCommand);
         }
-        if limits.is_too_long(octets.len()) || octets.len() > limits.part as usize {
-            return Some(LinkFault::TooLong);
+        if limits.is_too_long(octets.len()) {
+            return Err(LinkFault::TooLong);
         }
+        let Some(segment) = alone_segment(octets, map, limits.part as usize) else {
+            return Err(LinkFault::TooLong);
+        };
         if self.fop.bypassed() >= self.config.queue_slots as usize {
-            return Some(LinkFault::QueueFull);
+            return Err(LinkFault::QueueFull);
         }
-        None
+        Ok(segment)
     }
 }
