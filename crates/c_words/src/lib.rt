@@ -1,8 +1,12 @@
-//! The words that both libraries for C hand out.
+//! What both libraries for C share: the words that they hand out, and the directives by numbers.
 #![tactic(auto)]
+
+mod directives;
 
 ghost use Rattle.std.specs.Prelude.{◌≡◌, ◌≤◌, length};
 ghost use Rattle.c_words.specs.Words.{text_of};
+
+pub use directives::directive_named;
 
 /// A word of at most 19 octets, with zeros after it.
 #[repr(C)]
