@@ -335,6 +335,41 @@ static void link(void) {
     WANT(sim.link == NULL && live == 0);
 }
 
+/* By number and value: what names no directive or no event is refused, and changes nothing. */
+static void events_by_number(void) {
+    static const uint8_t none[] = {0, 16, 255};
+    struct sedge_ground ground = {0};
+    struct sedge_sim sim = {0};
+    struct sedge_reply reply = {0};
+    struct sedge_event event = {SEDGE_EVENT_DIRECTIVE, 0, SEDGE_SET_VS, 256, packet, 0};
+    while (again(sedge_ground_open(&config, &ground)))
+        ;
+    while (again(sedge_sim_open(&config, &sim)))
+        ;
+    reply.kind = 77;
+    WANT(sedge_sim_step(&sim, &event, &reply) == SEDGE_NODE_NONE);
+    for (size_t k = 0; k < sizeof none; k++) {
+        WANT(sedge_ground_directive(&ground, none[k], 1) == SEDGE_NODE_NONE);
+        event.directive = none[k];
+        WANT(sedge_sim_step(&sim, &event, &reply) == SEDGE_NODE_NONE);
+    }
+    WANT(sedge_ground_directive(&ground, SEDGE_INIT_SET_VR, 256) == SEDGE_NODE_NONE);
+    WANT(sedge_ground_directive(&ground, SEDGE_SET_WINDOW, 257) == SEDGE_COP_WINDOW);
+    WANT(sedge_ground_directive(&ground, SEDGE_SET_LIMIT, 256) == SEDGE_COP_LIMIT);
+    WANT(sedge_ground_directive(&ground, SEDGE_SET_TIMER, 65535) == 0);
+    WANT(sedge_ground_directive(&ground, SEDGE_TERMINATE, 65535) == SEDGE_COP_WRONG_STATE);
+    event.directive = SEDGE_SET_WINDOW;
+    for (size_t k = 0; k < sizeof none; k++) {
+        event.kind = none[k];
+        WANT(sedge_sim_step(&sim, &event, &reply) == SEDGE_NODE_NONE && reply.kind == 77);
+    }
+    event.kind = SEDGE_EVENT_DIRECTIVE;
+    HAPPENS(sedge_sim_step(&sim, &event, &reply), SEDGE_REPLY_REFUSED);
+    WANT(reply.by == SEDGE_BY_SENDER && reply.fault == SEDGE_COP_WINDOW);
+    sedge_ground_close(&ground);
+    sedge_sim_close(&sim);
+}
+
 static void links_that_are_none(void) {
     struct sedge_config wrong = config;
     struct sedge_sim sim = {0};
@@ -381,6 +416,7 @@ int main(void) {
     past_the_sequence_control();
     on_a_closed_map();
     link();
+    events_by_number();
     all = tried;
 #ifndef OVER_MEMORY
     WANT(all > 0);
@@ -391,6 +427,7 @@ int main(void) {
         past_the_sequence_control();
         on_a_closed_map();
         link();
+        events_by_number();
     }
     printf(failures ? "%d failed\n" : "all as wanted, %d failed of %ld allocations\n", failures, all);
     return failures != 0;

@@ -180,10 +180,16 @@ static int is_sender(const struct sedge_fop *fop) {
     }
 }
 
+static int is_no_directive(uint8_t number, uint16_t value) {
+    return number < 1 || number > 9 || (value > 255 && (number == SEDGE_INIT_SET_VR || number == SEDGE_SET_VS));
+}
+
 static void senders(void) {
     struct sedge_fop *fop = any_sender(), kept = *fop;
     struct sedge_clcw word;
-    uint8_t *number = room_of(1), answer, which = (uint8_t)below(15), value = (uint8_t)below(256);
+    uint8_t *number = room_of(1), answer, which = (uint8_t)below(16), value = (uint8_t)below(256);
+    uint8_t named = 0;
+    uint16_t wide = (uint16_t)below(below(2) ? 300 : 65536);
     fill((uint8_t *)&word, sizeof word);
     const uint8_t vcid = value % 2 ? word.vcid : value;
     switch (which) {
@@ -201,9 +207,14 @@ static void senders(void) {
     case 11: answer = sedge_fop_next(fop, number); break;
     case 12: answer = sedge_fop_report(fop, vcid, &word, number); break;
     case 13: answer = sedge_fop_accepted_beyond(fop, value, number); break;
+    case 14: answer = sedge_fop_directive(fop, named = (uint8_t)below(12), wide); break;
     default: answer = sedge_fop_tick(fop); break;
     }
-    if (which < 11) {
+    if (which == 14 && is_no_directive(named, wide)) {
+        WANT(answer == SEDGE_DAMAGED && memcmp(fop, &kept, sizeof kept) == 0);
+        return;
+    }
+    if (which < 11 || which == 14) {
         WANT(is_answer(answer, SEDGE_COP_WRONG_STATE, fop, &kept, sizeof kept));
     } else if (which == 13) {
         WANT(memcmp(fop, &kept, sizeof kept) == 0 && (answer == SEDGE_ABSENT || answer == SEDGE_DAMAGED || answer == SEDGE_OK));

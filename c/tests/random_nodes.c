@@ -367,9 +367,22 @@ static uint8_t directs_link(struct sedge_reply *reply) {
     return answer;
 }
 
+/* An event whose kind is none, or whose directive is. */
+static uint8_t happens_not(const uint8_t *octets, size_t count, struct sedge_reply *reply) {
+    struct sedge_event event = {0, 4, 0, 256, octets, count};
+    uint8_t answer;
+    event.kind = (uint8_t)(below(2) ? SEDGE_EVENT_DIRECTIVE : below(241) + 16);
+    event.directive = (uint8_t)(below(2) ? SEDGE_SET_VS : below(247) + 10);
+    if (below(4) == 0) event.kind = 0;
+    answer = sedge_sim_step(&sim, &event, reply);
+    WANT(answer == SEDGE_NODE_NONE && reply->kind == 77);
+    return SEDGE_NODE_OK;
+}
+
 static uint8_t happens(struct sedge_reply *reply) {
     size_t count;
     uint8_t *octets = any_packets(1, &count), map = any_map(64);
+    if (below(64) == 0) return happens_not(octets, count, reply);
     switch (below(16)) {
     case 0: return directs_link(reply);
     case 1: return submits_to_link(map, octets, count, reply);

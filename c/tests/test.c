@@ -436,6 +436,23 @@ static void the_directives(void) {
     WANT(sedge_fop_report(&fop, word.vcid, &word, &released) == SEDGE_NO_ALERT && fop.state == SEDGE_FOP_S1 && fop.vr == 0);
 }
 
+/* By number and value: what names no directive, and a value out of its range, is refused, and changes nothing. */
+static void directives_by_number(void) {
+    struct sedge_fop fop = opened_sender(), kept = fop;
+    static const uint8_t none[] = {0, 10, 255};
+    size_t k;
+    for (k = 0; k < sizeof none; k++) WANT(sedge_fop_directive(&fop, none[k], 1) == SEDGE_DAMAGED);
+    WANT(sedge_fop_directive(&fop, SEDGE_INIT_SET_VR, 256) == SEDGE_DAMAGED);
+    WANT(sedge_fop_directive(&fop, SEDGE_SET_VS, 65535) == SEDGE_DAMAGED);
+    WANT(sedge_fop_directive(&fop, SEDGE_SET_WINDOW, 257) == SEDGE_COP_WINDOW);
+    WANT(sedge_fop_directive(&fop, SEDGE_SET_LIMIT, 256) == SEDGE_COP_LIMIT);
+    WANT(memcmp(&fop, &kept, sizeof fop) == 0);
+    WANT(sedge_fop_directive(&fop, SEDGE_SET_LIMIT, 255) == SEDGE_OK && fop.limit == 255);
+    WANT(sedge_fop_directive(&fop, SEDGE_SET_TIMER, 65535) == SEDGE_OK && fop.timer == 65535);
+    WANT(sedge_fop_directive(&fop, SEDGE_SET_VS, 255) == SEDGE_OK && fop.vs == 255);
+    WANT(sedge_fop_directive(&fop, SEDGE_INIT_UNLOCK, 999) == SEDGE_OK && fop.state == SEDGE_FOP_S5);
+}
+
 static void refusals_of_a_sender(void) {
     struct sedge_fop fop, kept;
     memset(&fop, 0x55, sizeof fop);
@@ -976,6 +993,7 @@ int main(void) {
     a_sender_gives_up();
     what_was_accepted();
     the_directives();
+    directives_by_number();
     refusals_of_a_sender();
     damaged_senders();
     damaged_senders_without_units();

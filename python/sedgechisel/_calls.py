@@ -265,6 +265,17 @@ class Next(IntEnum):
     NOTHING, UNLOCK, SET_VR, FIRST, AGAIN = range(5)
 
 
+_DIRECTIVES = {name: number for number, name in enumerate((
+    "init_without_check", "init_with_check", "init_unlock", "init_set_vr", "terminate", "set_vs", "set_window",
+    "set_limit", "set_timer"), 1)}
+
+
+def _directive(name: str, own: str, value: int) -> Tuple[int, int]:
+    """The number of a directive (232.1-B-2, 5.2.4), and its value, of this name; 0 where it has none."""
+    _within(own, c_uint16 if name == "set_timer" else c_uint8, value)
+    return _DIRECTIVES[name], value
+
+
 class Fop(_Struct):
     """A sender FOP-1 of one virtual channel (232.1-B-2, section 5). It keeps numbers, and its caller the units. With
     fields that no sender has, each call is a CopFault, 255 Damaged, and changes nothing."""
@@ -292,41 +303,44 @@ class Fop(_Struct):
         super().__init__()
         CopFault._look_at(_fop_open(byref(self), width, window, limit, timer))
 
+    def _direct(self, name: str, own: str = "", value: int = 0) -> None:
+        CopFault._look_at(_fop_directive(byref(self), *_directive(name, own, value)))
+
     def init_without_check(self) -> None:
         """Directive: S6 to S1. The four initiations and set_vs are CopFault 8 in any other state than S6."""
-        CopFault._look_at(_fop_init_without_check(byref(self)))
+        self._direct("init_without_check")
 
     def init_with_check(self) -> None:
         """Directive: S6 to S4, until a report agrees."""
-        CopFault._look_at(_fop_init_with_check(byref(self)))
+        self._direct("init_with_check")
 
     def init_unlock(self) -> None:
         """Directive: S6 to S5, with Unlock."""
-        CopFault._look_at(_fop_init_unlock(byref(self)))
+        self._direct("init_unlock")
 
     def init_set_vr(self, vr: int) -> None:
         """Directive: S6 to S5, with Set V(R)."""
-        CopFault._look_at(_fop_init_set_vr(byref(self), vr))
+        self._direct("init_set_vr", "vr", vr)
 
     def terminate(self) -> None:
         """Directive: to S6, and all units are let go of; CopFault 8 in S6."""
-        CopFault._look_at(_fop_terminate(byref(self)))
+        self._direct("terminate")
 
     def set_vs(self, vs: int) -> None:
         """Directive: V(S), and NN(R) to it."""
-        CopFault._look_at(_fop_set_vs(byref(self), vs))
+        self._direct("set_vs", "vs", vs)
 
     def set_window(self, window: int) -> None:
         """Directive: the window K; or CopFault 2."""
-        CopFault._look_at(_fop_set_window(byref(self), window))
+        self._direct("set_window", "window", window)
 
     def set_limit(self, limit: int) -> None:
         """Directive: the transmission limit; or CopFault 3."""
-        CopFault._look_at(_fop_set_limit(byref(self), limit))
+        self._direct("set_limit", "limit", limit)
 
     def set_timer(self, timer: int) -> None:
         """Directive: the timer's value in ticks; or CopFault 4."""
-        CopFault._look_at(_fop_set_timer(byref(self), timer))
+        self._direct("set_timer", "timer", timer)
 
     def submit(self) -> None:
         """A unit has come, and waits; or CopFault 6 (not open) or 7 (one waits already)."""
@@ -377,15 +391,7 @@ def _accepted_of(call: Callable[..., Any], *values: Any) -> Optional[int]:
 
 _fop_open = _call("fop_open", c_uint8, POINTER(Fop), ("width", c_uint8), ("window", c_uint8), ("limit", c_uint8),
                   ("timer", c_uint16))
-_fop_init_without_check = _call("fop_init_without_check", c_uint8, POINTER(Fop))
-_fop_init_with_check = _call("fop_init_with_check", c_uint8, POINTER(Fop))
-_fop_init_unlock = _call("fop_init_unlock", c_uint8, POINTER(Fop))
-_fop_init_set_vr = _call("fop_init_set_vr", c_uint8, POINTER(Fop), ("vr", c_uint8))
-_fop_terminate = _call("fop_terminate", c_uint8, POINTER(Fop))
-_fop_set_vs = _call("fop_set_vs", c_uint8, POINTER(Fop), ("vs", c_uint8))
-_fop_set_window = _call("fop_set_window", c_uint8, POINTER(Fop), ("window", c_uint8))
-_fop_set_limit = _call("fop_set_limit", c_uint8, POINTER(Fop), ("limit", c_uint8))
-_fop_set_timer = _call("fop_set_timer", c_uint8, POINTER(Fop), ("timer", c_uint16))
+_fop_directive = _call("fop_directive", c_uint8, POINTER(Fop), c_uint8, c_uint16)
 _fop_submit = _call("fop_submit", c_uint8, POINTER(Fop))
 _fop_next = _call("fop_next", c_uint8, POINTER(Fop), POINTER(c_uint8))
 _fop_report = _call("fop_report", c_uint8, POINTER(Fop), ("vcid", c_uint8), POINTER(Clcw), POINTER(c_uint8))

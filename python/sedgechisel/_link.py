@@ -2,16 +2,15 @@
 from __future__ import annotations
 
 import ctypes
-from ctypes import POINTER, byref, c_bool, c_size_t, c_uint8
+from ctypes import POINTER, byref, c_bool, c_char_p, c_size_t, c_uint8, c_uint16
 from enum import IntEnum
-from typing import Any, Callable, List, Optional, Tuple
+from typing import List, Optional, Tuple
 
 from ._calls import Alert, Clcw
 from ._faults import CopFault, LinkFault, SimFault, TelemetryFault
-from ._library import octets_of
+from ._library import octets_of, within
 from ._nodes import (
-    _DIRECTIVES, _GIVEN, _HANDLE, _MAP, _OCTETS, Heard, Received, Sender, State, _call, _closing, _Heard, _opening,
-    _Received)
+    _GIVEN, _HANDLE, _MAP, Heard, Received, Sender, State, _call, _closing, _directive, _Heard, _opening, _Received)
 
 _REFUSED = 3
 _REFUSED_BY = {1: LinkFault, 2: CopFault, 3: TelemetryFault}
@@ -22,6 +21,16 @@ class Begun(IntEnum):
     """How a session began; NOT where none has."""
 
     NOT, WITHOUT_CHECK, WITH_CHECK, UNLOCK, SET_VR = range(5)
+
+
+_EVENTS = {name: kind for kind, name in enumerate((
+    "submit", "bypass", "directive", "send", "up_deliver", "up_lose", "up_damage", "report", "down_deliver",
+    "down_lose", "down_damage", "tick", "take", "take_bypass", "telemetry"), 1)}
+
+
+class _Event(ctypes.Structure):
+    _fields_ = [("kind", c_uint8), ("map", c_uint8), ("directive", c_uint8), ("value", c_uint16), ("octets", c_char_p),
+                ("count", c_size_t)]
 
 
 class _Reply(ctypes.Structure):
@@ -43,11 +52,6 @@ class _Reading(ctypes.Structure):
                 ("vr", c_uint8), ("clean", c_bool), ("idle", c_bool), ("confirmed", c_bool)]
 
 
-def _counted(name: str, octets: bytes) -> Tuple[bytes, int]:
-    octets = octets_of(name, octets)
-    return octets, len(octets)
-
-
 class Link(Sender):
     """A simulated link: a ground, a spacecraft of the same parameters, and the frames on their way between them, first
     in, first out. It keeps the records of its session, which begins with each initiation that the ground accepts.
@@ -57,10 +61,11 @@ class Link(Sender):
 
     _opens, _closes = _opening("sim"), _closing("sim")
 
-    def _event(self, name: str, *values: Any) -> _Reply:
-        reply = _Reply()
+    def _event(self, name: str, map: int = 0, octets: bytes = b"", directive: Tuple[int, int] = (0, 0)) -> _Reply:
+        within("map", c_uint8, map)
+        event, reply = _Event(_EVENTS[name], map, *directive, octets, len(octets)), _Reply()
         with self._lock:
-            self._asked(_events[name](byref(self._handle), *values, byref(reply)), SimFault)
+            self._asked(_sim_step(byref(self._handle), byref(event), byref(reply)), SimFault)
         if reply.kind == _REFUSED:
             raise _REFUSED_BY[reply.by](reply.fault)
         return reply
@@ -69,16 +74,16 @@ class Link(Sender):
         """The frame or the packet of the event, if there is one."""
         return self._given(_sim_octets, reply.count) if reply.count else None
 
-    def _direct(self, name: str, *values: int) -> None:
-        self._event(name, *values)
+    def _direct(self, name: str, own: str = "", value: int = 0) -> None:
+        self._event("directive", directive=_directive(name, own, value))
 
     def submit(self, map: int, packets: bytes) -> None:
         """Packets are to be sent on a MAP under sequence control, as by `Ground.submit`."""
-        self._event("submit", map, *_counted("packets", packets))
+        self._event("submit", map, octets_of("packets", packets))
 
     def bypass(self, map: int, packet: bytes) -> None:
         """One packet is to be sent on a MAP past the sequence control, as by `Ground.bypass`."""
-        self._event("bypass", map, *_counted("packet", packet))
+        self._event("bypass", map, octets_of("packet", packet))
 
     def send(self) -> Optional[bytes]:
         """The ground sends a frame, which is on its way up then; None where nothing is to be sent."""
@@ -95,7 +100,7 @@ class Link(Sender):
 
     def up_damage(self, octets: bytes) -> Received:
         """These octets arrive in its place, which are no frame; SimFault 8 where they are one."""
-        return self._event("up_damage", *_counted("octets", octets)).up.value()
+        return self._event("up_damage", 0, octets_of("octets", octets)).up.value()
 
     def report(self) -> Clcw:
         """The spacecraft sends a telemetry frame, which is on its way down then: the report in it."""
@@ -111,7 +116,7 @@ class Link(Sender):
 
     def down_damage(self, octets: bytes) -> Heard:
         """These octets arrive in its place, which are no frame; SimFault 8 where they are one."""
-        return self._event("down_damage", *_counted("octets", octets)).down.value()
+        return self._event("down_damage", 0, octets_of("octets", octets)).down.value()
 
     def tick(self) -> Alert:
         """A tick of the ground's clock passes: the Alert."""
@@ -133,7 +138,7 @@ class Link(Sender):
 
     def telemetry(self, packet: bytes) -> None:
         """A packet is queued on board to be sent as telemetry, as by `Spacecraft.telemetry`."""
-        self._event("telemetry", *_counted("packet", packet))
+        self._event("telemetry", 0, octets_of("packet", packet))
 
     # The session and its records.
 
@@ -221,14 +226,7 @@ class Link(Sender):
         return self._entries(_ACCEPTED)
 
 
-def _event_of(name: str, *kinds: Any) -> Callable[..., int]:
-    return _call(f"sim_{name}", _HANDLE, *kinds, POINTER(_Reply))
-
-
-_events = {name: _event_of(name, *kinds) for name, kinds in {
-    **_DIRECTIVES, "submit": (_MAP, *_OCTETS), "bypass": (_MAP, *_OCTETS), "send": (), "up_deliver": (),
-    "up_lose": (), "up_damage": _OCTETS, "report": (), "down_deliver": (), "down_lose": (), "down_damage": _OCTETS,
-    "tick": (), "take": (), "take_bypass": (), "telemetry": _OCTETS}.items()}
+_sim_step = _call("sim_step", _HANDLE, POINTER(_Event), POINTER(_Reply))
 _sim_octets = _call("sim_octets", _HANDLE, *_GIVEN)
 _sim_read = _call("sim_read", _HANDLE, POINTER(_Reading))
 _sim_submissions = _call("sim_submissions", _HANDLE, POINTER(c_size_t))

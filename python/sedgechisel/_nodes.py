@@ -9,7 +9,7 @@ from threading import RLock
 from types import TracebackType
 from typing import Any, Callable, Dict, Optional, Tuple, Type, TypeVar
 
-from ._calls import Alert, Clcw, Command, Mode, Verdict, _dropped_word, _Struct
+from ._calls import Alert, Clcw, Command, Mode, Verdict, _directive, _dropped_word, _Struct
 from ._faults import ClcwFault, ConfigFault, CopFault, Fault, LinkFault, TcFault, TelemetryFault, TmFault
 from ._library import NODES, Single, call_of, octets_of as _octets_of
 
@@ -260,16 +260,10 @@ class _GroundReading(ctypes.Structure):
     _fields_ = [("outstanding", c_size_t), ("frame_length", c_size_t)] + [(it, c_uint8) for it in ("state", "vs", "nn")]
 
 
-_DIRECTIVES: Dict[str, Tuple[Any, ...]] = {
-    "init_without_check": (), "init_with_check": (), "init_unlock": (), "init_set_vr": (("vr", c_uint8),),
-    "terminate": (), "set_vs": (("vs", c_uint8),), "set_window": (("window", c_uint8),),
-    "set_limit": (("limit", c_uint8),), "set_timer": (("ticks", c_uint16),)}
-
-
 class Sender(Handle):
     """What has the directives to the sender FOP-1 (232.1-B-2, 5.2.4)."""
 
-    def _direct(self, name: str, *values: int) -> None:
+    def _direct(self, name: str, own: str = "", value: int = 0) -> None:
         raise NotImplementedError
 
     def init_without_check(self) -> None:
@@ -286,7 +280,7 @@ class Sender(Handle):
 
     def init_set_vr(self, vr: int) -> None:
         """Directive: S6 to S5, V(S) to this number, and Set V(R) is sent."""
-        self._direct("init_set_vr", vr)
+        self._direct("init_set_vr", "vr", vr)
 
     def terminate(self) -> None:
         """Directive: to S6, and all units are let go of, as by the alert TERMINATED; CopFault 8 in S6."""
@@ -294,19 +288,19 @@ class Sender(Handle):
 
     def set_vs(self, vs: int) -> None:
         """Directive: V(S), and NN(R) to it."""
-        self._direct("set_vs", vs)
+        self._direct("set_vs", "vs", vs)
 
     def set_window(self, window: int) -> None:
         """Directive: the window K; or CopFault 2 where it is not 1 to half the width."""
-        self._direct("set_window", window)
+        self._direct("set_window", "window", window)
 
     def set_limit(self, limit: int) -> None:
         """Directive: the transmission limit; or CopFault 3 where it is 0."""
-        self._direct("set_limit", limit)
+        self._direct("set_limit", "limit", limit)
 
     def set_timer(self, ticks: int) -> None:
         """Directive: the timer's value in ticks; or CopFault 4 where it is 0."""
-        self._direct("set_timer", ticks)
+        self._direct("set_timer", "ticks", ticks)
 
 
 class Ground(Sender):
@@ -314,8 +308,8 @@ class Ground(Sender):
 
     _opens, _closes = _opening("ground"), _closing("ground")
 
-    def _direct(self, name: str, *values: int) -> None:
-        self._asked(_ground_directives[name](byref(self._handle), *values), CopFault)
+    def _direct(self, name: str, own: str = "", value: int = 0) -> None:
+        self._asked(_ground_directive(byref(self._handle), *_directive(name, own, value)), CopFault)
 
     def submit(self, map: int, packets: bytes) -> None:
         """Packets are to be sent on a MAP under sequence control: one, or with blocking several, one after another. The
@@ -406,7 +400,7 @@ class Ground(Sender):
         return int(self._read().frame_length)
 
 
-_ground_directives = {name: _call(f"ground_{name}", _HANDLE, *kinds) for name, kinds in _DIRECTIVES.items()}
+_ground_directive = _call("ground_directive", _HANDLE, c_uint8, c_uint16)
 _ground_submit = _call("ground_submit", _HANDLE, _MAP, *_OCTETS)
 _ground_bypass = _call("ground_bypass", _HANDLE, _MAP, *_OCTETS)
 _ground_pull = _call("ground_pull", _HANDLE, *_GIVEN)

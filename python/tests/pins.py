@@ -111,23 +111,20 @@ def is_call(value):
 
 
 def named_calls(it):
-    """The calls that the modules keep: a variable, or an entry of a dictionary, has one each."""
+    """The calls that the modules keep: a variable has one each."""
     for module in modules_of(it):
         for name, value in vars(module).items():
             if is_call(value):
                 yield f"{module.__name__}.{name}", value
-            elif isinstance(value, dict) and name[0] == "_":
-                yield from ((f"{module.__name__}.{name}[{key}]", it) for key, it in value.items() if is_call(it))
 
 
 def calls_by_their_names(it):
-    """A variable has the call of its own name, and an entry that of its key."""
+    """A variable has the call of its own name."""
     known = dict(named_calls(it))
     for where, call in known.items():
         name = made_of(call)[0]
-        _, own, key = re.fullmatch(r"(.*)\._(\w+?)(?:\[(\w+)\])?", where).groups()
-        prefix = {"events": "sim", "ground_directives": "ground"}.get(own)
-        assert name == f"sedge_{prefix}_{key}" if key else name == f"sedge_{own}", f"{where} is {name}"
+        own = where.rpartition("._")[2]
+        assert name == f"sedge_{own}", f"{where} is {name}"
     for kind, prefix in zip((it.Ground, it.Spacecraft, it.Link), HANDLES):
         assert made_of(kind._opens)[0] == f"sedge_{prefix}_open" and made_of(kind._closes)[0] == f"sedge_{prefix}_close"
     assert len(known) > 100
@@ -141,7 +138,8 @@ def structs_of_the_headers(it):
     structs, wanted = dict(struct_names(it)), {}
     for name, body in re.findall(r"^struct (sedge_\w+) \{(.*?)^\};", header(), re.M | re.S):
         fields = re.findall(r"(?:struct )?(\w+) (\*?)(\w+)(\[\d+\])?;", body.replace("uint64_t", "size_t"))
-        wanted[name] = [(FIELDS.get(own, own), kind + star + many) for kind, star, own, many in fields]
+        wanted[name] = [(FIELDS.get(own, own), "octets" if star and kind == "uint8_t" else kind + star + many)
+                        for kind, star, own, many in fields]
     shown = {name: [(own, field_of(field, structs)) for own, field in kind._fields_] for kind, name in structs.items()}
     shown.update({f"sedge_{kind}": [("node", spelled(it._nodes._Raw._fields_[0][1], {}))] for kind in HANDLES})
     for name, fields in shown.items():
@@ -169,6 +167,10 @@ def enumerations_of_the_headers(it):
     for name, members in NOTED.items():
         assert [(member.name, member.value) for member in classes[name]] == [
             (member, number) for number, member in enumerate(members.split()) if member != "-"], name
+    for known, own, before in ((it._calls._DIRECTIVES, "directive", "SEDGE"),
+                               (it._link._EVENTS, "event_kind", "SEDGE_EVENT")):
+        numbers = {case: int(number) for case, number in re.findall(r"(SEDGE_\w+) = (\d+)", bodies[own])}
+        assert {f"{before}_{name.upper()}": number for name, number in known.items()} == numbers, own
     pointers = dict(re.findall(r"SEDGE_POINTER_(\w+) = (\d+)", bodies["pointer"]))
     assert pointers == {"ONLY_IDLE": str(it.ONLY_IDLE), "NO_START": str(it.NO_START)}
 
@@ -182,7 +184,7 @@ def is_name_of(member, case):
 # The calls of each class have this prefix, and those of no class none.
 PREFIXES = {"Clcw": "clcw", "Farm": "farm", "Fop": "fop", "TcFrame": "tc", "Packet": "packet", "TmFrame": "tm",
             "TmBuilder": "tm_builder", "TmExtractor": "tm_extractor", "Map": "map", "Config": "config",
-            "Ground": "ground", "Spacecraft": "spacecraft", "Link": "sim", "Sender": "directive"}
+            "Ground": "ground", "Spacecraft": "spacecraft", "Link": "sim", "Sender": "sender"}
 # Methods that make other calls than the one of their own name, and what these are.
 OTHERS = {
     "Farm.__init__": "farm_open", "Farm.mode": "farm_state", "Fop.__init__": "fop_open",
@@ -190,8 +192,9 @@ OTHERS = {
     "segments": "map_count map_count map_segment", "_parts_of": "map_packet",
     "Alert.word": "alert_word", "Verdict.word": "verdict_word", "Map.take": "map_take dropped_word",
     "_Received.value": "dropped_word", "Handle.__init__": "config_fault", "Ground.report_in": "ground_report",
-    "Ground._read": "ground_read", "Ground._direct": "ground_directives", "Spacecraft._read": "spacecraft_read",
-    "Link._read": "sim_read", "Link._event": "events", "Link._octets": "sim_octets",
+    "Ground._read": "ground_read", "Ground._direct": "ground_directive", "Fop._direct": "fop_directive",
+    "Spacecraft._read": "spacecraft_read", "Link._read": "sim_read", "Link._event": "sim_step",
+    "Link._octets": "sim_octets",
     "Link._entries": "sim_count sim_entry_length sim_entry",
     "Link.submissions": "sim_submissions sim_submission_length sim_submission",
 }
@@ -258,7 +261,8 @@ def methods_and_their_calls(it):
     for name, function in ((name, one) for module in MODULES[1:] for name, one in functions(module)):
         made = " ".join(call for *_, call, _ in sorted(calls_in(function, known), key=lambda it: it[:2]))
         owner, _, own = name.rpartition(".")
-        default = f"{PREFIXES[owner]}_{own}" if owner in PREFIXES else own
+        prefix = "directive" if own in it._calls._DIRECTIVES else PREFIXES.get(owner)
+        default = f"{prefix}_{own}" if prefix else own
         if owner in ("Handle", "_Struct", "_Part", "_Heard") or (not owner and default not in known):
             assert made == OTHERS.get(name, ""), f"{name} calls {made}"
         elif name in BY:
@@ -287,7 +291,7 @@ def methods_and_their_arguments(it):
                         if not isinstance(getattr(statement, "value", None), ast.Constant))
         places = []
         for one in parameters:
-            given = (rf"(?<![\w.\"'=]){one}, len\({one}\)|_counted\('{one}', {one}\)" if one in octets
+            given = (rf"(?<![\w.\"'=]){one}, len\({one}\)|octets_of\('{one}', {one}\)" if one in octets
                      else rf"(?<=[(, ]){one}(?=[,)])(?! *=)|self\.{one} = {one}|bool\({one}\)")
             found = [match.start() for match in re.finditer(given, text)]
             assert found, f"{name} does not give {one}: {text}"

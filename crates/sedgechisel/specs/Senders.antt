@@ -205,8 +205,11 @@ unless_fault s (Err fault) = Err (fault_row fault).0
 abbrev pub submitted : KeptSender → Result SenderNumbers ℕ
 submitted k = and_then (stepped k Submit) (λ o. unless_fault o.after o.answer)
 
-abbrev pub directed : KeptSender → Directive → Result SenderNumbers ℕ
-directed k directive = and_then (stepped k (Direct directive)) (λ o. unless_fault o.after o.answer)
+-- what a directive leads to, if there is one
+abbrev pub directed : KeptSender → Option Directive → Result SenderNumbers ℕ
+directed k None = Err damaged
+directed k (Some directive) =
+    and_then (stepped k (Direct directive)) (λ o. unless_fault o.after o.answer)
 
 -- what a control word leads to at the sender of a virtual channel: one of another channel is no
 -- report

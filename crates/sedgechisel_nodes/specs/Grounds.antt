@@ -1,6 +1,7 @@
 -- The ground of a program in C: what a call answers, and what the program holds then.
 use Rattle.std.specs.Prelude.{◌≡◌, ◌≢◌, ℕ, ◌⊎◌, length, Option, Some, None, option_map, IfSome}
 use Rattle.std.specs.Prelude.{Result, Ok, Err}
+use Rattle.std.specs.Option.{unwrap_or}
 use Rattle.cop1.specs.declared.vocabulary.Directive.{Directive}
 use Rattle.cop1.specs.declared.vocabulary.FopMode.{FopMode}
 use Rattle.cop1.specs.declared.vocabulary.FopMode.TheVariants.{S1, S2, S3, S4, S5, S6}
@@ -43,11 +44,12 @@ abbrev pub directive_answer : Option GroundState → Directive → ℕ
 directive_answer None directive = closed
 directive_answer (Some s) directive = directed_number (ground_step s (Direct directive)).answer
 
--- what a call with a directive answers, and the ground before and after it
-pub record IsDirected (directive : Directive) (old new : Option GroundState) (answer : ℕ)
+-- what a call with a directive answers, and the ground before and after it; where it names none, it
+-- changes nothing
+pub record IsDirected (named : Option Directive) (old new : Option GroundState) (answer : ℕ)
     : Type 0 where
-  pub answer_is : answer ≡ directive_answer old directive
-  pub after : new ≡ stepped old (Direct directive)
+  pub answer_is : answer ≡ unwrap_or (option_map (directive_answer old) named) closed
+  pub after : new ≡ unwrap_or (option_map (λ d. stepped old (Direct d)) named) old
 
 -- the sender's state (CCSDS 232.1-B-2, 5.1)
 abbrev pub mode_number : FopMode → ℕ

@@ -12,6 +12,7 @@ use Rattle.nodes.specs.Ground.{outstanding}
 use Rattle.nodes.specs.Packets.{PacketOn}
 use Rattle.nodes.specs.declared.config.Config.{Config}
 use Rattle.nodes.specs.declared.event.Event.{Event}
+use Rattle.nodes.specs.declared.event.Event.TheVariants as events
 use Rattle.simulated_link.specs.declared.reply.NodeFault.{NodeFault}
 use Rattle.simulated_link.specs.declared.reply.NodeFault.TheVariants.{Link, Cop, Tm}
 use Rattle.simulated_link.specs.declared.fault.SimFault.{SimFault}
@@ -20,6 +21,8 @@ use Rattle.simulated_link.specs.Events.{TakesNone}
 use Rattle.simulated_link.specs.Replies.{ReplyView, Done, Nothing, Lost, Refused, Alerted, Sent}
 use Rattle.simulated_link.specs.Replies.{Reported, Up, Down, Packet}
 use Rattle.simulated_link.specs.World.{World, new_world, world_step, submitted, delivered, accepted}
+use Rattle.c_words.specs.Directives.{directive_named}
+use Rattle.sedgechisel_nodes.specs.declared.sim.events.KeptEvent.{KeptEvent}
 use Rattle.sedgechisel_nodes.specs.declared.sim.reply.KeptReply.{KeptReply}
 use Rattle.sedgechisel_nodes.specs.declared.sim.reading.SimReading.{SimReading}
 use Rattle.sedgechisel_nodes.specs.Boards.{no_received, received_kept}
@@ -93,6 +96,26 @@ abbrev pub IsReply : Result ReplyView SimFault → KeptReply → Type 0
 IsReply (Ok view) reply = reply ≡ reply_kept view
 IsReply (Err fault) reply = Unit {0}
 
+-- the event that a struct has: its kind, and what an event of that kind has; the rest is ignored
+abbrev pub event_named : KeptEvent → Option Event
+event_named e =
+    if e.kind == 1 then Some (events.Submit e.map e.octets)
+    else if e.kind == 2 then Some (events.Bypass e.map e.octets)
+    else if e.kind == 3 then option_map events.Directive (directive_named e.directive e.value)
+    else if e.kind == 4 then Some events.Send
+    else if e.kind == 5 then Some events.UpDeliver
+    else if e.kind == 6 then Some events.UpLose
+    else if e.kind == 7 then Some (events.UpDamage e.octets)
+    else if e.kind == 8 then Some events.Report
+    else if e.kind == 9 then Some events.DownDeliver
+    else if e.kind == 10 then Some events.DownLose
+    else if e.kind == 11 then Some (events.DownDamage e.octets)
+    else if e.kind == 12 then Some events.Tick
+    else if e.kind == 13 then Some events.Take
+    else if e.kind == 14 then Some events.TakeBypass
+    else if e.kind == 15 then Some (events.Telemetry e.octets)
+    else None
+
 -- what a call with an event answers and writes, and the link before and after it
 pub record IsEventCall (event : Event) (old new : Option LinkState) (answer : ℕ)
     (reply reply' : KeptReply) : Type 0 where
@@ -102,6 +125,12 @@ pub record IsEventCall (event : Event) (old new : Option LinkState) (answer : �
   pub after : answer ≡ 0 → new ≡ option_map (λ l. link_step l event) old
   pub replied : answer ≡ 0 → IfSome old (λ l. IsReply (world_step l.world event).answer reply')
   pub unchanged : answer ≢ 0 → (new ≡ old) × (reply' ≡ reply)
+
+-- the same of a struct; where it has no event, nothing changes
+abbrev pub IsStepCall : Option Event → (old new : Option LinkState) → ℕ
+    → (reply reply' : KeptReply) → Type 0
+IsStepCall (Some event) old new answer reply reply' = IsEventCall event old new answer reply reply'
+IsStepCall None old new answer reply reply' = (answer ≡ closed) × (new ≡ old) × (reply' ≡ reply)
 
 -- ---- readings
 

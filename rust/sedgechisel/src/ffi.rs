@@ -30,6 +30,16 @@ pub const SEDGE_CONTROL_SET_VR_SENT: u8 = 4;
 
 pub const SEDGE_NO_ALERT: u8 = 0;
 
+pub const SEDGE_INIT_WITHOUT_CHECK: u8 = 1;
+pub const SEDGE_INIT_WITH_CHECK: u8 = 2;
+pub const SEDGE_INIT_UNLOCK: u8 = 3;
+pub const SEDGE_INIT_SET_VR: u8 = 4;
+pub const SEDGE_TERMINATE: u8 = 5;
+pub const SEDGE_SET_VS: u8 = 6;
+pub const SEDGE_SET_WINDOW: u8 = 7;
+pub const SEDGE_SET_LIMIT: u8 = 8;
+pub const SEDGE_SET_TIMER: u8 = 9;
+
 pub const SEDGE_NEXT_NOTHING: u8 = 0;
 pub const SEDGE_NEXT_UNLOCK: u8 = 1;
 pub const SEDGE_NEXT_SET_VR: u8 = 2;
@@ -231,15 +241,7 @@ unsafe extern "C" {
     pub safe fn sedge_farm_state(farm: &Farm) -> u8;
 
     pub safe fn sedge_fop_open(fop: &mut Fop, width: u8, window: u8, limit: u8, timer: u16) -> u8;
-    pub safe fn sedge_fop_init_without_check(fop: &mut Fop) -> u8;
-    pub safe fn sedge_fop_init_with_check(fop: &mut Fop) -> u8;
-    pub safe fn sedge_fop_init_unlock(fop: &mut Fop) -> u8;
-    pub safe fn sedge_fop_init_set_vr(fop: &mut Fop, vr: u8) -> u8;
-    pub safe fn sedge_fop_terminate(fop: &mut Fop) -> u8;
-    pub safe fn sedge_fop_set_vs(fop: &mut Fop, vs: u8) -> u8;
-    pub safe fn sedge_fop_set_window(fop: &mut Fop, window: u8) -> u8;
-    pub safe fn sedge_fop_set_limit(fop: &mut Fop, limit: u8) -> u8;
-    pub safe fn sedge_fop_set_timer(fop: &mut Fop, timer: u16) -> u8;
+    pub safe fn sedge_fop_directive(fop: &mut Fop, directive: u8, value: u16) -> u8;
     pub safe fn sedge_fop_submit(fop: &mut Fop) -> u8;
     pub safe fn sedge_fop_next(fop: &mut Fop, number: &mut u8) -> u8;
     pub safe fn sedge_fop_report(fop: &mut Fop, vcid: u8, word: &Clcw, released: &mut u8) -> u8;

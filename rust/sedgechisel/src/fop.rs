@@ -165,7 +165,7 @@ impl Fop {
             vr,
         };
         // To set the limit that it has changes nothing of a sender, and is refused of fields that are none.
-        CopFault::judge(ffi::sedge_fop_set_limit(&mut fop, fields.limit))?;
+        CopFault::judge(ffi::sedge_fop_directive(&mut fop, ffi::SEDGE_SET_LIMIT, fields.limit.into()))?;
         Ok(Self(fop))
     }
 
@@ -195,51 +195,55 @@ impl Fop {
         FopState::of(self.0.state)
     }
 
+    fn direct(&mut self, directive: u8, value: u16) -> Result<(), CopFault> {
+        CopFault::judge(ffi::sedge_fop_directive(&mut self.0, directive, value))
+    }
+
     /// The directive to initiate without CLCW check (5.2.4): S6 to S1. The four initiations and
     /// [`set_vs`](Fop::set_vs) are refused with 8 [`WrongState`](CopFault::WrongState) in any other state than S6.
     pub fn init_without_check(&mut self) -> Result<(), CopFault> {
-        CopFault::judge(ffi::sedge_fop_init_without_check(&mut self.0))
+        self.direct(ffi::SEDGE_INIT_WITHOUT_CHECK, 0)
     }
 
     /// The directive to initiate with CLCW check: S6 to S4, until a report agrees.
     pub fn init_with_check(&mut self) -> Result<(), CopFault> {
-        CopFault::judge(ffi::sedge_fop_init_with_check(&mut self.0))
+        self.direct(ffi::SEDGE_INIT_WITH_CHECK, 0)
     }
 
     /// The directive to initiate with Unlock: S6 to S5, and Unlock is sent.
     pub fn init_unlock(&mut self) -> Result<(), CopFault> {
-        CopFault::judge(ffi::sedge_fop_init_unlock(&mut self.0))
+        self.direct(ffi::SEDGE_INIT_UNLOCK, 0)
     }
 
     /// The directive to initiate with Set V(R): S6 to S5, V(S) and NN(R) to this number, and Set V(R) is sent.
     pub fn init_set_vr(&mut self, vr: u8) -> Result<(), CopFault> {
-        CopFault::judge(ffi::sedge_fop_init_set_vr(&mut self.0, vr))
+        self.direct(ffi::SEDGE_INIT_SET_VR, vr.into())
     }
 
     /// The directive Terminate: from S1 to S5 to S6. It is the alert [`Terminated`](Alert::Terminated): all units are
     /// discarded. Refused with 8 [`WrongState`](CopFault::WrongState) in S6.
     pub fn terminate(&mut self) -> Result<(), CopFault> {
-        CopFault::judge(ffi::sedge_fop_terminate(&mut self.0))
+        self.direct(ffi::SEDGE_TERMINATE, 0)
     }
 
     /// The directive Set V(S), which sets NN(R) too; in S6 alone.
     pub fn set_vs(&mut self, vs: u8) -> Result<(), CopFault> {
-        CopFault::judge(ffi::sedge_fop_set_vs(&mut self.0, vs))
+        self.direct(ffi::SEDGE_SET_VS, vs.into())
     }
 
     /// Sets the window K, in any state. Refused with 2 [`Window`](CopFault::Window) unless it is 1 to half the width.
     pub fn set_window(&mut self, window: u8) -> Result<(), CopFault> {
-        CopFault::judge(ffi::sedge_fop_set_window(&mut self.0, window))
+        self.direct(ffi::SEDGE_SET_WINDOW, window.into())
     }
 
     /// Sets the transmission limit, in any state. Refused with 3 [`Limit`](CopFault::Limit) if it is 0.
     pub fn set_limit(&mut self, limit: u8) -> Result<(), CopFault> {
-        CopFault::judge(ffi::sedge_fop_set_limit(&mut self.0, limit))
+        self.direct(ffi::SEDGE_SET_LIMIT, limit.into())
     }
 
     /// Sets the timer's value in ticks, in any state. Refused with 4 [`Timer`](CopFault::Timer) if it is 0.
     pub fn set_timer(&mut self, timer: u16) -> Result<(), CopFault> {
-        CopFault::judge(ffi::sedge_fop_set_timer(&mut self.0, timer))
+        self.direct(ffi::SEDGE_SET_TIMER, timer)
     }
 
     /// Submits a unit, to be sent under sequence control: it waits, and the caller keeps it. Refused with

@@ -15,6 +15,22 @@ pub const SEDGE_NODE_ABSENT: u8 = 253;
 pub const SEDGE_NODE_OUT_OF_RANGE: u8 = 254;
 pub const SEDGE_NODE_NONE: u8 = 255;
 
+pub const SEDGE_EVENT_SUBMIT: u8 = 1;
+pub const SEDGE_EVENT_BYPASS: u8 = 2;
+pub const SEDGE_EVENT_DIRECTIVE: u8 = 3;
+pub const SEDGE_EVENT_SEND: u8 = 4;
+pub const SEDGE_EVENT_UP_DELIVER: u8 = 5;
+pub const SEDGE_EVENT_UP_LOSE: u8 = 6;
+pub const SEDGE_EVENT_UP_DAMAGE: u8 = 7;
+pub const SEDGE_EVENT_REPORT: u8 = 8;
+pub const SEDGE_EVENT_DOWN_DELIVER: u8 = 9;
+pub const SEDGE_EVENT_DOWN_LOSE: u8 = 10;
+pub const SEDGE_EVENT_DOWN_DAMAGE: u8 = 11;
+pub const SEDGE_EVENT_TICK: u8 = 12;
+pub const SEDGE_EVENT_TAKE: u8 = 13;
+pub const SEDGE_EVENT_TAKE_BYPASS: u8 = 14;
+pub const SEDGE_EVENT_TELEMETRY: u8 = 15;
+
 pub const SEDGE_REPLY_DONE: u8 = 0;
 pub const SEDGE_REPLY_NOTHING: u8 = 1;
 pub const SEDGE_REPLY_LOST: u8 = 2;
@@ -125,6 +141,17 @@ pub struct Reply {
 }
 
 #[repr(C)]
+#[derive(Clone, Copy, Debug)]
+pub struct Event {
+    pub kind: u8,
+    pub map: u8,
+    pub directive: u8,
+    pub value: u16,
+    pub octets: *const u8,
+    pub count: usize,
+}
+
+#[repr(C)]
 #[derive(Clone, Copy, Debug, Default)]
 pub struct SimReading {
     pub outstanding: usize,
@@ -210,15 +237,7 @@ unsafe extern "C" {
 
     pub safe fn sedge_ground_open(config: &Config, ground: &mut Ground) -> u8;
     pub safe fn sedge_ground_close(ground: &mut Ground);
-    pub safe fn sedge_ground_init_without_check(ground: &mut Ground) -> u8;
-    pub safe fn sedge_ground_init_with_check(ground: &mut Ground) -> u8;
-    pub safe fn sedge_ground_init_unlock(ground: &mut Ground) -> u8;
-    pub safe fn sedge_ground_init_set_vr(ground: &mut Ground, vr: u8) -> u8;
-    pub safe fn sedge_ground_terminate(ground: &mut Ground) -> u8;
-    pub safe fn sedge_ground_set_vs(ground: &mut Ground, vs: u8) -> u8;
-    pub safe fn sedge_ground_set_window(ground: &mut Ground, window: u8) -> u8;
-    pub safe fn sedge_ground_set_limit(ground: &mut Ground, limit: u8) -> u8;
-    pub safe fn sedge_ground_set_timer(ground: &mut Ground, ticks: u16) -> u8;
+    pub safe fn sedge_ground_directive(ground: &mut Ground, directive: u8, value: u16) -> u8;
     fn sedge_ground_submit(ground: &mut Ground, map: u8, octets: *const u8, count: usize) -> u8;
     fn sedge_ground_bypass(ground: &mut Ground, map: u8, octets: *const u8, count: usize) -> u8;
     pub safe fn sedge_ground_next(ground: &mut Ground, count: &mut usize) -> u8;
@@ -255,29 +274,7 @@ unsafe extern "C" {
     pub safe fn sedge_sim_open(config: &Config, sim: &mut Sim) -> u8;
     pub safe fn sedge_sim_close(sim: &mut Sim);
     pub safe fn sedge_sim_fault_name(fault: u8) -> Text;
-    fn sedge_sim_submit(sim: &mut Sim, map: u8, octets: *const u8, count: usize, reply: &mut Reply) -> u8;
-    fn sedge_sim_bypass(sim: &mut Sim, map: u8, octets: *const u8, count: usize, reply: &mut Reply) -> u8;
-    pub safe fn sedge_sim_init_without_check(sim: &mut Sim, reply: &mut Reply) -> u8;
-    pub safe fn sedge_sim_init_with_check(sim: &mut Sim, reply: &mut Reply) -> u8;
-    pub safe fn sedge_sim_init_unlock(sim: &mut Sim, reply: &mut Reply) -> u8;
-    pub safe fn sedge_sim_init_set_vr(sim: &mut Sim, vr: u8, reply: &mut Reply) -> u8;
-    pub safe fn sedge_sim_terminate(sim: &mut Sim, reply: &mut Reply) -> u8;
-    pub safe fn sedge_sim_set_vs(sim: &mut Sim, vs: u8, reply: &mut Reply) -> u8;
-    pub safe fn sedge_sim_set_window(sim: &mut Sim, window: u8, reply: &mut Reply) -> u8;
-    pub safe fn sedge_sim_set_limit(sim: &mut Sim, limit: u8, reply: &mut Reply) -> u8;
-    pub safe fn sedge_sim_set_timer(sim: &mut Sim, ticks: u16, reply: &mut Reply) -> u8;
-    pub safe fn sedge_sim_send(sim: &mut Sim, reply: &mut Reply) -> u8;
-    pub safe fn sedge_sim_up_deliver(sim: &mut Sim, reply: &mut Reply) -> u8;
-    pub safe fn sedge_sim_up_lose(sim: &mut Sim, reply: &mut Reply) -> u8;
-    fn sedge_sim_up_damage(sim: &mut Sim, octets: *const u8, count: usize, reply: &mut Reply) -> u8;
-    pub safe fn sedge_sim_report(sim: &mut Sim, reply: &mut Reply) -> u8;
-    pub safe fn sedge_sim_down_deliver(sim: &mut Sim, reply: &mut Reply) -> u8;
-    pub safe fn sedge_sim_down_lose(sim: &mut Sim, reply: &mut Reply) -> u8;
-    fn sedge_sim_down_damage(sim: &mut Sim, octets: *const u8, count: usize, reply: &mut Reply) -> u8;
-    pub safe fn sedge_sim_tick(sim: &mut Sim, reply: &mut Reply) -> u8;
-    pub safe fn sedge_sim_take(sim: &mut Sim, reply: &mut Reply) -> u8;
-    pub safe fn sedge_sim_take_bypass(sim: &mut Sim, reply: &mut Reply) -> u8;
-    fn sedge_sim_telemetry(sim: &mut Sim, packet: *const u8, count: usize, reply: &mut Reply) -> u8;
+    fn sedge_sim_step(sim: &mut Sim, event: &Event, reply: &mut Reply) -> u8;
     fn sedge_sim_octets(sim: &mut Sim, out: *mut u8, room: usize, count: &mut usize) -> u8;
     pub safe fn sedge_sim_read(sim: &mut Sim, read: &mut SimReading) -> u8;
     pub safe fn sedge_sim_submissions(sim: &mut Sim, count: &mut usize) -> u8;
@@ -425,24 +422,17 @@ pub fn spacecraft_report(spacecraft: &mut Spacecraft, out: &mut [u8], count: &mu
     unsafe { sedge_spacecraft_report(spacecraft, out.as_mut_ptr(), out.len(), count) }
 }
 
-pub fn sim_submit(sim: &mut Sim, map: u8, octets: &[u8], reply: &mut Reply) -> u8 {
-    unsafe { sedge_sim_submit(sim, map, octets.as_ptr(), octets.len(), reply) }
+/// An event with octets, or with none.
+pub fn sim_event(sim: &mut Sim, kind: u8, map: u8, octets: &[u8], reply: &mut Reply) -> u8 {
+    let event = Event { kind, map, directive: 0, value: 0, octets: octets.as_ptr(), count: octets.len() };
+    unsafe { sedge_sim_step(sim, &event, reply) }
 }
 
-pub fn sim_bypass(sim: &mut Sim, map: u8, octets: &[u8], reply: &mut Reply) -> u8 {
-    unsafe { sedge_sim_bypass(sim, map, octets.as_ptr(), octets.len(), reply) }
-}
-
-pub fn sim_up_damage(sim: &mut Sim, octets: &[u8], reply: &mut Reply) -> u8 {
-    unsafe { sedge_sim_up_damage(sim, octets.as_ptr(), octets.len(), reply) }
-}
-
-pub fn sim_down_damage(sim: &mut Sim, octets: &[u8], reply: &mut Reply) -> u8 {
-    unsafe { sedge_sim_down_damage(sim, octets.as_ptr(), octets.len(), reply) }
-}
-
-pub fn sim_telemetry(sim: &mut Sim, packet: &[u8], reply: &mut Reply) -> u8 {
-    unsafe { sedge_sim_telemetry(sim, packet.as_ptr(), packet.len(), reply) }
+/// The event of a directive.
+pub fn sim_directive(sim: &mut Sim, directive: u8, value: u16, reply: &mut Reply) -> u8 {
+    let kind = SEDGE_EVENT_DIRECTIVE;
+    let event = Event { kind, map: 0, directive, value, octets: [].as_ptr(), count: 0 };
+    unsafe { sedge_sim_step(sim, &event, reply) }
 }
 
 pub fn sim_octets(sim: &mut Sim, out: &mut [u8], count: &mut usize) -> u8 {

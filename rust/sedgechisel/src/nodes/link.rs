@@ -2,7 +2,7 @@
 
 use super::ground::alert_of;
 use super::{room_for, Config, Heard, LinkFault, OpenFault, Received};
-use crate::ffi::nodes as raw;
+use crate::ffi::{self, nodes as raw};
 use crate::numbers::{done, never};
 use crate::{Alert, Clcw, CopFault, FopState, Packet, TcFrame, TmFault};
 use alloc::vec::Vec;
@@ -101,31 +101,28 @@ impl Link {
         Ok(link)
     }
 
-    fn event(
-        &mut self, call: impl FnOnce(&mut raw::Sim, &mut raw::Reply) -> u8,
-    ) -> Result<raw::Reply, SimFault> {
+    fn event(&mut self, kind: u8, map: u8, octets: &[u8]) -> Result<raw::Reply, SimFault> {
         let mut reply = raw::Reply::default();
-        SimFault::judge(call(self.0.get(), &mut reply))?;
+        SimFault::judge(raw::sim_event(self.0.get(), kind, map, octets, &mut reply))?;
         Ok(reply)
     }
 
-    /// An event that is no frame's and takes no memory: a directive.
-    fn direct(&mut self, call: impl FnOnce(&mut raw::Sim, &mut raw::Reply) -> u8) -> Result<(), CopFault> {
-        match self.event(call) {
-            Ok(reply) if reply.kind == raw::SEDGE_REPLY_REFUSED => Err(CopFault::of(reply.fault)),
-            Ok(_) => Ok(()),
-            Err(_) => never(),
+    /// The event of a directive, which always happens.
+    fn direct(&mut self, directive: u8, value: u16) -> Result<(), CopFault> {
+        let mut reply = raw::Reply::default();
+        done(raw::sim_directive(self.0.get(), directive, value, &mut reply));
+        match reply.kind {
+            raw::SEDGE_REPLY_REFUSED => Err(CopFault::of(reply.fault)),
+            _ => Ok(()),
         }
     }
 
     /// An event that gives a frame or a packet of at most `most` octets; it happens where there is room for them.
     /// They are returned in room for exactly them, if there is memory for that too.
-    fn given(
-        &mut self, most: usize, call: impl FnOnce(&mut raw::Sim, &mut raw::Reply) -> u8,
-    ) -> Result<Option<(u8, Vec<u8>)>, SimFault> {
+    fn given(&mut self, most: usize, kind: u8) -> Result<Option<(u8, Vec<u8>)>, SimFault> {
         let mut room = Vec::new();
         room.try_reserve_exact(most).map_err(|_| SimFault::Memory)?;
-        let reply = self.event(call)?;
+        let reply = self.event(kind, 0, &[])?;
         if reply.count == 0 {
             return Ok(None);
         }
@@ -137,122 +134,122 @@ impl Link {
 
     /// [`Ground::init_without_check`](crate::Ground::init_without_check).
     pub fn init_without_check(&mut self) -> Result<(), CopFault> {
-        self.direct(|sim, reply| raw::sedge_sim_init_without_check(sim, reply))
+        self.direct(ffi::SEDGE_INIT_WITHOUT_CHECK, 0)
     }
 
     /// [`Ground::init_with_check`](crate::Ground::init_with_check).
     pub fn init_with_check(&mut self) -> Result<(), CopFault> {
-        self.direct(|sim, reply| raw::sedge_sim_init_with_check(sim, reply))
+        self.direct(ffi::SEDGE_INIT_WITH_CHECK, 0)
     }
 
     /// [`Ground::init_unlock`](crate::Ground::init_unlock).
     pub fn init_unlock(&mut self) -> Result<(), CopFault> {
-        self.direct(|sim, reply| raw::sedge_sim_init_unlock(sim, reply))
+        self.direct(ffi::SEDGE_INIT_UNLOCK, 0)
     }
 
     /// [`Ground::init_set_vr`](crate::Ground::init_set_vr).
     pub fn init_set_vr(&mut self, vr: u8) -> Result<(), CopFault> {
-        self.direct(|sim, reply| raw::sedge_sim_init_set_vr(sim, vr, reply))
+        self.direct(ffi::SEDGE_INIT_SET_VR, vr.into())
     }
 
     /// [`Ground::terminate`](crate::Ground::terminate).
     pub fn terminate(&mut self) -> Result<(), CopFault> {
-        self.direct(|sim, reply| raw::sedge_sim_terminate(sim, reply))
+        self.direct(ffi::SEDGE_TERMINATE, 0)
     }
 
     /// [`Ground::set_vs`](crate::Ground::set_vs).
     pub fn set_vs(&mut self, vs: u8) -> Result<(), CopFault> {
-        self.direct(|sim, reply| raw::sedge_sim_set_vs(sim, vs, reply))
+        self.direct(ffi::SEDGE_SET_VS, vs.into())
     }
 
     /// [`Ground::set_window`](crate::Ground::set_window).
     pub fn set_window(&mut self, window: u8) -> Result<(), CopFault> {
-        self.direct(|sim, reply| raw::sedge_sim_set_window(sim, window, reply))
+        self.direct(ffi::SEDGE_SET_WINDOW, window.into())
     }
 
     /// [`Ground::set_limit`](crate::Ground::set_limit).
     pub fn set_limit(&mut self, limit: u8) -> Result<(), CopFault> {
-        self.direct(|sim, reply| raw::sedge_sim_set_limit(sim, limit, reply))
+        self.direct(ffi::SEDGE_SET_LIMIT, limit.into())
     }
 
     /// [`Ground::set_timer`](crate::Ground::set_timer).
     pub fn set_timer(&mut self, ticks: u16) -> Result<(), CopFault> {
-        self.direct(|sim, reply| raw::sedge_sim_set_timer(sim, ticks, reply))
+        self.direct(ffi::SEDGE_SET_TIMER, ticks)
     }
 
     /// [`Ground::submit`](crate::Ground::submit).
     pub fn submit(&mut self, map: u8, packets: &[u8]) -> Result<(), LinkFault> {
-        let reply = self.event(|sim, reply| raw::sim_submit(sim, map, packets, reply));
+        let reply = self.event(raw::SEDGE_EVENT_SUBMIT, map, packets);
         refusal(reply, LinkFault::of, LinkFault::Memory)
     }
 
     /// [`Ground::bypass`](crate::Ground::bypass).
     pub fn bypass(&mut self, map: u8, packet: &[u8]) -> Result<(), LinkFault> {
-        let reply = self.event(|sim, reply| raw::sim_bypass(sim, map, packet, reply));
+        let reply = self.event(raw::SEDGE_EVENT_BYPASS, map, packet);
         refusal(reply, LinkFault::of, LinkFault::Memory)
     }
 
     /// [`Spacecraft::telemetry`](crate::Spacecraft::telemetry).
     pub fn telemetry(&mut self, packet: &[u8]) -> Result<(), TmFault> {
-        let reply = self.event(|sim, reply| raw::sim_telemetry(sim, packet, reply));
+        let reply = self.event(raw::SEDGE_EVENT_TELEMETRY, 0, packet);
         refusal(reply, TmFault::of, TmFault::Memory)
     }
 
     /// The ground sends a frame, which is on its way up then; or `None`, if nothing is to be sent now. Refused with 6
     /// [`Memory`](SimFault::Memory) alone.
     pub fn send(&mut self) -> Result<Option<Vec<u8>>, SimFault> {
-        let frame = self.given(TcFrame::LONGEST, |sim, reply| raw::sedge_sim_send(sim, reply))?;
+        let frame = self.given(TcFrame::LONGEST, raw::SEDGE_EVENT_SEND)?;
         Ok(frame.map(|(_, octets)| octets))
     }
 
     /// The first frame on its way up arrives. Refused with 7 [`NothingInTransit`](SimFault::NothingInTransit) if there
     /// is none, as are the five calls like it, or with 6 [`Memory`](SimFault::Memory).
     pub fn up_deliver(&mut self) -> Result<Received, SimFault> {
-        let reply = self.event(|sim, reply| raw::sedge_sim_up_deliver(sim, reply))?;
+        let reply = self.event(raw::SEDGE_EVENT_UP_DELIVER, 0, &[])?;
         Ok(Received::from_raw(&reply.up))
     }
 
     /// The first frame on its way up is lost.
     pub fn up_lose(&mut self) -> Result<(), SimFault> {
-        self.event(|sim, reply| raw::sedge_sim_up_lose(sim, reply)).map(drop)
+        self.event(raw::SEDGE_EVENT_UP_LOSE, 0, &[]).map(drop)
     }
 
     /// These octets arrive in its place, which are no frame. Refused with 8
     /// [`NotDetectable`](SimFault::NotDetectable) if they are one.
     pub fn up_damage(&mut self, octets: &[u8]) -> Result<Received, SimFault> {
-        let reply = self.event(|sim, reply| raw::sim_up_damage(sim, octets, reply))?;
+        let reply = self.event(raw::SEDGE_EVENT_UP_DAMAGE, 0, octets)?;
         Ok(Received::from_raw(&reply.up))
     }
 
     /// The spacecraft sends a telemetry frame, which is on its way down then: the report in it. Refused with 6
     /// [`Memory`](SimFault::Memory) alone.
     pub fn report(&mut self) -> Result<Clcw, SimFault> {
-        let reply = self.event(|sim, reply| raw::sedge_sim_report(sim, reply))?;
+        let reply = self.event(raw::SEDGE_EVENT_REPORT, 0, &[])?;
         Ok(Clcw::from_raw(reply.report))
     }
 
     /// The first frame on its way down arrives.
     pub fn down_deliver(&mut self) -> Result<Heard, SimFault> {
-        let reply = self.event(|sim, reply| raw::sedge_sim_down_deliver(sim, reply))?;
+        let reply = self.event(raw::SEDGE_EVENT_DOWN_DELIVER, 0, &[])?;
         Ok(Heard::from_raw(&reply.down))
     }
 
     /// The first frame on its way down is lost.
     pub fn down_lose(&mut self) -> Result<(), SimFault> {
-        self.event(|sim, reply| raw::sedge_sim_down_lose(sim, reply)).map(drop)
+        self.event(raw::SEDGE_EVENT_DOWN_LOSE, 0, &[]).map(drop)
     }
 
     /// These octets arrive in its place, which are no frame. Refused with 8
     /// [`NotDetectable`](SimFault::NotDetectable) if they are one.
     pub fn down_damage(&mut self, octets: &[u8]) -> Result<Heard, SimFault> {
-        let reply = self.event(|sim, reply| raw::sim_down_damage(sim, octets, reply))?;
+        let reply = self.event(raw::SEDGE_EVENT_DOWN_DAMAGE, 0, octets)?;
         Ok(Heard::from_raw(&reply.down))
     }
 
     /// A tick of the ground's clock passes: the alert, if there is one.
     #[must_use]
     pub fn tick(&mut self) -> Option<Alert> {
-        match self.event(|sim, reply| raw::sedge_sim_tick(sim, reply)) {
+        match self.event(raw::SEDGE_EVENT_TICK, 0, &[]) {
             Ok(reply) => alert_of(reply.alert),
             Err(_) => never(),
         }
@@ -261,12 +258,12 @@ impl Link {
     /// A packet of sequence-controlled frames is taken on board, with its MAP, if one waits. Refused with 6
     /// [`Memory`](SimFault::Memory) alone.
     pub fn take(&mut self) -> Result<Option<(u8, Vec<u8>)>, SimFault> {
-        self.given(Packet::LONGEST, |sim, reply| raw::sedge_sim_take(sim, reply))
+        self.given(Packet::LONGEST, raw::SEDGE_EVENT_TAKE)
     }
 
     /// The same of the packets that came past the sequence control.
     pub fn take_bypass(&mut self) -> Result<Option<(u8, Vec<u8>)>, SimFault> {
-        self.given(Packet::LONGEST, |sim, reply| raw::sedge_sim_take_bypass(sim, reply))
+        self.given(Packet::LONGEST, raw::SEDGE_EVENT_TAKE_BYPASS)
     }
 
     fn read(&self) -> raw::SimReading {
