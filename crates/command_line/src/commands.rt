@@ -116,7 +116,7 @@ fn no_command<'a>(alloc: Global, words: &'a [&'a str]) -> Result<Error, AllocErr
 fn every_command<'a>(alloc: Global) -> Result<Command<'a>, AllocError> {
     let mut command = Command::new(alloc, "tctool")
         .about("Tools for the telecommand link")
-        .version("0.2.0")
+        .version("0.3.0")
         .after_help(ending_of_help!("3 BC unlock Open vr=0 l=0 w=0 t=0 b=1"))
         .subcommand_required(true);
     for described in COMMANDS {

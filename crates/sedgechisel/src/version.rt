@@ -8,7 +8,7 @@ use c_words::{Text, spelled};
 /// The version of the library.
 #[unsafe(no_mangle)]
 pub extern "C" fn sedge_version() -> Text
-    ensures { result.text ≡ text_of (codes "0.2.0") }
+    ensures { result.text ≡ text_of (codes "0.3.0") }
 {
-    spelled("0.2.0")
+    spelled("0.3.0")
 }

@@ -14,7 +14,7 @@ pub fn version() -> Version {
 }
 
 impl Version {
-    /// The version as text, such as `0.2.0`.
+    /// The version as text, such as `0.3.0`.
     #[must_use]
     pub fn as_str(&self) -> &str {
         self.0.as_str()
