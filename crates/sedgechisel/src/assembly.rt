@@ -11,52 +11,59 @@ use space_packet::packet_len;
 use tc_frame::SegmentFlags;
 
 /// One MAP (CCSDS 232.0-B-4, 4.1.3.2): how many octets of the memory the open part has, whether one is open, and
-/// whether a segment may hold several packets.
+/// whether a segment may hold several packets. For C it is `struct sedge_map`.
 #[repr(C)]
 #[derive(Clone, Copy)]
 pub struct KeptMap {
+    /// The octets of the open part, and 0 if none is open.
     pub count: usize,
+    /// Whether a part is open, 0 or 1.
     pub is_open: u8,
+    /// Whether a segment may hold several whole packets, 0 or 1.
     pub blocking: u8,
 }
 
 /// What came of a segment: how many octets the packets have that are whole now; 0 for none, 1 for one at the beginning
-/// of the memory, 2 for the segment's data; and the number of the cause of a drop, or 0.
+/// of the memory, 2 for the segment's data; and the number of the cause of a drop, or 0. For C it is
+/// `struct sedge_taken`.
 #[repr(C)]
 #[derive(Clone, Copy)]
 pub struct TakenSegment {
+    /// The octets of all the packets together, and 0 if there are none.
     pub count: usize,
+    /// Of `sedge_where`.
     pub place: u8,
+    /// Of `sedge_dropped`, the later of two.
     pub dropped: u8,
 }
 
-/// Takes the next segment of a MAP, its flags and its data. The memory has as many octets as the longest packet.
-/// Answers 0, or 255 where the flags are none or the MAP is damaged, and nothing is written then.
+/// Takes the next segment of the MAP, its flags of `sedge_segment_flags` and its data. Hand the packets that are whole
+/// now on before the next call. Returns 0, or `SEDGE_DAMAGED`, also for flags above 3.
 #[unsafe(no_mangle)]
 pub extern "C" fn sedge_map_take(
     map: &mut KeptMap,
     flags: u8,
-    octets: &[u8],
+    payload: &[u8],
     memory: &mut [u8],
     taken: &mut TakenSegment,
 ) -> u8
-    ensures answer { result ≡ status_of (taken_at map.old flags octets.now memory.old) }
-    ensures describes { DescribesOutcome (taken_at map.old flags octets.now memory.old)
-        (outcome_described map.new taken.new memory.new octets.now) }
-    ensures map { OnOk (taken_at map.old flags octets.now memory.old)
+    ensures answer { result ≡ status_of (taken_at map.old flags payload.now memory.old) }
+    ensures describes { DescribesOutcome (taken_at map.old flags payload.now memory.old)
+        (outcome_described map.new taken.new memory.new payload.now) }
+    ensures map { OnOk (taken_at map.old flags payload.now memory.old)
         (is_map map.new (length memory.old) ≡ true) }
     ensures blocking { map.new.blocking ≡ map.old.blocking }
-    ensures count { OnOk (taken_at map.old flags octets.now memory.old)
-        (is_counted taken.new memory.new octets.now ≡ true) }
-    ensures dropped { OnOk (taken_at map.old flags octets.now memory.old)
+    ensures count { OnOk (taken_at map.old flags payload.now memory.old)
+        (is_counted taken.new memory.new payload.now ≡ true) }
+    ensures dropped { OnOk (taken_at map.old flags payload.now memory.old)
         (IsCauseNumber taken.new.dropped) }
-    ensures unchanged { OnErr (taken_at map.old flags octets.now memory.old)
+    ensures unchanged { OnErr (taken_at map.old flags payload.now memory.old)
         ((map.new ≡ map.old) × (taken.new ≡ taken.old) × (memory.new ≡ memory.old)) }
 {
     if flags >= 4 || !is_whole(map, memory.len()) {
         return DAMAGED;
     }
-    *taken = take_segment(map, SegmentFlags::with_code(flags), octets, memory);
+    *taken = take_segment(map, SegmentFlags::with_code(flags), payload, memory);
     0
 }
 
@@ -196,8 +203,8 @@ pub(crate) fn add(count: usize, octets: &[u8], memory: &mut [u8]) -> usize
     end
 }
 
-/// The packet after a part of the octets, which the part is then; false, and nothing is written, where none stands
-/// there.
+/// Goes on to the packet after this part of the octets; begin with `{0, 0}`. Returns true, and the part is that packet;
+/// or false, with nothing written, if there is none.
 #[tactic(auto, using(crate::proofs::Assembling::stands_at, crate::proofs::Assembling::none_at, crate::proofs::Assembling::none_past))]
 #[unsafe(no_mangle)]
 pub extern "C" fn sedge_map_packet(octets: &[u8], packet: &mut Part) -> bool

@@ -17,22 +17,32 @@ use tc_frame::{
 };
 
 /// A telecommand frame's fields (CCSDS 232.0-B-4, 4.1) without its data. The kind is 0 for Type-AD, 1 for Type-BD and 2
-/// for Type-BC; the command is 0 for Unlock and 1 for Set V(R).
+/// for Type-BC; the command is 0 for Unlock and 1 for Set V(R). For C it is `struct sedge_tc_frame`.
 #[repr(C)]
 #[derive(Clone, Copy)]
 pub struct CommandFrame {
+    /// The spacecraft identifier, below 1,024.
     pub scid: u16,
+    /// The virtual channel identifier, below 64.
     pub vcid: u8,
+    /// Of `sedge_tc_kind`.
     pub kind: u8,
+    /// Type-AD: the sequence number N(S).
     pub n: u8,
+    /// Type-AD and Type-BD: of `sedge_segment_flags`.
     pub flags: u8,
+    /// Type-AD and Type-BD: the MAP identifier, below 64.
     pub map: u8,
+    /// Type-BC: of `sedge_command`.
     pub command: u8,
+    /// Type-BC, Set V(R): the number.
     pub vr: u8,
 }
 
-/// Reads all of the octets as one frame, with its FECF or without, and says where its data stand in them. Answers 0,
-/// or the first of the faults 1 to 9 of `TcFault`.
+/// Reads all of the octets as one frame, which ends with its FECF if `checked` is true, and writes where the data after
+/// the segment header are; a control frame has none, and the part is `{0, 0}`. The frame may be of any spacecraft and
+/// virtual channel: compare scid and vcid with your own before a receiver is given it. Returns 0, or the first of 1 to
+/// 9 of `sedge_tc_fault`.
 #[unsafe(no_mangle)]
 pub extern "C" fn sedge_tc_decode(
     octets: &[u8],
@@ -52,8 +62,9 @@ pub extern "C" fn sedge_tc_decode(
     })
 }
 
-/// Writes the frame that the fields and the data describe at the beginning of `out`, with its FECF or without, and says
-/// how many octets it has. Answers 0, or 11 `FieldRange`, or 10 `Room`, or 255 where the fields describe no frame.
+/// Writes the frame with these data (ignored for a control frame) to the beginning of `out`, with its FECF if `checked`
+/// is true, and its length in octets, 6 to 1,024, to `total`. Returns 0, or the first of `SEDGE_DAMAGED` (the kind, the
+/// segment flags or the command is out of its enum), `SEDGE_TC_FIELD_RANGE` and `SEDGE_TC_ROOM`.
 #[unsafe(no_mangle)]
 pub extern "C" fn sedge_tc_encode(
     frame: &CommandFrame,
@@ -75,8 +86,9 @@ pub extern "C" fn sedge_tc_encode(
     }
 }
 
-/// How many octets the frame has that begins so, for cutting a stream. Answers 0, or 1 `Short` for fewer than 5 octets,
-/// or 5 `Length` where it declares fewer than any frame has.
+/// Writes the length of the frame that begins with these octets, by its first 5 octets alone; for cutting a stream
+/// (4.1.2.7). Returns 0, or `SEDGE_TC_SHORT` for fewer than 5 octets, or `SEDGE_TC_LENGTH` if it declares fewer than 5,
+/// or with the FECF fewer than 7.
 #[unsafe(no_mangle)]
 pub extern "C" fn sedge_tc_declared(octets: &[u8], checked: bool, total: &mut usize) -> u8
     ensures { IsWritten (λ n. n) (total_declared checked octets.now) total.old total.new result }

@@ -7,8 +7,9 @@ ghost use Rattle.sedgechisel.specs.ControlWords.{word_read, word_written};
 use crate::numbers::WRONG_COUNT;
 use clcw::Clcw;
 
-/// Reads four octets as a control word, and answers 0, or the first fault of `ClcwFault`, or 254 where the octets are
-/// not four.
+/// Reads four octets as a control word, of whichever virtual channel: compare vcid with your own before you use its
+/// value or its flags (`sedge_fop_report` does so itself). Returns 0, or the first of 1 to 4 of `sedge_clcw_fault`, or
+/// `SEDGE_WRONG_COUNT` if the octets are not four.
 #[unsafe(no_mangle)]
 pub extern "C" fn sedge_clcw_decode(octets: &[u8], word: &mut Clcw) -> u8
     ensures { IsWritten (λ found. found) (word_read octets.now) word.old word.new result }
@@ -20,8 +21,8 @@ pub extern "C" fn sedge_clcw_decode(octets: &[u8], word: &mut Clcw) -> u8
     written!(clcw::decode(four), |found| *word = found)
 }
 
-/// Writes a control word as four octets, and answers 0, or 5 `Range` where a field is too large or a flag bit has no
-/// name, or 254 where the output does not have four octets.
+/// Writes a control word as four octets. Returns 0, or `SEDGE_CLCW_RANGE`, or `SEDGE_WRONG_COUNT` if the room is not
+/// four octets.
 #[unsafe(no_mangle)]
 pub extern "C" fn sedge_clcw_encode(word: &Clcw, out: &mut [u8]) -> u8
     ensures { IsWritten (λ octets. octets) (word_written word.now (length out.old)) out.old out.new result }

@@ -13,12 +13,15 @@ use map_service::{Limits, group_len, segment_count};
 use tc_frame::SegmentFlags;
 
 /// What a sender cuts: the most octets of data in a segment, at least 1, the most octets of a packet, and whether a
-/// segment may hold several packets, 0 or 1.
+/// segment may hold several packets, 0 or 1. For C it is `struct sedge_limits`.
 #[repr(C)]
 #[derive(Clone, Copy)]
 pub struct CutLimits {
+    /// The most octets of data in a segment, at least 1.
     pub part: u32,
+    /// The most octets of a packet.
     pub max_packet: u32,
+    /// Whether packets that have at most part octets together go into one segment, 0 or 1.
     pub blocking: u8,
 }
 
@@ -30,8 +33,8 @@ struct Place {
     count: usize,
 }
 
-/// How many segments are made of the octets. Answers 0, or 255 where the limits are none, or 1 `NotAPacket`, or 2
-/// `TooLong`.
+/// Writes the number of segments that a packet is cut into, or with blocking one or more packets, one after another.
+/// Returns 0, or `SEDGE_DAMAGED`, or the first of `sedge_map_fault`.
 #[unsafe(no_mangle)]
 pub extern "C" fn sedge_map_count(octets: &[u8], limits: &CutLimits, segments: &mut usize) -> u8
     ensures { IsWritten length (segments_described limits.now octets.now) segments.old segments.new result }
@@ -42,8 +45,8 @@ pub extern "C" fn sedge_map_count(octets: &[u8], limits: &CutLimits, segments: &
     }
 }
 
-/// Segment `k` of these, from 0: its flags, and where its data stand in the octets. Answers as `sedge_map_count` does,
-/// or 253 where there are not that many.
+/// Writes segment `k` of these, counted from 0: its flags of `sedge_segment_flags`, and where its data are in the
+/// octets. Returns what `sedge_map_count` does, or `SEDGE_ABSENT` if there are not that many.
 #[unsafe(no_mangle)]
 pub extern "C" fn sedge_map_segment(
     octets: &[u8],

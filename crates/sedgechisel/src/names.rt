@@ -12,7 +12,7 @@ use space_packet::PacketFault;
 use tc_frame::TcFault;
 use tm_link::TmFault;
 
-/// A fault of control words, by its number.
+/// The name of a `sedge_clcw_fault`.
 #[unsafe(no_mangle)]
 pub extern "C" fn sedge_clcw_fault_name(fault: u8) -> Text
     ensures { result.text ≡ text_of (clcw_fault_word fault) }
@@ -20,7 +20,7 @@ pub extern "C" fn sedge_clcw_fault_name(fault: u8) -> Text
     named!(fault, ClcwFault: 1 => Kind, 2 => Version, 3 => Cop, 4 => Spare, 5 => Range)
 }
 
-/// A refusal of the receiver or of the sender, by its number.
+/// The name of a `sedge_cop_fault`.
 #[unsafe(no_mangle)]
 pub extern "C" fn sedge_cop_fault_name(fault: u8) -> Text
     ensures { result.text ≡ text_of (cop_fault_word fault) }
@@ -30,7 +30,7 @@ pub extern "C" fn sedge_cop_fault_name(fault: u8) -> Text
         8 => WrongState, 9 => State)
 }
 
-/// A verdict of the receiver, by its number.
+/// The name of a `sedge_verdict`.
 #[unsafe(no_mangle)]
 pub extern "C" fn sedge_verdict_name(verdict: u8) -> Text
     ensures { result.text ≡ text_of (verdict_word verdict) }
@@ -39,7 +39,7 @@ pub extern "C" fn sedge_verdict_name(verdict: u8) -> Text
         0 => Accepted, 1 => Ahead, 2 => NoBuffer, 3 => Behind, 4 => Outside, 5 => Discarded)
 }
 
-/// An alert of the sender, by its number.
+/// The name of a `sedge_alert`.
 #[unsafe(no_mangle)]
 pub extern "C" fn sedge_alert_name(alert: u8) -> Text
     ensures { result.text ≡ text_of (alert_word alert) }
@@ -48,7 +48,7 @@ pub extern "C" fn sedge_alert_name(alert: u8) -> Text
         1 => Lockout, 2 => NnR, 3 => Clcw, 4 => Synch, 5 => Limit, 6 => Timer, 7 => Terminated)
 }
 
-/// A fault of telecommand frames, by its number.
+/// The name of a `sedge_tc_fault`.
 #[unsafe(no_mangle)]
 pub extern "C" fn sedge_tc_fault_name(fault: u8) -> Text
     ensures { result.text ≡ text_of (tc_fault_word fault) }
@@ -58,7 +58,7 @@ pub extern "C" fn sedge_tc_fault_name(fault: u8) -> Text
         7 => BypassNumber, 8 => EmptyData, 9 => Command, 10 => Room, 11 => FieldRange, 12 => Memory)
 }
 
-/// A fault of space packets, by its number.
+/// The name of a `sedge_packet_fault`.
 #[unsafe(no_mangle)]
 pub extern "C" fn sedge_packet_fault_name(fault: u8) -> Text
     ensures { result.text ≡ text_of (packet_fault_word fault) }
@@ -68,7 +68,7 @@ pub extern "C" fn sedge_packet_fault_name(fault: u8) -> Text
         6 => Memory)
 }
 
-/// A fault of telemetry frames, by its number.
+/// The name of a `sedge_tm_fault`.
 #[unsafe(no_mangle)]
 pub extern "C" fn sedge_tm_fault_name(fault: u8) -> Text
     ensures { result.text ≡ text_of (tm_fault_word fault) }
@@ -78,7 +78,7 @@ pub extern "C" fn sedge_tm_fault_name(fault: u8) -> Text
         8 => NotAPacket, 9 => Room, 10 => FieldRange)
 }
 
-/// Why octets are not cut, by its number.
+/// The name of a `sedge_map_fault`.
 #[unsafe(no_mangle)]
 pub extern "C" fn sedge_map_fault_name(fault: u8) -> Text
     ensures { result.text ≡ text_of (map_fault_word fault) }
@@ -86,7 +86,7 @@ pub extern "C" fn sedge_map_fault_name(fault: u8) -> Text
     named!(fault, MapFault: 1 => NotAPacket, 2 => TooLong, 3 => Memory)
 }
 
-/// Why what came on a MAP was dropped, by its number.
+/// The name of a `sedge_dropped`.
 #[unsafe(no_mangle)]
 pub extern "C" fn sedge_dropped_name(cause: u8) -> Text
     ensures { result.text ≡ text_of (dropped_word cause) }

@@ -13,19 +13,25 @@ use octets::Wire;
 use space_packet::{Packet, PacketFault, PacketKind, Packets};
 
 /// A space packet's fields (CCSDS 133.0-B-2, 4.1) without its data. The kind is 0 for telemetry and 1 for telecommand;
-/// the secondary header flag is 0 or 1.
+/// the secondary header flag is 0 or 1. For C it is `struct sedge_packet`.
 #[repr(C)]
 #[derive(Clone, Copy)]
 pub struct PacketFields {
+    /// The application process identifier, below 2,048; 2,047 is that of idle packets (4.1.3.3.4).
     pub apid: u16,
+    /// The sequence count or the packet's name, below 16,384 (4.1.3.4.3).
     pub count: u16,
+    /// Of `sedge_packet_kind`.
     pub kind: u8,
+    /// Whether the data field begins with a secondary header, 0 or 1 (4.1.3.3.3).
     pub secondary: u8,
+    /// The sequence flags: 0 continuation, 1 first, 2 last, 3 unsegmented (4.1.3.4.2).
     pub flags: u8,
 }
 
-/// Reads the packet that the octets begin with, and says where its data stand in them; it ends where they end. Answers
-/// 0, or one of the faults 1 to 3 of `PacketFault`.
+/// Reads the packet at the beginning of the octets, and writes where its data field is; the packet ends where that
+/// ends, and octets after it are ignored. Returns 0, or the first of 1 to 3 of `sedge_packet_fault`
+/// (`SEDGE_PACKET_TRUNCATED` for fewer octets than declared comes last).
 #[unsafe(no_mangle)]
 pub extern "C" fn sedge_packet_decode(
     octets: &[u8],
@@ -47,8 +53,9 @@ pub extern "C" fn sedge_packet_decode(
     })
 }
 
-/// Writes the packet that the fields and the data describe at the beginning of `out`, and says how many octets it has.
-/// Answers 0, or 5 `FieldRange`, or 4 `Room`, or 255 where the fields describe no packet.
+/// Writes the packet with this data field to the beginning of `out`, and its length in octets, 6 more than its data, to
+/// `total`. Returns 0, or the first of `SEDGE_DAMAGED` (the kind is out of its enum, or the secondary header flag
+/// above 1), `SEDGE_PACKET_FIELD_RANGE` and `SEDGE_PACKET_ROOM`.
 #[unsafe(no_mangle)]
 pub extern "C" fn sedge_packet_encode(
     packet: &PacketFields,
@@ -68,8 +75,9 @@ pub extern "C" fn sedge_packet_encode(
     }
 }
 
-/// How many octets the packet has that begins so, for cutting a stream. Answers 0, or 1 `Truncated` for fewer than 6
-/// octets, or 2 `Version`, or 3 `IdleWithSecondary`.
+/// Writes the length of the packet that begins with these octets, by its first 6 octets alone; for cutting a stream
+/// (4.1.3.5). Returns 0, or `SEDGE_PACKET_TRUNCATED` for fewer than 6 octets, or `SEDGE_PACKET_VERSION`, or
+/// `SEDGE_PACKET_IDLE_WITH_SECONDARY`.
 #[unsafe(no_mangle)]
 pub extern "C" fn sedge_packet_declared(octets: &[u8], total: &mut usize) -> u8
     ensures { IsWritten (λ n. n) (total_declared octets.now) total.old total.new result }

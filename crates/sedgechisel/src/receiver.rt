@@ -10,19 +10,25 @@ use crate::numbers::DAMAGED;
 use clcw::{Clcw, ClcwFault};
 use cop1::{Farm, FarmFields, FarmMode, Verdict};
 
-/// A receiver (CCSDS 232.1-B-2, 6.1): its window width, V(R), the flags, each 0 or 1, and FARM-B.
+/// A receiver (CCSDS 232.1-B-2, 6.1): its window width, V(R), the flags, each 0 or 1, and FARM-B. For C it is
+/// `struct sedge_farm`.
 #[repr(C)]
 #[derive(Clone, Copy)]
 pub struct Receiver {
+    /// Of both windows together; each is half of it.
     pub width: u8,
+    /// V(R), the number of the next frame to be accepted.
     pub vr: u8,
+    /// The flags, 0 or 1.
     pub lockout: u8,
     pub wait: u8,
     pub retransmit: u8,
+    /// FARM-B, the count of Type-B frames modulo 4.
     pub farm_b: u8,
 }
 
-/// Opens a receiver that expects `vr`, and answers 0, or 1 `Width` where the width is not even, 2 to 254.
+/// Begins a receiver in its state Open, with all flags 0 and FARM-B 0, which expects the number `vr`. Returns 0, or
+/// `SEDGE_COP_WIDTH`.
 #[unsafe(no_mangle)]
 pub extern "C" fn sedge_farm_open(receiver: &mut Receiver, width: u8, vr: u8) -> u8
     ensures { IsWritten receiver_of (farm_opened width vr) receiver.old receiver.new result }
@@ -30,8 +36,8 @@ pub extern "C" fn sedge_farm_open(receiver: &mut Receiver, width: u8, vr: u8) ->
     written!(Farm::new(width, vr), |farm| *receiver = kept(&farm))
 }
 
-/// A Type-AD frame with the number `n` has come, and there is room for its data or not. Answers the verdict's number,
-/// or 255 where the receiver is damaged.
+/// A Type-AD frame with the number `n` has arrived; `buffer_free` says whether there is room for its data. Returns its
+/// verdict, of `sedge_verdict`: if it is `SEDGE_ACCEPTED`, hand the data on. Or returns `SEDGE_DAMAGED`.
 #[unsafe(no_mangle)]
 pub extern "C" fn sedge_farm_ad(receiver: &mut Receiver, n: u8, buffer_free: bool) -> u8
     ensures answer { result ≡ answer_of verdict_number
@@ -61,7 +67,7 @@ pub extern "C" fn sedge_farm_ad(receiver: &mut Receiver, n: u8, buffer_free: boo
     }
 }
 
-/// A Type-BD frame has come.
+/// A Type-BD frame has arrived; hand its data on in every state. Returns 0, or `SEDGE_DAMAGED`.
 #[unsafe(no_mangle)]
 pub extern "C" fn sedge_farm_bd(receiver: &mut Receiver) -> u8
     ensures { IsStepped BdArrives receiver.old receiver.new result }
@@ -69,7 +75,7 @@ pub extern "C" fn sedge_farm_bd(receiver: &mut Receiver) -> u8
     step!(receiver, |farm| farm.bd(), 0)
 }
 
-/// The control command Unlock has come.
+/// The control command Unlock has arrived. Returns 0, or `SEDGE_DAMAGED`.
 #[unsafe(no_mangle)]
 pub extern "C" fn sedge_farm_unlock(receiver: &mut Receiver) -> u8
     ensures { IsStepped UnlockArrives receiver.old receiver.new result }
@@ -77,7 +83,7 @@ pub extern "C" fn sedge_farm_unlock(receiver: &mut Receiver) -> u8
     step!(receiver, |farm| farm.unlock(), 0)
 }
 
-/// The control command Set V(R) has come.
+/// The control command Set V(R) has arrived; in Lockout it is counted, and V(R) stays. Returns 0, or `SEDGE_DAMAGED`.
 #[unsafe(no_mangle)]
 pub extern "C" fn sedge_farm_set_vr(receiver: &mut Receiver, vr: u8) -> u8
     ensures { IsStepped (SetVrArrives vr) receiver.old receiver.new result }
@@ -85,7 +91,7 @@ pub extern "C" fn sedge_farm_set_vr(receiver: &mut Receiver, vr: u8) -> u8
     step!(receiver, |farm| farm.set_vr(vr), 0)
 }
 
-/// There is room on board again.
+/// There is room on board again. Returns 0, or `SEDGE_DAMAGED`.
 #[unsafe(no_mangle)]
 pub extern "C" fn sedge_farm_released(receiver: &mut Receiver) -> u8
     ensures { IsStepped BufferReleased receiver.old receiver.new result }
@@ -93,8 +99,9 @@ pub extern "C" fn sedge_farm_released(receiver: &mut Receiver) -> u8
     step!(receiver, |farm| farm.released(), 0)
 }
 
-/// What the receiver reports for the virtual channel `vcid` (CCSDS 232.0-B-4, 4.2). Answers 0, or 255 where the
-/// receiver is damaged, or 5 `Range` where the virtual channel is not below 64.
+/// Makes the control word (232.0-B-4, 4.2) that reports on the receiver as it is, for the virtual channel `vcid`; the
+/// flags for the radio channel and bit lock are 0. Returns 0, or `SEDGE_DAMAGED`, or `SEDGE_CLCW_RANGE` if `vcid` is
+/// not below 64.
 #[unsafe(no_mangle)]
 pub extern "C" fn sedge_farm_report(receiver: &Receiver, vcid: u8, word: &mut Clcw) -> u8
     ensures { IsWritten (λ found. found) (farm_report receiver.now vcid) word.old word.new result }
@@ -109,7 +116,7 @@ pub extern "C" fn sedge_farm_report(receiver: &Receiver, vcid: u8, word: &mut Cl
     0
 }
 
-/// The receiver's state: 0 Open, 1 Wait, 2 Lockout, or 255 where it is damaged.
+/// Returns the state, of `sedge_farm_mode`, or `SEDGE_DAMAGED`.
 #[unsafe(no_mangle)]
 pub extern "C" fn sedge_farm_state(receiver: &Receiver) -> u8
     ensures { result ≡ answer_of mode_number (map_ok (λ s. s.state) (farm_described receiver.now)) }

@@ -11,20 +11,27 @@ use crate::part::Part;
 use tm_link::{Pointer, TmFrame};
 
 /// A telemetry frame's fields (CCSDS 132.0-B-3, 4.1) without its data. The pointer is the place where the first packet
-/// starts, or 2047 for none, or 2046 for idle data alone.
+/// starts, or 2047 for none, or 2046 for idle data alone. For C it is `struct sedge_tm_frame`.
 #[repr(C)]
 #[derive(Clone, Copy)]
 pub struct ReportFrame {
+    /// The spacecraft identifier, below 1,024.
     pub scid: u16,
+    /// The place in the data, from 0, where the first packet starts, or one of `sedge_pointer`.
     pub pointer: u16,
+    /// The virtual channel identifier, below 8.
     pub vcid: u8,
+    /// The master channel frame count.
     pub mc_count: u8,
+    /// The virtual channel frame count.
     pub vc_count: u8,
+    /// The operational control field, as `sedge_clcw_encode` writes it (4.1.5).
     pub ocf: [u8; 4],
 }
 
-/// Reads all of the octets as one frame of `length` octets, and says where its data stand in them. Answers 0, or the
-/// first of the faults 1 to 6 of `TmFault`.
+/// Reads all of the octets as one frame of this length, and writes where its data are. The frame may be of any
+/// spacecraft and virtual channel: compare scid and vcid with your own before an extractor is given it, and scid before
+/// its control word is used. Returns 0, or the first of 1 to 6 of `sedge_tm_fault`.
 #[unsafe(no_mangle)]
 pub extern "C" fn sedge_tm_decode(
     octets: &[u8],
@@ -47,8 +54,8 @@ pub extern "C" fn sedge_tm_decode(
     })
 }
 
-/// Writes the frame that the fields and the data describe at the beginning of `out`, and says how many octets it has.
-/// Answers 0, or 10 `FieldRange`, or 9 `Room`.
+/// Writes the frame with these data and its FECF to the beginning of `out`, and its length in octets, 12 more than its
+/// data, to `total`. Returns 0, or the first of `SEDGE_TM_FIELD_RANGE` and `SEDGE_TM_ROOM`.
 #[unsafe(no_mangle)]
 pub extern "C" fn sedge_tm_encode(
     frame: &ReportFrame,

@@ -18,27 +18,43 @@ use tc_frame::Command;
 
 /// A sender (CCSDS 232.1-B-2, 5.1): its numbers as `cop1::SenderFields` has them. The ticks are 0 where the timer is
 /// off; the state is 1 for S1 to 6 for S6; the control command is 0 for none, 1 for Unlock that is due and 2 for Unlock
-/// that is sent, 3 and 4 for Set V(R) with the number `vr`.
+/// that is sent, 3 and 4 for Set V(R) with the number `vr`. For C it is `struct sedge_fop`.
 #[repr(C)]
 #[derive(Clone, Copy)]
 pub struct KeptSender {
+    /// The timer's value in ticks, at least 1.
     pub timer: u16,
+    /// The ticks that are left while the timer runs, and 0 while it is off.
     pub ticks: u16,
+    /// Half the receiver's window width, 1 to 127: the most units sent and not acknowledged.
     pub room: u8,
+    /// Of `sedge_fop_state`.
     pub state: u8,
+    /// V(S), the number of the next unit to be sent for the first time.
     pub vs: u8,
+    /// NN(R), the number that the receiver was last known to expect.
     pub nn: u8,
+    /// Whether a unit waits to be sent for the first time, 0 or 1.
     pub waiting: u8,
+    /// The number of units sent and not acknowledged, at most room.
     pub sent: u8,
+    /// The number of these, the last ones, that are due to be sent again.
     pub due: u8,
+    /// The window K, 1 to room.
     pub window: u8,
+    /// The transmission limit, at least 1.
     pub limit: u8,
+    /// The transmission count, at least 1.
     pub count: u8,
+    /// Of `sedge_control`.
     pub control: u8,
+    /// The number of the control command Set V(R), and 0 if there is no such command.
     pub vr: u8,
 }
 
-/// Opens a sender in its state S6, and answers 0, or the first of 1 `Width`, 2 `Window`, 3 `Limit` and 4 `Timer`.
+/// Begins a sender in its state S6 with V(S) and NN(R) 0, to a receiver of this window width, with the window K, the
+/// transmission limit and the timer's value in ticks. Returns 0, or the first of `SEDGE_COP_WIDTH` (not even, 2 to
+/// 254), `SEDGE_COP_WINDOW` (not 1 to half the width), `SEDGE_COP_LIMIT` (0) and `SEDGE_COP_TIMER` (0).
 #[unsafe(no_mangle)]
 pub extern "C" fn sedge_fop_open(
     sender: &mut KeptSender,
@@ -55,8 +71,8 @@ pub extern "C" fn sedge_fop_open(
     )
 }
 
-/// A unit has come to be sent under sequence control, and waits. Answers 0, or 255 where the sender is damaged, or
-/// 6 `NotOpen` in S6, or 7 `Busy` where one waits already.
+/// Submits a unit, to be sent under sequence control: it waits, and the caller keeps it. Returns 0, or `SEDGE_DAMAGED`,
+/// or `SEDGE_COP_NOT_OPEN` in S6, or `SEDGE_COP_BUSY` while another one waits.
 #[unsafe(no_mangle)]
 pub extern "C" fn sedge_fop_submit(sender: &mut KeptSender) -> u8
     ensures { IsAnswered (submitted sender.old) sender.old sender.new result }
@@ -67,8 +83,8 @@ pub extern "C" fn sedge_fop_submit(sender: &mut KeptSender) -> u8
     }
 }
 
-/// Takes what goes on the link next, and its number: 0 for nothing, 1 for Unlock, 2 for Set V(R) with the number, 3 for
-/// the unit that waits under the number, 4 for the one that is kept under it. Or 255 where the sender is damaged.
+/// Takes what goes on the link next. Returns one of `sedge_next`, and writes its number, or 0 if it has none; or
+/// returns `SEDGE_DAMAGED`, with nothing written.
 #[unsafe(no_mangle)]
 pub extern "C" fn sedge_fop_next(sender: &mut KeptSender, number: &mut u8) -> u8
     ensures answer { result ≡ answer_of (λ o. next_answer o.answer) (stepped sender.old Next) }
@@ -84,9 +100,11 @@ pub extern "C" fn sedge_fop_next(sender: &mut KeptSender, number: &mut u8) -> u8
     })
 }
 
-/// A control word has come, and the sender is that of the virtual channel `vcid`. Answers the alert's number, 0 for
-/// none, and how many units are acknowledged; or 253 where the word reports on another channel, or 255 where the sender
-/// is damaged.
+/// A control word has arrived, and the sender is that of the virtual channel `vcid`. The call compares this with the
+/// `vcid` of the word; the caller has compared the scid of the telemetry frame that carried it. Returns the alert, of
+/// `sedge_alert`, and writes the number of units that are acknowledged, the oldest of those sent; or with nothing
+/// written and nothing changed it returns the first of `SEDGE_ABSENT`, if the word reports on another channel, and
+/// `SEDGE_DAMAGED`.
 #[unsafe(no_mangle)]
 pub extern "C" fn sedge_fop_report(
     sender: &mut KeptSender,
@@ -112,7 +130,7 @@ pub extern "C" fn sedge_fop_report(
     })
 }
 
-/// A tick of the clock has passed. Answers the alert's number, 0 for none; or 255 where the sender is damaged.
+/// A tick of the clock has passed. Returns the alert, of `sedge_alert`, or `SEDGE_DAMAGED`.
 #[unsafe(no_mangle)]
 pub extern "C" fn sedge_fop_tick(sender: &mut KeptSender) -> u8
     ensures answer { result ≡ answer_of (λ o. alert_answer o.answer) (stepped sender.old Tick) }

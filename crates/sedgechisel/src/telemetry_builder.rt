@@ -15,21 +15,30 @@ use tm_link::{TmFault, Turn, can_build, can_queue, idle_left_after, put_next, re
 
 /// A builder of telemetry frames (CCSDS 132.0-B-3, 4.2): where the octets that are to be sent stand in the memory, how
 /// many of them are left of the packet that was begun, the identifiers, the octets of a frame, the next frame's count,
-/// and the octets left of an idle packet, which are sent first.
+/// and the octets left of an idle packet, which are sent first. For C it is `struct sedge_tm_builder`.
 #[repr(C)]
 #[derive(Clone, Copy)]
 pub struct KeptBuilder {
+    /// Where the octets that are to be sent are in the memory.
     pub from: usize,
+    /// The number of octets that are to be sent.
     pub count: usize,
+    /// The number of these that are left of the packet that was begun, the first ones.
     pub begun: usize,
+    /// The spacecraft identifier, below 1,024.
     pub scid: u16,
+    /// The octets of a frame, 16 to 2,048.
     pub length: u16,
+    /// The virtual channel identifier, below 8.
     pub vcid: u8,
+    /// The frame count of the next frame, on the master and on the virtual channel.
     pub next_count: u8,
+    /// The octets left of an idle packet, at most 6, which are sent first.
     pub idle_left: u8,
 }
 
-/// Opens a builder of frames of `length` octets whose counts start at 0, and answers 0, or 10 `FieldRange`.
+/// Begins a builder whose frame counts begin at 0, with nothing to be sent. Returns 0, or `SEDGE_TM_FIELD_RANGE` if
+/// `scid` is not below 1,024, `vcid` not below 8, or length not from 16 to 2,048.
 #[unsafe(no_mangle)]
 pub extern "C" fn sedge_tm_builder_open(
     builder: &mut KeptBuilder,
@@ -60,8 +69,9 @@ pub extern "C" fn sedge_tm_builder_open(
     0
 }
 
-/// Queues a packet after those that are to be sent. Answers 0, or 255 where the builder or its memory is damaged, or 8
-/// `NotAPacket` for octets that are not exactly one packet or an idle one, or 7 `Memory` where it has no room.
+/// Queues a packet, all of its octets, after those that are to be sent. Returns 0, or the first of `SEDGE_DAMAGED`,
+/// `SEDGE_TM_NOT_A_PACKET` (not exactly one packet, or an idle one) and `SEDGE_TM_MEMORY` (the octets to be sent and
+/// the packet are more than the memory has).
 #[unsafe(no_mangle)]
 pub extern "C" fn sedge_tm_builder_queue(
     builder: &mut KeptBuilder,
@@ -87,9 +97,10 @@ pub extern "C" fn sedge_tm_builder_queue(
     0
 }
 
-/// Writes the next frame with this operational control field, of four octets, at the beginning of `out`, and says how
-/// many octets it has. Answers 0, or 255 where the builder or its memory is damaged, or 254 where the field is not four
-/// octets, or 9 `Room`.
+/// Writes the next frame to the beginning of `out`, with this operational control field, of four octets as
+/// `sedge_clcw_encode` writes them, and its length, that of all the builder's frames, to `total`. Where packets run
+/// out within the frame, an idle packet fills it; where nothing is to be sent, the frame has only idle data. Returns
+/// 0, or the first of `SEDGE_DAMAGED`, `SEDGE_WRONG_COUNT` (the field is not four octets) and `SEDGE_TM_ROOM`.
 #[unsafe(no_mangle)]
 pub extern "C" fn sedge_tm_builder_build(
     builder: &mut KeptBuilder,

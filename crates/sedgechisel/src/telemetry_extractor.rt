@@ -19,49 +19,65 @@ use tm_link::{
 };
 
 /// An extractor of packets (CCSDS 132.0-B-3, 4.3.2): where the part of a packet stands in the memory, the last frame's
-/// count, and whether there was a frame.
+/// count, and whether there was a frame. For C it is `struct sedge_tm_extractor`.
 #[repr(C)]
 #[derive(Clone, Copy)]
 pub struct KeptExtractor {
+    /// Where the part is in the memory.
     pub from: usize,
+    /// The octets of the part, and 0 if there is none.
     pub count: usize,
+    /// The virtual channel frame count of the last frame, if one was seen.
     pub last: u8,
+    /// Whether a frame was seen, 0 or 1.
     pub seen: u8,
 }
 
 /// What came of a frame: how many octets the packet has that it ended, at the beginning of the memory, where the
-/// packets after it begin in the frame's data, whether it is the first frame, and how many are missing before it.
+/// packets after it begin in the frame's data, whether it is the first frame, and how many are missing before it. For C
+/// it is `struct sedge_tm_extracted`.
 #[repr(C)]
 #[derive(Clone, Copy)]
 pub struct TakenFrame {
+    /// The octets of the packet at the beginning of the memory, and 0 if there is none.
     pub joined: usize,
+    /// Where `sedge_tm_packet` begins in the frame's data.
     pub packets: Part,
+    /// Whether this is the first frame, 0 or 1.
     pub first: u8,
+    /// The number of frames missing before it, modulo 256, and 0 for the first (4.1.2.6).
     pub lost: u8,
 }
 
-/// Takes the next frame that came, its fields and its data. Answers 0, or 255 where the extractor is damaged, or 10
-/// `FieldRange` where the pointer is after the data, or 7 `Memory` where the memory has no room for the packet that the
-/// frame ends and the part that it leaves.
+/// Takes the next frame of the spacecraft and the virtual channel that came, its fields and its data as
+/// `sedge_tm_decode` gives them. Hand its packets on before the next call:
+///
+///     if (extracted.joined > 0) hand_on(memory, extracted.joined);
+///     struct sedge_part packet = extracted.packets;
+///     while (sedge_tm_packet(data, data_count, &packet)) hand_on(data + packet.from, packet.count);
+///
+/// Where frames are missing, the part before them is dropped. Returns 0, or the first of `SEDGE_DAMAGED`,
+/// `SEDGE_TM_FIELD_RANGE` (the pointer is after the data) and `SEDGE_TM_MEMORY` (the packet that the frame ends and the
+/// part that it leaves are more than the memory has). The frame after a refused one shows that one as missing.
 #[unsafe(no_mangle)]
 pub extern "C" fn sedge_tm_extractor_frame(
     extractor: &mut KeptExtractor,
     frame: &ReportFrame,
     payload: &[u8],
     memory: &mut [u8],
-    taken: &mut TakenFrame,
+    extracted: &mut TakenFrame,
 ) -> u8
     ensures answer { result
         ≡ status_of (extracted_at extractor.old frame.now payload.now memory.old) }
     ensures describes { DescribesExtracted
         (extracted_at extractor.old frame.now payload.now memory.old)
-        (extracted_described extractor.new taken.new memory.new payload.now) }
+        (extracted_described extractor.new extracted.new memory.new payload.now) }
     ensures extractor { OnOk (extracted_at extractor.old frame.now payload.now memory.old)
         (is_extractor extractor.new (length memory.old) ≡ true) }
     ensures counted { OnOk (extracted_at extractor.old frame.now payload.now memory.old)
-        (is_extracted taken.new (length memory.old) (length payload.now) ≡ true) }
+        (is_extracted extracted.new (length memory.old) (length payload.now) ≡ true) }
     ensures unchanged { OnErr (extracted_at extractor.old frame.now payload.now memory.old)
-        ((extractor.new ≡ extractor.old) × (taken.new ≡ taken.old) × (memory.new ≡ memory.old)) }
+        ((extractor.new ≡ extractor.old) × (extracted.new ≡ extracted.old) × (memory.new ≡ memory.old)) }
 {
     if !is_whole(extractor, memory.len()) {
         return DAMAGED;
@@ -73,7 +89,7 @@ pub extern "C" fn sedge_tm_extractor_frame(
     let gap = gap_before(last_of(extractor), frame.vc_count);
     match take_field(part_over_gap(gap, extractor), pointer, payload, memory) {
         Some(kept) => {
-            *taken = taken_with(gap, kept.joined, packets_from(pointer, payload.len()));
+            *extracted = taken_with(gap, kept.joined, packets_from(pointer, payload.len()));
             *extractor = KeptExtractor {
                 from: kept.part.from,
                 count: kept.part.count,
@@ -86,16 +102,16 @@ pub extern "C" fn sedge_tm_extractor_frame(
     }
 }
 
-/// The packet after a part of a frame's data that is not idle, which the part is then; false, and nothing is written,
-/// where none stands there.
+/// Goes on to the packet after this part of a frame's data that is not idle. Returns true, and the part is that packet;
+/// or false, with nothing written, if there is none.
 #[unsafe(no_mangle)]
-pub extern "C" fn sedge_tm_packet(octets: &[u8], packet: &mut Part) -> bool
-    ensures { GoesOn octets.now packet.old packet.new result }
+pub extern "C" fn sedge_tm_packet(payload: &[u8], packet: &mut Part) -> bool
+    ensures { GoesOn payload.now packet.old packet.new result }
 {
-    if packet.from > octets.len() || packet.count > octets.len() - packet.from {
+    if packet.from > payload.len() || packet.count > payload.len() - packet.from {
         return false;
     }
-    match packet_after(octets, packet.from + packet.count) {
+    match packet_after(payload, packet.from + packet.count) {
         Some(found) => {
             *packet = found;
             true

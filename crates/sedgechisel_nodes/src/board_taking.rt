@@ -49,8 +49,8 @@ fn described(
     })
 }
 
-/// Writes the MAP of the oldest packet of sequence-controlled frames, and how many octets it has; or 0 octets alone
-/// where none waits. Answers 0, or 255 where there is no spacecraft.
+/// Writes the MAP of the oldest packet of sequence-controlled frames, and the number of its octets, 7 to 65,542; or 0
+/// octets alone where none waits. Returns 0.
 #[unsafe(no_mangle)]
 pub extern "C" fn sedge_spacecraft_next(
     alloc: Global,
@@ -63,8 +63,7 @@ pub extern "C" fn sedge_spacecraft_next(
     described(alloc, spacecraft, false, map, count)
 }
 
-/// Writes the MAP of the oldest packet that came past the sequence control, and how many octets it has; or 0 octets
-/// alone where none waits. Answers 0, or 255 where there is no spacecraft.
+/// Writes the same of the oldest packet that came past the sequence control. Returns 0.
 #[unsafe(no_mangle)]
 pub extern "C" fn sedge_spacecraft_next_bypass(
     alloc: Global,
@@ -97,8 +96,8 @@ fn taken(
     })
 }
 
-/// Takes the oldest packet of sequence-controlled frames (CCSDS 232.0-B-4, 4.4). Answers 0, or 252 where the room is
-/// too short, or 255 where there is no spacecraft.
+/// Takes the oldest packet of sequence-controlled frames (232.0-B-4, 4.4): writes its MAP, the packet, and the number of
+/// its octets; or 0 octets alone where none waits. Returns 0 or `SEDGE_NODE_ROOM`.
 #[unsafe(no_mangle)]
 pub extern "C" fn sedge_spacecraft_take(
     alloc: Global,
@@ -113,8 +112,8 @@ pub extern "C" fn sedge_spacecraft_take(
     taken(alloc, spacecraft, false, map, out, count)
 }
 
-/// Takes the oldest packet that came past the sequence control (CCSDS 232.0-B-4, 4.4). Answers 0, or 252 where the room
-/// is too short, or 255 where there is no spacecraft.
+/// Takes the oldest packet that came past the sequence control (232.0-B-4, 4.4), as `sedge_spacecraft_take` does.
+/// Returns 0 or `SEDGE_NODE_ROOM`.
 #[unsafe(no_mangle)]
 pub extern "C" fn sedge_spacecraft_take_bypass(
     alloc: Global,
@@ -149,8 +148,8 @@ fn reported(node: &mut Spacecraft, out: &mut [u8], count: &mut usize) -> u8
     0
 }
 
-/// Writes the next telemetry frame, which reports on the receiver, and how many octets it has (CCSDS 132.0-B-3, 4.1).
-/// Answers 0, or 252 where the room is too short, or 255 where there is no spacecraft.
+/// Writes the next telemetry frame (132.0-B-3, 4.1), which reports on the receiver, and the number of its octets, which
+/// is frame_length. Returns 0 or `SEDGE_NODE_ROOM`.
 #[unsafe(no_mangle)]
 pub extern "C" fn sedge_spacecraft_report(
     alloc: Global,

@@ -33,7 +33,7 @@ macro_rules! opened {
     }};
 }
 
-/// A ground, or none, which is null.
+/// A ground, or none, which is null. For C it is `struct sedge_ground`.
 #[repr(C)]
 pub struct GroundHandle {
     at: *mut u8,
@@ -65,8 +65,9 @@ impl Holds for GroundHandle {
     }
 }
 
-/// Opens a ground, in place of one that was there. Answers 0, or 254 where a parameter is out of its range, or 6 where
-/// there is no memory.
+/// Opens a ground, in place of one that the handle holds. This one is let go of once the new one is made: a refusal
+/// leaves it, and until then both have memory. Where there is memory for one alone, close the handle first. Returns 0,
+/// `SEDGE_NODE_OUT_OF_RANGE` or `SEDGE_NODE_MEMORY`.
 #[unsafe(no_mangle)]
 pub extern "C" fn sedge_ground_open(alloc: Global, config: &Config, ground: &mut GroundHandle) -> u8
     ensures { IsOpened config.now new_ground ground.old.value ground.new.value result }
@@ -74,7 +75,7 @@ pub extern "C" fn sedge_ground_open(alloc: Global, config: &Config, ground: &mut
     opened!(alloc, ground, config, Ground::of)
 }
 
-/// Closes the ground, where there is one.
+/// Closes the ground, where there is one; the handle holds none then.
 #[unsafe(no_mangle)]
 pub extern "C" fn sedge_ground_close(alloc: Global, ground: &mut GroundHandle)
     ensures { ground.new.value ≡ None }
@@ -82,7 +83,7 @@ pub extern "C" fn sedge_ground_close(alloc: Global, ground: &mut GroundHandle)
     drop(take(ground, alloc));
 }
 
-/// A spacecraft, or none, which is null.
+/// A spacecraft, or none, which is null. For C it is `struct sedge_spacecraft`.
 #[repr(C)]
 pub struct SpacecraftHandle {
     at: *mut u8,
@@ -114,7 +115,8 @@ impl Holds for SpacecraftHandle {
     }
 }
 
-/// Opens a spacecraft, in place of one that was there. Answers as `sedge_ground_open`.
+/// Opens a spacecraft, in place of one that the handle holds, as `sedge_ground_open` does. Returns 0,
+/// `SEDGE_NODE_OUT_OF_RANGE` or `SEDGE_NODE_MEMORY`.
 #[unsafe(no_mangle)]
 pub extern "C" fn sedge_spacecraft_open(
     alloc: Global,
@@ -126,7 +128,7 @@ pub extern "C" fn sedge_spacecraft_open(
     opened!(alloc, spacecraft, config, Spacecraft::of)
 }
 
-/// Closes the spacecraft, where there is one.
+/// Closes the spacecraft, where there is one; the handle holds none then.
 #[unsafe(no_mangle)]
 pub extern "C" fn sedge_spacecraft_close(alloc: Global, spacecraft: &mut SpacecraftHandle)
     ensures { spacecraft.new.value ≡ None }
@@ -134,7 +136,7 @@ pub extern "C" fn sedge_spacecraft_close(alloc: Global, spacecraft: &mut Spacecr
     drop(take(spacecraft, alloc));
 }
 
-/// A simulated link, or none, which is null.
+/// A simulated link, or none, which is null. For C it is `struct sedge_sim`.
 #[repr(C)]
 pub struct SimHandle {
     at: *mut u8,
@@ -166,7 +168,8 @@ impl Holds for SimHandle {
     }
 }
 
-/// Opens a link with two new nodes, in place of one that was there. Answers as `sedge_ground_open`.
+/// Opens a link with two new nodes, in place of one that the handle holds, as `sedge_ground_open` does. Returns 0,
+/// `SEDGE_NODE_OUT_OF_RANGE` or `SEDGE_NODE_MEMORY`.
 #[unsafe(no_mangle)]
 pub extern "C" fn sedge_sim_open(alloc: Global, config: &Config, sim: &mut SimHandle) -> u8
     ensures { IsOpened config.now new_link sim.old.value sim.new.value result }
@@ -180,7 +183,7 @@ pub extern "C" fn sedge_sim_open(alloc: Global, config: &Config, sim: &mut SimHa
     }
 }
 
-/// Closes the link, where there is one.
+/// Closes the link, where there is one; the handle holds none then.
 #[unsafe(no_mangle)]
 pub extern "C" fn sedge_sim_close(alloc: Global, sim: &mut SimHandle)
     ensures { sim.new.value ≡ None }

@@ -17,17 +17,25 @@ use nodes::{Ground, Heard, HeardReport};
 use std::alloc::Global;
 use tm_link::{Gap, decode};
 
-/// What came of telemetry.
+/// What came of telemetry. For C it is `struct sedge_heard`.
 #[repr(C)]
 #[derive(Clone, Copy, Default)]
 pub struct KeptHeard {
+    /// 3: the number of packets that came to wait to be taken.
     pub packets: usize,
+    /// 1: no frame; 2: a frame of another channel; 3: a frame of this one.
     pub kind: u8,
+    /// 1: why they are no frame, of `sedge_tm_fault`.
     pub fault: u8,
+    /// 3: whether no frame came before it, 0 or 1.
     pub first: u8,
+    /// 3: the number of frames that are missing before it.
     pub missing: u8,
+    /// 3: its report is used (0), none (1), or of another virtual channel (2).
     pub report: u8,
+    /// 3, 1: why it is none, of `sedge_clcw_fault`.
     pub word_fault: u8,
+    /// 3, 0: of `sedge_alert`; 0 for none.
     pub alert: u8,
 }
 
@@ -92,8 +100,8 @@ pub(crate) fn kept_heard(heard: Heard) -> KeptHeard
     }
 }
 
-/// Takes octets that came from the spacecraft. Answers 0, or 6 where there was no memory for a packet that they finish,
-/// or 255.
+/// Takes octets that came from the spacecraft, and writes what they are. Returns 0, or `SEDGE_NODE_MEMORY` where they
+/// finish a packet.
 #[unsafe(no_mangle)]
 pub extern "C" fn sedge_ground_telemetry(
     alloc: Global,
@@ -128,8 +136,8 @@ fn report_in(octets: &[u8], length: usize) -> Option<Clcw>
     }
 }
 
-/// Writes the report that a telemetry frame carries, of whichever spacecraft and virtual channel (CCSDS 232.0-B-4,
-/// 4.2); the ground stays as it is. Answers 0, or 253 where the octets are no frame or carry no report, or 255.
+/// Writes the report that a telemetry frame carries, of whichever spacecraft and virtual channel (232.0-B-4, 4.2); the
+/// ground stays as it was. Returns 0, or `SEDGE_NODE_ABSENT` if the octets are no frame or the frame carries no report.
 #[unsafe(no_mangle)]
 pub extern "C" fn sedge_ground_report(
     alloc: Global,
@@ -147,7 +155,7 @@ pub extern "C" fn sedge_ground_report(
     )
 }
 
-/// A tick of the clock has passed. Answers the alert's number, 0 for none; or 255.
+/// A tick of the clock has passed. Returns the alert, of `sedge_alert`, 0 for none; or `SEDGE_NODE_NONE`.
 #[unsafe(no_mangle)]
 pub extern "C" fn sedge_ground_tick(alloc: Global, ground: &mut GroundHandle) -> u8
     ensures none { ground.old.value ≡ None → result ≡ closed }
@@ -166,7 +174,8 @@ fn bypassed(node: &mut Ground, map: u8, octets: &[u8]) -> u8
     number_of(node.bypass(map, octets))
 }
 
-/// Submits one packet past the sequence control.
+/// Submits one packet on a MAP past the sequence control. Returns 0, or the first of 2 to 5 of `sedge_node_status` that
+/// applies, or `SEDGE_NODE_MEMORY`.
 #[unsafe(no_mangle)]
 pub extern "C" fn sedge_ground_bypass(
     alloc: Global,

@@ -8,7 +8,7 @@ use c_words::{Text, named};
 use nodes::{LinkFault, Parameter};
 use tc_link::SimFault;
 
-/// A managed parameter, by its number, 1 to 15.
+/// The name of a managed parameter, by its number, 1 to 15.
 #[unsafe(no_mangle)]
 pub extern "C" fn sedge_parameter_name(number: u8) -> Text
     ensures { result.text ≡ text_of (parameter_word number) }
@@ -19,7 +19,7 @@ pub extern "C" fn sedge_parameter_name(number: u8) -> Text
         13 => QueueSlots, 14 => FrameLength, 15 => Blocking)
 }
 
-/// Why a node refused a call, by its number, 1 to 6.
+/// The name of a `sedge_node_status`, 1 to 6.
 #[unsafe(no_mangle)]
 pub extern "C" fn sedge_link_fault_name(number: u8) -> Text
     ensures { result.text ≡ text_of (link_fault_word number) }
@@ -28,7 +28,7 @@ pub extern "C" fn sedge_link_fault_name(number: u8) -> Text
         1 => NotOpen, 2 => ClosedMap, 3 => NotCommand, 4 => TooLong, 5 => QueueFull, 6 => Memory)
 }
 
-/// Why an event does not happen on a simulated link, by its number, 6 to 8.
+/// The name of a `sedge_sim_fault`; "?" for another number.
 #[unsafe(no_mangle)]
 pub extern "C" fn sedge_sim_fault_name(number: u8) -> Text
     ensures { result.text ≡ text_of (sim_fault_word number) }

@@ -17,10 +17,15 @@ use std::alloc::Global;
 #[repr(C)]
 #[derive(Clone, Copy)]
 pub struct GroundReading {
+    /// The number of segments that were submitted and are not acknowledged.
     pub outstanding: usize,
+    /// Of telemetry, in octets.
     pub frame_length: usize,
+    /// Of the sender, 1 to 6 (232.1-B-2, 5.1).
     pub state: u8,
+    /// V(S), the number of the next segment that is sent for the first time.
     pub vs: u8,
+    /// NN(R), the number that the spacecraft was last known to expect.
     pub nn: u8,
 }
 
@@ -42,8 +47,8 @@ fn reading(node: &Ground) -> GroundReading
     }
 }
 
-/// Reads the sender's state (CCSDS 232.1-B-2, 5.1), V(S) and NN(R), how many segments were submitted and are not
-/// acknowledged, and how many octets a telemetry frame has. Answers 0, or 255 where there is no ground.
+/// Reads the ground: the sender's state, V(S) and NN(R), what is outstanding, and how many octets a telemetry frame
+/// has. It stays as it was. Returns 0.
 #[unsafe(no_mangle)]
 pub extern "C" fn sedge_ground_read(
     alloc: Global,
@@ -56,16 +61,20 @@ pub extern "C" fn sedge_ground_read(
 }
 
 /// What is read of a spacecraft: the octets of a telemetry frame, and the report that the next one carries, its flags
-/// as the bits of the third octet (CCSDS 232.0-B-4, 4.2.1); and the receiver's state.
+/// as the bits of the third octet (CCSDS 232.0-B-4, 4.2.1); and the receiver's state. For C it is
+/// `struct sedge_spacecraft_reading`.
 #[repr(C)]
 #[derive(Clone, Copy)]
 pub struct BoardReading {
+    /// Of telemetry, in octets.
     pub frame_length: usize,
+    /// Of the report that the next frame carries, as in struct `sedge_clcw`.
     pub status: u8,
     pub vcid: u8,
     pub flags: u8,
     pub farm_b: u8,
     pub value: u8,
+    /// Of the receiver, of `sedge_farm_mode`.
     pub state: u8,
 }
 
@@ -90,8 +99,8 @@ fn board_reading(node: &Spacecraft) -> BoardReading
     }
 }
 
-/// Reads how many octets a telemetry frame has, and the report that the next one carries. Answers 0, or 255 where there
-/// is no spacecraft.
+/// Reads the spacecraft: how many octets a telemetry frame has, the report that the next one carries, and the
+/// receiver's state. It stays as it was. Returns 0.
 #[unsafe(no_mangle)]
 pub extern "C" fn sedge_spacecraft_read(
     alloc: Global,
@@ -105,10 +114,9 @@ pub extern "C" fn sedge_spacecraft_read(
 }
 
 /// Writes how many of the segments that were sent and not acknowledged were accepted on board when a report of this
-/// value was made, the oldest ones; after an alert too, until V(S) is set or an initiation begins (CCSDS 232.1-B-2,
-/// 5.1). Where V(S) is NN(R) there are none of them, and it writes 0 whatever the value. Answers 0, or 253 where V(S) is
-/// not NN(R) and the value does not lie from NN(R) to V(S), so that nothing is known of them, or 255 where there is no
-/// ground.
+/// value was made: the oldest ones (232.1-B-2, 5.1). It does so after an alert too, until V(S) is set or an initiation
+/// begins. If V(S) is NN(R) there are no such segments, and it writes 0 whatever the value. Returns 0, or
+/// `SEDGE_NODE_ABSENT` if there are and the value does not lie from NN(R) to V(S), so that nothing is known of them.
 #[unsafe(no_mangle)]
 pub extern "C" fn sedge_ground_accepted_beyond(
     alloc: Global,

@@ -18,18 +18,27 @@ use nodes::Received;
 use std::alloc::Global;
 use tc_frame::Command;
 
-/// What came of octets.
+/// What came of octets. For C it is `struct sedge_received`.
 #[repr(C)]
 #[derive(Clone, Copy, Default)]
 pub struct KeptReceived {
+    /// 3: the number of packets that came to wait to be taken.
     pub ready: usize,
+    /// 1: no frame; 2: of another channel; 3: Type-AD; 4: Type-BD; 5: Type-BC.
     pub kind: u8,
+    /// 1: why they are no frame, of `sedge_tc_fault`.
     pub fault: u8,
+    /// 3: its number, N(S).
     pub n: u8,
+    /// 3: of `sedge_verdict`.
     pub verdict: u8,
+    /// 3: why octets on its MAP were dropped, of `sedge_dropped`; 0 for none.
     pub dropped: u8,
+    /// 4: whether it carried a packet, which is kept.
     pub kept: bool,
+    /// 5: Unlock (0) or Set V(R) (1).
     pub command: u8,
+    /// 5: the number of Set V(R).
     pub vr: u8,
 }
 
@@ -87,7 +96,8 @@ pub(crate) fn kept_received(received: Received) -> KeptReceived
     }
 }
 
-/// Takes octets that came from the ground. Answers 0, or 6 where there was no memory to hand a frame's data on, or 255.
+/// Takes octets that came from the ground, and writes what they are. Returns 0, or `SEDGE_NODE_MEMORY` where a frame's
+/// data are handed on.
 #[unsafe(no_mangle)]
 pub extern "C" fn sedge_spacecraft_receive(
     alloc: Global,
@@ -109,8 +119,9 @@ pub extern "C" fn sedge_spacecraft_receive(
     })
 }
 
-/// Queues a packet to be sent as telemetry (CCSDS 132.0-B-3, 4.2.2). Answers 0, or 8 `NotAPacket` for octets that are
-/// not exactly one packet, or an idle packet, or 7 `Memory`, or 255 where there is no spacecraft.
+/// Queues a packet to be sent as telemetry (132.0-B-3, 4.2.2). Returns 0, or 8 for octets that are not exactly one
+/// packet, or an idle packet, or 7 where there was no memory (these numbers are of the telemetry's faults,
+/// `sedge_tm_fault_name`).
 #[unsafe(no_mangle)]
 pub extern "C" fn sedge_spacecraft_telemetry(
     alloc: Global,

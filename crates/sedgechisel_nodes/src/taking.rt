@@ -28,8 +28,8 @@ fn size_of_next(node: &Ground) -> usize
     }
 }
 
-/// Writes how many octets the frame has that goes on the link next, 0 where nothing is to be sent. Answers 0, or 255
-/// where there is no ground.
+/// Writes how many octets the frame that goes on the link next has, 8 to 1,024; 0 where nothing is to be sent. Returns
+/// 0.
 #[unsafe(no_mangle)]
 pub extern "C" fn sedge_ground_next(
     alloc: Global,
@@ -75,8 +75,8 @@ fn write_next(node: &Ground, out: &mut [u8], count: &mut usize) -> u8
     }
 }
 
-/// Takes the frame that goes on the link next, with its FECF (CCSDS 232.0-B-4, 4.1); 0 octets for none. Answers 0, or
-/// 252 where the room is too short, or 255 where there is no ground.
+/// Takes the frame that goes on the link next, with its FECF (232.0-B-4, 4.1): writes it, and the number of its octets;
+/// or 0 octets where nothing is to be sent. Returns 0 or `SEDGE_NODE_ROOM`.
 #[unsafe(no_mangle)]
 pub extern "C" fn sedge_ground_pull(
     alloc: Global,
@@ -97,8 +97,7 @@ pub extern "C" fn sedge_ground_pull(
     })
 }
 
-/// Writes how many octets the oldest packet of telemetry has, 0 where none waits. Answers 0, or 255 where there is no
-/// ground.
+/// Writes how many octets the oldest packet of telemetry has, 7 to 65,542; 0 where none waits. Returns 0.
 #[unsafe(no_mangle)]
 pub extern "C" fn sedge_ground_next_telemetry(
     alloc: Global,
@@ -111,8 +110,8 @@ pub extern "C" fn sedge_ground_next_telemetry(
     read!(alloc, ground, count, |node| count_of(node.peek_telemetry()))
 }
 
-/// Takes the oldest packet of telemetry (CCSDS 132.0-B-3, 4.3.2); 0 octets for none. Answers 0, or 252 where the room
-/// is too short, or 255 where there is no ground.
+/// Takes the oldest packet of telemetry (132.0-B-3, 4.3.2): writes it, and the number of its octets; or 0 octets where
+/// none waits. Returns 0 or `SEDGE_NODE_ROOM`.
 #[unsafe(no_mangle)]
 pub extern "C" fn sedge_ground_take_telemetry(
     alloc: Global,

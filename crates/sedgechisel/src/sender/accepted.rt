@@ -9,10 +9,11 @@ use super::describing::described;
 use crate::numbers::ABSENT;
 use cop1::accepted_beyond;
 
-/// How many of the units that were sent and not acknowledged were accepted on board when a report of this value was
-/// made, the oldest ones; after an alert too. Where V(S) is NN(R) there are none of them, and 0 is written whatever the
-/// value. Answers 0, or 255 where the sender is damaged, or 253 where V(S) is not NN(R) and the value does not lie
-/// from NN(R) to V(S), so that nothing is known of these units; nothing is written then.
+/// Writes how many of the units that were sent and not acknowledged were accepted on board when a report of this value
+/// was made: the oldest ones, those with the numbers from NN(R) to value - 1 (5.1). It does so after an alert too,
+/// until V(S) is set or an initiation begins. If V(S) is NN(R) there are no such units, and it writes 0 whatever the
+/// value. Returns 0, or `SEDGE_DAMAGED`, or `SEDGE_ABSENT` if there are such units and the value does not lie from
+/// NN(R) to V(S), so that nothing is known of them; nothing is written then.
 #[unsafe(no_mangle)]
 pub extern "C" fn sedge_fop_accepted_beyond(sender: &KeptSender, value: u8, accepted: &mut u8) -> u8
     ensures { IsWritten (λ n. n) (accepted_by sender.now value) accepted.old accepted.new result }
@@ -26,8 +27,7 @@ pub extern "C" fn sedge_fop_accepted_beyond(sender: &KeptSender, value: u8, acce
     }
 }
 
-/// The same of a sender with these numbers for NN(R) and V(S). Answers 0, or 253 where nothing is known, and nothing is
-/// written then.
+/// The same of a sender with these numbers for NN(R) and V(S). Returns 0, or `SEDGE_ABSENT` if nothing is known.
 #[unsafe(no_mangle)]
 pub extern "C" fn sedge_accepted_beyond(nn: u8, vs: u8, value: u8, accepted: &mut u8) -> u8
     ensures { IsWritten (λ n. n) (if_there (accepted_beyond nn vs value)) accepted.old accepted.new result }

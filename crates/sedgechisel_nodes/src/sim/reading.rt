@@ -16,13 +16,21 @@ use tc_link::Sim;
 #[repr(C)]
 #[derive(Clone, Copy)]
 pub struct SimReading {
+    /// The number of segments that were submitted and are not acknowledged.
     pub outstanding: usize,
+    /// How many of the first ones of the frames sent the ground holds acknowledged.
     pub acknowledged: usize,
+    /// Of the ground's sender, of `sedge_fop_state`.
     pub state: u8,
+    /// Of `sedge_begun`.
     pub begun: u8,
+    /// The number of Set V(R).
     pub vr: u8,
+    /// It began with nothing on its way, and without a CLCW check only where V(R) was V(S).
     pub clean: bool,
+    /// It had an idle start (docs/PROMISES.md).
     pub idle: bool,
+    /// A report has taken the ground from S4 or S5 to S1.
     pub confirmed: bool,
 }
 
@@ -54,7 +62,7 @@ fn link_reading(sim: &Sim) -> SimReading
     }
 }
 
-/// Reads how the session began and how far it is, and the sender's state. Answers 0, or 255 where there is no link.
+/// Reads the link: how the session began and how far it is. It stays as it was. Returns 0.
 #[unsafe(no_mangle)]
 pub extern "C" fn sedge_sim_read(alloc: Global, sim: &mut SimHandle, read: &mut SimReading) -> u8
     ensures { IsRead (λ l. Some (link_reading_of l.world)) sim.old.value sim.new.value result read.old read.new }
@@ -62,8 +70,8 @@ pub extern "C" fn sedge_sim_read(alloc: Global, sim: &mut SimHandle, read: &mut 
     read!(alloc, sim, read, |link| link_reading(link.sim()))
 }
 
-/// Writes the octets of the frame or the packet that the last event gave, and how many they are; 0 where it gave none.
-/// Answers 0, or 252 where the room is too short, or 255 where there is no link.
+/// Writes the octets of the last event's frame or packet, of which the reply has the `count`, and their number; 0
+/// octets where the reply had none. They stay. Returns 0 or `SEDGE_NODE_ROOM`.
 #[unsafe(no_mangle)]
 pub extern "C" fn sedge_sim_octets(
     alloc: Global,

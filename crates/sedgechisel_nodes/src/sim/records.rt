@@ -49,8 +49,8 @@ fn entry_of(sim: &Sim, number: u8, map: u8, k: usize) -> Option<&[u8]>
     }
 }
 
-/// Writes how many entries a record has: 1 submitted and 2 delivered on a MAP, 3 sent, 4 accepted on board; 0 for
-/// another number. Answers 0, or 255 where there is no link.
+/// Writes how many entries a record has; the MAP counts for the first two alone. For another number there are none.
+/// Returns 0.
 #[unsafe(no_mangle)]
 pub extern "C" fn sedge_sim_count(
     alloc: Global,
@@ -79,8 +79,7 @@ fn length_of_entry(sim: &Sim, number: u8, map: u8, k: usize) -> Option<usize>
     }
 }
 
-/// Writes how many octets entry k of a record has, from 0. Answers 0, or 253 where there is none, or 255 where there is
-/// no link.
+/// Writes how many octets entry `k` has, counted from 0. Returns 0, or `SEDGE_NODE_ABSENT` if there are not that many.
 #[unsafe(no_mangle)]
 pub extern "C" fn sedge_sim_entry_length(
     alloc: Global,
@@ -100,8 +99,8 @@ pub extern "C" fn sedge_sim_entry_length(
     )
 }
 
-/// Writes the octets of entry k of a record, and how many they are. Answers 0, or 253 where there is none, or 252 where
-/// the room is too short, or 255 where there is no link.
+/// Writes the octets of entry `k`, and their number. Returns 0, or the first of `SEDGE_NODE_ABSENT` and
+/// `SEDGE_NODE_ROOM`.
 #[unsafe(no_mangle)]
 pub extern "C" fn sedge_sim_entry(
     alloc: Global,

@@ -10,18 +10,24 @@ use clcw::Clcw;
 use std::alloc::Global;
 use tc_link::{NodeFault, Reply};
 
-/// A reply: its kind, then what that kind has; the rest is 0.
+/// A reply: its kind, then what that kind has; the rest is 0. For C it is `struct sedge_reply`.
 #[repr(C)]
 #[derive(Clone, Copy, Default)]
 pub struct KeptReply {
+    /// The octets of the frame that was sent, or of the packet.
     pub count: usize,
     pub up: KeptReceived,
     pub down: KeptHeard,
     pub report: Clcw,
+    /// Of `sedge_reply_kind`.
     pub kind: u8,
+    /// Of `sedge_refused_by`.
     pub by: u8,
+    /// Of the enum that by names.
     pub fault: u8,
+    /// Of `sedge_alert`.
     pub alert: u8,
+    /// Of the packet.
     pub map: u8,
 }
 
