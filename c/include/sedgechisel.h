@@ -46,6 +46,7 @@ struct sedge_text {
     char text[20];
 };
 
+/* The version of the library. */
 struct sedge_text sedge_version(void);
 
 /* The numbers that all kinds of calls share. */
@@ -108,8 +109,8 @@ struct sedge_clcw {
  * SEDGE_WRONG_COUNT if the octets are not four. */
 uint8_t sedge_clcw_decode(const uint8_t *octets, size_t count, struct sedge_clcw *word);
 
-/* Writes a control word as four octets. Returns 0, or SEDGE_CLCW_RANGE, or SEDGE_WRONG_COUNT if the room is not
- * four octets. */
+/* Writes a control word as four octets. Returns 0, or SEDGE_CLCW_RANGE, or SEDGE_WRONG_COUNT if the room is not four
+ * octets. */
 uint8_t sedge_clcw_encode(const struct sedge_clcw *word, uint8_t *out, size_t room);
 
 /* ---- The receiver FARM-1 of one virtual channel (232.1-B-2, section 6). Give it the frames of its own spacecraft and
@@ -175,8 +176,9 @@ uint8_t sedge_farm_set_vr(struct sedge_farm *farm, uint8_t vr);
 /* There is room on board again. Returns 0, or SEDGE_DAMAGED. */
 uint8_t sedge_farm_released(struct sedge_farm *farm);
 
-/* Makes the control word that reports on the receiver as it is, for the virtual channel vcid; the flags for the radio
- * channel and bit lock are 0. Returns 0, or SEDGE_DAMAGED, or SEDGE_CLCW_RANGE if vcid is not below 64. */
+/* Makes the control word (232.0-B-4, 4.2) that reports on the receiver as it is, for the virtual channel vcid; the
+ * flags for the radio channel and bit lock are 0. Returns 0, or SEDGE_DAMAGED, or SEDGE_CLCW_RANGE if vcid is not below
+ * 64. */
 uint8_t sedge_farm_report(const struct sedge_farm *farm, uint8_t vcid, struct sedge_clcw *word);
 
 /* Returns the state, of sedge_farm_mode, or SEDGE_DAMAGED. */
@@ -277,53 +279,22 @@ struct sedge_fop {
  * SEDGE_COP_WINDOW (not 1 to half the width), SEDGE_COP_LIMIT (0) and SEDGE_COP_TIMER (0). */
 uint8_t sedge_fop_open(struct sedge_fop *fop, uint8_t width, uint8_t window, uint8_t limit, uint16_t timer);
 
-/* The directives (5.2.4). The four initiations and Set V(S) are allowed in S6 alone, Terminate in S1 to S5, and the
- * last three in all states. Terminate is the alert SEDGE_ALERT_TERMINATED: all units are discarded. */
-enum sedge_directive {
-    SEDGE_INIT_WITHOUT_CHECK = 1, /* initiate without a check of the report */
-    SEDGE_INIT_WITH_CHECK = 2,    /* initiate once a report has the value V(S) */
-    SEDGE_INIT_UNLOCK = 3,        /* initiate by the control command Unlock */
-    SEDGE_INIT_SET_VR = 4,        /* initiate by the control command Set V(R), with the number value */
-    SEDGE_TERMINATE = 5,          /* give up */
-    SEDGE_SET_VS = 6,             /* set V(S), and NN(R), to value */
-    SEDGE_SET_WINDOW = 7,         /* set the window K to value, 1 to half the receiver's window width */
-    SEDGE_SET_LIMIT = 8,          /* set the transmission limit to value, 1 to 255 */
-    SEDGE_SET_TIMER = 9           /* set the timer's value in ticks to value, at least 1 */
-};
+/* The directives (5.2.4). Each returns 0, or SEDGE_DAMAGED, or SEDGE_COP_WRONG_STATE: the four initiations and Set V(S)
+ * (which sets NN(R) too) are allowed in S6 alone, Terminate in S1 to S5. Terminate is the alert SEDGE_ALERT_TERMINATED:
+ * all units are discarded. */
+uint8_t sedge_fop_init_without_check(struct sedge_fop *fop); /* initiates without a check of the report */
+uint8_t sedge_fop_init_with_check(struct sedge_fop *fop); /* initiates once a report has the value V(S) */
+uint8_t sedge_fop_init_unlock(struct sedge_fop *fop); /* initiates by the control command Unlock */
+uint8_t sedge_fop_init_set_vr(struct sedge_fop *fop, uint8_t vr);
+    /* initiates by the control command Set V(R), with this number */
+uint8_t sedge_fop_terminate(struct sedge_fop *fop); /* gives up: all units are let go of */
+uint8_t sedge_fop_set_vs(struct sedge_fop *fop, uint8_t vs); /* sets V(S), and NN(R) to it */
 
-/* Gives the sender a directive, of sedge_directive, with its value; one that has none ignores it. Returns 0; or
- * SEDGE_COP_WRONG_STATE; or for a value out of its range SEDGE_COP_WINDOW, SEDGE_COP_LIMIT or SEDGE_COP_TIMER; or
- * SEDGE_DAMAGED, also for a directive that is none, and for a number V(R) or V(S) above 255. */
-uint8_t sedge_fop_directive(struct sedge_fop *fop, uint8_t directive, uint16_t value);
-
-/* Each directive by its name. Up to 0.2 these were calls of the library; they are sedge_fop_directive now. */
-static inline uint8_t sedge_fop_init_without_check(struct sedge_fop *fop) {
-    return sedge_fop_directive(fop, SEDGE_INIT_WITHOUT_CHECK, 0);
-}
-static inline uint8_t sedge_fop_init_with_check(struct sedge_fop *fop) {
-    return sedge_fop_directive(fop, SEDGE_INIT_WITH_CHECK, 0);
-}
-static inline uint8_t sedge_fop_init_unlock(struct sedge_fop *fop) {
-    return sedge_fop_directive(fop, SEDGE_INIT_UNLOCK, 0);
-}
-static inline uint8_t sedge_fop_init_set_vr(struct sedge_fop *fop, uint8_t vr) {
-    return sedge_fop_directive(fop, SEDGE_INIT_SET_VR, vr);
-}
-static inline uint8_t sedge_fop_terminate(struct sedge_fop *fop) {
-    return sedge_fop_directive(fop, SEDGE_TERMINATE, 0);
-}
-static inline uint8_t sedge_fop_set_vs(struct sedge_fop *fop, uint8_t vs) {
-    return sedge_fop_directive(fop, SEDGE_SET_VS, vs);
-}
-static inline uint8_t sedge_fop_set_window(struct sedge_fop *fop, uint8_t window) {
-    return sedge_fop_directive(fop, SEDGE_SET_WINDOW, window);
-}
-static inline uint8_t sedge_fop_set_limit(struct sedge_fop *fop, uint8_t limit) {
-    return sedge_fop_directive(fop, SEDGE_SET_LIMIT, limit);
-}
-static inline uint8_t sedge_fop_set_timer(struct sedge_fop *fop, uint16_t timer) {
-    return sedge_fop_directive(fop, SEDGE_SET_TIMER, timer);
-}
+/* These are allowed in all states. Each returns 0, or SEDGE_DAMAGED, or for a value out of its range SEDGE_COP_WINDOW,
+ * SEDGE_COP_LIMIT or SEDGE_COP_TIMER. */
+uint8_t sedge_fop_set_window(struct sedge_fop *fop, uint8_t window); /* sets the window K */
+uint8_t sedge_fop_set_limit(struct sedge_fop *fop, uint8_t limit);   /* sets the transmission limit */
+uint8_t sedge_fop_set_timer(struct sedge_fop *fop, uint16_t timer);  /* sets the timer's value in ticks */
 
 /* Submits a unit, to be sent under sequence control: it waits, and the caller keeps it. Returns 0, or SEDGE_DAMAGED, or
  * SEDGE_COP_NOT_OPEN in S6, or SEDGE_COP_BUSY while another one waits. */
@@ -333,10 +304,10 @@ uint8_t sedge_fop_submit(struct sedge_fop *fop);
  * SEDGE_DAMAGED, with nothing written. */
 uint8_t sedge_fop_next(struct sedge_fop *fop, uint8_t *number);
 
-/* A control word has arrived, and the sender is that of the virtual channel vcid. The call compares this with the vcid
- * of the word; the caller has compared the scid of the telemetry frame that carried it. Returns the alert, of
- * sedge_alert, and writes the number of units that are acknowledged, the oldest of those sent; or with nothing written
- * and nothing changed it returns the first of SEDGE_ABSENT, if the word reports on another channel, and
+/* A control word has arrived, and the sender is that of the virtual channel vcid. The call compares this with the
+ * vcid of the word; the caller has compared the scid of the telemetry frame that carried it. Returns the alert, of
+ * sedge_alert, and writes the number of units that are acknowledged, the oldest of those sent; or with nothing
+ * written and nothing changed it returns the first of SEDGE_ABSENT, if the word reports on another channel, and
  * SEDGE_DAMAGED. */
 uint8_t sedge_fop_report(struct sedge_fop *fop, uint8_t vcid, const struct sedge_clcw *word, uint8_t *released);
 
@@ -405,8 +376,8 @@ struct sedge_tc_frame {
 
 /* Reads all of the octets as one frame, which ends with its FECF if checked is true, and writes where the data after
  * the segment header are; a control frame has none, and the part is {0, 0}. The frame may be of any spacecraft and
- * virtual channel: compare scid and vcid with your own before a receiver is given it. Returns 0, or the first of 1 to
- * 9 of sedge_tc_fault. */
+ * virtual channel: compare scid and vcid with your own before a receiver is given it. Returns 0, or the first of 1 to 9
+ * of sedge_tc_fault. */
 uint8_t sedge_tc_decode(const uint8_t *octets, size_t count, bool checked, struct sedge_tc_frame *frame,
                         struct sedge_part *data);
 
@@ -654,15 +625,15 @@ uint8_t sedge_map_segment(const uint8_t *octets, size_t count, const struct sedg
 
 /* ---- Names, as tctool writes them; "?" for a number out of the enum. ---- */
 
-struct sedge_text sedge_clcw_fault_name(uint8_t fault);   /* of sedge_clcw_fault */
-struct sedge_text sedge_cop_fault_name(uint8_t fault);    /* of sedge_cop_fault */
-struct sedge_text sedge_verdict_name(uint8_t verdict);    /* of sedge_verdict */
-struct sedge_text sedge_alert_name(uint8_t alert);        /* of sedge_alert */
-struct sedge_text sedge_tc_fault_name(uint8_t fault);     /* of sedge_tc_fault */
-struct sedge_text sedge_packet_fault_name(uint8_t fault); /* of sedge_packet_fault */
-struct sedge_text sedge_tm_fault_name(uint8_t fault);     /* of sedge_tm_fault */
-struct sedge_text sedge_map_fault_name(uint8_t fault);    /* of sedge_map_fault */
-struct sedge_text sedge_dropped_name(uint8_t cause);      /* of sedge_dropped */
+struct sedge_text sedge_clcw_fault_name(uint8_t fault);   /* the name of a sedge_clcw_fault */
+struct sedge_text sedge_cop_fault_name(uint8_t fault);    /* the name of a sedge_cop_fault */
+struct sedge_text sedge_verdict_name(uint8_t verdict);    /* the name of a sedge_verdict */
+struct sedge_text sedge_alert_name(uint8_t alert);        /* the name of a sedge_alert */
+struct sedge_text sedge_tc_fault_name(uint8_t fault);     /* the name of a sedge_tc_fault */
+struct sedge_text sedge_packet_fault_name(uint8_t fault); /* the name of a sedge_packet_fault */
+struct sedge_text sedge_tm_fault_name(uint8_t fault);     /* the name of a sedge_tm_fault */
+struct sedge_text sedge_map_fault_name(uint8_t fault);    /* the name of a sedge_map_fault */
+struct sedge_text sedge_dropped_name(uint8_t cause);      /* the name of a sedge_dropped */
 
 #ifdef __cplusplus
 }

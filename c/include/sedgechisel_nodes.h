@@ -64,13 +64,13 @@ struct sedge_config {
     uint32_t blocking;     /* 0 or 1 */
 };
 
-/* The number of the first parameter that is out of its range, 1 for scid to 15 for blocking in the order above; 0 for
- * none. width is also out of its range where it is odd, and window where it is more than half of width. */
+/* The number of the first parameter that is out of its range, 1 for scid to 15 for blocking in the order of the fields;
+ * 0 for none. A width is also out of its range where it is odd, and a window where it is more than half of that. */
 uint8_t sedge_config_fault(const struct sedge_config *config);
 
 /* Names, as tctool writes them; "?" for a number out of the enum. */
-struct sedge_text sedge_parameter_name(uint8_t parameter); /* of a parameter, 1 to 15 */
-struct sedge_text sedge_link_fault_name(uint8_t fault);    /* of sedge_node_status, 1 to 6 */
+struct sedge_text sedge_parameter_name(uint8_t number);  /* the name of a managed parameter, by its number, 1 to 15 */
+struct sedge_text sedge_link_fault_name(uint8_t number); /* the name of a sedge_node_status, 1 to 6 */
 
 /* ---- The ground. ---- */
 
@@ -78,50 +78,31 @@ struct sedge_ground {
     void *node;
 };
 
-/* Opens a ground, in place of one that the handle holds, which is let go of once the new one is made: a refusal leaves
- * it, and until then both have memory. Where there is memory for one alone, close the handle first. Returns 0,
+/* Opens a ground, in place of one that the handle holds. This one is let go of once the new one is made: a refusal
+ * leaves it, and until then both have memory. Where there is memory for one alone, close the handle first. Returns 0,
  * SEDGE_NODE_OUT_OF_RANGE or SEDGE_NODE_MEMORY. */
 uint8_t sedge_ground_open(const struct sedge_config *config, struct sedge_ground *ground);
 
 /* Closes the ground, where there is one; the handle holds none then. */
 void sedge_ground_close(struct sedge_ground *ground);
 
-/* Gives the ground's sender a directive, of sedge_directive (sedgechisel.h), with its value; one that has none ignores
- * it. Returns 0; or SEDGE_COP_WRONG_STATE; or for a value out of its range SEDGE_COP_WINDOW, SEDGE_COP_LIMIT or
- * SEDGE_COP_TIMER; or SEDGE_NODE_NONE, also for a directive that is none, and for a number V(R) or V(S) above 255. */
-uint8_t sedge_ground_directive(struct sedge_ground *ground, uint8_t directive, uint16_t value);
+/* The directives (232.1-B-2, 5.2.4). Each returns 0, or 8 (the directive is not allowed in the sender's state). */
+uint8_t sedge_ground_init_without_check(struct sedge_ground *ground); /* initiates without a check of the report */
+uint8_t sedge_ground_init_with_check(struct sedge_ground *ground); /* initiates once a report has the value V(S) */
+uint8_t sedge_ground_init_unlock(struct sedge_ground *ground); /* initiates by the control command Unlock */
+uint8_t sedge_ground_init_set_vr(struct sedge_ground *ground, uint8_t vr);
+    /* initiates by the control command Set V(R), with this number */
+uint8_t sedge_ground_terminate(struct sedge_ground *ground);
+    /* gives up, which is the alert Terminated: all that was submitted is let go of */
+uint8_t sedge_ground_set_vs(struct sedge_ground *ground, uint8_t vs); /* sets V(S), and NN(R) to it */
 
-/* Each directive by its name. Up to 0.2 these were calls of the library; they are sedge_ground_directive now. */
-static inline uint8_t sedge_ground_init_without_check(struct sedge_ground *ground) {
-    return sedge_ground_directive(ground, SEDGE_INIT_WITHOUT_CHECK, 0);
-}
-static inline uint8_t sedge_ground_init_with_check(struct sedge_ground *ground) {
-    return sedge_ground_directive(ground, SEDGE_INIT_WITH_CHECK, 0);
-}
-static inline uint8_t sedge_ground_init_unlock(struct sedge_ground *ground) {
-    return sedge_ground_directive(ground, SEDGE_INIT_UNLOCK, 0);
-}
-static inline uint8_t sedge_ground_init_set_vr(struct sedge_ground *ground, uint8_t vr) {
-    return sedge_ground_directive(ground, SEDGE_INIT_SET_VR, vr);
-}
-static inline uint8_t sedge_ground_terminate(struct sedge_ground *ground) {
-    return sedge_ground_directive(ground, SEDGE_TERMINATE, 0);
-}
-static inline uint8_t sedge_ground_set_vs(struct sedge_ground *ground, uint8_t vs) {
-    return sedge_ground_directive(ground, SEDGE_SET_VS, vs);
-}
-static inline uint8_t sedge_ground_set_window(struct sedge_ground *ground, uint8_t window) {
-    return sedge_ground_directive(ground, SEDGE_SET_WINDOW, window);
-}
-static inline uint8_t sedge_ground_set_limit(struct sedge_ground *ground, uint8_t limit) {
-    return sedge_ground_directive(ground, SEDGE_SET_LIMIT, limit);
-}
-static inline uint8_t sedge_ground_set_timer(struct sedge_ground *ground, uint16_t ticks) {
-    return sedge_ground_directive(ground, SEDGE_SET_TIMER, ticks);
-}
+/* These are allowed in all states. Each returns 0, or for a value out of its range 2, 3 or 4. */
+uint8_t sedge_ground_set_window(struct sedge_ground *ground, uint8_t window); /* sets the window K */
+uint8_t sedge_ground_set_limit(struct sedge_ground *ground, uint8_t limit);   /* sets the transmission limit */
+uint8_t sedge_ground_set_timer(struct sedge_ground *ground, uint16_t ticks);  /* sets the timer's value, in ticks */
 
-/* Submits packets on a MAP, to be sent under sequence control: one, or several where blocking is on. Returns 0, or
- * the first of 1 to 5 of sedge_node_status that applies, or SEDGE_NODE_MEMORY. */
+/* Submits packets on a MAP, to be sent under sequence control: one, or several where blocking is on. Returns 0, or the
+ * first of 1 to 5 of sedge_node_status that applies, or SEDGE_NODE_MEMORY. */
 uint8_t sedge_ground_submit(struct sedge_ground *ground, uint8_t map, const uint8_t *octets, size_t count);
 
 /* Submits one packet on a MAP past the sequence control. Returns 0, or the first of 2 to 5 of sedge_node_status that
@@ -132,8 +113,8 @@ uint8_t sedge_ground_bypass(struct sedge_ground *ground, uint8_t map, const uint
  * 0. */
 uint8_t sedge_ground_next(struct sedge_ground *ground, size_t *count);
 
-/* Takes the frame that goes on the link next, with its FECF: writes it, and the number of its octets; or 0 octets
- * where nothing is to be sent. Returns 0 or SEDGE_NODE_ROOM. */
+/* Takes the frame that goes on the link next, with its FECF (232.0-B-4, 4.1): writes it, and the number of its octets;
+ * or 0 octets where nothing is to be sent. Returns 0 or SEDGE_NODE_ROOM. */
 uint8_t sedge_ground_pull(struct sedge_ground *ground, uint8_t *out, size_t room, size_t *count);
 
 /* What the ground makes of octets that it received: their kind, then what that kind has; the rest is 0. */
@@ -148,7 +129,8 @@ struct sedge_heard {
     uint8_t alert;      /* 3, 0: of sedge_alert; 0 for none */
 };
 
-/* Octets came from the spacecraft. Returns 0, or SEDGE_NODE_MEMORY where they finish a packet. */
+/* Takes octets that came from the spacecraft, and writes what they are. Returns 0, or SEDGE_NODE_MEMORY where they
+ * finish a packet. */
 uint8_t sedge_ground_telemetry(struct sedge_ground *ground, const uint8_t *octets, size_t count,
                                struct sedge_heard *heard);
 
@@ -160,8 +142,8 @@ uint8_t sedge_ground_report(struct sedge_ground *ground, const uint8_t *octets, 
 /* Writes how many octets the oldest packet of telemetry has, 7 to 65,542; 0 where none waits. Returns 0. */
 uint8_t sedge_ground_next_telemetry(struct sedge_ground *ground, size_t *count);
 
-/* Takes the oldest packet of telemetry: writes it, and the number of its octets; or 0 octets where none waits.
- * Returns 0 or SEDGE_NODE_ROOM. */
+/* Takes the oldest packet of telemetry (132.0-B-3, 4.3.2): writes it, and the number of its octets; or 0 octets where
+ * none waits. Returns 0 or SEDGE_NODE_ROOM. */
 uint8_t sedge_ground_take_telemetry(struct sedge_ground *ground, uint8_t *out, size_t room, size_t *count);
 
 /* A tick of the clock has passed. Returns the alert, of sedge_alert, 0 for none; or SEDGE_NODE_NONE. */
@@ -175,7 +157,8 @@ struct sedge_ground_reading {
     uint8_t nn;          /* NN(R), the number that the spacecraft was last known to expect */
 };
 
-/* Reads the ground; it stays as it was. */
+/* Reads the ground: the sender's state, V(S) and NN(R), what is outstanding, and how many octets a telemetry frame has.
+ * It stays as it was. Returns 0. */
 uint8_t sedge_ground_read(struct sedge_ground *ground, struct sedge_ground_reading *read);
 
 /* Writes how many of the segments that were sent and not acknowledged were accepted on board when a report of this
@@ -210,7 +193,8 @@ struct sedge_received {
     uint8_t vr;      /* 5: the number of Set V(R) */
 };
 
-/* Octets came from the ground. Returns 0, or SEDGE_NODE_MEMORY where a frame's data are handed on. */
+/* Takes octets that came from the ground, and writes what they are. Returns 0, or SEDGE_NODE_MEMORY where a frame's
+ * data are handed on. */
 uint8_t sedge_spacecraft_receive(struct sedge_spacecraft *spacecraft, const uint8_t *octets, size_t count,
                                  struct sedge_received *received);
 
@@ -218,22 +202,26 @@ uint8_t sedge_spacecraft_receive(struct sedge_spacecraft *spacecraft, const uint
  * octets alone where none waits. Returns 0. */
 uint8_t sedge_spacecraft_next(struct sedge_spacecraft *spacecraft, uint8_t *map, size_t *count);
 
-/* Takes that packet: writes its MAP, the packet, and the number of its octets; or 0 octets alone where none waits.
- * Returns 0 or SEDGE_NODE_ROOM. */
+/* Takes the oldest packet of sequence-controlled frames (232.0-B-4, 4.4): writes its MAP, the packet, and the number of
+ * its octets; or 0 octets alone where none waits. Returns 0 or SEDGE_NODE_ROOM. */
 uint8_t sedge_spacecraft_take(struct sedge_spacecraft *spacecraft, uint8_t *map, uint8_t *out, size_t room,
                               size_t *count);
 
-/* The same two of the packets that came past the sequence control. */
+/* Writes the same of the oldest packet that came past the sequence control. Returns 0. */
 uint8_t sedge_spacecraft_next_bypass(struct sedge_spacecraft *spacecraft, uint8_t *map, size_t *count);
+
+/* Takes the oldest packet that came past the sequence control (232.0-B-4, 4.4), as sedge_spacecraft_take does. Returns
+ * 0 or SEDGE_NODE_ROOM. */
 uint8_t sedge_spacecraft_take_bypass(struct sedge_spacecraft *spacecraft, uint8_t *map, uint8_t *out, size_t room,
                                      size_t *count);
 
-/* Queues a packet to be sent as telemetry. Returns 0, or 8 for octets that are not exactly one packet, or an idle
- * packet, or 7 where there was no memory (these numbers are of the telemetry's faults, sedge_tm_fault_name). */
+/* Queues a packet to be sent as telemetry (132.0-B-3, 4.2.2). Returns 0, or 8 for octets that are not exactly one
+ * packet, or an idle packet, or 7 where there was no memory (these numbers are of the telemetry's faults,
+ * sedge_tm_fault_name). */
 uint8_t sedge_spacecraft_telemetry(struct sedge_spacecraft *spacecraft, const uint8_t *packet, size_t count);
 
-/* Writes the next telemetry frame, which reports on the receiver, and the number of its octets, which is
- * frame_length. Returns 0 or SEDGE_NODE_ROOM. */
+/* Writes the next telemetry frame (132.0-B-3, 4.1), which reports on the receiver, and the number of its octets, which
+ * is frame_length. Returns 0 or SEDGE_NODE_ROOM. */
 uint8_t sedge_spacecraft_report(struct sedge_spacecraft *spacecraft, uint8_t *out, size_t room, size_t *count);
 
 struct sedge_spacecraft_reading {
@@ -246,7 +234,8 @@ struct sedge_spacecraft_reading {
     uint8_t state;       /* of the receiver, of sedge_farm_mode */
 };
 
-/* Reads the spacecraft; it stays as it was. */
+/* Reads the spacecraft: how many octets a telemetry frame has, the report that the next one carries, and the receiver's
+ * state. It stays as it was. Returns 0. */
 uint8_t sedge_spacecraft_read(struct sedge_spacecraft *spacecraft, struct sedge_spacecraft_reading *read);
 
 /* ---- A simulated link between two nodes, for tests: it keeps its order in each direction, and loses or damages
@@ -270,7 +259,8 @@ enum sedge_sim_fault {
     SEDGE_SIM_NOT_DETECTABLE = 8      /* the receiver's decoder would accept the octets of the damaged frame */
 };
 
-struct sedge_text sedge_sim_fault_name(uint8_t fault); /* of sedge_sim_fault; "?" for another number */
+/* The name of a sedge_sim_fault; "?" for another number. */
+struct sedge_text sedge_sim_fault_name(uint8_t number);
 
 /* What the link answers to an event. */
 enum sedge_reply_kind {
@@ -306,144 +296,53 @@ struct sedge_reply {
     uint8_t map;   /* of the packet */
 };
 
-/* What may happen. */
-enum sedge_event_kind {
-    SEDGE_EVENT_SUBMIT = 1,       /* packets are submitted: map, octets */
-    SEDGE_EVENT_BYPASS = 2,       /* a packet is submitted past the sequence control: map, octets */
-    SEDGE_EVENT_DIRECTIVE = 3,    /* the ground is given a directive: directive, value */
-    SEDGE_EVENT_SEND = 4,         /* the ground sends a frame */
-    SEDGE_EVENT_UP_DELIVER = 5,   /* the first frame on its way up arrives */
-    SEDGE_EVENT_UP_LOSE = 6,      /* it is lost */
-    SEDGE_EVENT_UP_DAMAGE = 7,    /* these arrive in its place, which are no frame: octets */
-    SEDGE_EVENT_REPORT = 8,       /* the spacecraft sends a frame, which reports */
-    SEDGE_EVENT_DOWN_DELIVER = 9, /* the first frame on its way down arrives */
-    SEDGE_EVENT_DOWN_LOSE = 10,   /* it is lost */
-    SEDGE_EVENT_DOWN_DAMAGE = 11, /* these arrive in its place, which are no frame: octets */
-    SEDGE_EVENT_TICK = 12,        /* a tick of the ground's clock passes */
-    SEDGE_EVENT_TAKE = 13,        /* a packet of sequence-controlled frames is taken on board */
-    SEDGE_EVENT_TAKE_BYPASS = 14, /* a packet that came past the sequence control is taken on board */
-    SEDGE_EVENT_TELEMETRY = 15    /* a packet is queued on board, to be sent as telemetry: octets */
-};
+/* An event happens. Each call returns 0 and writes the reply; or a number of sedge_sim_fault, and nothing happens.
+ * No directive, loss, damage, tick or take answers SEDGE_SIM_MEMORY. What a node refuses is a reply. The octets of a
+ * frame that was sent, and of a packet that was taken, stay to be read until the next event (sedge_sim_octets). */
+uint8_t sedge_sim_submit(struct sedge_sim *sim, uint8_t map, const uint8_t *octets, size_t count,
+                         struct sedge_reply *reply); /* packets are submitted on a MAP */
+uint8_t sedge_sim_bypass(struct sedge_sim *sim, uint8_t map, const uint8_t *octets, size_t count,
+                         struct sedge_reply *reply); /* a packet is to go past the sequence control, on a MAP */
+uint8_t sedge_sim_init_without_check(struct sedge_sim *sim, struct sedge_reply *reply);
+    /* the directive to initiate without a check of the report */
+uint8_t sedge_sim_init_with_check(struct sedge_sim *sim, struct sedge_reply *reply);
+    /* the directive to initiate once a report has the value V(S) */
+uint8_t sedge_sim_init_unlock(struct sedge_sim *sim, struct sedge_reply *reply);
+    /* the directive to initiate by the control command Unlock */
+uint8_t sedge_sim_init_set_vr(struct sedge_sim *sim, uint8_t vr, struct sedge_reply *reply);
+    /* the directive to initiate by the control command Set V(R), with this number */
+uint8_t sedge_sim_terminate(struct sedge_sim *sim, struct sedge_reply *reply); /* the directive to give up */
+uint8_t sedge_sim_set_vs(struct sedge_sim *sim, uint8_t vs, struct sedge_reply *reply);
+    /* the directive to set V(S), and NN(R) to it */
+uint8_t sedge_sim_set_window(struct sedge_sim *sim, uint8_t window, struct sedge_reply *reply);
+    /* the directive to set the window K */
+uint8_t sedge_sim_set_limit(struct sedge_sim *sim, uint8_t limit, struct sedge_reply *reply);
+    /* the directive to set the transmission limit */
+uint8_t sedge_sim_set_timer(struct sedge_sim *sim, uint16_t ticks, struct sedge_reply *reply);
+    /* the directive to set the timer's value, in ticks */
+uint8_t sedge_sim_send(struct sedge_sim *sim, struct sedge_reply *reply); /* the ground sends a frame */
+uint8_t sedge_sim_up_deliver(struct sedge_sim *sim, struct sedge_reply *reply);
+    /* the first frame on its way up arrives */
+uint8_t sedge_sim_up_lose(struct sedge_sim *sim, struct sedge_reply *reply); /* it is lost */
+uint8_t sedge_sim_up_damage(struct sedge_sim *sim, const uint8_t *octets, size_t count, struct sedge_reply *reply);
+    /* these octets arrive in its place, which are no frame */
+uint8_t sedge_sim_report(struct sedge_sim *sim, struct sedge_reply *reply);
+    /* the spacecraft sends a telemetry frame, which reports */
+uint8_t sedge_sim_down_deliver(struct sedge_sim *sim, struct sedge_reply *reply);
+    /* the first frame on its way down arrives */
+uint8_t sedge_sim_down_lose(struct sedge_sim *sim, struct sedge_reply *reply); /* it is lost */
+uint8_t sedge_sim_down_damage(struct sedge_sim *sim, const uint8_t *octets, size_t count, struct sedge_reply *reply);
+    /* these octets arrive in its place, which are no frame */
+uint8_t sedge_sim_tick(struct sedge_sim *sim, struct sedge_reply *reply); /* a tick of the ground's clock passes */
+uint8_t sedge_sim_take(struct sedge_sim *sim, struct sedge_reply *reply);
+    /* a packet of sequence-controlled frames is taken on board */
+uint8_t sedge_sim_take_bypass(struct sedge_sim *sim, struct sedge_reply *reply);
+    /* a packet of frames past the sequence control is taken on board */
+uint8_t sedge_sim_telemetry(struct sedge_sim *sim, const uint8_t *packet, size_t count, struct sedge_reply *reply);
+    /* a packet is queued on board to be sent as telemetry */
 
-/* An event: its kind, then what that kind has; the rest is ignored. But octets is never null: for a kind without
- * octets it is the address of any octet, and count is 0. */
-struct sedge_event {
-    uint8_t kind;          /* of sedge_event_kind */
-    uint8_t map;           /* the MAP */
-    uint8_t directive;     /* of sedge_directive */
-    uint16_t value;        /* the directive's, as of sedge_ground_directive */
-    const uint8_t *octets; /* count of them */
-    size_t count;
-};
-
-/* Where the fields are, for addresses of 32 and of 64 bits. */
-typedef char sedge_event_is_laid_out[offsetof(struct sedge_event, map) == 1 &&
-                                             offsetof(struct sedge_event, directive) == 2 &&
-                                             offsetof(struct sedge_event, value) == 4 &&
-                                             offsetof(struct sedge_event, octets) == 8 &&
-                                             offsetof(struct sedge_event, count) == 8 + sizeof(uint8_t *) &&
-                                             sizeof(struct sedge_event) == 8 + 2 * sizeof(uint8_t *)
-                                         ? 1
-                                         : -1];
-
-/* An event happens. Returns 0 and writes the reply; or a number of sedge_sim_fault, and nothing happens; or
- * SEDGE_NODE_NONE, also for a kind that is none, and where sedge_ground_directive answers it to the directive and the
- * value. No directive, loss, damage, tick or take answers SEDGE_SIM_MEMORY. What a node refuses is a reply. The octets
- * of a frame that was sent, and of a packet that was taken, stay to be read until the next event (sedge_sim_octets). */
-uint8_t sedge_sim_step(struct sedge_sim *sim, const struct sedge_event *event, struct sedge_reply *reply);
-
-/* Each event by its name. Up to 0.2 these were calls of the library; they are sedge_sim_step now. */
-static inline uint8_t sedge_sim_octets_event(struct sedge_sim *sim, uint8_t kind, uint8_t map, const uint8_t *octets,
-                                             size_t count, struct sedge_reply *reply) {
-    struct sedge_event event = {kind, map, 0, 0, octets, count};
-    return sedge_sim_step(sim, &event, reply);
-}
-static inline uint8_t sedge_sim_event(struct sedge_sim *sim, uint8_t kind, struct sedge_reply *reply) {
-    struct sedge_event event = {kind, 0, 0, 0, &kind, 0};
-    return sedge_sim_step(sim, &event, reply);
-}
-static inline uint8_t sedge_sim_directive(struct sedge_sim *sim, uint8_t directive, uint16_t value,
-                                          struct sedge_reply *reply) {
-    struct sedge_event event = {SEDGE_EVENT_DIRECTIVE, 0, directive, value, &directive, 0};
-    return sedge_sim_step(sim, &event, reply);
-}
-static inline uint8_t sedge_sim_submit(struct sedge_sim *sim, uint8_t map, const uint8_t *octets, size_t count,
-                                       struct sedge_reply *reply) {
-    return sedge_sim_octets_event(sim, SEDGE_EVENT_SUBMIT, map, octets, count, reply);
-}
-static inline uint8_t sedge_sim_bypass(struct sedge_sim *sim, uint8_t map, const uint8_t *octets, size_t count,
-                                       struct sedge_reply *reply) {
-    return sedge_sim_octets_event(sim, SEDGE_EVENT_BYPASS, map, octets, count, reply);
-}
-static inline uint8_t sedge_sim_init_without_check(struct sedge_sim *sim, struct sedge_reply *reply) {
-    return sedge_sim_directive(sim, SEDGE_INIT_WITHOUT_CHECK, 0, reply);
-}
-static inline uint8_t sedge_sim_init_with_check(struct sedge_sim *sim, struct sedge_reply *reply) {
-    return sedge_sim_directive(sim, SEDGE_INIT_WITH_CHECK, 0, reply);
-}
-static inline uint8_t sedge_sim_init_unlock(struct sedge_sim *sim, struct sedge_reply *reply) {
-    return sedge_sim_directive(sim, SEDGE_INIT_UNLOCK, 0, reply);
-}
-static inline uint8_t sedge_sim_init_set_vr(struct sedge_sim *sim, uint8_t vr, struct sedge_reply *reply) {
-    return sedge_sim_directive(sim, SEDGE_INIT_SET_VR, vr, reply);
-}
-static inline uint8_t sedge_sim_terminate(struct sedge_sim *sim, struct sedge_reply *reply) {
-    return sedge_sim_directive(sim, SEDGE_TERMINATE, 0, reply);
-}
-static inline uint8_t sedge_sim_set_vs(struct sedge_sim *sim, uint8_t vs, struct sedge_reply *reply) {
-    return sedge_sim_directive(sim, SEDGE_SET_VS, vs, reply);
-}
-static inline uint8_t sedge_sim_set_window(struct sedge_sim *sim, uint8_t window, struct sedge_reply *reply) {
-    return sedge_sim_directive(sim, SEDGE_SET_WINDOW, window, reply);
-}
-static inline uint8_t sedge_sim_set_limit(struct sedge_sim *sim, uint8_t limit, struct sedge_reply *reply) {
-    return sedge_sim_directive(sim, SEDGE_SET_LIMIT, limit, reply);
-}
-static inline uint8_t sedge_sim_set_timer(struct sedge_sim *sim, uint16_t ticks, struct sedge_reply *reply) {
-    return sedge_sim_directive(sim, SEDGE_SET_TIMER, ticks, reply);
-}
-static inline uint8_t sedge_sim_send(struct sedge_sim *sim, struct sedge_reply *reply) {
-    return sedge_sim_event(sim, SEDGE_EVENT_SEND, reply);
-}
-static inline uint8_t sedge_sim_up_deliver(struct sedge_sim *sim, struct sedge_reply *reply) {
-    return sedge_sim_event(sim, SEDGE_EVENT_UP_DELIVER, reply);
-}
-static inline uint8_t sedge_sim_up_lose(struct sedge_sim *sim, struct sedge_reply *reply) {
-    return sedge_sim_event(sim, SEDGE_EVENT_UP_LOSE, reply);
-}
-static inline uint8_t sedge_sim_up_damage(struct sedge_sim *sim, const uint8_t *octets, size_t count,
-                                          struct sedge_reply *reply) {
-    return sedge_sim_octets_event(sim, SEDGE_EVENT_UP_DAMAGE, 0, octets, count, reply);
-}
-static inline uint8_t sedge_sim_report(struct sedge_sim *sim, struct sedge_reply *reply) {
-    return sedge_sim_event(sim, SEDGE_EVENT_REPORT, reply);
-}
-static inline uint8_t sedge_sim_down_deliver(struct sedge_sim *sim, struct sedge_reply *reply) {
-    return sedge_sim_event(sim, SEDGE_EVENT_DOWN_DELIVER, reply);
-}
-static inline uint8_t sedge_sim_down_lose(struct sedge_sim *sim, struct sedge_reply *reply) {
-    return sedge_sim_event(sim, SEDGE_EVENT_DOWN_LOSE, reply);
-}
-static inline uint8_t sedge_sim_down_damage(struct sedge_sim *sim, const uint8_t *octets, size_t count,
-                                            struct sedge_reply *reply) {
-    return sedge_sim_octets_event(sim, SEDGE_EVENT_DOWN_DAMAGE, 0, octets, count, reply);
-}
-static inline uint8_t sedge_sim_tick(struct sedge_sim *sim, struct sedge_reply *reply) {
-    return sedge_sim_event(sim, SEDGE_EVENT_TICK, reply);
-}
-static inline uint8_t sedge_sim_take(struct sedge_sim *sim, struct sedge_reply *reply) {
-    return sedge_sim_event(sim, SEDGE_EVENT_TAKE, reply);
-}
-static inline uint8_t sedge_sim_take_bypass(struct sedge_sim *sim, struct sedge_reply *reply) {
-    return sedge_sim_event(sim, SEDGE_EVENT_TAKE_BYPASS, reply);
-}
-static inline uint8_t sedge_sim_telemetry(struct sedge_sim *sim, const uint8_t *packet, size_t count,
-                                          struct sedge_reply *reply) {
-    return sedge_sim_octets_event(sim, SEDGE_EVENT_TELEMETRY, 0, packet, count, reply);
-}
-
-/* Writes the octets of the last event's frame or packet, count of the reply, and their number; 0 octets where the
- * reply had none. They stay. Returns 0 or SEDGE_NODE_ROOM. */
+/* Writes the octets of the last event's frame or packet, of which the reply has the count, and their number; 0 octets
+ * where the reply had none. They stay. Returns 0 or SEDGE_NODE_ROOM. */
 uint8_t sedge_sim_octets(struct sedge_sim *sim, uint8_t *out, size_t room, size_t *count);
 
 /* How a session began. */
@@ -467,7 +366,7 @@ struct sedge_sim_reading {
     bool confirmed;      /* a report has taken the ground from S4 or S5 to S1 */
 };
 
-/* Reads the link; it stays as it was. Returns 0. */
+/* Reads the link: how the session began and how far it is. It stays as it was. Returns 0. */
 uint8_t sedge_sim_read(struct sedge_sim *sim, struct sedge_sim_reading *read);
 
 /* Writes how many submissions the session has: the calls of sedge_sim_submit that the ground accepted. Returns 0. */
@@ -479,8 +378,7 @@ uint8_t sedge_sim_submission_length(struct sedge_sim *sim, size_t k, uint8_t *ma
 
 /* Writes the MAP and the octets of submission k, and their number. Returns 0, or the first of SEDGE_NODE_ABSENT and
  * SEDGE_NODE_ROOM. */
-uint8_t sedge_sim_submission(struct sedge_sim *sim, size_t k, uint8_t *map, uint8_t *out, size_t room,
-                             size_t *count);
+uint8_t sedge_sim_submission(struct sedge_sim *sim, size_t k, uint8_t *map, uint8_t *out, size_t room, size_t *count);
 
 /* The records of the session, each a list of octets. */
 enum sedge_record {
@@ -497,8 +395,7 @@ uint8_t sedge_sim_count(struct sedge_sim *sim, uint8_t record, uint8_t map, size
 /* Writes how many octets entry k has, counted from 0. Returns 0, or SEDGE_NODE_ABSENT if there are not that many. */
 uint8_t sedge_sim_entry_length(struct sedge_sim *sim, uint8_t record, uint8_t map, size_t k, size_t *count);
 
-/* Writes the octets of entry k, and their number. Returns 0, or the first of SEDGE_NODE_ABSENT and SEDGE_NODE_ROOM.
- * */
+/* Writes the octets of entry k, and their number. Returns 0, or the first of SEDGE_NODE_ABSENT and SEDGE_NODE_ROOM. */
 uint8_t sedge_sim_entry(struct sedge_sim *sim, uint8_t record, uint8_t map, size_t k, uint8_t *out, size_t room,
                         size_t *count);
 

@@ -71,16 +71,14 @@ def _count_of(call: Callable[..., Any], fault: Type[Fault], *values: Any) -> int
     return total.value
 
 
-_OCTETS = (c_char_p, c_size_t)
-_ROOM = (c_char_p, c_size_t, POINTER(c_size_t))
-
-version = str(_call("version", Text)().text.decode())
+_version = _call("version", Text)
+version = str(_version().text.decode())
 
 # ---- The check ----
 
-_check = _call("check", c_uint16, *_OCTETS)
-_check_append = _call("check_append", c_bool, *_OCTETS)
-_check_holds = _call("check_holds", c_bool, *_OCTETS)
+_check = _call("check", c_uint16, c_char_p, c_size_t)
+_check_append = _call("check_append", c_bool, c_char_p, c_size_t)
+_check_holds = _call("check_holds", c_bool, c_char_p, c_size_t)
 
 
 def check(octets: bytes) -> int:
@@ -143,8 +141,8 @@ class Clcw(_Struct):
         return out.raw
 
 
-_clcw_decode = _call("clcw_decode", c_uint8, *_OCTETS, POINTER(Clcw))
-_clcw_encode = _call("clcw_encode", c_uint8, POINTER(Clcw), *_OCTETS)
+_clcw_decode = _call("clcw_decode", c_uint8, c_char_p, c_size_t, POINTER(Clcw))
+_clcw_encode = _call("clcw_encode", c_uint8, POINTER(Clcw), c_char_p, c_size_t)
 
 # ---- The receiver ----
 
@@ -465,9 +463,10 @@ class TcFrame(_Struct):
         return _count_of(_tc_declared, TcFault, octets, len(octets), checked)
 
 
-_tc_decode = _call("tc_decode", c_uint8, *_OCTETS, c_bool, POINTER(TcFrame), POINTER(_Part))
-_tc_encode = _call("tc_encode", c_uint8, POINTER(TcFrame), *_OCTETS, c_bool, *_ROOM)
-_tc_declared = _call("tc_declared", c_uint8, *_OCTETS, c_bool, POINTER(c_size_t))
+_tc_decode = _call("tc_decode", c_uint8, c_char_p, c_size_t, c_bool, POINTER(TcFrame), POINTER(_Part))
+_tc_encode = _call("tc_encode", c_uint8, POINTER(TcFrame), c_char_p, c_size_t, c_bool, c_char_p, c_size_t,
+                   POINTER(c_size_t))
+_tc_declared = _call("tc_declared", c_uint8, c_char_p, c_size_t, c_bool, POINTER(c_size_t))
 
 # ---- Space packets ----
 
@@ -522,9 +521,10 @@ class Packet(_Struct):
         return _count_of(_packet_declared, PacketFault, octets, len(octets))
 
 
-_packet_decode = _call("packet_decode", c_uint8, *_OCTETS, POINTER(Packet), POINTER(_Part))
-_packet_encode = _call("packet_encode", c_uint8, POINTER(Packet), *_OCTETS, *_ROOM)
-_packet_declared = _call("packet_declared", c_uint8, *_OCTETS, POINTER(c_size_t))
+_packet_decode = _call("packet_decode", c_uint8, c_char_p, c_size_t, POINTER(Packet), POINTER(_Part))
+_packet_encode = _call("packet_encode", c_uint8, POINTER(Packet), c_char_p, c_size_t, c_char_p, c_size_t,
+                       POINTER(c_size_t))
+_packet_declared = _call("packet_declared", c_uint8, c_char_p, c_size_t, POINTER(c_size_t))
 
 # ---- Telemetry frames ----
 
@@ -578,8 +578,8 @@ class TmFrame(_Struct):
         return _written(_tm_encode, TmFault, 2048, byref(self), data, len(data))
 
 
-_tm_decode = _call("tm_decode", c_uint8, *_OCTETS, ("length", c_size_t), POINTER(TmFrame), POINTER(_Part))
-_tm_encode = _call("tm_encode", c_uint8, POINTER(TmFrame), *_OCTETS, *_ROOM)
+_tm_decode = _call("tm_decode", c_uint8, c_char_p, c_size_t, ("length", c_size_t), POINTER(TmFrame), POINTER(_Part))
+_tm_encode = _call("tm_encode", c_uint8, POINTER(TmFrame), c_char_p, c_size_t, c_char_p, c_size_t, POINTER(c_size_t))
 
 # ---- Packets in telemetry frames ----
 
@@ -653,11 +653,12 @@ class TmExtractor(Single):
 
 _tm_builder_open = _call("tm_builder_open", c_uint8, POINTER(_TmBuilder), ("scid", c_uint16), ("vcid", c_uint8),
                          ("length", c_size_t))
-_tm_builder_queue = _call("tm_builder_queue", c_uint8, POINTER(_TmBuilder), *_OCTETS, *_OCTETS)
-_tm_builder_build = _call("tm_builder_build", c_uint8, POINTER(_TmBuilder), *_OCTETS, *_OCTETS, *_ROOM)
-_tm_extractor_frame = _call("tm_extractor_frame", c_uint8, POINTER(_TmExtractor), POINTER(TmFrame), *_OCTETS, *_OCTETS,
-                            POINTER(_TmExtracted))
-_tm_packet = _call("tm_packet", c_bool, *_OCTETS, POINTER(_Part))
+_tm_builder_queue = _call("tm_builder_queue", c_uint8, POINTER(_TmBuilder), c_char_p, c_size_t, c_char_p, c_size_t)
+_tm_builder_build = _call("tm_builder_build", c_uint8, POINTER(_TmBuilder), c_char_p, c_size_t, c_char_p, c_size_t,
+                          c_char_p, c_size_t, POINTER(c_size_t))
+_tm_extractor_frame = _call("tm_extractor_frame", c_uint8, POINTER(_TmExtractor), POINTER(TmFrame), c_char_p, c_size_t,
+                            c_char_p, c_size_t, POINTER(_TmExtracted))
+_tm_packet = _call("tm_packet", c_bool, c_char_p, c_size_t, POINTER(_Part))
 
 # ---- Packets in segments ----
 
@@ -736,7 +737,9 @@ def _groups_of(octets: bytes, part: int) -> Iterator[bytes]:
     yield octets[start:end]
 
 
-_map_take = _call("map_take", c_uint8, POINTER(_Map), ("flags", c_uint8), *_OCTETS, *_OCTETS, POINTER(_Taken))
-_map_packet = _call("map_packet", c_bool, *_OCTETS, POINTER(_Part))
-_map_count = _call("map_count", c_uint8, *_OCTETS, POINTER(_Limits), POINTER(c_size_t))
-_map_segment = _call("map_segment", c_uint8, *_OCTETS, POINTER(_Limits), c_size_t, POINTER(c_uint8), POINTER(_Part))
+_map_take = _call("map_take", c_uint8, POINTER(_Map), ("flags", c_uint8), c_char_p, c_size_t, c_char_p, c_size_t,
+                  POINTER(_Taken))
+_map_packet = _call("map_packet", c_bool, c_char_p, c_size_t, POINTER(_Part))
+_map_count = _call("map_count", c_uint8, c_char_p, c_size_t, POINTER(_Limits), POINTER(c_size_t))
+_map_segment = _call("map_segment", c_uint8, c_char_p, c_size_t, POINTER(_Limits), ("k", c_size_t), POINTER(c_uint8),
+                     POINTER(_Part))

@@ -2,15 +2,14 @@
 from __future__ import annotations
 
 import ctypes
-from ctypes import POINTER, byref, c_bool, c_char_p, c_size_t, c_uint8, c_uint16
+from ctypes import POINTER, byref, c_bool, c_char_p, c_size_t, c_uint8
 from enum import IntEnum
 from typing import List, Optional, Tuple
 
 from ._calls import Alert, Clcw
 from ._faults import CopFault, LinkFault, SimFault, TelemetryFault
-from ._library import octets_of, within
-from ._nodes import (
-    _GIVEN, _HANDLE, _MAP, Heard, Received, Sender, State, _call, _closing, _directive, _Heard, _opening, _Received)
+from ._library import octets_of
+from ._nodes import _DIRECTIVES, Config, Heard, Received, Sender, State, _call, _Heard, _Raw, _Received
 
 _REFUSED = 3
 _REFUSED_BY = {1: LinkFault, 2: CopFault, 3: TelemetryFault}
@@ -47,9 +46,18 @@ class _Reply(ctypes.Structure):
     map: int
 
 
-class _Reading(ctypes.Structure):
+class _SimReading(ctypes.Structure):
     _fields_ = [("outstanding", c_size_t), ("acknowledged", c_size_t), ("state", c_uint8), ("begun", c_uint8),
                 ("vr", c_uint8), ("clean", c_bool), ("idle", c_bool), ("confirmed", c_bool)]
+
+
+def _counted(name: str, octets: bytes) -> Tuple[bytes, int]:
+    octets = octets_of(name, octets)
+    return octets, len(octets)
+
+
+_sim_open = _call("sim_open", c_uint8, POINTER(Config), POINTER(_Raw))
+_sim_close = _call("sim_close", None, POINTER(_Raw))
 
 
 class Link(Sender):
@@ -59,7 +67,7 @@ class Link(Sender):
     An event that a node refuses is its fault, as of `Ground` and `Spacecraft`. A LinkFault or TelemetryFault, Memory,
     and a SimFault say that there was no memory; each event may be one. Nothing has changed then."""
 
-    _opens, _closes = _opening("sim"), _closing("sim")
+    _opens, _closes = _sim_open, _sim_close
 
     def _event(self, name: str, map: int = 0, octets: bytes = b"", directive: Tuple[int, int] = (0, 0)) -> _Reply:
         within("map", c_uint8, map)
@@ -142,8 +150,8 @@ class Link(Sender):
 
     # The session and its records.
 
-    def _read(self) -> _Reading:
-        read = _Reading()
+    def _read(self) -> _SimReading:
+        read = _SimReading()
         self._asked(_sim_read(byref(self._handle), byref(read)))
         return read
 
@@ -226,12 +234,24 @@ class Link(Sender):
         return self._entries(_ACCEPTED)
 
 
-_sim_step = _call("sim_step", _HANDLE, POINTER(_Event), POINTER(_Reply))
-_sim_octets = _call("sim_octets", _HANDLE, *_GIVEN)
-_sim_read = _call("sim_read", _HANDLE, POINTER(_Reading))
-_sim_submissions = _call("sim_submissions", _HANDLE, POINTER(c_size_t))
-_sim_submission_length = _call("sim_submission_length", _HANDLE, c_size_t, POINTER(c_uint8), POINTER(c_size_t))
-_sim_submission = _call("sim_submission", _HANDLE, c_size_t, POINTER(c_uint8), *_GIVEN)
-_sim_count = _call("sim_count", _HANDLE, c_uint8, _MAP, POINTER(c_size_t))
-_sim_entry_length = _call("sim_entry_length", _HANDLE, c_uint8, _MAP, c_size_t, POINTER(c_size_t))
-_sim_entry = _call("sim_entry", _HANDLE, c_uint8, _MAP, c_size_t, *_GIVEN)
+def _event_of(name: str, *kinds: Any) -> Callable[..., int]:
+    return _call(f"sim_{name}", c_uint8, POINTER(_Raw), *kinds, POINTER(_Reply))
+
+
+_MAP, _OCTETS = ("map", c_uint8), (c_char_p, c_size_t)
+_events = {name: _event_of(name, *kinds) for name, kinds in {
+    **_DIRECTIVES, "submit": (_MAP, *_OCTETS), "bypass": (_MAP, *_OCTETS), "send": (), "up_deliver": (),
+    "up_lose": (), "up_damage": _OCTETS, "report": (), "down_deliver": (), "down_lose": (), "down_damage": _OCTETS,
+    "tick": (), "take": (), "take_bypass": (), "telemetry": _OCTETS}.items()}
+_sim_octets = _call("sim_octets", c_uint8, POINTER(_Raw), c_char_p, c_size_t, POINTER(c_size_t))
+_sim_read = _call("sim_read", c_uint8, POINTER(_Raw), POINTER(_SimReading))
+_sim_submissions = _call("sim_submissions", c_uint8, POINTER(_Raw), POINTER(c_size_t))
+_sim_submission_length = _call("sim_submission_length", c_uint8, POINTER(_Raw), ("k", c_size_t), POINTER(c_uint8),
+                               POINTER(c_size_t))
+_sim_submission = _call("sim_submission", c_uint8, POINTER(_Raw), ("k", c_size_t), POINTER(c_uint8), c_char_p,
+                        c_size_t, POINTER(c_size_t))
+_sim_count = _call("sim_count", c_uint8, POINTER(_Raw), ("record", c_uint8), ("map", c_uint8), POINTER(c_size_t))
+_sim_entry_length = _call("sim_entry_length", c_uint8, POINTER(_Raw), ("record", c_uint8), ("map", c_uint8),
+                          ("k", c_size_t), POINTER(c_size_t))
+_sim_entry = _call("sim_entry", c_uint8, POINTER(_Raw), ("record", c_uint8), ("map", c_uint8), ("k", c_size_t),
+                   c_char_p, c_size_t, POINTER(c_size_t))

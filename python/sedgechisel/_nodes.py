@@ -18,8 +18,8 @@ _LONGEST = 65542
 _Own = TypeVar("_Own", bound="Handle")
 
 
-def _call(name: str, *kinds: Any) -> Callable[..., int]:
-    return call_of(NODES, name, c_uint8, *kinds)
+def _call(name: str, answer: Any, *kinds: Any) -> Callable[..., Any]:
+    return call_of(NODES, name, answer, *kinds)
 
 
 class Config(_Struct):
@@ -70,7 +70,7 @@ class Config(_Struct):
         return ConfigFault(number).name if number else None
 
 
-_config_fault = _call("config_fault", POINTER(Config))
+_config_fault = _call("config_fault", c_uint8, POINTER(Config))
 
 
 class _Raw(ctypes.Structure):
@@ -146,18 +146,6 @@ class Handle(Single):
         out, count = ctypes.create_string_buffer(most), c_size_t()
         self._asked(call(byref(self._handle), *values, out, most, byref(count)))
         return ctypes.string_at(out, count.value)
-
-
-_HANDLE, _OCTETS, _GIVEN = POINTER(_Raw), (c_char_p, c_size_t), (c_char_p, c_size_t, POINTER(c_size_t))
-_MAP = ("map", c_uint8)
-
-
-def _opening(kind: str) -> Callable[..., int]:
-    return _call(f"{kind}_open", POINTER(Config), _HANDLE)
-
-
-def _closing(kind: str) -> Callable[..., Any]:
-    return call_of(NODES, f"{kind}_close", None, _HANDLE)
 
 
 # ---- What comes of octets ----
@@ -303,10 +291,14 @@ class Sender(Handle):
         self._direct("set_timer", "ticks", ticks)
 
 
+_ground_open = _call("ground_open", c_uint8, POINTER(Config), POINTER(_Raw))
+_ground_close = _call("ground_close", None, POINTER(_Raw))
+
+
 class Ground(Sender):
     """The ground: it sends packets until they are accepted, and takes telemetry."""
 
-    _opens, _closes = _opening("ground"), _closing("ground")
+    _opens, _closes = _ground_open, _ground_close
 
     def _direct(self, name: str, own: str = "", value: int = 0) -> None:
         self._asked(_ground_directive(byref(self._handle), *_directive(name, own, value)), CopFault)
@@ -400,16 +392,17 @@ class Ground(Sender):
         return int(self._read().frame_length)
 
 
-_ground_directive = _call("ground_directive", _HANDLE, c_uint8, c_uint16)
-_ground_submit = _call("ground_submit", _HANDLE, _MAP, *_OCTETS)
-_ground_bypass = _call("ground_bypass", _HANDLE, _MAP, *_OCTETS)
-_ground_pull = _call("ground_pull", _HANDLE, *_GIVEN)
-_ground_telemetry = _call("ground_telemetry", _HANDLE, *_OCTETS, POINTER(_Heard))
-_ground_report = _call("ground_report", _HANDLE, *_OCTETS, POINTER(Clcw))
-_ground_take_telemetry = _call("ground_take_telemetry", _HANDLE, *_GIVEN)
-_ground_tick = _call("ground_tick", _HANDLE)
-_ground_accepted_beyond = _call("ground_accepted_beyond", _HANDLE, ("value", c_uint8), POINTER(c_uint8))
-_ground_read = _call("ground_read", _HANDLE, POINTER(_GroundReading))
+_ground_directives = {
+    name: _call(f"ground_{name}", c_uint8, POINTER(_Raw), *kinds) for name, kinds in _DIRECTIVES.items()}
+_ground_submit = _call("ground_submit", c_uint8, POINTER(_Raw), ("map", c_uint8), c_char_p, c_size_t)
+_ground_bypass = _call("ground_bypass", c_uint8, POINTER(_Raw), ("map", c_uint8), c_char_p, c_size_t)
+_ground_pull = _call("ground_pull", c_uint8, POINTER(_Raw), c_char_p, c_size_t, POINTER(c_size_t))
+_ground_telemetry = _call("ground_telemetry", c_uint8, POINTER(_Raw), c_char_p, c_size_t, POINTER(_Heard))
+_ground_report = _call("ground_report", c_uint8, POINTER(_Raw), c_char_p, c_size_t, POINTER(Clcw))
+_ground_take_telemetry = _call("ground_take_telemetry", c_uint8, POINTER(_Raw), c_char_p, c_size_t, POINTER(c_size_t))
+_ground_tick = _call("ground_tick", c_uint8, POINTER(_Raw))
+_ground_accepted_beyond = _call("ground_accepted_beyond", c_uint8, POINTER(_Raw), ("value", c_uint8), POINTER(c_uint8))
+_ground_read = _call("ground_read", c_uint8, POINTER(_Raw), POINTER(_GroundReading))
 
 # ---- The spacecraft ----
 
@@ -419,10 +412,14 @@ class _SpacecraftReading(ctypes.Structure):
         (it, c_uint8) for it in ("status", "vcid", "flags", "farm_b", "value", "state")]
 
 
+_spacecraft_open = _call("spacecraft_open", c_uint8, POINTER(Config), POINTER(_Raw))
+_spacecraft_close = _call("spacecraft_close", None, POINTER(_Raw))
+
+
 class Spacecraft(Handle):
     """The spacecraft: it receives packets and reports, and sends telemetry."""
 
-    _opens, _closes = _opening("spacecraft"), _closing("spacecraft")
+    _opens, _closes = _spacecraft_open, _spacecraft_close
 
     def receive(self, octets: bytes) -> Received:
         """Octets came from the ground, which are one telecommand frame with its FECF if all is well. A LinkFault, 6
@@ -480,9 +477,11 @@ class Spacecraft(Handle):
         return int(self._read().frame_length)
 
 
-_spacecraft_receive = _call("spacecraft_receive", _HANDLE, *_OCTETS, POINTER(_Received))
-_spacecraft_take = _call("spacecraft_take", _HANDLE, POINTER(c_uint8), *_GIVEN)
-_spacecraft_take_bypass = _call("spacecraft_take_bypass", _HANDLE, POINTER(c_uint8), *_GIVEN)
-_spacecraft_telemetry = _call("spacecraft_telemetry", _HANDLE, *_OCTETS)
-_spacecraft_report = _call("spacecraft_report", _HANDLE, *_GIVEN)
-_spacecraft_read = _call("spacecraft_read", _HANDLE, POINTER(_SpacecraftReading))
+_spacecraft_receive = _call("spacecraft_receive", c_uint8, POINTER(_Raw), c_char_p, c_size_t, POINTER(_Received))
+_spacecraft_take = _call("spacecraft_take", c_uint8, POINTER(_Raw), POINTER(c_uint8), c_char_p, c_size_t,
+                         POINTER(c_size_t))
+_spacecraft_take_bypass = _call("spacecraft_take_bypass", c_uint8, POINTER(_Raw), POINTER(c_uint8), c_char_p, c_size_t,
+                                POINTER(c_size_t))
+_spacecraft_telemetry = _call("spacecraft_telemetry", c_uint8, POINTER(_Raw), c_char_p, c_size_t)
+_spacecraft_report = _call("spacecraft_report", c_uint8, POINTER(_Raw), c_char_p, c_size_t, POINTER(c_size_t))
+_spacecraft_read = _call("spacecraft_read", c_uint8, POINTER(_Raw), POINTER(_SpacecraftReading))

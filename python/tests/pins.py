@@ -1,5 +1,5 @@
-"""The package beside the headers for C: its calls with their parameters, its structs, its enumerations; and each method
-beside the calls that it makes, by its text."""
+"""The package beside the headers for C: its calls, its structs, its enumerations; and each method beside the calls that
+it makes, by its text."""
 import ast
 import ctypes
 import enum
@@ -13,9 +13,7 @@ MODULES = ("_faults", "_calls", "_nodes", "_link")
 NOT_CALLED = {"sedge_ground_next", "sedge_ground_next_telemetry", "sedge_spacecraft_next",
               "sedge_spacecraft_next_bypass"}
 
-# Structs that have another name than their class, the fields that have another name in Python, and classes that stand
-# for the handles of all three kinds of node.
-STRUCTS = {"_GroundReading": "ground_reading", "_SpacecraftReading": "spacecraft_reading", "_Reading": "sim_reading"}
+# The fields that have another name in Python, and the structs of handles, which one class stands for.
 FIELDS = {"from": "start", "ocf": "_ocf", "link": "node"}
 HANDLES = ("ground", "spacecraft", "sim")
 
@@ -46,64 +44,37 @@ def modules_of(it):
 # ---- Calls. ----
 
 
-def header_calls():
-    """Of each call its answer, and its parameters, each as its type and its name."""
-    for answer, name, words in re.findall(r"^([a-z][\w ]*?) (sedge_\w+)\(([^)]*)\);", header(), re.M):
-        words = [" ".join(it.split()) for it in words.split(",") if it.strip() != "void"]
-        parameters = []
-        for it, after in zip(words, [*words[1:], ""]):
-            kind, own = re.fullmatch(r"(.*?)(\w+)", it).groups()
-            kind = re.sub(r"\b(const|struct)\b", "", kind).replace(" ", "")
-            is_counted = kind == "uint8_t*" and re.fullmatch(r"size_t \w+", after)
-            parameters.append(("octets" if is_counted else kind, own))
-        yield name, (answer.replace("struct ", ""), parameters)
-
-
 def struct_names(it):
     """The structs of the package by their names in the headers, as `sedge_tc_frame`."""
     for module in modules_of(it):
         for name, kind in vars(module).items():
             if isinstance(kind, type) and issubclass(kind, ctypes.Structure) and kind.__module__ == module.__name__:
                 if name not in ("_Struct", "_Raw"):
-                    words = STRUCTS.get(name) or re.sub(r"(?<=[a-z])(?=[A-Z])", "_", name.lstrip("_")).lower()
+                    words = re.sub(r"(?<=[a-z])(?=[A-Z])", "_", name.lstrip("_")).lower()
                     yield kind, f"sedge_{words}"
 
 
 def spelled(kind, structs):
     """A type of ctypes as the headers have it."""
     simple = {ctypes.c_uint8: "uint8_t", ctypes.c_uint16: "uint16_t", ctypes.c_uint32: "uint32_t",
-              ctypes.c_size_t: "size_t", ctypes.c_bool: "bool", ctypes.c_char_p: "octets", None: "void",
-              ctypes.c_void_p: "void*", ctypes.c_char: "char"}
-    if kind in simple or kind in structs:
-        return simple.get(kind) or structs[kind]
-    return f"{spelled(kind._type_, structs)}*"
+              ctypes.c_size_t: "size_t", ctypes.c_bool: "bool", ctypes.c_void_p: "void*", ctypes.c_char: "char"}
+    return simple.get(kind) or structs[kind]
 
 
 def calls_of_the_headers(it):
-    """Each call of the headers is called with its types, and numbers are given by the names of its parameters."""
-    structs = {**dict(struct_names(it)), it._nodes._Raw: "handle"}
-    bound = {name: call for library in (it._library.FIRST, it._library.NODES) for name, call in vars(library).items()
+    """Each call of the headers is called. (tools/bindings writes the types.)"""
+    bound = {name for library in (it._library.FIRST, it._library.NODES) for name in vars(library)
              if name.startswith("sedge_")}
-    wanted = {name: call for name, call in header_calls() if name not in NOT_CALLED}
-    assert sorted(bound) == sorted(wanted), sorted({*bound} ^ {*wanted})
-    for name, (answer, parameters) in wanted.items():
-        kinds = [re.sub(f"sedge_({'|'.join(HANDLES)})\\*", "handle*", kind) for kind, _ in parameters]
-        shown = [spelled(kind, structs) for kind in bound[name].argtypes]
-        assert shown == kinds and spelled(bound[name].restype, structs) == answer, f"{name}: {shown}, and not {kinds}"
-    for where, call in named_calls(it):
-        name, numbers = made_of(call)
-        parameters = wanted[name][1]
-        for place, own, kind in numbers:
-            assert parameters[place] == (spelled(kind, structs), own), f"{where}: {own} is not {parameters[place]}"
-    assert len(wanted) > 100
+    wanted = {*re.findall(r"^[a-z][\w ]* (sedge_\w+)\(", header(), re.M)} - NOT_CALLED
+    assert bound == wanted and len(wanted) > 100, bound ^ wanted
 
 
 def made_of(call):
-    """The name of the C call that a call makes, and the numbers that it tests: their places, names and types."""
+    """The name of the C call that a call makes."""
     if not getattr(call, "__closure__", None):
-        return call.__name__, []
+        return call.__name__
     kept = dict(zip(call.__code__.co_freevars, (cell.cell_contents for cell in call.__closure__)))
-    return kept["call"].__name__, kept["numbers"]
+    return kept["call"].__name__
 
 
 def is_call(value):
@@ -122,11 +93,12 @@ def calls_by_their_names(it):
     """A variable has the call of its own name."""
     known = dict(named_calls(it))
     for where, call in known.items():
-        name = made_of(call)[0]
-        own = where.rpartition("._")[2]
-        assert name == f"sedge_{own}", f"{where} is {name}"
+        name = made_of(call)
+        _, own, key = re.fullmatch(r"(.*)\._(\w+?)(?:\[(\w+)\])?", where).groups()
+        prefix = {"events": "sim", "ground_directives": "ground"}.get(own)
+        assert name == f"sedge_{prefix}_{key}" if key else name == f"sedge_{own}", f"{where} is {name}"
     for kind, prefix in zip((it.Ground, it.Spacecraft, it.Link), HANDLES):
-        assert made_of(kind._opens)[0] == f"sedge_{prefix}_open" and made_of(kind._closes)[0] == f"sedge_{prefix}_close"
+        assert made_of(kind._opens) == f"sedge_{prefix}_open" and made_of(kind._closes) == f"sedge_{prefix}_close"
     assert len(known) > 100
 
 

@@ -1,5 +1,5 @@
 //! The library's calls as c/include/sedgechisel.h declares them: the one module that has unsafe code. `rust/check`
-//! compares each number, struct and call with the header.
+//! compares each number and struct with the header, and `tools/bindings` writes the calls.
 //!
 //! What the header asks of a caller holds of all calls here:
 //! - each pointer is made of a reference or of a slice, so it is not null, is aligned, and may be read or written;
@@ -219,8 +219,11 @@ pub struct Limits {
     pub blocking: u8,
 }
 
-// SAFETY: these are the header's declarations, which `rust/check` compares. A call without a pointer to octets asks
-// nothing of its caller but references, and so is safe.
+// ---- tools/bindings makes what follows of the exports of the library. ----
+
+// SAFETY: these are the library's calls with their types. One without a pointer to octets asks nothing of its caller
+// but references, and so is safe.
+#[rustfmt::skip]
 unsafe extern "C" {
     pub safe fn sedge_version() -> Text;
 
@@ -361,13 +364,15 @@ pub fn tm_encode(frame: &TmFrame, data: &[u8], out: &mut [u8], total: &mut usize
     unsafe { sedge_tm_encode(frame, data.as_ptr(), data.len(), out.as_mut_ptr(), out.len(), total) }
 }
 
-pub fn tm_queue(builder: &mut TmBuilder, packet: &[u8], memory: &mut [u8]) -> u8 {
+pub fn tm_builder_queue(builder: &mut TmBuilder, packet: &[u8], memory: &mut [u8]) -> u8 {
     unsafe {
         sedge_tm_builder_queue(builder, packet.as_ptr(), packet.len(), memory.as_mut_ptr(), memory.len())
     }
 }
 
-pub fn tm_build(builder: &mut TmBuilder, ocf: &[u8], memory: &[u8], out: &mut [u8], total: &mut usize) -> u8 {
+pub fn tm_builder_build(
+    builder: &mut TmBuilder, ocf: &[u8], memory: &[u8], out: &mut [u8], total: &mut usize,
+) -> u8 {
     unsafe {
         sedge_tm_builder_build(
             builder,
@@ -382,7 +387,7 @@ pub fn tm_build(builder: &mut TmBuilder, ocf: &[u8], memory: &[u8], out: &mut [u
     }
 }
 
-pub fn tm_extract(
+pub fn tm_extractor_frame(
     extractor: &mut TmExtractor, frame: &TmFrame, data: &[u8], memory: &mut [u8], extracted: &mut TmExtracted,
 ) -> u8 {
     unsafe {

@@ -42,7 +42,7 @@ impl<'m> TmBuilder<'m> {
     /// Queues a packet, all of its octets. Refused with the first of 8 [`NotAPacket`](TmFault::NotAPacket), for octets
     /// that are not exactly one packet or an idle one, and 7 [`Memory`](TmFault::Memory).
     pub fn queue(&mut self, packet: &[u8]) -> Result<(), TmFault> {
-        TmFault::judge(ffi::tm_queue(&mut self.kept, packet, self.memory))
+        TmFault::judge(ffi::tm_builder_queue(&mut self.kept, packet, self.memory))
     }
 
     /// Writes the next frame, with this operational control field, to the beginning of `out`, and returns its octets.
@@ -50,7 +50,7 @@ impl<'m> TmBuilder<'m> {
     /// [`Room`](TmFault::Room), with nothing written.
     pub fn build<'o>(&mut self, ocf: [u8; 4], out: &'o mut [u8]) -> Result<&'o mut [u8], TmFault> {
         let mut total = 0;
-        TmFault::judge(ffi::tm_build(&mut self.kept, &ocf, self.memory, out, &mut total))?;
+        TmFault::judge(ffi::tm_builder_build(&mut self.kept, &ocf, self.memory, out, &mut total))?;
         Ok(&mut out[..total])
     }
 }
@@ -96,7 +96,8 @@ impl<'m> TmExtractor<'m> {
     /// [`Memory`](TmFault::Memory); then the frame counts as missing.
     pub fn take<'t>(&'t mut self, frame: &TmFrame<'t>) -> Result<Extracted<'t>, TmFault> {
         let mut extracted = ffi::TmExtracted::default();
-        let answer = ffi::tm_extract(&mut self.kept, &frame.raw(), frame.data, self.memory, &mut extracted);
+        let answer =
+            ffi::tm_extractor_frame(&mut self.kept, &frame.raw(), frame.data, self.memory, &mut extracted);
         TmFault::judge(answer)?;
         let joined = (extracted.joined > 0).then(|| &self.memory[..extracted.joined]);
         let lost = (extracted.first == 0).then_some(extracted.lost);

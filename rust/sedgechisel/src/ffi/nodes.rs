@@ -228,68 +228,6 @@ impl<T> Own<T> {
     }
 }
 
-// SAFETY: these are the header's declarations, which `rust/check` compares. A call without a pointer to octets asks
-// nothing of its caller but references, and so is safe.
-unsafe extern "C" {
-    pub safe fn sedge_config_fault(config: &Config) -> u8;
-    pub safe fn sedge_parameter_name(parameter: u8) -> Text;
-    pub safe fn sedge_link_fault_name(fault: u8) -> Text;
-
-    pub safe fn sedge_ground_open(config: &Config, ground: &mut Ground) -> u8;
-    pub safe fn sedge_ground_close(ground: &mut Ground);
-    pub safe fn sedge_ground_directive(ground: &mut Ground, directive: u8, value: u16) -> u8;
-    fn sedge_ground_submit(ground: &mut Ground, map: u8, octets: *const u8, count: usize) -> u8;
-    fn sedge_ground_bypass(ground: &mut Ground, map: u8, octets: *const u8, count: usize) -> u8;
-    pub safe fn sedge_ground_next(ground: &mut Ground, count: &mut usize) -> u8;
-    fn sedge_ground_pull(ground: &mut Ground, out: *mut u8, room: usize, count: &mut usize) -> u8;
-    fn sedge_ground_telemetry(ground: &mut Ground, octets: *const u8, count: usize, heard: &mut Heard) -> u8;
-    fn sedge_ground_report(ground: &mut Ground, octets: *const u8, count: usize, report: &mut Clcw) -> u8;
-    pub safe fn sedge_ground_next_telemetry(ground: &mut Ground, count: &mut usize) -> u8;
-    fn sedge_ground_take_telemetry(ground: &mut Ground, out: *mut u8, room: usize, count: &mut usize) -> u8;
-    pub safe fn sedge_ground_tick(ground: &mut Ground) -> u8;
-    pub safe fn sedge_ground_read(ground: &mut Ground, read: &mut GroundReading) -> u8;
-    pub safe fn sedge_ground_accepted_beyond(ground: &mut Ground, value: u8, accepted: &mut u8) -> u8;
-
-    pub safe fn sedge_spacecraft_open(config: &Config, spacecraft: &mut Spacecraft) -> u8;
-    pub safe fn sedge_spacecraft_close(spacecraft: &mut Spacecraft);
-    fn sedge_spacecraft_receive(
-        spacecraft: &mut Spacecraft, octets: *const u8, count: usize, received: &mut Received,
-    ) -> u8;
-    pub safe fn sedge_spacecraft_next(spacecraft: &mut Spacecraft, map: &mut u8, count: &mut usize) -> u8;
-    fn sedge_spacecraft_take(
-        spacecraft: &mut Spacecraft, map: &mut u8, out: *mut u8, room: usize, count: &mut usize,
-    ) -> u8;
-    pub safe fn sedge_spacecraft_next_bypass(
-        spacecraft: &mut Spacecraft, map: &mut u8, count: &mut usize,
-    ) -> u8;
-    fn sedge_spacecraft_take_bypass(
-        spacecraft: &mut Spacecraft, map: &mut u8, out: *mut u8, room: usize, count: &mut usize,
-    ) -> u8;
-    fn sedge_spacecraft_telemetry(spacecraft: &mut Spacecraft, packet: *const u8, count: usize) -> u8;
-    fn sedge_spacecraft_report(
-        spacecraft: &mut Spacecraft, out: *mut u8, room: usize, count: &mut usize,
-    ) -> u8;
-    pub safe fn sedge_spacecraft_read(spacecraft: &mut Spacecraft, read: &mut SpacecraftReading) -> u8;
-
-    pub safe fn sedge_sim_open(config: &Config, sim: &mut Sim) -> u8;
-    pub safe fn sedge_sim_close(sim: &mut Sim);
-    pub safe fn sedge_sim_fault_name(fault: u8) -> Text;
-    fn sedge_sim_step(sim: &mut Sim, event: &Event, reply: &mut Reply) -> u8;
-    fn sedge_sim_octets(sim: &mut Sim, out: *mut u8, room: usize, count: &mut usize) -> u8;
-    pub safe fn sedge_sim_read(sim: &mut Sim, read: &mut SimReading) -> u8;
-    pub safe fn sedge_sim_submissions(sim: &mut Sim, count: &mut usize) -> u8;
-    pub safe fn sedge_sim_submission_length(sim: &mut Sim, k: usize, map: &mut u8, count: &mut usize) -> u8;
-    fn sedge_sim_submission(
-        sim: &mut Sim, k: usize, map: &mut u8, out: *mut u8, room: usize, count: &mut usize,
-    ) -> u8;
-    pub safe fn sedge_sim_count(sim: &mut Sim, record: u8, map: u8, entries: &mut usize) -> u8;
-    pub safe fn sedge_sim_entry_length(sim: &mut Sim, record: u8, map: u8, k: usize, count: &mut usize)
-        -> u8;
-    fn sedge_sim_entry(
-        sim: &mut Sim, record: u8, map: u8, k: usize, out: *mut u8, room: usize, count: &mut usize,
-    ) -> u8;
-}
-
 // ---- The memory of the nodes, in the program's allocator. ----
 
 /// What the library asks memory by: a place, if one was found.
@@ -371,6 +309,100 @@ unsafe extern "C" fn rattle_dealloc(at: *mut c_void) {
         let (block, taken) = block_of(at);
         dealloc(block, taken);
     }
+}
+
+// ---- tools/bindings makes what follows of the exports of the library. ----
+
+// SAFETY: these are the library's calls with their types. One without a pointer to octets asks nothing of its caller
+// but references, and so is safe.
+#[rustfmt::skip]
+unsafe extern "C" {
+    pub safe fn sedge_config_fault(config: &Config) -> u8;
+    pub safe fn sedge_parameter_name(number: u8) -> Text;
+    pub safe fn sedge_link_fault_name(number: u8) -> Text;
+
+    pub safe fn sedge_ground_open(config: &Config, ground: &mut Ground) -> u8;
+    pub safe fn sedge_ground_close(ground: &mut Ground);
+    pub safe fn sedge_ground_init_without_check(ground: &mut Ground) -> u8;
+    pub safe fn sedge_ground_init_with_check(ground: &mut Ground) -> u8;
+    pub safe fn sedge_ground_init_unlock(ground: &mut Ground) -> u8;
+    pub safe fn sedge_ground_init_set_vr(ground: &mut Ground, vr: u8) -> u8;
+    pub safe fn sedge_ground_terminate(ground: &mut Ground) -> u8;
+    pub safe fn sedge_ground_set_vs(ground: &mut Ground, vs: u8) -> u8;
+    pub safe fn sedge_ground_set_window(ground: &mut Ground, window: u8) -> u8;
+    pub safe fn sedge_ground_set_limit(ground: &mut Ground, limit: u8) -> u8;
+    pub safe fn sedge_ground_set_timer(ground: &mut Ground, ticks: u16) -> u8;
+    fn sedge_ground_submit(ground: &mut Ground, map: u8, octets: *const u8, count: usize) -> u8;
+    fn sedge_ground_bypass(ground: &mut Ground, map: u8, octets: *const u8, count: usize) -> u8;
+    pub safe fn sedge_ground_next(ground: &mut Ground, count: &mut usize) -> u8;
+    fn sedge_ground_pull(ground: &mut Ground, out: *mut u8, room: usize, count: &mut usize) -> u8;
+    fn sedge_ground_telemetry(ground: &mut Ground, octets: *const u8, count: usize, heard: &mut Heard) -> u8;
+    fn sedge_ground_report(ground: &mut Ground, octets: *const u8, count: usize, report: &mut Clcw) -> u8;
+    pub safe fn sedge_ground_next_telemetry(ground: &mut Ground, count: &mut usize) -> u8;
+    fn sedge_ground_take_telemetry(ground: &mut Ground, out: *mut u8, room: usize, count: &mut usize) -> u8;
+    pub safe fn sedge_ground_tick(ground: &mut Ground) -> u8;
+    pub safe fn sedge_ground_read(ground: &mut Ground, read: &mut GroundReading) -> u8;
+    pub safe fn sedge_ground_accepted_beyond(ground: &mut Ground, value: u8, accepted: &mut u8) -> u8;
+
+    pub safe fn sedge_spacecraft_open(config: &Config, spacecraft: &mut Spacecraft) -> u8;
+    pub safe fn sedge_spacecraft_close(spacecraft: &mut Spacecraft);
+    fn sedge_spacecraft_receive(
+        spacecraft: &mut Spacecraft, octets: *const u8, count: usize, received: &mut Received,
+    ) -> u8;
+    pub safe fn sedge_spacecraft_next(spacecraft: &mut Spacecraft, map: &mut u8, count: &mut usize) -> u8;
+    fn sedge_spacecraft_take(
+        spacecraft: &mut Spacecraft, map: &mut u8, out: *mut u8, room: usize, count: &mut usize,
+    ) -> u8;
+    pub safe fn sedge_spacecraft_next_bypass(
+        spacecraft: &mut Spacecraft, map: &mut u8, count: &mut usize,
+    ) -> u8;
+    fn sedge_spacecraft_take_bypass(
+        spacecraft: &mut Spacecraft, map: &mut u8, out: *mut u8, room: usize, count: &mut usize,
+    ) -> u8;
+    fn sedge_spacecraft_telemetry(spacecraft: &mut Spacecraft, packet: *const u8, count: usize) -> u8;
+    fn sedge_spacecraft_report(
+        spacecraft: &mut Spacecraft, out: *mut u8, room: usize, count: &mut usize,
+    ) -> u8;
+    pub safe fn sedge_spacecraft_read(spacecraft: &mut Spacecraft, read: &mut SpacecraftReading) -> u8;
+
+    pub safe fn sedge_sim_open(config: &Config, sim: &mut Sim) -> u8;
+    pub safe fn sedge_sim_close(sim: &mut Sim);
+    pub safe fn sedge_sim_fault_name(number: u8) -> Text;
+    fn sedge_sim_submit(sim: &mut Sim, map: u8, octets: *const u8, count: usize, reply: &mut Reply) -> u8;
+    fn sedge_sim_bypass(sim: &mut Sim, map: u8, octets: *const u8, count: usize, reply: &mut Reply) -> u8;
+    pub safe fn sedge_sim_init_without_check(sim: &mut Sim, reply: &mut Reply) -> u8;
+    pub safe fn sedge_sim_init_with_check(sim: &mut Sim, reply: &mut Reply) -> u8;
+    pub safe fn sedge_sim_init_unlock(sim: &mut Sim, reply: &mut Reply) -> u8;
+    pub safe fn sedge_sim_init_set_vr(sim: &mut Sim, vr: u8, reply: &mut Reply) -> u8;
+    pub safe fn sedge_sim_terminate(sim: &mut Sim, reply: &mut Reply) -> u8;
+    pub safe fn sedge_sim_set_vs(sim: &mut Sim, vs: u8, reply: &mut Reply) -> u8;
+    pub safe fn sedge_sim_set_window(sim: &mut Sim, window: u8, reply: &mut Reply) -> u8;
+    pub safe fn sedge_sim_set_limit(sim: &mut Sim, limit: u8, reply: &mut Reply) -> u8;
+    pub safe fn sedge_sim_set_timer(sim: &mut Sim, ticks: u16, reply: &mut Reply) -> u8;
+    pub safe fn sedge_sim_send(sim: &mut Sim, reply: &mut Reply) -> u8;
+    pub safe fn sedge_sim_up_deliver(sim: &mut Sim, reply: &mut Reply) -> u8;
+    pub safe fn sedge_sim_up_lose(sim: &mut Sim, reply: &mut Reply) -> u8;
+    fn sedge_sim_up_damage(sim: &mut Sim, octets: *const u8, count: usize, reply: &mut Reply) -> u8;
+    pub safe fn sedge_sim_report(sim: &mut Sim, reply: &mut Reply) -> u8;
+    pub safe fn sedge_sim_down_deliver(sim: &mut Sim, reply: &mut Reply) -> u8;
+    pub safe fn sedge_sim_down_lose(sim: &mut Sim, reply: &mut Reply) -> u8;
+    fn sedge_sim_down_damage(sim: &mut Sim, octets: *const u8, count: usize, reply: &mut Reply) -> u8;
+    pub safe fn sedge_sim_tick(sim: &mut Sim, reply: &mut Reply) -> u8;
+    pub safe fn sedge_sim_take(sim: &mut Sim, reply: &mut Reply) -> u8;
+    pub safe fn sedge_sim_take_bypass(sim: &mut Sim, reply: &mut Reply) -> u8;
+    fn sedge_sim_telemetry(sim: &mut Sim, packet: *const u8, count: usize, reply: &mut Reply) -> u8;
+    fn sedge_sim_octets(sim: &mut Sim, out: *mut u8, room: usize, count: &mut usize) -> u8;
+    pub safe fn sedge_sim_read(sim: &mut Sim, read: &mut SimReading) -> u8;
+    pub safe fn sedge_sim_submissions(sim: &mut Sim, count: &mut usize) -> u8;
+    pub safe fn sedge_sim_submission_length(sim: &mut Sim, k: usize, map: &mut u8, count: &mut usize) -> u8;
+    fn sedge_sim_submission(
+        sim: &mut Sim, k: usize, map: &mut u8, out: *mut u8, room: usize, count: &mut usize,
+    ) -> u8;
+    pub safe fn sedge_sim_count(sim: &mut Sim, record: u8, map: u8, entries: &mut usize) -> u8;
+    pub safe fn sedge_sim_entry_length(sim: &mut Sim, record: u8, map: u8, k: usize, count: &mut usize) -> u8;
+    fn sedge_sim_entry(
+        sim: &mut Sim, record: u8, map: u8, k: usize, out: *mut u8, room: usize, count: &mut usize,
+    ) -> u8;
 }
 
 // SAFETY, of all calls below: each pointer to octets and the count after it are those of one slice, and the other
