@@ -1,20 +1,20 @@
-# Completion of tctool for bash.
+# Completion of tctool for bash, made by tools/completions.
 _tctool() {
     local word=${COMP_WORDS[COMP_CWORD]} before=${COMP_WORDS[COMP_CWORD - 1]} words
     COMPREPLY=()
     if [ "$COMP_CWORD" -eq 1 ]; then
-        words='farm map tc check tm packets sim help --help --version -h -V'
+        words='farm map tc tm check packets sim help --help --version -h -V'
     else
         case $before in
             --width | --vr | --length) return ;;
         esac
         case ${COMP_WORDS[1]} in
-            farm) words='--check --width --vr --help -h' ;;
-            map) words='--check --width --vr --blocking --help -h' ;;
+            farm) words='--width --vr --check --help -h' ;;
+            map) words='--width --vr --check --blocking --help -h' ;;
             tc) words='--check --help -h' ;;
             tm) words='--length --help -h' ;;
             check | packets | sim) words='--help -h' ;;
-            help) words='farm map tc check tm packets sim' ;;
+            help) words='farm map tc tm check packets sim' ;;
         esac
     fi
     if [ "$COMP_CWORD" -eq 1 ] || [ "${COMP_WORDS[1]}" = help ] || [ "${word#-}" != "$word" ]; then
