@@ -12,6 +12,8 @@ EXPORT = re.compile(r'pub extern "C" fn (\w+)')
 # of definitions, `farm` and `fop` the machines that fields describe), or is that of a call.
 RENAMED = {"payload": "data", "receiver": "farm", "sender": "fop", "record_number": "record", "is_open": "open",
            "place": "where"}
+# The struct whose octets are characters in C.
+WORD = "Text"
 NUMBERS = ("u8", "u16", "u32", "u64", "usize")
 
 
@@ -44,7 +46,8 @@ class Export(typing.NamedTuple):
 
 
 class Field(typing.NamedTuple):
-    """A field: its name, its type, how many there are in a row (0 for one alone), and its note."""
+    """A field: its name, its type (`octets` for their address), how many there are in a row (0 for one alone), and its
+    note."""
 
     name: str
     type: str
@@ -64,14 +67,18 @@ class Struct(typing.NamedTuple):
         return any("*mut u8" in it for it in self.lines)
 
     def fields(self):
+        """The fields as C has them; octets are their address and their number."""
         docs = []
         for line in self.lines:
-            found = re.fullmatch(r"    pub (\w+): (?:\[(\w+); (\d+)\]|(\w+)),", line)
+            found = re.fullmatch(r"    pub (\w+): (?:&'a )?\[?(\w+)(?:; (\d+))?\]?,", line)
             if line.startswith("    ///"):
                 docs.append(line[7:].strip())
             elif found:
-                kind = struct_names().get(found[2] or found[4], found[2] or found[4])
-                yield Field(RENAMED.get(found[1], found[1]), kind, int(found[3] or 0), " ".join(docs))
+                name, kind, note = RENAMED.get(found[1], found[1]), found[2], " ".join(docs)
+                kind = "octets" if "&'a" in line else "char" if self.name == WORD else struct_names().get(kind, kind)
+                yield Field(name, kind, int(found[3] or 0), note)
+                if kind == "octets":
+                    yield Field("count", "usize", 0, "The number of these.")
                 docs = []
 
 
@@ -99,7 +106,7 @@ def structs():
     for file in sorted(glob.glob("crates/*/src/**/*.rt", recursive=True)):
         lines = text_of(file).splitlines()
         for at, line in enumerate(lines):
-            name = re.match(r"pub struct (\w+) \{", line)
+            name = re.match(r"pub struct (\w+)(?:<'a>)? \{", line)
             if name and "#[repr(C)]" in lines[max(at - 3, 0) : at]:
                 said = re.search(r"`struct sedge_(\w+)`", " ".join(docs_before(lines, at)))
                 own = said[1] if said else snake(name[1])
@@ -110,8 +117,8 @@ def structs():
 @functools.cache
 def struct_names():
     """What C calls each struct; and the number that holds flags."""
-    flags = [re.findall(r"^pub struct (\w+)\((u\d+)\);", text_of(it), re.M) for it in glob.glob("crates/*/src/flags.rt")]
-    return {**{it.name: it.own for it in structs()}, **dict(pair for it in flags for pair in it)}
+    flags = "".join(text_of(it) for it in glob.glob("crates/*/src/flags.rt"))
+    return {**{it.name: it.own for it in structs()}, **dict(re.findall(r"^pub struct (\w+)\((u\d+)\);", flags, re.M))}
 
 
 def handles():
@@ -122,7 +129,7 @@ def handles():
 def parameter_of(text):
     name, _, kind = text.strip().partition(": ")
     form = "written" if kind.startswith("&mut ") else "read" if kind.startswith("&") else "value"
-    kind = re.sub(r"^&(mut )?", "", kind)
+    kind = re.sub(r"^&(mut )?|<'_>$", "", kind)
     if kind == "[u8]":
         kind, form = "u8", f"{form} octets"
     return Parameter(RENAMED.get(name, name), struct_names().get(kind, kind), form)

@@ -96,10 +96,11 @@ enum sedge_clcw_flags {
     SEDGE_CLCW_NO_RF = 0x80        /* the radio frequency channel is not available */
 };
 
+/* A control word. Its flags are of sedge_clcw_flags. */
 struct sedge_clcw {
-    uint8_t status; /* 3 bits, carried and not interpreted */
+    uint8_t status; /* the status field, 3 bits, which is carried and not interpreted */
     uint8_t vcid;   /* the virtual channel that is reported on, 6 bits */
-    uint8_t flags;  /* of sedge_clcw_flags */
+    uint8_t flags;  /* the flags */
     uint8_t farm_b; /* the FARM-B counter, 2 bits */
     uint8_t value;  /* the report value, V(R) of the receiver */
 };
@@ -153,7 +154,7 @@ struct sedge_farm {
     uint8_t lockout;    /* the flags, 0 or 1 */
     uint8_t wait;
     uint8_t retransmit;
-    uint8_t farm_b; /* FARM-B, the count of Type-B frames modulo 4 */
+    uint8_t farm_b;     /* FARM-B, the count of Type-B frames modulo 4 */
 };
 
 /* Begins a receiver in its state Open, with all flags 0 and FARM-B 0, which expects the number vr. Returns 0, or

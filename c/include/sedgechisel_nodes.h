@@ -45,23 +45,26 @@ enum sedge_node_status {
     SEDGE_NODE_NONE = 255          /* the handle holds no node; or a directive or an event is none */
 };
 
-/* The managed parameters, of which docs/PROFILE.md has the ranges and defaults. */
+/* The managed parameters (docs/PROFILE.md). The part is the ground's alone, since a spacecraft takes segments of up to
+ * 1,016 octets. */
 struct sedge_config {
-    uint32_t scid;
-    uint32_t vcid;
-    uint32_t tm_vcid;
-    uint32_t width;
-    uint32_t window;
-    uint32_t limit;
-    uint32_t timer;      /* in ticks */
-    uint32_t part;       /* in octets; the ground's alone, since a spacecraft takes segments of up to 1,016 */
-    uint32_t max_packet; /* in octets */
-    uint64_t maps;       /* bit m is set where MAP m is open */
-    uint32_t ready_slots;
-    uint32_t bypass_slots;
-    uint32_t queue_slots;
-    uint32_t frame_length; /* of telemetry, in octets */
-    uint32_t blocking;     /* 0 or 1 */
+    uint32_t scid;         /* the spacecraft identifier, 0 to 1,023; default 1 */
+    uint32_t vcid;         /* the virtual channel of telecommand frames, 0 to 63; default 2 */
+    uint32_t tm_vcid;      /* the virtual channel of telemetry frames, 0 to 7; default 0 */
+    uint32_t width;        /* the width of the receiver's window, even, 2 to 254; default 254 */
+    uint32_t window;       /* the sender's window K, 1 to width/2; default 127 */
+    uint32_t limit;        /* the transmission limit, 1 to 255; default 3 */
+    uint32_t timer;        /* the timer's value in ticks, 1 to 65,535; default 10 */
+    uint32_t part;         /* the most octets of data in a segment, 1 to 1,016; default 1,016 */
+    uint32_t max_packet;   /* the most octets of a packet, 7 to 65,542; default 65,542 */
+    uint64_t maps;         /* bit m, which counts 2 to the power of m, says that MAP m is open, any 64 bits; default
+                            * all ones */
+    uint32_t ready_slots;  /* the number of packets waiting to be taken at which the buffer on board is full, 1 to
+                            * 64; default 64 */
+    uint32_t bypass_slots; /* the most packets of bypass frames that wait to be taken, 1 to 64; default 4 */
+    uint32_t queue_slots;  /* the most units that wait to be sent for the first time, 1 to 65,535; default 1,000 */
+    uint32_t frame_length; /* the octets of a telemetry frame, 16 to 2,048; default 64 */
+    uint32_t blocking;     /* 1 where a segment may hold several packets, 0 to 1; default 0 */
 };
 
 /* The number of the first parameter that is out of its range, 1 for scid to 15 for blocking in the order of the fields;
@@ -285,15 +288,15 @@ enum sedge_refused_by {
 
 /* A reply: its kind, then what that kind has; the rest is 0. */
 struct sedge_reply {
-    size_t count; /* the octets of the frame that was sent, or of the packet */
+    size_t count;             /* the octets of the frame that was sent, or of the packet */
     struct sedge_received up;
     struct sedge_heard down;
     struct sedge_clcw report;
-    uint8_t kind;  /* of sedge_reply_kind */
-    uint8_t by;    /* of sedge_refused_by */
-    uint8_t fault; /* of the enum that by names */
-    uint8_t alert; /* of sedge_alert */
-    uint8_t map;   /* of the packet */
+    uint8_t kind;             /* of sedge_reply_kind */
+    uint8_t by;               /* of sedge_refused_by */
+    uint8_t fault;            /* of the enum that by names */
+    uint8_t alert;            /* of sedge_alert */
+    uint8_t map;              /* of the packet */
 };
 
 /* An event happens. Each call returns 0 and writes the reply; or a number of sedge_sim_fault, and nothing happens.

@@ -117,7 +117,7 @@ class Clcw(_Struct):
     - `status`, 0 to 7, is carried and not interpreted; `vcid`, 0 to 63, is the channel that is reported on
     - `flags` of Flags; `farm_b`, the FARM-B counter, 0 to 3; `value`, the report value, V(R) of the receiver"""
 
-    _fields_ = [(it, c_uint8) for it in ("status", "vcid", "flags", "farm_b", "value")]
+    _fields_ = [("status", c_uint8), ("vcid", c_uint8), ("flags", c_uint8), ("farm_b", c_uint8), ("value", c_uint8)]
     status: int
     vcid: int
     flags: int
@@ -171,7 +171,8 @@ class Farm(_Struct):
     """A receiver FARM-1 of one virtual channel (232.1-B-2, section 6). Read its fields as you like; with fields that no
     receiver has, each call is a CopFault, 255 Damaged, and changes nothing."""
 
-    _fields_ = [(it, c_uint8) for it in ("width", "vr", "lockout", "wait", "retransmit", "farm_b")]
+    _fields_ = [("width", c_uint8), ("vr", c_uint8), ("lockout", c_uint8), ("wait", c_uint8), ("retransmit", c_uint8),
+                ("farm_b", c_uint8)]
     width: int
     vr: int
     lockout: int
@@ -278,8 +279,9 @@ class Fop(_Struct):
     """A sender FOP-1 of one virtual channel (232.1-B-2, section 5). It keeps numbers, and its caller the units. With
     fields that no sender has, each call is a CopFault, 255 Damaged, and changes nothing."""
 
-    _fields_ = [("timer", c_uint16), ("ticks", c_uint16)] + [(it, c_uint8) for it in (
-        "room", "state", "vs", "nn", "waiting", "sent", "due", "window", "limit", "count", "control", "vr")]
+    _fields_ = [("timer", c_uint16), ("ticks", c_uint16), ("room", c_uint8), ("state", c_uint8), ("vs", c_uint8),
+                ("nn", c_uint8), ("waiting", c_uint8), ("sent", c_uint8), ("due", c_uint8), ("window", c_uint8),
+                ("limit", c_uint8), ("count", c_uint8), ("control", c_uint8), ("vr", c_uint8)]
     timer: int
     ticks: int
     room: int
@@ -427,7 +429,8 @@ class TcFrame(_Struct):
     - BD: `flags` and `map`
     - BC: the `command`, a Command, and the number `vr` of Set V(R)"""
 
-    _fields_ = [("scid", c_uint16)] + [(it, c_uint8) for it in ("vcid", "kind", "n", "flags", "map", "command", "vr")]
+    _fields_ = [("scid", c_uint16), ("vcid", c_uint8), ("kind", c_uint8), ("n", c_uint8), ("flags", c_uint8),
+                ("map", c_uint8), ("command", c_uint8), ("vr", c_uint8)]
     scid: int
     vcid: int
     kind: int
@@ -538,8 +541,8 @@ class TmFrame(_Struct):
     - `pointer`, the place in the data, from 0, where the first packet starts, or ONLY_IDLE or NO_START
     - `ocf`, the operational control field, the four octets of a Clcw"""
 
-    _fields_ = [("scid", c_uint16), ("pointer", c_uint16), ("vcid", c_uint8), ("mc_count", c_uint8), ("vc_count", c_uint8),
-                ("_ocf", c_uint8 * 4)]
+    _fields_ = [("scid", c_uint16), ("pointer", c_uint16), ("vcid", c_uint8), ("mc_count", c_uint8),
+                ("vc_count", c_uint8), ("_ocf", c_uint8 * 4)]
     scid: int
     pointer: int
     vcid: int
@@ -585,8 +588,8 @@ _tm_encode = _call("tm_encode", c_uint8, POINTER(TmFrame), c_char_p, c_size_t, c
 
 
 class _TmBuilder(ctypes.Structure):
-    _fields_ = [("start", c_size_t), ("count", c_size_t), ("begun", c_size_t), ("scid", c_uint16), ("length", c_uint16),
-                ("vcid", c_uint8), ("next_count", c_uint8), ("idle_left", c_uint8)]
+    _fields_ = [("start", c_size_t), ("count", c_size_t), ("begun", c_size_t), ("scid", c_uint16),
+                ("length", c_uint16), ("vcid", c_uint8), ("next_count", c_uint8), ("idle_left", c_uint8)]
 
 
 class _TmExtractor(ctypes.Structure):

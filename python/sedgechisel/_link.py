@@ -33,8 +33,8 @@ class _Event(ctypes.Structure):
 
 
 class _Reply(ctypes.Structure):
-    _fields_ = [("count", c_size_t), ("up", _Received), ("down", _Heard), ("report", Clcw)] + [
-        (it, c_uint8) for it in ("kind", "by", "fault", "alert", "map")]
+    _fields_ = [("count", c_size_t), ("up", _Received), ("down", _Heard), ("report", Clcw), ("kind", c_uint8),
+                ("by", c_uint8), ("fault", c_uint8), ("alert", c_uint8), ("map", c_uint8)]
     count: int
     up: _Received
     down: _Heard

@@ -35,11 +35,10 @@ class Config(_Struct):
       the ground, 1 to 65,535
     - `frame_length` of telemetry, in octets, 16 to 2,048; `blocking`, whether a segment may hold several packets"""
 
-    _fields_ = [
-        ("scid", c_uint32), ("vcid", c_uint32), ("tm_vcid", c_uint32), ("width", c_uint32), ("window", c_uint32),
-        ("limit", c_uint32), ("timer", c_uint32), ("part", c_uint32), ("max_packet", c_uint32), ("maps", c_uint64),
-        ("ready_slots", c_uint32), ("bypass_slots", c_uint32), ("queue_slots", c_uint32), ("frame_length", c_uint32),
-        ("blocking", c_uint32)]
+    _fields_ = [("scid", c_uint32), ("vcid", c_uint32), ("tm_vcid", c_uint32), ("width", c_uint32),
+                ("window", c_uint32), ("limit", c_uint32), ("timer", c_uint32), ("part", c_uint32),
+                ("max_packet", c_uint32), ("maps", c_uint64), ("ready_slots", c_uint32), ("bypass_slots", c_uint32),
+                ("queue_slots", c_uint32), ("frame_length", c_uint32), ("blocking", c_uint32)]
     scid: int
     vcid: int
     tm_vcid: int
@@ -245,7 +244,8 @@ class _Heard(ctypes.Structure):
 
 
 class _GroundReading(ctypes.Structure):
-    _fields_ = [("outstanding", c_size_t), ("frame_length", c_size_t)] + [(it, c_uint8) for it in ("state", "vs", "nn")]
+    _fields_ = [("outstanding", c_size_t), ("frame_length", c_size_t), ("state", c_uint8), ("vs", c_uint8),
+                ("nn", c_uint8)]
 
 
 class Sender(Handle):
@@ -408,8 +408,8 @@ _ground_read = _call("ground_read", c_uint8, POINTER(_Raw), POINTER(_GroundReadi
 
 
 class _SpacecraftReading(ctypes.Structure):
-    _fields_ = [("frame_length", c_size_t)] + [
-        (it, c_uint8) for it in ("status", "vcid", "flags", "farm_b", "value", "state")]
+    _fields_ = [("frame_length", c_size_t), ("status", c_uint8), ("vcid", c_uint8), ("flags", c_uint8),
+                ("farm_b", c_uint8), ("value", c_uint8), ("state", c_uint8)]
 
 
 _spacecraft_open = _call("spacecraft_open", c_uint8, POINTER(Config), POINTER(_Raw))

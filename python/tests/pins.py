@@ -1,7 +1,6 @@
-"""The package beside the headers for C: its calls, its structs, its enumerations; and each method beside the calls that
-it makes, by its text."""
+"""The package beside the headers for C: its calls and its enumerations; and each method beside the calls that it makes,
+by its text. (tools/bindings writes the types of calls, and the fields of structs.)"""
 import ast
-import ctypes
 import enum
 import os
 import re
@@ -13,8 +12,7 @@ MODULES = ("_faults", "_calls", "_nodes", "_link")
 NOT_CALLED = {"sedge_ground_next", "sedge_ground_next_telemetry", "sedge_spacecraft_next",
               "sedge_spacecraft_next_bypass"}
 
-# The fields that have another name in Python, and the structs of handles, which one class stands for.
-FIELDS = {"from": "start", "ocf": "_ocf", "link": "node"}
+# The kinds of nodes.
 HANDLES = ("ground", "spacecraft", "sim")
 
 # Each enumeration with its enum in the headers, and the members that have another name there; and those of which the
@@ -44,25 +42,8 @@ def modules_of(it):
 # ---- Calls. ----
 
 
-def struct_names(it):
-    """The structs of the package by their names in the headers, as `sedge_tc_frame`."""
-    for module in modules_of(it):
-        for name, kind in vars(module).items():
-            if isinstance(kind, type) and issubclass(kind, ctypes.Structure) and kind.__module__ == module.__name__:
-                if name not in ("_Struct", "_Raw"):
-                    words = re.sub(r"(?<=[a-z])(?=[A-Z])", "_", name.lstrip("_")).lower()
-                    yield kind, f"sedge_{words}"
-
-
-def spelled(kind, structs):
-    """A type of ctypes as the headers have it."""
-    simple = {ctypes.c_uint8: "uint8_t", ctypes.c_uint16: "uint16_t", ctypes.c_uint32: "uint32_t",
-              ctypes.c_size_t: "size_t", ctypes.c_bool: "bool", ctypes.c_void_p: "void*", ctypes.c_char: "char"}
-    return simple.get(kind) or structs[kind]
-
-
 def calls_of_the_headers(it):
-    """Each call of the headers is called. (tools/bindings writes the types.)"""
+    """Each call of the headers is called."""
     bound = {name for library in (it._library.FIRST, it._library.NODES) for name in vars(library)
              if name.startswith("sedge_")}
     wanted = {*re.findall(r"^[a-z][\w ]* (sedge_\w+)\(", header(), re.M)} - NOT_CALLED
@@ -102,26 +83,7 @@ def calls_by_their_names(it):
     assert len(known) > 100
 
 
-# ---- Structs and enumerations. ----
-
-
-def structs_of_the_headers(it):
-    """Each struct of the package has the fields of its header, in order, with their types; a size_t has 64 bits."""
-    structs, wanted = dict(struct_names(it)), {}
-    for name, body in re.findall(r"^struct (sedge_\w+) \{(.*?)^\};", header(), re.M | re.S):
-        fields = re.findall(r"(?:struct )?(\w+) (\*?)(\w+)(\[\d+\])?;", body.replace("uint64_t", "size_t"))
-        wanted[name] = [(FIELDS.get(own, own), "octets" if star and kind == "uint8_t" else kind + star + many)
-                        for kind, star, own, many in fields]
-    shown = {name: [(own, field_of(field, structs)) for own, field in kind._fields_] for kind, name in structs.items()}
-    shown.update({f"sedge_{kind}": [("node", spelled(it._nodes._Raw._fields_[0][1], {}))] for kind in HANDLES})
-    for name, fields in shown.items():
-        assert fields == wanted.get(name), f"{name}: {fields}, and not {wanted.get(name)}"
-    assert len(shown) > 20
-
-
-def field_of(kind, structs):
-    many = f"[{kind._length_}]" if hasattr(kind, "_length_") else ""
-    return spelled(kind._type_ if many else kind, structs) + many
+# ---- Enumerations. ----
 
 
 def enumerations_of_the_headers(it):
@@ -276,5 +238,5 @@ def methods_and_their_arguments(it):
             assert first + (["ocf"] if owner == "TmFrame" else []) == fields, f"{name}: {first}"
 
 
-TESTS = (calls_of_the_headers, calls_by_their_names, structs_of_the_headers, enumerations_of_the_headers,
-         methods_and_their_calls, methods_and_their_arguments)
+TESTS = (calls_of_the_headers, calls_by_their_names, enumerations_of_the_headers, methods_and_their_calls,
+         methods_and_their_arguments)

@@ -1,5 +1,5 @@
 //! The library's calls as c/include/sedgechisel.h declares them: the one module that has unsafe code. `rust/check`
-//! compares each number and struct with the header, and `tools/bindings` writes the calls.
+//! compares each number with the header, and `tools/bindings` writes the calls and the fields of structs.
 //!
 //! What the header asks of a caller holds of all calls here:
 //! - each pointer is made of a reference or of a slice, so it is not null, is aligned, and may be read or written;
