@@ -221,7 +221,7 @@ pub struct Limits {
 
 // ---- tools/bindings makes what follows of the exports of the library. ----
 
-// SAFETY: these are the library's calls with their types. One without a pointer to octets asks nothing of its caller
+// SAFETY: these are the library's calls with their types. One without the address of octets asks nothing of its caller
 // but references, and so is safe.
 #[rustfmt::skip]
 unsafe extern "C" {

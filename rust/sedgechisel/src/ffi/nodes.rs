@@ -313,7 +313,7 @@ unsafe extern "C" fn rattle_dealloc(at: *mut c_void) {
 
 // ---- tools/bindings makes what follows of the exports of the library. ----
 
-// SAFETY: these are the library's calls with their types. One without a pointer to octets asks nothing of its caller
+// SAFETY: these are the library's calls with their types. One without the address of octets asks nothing of its caller
 // but references, and so is safe.
 #[rustfmt::skip]
 unsafe extern "C" {
