@@ -34,9 +34,9 @@
 extern "C" {
 #endif
 
-/* The version of this header; sedge_version() gives that of the library, as "0.3.0". */
+/* The version of this header; sedge_version() gives that of the library, as "0.2.0". */
 #define SEDGE_VERSION_MAJOR 0
-#define SEDGE_VERSION_MINOR 3
+#define SEDGE_VERSION_MINOR 2
 #define SEDGE_VERSION_PATCH 0
 
 /* A word of at most 19 characters, with zeros after it. To print one, keep it in a variable of your own first:
@@ -280,22 +280,53 @@ struct sedge_fop {
  * SEDGE_COP_WINDOW (not 1 to half the width), SEDGE_COP_LIMIT (0) and SEDGE_COP_TIMER (0). */
 uint8_t sedge_fop_open(struct sedge_fop *fop, uint8_t width, uint8_t window, uint8_t limit, uint16_t timer);
 
-/* The directives (5.2.4). Each returns 0, or SEDGE_DAMAGED, or SEDGE_COP_WRONG_STATE: the four initiations and Set V(S)
- * (which sets NN(R) too) are allowed in S6 alone, Terminate in S1 to S5. Terminate is the alert SEDGE_ALERT_TERMINATED:
- * all units are discarded. */
-uint8_t sedge_fop_init_without_check(struct sedge_fop *fop); /* initiates without a check of the report */
-uint8_t sedge_fop_init_with_check(struct sedge_fop *fop); /* initiates once a report has the value V(S) */
-uint8_t sedge_fop_init_unlock(struct sedge_fop *fop); /* initiates by the control command Unlock */
-uint8_t sedge_fop_init_set_vr(struct sedge_fop *fop, uint8_t vr);
-    /* initiates by the control command Set V(R), with this number */
-uint8_t sedge_fop_terminate(struct sedge_fop *fop); /* gives up: all units are let go of */
-uint8_t sedge_fop_set_vs(struct sedge_fop *fop, uint8_t vs); /* sets V(S), and NN(R) to it */
+/* The directives (5.2.4). The four initiations and Set V(S) are allowed in S6 alone, Terminate in S1 to S5, and the
+ * last three in all states. Terminate is the alert SEDGE_ALERT_TERMINATED: all units are discarded. */
+enum sedge_directive {
+    SEDGE_INIT_WITHOUT_CHECK = 1, /* initiate without a check of the report */
+    SEDGE_INIT_WITH_CHECK = 2,    /* initiate once a report has the value V(S) */
+    SEDGE_INIT_UNLOCK = 3,        /* initiate by the control command Unlock */
+    SEDGE_INIT_SET_VR = 4,        /* initiate by the control command Set V(R), with the number value */
+    SEDGE_TERMINATE = 5,          /* give up */
+    SEDGE_SET_VS = 6,             /* set V(S), and NN(R), to value */
+    SEDGE_SET_WINDOW = 7,         /* set the window K to value, 1 to half the receiver's window width */
+    SEDGE_SET_LIMIT = 8,          /* set the transmission limit to value, 1 to 255 */
+    SEDGE_SET_TIMER = 9           /* set the timer's value in ticks to value, at least 1 */
+};
 
-/* These are allowed in all states. Each returns 0, or SEDGE_DAMAGED, or for a value out of its range SEDGE_COP_WINDOW,
- * SEDGE_COP_LIMIT or SEDGE_COP_TIMER. */
-uint8_t sedge_fop_set_window(struct sedge_fop *fop, uint8_t window); /* sets the window K */
-uint8_t sedge_fop_set_limit(struct sedge_fop *fop, uint8_t limit);   /* sets the transmission limit */
-uint8_t sedge_fop_set_timer(struct sedge_fop *fop, uint16_t timer);  /* sets the timer's value in ticks */
+/* Gives the sender a directive, of sedge_directive, with its value; one that has none ignores it. Returns 0; or
+ * SEDGE_COP_WRONG_STATE; or for a value out of its range SEDGE_COP_WINDOW, SEDGE_COP_LIMIT or SEDGE_COP_TIMER; or
+ * SEDGE_DAMAGED, also for a directive that is none, and for a number V(R) or V(S) above 255. */
+uint8_t sedge_fop_directive(struct sedge_fop *fop, uint8_t directive, uint16_t value);
+
+/* Each directive by its name. Up to 0.2 these were calls of the library; they are sedge_fop_directive now. */
+static inline uint8_t sedge_fop_init_without_check(struct sedge_fop *fop) {
+    return sedge_fop_directive(fop, SEDGE_INIT_WITHOUT_CHECK, 0);
+}
+static inline uint8_t sedge_fop_init_with_check(struct sedge_fop *fop) {
+    return sedge_fop_directive(fop, SEDGE_INIT_WITH_CHECK, 0);
+}
+static inline uint8_t sedge_fop_init_unlock(struct sedge_fop *fop) {
+    return sedge_fop_directive(fop, SEDGE_INIT_UNLOCK, 0);
+}
+static inline uint8_t sedge_fop_init_set_vr(struct sedge_fop *fop, uint8_t vr) {
+    return sedge_fop_directive(fop, SEDGE_INIT_SET_VR, vr);
+}
+static inline uint8_t sedge_fop_terminate(struct sedge_fop *fop) {
+    return sedge_fop_directive(fop, SEDGE_TERMINATE, 0);
+}
+static inline uint8_t sedge_fop_set_vs(struct sedge_fop *fop, uint8_t vs) {
+    return sedge_fop_directive(fop, SEDGE_SET_VS, vs);
+}
+static inline uint8_t sedge_fop_set_window(struct sedge_fop *fop, uint8_t window) {
+    return sedge_fop_directive(fop, SEDGE_SET_WINDOW, window);
+}
+static inline uint8_t sedge_fop_set_limit(struct sedge_fop *fop, uint8_t limit) {
+    return sedge_fop_directive(fop, SEDGE_SET_LIMIT, limit);
+}
+static inline uint8_t sedge_fop_set_timer(struct sedge_fop *fop, uint16_t ticks) {
+    return sedge_fop_directive(fop, SEDGE_SET_TIMER, ticks);
+}
 
 /* Submits a unit, to be sent under sequence control: it waits, and the caller keeps it. Returns 0, or SEDGE_DAMAGED, or
  * SEDGE_COP_NOT_OPEN in S6, or SEDGE_COP_BUSY while another one waits. */

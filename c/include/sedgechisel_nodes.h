@@ -89,20 +89,39 @@ uint8_t sedge_ground_open(const struct sedge_config *config, struct sedge_ground
 /* Closes the ground, where there is one; the handle holds none then. */
 void sedge_ground_close(struct sedge_ground *ground);
 
-/* The directives (232.1-B-2, 5.2.4). Each returns 0, or 8 (the directive is not allowed in the sender's state). */
-uint8_t sedge_ground_init_without_check(struct sedge_ground *ground); /* initiates without a check of the report */
-uint8_t sedge_ground_init_with_check(struct sedge_ground *ground); /* initiates once a report has the value V(S) */
-uint8_t sedge_ground_init_unlock(struct sedge_ground *ground); /* initiates by the control command Unlock */
-uint8_t sedge_ground_init_set_vr(struct sedge_ground *ground, uint8_t vr);
-    /* initiates by the control command Set V(R), with this number */
-uint8_t sedge_ground_terminate(struct sedge_ground *ground);
-    /* gives up, which is the alert Terminated: all that was submitted is let go of */
-uint8_t sedge_ground_set_vs(struct sedge_ground *ground, uint8_t vs); /* sets V(S), and NN(R) to it */
+/* Gives the ground's sender a directive, of sedge_directive (sedgechisel.h), with its value; one that has none ignores
+ * it. Returns 0; or SEDGE_COP_WRONG_STATE; or for a value out of its range SEDGE_COP_WINDOW, SEDGE_COP_LIMIT or
+ * SEDGE_COP_TIMER; or SEDGE_NODE_NONE, also for a directive that is none, and for a number V(R) or V(S) above 255. */
+uint8_t sedge_ground_directive(struct sedge_ground *ground, uint8_t directive, uint16_t value);
 
-/* These are allowed in all states. Each returns 0, or for a value out of its range 2, 3 or 4. */
-uint8_t sedge_ground_set_window(struct sedge_ground *ground, uint8_t window); /* sets the window K */
-uint8_t sedge_ground_set_limit(struct sedge_ground *ground, uint8_t limit);   /* sets the transmission limit */
-uint8_t sedge_ground_set_timer(struct sedge_ground *ground, uint16_t ticks);  /* sets the timer's value, in ticks */
+/* Each directive by its name. Up to 0.2 these were calls of the library; they are sedge_ground_directive now. */
+static inline uint8_t sedge_ground_init_without_check(struct sedge_ground *ground) {
+    return sedge_ground_directive(ground, SEDGE_INIT_WITHOUT_CHECK, 0);
+}
+static inline uint8_t sedge_ground_init_with_check(struct sedge_ground *ground) {
+    return sedge_ground_directive(ground, SEDGE_INIT_WITH_CHECK, 0);
+}
+static inline uint8_t sedge_ground_init_unlock(struct sedge_ground *ground) {
+    return sedge_ground_directive(ground, SEDGE_INIT_UNLOCK, 0);
+}
+static inline uint8_t sedge_ground_init_set_vr(struct sedge_ground *ground, uint8_t vr) {
+    return sedge_ground_directive(ground, SEDGE_INIT_SET_VR, vr);
+}
+static inline uint8_t sedge_ground_terminate(struct sedge_ground *ground) {
+    return sedge_ground_directive(ground, SEDGE_TERMINATE, 0);
+}
+static inline uint8_t sedge_ground_set_vs(struct sedge_ground *ground, uint8_t vs) {
+    return sedge_ground_directive(ground, SEDGE_SET_VS, vs);
+}
+static inline uint8_t sedge_ground_set_window(struct sedge_ground *ground, uint8_t window) {
+    return sedge_ground_directive(ground, SEDGE_SET_WINDOW, window);
+}
+static inline uint8_t sedge_ground_set_limit(struct sedge_ground *ground, uint8_t limit) {
+    return sedge_ground_directive(ground, SEDGE_SET_LIMIT, limit);
+}
+static inline uint8_t sedge_ground_set_timer(struct sedge_ground *ground, uint16_t ticks) {
+    return sedge_ground_directive(ground, SEDGE_SET_TIMER, ticks);
+}
 
 /* Submits packets on a MAP, to be sent under sequence control: one, or several where blocking is on. Returns 0, or the
  * first of 1 to 5 of sedge_node_status that applies, or SEDGE_NODE_MEMORY. */
@@ -299,50 +318,143 @@ struct sedge_reply {
     uint8_t map;              /* of the packet */
 };
 
-/* An event happens. Each call returns 0 and writes the reply; or a number of sedge_sim_fault, and nothing happens.
- * No directive, loss, damage, tick or take answers SEDGE_SIM_MEMORY. What a node refuses is a reply. The octets of a
- * frame that was sent, and of a packet that was taken, stay to be read until the next event (sedge_sim_octets). */
-uint8_t sedge_sim_submit(struct sedge_sim *sim, uint8_t map, const uint8_t *octets, size_t count,
-                         struct sedge_reply *reply); /* packets are submitted on a MAP */
-uint8_t sedge_sim_bypass(struct sedge_sim *sim, uint8_t map, const uint8_t *octets, size_t count,
-                         struct sedge_reply *reply); /* a packet is to go past the sequence control, on a MAP */
-uint8_t sedge_sim_init_without_check(struct sedge_sim *sim, struct sedge_reply *reply);
-    /* the directive to initiate without a check of the report */
-uint8_t sedge_sim_init_with_check(struct sedge_sim *sim, struct sedge_reply *reply);
-    /* the directive to initiate once a report has the value V(S) */
-uint8_t sedge_sim_init_unlock(struct sedge_sim *sim, struct sedge_reply *reply);
-    /* the directive to initiate by the control command Unlock */
-uint8_t sedge_sim_init_set_vr(struct sedge_sim *sim, uint8_t vr, struct sedge_reply *reply);
-    /* the directive to initiate by the control command Set V(R), with this number */
-uint8_t sedge_sim_terminate(struct sedge_sim *sim, struct sedge_reply *reply); /* the directive to give up */
-uint8_t sedge_sim_set_vs(struct sedge_sim *sim, uint8_t vs, struct sedge_reply *reply);
-    /* the directive to set V(S), and NN(R) to it */
-uint8_t sedge_sim_set_window(struct sedge_sim *sim, uint8_t window, struct sedge_reply *reply);
-    /* the directive to set the window K */
-uint8_t sedge_sim_set_limit(struct sedge_sim *sim, uint8_t limit, struct sedge_reply *reply);
-    /* the directive to set the transmission limit */
-uint8_t sedge_sim_set_timer(struct sedge_sim *sim, uint16_t ticks, struct sedge_reply *reply);
-    /* the directive to set the timer's value, in ticks */
-uint8_t sedge_sim_send(struct sedge_sim *sim, struct sedge_reply *reply); /* the ground sends a frame */
-uint8_t sedge_sim_up_deliver(struct sedge_sim *sim, struct sedge_reply *reply);
-    /* the first frame on its way up arrives */
-uint8_t sedge_sim_up_lose(struct sedge_sim *sim, struct sedge_reply *reply); /* it is lost */
-uint8_t sedge_sim_up_damage(struct sedge_sim *sim, const uint8_t *octets, size_t count, struct sedge_reply *reply);
-    /* these octets arrive in its place, which are no frame */
-uint8_t sedge_sim_report(struct sedge_sim *sim, struct sedge_reply *reply);
-    /* the spacecraft sends a telemetry frame, which reports */
-uint8_t sedge_sim_down_deliver(struct sedge_sim *sim, struct sedge_reply *reply);
-    /* the first frame on its way down arrives */
-uint8_t sedge_sim_down_lose(struct sedge_sim *sim, struct sedge_reply *reply); /* it is lost */
-uint8_t sedge_sim_down_damage(struct sedge_sim *sim, const uint8_t *octets, size_t count, struct sedge_reply *reply);
-    /* these octets arrive in its place, which are no frame */
-uint8_t sedge_sim_tick(struct sedge_sim *sim, struct sedge_reply *reply); /* a tick of the ground's clock passes */
-uint8_t sedge_sim_take(struct sedge_sim *sim, struct sedge_reply *reply);
-    /* a packet of sequence-controlled frames is taken on board */
-uint8_t sedge_sim_take_bypass(struct sedge_sim *sim, struct sedge_reply *reply);
-    /* a packet of frames past the sequence control is taken on board */
-uint8_t sedge_sim_telemetry(struct sedge_sim *sim, const uint8_t *packet, size_t count, struct sedge_reply *reply);
-    /* a packet is queued on board to be sent as telemetry */
+/* What may happen. */
+enum sedge_event_kind {
+    SEDGE_EVENT_SUBMIT = 1,       /* packets are submitted: map, octets */
+    SEDGE_EVENT_BYPASS = 2,       /* a packet is submitted past the sequence control: map, octets */
+    SEDGE_EVENT_DIRECTIVE = 3,    /* the ground is given a directive: directive, value */
+    SEDGE_EVENT_SEND = 4,         /* the ground sends a frame */
+    SEDGE_EVENT_UP_DELIVER = 5,   /* the first frame on its way up arrives */
+    SEDGE_EVENT_UP_LOSE = 6,      /* it is lost */
+    SEDGE_EVENT_UP_DAMAGE = 7,    /* these arrive in its place, which are no frame: octets */
+    SEDGE_EVENT_REPORT = 8,       /* the spacecraft sends a frame, which reports */
+    SEDGE_EVENT_DOWN_DELIVER = 9, /* the first frame on its way down arrives */
+    SEDGE_EVENT_DOWN_LOSE = 10,   /* it is lost */
+    SEDGE_EVENT_DOWN_DAMAGE = 11, /* these arrive in its place, which are no frame: octets */
+    SEDGE_EVENT_TICK = 12,        /* a tick of the ground's clock passes */
+    SEDGE_EVENT_TAKE = 13,        /* a packet of sequence-controlled frames is taken on board */
+    SEDGE_EVENT_TAKE_BYPASS = 14, /* a packet that came past the sequence control is taken on board */
+    SEDGE_EVENT_TELEMETRY = 15    /* a packet is queued on board, to be sent as telemetry: octets */
+};
+
+/* An event: its kind, then what that kind has; the rest is ignored. But octets is never null: for a kind without
+ * octets it is the address of any octet, and count is 0. */
+struct sedge_event {
+    uint8_t kind;          /* of sedge_event_kind */
+    uint8_t map;           /* the MAP */
+    uint8_t directive;     /* of sedge_directive */
+    uint16_t value;        /* the directive's, as of sedge_ground_directive */
+    const uint8_t *octets; /* where they begin */
+    size_t count;          /* the number of these */
+};
+
+/* Where the fields are, for addresses of 32 and of 64 bits. */
+typedef char sedge_event_is_laid_out[offsetof(struct sedge_event, map) == 1 &&
+                                             offsetof(struct sedge_event, directive) == 2 &&
+                                             offsetof(struct sedge_event, value) == 4 &&
+                                             offsetof(struct sedge_event, octets) == 8 &&
+                                             offsetof(struct sedge_event, count) == 8 + sizeof(uint8_t *) &&
+                                             sizeof(struct sedge_event) == 8 + 2 * sizeof(uint8_t *)
+                                         ? 1
+                                         : -1];
+
+/* An event happens. Returns 0 and writes the reply; or a number of sedge_sim_fault, and nothing happens; or
+ * SEDGE_NODE_NONE, also for a kind that is none, and where sedge_ground_directive answers it to the directive and the
+ * value. No directive, loss, damage, tick or take answers SEDGE_SIM_MEMORY. What a node refuses is a reply. The octets
+ * of a frame that was sent, and of a packet that was taken, stay to be read until the next event (sedge_sim_octets). */
+uint8_t sedge_sim_step(struct sedge_sim *sim, const struct sedge_event *event, struct sedge_reply *reply);
+
+/* An event with octets, with none, and that of a directive. */
+static inline uint8_t sedge_sim_octets_event(struct sedge_sim *sim, uint8_t kind, uint8_t map, const uint8_t *octets,
+                                             size_t count, struct sedge_reply *reply) {
+    struct sedge_event event = {kind, map, 0, 0, octets, count};
+    return sedge_sim_step(sim, &event, reply);
+}
+static inline uint8_t sedge_sim_event(struct sedge_sim *sim, uint8_t kind, struct sedge_reply *reply) {
+    struct sedge_event event = {kind, 0, 0, 0, &kind, 0};
+    return sedge_sim_step(sim, &event, reply);
+}
+static inline uint8_t sedge_sim_directive(struct sedge_sim *sim, uint8_t directive, uint16_t value,
+                                          struct sedge_reply *reply) {
+    struct sedge_event event = {SEDGE_EVENT_DIRECTIVE, 0, directive, value, &directive, 0};
+    return sedge_sim_step(sim, &event, reply);
+}
+
+/* Each event by its name. Up to 0.2 these were calls of the library; they are sedge_sim_step now. */
+static inline uint8_t sedge_sim_init_without_check(struct sedge_sim *sim, struct sedge_reply *reply) {
+    return sedge_sim_directive(sim, SEDGE_INIT_WITHOUT_CHECK, 0, reply);
+}
+static inline uint8_t sedge_sim_init_with_check(struct sedge_sim *sim, struct sedge_reply *reply) {
+    return sedge_sim_directive(sim, SEDGE_INIT_WITH_CHECK, 0, reply);
+}
+static inline uint8_t sedge_sim_init_unlock(struct sedge_sim *sim, struct sedge_reply *reply) {
+    return sedge_sim_directive(sim, SEDGE_INIT_UNLOCK, 0, reply);
+}
+static inline uint8_t sedge_sim_init_set_vr(struct sedge_sim *sim, uint8_t vr, struct sedge_reply *reply) {
+    return sedge_sim_directive(sim, SEDGE_INIT_SET_VR, vr, reply);
+}
+static inline uint8_t sedge_sim_terminate(struct sedge_sim *sim, struct sedge_reply *reply) {
+    return sedge_sim_directive(sim, SEDGE_TERMINATE, 0, reply);
+}
+static inline uint8_t sedge_sim_set_vs(struct sedge_sim *sim, uint8_t vs, struct sedge_reply *reply) {
+    return sedge_sim_directive(sim, SEDGE_SET_VS, vs, reply);
+}
+static inline uint8_t sedge_sim_set_window(struct sedge_sim *sim, uint8_t window, struct sedge_reply *reply) {
+    return sedge_sim_directive(sim, SEDGE_SET_WINDOW, window, reply);
+}
+static inline uint8_t sedge_sim_set_limit(struct sedge_sim *sim, uint8_t limit, struct sedge_reply *reply) {
+    return sedge_sim_directive(sim, SEDGE_SET_LIMIT, limit, reply);
+}
+static inline uint8_t sedge_sim_set_timer(struct sedge_sim *sim, uint16_t ticks, struct sedge_reply *reply) {
+    return sedge_sim_directive(sim, SEDGE_SET_TIMER, ticks, reply);
+}
+static inline uint8_t sedge_sim_submit(struct sedge_sim *sim, uint8_t map, const uint8_t *octets, size_t count,
+                                       struct sedge_reply *reply) {
+    return sedge_sim_octets_event(sim, SEDGE_EVENT_SUBMIT, map, octets, count, reply);
+}
+static inline uint8_t sedge_sim_bypass(struct sedge_sim *sim, uint8_t map, const uint8_t *octets, size_t count,
+                                       struct sedge_reply *reply) {
+    return sedge_sim_octets_event(sim, SEDGE_EVENT_BYPASS, map, octets, count, reply);
+}
+static inline uint8_t sedge_sim_up_damage(struct sedge_sim *sim, const uint8_t *octets, size_t count,
+                                          struct sedge_reply *reply) {
+    return sedge_sim_octets_event(sim, SEDGE_EVENT_UP_DAMAGE, 0, octets, count, reply);
+}
+static inline uint8_t sedge_sim_down_damage(struct sedge_sim *sim, const uint8_t *octets, size_t count,
+                                            struct sedge_reply *reply) {
+    return sedge_sim_octets_event(sim, SEDGE_EVENT_DOWN_DAMAGE, 0, octets, count, reply);
+}
+static inline uint8_t sedge_sim_telemetry(struct sedge_sim *sim, const uint8_t *octets, size_t count,
+                                          struct sedge_reply *reply) {
+    return sedge_sim_octets_event(sim, SEDGE_EVENT_TELEMETRY, 0, octets, count, reply);
+}
+static inline uint8_t sedge_sim_send(struct sedge_sim *sim, struct sedge_reply *reply) {
+    return sedge_sim_event(sim, SEDGE_EVENT_SEND, reply);
+}
+static inline uint8_t sedge_sim_up_deliver(struct sedge_sim *sim, struct sedge_reply *reply) {
+    return sedge_sim_event(sim, SEDGE_EVENT_UP_DELIVER, reply);
+}
+static inline uint8_t sedge_sim_up_lose(struct sedge_sim *sim, struct sedge_reply *reply) {
+    return sedge_sim_event(sim, SEDGE_EVENT_UP_LOSE, reply);
+}
+static inline uint8_t sedge_sim_report(struct sedge_sim *sim, struct sedge_reply *reply) {
+    return sedge_sim_event(sim, SEDGE_EVENT_REPORT, reply);
+}
+static inline uint8_t sedge_sim_down_deliver(struct sedge_sim *sim, struct sedge_reply *reply) {
+    return sedge_sim_event(sim, SEDGE_EVENT_DOWN_DELIVER, reply);
+}
+static inline uint8_t sedge_sim_down_lose(struct sedge_sim *sim, struct sedge_reply *reply) {
+    return sedge_sim_event(sim, SEDGE_EVENT_DOWN_LOSE, reply);
+}
+static inline uint8_t sedge_sim_tick(struct sedge_sim *sim, struct sedge_reply *reply) {
+    return sedge_sim_event(sim, SEDGE_EVENT_TICK, reply);
+}
+static inline uint8_t sedge_sim_take(struct sedge_sim *sim, struct sedge_reply *reply) {
+    return sedge_sim_event(sim, SEDGE_EVENT_TAKE, reply);
+}
+static inline uint8_t sedge_sim_take_bypass(struct sedge_sim *sim, struct sedge_reply *reply) {
+    return sedge_sim_event(sim, SEDGE_EVENT_TAKE_BYPASS, reply);
+}
 
 /* Writes the octets of the last event's frame or packet, of which the reply has the count, and their number; 0 octets
  * where the reply had none. They stay. Returns 0 or SEDGE_NODE_ROOM. */

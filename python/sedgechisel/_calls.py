@@ -391,7 +391,7 @@ def _accepted_of(call: Callable[..., Any], *values: Any) -> Optional[int]:
 
 _fop_open = _call("fop_open", c_uint8, POINTER(Fop), ("width", c_uint8), ("window", c_uint8), ("limit", c_uint8),
                   ("timer", c_uint16))
-_fop_directive = _call("fop_directive", c_uint8, POINTER(Fop), c_uint8, c_uint16)
+_fop_directive = _call("fop_directive", c_uint8, POINTER(Fop), ("directive", c_uint8), ("value", c_uint16))
 _fop_submit = _call("fop_submit", c_uint8, POINTER(Fop))
 _fop_next = _call("fop_next", c_uint8, POINTER(Fop), POINTER(c_uint8))
 _fop_report = _call("fop_report", c_uint8, POINTER(Fop), ("vcid", c_uint8), POINTER(Clcw), POINTER(c_uint8))

@@ -2,14 +2,14 @@
 from __future__ import annotations
 
 import ctypes
-from ctypes import POINTER, byref, c_bool, c_char_p, c_size_t, c_uint8
+from ctypes import POINTER, byref, c_bool, c_char_p, c_size_t, c_uint8, c_uint16
 from enum import IntEnum
 from typing import List, Optional, Tuple
 
 from ._calls import Alert, Clcw
 from ._faults import CopFault, LinkFault, SimFault, TelemetryFault
-from ._library import octets_of
-from ._nodes import _DIRECTIVES, Config, Heard, Received, Sender, State, _call, _Heard, _Raw, _Received
+from ._library import octets_of, within
+from ._nodes import Config, Heard, Received, Sender, State, _call, _directive, _Heard, _Raw, _Received
 
 _REFUSED = 3
 _REFUSED_BY = {1: LinkFault, 2: CopFault, 3: TelemetryFault}
@@ -49,11 +49,6 @@ class _Reply(ctypes.Structure):
 class _SimReading(ctypes.Structure):
     _fields_ = [("outstanding", c_size_t), ("acknowledged", c_size_t), ("state", c_uint8), ("begun", c_uint8),
                 ("vr", c_uint8), ("clean", c_bool), ("idle", c_bool), ("confirmed", c_bool)]
-
-
-def _counted(name: str, octets: bytes) -> Tuple[bytes, int]:
-    octets = octets_of(name, octets)
-    return octets, len(octets)
 
 
 _sim_open = _call("sim_open", c_uint8, POINTER(Config), POINTER(_Raw))
@@ -234,15 +229,7 @@ class Link(Sender):
         return self._entries(_ACCEPTED)
 
 
-def _event_of(name: str, *kinds: Any) -> Callable[..., int]:
-    return _call(f"sim_{name}", c_uint8, POINTER(_Raw), *kinds, POINTER(_Reply))
-
-
-_MAP, _OCTETS = ("map", c_uint8), (c_char_p, c_size_t)
-_events = {name: _event_of(name, *kinds) for name, kinds in {
-    **_DIRECTIVES, "submit": (_MAP, *_OCTETS), "bypass": (_MAP, *_OCTETS), "send": (), "up_deliver": (),
-    "up_lose": (), "up_damage": _OCTETS, "report": (), "down_deliver": (), "down_lose": (), "down_damage": _OCTETS,
-    "tick": (), "take": (), "take_bypass": (), "telemetry": _OCTETS}.items()}
+_sim_step = _call("sim_step", c_uint8, POINTER(_Raw), POINTER(_Event), POINTER(_Reply))
 _sim_octets = _call("sim_octets", c_uint8, POINTER(_Raw), c_char_p, c_size_t, POINTER(c_size_t))
 _sim_read = _call("sim_read", c_uint8, POINTER(_Raw), POINTER(_SimReading))
 _sim_submissions = _call("sim_submissions", c_uint8, POINTER(_Raw), POINTER(c_size_t))

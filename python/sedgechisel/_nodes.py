@@ -392,8 +392,7 @@ class Ground(Sender):
         return int(self._read().frame_length)
 
 
-_ground_directives = {
-    name: _call(f"ground_{name}", c_uint8, POINTER(_Raw), *kinds) for name, kinds in _DIRECTIVES.items()}
+_ground_directive = _call("ground_directive", c_uint8, POINTER(_Raw), ("directive", c_uint8), ("value", c_uint16))
 _ground_submit = _call("ground_submit", c_uint8, POINTER(_Raw), ("map", c_uint8), c_char_p, c_size_t)
 _ground_bypass = _call("ground_bypass", c_uint8, POINTER(_Raw), ("map", c_uint8), c_char_p, c_size_t)
 _ground_pull = _call("ground_pull", c_uint8, POINTER(_Raw), c_char_p, c_size_t, POINTER(c_size_t))

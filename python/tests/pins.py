@@ -75,9 +75,8 @@ def calls_by_their_names(it):
     known = dict(named_calls(it))
     for where, call in known.items():
         name = made_of(call)
-        _, own, key = re.fullmatch(r"(.*)\._(\w+?)(?:\[(\w+)\])?", where).groups()
-        prefix = {"events": "sim", "ground_directives": "ground"}.get(own)
-        assert name == f"sedge_{prefix}_{key}" if key else name == f"sedge_{own}", f"{where} is {name}"
+        own = where.rpartition("._")[2]
+        assert name == f"sedge_{own}", f"{where} is {name}"
     for kind, prefix in zip((it.Ground, it.Spacecraft, it.Link), HANDLES):
         assert made_of(kind._opens) == f"sedge_{prefix}_open" and made_of(kind._closes) == f"sedge_{prefix}_close"
     assert len(known) > 100

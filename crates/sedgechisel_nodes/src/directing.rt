@@ -8,13 +8,10 @@ use crate::handles::GroundHandle;
 use c_words::directive_named;
 use std::alloc::Global;
 
-/// Gives the ground a directive: 1 initiates without a check of the report, 2 once a report has the value V(S), 3 by
-/// the control command Unlock, 4 by Set V(R) with the value; 5 gives up, which is the alert Terminated, and all that
-/// was submitted is let go of; 6 sets V(S), and NN(R) to it, 7 the window K, 8 the transmission limit and 9 the timer's
-/// value, in ticks. The value of 1, 2, 3 and 5 is ignored. Answers 0, or 8 `WrongState` for 1 to 4 and 6 outside S6 and
-/// for 5 in S6; 2 `Window` for a window that is not 1 to half the receiver's window width, 3 `Limit` for one that is
-/// not 1 to 255, 4 `Timer` for 0; or 255 where there is no ground, the directive is not 1 to 9, or the value of 4 or 6
-/// is above 255.
+/// Gives the ground's sender a directive, of `sedge_directive` (sedgechisel.h), with its value; one that has none
+/// ignores it. Returns 0; or `SEDGE_COP_WRONG_STATE`; or for a value out of its range `SEDGE_COP_WINDOW`,
+/// `SEDGE_COP_LIMIT` or `SEDGE_COP_TIMER`; or `SEDGE_NODE_NONE`, also for a directive that is none, and for a number
+/// V(R) or V(S) above 255.
 #[unsafe(no_mangle)]
 pub extern "C" fn sedge_ground_directive(
     alloc: Global,

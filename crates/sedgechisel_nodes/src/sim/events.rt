@@ -10,14 +10,19 @@ use c_words::directive_named;
 use std::alloc::Global;
 use tc_link::Event;
 
-/// An event: its kind, 1 to 15, then what that kind has; the rest is ignored.
+/// An event: its kind, 1 to 15, then what that kind has; the rest is ignored. For C it is `struct sedge_event`.
 #[repr(C)]
 #[derive(Clone, Copy)]
 pub struct KeptEvent<'a> {
+    /// Of `sedge_event_kind`.
     pub kind: u8,
+    /// The MAP.
     pub map: u8,
+    /// Of `sedge_directive`.
     pub directive: u8,
+    /// The directive's, as of `sedge_ground_directive`.
     pub value: u16,
+    /// Where they begin.
     pub octets: &'a [u8],
 }
 
@@ -46,14 +51,11 @@ fn event_named<'a>(event: &KeptEvent<'a>) -> Option<Event<'a>>
     }
 }
 
-/// An event happens to the link: 1 packets are submitted on a MAP, or 2 one that is to go past the sequence control;
-/// 3 the ground is given a directive, as by `sedge_ground_directive`; 4 the ground sends a frame; 5 the first frame on
-/// its way up arrives, 6 it is lost, or 7 these octets arrive in its place, which are no frame; 8 the spacecraft sends
-/// a telemetry frame, which reports; 9, 10 and 11 are 5, 6 and 7 of the first frame on its way down; 12 a tick of the
-/// ground's clock passes; 13 a packet of sequence-controlled frames is taken on board, or 14 one of frames past the
-/// sequence control; 15 a packet is queued on board to be sent as telemetry. Answers 0, and writes the reply; or 6
-/// where there was no memory, 7 where no frame is on its way, 8 where the receiver would accept the damaged frame, 255
-/// where there is no link, or the kind is none of these, or the directive is none.
+/// An event happens. Returns 0 and writes the reply; or a number of `sedge_sim_fault`, and nothing happens; or
+/// `SEDGE_NODE_NONE`, also for a kind that is none, and where `sedge_ground_directive` answers it to the directive and
+/// the value. No directive, loss, damage, tick or take answers `SEDGE_SIM_MEMORY`. What a node refuses is a reply. The
+/// octets of a frame that was sent, and of a packet that was taken, stay to be read until the next event
+/// (`sedge_sim_octets`).
 #[unsafe(no_mangle)]
 pub extern "C" fn sedge_sim_step(
     alloc: Global,

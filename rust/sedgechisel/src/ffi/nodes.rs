@@ -311,6 +311,23 @@ unsafe extern "C" fn rattle_dealloc(at: *mut c_void) {
     }
 }
 
+// ---- Events. ----
+
+// SAFETY, of both calls below: the address of octets and their number are those of one slice.
+
+/// An event with octets, or with none.
+pub fn sim_event(sim: &mut Sim, kind: u8, map: u8, octets: &[u8], reply: &mut Reply) -> u8 {
+    let event = Event { kind, map, directive: 0, value: 0, octets: octets.as_ptr(), count: octets.len() };
+    unsafe { sedge_sim_step(sim, &event, reply) }
+}
+
+/// The event of a directive.
+pub fn sim_directive(sim: &mut Sim, directive: u8, value: u16, reply: &mut Reply) -> u8 {
+    let kind = SEDGE_EVENT_DIRECTIVE;
+    let event = Event { kind, map: 0, directive, value, octets: [].as_ptr(), count: 0 };
+    unsafe { sedge_sim_step(sim, &event, reply) }
+}
+
 // ---- tools/bindings makes what follows of the exports of the library. ----
 
 // SAFETY: these are the library's calls with their types. One without the address of octets asks nothing of its caller
@@ -323,15 +340,7 @@ unsafe extern "C" {
 
     pub safe fn sedge_ground_open(config: &Config, ground: &mut Ground) -> u8;
     pub safe fn sedge_ground_close(ground: &mut Ground);
-    pub safe fn sedge_ground_init_without_check(ground: &mut Ground) -> u8;
-    pub safe fn sedge_ground_init_with_check(ground: &mut Ground) -> u8;
-    pub safe fn sedge_ground_init_unlock(ground: &mut Ground) -> u8;
-    pub safe fn sedge_ground_init_set_vr(ground: &mut Ground, vr: u8) -> u8;
-    pub safe fn sedge_ground_terminate(ground: &mut Ground) -> u8;
-    pub safe fn sedge_ground_set_vs(ground: &mut Ground, vs: u8) -> u8;
-    pub safe fn sedge_ground_set_window(ground: &mut Ground, window: u8) -> u8;
-    pub safe fn sedge_ground_set_limit(ground: &mut Ground, limit: u8) -> u8;
-    pub safe fn sedge_ground_set_timer(ground: &mut Ground, ticks: u16) -> u8;
+    pub safe fn sedge_ground_directive(ground: &mut Ground, directive: u8, value: u16) -> u8;
     fn sedge_ground_submit(ground: &mut Ground, map: u8, octets: *const u8, count: usize) -> u8;
     fn sedge_ground_bypass(ground: &mut Ground, map: u8, octets: *const u8, count: usize) -> u8;
     pub safe fn sedge_ground_next(ground: &mut Ground, count: &mut usize) -> u8;
@@ -368,29 +377,7 @@ unsafe extern "C" {
     pub safe fn sedge_sim_open(config: &Config, sim: &mut Sim) -> u8;
     pub safe fn sedge_sim_close(sim: &mut Sim);
     pub safe fn sedge_sim_fault_name(number: u8) -> Text;
-    fn sedge_sim_submit(sim: &mut Sim, map: u8, octets: *const u8, count: usize, reply: &mut Reply) -> u8;
-    fn sedge_sim_bypass(sim: &mut Sim, map: u8, octets: *const u8, count: usize, reply: &mut Reply) -> u8;
-    pub safe fn sedge_sim_init_without_check(sim: &mut Sim, reply: &mut Reply) -> u8;
-    pub safe fn sedge_sim_init_with_check(sim: &mut Sim, reply: &mut Reply) -> u8;
-    pub safe fn sedge_sim_init_unlock(sim: &mut Sim, reply: &mut Reply) -> u8;
-    pub safe fn sedge_sim_init_set_vr(sim: &mut Sim, vr: u8, reply: &mut Reply) -> u8;
-    pub safe fn sedge_sim_terminate(sim: &mut Sim, reply: &mut Reply) -> u8;
-    pub safe fn sedge_sim_set_vs(sim: &mut Sim, vs: u8, reply: &mut Reply) -> u8;
-    pub safe fn sedge_sim_set_window(sim: &mut Sim, window: u8, reply: &mut Reply) -> u8;
-    pub safe fn sedge_sim_set_limit(sim: &mut Sim, limit: u8, reply: &mut Reply) -> u8;
-    pub safe fn sedge_sim_set_timer(sim: &mut Sim, ticks: u16, reply: &mut Reply) -> u8;
-    pub safe fn sedge_sim_send(sim: &mut Sim, reply: &mut Reply) -> u8;
-    pub safe fn sedge_sim_up_deliver(sim: &mut Sim, reply: &mut Reply) -> u8;
-    pub safe fn sedge_sim_up_lose(sim: &mut Sim, reply: &mut Reply) -> u8;
-    fn sedge_sim_up_damage(sim: &mut Sim, octets: *const u8, count: usize, reply: &mut Reply) -> u8;
-    pub safe fn sedge_sim_report(sim: &mut Sim, reply: &mut Reply) -> u8;
-    pub safe fn sedge_sim_down_deliver(sim: &mut Sim, reply: &mut Reply) -> u8;
-    pub safe fn sedge_sim_down_lose(sim: &mut Sim, reply: &mut Reply) -> u8;
-    fn sedge_sim_down_damage(sim: &mut Sim, octets: *const u8, count: usize, reply: &mut Reply) -> u8;
-    pub safe fn sedge_sim_tick(sim: &mut Sim, reply: &mut Reply) -> u8;
-    pub safe fn sedge_sim_take(sim: &mut Sim, reply: &mut Reply) -> u8;
-    pub safe fn sedge_sim_take_bypass(sim: &mut Sim, reply: &mut Reply) -> u8;
-    fn sedge_sim_telemetry(sim: &mut Sim, packet: *const u8, count: usize, reply: &mut Reply) -> u8;
+    fn sedge_sim_step(sim: &mut Sim, event: &Event, reply: &mut Reply) -> u8;
     fn sedge_sim_octets(sim: &mut Sim, out: *mut u8, room: usize, count: &mut usize) -> u8;
     pub safe fn sedge_sim_read(sim: &mut Sim, read: &mut SimReading) -> u8;
     pub safe fn sedge_sim_submissions(sim: &mut Sim, count: &mut usize) -> u8;
@@ -452,19 +439,6 @@ pub fn spacecraft_telemetry(spacecraft: &mut Spacecraft, packet: &[u8]) -> u8 {
 
 pub fn spacecraft_report(spacecraft: &mut Spacecraft, out: &mut [u8], count: &mut usize) -> u8 {
     unsafe { sedge_spacecraft_report(spacecraft, out.as_mut_ptr(), out.len(), count) }
-}
-
-/// An event with octets, or with none.
-pub fn sim_event(sim: &mut Sim, kind: u8, map: u8, octets: &[u8], reply: &mut Reply) -> u8 {
-    let event = Event { kind, map, directive: 0, value: 0, octets: octets.as_ptr(), count: octets.len() };
-    unsafe { sedge_sim_step(sim, &event, reply) }
-}
-
-/// The event of a directive.
-pub fn sim_directive(sim: &mut Sim, directive: u8, value: u16, reply: &mut Reply) -> u8 {
-    let kind = SEDGE_EVENT_DIRECTIVE;
-    let event = Event { kind, map: 0, directive, value, octets: [].as_ptr(), count: 0 };
-    unsafe { sedge_sim_step(sim, &event, reply) }
 }
 
 pub fn sim_octets(sim: &mut Sim, out: &mut [u8], count: &mut usize) -> u8 {
