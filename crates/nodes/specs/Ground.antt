@@ -29,6 +29,7 @@ use Rattle.nodes.specs.declared.fault.LinkFault.TheVariants.{NotOpen, ClosedMap,
 use Rattle.nodes.specs.declared.fault.LinkFault.TheVariants.{TooLong, QueueFull, Memory}
 use Rattle.nodes.specs.declared.heard.Heard.{Heard}
 use Rattle.nodes.specs.declared.heard.Heard.TheVariants.{Invalid, Foreign, Frame}
+use Rattle.nodes.specs.declared.heard.HeardClcw.{HeardClcw}
 use Rattle.nodes.specs.declared.heard.HeardReport.TheVariants.{Used, Refused, OtherChannel}
 use Rattle.nodes.specs.Commands.{are_commands}
 use Rattle.nodes.specs.Parameters.{limits_of}
@@ -194,22 +195,31 @@ ground_pull s = record {
 abbrev pub after_extraction : GroundState → Extracted → GroundState
 after_extraction s x = record s { extractor = x.after; telemetry = s.telemetry ++ x.packets }
 
--- the report reaches the sender where it is one of this ground's virtual channel
-abbrev pub own_frame_outcome : GroundState → Extracted → Result Clcw ClcwFault → GroundOutcome Heard
-own_frame_outcome s x (Err fault) = record {
-  answer = Frame x.gap (length x.packets) (Refused fault) None;
-  after = after_extraction s x;
+-- a report reaches the sender where it is one of this ground's virtual channel
+abbrev pub report_outcome : GroundState → Result Clcw ClcwFault → GroundOutcome HeardClcw
+report_outcome s (Err fault) = record {
+  answer = record { report = Refused fault; alert = None };
+  after = s;
 }
-own_frame_outcome s x (Ok report) =
+report_outcome s (Ok report) =
     if report.vcid == s.config.vcid then record {
-      answer =
-          Frame x.gap (length x.packets) Used (sender.fop_step s.fop (sender.Report report)).answer;
-      after = with_fop (after_extraction s x) (sender.fop_step s.fop (sender.Report report)).after;
+      answer = record {
+        report = Used;
+        alert = (sender.fop_step s.fop (sender.Report report)).answer;
+      };
+      after = with_fop s (sender.fop_step s.fop (sender.Report report)).after;
     }
-    else record {
-      answer = Frame x.gap (length x.packets) OtherChannel None;
-      after = after_extraction s x;
-    }
+    else record { answer = record { report = OtherChannel; alert = None }; after = s }
+
+-- with the packets of its frame
+abbrev pub beside_packets : Extracted → GroundOutcome HeardClcw → GroundOutcome Heard
+beside_packets x o = record {
+  answer = Frame x.gap (length x.packets) o.answer.report o.answer.alert;
+  after = o.after;
+}
+
+abbrev pub own_frame_outcome : GroundState → Extracted → Result Clcw ClcwFault → GroundOutcome Heard
+own_frame_outcome s x report = beside_packets x (report_outcome (after_extraction s x) report)
 
 abbrev pub receive_frame_step : GroundState → telemetry.FrameView → GroundOutcome Heard
 receive_frame_step s frame =
@@ -245,6 +255,10 @@ ground_take_telemetry s (packet ∷ left) = record {
   after = record s { telemetry = left };
 }
 
+-- the extractor begins anew, and what waits to be taken stays
+abbrev pub after_forgetting : GroundState → GroundState
+after_forgetting s = record s { extractor = new_extractor }
+
 -- ---- all calls
 
 pub data GroundEvent : Type 0 where
@@ -254,7 +268,10 @@ pub data GroundEvent : Type 0 where
   Pull : GroundEvent
   Tick : GroundEvent
   Telemetry : (octets : List ℕ) → GroundEvent
+  -- a report that comes by itself, without a telemetry frame
+  ControlWord : (octets : List ℕ) → GroundEvent
   TakeTelemetry : GroundEvent
+  ForgetTelemetry : GroundEvent
 
 -- what is answered to a call; to a pull the frame that is sent
 abbrev pub GroundAnswer : GroundEvent → Type 0
@@ -264,7 +281,9 @@ GroundAnswer (Direct directive) = Result (Option Alert) CopFault
 GroundAnswer Pull = Option FrameView
 GroundAnswer Tick = Option Alert
 GroundAnswer (Telemetry octets) = Heard
+GroundAnswer (ControlWord octets) = HeardClcw
 GroundAnswer TakeTelemetry = Option (List ℕ)
+GroundAnswer ForgetTelemetry = Unit {0}
 
 abbrev pub ground_step : GroundState → (event : GroundEvent) → GroundOutcome (GroundAnswer event)
 ground_step s (Submit m octets) =
@@ -275,4 +294,6 @@ ground_step s (Direct directive) = ground_directive s directive
 ground_step s Pull = ground_pull s
 ground_step s Tick = ground_tick s
 ground_step s (Telemetry octets) = ground_telemetry s octets
+ground_step s (ControlWord octets) = report_outcome s (clcw_at octets)
 ground_step s TakeTelemetry = ground_take_telemetry s s.telemetry
+ground_step s ForgetTelemetry = record { answer = tt; after = after_forgetting s }

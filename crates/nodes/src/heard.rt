@@ -24,7 +24,16 @@ pub enum Heard {
     },
 }
 
-/// What becomes of the report that a telemetry frame carries.
+/// What becomes of a report that came by itself.
+#[derive(Clone, Copy, Debug, PartialEq, Eq)]
+pub struct HeardClcw {
+    /// What becomes of it.
+    pub report: HeardReport,
+    /// Why the sender has given up, where it has.
+    pub alert: Option<Alert>,
+}
+
+/// What becomes of a report, which a telemetry frame carries, or which comes by itself.
 #[derive(Clone, Copy, Debug, PartialEq, Eq)]
 pub enum HeardReport {
     /// The sender has it.

@@ -29,7 +29,7 @@ pub use data_field::data_field_of;
 pub use event::Event;
 pub use fault::LinkFault;
 pub use ground_node::{Ground, Submission};
-pub use heard::{Heard, HeardReport};
+pub use heard::{Heard, HeardClcw, HeardReport};
 pub use laws::law_of_delivery;
 pub use parameter::{PARAMETERS, Parameter};
 pub use received::Received;

@@ -6,6 +6,8 @@ use Rattle.simulated_link.proofs.Common.{report_in, report_while_active, IsActiv
 use Rattle.simulated_link.proofs.Common.{FopOutcome, TmFault, Extracted, extract_step, Heard, GroundState}
 use Rattle.simulated_link.proofs.Common.{GroundOutcome, with_fop, after_extraction, own_frame_outcome}
 use Rattle.simulated_link.proofs.Common.{telemetry_outcome}
+use Rattle.nodes.specs.Ground.{report_outcome}
+use Rattle.nodes.specs.declared.heard.HeardClcw.{HeardClcw}
 use Rattle.std.specs.Prelude.{◌&&◌}
 use Rattle.std.proofs.lemmas.Bool.{not-true}
 use Rattle.clcw.specs.Reading.{clcw_at}
@@ -68,12 +70,18 @@ pub record AtEachFrame (s : GroundState) (P : GroundState → Type 0) : Type 0 w
   pub extracts : (x : Extracted) → P (after_extraction s x)
   pub uses : (x : Extracted) (report : Clcw) → P (with_fop (after_extraction s x) (clcw_step s.fop report).after)
 
+-- of a report, which a frame carried or which came by itself
+pub report_seen : (s : GroundState) (P : GroundState → Type 0) → P s
+    → ((report : Clcw) → P (with_fop s (clcw_step s.fop report).after)) → (r : Result Clcw ClcwFault)
+    → P (report_outcome s r).after
+report_seen s P same uses (Err fault) = same
+report_seen s P same uses (Ok report) =
+    cond_both (report.vcid == s.config.vcid) _ _ (λ (o : GroundOutcome HeardClcw). P o.after) (λ t. uses report)
+    (λ t. same)
+
 module _ (s : GroundState) (P : GroundState → Type 0) (each : AtEachFrame s P) where
   word_seen : (x : Extracted) (r : Result Clcw ClcwFault) → P (own_frame_outcome s x r).after
-  word_seen x (Err fault) = each.extracts x
-  word_seen x (Ok report) =
-      cond_both (report.vcid == s.config.vcid) _ _ (λ (o : GroundOutcome Heard). P o.after)
-      (λ t. each.uses x report) (λ t. each.extracts x)
+  word_seen x r = report_seen (after_extraction s x) P (each.extracts x) (each.uses x) r
 
   pub frame_seen : (r : Result FrameView TmFault) → P (telemetry_outcome s r).after
   frame_seen (Err fault) = each.same

@@ -53,6 +53,14 @@ impl Extractor {
         }
     }
 
+    /// Begins anew, as an extractor that has seen no frame; it keeps its place.
+    pub fn forget(&mut self)
+        ensures { self.new ≡ new_extractor }
+    {
+        self.last = None;
+        self.part.clear();
+    }
+
     /// Takes the next frame that came, appends the packets that are finished with it, idle ones left
     /// out, and says how many frames are missing before it (CCSDS 132.0-B-3, 4.3.2). All growths are
     /// made first: at a fault the extractor and the packets are as they were.

@@ -2,15 +2,19 @@
 
 use super::Ground;
 use crate::fault::LinkFault;
-use crate::heard::{Heard, HeardReport};
+use crate::heard::{Heard, HeardClcw, HeardReport};
+use clcw::{Clcw, ClcwFault};
 use tm_link::{Gap, TmFrame, decode};
+
+ghost use Rattle.std.specs.Prelude.{◌≡◌, None};
 
 impl Ground {
     ghost use Rattle.std.specs.Prelude.{◌≡◌, [], IsOk, IfOk, IfErr, OnOk, OnErr, IsTrue, length};
     ghost use Rattle.tm_link.specs.Extraction.{extract_step};
     ghost use Rattle.tm_link.specs.Layout.{frame_view, pointer_fits};
     ghost use Rattle.tm_link.specs.Reading.{frame_at};
-    ghost use Rattle.nodes.specs.Ground.{ground_step, Telemetry, is_own_telemetry, after_extraction, FinishesNothing};
+    ghost use Rattle.nodes.specs.Ground.{ground_step, Telemetry, ControlWord, ForgetTelemetry, report_outcome};
+    ghost use Rattle.nodes.specs.Ground.{is_own_telemetry, after_extraction, FinishesNothing};
     ghost use Rattle.nodes.specs.Steps.{TakesStep};
 
     /// Takes octets that came from the spacecraft: exactly one telemetry frame (CCSDS 132.0-B-3, 4.1).
@@ -35,24 +39,54 @@ impl Ground {
             return Ok(Heard::Foreign);
         }
         let (gap, packets) = self.extract(&frame)?;
-        let (report, alert) = match frame.report() {
-            Err(fault) => (HeardReport::Refused(fault), None),
-            Ok(word) => {
-                if u32::from(word.vcid) == self.config.vcid {
-                    let alert = self.fop.clcw(&word);
-                    self.settle();
-                    (HeardReport::Used, alert)
-                } else {
-                    (HeardReport::OtherChannel, None)
-                }
-            }
-        };
+        let HeardClcw { report, alert } = self.report(frame.report());
         Ok(Heard::Frame {
             gap,
             packets,
             report,
             alert,
         })
+    }
+
+    /// Takes a report that came by itself, without a telemetry frame: a CLCW as a front end hands it
+    /// on (CCSDS 232.0-B-4, 4.2.1). It goes to the sender where it is of this virtual channel, as the
+    /// report that a telemetry frame carries does; telemetry is not touched. A report that is handed on
+    /// twice counts as two, so one that was given before may not come again as if it were new.
+    /// Cost: the number of segments released.
+    pub fn clcw(&mut self, octets: [u8; 4]) -> HeardClcw
+        ensures answer { result ≡ (ground_step self.old (ControlWord octets)).answer }
+        ensures after { self.new ≡ (ground_step self.old (ControlWord octets)).after }
+    {
+        self.report(clcw::decode(octets))
+    }
+
+    /// Begins to take packets out of telemetry anew, as where a spacecraft was restarted, whose counts go
+    /// on elsewhere: a packet that is not finished is dropped, and the next frame is the first (CCSDS
+    /// 132.0-B-3, 4.3.2). Packets that wait to be taken stay.
+    pub fn forget_telemetry(&mut self)
+        ensures { self.new ≡ (ground_step self.old ForgetTelemetry).after }
+    {
+        self.extractor.forget();
+    }
+
+    // Hands a report on to the sender where it is of this virtual channel.
+    fn report(&mut self, word: Result<Clcw, ClcwFault>) -> HeardClcw
+        ensures answer { result ≡ (report_outcome self.old word).answer }
+        ensures after { self.new ≡ (report_outcome self.old word).after }
+    {
+        let word = match word {
+            Err(fault) => return unused(HeardReport::Refused(fault)),
+            Ok(word) => word,
+        };
+        if u32::from(word.vcid) != self.config.vcid {
+            return unused(HeardReport::OtherChannel);
+        }
+        let alert = self.fop.clcw(&word);
+        self.settle();
+        HeardClcw {
+            report: HeardReport::Used,
+            alert,
+        }
     }
 
     fn is_own_telemetry(&self, frame: &TmFrame<'_>) -> bool
@@ -81,5 +115,15 @@ impl Ground {
             return Err(LinkFault::Memory);
         };
         Ok((gap, self.finished.len() - before))
+    }
+}
+
+// A report that does not reach the sender.
+fn unused(report: HeardReport) -> HeardClcw
+    ensures { result ≡ record { report = report; alert = None } }
+{
+    HeardClcw {
+        report,
+        alert: None,
     }
 }
