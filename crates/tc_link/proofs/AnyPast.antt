@@ -6,29 +6,39 @@ use Rattle.tc_link.proofs.Common.{World, new_world, world_step, world_run, inl, 
 use Rattle.tc_link.proofs.Common.{SpacecraftState, SpacecraftOutcome, frame_outcome, body_outcome, sequence_outcome}
 use Rattle.tc_link.proofs.Common.{bypass_outcome, verdict_of, is_free, is_kept, limits_of, is_own_frame, with_fop}
 use Rattle.tc_link.proofs.Common.{after_extraction, telemetry_outcome, ap, sym, FarmState, FarmEvent, AdArrives}
-use Rattle.tc_link.proofs.Common.{farm_step, after_verdict}
+use Rattle.tc_link.proofs.Common.{farm_step, after_verdict, ◌∙◌}
 use Rattle.cop1.specs.declared.farm.Verdict.TheVariants.{Behind, Discarded}
+use Rattle.cop1.specs.Units.{FopState}
+use Rattle.std.specs.Prelude.{if◌then◌else◌, Option, Some, None, ◌++◌}
+use Rattle.simulated_link.specs.Replies.{Down}
+use Rattle.simulated_link.specs.World.{down_deliver_step}
+use Rattle.nodes.specs.declared.event.Event.TheVariants as events
 use Rattle.nodes.specs.Spacecraft.{after_farm}
 use Rattle.clcw.specs.Reading.{clcw_at}
 use Rattle.clcw.specs.declared.fault.ClcwFault.{ClcwFault}
-use Rattle.nodes.specs.Ground.{GroundOutcome, own_frame_outcome, is_own_telemetry, new_ground, ground_take_telemetry}
+use Rattle.nodes.specs.Ground.{GroundOutcome, report_outcome, is_own_telemetry, new_ground, ground_telemetry}
+use Rattle.nodes.specs.Ground.{ground_take_telemetry, after_moving_up, is_closed}
+use Rattle.nodes.specs.declared.heard.HeardClcw.{HeardClcw}
 use Rattle.nodes.specs.declared.heard.Heard.{Heard}
 use Rattle.nodes.specs.declared.received.Received.{Received}
 use Rattle.nodes.specs.Spacecraft.{new_spacecraft}
 use Rattle.tc_frame.specs.Layout.{FrameView}
 use Rattle.tc_frame.specs.Reading as command
-use Rattle.tm_link.specs.Extraction.{ExtractorState, extract_step}
+use Rattle.tm_link.specs.Extraction.{ExtractorState, new_extractor, extract_step}
 use Rattle.tm_link.specs.Layout as telemetry
 use Rattle.tm_link.specs.Reading as telemetry_reading
-use Rattle.tc_link.specs.AnyPast.{LinkStep, Happens, TakeTelemetry, Receives, Hears, NewGround, NewSpacecraft}
-use Rattle.tc_link.specs.AnyPast.{IsLinkStep, with_nodes, received, heard, link_step, link_run}
+use Rattle.tc_link.specs.AnyPast.{LinkStep, Happens, TakeTelemetry, Receives, Hears, ReportArrives, HearsReport}
+use Rattle.tc_link.specs.AnyPast.{ForgetTelemetry, NewGround, NewSpacecraft, IsLinkStep, with_nodes, received, heard}
+use Rattle.tc_link.specs.AnyPast.{heard_word, arriving_word, with_word, after_word, link_step, link_run, SaysAs}
+use Rattle.tc_link.specs.AnyPast.{with_telemetry_of, DoesAsItsFrame, ReportsDoAsFrames}
 use Rattle.tc_link.specs.AnyPast.{HasAnyPast, HoldsAfterAnyPast, RunsAsEvents}
 use Rattle.tc_link.proofs.Beginning.{InSession}
 use Rattle.tc_link.proofs.Board.{eases_keep}
 use Rattle.tc_link.proofs.Eased.{bypass_eases}
 use Rattle.tc_link.proofs.Fitting.{GroundFits, with_fits, heard_fits}
+use Rattle.tc_link.proofs.Hearing.{used, used_is, used_word, word_is, with_heard}
 use Rattle.tc_link.proofs.Invariant.{Holding, new_holds, step_holds}
-use Rattle.tc_link.proofs.Linked.{In, beside, run_to}
+use Rattle.tc_link.proofs.Linked.{In, Tells, Reporting, beside, run_to}
 use Rattle.tc_link.proofs.Promised.{holds_so}
 use Rattle.tc_link.proofs.SteadyNodes.{settled_so, report_so}
 use Rattle.tc_link.proofs.SteadyWorld.{sequence_so, bypass_so, body_so, new_sound}
@@ -37,9 +47,11 @@ use Rattle.tc_link.proofs.Sound.{GroundNodeSteady, SpacecraftSteady}
 -- ---- the session goes on
 
 -- with another extractor, and other packets of telemetry
+abbrev apart : GroundState → ExtractorState → List (List ℕ) → GroundState
+apart s extractor packets = record s { extractor = extractor; telemetry = packets }
+
 abbrev with_telemetry : World → ExtractorState → List (List ℕ) → World
-with_telemetry w extractor packets =
-    record w { ground_node = record w.ground_node { extractor = extractor; telemetry = packets } }
+with_telemetry w extractor packets = record w { ground_node = apart w.ground_node extractor packets }
 
 module _ (c : Config) (w : World) (x : ExtractorState) (packets : List (List ℕ)) where
   heard_in : (early : Bool) (d : Directive) (base : ℕ) → In early c d base w
@@ -73,6 +85,23 @@ module _ (c : Config) (w : World) (x : ExtractorState) (packets : List (List ℕ
     clean = h.clean;
     session = λ is. heard_session (h.session is);
   }
+
+moved_apart : (s : GroundState) (x : ExtractorState) (packets : List (List ℕ)) (waiting : Option SegmentView)
+    (pending : List SegmentView)
+    → after_moving_up (apart s x packets) waiting pending ≡ apart (after_moving_up s waiting pending) x packets
+moved_apart s x packets (Some u) pending = refl
+moved_apart s x packets None [] = refl
+moved_apart s x packets None (u ∷ us) = refl
+
+settled_apart : (s : GroundState) (f : FopState SegmentView) (x : ExtractorState) (packets : List (List ℕ))
+    → with_fop (apart s x packets) f ≡ apart (with_fop s f) x packets
+settled_apart s f x packets = settled (is_closed f.state) where
+  settled : (off : Bool) → (if off then record (apart s x packets) { fop = f; pending = [] }
+      else after_moving_up (record (apart s x packets) { fop = f }) f.waiting s.pending)
+      ≡ apart (if off then record s { fop = f; pending = [] }
+      else after_moving_up (record s { fop = f }) f.waiting s.pending) x packets
+  settled true = refl
+  settled false = moved_apart (record s { fop = f }) x packets f.waiting s.pending
 
 -- where a Type-BD frame arrived
 module _ (c : Config) (w : World) (h : Holding c w) (u : SegmentView) (kept : Bool) where
@@ -175,32 +204,85 @@ module _ (c : Config) (w : World) (h : Holding c w) where
   abbrev Hears_well : GroundOutcome Heard → Type 0
   Hears_well o = Holding c (heard w o)
 
-  extracted_holds : (x : Extracted) → Holding c (record w { ground_node = after_extraction w.ground_node x })
-  extracted_holds x = telemetry_holds c w x.after _ h
+  -- ---- a report, beside such telemetry
 
-  used_holds : (x : Extracted) (report : Clcw)
-      → Holding c (with_nodes w (with_fop (after_extraction w.ground_node x) (clcw_step w.ground_node.fop report).after)
-      w.spacecraft)
-  used_holds x report =
+  used_holds : (x : ExtractorState) (packets : List (List ℕ)) (report : Clcw) → Holding c
+      (with_nodes w (with_fop (apart w.ground_node x packets) (clcw_step w.ground_node.fop report).after) w.spacecraft)
+  used_holds x packets report =
       let s : GroundState = w.ground_node in
       let k = h.sound.ground_node in
       nodes_hold _ w.spacecraft
-      (settled_so c (record (after_extraction s x) { fop = (clcw_step s.fop report).after }) k.config
+      (settled_so c (record (apart s x packets) { fop = (clcw_step s.fop report).after }) k.config
       (report_so c s.fop k.fop report))
-      (with_fits (after_extraction s x) (clcw_step s.fop report).after
-      (heard_fits s.fop s.pending h.carried.fits report)) h.sound.spacecraft
+      (with_fits (apart s x packets) (clcw_step s.fop report).after (heard_fits s.fop s.pending h.carried.fits report))
+      h.sound.spacecraft
 
-  word_holds : (x : Extracted) (r : Result Clcw ClcwFault) → Hears_well (own_frame_outcome w.ground_node x r)
-  word_holds x (Err fault) = extracted_holds x
-  word_holds x (Ok report) =
-      cond_both (report.vcid == w.ground_node.config.vcid) _ _ Hears_well (λ t. used_holds x report)
-      (λ t. extracted_holds x)
+  word_holds : (x : ExtractorState) (packets : List (List ℕ)) (r : Result Clcw ClcwFault)
+      → Holding c (heard_word w (report_outcome (apart w.ground_node x packets) r))
+  word_holds x packets (Err fault) = telemetry_holds c w x packets h
+  word_holds x packets (Ok report) =
+      cond_both (report.vcid == w.ground_node.config.vcid) _ _
+      (λ (o : GroundOutcome HeardClcw). Holding c (heard_word w o)) (λ t. used_holds x packets report)
+      (λ t. telemetry_holds c w x packets h)
 
   heard_holds : (r : Result telemetry.FrameView TmFault) → Hears_well (telemetry_outcome w.ground_node r)
   heard_holds (Err fault) = h
   heard_holds (Ok frame) =
       cond_both (is_own_telemetry w.ground_node.config frame) _ _ Hears_well
-      (λ t. word_holds (extract_step w.ground_node.extractor frame) (clcw_at frame.ocf)) (λ t. h)
+      (λ t. word_holds (extract_step w.ground_node.extractor frame).after _ (clcw_at frame.ocf)) (λ t. h)
+
+  -- ---- a report arrives by itself
+
+  module _ (b : List ℕ) (bs : List (List ℕ)) (r : Clcw) (t : Tells c b r) where
+    abbrev extracted : Extracted
+    extracted = extract_step w.ground_node.extractor t.frame
+
+    whole_is : ground_telemetry w.ground_node b ≡ used w.ground_node extracted r
+    whole_is = used_is c w.ground_node b r h.sound.ground_node.config t
+
+    alone_is : arriving_word w b ≡ used_word w.ground_node r
+    alone_is = word_is c w.ground_node b r h.sound.ground_node.config t
+
+    -- telemetry is the one thing in which it differs from what its frame does
+    apart_is : with_word w bs (arriving_word w b) ≡ with_telemetry_of w (down_deliver_step w (b ∷ bs)).after
+    apart_is =
+        let s : GroundState = w.ground_node in
+        let f : FopState SegmentView = (clcw_step s.fop r).after in
+        ap (λ (o : GroundOutcome HeardClcw). with_heard w o.after bs) alone_is
+        ∙ ap (λ (g : GroundState). with_heard w g bs) (settled_apart s f s.extractor s.telemetry)
+        ∙ sym (ap (λ (g : GroundState). with_telemetry_of w (with_heard w g bs))
+        (settled_apart s f extracted.after (s.telemetry ++ extracted.packets)))
+        ∙ sym (ap (λ (o : GroundOutcome Heard). with_telemetry_of w (with_heard w o.after bs)) whole_is)
+
+    says_as : SaysAs (Ok (Down (ground_telemetry w.ground_node b).answer)) (arriving_word w b).answer
+    says_as =
+        subst (λ (o : GroundOutcome Heard). SaysAs (Ok (Down o.answer)) (arriving_word w b).answer) (sym whole_is)
+        (subst (λ (o : GroundOutcome HeardClcw). SaysAs (Ok (Down (used w.ground_node extracted r).answer)) o.answer)
+        (sym alone_is) (refl, refl))
+
+  arrives_apart : (bs : List (List ℕ)) (rs : List Clcw) → Reporting c bs rs
+      → after_word w bs ≡ with_telemetry_of w (down_deliver_step w bs).after
+  arrives_apart [] rs reporting = refl
+  arrives_apart (b ∷ bs) [] reporting = elim reporting [ ]
+  arrives_apart (b ∷ bs) (r ∷ rs) reporting = apart_is b bs r reporting.0
+
+  arrives_holds : Holding c (after_word w w.down)
+  arrives_holds =
+      let after : World = (world_step w events.DownDeliver).after in
+      subst (Holding c) (sym (arrives_apart w.down h.reports.reports h.reports.reporting))
+      (telemetry_holds c after w.ground_node.extractor w.ground_node.telemetry (step_holds c w h events.DownDeliver tt))
+
+  pub does_as_its_frame : DoesAsItsFrame w
+  does_as_its_frame = record {
+    after = arrives_apart w.down h.reports.reports h.reports.reporting;
+    answer = λ octets down is. said octets down is h.reports.reports (rw is at h.reports.reporting);
+  } where
+    said : (b : List ℕ) (bs : List (List ℕ)) → w.down ≡ b ∷ bs → (rs : List Clcw) → Reporting c (b ∷ bs) rs
+        → SaysAs (world_step w events.DownDeliver).answer (arriving_word w b).answer
+    said b bs is [] reporting = elim reporting [ ]
+    said b bs is (r ∷ rs) reporting =
+        subst (λ (way : List (List ℕ)). SaysAs (down_deliver_step w way).answer (arriving_word w b).answer) (sym is)
+        (says_as b bs r reporting.0)
 
   -- ---- a node is new
 
@@ -216,6 +298,10 @@ module _ (c : Config) (w : World) (h : Holding c w) where
   link_step_holds (Receives octets) fits = received_holds (command.frame_at On octets)
   link_step_holds (Hears octets) fits =
       heard_holds (telemetry_reading.frame_at w.ground_node.config.frame_length octets)
+  link_step_holds ReportArrives fits = arrives_holds
+  link_step_holds (HearsReport octets) fits =
+      word_holds w.ground_node.extractor w.ground_node.telemetry (clcw_at octets)
+  link_step_holds ForgetTelemetry fits = telemetry_holds c w new_extractor w.ground_node.telemetry h
   link_step_holds NewGround fits =
       nodes_hold (new_ground w.ground_node.config) w.spacecraft new_ground_steady
       (record { sent = λ running. tt; unsent = λ running. tt }) h.sound.spacecraft
@@ -246,3 +332,6 @@ events_run w (e ∷ es) = events_run (world_step w e).after es
 
 pub runs_as_events : RunsAsEvents
 runs_as_events c events = events_run (new_world c) events
+
+pub reports_do_as_frames : ReportsDoAsFrames
+reports_do_as_frames w past = does_as_its_frame past.config w (past_holds w past)

@@ -5,7 +5,9 @@ use Rattle.tc_link.proofs.Common.{FopOutcome, clcw_step, retransmits, tick_step,
 use Rattle.tc_link.proofs.Common.{GroundState, settle_step, with_fop, Result, Option, directive_outcome, TmFault}
 use Rattle.tc_link.proofs.Common.{telemetry_outcome, LinkFault, unless_refused, List, ◌++◌, after_submission}
 use Rattle.tc_link.proofs.Common.{segments_on, after_alert, Some, None}
-use Rattle.simulated_link.proofs.Reported.{reported, frame_seen}
+use Rattle.clcw.specs.declared.fault.ClcwFault.{ClcwFault}
+use Rattle.nodes.specs.Ground.{report_outcome}
+use Rattle.simulated_link.proofs.Reported.{reported, report_seen, frame_seen}
 use Rattle.tc_link.proofs.Settled.{settled_keeps}
 use Rattle.tm_link.specs.Layout as telemetry
 
@@ -91,6 +93,10 @@ module _ (s : GroundState) where
     extracts = λ x. refl;
     uses = λ x report. settled_same _ ∙ report_same s.fop report;
   })
+
+  pub word_same : (r : Result Clcw ClcwFault) → (report_outcome s r).after.fop.bypass ≡ s.fop.bypass
+  word_same =
+      report_seen s (λ g. g.fop.bypass ≡ s.fop.bypass) refl (λ report. settled_same _ ∙ report_same s.fop report)
 
   pub ticked_same : (with_fop s (tick_step s.fop).after).fop.bypass ≡ s.fop.bypass
   ticked_same = with_same (tick_step s.fop).after (tick_same s.fop)

@@ -21,19 +21,23 @@ use Rattle.nodes.specs.Ground.{ground_step, ground_take_telemetry}
 use Rattle.nodes.specs.Spacecraft.{is_accepted, after_take}
 use Rattle.nodes.specs.declared.received.Received.{Received}
 use Rattle.nodes.specs.declared.heard.Heard.TheVariants as heard_cases
+use Rattle.nodes.specs.declared.heard.HeardReport.{HeardReport}
 use Rattle.nodes.specs.declared.heard.HeardReport.TheVariants.{Used}
+use Rattle.clcw.specs.Reading.{clcw_at}
 use Rattle.simulated_link.proofs.Leaving.{AtEachLoss, lost, up_arrives, down_arrives}
 use Rattle.simulated_link.specs.World.{world_after_bypass}
 use Rattle.tm_link.specs.Reading.{frame_at}
 use Rattle.nodes.specs.declared.event.Event.TheVariants as events
-use Rattle.tc_link.specs.AnyPast.{LinkStep, Happens, TakeTelemetry, Receives, Hears, NewGround, NewSpacecraft}
-use Rattle.tc_link.specs.AnyPast.{IsLinkStep, link_step, link_run, after_hearing}
+use Rattle.tc_link.specs.AnyPast.{LinkStep, Happens, TakeTelemetry, Receives, Hears, ReportArrives, HearsReport}
+use Rattle.tc_link.specs.AnyPast.{ForgetTelemetry, NewGround, NewSpacecraft, IsLinkStep, link_step, link_run}
+use Rattle.tc_link.specs.AnyPast.{after_report, after_hearing, word_in, after_word}
 use Rattle.tc_link.specs.Bypass.{packet_of, packet_in, bypass_up, bypass_queued, bypass_held, bypass_accepted_by}
 use Rattle.tc_link.specs.Bypass.{bypass_taken_by, by_step, bypass_accepted, bypass_taken, ReceivesNothingElse}
 use Rattle.tc_link.specs.Bypass.{BypassKeepsOrder}
 use Rattle.tc_link.specs.InTransit.{in_frame}
 use Rattle.tc_link.proofs.AnyPast.{link_step_holds, past_holds}
-use Rattle.tc_link.proofs.BypassKept.{settled_same, submission_same, directive_same, telemetry_same, ticked_same}
+use Rattle.tc_link.proofs.BypassKept.{settled_same, submission_same, directive_same, telemetry_same}
+use Rattle.tc_link.proofs.BypassKept.{word_same, ticked_same}
 use Rattle.tc_link.proofs.Closed.{active_on}
 use Rattle.tc_link.proofs.Fitting.{moved}
 use Rattle.tc_link.proofs.Invariant.{Holding}
@@ -278,10 +282,21 @@ module _ (c : Config) (w : World) (h : Holding c w) where
 
   -- ---- the other steps
 
+  report_passes : (after : GroundState) (r : HeardReport) → after.fop.bypass ≡ w.ground_node.fop.bypass
+      → Passes w [] [] (after_report w after r)
+  report_passes after Used queued = on_ground _ refl refl queued
+  report_passes after _ queued = on_ground _ refl refl queued
+
   heard_passes : (after : GroundState) (a : Heard) → after.fop.bypass ≡ w.ground_node.fop.bypass
       → Passes w [] [] (after_hearing w after a)
-  heard_passes after (heard_cases.Frame gap packets Used alert) queued = on_ground _ refl refl queued
+  heard_passes after (heard_cases.Frame gap packets report alert) queued = report_passes after report queued
   heard_passes after _ queued = on_ground _ refl refl queued
+
+  word_passes : (bs : List (List ℕ)) → Passes w [] [] (after_word w bs)
+  word_passes [] = same
+  word_passes (b ∷ bs) =
+      on_ground _ refl refl
+      (word_same w.ground_node (clcw_at (word_in (frame_at w.ground_node.config.frame_length b))))
 
   taken_same : (packets : List (List ℕ))
       → (ground_take_telemetry w.ground_node packets).after.fop.bypass ≡ w.ground_node.fop.bypass
@@ -296,6 +311,11 @@ module _ (c : Config) (w : World) (h : Holding c w) where
       let o = ground_step w.ground_node (ground_calls.Telemetry octets) in
       heard_passes o.after o.answer
       (telemetry_same w.ground_node (frame_at w.ground_node.config.frame_length octets))
+  step_passes ReportArrives own = word_passes w.down
+  step_passes (HearsReport octets) own =
+      let o = ground_step w.ground_node (ground_calls.ControlWord octets) in
+      report_passes o.after o.answer.report (word_same w.ground_node (clcw_at octets))
+  step_passes ForgetTelemetry own = on_ground _ refl refl refl
   step_passes NewGround own =
       fewer _ (some_all w.spacecraft.bypass) (some_all (bypass_up w)) (some_none (bypass_queued w))
   step_passes NewSpacecraft own =

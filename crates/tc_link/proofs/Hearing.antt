@@ -18,7 +18,12 @@ use Rattle.tc_link.proofs.Settled.{settled_keeps, held_again}
 use Rattle.tc_link.proofs.Transit.{DownIs, Ranks, bit, down_push, rises_push, rises_lower, rises_to, ranks_push}
 use Rattle.tc_link.proofs.Transit.{ranks_lower}
 use Rattle.tc_link.proofs.Words.{flags_are}
+use Rattle.nodes.specs.Ground.{report_outcome}
+use Rattle.nodes.specs.declared.heard.HeardClcw.{HeardClcw}
+use Rattle.tm_link.specs.Reading.{frame_at}
 use Rattle.tm_link.specs.Reading as telemetry_reading
+use Rattle.clcw.specs.Reading.{clcw_at}
+use Rattle.tc_link.specs.AnyPast.{word_in}
 use Rattle.tc_link.proofs.Sound.{Sound}
 
 -- ---- octets that tell a report lead to its use
@@ -38,6 +43,21 @@ used_is c s octets report is t =
     ∙ rw (eq-eqb t.frame.scid s.config.scid (rw is t.scid), eq-eqb t.frame.vcid s.config.tm_vcid (rw is t.vcid)) (
     ap (own_frame_outcome s x) t.word ∙ rw (eq-eqb report.vcid s.config.vcid (rw is t.own)) refl
     )
+
+-- a report that came by itself
+abbrev pub used_word : GroundState → Clcw → GroundOutcome HeardClcw
+used_word s report = record {
+  answer = record { report = Used; alert = (clcw_step s.fop report).answer };
+  after = with_fop s (clcw_step s.fop report).after;
+}
+
+pub word_is : (c : Config) (s : GroundState) (octets : List ℕ) (report : Clcw) → s.config ≡ c
+    → (t : Tells c octets report) → report_outcome s (clcw_at (word_in (frame_at s.config.frame_length octets)))
+    ≡ used_word s report
+word_is c s octets report is t =
+    let reads : frame_at s.config.frame_length octets ≡ Ok t.frame = rw is t.reads in
+    ap (λ r. report_outcome s (clcw_at (word_in r))) reads ∙ ap (report_outcome s) t.word
+    ∙ rw (eq-eqb report.vcid s.config.vcid (rw is t.own)) refl
 
 -- ---- a report leads to another sender
 

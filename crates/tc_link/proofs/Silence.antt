@@ -5,18 +5,19 @@ use Rattle.tc_link.proofs.Common.{FarmState, FarmMode, Open, Wait, farm_step, Bu
 use Rattle.tc_link.proofs.Common.{is_to_send, Config, PacketOn, SpacecraftState, GroundState, Heard, Event, World}
 use Rattle.tc_link.proofs.Common.{WorldOutcome, world_step, spacecraft_take, spacecraft_take_bypass, spacecraft_report}
 use Rattle.tc_link.proofs.Common.{world_after_take, world_after_queueing, reports_as, report_now, up_lose_step}
-use Rattle.tc_link.proofs.Common.{up_damage_step, spacecraft_telemetry, eq-eqb, ◌==◌}
+use Rattle.tc_link.proofs.Common.{up_damage_step, down_deliver_step, spacecraft_telemetry, eq-eqb, ◌==◌}
 use Rattle.nodes.specs.Ground as ground_calls
 use Rattle.nodes.specs.Ground.{ground_step}
 use Rattle.nodes.specs.declared.heard.Heard.TheVariants as heard_cases
+use Rattle.nodes.specs.declared.heard.HeardReport.{HeardReport}
 use Rattle.nodes.specs.declared.heard.HeardReport.TheVariants.{Used}
 use Rattle.simulated_link.proofs.Leaving.{lost, first_on, up_arrives, down_arrives}
 use Rattle.simulated_link.specs.World.{is_idle}
 use Rattle.tm_link.specs.Reading.{frame_at}
 use Rattle.tm_link.specs.Writing.{spelling}
 use Rattle.nodes.specs.declared.event.Event.TheVariants as events
-use Rattle.tc_link.specs.AnyPast.{LinkStep, Happens, TakeTelemetry, Hears, NewGround, IsLinkStep, link_step, link_run}
-use Rattle.tc_link.specs.AnyPast.{after_hearing}
+use Rattle.tc_link.specs.AnyPast.{LinkStep, Happens, TakeTelemetry, Hears, ReportArrives, HearsReport, ForgetTelemetry}
+use Rattle.tc_link.specs.AnyPast.{NewGround, IsLinkStep, link_step, link_run, after_report, after_hearing, after_word}
 use Rattle.tc_link.specs.Silence.{IsSilent, KeepsSilence, gone_by, gone_down, SilenceIsIdle}
 use Rattle.tc_link.specs.Telemetry.{came_by}
 use Rattle.tc_link.proofs.AnyPast.{link_step_holds, past_holds}
@@ -198,15 +199,28 @@ module _ (c : Config) (w : World) (h : Holding c w) (k : ℕ) (q : Quiet c k w) 
   event_kept (events.Directive d) silent = on_ground _ refl refl refl
   event_kept events.Tick silent = on_ground _ refl refl refl
 
+  report_heard : (after : GroundState) (r : HeardReport) → Left c k 0 (after_report w after r)
+  report_heard after Used = on_ground _ refl refl refl
+  report_heard after _ = on_ground _ refl refl refl
+
   hearing_kept : (after : GroundState) (a : Heard) → Left c k 0 (after_hearing w after a)
-  hearing_kept after (heard_cases.Frame gap packets Used alert) = on_ground _ refl refl refl
+  hearing_kept after (heard_cases.Frame gap packets report alert) = report_heard after report
   hearing_kept after _ = on_ground _ refl refl refl
+
+  word_kept : (bs : List (List ℕ)) → w.down ≡ bs
+      → Left c k (length (came_by events.DownDeliver (down_deliver_step w bs).answer)) (after_word w bs)
+  word_kept [] is = same
+  word_kept (b ∷ bs) is = first_gone b bs is _ refl refl refl
 
   step_kept : (s : LinkStep) → IsSilent w s → Left c k (gone_by w s) (link_step w s)
   step_kept (Happens e) silent = event_kept e silent
   step_kept TakeTelemetry silent = on_ground _ refl refl refl
   step_kept (Hears octets) silent =
       let o = ground_step w.ground_node (ground_calls.Telemetry octets) in hearing_kept o.after o.answer
+  step_kept ReportArrives silent = word_kept w.down refl
+  step_kept (HearsReport octets) silent =
+      let o = ground_step w.ground_node (ground_calls.ControlWord octets) in report_heard o.after o.answer.report
+  step_kept ForgetTelemetry silent = on_ground _ refl refl refl
   step_kept NewGround silent = on_ground _ refl refl refl
   step_kept _ silent = elim silent [ ]
 

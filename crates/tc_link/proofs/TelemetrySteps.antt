@@ -4,7 +4,7 @@ use Rattle.tc_link.proofs.Common.{refl, not, length, ◌+◌, sym, ap, subst, �
 use Rattle.tc_link.proofs.Common.{AllByRecursion, cond_both, and_parts, eqb-true, append-nil, Clcw, ClcwFault, TcFault}
 use Rattle.tc_link.proofs.Common.{SegmentView, BodyView, Ad, Bd, Bc, CopFault, Verdict, Accepted, Alert, clcw_step}
 use Rattle.tc_link.proofs.Common.{FopState, BuilderState, is_to_send, after_queue, idle_tail, Extracted, without_idle}
-use Rattle.tc_link.proofs.Common.{held_by, IsLaidOutBy, LinkFault, Heard, is_kept, PacketOn, limits_of}
+use Rattle.tc_link.proofs.Common.{held_by, IsLaidOutBy, LinkFault, is_kept, PacketOn, limits_of}
 use Rattle.tc_link.proofs.Common.{SpacecraftState, frame_outcome, body_outcome, sequence_outcome, bypass_outcome}
 use Rattle.tc_link.proofs.Common.{is_own_frame, spacecraft_take, spacecraft_take_bypass, GroundState, GroundOutcome}
 use Rattle.tc_link.proofs.Common.{with_fop, settle_step, after_submission, after_bypass, unless_refused}
@@ -21,6 +21,7 @@ use Rattle.tm_link.specs.Stream.{carried_octets}
 use Rattle.tm_link.proofs.Laying.{packet_after, laid_again}
 use Rattle.tm_link.proofs.Passing.{cut_more}
 use Rattle.nodes.specs.Ground.{after_directive}
+use Rattle.nodes.specs.declared.heard.HeardClcw.{HeardClcw}
 use Rattle.tc_link.proofs.Settled.{settled_keeps}
 use Rattle.tm_link.specs.Layout as telemetry
 
@@ -124,5 +125,5 @@ pub word_extracts : (s : GroundState) (x : Extracted) (r : Result Clcw ClcwFault
     → IsExtracted s x (own_frame_outcome s x r).after
 word_extracts s x (Err fault) = (refl, refl)
 word_extracts s x (Ok report) =
-    cond_both (report.vcid == s.config.vcid) _ _ (λ (o : GroundOutcome Heard). IsExtracted s x o.after)
+    cond_both (report.vcid == s.config.vcid) _ _ (λ (o : GroundOutcome HeardClcw). IsExtracted s x o.after)
     (λ t. with_extracts (after_extraction s x) (clcw_step s.fop report).after) (λ t. (refl, refl))

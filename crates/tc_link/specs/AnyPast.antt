@@ -1,11 +1,13 @@
 -- A run of the link in which more may happen than its events: octets from outside the link reach a
 -- node, and a new node takes the place of one.
-use Rattle.std.specs.Prelude.{◌≡◌, ℕ, List, [], ◌∷◌, length, map}
+use Rattle.std.specs.Prelude.{◌≡◌, ℕ, List, [], ◌∷◌, length, map, Result, Ok, Err}
 use Rattle.std.specs.List.{AllByRecursion}
 use Rattle.cop1.specs.declared.farm.Verdict.TheVariants.{Behind, Discarded}
 use Rattle.nodes.specs.declared.config.Config.{Config}
 use Rattle.nodes.specs.declared.heard.Heard.{Heard}
 use Rattle.nodes.specs.declared.heard.Heard.TheVariants as heard_cases
+use Rattle.nodes.specs.declared.heard.HeardClcw.{HeardClcw}
+use Rattle.nodes.specs.declared.heard.HeardReport.{HeardReport}
 use Rattle.nodes.specs.declared.heard.HeardReport.TheVariants.{Used}
 use Rattle.nodes.specs.declared.received.Received.{Received}
 use Rattle.nodes.specs.declared.received.Received.TheVariants as received_cases
@@ -16,9 +18,16 @@ use Rattle.nodes.specs.Spacecraft.{SpacecraftState, SpacecraftOutcome, new_space
 use Rattle.nodes.specs.Spacecraft.{spacecraft_step}
 use Rattle.nodes.specs.Spacecraft as spacecraft_calls
 use Rattle.nodes.specs.declared.event.Event.{Event}
+use Rattle.nodes.specs.declared.event.Event.TheVariants as events
+use Rattle.simulated_link.specs.Replies.{ReplyView, Down}
+use Rattle.simulated_link.specs.declared.fault.SimFault.{SimFault}
+use Rattle.tm_link.specs.declared.fault.TmFault.{TmFault}
+use Rattle.tm_link.specs.Layout as telemetry
+use Rattle.tm_link.specs.Reading.{frame_at}
 use Rattle.tc_link.specs.Promises.{HoldsAt}
 use Rattle.tc_link.specs.Reached.{IsEvent}
 use Rattle.simulated_link.specs.World.{World, new_world, no_session, world_step, world_run}
+use Rattle.simulated_link.specs.World.{session_after_report}
 
 pub data LinkStep : Type 0 where
   -- an event happens
@@ -29,6 +38,13 @@ pub data LinkStep : Type 0 where
   -- decoder does not see, a frame out of its order, one that came before, or another's
   Receives : (octets : List ℕ) → LinkStep
   Hears : (octets : List ℕ) → LinkStep
+  -- the first telemetry frame on its way down arrives, and its report alone reaches the ground, as
+  -- from a front end that hands on control words: what else it carries is as of a lost frame
+  ReportArrives : LinkStep
+  -- a control word from outside the link reaches the ground by itself, or one that came before
+  HearsReport : (octets : List ℕ) → LinkStep
+  -- the ground begins anew to take packets out of telemetry
+  ForgetTelemetry : LinkStep
   -- a new node takes the place of the ground, or of the spacecraft: it begins anew, or another is
   -- handed the link
   NewGround : LinkStep
@@ -58,9 +74,13 @@ after_receiving w after (received_cases.Sequence n Discarded ready dropped) =
     record w { spacecraft = after }
 after_receiving w after _ = with_nodes w w.ground_node after
 
--- and beside any octets whose report does not reach the sender
+-- and beside a report that does not reach the sender
+abbrev pub after_report : World → GroundState → HeardReport → World
+after_report w after Used = with_nodes w after w.spacecraft
+after_report w after _ = record w { ground_node = after }
+
 abbrev pub after_hearing : World → GroundState → Heard → World
-after_hearing w after (heard_cases.Frame gap packets Used alert) = with_nodes w after w.spacecraft
+after_hearing w after (heard_cases.Frame gap packets report alert) = after_report w after report
 after_hearing w after _ = record w { ground_node = after }
 
 abbrev pub received : World → SpacecraftOutcome Received → World
@@ -69,6 +89,34 @@ received w o = after_receiving w o.after o.answer
 abbrev pub heard : World → GroundOutcome Heard → World
 heard w o = after_hearing w o.after o.answer
 
+-- what the ground makes of a control word by itself
+abbrev pub word_step : World → List ℕ → GroundOutcome HeardClcw
+word_step w octets = ground_step w.ground_node (ground_calls.ControlWord octets)
+
+abbrev pub heard_word : World → GroundOutcome HeardClcw → World
+heard_word w o = after_report w o.after o.answer.report
+
+-- the control word of a telemetry frame
+abbrev pub word_in : Result telemetry.FrameView TmFault → List ℕ
+word_in (Ok frame) = frame.ocf
+word_in (Err fault) = []
+
+-- what the ground makes of the control word in octets on their way down
+abbrev pub arriving_word : World → List ℕ → GroundOutcome HeardClcw
+arriving_word w octets = word_step w (word_in (frame_at w.ground_node.config.frame_length octets))
+
+-- the session goes on with the report
+abbrev pub with_word : World → List (List ℕ) → GroundOutcome HeardClcw → World
+with_word w down o = record w {
+  ground_node = o.after;
+  down = down;
+  session = session_after_report w.session w.ground_node o.after;
+}
+
+abbrev pub after_word : World → List (List ℕ) → World
+after_word w [] = w
+after_word w (octets ∷ down) = with_word w down (arriving_word w octets)
+
 abbrev pub link_step : World → LinkStep → World
 link_step w (Happens event) = (world_step w event).after
 link_step w TakeTelemetry =
@@ -76,6 +124,10 @@ link_step w TakeTelemetry =
 link_step w (Receives octets) =
     received w (spacecraft_step w.spacecraft (spacecraft_calls.Receive octets))
 link_step w (Hears octets) = heard w (ground_step w.ground_node (ground_calls.Telemetry octets))
+link_step w ReportArrives = after_word w w.down
+link_step w (HearsReport octets) = heard_word w (word_step w octets)
+link_step w ForgetTelemetry =
+    record w { ground_node = (ground_step w.ground_node ground_calls.ForgetTelemetry).after }
 link_step w NewGround = with_nodes w (new_ground w.ground_node.config) w.spacecraft
 link_step w NewSpacecraft = with_nodes w w.ground_node (new_spacecraft w.spacecraft.config)
 
@@ -103,3 +155,31 @@ abbrev pub RunsAsEvents : Type 0
 RunsAsEvents =
     (c : Config) (events : List Event)
     → link_run (new_world c) (map (λ event. Happens event) events) ≡ world_run (new_world c) events
+
+-- ---- a report by itself
+
+-- what a telemetry frame is answered says the same of its report
+abbrev pub SaysAs : Result ReplyView SimFault → HeardClcw → Type 0
+SaysAs (Ok (Down (heard_cases.Frame gap packets report alert))) word =
+    (word.report ≡ report) × (word.alert ≡ alert)
+SaysAs _ word = ⊥
+
+-- the world but for telemetry, which is as in another
+abbrev pub with_telemetry_of : World → World → World
+with_telemetry_of v w = record w {
+  ground_node = record w.ground_node {
+    extractor = v.ground_node.extractor;
+    telemetry = v.ground_node.telemetry;
+  };
+}
+
+-- After any past, a report that arrives by itself does what the telemetry frame would that carries
+-- it, but for telemetry, and is answered so.
+pub record DoesAsItsFrame (w : World) : Type 0 where
+  pub after : link_step w ReportArrives
+      ≡ with_telemetry_of w (link_step w (Happens events.DownDeliver))
+  pub answer : (octets : List ℕ) (down : List (List ℕ)) → w.down ≡ octets ∷ down
+      → SaysAs (world_step w events.DownDeliver).answer (arriving_word w octets).answer
+
+abbrev pub ReportsDoAsFrames : Type 0
+ReportsDoAsFrames = (w : World) → HasAnyPast w → DoesAsItsFrame w

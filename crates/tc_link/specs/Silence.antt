@@ -1,9 +1,10 @@
 -- What comes of silence: where nothing is sent up for a round trip, the link is idle.
 use Rattle.std.specs.Prelude.{◌≡◌, ◌≤◌, ◌+◌, ℕ, List, [], ◌∷◌, length, true, false}
 use Rattle.std.specs.List.{AllByRecursion}
+use Rattle.nodes.specs.declared.event.Event.{Event}
 use Rattle.nodes.specs.declared.event.Event.TheVariants as events
-use Rattle.tc_link.specs.AnyPast.{LinkStep, Happens, Receives, NewSpacecraft, IsLinkStep}
-use Rattle.tc_link.specs.AnyPast.{HasAnyPast, link_step, link_run}
+use Rattle.tc_link.specs.AnyPast.{LinkStep, Happens, Receives, ReportArrives, NewSpacecraft}
+use Rattle.tc_link.specs.AnyPast.{IsLinkStep, HasAnyPast, link_step, link_run}
 use Rattle.tc_link.specs.Telemetry.{came_by}
 use Rattle.simulated_link.specs.World.{World, world_step, is_idle}
 
@@ -22,8 +23,12 @@ KeepsSilence w [] = Unit {0}
 KeepsSilence w (step ∷ more) = IsSilent w step × KeepsSilence (link_step w step) more
 
 -- how many frames are no longer on their way down, by a step: one that arrives, is lost or damaged
+abbrev pub gone_at : World → Event → ℕ
+gone_at w event = length (came_by event (world_step w event).answer)
+
 abbrev pub gone_by : World → LinkStep → ℕ
-gone_by w (Happens event) = length (came_by event (world_step w event).answer)
+gone_by w (Happens event) = gone_at w event
+gone_by w ReportArrives = gone_at w events.DownDeliver
 gone_by w _ = 0
 
 -- and by such steps

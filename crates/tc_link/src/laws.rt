@@ -1,6 +1,6 @@
 // What holds of each run, whatever a program keeps of it.
 
-ghost use Rattle.tc_link.specs.AnyPast.{HoldsAfterAnyPast, RunsAsEvents};
+ghost use Rattle.tc_link.specs.AnyPast.{HoldsAfterAnyPast, ReportsDoAsFrames, RunsAsEvents};
 ghost use Rattle.tc_link.specs.Bypass.{BypassKeepsOrder};
 ghost use Rattle.tc_link.specs.Counting.{KeepsWhatIsKnown};
 ghost use Rattle.tc_link.specs.OneLink.{EachGoesOnAsOne, EachHasOneLink};
@@ -21,9 +21,12 @@ pub fn law_of_sessions()
 /// telemetry, among which any octets from outside the link reach either node, and a new node takes the
 /// place of one, at any moment and with anything on its way (`promised`). A new node ends the session,
 /// and so do octets but for those that `after_receiving` and `after_hearing` name; a session that
-/// begins later by an idle start has every promise. A run of events alone is one of these (`runs`).
+/// begins later by an idle start has every promise. A run of events alone is one of these (`runs`). A
+/// report that arrives by itself, as from a front end that hands on control words, does what its
+/// telemetry frame would but for telemetry, and is answered so (`reports`).
 pub fn law_of_any_past()
     ensures promised { HoldsAfterAnyPast }
+    ensures reports { ReportsDoAsFrames }
     ensures runs { RunsAsEvents }
 {}
 

@@ -15,7 +15,8 @@ pub use laws::{
     law_of_sessions, law_of_silence, law_of_taking,
 };
 pub use nodes::{
-    Config, Event, Ground, Heard, HeardReport, LinkFault, Received, Spacecraft, law_of_delivery,
+    Config, Event, Ground, Heard, HeardClcw, HeardReport, LinkFault, Received, Spacecraft,
+    law_of_delivery,
 };
 pub use sim::{Sim, run};
 pub use simulated_link::{NodeFault, Reply, SimFault};
