@@ -5,12 +5,13 @@ use crate::tests::configs::{with_parts, with_value};
 use crate::tests::equal::equal;
 use crate::tests::frames::*;
 use crate::tests::refusing::{answer_of, says_refused};
+use clcw::ClcwFault;
 use cop1::{Alert, CopFault, Directive, FopMode};
 use nodes::{Parameter, ValidConfig};
 use std::alloc::Global;
 use std::process::Abort;
 use tc_frame::{Check, encode};
-use tc_link::{Config, Ground, Heard, HeardReport, LinkFault};
+use tc_link::{Config, Ground, Heard, HeardClcw, HeardReport, LinkFault};
 use tm_link::{Gap, Pointer, TmFault, decode};
 
 /// A call of a ground, and what it answers.
@@ -23,7 +24,9 @@ pub enum Ask<'a> {
     Advance,
     Tick(Option<Alert>),
     Telemetry(&'a [u8], Heard),
+    Clcw([u8; 4], HeardClcw),
     TakeTelemetry(Option<&'a [u8]>),
+    ForgetTelemetry,
     // What a report of this value says was accepted.
     AcceptedBeyond(u8, Option<u8>),
 }
@@ -56,7 +59,9 @@ fn answers(rt: &(impl Abort + Eprint), ground: &mut Ground, ask: &Ask<'_>) {
         Ask::Advance => ground.advance(),
         Ask::Tick(want) => equal(rt, &ground.tick(), want),
         Ask::Telemetry(octets, want) => equal(rt, &telemetry(rt, ground, octets), &Ok(*want)),
+        Ask::Clcw(octets, want) => equal(rt, &ground.clcw(*octets), want),
         Ask::TakeTelemetry(want) => takes(rt, ground, *want),
+        Ask::ForgetTelemetry => ground.forget_telemetry(),
         Ask::AcceptedBeyond(value, want) => {
             equal(rt, &ground.accepted_beyond(*value), want);
         }
@@ -229,6 +234,35 @@ fn both_ways(rt: HostRuntime) {
         (Ask::AcceptedBeyond(4, None), (S6, 3, 1, 0)),
         (Ask::Directive(Directive::SetVs(9), Ok(None)), (S6, 9, 9, 0)),
         (Ask::AcceptedBeyond(3, Some(0)), (S6, 9, 9, 0)),
+    ];
+    let config = with_value(Parameter::FrameLength, 19);
+    asks(&rt, rt.alloc(), &config, &rows);
+}
+
+// Beside the sender's state a control word by itself changes nothing, and the extractor begins anew.
+#[test]
+fn a_report_by_itself(rt: HostRuntime) {
+    use FopMode::{S1, S6};
+    let word = |report, alert| HeardClcw { report, alert };
+    let refused = word(HeardReport::Refused(ClcwFault::Kind), None);
+    let other = word(HeardReport::OtherChannel, None);
+    let lockout = word(HeardReport::Used, Some(Alert::Lockout));
+    let idle = |gap| Ask::Telemetry(&IDLE_1, heard(gap, 0));
+    let rows = [
+        (INIT, (S1, 0, 0, 0)),
+        (Ask::Submit(&P0, Ok(())), (S1, 0, 0, 1)),
+        (Ask::Pull(Some(&AD_0)), (S1, 1, 0, 1)),
+        (Ask::Clcw([0x81, 0x08, 0x00, 0x01], refused), (S1, 1, 0, 1)),
+        (Ask::Clcw([0x01, 0x0c, 0x00, 0x01], other), (S1, 1, 0, 1)),
+        (
+            Ask::Clcw([0x01, 0x08, 0x00, 0x01], word(HeardReport::Used, None)),
+            (S1, 1, 1, 0),
+        ),
+        (idle(Gap::First), (S1, 1, 1, 0)),
+        (idle(Gap::Lost(255)), (S1, 1, 1, 0)),
+        (Ask::ForgetTelemetry, (S1, 1, 1, 0)),
+        (idle(Gap::First), (S1, 1, 1, 0)),
+        (Ask::Clcw([0x01, 0x08, 0x20, 0x01], lockout), (S6, 1, 1, 0)),
     ];
     let config = with_value(Parameter::FrameLength, 19);
     asks(&rt, rt.alloc(), &config, &rows);
