@@ -142,19 +142,29 @@ uint8_t sedge_ground_pull(struct sedge_ground *ground, uint8_t *out, size_t room
 /* What the ground makes of octets that it received: their kind, then what that kind has; the rest is 0. */
 struct sedge_heard {
     size_t packets;     /* 3: the number of packets that came to wait to be taken */
-    uint8_t kind;       /* 1: no frame; 2: a frame of another channel; 3: a frame of this one */
+    uint8_t kind;       /* 1: no frame; 2: a frame of another channel; 3: a frame of this one; 4: a report by itself */
     uint8_t fault;      /* 1: why they are no frame, of sedge_tm_fault */
     uint8_t first;      /* 3: whether no frame came before it, 0 or 1 */
     uint8_t missing;    /* 3: the number of frames that are missing before it */
-    uint8_t report;     /* 3: its report is used (0), none (1), or of another virtual channel (2) */
-    uint8_t word_fault; /* 3, 1: why it is none, of sedge_clcw_fault */
-    uint8_t alert;      /* 3, 0: of sedge_alert; 0 for none */
+    uint8_t report;     /* 3, 4: its report is used (0), none (1), or of another virtual channel (2) */
+    uint8_t word_fault; /* 3 and 4, 1: why it is none, of sedge_clcw_fault */
+    uint8_t alert;      /* 3 and 4, 0: of sedge_alert; 0 for none */
 };
 
 /* Takes octets that came from the spacecraft, and writes what they are. Returns 0, or SEDGE_NODE_MEMORY where they
  * finish a packet. */
 uint8_t sedge_ground_telemetry(struct sedge_ground *ground, const uint8_t *octets, size_t count,
                                struct sedge_heard *heard);
+
+/* Takes a report that came by itself, a CLCW as a front end hands it on (232.0-B-4, 4.2), and writes what becomes of
+ * it, as sedge_ground_telemetry does of the report in a telemetry frame; telemetry is not touched. One that was given
+ * before may not come again as if it were new. Returns 0, or SEDGE_NODE_ABSENT if the octets are not four. */
+uint8_t sedge_ground_clcw(struct sedge_ground *ground, const uint8_t *octets, size_t count, struct sedge_heard *heard);
+
+/* Begins to take packets out of telemetry anew, as after a restart of the spacecraft, whose counts go on elsewhere: a
+ * packet that is not finished is dropped, and the next frame is the first (132.0-B-3, 4.3.2). Packets that wait to be
+ * taken stay. Returns 0. */
+uint8_t sedge_ground_forget_telemetry(struct sedge_ground *ground);
 
 /* Writes the report that a telemetry frame carries, of whichever spacecraft and virtual channel (232.0-B-4, 4.2); the
  * ground stays as it was. Returns 0, or SEDGE_NODE_ABSENT if the octets are no frame or the frame carries no report. */

@@ -128,6 +128,12 @@ static void session(void) {
     WANT(sedge_ground_report(&ground, down, 64, &word) == 0 && word.vcid == 2 && word.value == 3 && word.flags == 0);
     word.value = 77;
     WANT(sedge_ground_report(&ground, down, 63, &word) == SEDGE_NODE_ABSENT && word.value == 77);
+    static const uint8_t control_word[4] = {0x01, 0x08, 0x00, 0x03};
+    WANT(sedge_ground_clcw(&ground, control_word, 4, &heard) == 0 && heard.kind == 4);
+    WANT(heard.report == 0 && heard.word_fault == 0 && heard.alert == 0 && heard.packets == 0);
+    heard.kind = 77;
+    WANT(sedge_ground_clcw(&ground, control_word, 3, &heard) == SEDGE_NODE_ABSENT && heard.kind == 77);
+    WANT(sedge_ground_forget_telemetry(&ground) == 0);
     WANT(sedge_ground_read(&ground, &read) == 0 && read.outstanding == 0 && read.vs == 3 && read.nn == 3);
     WANT(sedge_ground_tick(&ground) == 0);
     WANT(sedge_ground_next_telemetry(&ground, &count) == 0 && count == 7);
@@ -208,7 +214,8 @@ static void handles_that_hold_none(void) {
     WANT(sedge_ground_init_unlock(&ground) == SEDGE_NODE_NONE && sedge_ground_tick(&ground) == SEDGE_NODE_NONE);
     WANT(sedge_ground_submit(&ground, 0, packet, 7) == 255 && sedge_ground_bypass(&ground, 0, packet, 7) == 255);
     WANT(sedge_ground_next(&ground, &count) == 255 && sedge_ground_pull(&ground, up, 1024, &count) == 255);
-    WANT(sedge_ground_report(&ground, packet, 7, &word) == 255);
+    WANT(sedge_ground_report(&ground, packet, 7, &word) == 255 && sedge_ground_clcw(&ground, packet, 4, &heard) == 255);
+    WANT(sedge_ground_forget_telemetry(&ground) == 255);
     WANT(count == 77 && word.value == 77);
     WANT(sedge_ground_next_telemetry(&ground, &count) == 255 && sedge_ground_accepted_beyond(&ground, 0, &map) == 255);
     WANT(sedge_ground_take_telemetry(&ground, out, sizeof out, &count) == 255);

@@ -316,6 +316,15 @@ static void hears(void) {
     WANT(answer == SEDGE_NODE_OK ? heard.kind >= 1 && heard.kind <= 3 && heard.alert <= 7 : heard.kind == 77);
 }
 
+static void hears_words(void) {
+    struct sedge_heard heard = {77, 77, 77, 77, 77, 77, 77, 77};
+    size_t count = 3 + below(3);
+    uint8_t answer = sedge_ground_clcw(&ground, any_octets(count), count, &heard);
+    WANT(ground.node == NULL ? answer == SEDGE_NODE_NONE : answer == (count == 4 ? SEDGE_NODE_OK : SEDGE_NODE_ABSENT));
+    WANT(answer == SEDGE_NODE_OK ? heard.kind == 4 && heard.alert <= 7 : heard.kind == 77);
+    if (below(64) == 0) WANT(sedge_ground_forget_telemetry(&ground) == (ground.node == NULL ? SEDGE_NODE_NONE : 0));
+}
+
 static void telemetry(void) {
     size_t count, next = 0, room, given = 99;
     uint8_t *octets = any_packets(0, &count), *out, answer;
@@ -474,7 +483,7 @@ static void links(void) {
 
 int main(int count, char **words) {
     static void (*const kinds[])(void) = {submits, submits, pulls, pulls, receives, receives, takes, takes,
-                                          reports, hears, telemetry, clocks, links, links, links, links};
+                                          reports, hears, hears_words, telemetry, clocks, links, links, links, links};
     unsigned long left;
     uint32_t stay = 500;
     if (count != 2 || make_regions() != 0) return 2;

@@ -151,15 +151,15 @@ class Handle(Single):
 
 
 class Arrived(IntEnum):
-    """What octets were that arrived: no frame, one of another spacecraft or channel, a telecommand frame of a type, or
-    a telemetry frame."""
+    """What octets were that arrived: no frame, one of another spacecraft or channel, a telecommand frame of a type, a
+    telemetry frame, or a report by itself."""
 
-    INVALID, FOREIGN, AD, BD, BC, TM = range(1, 7)
+    INVALID, FOREIGN, AD, BD, BC, TM, CLCW = range(1, 8)
 
 
 class Report(IntEnum):
-    """What becomes of a telemetry frame's report: it is given to the sender (USED), there is none, the field being no
-    control word (NONE), or it is about another virtual channel (OTHER)."""
+    """What becomes of a report: it is given to the sender (USED), there is none, the octets being no control word
+    (NONE), or it is about another virtual channel (OTHER)."""
 
     USED, NONE, OTHER = range(3)
 
@@ -215,7 +215,8 @@ class Heard:
     - INVALID: `fault`
     - TM: the number of frames that are missing before it, `gap`, or None for the first; the number of `packets` that
       came to wait to be taken; its `report`, and where that is NONE the `word_fault`; and why the sender has given up,
-      `alert`"""
+      `alert`
+    - CLCW: `report`, `word_fault` and `alert` in the same way"""
 
     kind: Arrived
     fault: Optional[TmFault] = None
@@ -236,8 +237,10 @@ class _Heard(ctypes.Structure):
         if self.kind == 2:
             return Heard(Arrived.FOREIGN)
         word_fault = ClcwFault(self.word_fault) if self.report == Report.NONE else None
-        return Heard(Arrived.TM, gap=None if self.first else self.missing, packets=self.packets,
-                     report=Report(self.report), word_fault=word_fault, alert=Alert(self.alert))
+        heard = {"report": Report(self.report), "word_fault": word_fault, "alert": Alert(self.alert)}
+        if self.kind == 4:
+            return Heard(Arrived.CLCW, **heard)
+        return Heard(Arrived.TM, gap=None if self.first else self.missing, packets=self.packets, **heard)
 
 
 # ---- The ground ----
@@ -326,6 +329,22 @@ class Ground(Sender):
         self._asked(_ground_telemetry(byref(self._handle), octets, len(octets), byref(heard)))
         return heard.value()
 
+    def clcw(self, word: bytes) -> Heard:
+        """A report came by itself, a CLCW of four octets as a front end hands it on. The sender gets it as it does that
+        of a telemetry frame; telemetry is not touched. One that was given before may not come again as if it were new.
+        A ValueError for octets that are not four."""
+        octets, heard = _octets_of("word", word), _Heard()
+        answer = _ground_clcw(byref(self._handle), octets, len(octets), byref(heard))
+        if answer == _ABSENT:
+            raise ValueError(f"word: {len(octets)} octets, where a control word has four")
+        self._asked(answer)
+        return heard.value()
+
+    def forget_telemetry(self) -> None:
+        """Begins to take packets out of telemetry anew, as after a restart of the spacecraft: a packet that is not
+        finished is dropped. Packets that wait to be taken stay."""
+        self._asked(_ground_forget_telemetry(byref(self._handle)))
+
     def report_in(self, octets: bytes) -> Optional[Clcw]:
         """The report that a telemetry frame carries, of whichever spacecraft and virtual channel; None where the octets
         are no frame, or the frame carries no report. The ground stays as it is."""
@@ -397,6 +416,8 @@ _ground_submit = _call("ground_submit", c_uint8, POINTER(_Raw), ("map", c_uint8)
 _ground_bypass = _call("ground_bypass", c_uint8, POINTER(_Raw), ("map", c_uint8), c_char_p, c_size_t)
 _ground_pull = _call("ground_pull", c_uint8, POINTER(_Raw), c_char_p, c_size_t, POINTER(c_size_t))
 _ground_telemetry = _call("ground_telemetry", c_uint8, POINTER(_Raw), c_char_p, c_size_t, POINTER(_Heard))
+_ground_clcw = _call("ground_clcw", c_uint8, POINTER(_Raw), c_char_p, c_size_t, POINTER(_Heard))
+_ground_forget_telemetry = _call("ground_forget_telemetry", c_uint8, POINTER(_Raw))
 _ground_report = _call("ground_report", c_uint8, POINTER(_Raw), c_char_p, c_size_t, POINTER(Clcw))
 _ground_take_telemetry = _call("ground_take_telemetry", c_uint8, POINTER(_Raw), c_char_p, c_size_t, POINTER(c_size_t))
 _ground_tick = _call("ground_tick", c_uint8, POINTER(_Raw))

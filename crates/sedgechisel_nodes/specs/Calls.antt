@@ -28,6 +28,14 @@ pub record IsRead {S V : Type 0} (read : S → Option V) (old new : Option S) (a
   pub answer_is : IfSome old (λ s. IsWritten (read s) answer v v')
   pub unchanged : new ≡ old
 
+-- what a call answers and writes that takes a step where there is a value to write
+pub record IsTold {S V : Type 0} (said : S → Option V) (after : S → S) (old new : Option S)
+    (answer : ℕ) (v v' : V) : Type 0 where
+  pub none : old ≡ None → answer ≡ closed
+  pub answer_is : IfSome old (λ s. IsWritten (said s) answer v v')
+  pub after_is : answer ≡ 0 → new ≡ option_map after old
+  pub unchanged : answer ≢ 0 → (new ≡ old) × (v' ≡ v)
+
 -- what a call answers and writes that takes a step of what the handle holds: 0, or 6 where there
 -- was no memory for a step that takes some
 pub record IsStep {S V : Type 0} (TakesNone : S → Type 0) (after : S → S) (said : S → V)

@@ -1,5 +1,6 @@
 -- What a program in C learns of telemetry and of the sender.
-use Rattle.std.specs.Prelude.{ℕ, Option, Some, None, Result, Ok, Err}
+use Rattle.std.specs.Prelude.{ℕ, ◌==◌, if◌then◌else◌, List, length, Option, Some, None, Result, Ok}
+use Rattle.std.specs.Prelude.{Err}
 use Rattle.clcw.specs.declared.word.Clcw.{Clcw}
 use Rattle.clcw.specs.declared.fault.ClcwFault.{ClcwFault}
 use Rattle.clcw.specs.Flags.{flags_from}
@@ -12,8 +13,10 @@ use Rattle.tm_link.specs.declared.gap.Gap.TheVariants.{First, Lost}
 use Rattle.tm_link.specs.declared.fault.TmFault.{TmFault}
 use Rattle.tm_link.specs.Faults.{fault_row}
 use Rattle.tm_link.specs.Layout.{FrameView}
+use Rattle.nodes.specs.Ground.{GroundState, ControlWord, ground_step}
 use Rattle.nodes.specs.declared.heard.Heard.{Heard}
 use Rattle.nodes.specs.declared.heard.Heard.TheVariants.{Invalid, Foreign, Frame}
+use Rattle.nodes.specs.declared.heard.HeardClcw.{HeardClcw}
 use Rattle.nodes.specs.declared.heard.HeardReport.{HeardReport}
 use Rattle.nodes.specs.declared.heard.HeardReport.TheVariants.{Used, Refused, OtherChannel}
 use Rattle.sedgechisel_nodes.specs.declared.hearing.KeptHeard.{KeptHeard}
@@ -53,6 +56,16 @@ heard_kept (Invalid fault) = record no_heard { kind = 1; fault = (fault_row faul
 heard_kept Foreign = record no_heard { kind = 2 }
 heard_kept (Frame gap packets report alert) =
     heard_of 3 packets (gap_kept gap) (report_kept report) (alert_number alert)
+
+-- a report that came by itself
+abbrev pub word_kept : HeardClcw → KeptHeard
+word_kept word = heard_of 4 0 (0, 0) (report_kept word.report) (alert_number word.alert)
+
+-- what is said of octets that are to be one; of four
+abbrev pub word_said : List ℕ → GroundState → Option KeptHeard
+word_said octets s =
+    if length octets == 4 then Some (word_kept (ground_step s (ControlWord octets)).answer)
+    else None
 
 -- ---- the report that a telemetry frame carries
 

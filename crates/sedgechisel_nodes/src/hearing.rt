@@ -2,18 +2,20 @@
 
 ghost use Rattle.std.specs.Prelude.{◌≡◌, ◌≢◌, None, IfSome};
 ghost use Rattle.tm_link.specs.Reading.{frame_at};
-ghost use Rattle.nodes.specs.Ground.{Bypass, Telemetry, Tick, ground_step, bypass_fault, FinishesNothing};
-ghost use Rattle.sedgechisel_nodes.specs.Calls.{closed, IsRead, IsStep};
+ghost use Rattle.nodes.specs.Ground.{Bypass, Telemetry, ControlWord, ForgetTelemetry, Tick, ground_step};
+ghost use Rattle.nodes.specs.Ground.{bypass_fault, FinishesNothing};
+ghost use Rattle.sedgechisel_nodes.specs.Calls.{closed, IsRead, IsTold, IsStep};
 ghost use Rattle.sedgechisel_nodes.specs.Grounds.{stepped, IsAnswer, IsSubmission};
-ghost use Rattle.sedgechisel_nodes.specs.Hearing.{alert_number, gap_kept, report_kept, heard_kept, report_in};
+ghost use Rattle.sedgechisel_nodes.specs.Hearing.{alert_number, gap_kept, report_kept, heard_kept, word_kept};
+ghost use Rattle.sedgechisel_nodes.specs.Hearing.{word_said, report_in};
 
-use crate::answers::MEMORY;
+use crate::answers::{ABSENT, MEMORY};
 use crate::ground::number_of;
 use crate::handles::GroundHandle;
 use crate::room::write;
 use clcw::Clcw;
 use cop1::Alert;
-use nodes::{Ground, Heard, HeardReport};
+use nodes::{Ground, Heard, HeardClcw, HeardReport};
 use std::alloc::Global;
 use tm_link::{Gap, decode};
 
@@ -23,7 +25,7 @@ use tm_link::{Gap, decode};
 pub struct KeptHeard {
     /// 3: the number of packets that came to wait to be taken.
     pub packets: usize,
-    /// 1: no frame; 2: a frame of another channel; 3: a frame of this one.
+    /// 1: no frame; 2: a frame of another channel; 3: a frame of this one; 4: a report by itself.
     pub kind: u8,
     /// 1: why they are no frame, of `sedge_tm_fault`.
     pub fault: u8,
@@ -31,11 +33,11 @@ pub struct KeptHeard {
     pub first: u8,
     /// 3: the number of frames that are missing before it.
     pub missing: u8,
-    /// 3: its report is used (0), none (1), or of another virtual channel (2).
+    /// 3, 4: its report is used (0), none (1), or of another virtual channel (2).
     pub report: u8,
-    /// 3, 1: why it is none, of `sedge_clcw_fault`.
+    /// 3 and 4, 1: why it is none, of `sedge_clcw_fault`.
     pub word_fault: u8,
-    /// 3, 0: of `sedge_alert`; 0 for none.
+    /// 3 and 4, 0: of `sedge_alert`; 0 for none.
     pub alert: u8,
 }
 
@@ -134,6 +136,57 @@ fn report_in(octets: &[u8], length: usize) -> Option<Clcw>
         Ok(word) => Some(word),
         Err(_) => None,
     }
+}
+
+// A report that came by itself.
+fn kept_word(word: HeardClcw) -> KeptHeard
+    ensures { result ≡ word_kept word }
+{
+    let (report, word_fault) = kept_report(word.report);
+    KeptHeard {
+        kind: 4,
+        report,
+        word_fault,
+        alert: number_of_alert(word.alert),
+        ..KeptHeard::default()
+    }
+}
+
+/// Takes a report that came by itself, a CLCW as a front end hands it on (232.0-B-4, 4.2), and writes what becomes of
+/// it, as `sedge_ground_telemetry` does of the report in a telemetry frame; telemetry is not touched. One that was given
+/// before may not come again as if it were new. Returns 0, or `SEDGE_NODE_ABSENT` if the octets are not four.
+#[unsafe(no_mangle)]
+pub extern "C" fn sedge_ground_clcw(
+    alloc: Global,
+    ground: &mut GroundHandle,
+    octets: &[u8],
+    heard: &mut KeptHeard,
+) -> u8
+    ensures { IsTold (word_said octets.now) (λ s. (ground_step s (ControlWord octets.now)).after)
+        ground.old.value ground.new.value result heard.old heard.new }
+{
+    held!(alloc, ground, |node| match octets {
+        [first, second, third, fourth] => {
+            *heard = kept_word(node.clcw([*first, *second, *third, *fourth]));
+            0
+        }
+        _ => ABSENT,
+    })
+}
+
+/// Begins to take packets out of telemetry anew, as after a restart of the spacecraft, whose counts go on elsewhere: a
+/// packet that is not finished is dropped, and the next frame is the first (132.0-B-3, 4.3.2). Packets that wait to be
+/// taken stay. Returns 0.
+#[unsafe(no_mangle)]
+pub extern "C" fn sedge_ground_forget_telemetry(alloc: Global, ground: &mut GroundHandle) -> u8
+    ensures none { ground.old.value ≡ None → result ≡ closed }
+    ensures open { IfSome ground.old.value (λ s. result ≡ 0) }
+    ensures after { ground.new.value ≡ stepped ground.old.value ForgetTelemetry }
+{
+    held!(alloc, ground, |node| {
+        node.forget_telemetry();
+        0
+    })
 }
 
 /// Writes the report that a telemetry frame carries, of whichever spacecraft and virtual channel (232.0-B-4, 4.2); the

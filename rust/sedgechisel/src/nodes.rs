@@ -6,7 +6,7 @@ mod link;
 mod spacecraft;
 
 pub use config::{Config, OpenFault, Parameter};
-pub use ground::{Ground, Heard, HeardReport};
+pub use ground::{Ground, Heard, HeardClcw, HeardReport};
 pub use link::{Begun, Link, Record, SimFault};
 pub use spacecraft::{Received, Spacecraft};
 

@@ -346,6 +346,8 @@ unsafe extern "C" {
     pub safe fn sedge_ground_next(ground: &mut Ground, count: &mut usize) -> u8;
     fn sedge_ground_pull(ground: &mut Ground, out: *mut u8, room: usize, count: &mut usize) -> u8;
     fn sedge_ground_telemetry(ground: &mut Ground, octets: *const u8, count: usize, heard: &mut Heard) -> u8;
+    fn sedge_ground_clcw(ground: &mut Ground, octets: *const u8, count: usize, heard: &mut Heard) -> u8;
+    pub safe fn sedge_ground_forget_telemetry(ground: &mut Ground) -> u8;
     fn sedge_ground_report(ground: &mut Ground, octets: *const u8, count: usize, report: &mut Clcw) -> u8;
     pub safe fn sedge_ground_next_telemetry(ground: &mut Ground, count: &mut usize) -> u8;
     fn sedge_ground_take_telemetry(ground: &mut Ground, out: *mut u8, room: usize, count: &mut usize) -> u8;
@@ -409,6 +411,10 @@ pub fn ground_pull(ground: &mut Ground, out: &mut [u8], count: &mut usize) -> u8
 
 pub fn ground_telemetry(ground: &mut Ground, octets: &[u8], heard: &mut Heard) -> u8 {
     unsafe { sedge_ground_telemetry(ground, octets.as_ptr(), octets.len(), heard) }
+}
+
+pub fn ground_clcw(ground: &mut Ground, octets: &[u8], heard: &mut Heard) -> u8 {
+    unsafe { sedge_ground_clcw(ground, octets.as_ptr(), octets.len(), heard) }
 }
 
 pub fn ground_report(ground: &mut Ground, octets: &[u8], report: &mut Clcw) -> u8 {

@@ -7,7 +7,7 @@ use crate::{Alert, Clcw, ClcwFault, CopFault, FopState, TcFrame, TmFault};
 use alloc::vec::Vec;
 use core::fmt;
 
-/// What the ground makes of a telemetry frame's report.
+/// What the ground makes of a report, which a telemetry frame carries, or which comes by itself.
 #[derive(Clone, Copy, Debug, PartialEq, Eq, Hash)]
 pub enum HeardReport {
     /// It is given to the sender.
@@ -16,6 +16,15 @@ pub enum HeardReport {
     None(ClcwFault),
     /// It is about another virtual channel.
     Other,
+}
+
+/// What the ground makes of a report that came by itself.
+#[derive(Clone, Copy, Debug, PartialEq, Eq, Hash)]
+pub struct HeardClcw {
+    /// What became of it.
+    pub report: HeardReport,
+    /// Why the sender has given up, if it has.
+    pub alert: Option<Alert>,
 }
 
 /// What the ground makes of octets that it received.
@@ -38,6 +47,17 @@ pub enum Heard {
     },
 }
 
+impl HeardReport {
+    fn from_raw(heard: &raw::Heard) -> Self {
+        match heard.report {
+            0 => Self::Used,
+            1 => Self::None(ClcwFault::of(heard.word_fault)),
+            2 => Self::Other,
+            _ => never(),
+        }
+    }
+}
+
 impl Heard {
     pub(super) fn from_raw(heard: &raw::Heard) -> Self {
         match heard.kind {
@@ -46,12 +66,7 @@ impl Heard {
             3 => Self::Frame {
                 gap: (heard.first == 0).then_some(heard.missing),
                 packets: heard.packets,
-                report: match heard.report {
-                    0 => HeardReport::Used,
-                    1 => HeardReport::None(ClcwFault::of(heard.word_fault)),
-                    2 => HeardReport::Other,
-                    _ => never(),
-                },
+                report: HeardReport::from_raw(heard),
                 alert: alert_of(heard.alert),
             },
             _ => never(),
@@ -176,6 +191,20 @@ impl Ground {
         let mut heard = raw::Heard::default();
         in_memory(raw::ground_telemetry(self.0.get(), octets, &mut heard))?;
         Ok(Heard::from_raw(&heard))
+    }
+
+    /// A report came by itself, a CLCW as a front end hands it on. The sender gets it as it does that of a telemetry
+    /// frame; telemetry is not touched. One that was given before may not come again as if it were new.
+    pub fn clcw(&mut self, octets: &[u8; 4]) -> HeardClcw {
+        let mut heard = raw::Heard::default();
+        done(raw::ground_clcw(self.0.get(), octets, &mut heard));
+        HeardClcw { report: HeardReport::from_raw(&heard), alert: alert_of(heard.alert) }
+    }
+
+    /// Begins to take packets out of telemetry anew, as after a restart of the spacecraft: a packet that is not finished
+    /// is dropped. Packets that wait to be taken stay.
+    pub fn forget_telemetry(&mut self) {
+        done(raw::sedge_ground_forget_telemetry(self.0.get()));
     }
 
     /// The report that a telemetry frame carries, of whichever spacecraft and virtual channel; `None` if the octets are

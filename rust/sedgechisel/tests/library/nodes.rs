@@ -445,6 +445,30 @@ fn submissions_and_reports() {
     assert_eq!(ground.report_in(&frame[1..]), None);
 }
 
+/// A report by itself goes to the sender as that of a telemetry frame, and telemetry begins anew where it is asked to.
+#[test]
+fn a_report_by_itself() {
+    let (mut ground, mut spacecraft) = pair(&Config::default());
+    ground.init_with_check().unwrap();
+    let word = spacecraft.control_word().encode().unwrap();
+    let is = |report| HeardClcw { report, alert: None };
+    assert_eq!(ground.clcw(&[0x81, word[1], 0, 0]), is(HeardReport::None(ClcwFault::Kind)));
+    assert_eq!(ground.clcw(&[word[0], word[1] ^ 4, 0, 0]), is(HeardReport::Other));
+    assert_eq!(ground.state(), FopState::S4);
+    assert_eq!(ground.clcw(&word), is(HeardReport::Used));
+    assert_eq!(ground.state(), FopState::S1);
+    assert_eq!(ground.clcw(&[word[0], word[1], 0x20, 0]).alert, Some(Alert::Lockout));
+    let frame = reported(&mut spacecraft);
+    let gap = |heard| match heard {
+        Ok(Heard::Frame { gap, .. }) => gap,
+        _ => panic!("no frame of this channel"),
+    };
+    assert_eq!(gap(ground.telemetry(&frame)), None);
+    assert_eq!(gap(ground.telemetry(&frame)), Some(255));
+    ground.forget_telemetry();
+    assert_eq!(gap(ground.telemetry(&frame)), None);
+}
+
 /// Packets of telemetry come down over a link that loses frames, in order, and none is damaged.
 #[test]
 fn telemetry_that_is_lost() {
