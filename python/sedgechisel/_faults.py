@@ -1,5 +1,5 @@
-"""What the libraries refuse: the kinds of faults, and what each number means. `python/check` compares the meanings with
-the headers for C, and the ranges of parameters with docs/PROFILE.md."""
+"""What the libraries refuse: the kinds of faults, and what each number means. `tools/bindings` writes what they
+mean, as the headers for C have it, and `python/check` compares the ranges of parameters with docs/PROFILE.md."""
 from __future__ import annotations
 
 import ctypes

@@ -1,4 +1,5 @@
-//! Enums whose numbers are those of sedgechisel.h. `rust/check` compares their numbers, names and texts with it.
+//! Enums whose numbers are those of sedgechisel.h. `rust/check` compares their numbers and names with it, and
+//! `tools/bindings` writes their texts.
 
 /// An enum with the numbers of the header.
 macro_rules! numbers {
