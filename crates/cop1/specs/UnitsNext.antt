@@ -1,10 +1,9 @@
 -- What is pulled, as the code hands it out.
 use Rattle.std.specs.Prelude.{ℕ, ◌<◌, List, length, map, slice_get, Option, Some, None}
+use denote.Bor.{Bor}
 use Rattle.cop1.specs.Units.{SentUnit}
 use Rattle.cop1.specs.FopPull.{PulledUnit, NothingPulled, ControlPulled, BypassPulled}
 use Rattle.cop1.specs.FopPull.{SequencePulled}
-use Rattle.cop1.specs.declared.fop.peeking.Peeked.{Peeked}
-use Rattle.cop1.specs.declared.fop.peeking.Peeked.TheVariants as peeked
 use Rattle.cop1.specs.declared.fop.pulling.Next.{Next}
 use Rattle.cop1.specs.declared.fop.pulling.Next.TheVariants as next
 use Rattle.cop1.specs.declared.fop.pulling.Pulled.{Pulled}
@@ -33,16 +32,15 @@ module _ {U : Type 0} where
   IsPlaced units (next.Bypass unit) = Unit {0}
   IsPlaced units (next.Sequence number place) = place < length units
 
-  -- what is pulled, with the unit in place of the reference to it
-  abbrev pub pulled_view : Pulled U → PulledUnit U
-  pulled_view pulled.Nothing = NothingPulled
-  pulled_view (pulled.Control command) = ControlPulled command
-  pulled_view (pulled.Bypass unit) = BypassPulled unit
-  pulled_view (pulled.Sequence number unit) = SequencePulled number unit.now
+  -- what is pulled, with a unit in place of what stands for it
+  abbrev pub seen_by : {B : Type 0} → (B → U) → Pulled U B → PulledUnit U
+  seen_by unit_of pulled.Nothing = NothingPulled
+  seen_by unit_of (pulled.Control command) = ControlPulled command
+  seen_by unit_of (pulled.Bypass unit) = BypassPulled (unit_of unit)
+  seen_by unit_of (pulled.Sequence number unit) = SequencePulled number unit.now
 
-  -- what would be pulled, with the unit in place of the reference to it
-  abbrev pub peeked_view : Peeked U → PulledUnit U
-  peeked_view peeked.Nothing = NothingPulled
-  peeked_view (peeked.Control command) = ControlPulled command
-  peeked_view (peeked.Bypass unit) = BypassPulled unit.now
-  peeked_view (peeked.Sequence number unit) = SequencePulled number unit.now
+  abbrev pub pulled_view : Pulled U U → PulledUnit U
+  pulled_view = seen_by (λ unit. unit)
+
+  abbrev pub peeked_view : Pulled U (Bor U) → PulledUnit U
+  peeked_view = seen_by (λ unit. unit.now)

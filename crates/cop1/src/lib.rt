@@ -13,7 +13,7 @@ mod vocabulary;
 pub use accepted::accepted_beyond;
 pub use farm::{Farm, FarmFields, FarmMode, Verdict};
 pub use fault::CopFault;
-pub use fop::{Fop, Next, Peeked, Pulled};
+pub use fop::{Fop, Pulled};
 pub use laws::{flags_always_agree, law_of_senders};
 pub use sender::{ReportAnswer, Sender, SenderFields, SenderNext};
 pub use vocabulary::{Alert, Control, Directive, FopMode};

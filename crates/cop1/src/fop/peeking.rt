@@ -6,36 +6,23 @@ ghost use Rattle.cop1.specs.Queues.{first_bypass, peeked_at};
 ghost use Rattle.cop1.specs.NumbersStep.{is_due};
 
 use super::Fop;
+use super::pulling::Pulled;
 use crate::sender::{Sender, SenderNext};
 use crate::vocabulary::Control;
 use circular_buffer::HeapCircularBuffer;
 use std::collections::VecDeque;
-use tc_frame::Command;
-
-/// What goes on the link next, each unit lent.
-#[derive(Drop)]
-pub enum Peeked<'a, U> {
-    /// Nothing.
-    Nothing,
-    /// A control command, in a Type-BC frame.
-    Control(Command),
-    /// A unit to be sent past the sequence control, in a Type-BD frame.
-    Bypass(&'a U),
-    /// A unit to be sent under sequence control, in a Type-AD frame with this number.
-    Sequence(u8, &'a U),
-}
 
 impl<U: Drop> Fop<U> {
     ghost use Rattle.std.specs.Prelude.{◌≡◌};
     ghost use Rattle.cop1.specs.UnitsNext.{peeked_view};
     ghost use Rattle.cop1.specs.UnitsStep.{fop_step, Pull};
 
-    /// What goes on the link next, as `next` would take it; the sender stays as it is.
-    pub fn peek(&self) -> Peeked<'_, U>
+    /// What goes on the link next, as `pull` would take it, each unit lent; the sender stays as it is.
+    pub fn peek(&self) -> Pulled<'_, U, &U>
         ensures { peeked_view result ≡ (fop_step self.now Pull).answer }
     {
         if let Some(unit) = oldest_bypass(&self.sender, &self.bypass) {
-            return Peeked::Bypass(unit);
+            return Pulled::Bypass(unit);
         }
         let nn = self.sender.fields().nn;
         unit_at(self.sender.peek(), nn, &self.waiting, &self.sent)
@@ -58,17 +45,17 @@ fn unit_at<'a, U>(
     nn: u8,
     waiting: &'a Option<U>,
     sent: &'a HeapCircularBuffer<U>,
-) -> Peeked<'a, U>
+) -> Pulled<'a, U, &'a U>
     ensures { peeked_view result ≡ peeked_at nn next waiting.now sent.now.items }
 {
     let (number, unit) = match next {
-        SenderNext::Nothing => return Peeked::Nothing,
-        SenderNext::Control(command) => return Peeked::Control(command),
+        SenderNext::Nothing => return Pulled::Nothing,
+        SenderNext::Control(command) => return Pulled::Control(command),
         SenderNext::First(number) => (number, waiting.as_ref()),
         SenderNext::Again(number) => (number, sent.get(usize::from(number.wrapping_sub(nn)))),
     };
     match unit {
-        Some(unit) => Peeked::Sequence(number, unit),
-        None => Peeked::Nothing,
+        Some(unit) => Pulled::Sequence(number, unit),
+        None => Pulled::Nothing,
     }
 }

@@ -12,30 +12,28 @@ use circular_buffer::HeapCircularBuffer;
 use std::collections::VecDeque;
 use tc_frame::Command;
 
-/// What goes on the link next.
+/// What goes on the link next, with `B` for a unit of the bypass queue: the unit that is pulled, or
+/// the one that is peeked at, lent.
 #[derive(Drop)]
-pub enum Pulled<'a, U> {
+pub enum Pulled<'a, U, B = U> {
     /// Nothing.
     Nothing,
     /// A control command, in a Type-BC frame.
     Control(Command),
-    /// A unit to be sent past the sequence control, in a Type-BD frame. It has left the sender.
-    Bypass(U),
-    /// A unit to be sent under sequence control, in a Type-AD frame with this number. It stays in
-    /// the sent queue.
+    /// A unit to be sent past the sequence control, in a Type-BD frame. Once it is pulled it has left
+    /// the sender.
+    Bypass(B),
+    /// A unit to be sent under sequence control, in a Type-AD frame with this number. Once it is pulled
+    /// it stays in the sent queue until it is acknowledged.
     Sequence(u8, &'a U),
 }
 
-/// What goes on the link next, a unit of the sent queue by its place there.
+// What goes on the link next, a unit of the sent queue by its place there.
 #[derive(Drop)]
-pub enum Next<U> {
-    /// Nothing.
+enum Next<U> {
     Nothing,
-    /// A control command.
     Control(Command),
-    /// A unit of the bypass queue.
     Bypass(U),
-    /// A number, and the place of the unit that has it in the sent queue.
     Sequence(u8, usize),
 }
 
@@ -46,11 +44,8 @@ impl<U: Drop> Fop<U> {
     ghost use Rattle.cop1.specs.UnitsLent.{EndsAs};
     ghost use Rattle.cop1.specs.UnitsStep.{fop_step, Pull};
 
-    /// Takes what goes on the link next, by the first rule that applies: the control command of S5,
-    /// where it is due; the oldest bypass unit; in S1 and S2 the oldest unit that is marked to be
-    /// sent again; in S1 and S2 the unit that waits, where the window has room for it (CCSDS
-    /// 232.1-B-2, 5.2).
-    pub fn next(&mut self) -> Next<U>
+    // Takes what goes on the link next.
+    fn next(&mut self) -> Next<U>
         ensures after { self.new ≡ (fop_step self.old Pull).after }
         ensures answer { seen_at (units_of self.new.sent) result ≡ (fop_step self.old Pull).answer }
         ensures placed { IsPlaced (units_of self.new.sent) result }
@@ -64,8 +59,17 @@ impl<U: Drop> Fop<U> {
         next_at(nn, next)
     }
 
-    /// Takes what goes on the link next, as `next` does, and hands it out. A unit of the sent queue is
-    /// lent.
+    /// Counts what goes on the link next as sent, as `pull` does; `peek` lends it.
+    pub fn advance(&mut self)
+        ensures { self.new ≡ (fop_step self.old Pull).after }
+    {
+        let _sent = self.next();
+    }
+
+    /// Takes what goes on the link next, by the first rule that applies: the control command of S5,
+    /// where it is due; the oldest bypass unit; in S1 and S2 the oldest unit that is marked to be
+    /// sent again; in S1 and S2 the unit that waits, where the window has room for it (CCSDS
+    /// 232.1-B-2, 5.2). A unit of the sent queue is lent.
     pub fn pull(&mut self) -> Pulled<'_, U>
         ensures* after { sem 𝓛 (EndsAs U.row self.entry (fop_step self.old Pull).after) }
         ensures answer { pulled_view result ≡ (fop_step self.old Pull).answer }

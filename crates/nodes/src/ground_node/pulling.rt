@@ -6,7 +6,7 @@ ghost use Rattle.tc_frame.specs.Writing.{frame_fits};
 ghost use Rattle.nodes.specs.Frames.{size_of, written_over, BeginsWith};
 
 use super::Ground;
-use cop1::Peeked;
+use cop1::Pulled;
 use tc_frame::{Body, Check, TcFrame, encode};
 
 impl Ground {
@@ -20,12 +20,12 @@ impl Ground {
         ensures fits { IfSome result (λ f. frame_fits Check.On (frame_view f) ≡ true) }
     {
         let body = match self.fop.peek() {
-            Peeked::Nothing => return None,
-            Peeked::Control(command) => Body::Bc(command),
-            Peeked::Bypass(unit) => Body::Bd {
+            Pulled::Nothing => return None,
+            Pulled::Control(command) => Body::Bc(command),
+            Pulled::Bypass(unit) => Body::Bd {
                 segment: unit.segment(),
             },
-            Peeked::Sequence(n, unit) => Body::Ad {
+            Pulled::Sequence(n, unit) => Body::Ad {
                 n,
                 segment: unit.segment(),
             },
@@ -61,7 +61,7 @@ impl Ground {
     pub fn advance(&mut self)
         ensures { self.new ≡ (ground_step self.old Pull).after }
     {
-        let _sent = self.fop.next();
+        self.fop.advance();
         self.settle();
     }
 }

@@ -5,7 +5,7 @@ use super::refusing::{again, says_refused};
 use bitflags::Flags;
 use clcw::{Clcw, ClcwFlags};
 use cop1::{
-    Alert, Control, CopFault, Directive, Fop, FopMode, Peeked, Pulled, Sender, SenderFields,
+    Alert, Control, CopFault, Directive, Fop, FopMode, Pulled, Sender, SenderFields,
     SenderNext, accepted_beyond,
 };
 use std::alloc::Global;
@@ -56,7 +56,7 @@ fn new_both(rt: &impl Abort, alloc: Global, limit: u8, timer: u16) -> Both {
 
 fn peeked(fop: &Fop<u8>) -> Option<(u8, u8)> {
     match fop.peek() {
-        Peeked::Sequence(number, unit) => Some((number, *unit)),
+        Pulled::Sequence(number, unit) => Some((number, *unit)),
         _ => None,
     }
 }
@@ -476,7 +476,7 @@ fn bypasses(rt: &(impl Abort + Eprint), fop: &mut Fop<u8>, unit: u8) {
 }
 
 fn pulls_bypass(rt: &impl Abort, fop: &mut Fop<u8>, unit: u8) {
-    assert!(rt; matches!(fop.peek(), Peeked::Bypass(peeked) if *peeked == unit));
+    assert!(rt; matches!(fop.peek(), Pulled::Bypass(peeked) if *peeked == unit));
     assert!(rt; matches!(fop.pull(), Pulled::Bypass(pulled) if pulled == unit));
 }
 

@@ -204,7 +204,7 @@ module _ (X : RattleType) (LX : Laws X) (d : Dict) {M : Type 1} {𝓤 : Ura M} (
     shared = (ShrRef (named 0) κ Row).own_val self_shr (vptr rb ro ∷ [])
 
     abbrev Out : RattleType
-    Out = pulled-type.the_row (named_lft 2 0 tt (κ, (κT, tt))) (U X LX d)
+    Out = pulled-type.the_row (named_lft 2 0 tt (κ, (κT, tt))) (U X LX d) (U X LX d)
 
     abbrev at_show : AtShow.Ghost
     at_show = (((κ, (κT, tt)), (q, (qT, tt)), bd, (self_shr, (x, tt)), (vptr rb ro ∷ [], (v ∷ [], tt))), tt)
@@ -313,8 +313,8 @@ module _ (X : RattleType) (LX : Laws X) (d : Dict) {M : Type 1} {𝓤 : Ura M} (
         (‵ (flft κ q) ⊛ ‵ (flft κT qT) ⊛ ‵ (Given.own_val y (w ∷ [])))))) (show_gives κ κT q qT bd rb ro s' r.0 v w)
         $ await ! tt $ pick ! (λ y. learn ! (λ seen.
         split3 ! $ move ! (2 ∷ []) $ peeks ! Given (Is Given) (shows 𝓛 Given) y (w ∷ []) (λ so.
-        let fits = (((pulled-laws.the_row_laws (named_lft 2 0 tt (κ, (κT, tt))) (U X LX d) (param_laws 0 X LX)).lawful
-        𝓛).typed y (w ∷ []) so).0 in
+        let fits = (((pulled-laws.the_row_laws (named_lft 2 0 tt (κ, (κT, tt))) (U X LX d) (U X LX d)
+        (param_laws 0 X LX) (param_laws 0 X LX)).lawful 𝓛).typed y (w ∷ []) so).0 in
         lands_as ! refl refl fits $ returns ! (look_at ! 0 refl) $ free_all ! refl $
         -- [the answer; the token; the units' token; what the sender ends as]
         move ! (3 ∷ [])
