@@ -8,6 +8,7 @@ pub mod Gaining
 pub mod IdlePackets
 pub mod Laying
 pub mod Marking
+pub mod Outages
 pub mod Passing
 pub mod Places
 pub mod Pointing

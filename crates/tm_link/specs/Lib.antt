@@ -6,6 +6,7 @@ pub mod ExtractorFields
 pub mod Faults
 pub mod Laying
 pub mod Layout
+pub mod Outage
 pub mod Reading
 pub mod Splitting
 pub mod Stream

@@ -6,8 +6,9 @@ ghost use Rattle.octets.specs.Number.{IsOctets};
 ghost use Rattle.space_packet.specs.Layout.{PacketView, IsSomePacket};
 ghost use Rattle.tm_link.specs.Arriving.{IsInRange, all_extracted};
 ghost use Rattle.tm_link.specs.Building.{is_to_send, IsToSend};
-ghost use Rattle.tm_link.specs.Extraction.{new_extractor};
+ghost use Rattle.tm_link.specs.Extraction.{ExtractorState, new_extractor};
 ghost use Rattle.tm_link.specs.Layout.{FrameView, IsTmFrame, IsSpelling};
+ghost use Rattle.tm_link.specs.Outage.{AreButForTheFirst};
 ghost use Rattle.tm_link.specs.Reading.{frame_at};
 ghost use Rattle.tm_link.specs.Stream.{carried_octets, IsLaidOut, IsClose, choice, arrived_packets};
 ghost use Rattle.tm_link.specs.Writing.{total_of, frame_fits, spelling};
@@ -48,6 +49,21 @@ pub fn law_of_extraction()
         → AllByRecursion IsInRange frames → all_extracted new_extractor frames ≡ packets }
     ensures range { (total : ℕ) (f : FrameView) (octets : List ℕ) → IsSpelling total f octets
         → IsInRange f }
+{}
+
+/// After an outage of any length, also one of 256 frames or a multiple, which the counts do not show:
+/// whatever an extractor holds, it hands out what a new one would of the frames that come then, and
+/// before that at most one packet (`any`). So where those are frames that lay out a stream, fewer than
+/// 256 of them missing between two that come, what it hands out is, but for at most the first packet,
+/// exactly the packets all of whose octets came since, in their order (`arrived`).
+pub fn law_of_outage()
+    ensures any { (s : ExtractorState) (frames : List FrameView)
+        → AreButForTheFirst (all_extracted s frames) (all_extracted new_extractor frames) }
+    ensures arrived { (s : ExtractorState) (packets : List (List ℕ)) (frames : List FrameView)
+        (rest : List ℕ) (laid : IsLaidOut packets frames rest) (chosen : List Bool)
+        → AllByRecursion IsInRange frames → IsClose chosen
+        → AreButForTheFirst (all_extracted s (choice frames chosen))
+        (arrived_packets laid.all frames chosen) }
 {}
 
 /// The stream that frames lay out is packets, idle ones among them: each of its records spells one.

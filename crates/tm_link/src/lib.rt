@@ -31,6 +31,7 @@ pub use fault::TmFault;
 pub use frame::{Pointer, TmFrame};
 pub use gap::{Gap, gap_before, is_lost};
 pub use laws::{
-    law_of_extraction, law_of_queueing, law_of_reading, law_of_spelling, law_of_stream,
+    law_of_extraction, law_of_outage, law_of_queueing, law_of_reading, law_of_spelling,
+    law_of_stream,
 };
 pub use turn::{Turn, put_next};
