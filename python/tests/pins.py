@@ -46,8 +46,8 @@ def calls_of_the_headers(it):
     """Each call of the headers is called."""
     bound = {name for library in (it._library.FIRST, it._library.NODES) for name in vars(library)
              if name.startswith("sedge_")}
-    wanted = {*re.findall(r"^[a-z][\w ]* (sedge_\w+)\(", header(), re.M)} - NOT_CALLED
-    assert bound == wanted and len(wanted) > 100, bound ^ wanted
+    wanted = {*re.findall(r"^(?!static )[a-z][\w ]* (sedge_\w+)\(", header(), re.M)} - NOT_CALLED
+    assert bound == wanted and len(wanted) > 70, bound ^ wanted
 
 
 def made_of(call):
@@ -79,7 +79,7 @@ def calls_by_their_names(it):
         assert name == f"sedge_{own}", f"{where} is {name}"
     for kind, prefix in zip((it.Ground, it.Spacecraft, it.Link), HANDLES):
         assert made_of(kind._opens) == f"sedge_{prefix}_open" and made_of(kind._closes) == f"sedge_{prefix}_close"
-    assert len(known) > 100
+    assert len(known) > 70
 
 
 # ---- Enumerations. ----
