@@ -10,8 +10,8 @@ use Rattle.tm_link.specs.declared.ending.Ending.TheVariants.{Whole, Short, Wrong
 use Rattle.tm_link.specs.declared.frame.Pointer.{Pointer}
 use Rattle.tm_link.specs.declared.frame.Pointer.TheVariants.{At, NoStart, OnlyIdle}
 use Rattle.tm_link.specs.Arriving.{IsInRange, all_extracted}
-use Rattle.tm_link.specs.Extraction.{ExtractorState, new_extractor, gap_of, is_any_lost, ending_of, finished_by, part_by}
-use Rattle.tm_link.specs.Extraction.{completed_packet, finished_packets, part_after, is_idle, without_idle}
+use Rattle.tm_link.specs.Extraction.{ExtractorState, new_extractor, gap_of, is_any_lost, ending_of, finished_by}
+use Rattle.tm_link.specs.Extraction.{part_by, completed_packet, finished_packets, part_after, is_idle, without_idle}
 use Rattle.tm_link.specs.Layout.{FrameView}
 use Rattle.tm_link.specs.Outage.{AreButForTheFirst}
 use Rattle.tm_link.specs.Stream.{IsLaidOut, IsClose, choice, arrived_packets}
