@@ -310,12 +310,7 @@ each_gives m (a ∷ xs) (w ∷ ws) are f =
 
 own_names : (command : Named) → have_own_names (wanted_of command) ≡ true
 own_names commands.Farm = refl
-own_names commands.Map = refl
-own_names commands.Tc = refl
-own_names commands.Tm = refl
-own_names commands.Check = refl
-own_names commands.Packets = refl
-own_names commands.Sim = refl
+own_names command = refl
 
 -- a command's words give what is wanted of its arguments
 pub words_give : (command : Named) (xs : List Arg) (start cmd : Command) → AreArguments xs (wanted_of command)
