@@ -13,5 +13,5 @@ mod showing;
 pub use opening::{ScriptFault, open};
 pub use playing::play_some;
 pub use script_lines::{
-    Carrier, Line, Program, Rest, Step, law_of_commands, law_of_numbers, law_of_octets, read_line,
+    Line, Rest, digits_of, law_of_commands, law_of_numbers, law_of_octets, read_line,
 };

@@ -3,11 +3,11 @@
 ghost use Rattle.std.specs.Prelude.{◌≡◌, ◌<◌, ◌^◌, ◌-◌, length, IfOk, IfErr};
 ghost use Rattle.simulated_link.specs.World.{World, new_world};
 ghost use Rattle.script_lines.specs.Scripts.{script_in, config_in};
-ghost use Rattle.script_lines.specs.Programs.{program_lines};
+ghost use Rattle.script_lines.specs.Programs.{said};
 ghost use Rattle.script.specs.Playing.{answers_from};
 ghost use Rattle.script.specs.Ending.{Good, script_ending, Explains};
 
-use script_lines::{Program, Reading, read_script};
+use script_lines::{Line, Reading, read_script};
 use simulated_link::World;
 use std::alloc::Global;
 use thiserror::Error;
@@ -28,15 +28,14 @@ pub enum ScriptFault {
 
 /// Reads each line of a script once, and makes the link that they ask for, to which nothing has
 /// happened, and what is played on it. `Unreadable` has the first line that is, and `OutOfRange` the
-/// first such field. What is played takes four octets for each line that is played, and 16 for each
-/// that carries octets.
+/// first such field. What is played takes 32 octets for each line that is played.
 /// Faults: Unreadable, then OutOfRange, then Memory. Memory: yes. Cost: n.
-pub fn open<'a>(alloc: Global, script: &'a [u8]) -> Result<(World, Program<'a>), ScriptFault>
+pub fn open<'a>(alloc: Global, script: &'a [u8]) -> Result<(World, Vec<Line<'a>>), ScriptFault>
     requires { length script.now < 2 ^ 64 - 1 }
     ensures good { IfOk result (λ _. script_ending script.now ≡ Good) }
     ensures world { IfOk result (λ opened. opened.0 ≡ new_world (config_in script.now)) }
     ensures answers { IfOk result (λ opened. (w : World)
-        → answers_from w (program_lines opened.1) ≡ answers_from w (script_in script.now)) }
+        → answers_from w (said opened.1.items) ≡ answers_from w (script_in script.now)) }
     ensures fault { IfErr result (λ fault. Explains fault (script_ending script.now)) }
 {
     let reading = match read_script(alloc, script) {

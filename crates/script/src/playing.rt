@@ -1,11 +1,11 @@
 // Plays what was read of a script.
 
-ghost use Rattle.std.specs.Prelude.{◌≡◌, ◌<◌, ◌++◌, ◌∷◌, [], length, OnOk, IfOk, IfSome, option_map, string_bytes};
+ghost use Rattle.std.specs.Prelude.{◌≡◌, ◌<◌, ◌++◌, length, OnOk, IfOk, IfSome, option_map, string_bytes};
 ghost use Rattle.std.specs.List.{flat_map};
 ghost use Rattle.octets.specs.Outcome.{map_ok};
 ghost use Rattle.simulated_link.specs.Replies.{reply_view};
 ghost use Rattle.simulated_link.specs.World.{World, world_step};
-ghost use Rattle.script_lines.specs.Lines.{event_with, octets_of_digits, step_line};
+ghost use Rattle.script_lines.specs.Lines.{with_octets, octets_of_digits, line_view};
 ghost use Rattle.script_lines.specs.Programs.{lines_left};
 ghost use Rattle.octets.specs.Appending.{Appends};
 ghost use Rattle.script.specs.Playing.{ToEvent, line_responses, response_line, after_line, answers_from};
@@ -13,20 +13,21 @@ ghost use Rattle.script.specs.Ending.{remaining_answers};
 
 use crate::answer::push_answer;
 use crate::showing::push_show;
-use script_lines::{Carrier, Rest, Step, carrier_of, octets_in_word, plain_event};
+use script_lines::{Line, Rest, digits_of, octets_in_word};
 use simulated_link::{Event, Reply, SimFault, World};
 use std::alloc::{AllocError, Global};
 
-// The event that carries these octets.
-fn event_with(carrier: Carrier, octets: &[u8]) -> Event<'_>
-    ensures { (w : World) → world_step w result ≡ world_step w (event_with carrier octets.now) }
+// The event of a line with these octets in place of digits.
+fn with_octets<'a>(event: Event<'a>, octets: &'a [u8]) -> Event<'a>
+    ensures { (w : World) → world_step w result ≡ world_step w (with_octets event.entry octets.now) }
 {
-    match carrier {
-        Carrier::Submit(map) => Event::Submit(map, octets),
-        Carrier::Bypass(map) => Event::Bypass(map, octets),
-        Carrier::UpDamage => Event::UpDamage(octets),
-        Carrier::DownDamage => Event::DownDamage(octets),
-        Carrier::Telemetry => Event::Telemetry(octets),
+    match event {
+        Event::Submit(map, _) => Event::Submit(map, octets),
+        Event::Bypass(map, _) => Event::Bypass(map, octets),
+        Event::UpDamage(_) => Event::UpDamage(octets),
+        Event::DownDamage(_) => Event::DownDamage(octets),
+        Event::Telemetry(_) => Event::Telemetry(octets),
+        event => event,
     }
 }
 
@@ -57,7 +58,7 @@ fn play_event(
     push_answer(text, alloc, &answer)
 }
 
-// The octets that a step carries.
+// The octets of these digits.
 fn octets_of_digits(alloc: Global, digits: &[u8]) -> Result<Vec<u8>, AllocError>
     ensures { IfOk result (λ octets. octets.items ≡ octets_of_digits digits.now) }
 {
@@ -68,29 +69,28 @@ fn octets_of_digits(alloc: Global, digits: &[u8]) -> Result<Vec<u8>, AllocError>
     }
 }
 
-// Plays a step with these digits, and appends the line of the response.
-fn play_step(
+// Plays a line, and appends the line of the response.
+fn play_line(
     alloc: Global,
     world: &mut World,
     text: &mut String,
-    step: Step,
-    digits: &[u8],
+    line: Line<'_>,
 ) -> Result<(), AllocError>
     ensures text { Appends result text.old text.new
-        (flat_map response_line (line_responses world.old (step_line step digits.now))) }
-    ensures world { OnOk result (world.new ≡ after_line world.old (step_line step digits.now)) }
+        (flat_map response_line (line_responses world.old (line_view line.entry))) }
+    ensures world { OnOk result (world.new ≡ after_line world.old (line_view line.entry)) }
 {
-    if let Some(carrier) = carrier_of(step) {
-        let octets = octets_of_digits(alloc, digits)?;
-        return play_event(alloc, world, text, event_with(carrier, octets.as_slice()));
-    }
-    match plain_event(step) {
-        Some(event) => play_event(alloc, world, text, event),
-        None => push_show(text, world),
+    match line {
+        Line::Happening(event) => {
+            let octets = octets_of_digits(alloc, digits_of(event))?;
+            play_event(alloc, world, text, with_octets(event, octets.as_slice()))
+        }
+        Line::Showing => push_show(text, world),
+        Line::Skipped | Line::Setting(..) | Line::Unreadable => Ok(()),
     }
 }
 
-/// Plays steps of a program until the answers have some 4,096 octets, and returns what is left of it.
+/// Plays lines of a program until the answers have some 4,096 octets, and returns what is left of it.
 /// Where there is no memory the link has met some of the events.
 /// Faults: AllocError. Memory: yes. Cost: that of the events and answers.
 pub fn play_some<'p, 'a>(
@@ -103,19 +103,19 @@ pub fn play_some<'p, 'a>(
         string_bytes text.new ++ remaining_answers world.new (option_map lines_left left)
         ≡ string_bytes text.old ++ answers_from world.old (lines_left program.entry)) }
     ensures shorter { IfOk result (λ left.
-        IfSome left (λ rest. length rest.steps.now < length program.entry.steps.now)) }
+        IfSome left (λ rest. length rest.lines.now < length program.entry.lines.now)) }
 {
-    let mut rest = program;
-    'steps: loop {
-        let Some((step, digits, left)) = rest.next() else {
+    let mut rest = program.lines;
+    'lines: loop {
+        let [line, left @ ..] = rest else {
             return Ok(None);
         };
-        let Ok(()) = play_step(alloc, world, text, step, digits) else {
+        let Ok(()) = play_line(alloc, world, text, *line) else {
             return Err(AllocError);
         };
         rest = left;
         if text.len() >= 4096 {
-            return Ok(Some(rest));
+            return Ok(Some(Rest { lines: rest }));
         }
     }
 }

@@ -1,8 +1,9 @@
 -- A line that is read is spelled so.
 use Rattle.std.proofs.Common.{◌≡◌, ◌∙◌, ◌≤◌, ◌<◌, ◌^◌, ◌==◌, ◌&&◌, ◌++◌, ℕ, Bool, true, false, cond, List, [], ◌∷◌}
-use Rattle.std.proofs.Common.{suc, Option, Some, None, inl, inr, refl, sym, ap, subst, arith}
+use Rattle.std.proofs.Common.{Option, Some, None, inl, inr, refl, sym, ap, subst, arith}
 use Rattle.std.specs.Prelude.{codes, decimal, ◌↔◌, ◌⊎◌, option_map, option_and_then}
-use Rattle.std.specs.List.{find, join_with_byte, Contains}
+use Rattle.std.specs.List.{find, join_with_byte}
+use Rattle.std.specs.Map.{lookup}
 use Rattle.std.specs.Option.{unwrap_or, option_or}
 use Rattle.std.specs.Str.{bytes_eq}
 use Rattle.std.proofs.lemmas.Bool.{and_parts, eqb-true}
@@ -19,14 +20,14 @@ use Rattle.nodes.specs.Parameters.{all_in_order, row_of, parameter_named}
 use Rattle.nodes.specs.declared.event.Event.{Event}
 use Rattle.nodes.specs.declared.event.Event.TheVariants as events
 use Rattle.script_lines.specs.Lines.{ScriptLine, Skipped, Setting, Happening, Showing, Unreadable, borrow_of}
-use Rattle.script_lines.specs.Lines.{plain_lines, plain_line, line_of_two_words, submission_line, most_for}
+use Rattle.script_lines.specs.Lines.{plain_events, plain_line, line_of_two_words, submission_line, most_for}
 use Rattle.script_lines.specs.Lines.{setting_line, line_of_three_words, line_of_words, readable_line, line_in}
 use Rattle.script_lines.specs.Words.{words_in, number_in_word, octets_in_word}
 use Rattle.script_lines.specs.Spelling as spelling
-use Rattle.script_lines.specs.Spelling.{Spells, IsHex, plain_events}
+use Rattle.script_lines.specs.Spelling.{Spells, IsHex}
 use Rattle.script_lines.proofs.HexWords.{read_octets}
 use Rattle.script_lines.proofs.Numerals.{read}
-use Rattle.script_lines.proofs.Spelled.{spelled, most_small, agree}
+use Rattle.script_lines.proofs.Spelled.{spelled, most_small}
 
 -- ---- what is found
 
@@ -78,34 +79,14 @@ one_more {name = name} {text = text} {word = word} {spelled = spelled} is same =
 
 -- ---- lines with neither a number nor octets
 
--- the event whose text a line is
-abbrev event_in : List (Event × List ℕ) → List ℕ → Option Event
-event_in [] line = None
-event_in (row ∷ more) line = cond (bytes_eq line row.1) (Some row.0) (event_in more line)
-
-in_row : (rows : List (Event × List ℕ)) (line : List ℕ) (event : Event) → event_in rows line ≡ Some event
-    → Contains rows (event, line)
-in_row [] line event e = absurd (cc e)
-in_row ((one, text) ∷ more) line event e =
-    tested (λ (a : Event). Contains ((one, text) ∷ more) (a, line)) {word = line} {name = text} {one = Some one} e
-    (λ is same.
-    (0, omega arith, ap (λ (t : List ℕ). (one, t)) (sym is) ∙ ap (λ (a : Event). (a, line)) (same_Some one event same)))
-    (λ f. let has = in_row more line event f in (suc has.0, omega (arith, has.1), has.2))
-
--- what a line spells as a whole
-abbrev spelled_by : List ℕ → Option ScriptLine
-spelled_by line =
-    cond (bytes_eq line (codes "show")) (Some Showing) (option_map Happening (event_in plain_events line))
-
 plain : (line : List ℕ) (what : ScriptLine) → plain_line line ≡ Some what → Spells what line
 plain line what e =
-    let has = Contains-from_lookup (λ x y. (bytes_eq-Decides x y).0) line what plain_lines e in
-    let found = agree (λ row. spelled_by row.0) (λ row. Some row.1) plain_lines (line, what) refl has in
-    tested (λ (other : ScriptLine). Spells other line) found
+    tested (λ (other : ScriptLine). Spells other line) e
     (λ is same. moved spelling.show (same_Some Showing what same) is)
     (λ f.
-    let event = mapped Happening (event_in plain_events line) what f in
-    moved (spelling.plain event.0 line (in_row plain_events line event.0 event.1)) event.2 refl)
+    let event = mapped Happening (lookup (bytes_eq line) plain_events) what f in
+    let has = Contains-from_lookup (λ x y. (bytes_eq-Decides x y).0) line event.0 plain_events event.1 in
+    moved (spelling.plain event.0 line has) event.2 refl)
 
 -- ---- lines of two words
 

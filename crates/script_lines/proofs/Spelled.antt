@@ -9,10 +9,10 @@ use Rattle.nodes.specs.declared.parameter.Parameter.TheVariants as parameters
 use Rattle.nodes.specs.Parameters.{row_of}
 use Rattle.nodes.proofs.InRange.{named}
 use Rattle.script_lines.specs.Lines.{ScriptLine, Setting, Happening, Unreadable, most_for, setting_line}
-use Rattle.script_lines.specs.Lines.{line_of_words, line_in}
+use Rattle.script_lines.specs.Lines.{plain_events, line_of_words, line_in}
 use Rattle.script_lines.specs.Words.{words_in}
 use Rattle.script_lines.specs.Spelling as spelling
-use Rattle.script_lines.specs.Spelling.{Spells, plain_events}
+use Rattle.script_lines.specs.Spelling.{Spells}
 use Rattle.script_lines.proofs.HexWords.{spelled_octets}
 use Rattle.script_lines.proofs.Numerals.{printed}
 use Rattle.script_lines.proofs.Spaces.{is_word, number_word, hex_word, two_words, three_words}
@@ -46,7 +46,7 @@ agree_at f g (one ∷ more) a zero same less is = ap f (sym is) ∙ cc same ∙ 
 agree_at f g (one ∷ more) a (suc k) same less is = agree_at f g more a k (cc same) (omega (arith, less)) is
 
 -- two functions that make one list of a table agree at each of its rows
-pub agree : {A B : Type 0} (f g : A → B) (all : List A) (a : A) → map f all ≡ map g all → Contains all a → f a ≡ g a
+agree : {A B : Type 0} (f g : A → B) (all : List A) (a : A) → map f all ≡ map g all → Contains all a → f a ≡ g a
 agree f g all a same has = agree_at f g all a has.0 same has.1 has.2
 
 -- a name and a number
@@ -59,7 +59,7 @@ spelled spelling.empty = refl
 spelled (spelling.note text) = refl
 spelled spelling.show = refl
 spelled (spelling.plain event line has) =
-    agree (λ row. line_in row.1) (λ row. Happening row.0) plain_events (event, line) refl has
+    agree (λ row. line_in row.0) (λ row. Happening row.1) plain_events (line, event) refl has
 spelled (spelling.config p n fits) =
     let le = least_most p n fits in
     let below : n < 2 ^ 64 = omega (arith, le, most_small p) in

@@ -13,12 +13,8 @@ use Rattle.nodes.specs.declared.parameter.Parameter.{Parameter}
 use Rattle.nodes.specs.Parameters.{row_of, parameter_named}
 use Rattle.nodes.specs.declared.event.Event.{Event}
 use Rattle.nodes.specs.declared.event.Event.TheVariants as events
-use Rattle.script_lines.specs.declared.line.Carrier.{Carrier}
-use Rattle.script_lines.specs.declared.line.Carrier.TheVariants as carriers
 use Rattle.script_lines.specs.declared.line.Line as code
 use Rattle.script_lines.specs.declared.line.Line.TheVariants as lines
-use Rattle.script_lines.specs.declared.line.Step.{Step}
-use Rattle.script_lines.specs.declared.line.Step.TheVariants as steps
 use Rattle.script_lines.specs.Words.{words_in, number_in_word, octets_in_word}
 
 pub data ScriptLine : Type 0 where
@@ -37,26 +33,27 @@ borrow_of octets = record { ref_ptr = (0, 0); now = octets }
 
 -- ---- lines with neither a number nor octets, by their whole text
 
-abbrev pub plain_lines : List (List ℕ × ScriptLine)
-plain_lines =
-    (codes "init none", Happening (events.Directive InitWithoutCheck))
-    ∷ (codes "init check", Happening (events.Directive InitWithCheck))
-    ∷ (codes "init unlock", Happening (events.Directive InitUnlock))
-    ∷ (codes "terminate", Happening (events.Directive Terminate))
-    ∷ (codes "send", Happening events.Send)
-    ∷ (codes "report", Happening events.Report)
-    ∷ (codes "up deliver", Happening events.UpDeliver)
-    ∷ (codes "up lose", Happening events.UpLose)
-    ∷ (codes "down deliver", Happening events.DownDeliver)
-    ∷ (codes "down lose", Happening events.DownLose)
-    ∷ (codes "tick", Happening events.Tick)
-    ∷ (codes "take", Happening events.Take)
-    ∷ (codes "takebypass", Happening events.TakeBypass)
-    ∷ (codes "show", Showing)
+abbrev pub plain_events : List (List ℕ × Event)
+plain_events =
+    (codes "init none", events.Directive InitWithoutCheck)
+    ∷ (codes "init check", events.Directive InitWithCheck)
+    ∷ (codes "init unlock", events.Directive InitUnlock)
+    ∷ (codes "terminate", events.Directive Terminate)
+    ∷ (codes "send", events.Send)
+    ∷ (codes "report", events.Report)
+    ∷ (codes "up deliver", events.UpDeliver)
+    ∷ (codes "up lose", events.UpLose)
+    ∷ (codes "down deliver", events.DownDeliver)
+    ∷ (codes "down lose", events.DownLose)
+    ∷ (codes "tick", events.Tick)
+    ∷ (codes "take", events.Take)
+    ∷ (codes "takebypass", events.TakeBypass)
     ∷ []
 
 abbrev pub plain_line : List ℕ → Option ScriptLine
-plain_line line = lookup (bytes_eq line) plain_lines
+plain_line line =
+    if bytes_eq line (codes "show") then Some Showing
+    else option_map Happening (lookup (bytes_eq line) plain_events)
 
 -- ---- lines of two words and of three
 
@@ -123,62 +120,41 @@ line_in (octet ∷ more) =
 
 -- ---- a line as the code has it: its octets are still digits
 
+-- the digits that an event has in place of octets
+abbrev pub digits_of : Event → List ℕ
+digits_of (events.Submit m digits) = digits.now
+digits_of (events.Bypass m digits) = digits.now
+digits_of (events.UpDamage digits) = digits.now
+digits_of (events.DownDamage digits) = digits.now
+digits_of (events.Telemetry digits) = digits.now
+digits_of event = []
+
+-- an event with these octets in place of digits
+abbrev pub with_octets : Event → List ℕ → Event
+with_octets (events.Submit m digits) octets = events.Submit m (borrow_of octets)
+with_octets (events.Bypass m digits) octets = events.Bypass m (borrow_of octets)
+with_octets (events.UpDamage digits) octets = events.UpDamage (borrow_of octets)
+with_octets (events.DownDamage digits) octets = events.DownDamage (borrow_of octets)
+with_octets (events.Telemetry digits) octets = events.Telemetry (borrow_of octets)
+with_octets event octets = event
+
 abbrev pub octets_of_digits : List ℕ → List ℕ
 octets_of_digits digits = unwrap_or (octets_in_word digits) []
 
-abbrev pub event_with : Carrier → List ℕ → Event
-event_with (carriers.Submit m) octets = events.Submit m (borrow_of octets)
-event_with (carriers.Bypass m) octets = events.Bypass m (borrow_of octets)
-event_with carriers.UpDamage octets = events.UpDamage (borrow_of octets)
-event_with carriers.DownDamage octets = events.DownDamage (borrow_of octets)
-event_with carriers.Telemetry octets = events.Telemetry (borrow_of octets)
-
--- what a step carries octets for
-abbrev pub carrier_of : Step → Option Carrier
-carrier_of (steps.Carrying carrier) = Some carrier
-carrier_of step = None
-
--- the event of a step that carries no octets
-abbrev pub plain_event : Step → Option Event
-plain_event steps.InitWithoutCheck = Some (events.Directive InitWithoutCheck)
-plain_event steps.InitWithCheck = Some (events.Directive InitWithCheck)
-plain_event steps.InitUnlock = Some (events.Directive InitUnlock)
-plain_event (steps.InitSetVr x) = Some (events.Directive (InitSetVr x))
-plain_event steps.Terminate = Some (events.Directive Terminate)
-plain_event (steps.SetVs x) = Some (events.Directive (SetVs x))
-plain_event (steps.SetWindow x) = Some (events.Directive (SetWindow x))
-plain_event (steps.SetLimit x) = Some (events.Directive (SetLimit x))
-plain_event (steps.SetTimer x) = Some (events.Directive (SetTimer x))
-plain_event steps.Send = Some events.Send
-plain_event steps.Report = Some events.Report
-plain_event steps.UpDeliver = Some events.UpDeliver
-plain_event steps.UpLose = Some events.UpLose
-plain_event steps.DownDeliver = Some events.DownDeliver
-plain_event steps.DownLose = Some events.DownLose
-plain_event steps.Tick = Some events.Tick
-plain_event steps.Take = Some events.Take
-plain_event steps.TakeBypass = Some events.TakeBypass
-plain_event (steps.Carrying carrier) = None
-plain_event steps.Show = None
-
-abbrev pub line_for : Option Carrier → Option Event → List ℕ → ScriptLine
-line_for (Some carrier) plain digits = Happening (event_with carrier (octets_of_digits digits))
-line_for None (Some event) digits = Happening event
-line_for None None digits = Showing
-
--- a step, with the digits of the octets that it carries
-abbrev pub step_line : Step → List ℕ → ScriptLine
-step_line step digits = line_for (carrier_of step) (plain_event step) digits
+abbrev pub event_said : Event → Event
+event_said event = with_octets event (octets_of_digits (digits_of event))
 
 abbrev pub line_view : code.Line → ScriptLine
 line_view lines.Skipped = Skipped
 line_view (lines.Setting parameter n) = Setting parameter n
-line_view (lines.Played step digits) = step_line step digits.now
+line_view (lines.Happening event) = Happening (event_said event)
+line_view lines.Showing = Showing
 line_view lines.Unreadable = Unreadable
 
 -- what is read fits: a parameter's number is no greater than its most
 abbrev pub IsWellRead : code.Line → Type 0
 IsWellRead lines.Skipped = Unit {0}
 IsWellRead (lines.Setting parameter n) = n ≤ most_for parameter
-IsWellRead (lines.Played step digits) = Unit {0}
+IsWellRead (lines.Happening event) = Unit {0}
+IsWellRead lines.Showing = Unit {0}
 IsWellRead lines.Unreadable = Unit {0}

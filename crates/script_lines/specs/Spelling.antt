@@ -8,6 +8,7 @@ use Rattle.nodes.specs.Parameters.{row_of}
 use Rattle.nodes.specs.declared.event.Event.{Event}
 use Rattle.nodes.specs.declared.event.Event.TheVariants as events
 use Rattle.script_lines.specs.Lines.{ScriptLine, Skipped, Setting, Happening, Showing, borrow_of}
+use Rattle.script_lines.specs.Lines.{plain_events}
 
 -- ---- HEX
 
@@ -32,31 +33,13 @@ pub data IsHex : List ℕ → List ℕ → Type 0 where
 
 -- ---- lines
 
--- the events with neither a number nor octets, and the text of each
-abbrev pub plain_events : List (Event × List ℕ)
-plain_events =
-    (events.Directive directives.InitWithoutCheck, codes "init none")
-    ∷ (events.Directive directives.InitWithCheck, codes "init check")
-    ∷ (events.Directive directives.InitUnlock, codes "init unlock")
-    ∷ (events.Directive directives.Terminate, codes "terminate")
-    ∷ (events.Send, codes "send")
-    ∷ (events.Report, codes "report")
-    ∷ (events.UpDeliver, codes "up deliver")
-    ∷ (events.UpLose, codes "up lose")
-    ∷ (events.DownDeliver, codes "down deliver")
-    ∷ (events.DownLose, codes "down lose")
-    ∷ (events.Tick, codes "tick")
-    ∷ (events.Take, codes "take")
-    ∷ (events.TakeBypass, codes "takebypass")
-    ∷ []
-
 -- The lines that say a thing. Numbers are spelled as they are printed; each parameter has those up
 -- to 65,542 and those of its range.
 pub data Spells : ScriptLine → List ℕ → Type 0 where
   empty : Spells Skipped []
   note : (text : List ℕ) → Spells Skipped (codes "#" ++ text)
   show : Spells Showing (codes "show")
-  plain : (event : Event) (line : List ℕ) → Contains plain_events (event, line)
+  plain : (event : Event) (line : List ℕ) → Contains plain_events (line, event)
       → Spells (Happening event) line
   config : (parameter : Parameter) (n : ℕ) → (n ≤ 65542) ⊎ (n ≤ (row_of parameter).most)
       → Spells (Setting parameter n)

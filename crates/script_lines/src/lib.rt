@@ -7,14 +7,12 @@
 mod cutting;
 mod laws;
 mod line;
-mod program;
 mod reading;
 mod scripts;
 mod words;
 
 pub use laws::{law_of_commands, law_of_numbers, law_of_octets};
-pub use line::{Carrier, Line, Step, carrier_of, plain_event};
-pub use program::{Program, Rest};
+pub use line::{Line, Rest, digits_of};
 pub use reading::read_line;
 pub use scripts::{Reading, read_script};
 pub use words::octets_in_word;

@@ -1,13 +1,15 @@
 // Reads the lines of a script.
 
-ghost use Rattle.std.specs.Prelude.{◌≡◌, [], option_map, Some, IfSome};
-ghost use Rattle.script_lines.specs.Lines.{Happening, line_in, line_of_words, line_of_two_words, line_of_three_words, most_for, setting_line, event_with, step_line, line_view, IsWellRead};
+ghost use Rattle.std.specs.Prelude.{◌≡◌, option_map, Some, IfSome};
+ghost use Rattle.nodes.specs.declared.event.Event.{Event};
+ghost use Rattle.script_lines.specs.Lines.{Happening, line_in, line_of_words, line_of_two_words, line_of_three_words, most_for, setting_line, digits_of, with_octets, line_view, IsWellRead};
 ghost use Rattle.script_lines.specs.Words.{words_in, number_in_word, octets_in_word};
 
 use crate::cutting::cut;
-use crate::line::{Carrier, Line, Step, plain_step};
+use crate::line::{Line, digits_of, plain_event};
 use crate::words::{is, is_octets, number_in_word};
-use nodes::Parameter;
+use cop1::Directive;
+use nodes::{Event, Parameter};
 
 /// What a line of a script says. The octets that it carries are lent as digits.
 /// Cost: n.
@@ -18,8 +20,9 @@ pub fn read_line(line: &[u8]) -> Line<'_>
     match line {
         [] => Line::Skipped,
         [b'#', ..] => Line::Skipped,
-        _ => match plain_step(line) {
-            Some(step) => Line::Played(step, b""),
+        _ if is(line, "show") => Line::Showing,
+        _ => match plain_event(line) {
+            Some(event) => Line::Happening(event),
             None => line_of_words(line).unwrap_or(Line::Unreadable),
         },
     }
@@ -41,11 +44,11 @@ fn line_of_words(line: &[u8]) -> Option<Line<'_>>
     }
 }
 
-fn plain<'a>(step: Step) -> Option<Line<'a>>
-    ensures line { option_map line_view result ≡ Some (step_line step []) }
+fn directive<'a>(directive: Directive) -> Option<Line<'a>>
+    ensures line { option_map line_view result ≡ Some (Happening (Event.Directive directive)) }
     ensures fits { IfSome result IsWellRead }
 {
-    Some(Line::Played(step, b""))
+    Some(Line::Happening(Event::Directive(directive)))
 }
 
 fn byte_in(word: &[u8]) -> Option<u8>
@@ -55,15 +58,16 @@ fn byte_in(word: &[u8]) -> Option<u8>
     Some(number as u8)
 }
 
-fn carrier_line<'a>(carrier: Carrier, word: &'a [u8]) -> Option<Line<'a>>
+// The line of an event that carries octets, if what stands in place of them is their digits.
+fn carrying(event: Event<'_>) -> Option<Line<'_>>
     ensures line { option_map line_view result
-        ≡ option_map (λ octets. Happening (event_with carrier octets)) (octets_in_word word.now) }
+        ≡ option_map (λ octets. Happening (with_octets event.entry octets)) (octets_in_word (digits_of event.entry)) }
     ensures fits { IfSome result IsWellRead }
 {
-    if !is_octets(word) {
+    if !is_octets(digits_of(event)) {
         return None;
     }
-    Some(Line::Played(Step::Carrying(carrier), word))
+    Some(Line::Happening(event))
 }
 
 fn line_of_two_words<'a>(name: &'a [u8], word: &'a [u8]) -> Option<Line<'a>>
@@ -71,20 +75,20 @@ fn line_of_two_words<'a>(name: &'a [u8], word: &'a [u8]) -> Option<Line<'a>>
     ensures fits { IfSome result IsWellRead }
 {
     if is(name, "vs") {
-        return plain(Step::SetVs(byte_in(word)?));
+        return directive(Directive::SetVs(byte_in(word)?));
     }
     if is(name, "window") {
-        return plain(Step::SetWindow(byte_in(word)?));
+        return directive(Directive::SetWindow(byte_in(word)?));
     }
     if is(name, "limit") {
-        return plain(Step::SetLimit(byte_in(word)?));
+        return directive(Directive::SetLimit(byte_in(word)?));
     }
     if is(name, "timer") {
         let ticks = number_in_word(word, 65535)?;
-        return plain(Step::SetTimer(ticks as u16));
+        return directive(Directive::SetTimer(ticks as u16));
     }
     if is(name, "telemetry") {
-        return carrier_line(Carrier::Telemetry, word);
+        return carrying(Event::Telemetry(word));
     }
     None
 }
@@ -113,19 +117,19 @@ fn line_of_three_words<'a>(name: &'a [u8], first: &'a [u8], second: &'a [u8]) ->
         return setting_line(first, second);
     }
     if is(name, "submit") {
-        return carrier_line(Carrier::Submit(byte_in(first)?), second);
+        return carrying(Event::Submit(byte_in(first)?, second));
     }
     if is(name, "bypass") {
-        return carrier_line(Carrier::Bypass(byte_in(first)?), second);
+        return carrying(Event::Bypass(byte_in(first)?, second));
     }
     if is(name, "init") && is(first, "set") {
-        return plain(Step::InitSetVr(byte_in(second)?));
+        return directive(Directive::InitSetVr(byte_in(second)?));
     }
     if is(name, "up") && is(first, "damage") {
-        return carrier_line(Carrier::UpDamage, second);
+        return carrying(Event::UpDamage(second));
     }
     if is(name, "down") && is(first, "damage") {
-        return carrier_line(Carrier::DownDamage, second);
+        return carrying(Event::DownDamage(second));
     }
     None
 }

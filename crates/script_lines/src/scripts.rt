@@ -9,7 +9,6 @@ ghost use Rattle.script_lines.specs.Programs.{played, played_of, Says};
 
 use crate::cutting::cut;
 use crate::line::Line;
-use crate::program::Program;
 use crate::reading::read_line;
 use nodes::Config;
 use std::alloc::Global;
@@ -19,8 +18,8 @@ use std::alloc::Global;
 pub struct Reading<'a> {
     /// The configuration, in which a field may be out of its range.
     pub config: Config,
-    /// What is played.
-    pub program: Program<'a>,
+    /// The lines that are played.
+    pub program: Vec<Line<'a>>,
     /// Whether there was memory for all that is played.
     pub kept: bool,
     // Whether a line was met after which no setting may stand.
@@ -37,8 +36,8 @@ impl<'a> Reading<'a> {
         ensures config { result ≡ false
             → self.new.config ≡ with_line self.old.config (line_view line.entry) }
         ensures program { result ≡ false → (lines : List ScriptLine)
-            → Says self.old.kept self.old.program lines
-            → Says self.new.kept self.new.program (lines ++ played_of (line_view line.entry)) }
+            → Says self.old.kept self.old.program.items lines
+            → Says self.new.kept self.new.program.items (lines ++ played_of (line_view line.entry)) }
     {
         match line {
             Line::Skipped => false,
@@ -49,8 +48,8 @@ impl<'a> Reading<'a> {
                 self.config.set(parameter, number);
                 false
             }
-            Line::Played(step, digits) => {
-                let kept = self.program.push(step, digits);
+            Line::Happening(_) | Line::Showing => {
+                let kept = self.program.push(line).is_ok();
                 self.kept = self.kept && kept;
                 self.begun = true;
                 false
@@ -61,7 +60,7 @@ impl<'a> Reading<'a> {
 }
 
 /// Reads each line of a script once, up to the first one that is unreadable, whose number is the fault.
-/// The program takes four octets for each line that is played, and 16 for each that carries octets.
+/// The program takes 32 octets for each line that is played.
 /// Faults: the number of the first line that is unreadable. Memory: yes. Cost: n.
 pub fn read_script<'a>(alloc: Global, script: &'a [u8]) -> Result<Reading<'a>, u64>
     requires { length script.now < 2 ^ 64 - 1 }
@@ -69,11 +68,11 @@ pub fn read_script<'a>(alloc: Global, script: &'a [u8]) -> Result<Reading<'a>, u
     ensures readable { IfOk result (λ _. unreadable_line script.now ≡ None) }
     ensures config { IfOk result (λ reading. reading.config ≡ config_in script.now) }
     ensures program { IfOk result (λ reading.
-        Says reading.kept reading.program (played (script_in script.now))) }
+        Says reading.kept reading.program.items (played (script_in script.now))) }
 {
     let mut reading = Reading {
         config: Config::default(),
-        program: Program::new(alloc),
+        program: Vec::new(alloc),
         kept: true,
         begun: false,
     };

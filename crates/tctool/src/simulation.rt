@@ -4,7 +4,7 @@ ghost use Rattle.std.specs.Prelude.{◌≡◌, ◌⊎◌, ◌+◌, ◌<◌, ◌^
 ghost use Rattle.std.specs.Prelude.{Err, OnOk, IfOk, IfErr};
 ghost use Rattle.script.specs.Ending.{script_ending, script_text};
 ghost use Rattle.script.specs.Playing.{answers_from};
-ghost use Rattle.script_lines.specs.Programs.{program_lines};
+ghost use Rattle.script_lines.specs.Programs.{lines_left};
 ghost use Rattle.std.specs.Io.KnownBytes.{Consumes};
 ghost use Rattle.octets.specs.Beginning.{IsBeginning};
 ghost use Rattle.listings.specs.Devices.{HasEnded};
@@ -15,7 +15,7 @@ ghost use Rattle.tctool.specs.Dumped.{as_outcome};
 ghost use Rattle.listings.specs.Writing.{BeginsToWrite, Writes};
 
 use listings::{ListingFault, MOST_OCTETS, Sink, Source, WriteFailed, write_all};
-use script::{Program, ScriptFault, open, play_some};
+use script::{Rest, ScriptFault, open, play_some};
 use simulated_link::World;
 use std::alloc::Global;
 use stream_commands::{Outcome, read_all};
@@ -25,17 +25,17 @@ fn write_answers<W: Sink>(
     alloc: Global,
     writer: &mut W,
     world: &mut World,
-    program: &Program<'_>,
+    program: Rest<'_, '_>,
 ) -> Result<(), ListingFault>
     ensures ok { Writes result (W.taken_octets writer.old) (W.taken_octets writer.new)
-        (answers_from world.old (program_lines program.now)) }
+        (answers_from world.old (lines_left program.entry)) }
     ensures beginning { BeginsToWrite result (W.taken_octets writer.old) (W.taken_octets writer.new)
-        (answers_from world.old (program_lines program.now)) }
+        (answers_from world.old (lines_left program.entry)) }
     ensures failures { W.failures writer.new ≡ W.failures writer.old + writes_failed_in result }
     ensures faults { IfErr result (λ e. (e ≡ ListingFault.Write) ⊎ (e ≡ ListingFault.Memory)) }
 {
     let mut text = String::new(alloc);
-    let mut rest = program.all();
+    let mut rest = program;
     'pieces: loop {
         text.clear();
         let Ok(left) = play_some(alloc, world, &mut text, rest) else {
@@ -70,7 +70,8 @@ fn run_script<W: Sink>(
 {
     match open(alloc, script) {
         Ok((mut world, program)) => {
-            let written = write_answers(alloc, writer, &mut world, &program);
+            let lines = program.as_slice();
+            let written = write_answers(alloc, writer, &mut world, Rest { lines });
             match written {
                 Ok(()) => Ok(Outcome::Good),
                 Err(fault) => Err(fault),

@@ -2,8 +2,8 @@
 // the top.
 
 use super::equal::equal;
-use nodes::Parameter;
-use script::{Carrier, Line, Program, ScriptFault, Step, open, play_some, read_line};
+use nodes::{Event, Parameter};
+use script::{Line, Rest, ScriptFault, open, play_some, read_line};
 use script_lines::octets_in_word;
 use simulated_link::World;
 use std::alloc::Global;
@@ -20,7 +20,10 @@ fn played(
         return Err(ScriptFault::Memory);
     }
     match open(alloc, script) {
-        Ok((mut world, program)) => play(alloc, room, &mut world, &program),
+        Ok((mut world, program)) => {
+            let lines = program.as_slice();
+            play(alloc, room, &mut world, Rest { lines })
+        },
         Err(fault) => Err(fault),
     }
 }
@@ -29,7 +32,7 @@ fn play(
     alloc: Global,
     room: usize,
     world: &mut World,
-    program: &Program<'_>,
+    program: Rest<'_, '_>,
 ) -> Result<(Option<bool>, String), ScriptFault> {
     let Ok(mut text) = String::with_capacity(alloc, room) else {
         return Err(ScriptFault::Memory);
@@ -41,8 +44,8 @@ fn play(
 }
 
 // Whether there was memory for all lines.
-fn play_all(alloc: Global, world: &mut World, text: &mut String, program: &Program<'_>) -> bool {
-    let mut rest = program.all();
+fn play_all(alloc: Global, world: &mut World, text: &mut String, program: Rest<'_, '_>) -> bool {
+    let mut rest = program;
     for _ in 0..4096 {
         match play_some(alloc, world, text, rest) {
             Ok(Some(left)) => rest = left,
@@ -155,7 +158,7 @@ fn reads_lines(rt: &impl Abort) {
     assert!(rt;
         matches!(
             read_line(b"submit 4 0f"),
-            Line::Played(Step::Carrying(Carrier::Submit(4)), b"0f")
+            Line::Happening(Event::Submit(4, b"0f"))
         )
     );
     assert!(rt;

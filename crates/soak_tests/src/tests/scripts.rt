@@ -1,14 +1,14 @@
 // Scripts of more than a megabyte, and words of more than 1,024 octets.
 
-use script::{Program, open, play_some};
+use script::{Line, Rest, open, play_some};
 use simulated_link::World;
 use std::alloc::Global;
 use std::process::Abort;
 
 // Plays a program in pieces, of which each has some 4,096 octets; the number of lines that are answered.
-fn plays(rt: &impl Abort, alloc: Global, world: &mut World, program: &Program<'_>) -> usize {
+fn plays(rt: &impl Abort, alloc: Global, world: &mut World, program: Rest<'_, '_>) -> usize {
     let mut text = String::new(alloc);
-    let mut rest = program.all();
+    let mut rest = program;
     let mut lines: usize = 0;
     for _ in 0..100_000 {
         text.clear();
@@ -28,7 +28,7 @@ fn lines_in(text: &[u8]) -> usize {
 }
 
 // Opens a script, which has no more octets than any here.
-fn opens<'a>(rt: &impl Abort, alloc: Global, script: &'a [u8]) -> (World, Program<'a>) {
+fn opens<'a>(rt: &impl Abort, alloc: Global, script: &'a [u8]) -> (World, Vec<Line<'a>>) {
     if script.len() > 100_000_000 {
         panic!(rt; "a script that is too long");
     }
@@ -51,7 +51,10 @@ fn repeats(rt: &impl Abort, alloc: Global, line: &str, number: usize) {
 // A script is answered by this number of lines, and submits this number of packets on MAP 63.
 fn answers(rt: &impl Abort, alloc: Global, script: &[u8], number: usize, submitted: usize) {
     let (mut world, program) = opens(rt, alloc, script);
-    let lines = plays(rt, alloc, &mut world, &program);
+    let program = Rest {
+        lines: program.as_slice(),
+    };
+    let lines = plays(rt, alloc, &mut world, program);
     assert_eq!(rt; lines, number);
     assert_eq!(rt; world.submitted(63).len(), submitted);
 }

@@ -6,4 +6,4 @@ use Rattle.script.proofs.opening.open.Goals as goal
 
 pub returns-then-kept-clause-answers : goal.returns-then-kept-clause-answers
 returns-then-kept-clause-answers c = λ w.
-    ap (answers_from w) (c.in-Ok.ensures.program c.if-kept.true).0 ∙ played_answers w (script_in c.args.script.now)
+    ap (answers_from w) (c.in-Ok.ensures.program c.if-kept.true) ∙ played_answers w (script_in c.args.script.now)

@@ -9,7 +9,7 @@ abbrev pub invariant-lines : goal.invariant-lines
 invariant-lines l = record {
   found : first_refused l.number l.reading.begun (script_in l.rest) ≡ unreadable_line l.fn.script;
   asked : with_lines l.reading.config (script_in l.rest) ≡ config_in l.fn.script;
-  said : (lines : List ScriptLine) × (Says l.reading.kept l.reading.program lines)
+  said : (lines : List ScriptLine) × (Says l.reading.kept l.reading.program.items lines)
       × (lines ++ played (script_in l.rest) ≡ played (script_in l.fn.script));
   room : l.number + length l.rest ≤ length l.fn.script + 1;
 }
