@@ -14,6 +14,7 @@ impl Sender {
     /// transmission count alone may be any from 1. So a sender goes on: where something is awaited, the
     /// timer runs or a command is due.
     /// Faults: 9 State.
+    #[inline(always)]
     pub fn restore(fields: SenderFields) -> Result<Sender, CopFault>
         ensures fields { IfOk result (λ s. s ≡ numbers_of fields) }
         ensures kept { IsOk result ↔ IsSender (numbers_of fields) }
@@ -27,6 +28,7 @@ impl Sender {
     }
 
     /// The numbers as they are.
+    #[inline(always)]
     pub fn fields(&self) -> SenderFields
         ensures fields { numbers_of result ≡ self.now }
         ensures holds { IsSender self.now }
@@ -35,6 +37,7 @@ impl Sender {
     }
 }
 
+#[inline(always)]
 fn has_ranges(fields: SenderFields) -> bool
     ensures { IsTrue result ↔ HasRanges (numbers_of fields) }
 {
@@ -50,6 +53,7 @@ fn has_ranges(fields: SenderFields) -> bool
         && fields.count >= 1
 }
 
+#[inline(always)]
 fn agrees_with_state(fields: SenderFields) -> bool
     ensures { IsTrue result ↔ AgreesWithState (numbers_of fields) }
 {
@@ -67,6 +71,7 @@ fn agrees_with_state(fields: SenderFields) -> bool
     }
 }
 
+#[inline(always)]
 fn is_commanding(vs: u8, runs: bool, control: Control) -> bool
     ensures { IsTrue result ↔ IsCommanding vs runs control }
 {
@@ -77,6 +82,7 @@ fn is_commanding(vs: u8, runs: bool, control: Control) -> bool
     }
 }
 
+#[inline(always)]
 fn sets_to(vs: u8, command: Command) -> bool
     ensures { IsTrue result ↔ SetsTo vs command }
 {

@@ -31,6 +31,7 @@ impl Sender {
     /// waits, where the window has room for it (CCSDS 232.1-B-2, 5.2). What the caller sends past the
     /// sequence control goes after a command that is due (`fields().control` is `Due`), and before
     /// units. The sender stays as it is.
+    #[inline(always)]
     pub fn peek(&self) -> SenderNext
         ensures { result ≡ (sender_step self.now Next).answer }
     {
@@ -60,6 +61,7 @@ impl Sender {
     }
 
     // What `peek` gave is sent.
+    #[inline(always)]
     fn send(&mut self, next: SenderNext)
         requires { next ≡ (sender_step self.old Next).answer }
         ensures { self.new ≡ (sender_step self.old Next).after }
@@ -79,6 +81,7 @@ impl Sender {
     }
 
     // The unit that waits is sent, and there is room for it.
+    #[inline(always)]
     fn send_first(&mut self)
         requires active { IsActive self.old.state }
         requires room { ahead_by self.old.vs self.old.nn < self.old.window }
