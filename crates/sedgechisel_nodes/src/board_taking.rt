@@ -96,8 +96,8 @@ fn taken(
     })
 }
 
-/// Takes the oldest packet of sequence-controlled frames (232.0-B-4, 4.4): writes its MAP, the packet, and the number of
-/// its octets; or 0 octets alone where none waits. Returns 0 or `SEDGE_NODE_ROOM`.
+/// Takes the oldest packet of sequence-controlled frames (232.0-B-4, 4.4): writes its MAP, the packet, and the number
+/// of its octets; or 0 octets alone where none waits. Returns 0 or `SEDGE_NODE_ROOM`.
 #[unsafe(no_mangle)]
 pub extern "C" fn sedge_spacecraft_take(
     alloc: Global,

@@ -1,6 +1,6 @@
--- The table of commands, and what it says of the lines, the outcome and the end of a file. How a
--- script is answered is left open: `played` stands for it.
-use Rattle.std.specs.Prelude.{List, ℕ, Result}
+-- The table of commands, and what it says of the lines, the outcome and the end of a file. Nothing
+-- is listed of a script.
+use Rattle.std.specs.Prelude.{List, [], ℕ}
 use Rattle.tc_frame.specs.declared.frame.Check.TheVariants.{On}
 use Rattle.tc_frame.specs.Splitting.{check_if}
 use Rattle.cop1.specs.Farm.{new_farm}
@@ -16,11 +16,9 @@ use Rattle.listings.specs.TelemetryLines.{telemetry_lines}
 use Rattle.listings.specs.Layouts.{Layout, frame_layout, telemetry_layout, packet_layout, rest_by}
 use Rattle.listings.specs.Layouts.{IsRefused}
 use Rattle.listings.specs.Listing.{Lines, fresh, text_of, is_all_good}
-use Rattle.stream_commands.specs.Outcome.{OutcomeView, outcome_if, outcome_view}
-
--- the layout of records by the head, the extent and the fault of a `Wire`
-abbrev pub layout_by : {F : Type 0} → ℕ → (List ℕ → Result ℕ F) → F → Layout F
-layout_by head extent truncated = record { head = head; extent = extent; truncated = truncated }
+use Rattle.stream_commands.specs.declared.outcome.Outcome.{Outcome}
+use Rattle.stream_commands.specs.declared.outcome.Outcome.TheVariants.{Good}
+use Rattle.stream_commands.specs.Outcome.{outcome_if}
 
 -- What is done with a file: its records are listed, cut by this layout, with these lines and this
 -- kept before the first;
@@ -43,27 +41,27 @@ work_of tasks.Check = Lists (frame_layout On) refusal_lines tt
 work_of tasks.Packets = Lists packet_layout packet_lines none_seen
 work_of tasks.Sim = Plays
 
-abbrev pub work_lines : (List ℕ → List ℕ) → Work → List ℕ → List ℕ
-work_lines played (Lists layout lines start) octets = text_of lines layout (fresh start octets)
-work_lines played Plays octets = played octets
+-- the lines for all octets of a file, its rest included; nothing is listed of a script
+abbrev pub work_lines : Work → List ℕ → List ℕ
+work_lines (Lists layout lines start) octets = text_of lines layout (fresh start octets)
+work_lines Plays octets = []
 
-abbrev pub work_outcome : (List ℕ → OutcomeView) → Work → List ℕ → OutcomeView
-work_outcome played (Lists layout lines start) octets =
-    outcome_view (outcome_if (is_all_good lines layout (fresh start octets)))
-work_outcome played Plays octets = played octets
+-- Good exactly where every record is good and nothing is left
+abbrev pub work_outcome : Work → List ℕ → Outcome
+work_outcome (Lists layout lines start) octets =
+    outcome_if (is_all_good lines layout (fresh start octets))
+work_outcome Plays octets = Good
 
+-- a record's length is refused, so that nothing more is read; of a script all is read
 abbrev pub WorkStops : Work → List ℕ → Type 0
 WorkStops (Lists layout lines start) octets = IsRefused layout (rest_by layout octets)
 WorkStops Plays octets = ⊥
 
--- the lines for all octets of a file, its rest included
-abbrev pub lines_with : (List ℕ → List ℕ) → Task → List ℕ → List ℕ
-lines_with played task octets = work_lines played (work_of task) octets
+abbrev pub listed_lines : Task → List ℕ → List ℕ
+listed_lines task octets = work_lines (work_of task) octets
 
--- Good exactly where every record is good and nothing is left; a script is judged whole
-abbrev pub outcome_with : (List ℕ → OutcomeView) → Task → List ℕ → OutcomeView
-outcome_with played task octets = work_outcome played (work_of task) octets
+abbrev pub listed_outcome : Task → List ℕ → Outcome
+listed_outcome task octets = work_outcome (work_of task) octets
 
--- a record's length is refused, so that nothing more is read; of a script all is read
 abbrev pub StopsAt : Task → List ℕ → Type 0
 StopsAt task octets = WorkStops (work_of task) octets

@@ -1,13 +1,10 @@
 // Reads a file, and writes what the words ask for of it.
 
-ghost use Rattle.std.specs.Prelude.{◌≡◌, ◌⊎◌, ◌+◌, ◌<◌, length, Err, OnOk, IfOk};
-ghost use Rattle.std.specs.Io.KnownBytes.{Consumes};
-ghost use Rattle.octets.specs.Beginning.{IsBeginning};
+ghost use Rattle.std.specs.Prelude.{◌≡◌, ◌⊎◌, OnOk, IfOk};
 ghost use Rattle.command_line.specs.Ranges.{IsInRange};
 ghost use Rattle.listings.specs.Devices.{HasEnded};
-ghost use Rattle.listings.specs.Failures.{reads_failed_in, writes_failed_in};
 ghost use Rattle.listings.specs.Gained.{gained};
-ghost use Rattle.listings.specs.Writing.{BeginsToWrite, Writes};
+ghost use Rattle.listings.specs.Streams.{Reads, WritesText};
 ghost use Rattle.stream_commands.specs.Listed.{StopsAt};
 ghost use Rattle.stream_commands.specs.Outcome.{outcome_view};
 ghost use Rattle.tctool.specs.Dumped.{lines_of, outcome_for};
@@ -34,21 +31,13 @@ pub fn dump<R: Source, W: Sink>(
     options: &Options,
 ) -> Result<Outcome, ListingFault>
     requires { IsInRange options.now.task }
-    ensures given { IsBeginning (R.given reader.old) (R.given reader.new) }
-    ensures text { Writes result (W.taken_octets writer.old) (W.taken_octets writer.new)
+    ensures reads { Reads R.given R.remaining R.failures result reader.old reader.new }
+    ensures writes { WritesText W.taken_octets W.failures result writer.old writer.new
         (lines_of options.now.task (gained (R.given reader.old) (R.given reader.new))) }
     ensures outcome { IfOk result (λ outcome. outcome_view outcome
         ≡ outcome_for options.now.task (gained (R.given reader.old) (R.given reader.new))) }
-    ensures consumes { Consumes (R.remaining reader.old) (R.remaining reader.new)
-        (gained (R.given reader.old) (R.given reader.new)) }
     ensures end { OnOk result (HasEnded (R.has_ended reader.new) (R.remaining reader.new)
         ⊎ StopsAt options.now.task (gained (R.given reader.old) (R.given reader.new))) }
-    ensures beginning { BeginsToWrite result (W.taken_octets writer.old) (W.taken_octets writer.new)
-        (lines_of options.now.task (gained (R.given reader.old) (R.given reader.new))) }
-    ensures read { R.failures reader.new ≡ R.failures reader.old + reads_failed_in result }
-    ensures write { W.failures writer.new ≡ W.failures writer.old + writes_failed_in result }
-    ensures too_long { result ≡ Err ListingFault.TooLong
-        → 9223372036854775807 < length (gained (R.given reader.old) (R.given reader.new)) }
 {
     match options.task {
         Task::Sim => simulate(alloc, reader, writer),

@@ -12,6 +12,7 @@ ghost use Rattle.listings.specs.Failures.{reads_failed_in, writes_failed_in};
 ghost use Rattle.listings.specs.Gained.{gained};
 ghost use Rattle.stream_commands.specs.Outcome.{outcome_view};
 ghost use Rattle.tctool.specs.Dumped.{as_outcome};
+ghost use Rattle.listings.specs.Streams.{Reads, WritesText};
 ghost use Rattle.listings.specs.Writing.{BeginsToWrite, Writes};
 
 use listings::{ListingFault, MOST_OCTETS, Sink, Source, WriteFailed, write_all};
@@ -89,20 +90,12 @@ pub fn simulate<R: Source, W: Sink>(
     reader: &mut R,
     writer: &mut W,
 ) -> Result<Outcome, ListingFault>
-    ensures given { IsBeginning (R.given reader.old) (R.given reader.new) }
-    ensures text { Writes result (W.taken_octets writer.old) (W.taken_octets writer.new)
+    ensures reads { Reads R.given R.remaining R.failures result reader.old reader.new }
+    ensures writes { WritesText W.taken_octets W.failures result writer.old writer.new
         (script_text (gained (R.given reader.old) (R.given reader.new))) }
     ensures outcome { IfOk result (λ outcome. outcome_view outcome
         ≡ as_outcome (script_ending (gained (R.given reader.old) (R.given reader.new)))) }
-    ensures consumes { Consumes (R.remaining reader.old) (R.remaining reader.new)
-        (gained (R.given reader.old) (R.given reader.new)) }
     ensures end { OnOk result (HasEnded (R.has_ended reader.new) (R.remaining reader.new)) }
-    ensures beginning { BeginsToWrite result (W.taken_octets writer.old) (W.taken_octets writer.new)
-        (script_text (gained (R.given reader.old) (R.given reader.new))) }
-    ensures read { R.failures reader.new ≡ R.failures reader.old + reads_failed_in result }
-    ensures write { W.failures writer.new ≡ W.failures writer.old + writes_failed_in result }
-    ensures too_long { result ≡ Err ListingFault.TooLong
-        → MOST_OCTETS < length (gained (R.given reader.old) (R.given reader.new)) }
 {
     match read_all(alloc, reader) {
         Ok(script) => run_script::<W>(alloc, writer, script.as_slice()),

@@ -1,5 +1,5 @@
-// Calls of the nodes and of the simulated link that take no memory: tools/refusals runs these tests with all allocations
-// refused after the words 'set up'.
+// Calls of the nodes and of the simulated link that take no memory: tools/refusals runs these tests with all
+// allocations refused after the words 'set up'.
 
 use super::configs::with_value;
 use super::equal::equal;
