@@ -1,2 +1,1 @@
 mod NamedBits
-mod Words

@@ -1,5 +1,5 @@
 pub mod Faults
 pub mod Flags
 pub mod Layout
-pub mod Reading
-pub mod Writing
+pub mod Decoding
+pub mod Encoding

@@ -2,7 +2,7 @@
 
 ghost use Rattle.std.specs.Prelude.{◌≡◌, Ok, IfOk};
 ghost use Rattle.clcw.specs.Layout.{IsClcw};
-ghost use Rattle.clcw.specs.Reading.{clcw_at};
+ghost use Rattle.clcw.specs.Decoding.{clcw_at};
 ghost use Rattle.clcw.specs.declared.word.Clcw.{Clcw};
 
 use crate::fault::ClcwFault;
@@ -12,7 +12,7 @@ use crate::word::Clcw;
 /// The control word that four octets spell (CCSDS 232.0-B-4, 4.2.1), or the first of the faults that
 /// applies.
 /// Faults: 1 Kind, 2 Version, 3 Cop, 4 Spare.
-#[tactic(auto, unfolding(crate::specs::Reading::clcw_at))]
+#[tactic(auto, unfolding(crate::specs::Decoding::clcw_at))]
 pub fn decode(octets: [u8; 4]) -> Result<Clcw, ClcwFault>
     ensures reading { result ≡ clcw_at octets }
     ensures found { IfOk result (λ word. IsClcw word octets) }

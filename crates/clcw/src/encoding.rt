@@ -2,8 +2,8 @@
 
 ghost use Rattle.std.specs.Prelude.{◌≡◌, Ok, IfOk};
 ghost use Rattle.clcw.specs.Layout.{IsClcw};
-ghost use Rattle.clcw.specs.Reading.{clcw_at};
-ghost use Rattle.clcw.specs.Writing.{encode_answer};
+ghost use Rattle.clcw.specs.Decoding.{clcw_at};
+ghost use Rattle.clcw.specs.Encoding.{encode_answer};
 
 use crate::fault::ClcwFault;
 use crate::word::Clcw;

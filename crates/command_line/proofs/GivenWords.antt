@@ -26,8 +26,8 @@ use Rattle.clap.specs.declared.parser.matches.MatchedArg.{MatchedArg}
 use Rattle.clap.proofs.CallerLemmas.{added_plain, entry_by_id, required_in_chain, same_rules_by_id}
 use Rattle.command_line.specs.declared.commands.Named.{Named}
 use Rattle.command_line.specs.declared.commands.Named.TheVariants as commands
-use Rattle.command_line.specs.Commands.{AreArguments, Gives, GivesAll, IsArgument, IsBare, IsNumberIn, Wanted}
-use Rattle.command_line.specs.Commands.{wanted_of}
+use Rattle.command_line.specs.Arguments.{AreArguments, Gives, GivesAll, IsArgument, IsBare, IsNumberIn, Wanted}
+use Rattle.command_line.specs.Arguments.{wanted_of}
 
 -- a command that these arguments made, one after another
 record IsMadeOf (xs : List Arg) (cmd : Command) : Type 0 where

@@ -2,8 +2,8 @@
 
 ghost use Rattle.std.specs.Prelude.{◌≡◌, ◌≤◌, Some, None, IfOk};
 ghost use Rattle.clap.specs.Facts.{least_values};
-ghost use Rattle.command_line.specs.Commands.{AreArguments, IsArgument, wanted_of};
-ghost use Rattle.command_line.specs.Commands.{blocking, check, file, length, named, vr, width};
+ghost use Rattle.command_line.specs.Arguments.{AreArguments, IsArgument, wanted_of};
+ghost use Rattle.command_line.specs.Arguments.{blocking, check, file, length, named, vr, width};
 
 use crate::commands::Named;
 use clap::{Arg, ArgAction, value_parser};

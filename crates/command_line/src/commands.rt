@@ -1,8 +1,8 @@
 // The commands of the tool, and the words of the command line.
 
 ghost use Rattle.std.specs.Prelude.{IfOk, IfErr, IfSome};
-ghost use Rattle.command_line.specs.Commands.{GivesAll, IsBare, wanted_of};
-ghost use Rattle.command_line.specs.Ranges.{IsInRange, IsOddIfWidth};
+ghost use Rattle.command_line.specs.Arguments.{GivesAll, IsBare, wanted_of};
+ghost use Rattle.command_line.specs.Arguments.{IsInRange, IsOddIfWidth};
 
 use crate::given::file_given;
 use crate::help::{COMMANDS, Described, ending_of_help};

@@ -2,8 +2,8 @@
 
 ghost use Rattle.std.specs.Prelude.{◌≤◌, IfOk, IfErr};
 ghost use Rattle.cop1.specs.Farm.{IsWidth};
-ghost use Rattle.command_line.specs.Commands.{Gives, GivesAll, file, length, wanted_of, width};
-ghost use Rattle.command_line.specs.Ranges.{IsInRange, IsOddIfWidth};
+ghost use Rattle.command_line.specs.Arguments.{Gives, GivesAll, file, length, wanted_of, width};
+ghost use Rattle.command_line.specs.Arguments.{IsInRange, IsOddIfWidth};
 
 use crate::commands::Named;
 use crate::task::{Task, UsageFault};

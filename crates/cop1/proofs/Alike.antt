@@ -1,4 +1,4 @@
--- Two senders with the same numbers, whose units are held in two ways that the operations of the holdings keep alike,
+-- Two senders with the same numbers, whose units are held in two ways that the operations of the stores keep alike,
 -- stay so by each report, tick and directive.
 use Rattle.std.proofs.Common.{◌≡◌, ℕ, Bool, true, false, Option, refl}
 use Rattle.std.specs.Prelude.{if◌then◌else◌, ◌==◌, not}
@@ -9,19 +9,19 @@ use Rattle.cop1.specs.declared.vocabulary.Directive.{Directive}
 use Rattle.cop1.specs.declared.vocabulary.Directive.TheVariants.{InitWithoutCheck, InitWithCheck, InitUnlock, InitSetVr}
 use Rattle.cop1.specs.declared.vocabulary.FopMode.{FopMode}
 use Rattle.cop1.specs.declared.vocabulary.FopMode.TheVariants.{S4, S5, S6}
-use Rattle.cop1.specs.FopVariables.{Holding, SenderOf, OutcomeOf, held_by}
+use Rattle.cop1.specs.FopVariables.{Store, SenderOf, OutcomeOf, held_by}
 use Rattle.cop1.specs.FopWords.{alerts, goes_on}
 use Rattle.cop1.specs.FopReport.{clcw_step, report_in, confirms, move_on, after_new_value, retransmits}
 use Rattle.cop1.specs.FopReport.{locks, waits, asks}
 use Rattle.cop1.specs.FopTick.{tick_step}
 use Rattle.cop1.specs.FopDirective.{directive_step, obeys}
 use Rattle.cop1.proofs.Both.{when}
-use Rattle.cop1.proofs.Hearing.{heard_both}
-use Rattle.cop1.proofs.Ticking.{ticked_both}
-use Rattle.cop1.proofs.Obeying.{obeyed_both, begun}
+use Rattle.cop1.proofs.ReportCases.{heard_both}
+use Rattle.cop1.proofs.TickCases.{ticked_both}
+use Rattle.cop1.proofs.DirectiveCases.{obeyed_both, begun}
 
--- what is so of the units that wait and those sent, in one holding and in another
-pub record Keeps (H K : Holding) : Type 1 where
+-- what is so of the units that wait and those sent, in one store and in another
+pub record Keeps (H K : Store) : Type 1 where
   pub Waits : H.Waiting → K.Waiting → Type 0
   pub Sends : H.Sent → K.Sent → Type 0
   pub no_unit : Waits H.no_unit K.no_unit
@@ -30,7 +30,7 @@ pub record Keeps (H K : Holding) : Type 1 where
   pub left : (n : ℕ) (x : H.Sent) (y : K.Sent) → Sends x y → Sends (H.left n x) (K.left n y)
   pub repeated : (x : H.Sent) (y : K.Sent) → Sends x y → Sends (H.repeated x) (K.repeated y)
 
-module _ {H K : Holding} (k : Keeps H K) (room : ℕ) (b : K.Bypass) where
+module _ {H K : Store} (k : Keeps H K) (room : ℕ) (b : K.Bypass) where
   pub record Alike {A : Type 0} (o : OutcomeOf H A) (p : OutcomeOf K A) : Type 0 where
     pub same : p ≡ record {
       after = held_by K o.after p.after.waiting p.after.sent b;
@@ -85,7 +85,7 @@ module _ {H K : Holding} (k : Keeps H K) (room : ℕ) (b : K.Bypass) where
     heard c _ = heard_both s w q b c (λ o p. Alike o p) (record {
       locked = λ is. over _;
       outside = λ is. over _;
-      waiting = λ asking is. over _;
+      wait_flag = λ asking is. over _;
       asks_none = λ asking at. over _;
       same = so h;
       ceases = λ asking at were. over _;

@@ -1,10 +1,10 @@
-pub mod Agreeing
+pub mod FarmFlags
 pub mod Alike
 pub mod Both
-mod Following
-pub mod Hearing
+mod UnitsFollow
+pub mod ReportCases
 pub mod Marks
-pub mod Obeying
-pub mod Pulling
+pub mod DirectiveCases
+pub mod PullCases
 mod Queued
-pub mod Ticking
+pub mod TickCases

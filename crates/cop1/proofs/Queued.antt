@@ -4,11 +4,11 @@ use Rattle.std.specs.Prelude.{◌↔◌, IsSome}
 use Rattle.circular_buffer.specs.Buffer.{Buffer, buffer, keep_last}
 use Rattle.cop1.specs.declared.fop.Fop.TheInside.{Inside}
 use Rattle.cop1.specs.Units.{IsFop, FopOutcome}
-use Rattle.cop1.specs.Queues.{Fits, marked_last, still_waiting, settled}
+use Rattle.cop1.specs.Queues.{Fits, marked_last, still_waiting, trimmed}
 use Rattle.cop1.specs.FopFields.{queues_of, fop_state_of, IsSound}
 use Rattle.cop1.specs.Numbers.{IsSender, SenderNumbers, SenderOutcome}
 use Rattle.cop1.proofs.Marks.{length-marked_last}
-use Rattle.cop1.proofs.Following.{Follows, no_units, no_unit}
+use Rattle.cop1.proofs.UnitsFollow.{Follows, no_units, no_unit}
 
 module _ {U : Type 0} where
   pub IsFop-fop_state_of : (f : Inside U) → IsSound f → IsFop (fop_state_of f)
@@ -33,7 +33,7 @@ module _ {U : Type 0} where
         ticks = is.sender.ranges.ticks;
       }
 
-  -- once the queues are settled
+  -- once the queues are trimmed
   module _ {A : Type 0} (f : Inside U) {o : SenderOutcome A} {r : FopOutcome U A} {s : SenderNumbers} {w : Option U}
       {b : Buffer U}
       (follows : Follows f.sender.room (queues_of f) o r) (numbers : s ≡ o.after)
@@ -42,13 +42,13 @@ module _ {U : Type 0} where
     abbrev ending : Inside U
     ending = record f { sender = s; waiting = w; sent = b }
 
-    pub settled-state : fop_state_of ending ≡ r.after
-    settled-state = rw (sent, waiting, numbers, follows.same) refl
+    pub trimmed-state : fop_state_of ending ≡ r.after
+    trimmed-state = rw (sent, waiting, numbers, follows.same) refl
 
-    pub settled-sound : IsSender s → IsSound f → IsSound ending
-    settled-sound is was =
+    pub trimmed-sound : IsSender s → IsSound f → IsSound ending
+    trimmed-sound is was =
         rw (sent, waiting) (record {
           sender = is;
-          fits = subst (λ (t : SenderNumbers). Fits t (settled t (queues_of f))) (sym numbers) follows.fits;
+          fits = subst (λ (t : SenderNumbers). Fits t (trimmed t (queues_of f))) (sym numbers) follows.fits;
           room = omega (arith, ap (λ (t : SenderNumbers). t.room) numbers, follows.same_room, was.room);
         })

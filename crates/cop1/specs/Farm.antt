@@ -2,7 +2,7 @@
 -- by event, one line a cell. What a line does not name stays. The columns Wait and Lockout are this
 -- project's profile (docs/PROFILE.md).
 use Rattle.std.specs.Prelude.{◌≡◌, ℕ, ◌+◌, ◌-◌, ◌/◌, ◌%◌, ◌≤◌, Bool, true, false, if◌then◌else◌}
-use Rattle.std.specs.Prelude.{◌==◌, nat_lt, nat_le}
+use Rattle.std.specs.Prelude.{◌==◌, nat_lt, nat_le, List, [], ◌∷◌}
 use Rattle.cop1.specs.Modulo.{ahead_by}
 use Rattle.cop1.specs.declared.farm.FarmMode.{FarmMode}
 use Rattle.cop1.specs.declared.farm.FarmMode.TheVariants.{Open, Wait, Lockout}
@@ -129,3 +129,21 @@ farm_step s UnlockArrives = after_unlock s s.state
 farm_step s (SetVrArrives vr) = after_set_vr s vr s.state
 farm_step s InvalidArrives = s
 farm_step s BufferReleased = after_release s s.state
+
+-- What holds of a receiver after any events.
+
+-- a receiver after one event after another
+abbrev pub farm_run : FarmState → List FarmEvent → FarmState
+farm_run s [] = s
+farm_run s (event ∷ events) = farm_run (farm_step s event) events
+
+-- the wait flag comes with the retransmit flag; the state is Lockout where the lockout flag stands,
+-- Wait where the wait flag stands without it, and otherwise Open
+pub record FlagsAgree (s : FarmState) : Type 0 where
+  pub asks : s.wait ≡ true → s.retransmit ≡ true
+  pub state : s.state ≡ state_of s.lockout s.wait
+
+-- so it is after any events at a new receiver
+abbrev pub FlagsAlwaysAgree : Type 0
+FlagsAlwaysAgree =
+    (width vr : ℕ) (events : List FarmEvent) → FlagsAgree (farm_run (new_farm width vr) events)

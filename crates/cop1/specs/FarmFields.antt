@@ -2,7 +2,7 @@
 use Rattle.std.specs.Prelude.{◌<◌}
 use Rattle.cop1.specs.declared.farm.FarmFields.{FarmFields}
 use Rattle.cop1.specs.Farm.{FarmState, IsWidth, state_of}
-use Rattle.cop1.specs.FarmRuns.{FlagsAgree}
+use Rattle.cop1.specs.Farm.{FlagsAgree}
 
 -- the receiver with these fields: the lockout flag and the wait flag give its state
 abbrev pub farm_with : FarmFields → FarmState

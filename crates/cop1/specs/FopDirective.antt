@@ -1,7 +1,7 @@
 -- What a directive does at the sender (this project's profile of CCSDS 232.1-B-2, 5.2.4 and table
 -- 5-1).
 use Rattle.std.specs.Prelude.{◌==◌, ◌||◌, nat_lt, if◌then◌else◌, Option, Some, None, Result, Ok}
-use Rattle.std.specs.Prelude.{Err}
+use Rattle.std.specs.Prelude.{Err, ℕ, Bool, true, false}
 use Rattle.tc_frame.specs.declared.frame.Command.TheVariants.{Unlock, SetVr}
 use Rattle.cop1.specs.declared.fault.CopFault.{CopFault}
 use Rattle.cop1.specs.declared.fault.CopFault.TheVariants.{Window, Limit, Timer, WrongState}
@@ -13,12 +13,12 @@ use Rattle.cop1.specs.declared.vocabulary.Control.TheVariants.{Due}
 use Rattle.cop1.specs.declared.vocabulary.Directive.{Directive}
 use Rattle.cop1.specs.declared.vocabulary.Directive.TheVariants.{InitWithoutCheck, InitWithCheck}
 use Rattle.cop1.specs.declared.vocabulary.Directive.TheVariants.{InitUnlock, InitSetVr, Terminate}
-use Rattle.cop1.specs.declared.vocabulary.Directive.TheVariants.{SetVs}
-use Rattle.cop1.specs.declared.vocabulary.Directive.TheVariants.{SetWindow, SetLimit, SetTimer}
-use Rattle.cop1.specs.FopVariables.{Holding, SenderOf, OutcomeOf}
+use Rattle.cop1.specs.declared.vocabulary.Directive.TheVariants.{SetVs, SetWindow, SetLimit}
+use Rattle.cop1.specs.declared.vocabulary.Directive.TheVariants.{SetTimer}
+use Rattle.cop1.specs.FopVariables.{Store, SenderOf, OutcomeOf}
 use Rattle.cop1.specs.FopWords.{after_restart, after_alert}
 
-module _ {H : Holding} where
+module _ {H : Store} where
   abbrev pub obeys : SenderOf H → OutcomeOf H (Result (Option Alert) CopFault)
   obeys s = record { after = s; answer = Ok None; gone = 0 }
 
@@ -59,3 +59,19 @@ module _ {H : Holding} where
       if (k == 0) || nat_lt s.room k then refuses s Window else obeys (record s { window = k })
   directive_step s (SetLimit n) = if n == 0 then refuses s Limit else obeys (record s { limit = n })
   directive_step s (SetTimer t) = if t == 0 then refuses s Timer else obeys (record s { timer = t })
+
+-- The classes of directives (this project's profile of CCSDS 232.1-B-2, 5.2.4).
+
+-- an initiation: a directive that leads from S6 to another state
+abbrev pub is_initiation : Directive → Bool
+is_initiation InitWithoutCheck = true
+is_initiation InitWithCheck = true
+is_initiation InitUnlock = true
+is_initiation (InitSetVr x) = true
+is_initiation _ = false
+
+-- the number that V(S) is set to, where a directive carries one
+abbrev pub vs_carried : Directive → Option ℕ
+vs_carried (InitSetVr x) = Some x
+vs_carried (SetVs x) = Some x
+vs_carried _ = None

@@ -4,7 +4,7 @@ use Rattle.cop1.specs.declared.fault.CopFault.{CopFault}
 use Rattle.cop1.specs.declared.fault.CopFault.TheVariants.{Width, Window, Limit, Timer}
 use Rattle.cop1.specs.declared.vocabulary.FopMode.TheVariants.{S6}
 use Rattle.cop1.specs.declared.vocabulary.Control.TheVariants.{Idle}
-use Rattle.cop1.specs.FopVariables.{Holding, SenderOf}
+use Rattle.cop1.specs.FopVariables.{Store, SenderOf}
 
 -- what is wrong with a receiver's window width, a window, a limit and a timer's value, in this
 -- order
@@ -17,7 +17,7 @@ new_fault width window limit timer =
     else None)))
 
 -- a new sender, with this bypass queue
-abbrev pub new_sender_of : {H : Holding} → H.Bypass → ℕ → ℕ → ℕ → ℕ → SenderOf H
+abbrev pub new_sender_of : {H : Store} → H.Bypass → ℕ → ℕ → ℕ → ℕ → SenderOf H
 new_sender_of {H = H} bypass width window limit timer =
     record {
       room = width / 2;

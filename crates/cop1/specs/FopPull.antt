@@ -8,7 +8,7 @@ use Rattle.cop1.specs.declared.vocabulary.FopMode.{FopMode}
 use Rattle.cop1.specs.declared.vocabulary.FopMode.TheVariants.{S1, S2}
 use Rattle.cop1.specs.declared.vocabulary.Control.{Control}
 use Rattle.cop1.specs.declared.vocabulary.Control.TheVariants.{Idle, Due, Sent}
-use Rattle.cop1.specs.FopVariables.{Holding, SenderOf, OutcomeOf}
+use Rattle.cop1.specs.FopVariables.{Store, SenderOf, OutcomeOf}
 use Rattle.cop1.specs.FopWords.{after_restart}
 
 -- what is pulled
@@ -18,7 +18,7 @@ pub data PulledUnit (U : Type 0) : Type 0 where
   BypassPulled : (unit : U) → PulledUnit U
   SequencePulled : (number : ℕ) (unit : U) → PulledUnit U
 
-module _ {H : Holding} where
+module _ {H : Store} where
   abbrev pub pulls : SenderOf H → PulledUnit H.One → OutcomeOf H (PulledUnit H.One)
   pulls s answer = record { after = s; answer = answer; gone = 0 }
 

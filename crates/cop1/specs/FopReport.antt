@@ -11,7 +11,7 @@ use Rattle.cop1.specs.declared.vocabulary.Alert.{Alert}
 use Rattle.cop1.specs.declared.vocabulary.Alert.TheVariants.{Lockout, NnR, Clcw as ClcwAlert, Synch}
 use Rattle.cop1.specs.declared.vocabulary.Alert.TheVariants.{Limit}
 use Rattle.cop1.specs.declared.vocabulary.Control.TheVariants.{Idle}
-use Rattle.cop1.specs.FopVariables.{Holding, SenderOf, OutcomeOf}
+use Rattle.cop1.specs.FopVariables.{Store, SenderOf, OutcomeOf}
 use Rattle.cop1.specs.FopWords.{is_outside, after_acknowledge, after_repeat, alerts, goes_on}
 use Rattle.cop1.specs.FopWords.{after_gone}
 
@@ -25,7 +25,7 @@ waits c = has_wait c.flags
 abbrev pub asks : Clcw → Bool
 asks c = has_retransmit c.flags
 
-module _ {H : Holding} where
+module _ {H : Store} where
   -- ---- S5, rules 14 and 15: a report without flags whose value is V(S) confirms the command
 
   abbrev pub confirms : SenderOf H → Clcw → Bool

@@ -4,9 +4,9 @@ use Rattle.cop1.specs.declared.fault.CopFault.{CopFault}
 use Rattle.cop1.specs.declared.fault.CopFault.TheVariants.{NotOpen, Busy}
 use Rattle.cop1.specs.declared.vocabulary.FopMode.{FopMode}
 use Rattle.cop1.specs.declared.vocabulary.FopMode.TheVariants.{S6}
-use Rattle.cop1.specs.FopVariables.{Holding, SenderOf, OutcomeOf}
+use Rattle.cop1.specs.FopVariables.{Store, SenderOf, OutcomeOf}
 
-module _ {H : Holding} where
+module _ {H : Store} where
   abbrev pub takes : SenderOf H → OutcomeOf H (Result (Unit {0}) CopFault)
   takes s = record { after = s; answer = Ok tt; gone = 0 }
 

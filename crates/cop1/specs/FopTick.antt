@@ -6,7 +6,7 @@ use Rattle.cop1.specs.declared.vocabulary.Alert.{Alert}
 use Rattle.cop1.specs.declared.vocabulary.Alert.TheVariants.{Timer}
 use Rattle.cop1.specs.declared.vocabulary.Control.{Control}
 use Rattle.cop1.specs.declared.vocabulary.Control.TheVariants.{Idle, Due, Sent}
-use Rattle.cop1.specs.FopVariables.{Holding, SenderOf, OutcomeOf}
+use Rattle.cop1.specs.FopVariables.{Store, SenderOf, OutcomeOf}
 use Rattle.cop1.specs.FopWords.{after_restart, after_stop, after_repeat, alerts, goes_on}
 
 abbrev pub due_again : Control → Control
@@ -14,7 +14,7 @@ due_again Idle = Idle
 due_again (Due command) = Due command
 due_again (Sent command) = Due command
 
-module _ {H : Holding} where
+module _ {H : Store} where
   abbrev pub after_count : SenderOf H → SenderOf H
   after_count s = record (after_restart s) { count = s.count + 1 }
 

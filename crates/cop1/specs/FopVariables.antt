@@ -14,7 +14,7 @@ IsActive _ = ⊥
 
 -- what holds a sender's units: the one that waits, those that are sent and those of the bypass
 -- queue
-pub record Holding : Type 1 where
+pub record Store : Type 1 where
   pub Waiting : Type 0
   pub Sent : Type 0
   pub Bypass : Type 0
@@ -38,7 +38,7 @@ pub record Holding : Type 1 where
   pub oldest_bypass : Bypass → Option (One × Bypass)
 
 -- a sender
-pub record SenderOf (H : Holding) : Type 0 where
+pub record SenderOf (H : Store) : Type 0 where
   -- how many units the sent queue may hold, half the receiver's window width
   pub room : ℕ
   pub state : FopMode
@@ -60,13 +60,13 @@ pub record SenderOf (H : Holding) : Type 0 where
   pub control : Control
 
 -- what an input leads to: the sender afterwards, the answer, and how many units were acknowledged
-pub record OutcomeOf (H : Holding) (A : Type 0) : Type 0 where
+pub record OutcomeOf (H : Store) (A : Type 0) : Type 0 where
   pub after : SenderOf H
   pub answer : A
   pub gone : ℕ
 
 -- the same sender, where something else holds its units
-abbrev pub held_by : {H : Holding} (K : Holding) → SenderOf H → K.Waiting → K.Sent → K.Bypass
+abbrev pub held_by : {H : Store} (K : Store) → SenderOf H → K.Waiting → K.Sent → K.Bypass
     → SenderOf K
 held_by K s waiting sent bypass =
     record {

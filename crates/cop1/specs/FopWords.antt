@@ -4,9 +4,9 @@ use Rattle.cop1.specs.Modulo.{ahead_by}
 use Rattle.cop1.specs.declared.vocabulary.FopMode.TheVariants.{S6}
 use Rattle.cop1.specs.declared.vocabulary.Alert.{Alert}
 use Rattle.cop1.specs.declared.vocabulary.Control.TheVariants.{Idle}
-use Rattle.cop1.specs.FopVariables.{Holding, SenderOf, OutcomeOf}
+use Rattle.cop1.specs.FopVariables.{Store, SenderOf, OutcomeOf}
 
-module _ {H : Holding} where
+module _ {H : Store} where
   -- a value is outside where it is further above NN(R) than V(S) is
   abbrev pub is_outside : SenderOf H → ℕ → Bool
   is_outside s v = nat_lt (ahead_by s.vs s.nn) (ahead_by v s.nn)

@@ -1,10 +1,6 @@
 pub mod Accepted
-pub mod Directives
-pub mod Farm
 pub mod FarmFields
-pub mod FarmRuns
 pub mod Faults
-pub mod FopDirective
 pub mod FopFields
 pub mod FopNew
 pub mod FopPull
@@ -24,3 +20,5 @@ pub mod Units
 pub mod UnitsLent
 pub mod UnitsNext
 pub mod UnitsStep
+pub mod Farm
+pub mod FopDirective

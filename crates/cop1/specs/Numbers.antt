@@ -5,7 +5,7 @@ use Rattle.std.specs.Prelude.{if◌then◌else◌, Option, Some, None, IfSome, I
 use Rattle.tc_frame.specs.declared.frame.Command.{Command}
 use Rattle.tc_frame.specs.declared.frame.Command.TheVariants.{Unlock, SetVr}
 use Rattle.cop1.specs.Modulo.{ahead_by}
-use Rattle.cop1.specs.FopVariables.{IsActive, Holding, SenderOf, OutcomeOf}
+use Rattle.cop1.specs.FopVariables.{IsActive, Store, SenderOf, OutcomeOf}
 use Rattle.cop1.specs.FopNew.{new_sender_of}
 use Rattle.cop1.specs.declared.vocabulary.FopMode.TheVariants.{S1, S4, S5, S6}
 use Rattle.cop1.specs.declared.vocabulary.Control.{Control}
@@ -29,7 +29,7 @@ waiting_which true = Some TheWaiting
 waiting_which false = None
 
 -- numbers in place of units
-abbrev pub numbers : Holding
+abbrev pub numbers : Store
 numbers =
     record {
       Waiting = Bool;

@@ -6,9 +6,9 @@ use Rattle.cop1.specs.declared.vocabulary.Alert.{Alert}
 use Rattle.cop1.specs.declared.vocabulary.Control.{Control}
 use Rattle.cop1.specs.declared.vocabulary.Control.TheVariants.{Idle, Due, Sent}
 use Rattle.cop1.specs.declared.vocabulary.Directive.{Directive}
-use Rattle.cop1.specs.declared.sender.reporting.ReportAnswer.{ReportAnswer}
-use Rattle.cop1.specs.declared.sender.sending.SenderNext.{SenderNext}
-use Rattle.cop1.specs.declared.sender.sending.SenderNext.TheVariants as next
+use Rattle.cop1.specs.declared.sender.report.ReportAnswer.{ReportAnswer}
+use Rattle.cop1.specs.declared.sender.pull.SenderNext.{SenderNext}
+use Rattle.cop1.specs.declared.sender.pull.SenderNext.TheVariants as next
 use Rattle.cop1.specs.FopSubmit.{submit_step}
 use Rattle.cop1.specs.FopDirective.{directive_step}
 use Rattle.cop1.specs.FopPull.{PulledUnit, NothingPulled, ControlPulled, BypassPulled}

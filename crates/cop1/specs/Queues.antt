@@ -6,10 +6,10 @@ use Rattle.std.specs.Prelude.{Err}
 use Rattle.circular_buffer.specs.Buffer.{keep_last}
 use Rattle.cop1.specs.Modulo.{ahead_by}
 use Rattle.cop1.specs.declared.fault.CopFault.{CopFault}
-use Rattle.cop1.specs.declared.sender.sending.SenderNext.{SenderNext}
-use Rattle.cop1.specs.declared.sender.sending.SenderNext.TheVariants as sends
-use Rattle.cop1.specs.declared.fop.pulling.Next.{Next}
-use Rattle.cop1.specs.declared.fop.pulling.Next.TheVariants as next
+use Rattle.cop1.specs.declared.sender.pull.SenderNext.{SenderNext}
+use Rattle.cop1.specs.declared.sender.pull.SenderNext.TheVariants as sends
+use Rattle.cop1.specs.declared.fop.pull.Next.{Next}
+use Rattle.cop1.specs.declared.fop.pull.Next.TheVariants as next
 use Rattle.cop1.specs.FopVariables.{held_by}
 use Rattle.cop1.specs.FopSubmit.{takes, comes_back, submit_step}
 use Rattle.cop1.specs.FopDirective.{directive_step}
@@ -54,16 +54,16 @@ module _ {U : Type 0} where
   still_waiting false waiting = None
 
   -- the queues, once what the numbers no longer count is let go of
-  abbrev pub settled : SenderNumbers → Queues U → Queues U
-  settled s q =
+  abbrev pub trimmed : SenderNumbers → Queues U → Queues U
+  trimmed s q =
       record q {
         waiting = still_waiting s.waiting q.waiting;
         units = keep_last s.sent.count q.units;
       }
 
-  abbrev pub settles : {A : Type 0} → Queues U → SenderOutcome A → FopOutcome U A
-  settles q o =
-      record { after = with_queues o.after (settled o.after q); answer = o.answer; gone = o.gone }
+  abbrev pub trims : {A : Type 0} → Queues U → SenderOutcome A → FopOutcome U A
+  trims q o =
+      record { after = with_queues o.after (trimmed o.after q); answer = o.answer; gone = o.gone }
 
   -- ---- once something goes on the link
 
@@ -133,10 +133,10 @@ module _ {U : Type 0} where
   by_rules s q (fop.Submit unit) =
       submitted q unit (submit_step s TheWaiting).after (submit_step s TheWaiting).answer
   by_rules s q (fop.Bypass unit) = bypass_step (with_queues s q) unit
-  by_rules s q (fop.Direct directive) = settles q (directive_step s directive)
+  by_rules s q (fop.Direct directive) = trims q (directive_step s directive)
   by_rules s q fop.Pull = pulled_by s q (first_bypass (is_due s.control) q.bypass)
-  by_rules s q (fop.Report report) = settles q (clcw_step s report)
-  by_rules s q fop.Tick = settles q (tick_step s)
+  by_rules s q (fop.Report report) = trims q (clcw_step s report)
+  by_rules s q fop.Tick = trims q (tick_step s)
 
 -- numbers are enough: whatever comes, a sender of units does as they say, and to its queues what
 -- their answer says

@@ -4,7 +4,7 @@ use Rattle.std.specs.Prelude.{◌≡◌, ◌≢◌, ◌≤◌, ℕ, Bool, true, 
 use Rattle.std.specs.Prelude.{drop, ◌+◌, ◌↔◌, if◌then◌else◌, Option, Some, None, IfSome, IsSome}
 use Rattle.std.specs.Prelude.{is_some}
 use Rattle.cop1.specs.Modulo.{ahead_by}
-use Rattle.cop1.specs.FopVariables.{IsActive, Holding, SenderOf, OutcomeOf}
+use Rattle.cop1.specs.FopVariables.{IsActive, Store, SenderOf, OutcomeOf}
 use Rattle.cop1.specs.FopNew.{new_sender_of}
 use Rattle.cop1.specs.Numbers.{IsCommanding}
 use Rattle.cop1.specs.declared.vocabulary.FopMode.TheVariants.{S1, S4, S5, S6}
@@ -43,7 +43,7 @@ oldest_of [] = None
 oldest_of (u ∷ us) = Some (u, us)
 
 -- units, those sent with a mark each
-abbrev pub units : Type 0 → Holding
+abbrev pub units : Type 0 → Store
 units U =
     record {
       Waiting = Option U;

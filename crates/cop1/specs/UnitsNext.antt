@@ -4,10 +4,10 @@ use denote.Bor.{Bor}
 use Rattle.cop1.specs.Units.{SentUnit}
 use Rattle.cop1.specs.FopPull.{PulledUnit, NothingPulled, ControlPulled, BypassPulled}
 use Rattle.cop1.specs.FopPull.{SequencePulled}
-use Rattle.cop1.specs.declared.fop.pulling.Next.{Next}
-use Rattle.cop1.specs.declared.fop.pulling.Next.TheVariants as next
-use Rattle.cop1.specs.declared.fop.pulling.Pulled.{Pulled}
-use Rattle.cop1.specs.declared.fop.pulling.Pulled.TheVariants as pulled
+use Rattle.cop1.specs.declared.fop.pull.Next.{Next}
+use Rattle.cop1.specs.declared.fop.pull.Next.TheVariants as next
+use Rattle.cop1.specs.declared.fop.pull.Pulled.{Pulled}
+use Rattle.cop1.specs.declared.fop.pull.Pulled.TheVariants as pulled
 
 module _ {U : Type 0} where
   -- the units of a sent queue

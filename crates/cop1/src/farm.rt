@@ -123,10 +123,10 @@ impl Model for Farm {
 
 impl Farm {
     ghost use Rattle.std.specs.Prelude.{◌<◌, IsTrue};
-    ghost use Rattle.clcw.specs.Writing.{fits};
+    ghost use Rattle.clcw.specs.Encoding.{fits};
     ghost use Rattle.cop1.specs.Report.{report_of};
     ghost use Rattle.cop1.specs.FarmFields.{IsFarm, farm_with};
-    ghost use Rattle.cop1.specs.FarmRuns.{FlagsAgree};
+    ghost use Rattle.cop1.specs.Farm.{FlagsAgree};
     ghost use Rattle.cop1.specs.Farm.{IsWidth, new_farm, place_of, verdict_of, farm_step, AdArrives, BdArrives, UnlockArrives, SetVrArrives, BufferReleased};
 
     /// An open receiver with all flags 0 and FARM-B 0, which expects the number `vr` (CCSDS 232.1-B-2,

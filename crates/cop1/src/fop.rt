@@ -1,18 +1,18 @@
 // The sender, FOP-1: its state.
 
-mod directing;
-mod peeking;
-mod pulling;
-mod reporting;
-mod settling;
-mod taking;
-mod ticking;
+mod directive;
+mod peek;
+mod pull;
+mod report;
+mod submit;
+mod tick;
+mod trim;
 
 use crate::fault::CopFault;
 use crate::sender::Sender;
 use crate::vocabulary::FopMode;
 use circular_buffer::HeapCircularBuffer;
-pub use pulling::Pulled;
+pub use pull::Pulled;
 use std::alloc::Global;
 use std::collections::VecDeque;
 use std::marker::Model;

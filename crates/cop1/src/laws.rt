@@ -1,6 +1,6 @@
 // What holds of the state tables themselves, whatever comes.
 
-ghost use Rattle.cop1.specs.FarmRuns.{FlagsAlwaysAgree};
+ghost use Rattle.cop1.specs.Farm.{FlagsAlwaysAgree};
 ghost use Rattle.cop1.specs.Queues.{FollowsTheRules};
 
 /// Of the receiver's table: after any events at a new receiver the wait flag comes with the

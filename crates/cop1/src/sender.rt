@@ -1,17 +1,17 @@
 // The sender's rules, FOP-1, over numbers alone.
 
-mod directing;
-mod reporting;
-mod restoring;
-mod sending;
-mod taking;
-mod ticking;
+mod directive;
+mod pull;
+mod report;
+mod restore;
+mod submit;
+mod tick;
 mod words;
 
 use crate::fault::CopFault;
 use crate::vocabulary::{Control, FopMode};
-pub use reporting::ReportAnswer;
-pub use sending::SenderNext;
+pub use pull::SenderNext;
+pub use report::ReportAnswer;
 use std::marker::Model;
 
 /// The numbers of a sender (CCSDS 232.1-B-2, 5.1), which a node may keep and go on from.

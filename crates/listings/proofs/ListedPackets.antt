@@ -6,12 +6,12 @@ use Rattle.std.proofs.lemmas.List.{append-nil, length-replicate, length-set}
 use Rattle.tc_frame.specs.declared.frame.Check.{Check}
 use Rattle.tc_frame.specs.declared.fault.TcFault.{TcFault}
 use Rattle.tc_frame.specs.Layout.{SegmentView, FrameView}
-use Rattle.tc_frame.specs.Reading.{frame_at}
+use Rattle.tc_frame.specs.Decoding.{frame_at}
 use Rattle.cop1.specs.Farm.{FarmState, new_farm}
 use Rattle.map_service.specs.Assembly.{assembled, is_open}
 use Rattle.map_service.specs.Exactness.{AssemblerState, step_at, after_step, HasPartsOf, IsTakenExactly}
 use Rattle.map_service.proofs.Places.{no_parts}
-use Rattle.map_service.proofs.Steps.{taken_exactly}
+use Rattle.map_service.proofs.AssemblerSteps.{taken_exactly}
 use Rattle.listings.specs.FarmLines as farms
 use Rattle.listings.specs.MapLines.{MapState, map_limits, map_opened, segment_of, assembler_after, after_frame}
 use Rattle.listings.specs.ListedPackets.{segment_in, as_list, accepted_in, listed_at, listed_on}

@@ -5,13 +5,13 @@ use Rattle.tc_frame.specs.declared.frame.Check.{Check}
 use Rattle.tc_frame.specs.declared.frame.Command.TheVariants.{Unlock, SetVr}
 use Rattle.tc_frame.specs.declared.fault.TcFault.{TcFault}
 use Rattle.tc_frame.specs.Layout.{BodyView, Ad, Bd, Bc, FrameView}
-use Rattle.tc_frame.specs.Reading.{frame_at}
+use Rattle.tc_frame.specs.Decoding.{frame_at}
 use Rattle.cop1.specs.Farm.{FarmState, farm_step, verdict_of, AdArrives, BdArrives, UnlockArrives}
 use Rattle.cop1.specs.Farm.{SetVrArrives}
 use Rattle.cop1.specs.declared.farm.FarmMode.{FarmMode}
 use Rattle.cop1.specs.declared.farm.FarmMode.TheVariants.{Open, Wait, Lockout}
 use Rattle.cop1.specs.Names.{verdict_row}
-use Rattle.listings.specs.FaultLines.{frame_fault_line}
+use Rattle.listings.specs.RefusalLines.{frame_fault_line}
 use Rattle.listings.specs.Listing.{Lines}
 use Rattle.listings.specs.Text.{line_end}
 

@@ -4,8 +4,8 @@ use Rattle.tc_frame.specs.declared.frame.Check.{Check}
 use Rattle.tc_frame.specs.declared.frame.Command.TheVariants.{Unlock, SetVr}
 use Rattle.tc_frame.specs.declared.fault.TcFault.{TcFault}
 use Rattle.tc_frame.specs.Layout.{SegmentView, BodyView, Ad, Bd, Bc, FrameView, flags_code}
-use Rattle.tc_frame.specs.Reading.{frame_at}
-use Rattle.listings.specs.FaultLines.{frame_fault_line}
+use Rattle.tc_frame.specs.Decoding.{frame_at}
+use Rattle.listings.specs.RefusalLines.{frame_fault_line}
 use Rattle.listings.specs.Listing.{Lines}
 use Rattle.listings.specs.Text.{octets_line, line_end}
 

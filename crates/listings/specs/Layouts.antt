@@ -1,17 +1,19 @@
 -- How a stream of octets is cut into records, and the three ways in which the files of the commands
 -- are.
 use Rattle.std.specs.Prelude.{◌≡◌, ◌≤◌, ℕ, List, take, length, nat_lt, if◌then◌else◌, Option, Some}
-use Rattle.std.specs.Prelude.{Result, Ok, Err}
+use Rattle.std.specs.Prelude.{Result, Ok, Err, drop}
 use Rattle.octets.specs.Records.{first_record, records_of, rest_of}
 use Rattle.tc_frame.specs.declared.frame.Check.{Check}
 use Rattle.tc_frame.specs.declared.fault.TcFault.{TcFault}
 use Rattle.tc_frame.specs.declared.fault.TcFault.TheVariants.{Short}
-use Rattle.tc_frame.specs.Splitting.{total_at}
+use Rattle.tc_frame.specs.Splitter.{total_at}
 use Rattle.space_packet.specs.declared.fault.PacketFault.{PacketFault}
 use Rattle.space_packet.specs.declared.fault.PacketFault.TheVariants.{Truncated}
-use Rattle.space_packet.specs.Reading.{extent_at}
+use Rattle.space_packet.specs.Decoding.{extent_at}
 use Rattle.tm_link.specs.declared.fault.TmFault.{TmFault}
 use Rattle.tm_link.specs.declared.fault.TmFault.TheVariants.{Length}
+use Rattle.listings.specs.declared.frame_cutter.FrameCutter.{FrameCutter}
+use Rattle.listings.specs.declared.frame_cutter.FrameLength as lengths
 
 -- How a stream is cut into records. F is why octets are refused as no record.
 pub record Layout (F : Type 0) : Type 0 where
@@ -72,3 +74,9 @@ telemetry_layout size = record { head = size; extent = frame_extent size; trunca
 -- space packets: the first six octets give the length (CCSDS 133.0-B-2, 4.1.3)
 abbrev pub packet_layout : Layout PacketFault
 packet_layout = record { head = 6; extent = extent_at; truncated = Truncated }
+
+-- What is held of a stream of telemetry frames.
+
+-- the octets that were fed and not handed out
+abbrev pub frames_held : {K : Type 0} {size : lengths.Ghosts K} → FrameCutter K size → List ℕ
+frames_held c = drop c.start c.octets.items

@@ -1,9 +1,10 @@
 -- What a command writes of a stream of records: the lines of each record in turn, and a line for a
 -- rest.
 use Rattle.std.specs.Prelude.{◌≡◌, None, ℕ, ◌+◌, Bool, true, false, ◌&&◌, List, [], ◌∷◌, ◌++◌}
-use Rattle.std.specs.Prelude.{length}
+use Rattle.std.specs.Prelude.{length, Option, Some, Result, Err}
 use Rattle.std.specs.List.{list_all}
 use Rattle.listings.specs.Layouts.{Layout, first_by, records_by, rest_by, rest_fault, IsRefused}
+use Rattle.listings.specs.declared.stream.Progress.{Progress}
 
 -- What a command writes. S is what it keeps between two records, F is why octets are refused as no
 -- record.
@@ -87,3 +88,21 @@ module _ {S F : Type 0} (lines : Lines S F) where
     pub record HasRefused (st : Standing S) (before now : List ℕ) : Type 0 where
       pub written_all : now ≡ before ++ text_of st
       pub refused : IsRefused layout (listed st).octets
+
+-- How a listing goes on, seen from the code.
+
+abbrev pub standing : {S : Type 0} → List ℕ → S → Progress → List ℕ → Standing S
+standing text kept progress octets =
+    record {
+      text =
+          text;
+      kept = kept;
+      count = progress.count;
+      all_good = progress.all_good;
+      octets = octets;
+    }
+
+-- a where_refused, or that octets are missing
+abbrev pub where_refused : {F : Type 0} → Option F → Option (Result (List ℕ) F)
+where_refused None = None
+where_refused (Some fault) = Some (Err fault)

@@ -8,7 +8,7 @@ use Rattle.tc_frame.specs.declared.frame.SegmentFlags.{SegmentFlags}
 use Rattle.tc_frame.specs.declared.frame.SegmentFlags.TheVariants.{First, Continuing, Last, Alone}
 use Rattle.tc_frame.specs.declared.fault.TcFault.{TcFault}
 use Rattle.tc_frame.specs.Layout.{SegmentView, BodyView, Ad, Bd, Bc, FrameView}
-use Rattle.tc_frame.specs.Reading.{frame_at}
+use Rattle.tc_frame.specs.Decoding.{frame_at}
 use Rattle.cop1.specs.Farm.{FarmState, new_farm, verdict_of}
 use Rattle.cop1.specs.declared.farm.Verdict.{Verdict}
 use Rattle.cop1.specs.declared.farm.Verdict.TheVariants.{Accepted, Ahead, NoBuffer, Behind, Outside}
@@ -18,9 +18,9 @@ use Rattle.map_service.specs.declared.limits.Limits.{Limits}
 use Rattle.map_service.specs.Causes.{cause_row}
 use Rattle.map_service.specs.Exactness.{AssemblerState, step_at, after_step}
 use Rattle.map_service.specs.Packets.{is_packet}
-use Rattle.map_service.specs.Taking.{TakeOutcome}
+use Rattle.map_service.specs.AssemblerTable.{TakeOutcome}
 use Rattle.listings.specs.FarmLines as farms
-use Rattle.listings.specs.FaultLines.{frame_fault_line}
+use Rattle.listings.specs.RefusalLines.{frame_fault_line}
 use Rattle.listings.specs.Listing.{Lines}
 use Rattle.listings.specs.Text.{octets_line, line_end}
 

@@ -7,8 +7,8 @@ use Rattle.space_packet.specs.declared.packet.PacketKind.TheVariants.{Telemetry,
 use Rattle.space_packet.specs.declared.fault.PacketFault.{PacketFault}
 use Rattle.space_packet.specs.Counters.{gap_after, counts_seen}
 use Rattle.space_packet.specs.Layout.{PacketView, secondary_bit}
-use Rattle.space_packet.specs.Reading.{packet_at}
-use Rattle.listings.specs.FaultLines.{packet_fault_line}
+use Rattle.space_packet.specs.Decoding.{packet_at}
+use Rattle.listings.specs.RefusalLines.{packet_fault_line}
 use Rattle.listings.specs.Listing.{Lines}
 use Rattle.listings.specs.Text.{octets_line}
 

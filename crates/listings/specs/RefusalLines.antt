@@ -1,11 +1,29 @@
--- The lines of refused frames: the frames that are refused.
-use Rattle.std.specs.Prelude.{ℕ, is_ok, List, [], Result, Ok, Err}
-use Rattle.tc_frame.specs.declared.frame.Check.TheVariants.{On}
+-- The lines of what is refused.
+use Rattle.std.specs.Prelude.{ℕ, List, is_ok, [], Result, Ok, Err}
 use Rattle.tc_frame.specs.declared.fault.TcFault.{TcFault}
+use Rattle.space_packet.specs.declared.fault.PacketFault.{PacketFault}
+use Rattle.tm_link.specs.declared.fault.TmFault.{TmFault}
+use Rattle.listings.specs.Text.{invalid_line}
+use Rattle.tc_frame.specs.declared.frame.Check.TheVariants.{On}
 use Rattle.tc_frame.specs.Layout.{FrameView}
-use Rattle.tc_frame.specs.Reading.{frame_at}
-use Rattle.listings.specs.FaultLines.{frame_fault_line}
+use Rattle.tc_frame.specs.Decoding.{frame_at}
 use Rattle.listings.specs.Listing.{Lines}
+use Rattle.tc_frame.specs.Faults as frames
+use Rattle.space_packet.specs.Faults as packets
+use Rattle.tm_link.specs.Faults as telemetry
+
+-- The lines of octets that are refused: of a record that is refused, or of a rest.
+
+abbrev pub frame_fault_line : ℕ → TcFault → List ℕ
+frame_fault_line i e = invalid_line i (frames.fault_row e)
+
+abbrev pub packet_fault_line : ℕ → PacketFault → List ℕ
+packet_fault_line i e = invalid_line i (packets.fault_row e)
+
+abbrev pub telemetry_fault_line : ℕ → TmFault → List ℕ
+telemetry_fault_line i e = invalid_line i (telemetry.fault_row e)
+
+-- The lines of refused frames: the frames that are refused.
 
 -- a good frame has no line
 abbrev pub refusal_line : ℕ → Result FrameView TcFault → List ℕ

@@ -5,9 +5,9 @@ use Rattle.octets.specs.Beginning.{IsBeginning}
 use Rattle.listings.specs.declared.fault.ListingFault.{ListingFault}
 use Rattle.listings.specs.declared.fault.ListingFault.TheVariants.{TooLong}
 use Rattle.listings.specs.declared.stream.TheConstants.{MOST_OCTETS}
-use Rattle.listings.specs.Failures.{reads_failed_in, writes_failed_in}
-use Rattle.listings.specs.Gained.{gained}
-use Rattle.listings.specs.Writing.{Writes, BeginsToWrite}
+use Rattle.listings.specs.Devices.{reads_failed_in, writes_failed_in}
+use Rattle.listings.specs.Devices.{gained}
+use Rattle.listings.specs.Devices.{Writes, BeginsToWrite}
 
 -- Of a source: what it has given, what remains where that is known, and how many reads failed.
 pub record Reads {R T : Type 0} (given : R → List ℕ) (remaining : R → Option (List ℕ))

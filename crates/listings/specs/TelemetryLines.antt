@@ -8,10 +8,10 @@ use Rattle.tm_link.specs.declared.frame.Pointer.{Pointer}
 use Rattle.tm_link.specs.declared.frame.Pointer.TheVariants.{At, NoStart, OnlyIdle}
 use Rattle.tm_link.specs.declared.gap.Gap.{Gap}
 use Rattle.tm_link.specs.declared.gap.Gap.TheVariants.{First, Lost}
-use Rattle.tm_link.specs.Extraction.{ExtractorState, extract_step}
+use Rattle.tm_link.specs.Extractor.{ExtractorState, extract_step}
 use Rattle.tm_link.specs.Layout.{FrameView}
-use Rattle.tm_link.specs.Reading.{frame_at}
-use Rattle.listings.specs.FaultLines.{telemetry_fault_line}
+use Rattle.tm_link.specs.Decoding.{frame_at}
+use Rattle.listings.specs.RefusalLines.{telemetry_fault_line}
 use Rattle.listings.specs.Listing.{Lines}
 use Rattle.listings.specs.Text.{octets_line, line_end}
 

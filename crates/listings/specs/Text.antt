@@ -1,6 +1,8 @@
 -- Pieces of the tool's lines.
-use Rattle.std.specs.Prelude.{ℕ, List, [], ◌∷◌, ◌++◌, codes, decimal}
+use Rattle.std.specs.Prelude.{ℕ, List, [], ◌∷◌, ◌++◌, codes, decimal, ◌≡◌, take, Result, OnOk, ◌+◌}
+use Rattle.std.specs.Prelude.{◌/◌, ◌%◌}
 use Rattle.hex.specs.Hex.{encode_upper}
+use Rattle.listings.specs.declared.text.Text.{Text}
 
 -- a line feed
 abbrev pub line_end : List ℕ
@@ -14,3 +16,18 @@ invalid_line i (number, name) =
 -- octets as upper-case hexadecimal digits, at the end of a line
 abbrev pub octets_line : List ℕ → List ℕ
 octets_line octets = encode_upper octets ++ line_end
+
+-- What is written in a text, and what is put into room of octets.
+
+-- the octets of a text
+abbrev pub written : Text → List ℕ
+written t = take t.len t.octets.items
+
+-- where the call goes well, these octets stand after those that the text had
+abbrev pub Appends : {T E : Type 0} → Result T E → Text → Text → List ℕ → Type 0
+Appends result old new octets = OnOk result (written new ≡ written old ++ octets)
+
+-- Four decimal digits, with leading zeros.
+
+abbrev pub four_digits : ℕ → List ℕ
+four_digits n = (48 + n / 1000) ∷ (48 + n / 100 % 10) ∷ (48 + n / 10 % 10) ∷ (48 + n % 10) ∷ []

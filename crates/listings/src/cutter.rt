@@ -3,7 +3,7 @@
 ghost use Rattle.std.specs.Prelude.{◌≡◌, ◌<◌, ◌++◌, ◌↔◌, ℕ, List, Option, length, IsNone, IsErr, IfErr, OnOk, OnErr};
 ghost use Rattle.std.specs.Borrow.{sem};
 ghost use Rattle.std.specs.Io.BufRead.{Rests};
-ghost use Rattle.octets.specs.Holding.{held as splitter_held, rest_after, failure_after, lent_view};
+ghost use Rattle.octets.specs.Splitter.{held as splitter_held, rest_after, failure_after, lent_view};
 ghost use Rattle.listings.specs.Layouts.{Layout, HasHeads, first_by};
 
 use octets::{Splitter, Wire};

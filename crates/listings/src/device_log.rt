@@ -30,8 +30,8 @@ impl Model for DeviceLog {
 
 impl DeviceLog {
     ghost use Rattle.std.specs.Prelude.{[], false};
-    ghost use Rattle.listings.specs.Calls.{octets_with, ended_with, failures_with};
-    ghost use Rattle.listings.specs.DeviceLog.{IsLogOf};
+    ghost use Rattle.listings.specs.Devices.{octets_with, ended_with, failures_with};
+    ghost use Rattle.listings.specs.Devices.{IsLogOf};
 
     /// Before the first call. It is for proofs alone.
     pub fn new() -> DeviceLog

@@ -2,10 +2,10 @@
 
 ghost use Rattle.std.specs.Prelude.{◌≡◌, ◌+◌, ◌≤◌, ◌++◌, [], ◌∷◌, codes, decimal, length, take, OnOk, IfOk, is_ok};
 ghost use Rattle.tc_frame.specs.Layout.{body_view, frame_view};
-ghost use Rattle.tc_frame.specs.Reading.{frame_at};
-ghost use Rattle.tc_frame.specs.Splitting.{check_if};
+ghost use Rattle.tc_frame.specs.Decoding.{frame_at};
+ghost use Rattle.tc_frame.specs.Splitter.{check_if};
 ghost use Rattle.cop1.specs.Names.{verdict_row};
-ghost use Rattle.listings.specs.Written.{Appends};
+ghost use Rattle.listings.specs.Text.{Appends};
 ghost use Rattle.listings.specs.FarmLines.{state_word, flag_number, flags_text, state_text, body_text, after_body, farm_line, after_record, farm_lines};
 
 use crate::lines::{push_invalid, push_refused};

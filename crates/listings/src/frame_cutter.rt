@@ -30,7 +30,7 @@ pub struct FrameCutter<K: FrameLength> {
 }
 
 impl<K: FrameLength> FrameCutter<K> {
-    ghost use Rattle.listings.specs.Cutting.{frames_held};
+    ghost use Rattle.listings.specs.Layouts.{frames_held};
 
     /// A cutter that holds nothing; it takes no memory until it is fed.
     pub fn new(alloc: Global, length: usize) -> Self
@@ -71,7 +71,7 @@ impl<K: FrameLength> FrameCutter<K> {
 }
 
 impl<K: FrameLength> Cutter for FrameCutter<K> {
-    ghost use Rattle.listings.specs.Cutting.{frames_held};
+    ghost use Rattle.listings.specs.Layouts.{frames_held};
     ghost use Rattle.listings.specs.Layouts.{telemetry_layout};
     ghost use Rattle.tm_link.specs.declared.fault.TmFault.TheVariants.{Memory};
     ghost use Rattle.std.proofs.Common.{arith, rules};

@@ -2,9 +2,9 @@
 
 ghost use Rattle.std.specs.Prelude.{◌≡◌, ◌+◌, ◌≤◌, ◌++◌, codes, decimal, length, take, vec_len, IfOk, is_ok};
 ghost use Rattle.tc_frame.specs.Layout.{frame_view, body_view, segment_view, flags_code};
-ghost use Rattle.tc_frame.specs.Reading.{frame_at};
-ghost use Rattle.tc_frame.specs.Splitting.{check_if};
-ghost use Rattle.listings.specs.Written.{Appends};
+ghost use Rattle.tc_frame.specs.Decoding.{frame_at};
+ghost use Rattle.tc_frame.specs.Splitter.{check_if};
+ghost use Rattle.listings.specs.Text.{Appends};
 ghost use Rattle.listings.specs.Text.{line_end};
 ghost use Rattle.listings.specs.FrameLines.{type_word, channel_text, segment_text, body_line, frame_line, frame_lines};
 

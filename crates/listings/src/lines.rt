@@ -2,7 +2,7 @@
 
 ghost use Rattle.std.specs.Prelude.{◌≡◌, ◌+◌, ◌*◌, ◌≤◌, ◌++◌, false, codes, decimal, length, take, vec_len, IfOk};
 ghost use Rattle.listings.specs.Text.{invalid_line, octets_line, line_end};
-ghost use Rattle.listings.specs.Written.{Appends};
+ghost use Rattle.listings.specs.Text.{Appends};
 
 use crate::parts::{put_all, put_digits, put_field, put_number, put_word};
 use crate::text::Text;

@@ -1,7 +1,7 @@
 // What the commands write of a stream of records.
 
 ghost use Rattle.std.specs.Prelude.{◌≡◌, OnOk, IfOk};
-ghost use Rattle.listings.specs.Written.{Appends};
+ghost use Rattle.listings.specs.Text.{Appends};
 ghost use Rattle.listings.specs.Listing.{Lines};
 
 use crate::cutter::Cutter;

@@ -3,8 +3,8 @@
 ghost use Rattle.std.specs.Prelude.{◌≡◌, ◌+◌, ◌≤◌, ◌++◌, codes, decimal, length, take, IfOk, is_ok, get_or, ℕ, List, Option};
 ghost use Rattle.space_packet.specs.Counters.{gap_after};
 ghost use Rattle.space_packet.specs.Layout.{packet_view, secondary_bit};
-ghost use Rattle.space_packet.specs.Reading.{packet_at};
-ghost use Rattle.listings.specs.Written.{Appends};
+ghost use Rattle.space_packet.specs.Decoding.{packet_at};
+ghost use Rattle.listings.specs.Text.{Appends};
 ghost use Rattle.listings.specs.PacketLines.{kind_word, none_seen, process_text, sequence_text, gap_text, packet_line, after_packet, packet_lines};
 
 use crate::lines::{push_invalid, push_octets, push_refused};

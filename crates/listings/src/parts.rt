@@ -3,7 +3,7 @@
 ghost use Rattle.std.specs.Prelude.{◌≡◌, ◌+◌, ◌*◌, ◌<◌, ◌≤◌, ◌%◌, ◌++◌};
 ghost use Rattle.std.specs.Prelude.{◌/◌, bit_and, codes, decimal, drop, length, map, take, slice_index};
 ghost use Rattle.hex.specs.Hex.{encode_upper, upper_digits};
-ghost use Rattle.listings.specs.FourDigits.{four_digits};
+ghost use Rattle.listings.specs.Text.{four_digits};
 
 use std::simd::prelude::*;
 

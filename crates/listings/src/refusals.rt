@@ -1,7 +1,7 @@
 // The line of each TC frame that is refused, among frames that end with their check.
 
 ghost use Rattle.std.specs.Prelude.{◌≡◌, ◌++◌, OnOk, IfOk, is_ok};
-ghost use Rattle.listings.specs.Written.{Appends};
+ghost use Rattle.listings.specs.Text.{Appends};
 ghost use Rattle.listings.specs.RefusalLines.{refusal_lines};
 
 use crate::lines::{push_invalid, push_refused};

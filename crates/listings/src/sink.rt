@@ -37,7 +37,7 @@ pub struct Writer<W> {
 
 impl<W> Writer<W> {
     ghost use Rattle.std.specs.Prelude.{[], false};
-    ghost use Rattle.listings.specs.DeviceLog.{IsLogOf};
+    ghost use Rattle.listings.specs.Devices.{IsLogOf};
 
     /// This writer, of which no write was made yet.
     pub fn new(inner: W) -> Self

@@ -44,7 +44,7 @@ pub struct Reader<R> {
 
 impl<R> Reader<R> {
     ghost use Rattle.std.specs.Prelude.{[], false};
-    ghost use Rattle.listings.specs.DeviceLog.{IsLogOf};
+    ghost use Rattle.listings.specs.Devices.{IsLogOf};
 
     /// This reader, of which no read was made yet.
     pub fn new(inner: R) -> Self

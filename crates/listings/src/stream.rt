@@ -4,12 +4,12 @@ ghost use Rattle.std.specs.Prelude.{◌≡◌, ◌⊎◌, None, false, ◌+◌, 
 ghost use Rattle.listings.specs.Layouts.{first_by, rest_by, IsRefused};
 ghost use Rattle.listings.specs.Listing.{fresh, listed, text_of, is_all_good, rest_line, is_empty, HasListed, HasRefused};
 ghost use Rattle.listings.specs.Devices.{HasEnded};
-ghost use Rattle.listings.specs.Failures.{writes_failed_in};
-ghost use Rattle.listings.specs.Gained.{gained};
-ghost use Rattle.listings.specs.Progress.{where_refused, standing};
+ghost use Rattle.listings.specs.Devices.{writes_failed_in};
+ghost use Rattle.listings.specs.Devices.{gained};
+ghost use Rattle.listings.specs.Listing.{where_refused, standing};
 ghost use Rattle.listings.specs.Streams.{Reads, WritesText};
-ghost use Rattle.listings.specs.Written.{written};
-ghost use Rattle.listings.specs.Writing.{BeginsToWrite};
+ghost use Rattle.listings.specs.Text.{written};
+ghost use Rattle.listings.specs.Devices.{BeginsToWrite};
 
 use crate::cutter::Cutter;
 use crate::fault::ListingFault;

@@ -1,9 +1,9 @@
 // The line of each TM frame: its fields, how many are missing before it, and the packets that it finishes.
 
 ghost use Rattle.std.specs.Prelude.{◌≡◌, ◌+◌, ◌≤◌, ◌++◌, IfOk, codes, length, take};
-ghost use Rattle.listings.specs.Written.{Appends};
+ghost use Rattle.listings.specs.Text.{Appends};
 ghost use Rattle.listings.specs.Text.{line_end};
-ghost use Rattle.tm_link.specs.Extraction.{ExtractorState, new_extractor, octets_of};
+ghost use Rattle.tm_link.specs.Extractor.{ExtractorState, new_extractor, octets_of};
 ghost use Rattle.tm_link.specs.Layout.{frame_view};
 ghost use Rattle.listings.specs.TelemetryLines.{counts_text, pointer_text, lost_text, frame_line, finished_line, finished_lines, telemetry_lines};
 

@@ -14,7 +14,7 @@ pub struct Text {
 }
 
 impl Text {
-    ghost use Rattle.listings.specs.Written.{written, Appends};
+    ghost use Rattle.listings.specs.Text.{written, Appends};
 
     /// A text with nothing in it; it takes no memory.
     pub fn new(alloc: Global) -> Self

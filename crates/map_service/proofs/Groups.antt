@@ -11,7 +11,7 @@ use Rattle.std.proofs.lemmas.List.Folds.{concat-append}
 use Rattle.octets.specs.Records.{IsRecord, IsSplit}
 use Rattle.octets.proofs.Streams.{split_of, only_split}
 use Rattle.space_packet.specs.Laws.{extent_has_header}
-use Rattle.space_packet.specs.Reading.{extent_at}
+use Rattle.space_packet.specs.Decoding.{extent_at}
 use Rattle.tc_frame.specs.Layout.{SegmentView}
 use Rattle.map_service.specs.Cutting.{longest_run, first_group, groups_within, groups_of, parts_of, segments_of}
 use Rattle.map_service.specs.Packets.{first_packet, packets_in, rest_in}

@@ -13,13 +13,14 @@ use Rattle.map_service.specs.declared.dropped.Dropped.{Dropped}
 use Rattle.map_service.specs.declared.dropped.Dropped.TheVariants.{NotAPacket, TooLong}
 use Rattle.map_service.specs.Assembly.{is_open, is_too_long}
 use Rattle.map_service.specs.Packets.{packets_in, rest_in, is_packet, are_packets}
-use Rattle.map_service.specs.declared.deciding.Step.TheVariants.{HandOut}
-use Rattle.map_service.specs.Deciding.{step_outcome}
-use Rattle.map_service.specs.Taking.{TakeOutcome, one_fault, several_fault, alone_fault, drop_outcome}
-use Rattle.map_service.specs.Taking.{packets_outcome, part_outcome, interruption, cell, take_step, alone_packets}
+use Rattle.map_service.specs.declared.decision.Action.TheVariants.{HandOut}
+use Rattle.map_service.specs.Decision.{outcome_with}
+use Rattle.map_service.specs.AssemblerTable.{TakeOutcome, one_fault, several_fault, alone_fault, drop_outcome}
+use Rattle.map_service.specs.AssemblerTable.{packets_outcome, part_outcome, interruption, cell, take_step}
+use Rattle.map_service.specs.AssemblerTable.{alone_packets}
 use Rattle.map_service.proofs.Groups.{IsWhole, packets-split, again}
 use Rattle.map_service.proofs.Passage.{one-from}
-use Rattle.map_service.specs.Taking.{is_dropped_at_once}
+use Rattle.map_service.specs.AssemblerTable.{is_dropped_at_once}
 
 abbrev pub AreWhole : List (List ℕ) → Type 0
 AreWhole packets = AllByRecursion (λ (p : List ℕ). is_packet p ≡ true) packets
@@ -48,7 +49,7 @@ alone_packets_are limits octets none = alone_by limits octets limits.blocking no
 
 -- an alone segment that is handed out, the part that is open being dropped
 pub handed_out : (limits : Limits) (part : Option (List ℕ)) (octets : List ℕ) → alone_fault limits octets ≡ None
-    → step_outcome limits HandOut (interruption part) part octets ≡ cell limits Alone part octets
+    → outcome_with limits HandOut (interruption part) part octets ≡ cell limits Alone part octets
 handed_out limits part octets none =
     rw none (ap (handing (interruption part)) (alone_packets_are limits octets none))
 

@@ -1,9 +1,9 @@
 pub mod Groups
-pub mod Grouping
+pub mod LongestGroups
 pub mod Handed
-pub mod Joining
+pub mod OneMore
 pub mod Parts
 pub mod Passage
 pub mod Places
-pub mod Steps
+pub mod AssemblerSteps
 pub mod Whole

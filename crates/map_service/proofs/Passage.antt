@@ -8,7 +8,7 @@ use Rattle.std.proofs.lemmas.Bool.{or_parts, eqb-false}
 use Rattle.std.proofs.lemmas.List.{append-nil}
 use Rattle.std.proofs.lemmas.List.Elements.{filter-append}
 use Rattle.octets.specs.Records.{IsRecord}
-use Rattle.space_packet.specs.Reading.{extent_at}
+use Rattle.space_packet.specs.Decoding.{extent_at}
 use Rattle.tc_frame.specs.declared.frame.SegmentFlags.{SegmentFlags}
 use Rattle.tc_frame.specs.declared.frame.SegmentFlags.TheVariants.{First, Alone}
 use Rattle.tc_frame.specs.Layout.{SegmentView}
@@ -26,7 +26,7 @@ use Rattle.map_service.proofs.Parts.{pieces-some, pieces-more, parts-fit}
 use Rattle.map_service.proofs.Parts.{pieces-joined, groups_joined, segments-joined, segments-parts}
 use Rattle.octets.specs.Beginning.{IsBeginning}
 use Rattle.map_service.specs.Cutting.{Submission, IsSubmitted, segments_of_all, packets_on}
-use Rattle.map_service.proofs.Joining.{assembled_begins}
+use Rattle.map_service.proofs.OneMore.{assembled_begins}
 
 -- ---- lists of segments, one after another
 

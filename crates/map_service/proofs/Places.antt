@@ -8,11 +8,11 @@ use Rattle.std.proofs.lemmas.List.{map-set, get_or-map, get_or-replicate, get_or
 use Rattle.tc_frame.specs.Layout.{SegmentView}
 use Rattle.map_service.specs.declared.limits.Limits.{Limits}
 use Rattle.map_service.specs.Assembly.{is_open, open_part}
-use Rattle.map_service.specs.declared.assembling.Change.{Change}
+use Rattle.map_service.specs.declared.assembler.Change.{Change}
 use Rattle.map_service.specs.Exactness.{AssemblerState, part_on_map, step_at, after_step}
-use Rattle.map_service.specs.Preparing.{part_after}
+use Rattle.map_service.specs.Prepared.{part_after}
 use Rattle.map_service.specs.Views.{part_view}
-use Rattle.map_service.proofs.Steps.{no_such_map}
+use Rattle.map_service.proofs.AssemblerSteps.{no_such_map}
 
 pub all_by_places : {X : Type 0} (P : X → Type 0) (xs : List X) (d : X)
     → ((i : ℕ) → i < length xs → P (get_or xs i d)) → AllByRecursion P xs

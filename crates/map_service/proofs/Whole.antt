@@ -11,7 +11,7 @@ use Rattle.map_service.specs.Packets.{is_packet, are_packets, is_some_over, AreP
 use Rattle.std.specs.List.{AllByRecursion, concat}
 use Rattle.octets.specs.Number.{IsOctets}
 use Rattle.space_packet.specs.Layout.{IsSomePacket}
-use Rattle.space_packet.proofs.Readings.{records_are, record_again}
+use Rattle.space_packet.proofs.Decoded.{records_are, record_again}
 use Rattle.map_service.proofs.Groups.{IsWhole, packets-split, all_of, again}
 use Rattle.map_service.proofs.Passage.{whole-from, one-from}
 

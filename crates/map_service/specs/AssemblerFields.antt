@@ -3,7 +3,7 @@ use Rattle.std.specs.Prelude.{◌≡◌, ◌≤◌, ℕ, List, length, map, Opti
 use Rattle.std.specs.List.{AllByRecursion}
 use Rattle.std.specs.Vec.{vec_capacity}
 use Rattle.std.specs.declared.vec.Vec.{Vec}
-use Rattle.map_service.specs.declared.assembling.Assembler.TheInside.{Inside}
+use Rattle.map_service.specs.declared.assembler.Assembler.TheInside.{Inside}
 use Rattle.map_service.specs.Exactness.{AssemblerState}
 use Rattle.map_service.specs.Views.{part_view}
 

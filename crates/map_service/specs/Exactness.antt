@@ -3,7 +3,7 @@ use Rattle.std.specs.Prelude.{◌≡◌, ◌≢◌, ℕ, List, [], ◌∷◌, �
 use Rattle.tc_frame.specs.Layout.{SegmentView}
 use Rattle.map_service.specs.declared.limits.Limits.{Limits}
 use Rattle.map_service.specs.Assembly.{assembled, open_part}
-use Rattle.map_service.specs.Taking.{lone_packet_at, TakeOutcome, take_step}
+use Rattle.map_service.specs.AssemblerTable.{lone_packet_at, TakeOutcome, take_step}
 
 -- the limits, and the open part of each MAP
 pub record AssemblerState : Type 0 where

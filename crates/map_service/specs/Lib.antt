@@ -2,10 +2,10 @@ pub mod AssemblerFields
 pub mod Assembly
 pub mod Causes
 pub mod Cutting
-pub mod Deciding
+pub mod Decision
 pub mod Exactness
 pub mod Faults
 pub mod Packets
-pub mod Preparing
-pub mod Taking
+pub mod Prepared
+pub mod AssemblerTable
 pub mod Views

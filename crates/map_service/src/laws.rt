@@ -12,7 +12,7 @@ ghost use Rattle.map_service.specs.Assembly.{is_open, assembled, open_part};
 ghost use Rattle.map_service.specs.Cutting.{segment_with, parts_of, groups_of, segments_of, cut_fault, payloads, IsPart, IsInParts, IsGrouped};
 ghost use Rattle.map_service.specs.Cutting.{Submission, IsSubmitted, segments_of_all, packets_on};
 ghost use Rattle.map_service.specs.Packets.{packets_in, is_packet, are_packets, ArePackets};
-ghost use Rattle.map_service.specs.Taking.{take_step};
+ghost use Rattle.map_service.specs.AssemblerTable.{take_step};
 
 /// Octets are judged to be exactly one packet, or one or more, just where they spell one, or one
 /// after another; and the packets that are found in them are the only ones.

@@ -4,18 +4,18 @@
 //! `cut` makes the segments of packets; an `Assembler` joins the segments of each MAP again.
 #![tactic(auto)]
 
-mod assembling;
+mod assembler;
 mod cutting;
-mod deciding;
+mod decision;
 mod dropped;
 mod fault;
 mod laws;
 mod limits;
 mod packets;
 
-pub use assembling::{Assembler, Prepared, Taken};
+pub use assembler::{Assembler, Prepared, Taken};
 pub use cutting::{alone_segment, cut, cut_packets, group_len, segment_count};
-pub use deciding::{Decision, Step, decide};
+pub use decision::{Action, Decision, decide};
 pub use dropped::Dropped;
 pub use fault::MapFault;
 pub use laws::{

@@ -3,7 +3,7 @@
 ghost use Rattle.std.specs.Prelude.{◌≡◌, Some, None, IfOk, if◌then◌else◌};
 ghost use Rattle.map_service.specs.Cutting.{cut_fault};
 ghost use Rattle.map_service.specs.Packets.{packets_in, are_packets, are_taken, is_some_over};
-ghost use Rattle.map_service.specs.Taking.{one_fault, alone_fault, alone_packets};
+ghost use Rattle.map_service.specs.AssemblerTable.{one_fault, alone_fault, alone_packets};
 ghost use Rattle.map_service.specs.Views.{ready_view};
 
 use crate::dropped::Dropped;

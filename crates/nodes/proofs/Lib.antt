@@ -1,12 +1,7 @@
-mod Whole
-pub mod Commanding
-pub mod Counting
-pub mod Delivering
-mod Directing
+pub mod CommandPackets
+pub mod PacketCounts
+pub mod Delivery
 pub mod InRange
-mod Refusing
-pub mod Reported
-mod Returning
-mod Short
-mod Sound
-pub mod Submitting
+mod SubmissionFaults
+pub mod FinishedPackets
+pub mod Submissions

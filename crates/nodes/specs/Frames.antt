@@ -2,7 +2,7 @@
 use Rattle.std.specs.Prelude.{ℕ, List, ◌++◌, take, drop, Option, Some, None}
 use Rattle.tc_frame.specs.declared.frame.Check.TheVariants.{On}
 use Rattle.tc_frame.specs.Layout.{FrameView, IsTcFrame}
-use Rattle.tc_frame.specs.Writing.{spelling, total_of}
+use Rattle.tc_frame.specs.Encoding.{spelling, total_of}
 
 -- how many octets the frame has, with its check
 abbrev pub size_of : Option FrameView → Option ℕ

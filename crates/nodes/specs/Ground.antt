@@ -4,7 +4,7 @@ use Rattle.std.specs.Prelude.{true, false, not, ◌&&◌, ◌==◌, nat_lt, if�
 use Rattle.std.specs.Prelude.{None, IfSome, Result, Ok, Err, OnOk, OnErr, IsOkUnless}
 use Rattle.clcw.specs.declared.word.Clcw.{Clcw}
 use Rattle.clcw.specs.declared.fault.ClcwFault.{ClcwFault}
-use Rattle.clcw.specs.Reading.{clcw_at}
+use Rattle.clcw.specs.Decoding.{clcw_at}
 use Rattle.tc_frame.specs.declared.frame.SegmentFlags.TheVariants.{Alone}
 use Rattle.tc_frame.specs.Layout.{SegmentView, BodyView, Ad, Bd, Bc, FrameView}
 use Rattle.map_service.specs.Assembly.{is_open, is_too_long}
@@ -21,8 +21,8 @@ use Rattle.cop1.specs.FopPull.{SequencePulled}
 use Rattle.cop1.specs.UnitsStep as sender
 use Rattle.tm_link.specs.declared.fault.TmFault.{TmFault}
 use Rattle.tm_link.specs.Layout as telemetry
-use Rattle.tm_link.specs.Reading.{frame_at}
-use Rattle.tm_link.specs.Extraction.{ExtractorState, Extracted, new_extractor, extract_step}
+use Rattle.tm_link.specs.Decoding.{frame_at}
+use Rattle.tm_link.specs.Extractor.{ExtractorState, Extracted, new_extractor, extract_step}
 use Rattle.nodes.specs.declared.config.Config.{Config}
 use Rattle.nodes.specs.declared.fault.LinkFault.{LinkFault}
 use Rattle.nodes.specs.declared.fault.LinkFault.TheVariants.{NotOpen, ClosedMap, NotCommand}
@@ -31,7 +31,7 @@ use Rattle.nodes.specs.declared.heard.Heard.{Heard}
 use Rattle.nodes.specs.declared.heard.Heard.TheVariants.{Invalid, Foreign, Frame}
 use Rattle.nodes.specs.declared.heard.HeardClcw.{HeardClcw}
 use Rattle.nodes.specs.declared.heard.HeardReport.TheVariants.{Used, Refused, OtherChannel}
-use Rattle.nodes.specs.Commands.{are_commands}
+use Rattle.nodes.specs.CommandPackets.{are_commands}
 use Rattle.nodes.specs.Parameters.{limits_of}
 use Rattle.nodes.specs.Steps.{Outcome}
 
@@ -74,14 +74,14 @@ is_closed S6 = true
 is_closed _ = false
 
 -- nothing is pending in S6; in the other states the oldest moves up
-abbrev pub settle_step : GroundState → GroundState
-settle_step s =
+abbrev pub refill_step : GroundState → GroundState
+refill_step s =
     if is_closed s.fop.state then record s { pending = [] }
     else after_moving_up s s.fop.waiting s.pending
 
 -- the ground, where its sender is so
 abbrev pub with_fop : GroundState → FopState SegmentView → GroundState
-with_fop s fop = settle_step (record s { fop = fop })
+with_fop s fop = refill_step (record s { fop = fop })
 
 -- the segments that were not sent, and those that were not acknowledged, the oldest first
 abbrev pub unsent_segments : GroundState → List SegmentView
@@ -112,7 +112,7 @@ submit_fault s m octets =
 
 abbrev pub after_submission : GroundState → ℕ → List ℕ → GroundState
 after_submission s m octets =
-    settle_step (record s { pending = s.pending ++ segments_on s m octets })
+    refill_step (record s { pending = s.pending ++ segments_on s m octets })
 
 -- the call is refused, or the ground is the next
 abbrev pub unless_refused : Option LinkFault → GroundState → GroundState

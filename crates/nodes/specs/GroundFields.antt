@@ -2,7 +2,7 @@
 use Rattle.std.specs.Prelude.{◌≡◌, ◌≤◌, ◌++◌, true}
 use Rattle.std.specs.List.{AllByRecursion}
 use Rattle.std.specs.VecDeque.{deque_capacity}
-use Rattle.tm_link.specs.Extraction.{octets_of}
+use Rattle.tm_link.specs.Extractor.{octets_of}
 use Rattle.map_service.specs.Packets.{is_packet}
 use Rattle.nodes.specs.declared.ground_node.Ground.TheInside.{Inside}
 use Rattle.nodes.specs.Parameters.{IsConfig}

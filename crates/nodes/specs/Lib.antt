@@ -1,7 +1,5 @@
-pub mod Acceptance
-pub mod Arriving
 pub mod BypassSegments
-pub mod Commands
+pub mod CommandPackets
 pub mod Delivery
 pub mod Faults
 pub mod Frames
@@ -16,3 +14,4 @@ pub mod Spacecraft
 pub mod SpacecraftFields
 pub mod Steps
 pub mod Submissions
+pub mod Arrival

@@ -5,7 +5,7 @@ use Rattle.std.specs.Coded.{Coded, code_by, coded×, coded_list, coded_ℕ}
 use Rattle.tc_frame.specs.declared.frame.SegmentFlags.{SegmentFlags}
 use Rattle.tc_frame.specs.declared.frame.SegmentFlags.TheVariants.{First, Continuing, Last, Alone}
 use Rattle.tc_frame.specs.Layout.{SegmentView, flags_code}
-use Rattle.tc_frame.specs.Reading.{flags_at}
+use Rattle.tc_frame.specs.Decoding.{flags_at}
 
 -- the flags, the MAP and the payload
 abbrev pub segment_parts : SegmentView → ℕ × (ℕ × List ℕ)

@@ -2,15 +2,15 @@
 use Rattle.std.specs.Prelude.{◌≡◌, ℕ, List, [], ◌∷◌, ◌++◌, length, Bool, true, false, ◌&&◌, ◌==◌}
 use Rattle.std.specs.Prelude.{nat_lt, if◌then◌else◌, Option, Some, None, Result, Ok, Err}
 use Rattle.circular_buffer.specs.Buffer.{keep_last}
-use Rattle.clcw.specs.Writing as words
+use Rattle.clcw.specs.Encoding as words
 use Rattle.tc_frame.specs.declared.frame.Check.TheVariants.{On}
 use Rattle.tc_frame.specs.declared.frame.Command.{Command}
 use Rattle.tc_frame.specs.declared.frame.Command.TheVariants.{Unlock, SetVr}
 use Rattle.tc_frame.specs.declared.fault.TcFault.{TcFault}
 use Rattle.tc_frame.specs.Layout.{SegmentView, BodyView, Ad, Bd, Bc, FrameView}
-use Rattle.tc_frame.specs.Reading.{frame_at}
+use Rattle.tc_frame.specs.Decoding.{frame_at}
 use Rattle.map_service.specs.Assembly.{open_part}
-use Rattle.map_service.specs.Taking.{TakeOutcome, take_step}
+use Rattle.map_service.specs.AssemblerTable.{TakeOutcome, take_step}
 use Rattle.cop1.specs.declared.farm.Verdict.{Verdict}
 use Rattle.cop1.specs.declared.farm.Verdict.TheVariants.{Accepted, Ahead, NoBuffer, Behind, Outside}
 use Rattle.cop1.specs.declared.farm.Verdict.TheVariants.{Discarded}
@@ -20,7 +20,7 @@ use Rattle.cop1.specs.Report.{report_of}
 use Rattle.tm_link.specs.declared.fault.TmFault.{TmFault}
 use Rattle.tm_link.specs.declared.fault.TmFault.TheVariants.{NotAPacket}
 use Rattle.tm_link.specs.Layout as telemetry
-use Rattle.tm_link.specs.Building.{BuilderState, new_builder, is_to_send, after_queue, build_step}
+use Rattle.tm_link.specs.Builder.{BuilderState, new_builder, is_to_send, after_queue, build_step}
 use Rattle.nodes.specs.declared.config.Config.{Config}
 use Rattle.nodes.specs.declared.received.Received.{Received}
 use Rattle.nodes.specs.declared.received.Received.TheVariants.{Invalid, Foreign, Sequence, Bypass}

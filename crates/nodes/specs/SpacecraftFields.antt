@@ -2,7 +2,7 @@
 use Rattle.std.specs.Prelude.{◌≡◌, ◌<◌, ◌≤◌, ◌+◌}
 use Rattle.std.specs.VecDeque.{deque_capacity}
 use Rattle.map_service.specs.Exactness.{HasPartsOf}
-use Rattle.tm_link.specs.Building.{BuilderState}
+use Rattle.tm_link.specs.Builder.{BuilderState}
 use Rattle.nodes.specs.declared.config.Config.{Config}
 use Rattle.nodes.specs.declared.spacecraft.Spacecraft.TheInside.{Inside}
 use Rattle.nodes.specs.Parameters.{limits_of}

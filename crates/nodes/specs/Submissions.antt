@@ -5,11 +5,11 @@ use Rattle.std.specs.declared.alloc.Global.{Global}
 use Rattle.std.specs.declared.vec.Vec.{Vec}
 use Rattle.tc_frame.specs.Layout.{SegmentView}
 use Rattle.map_service.specs.Packets.{packets_in}
-use Rattle.nodes.specs.declared.commands.Packets.{Packets}
+use Rattle.nodes.specs.declared.command_packets.Packets.{Packets}
 use Rattle.nodes.specs.declared.ground_node.submission.Segments.{Segments}
 use Rattle.nodes.specs.declared.ground_node.submission.Segments.TheVariants as segments
 use Rattle.nodes.specs.declared.ground_node.submission.Submission.{Submission}
-use Rattle.nodes.specs.Commands.{slices_view}
+use Rattle.nodes.specs.CommandPackets.{slices_view}
 use Rattle.nodes.specs.Ground.{GroundState, segments_on, submit_fault}
 
 abbrev pub packets_of : Option (Vec (Bor (List ℕ)) Global) → List (Bor (List ℕ)) → List (List ℕ)

@@ -1,9 +1,9 @@
 // The node on the ground.
 
-mod pulling;
-mod receiving;
+mod pull;
 mod submission;
-mod submitting;
+mod submit;
+mod telemetry;
 
 use crate::config::Config;
 use crate::fault::LinkFault;
@@ -48,7 +48,7 @@ impl Ground {
     ghost use Rattle.map_service.specs.Packets.{is_packet};
     ghost use Rattle.cop1.specs.Accepted.{accepted_beyond};
     ghost use Rattle.cop1.specs.Units.{IsFop};
-    ghost use Rattle.nodes.specs.Ground.{new_ground, ground_step, Direct, Tick, TakeTelemetry, settle_step, outstanding};
+    ghost use Rattle.nodes.specs.Ground.{new_ground, ground_step, Direct, Tick, TakeTelemetry, refill_step, outstanding};
     ghost use Rattle.nodes.specs.Ground.{is_closed};
     ghost use Rattle.nodes.specs.Parameters.{IsConfig};
 
@@ -153,7 +153,7 @@ impl Ground {
         ensures err { OnErr result (self.new ≡ self.old) }
     {
         let alert = self.fop.directive(directive)?;
-        self.settle();
+        self.refill();
         Ok(alert)
     }
 
@@ -165,7 +165,7 @@ impl Ground {
         ensures after { self.new ≡ (ground_step self.old Tick).after }
     {
         let alert = self.fop.tick();
-        self.settle();
+        self.refill();
         alert
     }
 
@@ -200,8 +200,8 @@ impl Ground {
 
     // Moves the oldest pending segment into the wait queue where its place is free. Once the sender has
     // given up nothing is pending.
-    fn settle(&mut self)
-        ensures { self.new ≡ settle_step self.old }
+    fn refill(&mut self)
+        ensures { self.new ≡ refill_step self.old }
     {
         if self.is_closed() {
             self.pending.clear();

@@ -8,7 +8,7 @@
 #![tactic(auto)]
 
 mod bypass_segments;
-mod commands;
+mod command_packets;
 mod config;
 mod data_field;
 mod event;

@@ -2,7 +2,7 @@
 
 mod accepted;
 mod arrival;
-mod receiving;
+mod receive;
 
 use crate::config::Config;
 use crate::fault::LinkFault;
@@ -50,11 +50,11 @@ impl Model for Spacecraft {
 
 impl Spacecraft {
     ghost use Rattle.std.specs.Prelude.{◌≡◌, ◌++◌, drop, take, Ok, option_map, IfOk, IfSome, IfErr, OnOk, OnErr, IsOkUnless, IsTrue};
-    ghost use Rattle.clcw.specs.Writing.{fits};
+    ghost use Rattle.clcw.specs.Encoding.{fits};
     ghost use Rattle.cop1.specs.Report.{report_of};
-    ghost use Rattle.tm_link.specs.Building.{queue_fault};
+    ghost use Rattle.tm_link.specs.Builder.{queue_fault};
     ghost use Rattle.tm_link.specs.Layout.{IsTmFrame};
-    ghost use Rattle.tm_link.specs.Writing.{spelling};
+    ghost use Rattle.tm_link.specs.Encoding.{spelling};
     ghost use Rattle.nodes.specs.Spacecraft.{new_spacecraft, spacecraft_step, Take, TakeBypass, Telemetry, Report, IsOwnFrame};
     ghost use Rattle.nodes.specs.PacketFields.{IsPacketOn};
     ghost use Rattle.nodes.specs.Packets.{packet_view, lent_packet};

@@ -11,10 +11,10 @@ use Rattle.std.proofs.Math.Seq.{take-append-add, drop-append-add, take-nil, drop
 use Rattle.octets.specs.Number.{number_of, IsOctets}
 use Rattle.octets.specs.Check.{bits_of, bit_sum, sum_without_carries, number_of_bits, octet_bits, generator_rest}
 use Rattle.octets.specs.Check.{remainder, check_of, HoldsCheck}
-use Rattle.octets.specs.Damage.{DiffersInTwoOctets, DiffersInBurst}
+use Rattle.octets.specs.Check.{DiffersInTwoOctets, DiffersInBurst}
 use Rattle.octets.proofs.Bits.{sum-assoc, sum-comm, sum-zeros, sum-apart, number_of_bits-bits_of}
 use Rattle.octets.proofs.Cuts.{drop_fits}
-use Rattle.octets.proofs.Below.{number_of_bits-below, length-sum, length-remainder, length-octet_bits}
+use Rattle.octets.proofs.Checked.{number_of_bits-below, length-sum, length-remainder, length-octet_bits}
 
 -- ---- the difference of two lists of bits
 

@@ -5,8 +5,7 @@ pub mod Bits
 pub mod Register
 pub mod Division
 pub mod TableEntries
-pub mod Below
-pub mod Checked
 pub mod Bursts
 pub mod Streams
 pub mod Walks
+pub mod Checked

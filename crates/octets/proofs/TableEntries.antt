@@ -11,7 +11,7 @@ use Rattle.octets.proofs.Register.{register_step, register_after, after-xor, ste
 use Rattle.std.proofs.lemmas.Bool.{eqb-true, cases_lt, and_parts}
 use Rattle.octets.specs.declared.table.TheConstants.{TABLES}
 use Rattle.octets.specs.Number.{IsOctets}
-use Rattle.octets.specs.Table.{entries, entries_after}
+use Rattle.octets.specs.Check.{entries, entries_after}
 
 -- ---- each entry
 

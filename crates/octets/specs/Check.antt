@@ -2,10 +2,11 @@
 -- division of bits.
 use Rattle.std.specs.Prelude.{◌≡◌, ◌≤◌, ◌-◌, take, drop, ℕ, zero, suc, ◌+◌, ◌*◌, ◌^◌, ◌==◌, Bool}
 use Rattle.std.specs.Prelude.{true, false, not, if◌then◌else◌, List, [], ◌∷◌, ◌++◌, length}
-use Rattle.std.specs.Prelude.{replicate}
+use Rattle.std.specs.Prelude.{replicate, ◌/◌, ◌%◌, slice_index, bit_xor}
 use Rattle.std.specs.Int.{bit_at}
 use Rattle.std.specs.List.{flat_map}
 use Rattle.octets.specs.Number.{number_of}
+use Rattle.octets.specs.declared.table.TheConstants.{TABLES}
 
 -- the lowest n bits of a number, the highest of them first
 abbrev pub bits_of : ℕ → ℕ → List Bool
@@ -55,3 +56,37 @@ pub record HoldsCheck (octets : List ℕ) : Type 0 where
   pub long : 2 ≤ length octets
   pub same : number_of (drop (length octets - 2) octets)
       ≡ check_of (take (length octets - 2) octets)
+
+-- The tables of the check.
+
+-- what an octet in this place has become `later` octets later
+abbrev pub entry_at : ℕ → ℕ → ℕ
+entry_at later place = slice_index TABLES (later * 256 + place)
+
+-- the entries of the octets from place i on, n of them after the first
+abbrev pub entries : (n i : ℕ) → (ℕ → ℕ) → ℕ
+entries zero i x = entry_at 0 (x i)
+entries (suc n) i x = bit_xor (entries n (i + 1) x) (entry_at (suc n) (x i))
+
+-- the register after octets, n + 1 of them after the first two, which it stands over
+abbrev pub entries_after : (n register : ℕ) → (ℕ → ℕ) → ℕ
+entries_after n register x =
+    bit_xor (bit_xor (entries n 2 x)
+    (entry_at (n + 1) (bit_xor (register % 256) (x 1))))
+    (entry_at (n + 2) (bit_xor (register / 256) (x 0)))
+
+-- Damage to octets on their way.
+
+-- the lists differ at most within the two octets from this place on
+pub record DiffersInTwoOctets (xs ys : List ℕ) : Type 0 where
+  pub place : ℕ
+  pub long : length xs ≡ length ys
+  pub before : take place xs ≡ take place ys
+  pub behind : drop (place + 2) xs ≡ drop (place + 2) ys
+
+-- the lists differ at most within the 16 bits from this place on: a burst
+pub record DiffersInBurst (xs ys : List ℕ) : Type 0 where
+  pub place : ℕ
+  pub long : length xs ≡ length ys
+  pub before : take place (octet_bits xs) ≡ take place (octet_bits ys)
+  pub behind : drop (place + 16) (octet_bits xs) ≡ drop (place + 16) (octet_bits ys)

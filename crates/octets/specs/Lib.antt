@@ -1,10 +1,7 @@
-pub mod Beginning
 pub mod Number
-pub mod Check
-pub mod Damage
 pub mod Outcome
 pub mod Records
-pub mod Table
-pub mod Holding
-pub mod Lending
-pub mod Appending
+pub mod Splitter
+pub mod SplitterLent
+pub mod Check
+pub mod Beginning

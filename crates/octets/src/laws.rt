@@ -3,7 +3,7 @@
 ghost use Rattle.std.specs.Prelude.{◌≡◌, ◌++◌, ℕ, List, [], Some, Ok, Err};
 ghost use Rattle.std.specs.List.{AllByRecursion, concat};
 ghost use Rattle.octets.specs.Check.{HoldsCheck};
-ghost use Rattle.octets.specs.Damage.{DiffersInBurst, DiffersInTwoOctets};
+ghost use Rattle.octets.specs.Check.{DiffersInBurst, DiffersInTwoOctets};
 ghost use Rattle.octets.specs.Number.{IsOctets};
 ghost use Rattle.octets.specs.Records.{IsSplit, first_record, records_of, rest_of};
 

@@ -2,7 +2,7 @@
 //! stream of octets, however it was cut.
 #![tactic(auto)]
 
-mod checking;
+mod frame_check;
 mod front;
 mod laws;
 mod number;
@@ -10,7 +10,7 @@ mod splitter;
 mod table;
 mod wire;
 
-pub use checking::{append_check, check, check_holds};
+pub use frame_check::{append_check, check, check_holds};
 pub use front::remove_front;
 pub use laws::{law_of_cutting, law_of_damage, law_of_records, law_of_refusal, law_of_spellings};
 pub use number::{first_two, low_eleven};

@@ -20,8 +20,8 @@ pub struct Splitter<W: Wire> {
 }
 
 impl<W: Wire> Splitter<W> {
-    ghost use Rattle.octets.specs.Holding.{held, nothing_held, held_after, lent_view, place_view, IsFed, IsFinished, IsWithin};
-    ghost use Rattle.octets.specs.Lending.{EndsAfter};
+    ghost use Rattle.octets.specs.Splitter.{held, nothing_held, held_after, lent_view, place_view, IsFed, IsFinished, IsWithin};
+    ghost use Rattle.octets.specs.SplitterLent.{EndsAfter};
     ghost use Rattle.octets.specs.Records.{first_record};
     ghost use Rattle.octets.specs.contracts.splitter.Splitter.{the_row};
 

@@ -1,7 +1,7 @@
 // The tables of the check, 256 entries each, one after another.
 
 ghost use Rattle.std.specs.Prelude.{◌≡◌, ◌<◌, ◌^◌};
-ghost use Rattle.octets.specs.Table.{entry_at};
+ghost use Rattle.octets.specs.Check.{entry_at};
 
 // The first table has what an octet adds to the register; each further one, what the entries of the
 // one before it become an octet later.

@@ -2,7 +2,7 @@
 use Rattle.std.proofs.Common.{◌≡◌, ◌∙◌, ◌++◌, ap, ℕ, List, Result, Ok, Err, OnOk}
 use Rattle.std.specs.Prelude.{decimal}
 use Rattle.std.proofs.lemmas.List.{append_assoc}
-use Rattle.script.specs.Playing.{count_below_map, count_over_maps}
+use Rattle.script.specs.Player.{count_below_map, count_over_maps}
 
 -- a count of those below MAP 64 is one of all
 pub all_maps : (packets_on : ℕ → List (List ℕ)) (count map : ℕ) → count ≡ count_below_map packets_on map → map ≡ 64

@@ -2,11 +2,11 @@
 use Rattle.std.specs.Prelude.{◌≡◌, ℕ, List, [], Option, Some, None}
 use Rattle.nodes.specs.Parameters.{config_fault}
 use Rattle.simulated_link.specs.World.{World, new_world}
-use Rattle.script.specs.declared.opening.ScriptFault.{ScriptFault}
-use Rattle.script.specs.declared.opening.ScriptFault.TheVariants as faults
+use Rattle.script.specs.declared.link.ScriptFault.{ScriptFault}
+use Rattle.script.specs.declared.link.ScriptFault.TheVariants as faults
 use Rattle.script_lines.specs.Lines.{ScriptLine}
 use Rattle.script_lines.specs.Scripts.{script_in, unreadable_line, config_in}
-use Rattle.script.specs.Playing.{answers_from}
+use Rattle.script.specs.Player.{answers_from}
 
 pub data Ending : Type 0 where
   -- it is played to its end

@@ -1,3 +1,3 @@
 pub mod Answers
-pub mod Playing
+pub mod Player
 pub mod Ending

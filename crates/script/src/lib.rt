@@ -6,12 +6,12 @@
 #![tactic(auto)]
 
 mod answer;
-mod opening;
-mod playing;
-mod showing;
+mod link;
+mod player;
+mod show;
 
-pub use opening::{ScriptFault, open};
-pub use playing::play_some;
+pub use link::{ScriptFault, open};
+pub use player::play_some;
 pub use script_lines::{
     Line, Rest, digits_of, law_of_commands, law_of_numbers, law_of_octets, read_line,
 };

@@ -2,7 +2,6 @@ pub mod Parts
 pub mod Numerals
 pub mod HexWords
 pub mod Spaces
-pub mod Spelled
-pub mod Commands
-pub mod Digits
+pub mod SpelledLines
+pub mod ReadLines
 pub mod Programs

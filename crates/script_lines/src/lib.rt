@@ -4,15 +4,15 @@
 //! `read_script` reads each line of a script once, into a configuration and a program. There is no link here.
 #![tactic(auto)]
 
-mod cutting;
 mod laws;
 mod line;
-mod reading;
+mod pieces;
+mod reader;
 mod scripts;
 mod words;
 
 pub use laws::{law_of_commands, law_of_numbers, law_of_octets};
 pub use line::{Line, Rest, digits_of};
-pub use reading::read_line;
+pub use reader::read_line;
 pub use scripts::{Reading, read_script};
 pub use words::octets_in_word;

@@ -7,9 +7,9 @@ ghost use Rattle.script_lines.specs.Scripts.{script_in, is_action, is_refused, w
 ghost use Rattle.script_lines.specs.Scripts.{unreadable_line, config_in};
 ghost use Rattle.script_lines.specs.Programs.{played, played_of, Says};
 
-use crate::cutting::cut;
 use crate::line::Line;
-use crate::reading::read_line;
+use crate::pieces::cut;
+use crate::reader::read_line;
 use nodes::Config;
 use std::alloc::Global;
 

@@ -10,29 +10,29 @@ use Rattle.tc_frame.specs.declared.frame.SegmentFlags.TheVariants.{First}
 use Rattle.tc_frame.specs.declared.frame.Command.TheVariants.{Unlock, SetVr}
 use Rattle.tc_frame.specs.Layout as tc
 use Rattle.tc_frame.specs.Layout.{BodyView, Ad, Bd, Bc, body_octets, check_length, flags_code}
-use Rattle.tc_frame.specs.Reading.{frame_with}
-use Rattle.tc_frame.specs.Reading as tc_reading
-use Rattle.tc_frame.specs.Splitting.{check_if}
+use Rattle.tc_frame.specs.Decoding.{frame_with}
+use Rattle.tc_frame.specs.Decoding as tc_reading
+use Rattle.tc_frame.specs.Splitter.{check_if}
 use Rattle.tc_frame.specs.Faults as tc_faults
 use Rattle.tc_frame.specs.declared.frame.Check.{Check}
 use Rattle.tc_frame.specs.declared.frame.TcFrame.{TcFrame}
 use Rattle.tc_frame.specs.declared.fault.TcFault.{TcFault}
-use Rattle.tc_frame.proofs.Frames as tc_frames
+use Rattle.tc_frame.proofs.Decoded as tc_frames
 use Rattle.tm_link.specs.Layout as tm
 use Rattle.tm_link.specs.Layout.{pointer_number}
-use Rattle.tm_link.specs.Reading.{pointer_at}
-use Rattle.tm_link.specs.Reading as tm_reading
+use Rattle.tm_link.specs.Decoding.{pointer_at}
+use Rattle.tm_link.specs.Decoding as tm_reading
 use Rattle.tm_link.specs.Faults as tm_faults
 use Rattle.tm_link.specs.declared.frame.TmFrame.{TmFrame}
 use Rattle.tm_link.specs.declared.fault.TmFault.{TmFault}
-use Rattle.tm_link.proofs.Frames as tm_frames
+use Rattle.tm_link.proofs.Decoded as tm_frames
 use Rattle.sedgechisel.specs.declared.command_frame.CommandFrame.{CommandFrame}
-use Rattle.sedgechisel.specs.declared.report_frame.ReportFrame.{ReportFrame}
+use Rattle.sedgechisel.specs.declared.telemetry_frame.ReportFrame.{ReportFrame}
 use Rattle.sedgechisel.specs.declared.part.Part.{Part}
 use Rattle.sedgechisel.specs.Answers.{numbered}
-use Rattle.sedgechisel.specs.Commands as commands
-use Rattle.sedgechisel.specs.Commands.{fields_with, part_with}
-use Rattle.sedgechisel.specs.Telemetry as telemetry
+use Rattle.sedgechisel.specs.CommandFrames as commands
+use Rattle.sedgechisel.specs.CommandFrames.{fields_with, part_with}
+use Rattle.sedgechisel.specs.TelemetryFrames as telemetry
 
 -- a crate's answer Ok
 read_ok : {A F : Type 0} (row : F → ℕ × List ℕ) (r : Result A F) (x : A) → numbered row r ≡ Ok x → r ≡ Ok x

@@ -1,6 +1,6 @@
-mod Assembling
+mod PacketsInOrder
 mod Cut
-mod Kept
+mod SenderFields
 mod Described
-mod Building
-mod Extracting
+mod Builders
+mod Extractors

@@ -5,8 +5,8 @@ use Rattle.space_packet.specs.Packets.{packets_in, rest_in}
 use Rattle.tm_link.specs.declared.turn.Turn.{Turn}
 use Rattle.tm_link.specs.declared.fault.TmFault.TheVariants.{NotAPacket, Memory, Room, FieldRange}
 use Rattle.tm_link.specs.Faults.{fault_row}
-use Rattle.tm_link.specs.Building.{BuilderState, builder_fits, new_builder, is_to_send}
-use Rattle.tm_link.specs.Building.{after_queue, state_with, build_step}
+use Rattle.tm_link.specs.Builder.{BuilderState, builder_fits, new_builder, is_to_send}
+use Rattle.tm_link.specs.Builder.{after_queue, state_with, build_step}
 use Rattle.tm_link.specs.Layout.{FrameView}
 use Rattle.sedgechisel.specs.declared.telemetry_builder.KeptBuilder.{KeptBuilder}
 use Rattle.sedgechisel.specs.Answers.{damaged, wrong_count}

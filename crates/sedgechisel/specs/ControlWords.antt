@@ -2,8 +2,8 @@
 use Rattle.std.specs.Prelude.{ℕ, List, length, ◌==◌, if◌then◌else◌, Result, Err}
 use Rattle.clcw.specs.declared.word.Clcw.{Clcw}
 use Rattle.clcw.specs.Faults.{fault_row}
-use Rattle.clcw.specs.Reading.{clcw_at}
-use Rattle.clcw.specs.Writing as writing
+use Rattle.clcw.specs.Decoding.{clcw_at}
+use Rattle.clcw.specs.Encoding as writing
 use Rattle.sedgechisel.specs.Answers.{wrong_count, numbered}
 
 -- the word that octets spell, which are to be four

@@ -1,8 +1,7 @@
 -- An extractor of packets as C keeps it, and what C is given of a telemetry frame.
-use Rattle.std.specs.Prelude.{◌≡◌, ◌≤◌, ℕ, ◌+◌, ◌-◌, true, false, List, [], ◌∷◌, ◌++◌, length}
-use Rattle.std.specs.Prelude.{take, drop}
-use Rattle.std.specs.Prelude.{Bool, not, ◌&&◌, ◌||◌, ◌==◌, nat_lt, nat_le, if◌then◌else◌, Option}
-use Rattle.std.specs.Prelude.{Some, None, Result, Ok, Err}
+use Rattle.std.specs.Prelude.{◌≡◌, ◌≤◌, ℕ, ◌+◌, ◌-◌, true, false, List, [], ◌∷◌, ◌++◌, length, take}
+use Rattle.std.specs.Prelude.{drop, Bool, not, ◌&&◌, ◌||◌, ◌==◌, nat_lt, nat_le, if◌then◌else◌}
+use Rattle.std.specs.Prelude.{Option, Some, None, Result, Ok, Err}
 use Rattle.std.specs.List.{concat}
 use Rattle.space_packet.specs.Packets.{packets_in}
 use Rattle.tm_link.specs.declared.frame.Pointer.{Pointer}
@@ -11,18 +10,19 @@ use Rattle.tm_link.specs.declared.gap.Gap.{Gap}
 use Rattle.tm_link.specs.declared.gap.Gap.TheVariants.{First, Lost}
 use Rattle.tm_link.specs.declared.fault.TmFault.TheVariants.{Memory, FieldRange}
 use Rattle.tm_link.specs.Faults.{fault_row}
-use Rattle.tm_link.specs.Extraction.{ExtractorState, Extracted, extract_step, completed_packet}
-use Rattle.tm_link.specs.Extraction.{part_after, is_any_lost, ending_of}
+use Rattle.tm_link.specs.Extractor.{ExtractorState, Extracted, extract_step, completed_packet}
+use Rattle.tm_link.specs.Extractor.{part_after, is_any_lost, ending_of, gap_of, part_over_gap}
+use Rattle.tm_link.specs.Extractor.{without_idle}
 use Rattle.tm_link.specs.declared.ending.Ending.{Ending}
 use Rattle.tm_link.specs.declared.ending.Ending.TheVariants.{Wrong}
-use Rattle.tm_link.specs.Extraction.{gap_of, part_over_gap, without_idle}
 use Rattle.tm_link.specs.Layout.{FrameView, pointer_fits}
 use Rattle.sedgechisel.specs.declared.part.Part.{Part}
-use Rattle.sedgechisel.specs.declared.report_frame.ReportFrame.{ReportFrame}
+use Rattle.sedgechisel.specs.declared.telemetry_frame.ReportFrame.{ReportFrame}
 use Rattle.sedgechisel.specs.declared.telemetry_extractor.KeptExtractor.{KeptExtractor}
 use Rattle.sedgechisel.specs.declared.telemetry_extractor.TakenFrame.{TakenFrame}
 use Rattle.sedgechisel.specs.Answers.{damaged}
-use Rattle.sedgechisel.specs.Telemetry.{frame_described}
+use Rattle.sedgechisel.specs.TelemetryFrames.{frame_described}
+use Rattle.sedgechisel.specs.declared.telemetry_extractor.Kept.{Kept}
 
 -- ---- what the structs describe
 
@@ -148,3 +148,13 @@ GoesOn octets old new true =
     × (new.from + new.count ≤ length octets)
 GoesOn octets old new false =
     (without_idle (packets_in (drop (old.from + old.count) octets)) ≡ []) × (new ≡ old)
+
+-- What a data field leaves in an extractor's memory.
+
+-- the memory holds these packets, one at most, at its beginning, and the part that is left
+pub record IsKept (k : Kept) (memory : List ℕ) (packets : List (List ℕ)) (left : List ℕ) : Type 0
+  where
+    pub joined : joined_at k.joined memory ≡ packets
+    pub part : octets_at k.part memory ≡ left
+    pub room : k.joined ≤ length memory
+    pub within : k.part.from + k.part.count ≤ length memory

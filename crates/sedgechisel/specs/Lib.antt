@@ -1,13 +1,12 @@
 pub mod Answers
 pub mod Builders
-pub mod Commands
+pub mod CommandFrames
 pub mod ControlWords
 pub mod Cuttings
-pub mod Extractors
-pub mod Fields
 pub mod Maps
 pub mod Names
 pub mod Packets
 pub mod Receivers
 pub mod Senders
-pub mod Telemetry
+pub mod TelemetryFrames
+pub mod Extractors

@@ -3,14 +3,14 @@ use Rattle.std.specs.Prelude.{◌≡◌, ℕ, ◌+◌, true, false, List, [], �
 use Rattle.std.specs.Prelude.{Bool, ◌&&◌, ◌||◌, ◌==◌, nat_lt, nat_le, if◌then◌else◌, Option, Some}
 use Rattle.std.specs.Prelude.{None, Result, Ok, Err}
 use Rattle.tc_frame.specs.declared.frame.SegmentFlags.{SegmentFlags}
-use Rattle.tc_frame.specs.Reading.{flags_at}
+use Rattle.tc_frame.specs.Decoding.{flags_at}
 use Rattle.map_service.specs.declared.dropped.Dropped.{Dropped}
 use Rattle.map_service.specs.declared.dropped.Dropped.TheVariants.{ClosedMap, Interrupted}
 use Rattle.map_service.specs.declared.dropped.Dropped.TheVariants.{NoBeginning, NotAPacket, TooLong}
 use Rattle.map_service.specs.declared.limits.Limits.{Limits}
 use Rattle.map_service.specs.Cutting.{segment_with}
 use Rattle.map_service.specs.Packets.{first_packet, packets_in}
-use Rattle.map_service.specs.Taking.{TakeOutcome, cell, take_step}
+use Rattle.map_service.specs.AssemblerTable.{TakeOutcome, cell, take_step}
 use Rattle.sedgechisel.specs.declared.assembly.KeptMap.{KeptMap}
 use Rattle.sedgechisel.specs.declared.assembly.TakenSegment.{TakenSegment}
 use Rattle.sedgechisel.specs.declared.part.Part.{Part}

@@ -4,8 +4,8 @@ use Rattle.std.specs.Prelude.{Result, Ok, Err}
 use Rattle.octets.specs.Outcome.{map_ok}
 use Rattle.space_packet.specs.Faults.{fault_row}
 use Rattle.space_packet.specs.Layout.{PacketView, type_bit, secondary_bit}
-use Rattle.space_packet.specs.Reading.{kind_at, extent_at, packet_at}
-use Rattle.space_packet.specs.Writing.{encode_answer}
+use Rattle.space_packet.specs.Decoding.{kind_at, extent_at, packet_at}
+use Rattle.space_packet.specs.Encoding.{encode_answer}
 use Rattle.sedgechisel.specs.declared.packet.PacketFields.{PacketFields}
 use Rattle.sedgechisel.specs.declared.part.Part.{Part}
 use Rattle.sedgechisel.specs.Answers.{damaged, numbered, and_then, if_ok}

@@ -11,8 +11,8 @@ use Rattle.cop1.specs.declared.vocabulary.Control.TheVariants.{Idle, Due, Sent}
 use Rattle.cop1.specs.declared.vocabulary.Directive.{Directive}
 use Rattle.cop1.specs.declared.vocabulary.FopMode.{FopMode}
 use Rattle.cop1.specs.declared.vocabulary.FopMode.TheVariants.{S1, S2, S3, S4, S5, S6}
-use Rattle.cop1.specs.declared.sender.sending.SenderNext.{SenderNext}
-use Rattle.cop1.specs.declared.sender.sending.SenderNext.TheVariants as next
+use Rattle.cop1.specs.declared.sender.pull.SenderNext.{SenderNext}
+use Rattle.cop1.specs.declared.sender.pull.SenderNext.TheVariants as next
 use Rattle.cop1.specs.Accepted.{accepted_beyond}
 use Rattle.cop1.specs.Faults.{fault_row}
 use Rattle.cop1.specs.FopNew.{new_fault}

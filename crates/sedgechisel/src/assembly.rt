@@ -6,7 +6,7 @@ ghost use Rattle.sedgechisel.specs.Maps.{is_map, is_counted, part_of, limits_of,
 
 use crate::numbers::DAMAGED;
 use crate::part::Part;
-use map_service::{Decision, Dropped, Limits, Step, decide, fault_of_one};
+use map_service::{Action, Decision, Dropped, Limits, decide, fault_of_one};
 use space_packet::packet_len;
 use tc_frame::SegmentFlags;
 
@@ -111,13 +111,13 @@ fn take_segment(
     ensures dropped { IsCauseNumber result.dropped }
 {
     let limits = limits_for(map, memory.len());
-    let Decision { step, dropped } = decide(&limits, flags, part_in(map, memory), octets);
-    match step {
-        Step::Close => {
+    let Decision { action, dropped } = decide(&limits, flags, part_in(map, memory), octets);
+    match action {
+        Action::Close => {
             close(map);
             no_packets(dropped)
         }
-        Step::HandOut => {
+        Action::HandOut => {
             close(map);
             TakenSegment {
                 count: octets.len(),
@@ -125,16 +125,16 @@ fn take_segment(
                 dropped: number_of(dropped),
             }
         }
-        Step::Begin => {
+        Action::Begin => {
             map.count = add(0, octets, memory);
             map.is_open = 1;
             no_packets(dropped)
         }
-        Step::Add => {
+        Action::Add => {
             map.count = add(map.count, octets, memory);
             no_packets(dropped)
         }
-        Step::End => {
+        Action::End => {
             let count = add(map.count, octets, memory);
             close(map);
             joined(count, fault_of_one(&limits, &memory[..count]))
@@ -205,7 +205,7 @@ pub(crate) fn add(count: usize, octets: &[u8], memory: &mut [u8]) -> usize
 
 /// Goes on to the packet after this part of the octets; begin with `{0, 0}`. Returns true, and the part is that packet;
 /// or false, with nothing written, if there is none.
-#[tactic(auto, using(crate::proofs::Assembling::stands_at, crate::proofs::Assembling::none_at, crate::proofs::Assembling::none_past))]
+#[tactic(auto, using(crate::proofs::PacketsInOrder::stands_at, crate::proofs::PacketsInOrder::none_at, crate::proofs::PacketsInOrder::none_past))]
 #[unsafe(no_mangle)]
 pub extern "C" fn sedge_map_packet(octets: &[u8], packet: &mut Part) -> bool
     ensures found { result ≡ is_some (next_packet octets.now packet.old) }

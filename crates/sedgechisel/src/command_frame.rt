@@ -3,10 +3,10 @@
 ghost use Rattle.std.specs.Prelude.{◌≡◌, length};
 ghost use Rattle.octets.specs.Outcome.{map_ok};
 ghost use Rattle.tc_frame.specs.Layout.{body_view, frame_view, segment_view};
-ghost use Rattle.tc_frame.specs.Splitting.{check_if};
-ghost use Rattle.tc_frame.specs.Writing.{total_of, spelling};
+ghost use Rattle.tc_frame.specs.Splitter.{check_if};
+ghost use Rattle.tc_frame.specs.Encoding.{total_of, spelling};
 ghost use Rattle.sedgechisel.specs.Answers.{IsRead, IsSpelled, IsWritten};
-ghost use Rattle.sedgechisel.specs.Commands.{segment_described, command_described, body_described, frame_described, fields_of, part_of, part_with, frame_read, frame_taken, total_declared, DescribesFrame};
+ghost use Rattle.sedgechisel.specs.CommandFrames.{segment_described, command_described, body_described, frame_described, fields_of, part_of, part_with, frame_read, frame_taken, total_declared, DescribesFrame};
 
 use crate::numbers::DAMAGED;
 use crate::part::Part;

@@ -37,17 +37,17 @@ macro_rules! step {
 }
 
 mod assembly;
-mod checking;
 mod command_frame;
 mod control_word;
 mod cutting;
+mod frame_check;
 mod names;
 mod numbers;
 mod packet;
 mod part;
 mod receiver;
-mod report_frame;
 mod sender;
 mod telemetry_builder;
 mod telemetry_extractor;
+mod telemetry_frame;
 mod version;

@@ -3,7 +3,7 @@
 ghost use Rattle.std.specs.Prelude.{◌≡◌, length};
 ghost use Rattle.octets.specs.Outcome.{map_ok};
 ghost use Rattle.space_packet.specs.Layout.{packet_view, type_bit, secondary_bit};
-ghost use Rattle.space_packet.specs.Writing.{total_of, spelling};
+ghost use Rattle.space_packet.specs.Encoding.{total_of, spelling};
 ghost use Rattle.sedgechisel.specs.Answers.{IsRead, IsSpelled, IsWritten};
 ghost use Rattle.sedgechisel.specs.Packets.{packet_described, fields_of, part_of, packet_read, packet_taken, total_declared, DescribesPacket};
 

@@ -1,8 +1,8 @@
 // The sender, FOP-1, whose numbers the caller keeps.
 
 mod accepted;
-mod describing;
-mod directing;
+mod directive;
+mod fields;
 
 ghost use Rattle.std.specs.Prelude.{◌≡◌};
 ghost use Rattle.cop1.specs.NumbersStep.{Submit, Next, Tick};
@@ -13,7 +13,7 @@ ghost use Rattle.sedgechisel.specs.Senders.{kept_of, sender_opened, stepped, aft
 use crate::numbers::ABSENT;
 use clcw::Clcw;
 use cop1::{Alert, Sender, SenderNext};
-use describing::{described, kept};
+use fields::{described, kept};
 use tc_frame::Command;
 
 /// A sender (CCSDS 232.1-B-2, 5.1): its numbers as `cop1::SenderFields` has them. The ticks are 0 where the timer is

@@ -2,9 +2,9 @@
 
 ghost use Rattle.std.specs.Prelude.{◌≡◌, ◌≤◌, ◌+◌, ◌-◌, ◌++◌, ◌==◌, ℕ, List, [], length, take, map, true, Ok, IfOk, OnErr, IfSome, is_some};
 ghost use Rattle.space_packet.specs.Packets.{packets_in};
-ghost use Rattle.tm_link.specs.Building.{left_after, after_send, after_fill, with_next_count};
+ghost use Rattle.tm_link.specs.Builder.{left_after, after_send, after_fill, with_next_count};
 ghost use Rattle.tm_link.specs.Layout.{IsTmFrame};
-ghost use Rattle.tm_link.specs.Writing.{spelling};
+ghost use Rattle.tm_link.specs.Encoding.{spelling};
 ghost use Rattle.sedgechisel.specs.Answers.{status_of, IsSpelled};
 ghost use Rattle.sedgechisel.specs.Builders.{pending_of, has_numbers, is_builder, state_of, builder_described, builder_opened, queued_at, built_at, turn_of};
 

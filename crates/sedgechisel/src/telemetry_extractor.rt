@@ -2,16 +2,16 @@
 
 ghost use Rattle.std.specs.Prelude.{◌≡◌, ◌≤◌, ◌+◌, ◌++◌, ◌==◌, ◌&&◌, ◌||◌, [], ◌∷◌, length, take, drop, true, not, nat_lt, is_some, IfSome, IfNone, OnOk, OnErr, if◌then◌else◌};
 ghost use Rattle.space_packet.specs.Packets.{rest_in};
-ghost use Rattle.tm_link.specs.Extraction.{completed_packet, continued_part, opened_part, part_after, without_idle};
+ghost use Rattle.tm_link.specs.Extractor.{completed_packet, continued_part, opened_part, part_after, without_idle};
 ghost use Rattle.tm_link.specs.Layout.{pointer_fits};
 ghost use Rattle.sedgechisel.specs.Answers.{status_of};
 ghost use Rattle.sedgechisel.specs.Extractors.{is_extractor, extracted_at, extracted_described, DescribesExtracted, GoesOn, StandsAfter, last_of, place_over_gap, gap_at, is_extracted, packets_from, octets_at, need_of, joined_by, joined_len, ending_after};
-ghost use Rattle.sedgechisel.specs.Fields.{IsKept};
+ghost use Rattle.sedgechisel.specs.Extractors.{IsKept};
 
 use crate::assembly::add;
 use crate::numbers::DAMAGED;
 use crate::part::Part;
-use crate::report_frame::{ReportFrame, pointer_from};
+use crate::telemetry_frame::{ReportFrame, pointer_from};
 use space_packet::packet_len;
 use tm_link::{
     Ending, Gap, Pointer, TmFault, ending_with, gap_before, is_idle_with, is_lost,

@@ -11,8 +11,8 @@ use base.Logic.{SProp, ent, emp, id⊢}
 use prog.Model.{Model}
 use prog.Wp.{WpFn, Closed}
 use types.Logic.{Logic}
-use types.Kit.{Item, Goal, Seq, Step, step, ‵, raw, ◌⊛◌, ◌$◌, ◌∵◌, !, qed, by, move, keep, drop, split, fsplit}
-use types.Kit.{fsplit3, fjoin, fpick, fpack, feq_i, feq_l, suffices, use0, rewrite}
+use types.Kit.{Item, Goal, Seq, Step, step, ‵, raw, ◌⊛◌, ◌$◌, ◌∵◌, !, qed, by, move, keep, drop, split, fsplit, fsplit3}
+use types.Kit.{fjoin, fpick, fpack, feq_i, feq_l, suffices, use0, rewrite}
 use types.Run.{stop, fld, of_opd, no_more, and_then, returns, enter}
 use types.ByLocal.{alloc_all, pass_all, free_all, look_at, get, get_in, sets}
 use types.Part.{agg, sub, whole}
@@ -34,14 +34,20 @@ use denote.Triple.Entry.{alive}
 use denote.Triple.Spec.{Meets}
 use denote.Triple.Walked.{Stays, stay_dropped, walk_of, Goes-dropped}
 use Rattle.std.specs.Prelude.{Option}
-use Rattle.std.specs.contracts.alloc.Global as heap
 use Rattle.std.specs.contracts.impls.GlobalAllocator.TheImpl.{ghosts}
-use Rattle.std.proofs.alloc.Global.TheLaws as heap_laws
 use Rattle.std.proofs.cell.Inside.{Good, one}
 use Rattle.std.proofs.raw_atomic.Walks.{proved_at, leaves}
 use Rattle.std.proofs.ResultValues.{and_tt}
 use Rattle.kept.specs.Keeping.{kept_owns, heap_token}
 use Rattle.kept.proofs.Values.{both, both_tt, ptr_good, kept_good, Kept, kept_opens, kept_closes}
+use Rattle.std.specs.contracts.alloc.Global as heap
+use Rattle.std.proofs.alloc.Global.TheLaws as heap_laws
+use Rattle.nodes.specs.contracts.ground_node.Ground as ground_node
+use Rattle.nodes.specs.contracts.spacecraft.Spacecraft as spacecraft_node
+use Rattle.sedgechisel_nodes.specs.contracts.sim.link.Link as link
+use Rattle.sedgechisel_nodes.specs.contracts.handles.GroundHandle as ground_handle
+use Rattle.sedgechisel_nodes.specs.contracts.handles.SpacecraftHandle as spacecraft_handle
+use Rattle.sedgechisel_nodes.specs.contracts.handles.SimHandle as link_handle
 
 -- a handle's type: what it keeps, and its values as a pointer and what is kept there
 pub record Handled : Type 2 where
@@ -238,3 +244,17 @@ module _ (h : Handled) where
           nothing ! $ nothing ! $ fjoin ! $ nothing ! $ fjoin ! $
           returns ! (look_at ! 0 refl) $ free_all ! refl $ keep ! (3 ∷ 0 ∷ 2 ∷ 1 ∷ []) $
           by ! (leaves 𝓛 En hs c z made (record { at = p; alloc = a; value = m }) (tt, (tt, tt)) (tt, (tt, tt))))))
+
+-- The handles of the ground, of the spacecraft and of the simulated link.
+
+abbrev pub of_ground : Handled
+of_ground = handled ground_node.the_row ground_handle.the_type
+    (λ d. (d.at, d.value)) (λ x. record { at = x.0; value = x.1 }) (λ x. refl)
+
+abbrev pub of_spacecraft : Handled
+of_spacecraft = handled spacecraft_node.the_row spacecraft_handle.the_type
+    (λ d. (d.at, d.value)) (λ x. record { at = x.0; value = x.1 }) (λ x. refl)
+
+abbrev pub of_link : Handled
+of_link = handled link.the_row link_handle.the_type
+    (λ d. (d.at, d.value)) (λ x. record { at = x.0; value = x.1 }) (λ x. refl)

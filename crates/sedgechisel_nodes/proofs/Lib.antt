@@ -1,5 +1,2 @@
-pub mod Answered
-mod Copied
 pub mod Handled
-mod Named
-pub mod NodeHandles
+pub mod Answered

@@ -1,10 +1,8 @@
-pub mod Boards
+pub mod Spacecraft
 pub mod Calls
-pub mod Grounds
-pub mod Hearing
+pub mod Ground
+pub mod Heard
 pub mod LinkFields
-pub mod LinkState
-pub mod Links
-pub mod ParameterNumbers
 pub mod Rooms
-pub mod Words
+pub mod Links
+pub mod Numbers

@@ -1,35 +1,43 @@
--- The simulated link of a program in C: what it holds, and what an event answers and leaves.
-use Rattle.std.specs.Prelude.{◌≡◌, ◌≢◌, ℕ, ◌⊎◌, List, [], length, option_map, false, ◌==◌}
+-- The simulated link of a program in C.
+use Rattle.std.specs.Prelude.{ℕ, List, ◌≡◌, ◌≢◌, ◌⊎◌, [], length, option_map, false, ◌==◌}
 use Rattle.std.specs.Prelude.{if◌then◌else◌, slice_get, Option, Some, None, Result, Ok, Err, IfSome}
+use Rattle.simulated_link.specs.World.{World, new_world, world_step, submitted, delivered, accepted}
 use Rattle.std.specs.Option.{unwrap_or}
 use Rattle.cop1.specs.Faults.{fault_row as cop_row}
 use Rattle.cop1.specs.Names.{alert_row}
 use Rattle.cop1.specs.declared.vocabulary.Directive.{Directive}
-use Rattle.cop1.specs.declared.vocabulary.Directive.TheVariants as directives
 use Rattle.tm_link.specs.Faults.{fault_row as tm_row}
 use Rattle.nodes.specs.Faults.{fault_row as link_row}
 use Rattle.nodes.specs.Ground.{outstanding}
 use Rattle.nodes.specs.Packets.{PacketOn}
 use Rattle.nodes.specs.declared.config.Config.{Config}
 use Rattle.nodes.specs.declared.event.Event.{Event}
-use Rattle.nodes.specs.declared.event.Event.TheVariants as events
 use Rattle.simulated_link.specs.declared.reply.NodeFault.{NodeFault}
 use Rattle.simulated_link.specs.declared.reply.NodeFault.TheVariants.{Link, Cop, Tm}
 use Rattle.simulated_link.specs.declared.fault.SimFault.{SimFault}
-use Rattle.simulated_link.specs.SimFaults.{fault_row}
+use Rattle.simulated_link.specs.Faults.{fault_row}
 use Rattle.simulated_link.specs.Events.{TakesNone}
 use Rattle.simulated_link.specs.Replies.{ReplyView, Done, Nothing, Lost, Refused, Alerted, Sent}
 use Rattle.simulated_link.specs.Replies.{Reported, Up, Down, Packet}
-use Rattle.simulated_link.specs.World.{World, new_world, world_step, submitted, delivered, accepted}
 use Rattle.c_words.specs.Directives.{directive_named}
 use Rattle.sedgechisel_nodes.specs.declared.sim.events.KeptEvent.{KeptEvent}
 use Rattle.sedgechisel_nodes.specs.declared.sim.reply.KeptReply.{KeptReply}
-use Rattle.sedgechisel_nodes.specs.declared.sim.reading.SimReading.{SimReading}
-use Rattle.sedgechisel_nodes.specs.Boards.{no_received, received_kept}
+use Rattle.sedgechisel_nodes.specs.declared.sim.readings.SimReading.{SimReading}
+use Rattle.sedgechisel_nodes.specs.Spacecraft.{no_received, received_kept}
 use Rattle.sedgechisel_nodes.specs.Calls.{closed}
-use Rattle.sedgechisel_nodes.specs.Grounds.{mode_number}
-use Rattle.sedgechisel_nodes.specs.Hearing.{no_heard, heard_kept, no_word}
-use Rattle.sedgechisel_nodes.specs.LinkState.{LinkState}
+use Rattle.sedgechisel_nodes.specs.Ground.{mode_number}
+use Rattle.sedgechisel_nodes.specs.Heard.{no_heard, heard_kept, no_word}
+use Rattle.cop1.specs.declared.vocabulary.Directive.TheVariants as directives
+use Rattle.nodes.specs.declared.event.Event.TheVariants as events
+
+-- What a simulated link of a program in C holds.
+
+-- the world, and the octets of the frame or the packet that the last event gave
+pub record LinkState : Type 0 where
+  pub world : World
+  pub octets : List ℕ
+
+-- The simulated link of a program in C: what it holds, and what an event answers and leaves.
 
 abbrev pub new_link : Config → LinkState
 new_link c = record { world = new_world c; octets = [] }

@@ -2,7 +2,7 @@
 
 ghost use Rattle.std.specs.Prelude.{◌≡◌, ◌≢◌};
 ghost use Rattle.nodes.specs.Ground.{Submit, ground_step, submit_fault};
-ghost use Rattle.sedgechisel_nodes.specs.Grounds.{number_of, IsAnswer, IsSubmission};
+ghost use Rattle.sedgechisel_nodes.specs.Ground.{number_of, IsAnswer, IsSubmission};
 
 use crate::handles::GroundHandle;
 use nodes::{Ground, LinkFault};

@@ -7,7 +7,7 @@ ghost use Rattle.nodes.specs.Spacecraft.{SpacecraftState, new_spacecraft};
 ghost use Rattle.nodes.specs.contracts.ground_node.Ground as ground_node;
 ghost use Rattle.nodes.specs.contracts.spacecraft.Spacecraft as spacecraft_node;
 ghost use Rattle.sedgechisel_nodes.specs.Calls.{IsOpened};
-ghost use Rattle.sedgechisel_nodes.specs.LinkState.{LinkState};
+ghost use Rattle.sedgechisel_nodes.specs.Links.{LinkState};
 ghost use Rattle.sedgechisel_nodes.specs.Links.{new_link};
 ghost use Rattle.sedgechisel_nodes.specs.contracts.sim.link.Link as link;
 

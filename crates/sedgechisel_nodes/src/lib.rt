@@ -25,16 +25,16 @@ macro_rules! read {
 }
 
 mod answers;
-mod board_taking;
-mod directing;
 mod ground;
+mod ground_directive;
+mod ground_take;
+mod ground_telemetry;
 mod handles;
-mod hearing;
 mod holds;
 mod names;
 mod parameters;
-mod reading;
+mod readings;
 mod room;
 mod sim;
 mod spacecraft;
-mod taking;
+mod spacecraft_take;

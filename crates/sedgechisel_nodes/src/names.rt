@@ -2,7 +2,7 @@
 
 ghost use Rattle.std.specs.Prelude.{◌≡◌};
 ghost use Rattle.c_words.specs.Words.{text_of};
-ghost use Rattle.sedgechisel_nodes.specs.Words.{parameter_word, link_fault_word, sim_fault_word};
+ghost use Rattle.sedgechisel_nodes.specs.Numbers.{parameter_word, link_fault_word, sim_fault_word};
 
 use c_words::{Text, named};
 use nodes::{LinkFault, Parameter};

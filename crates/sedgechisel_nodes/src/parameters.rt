@@ -2,7 +2,7 @@
 
 ghost use Rattle.std.specs.Prelude.{◌≡◌};
 ghost use Rattle.nodes.specs.Parameters.{out_of_range};
-ghost use Rattle.sedgechisel_nodes.specs.ParameterNumbers.{parameter_number, first_number};
+ghost use Rattle.sedgechisel_nodes.specs.Numbers.{parameter_number, first_number};
 
 use nodes::{Config, Parameter};
 
@@ -12,7 +12,7 @@ fn number_of_parameter(parameter: Parameter) -> u8
     parameter as u8 + 1
 }
 
-#[tactic(auto, using(crate::proofs::Named::named_again, crate::proofs::Named::none_again))]
+#[tactic(auto, using(crate::proofs::Answered::named_again, crate::proofs::Answered::none_again))]
 fn first_out_of_range(config: &Config) -> Option<Parameter>
     ensures { result ≡ out_of_range config.now }
 {

@@ -2,7 +2,7 @@
 
 mod events;
 pub(crate) mod link;
-mod reading;
+mod readings;
 mod records;
 mod reply;
 mod submissions;

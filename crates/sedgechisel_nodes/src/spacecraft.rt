@@ -2,12 +2,12 @@
 
 ghost use Rattle.std.specs.Prelude.{◌≡◌, ◌≢◌, None, option_map, IfSome, Ok};
 ghost use Rattle.tc_frame.specs.declared.frame.Check.TheVariants.{On};
-ghost use Rattle.tc_frame.specs.Reading.{frame_at};
+ghost use Rattle.tc_frame.specs.Decoding.{frame_at};
 ghost use Rattle.nodes.specs.Spacecraft.{Receive, Telemetry, spacecraft_step, HandsNothingOn};
-ghost use Rattle.tm_link.specs.Building.{queue_fault};
+ghost use Rattle.tm_link.specs.Builder.{queue_fault};
 ghost use Rattle.tm_link.specs.Faults.{fault_row};
 ghost use Rattle.cop1.specs.Names.{verdict_row};
-ghost use Rattle.sedgechisel_nodes.specs.Boards.{dropped_number, received_kept};
+ghost use Rattle.sedgechisel_nodes.specs.Spacecraft.{dropped_number, received_kept};
 ghost use Rattle.sedgechisel_nodes.specs.Calls.{closed, IsStep};
 
 use crate::answers::MEMORY;

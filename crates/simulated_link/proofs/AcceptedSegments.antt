@@ -7,11 +7,11 @@ use Rattle.simulated_link.proofs.Common.{SpacecraftOutcome, spacecraft_receive, 
 use Rattle.simulated_link.proofs.Common.{sequence_outcome, bypass_outcome, is_free, is_own_frame, is_kept, limits_of}
 use Rattle.simulated_link.proofs.Common.{segment_to_accept}
 use Rattle.tc_frame.specs.Layout.{FrameView}
-use Rattle.tc_frame.specs.Reading.{frame_at}
+use Rattle.tc_frame.specs.Decoding.{frame_at}
 use Rattle.nodes.specs.declared.received.Received.{Received}
 use Rattle.nodes.specs.declared.received.Received.TheVariants.{Foreign}
 use Rattle.nodes.specs.Spacecraft.{is_accepted}
-use Rattle.nodes.specs.Acceptance.{segment_in_body, segment_in_frame}
+use Rattle.nodes.specs.Arrival.{segment_in_body, segment_in_frame}
 
 same : {A : Type 0} (xs : List A) → xs ≡ xs ++ []
 same xs = sym (append-nil xs)

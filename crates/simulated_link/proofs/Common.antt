@@ -14,16 +14,16 @@ pub use Rattle.clcw.specs.declared.word.Clcw.{Clcw}
 pub use Rattle.tc_frame.specs.Layout.{SegmentView, BodyView, Ad, Bd, Bc, segment_octets}
 pub use Rattle.tc_frame.specs.declared.fault.TcFault.{TcFault}
 pub use Rattle.tc_frame.specs.declared.frame.Check.TheVariants.{On}
-pub use Rattle.map_service.proofs.Joining.{assembled_begins}
-pub use Rattle.map_service.proofs.Steps.{assembled-push, assembled-other}
+pub use Rattle.map_service.proofs.OneMore.{assembled_begins}
+pub use Rattle.map_service.proofs.AssemblerSteps.{assembled-push, assembled-other}
 pub use Rattle.map_service.specs.Assembly.{assembled}
 pub use Rattle.map_service.specs.Views.{packets_view}
 pub use Rattle.map_service.specs.declared.limits.Limits.{Limits}
-pub use Rattle.cop1.proofs.Hearing.{heard_active}
-pub use Rattle.cop1.proofs.Obeying.{obeyed, begun}
-pub use Rattle.cop1.proofs.Pulling.{pulled_out}
-pub use Rattle.cop1.proofs.Ticking.{ticked}
-pub use Rattle.cop1.specs.Directives.{is_initiation}
+pub use Rattle.cop1.proofs.ReportCases.{heard_active}
+pub use Rattle.cop1.proofs.DirectiveCases.{obeyed, begun}
+pub use Rattle.cop1.proofs.PullCases.{pulled_out}
+pub use Rattle.cop1.proofs.TickCases.{ticked}
+pub use Rattle.cop1.specs.FopDirective.{is_initiation}
 pub use Rattle.cop1.specs.Farm.{verdict_of}
 pub use Rattle.cop1.specs.FopDirective.{directive_step}
 pub use Rattle.cop1.specs.FopPull.{PulledUnit, pull_step}
@@ -45,12 +45,12 @@ pub use Rattle.cop1.specs.declared.vocabulary.Directive.TheVariants.{InitWithChe
 pub use Rattle.cop1.specs.declared.vocabulary.Directive.TheVariants.{InitSetVr}
 pub use Rattle.cop1.specs.declared.vocabulary.FopMode.{FopMode}
 pub use Rattle.cop1.specs.declared.vocabulary.FopMode.TheVariants.{S4, S5, S6, S1, S2, S3}
-pub use Rattle.tm_link.specs.Extraction.{Extracted, extract_step, octets_of}
+pub use Rattle.tm_link.specs.Extractor.{Extracted, extract_step, octets_of}
 pub use Rattle.tm_link.specs.declared.fault.TmFault.{TmFault}
-pub use Rattle.nodes.specs.Acceptance.{segment_to_accept}
+pub use Rattle.nodes.specs.Arrival.{segment_to_accept}
 pub use Rattle.nodes.specs.BypassSegments.{is_kept}
 pub use Rattle.nodes.specs.Ground.{is_closed, GroundOutcome, submit_fault, after_submission, unless_refused}
-pub use Rattle.nodes.specs.Ground.{settle_step, with_fop, frame_to_send, GroundState, after_extraction}
+pub use Rattle.nodes.specs.Ground.{refill_step, with_fop, frame_to_send, GroundState, after_extraction}
 pub use Rattle.nodes.specs.Ground.{telemetry_outcome, own_frame_outcome, ground_step}
 pub use Rattle.nodes.specs.Packets.{PacketOn, packet_on}
 pub use Rattle.nodes.specs.Parameters.{limits_of}

@@ -8,14 +8,14 @@ use Rattle.simulated_link.proofs.Common.{PulledUnit, pull_step, without_oldest_m
 use Rattle.simulated_link.proofs.Common.{marked_unit, FopOutcome, clcw_step, report_while_active, after_move_on}
 use Rattle.simulated_link.proofs.Common.{after_new_value, retransmits, IsActive, tick_step, after_acknowledge}
 use Rattle.simulated_link.proofs.Common.{after_repeat, after_alert, after_stop, goes_on, TmFault, Config, LinkFault}
-use Rattle.simulated_link.proofs.Common.{GroundState, settle_step, with_fop, unless_refused, after_submission}
+use Rattle.simulated_link.proofs.Common.{GroundState, refill_step, with_fop, unless_refused, after_submission}
 use Rattle.simulated_link.proofs.Common.{after_extraction, telemetry_outcome, frame_to_send, is_initiation, first_in}
 use Rattle.simulated_link.proofs.Common.{is_closed, obeyed, begun, ticked, pulled_out, heard_active, Bool}
 use Rattle.tc_frame.specs.Layout.{FrameView}
-use Rattle.tc_frame.specs.Writing.{spelling}
+use Rattle.tc_frame.specs.Encoding.{spelling}
 use Rattle.cop1.specs.Units.{IsFop}
 use Rattle.cop1.specs.FopWords.{is_outside}
-use Rattle.simulated_link.proofs.Reported.{reported, frame_seen}
+use Rattle.simulated_link.proofs.TelemetryCases.{reported, frame_seen}
 use Rattle.tm_link.specs.Layout as telemetry
 use Rattle.nodes.specs.Ground as ground
 
@@ -116,7 +116,7 @@ module _ (f : FopState SegmentView) (fop : IsFop f) (octet : f.nn < 256) (r : Cl
       heard_active f r IsGone (record {
         locked = λ t. stays (after_alert f) refl (omega arith);
         outside = λ t. stays (after_alert f) refl (omega arith);
-        waiting = λ none waiting. stays (after_alert f) refl (omega arith);
+        wait_flag = λ none waiting. stays (after_alert f) refl (omega arith);
         asks_none = λ asking at. stays (after_alert f) refl (omega arith);
         same = stays f refl (omega arith);
         ceases = λ none at were. stays (after_alert f) refl (omega arith);
@@ -153,17 +153,17 @@ module _ (s : GroundState) where
   moved_sent None [] = (refl, refl)
   moved_sent None (u ∷ ps) = (refl, refl)
 
-  settled_sent : IsAsSent (settle_step s)
-  settled_sent =
+  refilled_sent : IsAsSent (refill_step s)
+  refilled_sent =
       cond_both (is_closed s.fop.state) (record s { pending = [] }) (ground.after_moving_up s s.fop.waiting s.pending)
       IsAsSent (λ off. (refl, refl)) (λ on. moved_sent s.fop.waiting s.pending)
 
 with_sent : (s : GroundState) (f : FopState SegmentView) → (with_fop s f).fop.sent ≡ f.sent
-with_sent s f = (settled_sent (record s { fop = f })).0
+with_sent s f = (refilled_sent (record s { fop = f })).0
 
 pub submit_same : (s : GroundState) (m : ℕ) (octets : List ℕ) (o : Option LinkFault)
     → (unless_refused o s (after_submission s m octets)).after.fop.sent ≡ s.fop.sent
-submit_same s m octets None = (settled_sent (record s { pending = s.pending ++ ground.segments_on s m octets })).0
+submit_same s m octets None = (refilled_sent (record s { pending = s.pending ++ ground.segments_on s m octets })).0
 submit_same s m octets (Some fault) = refl
 
 pub tick_shorter : (s : GroundState) → length (ground.ground_tick s).after.fop.sent ≤ length s.fop.sent
@@ -192,15 +192,15 @@ module _ (s : GroundState) (fop : IsFop s.fop) (octet : s.fop.nn < 256) where
   same_less : (t : GroundState) → t.fop ≡ s.fop → IsLess t
   same_less t is = rw is (omega (arith, none_ahead s.fop fop octet))
 
-  settled_less : (t : GroundState) → IsLess t → IsLess (settle_step t)
-  settled_less t le = let is = settled_sent t in rw (is.0, is.1) le
+  refilled_less : (t : GroundState) → IsLess t → IsLess (refill_step t)
+  refilled_less t le = let is = refilled_sent t in rw (is.0, is.1) le
 
   -- when octets arrive
   pub heard_less : (r : Result telemetry.FrameView TmFault) → IsLess (telemetry_outcome s r).after
   heard_less = frame_seen s IsLess (record {
     same = same_less s refl;
     extracts = λ x. same_less (after_extraction s x) refl;
-    uses = λ x report. settled_less (record (after_extraction s x) { fop = (clcw_step s.fop report).after })
+    uses = λ x report. refilled_less (record (after_extraction s x) { fop = (clcw_step s.fop report).after })
         (report_gone s.fop fop octet report);
   })
 

@@ -9,7 +9,7 @@ use Rattle.simulated_link.proofs.Common.{verdict_of, Config, SpacecraftState, sp
 use Rattle.simulated_link.proofs.Common.{body_outcome, sequence_outcome, bypass_outcome, is_free, is_own_frame}
 use Rattle.simulated_link.proofs.Common.{segment_to_accept, acceptance_with, is_kept, packets_accepted_on, limits_of}
 use Rattle.tc_frame.specs.Layout.{FrameView}
-use Rattle.tc_frame.specs.Reading.{frame_at}
+use Rattle.tc_frame.specs.Decoding.{frame_at}
 use Rattle.simulated_link.proofs.AcceptedSegments.{accepts_segment, foreign}
 
 -- ---- the configuration stays

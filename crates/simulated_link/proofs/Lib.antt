@@ -1,13 +1,10 @@
 pub mod AcceptedSegments
-pub mod Arrived
 pub mod Common
 pub mod Counted
 pub mod FirstOctets
 pub mod Gained
-pub mod Leaving
+pub mod Unchanged
 pub mod MapLists
-pub mod Refusals
-pub mod Refusing
-pub mod Reported
-pub mod Sending
+pub mod TelemetryCases
 pub mod Transit
+pub mod Refusals

@@ -1,19 +1,22 @@
 -- What is answered where the ground refuses packets.
 use Rattle.simulated_link.proofs.Common.{◌≡◌, ◌≢◌, Option, Some, None, Result, Ok, Err, IfSome, LinkFault, SimFault}
-use Rattle.simulated_link.proofs.Common.{refl, ap, sym, subst, ◌∙◌, GroundState, submit_fault, limits_of, not, ◌==◌}
-use Rattle.simulated_link.proofs.Common.{ℕ, ◌+◌, List, length, Bool, true, false, if◌then◌else◌, is_closed}
-use Rattle.std.proofs.Common.{IsOkUnless, IsSome}
+use Rattle.simulated_link.proofs.Common.{refl, ap, sym, subst, ◌∙◌, GroundState, submit_fault, limits_of, not, ◌==◌, ℕ}
+use Rattle.simulated_link.proofs.Common.{◌+◌, List, length, Bool, true, false, if◌then◌else◌, is_closed, Event, World}
+use Rattle.simulated_link.proofs.Common.{WorldOutcome, world_step}
+use Rattle.std.proofs.Common.{IsOkUnless, IsSome, IfErr}
 use Rattle.std.specs.Prelude.{nat_lt}
 use Rattle.map_service.specs.Assembly.{is_open, is_too_long}
 use Rattle.map_service.specs.Packets.{packets_in, is_some_over}
-use Rattle.nodes.specs.Commands.{are_commands}
+use Rattle.nodes.specs.CommandPackets.{are_commands}
 use Rattle.nodes.specs.Ground.{is_over_slots, bypass_fault}
-use Rattle.nodes.specs.declared.fault.LinkFault.TheVariants as faults
 use Rattle.simulated_link.specs.declared.fault.SimFault.TheVariants.{Memory}
 use Rattle.simulated_link.specs.declared.reply.Reply.{Reply}
-use Rattle.simulated_link.specs.declared.reply.Reply.TheVariants as replies
 use Rattle.simulated_link.specs.declared.reply.NodeFault.TheVariants.{Link}
 use Rattle.simulated_link.specs.Replies.{answer_to_refusal}
+use Rattle.simulated_link.proofs.Unchanged.{AtEachLoss, lost, pulled, up_arrives, down_arrives}
+use Rattle.nodes.specs.declared.fault.LinkFault.TheVariants as faults
+use Rattle.simulated_link.specs.declared.reply.Reply.TheVariants as replies
+use Rattle.nodes.specs.declared.event.Event.TheVariants as events
 
 module _ (P : Result Reply SimFault → Type 0) where
   -- any other fault than want of memory is a reply
@@ -56,3 +59,25 @@ bypass_never s m octets =
     (or_else (nat_lt s.config.part (length octets)) faults.TooLong _ (λ is. cc is)
     (or_else (nat_lt s.config.queue_slots (length s.fop.bypass + 1)) faults.QueueFull None (λ is. cc is)
     (λ is. cc is)))))
+
+-- A refused event leaves the world as it was.
+
+abbrev Keeps : World → WorldOutcome → Type 0
+Keeps w o = IfErr o.answer (λ _. o.after ≡ w)
+
+losses : (w : World) → AtEachLoss w (Keeps w)
+losses w = record {
+  refused = λ fault. refl;
+  up = λ b bs is reply silent. tt;
+  down = λ b bs is reply silent. tt;
+}
+
+pub refused_keeps : (w : World) (event : Event) → Keeps w (world_step w event)
+refused_keeps w events.Send = pulled w (Keeps w) (λ reply up sent silent. tt)
+refused_keeps w events.UpDeliver = up_arrives w (Keeps w) refl (λ b bs is. tt)
+refused_keeps w events.DownDeliver = down_arrives w (Keeps w) refl (λ b bs is. tt)
+refused_keeps w events.UpLose = lost w (Keeps w) (losses w) events.UpLose tt
+refused_keeps w (events.UpDamage octets) = lost w (Keeps w) (losses w) (events.UpDamage octets) tt
+refused_keeps w events.DownLose = lost w (Keeps w) (losses w) events.DownLose tt
+refused_keeps w (events.DownDamage octets) = lost w (Keeps w) (losses w) (events.DownDamage octets) tt
+refused_keeps w _ = tt

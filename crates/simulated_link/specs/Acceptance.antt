@@ -3,7 +3,7 @@ use Rattle.std.specs.Prelude.{ℕ, List, Option, option_map}
 use Rattle.tc_frame.specs.Layout.{SegmentView, segment_octets}
 use Rattle.map_service.specs.Views.{packets_view}
 use Rattle.nodes.specs.declared.spacecraft.arrival.Arrival.{Arrival}
-use Rattle.nodes.specs.Arriving.{accepted_of}
+use Rattle.nodes.specs.Arrival.{accepted_of}
 use Rattle.nodes.specs.Spacecraft.{SpacecraftState, assemble_step}
 use Rattle.simulated_link.specs.declared.acceptance.Acceptance.{Acceptance}
 

@@ -2,9 +2,9 @@
 use Rattle.std.specs.Prelude.{◌≡◌, ◌≢◌, ℕ, List, [], ◌∷◌, false, Result, Ok, Err, IsSome}
 use Rattle.std.specs.Prelude.{IfOk, IfErr, OnOk, OnErr, IsOkUnless}
 use Rattle.tc_frame.specs.declared.frame.Check.TheVariants.{On}
-use Rattle.tc_frame.specs.Reading as command
-use Rattle.tm_link.specs.Building.{is_to_send}
-use Rattle.tm_link.specs.Reading as telemetry
+use Rattle.tc_frame.specs.Decoding as command
+use Rattle.tm_link.specs.Builder.{is_to_send}
+use Rattle.tm_link.specs.Decoding as telemetry
 use Rattle.nodes.specs.declared.event.Event.{Event}
 use Rattle.nodes.specs.declared.event.Event.TheVariants as events
 use Rattle.nodes.specs.Ground.{submit_fault, bypass_fault, FinishesNothing}

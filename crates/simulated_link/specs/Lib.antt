@@ -2,6 +2,6 @@ pub mod Acceptance
 pub mod Events
 pub mod MapLists
 pub mod Replies
-pub mod SimFaults
+pub mod Faults
 pub mod World
 pub mod WorldFields

@@ -7,12 +7,12 @@ use Rattle.std.specs.List.{list_all}
 use Rattle.clcw.specs.declared.word.Clcw.{Clcw}
 use Rattle.clcw.specs.declared.fault.ClcwFault.{ClcwFault}
 use Rattle.clcw.specs.Flags.{flags_number}
-use Rattle.clcw.specs.Reading.{clcw_at}
+use Rattle.clcw.specs.Decoding.{clcw_at}
 use Rattle.tc_frame.specs.declared.frame.Check.TheVariants.{On}
 use Rattle.tc_frame.specs.declared.fault.TcFault.{TcFault}
 use Rattle.tc_frame.specs.Layout.{SegmentView, BodyView, Ad, Bd, Bc, FrameView, segment_octets}
-use Rattle.tc_frame.specs.Reading as command
-use Rattle.tc_frame.specs.Writing.{spelling}
+use Rattle.tc_frame.specs.Decoding as command
+use Rattle.tc_frame.specs.Encoding.{spelling}
 use Rattle.map_service.specs.Assembly.{assembled}
 use Rattle.map_service.specs.Packets.{packets_in}
 use Rattle.cop1.specs.Modulo.{ahead_by}
@@ -23,11 +23,11 @@ use Rattle.cop1.specs.declared.vocabulary.Directive.{Directive}
 use Rattle.cop1.specs.declared.vocabulary.Directive.TheVariants.{InitWithoutCheck}
 use Rattle.cop1.specs.declared.vocabulary.FopMode.{FopMode}
 use Rattle.cop1.specs.declared.vocabulary.FopMode.TheVariants.{S1, S4, S5}
-use Rattle.cop1.specs.Directives.{is_initiation}
+use Rattle.cop1.specs.FopDirective.{is_initiation}
 use Rattle.tm_link.specs.declared.fault.TmFault.{TmFault}
 use Rattle.tm_link.specs.Layout as telemetry
-use Rattle.tm_link.specs.Reading as telemetry_reading
-use Rattle.tm_link.specs.Writing as telemetry_writing
+use Rattle.tm_link.specs.Decoding as telemetry_reading
+use Rattle.tm_link.specs.Encoding as telemetry_writing
 use Rattle.nodes.specs.declared.config.Config.{Config}
 use Rattle.nodes.specs.declared.event.Event.{Event}
 use Rattle.nodes.specs.declared.event.Event.TheVariants as events
@@ -36,7 +36,7 @@ use Rattle.nodes.specs.declared.heard.Heard.{Heard}
 use Rattle.nodes.specs.declared.heard.Heard.TheVariants as heard_cases
 use Rattle.nodes.specs.declared.received.Received.{Received}
 use Rattle.nodes.specs.declared.received.Received.TheVariants as received_cases
-use Rattle.simulated_link.specs.declared.opening.Opening.{Opening}
+use Rattle.simulated_link.specs.declared.session_start.Opening.{Opening}
 use Rattle.simulated_link.specs.declared.fault.SimFault.{SimFault}
 use Rattle.simulated_link.specs.declared.fault.SimFault.TheVariants.{NothingInTransit}
 use Rattle.simulated_link.specs.declared.fault.SimFault.TheVariants.{NotDetectable}

@@ -4,7 +4,7 @@ use Rattle.std.specs.Prelude.{Option, Some, None}
 use Rattle.std.specs.declared.vec.Vec.{Vec}
 use Rattle.std.specs.Vec.{vec_len, vec_capacity}
 use Rattle.tc_frame.specs.Layout.{segment_octets}
-use Rattle.tm_link.specs.Extraction.{octets_of}
+use Rattle.tm_link.specs.Extractor.{octets_of}
 use Rattle.simulated_link.specs.declared.world.World.TheInside.{Inside}
 use Rattle.simulated_link.specs.declared.session.Session.{Session as SessionFields}
 use Rattle.simulated_link.specs.declared.acceptance.Acceptance.{Acceptance}

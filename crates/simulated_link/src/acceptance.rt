@@ -2,8 +2,8 @@
 
 ghost use Rattle.std.specs.Prelude.{◌≡◌, ◌<◌, None, Ok, IfOk, IfSome, IsOkUnless, option_map};
 ghost use Rattle.map_service.specs.Views.{packets_view};
-ghost use Rattle.tm_link.specs.Extraction.{octets_of};
-ghost use Rattle.nodes.specs.Arriving.{accepted_of};
+ghost use Rattle.tm_link.specs.Extractor.{octets_of};
+ghost use Rattle.nodes.specs.Arrival.{accepted_of};
 ghost use Rattle.simulated_link.specs.Acceptance.{acceptance_view, acceptance_in};
 
 use nodes::{Arrival, LinkFault, data_field_of};

@@ -19,7 +19,7 @@ pub enum SimFault {
 }
 
 impl SimFault {
-    ghost use Rattle.simulated_link.specs.SimFaults.{fault_row};
+    ghost use Rattle.simulated_link.specs.Faults.{fault_row};
 
     /// The fault's number, 6 to 9.
     pub fn number(self) -> u8

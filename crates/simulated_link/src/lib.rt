@@ -6,19 +6,19 @@
 #![tactic(auto)]
 
 mod acceptance;
-mod copying;
+mod down_frame;
 mod fault;
 mod map_lists;
-mod opening;
-mod outgoing;
-mod putting;
+mod octet_copy;
 mod refusal;
 mod reply;
 mod session;
+mod session_start;
+mod up_frame;
 mod world;
 
 pub use fault::SimFault;
 pub use nodes::Event;
-pub use opening::Opening;
 pub use reply::{NodeFault, Reply};
+pub use session_start::Opening;
 pub use world::World;

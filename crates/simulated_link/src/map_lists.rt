@@ -3,7 +3,7 @@
 ghost use Rattle.std.specs.Prelude.{◌≡◌, ◌<◌, ◌≤◌, ℕ, ◌+◌, ◌++◌, ◌==◌, [], if◌then◌else◌, length, OnOk};
 ghost use Rattle.std.specs.Vec.{vec_len, vec_capacity};
 ghost use Rattle.map_service.specs.Views.{packets_view};
-ghost use Rattle.tm_link.specs.Extraction.{octets_of};
+ghost use Rattle.tm_link.specs.Extractor.{octets_of};
 ghost use Rattle.simulated_link.specs.MapLists.{packets_at, HasRoom};
 
 use std::alloc::{AllocError, Global};

@@ -1,6 +1,6 @@
 // The records of a session.
 
-use crate::opening::Opening;
+use crate::session_start::Opening;
 
 /// The records of the session, which lasts until the next one begins.
 #[derive(Drop)]

@@ -1,16 +1,16 @@
 // The world of a simulated link.
 
-mod accepting;
+mod accept;
 mod calls;
 mod downward;
-mod losing;
-mod stepping;
+mod loss;
+mod step;
 mod upward;
 
 use crate::fault::SimFault;
 use crate::map_lists::{no_packets, packets_of};
-use crate::opening::Opening;
 use crate::session::Session;
+use crate::session_start::Opening;
 use nodes::{Ground, Spacecraft, ValidConfig};
 use std::alloc::Global;
 use std::collections::VecDeque;
@@ -44,7 +44,7 @@ impl Model for World {
 
 impl World {
     ghost use Rattle.std.specs.Prelude.{◌≡◌, map, IfOk, IsOkUnless};
-    ghost use Rattle.tm_link.specs.Extraction.{octets_of};
+    ghost use Rattle.tm_link.specs.Extractor.{octets_of};
     ghost use Rattle.nodes.specs.Packets.{packet_view};
     ghost use Rattle.simulated_link.specs.World.{new_world, submitted, accepted, delivered};
 

@@ -1,3 +1,3 @@
-pub mod Readings
-pub mod Spellings
+pub mod Decoded
+pub mod Encoded
 pub mod WholePackets

@@ -14,8 +14,8 @@ use Rattle.space_packet.specs.declared.fault.PacketFault.{PacketFault}
 use Rattle.space_packet.specs.Layout.{PacketView, IsSomePacket}
 use Rattle.space_packet.specs.Laws.{extent_has_header}
 use Rattle.space_packet.specs.Packets.{first_packet, packets_in, rest_in, is_packet}
-use Rattle.space_packet.specs.Reading.{extent_at, packet_at, packet_of}
-use Rattle.space_packet.proofs.Readings.{record_is, record_again}
+use Rattle.space_packet.specs.Decoding.{extent_at, packet_at, packet_of}
+use Rattle.space_packet.proofs.Decoded.{record_is, record_again}
 
 -- how many octets the packet has that was read
 abbrev pub len_of : Result (PacketView × ℕ) PacketFault → Option ℕ

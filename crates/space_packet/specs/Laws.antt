@@ -1,24 +1,32 @@
--- Packets on a stream: the laws of their layout.
-use Rattle.std.proofs.Common.{◌≡◌, ◌≤◌, ℕ, ◌+◌, ◌-◌, ◌/◌, ◌%◌, List, ◌++◌, length, take, drop, Bool}
-use Rattle.std.proofs.Common.{true, false, not, cond, eqb, Result, Ok, Err, refl, sym, ap, ◌∙◌}
-use Rattle.std.proofs.Common.{arith}
+-- Packets on a stream.
+use Rattle.std.specs.Prelude.{List, ℕ}
+use Rattle.octets.specs.Number.{IsOctets, number_of}
+use Rattle.space_packet.specs.Layout.{PacketView, IsPacket, type_bit, secondary_bit}
+use Rattle.space_packet.specs.Layout.{is_idle_with_secondary}
+use Rattle.std.proofs.Common.{◌≡◌, ◌≤◌, ◌+◌, ◌-◌, ◌/◌, ◌%◌, ◌++◌, length, take, drop, Bool, true}
+use Rattle.std.proofs.Common.{false, not, cond, eqb, Result, Ok, Err, refl, sym, ap, ◌∙◌, arith}
 use Rattle.std.proofs.lemmas.List.{take-append-drop, take-take, drop-take, drop-drop, length-take}
 use Rattle.std.proofs.lemmas.List.{length-drop}
 use Rattle.byteorder.specs.Endian.{big_bytes}
-use Rattle.octets.specs.Number.{number_of, IsOctets}
 use Rattle.octets.proofs.Cuts.{drop_fits, take_fits}
 use Rattle.octets.proofs.Numbers.{two_octets}
 use Rattle.octets.proofs.Outcomes.{passed, ok_is, is_zero}
 use Rattle.space_packet.specs.declared.packet.PacketKind.{PacketKind}
 use Rattle.space_packet.specs.declared.packet.PacketKind.TheVariants.{Telemetry, Telecommand}
 use Rattle.space_packet.specs.declared.fault.PacketFault.{PacketFault}
+use Rattle.space_packet.specs.Decoding.{extent_at, kind_at}
+use Rattle.space_packet.specs.Encoding.{first_number, second_number, third_number, header_octets}
+use Rattle.space_packet.specs.Encoding.{spelling}
 use Rattle.space_packet.specs.declared.fault.PacketFault.TheVariants as faults
-use Rattle.space_packet.specs.Layout.{PacketView, type_bit, secondary_bit, is_idle_with_secondary}
-use Rattle.space_packet.specs.Layout.{IsPacket}
-use Rattle.space_packet.specs.Reading.{extent_at, kind_at}
-use Rattle.space_packet.specs.Splitting.{IsSpelling}
-use Rattle.space_packet.specs.Writing.{first_number, second_number, third_number, header_octets}
-use Rattle.space_packet.specs.Writing.{spelling}
+
+-- Packets on a stream: a packet is as long as its header declares (CCSDS 133.0-B-2, 4.1.3.5).
+
+-- octets, which are whole numbers from 0 to 255, spell the packet
+pub record IsSpelling (p : PacketView) (b : List ℕ) : Type 0 where
+  pub spells : IsPacket p b
+  pub octets : IsOctets b
+
+-- Packets on a stream: the laws of their layout.
 
 -- what a header says whose extent isn't refused
 pub record HasExtent (head : List ℕ) (n : ℕ) : Type 0 where

@@ -1,9 +1,8 @@
 pub mod Counters
 pub mod Faults
-pub mod Holding
-pub mod Laws
+pub mod Splitter
 pub mod Layout
 pub mod Packets
-pub mod Reading
-pub mod Splitting
-pub mod Writing
+pub mod Decoding
+pub mod Encoding
+pub mod Laws

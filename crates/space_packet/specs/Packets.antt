@@ -1,7 +1,7 @@
 -- Octets as whole packets, one after another.
 use Rattle.std.specs.Prelude.{ℕ, List, length, Bool, ◌&&◌, ◌==◌, Option, None, Some}
 use Rattle.octets.specs.Records.{first_record, by_record, records_of, rest_of}
-use Rattle.space_packet.specs.Reading.{extent_at}
+use Rattle.space_packet.specs.Decoding.{extent_at}
 
 -- the packet that octets begin with, where they begin with one
 abbrev pub first_packet : List ℕ → Option (List ℕ)

@@ -3,7 +3,7 @@
 ghost use Rattle.std.specs.Prelude.{◌≡◌, ◌<◌, ◌≤◌, ◌/◌, ◌%◌, ◌^◌, ◌==◌, ℕ, length, take, IfOk, Ok};
 ghost use Rattle.octets.specs.Outcome.{map_ok};
 ghost use Rattle.space_packet.specs.Layout.{PacketView, packet_view, is_idle_with_secondary, IsFirstPacket};
-ghost use Rattle.space_packet.specs.Reading.{found_view, extent_at, kind_at, packet_at};
+ghost use Rattle.space_packet.specs.Decoding.{found_view, extent_at, kind_at, packet_at};
 
 use crate::fault::PacketFault;
 use crate::packet::{Packet, PacketKind, is_idle_apid};
@@ -14,7 +14,7 @@ use octets::{first_two, low_eleven};
 /// `Truncated`, a version other than 000 by 2 `Version`, an idle packet with a secondary header by 3
 /// `IdleWithSecondary`, and then fewer octets than declared by 1 `Truncated`.
 /// Faults: 1 Truncated, 2 Version, 3 IdleWithSecondary.
-#[tactic(auto, using(crate::proofs::Readings::packet_again))]
+#[tactic(auto, using(crate::proofs::Decoded::packet_again))]
 pub fn decode(octets: &[u8]) -> Result<(Packet<'_>, usize), PacketFault>
     ensures answer { map_ok found_view result ≡ packet_at octets.now }
 
@@ -26,7 +26,7 @@ pub fn decode(octets: &[u8]) -> Result<(Packet<'_>, usize), PacketFault>
     packet_of(octets)
 }
 
-#[tactic(auto, unfolding(crate::specs::Reading::packet_at))]
+#[tactic(auto, unfolding(crate::specs::Decoding::packet_at))]
 fn packet_of(octets: &[u8]) -> Result<(Packet<'_>, usize), PacketFault>
     ensures { map_ok found_view result ≡ packet_at octets.now }
 {
@@ -51,7 +51,7 @@ fn packet_of(octets: &[u8]) -> Result<(Packet<'_>, usize), PacketFault>
     Ok((packet, len))
 }
 
-#[tactic(auto, unfolding(crate::specs::Reading::extent_at))]
+#[tactic(auto, unfolding(crate::specs::Decoding::extent_at))]
 pub(crate) fn declared_len(head: &[u8]) -> Result<usize, PacketFault>
     requires { 6 ≤ length head.now }
     ensures value { result ≡ extent_at (take 6 head.now) }

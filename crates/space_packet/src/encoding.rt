@@ -2,7 +2,7 @@
 
 ghost use Rattle.std.specs.Prelude.{◌≡◌, ◌+◌, ◌*◌, ◌++◌, length, drop, true, IfOk, OnErr};
 ghost use Rattle.space_packet.specs.Layout.{packet_view, type_bit, secondary_bit, IsFirstPacket};
-ghost use Rattle.space_packet.specs.Writing.{total_of, header_octets, spelling, packet_fits, encode_answer};
+ghost use Rattle.space_packet.specs.Encoding.{total_of, header_octets, spelling, packet_fits, encode_answer};
 
 use crate::decoding::is_idle_with;
 use crate::fault::PacketFault;

@@ -5,9 +5,9 @@ ghost use Rattle.std.specs.List.{AllByRecursion, concat};
 ghost use Rattle.octets.specs.Number.{IsOctets};
 ghost use Rattle.octets.specs.Records.{IsRecord, first_record};
 ghost use Rattle.space_packet.specs.Layout.{PacketView, IsPacket, IsSomePacket};
-ghost use Rattle.space_packet.specs.Reading.{extent_at, packet_at};
-ghost use Rattle.space_packet.specs.Splitting.{IsSpelling};
-ghost use Rattle.space_packet.specs.Writing.{packet_fits, spelling};
+ghost use Rattle.space_packet.specs.Decoding.{extent_at, packet_at};
+ghost use Rattle.space_packet.specs.Laws.{IsSpelling};
+ghost use Rattle.space_packet.specs.Encoding.{packet_fits, spelling};
 
 /// A packet whose fields are in range has its spelling, and no other octets spell it.
 pub fn law_of_spelling()
@@ -24,7 +24,7 @@ pub fn law_of_reading()
         → first_record 6 extent_at (octets ++ more) ≡ Some (Ok octets) }
 {}
 
-#[tactic(auto, using(crate::proofs::Readings::record_is, crate::proofs::Readings::record_again, crate::proofs::Readings::records_are))]
+#[tactic(auto, using(crate::proofs::Decoded::record_is, crate::proofs::Decoded::record_again, crate::proofs::Decoded::records_are))]
 /// The records of a stream are its packets: octets are a record exactly where they spell a packet,
 /// idle or not. So it is for all records that stand one after another.
 pub fn law_of_records()

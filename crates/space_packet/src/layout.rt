@@ -3,8 +3,8 @@
 ghost use Rattle.std.proofs.Common.{arith};
 ghost use Rattle.space_packet.specs.declared.fault.PacketFault.TheVariants as faults;
 ghost use Rattle.space_packet.specs.Layout.{PacketView};
-ghost use Rattle.space_packet.specs.Reading.{extent_at};
-ghost use Rattle.space_packet.specs.Splitting.{IsSpelling};
+ghost use Rattle.space_packet.specs.Decoding.{extent_at};
+ghost use Rattle.space_packet.specs.Laws.{IsSpelling};
 ghost use Rattle.space_packet.specs.Laws.{extent_has_header, one_spelling_of, own_extent_of};
 
 use crate::decoding::declared_len;

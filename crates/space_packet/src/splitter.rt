@@ -14,10 +14,10 @@ use std::alloc::Global;
 pub struct PacketSplitter(Splitter<Packets>);
 
 impl PacketSplitter {
-    ghost use Rattle.octets.specs.Holding.{nothing_held, answer_view, IsFed, IsFinished};
+    ghost use Rattle.octets.specs.Splitter.{nothing_held, answer_view, IsFed, IsFinished};
     ghost use Rattle.octets.specs.Records.{first_record};
-    ghost use Rattle.space_packet.specs.Holding.{held_in, EndsAfter};
-    ghost use Rattle.space_packet.specs.Reading.{extent_at};
+    ghost use Rattle.space_packet.specs.Splitter.{held_in, EndsAfter};
+    ghost use Rattle.space_packet.specs.Decoding.{extent_at};
 
     /// A splitter that holds nothing; it takes no memory until it is fed.
     pub fn new(alloc: Global) -> Self

@@ -2,9 +2,9 @@
 -- is listed of a script.
 use Rattle.std.specs.Prelude.{List, [], ℕ}
 use Rattle.tc_frame.specs.declared.frame.Check.TheVariants.{On}
-use Rattle.tc_frame.specs.Splitting.{check_if}
+use Rattle.tc_frame.specs.Splitter.{check_if}
 use Rattle.cop1.specs.Farm.{new_farm}
-use Rattle.tm_link.specs.Extraction.{new_extractor}
+use Rattle.tm_link.specs.Extractor.{new_extractor}
 use Rattle.command_line.specs.declared.task.Task.{Task}
 use Rattle.command_line.specs.declared.task.Task.TheVariants as tasks
 use Rattle.listings.specs.FarmLines.{farm_lines}

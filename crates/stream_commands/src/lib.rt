@@ -4,10 +4,10 @@
 
 mod listed;
 mod outcome;
-mod reading;
 mod status;
+mod whole_file;
 
 pub use listed::list;
 pub use outcome::Outcome;
-pub use reading::read_all;
 pub use status::ending;
+pub use whole_file::read_all;

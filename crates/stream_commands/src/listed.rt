@@ -1,9 +1,9 @@
 // Lists a stream of records, as a command asks for it.
 
 ghost use Rattle.std.specs.Prelude.{◌≡◌, ◌≢◌, ◌⊎◌, ◌+◌, ℕ, List, [], None, OnOk, IfOk};
-ghost use Rattle.command_line.specs.Ranges.{IsInRange};
+ghost use Rattle.command_line.specs.Arguments.{IsInRange};
 ghost use Rattle.listings.specs.Devices.{HasEnded};
-ghost use Rattle.listings.specs.Gained.{gained};
+ghost use Rattle.listings.specs.Devices.{gained};
 ghost use Rattle.listings.specs.Layouts.{rest_by, IsRefused};
 ghost use Rattle.listings.specs.Listing.{fresh, text_of, is_all_good};
 ghost use Rattle.listings.specs.Streams.{Reads, WritesText};

@@ -2,7 +2,7 @@
 
 ghost use Rattle.std.specs.Prelude.{◌≡◌, ◌+◌, ◌++◌, OnOk};
 ghost use Rattle.octets.specs.Beginning.{IsBeginning};
-ghost use Rattle.listings.specs.Failures.{failed_in};
+ghost use Rattle.listings.specs.Devices.{failed_in};
 ghost use Rattle.stream_commands.specs.Status.{ending_line, exit_status, fault_line};
 
 use crate::outcome::Outcome;

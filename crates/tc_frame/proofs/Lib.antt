@@ -1,3 +1,3 @@
-pub mod Bodies
-pub mod Frames
-pub mod Spellings
+pub mod DecodedBodies
+pub mod Decoded
+pub mod Encoded

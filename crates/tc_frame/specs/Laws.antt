@@ -18,10 +18,10 @@ use Rattle.tc_frame.specs.declared.fault.TcFault.{TcFault}
 use Rattle.tc_frame.specs.declared.fault.TcFault.TheVariants as faults
 use Rattle.tc_frame.specs.Layout.{BodyView, Ad, Bd, Bc, FrameView, body_octets, check_length}
 use Rattle.tc_frame.specs.Layout.{before_check, body_fits, IsTcFrame}
-use Rattle.tc_frame.specs.Reading.{least_total}
-use Rattle.tc_frame.specs.Splitting.{total_at, IsSpelling}
-use Rattle.tc_frame.specs.Writing.{total_of, first_number, second_number, front_octets, with_check}
-use Rattle.tc_frame.specs.Writing.{spelling}
+use Rattle.tc_frame.specs.Decoding.{least_total}
+use Rattle.tc_frame.specs.Splitter.{total_at, IsSpelling}
+use Rattle.tc_frame.specs.Encoding.{total_of, first_number, second_number, front_octets, with_check}
+use Rattle.tc_frame.specs.Encoding.{spelling}
 
 -- a declared total that is enough has the header
 pub total_has_head : (check : Check) (head : List ℕ) (n : ℕ) → total_at check head ≡ Ok n → 5 ≤ n

@@ -1,7 +1,6 @@
 pub mod Faults
-pub mod Holding
 pub mod Laws
 pub mod Layout
-pub mod Reading
-pub mod Splitting
-pub mod Writing
+pub mod Decoding
+pub mod Encoding
+pub mod Splitter

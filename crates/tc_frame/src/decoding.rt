@@ -3,7 +3,7 @@
 ghost use Rattle.std.specs.Prelude.{◌≡◌, ◌<◌, ◌≤◌, ◌/◌, ◌%◌, ◌^◌, ◌==◌, length, IfOk, Ok};
 ghost use Rattle.octets.specs.Outcome.{map_ok};
 ghost use Rattle.tc_frame.specs.Layout.{FrameView, frame_view, body_view, segment_view, check_length, IsTcFrame};
-ghost use Rattle.tc_frame.specs.Reading.{flags_at, segment_at, command_at, body_at, is_check_wrong, frame_at};
+ghost use Rattle.tc_frame.specs.Decoding.{flags_at, segment_at, command_at, body_at, is_check_wrong, frame_at};
 
 use crate::fault::TcFault;
 use crate::frame::{Body, Check, Command, Segment, SegmentFlags, SegmentHeader, TcFrame};
@@ -14,7 +14,7 @@ use octets::{check_holds, first_two};
 /// Faults: 1 Short, 2 Version, 3 ReservedType, 4 Spare, 5 Length, 6 Check, 7 BypassNumber, 8 EmptyData,
 /// 9 Command. Cost: n.
 #[inline(always)]
-#[tactic(auto, using(crate::proofs::Frames::frame_again))]
+#[tactic(auto, using(crate::proofs::Decoded::frame_again))]
 pub fn decode(octets: &[u8], check: Check) -> Result<TcFrame<'_>, TcFault>
     ensures answer { map_ok frame_view result ≡ frame_at check octets.now }
 
@@ -27,7 +27,7 @@ pub fn decode(octets: &[u8], check: Check) -> Result<TcFrame<'_>, TcFault>
 }
 
 #[inline(always)]
-#[tactic(auto, unfolding(crate::specs::Reading::frame_at))]
+#[tactic(auto, unfolding(crate::specs::Decoding::frame_at))]
 fn frame_of(octets: &[u8], check: Check) -> Result<TcFrame<'_>, TcFault>
     ensures { map_ok frame_view result ≡ frame_at check octets.now }
 {
@@ -65,7 +65,7 @@ fn frame_of(octets: &[u8], check: Check) -> Result<TcFrame<'_>, TcFault>
 }
 
 #[inline(always)]
-#[tactic(auto, unfolding(crate::specs::Reading::body_at))]
+#[tactic(auto, unfolding(crate::specs::Decoding::body_at))]
 fn body_of(bypass: bool, control: bool, n: u8, field: &[u8]) -> Result<Body<'_>, TcFault>
     ensures { map_ok body_view result ≡ body_at bypass control n field.now }
 {
@@ -84,7 +84,7 @@ fn body_of(bypass: bool, control: bool, n: u8, field: &[u8]) -> Result<Body<'_>,
 }
 
 #[inline(always)]
-#[tactic(auto, unfolding(crate::specs::Reading::command_at))]
+#[tactic(auto, unfolding(crate::specs::Decoding::command_at))]
 fn command_of(field: &[u8]) -> Result<Command, TcFault>
     ensures { result ≡ command_at field.now }
 {
@@ -97,7 +97,7 @@ fn command_of(field: &[u8]) -> Result<Command, TcFault>
 }
 
 #[inline(always)]
-#[tactic(auto, unfolding(crate::specs::Reading::segment_at))]
+#[tactic(auto, unfolding(crate::specs::Decoding::segment_at))]
 fn segment_of(field: &[u8]) -> Result<Segment<'_>, TcFault>
     ensures { map_ok segment_view result ≡ segment_at field.now }
 {

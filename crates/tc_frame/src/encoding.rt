@@ -3,7 +3,7 @@
 ghost use Rattle.std.specs.Prelude.{◌≡◌, ◌<◌, ◌≤◌, ◌+◌, ◌-◌, ◌*◌, ◌^◌, ◌++◌, length, take, drop, true, IfOk, OnErr};
 ghost use Rattle.byteorder.specs.Endian.{big_bytes};
 ghost use Rattle.tc_frame.specs.Layout.{frame_view, body_view, segment_view, bypass_flag, control_flag, segment_octets, command_octets, body_octets, body_fits, IsTcFrame};
-ghost use Rattle.tc_frame.specs.Writing.{total_of, first_number, second_number, front_octets, spelling, frame_fits, encode_answer};
+ghost use Rattle.tc_frame.specs.Encoding.{total_of, first_number, second_number, front_octets, spelling, frame_fits, encode_answer};
 
 use crate::decoding::len_of_check;
 use crate::fault::TcFault;
@@ -56,7 +56,7 @@ fn is_body_in_range(body: &Body) -> bool
 impl TcFrame<'_> {
     ghost use Rattle.std.specs.Prelude.{◌≡◌};
     ghost use Rattle.tc_frame.specs.Layout.{frame_view};
-    ghost use Rattle.tc_frame.specs.Writing.{total_of};
+    ghost use Rattle.tc_frame.specs.Encoding.{total_of};
 
     /// How many octets the frame has, with or without its FECF (CCSDS 232.0-B-4, 4.1.2.7).
     pub fn total(&self, check: Check) -> usize

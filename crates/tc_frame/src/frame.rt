@@ -27,7 +27,7 @@ pub enum SegmentFlags {
 
 impl SegmentFlags {
     ghost use Rattle.tc_frame.specs.Layout.{flags_code};
-    ghost use Rattle.tc_frame.specs.Reading.{flags_at};
+    ghost use Rattle.tc_frame.specs.Decoding.{flags_at};
 
     /// The two bits in which a segment header has them: 0 continuing, 1 first, 2 last, 3 alone
     /// (CCSDS 232.0-B-4, 4.1.3.2.2.2).

@@ -4,9 +4,9 @@ ghost use Rattle.std.specs.Prelude.{◌≡◌, ◌++◌, ℕ, List, true, Some, 
 ghost use Rattle.octets.specs.Records.{first_record};
 ghost use Rattle.tc_frame.specs.declared.frame.Check.{Check};
 ghost use Rattle.tc_frame.specs.Layout.{FrameView, IsTcFrame};
-ghost use Rattle.tc_frame.specs.Reading.{frame_at};
-ghost use Rattle.tc_frame.specs.Splitting.{IsSpelling, total_at};
-ghost use Rattle.tc_frame.specs.Writing.{frame_fits, spelling};
+ghost use Rattle.tc_frame.specs.Decoding.{frame_at};
+ghost use Rattle.tc_frame.specs.Splitter.{IsSpelling, total_at};
+ghost use Rattle.tc_frame.specs.Encoding.{frame_fits, spelling};
 
 /// A frame whose fields are in range has its spelling, and no other octets spell it.
 pub fn law_of_spelling()

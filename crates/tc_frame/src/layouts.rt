@@ -5,7 +5,7 @@ ghost use Rattle.std.proofs.Common.{arith};
 ghost use Rattle.octets.specs.Number.{number_of};
 ghost use Rattle.tc_frame.specs.declared.fault.TcFault.TheVariants as faults;
 ghost use Rattle.tc_frame.specs.Layout.{FrameView};
-ghost use Rattle.tc_frame.specs.Splitting.{IsSpelling, check_if, total_at};
+ghost use Rattle.tc_frame.specs.Splitter.{IsSpelling, check_if, total_at};
 ghost use Rattle.tc_frame.specs.Laws.{total_has_head, one_spelling_of, own_total};
 
 use crate::decoding::{len_of_check, low_ten};

@@ -14,9 +14,9 @@ use std::alloc::Global;
 pub struct TcSplitter<C: Wire<Fault = TcFault>>(Splitter<C>);
 
 impl<C: Wire<Fault = TcFault>> TcSplitter<C> {
-    ghost use Rattle.octets.specs.Holding.{nothing_held, answer_view, IsFed, IsFinished};
+    ghost use Rattle.octets.specs.Splitter.{nothing_held, answer_view, IsFed, IsFinished};
     ghost use Rattle.octets.specs.Records.{first_record};
-    ghost use Rattle.tc_frame.specs.Holding.{held_in, EndsAfter};
+    ghost use Rattle.tc_frame.specs.Splitter.{held_in, EndsAfter};
 
     /// A splitter that holds nothing; it takes no memory until it is fed.
     pub fn new(alloc: Global) -> Self

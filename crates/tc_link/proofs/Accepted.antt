@@ -4,12 +4,12 @@ use Rattle.tc_link.proofs.Common.{Some, refl, sym, subst, arith, ◌==◌, AllBy
 use Rattle.tc_link.proofs.Common.{Clcw, Directive, Config, is_closed, WereAccepted, Rises, World, IsSettled}
 use Rattle.tc_link.specs.Accepted.{SaysHowMany, SaysWhatWasAccepted}
 use Rattle.tc_link.specs.InTransit.{values_down}
-use Rattle.tc_link.proofs.Beginning.{InSession}
-use Rattle.tc_link.proofs.Delivered.{ends_as, said_is, were_accepted, accepted_length, settled_as}
+use Rattle.tc_link.proofs.IdleStart.{InSession}
+use Rattle.tc_link.proofs.InOrder.{ends_as, said_is, were_accepted, accepted_length, settled_as}
 use Rattle.tc_link.proofs.Linked.{In, kept_of}
 use Rattle.tc_link.proofs.NoMore.{accepts_no_more}
 use Rattle.tc_link.proofs.Transit.{DownIs, rises_to}
-use Rattle.tc_link.proofs.Windows.{reports_of}
+use Rattle.tc_link.proofs.InTransit.{reports_of}
 use Rattle.tc_link.proofs.Sound.{Sound}
 
 -- each value between what is acknowledged and what was accepted

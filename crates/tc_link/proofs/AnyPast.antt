@@ -14,7 +14,7 @@ use Rattle.simulated_link.specs.Replies.{Down}
 use Rattle.simulated_link.specs.World.{down_deliver_step}
 use Rattle.nodes.specs.declared.event.Event.TheVariants as events
 use Rattle.nodes.specs.Spacecraft.{after_farm}
-use Rattle.clcw.specs.Reading.{clcw_at}
+use Rattle.clcw.specs.Decoding.{clcw_at}
 use Rattle.clcw.specs.declared.fault.ClcwFault.{ClcwFault}
 use Rattle.nodes.specs.Ground.{GroundOutcome, report_outcome, is_own_telemetry, new_ground, ground_telemetry}
 use Rattle.nodes.specs.Ground.{ground_take_telemetry, after_moving_up, is_closed}
@@ -23,24 +23,24 @@ use Rattle.nodes.specs.declared.heard.Heard.{Heard}
 use Rattle.nodes.specs.declared.received.Received.{Received}
 use Rattle.nodes.specs.Spacecraft.{new_spacecraft}
 use Rattle.tc_frame.specs.Layout.{FrameView}
-use Rattle.tc_frame.specs.Reading as command
-use Rattle.tm_link.specs.Extraction.{ExtractorState, new_extractor, extract_step}
+use Rattle.tc_frame.specs.Decoding as command
+use Rattle.tm_link.specs.Extractor.{ExtractorState, new_extractor, extract_step}
 use Rattle.tm_link.specs.Layout as telemetry
-use Rattle.tm_link.specs.Reading as telemetry_reading
+use Rattle.tm_link.specs.Decoding as telemetry_reading
 use Rattle.tc_link.specs.AnyPast.{LinkStep, Happens, TakeTelemetry, Receives, Hears, ReportArrives, HearsReport}
 use Rattle.tc_link.specs.AnyPast.{ForgetTelemetry, NewGround, NewSpacecraft, IsLinkStep, with_nodes, received, heard}
 use Rattle.tc_link.specs.AnyPast.{heard_word, arriving_word, with_word, after_word, link_step, link_run, SaysAs}
 use Rattle.tc_link.specs.AnyPast.{with_telemetry_of, DoesAsItsFrame, ReportsDoAsFrames}
 use Rattle.tc_link.specs.AnyPast.{HasAnyPast, HoldsAfterAnyPast, RunsAsEvents}
-use Rattle.tc_link.proofs.Beginning.{InSession}
+use Rattle.tc_link.proofs.IdleStart.{InSession}
 use Rattle.tc_link.proofs.Board.{eases_keep}
 use Rattle.tc_link.proofs.Eased.{bypass_eases}
-use Rattle.tc_link.proofs.Fitting.{GroundFits, with_fits, heard_fits}
-use Rattle.tc_link.proofs.Hearing.{used, used_is, used_word, word_is, with_heard}
+use Rattle.tc_link.proofs.FitFrames.{GroundFits, with_fits, heard_fits}
+use Rattle.tc_link.proofs.Downward.{used, used_is, used_word, word_is, with_heard}
 use Rattle.tc_link.proofs.Invariant.{Holding, new_holds, step_holds}
 use Rattle.tc_link.proofs.Linked.{In, Tells, Reporting, beside, run_to}
 use Rattle.tc_link.proofs.Promised.{holds_so}
-use Rattle.tc_link.proofs.SteadyNodes.{settled_so, report_so}
+use Rattle.tc_link.proofs.SteadyNodes.{refilled_so, report_so}
 use Rattle.tc_link.proofs.SteadyWorld.{sequence_so, bypass_so, body_so, new_sound}
 use Rattle.tc_link.proofs.Sound.{GroundNodeSteady, SpacecraftSteady}
 
@@ -212,7 +212,7 @@ module _ (c : Config) (w : World) (h : Holding c w) where
       let s : GroundState = w.ground_node in
       let k = h.sound.ground_node in
       nodes_hold _ w.spacecraft
-      (settled_so c (record (apart s x packets) { fop = (clcw_step s.fop report).after }) k.config
+      (refilled_so c (record (apart s x packets) { fop = (clcw_step s.fop report).after }) k.config
       (report_so c s.fop k.fop report))
       (with_fits (apart s x packets) (clcw_step s.fop report).after (heard_fits s.fop s.pending h.carried.fits report))
       h.sound.spacecraft

@@ -3,7 +3,7 @@ use Rattle.tc_link.proofs.Common.{◌≡◌, ℕ, Bool, List, [], ◌∷◌, len
 use Rattle.tc_link.proofs.Common.{farm_step, BufferReleased, is_to_send, after_queue, Config, PacketOn}
 use Rattle.tc_link.proofs.Common.{SpacecraftState, spacecraft_take, spacecraft_take_bypass, spacecraft_telemetry}
 use Rattle.tc_link.proofs.Common.{World, world_after_take, world_after_queueing}
-use Rattle.tc_link.proofs.Arriving.{other_keeps}
+use Rattle.tc_link.proofs.Upward.{other_keeps}
 use Rattle.tc_link.proofs.Eased.{Eases, eased_same, release_eases}
 use Rattle.tc_link.proofs.Linked.{In, Next, stays}
 use Rattle.tc_link.proofs.Sound.{Sound}

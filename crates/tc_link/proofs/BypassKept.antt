@@ -2,13 +2,13 @@
 use Rattle.tc_link.proofs.Common.{◌≡◌, ℕ, Bool, true, false, refl, ◌∙◌, Clcw, SegmentView, Directive, CopFault, Alert}
 use Rattle.tc_link.proofs.Common.{InitWithoutCheck, InitWithCheck, InitUnlock, InitSetVr, directive_step, FopState}
 use Rattle.tc_link.proofs.Common.{FopOutcome, clcw_step, retransmits, tick_step, heard_active, obeyed, begun, ticked}
-use Rattle.tc_link.proofs.Common.{GroundState, settle_step, with_fop, Result, Option, directive_outcome, TmFault}
+use Rattle.tc_link.proofs.Common.{GroundState, refill_step, with_fop, Result, Option, directive_outcome, TmFault}
 use Rattle.tc_link.proofs.Common.{telemetry_outcome, LinkFault, unless_refused, List, ◌++◌, after_submission}
 use Rattle.tc_link.proofs.Common.{segments_on, after_alert, Some, None}
 use Rattle.clcw.specs.declared.fault.ClcwFault.{ClcwFault}
 use Rattle.nodes.specs.Ground.{report_outcome}
-use Rattle.simulated_link.proofs.Reported.{reported, report_seen, frame_seen}
-use Rattle.tc_link.proofs.Settled.{settled_keeps}
+use Rattle.simulated_link.proofs.TelemetryCases.{reported, report_seen, frame_seen}
+use Rattle.tc_link.proofs.Refilled.{refilled_keeps}
 use Rattle.tm_link.specs.Layout as telemetry
 
 module _ (s : FopState SegmentView) where
@@ -32,7 +32,7 @@ module _ (s : FopState SegmentView) where
     active = λ active. heard_active s r (λ o. Same o.after) (record {
       locked = λ t. refl;
       outside = λ t. refl;
-      waiting = λ none waiting. refl;
+      wait_flag = λ none waiting. refl;
       asks_none = λ asking at. refl;
       same = refl;
       ceases = λ none at were. refl;
@@ -62,17 +62,17 @@ module _ (s : FopState SegmentView) where
   })
 
 module _ (s : GroundState) where
-  pub settled_same : (settle_step s).fop.bypass ≡ s.fop.bypass
-  settled_same = settled_keeps (λ g. g.fop.bypass ≡ s.fop.bypass) s (λ waiting pending on off. refl)
+  pub refilled_same : (refill_step s).fop.bypass ≡ s.fop.bypass
+  refilled_same = refilled_keeps (λ g. g.fop.bypass ≡ s.fop.bypass) s (λ waiting pending on off. refl)
 
 module _ (s : GroundState) where
   pub submission_same : (m : ℕ) (octets : List ℕ) (o : Option LinkFault)
       → (unless_refused o s (after_submission s m octets)).after.fop.bypass ≡ s.fop.bypass
   submission_same m octets (Some fault) = refl
-  submission_same m octets None = settled_same (record s { pending = s.pending ++ segments_on s m octets })
+  submission_same m octets None = refilled_same (record s { pending = s.pending ++ segments_on s m octets })
 
   with_same : (f : FopState SegmentView) → Same s.fop f → (with_fop s f).fop.bypass ≡ s.fop.bypass
-  with_same f same = settled_same (record s { fop = f }) ∙ same
+  with_same f same = refilled_same (record s { fop = f }) ∙ same
 
   abbrev Directed : Directive → FopOutcome SegmentView (Result (Option Alert) CopFault) → Type 0
   Directed d o = (directive_outcome s o).after.fop.bypass ≡ s.fop.bypass
@@ -91,12 +91,12 @@ module _ (s : GroundState) where
   telemetry_same = frame_seen s (λ g. g.fop.bypass ≡ s.fop.bypass) (record {
     same = refl;
     extracts = λ x. refl;
-    uses = λ x report. settled_same _ ∙ report_same s.fop report;
+    uses = λ x report. refilled_same _ ∙ report_same s.fop report;
   })
 
   pub word_same : (r : Result Clcw ClcwFault) → (report_outcome s r).after.fop.bypass ≡ s.fop.bypass
   word_same =
-      report_seen s (λ g. g.fop.bypass ≡ s.fop.bypass) refl (λ report. settled_same _ ∙ report_same s.fop report)
+      report_seen s (λ g. g.fop.bypass ≡ s.fop.bypass) refl (λ report. refilled_same _ ∙ report_same s.fop report)
 
   pub ticked_same : (with_fop s (tick_step s.fop).after).fop.bypass ≡ s.fop.bypass
   ticked_same = with_same (tick_step s.fop).after (tick_same s.fop)

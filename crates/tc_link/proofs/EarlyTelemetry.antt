@@ -7,11 +7,11 @@ use Rattle.tc_link.proofs.Common.{extract_step, Config, Heard, GroundOutcome, is
 use Rattle.tc_link.proofs.Common.{World, is_confirmation, is_initialising, down_deliver_step, Rises, PlainLink}
 use Rattle.tc_link.proofs.Early.{WouldConfirm, Good, Lasts, IsEarly, ControlFits, AllSame, early_off, last_good}
 use Rattle.tc_link.proofs.Early.{good_down, good_ranks}
-use Rattle.tc_link.proofs.Hearing.{used_is, with_heard, Moves, heard_keeps}
+use Rattle.tc_link.proofs.Downward.{used_is, with_heard, Moves, heard_keeps}
 use Rattle.tc_link.proofs.Linked.{Begun, Settled, Next, Held, kept_of, Reporting, holds_on, stays}
-use Rattle.simulated_link.proofs.Reported.{IsConfirming, reported}
+use Rattle.simulated_link.proofs.TelemetryCases.{IsConfirming, reported}
 use Rattle.tc_link.proofs.Reports.{asked}
-use Rattle.tc_link.proofs.Settled.{settled_keeps, held_same_where}
+use Rattle.tc_link.proofs.Refilled.{refilled_keeps, held_same_where}
 use Rattle.tc_link.proofs.Transit.{bit}
 use Rattle.tc_link.proofs.Sound.{Sound}
 
@@ -131,7 +131,7 @@ module _ (c : Config) (d : Directive) (base : ℕ) (w : World) (k : Sound c w) (
         } in
         inr (record {
           late = heard_keeps true false c d base w g x bs rs v vs f 0 also rest count up to stage;
-          exact = settled_keeps (λ t. (farm.vr ≡ t.fop.vs) × (t.fop.nn ≡ t.fop.vs))
+          exact = refilled_keeps (λ t. (farm.vr ≡ t.fop.vs) × (t.fop.nn ≡ t.fop.vs))
               (record (after_extraction w.ground_node x) { fop = f })
               (λ wait pending so off. (
                 last.3 ∙ sym (vs_of on) ∙ sym vs_is,

@@ -3,14 +3,14 @@ use Rattle.tc_link.proofs.Common.{◌≡◌, ℕ, ◌<◌, true, List, [], ◌�
 use Rattle.tc_link.proofs.Common.{and_parts, eqb-true, Clcw, flags_number, Directive, locks, waits, asks, report_of}
 use Rattle.tc_link.proofs.Common.{Config, SpacecraftState, World, begins_clean, begins_idle, reports_as, report_now}
 use Rattle.std.specs.Int.RustNames.{bit_and}
-use Rattle.clcw.specs.Reading.{clcw_at}
-use Rattle.tm_link.specs.Reading.{frame_at}
+use Rattle.clcw.specs.Decoding.{clcw_at}
+use Rattle.tm_link.specs.Decoding.{frame_at}
 use Rattle.simulated_link.specs.World.{is_none, is_quiet, is_idle, may_begin, says_as}
 use Rattle.tc_link.proofs.Early.{WouldConfirm, AllGood, Lasts, AllSame, zeros}
 use Rattle.tc_link.proofs.Linked.{Tells, Reporting}
 use Rattle.tc_link.proofs.ReportsDown.{HasReports}
 use Rattle.tc_link.proofs.Transit.{DownIs}
-use Rattle.tc_link.proofs.Words.{flags_are}
+use Rattle.tc_link.proofs.ReportFrames.{flags_are}
 
 abbrev pub Says : Clcw → Clcw → Type 0
 Says now r = (r.value ≡ now.value) × (flags_number r.flags ≡ flags_number now.flags)

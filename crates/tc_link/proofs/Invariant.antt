@@ -8,22 +8,22 @@ use Rattle.tc_link.proofs.Common.{begins_idle, session_begun_by, session_after_d
 use Rattle.tc_link.proofs.Common.{IsReached, obeyed, FopOutcome}
 use Rattle.std.proofs.lemmas.Bool.{cases_Bool}
 use Rattle.simulated_link.specs.World.{Session}
-use Rattle.tc_link.proofs.Arriving.{up_delivers, up_lost}
-use Rattle.tc_link.proofs.Beginning.{InSession, begins}
+use Rattle.tc_link.proofs.Upward.{up_delivers, up_lost}
+use Rattle.tc_link.proofs.IdleStart.{InSession, begins}
 use Rattle.tc_link.proofs.Board.{takes, takes_bypass, queues}
-use Rattle.tc_link.proofs.Carried.{Carried, step_carried}
-use Rattle.tc_link.proofs.Directing.{ticks, directs}
+use Rattle.tc_link.proofs.Readable.{Carried, step_carried}
+use Rattle.tc_link.proofs.Directives.{ticks, directs}
 use Rattle.tc_link.proofs.EarlyTelemetry.{early_down_deliver}
-use Rattle.tc_link.proofs.Hearing.{reports_keep, down_lost}
+use Rattle.tc_link.proofs.Downward.{reports_keep, down_lost}
 use Rattle.tc_link.proofs.Idle.{clean_idle}
 use Rattle.tc_link.proofs.LateTelemetry.{late_down_deliver}
 use Rattle.tc_link.proofs.Linked.{In, Begun, Late, Next, run_to, stays}
 use Rattle.tc_link.proofs.Pulled.{pulls_keep}
 use Rattle.tc_link.proofs.ReportsDown.{HasReports, step_reports}
 use Rattle.tc_link.proofs.SteadyWorld.{step_sound, new_sound}
-use Rattle.tc_link.proofs.Submitting.{submits, bypasses}
-use Rattle.tc_link.proofs.Closed.{closed_not, closed_is}
-use Rattle.simulated_link.proofs.Leaving.{AtEachLoss, lost, pulled, up_arrives, down_arrives}
+use Rattle.tc_link.proofs.Submissions.{submits, bypasses}
+use Rattle.tc_link.proofs.Common.{closed_not, closed_is}
+use Rattle.simulated_link.proofs.Unchanged.{AtEachLoss, lost, pulled, up_arrives, down_arrives}
 use Rattle.nodes.specs.declared.event.Event.TheVariants as events
 use Rattle.tc_link.proofs.Sound.{Sound}
 

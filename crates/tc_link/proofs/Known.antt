@@ -13,16 +13,16 @@ use Rattle.tc_link.proofs.Common.{IsIdle, IsEvent}
 use Rattle.cop1.specs.FopPull.{after_send_first}
 use Rattle.simulated_link.specs.World.{first_sent}
 use Rattle.tc_link.specs.Known.{SetsNoNumber, MovesWithRecords}
-use Rattle.tc_link.proofs.Beginning.{InSession}
-use Rattle.tc_link.proofs.Closed.{closed_not}
+use Rattle.tc_link.proofs.IdleStart.{InSession}
+use Rattle.tc_link.proofs.Common.{closed_not}
 use Rattle.tc_link.proofs.Invariant.{Holding, idle_goes, step_holds}
 use Rattle.tc_link.proofs.Linked.{In}
 use Rattle.tc_link.proofs.Pulled.{not_next}
-use Rattle.tc_link.proofs.Settled.{settled_keeps}
-use Rattle.simulated_link.proofs.Leaving.{AtEachLoss, lost, up_arrives, down_arrives}
-use Rattle.simulated_link.proofs.Reported.{reported, frame_seen}
+use Rattle.tc_link.proofs.Refilled.{refilled_keeps}
+use Rattle.simulated_link.proofs.Unchanged.{AtEachLoss, lost, up_arrives, down_arrives}
+use Rattle.simulated_link.proofs.TelemetryCases.{reported, frame_seen}
 use Rattle.tm_link.specs.Layout as telemetry
-use Rattle.tm_link.specs.Reading as telemetry_reading
+use Rattle.tm_link.specs.Decoding as telemetry_reading
 use Rattle.nodes.specs.declared.event.Event.TheVariants as events
 use Rattle.tc_link.proofs.Sound.{Sound}
 
@@ -33,13 +33,13 @@ Same f t = (t.vs ≡ f.vs) × (t.nn ≡ f.nn)
 
 pub with_same : (s : GroundState) (f : FopState SegmentView) → Same f (with_fop s f).fop
 with_same s f =
-    settled_keeps (λ t. Same f t.fop) (record s { fop = f }) (λ waiting pending on closed. (refl, refl))
+    refilled_keeps (λ t. Same f t.fop) (record s { fop = f }) (λ waiting pending on closed. (refl, refl))
 
 submitted_same : (s : GroundState) (m : ℕ) (octets : List ℕ) (o : Option LinkFault)
     → Same s.fop (unless_refused o s (after_submission s m octets)).after.fop
 submitted_same s m octets (Some fault) = (refl, refl)
 submitted_same s m octets None =
-    settled_keeps (λ t. Same s.fop t.fop) (record s { pending = s.pending ++ segments_on s m octets })
+    refilled_keeps (λ t. Same s.fop t.fop) (record s { pending = s.pending ++ segments_on s m octets })
     (λ waiting pending on closed. (refl, refl))
 
 bypassed_same : (s : GroundState) (m : ℕ) (octets : List ℕ) (o : Option LinkFault)
@@ -61,7 +61,7 @@ heard_same f r = reported f r (λ o. o.after.vs ≡ f.vs) (record {
   active = λ active. heard_active f r (λ o. o.after.vs ≡ f.vs) (record {
     locked = λ t. (alert_same f).0;
     outside = λ t. (alert_same f).0;
-    waiting = λ t u. (alert_same f).0;
+    wait_flag = λ t u. (alert_same f).0;
     asks_none = λ t u. (alert_same f).0;
     same = refl;
     ceases = λ t u v. (alert_same f).0;

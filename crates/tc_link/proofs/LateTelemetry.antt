@@ -6,7 +6,7 @@ use Rattle.tc_link.proofs.Common.{clcw_step, report_in, report_while_active, Fop
 use Rattle.tc_link.proofs.Common.{extract_step, Config, Heard, GroundOutcome, is_closed, World}
 use Rattle.tc_link.proofs.Common.{is_confirmation, is_initialising, down_deliver_step, IsChecked, Rises}
 use Rattle.std.proofs.lemmas.List.{drop-drop}
-use Rattle.tc_link.proofs.Hearing.{used_is, with_heard, Moves, heard_keeps}
+use Rattle.tc_link.proofs.Downward.{used_is, with_heard, Moves, heard_keeps}
 use Rattle.tc_link.proofs.Linked.{Late, Settled, Reporting, Held, Next, holds_on, stays}
 use Rattle.tc_link.proofs.Reports.{IsLate, asked, HeldBy, Led, ReportComes, active_led}
 use Rattle.tc_link.proofs.Transit.{DownIs, Ranks, bit, rises_to, ranks_lower, ranks_to}
@@ -105,7 +105,7 @@ module _ (c : Config) (d : Directive) (base : ℕ) (w : World) (k : Sound c w) (
         vs_is = was.vs_is;
         nn_is = was.nn_is;
         unlocked = λ t. (ranks t).0;
-        waiting = λ t. (ranks t).1;
+        wait_flag = λ t. (ranks t).1;
         rank_low = λ t. (ranks t).2;
         rank_high = λ t. omega (
           arith,

@@ -8,13 +8,13 @@ use Rattle.tc_link.proofs.Common.{Config, IsChecked, limits_of, FitsFrame, Packe
 use Rattle.tc_link.proofs.Common.{is_closed, unsent_segments, World, directive_of, PlainLink, PlainRun, AtMostOneStep}
 use Rattle.tc_link.proofs.Common.{new_link, more, Rises}
 use Rattle.std.specs.List.{flat_map}
-use Rattle.clcw.specs.Reading.{clcw_at}
+use Rattle.clcw.specs.Decoding.{clcw_at}
 use Rattle.tc_link.proofs.Early.{Unsettled}
 use Rattle.tc_link.proofs.Reports.{IsLate, asked}
 use Rattle.tc_link.proofs.Transit.{UpIs, DownIs, Fits, Ranks, bit}
-use Rattle.tc_frame.specs.Reading as command
+use Rattle.tc_frame.specs.Decoding as command
 use Rattle.tm_link.specs.Layout as telemetry
-use Rattle.tm_link.specs.Reading as telemetry_reading
+use Rattle.tm_link.specs.Decoding as telemetry_reading
 
 -- ---- octets on their way
 

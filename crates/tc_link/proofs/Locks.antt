@@ -9,11 +9,11 @@ use Rattle.tc_link.proofs.Common.{body_outcome, spacecraft_take, spacecraft_take
 use Rattle.tc_link.proofs.Common.{directive_outcome, is_initiation, World, WorldOutcome, world_step, session_begun_by}
 use Rattle.tc_link.proofs.Common.{session_after_directive, up_deliver_step, directive_of, ConfirmsExactly, IsChecked}
 use Rattle.tc_link.proofs.Common.{IsChecking, HasNoFalseAlarm, IsEvent}
-use Rattle.tc_frame.specs.Reading.{frame_at}
+use Rattle.tc_frame.specs.Decoding.{frame_at}
 use Rattle.cop1.specs.declared.farm.FarmMode.TheVariants.{Lockout}
-use Rattle.tc_link.proofs.Alerts.{cause}
-use Rattle.tc_link.proofs.Arriving.{own_arrives}
-use Rattle.tc_link.proofs.Beginning.{InSession}
+use Rattle.tc_link.proofs.FalseAlarms.{cause}
+use Rattle.tc_link.proofs.Upward.{own_arrives}
+use Rattle.tc_link.proofs.IdleStart.{InSession}
 use Rattle.tc_link.proofs.Eased.{bypass_eases, control_eases}
 use Rattle.tc_link.proofs.EarlyTelemetry.{early_down_deliver}
 use Rattle.tc_link.proofs.Invariant.{late_step}
@@ -21,8 +21,8 @@ use Rattle.tc_link.proofs.Linked.{Begun, Late, Carries}
 use Rattle.tc_link.proofs.Pulled.{early_up}
 use Rattle.tc_link.proofs.SteadyWorld.{step_sound}
 use Rattle.tc_link.proofs.Transit.{UpIs}
-use Rattle.tc_link.proofs.Windows.{state_by}
-use Rattle.simulated_link.proofs.Leaving.{AtEachLoss, lost, pulled, up_arrives, down_arrives}
+use Rattle.tc_link.proofs.InTransit.{state_by}
+use Rattle.simulated_link.proofs.Unchanged.{AtEachLoss, lost, pulled, up_arrives, down_arrives}
 use Rattle.nodes.specs.declared.event.Event.TheVariants as events
 use Rattle.tc_link.proofs.Sound.{Sound}
 

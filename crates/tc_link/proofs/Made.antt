@@ -13,14 +13,14 @@ use Rattle.tc_link.proofs.Common.{spacecraft_step}
 use Rattle.std.specs.List.{flat_map}
 use Rattle.std.proofs.lemmas.List.{append_cancel_left}
 use Rattle.tc_frame.specs.Layout.{FrameView}
-use Rattle.tc_frame.specs.Reading.{frame_at}
+use Rattle.tc_frame.specs.Decoding.{frame_at}
 use Rattle.map_service.specs.Assembly.{open_part}
 use Rattle.map_service.specs.Cutting.{IsPart}
 use Rattle.map_service.specs.Packets.{packets_in}
-use Rattle.map_service.specs.Taking.{take_step}
+use Rattle.map_service.specs.AssemblerTable.{take_step}
 use Rattle.map_service.proofs.Parts.{segments-parts}
 use Rattle.map_service.proofs.Passage.{given-passed}
-use Rattle.nodes.specs.Acceptance.{segment_in_body, segment_in_frame}
+use Rattle.nodes.specs.Arrival.{segment_in_body, segment_in_frame}
 use Rattle.nodes.specs.Packets.{put_on_map}
 use Rattle.nodes.specs.Spacecraft.{Receive, is_accepted}
 use Rattle.simulated_link.proofs.AcceptedSegments.{foreign}

@@ -14,18 +14,18 @@ use Rattle.tc_link.proofs.Common.{spacecraft_telemetry, Event, number_in, in_fra
 use Rattle.tc_link.proofs.Common.{world_after_pull, world_after_directive, BeginsNoSession, accepted}
 use Rattle.std.specs.Prelude.{flat_map}
 use Rattle.tc_frame.specs.Layout.{FrameView}
-use Rattle.tc_frame.specs.Reading.{frame_at}
-use Rattle.tc_frame.specs.Writing.{spelling}
+use Rattle.tc_frame.specs.Decoding.{frame_at}
+use Rattle.tc_frame.specs.Encoding.{spelling}
 use Rattle.tc_link.specs.Accepted.{AcceptsNoMore}
 use Rattle.tc_link.specs.InTransit.{numbers_up}
-use Rattle.tc_link.proofs.Closed.{closed_not, active_on}
-use Rattle.simulated_link.proofs.Leaving.{AtEachLoss, lost, up_arrives, down_arrives}
-use Rattle.simulated_link.proofs.Reported.{frame_seen}
-use Rattle.tc_link.proofs.Settled.{settled_keeps}
+use Rattle.tc_link.proofs.Common.{closed_not, active_on}
+use Rattle.simulated_link.proofs.Unchanged.{AtEachLoss, lost, up_arrives, down_arrives}
+use Rattle.simulated_link.proofs.TelemetryCases.{frame_seen}
+use Rattle.tc_link.proofs.Refilled.{refilled_keeps}
 use Rattle.tc_link.proofs.Spelled.{Goes, reads_back}
 use Rattle.tc_link.proofs.SteadyWorld.{step_sound}
 use Rattle.tm_link.specs.Layout as telemetry
-use Rattle.tm_link.specs.Reading as telemetry_reading
+use Rattle.tm_link.specs.Decoding as telemetry_reading
 use Rattle.nodes.specs.declared.event.Event.TheVariants as events
 use Rattle.tc_link.proofs.Sound.{Sound}
 
@@ -62,13 +62,13 @@ record Over (old new : World) : Type 0 where
 
 -- the ground's sender, with what is pending moved up
 closed_with : (s : GroundState) (f : FopState SegmentView) → f.state ≡ S6 → (with_fop s f).fop.state ≡ S6
-closed_with s f off = settled_keeps (λ t. t.fop.state ≡ S6) (record s { fop = f }) (λ waiting pending on closed. off)
+closed_with s f off = refilled_keeps (λ t. t.fop.state ≡ S6) (record s { fop = f }) (λ waiting pending on closed. off)
 
 submitted_closed : (s : GroundState) (m : ℕ) (octets : List ℕ) (o : Option LinkFault) → s.fop.state ≡ S6
     → (unless_refused o s (after_submission s m octets)).after.fop.state ≡ S6
 submitted_closed s m octets (Some fault) off = off
 submitted_closed s m octets None off =
-    settled_keeps (λ t. t.fop.state ≡ S6) (record s { pending = s.pending ++ segments_on s m octets })
+    refilled_keeps (λ t. t.fop.state ≡ S6) (record s { pending = s.pending ++ segments_on s m octets })
     (λ waiting pending on closed. off)
 
 bypassed_closed : (s : GroundState) (m : ℕ) (octets : List ℕ) (o : Option LinkFault) → s.fop.state ≡ S6

@@ -7,11 +7,11 @@ use Rattle.tc_link.proofs.Common.{PlainRun, AtMostOneStep, new_link, more, IsEve
 use Rattle.tc_link.proofs.Common.{IsSettled, BeginsNoSession, accepted, world_step, world_run}
 use Rattle.tc_link.specs.OneLink.{HistoriesAre, HasOneLink, IsUnsent, EachHasOneLink, EachGoesOnAsOne}
 use Rattle.tc_link.specs.PlainLink.{PlainStep, none}
-use Rattle.tc_link.proofs.Beginning.{InSession}
-use Rattle.tc_link.proofs.Delivered.{has_plain_history, unsettled}
+use Rattle.tc_link.proofs.IdleStart.{InSession}
+use Rattle.tc_link.proofs.InOrder.{has_plain_history, unsettled}
 use Rattle.tc_link.proofs.AnyPast.{past_holds}
 use Rattle.tc_link.proofs.Invariant.{Holding, idle_goes, late_step, step_holds}
-use Rattle.tc_link.proofs.Steps.{goes_on_by_a_step}
+use Rattle.tc_link.proofs.History.{goes_on_by_a_step}
 use Rattle.tc_link.proofs.Transit.{rises_to}
 use Rattle.tc_link.proofs.Sound.{Sound}
 

@@ -7,7 +7,7 @@ use Rattle.nodes.specs.Ground.{outstanding}
 use Rattle.tc_link.specs.Progress.{times, exchange, EachMakesProgress, EachAcknowledges}
 use Rattle.tc_link.proofs.Promised.{promised}
 use Rattle.tc_link.proofs.ProgressFirst.{Ready, ReadyWith, first_exchange}
-use Rattle.tc_link.proofs.ProgressGround.{size, size_is, IsBounded}
+use Rattle.tc_link.proofs.ProgressNodes.{size, size_is, IsBounded}
 use Rattle.tc_link.proofs.ProgressLists.{idle_after}
 use Rattle.tc_link.proofs.ProgressNext.{next_exchange}
 use Rattle.tc_link.proofs.ProgressRuns.{alerts_first, alerts_then, run_append, Ends, ends_then, ends_times}

@@ -8,7 +8,7 @@ use Rattle.tc_link.proofs.Common.{FopMode, S1, S2, S4, S5, IsActive, locks, wait
 use Rattle.tc_link.proofs.Common.{pull_step, pulled_out, tick_step, ticked, after_stop, after_count, due_again, goes_on}
 use Rattle.tc_link.proofs.Common.{alerts, extract_step, GroundState, with_fop, after_extraction, World, WorldOutcome}
 use Rattle.tc_link.proofs.Common.{world_step, world_run, is_initialising, spacecraft_report}
-use Rattle.tm_link.specs.Writing as telemetry_writing
+use Rattle.tm_link.specs.Encoding as telemetry_writing
 use Rattle.std.specs.Prelude.{IsSome}
 use Rattle.std.proofs.lemmas.Bool.{ltb-true}
 use Rattle.cop1.specs.declared.vocabulary.Alert.TheVariants.{Lockout, Clcw as ClcwAlert, Timer}
@@ -16,19 +16,19 @@ use Rattle.cop1.specs.FopPull.{pull_control, pull_bypass, pull_in}
 use Rattle.cop1.specs.FopTick.{tick_with, timer_ended, while_below}
 use Rattle.cop1.specs.Units.{oldest_of}
 use Rattle.nodes.specs.Ground.{outstanding}
-use Rattle.simulated_link.proofs.Leaving.{pulled}
+use Rattle.simulated_link.proofs.Unchanged.{pulled}
 use Rattle.nodes.specs.declared.event.Event.TheVariants as events
 use Rattle.tc_link.specs.FalseAlarms.{alert_in}
 use Rattle.tc_link.specs.Progress.{followed_by, times, most_sent, all_sent, all_taken, all_arrived, reported, all_heard}
 use Rattle.tc_link.specs.Progress.{are_marked, ticks_left, awaits, timer_run_out, round_trip, exchange, AlertsIn}
 use Rattle.tc_link.specs.Progress.{EachBegins, EachEnds, IsDone}
 use Rattle.tc_link.proofs.Linked.{Tells, Reporting}
-use Rattle.tc_link.proofs.ProgressBoard.{Arrived, takes, arrives}
+use Rattle.tc_link.proofs.ProgressNodes.{Arrived, takes, arrives}
 use Rattle.tc_link.proofs.ProgressFirst.{first_tells, holds_more, alerted}
 use Rattle.tc_link.proofs.Progress.{each_makes_progress}
 use Rattle.tc_link.proofs.ProgressCount.{reached_counts}
 use Rattle.tc_link.proofs.ProgressLists.{idle_run, exchange_calm}
-use Rattle.tc_link.proofs.ProgressGround.{with_same, heard_is}
+use Rattle.tc_link.proofs.ProgressNodes.{with_same, heard_is}
 use Rattle.tc_link.proofs.ProgressLive.{IsDueNow, Running}
 use Rattle.tc_link.proofs.ProgressRuns.{known, Ends, ends_then, ends_repeat, ends_once, alerts_first}
 use Rattle.tc_link.proofs.ProgressRuns.{alerts_then, run_append, ends_so}

@@ -5,7 +5,7 @@ use Rattle.tc_link.proofs.Common.{subst, ◌∙◌, arith, cond_both, Clcw, Segm
 use Rattle.tc_link.proofs.Common.{FopOutcome, S1, S2, Directive, InitWithoutCheck, InitWithCheck, InitUnlock, InitSetVr}
 use Rattle.tc_link.proofs.Common.{begun, directive_step, clcw_step, report_while_active, retransmits}
 use Rattle.tc_link.proofs.Common.{after_new_value, heard_active, pull_step, pulled_out, tick_step, ticked, after_repeat}
-use Rattle.tc_link.proofs.Common.{after_stop, GroundState, settle_step, with_fop, after_extraction, telemetry_outcome}
+use Rattle.tc_link.proofs.Common.{after_stop, GroundState, refill_step, with_fop, after_extraction, telemetry_outcome}
 use Rattle.tc_link.proofs.Common.{TmFault, submit_fault, bypass_fault, after_submission, after_bypass, unless_refused}
 use Rattle.tc_link.proofs.Common.{LinkFault, directive_outcome, Event, World, WorldOutcome, new_world, world_step}
 use Rattle.tc_link.proofs.Common.{world_run, IsReached}
@@ -15,14 +15,14 @@ use Rattle.cop1.specs.declared.vocabulary.Directive.TheVariants.{Terminate, SetV
 use Rattle.std.proofs.lemmas.Bool.{lt-ltb}
 use Rattle.cop1.specs.FopTick.{tick_with, timer_ended, while_below}
 use Rattle.cop1.specs.Units.{is_none_sent}
-use Rattle.simulated_link.proofs.Leaving.{AtEachLoss, lost, pulled, up_arrives, down_arrives}
-use Rattle.simulated_link.proofs.Reported.{reported, frame_seen}
+use Rattle.simulated_link.proofs.Unchanged.{AtEachLoss, lost, pulled, up_arrives, down_arrives}
+use Rattle.simulated_link.proofs.TelemetryCases.{reported, frame_seen}
 use Rattle.tm_link.specs.Layout as telemetry
-use Rattle.tm_link.specs.Reading as telemetry_reading
+use Rattle.tm_link.specs.Decoding as telemetry_reading
 use Rattle.nodes.specs.declared.event.Event.TheVariants as events
 use Rattle.tc_link.specs.Progress.{are_marked}
-use Rattle.tc_link.proofs.Settled.{settled_keeps}
-use Rattle.tc_link.proofs.ProgressGround.{with_same}
+use Rattle.tc_link.proofs.Refilled.{refilled_keeps}
+use Rattle.tc_link.proofs.ProgressNodes.{with_same}
 use Rattle.tc_link.proofs.ProgressRuns.{IsCalm}
 use Rattle.tc_link.proofs.ProgressSender.{marked_all}
 
@@ -43,7 +43,7 @@ module _ (s : FopState SegmentView) (k : IsCounted s) where
   active_counts r = heard_active s r (λ o. Counts o) (record {
     locked = λ t. k;
     outside = λ t. k;
-    waiting = λ none waiting. k;
+    wait_flag = λ none waiting. k;
     asks_none = λ asking at. k;
     same = k;
     ceases = λ none at were. k;
@@ -118,11 +118,11 @@ module _ (s : FopState SegmentView) (k : IsCounted s) where
   directive_counts (SetTimer n) =
       cond_both (n == 0) _ (obeys (record s { timer = n })) (λ o. Counts o) (λ t. k) (λ t. k)
 
-settled_counts : (s : GroundState) → IsCounted s.fop → IsCounted (settle_step s).fop
-settled_counts s k = settled_keeps (λ (t : GroundState). IsCounted t.fop) s (λ waiting pending on off. k)
+refilled_counts : (s : GroundState) → IsCounted s.fop → IsCounted (refill_step s).fop
+refilled_counts s k = refilled_keeps (λ (t : GroundState). IsCounted t.fop) s (λ waiting pending on off. k)
 
 with_counts : (s : GroundState) (f : FopState SegmentView) → IsCounted f → IsCounted (with_fop s f).fop
-with_counts s f k = settled_counts (record s { fop = f }) k
+with_counts s f k = refilled_counts (record s { fop = f }) k
 
 module _ (s : GroundState) (k : IsCounted s.fop) where
   directed_counts : (r : Result (Option Alert) CopFault) (f : FopState SegmentView) → IsCounted f
@@ -133,7 +133,7 @@ module _ (s : GroundState) (k : IsCounted s.fop) where
   submitted_counts : (m : ℕ) (octets : List ℕ) (o : Option LinkFault)
       → IsCounted (unless_refused o s (after_submission s m octets)).after.fop
   submitted_counts m octets (Some fault) = k
-  submitted_counts m octets None = settled_counts _ k
+  submitted_counts m octets None = refilled_counts _ k
 
   bypassed_counts : (m : ℕ) (octets : List ℕ) (o : Option LinkFault)
       → IsCounted (unless_refused o s (after_bypass s m octets)).after.fop
@@ -201,7 +201,7 @@ module _ (s : FopState SegmentView) where
     active = λ active. heard_active s r (λ o. o.after.limit ≡ s.limit) (record {
       locked = λ t. refl;
       outside = λ t. refl;
-      waiting = λ none waiting. refl;
+      wait_flag = λ none waiting. refl;
       asks_none = λ asking at. refl;
       same = refl;
       ceases = λ none at were. refl;
@@ -289,7 +289,7 @@ module _ (s : FopState SegmentView) (two : 2 ≤ s.limit) where
       active = λ active. heard_active s r (λ o. IsFine o.after) (record {
         locked = λ t. inr refl;
         outside = λ t. inr refl;
-        waiting = λ none waiting. inr refl;
+        wait_flag = λ none waiting. inr refl;
         asks_none = λ asking at. inr refl;
         same = fine;
         ceases = λ none at were. inr refl;

@@ -12,19 +12,19 @@ use Rattle.std.specs.Prelude.{IsSome}
 use Rattle.std.proofs.lemmas.Bool.{false_from_ne_true, not-true, not-false}
 use Rattle.simulated_link.specs.Replies.{reply_to_alert}
 use Rattle.simulated_link.specs.World.{world_after_telemetry}
-use Rattle.simulated_link.proofs.Leaving.{pulled}
+use Rattle.simulated_link.proofs.Unchanged.{pulled}
 use Rattle.nodes.specs.declared.event.Event.TheVariants as events
-use Rattle.tm_link.specs.Writing as telemetry_writing
+use Rattle.tm_link.specs.Encoding as telemetry_writing
 use Rattle.tc_link.specs.FalseAlarms.{alert_in}
 use Rattle.tc_link.specs.Progress.{awaits, most_sent, followed_by, all_sent, all_taken, all_arrived, reported}
 use Rattle.tc_link.specs.Progress.{all_heard, are_marked, ticks_left, timer_run_out, round_trip, exchange}
-use Rattle.tc_link.proofs.Hearing.{used}
+use Rattle.tc_link.proofs.Downward.{used}
 use Rattle.tc_link.proofs.Linked.{Tells, Reporting}
 use Rattle.tc_link.proofs.ReportFrames.{tells_now}
-use Rattle.tc_link.proofs.Words.{flags_are}
-use Rattle.tc_link.proofs.ProgressBoard.{Arrived, takes, arrives}
-use Rattle.tc_link.proofs.ProgressGround.{with_same, with_config, IsBounded, bounded, HasNumbers, has_numbers}
-use Rattle.tc_link.proofs.ProgressGround.{some_sent, heard_is}
+use Rattle.tc_link.proofs.ReportFrames.{flags_are}
+use Rattle.tc_link.proofs.ProgressNodes.{Arrived, takes, arrives}
+use Rattle.tc_link.proofs.ProgressNodes.{with_same, with_config, IsBounded, bounded, HasNumbers, has_numbers}
+use Rattle.tc_link.proofs.ProgressNodes.{some_sent, heard_is}
 use Rattle.tc_link.proofs.ProgressLive.{Running}
 use Rattle.tc_link.proofs.ProgressRuns.{going_step, known, Ends, ends_then, ends_repeat, ends_once}
 use Rattle.tc_link.proofs.ProgressSender.{Obeys, heard_fresh, HoldsNoMore, pull_no_more, report_holds, active_report}

@@ -6,7 +6,7 @@ use Rattle.tc_link.specs.Progress.{awaits, most_sent}
 use Rattle.tc_link.specs.Progress.{Schedule, followed_by, times, all_sent, all_taken, next_arrived, all_arrived}
 use Rattle.tc_link.specs.Progress.{reported}
 use Rattle.tc_link.specs.Progress.{all_heard, are_marked, ticks_left, timer_run_out, round_trip, exchange}
-use Rattle.tc_link.proofs.Submitting.{all_append}
+use Rattle.tc_link.proofs.Submissions.{all_append}
 use Rattle.tc_link.proofs.ProgressRuns.{IsCalm, idle_step}
 
 -- ---- lists of events of one kind

@@ -11,7 +11,7 @@ use Rattle.tc_link.proofs.Common.{due_again, alerts, goes_on, tick_step, pull_st
 use Rattle.tc_link.proofs.Common.{directive_step, begun, Directive, InitWithoutCheck, InitWithCheck, InitUnlock}
 use Rattle.tc_link.proofs.Common.{InitSetVr, FarmMode, Open, Wait, FarmState, FlagsAgree, state_of, farm_step}
 use Rattle.tc_link.proofs.Common.{after_unlock, after_set_vr, after_release, BufferReleased, Verdict, Accepted, Ahead}
-use Rattle.tc_link.proofs.Common.{NoBuffer, Outside, verdict_of, GroundState, settle_step, with_fop, is_closed}
+use Rattle.tc_link.proofs.Common.{NoBuffer, Outside, verdict_of, GroundState, refill_step, with_fop, is_closed}
 use Rattle.tc_link.proofs.Common.{after_extraction, telemetry_outcome, submit_fault, bypass_fault, after_bypass}
 use Rattle.tc_link.proofs.Common.{after_submission, unless_refused, directive_outcome, TmFault, Config, LinkFault}
 use Rattle.tc_link.proofs.Common.{Event, PacketOn, IsConfig, SpacecraftState, SpacecraftOutcome, frame_outcome}
@@ -33,13 +33,13 @@ use Rattle.cop1.specs.FopTick.{tick_with, timer_ended, while_below}
 use Rattle.nodes.specs.Ground.{after_moving_up}
 use Rattle.nodes.specs.Packets.{put_on_map}
 use Rattle.nodes.specs.Spacecraft.{assemble_step}
-use Rattle.simulated_link.proofs.Leaving.{AtEachLoss, lost, pulled, up_arrives, down_arrives}
-use Rattle.simulated_link.proofs.Reported.{reported, frame_seen}
+use Rattle.simulated_link.proofs.Unchanged.{AtEachLoss, lost, pulled, up_arrives, down_arrives}
+use Rattle.simulated_link.proofs.TelemetryCases.{reported, frame_seen}
 use Rattle.tc_link.proofs.Sound.{Sound}
 use Rattle.tc_link.proofs.SteadyWorld.{step_sound, new_sound}
-use Rattle.tc_frame.specs.Reading as command
+use Rattle.tc_frame.specs.Decoding as command
 use Rattle.tm_link.specs.Layout as telemetry
-use Rattle.tm_link.specs.Reading as telemetry_reading
+use Rattle.tm_link.specs.Decoding as telemetry_reading
 use Rattle.nodes.specs.declared.event.Event.TheVariants as events
 
 -- ---- the sender's timer
@@ -126,7 +126,7 @@ module _ (s : FopState SegmentView) (k : Timed s) where
     active_timed = heard_active s r (λ o. Times o) (record {
       locked = λ t. stopped (after_alert s) refl refl (λ e. absurd cc);
       outside = λ t. stopped (after_alert s) refl refl (λ e. absurd cc);
-      waiting = λ none waiting. stopped (after_alert s) refl refl (λ e. absurd cc);
+      wait_flag = λ none waiting. stopped (after_alert s) refl refl (λ e. absurd cc);
       asks_none = λ asking at. stopped (after_alert s) refl refl (λ e. absurd cc);
       same = k;
       ceases = λ none at were. stopped (after_alert s) refl refl (λ e. absurd cc);
@@ -270,13 +270,13 @@ moves_up s None [] has is k = record { timed = k; moved = λ none. is }
 moves_up s None (u ∷ ps) has is k =
     record { timed = assumption k; moved = λ none. absurd (cc none) }
 
-settled_live : (s : GroundState) → Timed s.fop → LiveGround (settle_step s)
-settled_live s k =
+refilled_live : (s : GroundState) → Timed s.fop → LiveGround (refill_step s)
+refilled_live s k =
     cond_both (is_closed s.fop.state) (record s { pending = [] }) (after_moving_up s s.fop.waiting s.pending) LiveGround
     (λ off. record { timed = k; moved = λ none. refl }) (λ on. moves_up s s.fop.waiting s.pending refl refl k)
 
 with_live : (s : GroundState) (f : FopState SegmentView) → Timed f → LiveGround (with_fop s f)
-with_live s f k = settled_live (record s { fop = f }) k
+with_live s f k = refilled_live (record s { fop = f }) k
 
 module _ (s : GroundState) (k : LiveGround s) where
   directed_live : (r : Result (Option Alert) CopFault) (f : FopState SegmentView) → Timed f
@@ -287,7 +287,7 @@ module _ (s : GroundState) (k : LiveGround s) where
   submitted_live : (m : ℕ) (octets : List ℕ) (o : Option LinkFault)
       → LiveGround (unless_refused o s (after_submission s m octets)).after
   submitted_live m octets (Some fault) = k
-  submitted_live m octets None = settled_live _ k.timed
+  submitted_live m octets None = refilled_live _ k.timed
 
   bypassed_live : (m : ℕ) (octets : List ℕ) (o : Option LinkFault)
       → LiveGround (unless_refused o s (after_bypass s m octets)).after

@@ -14,27 +14,27 @@ use Rattle.tc_link.proofs.Common.{state_of, BodyView}
 use Rattle.tc_link.proofs.Common.{IsReached}
 use Rattle.std.proofs.lemmas.Bool.{lt-ltb, false_from_ne_true}
 use Rattle.std.proofs.lemmas.List.{nil_from_length}
-use Rattle.tc_frame.specs.Reading.{frame_at}
-use Rattle.tc_frame.specs.Writing.{spelling}
+use Rattle.tc_frame.specs.Decoding.{frame_at}
+use Rattle.tc_frame.specs.Encoding.{spelling}
 use Rattle.cop1.specs.Farm.{after_type_b}
 use Rattle.cop1.specs.FopPull.{after_send_first, pulls, BypassPulled, SequencePulled, NothingPulled}
 use Rattle.nodes.specs.declared.received.Received.{Received}
 use Rattle.nodes.specs.declared.event.Event.TheVariants as events
-use Rattle.tm_link.specs.Writing as telemetry_writing
+use Rattle.tm_link.specs.Encoding as telemetry_writing
 use Rattle.tc_link.specs.Progress.{awaits, followed_by, all_sent, all_taken, next_arrived, all_arrived, reported}
 use Rattle.tc_link.specs.Progress.{all_heard, are_marked, ticks_left, timer_run_out, round_trip, exchange}
-use Rattle.tc_link.proofs.Arriving.{own_arrives}
-use Rattle.tc_link.proofs.Closed.{active_on}
-use Rattle.tc_link.proofs.Fitting.{moved}
+use Rattle.tc_link.proofs.Upward.{own_arrives}
+use Rattle.tc_link.proofs.Common.{active_on}
+use Rattle.tc_link.proofs.FitFrames.{moved}
 use Rattle.tc_link.proofs.Linked.{Tells}
-use Rattle.tc_link.proofs.Queue.{oldest_stands}
+use Rattle.tc_link.proofs.Lists.{oldest_stands}
 use Rattle.tc_link.proofs.ReportFrames.{tells_now}
 use Rattle.tc_link.proofs.Sound.{Commanded}
 use Rattle.tc_link.proofs.Spelled.{reads_back, fits_at}
-use Rattle.tc_link.proofs.Words.{flags_are}
+use Rattle.tc_link.proofs.ReportFrames.{flags_are}
 use Rattle.tc_link.proofs.ProgressFirst.{awaits_so, Ready}
-use Rattle.tc_link.proofs.ProgressGround.{with_same, with_config, with_unsent, size, size_is, IsBounded, bounded}
-use Rattle.tc_link.proofs.ProgressGround.{has_numbers, heard_is}
+use Rattle.tc_link.proofs.ProgressNodes.{with_same, with_config, with_unsent, size, size_is, IsBounded, bounded}
+use Rattle.tc_link.proofs.ProgressNodes.{has_numbers, heard_is}
 use Rattle.tc_link.proofs.ProgressPull.{NextPull, bypasses, again, first, none, next_pull, Consecutive, next_number}
 use Rattle.tc_link.proofs.ProgressPull.{next_bypass, accepts_expected, Acknowledged, all_acknowledged}
 use Rattle.tc_link.proofs.ProgressRuns.{known, Ends, ends_then, ends_repeat, ends_times, ends_once, ends_so}

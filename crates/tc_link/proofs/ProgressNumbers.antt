@@ -13,35 +13,35 @@ use Rattle.tc_link.proofs.Common.{tick_step, ticked, after_repeat, after_stop, a
 use Rattle.tc_link.proofs.Common.{FarmState, FarmMode, Open, Wait, Verdict, Accepted, verdict_of, farm_step}
 use Rattle.tc_link.proofs.Common.{after_verdict, after_unlock, after_set_vr, after_release, BufferReleased, report_of}
 use Rattle.tc_link.proofs.Common.{Config, FitsFrame, frame_of, frame_to_send, GroundState, with_fop, is_closed}
-use Rattle.tc_link.proofs.Common.{settle_step, after_extraction, extract_step, submit_fault, bypass_fault}
+use Rattle.tc_link.proofs.Common.{refill_step, after_extraction, extract_step, submit_fault, bypass_fault}
 use Rattle.tc_link.proofs.Common.{after_submission, after_bypass, unless_refused, LinkFault, directive_outcome}
 use Rattle.tc_link.proofs.Common.{IsDirective, IsEvent, PacketOn, SpacecraftState, SpacecraftOutcome, body_outcome}
 use Rattle.tc_link.proofs.Common.{sequence_outcome, bypass_outcome, is_free, is_kept, limits_of, spacecraft_take}
 use Rattle.tc_link.proofs.Common.{spacecraft_take_bypass, spacecraft_telemetry, is_to_send, Event, IsReached, World}
 use Rattle.tc_link.proofs.Common.{WorldOutcome, new_world, world_step, world_run, world_after_pull, up_deliver_step}
 use Rattle.tc_link.proofs.Common.{down_deliver_step, TmFault}
-use Rattle.tc_frame.specs.Reading.{frame_at}
-use Rattle.tc_frame.specs.Writing.{spelling}
+use Rattle.tc_frame.specs.Decoding.{frame_at}
+use Rattle.tc_frame.specs.Encoding.{spelling}
 use Rattle.cop1.specs.declared.farm.FarmMode.TheVariants.{Lockout}
 use Rattle.cop1.specs.FopPull.{after_send_first}
 use Rattle.cop1.specs.FopWords.{is_outside}
 use Rattle.nodes.specs.declared.received.Received.{Received}
 use Rattle.simulated_link.specs.World.{world_after_telemetry}
-use Rattle.simulated_link.proofs.Leaving.{AtEachLoss, lost, up_arrives, down_arrives}
-use Rattle.simulated_link.proofs.Reported.{reported}
+use Rattle.simulated_link.proofs.Unchanged.{AtEachLoss, lost, up_arrives, down_arrives}
+use Rattle.simulated_link.proofs.TelemetryCases.{reported}
 use Rattle.nodes.specs.declared.event.Event.TheVariants as events
-use Rattle.tc_link.proofs.Arriving.{own_arrives}
-use Rattle.tc_link.proofs.Closed.{closed_not, active_on}
-use Rattle.tc_link.proofs.Fitting.{moved}
-use Rattle.tc_link.proofs.Hearing.{used_is}
+use Rattle.tc_link.proofs.Upward.{own_arrives}
+use Rattle.tc_link.proofs.Common.{closed_not, active_on}
+use Rattle.tc_link.proofs.FitFrames.{moved}
+use Rattle.tc_link.proofs.Downward.{used_is}
 use Rattle.tc_link.proofs.Invariant.{Holding, step_holds, new_holds}
 use Rattle.tc_link.proofs.Linked.{Carries, carries_push, Tells, Reporting}
-use Rattle.tc_link.proofs.Queue.{oldest_stands}
+use Rattle.tc_link.proofs.Lists.{oldest_stands}
 use Rattle.tc_link.proofs.ReportFrames.{reporting_now}
-use Rattle.tc_link.proofs.Settled.{settled_keeps}
+use Rattle.tc_link.proofs.Refilled.{refilled_keeps}
 use Rattle.tc_link.proofs.Sound.{Commanded}
 use Rattle.tc_link.proofs.Spelled.{Goes, reads_back, fits_at}
-use Rattle.tc_link.proofs.Submitting.{all_append}
+use Rattle.tc_link.proofs.Submissions.{all_append}
 use Rattle.tc_link.proofs.ProgressSender.{without_length}
 
 -- ---- the sender
@@ -118,7 +118,7 @@ module _ (s : FopState SegmentView) (k : Numbered s) where
         heard_active s r (λ o. Numbers o) (record {
           locked = λ t. gives_up s refl k.nn;
           outside = λ t. gives_up s refl k.nn;
-          waiting = λ none waiting. gives_up s refl k.nn;
+          wait_flag = λ none waiting. gives_up s refl k.nn;
           asks_none = λ asking at. gives_up s refl k.nn;
           same = k;
           ceases = λ none at were. gives_up s refl k.nn;
@@ -224,8 +224,8 @@ module _ (s : FopState SegmentView) (k : Numbered s) where
 
 -- ---- the ground
 
-settled_numbers : (s : GroundState) → Numbered s.fop → Numbered (settle_step s).fop
-settled_numbers s k = settled_keeps (λ (t : GroundState). Numbered t.fop) s (λ waiting pending on off. record {
+refilled_numbers : (s : GroundState) → Numbered s.fop → Numbered (refill_step s).fop
+refilled_numbers s k = refilled_keeps (λ (t : GroundState). Numbered t.fop) s (λ waiting pending on off. record {
   vs = k.vs;
   nn = k.nn;
   command = k.command;
@@ -234,7 +234,7 @@ settled_numbers s k = settled_keeps (λ (t : GroundState). Numbered t.fop) s (λ
 })
 
 with_numbers : (s : GroundState) (f : FopState SegmentView) → Numbered f → Numbered (with_fop s f).fop
-with_numbers s f k = settled_numbers (record s { fop = f }) k
+with_numbers s f k = refilled_numbers (record s { fop = f }) k
 
 module _ (s : GroundState) (k : Numbered s.fop) where
   directed_numbers : (r : Result (Option Alert) CopFault) (f : FopState SegmentView) → Numbered f
@@ -245,7 +245,7 @@ module _ (s : GroundState) (k : Numbered s.fop) where
   submitted_numbers : (m : ℕ) (octets : List ℕ) (o : Option LinkFault)
       → Numbered (unless_refused o s (after_submission s m octets)).after.fop
   submitted_numbers m octets (Some fault) = k
-  submitted_numbers m octets None = settled_numbers _ k
+  submitted_numbers m octets None = refilled_numbers _ k
 
   bypassed_numbers : (m : ℕ) (octets : List ℕ) (o : Option LinkFault)
       → Numbered (unless_refused o s (after_bypass s m octets)).after.fop

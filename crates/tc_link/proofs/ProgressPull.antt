@@ -10,7 +10,7 @@ use Rattle.tc_link.proofs.Common.{NnR, Synch, FarmState, Open, Accepted}
 use Rattle.tc_link.proofs.Common.{verdict_of, Config, frame_of, SentUnit}
 use Rattle.std.specs.Prelude.{◌&&◌}
 use Rattle.std.proofs.lemmas.List.{drop_all}
-use Rattle.tc_frame.specs.Reading.{frame_at}
+use Rattle.tc_frame.specs.Decoding.{frame_at}
 use Rattle.cop1.specs.declared.vocabulary.Alert.TheVariants.{Lockout, Clcw as ClcwAlert}
 use Rattle.cop1.specs.Farm.{ad_verdict, place_at}
 use Rattle.cop1.specs.FopPull.{NothingPulled, BypassPulled, SequencePulled, pulls, pull_control, pull_bypass, pull_in}

@@ -4,7 +4,7 @@ use Rattle.tc_link.proofs.Common.{refl, ap, sym, subst, ◌∙◌, replicate, Co
 use Rattle.tc_link.proofs.Common.{WorldOutcome, world_step, world_run, IsIdle, IsSettled, IsReached, IsEvent}
 use Rattle.tc_link.proofs.Common.{BeginsNoSession, option_map, Opening, directive_of}
 use Rattle.std.specs.Prelude.{IsSome}
-use Rattle.simulated_link.proofs.Leaving.{pulled, up_arrives, down_arrives}
+use Rattle.simulated_link.proofs.Unchanged.{pulled, up_arrives, down_arrives}
 use Rattle.tc_link.specs.FalseAlarms.{alert_in}
 use Rattle.tc_link.specs.Progress.{Schedule, followed_by, times, AlertsIn}
 use Rattle.tc_link.proofs.Invariant.{reached_holds, opening_stays, idle_goes, Holding}

@@ -10,7 +10,7 @@ use Rattle.tc_link.proofs.Common.{pulled_out, clcw_step, report_in, length-appen
 use Rattle.tc_link.proofs.Common.{option_to_list, after_restart, heard_active, Sent}
 use Rattle.std.proofs.lemmas.Bool.{not-true}
 use Rattle.std.specs.Prelude.{IsSome, ◌&&◌}
-use Rattle.tc_link.proofs.Queue.{units-without}
+use Rattle.tc_link.proofs.Lists.{units-without}
 use Rattle.cop1.specs.declared.vocabulary.Alert.TheVariants.{Lockout, Clcw as ClcwAlert, Limit, Timer}
 use Rattle.cop1.specs.FopReport.{nothing_new, move_on, ask_for_others, ask_for_all, goes_back_again}
 use Rattle.cop1.specs.FopTick.{tick_with, timer_ended, while_below}
@@ -207,7 +207,7 @@ module _ (s : FopState SegmentView) (pending : List SegmentView) (active : IsAct
       heard_active s r AlertsOrHolds (record {
         locked = λ t. inl refl;
         outside = λ t. inl refl;
-        waiting = λ none waiting. inl refl;
+        wait_flag = λ none waiting. inl refl;
         asks_none = λ asking at. inl refl;
         same = inr (no_more s active (omega arith) refl refl);
         ceases = λ none at were. inl refl;

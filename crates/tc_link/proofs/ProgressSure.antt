@@ -20,7 +20,7 @@ use Rattle.tc_link.proofs.Progress.{each_makes_progress}
 use Rattle.tc_link.proofs.ProgressCount.{reached_counts, limit_stays, IsBelow, IsFine, IsBefore, step_below, hears_fine}
 use Rattle.tc_link.proofs.ProgressCount.{ends_silent}
 use Rattle.tc_link.proofs.ProgressFirst.{awaits_so, Quiet, Ready, ReadyWith, Heard, first_round_trip, first_exchange}
-use Rattle.tc_link.proofs.ProgressGround.{with_same, IsBounded}
+use Rattle.tc_link.proofs.ProgressNodes.{with_same, IsBounded}
 use Rattle.tc_link.proofs.ProgressLists.{sends_are, takes_are, arrives_are, reports_are, IsTalk, talk_calm, talks_calm}
 use Rattle.tc_link.proofs.ProgressLists.{trip_talks, timer_calm}
 use Rattle.tc_link.proofs.ProgressNext.{Advanced, next_round_trip, next_exchange}

@@ -9,14 +9,14 @@ use Rattle.std.proofs.Common.{OnErr}
 use Rattle.std.proofs.lemmas.List.{take_more}
 use Rattle.tc_link.specs.Promises.{HoldsAt, HoldsThroughout}
 use Rattle.tc_link.proofs.Accepted.{says_what_was_accepted}
-use Rattle.tc_link.proofs.Carried.{all_readable}
-use Rattle.tc_link.proofs.Delivered.{is_in_order, has_plain_history}
+use Rattle.tc_link.proofs.Readable.{all_readable}
+use Rattle.tc_link.proofs.InOrder.{is_in_order, has_plain_history}
 use Rattle.tc_link.proofs.Invariant.{Holding, reached_holds}
 use Rattle.tc_link.proofs.Known.{moves_with_records}
-use Rattle.tc_link.proofs.Submitting.{all_push}
+use Rattle.tc_link.proofs.Submissions.{all_push}
 use Rattle.tc_link.proofs.Locks.{has_no_false_alarm, confirms_exactly}
-use Rattle.tc_link.proofs.Steps.{goes_on_by_a_step}
-use Rattle.tc_link.proofs.Windows.{keeps_to_window, is_confirmed_exactly}
+use Rattle.tc_link.proofs.History.{goes_on_by_a_step}
+use Rattle.tc_link.proofs.InTransit.{keeps_to_window, is_confirmed_exactly}
 
 module _ (c : Config) (w : World) (h : Holding c w) where
   readable_so : AllReadable w

@@ -9,21 +9,21 @@ use Rattle.tc_link.proofs.Common.{FopState, FopOutcome, IsActive, after_restart,
 use Rattle.tc_link.proofs.Common.{unsent_segments, with_fop, frame_of, frame_to_send, World, world_after_pull}
 use Rattle.tc_link.proofs.Common.{IsChecked, pulled_out}
 use Rattle.std.proofs.lemmas.Option.{slice_get_within}
-use Rattle.tc_frame.specs.Writing.{spelling}
+use Rattle.tc_frame.specs.Encoding.{spelling}
 use Rattle.cop1.specs.FopPull.{SequencePulled, pulls, after_send_first}
 use Rattle.simulated_link.specs.World.{first_sent}
 use Rattle.tc_link.specs.PlainLink.{puts_next, puts_again}
 use Rattle.tc_link.proofs.Lists.{drop_cons_get, drop_cons_rest, take_next, get_drop, get_take}
-use Rattle.tc_link.proofs.Queue.{units-push, units-without, oldest_stands}
+use Rattle.tc_link.proofs.Lists.{units-push, units-without, oldest_stands}
 use Rattle.tc_link.proofs.Reports.{IsLate}
 use Rattle.tc_link.proofs.Transit.{UpIs, Fits, CommandFits, up_push, up_push_bypass, up_push_control, fits_push}
 use Rattle.tc_link.proofs.Transit.{fits_further, bit}
 use Rattle.tc_link.proofs.Early.{ControlFits, early_off}
 use Rattle.tc_link.proofs.Linked.{In, Begun, Stage, WithSender, Calm, Carries, Held, carries_push}
 use Rattle.tc_link.proofs.Linked.{Next, holds_on}
-use Rattle.tc_link.proofs.Settled.{same_keeps, session_settled, held_same}
+use Rattle.tc_link.proofs.Refilled.{same_keeps, session_refilled, held_same}
 use Rattle.tc_link.proofs.Spelled.{Goes, reads_back, fits_at}
-use Rattle.tc_link.proofs.Closed.{active_on}
+use Rattle.tc_link.proofs.Common.{active_on}
 use Rattle.tc_link.proofs.Sound.{Commanded, Sound}
 
 -- ---- what a stage says of a frame that is sent
@@ -110,7 +110,7 @@ module _ (early : Bool) (c : Config) (d : Directive) (base : ℕ) (w : World) (k
         let nn_octet : fop.nn < 256 = rw nn l.nn_octet in
         let sent_is : w.session.sent ++ [] ≡ map segment_octets (take p.n p.units) =
         append-nil w.session.sent ∙ l.sent_is in
-        session_settled early c d base (record w {
+        session_refilled early c d base (record w {
           ground_node = record w.ground_node { fop = fop };
           up = w.up ++ spelling On (frame_of w.ground_node.config f) ∷ [];
           session = record w.session { sent = w.session.sent ++ [] };
@@ -170,7 +170,7 @@ module _ (early : Bool) (c : Config) (d : Directive) (base : ℕ) (w : World) (k
           ap (λ xs. w.session.sent ++ xs) field ∙ ap (λ xs. xs ++ segment_octets u ∷ []) l.sent_is
           ∙ sym (ap (map segment_octets) (take_next p.units p.n u unit_is)
           ∙ map-append segment_octets (take p.n p.units) (u ∷ [])) in
-          session_settled early c d base (record w {
+          session_refilled early c d base (record w {
             ground_node =
                 record w.ground_node { fop = after_send_first s u };
             up =
@@ -244,7 +244,7 @@ module _ (early : Bool) (c : Config) (d : Directive) (base : ℕ) (w : World) (k
           let field : first_sent s.vs frame ≡ [] = rw (not_next x is) refl in
           let sent_is : w.session.sent ++ first_sent s.vs frame ≡ map segment_octets (take p.n p.units) =
           ap (λ xs. w.session.sent ++ xs) field ∙ append-nil w.session.sent ∙ l.sent_is in
-          session_settled early c d base (record w {
+          session_refilled early c d base (record w {
             ground_node =
                 record w.ground_node { fop = record (after_restart s) { sent = without_oldest_mark s.sent } };
             up =

@@ -6,9 +6,9 @@ use Rattle.tc_link.proofs.Common.{asks, report_while_active, after_move_on, retr
 use Rattle.tc_link.proofs.Common.{after_acknowledge, after_repeat, alerts, goes_on, is_closed, heard_active}
 use Rattle.cop1.specs.declared.vocabulary.Alert.TheVariants.{Lockout, Clcw as ClcwAlert}
 use Rattle.cop1.specs.FopWords.{after_gone}
-use Rattle.tc_link.proofs.Queue.{units-marked, units-drop}
+use Rattle.tc_link.proofs.Lists.{units-marked, units-drop}
 use Rattle.tc_link.proofs.Transit.{bit}
-use Rattle.tc_link.proofs.Closed.{active_on}
+use Rattle.tc_link.proofs.Common.{active_on}
 
 -- 1 where the sender was asked to repeat
 abbrev pub asked : FopMode → ℕ
@@ -58,7 +58,7 @@ pub record ReportComes (base h : ℕ) (checked : Type 0) (s : FopState SegmentVi
     pub vs_is : s.vs ≡ (base + n) % 256
     pub nn_is : s.nn ≡ (base + a) % 256
     pub unlocked : checked → locks c ≡ false
-    pub waiting : checked → waits c ≡ true → asks c ≡ true
+    pub wait_flag : checked → waits c ≡ true → asks c ≡ true
     pub rank_low : checked → 2 * a + asked s.state ≤ 2 * v + bit (asks c)
     pub rank_high : checked → 2 * v + bit (asks c) ≤ 2 * n
 
@@ -157,8 +157,8 @@ module _ (base h : ℕ) (checked : Type 0) (s : FopState SegmentView) (a n : ℕ
       k.n_a,
       k.half_most,
     ));
-    waiting = λ none waiting. alert_led ClcwAlert
-        (λ is. absurd (let yes : asks c ≡ true = k.waiting is waiting in cc));
+    wait_flag = λ none waiting. alert_led ClcwAlert
+        (λ is. absurd (let yes : asks c ≡ true = k.wait_flag is waiting in cc));
     asks_none = λ asking at. alert_led Synch (λ is. absurd (
         let most : 2 * v + 1 ≤ 2 * n = rw asking at (k.rank_high is) in
         omega (arith, at, k.value_is, k.vs_is, k.low, k.n_a, k.half_most)

@@ -1,7 +1,7 @@
 -- Each frame on its way down is one of the spacecraft's, with a report.
 use Rattle.tc_link.proofs.Common.{◌≡◌, ℕ, List, [], ◌∷◌, ◌++◌, Clcw, report_of, Config, Event, World, WorldOutcome}
 use Rattle.tc_link.proofs.Common.{world_step}
-use Rattle.simulated_link.proofs.Leaving.{AtEachLoss, lost, pulled, up_arrives, down_arrives}
+use Rattle.simulated_link.proofs.Unchanged.{AtEachLoss, lost, pulled, up_arrives, down_arrives}
 use Rattle.tc_link.proofs.Linked.{Reporting}
 use Rattle.tc_link.proofs.ReportFrames.{reporting_now}
 use Rattle.nodes.specs.declared.event.Event.TheVariants as events

@@ -11,10 +11,10 @@ use Rattle.nodes.specs.Ground.{ground_step}
 use Rattle.nodes.specs.declared.heard.Heard.TheVariants as heard_cases
 use Rattle.nodes.specs.declared.heard.HeardReport.{HeardReport}
 use Rattle.nodes.specs.declared.heard.HeardReport.TheVariants.{Used}
-use Rattle.simulated_link.proofs.Leaving.{lost, first_on, up_arrives, down_arrives}
+use Rattle.simulated_link.proofs.Unchanged.{lost, first_on, up_arrives, down_arrives}
 use Rattle.simulated_link.specs.World.{is_idle}
-use Rattle.tm_link.specs.Reading.{frame_at}
-use Rattle.tm_link.specs.Writing.{spelling}
+use Rattle.tm_link.specs.Decoding.{frame_at}
+use Rattle.tm_link.specs.Encoding.{spelling}
 use Rattle.nodes.specs.declared.event.Event.TheVariants as events
 use Rattle.tc_link.specs.AnyPast.{LinkStep, Happens, TakeTelemetry, Hears, ReportArrives, HearsReport, ForgetTelemetry}
 use Rattle.tc_link.specs.AnyPast.{NewGround, IsLinkStep, link_step, link_run, after_report, after_hearing, after_word}

@@ -4,10 +4,10 @@ use Rattle.tc_link.proofs.Common.{slice_get, AllByRecursion, On, Unlock, SetVr, 
 use Rattle.tc_link.proofs.Common.{Config, IsConfig, FitsFrame, frame_of}
 use Rattle.std.proofs.lemmas.Bool.{lt-ltb, le-leb}
 use Rattle.tc_frame.specs.Layout.{body_fits}
-use Rattle.tc_frame.specs.Reading.{frame_at}
-use Rattle.tc_frame.specs.Writing.{frame_fits, spelling, total_of}
-use Rattle.tc_frame.proofs.Frames.{frame_again}
-use Rattle.tc_frame.proofs.Spellings.{spelling_is}
+use Rattle.tc_frame.specs.Decoding.{frame_at}
+use Rattle.tc_frame.specs.Encoding.{frame_fits, spelling, total_of}
+use Rattle.tc_frame.proofs.Decoded.{frame_again}
+use Rattle.tc_frame.proofs.Encoded.{spelling_is}
 
 -- a body that fits a frame
 abbrev pub Goes : BodyView → Type 0

@@ -7,12 +7,12 @@ use Rattle.tc_link.proofs.Common.{verdict_of, without_oldest_mark, FopState, Fop
 use Rattle.tc_link.proofs.Common.{clcw_step, report_while_active, after_move_on, retransmits, after_new_value}
 use Rattle.tc_link.proofs.Common.{IsActive, tick_step, after_count, due_again, after_acknowledge, after_repeat}
 use Rattle.tc_link.proofs.Common.{after_alert, after_stop, after_restart, Config, FitsFrame, GroundState}
-use Rattle.tc_link.proofs.Common.{settle_step, ticked, pulled_out, heard_active, Bool}
+use Rattle.tc_link.proofs.Common.{refill_step, ticked, pulled_out, heard_active, Bool}
 use Rattle.cop1.specs.declared.farm.FarmMode.TheVariants.{Lockout}
 use Rattle.cop1.specs.Farm.{UnlockArrives, SetVrArrives, InvalidArrives}
-use Rattle.cop1.proofs.Agreeing.{FlagsAgree-step}
-use Rattle.simulated_link.proofs.Reported.{reported}
-use Rattle.tc_link.proofs.Settled.{settled_keeps}
+use Rattle.cop1.proofs.FarmFlags.{FlagsAgree-step}
+use Rattle.simulated_link.proofs.TelemetryCases.{reported}
+use Rattle.tc_link.proofs.Refilled.{refilled_keeps}
 use Rattle.tc_link.proofs.Sound.{Commanded, FopSteady, GroundNodeSteady, FarmSteady}
 
 -- ---- the sender
@@ -58,7 +58,7 @@ module _ (c : Config) (s : FopState SegmentView) (k : FopSteady c s) where
     active_so = heard_active s r (λ o. Steadily o) (record {
       locked = λ t. gives_up s refl refl refl refl;
       outside = λ t. gives_up s refl refl refl refl;
-      waiting = λ none waiting. gives_up s refl refl refl refl;
+      wait_flag = λ none waiting. gives_up s refl refl refl refl;
       asks_none = λ asking at. gives_up s refl refl refl refl;
       same = k;
       ceases = λ none at were. gives_up s refl refl refl refl;
@@ -128,8 +128,8 @@ module _ (c : Config) (s : FopState SegmentView) (k : FopSteady c s) where
 
 -- ---- the ground
 
-pub settled_so : (c : Config) (s : GroundState) → s.config ≡ c → FopSteady c s.fop → GroundNodeSteady c (settle_step s)
-settled_so c s is k = settled_keeps (GroundNodeSteady c) s (λ waiting pending on off.
+pub refilled_so : (c : Config) (s : GroundState) → s.config ≡ c → FopSteady c s.fop → GroundNodeSteady c (refill_step s)
+refilled_so c s is k = refilled_keeps (GroundNodeSteady c) s (λ waiting pending on off.
     let fop : FopSteady c (record s.fop { waiting = waiting }) = assumption k in
     record { config = is; fop = fop; pending_none = off })
 

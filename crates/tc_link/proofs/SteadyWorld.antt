@@ -17,19 +17,19 @@ use Rattle.tc_link.proofs.Common.{world_step, up_deliver_step, down_deliver_step
 use Rattle.tc_link.proofs.Common.{session_after_directive, IsDirective, IsEvent, obeyed, begun}
 use Rattle.tc_frame.specs.declared.frame.SegmentFlags.TheVariants.{Alone}
 use Rattle.tc_frame.specs.Layout.{FrameView}
-use Rattle.tc_frame.specs.Reading.{frame_at}
+use Rattle.tc_frame.specs.Decoding.{frame_at}
 use Rattle.map_service.specs.Cutting.{segment_with}
-use Rattle.tm_link.specs.Building.{after_send, idle_after, with_next_count}
+use Rattle.tm_link.specs.Builder.{after_send, idle_after, with_next_count}
 use Rattle.nodes.specs.Spacecraft.{command_event}
-use Rattle.nodes.proofs.Submitting.{bypass_fits}
-use Rattle.simulated_link.proofs.Reported.{frame_seen}
-use Rattle.tc_link.proofs.SteadyNodes.{settled_so, farm_so, report_so}
+use Rattle.nodes.proofs.Submissions.{bypass_fits}
+use Rattle.simulated_link.proofs.TelemetryCases.{frame_seen}
+use Rattle.tc_link.proofs.SteadyNodes.{refilled_so, farm_so, report_so}
 use Rattle.tc_link.proofs.SteadyNodes.{tick_so, pull_so, gives_up, steady_so}
 use Rattle.tc_link.proofs.Sound.{Commanded, FopSteady, GroundNodeSteady, SpacecraftSteady, Sound}
-use Rattle.tc_link.proofs.Submitting.{all_push}
-use Rattle.simulated_link.proofs.Leaving.{AtEachLoss, lost, pulled, up_arrives, down_arrives}
+use Rattle.tc_link.proofs.Submissions.{all_push}
+use Rattle.simulated_link.proofs.Unchanged.{AtEachLoss, lost, pulled, up_arrives, down_arrives}
 use Rattle.tm_link.specs.Layout as telemetry
-use Rattle.tm_link.specs.Reading as telemetry_reading
+use Rattle.tm_link.specs.Decoding as telemetry_reading
 use Rattle.nodes.specs.declared.event.Event.TheVariants as events
 use Rattle.nodes.specs.Ground as ground
 
@@ -132,7 +132,7 @@ module _ (c : Config) (s : SpacecraftState) (k : SpacecraftSteady c s) where
 
 module _ (c : Config) (s : GroundState) (k : GroundNodeSteady c s) where
   with_so : (f : FopState SegmentView) → FopSteady c f → GroundNodeSteady c (with_fop s f)
-  with_so f so = settled_so c (record s { fop = f }) k.config so
+  with_so f so = refilled_so c (record s { fop = f }) k.config so
 
   idle_off : s.fop.state ≡ S6 → s.fop.control ≡ Idle
   idle_off is = let idle : Commanded S6 s.fop.control = rw is at k.fop.commanded in idle
@@ -171,7 +171,7 @@ module _ (c : Config) (s : GroundState) (k : GroundNodeSteady c s) where
       → GroundNodeSteady c (unless_refused o s (after_submission s m octets)).after
   submitted_so m octets (Some fault) = k
   submitted_so m octets None =
-      settled_so c (record s { pending = s.pending ++ ground.segments_on s m octets }) k.config k.fop
+      refilled_so c (record s { pending = s.pending ++ ground.segments_on s m octets }) k.config k.fop
 
   bypassed_so : IsConfig c → (m : ℕ) (octets : List ℕ) (o : Option LinkFault) → bypass_fault s m octets ≡ o
       → GroundNodeSteady c (unless_refused o s (after_bypass s m octets)).after
@@ -190,7 +190,7 @@ module _ (c : Config) (s : GroundState) (k : GroundNodeSteady c s) where
   telemetry_so = frame_seen s (GroundNodeSteady c) (record {
     same = k;
     extracts = extracted_so;
-    uses = λ x report. settled_so c (record (after_extraction s x) { fop = (clcw_step s.fop report).after }) k.config
+    uses = λ x report. refilled_so c (record (after_extraction s x) { fop = (clcw_step s.fop report).after }) k.config
         (report_so c s.fop k.fop report);
   })
 

@@ -3,7 +3,7 @@ use Rattle.tc_link.proofs.Common.{◌≡◌, ℕ, Bool, true, false, if◌then�
 use Rattle.tc_link.proofs.Common.{refl, sym, ap, subst, ◌∙◌, arith, append_assoc, AllByRecursion, append-nil}
 use Rattle.tc_link.proofs.Common.{all_extracted, state_after, ExtractorState, without_idle, extract_step, choice}
 use Rattle.tc_link.proofs.Common.{AreSomeOf}
-use Rattle.tm_link.specs.Extraction.{is_idle}
+use Rattle.tm_link.specs.Extractor.{is_idle}
 use Rattle.tm_link.specs.Layout.{FrameView}
 use Rattle.tm_link.specs.Stream.{are_received, complete_packets}
 use Rattle.tc_link.specs.Telemetry.{none, one, without}

@@ -11,24 +11,24 @@ use Rattle.tc_link.proofs.Common.{AreSomeOf, World, WorldOutcome, world_step, wo
 use Rattle.tc_link.proofs.Common.{down_lose_step, down_damage_step, down_damage_outcome, up_lose_step, up_damage_step}
 use Rattle.tc_link.proofs.Common.{up_damage_outcome, up_deliver_step, world_refusal, world_reply, world_after_queueing}
 use Rattle.std.proofs.lemmas.List.{drop_at}
-use Rattle.clcw.specs.Reading.{clcw_at}
-use Rattle.tm_link.specs.Arriving.{IsInRange}
-use Rattle.tm_link.specs.Building.{build_step}
-use Rattle.tm_link.specs.Extraction.{new_extractor}
+use Rattle.clcw.specs.Decoding.{clcw_at}
+use Rattle.tm_link.specs.Arrivals.{IsInRange}
+use Rattle.tm_link.specs.Builder.{build_step}
+use Rattle.tm_link.specs.Extractor.{new_extractor}
 use Rattle.tm_link.specs.Layout.{FrameView}
-use Rattle.tm_link.specs.Reading.{frame_at}
+use Rattle.tm_link.specs.Decoding.{frame_at}
 use Rattle.tm_link.specs.Stream.{IsLaidOut, IsClose, marks_of, arrived_packets}
-use Rattle.tm_link.specs.Writing.{spelling}
+use Rattle.tm_link.specs.Encoding.{spelling}
 use Rattle.tm_link.proofs.Arrivals.{all_handed_out}
 use Rattle.tm_link.proofs.BuiltFrames.{build_laid}
 use Rattle.tm_link.proofs.Choices.{extraction_exact}
-use Rattle.tm_link.proofs.Laying.{new_laid}
+use Rattle.tm_link.proofs.Laid.{new_laid}
 use Rattle.nodes.specs.Ground.{ground_take_telemetry}
 use Rattle.tc_link.specs.Telemetry.{Downlink, DownlinkStep, Happens, TakeTelemetry, IsDownlinkStep, new_downlink}
 use Rattle.tc_link.specs.Telemetry.{after_event, after_taking, downlink_step, downlink_run, packets_down}
 use Rattle.tc_link.specs.Telemetry.{IsTelemetryInOrder, downlink_of}
-use Rattle.tc_link.proofs.Submitting.{all_push}
-use Rattle.simulated_link.proofs.Leaving.{first_on, pulled, up_arrives, down_arrives}
+use Rattle.tc_link.proofs.Submissions.{all_push}
+use Rattle.simulated_link.proofs.Unchanged.{first_on, pulled, up_arrives, down_arrives}
 use Rattle.tc_link.proofs.ReportFrames.{data_length, reads_now}
 use Rattle.tc_link.proofs.SteadyWorld.{step_sound, new_sound}
 use Rattle.tc_link.proofs.Telemetry.{choice_front, choice_more, choice_whole, extracted_more, state_more}
@@ -37,7 +37,7 @@ use Rattle.tc_link.proofs.TelemetrySteps.{queued_laid, arrived_builds, take_buil
 use Rattle.tc_link.proofs.TelemetrySteps.{directed_extracts, bypass_extracts, with_extracts, submitted_extracts}
 use Rattle.tc_link.proofs.TelemetrySteps.{IsExtracted, word_extracts}
 use Rattle.tc_frame.specs.Layout as command_layout
-use Rattle.tc_frame.specs.Reading as command
+use Rattle.tc_frame.specs.Decoding as command
 use Rattle.nodes.specs.declared.heard.Heard.TheVariants as heard_cases
 use Rattle.nodes.specs.declared.received.Received.TheVariants as received_cases
 use Rattle.nodes.specs.declared.event.Event.TheVariants as events

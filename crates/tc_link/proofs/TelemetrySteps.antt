@@ -7,22 +7,22 @@ use Rattle.tc_link.proofs.Common.{FopState, BuilderState, is_to_send, after_queu
 use Rattle.tc_link.proofs.Common.{held_by, IsLaidOutBy, LinkFault, is_kept, PacketOn, limits_of}
 use Rattle.tc_link.proofs.Common.{SpacecraftState, frame_outcome, body_outcome, sequence_outcome, bypass_outcome}
 use Rattle.tc_link.proofs.Common.{is_own_frame, spacecraft_take, spacecraft_take_bypass, GroundState, GroundOutcome}
-use Rattle.tc_link.proofs.Common.{with_fop, settle_step, after_submission, after_bypass, unless_refused}
+use Rattle.tc_link.proofs.Common.{with_fop, refill_step, after_submission, after_bypass, unless_refused}
 use Rattle.tc_link.proofs.Common.{after_extraction, own_frame_outcome, segments_on}
 use Rattle.std.specs.List.{concat}
 use Rattle.octets.specs.Records.{IsRecord}
 use Rattle.octets.proofs.Streams.{split_of}
 use Rattle.space_packet.specs.Laws.{extent_has_header}
 use Rattle.space_packet.specs.Packets.{is_packet, packets_in, rest_in}
-use Rattle.space_packet.specs.Reading.{extent_at}
+use Rattle.space_packet.specs.Decoding.{extent_at}
 use Rattle.tc_frame.specs.Layout.{FrameView}
-use Rattle.tm_link.specs.Extraction.{is_idle}
+use Rattle.tm_link.specs.Extractor.{is_idle}
 use Rattle.tm_link.specs.Stream.{carried_octets}
-use Rattle.tm_link.proofs.Laying.{packet_after, laid_again}
-use Rattle.tm_link.proofs.Passing.{cut_more}
+use Rattle.tm_link.proofs.Laid.{packet_after, laid_again}
+use Rattle.tm_link.proofs.Passed.{cut_more}
 use Rattle.nodes.specs.Ground.{after_directive}
 use Rattle.nodes.specs.declared.heard.HeardClcw.{HeardClcw}
-use Rattle.tc_link.proofs.Settled.{settled_keeps}
+use Rattle.tc_link.proofs.Refilled.{refilled_keeps}
 use Rattle.tm_link.specs.Layout as telemetry
 
 -- ---- a packet is queued
@@ -95,8 +95,8 @@ module _ (s : GroundState) where
   abbrev pub Extracts : GroundState → Type 0
   Extracts t = (t.extractor ≡ s.extractor) × (t.telemetry ≡ s.telemetry)
 
-  settled_extracts : Extracts (settle_step s)
-  settled_extracts = settled_keeps Extracts s (λ waiting pending on off. (refl, refl))
+  refilled_extracts : Extracts (refill_step s)
+  refilled_extracts = refilled_keeps Extracts s (λ waiting pending on off. (refl, refl))
 
   pub directed_extracts : (r : Result (Option Alert) CopFault) (fop : FopState SegmentView)
       → ((f : FopState SegmentView) → Extracts (with_fop s f)) → Extracts (after_directive s r fop)
@@ -109,12 +109,12 @@ module _ (s : GroundState) where
   bypass_extracts m octets None = (refl, refl)
 
 pub with_extracts : (s : GroundState) (f : FopState SegmentView) → Extracts s (with_fop s f)
-with_extracts s f = settled_extracts (record s { fop = f })
+with_extracts s f = refilled_extracts (record s { fop = f })
 
 pub submitted_extracts : (s : GroundState) (m : ℕ) (octets : List ℕ) (o : Option LinkFault)
     → Extracts s (unless_refused o s (after_submission s m octets)).after
 submitted_extracts s m octets (Some fault) = (refl, refl)
-submitted_extracts s m octets None = settled_extracts (record s { pending = s.pending ++ segments_on s m octets })
+submitted_extracts s m octets None = refilled_extracts (record s { pending = s.pending ++ segments_on s m octets })
 
 -- ---- a frame is heard
 

@@ -23,7 +23,7 @@ use Rattle.simulated_link.specs.Replies.{ReplyView, Down}
 use Rattle.simulated_link.specs.declared.fault.SimFault.{SimFault}
 use Rattle.tm_link.specs.declared.fault.TmFault.{TmFault}
 use Rattle.tm_link.specs.Layout as telemetry
-use Rattle.tm_link.specs.Reading.{frame_at}
+use Rattle.tm_link.specs.Decoding.{frame_at}
 use Rattle.tc_link.specs.Promises.{HoldsAt}
 use Rattle.tc_link.specs.Reached.{IsEvent}
 use Rattle.simulated_link.specs.World.{World, new_world, no_session, world_step, world_run}

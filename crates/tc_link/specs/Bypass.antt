@@ -3,7 +3,7 @@ use Rattle.std.specs.Prelude.{List, [], ◌∷◌, ◌++◌, map, flat_map, Resu
 use Rattle.std.specs.List.{AllByRecursion}
 use Rattle.tc_frame.specs.declared.frame.Check.TheVariants.{On}
 use Rattle.tc_frame.specs.Layout.{SegmentView, BodyView, Ad, Bd, Bc}
-use Rattle.tc_frame.specs.Reading as command
+use Rattle.tc_frame.specs.Decoding as command
 use Rattle.nodes.specs.Packets.{PacketOn, packet_on}
 use Rattle.nodes.specs.declared.event.Event.{Event}
 use Rattle.nodes.specs.declared.event.Event.TheVariants as events

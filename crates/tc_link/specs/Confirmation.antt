@@ -6,7 +6,7 @@ use Rattle.tc_frame.specs.declared.frame.Command.TheVariants.{Unlock, SetVr}
 use Rattle.cop1.specs.declared.farm.FarmMode.TheVariants.{Lockout}
 use Rattle.cop1.specs.declared.vocabulary.Directive.{Directive}
 use Rattle.cop1.specs.declared.vocabulary.Directive.TheVariants.{InitWithoutCheck}
-use Rattle.cop1.specs.Directives.{is_initiation}
+use Rattle.cop1.specs.FopDirective.{is_initiation}
 use Rattle.cop1.specs.FopVariables.{IsActive}
 use Rattle.tc_link.specs.InTransit.{commands_up}
 use Rattle.simulated_link.specs.World.{World, accepted, directive_of}

@@ -3,17 +3,17 @@ use Rattle.std.specs.Prelude.{◌<◌, ◌≤◌, ◌⊎◌, ℕ, ◌/◌, List,
 use Rattle.std.specs.List.{AllByRecursion}
 use Rattle.clcw.specs.declared.word.Clcw.{Clcw}
 use Rattle.clcw.specs.declared.fault.ClcwFault.{ClcwFault}
-use Rattle.clcw.specs.Reading.{clcw_at}
+use Rattle.clcw.specs.Decoding.{clcw_at}
 use Rattle.tc_frame.specs.declared.fault.TcFault.{TcFault}
 use Rattle.tc_frame.specs.declared.frame.Check.TheVariants.{On}
 use Rattle.tc_frame.specs.declared.frame.Command.{Command}
 use Rattle.tc_frame.specs.Layout.{SegmentView, BodyView, Ad, Bd, Bc, FrameView}
-use Rattle.tc_frame.specs.Reading as command
+use Rattle.tc_frame.specs.Decoding as command
 use Rattle.cop1.specs.Modulo.{ahead_by}
 use Rattle.cop1.specs.FopVariables.{IsActive}
 use Rattle.tm_link.specs.declared.fault.TmFault.{TmFault}
 use Rattle.tm_link.specs.Layout as telemetry
-use Rattle.tm_link.specs.Reading as telemetry_reading
+use Rattle.tm_link.specs.Decoding as telemetry_reading
 use Rattle.nodes.specs.declared.config.Config.{Config}
 use Rattle.simulated_link.specs.World.{World, IsSettled}
 

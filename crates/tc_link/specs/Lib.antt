@@ -2,7 +2,7 @@ pub mod Accepted
 pub mod AnyPast
 pub mod Bypass
 pub mod Confirmation
-pub mod Counting
+pub mod CountsOn
 pub mod FalseAlarms
 pub mod History
 pub mod InOrder

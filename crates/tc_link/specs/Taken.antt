@@ -5,7 +5,7 @@ use Rattle.octets.specs.Beginning.{IsBeginning}
 use Rattle.map_service.specs.Packets.{packets_in}
 use Rattle.cop1.specs.declared.vocabulary.Directive.{Directive}
 use Rattle.cop1.specs.declared.vocabulary.FopMode.TheVariants.{S1}
-use Rattle.cop1.specs.Directives.{is_initiation}
+use Rattle.cop1.specs.FopDirective.{is_initiation}
 use Rattle.nodes.specs.Delivery.{packets_of_map}
 use Rattle.nodes.specs.Ground.{is_closed, outstanding}
 use Rattle.nodes.specs.Packets.{PacketOn, put_on_map}

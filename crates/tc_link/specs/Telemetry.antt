@@ -2,10 +2,10 @@
 use Rattle.std.specs.Prelude.{◌≡◌, ◌≤◌, ℕ, List, [], ◌∷◌, ◌++◌, length, drop, map, option_to_list}
 use Rattle.std.specs.Prelude.{Bool, true, false, Option, Result, Ok}
 use Rattle.std.specs.List.{AllByRecursion}
-use Rattle.tm_link.specs.Laying.{held_by}
+use Rattle.tm_link.specs.Builder.{held_by}
 use Rattle.tm_link.specs.Layout.{FrameView}
 use Rattle.tm_link.specs.Stream.{IsLaidOut, IsClose, arrived_packets}
-use Rattle.tm_link.specs.Writing.{spelling}
+use Rattle.tm_link.specs.Encoding.{spelling}
 use Rattle.nodes.specs.declared.config.Config.{Config}
 use Rattle.nodes.specs.Ground.{ground_step}
 use Rattle.nodes.specs.Ground as ground_calls

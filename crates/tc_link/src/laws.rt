@@ -2,7 +2,7 @@
 
 ghost use Rattle.tc_link.specs.AnyPast.{HoldsAfterAnyPast, ReportsDoAsFrames, RunsAsEvents};
 ghost use Rattle.tc_link.specs.Bypass.{BypassKeepsOrder};
-ghost use Rattle.tc_link.specs.Counting.{KeepsWhatIsKnown};
+ghost use Rattle.tc_link.specs.CountsOn.{KeepsWhatIsKnown};
 ghost use Rattle.tc_link.specs.OneLink.{EachGoesOnAsOne, EachHasOneLink};
 ghost use Rattle.tc_link.specs.Progress.{EachAcknowledges, EachBegins, EachEnds, EachIsDelivered};
 ghost use Rattle.tc_link.specs.Progress.{EachMakesProgress};

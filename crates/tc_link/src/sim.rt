@@ -34,7 +34,7 @@ impl Model for Sim {
 impl Sim {
     ghost use Rattle.std.specs.Prelude.{◌≡◌, ◌≢◌, map, length, option_map, None, Ok, Err, IfOk, IfErr, OnOk, OnErr, IsOkUnless};
     ghost use Rattle.octets.specs.Outcome.{map_ok};
-    ghost use Rattle.tm_link.specs.Extraction.{octets_of};
+    ghost use Rattle.tm_link.specs.Extractor.{octets_of};
     ghost use Rattle.nodes.specs.Ground.{outstanding};
     ghost use Rattle.nodes.specs.Packets.{packet_view};
     ghost use Rattle.nodes.specs.Parameters.{config_fault};

@@ -1,9 +1,9 @@
 // Reads a file, and writes what the words ask for of it.
 
 ghost use Rattle.std.specs.Prelude.{◌≡◌, ◌⊎◌, OnOk, IfOk};
-ghost use Rattle.command_line.specs.Ranges.{IsInRange};
+ghost use Rattle.command_line.specs.Arguments.{IsInRange};
 ghost use Rattle.listings.specs.Devices.{HasEnded};
-ghost use Rattle.listings.specs.Gained.{gained};
+ghost use Rattle.listings.specs.Devices.{gained};
 ghost use Rattle.listings.specs.Streams.{Reads, WritesText};
 ghost use Rattle.stream_commands.specs.Listed.{StopsAt};
 ghost use Rattle.stream_commands.specs.Outcome.{outcome_view};

@@ -3,7 +3,7 @@
 //! link answer.
 #![tactic(auto)]
 
-ghost use Rattle.command_line.specs.Ranges.{IsInRange};
+ghost use Rattle.command_line.specs.Arguments.{IsInRange};
 
 mod dump;
 mod given;

@@ -3,17 +3,17 @@
 ghost use Rattle.std.specs.Prelude.{◌≡◌, ◌⊎◌, ◌+◌, ◌<◌, ◌^◌, ◌-◌, length};
 ghost use Rattle.std.specs.Prelude.{Err, OnOk, IfOk, IfErr};
 ghost use Rattle.script.specs.Ending.{script_ending, script_text};
-ghost use Rattle.script.specs.Playing.{answers_from};
+ghost use Rattle.script.specs.Player.{answers_from};
 ghost use Rattle.script_lines.specs.Programs.{lines_left};
 ghost use Rattle.std.specs.Io.KnownBytes.{Consumes};
 ghost use Rattle.octets.specs.Beginning.{IsBeginning};
 ghost use Rattle.listings.specs.Devices.{HasEnded};
-ghost use Rattle.listings.specs.Failures.{reads_failed_in, writes_failed_in};
-ghost use Rattle.listings.specs.Gained.{gained};
+ghost use Rattle.listings.specs.Devices.{reads_failed_in, writes_failed_in};
+ghost use Rattle.listings.specs.Devices.{gained};
 ghost use Rattle.stream_commands.specs.Outcome.{outcome_view};
 ghost use Rattle.tctool.specs.Dumped.{as_outcome};
 ghost use Rattle.listings.specs.Streams.{Reads, WritesText};
-ghost use Rattle.listings.specs.Writing.{BeginsToWrite, Writes};
+ghost use Rattle.listings.specs.Devices.{BeginsToWrite, Writes};
 
 use listings::{ListingFault, MOST_OCTETS, Sink, Source, WriteFailed, write_all};
 use script::{Rest, ScriptFault, open, play_some};

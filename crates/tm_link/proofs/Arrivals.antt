@@ -3,13 +3,13 @@ use Rattle.std.proofs.Common.{◌≡◌, ◌<◌, ℕ, zero, suc, Bool, true, fa
 use Rattle.std.proofs.Common.{sym, ap, ◌∙◌, arith, length-append}
 use Rattle.std.specs.List.{AllByRecursion, concat}
 use Rattle.std.proofs.lemmas.List.{append-nil, replicate-append-replicate}
-use Rattle.tm_link.specs.Arriving.{IsInRange, all_extracted}
-use Rattle.tm_link.specs.Extraction.{new_extractor, without_idle}
+use Rattle.tm_link.specs.Arrivals.{IsInRange, all_extracted}
+use Rattle.tm_link.specs.Extractor.{new_extractor, without_idle}
 use Rattle.tm_link.specs.Layout.{FrameView, IsSpelling}
 use Rattle.tm_link.specs.Stream.{IsLaidOut, slice_of, carried_octets, marks_of, complete_packets, choice}
 use Rattle.tm_link.proofs.Choices.{extraction_exact}
-use Rattle.tm_link.proofs.Marking.{complete_packets-alike}
-use Rattle.tm_link.proofs.Standing.{Packets, AreRecords}
+use Rattle.tm_link.proofs.Marks.{complete_packets-alike}
+use Rattle.tm_link.proofs.PlaceInStream.{Packets, AreRecords}
 
 -- a frame that octets spell is in range
 pub spelled_in_range : (total : ℕ) (f : FrameView) (octets : List ℕ) → IsSpelling total f octets → IsInRange f

@@ -5,15 +5,15 @@ use Rattle.std.specs.List.{concat}
 use Rattle.std.proofs.lemmas.Bool.{cases_lt, eq-eqb, eqb-true, ne_eqb, and_parts}
 use Rattle.std.proofs.lemmas.List.{append-nil, drop_all, take-append-le, take-append-drop, length-take}
 use Rattle.tm_link.specs.declared.frame.Pointer.TheVariants.{OnlyIdle}
-use Rattle.tm_link.specs.Building.{BuilderState, idle_packet, idle_tail, data_size, is_at_rest, room_left, data_from}
-use Rattle.tm_link.specs.Building.{first_start, idle_after, left_after, after_send, with_next_count, build_step}
+use Rattle.tm_link.specs.Builder.{BuilderState, idle_packet, idle_tail, data_size, is_at_rest, room_left, data_from}
+use Rattle.tm_link.specs.Builder.{first_start, idle_after, left_after, after_send, with_next_count, build_step}
 use Rattle.tm_link.specs.Layout.{FrameView}
-use Rattle.tm_link.specs.Laying.{held_by, IsCutAt, IsLaidOutBy}
+use Rattle.tm_link.specs.Builder.{held_by, IsCutAt, IsLaidOutBy}
 use Rattle.tm_link.specs.Stream.{IsEnd, IsPointed, slice_of, carried_octets, IsLaidOut}
 use Rattle.tm_link.proofs.IdlePackets.{drop_both, length-idle, idle_is, not_handed, length-tail, drop_tail, drop_idle}
-use Rattle.tm_link.proofs.Laying.{carried_within, packet_after, IsNext, next_again, frame_after, laid_again}
-use Rattle.tm_link.proofs.Passing.{length-more, cut_most, cut_more, pointed_first, slice_is, cut_again, cut_after}
-use Rattle.tm_link.proofs.Passing.{cut_last, passed_held}
+use Rattle.tm_link.proofs.Laid.{carried_within, packet_after, IsNext, next_again, frame_after, laid_again}
+use Rattle.tm_link.proofs.Passed.{length-more, cut_most, cut_more, pointed_first, slice_is, cut_again, cut_after}
+use Rattle.tm_link.proofs.Passed.{cut_last, passed_held}
 use Rattle.tm_link.proofs.Places.{length-carried}
 
 -- ---- what is held

@@ -7,16 +7,16 @@ use Rattle.std.proofs.lemmas.Bool.{ne_eqb}
 use Rattle.std.proofs.lemmas.List.{append-nil, map-append}
 use Rattle.std.proofs.lemmas.List.Folds.{concat-append}
 use Rattle.tm_link.specs.declared.gap.Gap.TheVariants.{Lost}
-use Rattle.tm_link.specs.Arriving.{IsInRange, all_extracted}
-use Rattle.tm_link.specs.Extraction.{ExtractorState, new_extractor, gap_of, part_over_gap, finished_packets, part_after}
-use Rattle.tm_link.specs.Extraction.{without_idle, extract_step}
+use Rattle.tm_link.specs.Arrivals.{IsInRange, all_extracted}
+use Rattle.tm_link.specs.Extractor.{ExtractorState, new_extractor, gap_of, part_over_gap, finished_packets, part_after}
+use Rattle.tm_link.specs.Extractor.{without_idle, extract_step}
 use Rattle.tm_link.specs.Layout.{FrameView}
 use Rattle.tm_link.specs.Stream.{IsPointed, IsLaidOut, IsClose, slice_of, carried_octets, marks_of, complete_packets}
 use Rattle.tm_link.specs.Stream.{choice, arrived_packets}
-use Rattle.tm_link.proofs.Marking.{complete_packets-short}
+use Rattle.tm_link.proofs.Marks.{complete_packets-short}
 use Rattle.tm_link.proofs.Records.{without_idle-append}
-use Rattle.tm_link.proofs.Standing.{Packets, Stood, none_opens, moved_on}
-use Rattle.tm_link.proofs.Stepping.{kept, Stepped, step_of}
+use Rattle.tm_link.proofs.PlaceInStream.{Packets, Stood, none_opens, moved_on}
+use Rattle.tm_link.proofs.FrameSteps.{kept, Stepped, step_of}
 
 -- ---- the frames from a place on
 

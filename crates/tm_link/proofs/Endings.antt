@@ -8,11 +8,11 @@ use Rattle.octets.specs.Records.{IsRecord, IsCutShort, IsSplit, records_of, rest
 use Rattle.octets.proofs.Streams.{only_split}
 use Rattle.space_packet.specs.declared.fault.PacketFault.{PacketFault}
 use Rattle.space_packet.specs.Laws.{extent_has_header}
-use Rattle.space_packet.specs.Reading.{extent_at}
+use Rattle.space_packet.specs.Decoding.{extent_at}
 use Rattle.tm_link.specs.declared.ending.Ending.{Ending}
 use Rattle.tm_link.specs.declared.ending.Ending.TheVariants.{Whole, Short}
-use Rattle.tm_link.specs.Extraction.{ending_of, finished_by, part_by, completed_packet, continued_part, opened_part}
-use Rattle.tm_link.proofs.Standing.{Packets, AreRecords, Opens}
+use Rattle.tm_link.specs.Extractor.{ending_of, finished_by, part_by, completed_packet, continued_part, opened_part}
+use Rattle.tm_link.proofs.PlaceInStream.{Packets, AreRecords, Opens}
 
 pub ending-whole : (p : List ℕ) → IsRecord 6 extent_at p → ending_of p ≡ Whole
 ending-whole p is =

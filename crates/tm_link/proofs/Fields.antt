@@ -6,11 +6,11 @@ use Rattle.std.proofs.lemmas.Bool.{cond_both, le-leb, lt-leb, lt-ltb, cases_lt}
 use Rattle.std.proofs.lemmas.List.{take_all, length-drop}
 use Rattle.tm_link.specs.declared.frame.Pointer.{Pointer}
 use Rattle.tm_link.specs.declared.frame.Pointer.TheVariants.{At, NoStart, OnlyIdle}
-use Rattle.tm_link.specs.Building.{BuilderState, idle_packet, idle_tail, data_size, is_at_rest, data_from, room_left}
-use Rattle.tm_link.specs.Building.{data_built, first_start, pointer_built, frame_built, left_after}
+use Rattle.tm_link.specs.Builder.{BuilderState, idle_packet, idle_tail, data_size, is_at_rest, data_from, room_left}
+use Rattle.tm_link.specs.Builder.{data_built, first_start, pointer_built, frame_built, left_after}
 use Rattle.tm_link.specs.Layout.{FrameView, pointer_fits, IsTmFrame}
-use Rattle.tm_link.specs.Writing.{total_of, spelling, frame_fits}
-use Rattle.tm_link.proofs.Spellings.{spelling_is}
+use Rattle.tm_link.specs.Encoding.{total_of, spelling, frame_fits}
+use Rattle.tm_link.proofs.Encoded.{spelling_is}
 
 -- ---- parts of two lists joined
 

@@ -8,9 +8,9 @@ use Rattle.octets.specs.Number.{number_of}
 use Rattle.octets.specs.Records.{IsRecord}
 use Rattle.octets.proofs.Outcomes.{done}
 use Rattle.space_packet.specs.declared.fault.PacketFault.{PacketFault}
-use Rattle.space_packet.specs.Reading.{extent_at}
-use Rattle.tm_link.specs.Building.{idle_packet, idle_tail}
-use Rattle.tm_link.specs.Extraction.{without_idle}
+use Rattle.space_packet.specs.Decoding.{extent_at}
+use Rattle.tm_link.specs.Builder.{idle_packet, idle_tail}
+use Rattle.tm_link.specs.Extractor.{without_idle}
 
 pub drop_both : (n : ℕ) (xs ys : List ℕ) → drop n (xs ++ ys) ≡ drop n xs ++ drop (n - length xs) ys
 drop_both zero [] ys = refl

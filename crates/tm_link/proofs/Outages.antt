@@ -4,20 +4,20 @@ use Rattle.std.proofs.Common.{None, refl, ap, ◌∙◌, arith, append_assoc}
 use Rattle.std.specs.Prelude.{if◌then◌else◌, ◌==◌, not}
 use Rattle.std.specs.List.{AllByRecursion}
 use Rattle.octets.specs.Records.{records_of}
-use Rattle.space_packet.specs.Reading.{extent_at}
+use Rattle.space_packet.specs.Decoding.{extent_at}
 use Rattle.tm_link.specs.declared.ending.Ending.{Ending}
 use Rattle.tm_link.specs.declared.ending.Ending.TheVariants.{Whole, Short, Wrong}
 use Rattle.tm_link.specs.declared.frame.Pointer.{Pointer}
 use Rattle.tm_link.specs.declared.frame.Pointer.TheVariants.{At, NoStart, OnlyIdle}
-use Rattle.tm_link.specs.Arriving.{IsInRange, all_extracted}
-use Rattle.tm_link.specs.Extraction.{ExtractorState, new_extractor, gap_of, is_any_lost, ending_of, finished_by}
-use Rattle.tm_link.specs.Extraction.{part_by, completed_packet, finished_packets, part_after, is_idle, without_idle}
+use Rattle.tm_link.specs.Arrivals.{IsInRange, all_extracted}
+use Rattle.tm_link.specs.Extractor.{ExtractorState, new_extractor, gap_of, is_any_lost, ending_of, finished_by}
+use Rattle.tm_link.specs.Extractor.{part_by, completed_packet, finished_packets, part_after, is_idle, without_idle}
 use Rattle.tm_link.specs.Layout.{FrameView}
 use Rattle.tm_link.specs.Outage.{AreButForTheFirst}
 use Rattle.tm_link.specs.Stream.{IsLaidOut, IsClose, choice, arrived_packets}
 use Rattle.tm_link.proofs.Choices.{extraction_exact}
 use Rattle.tm_link.proofs.Records.{without_idle-append}
-use Rattle.tm_link.proofs.Standing.{Packets}
+use Rattle.tm_link.proofs.PlaceInStream.{Packets}
 
 the_same : (given : Packets) → AreButForTheFirst given given
 the_same given = record { first = []; most = omega arith; parts = refl }

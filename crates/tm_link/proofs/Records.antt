@@ -9,9 +9,9 @@ use Rattle.octets.proofs.Cuts.{drop_fits}
 use Rattle.octets.proofs.Numbers.{two_below}
 use Rattle.space_packet.specs.Laws.{extent_is}
 use Rattle.space_packet.specs.Packets.{first_packet}
-use Rattle.space_packet.specs.Reading.{extent_at}
+use Rattle.space_packet.specs.Decoding.{extent_at}
 use Rattle.space_packet.proofs.WholePackets.{one_more-by_len}
-use Rattle.tm_link.specs.Extraction.{is_idle, without_idle}
+use Rattle.tm_link.specs.Extractor.{is_idle, without_idle}
 
 -- ---- whole packets that stand first
 

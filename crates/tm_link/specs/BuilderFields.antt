@@ -1,7 +1,7 @@
 -- How a builder's fields stand for its state: the octets before `start` were sent.
 use Rattle.std.specs.Prelude.{◌≤◌, ◌<◌, drop, vec_len}
 use Rattle.tm_link.specs.declared.builder.TmBuilder.TheInside.{Inside}
-use Rattle.tm_link.specs.Building.{BuilderState}
+use Rattle.tm_link.specs.Builder.{BuilderState}
 
 abbrev pub state_of : Inside → BuilderState
 state_of b = record {

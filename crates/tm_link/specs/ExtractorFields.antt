@@ -1,7 +1,7 @@
 -- How an extractor's fields stand for its state.
 use Rattle.std.specs.Prelude.{◌≤◌, vec_capacity}
 use Rattle.tm_link.specs.declared.extractor.Extractor.TheInside.{Inside}
-use Rattle.tm_link.specs.Extraction.{ExtractorState}
+use Rattle.tm_link.specs.Extractor.{ExtractorState}
 
 abbrev pub state_of : Inside → ExtractorState
 state_of x = record { last = x.last; part = x.part.items }

@@ -4,8 +4,8 @@ use Rattle.std.specs.Prelude.{◌≡◌, ◌<◌, ℕ, ◌+◌, ◌%◌, List, [
 use Rattle.std.specs.Prelude.{replicate, Bool, true, false, ◌&&◌, ◌==◌, if◌then◌else◌}
 use Rattle.std.specs.List.{AllByRecursion, concat, list_all}
 use Rattle.octets.specs.Records.{IsRecord}
-use Rattle.space_packet.specs.Reading.{extent_at}
-use Rattle.tm_link.specs.Extraction.{without_idle}
+use Rattle.space_packet.specs.Decoding.{extent_at}
+use Rattle.tm_link.specs.Extractor.{without_idle}
 use Rattle.tm_link.specs.Layout.{FrameView}
 use Rattle.tm_link.specs.declared.frame.Pointer.{Pointer}
 use Rattle.tm_link.specs.declared.frame.Pointer.TheVariants.{At, NoStart, OnlyIdle}

@@ -1,14 +1,14 @@
 // Building frames of a stream of packets.
 
 ghost use Rattle.std.specs.Prelude.{◌≡◌, ◌≤◌, ◌<◌, ◌^◌, ◌++◌, ◌↔◌, ℕ, List, [], ◌∷◌, length, take, drop, IsTrue, IsOk, IfOk, IfErr, OnOk, OnErr};
-ghost use Rattle.tm_link.specs.Building.{new_builder, builder_fits, after_queue, queue_fault, is_to_send, is_at_rest, first_start, idle_after, after_send, after_fill, with_next_count, build_step, state_with};
+ghost use Rattle.tm_link.specs.Builder.{new_builder, builder_fits, after_queue, queue_fault, is_to_send, is_at_rest, first_start, idle_after, after_send, after_fill, with_next_count, build_step, state_with};
 ghost use Rattle.tm_link.specs.Layout.{FrameView, IsTmFrame};
-ghost use Rattle.tm_link.specs.Laying.{IsLaidOutBy};
-ghost use Rattle.tm_link.specs.Writing.{spelling};
+ghost use Rattle.tm_link.specs.Builder.{IsLaidOutBy};
+ghost use Rattle.tm_link.specs.Encoding.{spelling};
 
+use crate::data_field::pass;
 use crate::ending::is_idle_with;
 use crate::fault::TmFault;
-use crate::filling::pass;
 use crate::frame::Pointer;
 use crate::turn::{Turn, put_next};
 use octets::remove_front;
@@ -36,7 +36,7 @@ pub struct TmBuilder {
 }
 
 impl Model for TmBuilder {
-    ghost use Rattle.tm_link.specs.Building.{BuilderState};
+    ghost use Rattle.tm_link.specs.Builder.{BuilderState};
 
     ghost Value = { BuilderState };
 

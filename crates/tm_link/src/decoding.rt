@@ -3,7 +3,7 @@
 ghost use Rattle.std.specs.Prelude.{◌≡◌, ◌≤◌, ◌+◌, ◌-◌, ◌%◌, length, IfOk, Ok};
 ghost use Rattle.octets.specs.Outcome.{map_ok};
 ghost use Rattle.tm_link.specs.Layout.{FrameView, frame_view, IsTmFrame};
-ghost use Rattle.tm_link.specs.Reading.{is_length_wrong, is_check_wrong, is_pointer_outside, pointer_at, four_at, frame_with, frame_at};
+ghost use Rattle.tm_link.specs.Decoding.{is_length_wrong, is_check_wrong, is_pointer_outside, pointer_at, four_at, frame_with, frame_at};
 
 use crate::fault::TmFault;
 use crate::frame::{Pointer, TmFrame};
@@ -13,7 +13,7 @@ use octets::{check_holds, first_two, low_eleven};
 /// 4.1), or says the first of the faults that applies. A length outside 16 to 2,048 is 1 `Length`. The
 /// frame borrows its data from the octets.
 /// Faults: 1 Length, 2 Version, 3 Check, 4 Status, 5 Pointer, 6 NoOcf. Cost: n.
-#[tactic(auto, using(crate::proofs::Frames::frame_again))]
+#[tactic(auto, using(crate::proofs::Decoded::frame_again))]
 pub fn decode(octets: &[u8], length: usize) -> Result<TmFrame<'_>, TmFault>
     ensures answer { map_ok frame_view result ≡ frame_at length octets.now }
 
@@ -25,7 +25,7 @@ pub fn decode(octets: &[u8], length: usize) -> Result<TmFrame<'_>, TmFault>
     frame_of(octets, length)
 }
 
-#[tactic(auto, unfolding(crate::specs::Reading::frame_at))]
+#[tactic(auto, unfolding(crate::specs::Decoding::frame_at))]
 fn frame_of(octets: &[u8], total: usize) -> Result<TmFrame<'_>, TmFault>
     ensures { map_ok frame_view result ≡ frame_at total octets.now }
 {

@@ -2,7 +2,7 @@
 
 ghost use Rattle.std.specs.Prelude.{◌≡◌, ◌≤◌, ◌<◌, ◌+◌, ◌++◌, length, take, drop, true, IfOk, OnErr};
 ghost use Rattle.tm_link.specs.Layout.{frame_view, pointer_number, pointer_fits, IsTmFrame};
-ghost use Rattle.tm_link.specs.Writing.{total_of, header_octets, front_octets, spelling, frame_fits, encode_answer};
+ghost use Rattle.tm_link.specs.Encoding.{total_of, header_octets, front_octets, spelling, frame_fits, encode_answer};
 
 use crate::builder::can_build;
 use crate::fault::TmFault;

@@ -2,8 +2,8 @@
 
 ghost use Rattle.std.specs.Prelude.{◌≡◌, ◌≤◌, ◌<◌, ◌+◌, ◌++◌, length, take};
 ghost use Rattle.octets.specs.Records.{rest_of};
-ghost use Rattle.space_packet.specs.Reading.{extent_at};
-ghost use Rattle.tm_link.specs.Extraction.{ending_by, ending_of, is_idle};
+ghost use Rattle.space_packet.specs.Decoding.{extent_at};
+ghost use Rattle.tm_link.specs.Extractor.{ending_by, ending_of, is_idle};
 
 use octets::{Wire, first_two, low_eleven};
 use space_packet::{Packets, is_idle_apid, packet_len};

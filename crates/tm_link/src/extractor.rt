@@ -1,15 +1,15 @@
 // Extracting packets from frames.
 
 ghost use Rattle.std.specs.Prelude.{◌≡◌, ◌++◌, [], length, Some, IsTrue, IsOk, IfOk, IfErr, OnOk, OnErr};
-ghost use Rattle.tm_link.specs.Arriving.{HasGained};
-ghost use Rattle.tm_link.specs.Extraction.{new_extractor, part_after, part_over_gap, extract_step, octets_of, GrowsBy};
+ghost use Rattle.tm_link.specs.Arrivals.{HasGained};
+ghost use Rattle.tm_link.specs.Extractor.{new_extractor, part_after, part_over_gap, extract_step, octets_of, GrowsBy};
 ghost use Rattle.tm_link.specs.Layout.{frame_view, pointer_fits};
-ghost use Rattle.tm_link.specs.Splitting.{rest_in_frame};
+ghost use Rattle.tm_link.specs.PacketEnds.{rest_in_frame};
 
 use crate::fault::TmFault;
 use crate::frame::{Pointer, TmFrame};
 use crate::gap::{Gap, gap_before, is_lost, part_kept};
-use crate::handing::find;
+use crate::hand_out::find;
 use crate::part::{go_on, open};
 use std::alloc::Global;
 use std::marker::Model;
@@ -25,7 +25,7 @@ pub struct Extractor {
 }
 
 impl Model for Extractor {
-    ghost use Rattle.tm_link.specs.Extraction.{ExtractorState};
+    ghost use Rattle.tm_link.specs.Extractor.{ExtractorState};
 
     ghost Value = { ExtractorState };
 

@@ -1,7 +1,7 @@
 // The telemetry transfer frame as a value.
 
 ghost use Rattle.std.specs.Prelude.{◌≡◌};
-ghost use Rattle.clcw.specs.Reading.{clcw_at};
+ghost use Rattle.clcw.specs.Decoding.{clcw_at};
 
 use clcw::{Clcw, ClcwFault};
 

@@ -1,7 +1,7 @@
 // Frames that are missing.
 
 ghost use Rattle.std.specs.Prelude.{◌≡◌};
-ghost use Rattle.tm_link.specs.Extraction.{gap_of, part_over_gap, is_any_lost};
+ghost use Rattle.tm_link.specs.Extractor.{gap_of, part_over_gap, is_any_lost};
 
 /// How many frames of the virtual channel are missing before one (CCSDS 132.0-B-3, 4.1.2.6).
 #[derive(Clone, Copy, Debug, PartialEq, Eq)]

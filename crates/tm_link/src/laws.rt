@@ -4,14 +4,14 @@ ghost use Rattle.std.specs.Prelude.{◌≡◌, ◌++◌, ℕ, List, [], Bool, le
 ghost use Rattle.std.specs.List.{AllByRecursion};
 ghost use Rattle.octets.specs.Number.{IsOctets};
 ghost use Rattle.space_packet.specs.Layout.{PacketView, IsSomePacket};
-ghost use Rattle.tm_link.specs.Arriving.{IsInRange, all_extracted};
-ghost use Rattle.tm_link.specs.Building.{is_to_send, IsToSend};
-ghost use Rattle.tm_link.specs.Extraction.{ExtractorState, new_extractor};
+ghost use Rattle.tm_link.specs.Arrivals.{IsInRange, all_extracted};
+ghost use Rattle.tm_link.specs.Builder.{is_to_send, IsToSend};
+ghost use Rattle.tm_link.specs.Extractor.{ExtractorState, new_extractor};
 ghost use Rattle.tm_link.specs.Layout.{FrameView, IsTmFrame, IsSpelling};
 ghost use Rattle.tm_link.specs.Outage.{AreButForTheFirst};
-ghost use Rattle.tm_link.specs.Reading.{frame_at};
+ghost use Rattle.tm_link.specs.Decoding.{frame_at};
 ghost use Rattle.tm_link.specs.Stream.{carried_octets, IsLaidOut, IsClose, choice, arrived_packets};
-ghost use Rattle.tm_link.specs.Writing.{total_of, frame_fits, spelling};
+ghost use Rattle.tm_link.specs.Encoding.{total_of, frame_fits, spelling};
 
 /// A frame whose fields are in range has its spelling, and no other octets spell it.
 pub fn law_of_spelling()

@@ -9,15 +9,15 @@
 #![tactic(auto)]
 
 mod builder;
+mod data_field;
 mod decoding;
 mod encoding;
 mod ending;
 mod extractor;
 mod fault;
-mod filling;
 mod frame;
 mod gap;
-mod handing;
+mod hand_out;
 mod laws;
 mod part;
 mod turn;

@@ -1,7 +1,7 @@
 // The part of a packet that an extractor holds.
 
 ghost use Rattle.std.specs.Prelude.{◌≡◌, ◌≤◌, vec_capacity};
-ghost use Rattle.tm_link.specs.Extraction.{continued_part, opened_part};
+ghost use Rattle.tm_link.specs.Extractor.{continued_part, opened_part};
 
 use crate::ending::{Ending, ending_with};
 

@@ -1,13 +1,13 @@
 // The next frame of a builder, wherever its octets are kept.
 
 ghost use Rattle.std.specs.Prelude.{◌≡◌, ◌≤◌, ◌<◌, ◌+◌, ◌-◌, ◌^◌, length, true};
-ghost use Rattle.tm_link.specs.Building.{builder_fits, frame_built, field_with, pointer_with, state_with};
+ghost use Rattle.tm_link.specs.Builder.{builder_fits, frame_built, field_with, pointer_with, state_with};
 ghost use Rattle.tm_link.specs.Layout.{IsTmFrame};
-ghost use Rattle.tm_link.specs.Writing.{spelling, front_octets};
+ghost use Rattle.tm_link.specs.Encoding.{spelling, front_octets};
 
 use crate::builder::start_after;
+use crate::data_field::put_data;
 use crate::encoding::put_header;
-use crate::filling::put_data;
 use crate::frame::{Pointer, TmFrame};
 use octets::append_check;
 

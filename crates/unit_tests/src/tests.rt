@@ -1,9 +1,9 @@
 // The tests by what they are of, and what several of them use.
 
 mod as_octets;
-mod checking;
 mod control_words;
 mod equal;
+mod frame_check;
 mod frames;
 mod names;
 mod no_memory;
@@ -12,5 +12,5 @@ mod receiver;
 mod refusing;
 mod segments;
 mod sender;
-mod splitting;
+mod splitter;
 mod telemetry;

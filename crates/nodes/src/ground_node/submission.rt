@@ -1,10 +1,10 @@
 // Packets that are to be submitted, cut before anything changes.
 
 ghost use Rattle.std.specs.Prelude.{◌≡◌};
-ghost use Rattle.nodes.specs.Commands.{slices_view};
+ghost use Rattle.nodes.specs.CommandPackets.{slices_view};
 ghost use Rattle.nodes.specs.Submissions.{packets_held};
 
-use crate::commands::Packets;
+use crate::command_packets::Packets;
 use crate::owned_segment::OwnedSegment;
 use std::collections::VecDeque;
 

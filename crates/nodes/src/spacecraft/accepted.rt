@@ -2,8 +2,8 @@
 
 ghost use Rattle.std.specs.Prelude.{◌≡◌, ◌<◌, IfSome, option_map};
 ghost use Rattle.tc_frame.specs.Layout.{segment_view};
-ghost use Rattle.tm_link.specs.Extraction.{octets_of};
-ghost use Rattle.nodes.specs.Arriving.{accepted_of};
+ghost use Rattle.tm_link.specs.Extractor.{octets_of};
+ghost use Rattle.nodes.specs.Arrival.{accepted_of};
 
 use super::arrival::Arrival;
 use tc_frame::Segment;

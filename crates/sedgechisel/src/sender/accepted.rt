@@ -5,7 +5,7 @@ ghost use Rattle.sedgechisel.specs.Answers.{if_there, IsWritten};
 ghost use Rattle.sedgechisel.specs.Senders.{accepted_by};
 
 use super::KeptSender;
-use super::describing::described;
+use super::fields::described;
 use crate::numbers::ABSENT;
 use cop1::accepted_beyond;
 

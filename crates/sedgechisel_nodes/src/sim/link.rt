@@ -14,7 +14,7 @@ pub struct Link {
 }
 
 impl Model for Link {
-    ghost use Rattle.sedgechisel_nodes.specs.LinkState.{LinkState};
+    ghost use Rattle.sedgechisel_nodes.specs.Links.{LinkState};
 
     ghost Value = { LinkState };
 

@@ -4,7 +4,7 @@ ghost use Rattle.std.specs.Prelude.{◌≡◌};
 ghost use Rattle.simulated_link.specs.Replies.{reply_view};
 ghost use Rattle.sedgechisel_nodes.specs.Links.{no_reply, refused_by, reply_kept, reply_octets};
 
-use crate::hearing::{KeptHeard, kept_heard, number_of_alert};
+use crate::ground_telemetry::{KeptHeard, kept_heard, number_of_alert};
 use crate::spacecraft::{KeptReceived, kept_received};
 use clcw::Clcw;
 use std::alloc::Global;

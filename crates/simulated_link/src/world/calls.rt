@@ -3,17 +3,17 @@
 ghost use Rattle.std.specs.Prelude.{◌≡◌, option_map};
 ghost use Rattle.nodes.specs.Packets.{packet_view};
 ghost use Rattle.simulated_link.specs.Replies.{reply_view, reply_to_alert, reply_to_taking};
-ghost use Rattle.cop1.specs.Directives.{is_initiation};
+ghost use Rattle.cop1.specs.FopDirective.{is_initiation};
 ghost use Rattle.std.specs.List.{list_all};
-ghost use Rattle.tm_link.specs.Extraction.{octets_of};
-ghost use Rattle.tm_link.specs.Reading.{frame_at};
+ghost use Rattle.tm_link.specs.Extractor.{octets_of};
+ghost use Rattle.tm_link.specs.Decoding.{frame_at};
 ghost use Rattle.simulated_link.specs.World.{reports_as};
 
 use super::World;
 use crate::fault::SimFault;
 use crate::map_lists::no_packets;
-use crate::opening::Opening;
 use crate::reply::{NodeFault, Reply};
+use crate::session_start::Opening;
 use clcw::Clcw;
 use cop1::{Alert, Directive};
 use nodes::Event;

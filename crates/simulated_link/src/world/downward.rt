@@ -4,8 +4,8 @@ ghost use Rattle.std.specs.Prelude.{◌≡◌};
 ghost use Rattle.simulated_link.specs.World.{is_confirmation};
 
 use super::World;
+use crate::down_frame::put_report;
 use crate::fault::SimFault;
-use crate::putting::put_report;
 use crate::reply::Reply;
 use cop1::FopMode;
 use nodes::Event;

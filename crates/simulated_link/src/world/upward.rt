@@ -3,17 +3,17 @@
 ghost use Rattle.std.specs.Prelude.{◌≡◌, ◌<◌, ◌++◌, IfOk, option_to_list, option_map};
 ghost use Rattle.std.specs.Vec.{vec_len, vec_capacity};
 ghost use Rattle.map_service.specs.Views.{packets_view};
-ghost use Rattle.nodes.specs.Commands.{slices_view};
-ghost use Rattle.tm_link.specs.Extraction.{octets_of};
+ghost use Rattle.nodes.specs.CommandPackets.{slices_view};
+ghost use Rattle.tm_link.specs.Extractor.{octets_of};
 
 use super::World;
-use super::accepting::{make_room_for, record_accepted};
+use super::accept::{make_room_for, record_accepted};
 use crate::acceptance::acceptance_of;
 use crate::fault::SimFault;
 use crate::map_lists::{append_on, make_room};
-use crate::outgoing::next_frame;
 use crate::refusal::answer_to_refusal;
 use crate::reply::Reply;
+use crate::up_frame::next_frame;
 use nodes::Event;
 use std::alloc::{AllocError, Global};
 

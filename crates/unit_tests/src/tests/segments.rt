@@ -1,6 +1,6 @@
 // Packets cut and joined by hand.
 
-mod assembling;
+mod assembler;
 
 use super::equal::equal;
 use super::packets::P0;

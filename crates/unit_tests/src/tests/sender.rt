@@ -5,8 +5,8 @@ use super::refusing::{again, says_refused};
 use bitflags::Flags;
 use clcw::{Clcw, ClcwFlags};
 use cop1::{
-    Alert, Control, CopFault, Directive, Fop, FopMode, Pulled, Sender, SenderFields,
-    SenderNext, accepted_beyond,
+    Alert, Control, CopFault, Directive, Fop, FopMode, Pulled, Sender, SenderFields, SenderNext,
+    accepted_beyond,
 };
 use std::alloc::Global;
 use std::process::Abort;

@@ -1,4 +1,4 @@
-use Rattle.cop1.proofs.Agreeing.{always}
+use Rattle.cop1.proofs.FarmFlags.{always}
 use Rattle.cop1.proofs.laws.flags_always_agree.Goals as goal
 
 pub returns : goal.returns

@@ -1,21 +1,43 @@
-use Rattle.std.proofs.Common.{◌≡◌, ◌∙◌, ◌++◌, ◌+◌, [], ℕ, true, Result, Ok, length, take, refl, sym, ap, subst, inr}
-use Rattle.std.proofs.Common.{arith}
+use Rattle.std.proofs.Common.{◌≡◌, ◌∙◌, ◌++◌, List, [], ℕ, Option, None, Some, refl, sym, ap, subst, append_assoc, ◌+◌}
+use Rattle.std.proofs.Common.{true, Result, Ok, length, take, inr, arith}
+use Rattle.std.specs.Io.KnownBytes.{Consumes}
+use Rattle.listings.specs.Devices.{gained, writes_failed_in}
+use Rattle.listings.proofs.Pieces.{gained_more, gained_nothing, on_ok_from, adds_piece, at_end, stops, is_bad}
 use Rattle.std.proofs.lemmas.List.{append-nil, length-append, length-take-le}
 use Rattle.std.proofs.lemmas.Result.{on_err_weaker}
 use Rattle.octets.specs.Beginning.{IsBeginning}
-use Rattle.listings.specs.Failures.{writes_failed_in}
-use Rattle.listings.specs.Gained.{gained}
 use Rattle.listings.specs.Layouts.{first_by}
-use Rattle.listings.specs.Listing.{Standing, fresh, listed}
-use Rattle.listings.specs.Progress.{standing}
+use Rattle.listings.specs.Listing.{Standing, fresh, listed, standing}
 use Rattle.listings.specs.declared.fault.ListingFault.{ListingFault}
 use Rattle.listings.specs.declared.stream.Course.{Course}
 use Rattle.listings.specs.declared.stream.Course.TheVariants.{Open, Refused}
-use Rattle.listings.proofs.Beginnings.{gained_nothing, on_ok_from}
 use Rattle.listings.proofs.Listed.{bare, listed-nothing, first_record-nothing}
-use Rattle.listings.proofs.Pieces.{adds_piece, at_end, stops, is_bad}
-use Rattle.listings.proofs.Remaining.{consumes_nothing, consumes_piece}
 use Rattle.listings.proofs.stream.list_pieces.Goals as goal
+
+-- What reads leave of the octets that are known to remain.
+
+consumes_none : (a : Option (List ℕ)) → Consumes a a []
+consumes_none None = tt
+consumes_none (Some xs) = refl
+
+consumes_both : (a b c : Option (List ℕ)) (t u : List ℕ) → Consumes a b t → Consumes b c u → Consumes a c (t ++ u)
+consumes_both None b c t u first second = tt
+consumes_both (Some xs) None c t u first second = absurd first
+consumes_both (Some xs) (Some ys) None t u first second = absurd second
+consumes_both (Some xs) (Some ys) (Some zs) t u first second =
+    first ∙ ap (λ (l : List ℕ). t ++ l) second ∙ sym (append_assoc t u zs)
+
+-- before the first read
+consumes_nothing : (a : Option (List ℕ)) (old : List ℕ) → Consumes a a (gained old old)
+consumes_nothing a old = subst (Consumes a a) (sym (gained_nothing old)) (consumes_none a)
+
+-- after a read that gave this piece
+consumes_piece : (a b c : Option (List ℕ)) (old given new piece : List ℕ)
+    → given ≡ old ++ gained old given → new ≡ given ++ piece
+    → Consumes a b (gained old given) → Consumes b c piece → Consumes a c (gained old new)
+consumes_piece a b c old given new piece gave gives before more =
+    subst (Consumes a c) (sym (gained_more old given new piece gave gives))
+    (consumes_both a b c (gained old given) piece before more)
 
 abbrev done : Course → Result Course ListingFault
 done course = Ok course

@@ -1,9 +1,9 @@
 use Rattle.std.proofs.Common.{◌≡◌, ◌+◌, ◌-◌, ◌≤◌, [], length}
 use Rattle.std.specs.Prelude.{None}
 use Rattle.std.specs.Io.KnownBytes.{Consumes}
-use Rattle.listings.specs.Gained.{gained}
+use Rattle.listings.specs.Devices.{gained}
 use Rattle.listings.specs.Layouts.{first_by}
-use Rattle.listings.specs.Progress.{standing}
+use Rattle.listings.specs.Listing.{standing}
 use Rattle.listings.specs.declared.stream.TheConstants.{MOST_OCTETS}
 use Rattle.listings.proofs.Pieces.{IsUpTo}
 use Rattle.listings.proofs.stream.list_pieces.Given as goal

@@ -1,6 +1,6 @@
 use Rattle.std.proofs.Common.{◌≡◌, ◌++◌, drop}
-use Rattle.listings.specs.Written.{written}
-use Rattle.tm_link.specs.Extraction.{octets_of}
+use Rattle.listings.specs.Text.{written}
+use Rattle.tm_link.specs.Extractor.{octets_of}
 use Rattle.listings.specs.TelemetryLines.{finished_lines}
 use Rattle.listings.proofs.telemetry.push_finished.Given as goal
 

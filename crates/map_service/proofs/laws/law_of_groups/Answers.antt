@@ -1,4 +1,4 @@
-use Rattle.map_service.proofs.Grouping.{is_grouped, only_grouped}
+use Rattle.map_service.proofs.LongestGroups.{is_grouped, only_grouped}
 use Rattle.map_service.proofs.laws.law_of_groups.Goals as goal
 
 pub returns-clause-found : goal.returns-clause-found

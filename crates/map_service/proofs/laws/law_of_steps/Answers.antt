@@ -1,5 +1,5 @@
 use Rattle.std.proofs.Common.{refl}
-use Rattle.map_service.proofs.Steps.{assembled-push, open_part-push, assembled-other, open_part-other}
+use Rattle.map_service.proofs.AssemblerSteps.{assembled-push, open_part-push, assembled-other, open_part-other}
 use Rattle.map_service.proofs.laws.law_of_steps.Goals as goal
 
 pub returns-clause-packets : goal.returns-clause-packets

@@ -1,4 +1,4 @@
-use Rattle.nodes.proofs.Delivering.{delivers}
+use Rattle.nodes.proofs.Delivery.{delivers}
 use Rattle.nodes.proofs.laws.law_of_delivery.Goals as goal
 
 pub returns : goal.returns

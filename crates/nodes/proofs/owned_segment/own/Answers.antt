@@ -1,5 +1,5 @@
 use Rattle.std.proofs.Common.{arith}
-use Rattle.nodes.proofs.Submitting.{fits_at}
+use Rattle.nodes.proofs.Submissions.{fits_at}
 use Rattle.nodes.proofs.owned_segment.own.Goals as goal
 
 pub new-requires : goal.new-requires

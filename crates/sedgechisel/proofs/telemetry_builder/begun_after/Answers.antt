@@ -1,7 +1,7 @@
 use Rattle.std.proofs.Common.{ℕ, List, length, map, sym, ap, ◌∙◌, arith, ◌-◌}
 use Rattle.space_packet.specs.Packets.{packets_in}
-use Rattle.tm_link.specs.Building.{left_after}
-use Rattle.sedgechisel.proofs.Building.{passed_one, passed_none, passed_all}
+use Rattle.tm_link.specs.Builder.{left_after}
+use Rattle.sedgechisel.proofs.Builders.{passed_one, passed_none, passed_all}
 use Rattle.sedgechisel.proofs.telemetry_builder.begun_after.Goals as goal
 
 pub loop-left-preserved : goal.loop-left-preserved

@@ -1,6 +1,6 @@
 use Rattle.std.proofs.Common.{◌≡◌, length, map}
 use Rattle.space_packet.specs.Packets.{packets_in}
-use Rattle.tm_link.specs.Building.{left_after}
+use Rattle.tm_link.specs.Builder.{left_after}
 use Rattle.sedgechisel.proofs.telemetry_builder.begun_after.Given as goal
 
 abbrev pub invariant-loop-left : goal.invariant-loop-left

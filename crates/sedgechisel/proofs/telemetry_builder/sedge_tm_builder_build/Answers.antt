@@ -3,11 +3,11 @@ use Rattle.std.proofs.Common.{length-take}
 use Rattle.std.specs.Prelude.{◌==◌, IfOk, is_some}
 use Rattle.std.proofs.lemmas.List.{take_at}
 use Rattle.tm_link.specs.declared.turn.Turn.{Turn}
-use Rattle.tm_link.specs.Building.{BuilderState, frame_built, state_with}
+use Rattle.tm_link.specs.Builder.{BuilderState, frame_built, state_with}
 use Rattle.tm_link.specs.Layout.{FrameView, IsTmFrame}
 use Rattle.sedgechisel.specs.declared.telemetry_builder.KeptBuilder.{KeptBuilder}
 use Rattle.sedgechisel.specs.Builders.{is_builder, state_of, turn_of, pending_of}
-use Rattle.sedgechisel.proofs.Building.{build_taken}
+use Rattle.sedgechisel.proofs.Builders.{build_taken}
 use Rattle.sedgechisel.proofs.telemetry_builder.sedge_tm_builder_build.Goals as goal
 
 pub returns-clause-spells : goal.returns-clause-spells

@@ -1,6 +1,6 @@
 use Rattle.std.proofs.Common.{◌≡◌, sym, ◌∙◌, true}
-use Rattle.tm_link.specs.Building.{builder_fits, new_builder}
-use Rattle.sedgechisel.proofs.Building.{open_described, if_taken}
+use Rattle.tm_link.specs.Builder.{builder_fits, new_builder}
+use Rattle.sedgechisel.proofs.Builders.{open_described, if_taken}
 use Rattle.sedgechisel.proofs.telemetry_builder.sedge_tm_builder_open.Goals as goal
 
 pub returns-clause-describes : goal.returns-clause-describes

@@ -1,7 +1,7 @@
 use Rattle.std.proofs.Common.{◌≡◌, ◌≤◌, ◌+◌, length, sym, ◌∙◌, true, arith}
-use Rattle.tm_link.specs.Building.{is_to_send}
+use Rattle.tm_link.specs.Builder.{is_to_send}
 use Rattle.sedgechisel.specs.Builders.{is_builder}
-use Rattle.sedgechisel.proofs.Building.{IsBuilder, builder_is, queue_described, queue_taken}
+use Rattle.sedgechisel.proofs.Builders.{IsBuilder, builder_is, queue_described, queue_taken}
 use Rattle.sedgechisel.proofs.telemetry_builder.sedge_tm_builder_queue.Goals as goal
 
 pub returns-clause-after : goal.returns-clause-after

@@ -1,9 +1,9 @@
 use Rattle.std.proofs.Common.{◌≡◌, ℕ, ◌-◌, List, length, map, take, drop, ap, ◌∙◌, arith}
 use Rattle.std.proofs.lemmas.List.{take_rest}
 use Rattle.space_packet.specs.Packets.{packets_in}
-use Rattle.tm_link.specs.Building.{left_after}
+use Rattle.tm_link.specs.Builder.{left_after}
 use Rattle.sedgechisel.specs.Builders.{pending_of}
-use Rattle.sedgechisel.proofs.Building.{send_described}
+use Rattle.sedgechisel.proofs.Builders.{send_described}
 use Rattle.sedgechisel.proofs.telemetry_builder.send.Goals as goal
 
 pub returns : goal.returns

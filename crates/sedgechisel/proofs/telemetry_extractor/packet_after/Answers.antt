@@ -1,5 +1,5 @@
 use Rattle.std.proofs.Common.{sym, ◌∙◌, arith}
-use Rattle.sedgechisel.proofs.Extracting.{next_stands, next_idle, next_none}
+use Rattle.sedgechisel.proofs.Extractors.{next_stands, next_idle, next_none}
 use Rattle.sedgechisel.proofs.telemetry_extractor.packet_after.Goals as goal
 
 pub returns-then-not-is_idle_with : goal.returns-then-not-is_idle_with

@@ -1,6 +1,6 @@
 use Rattle.std.proofs.Common.{◌≡◌, ◌≤◌, ◌-◌, length, drop}
 use Rattle.space_packet.specs.Packets.{packets_in}
-use Rattle.tm_link.specs.Extraction.{without_idle}
+use Rattle.tm_link.specs.Extractor.{without_idle}
 use Rattle.sedgechisel.proofs.telemetry_extractor.packet_after.Given as goal
 
 abbrev pub invariant-loop-len : goal.invariant-loop-len

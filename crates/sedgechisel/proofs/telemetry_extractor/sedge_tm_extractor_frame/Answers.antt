@@ -1,8 +1,8 @@
 use Rattle.std.proofs.Common.{ℕ, Option, sym, ap, ◌∙◌}
-use Rattle.tm_link.specs.Extraction.{gap_of}
+use Rattle.tm_link.specs.Extractor.{gap_of}
 use Rattle.sedgechisel.specs.declared.part.Part.{Part}
 use Rattle.sedgechisel.specs.Extractors.{octets_at}
-use Rattle.sedgechisel.proofs.Extracting.{frame_taken, not_short, begins_at}
+use Rattle.sedgechisel.proofs.Extractors.{frame_taken, not_short, begins_at}
 use Rattle.sedgechisel.proofs.telemetry_extractor.sedge_tm_extractor_frame.Goals as goal
 
 pub returns-in-Some-clause-describes : goal.returns-in-Some-clause-describes

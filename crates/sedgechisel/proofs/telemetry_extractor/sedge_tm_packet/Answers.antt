@@ -1,5 +1,5 @@
 use Rattle.std.proofs.Common.{◌+◌, refl, arith}
-use Rattle.sedgechisel.proofs.Extracting.{nothing_past}
+use Rattle.sedgechisel.proofs.Extractors.{nothing_past}
 use Rattle.sedgechisel.proofs.telemetry_extractor.sedge_tm_packet.Goals as goal
 use Rattle.sedgechisel.proofs.telemetry_extractor.sedge_tm_packet.Goals.{
   then-packet-payload-via-then-packet-payload,

@@ -1,5 +1,5 @@
 use Rattle.std.proofs.Common.{arith}
-use Rattle.space_packet.proofs.Readings.{is_found}
+use Rattle.space_packet.proofs.Decoded.{is_found}
 use Rattle.space_packet.proofs.decoding.decode.Goals as goal
 
 pub returns-clause-found : goal.returns-clause-found

@@ -1,9 +1,9 @@
 use Rattle.std.proofs.Common.{length}
 use Rattle.octets.proofs.Streams.{is_first}
 use Rattle.space_packet.specs.Laws.{own_extent_of}
-use Rattle.space_packet.specs.Reading.{extent_at}
-use Rattle.space_packet.proofs.Readings.{packet_again}
-use Rattle.space_packet.proofs.Spellings.{first_is}
+use Rattle.space_packet.specs.Decoding.{extent_at}
+use Rattle.space_packet.proofs.Decoded.{packet_again}
+use Rattle.space_packet.proofs.Encoded.{first_is}
 use Rattle.space_packet.proofs.laws.law_of_reading.Goals as goal
 
 pub returns-clause-read : goal.returns-clause-read

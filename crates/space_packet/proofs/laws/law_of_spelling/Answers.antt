@@ -1,5 +1,5 @@
 use Rattle.space_packet.specs.Laws.{spelling_from}
-use Rattle.space_packet.proofs.Spellings.{spelling_is}
+use Rattle.space_packet.proofs.Encoded.{spelling_is}
 use Rattle.space_packet.proofs.laws.law_of_spelling.Goals as goal
 
 pub returns-clause-spells : goal.returns-clause-spells

@@ -1,5 +1,5 @@
 use Rattle.std.proofs.Common.{◌≡◌, ◌+◌, ℕ, Result, Ok, Err, OnOk, arith}
-use Rattle.listings.specs.Failures.{failed_in}
+use Rattle.listings.specs.Devices.{failed_in}
 use Rattle.listings.specs.declared.output.WriteFailed.{WriteFailed}
 use Rattle.stream_commands.proofs.status.ending.Goals as goal
 

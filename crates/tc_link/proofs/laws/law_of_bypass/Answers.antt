@@ -1,4 +1,4 @@
-use Rattle.tc_link.proofs.BypassOrder.{bypass_keeps_order}
+use Rattle.tc_link.proofs.Bypass.{bypass_keeps_order}
 use Rattle.tc_link.proofs.laws.law_of_bypass.Goals as goal
 
 pub returns : goal.returns

@@ -1,4 +1,4 @@
-use Rattle.tc_link.proofs.Taking.{hands_out_what_is_delivered, hands_out_what_is_submitted, hands_out_as_submitted}
+use Rattle.tc_link.proofs.Taken.{hands_out_what_is_delivered, hands_out_what_is_submitted, hands_out_as_submitted}
 use Rattle.tc_link.proofs.laws.law_of_taking.Goals as goal
 
 pub returns-clause-delivered : goal.returns-clause-delivered

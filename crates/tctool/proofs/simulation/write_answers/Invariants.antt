@@ -1,5 +1,5 @@
 use Rattle.std.proofs.Common.{◌≡◌, ◌++◌, length}
-use Rattle.script.specs.Playing.{answers_from}
+use Rattle.script.specs.Player.{answers_from}
 use Rattle.script_lines.specs.Programs.{lines_left}
 use Rattle.tctool.proofs.simulation.write_answers.Given as goal
 

@@ -1,6 +1,6 @@
 use Rattle.std.proofs.Common.{◌≡◌, length}
 use Rattle.octets.specs.Records.{rest_of}
-use Rattle.space_packet.specs.Reading.{extent_at}
+use Rattle.space_packet.specs.Decoding.{extent_at}
 use Rattle.tm_link.proofs.ending.rest_after_packets.Given as goal
 
 abbrev pub invariant-loop-size : goal.invariant-loop-size

@@ -1,4 +1,4 @@
-use Rattle.tm_link.proofs.Queueing.{to_send_is, to_send_again}
+use Rattle.tm_link.proofs.Laid.{to_send_is, to_send_again}
 use Rattle.tm_link.proofs.laws.law_of_queueing.Goals as goal
 
 pub returns-clause-only : goal.returns-clause-only

@@ -1,6 +1,6 @@
 use Rattle.std.proofs.Common.{subst}
 use Rattle.octets.specs.Number.{IsOctets}
-use Rattle.space_packet.proofs.Readings.{records_are}
+use Rattle.space_packet.proofs.Decoded.{records_are}
 use Rattle.tm_link.proofs.laws.law_of_stream.Goals as goal
 
 pub returns : goal.returns

@@ -1,4 +1,4 @@
-use Rattle.command_line.specs.Commands.{file, options_of}
+use Rattle.command_line.specs.Arguments.{file, options_of}
 use Rattle.command_line.proofs.GivenWords.{last_given}
 use Rattle.command_line.proofs.help.Described.options.Goals as goal
 

@@ -1,18 +1,18 @@
 use Rattle.std.proofs.Common.{sym, ap, ◌∙◌}
 use Rattle.cop1.specs.FopReport.{clcw_step}
-use Rattle.cop1.proofs.Following.{report-follows}
-use Rattle.cop1.proofs.Queued.{settled-state, settled-sound}
+use Rattle.cop1.proofs.UnitsFollow.{report-follows}
+use Rattle.cop1.proofs.Queued.{trimmed-state, trimmed-sound}
 use Rattle.cop1.proofs.fop.Fop.clcw.Goals as goal
 
 pub invariant_of-self : goal.invariant_of-self
 invariant_of-self g c =
-    settled-sound c.self.inside (report-follows c.self.invariant.fits c.args.report.now) c.report-heard.ensures.after
-    c.settle.ensures.waiting c.settle.ensures.sent c.settle.ensures.holds c.self.invariant
+    trimmed-sound c.self.inside (report-follows c.self.invariant.fits c.args.report.now) c.report-heard.ensures.after
+    c.trim.ensures.waiting c.trim.ensures.sent c.trim.ensures.holds c.self.invariant
 
 pub returns-clause-after : goal.returns-clause-after
 returns-clause-after g c =
-    settled-state c.self.inside (report-follows c.self.invariant.fits c.args.report.now) c.report-heard.ensures.after
-    c.settle.ensures.waiting c.settle.ensures.sent ∙ ap (λ s. (clcw_step s c.args.report.now).after) c.self.view_is
+    trimmed-state c.self.inside (report-follows c.self.invariant.fits c.args.report.now) c.report-heard.ensures.after
+    c.trim.ensures.waiting c.trim.ensures.sent ∙ ap (λ s. (clcw_step s c.args.report.now).after) c.self.view_is
 
 pub returns-clause-alert : goal.returns-clause-alert
 returns-clause-alert g c =

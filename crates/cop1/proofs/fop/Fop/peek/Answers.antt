@@ -1,6 +1,6 @@
 use Rattle.std.proofs.Common.{option_copied, sym, ap, ◌∙◌}
 use Rattle.cop1.specs.FopPull.{pull_step}
-use Rattle.cop1.proofs.Following.{next-goes}
+use Rattle.cop1.proofs.UnitsFollow.{next-goes}
 use Rattle.cop1.proofs.fop.Fop.peek.Goals as goal
 
 pub returns : goal.returns

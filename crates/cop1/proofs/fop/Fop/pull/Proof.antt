@@ -55,10 +55,10 @@ use Rattle.cop1.specs.Units.{FopState}
 use Rattle.cop1.specs.UnitsNext.{units_of, seen_at, pulled_view, IsPlaced}
 use Rattle.cop1.specs.UnitsStep.{fop_step, Pull}
 use Rattle.cop1.specs.UnitsLent.{EndsAs}
-use Rattle.cop1.specs.declared.fop.pulling.Next.{Next}
+use Rattle.cop1.specs.declared.fop.pull.Next.{Next}
 use Rattle.cop1.specs.contracts.fop.Fop as fop-type
-use Rattle.cop1.specs.contracts.fop.pulling.Next as next-type
-use Rattle.cop1.specs.contracts.fop.pulling.Pulled as pulled-type
+use Rattle.cop1.specs.contracts.fop.pull.Next as next-type
+use Rattle.cop1.specs.contracts.fop.pull.Pulled as pulled-type
 use Rattle.cop1.specs.contracts.fop.Fop.next as N
 use Rattle.cop1.specs.contracts.fop.Fop.show as S
 use Rattle.cop1.specs.contracts.fop.Fop.pull as F
@@ -66,8 +66,8 @@ use Rattle.cop1.specs.contracts.fop.Fop.next.Key.{name as #next}
 use Rattle.cop1.specs.contracts.fop.Fop.show.Key.{name as #show}
 use Rattle.cop1.specs.contracts.fop.Fop.pull.Key.{name as #self}
 use Rattle.cop1.proofs.fop.Fop.TheLaws as fop-laws
-use Rattle.cop1.proofs.fop.pulling.Next.TheLaws as next-laws
-use Rattle.cop1.proofs.fop.pulling.Pulled.TheLaws as pulled-laws
+use Rattle.cop1.proofs.fop.pull.Next.TheLaws as next-laws
+use Rattle.cop1.proofs.fop.pull.Pulled.TheLaws as pulled-laws
 use Rattle.cop1.proofs.fop.Fop.next.Met as next-met
 use Rattle.cop1.proofs.fop.Fop.show.Met as show-met
 use Rattle.cop1.proofs.fop.Fop.pull.Statement as stated

@@ -3,7 +3,7 @@ use Rattle.std.proofs.Common.{refl}
 use contract.Monad.{fact_i}
 use denote.Signature.{plain, named_lft}
 use Rattle.octets.proofs.Walks.{makes_from, owned}
-use Rattle.listings.specs.Calls.{octets_with, ended_with, failures_with}
+use Rattle.listings.specs.Devices.{octets_with, ended_with, failures_with}
 use Rattle.listings.specs.contracts.device_log.Call as Call
 use Rattle.listings.specs.contracts.device_log.DeviceLog as DeviceLog
 use Rattle.listings.specs.contracts.device_log.DeviceLog.then as F

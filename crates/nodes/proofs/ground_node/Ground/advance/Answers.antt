@@ -5,5 +5,5 @@ use Rattle.nodes.proofs.ground_node.Ground.advance.Goals as goal
 
 pub returns : goal.returns
 returns c =
-    c.settle.ensures ∙ ap (with_fop (state_of c.self.inside)) c.advance.ensures
+    c.refill.ensures ∙ ap (with_fop (state_of c.self.inside)) c.advance.ensures
     ∙ ap (λ (s : GroundState). (ground_step s Pull).after) c.self.view_is

@@ -3,7 +3,7 @@ use Rattle.tc_frame.specs.Layout.{SegmentView}
 use Rattle.nodes.specs.OwnedFields.{FitsFrame}
 use Rattle.nodes.specs.Parameters.{IsConfig}
 use Rattle.nodes.specs.Ground.{GroundState}
-use Rattle.nodes.proofs.Submitting.{bypass_fits}
+use Rattle.nodes.proofs.Submissions.{bypass_fits}
 use Rattle.nodes.proofs.ground_node.Ground.bypass.Goals as goal
 
 pub new-requires : goal.new-requires

@@ -4,10 +4,10 @@ use Rattle.std.proofs.Common.{arith}
 use Rattle.tc_frame.specs.Layout.{SegmentView}
 use Rattle.nodes.specs.declared.ground_node.submission.Segments.{Segments}
 use Rattle.nodes.specs.declared.ground_node.submission.Submission.{Submission}
-use Rattle.nodes.specs.Ground.{GroundState, segments_on, after_submission, settle_step, unless_refused}
+use Rattle.nodes.specs.Ground.{GroundState, segments_on, after_submission, refill_step, unless_refused}
 use Rattle.nodes.specs.GroundFields.{state_of}
 use Rattle.nodes.specs.Submissions.{segments_held, IsSubmissionAt}
-use Rattle.nodes.proofs.Submitting.{have_places}
+use Rattle.nodes.proofs.Submissions.{have_places}
 use Rattle.nodes.proofs.ground_node.Ground.commit.Goals.{in-One, in-Several}
 use Rattle.nodes.proofs.ground_node.Ground.commit.Goals as goal
 
@@ -87,6 +87,6 @@ module _ (c : goal.Joined-submission) where
 
 pub returns : goal.returns
 returns c =
-    c.settle.ensures ∙ ap settle_step (with_segments c)
+    c.refill.ensures ∙ ap refill_step (with_segments c)
     ∙ ap (λ reason. (unless_refused reason (s c) (after_submission (s c) (b c).map (b c).octets.now)).after)
     (sym c.requires.fault)

@@ -1,16 +1,46 @@
-use Rattle.std.proofs.Common.{◌≡◌, Option, Result, Err, sym, ap, ◌∙◌}
-use Rattle.std.proofs.lemmas.Result.{IfErr-at_err}
 use Rattle.tc_frame.specs.Layout.{SegmentView}
-use Rattle.cop1.specs.Units.{FopState}
+use Rattle.cop1.specs.Units.{FopState, FopOutcome}
+use Rattle.nodes.specs.declared.ground_node.Ground.TheInside.{Inside}
+use Rattle.nodes.specs.GroundFields.{IsSound, state_of}
+use Rattle.std.proofs.Common.{◌≡◌, Result, Ok, Err, IsErrAnd, OnErr, ap, Option, IfErr, refl, sym, ◌∙◌}
 use Rattle.cop1.specs.declared.fault.CopFault.{CopFault}
 use Rattle.cop1.specs.declared.vocabulary.Alert.{Alert}
+use Rattle.cop1.specs.declared.vocabulary.Directive.{Directive}
 use Rattle.cop1.specs.FopDirective.{directive_step}
+use Rattle.cop1.proofs.DirectiveCases.{obeyed}
+use Rattle.std.proofs.lemmas.Result.{IfErr-at_err}
 use Rattle.nodes.specs.Ground.{GroundState, ground_step, Direct, after_directive}
-use Rattle.nodes.specs.GroundFields.{state_of}
-use Rattle.nodes.proofs.Directing.{refused_keeps}
-use Rattle.nodes.proofs.Returning.{returned, on_err}
-use Rattle.nodes.proofs.Sound.{with_sender}
 use Rattle.nodes.proofs.ground_node.Ground.directive.Goals as goal
+
+-- What a ground's fields keep to is kept where the sender changes.
+with_sender : (i : Inside) (fop : FopState SegmentView) → IsSound i → IsSound (record i { fop = fop })
+with_sender i fop is = record { config = is.config; room = is.room; packets = is.packets }
+
+-- What a `?` hands on of a fault.
+
+module _ {A E : Type 0} where
+  returned : (r : Result A E) (fault : E) → IsErrAnd r (λ e. e ≡ fault) → r ≡ Err fault
+  returned (Ok x) fault is = absurd is
+  returned (Err e) fault is = ap Err is
+
+  on_err : {P : Type 0} (r : Result A E) → P → OnErr r P
+  on_err (Ok x) p = tt
+  on_err (Err e) p = p
+
+-- A directive that the sender refuses leaves it as it was.
+
+module _ {U : Type 0} (s : FopState U) where
+  abbrev Keeps : FopOutcome U (Result (Option Alert) CopFault) → Type 0
+  Keeps o = IfErr o.answer (λ fault. o.after ≡ s)
+
+  refused_keeps : (d : Directive) → Keeps (directive_step s d)
+  refused_keeps = obeyed s (λ d. Keeps) (record {
+    refused = λ d fault off. refl;
+    begins = λ d begins is. tt;
+    terminated = tt;
+    numbers = λ x is. tt;
+    sets = λ d k n ticks plain most. tt;
+  })
 
 pub returns-clause-answer : goal.returns-clause-answer
 returns-clause-answer c =
@@ -20,7 +50,7 @@ returns-clause-answer c =
 pub returns-clause-after : goal.returns-clause-after
 returns-clause-after c =
     let s = state_of c.self.inside in
-    c.settle.ensures
+    c.refill.ensures
     ∙ ap (λ r. after_directive s r c.directive.new.self) (sym c.in_ok-alert.was ∙ c.directive.ensures.answer)
     ∙ ap (after_directive s (directive_step s.fop c.args.directive).answer) c.directive.ensures.after
     ∙ ap (λ (s : GroundState). (ground_step s (Direct c.args.directive)).after) c.self.view_is

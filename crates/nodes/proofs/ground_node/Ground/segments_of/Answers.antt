@@ -7,11 +7,11 @@ use Rattle.std.specs.Result.{is_err}
 use Rattle.tc_frame.specs.declared.frame.Segment.{Segment}
 use Rattle.tc_frame.specs.Layout.{SegmentView}
 use Rattle.map_service.specs.Cutting.{segment_views, segments_of, alone_segment}
-use Rattle.nodes.specs.Commands.{commands_fault}
+use Rattle.nodes.specs.CommandPackets.{commands_fault}
 use Rattle.nodes.specs.Ground.{GroundState, unsent_segments, segments_on, is_over_slots}
 use Rattle.nodes.specs.OwnedFields.{FitsFrame}
 use Rattle.nodes.specs.Parameters.{limits_of}
-use Rattle.nodes.proofs.Submitting.{segments_fit, one_segment, one_fits}
+use Rattle.nodes.proofs.Submissions.{segments_fit, one_segment, one_fits}
 use Rattle.nodes.proofs.ground_node.Ground.segments_of.Goals as goal
 
 where_ok : {A E P : Type 0} (r : Result A E) → is_err r ≡ false → OnOk r P → P

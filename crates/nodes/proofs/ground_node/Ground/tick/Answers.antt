@@ -5,5 +5,5 @@ use Rattle.nodes.proofs.ground_node.Ground.tick.Goals as goal
 
 pub returns-clause-after : goal.returns-clause-after
 returns-clause-after c =
-    c.settle.ensures ∙ ap (with_fop (state_of c.self.inside)) c.tick-alert.ensures.after
+    c.refill.ensures ∙ ap (with_fop (state_of c.self.inside)) c.tick-alert.ensures.after
     ∙ ap (λ (s : GroundState). (ground_step s Tick).after) c.self.view_is

@@ -1,16 +1,32 @@
-use Rattle.std.proofs.Common.{◌≡◌, ◌≤◌, ◌<◌, ◌+◌, ◌/◌, ℕ, true, List, length, ap, sym, subst, ◌∙◌, arith}
-use Rattle.std.proofs.lemmas.Bool.{ltb-true}
+use Rattle.std.proofs.Common.{◌<◌, ℕ, List, [], ◌∷◌, Option, ◌≡◌, ◌≤◌, ◌+◌, ◌/◌, true, length, ap, sym, subst, ◌∙◌}
+use Rattle.std.proofs.Common.{arith}
 use Rattle.std.specs.List.{AllByRecursion}
 use Rattle.tc_frame.specs.Layout.{SegmentView, segment_view}
-use Rattle.map_service.specs.Exactness.{AssemblerState, HasPartsOf, part_on_map, step_at}
-use Rattle.map_service.specs.Views.{ready_view}
+use Rattle.map_service.specs.declared.limits.Limits.{Limits}
+use Rattle.map_service.specs.AssemblerTable.{take_step}
+use Rattle.map_service.proofs.Handed.{AreWhole, taken_whole}
 use Rattle.nodes.specs.Packets.{put_on_map}
 use Rattle.nodes.specs.PacketFields.{IsPacketOn}
+use Rattle.std.proofs.lemmas.Bool.{ltb-true}
+use Rattle.map_service.specs.Exactness.{AssemblerState, HasPartsOf, part_on_map, step_at}
+use Rattle.map_service.specs.Views.{ready_view}
 use Rattle.nodes.specs.Spacecraft.{SpacecraftState, is_free}
 use Rattle.nodes.specs.SpacecraftFields.{state_of}
-use Rattle.nodes.proofs.Counting.{taken_few}
-use Rattle.nodes.proofs.Whole.{taken_on_map}
+use Rattle.nodes.proofs.PacketCounts.{taken_few}
 use Rattle.nodes.proofs.spacecraft.Spacecraft.hand_on.Goals as goal
+
+-- The packets that come of a segment are packets on its MAP.
+
+on_map : (m : ℕ) → m < 64 → (packets : List (List ℕ)) → AreWhole packets
+    → AllByRecursion IsPacketOn (put_on_map m packets)
+on_map m below [] whole = tt
+on_map m below (p ∷ ps) whole = (record { on_map = below; packet = whole.0 }, on_map m below ps whole.1)
+
+taken_on_map : (limits : Limits) (part : Option (List ℕ)) (s : SegmentView)
+    → AllByRecursion IsPacketOn (put_on_map s.header.map (take_step limits part s).packets)
+taken_on_map limits part s =
+    taken_whole (λ packets. AllByRecursion IsPacketOn (put_on_map s.header.map packets)) limits part s tt
+    (λ packets below whole. on_map s.header.map below packets whole)
 
 pub make_ready-requires-clause-whole : goal.make_ready-requires-clause-whole
 make_ready-requires-clause-whole c =

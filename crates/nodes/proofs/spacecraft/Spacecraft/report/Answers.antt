@@ -2,11 +2,11 @@ use Rattle.std.proofs.Common.{◌≡◌, ◌++◌, ℕ, List, drop, take, Bool, 
 use Rattle.std.proofs.Common.{subst}
 use Rattle.std.proofs.Common.{◌∙◌}
 use Rattle.clcw.specs.declared.word.Clcw.{Clcw}
-use Rattle.clcw.specs.Writing as words
-use Rattle.tm_link.specs.Building.{BuilderState, is_at_rest, after_send, data_size, after_fill, with_next_count}
-use Rattle.tm_link.specs.Building.{build_step}
+use Rattle.clcw.specs.Encoding as words
+use Rattle.tm_link.specs.Builder.{BuilderState, is_at_rest, after_send, data_size, after_fill, with_next_count}
+use Rattle.tm_link.specs.Builder.{build_step}
 use Rattle.tm_link.specs.Layout.{FrameView, IsTmFrame}
-use Rattle.tm_link.specs.Writing.{spelling}
+use Rattle.tm_link.specs.Encoding.{spelling}
 use Rattle.nodes.specs.declared.config.Config.{Config}
 use Rattle.nodes.specs.Spacecraft.{SpacecraftState, spacecraft_step, Report, report_octets, IsOwnFrame}
 use Rattle.nodes.specs.SpacecraftFields.{state_of, IsBuilderOf}

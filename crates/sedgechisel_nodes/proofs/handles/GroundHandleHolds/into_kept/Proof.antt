@@ -1,5 +1,5 @@
 use Rattle.sedgechisel_nodes.proofs.Handled.{into_meets}
-use Rattle.sedgechisel_nodes.proofs.NodeHandles.{of_ground}
+use Rattle.sedgechisel_nodes.proofs.Handled.{of_ground}
 use Rattle.sedgechisel_nodes.proofs.handles.GroundHandleHolds.into_kept.Statement.{statement}
 use Rattle.sedgechisel_nodes.proofs.handles.GroundHandleHolds.into_kept.Code as code
 

@@ -1,6 +1,6 @@
 use denote.Exit.{yes}
 use Rattle.sedgechisel_nodes.proofs.Handled.{of_meets}
-use Rattle.sedgechisel_nodes.proofs.NodeHandles.{of_ground}
+use Rattle.sedgechisel_nodes.proofs.Handled.{of_ground}
 use Rattle.sedgechisel_nodes.proofs.handles.GroundHandleHolds.of.Statement.{statement}
 use Rattle.sedgechisel_nodes.proofs.handles.GroundHandleHolds.of.Code as code
 

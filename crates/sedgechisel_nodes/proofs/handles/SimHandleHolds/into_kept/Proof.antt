@@ -1,5 +1,5 @@
 use Rattle.sedgechisel_nodes.proofs.Handled.{into_meets}
-use Rattle.sedgechisel_nodes.proofs.NodeHandles.{of_link}
+use Rattle.sedgechisel_nodes.proofs.Handled.{of_link}
 use Rattle.sedgechisel_nodes.proofs.handles.SimHandleHolds.into_kept.Statement.{statement}
 use Rattle.sedgechisel_nodes.proofs.handles.SimHandleHolds.into_kept.Code as code
 

@@ -1,6 +1,6 @@
 use denote.Exit.{no}
 use Rattle.sedgechisel_nodes.proofs.Handled.{of_meets}
-use Rattle.sedgechisel_nodes.proofs.NodeHandles.{of_link}
+use Rattle.sedgechisel_nodes.proofs.Handled.{of_link}
 use Rattle.sedgechisel_nodes.proofs.handles.SimHandleHolds.of.Statement.{statement}
 use Rattle.sedgechisel_nodes.proofs.handles.SimHandleHolds.of.Code as code
 

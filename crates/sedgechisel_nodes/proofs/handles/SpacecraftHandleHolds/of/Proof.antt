@@ -1,6 +1,6 @@
 use denote.Exit.{yes}
 use Rattle.sedgechisel_nodes.proofs.Handled.{of_meets}
-use Rattle.sedgechisel_nodes.proofs.NodeHandles.{of_spacecraft}
+use Rattle.sedgechisel_nodes.proofs.Handled.{of_spacecraft}
 use Rattle.sedgechisel_nodes.proofs.handles.SpacecraftHandleHolds.of.Statement.{statement}
 use Rattle.sedgechisel_nodes.proofs.handles.SpacecraftHandleHolds.of.Code as code
 

@@ -3,7 +3,7 @@ use Rattle.simulated_link.proofs.Common.{[], ℕ, List, drop, refl, ap, ◌∙�
 use Rattle.simulated_link.proofs.Common.{down_deliver_step, FopMode}
 use Rattle.std.proofs.Common.{rules}
 use Rattle.std.specs.Prelude.{◌||◌}
-use Rattle.tm_link.specs.Reading.{frame_at}
+use Rattle.tm_link.specs.Decoding.{frame_at}
 use Rattle.nodes.specs.declared.event.Event.TheVariants.{DownDeliver}
 use Rattle.simulated_link.specs.declared.reply.Reply.TheVariants as replies
 use Rattle.simulated_link.specs.World.{is_confirmation, world_after_telemetry}

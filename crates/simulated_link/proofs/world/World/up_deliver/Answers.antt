@@ -1,24 +1,51 @@
-use Rattle.simulated_link.proofs.Common.{◌≡◌, ℕ, List, ◌++◌, length, map, Option, Some, None, Err, option_map, refl, ap}
-use Rattle.simulated_link.proofs.Common.{sym, ◌∙◌, arith, length-map, SegmentView, segment_octets, octets_of}
-use Rattle.simulated_link.proofs.Common.{SpacecraftState, spacecraft_receive, segment_to_accept, AcceptanceView}
-use Rattle.simulated_link.proofs.Common.{acceptance_with, packets_accepted_on, [], not, World}
+use Rattle.simulated_link.proofs.Common.{◌≡◌, List, ℕ, Option, Some, None, IfSome, option_map, refl, ap, ◌∙◌}
+use Rattle.simulated_link.proofs.Common.{SegmentView, segment_octets, segment_to_accept, SpacecraftState}
+use Rattle.simulated_link.proofs.Common.{AcceptanceView, acceptance_with, ◌++◌, length, map, Err, sym, arith}
+use Rattle.simulated_link.proofs.Common.{length-map, octets_of, spacecraft_receive, packets_accepted_on, [], not, World}
 use Rattle.simulated_link.proofs.Common.{up_deliver_step, On, Ok, Up}
+use Rattle.tc_frame.specs.declared.frame.Segment.{Segment}
+use Rattle.tc_frame.specs.Layout.{segment_view}
+use Rattle.map_service.specs.declared.assembler.Prepared.{Prepared}
+use Rattle.map_service.specs.AssemblerTable.{TakeOutcome}
+use Rattle.map_service.specs.Views.{ready_view}
+use Rattle.nodes.specs.declared.spacecraft.arrival.Arrival.{Arrival}
+use Rattle.nodes.specs.Arrival.{IsAcceptable, IsArrivalAt}
+use Rattle.simulated_link.specs.Acceptance.{acceptance_in, acceptance_view}
 use Rattle.std.proofs.Common.{rules}
-use Rattle.tc_frame.specs.Reading.{frame_at}
+use Rattle.tc_frame.specs.Decoding.{frame_at}
 use Rattle.nodes.specs.Spacecraft.{HandsNothingOn}
 use Rattle.nodes.specs.declared.event.Event.TheVariants.{UpDeliver}
 use Rattle.simulated_link.specs.declared.fault.SimFault.TheVariants.{Memory}
-use Rattle.simulated_link.specs.declared.reply.Reply.TheVariants as replies
 use Rattle.simulated_link.specs.Events.{LetsHappen}
 use Rattle.simulated_link.specs.WorldFields.{world_of}
 use Rattle.simulated_link.proofs.Transit.{IsFirst, none_there, first_there, happens, lacks}
 use Rattle.simulated_link.specs.declared.acceptance.Acceptance.{Acceptance}
-use Rattle.simulated_link.specs.Acceptance.{acceptance_view}
 use Rattle.simulated_link.proofs.AcceptedSegments.{field_behind}
-use Rattle.simulated_link.proofs.Arrived.{arrival_accepts}
 use Rattle.simulated_link.proofs.Gained.{delivered_by, gained}
+use Rattle.simulated_link.specs.declared.reply.Reply.TheVariants as replies
 use Rattle.simulated_link.proofs.world.World.up_deliver.Goals.{After-deref}
 use Rattle.simulated_link.proofs.world.World.up_deliver.Goals as goal
+
+-- What an arrival accepts is what its octets lead to.
+
+with_packets : (segment : SegmentView) → List (List ℕ) → AcceptanceView
+with_packets segment packets = record { field = segment_octets segment; on_map = segment.header.map; packets = packets }
+
+accepted_so : (s : SpacecraftState) (o : Option (Segment × Prepared))
+    → IfSome o (λ p. IsAcceptable s (segment_view p.0) p.1)
+    → option_map (λ (p : SegmentView × List (List ℕ)). with_packets p.0 p.1)
+    (option_map (λ (p : Segment × Prepared). (segment_view p.0, ready_view p.1.packets)) o)
+    ≡ option_map (acceptance_with s) (option_map (λ (p : Segment × Prepared). segment_view p.0) o)
+unfolding with_packets
+accepted_so s None k = refl
+accepted_so s (Some p) k =
+    ap (λ (packets : List (List ℕ)). Some (with_packets (segment_view p.0) packets))
+    (ap (λ (t : TakeOutcome). t.packets) k.prepared.outcome)
+
+arrival_accepts : (s : SpacecraftState) (a : Arrival) → IsArrivalAt s a
+    → acceptance_in a ≡ option_map (acceptance_with s) (segment_to_accept s a.octets.now)
+unfolding with_packets
+arrival_accepts s a k = accepted_so s a.accepted k.acceptable ∙ ap (option_map (acceptance_with s)) k.accepted
 
 field_of_view : (o : Option Acceptance)
     → option_map (λ (g : AcceptanceView). g.field) (option_map acceptance_view o)

@@ -1,6 +1,6 @@
 use Rattle.simulated_link.proofs.Common.{◌≡◌, list_all, octets_of, reports_as}
 use Rattle.std.specs.VecDeque.Iter.{deque_iter_rest}
-use Rattle.tm_link.specs.Reading.{frame_at}
+use Rattle.tm_link.specs.Decoding.{frame_at}
 use Rattle.simulated_link.proofs.world.calls.all_report_as.Given as goal
 
 abbrev pub invariant-loop-octets : goal.invariant-loop-octets

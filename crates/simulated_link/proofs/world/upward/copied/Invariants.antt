@@ -1,5 +1,5 @@
 use Rattle.simulated_link.proofs.Common.{◌≡◌, take, packets_view}
-use Rattle.nodes.specs.Commands.{slices_view}
+use Rattle.nodes.specs.CommandPackets.{slices_view}
 use Rattle.simulated_link.proofs.world.upward.copied.Given as goal
 
 abbrev pub invariant-loop-packet : goal.invariant-loop-packet

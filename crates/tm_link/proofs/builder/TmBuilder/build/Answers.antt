@@ -2,9 +2,9 @@ use Rattle.std.proofs.Common.{◌≡◌, ◌≤◌, ◌-◌, ℕ, [], ◌∷◌,
 use Rattle.std.proofs.Common.{arith, ◌∙◌, List}
 use Rattle.std.proofs.lemmas.List.{take_at}
 use Rattle.std.proofs.lemmas.Grind.{common_steps}
-use Rattle.tm_link.specs.Building.{BuilderState, frame_built, state_with}
+use Rattle.tm_link.specs.Builder.{BuilderState, frame_built, state_with}
 use Rattle.tm_link.specs.Layout.{IsTmFrame}
-use Rattle.tm_link.specs.Laying.{IsLaidOutBy}
+use Rattle.tm_link.specs.Builder.{IsLaidOutBy}
 use Rattle.tm_link.proofs.BuiltFrames.{build_laid}
 use Rattle.tm_link.proofs.builder.TmBuilder.build.Goals as goal
 

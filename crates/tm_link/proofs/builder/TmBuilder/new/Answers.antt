@@ -1,7 +1,7 @@
 use Rattle.std.proofs.Common.{[], rules, sym, subst}
-use Rattle.tm_link.specs.Building.{BuilderState}
-use Rattle.tm_link.specs.Laying.{IsLaidOutBy}
-use Rattle.tm_link.proofs.Laying.{new_laid}
+use Rattle.tm_link.specs.Builder.{BuilderState}
+use Rattle.tm_link.specs.Builder.{IsLaidOutBy}
+use Rattle.tm_link.proofs.Laid.{new_laid}
 use Rattle.tm_link.proofs.builder.TmBuilder.new.Goals as goal
 
 pub returns-clause-ok : goal.returns-clause-ok

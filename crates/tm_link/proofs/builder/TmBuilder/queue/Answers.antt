@@ -1,9 +1,9 @@
 use Rattle.std.proofs.Common.{ℕ, List, [], ◌∷◌, ◌++◌, rules, sym, subst, arith}
 use Rattle.std.proofs.lemmas.Grind.{common_steps}
 use Rattle.octets.specs.Number.{IsOctets}
-use Rattle.tm_link.specs.Building.{BuilderState}
-use Rattle.tm_link.specs.Laying.{IsLaidOutBy}
-use Rattle.tm_link.proofs.Laying.{queue_laid}
+use Rattle.tm_link.specs.Builder.{BuilderState}
+use Rattle.tm_link.specs.Builder.{IsLaidOutBy}
+use Rattle.tm_link.proofs.Laid.{queue_laid}
 use Rattle.tm_link.proofs.builder.TmBuilder.queue.Goals as goal
 
 pub returns-clause-ok : goal.returns-clause-ok

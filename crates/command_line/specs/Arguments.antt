@@ -1,0 +1,114 @@
+-- The arguments of the commands, and what their words give.
+use Rattle.std.specs.Prelude.{◌≡◌, ◌++◌, ℕ, Bool, true, false, List, [], ◌∷◌, Option, Some, None}
+use Rattle.std.specs.Prelude.{IfSome, codes, is_some, pos, ◌<◌, ◌≤◌, ◌%◌}
+use Rattle.std.specs.Bool.{OnTrue}
+use Rattle.clap.specs.declared.builder.arg.Arg.{Arg}
+use Rattle.clap.specs.declared.builder.command.Command.{Command}
+use Rattle.clap.specs.declared.builder.command.Command.TheViews.{out-Command as fields_of}
+use Rattle.clap.specs.declared.parser.matches.ArgMatches.{ArgMatches}
+use Rattle.clap.specs.Built.{IsPlainArg, TakesValue}
+use Rattle.clap.specs.Facts.{args_of, groups_of}
+use Rattle.clap.specs.Words.{IsSignedIn, first_value, found_of, one_text, without_minus}
+use Rattle.command_line.specs.declared.commands.Named.{Named}
+use Rattle.cop1.specs.Farm.{IsWidth}
+use Rattle.command_line.specs.declared.task.Task.{Task}
+use Rattle.command_line.specs.declared.task.UsageFault.{UsageFault}
+use Rattle.command_line.specs.declared.task.UsageFault.TheVariants.{Words, OddWidth}
+use Rattle.clap.specs.declared.builder.value_parser.ValueParser.TheVariants as parsers
+use Rattle.command_line.specs.declared.commands.Named.TheVariants as commands
+use Rattle.command_line.specs.declared.task.Task.TheVariants as tasks
+
+-- a command with no argument, no group and nothing global yet, in which a subcommand lifts no
+-- requirement
+abbrev pub IsBare : Command → Type 0
+IsBare command =
+    (args_of command ≡ []) × (groups_of command ≡ []) × ((fields_of command).has_globals ≡ false)
+    × ((fields_of command).subcommand_negates_reqs ≡ false)
+
+-- what an argument has to be: its name, whether it has to be given, and the range of its number
+-- where it has one
+pub record Wanted : Type 0 where
+  pub name : List ℕ
+  pub is_required : Bool
+  pub range : Option (ℕ × ℕ)
+
+abbrev pub named : List ℕ → Wanted
+named name = record { name = name; is_required = false; range = None }
+
+abbrev pub width : Wanted
+width = record (named (codes "width")) { range = Some (2, 254) }
+
+abbrev pub vr : Wanted
+vr = named (codes "vr")
+
+abbrev pub check : Wanted
+check = named (codes "check")
+
+abbrev pub blocking : Wanted
+blocking = named (codes "blocking")
+
+abbrev pub length : Wanted
+length = record { name = codes "length"; is_required = true; range = Some (16, 2048) }
+
+abbrev pub file : Wanted
+file = record { name = codes "FILE"; is_required = true; range = None }
+
+-- the arguments of each command but the file, which is the last of each
+abbrev pub options_of : Named → List Wanted
+options_of commands.Farm = width ∷ vr ∷ check ∷ []
+options_of commands.Map = width ∷ vr ∷ check ∷ blocking ∷ []
+options_of commands.Tc = check ∷ []
+options_of commands.Tm = length ∷ []
+options_of commands.Check = []
+options_of commands.Packets = []
+options_of commands.Sim = []
+
+abbrev pub wanted_of : Named → List Wanted
+wanted_of command = options_of command ++ file ∷ []
+
+-- the argument is the one that is wanted, excludes nothing, and is of its command alone
+abbrev pub IsArgument : Arg → Wanted → Type 0
+IsArgument a wanted =
+    (a.id.now ≡ wanted.name) × IsPlainArg a × (a.global ≡ false)
+    × OnTrue wanted.is_required (TakesValue a)
+    × IfSome wanted.range (λ r. a.value_parser ≡ Some (parsers.Signed (pos r.0) (pos r.1)))
+
+-- and so are these, one after another
+abbrev pub AreArguments : List Arg → List Wanted → Type 0
+AreArguments [] [] = Unit {0}
+AreArguments [] (wanted ∷ more) = ⊥
+AreArguments (a ∷ rest) [] = ⊥
+AreArguments (a ∷ rest) (wanted ∷ more) = IsArgument a wanted × AreArguments rest more
+
+-- a text that is read as a number in this range
+abbrev pub IsNumberIn : ℕ × ℕ → List ℕ → Type 0
+IsNumberIn range text =
+    (word : List ℕ) × (text ≡ without_minus word)
+    × IsSignedIn (pos range.0) (pos range.1) word
+
+-- the words give a value if one is wanted, and no number that is out of range
+abbrev pub Gives : ArgMatches → Wanted → Type 0
+Gives given wanted =
+    OnTrue wanted.is_required (is_some (first_value (found_of given) wanted.name) ≡ true)
+    × IfSome wanted.range (λ r. (text : List ℕ)
+    → one_text (found_of given) wanted.name ≡ Some text → IsNumberIn r text)
+
+abbrev pub GivesAll : ArgMatches → List Wanted → Type 0
+GivesAll given [] = Unit {0}
+GivesAll given (wanted ∷ more) = Gives given wanted × GivesAll given more
+
+-- The ranges of the numbers that the words give.
+
+abbrev pub IsInRange : Task → Type 0
+IsInRange (tasks.Farm check width vr) = IsWidth width × (vr < 256)
+IsInRange (tasks.Map check width vr blocking) = IsWidth width × (vr < 256)
+IsInRange (tasks.Tc check) = Unit {0}
+IsInRange (tasks.Tm length) = (16 ≤ length) × (length ≤ 2048)
+IsInRange tasks.Check = Unit {0}
+IsInRange tasks.Packets = Unit {0}
+IsInRange tasks.Sim = Unit {0}
+
+-- a width that is refused is odd
+abbrev pub IsOddIfWidth : UsageFault → Type 0
+IsOddIfWidth (Words error) = Unit {0}
+IsOddIfWidth (OddWidth width) = width % 2 ≡ 1

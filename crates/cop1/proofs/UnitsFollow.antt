@@ -1,0 +1,299 @@
+-- A sender of units follows the rules over numbers: its outcomes are theirs, with the queues that their answers leave.
+use Rattle.std.proofs.Common.{◌≡◌, ◌≤◌, ◌<◌, ℕ, ◌+◌, ◌-◌, ◌%◌, Bool, true, false, List, [], ◌∷◌, length, drop}
+use Rattle.std.proofs.Common.{is_some, min, Option, Some, None, inl, inr, refl, sym, subst, ap, ◌∙◌, arith, length-drop}
+use Rattle.std.proofs.Common.{length-append}
+use Rattle.std.specs.Prelude.{◌==◌, nat_lt, slice_get}
+use Rattle.std.proofs.lemmas.Bool.{cases_lt, eq-eqb, ne_eqb}
+use Rattle.std.proofs.lemmas.List.{drop-drop, drop_all}
+use Rattle.circular_buffer.specs.Buffer.{keep_last}
+use Rattle.clcw.specs.declared.word.Clcw.{Clcw}
+use Rattle.cop1.specs.Modulo.{ahead_by}
+use Rattle.cop1.specs.declared.vocabulary.FopMode.{FopMode}
+use Rattle.cop1.specs.declared.vocabulary.FopMode.TheVariants.{S1, S2, S6}
+use Rattle.cop1.specs.declared.vocabulary.Control.{Control}
+use Rattle.cop1.specs.declared.vocabulary.Control.TheVariants.{Due}
+use Rattle.cop1.specs.declared.vocabulary.Directive.{Directive}
+use Rattle.cop1.specs.UnitsNext.{IsPlaced, seen_at}
+use Rattle.cop1.specs.Units.{SentUnit, units, is_none_sent, oldest_marked, FopOutcome}
+use Rattle.cop1.specs.FopSubmit.{submit_in, waits_behind}
+use Rattle.cop1.specs.UnitsStep.{handing_back, FopInput, fop_step}
+use Rattle.cop1.specs.FopDirective.{directive_step}
+use Rattle.cop1.specs.FopPull as pulls
+use Rattle.cop1.specs.FopPull.{PulledUnit, NothingPulled, SequencePulled}
+use Rattle.cop1.specs.FopReport.{clcw_step}
+use Rattle.cop1.specs.FopTick.{tick_step}
+use Rattle.cop1.specs.UnitsStep as fop
+use Rattle.cop1.specs.Queues.{Queues, Fits, FollowsTheRules, with_queues, marked_last, still_waiting, trimmed, trims}
+use Rattle.cop1.specs.Queues.{submitted, first_bypass, taken_from, next_at, pulled, peeked_at, pulled_by, by_rules}
+use Rattle.cop1.specs.Numbers.{IsSender, SenderNumbers, SenderOutcome, Counted, numbers, Which, TheWaiting, OneSent}
+use Rattle.cop1.specs.Numbers.{waiting_which}
+use Rattle.cop1.specs.NumbersStep.{is_due, next_of, next_outcome}
+use Rattle.cop1.proofs.Both.{when}
+use Rattle.cop1.proofs.Alike.{Keeps, Alike, reported, ticked, directed}
+use Rattle.cop1.proofs.Marks.{map-marked_unit-marked_last, marked_last-all, drop-marked_last, marked_last-push}
+use Rattle.cop1.proofs.Marks.{oldest_marked-none, oldest_marked-last, without_oldest_mark-last, slice_get-within}
+use Rattle.cop1.proofs.Marks.{slice_get-push}
+
+module _ {U : Type 0} where
+  -- ---- reports, ticks and directives: the numbers stand for what is left of the queues
+
+  pub no_units : (us : List U) (n : ℕ) → length us ≡ n → n ≡ 0 → us ≡ []
+  no_units [] n e z = refl
+  no_units (u ∷ us) n e z = absurd (omega (arith, e, z))
+
+  pub no_unit : (w : Option U) (b : Bool) → is_some w ≡ b → b ≡ false → w ≡ None
+  no_unit None b e f = refl
+  no_unit (Some u) b e f = absurd (cc (e, f))
+
+  still : (w : Option U) (b : Bool) → is_some w ≡ b → w ≡ still_waiting b w
+  still None b e = grind (arith, e)
+  still (Some u) b e = grind (arith, e)
+
+  keep_all : (us : List U) (n : ℕ) → length us ≡ n → us ≡ keep_last n us
+  keep_all us n e = let none : length us - n ≡ 0 = omega arith in rw none refl
+
+  keep_none : (us : List U) → keep_last 0 us ≡ []
+  keep_none us = drop_all (length us - 0) us (omega arith)
+
+  length-kept : (n : ℕ) (us : List U) → n ≤ length us → length (keep_last n us) ≡ n
+  length-kept n us le = omega (arith, length-drop (length us - n) us, le)
+
+  none-marked : (k n : ℕ) (us : List U) → length us ≡ n → is_none_sent (marked_last k us) ≡ (n == 0)
+  none-marked k n [] e = grind (arith, e)
+  none-marked k n (u ∷ us) e = grind (arith, e)
+
+  pub record IsLeft (us : List U) (c : Counted) (sent : List (SentUnit U)) : Type 0 where
+    pub are : sent ≡ marked_last c.due (keep_last c.count us)
+    pub within : c.count ≤ length us
+
+  left-left : (us : List U) (n : ℕ) (c : Counted) (sent : List (SentUnit U)) → IsLeft us c sent
+      → IsLeft us (numbers.left n c) (drop n sent)
+  left-left us n c sent is =
+      let front = length us - c.count in
+      let later = drop-drop n front us in
+      let shorter : (xs : List U) → length xs ≡ c.count - n
+      → marked_last c.due xs ≡ marked_last (min c.due (c.count - n)) xs =
+      λ xs e. grind (arith, e, marked_last-all c.due (min c.due (c.count - n)) xs) in
+      let same : drop n (keep_last c.count us) ≡ keep_last (c.count - n) us =
+      elim (cases_lt c.count n) [
+        | inl lt ↦ drop_all n _ (omega (arith, length-kept c.count us is.within)) ∙ sym (drop_all _ us (omega arith))
+        | inr le ↦ later ∙ ap (λ k. drop k us) (omega (arith, is.within))
+      ] in
+      record {
+        are = rw (is.are, drop-marked_last c.due n (keep_last c.count us), same)
+            (shorter (keep_last (c.count - n) us) (length-kept (c.count - n) us (omega (arith, is.within))));
+        within = omega (arith, is.within);
+      }
+
+  -- numbers, and what is left of these queues
+  abbrev keeps : (q : Queues U) → Keeps numbers (units U)
+  keeps q =
+      record {
+        Waits = λ b w. (w ≡ still_waiting b q.waiting) × (is_some w ≡ b);
+        Sends = IsLeft q.units;
+        no_unit = (refl, refl);
+        no_units = record { are = rw (keep_none q.units) refl; within = omega arith };
+        is_empty = λ c sent is. rw is.are
+            (none-marked c.due c.count (keep_last c.count q.units) (length-kept c.count q.units is.within));
+        left = λ n c sent is. left-left q.units n c sent is;
+        repeated = λ c sent is. record {
+          are = rw (is.are, map-marked_unit-marked_last, length-kept c.count q.units is.within) refl;
+          within = is.within;
+        };
+      }
+
+  -- an outcome of the rules and that of a sender of units, from these queues and with this room
+  pub record Follows {A : Type 0} (room : ℕ) (q : Queues U) (o : SenderOutcome A) (f : FopOutcome U A) : Type 0 where
+    pub same : f ≡ trims q o
+    pub fits : Fits o.after (trimmed o.after q)
+    pub same_room : o.after.room ≡ room
+
+  follows-alike : {A : Type 0} (room : ℕ) (q : Queues U) (o : SenderOutcome A) (f : FopOutcome U A)
+      → Alike (keeps q) room q.bypass o f → Follows room q o f
+  follows-alike room q o f is =
+      record {
+        same = is.same ∙ rw (is.waiting.0, is.sent.are) refl;
+        fits = record {
+          waiting = ap is_some (sym is.waiting.0) ∙ is.waiting.1;
+          units = length-kept o.after.sent.count q.units is.sent.within;
+        };
+        same_room = is.same_room;
+      }
+
+  module _ {s : SenderNumbers} {q : Queues U} (fits : Fits s q) where
+    waits : (q.waiting ≡ still_waiting s.waiting q.waiting) × (is_some q.waiting ≡ s.waiting)
+    waits = (still q.waiting s.waiting fits.waiting, fits.waiting)
+
+    sent : IsLeft q.units s.sent (marked_last s.sent.due q.units)
+    sent =
+        record {
+          are = ap (marked_last s.sent.due) (keep_all q.units s.sent.count fits.units);
+          within = omega (arith, fits.units);
+        }
+
+    pub report-follows : (c : Clcw) → Follows s.room q (clcw_step s c) (clcw_step (with_queues s q) c)
+    report-follows c = follows-alike s.room q _ _
+        (reported (keeps q) s.room q.bypass s q.waiting _ (refl, waits, sent) c)
+
+    pub tick-follows : Follows s.room q (tick_step s) (tick_step (with_queues s q))
+    tick-follows = follows-alike s.room q _ _
+        (ticked (keeps q) s.room q.bypass s q.waiting _ (refl, waits, sent))
+
+    pub directive-follows : (d : Directive) → Follows s.room q (directive_step s d) (directive_step (with_queues s q) d)
+    directive-follows d = follows-alike s.room q _ _
+        (directed (keeps q) s.room q.bypass s q.waiting _ (refl, waits, sent) d)
+
+  -- ---- units that come
+
+  waited : (s : SenderNumbers) (q : Queues U) (u : U) (w : Option U) (b : Bool) → is_some w ≡ b
+      → handing_back u (waits_behind (with_queues s q) u w)
+      ≡ submitted q u (waits_behind s TheWaiting (waiting_which b)).after
+      (waits_behind s TheWaiting (waiting_which b)).answer
+  waited s q u None b e = grind (arith, e)
+  waited s q u (Some before) b e = grind (arith, e)
+
+  submitted_in : (s : SenderNumbers) (q : Queues U) (u : U) (mode : FopMode) → Fits s q
+      → handing_back u (submit_in (with_queues s q) u mode)
+      ≡ submitted q u (submit_in s TheWaiting mode).after (submit_in s TheWaiting mode).answer
+  submitted_in s q u S6 fits = refl
+  submitted_in s q u _ fits = waited s q u q.waiting s.waiting fits.waiting
+
+  -- ---- units that go
+
+  -- what goes on the link, and what a sender of units pulls
+  pub record Goes (s : SenderNumbers) (q : Queues U) (o : SenderOutcome (PulledUnit Which))
+      (f : FopOutcome U (PulledUnit U)) : Type 0 where
+    pub same : f ≡ pulled (next_outcome o) q
+    pub fits : Fits o.after (taken_from (next_of o.answer) q)
+    pub same_room : o.after.room ≡ s.room
+    pub same_nn : o.after.nn ≡ s.nn
+    pub placed : IsPlaced (taken_from (next_of o.answer) q).units (next_at o.after.nn (next_of o.answer))
+    -- the unit is there before it goes
+    pub seen : seen_at (taken_from (next_of o.answer) q).units (next_at o.after.nn (next_of o.answer))
+        ≡ peeked_at o.after.nn (next_of o.answer) q.waiting q.units
+
+  nothing_goes : (s : SenderNumbers) (q : Queues U) → Fits s q
+      → Goes s q (pulls.pulls s NothingPulled) (pulls.pulls (with_queues s q) NothingPulled)
+  nothing_goes s q fits =
+      let fit : Fits s q = record { waiting = fits.waiting; units = fits.units } in
+      record { same = refl; fits = fit; same_room = refl; same_nn = refl; placed = tt; seen = refl }
+
+  module _ (s : SenderNumbers) (q : Queues U) (is : IsSender s) (fits : Fits s q)
+      (numbered : ahead_by s.vs s.nn ≡ s.sent.count) where
+    -- the unit that waits is sent with the number V(S), and nothing is due again
+    first_goes : (u : U) → q.waiting ≡ Some u → s.sent.due ≡ 0
+        → Goes s q (pulls.pulls (pulls.after_send_first s TheWaiting) (SequencePulled s.vs TheWaiting))
+        (pulls.pulls (pulls.after_send_first (with_queues s q) u) (SequencePulled s.vs u))
+    first_goes u waits none =
+        let place : ahead_by s.vs s.nn ≡ length q.units = numbered ∙ sym fits.units in
+        let more = length-append {A = U} q.units (u ∷ []) in
+        record {
+          same = rw (waits, none, marked_last-push q.units u, place, slice_get-push q.units u)
+              (rw (none-marked 0 s.sent.count q.units fits.units) refl);
+          fits = record { waiting = refl; units = rw waits (omega (arith, more, fits.units)) };
+          same_room = refl;
+          same_nn = refl;
+          placed = rw waits (omega (arith, more, place));
+          seen = rw (waits, place, slice_get-push q.units u) refl;
+        }
+
+    waiting_goes : (w : Option U) (b : Bool) → is_some w ≡ b → q.waiting ≡ w → s.sent.due ≡ 0
+        → Goes s q (pulls.pull_waiting s (waiting_which b)) (pulls.pull_waiting (with_queues s q) w)
+    waiting_goes None true e same none = absurd cc
+    waiting_goes None false e same none = nothing_goes s q fits
+    waiting_goes (Some u) true e same none =
+        when (λ o f. Goes s q o f) (nat_lt (ahead_by s.vs s.nn) s.window) (λ t. first_goes u same none)
+        (λ t. nothing_goes s q fits)
+    waiting_goes (Some u) false e same none = absurd cc
+
+    -- the oldest unit that is due goes again
+    again_goes : 0 < s.sent.due
+        → Goes s q (pulls.pull_marked s (Some (s.sent.count - s.sent.due, OneSent)))
+        (pulls.pull_marked (with_queues s q) (oldest_marked 0 (marked_last s.sent.due q.units)))
+    again_goes some =
+        let within : s.sent.due ≤ length q.units = omega (arith, is.ranges.due, fits.units) in
+        let found = slice_get-within q.units (length q.units - s.sent.due) (omega arith) in
+        let first : 0 + (length q.units - s.sent.due) ≡ s.sent.count - s.sent.due = omega (arith, fits.units) in
+        let oldest = oldest_marked-last 0 s.sent.due q.units found.0 some within found.1
+        ∙ ap (λ n. Some (n, found.0)) first in
+        let place : ahead_by ((s.nn + (s.sent.count - s.sent.due)) % 256) s.nn
+        ≡ s.sent.count - s.sent.due = omega (arith, is.ranges.nn, is.ranges.within, is.ranges.room) in
+        let unit : slice_get q.units (s.sent.count - s.sent.due) ≡ Some found.0 = subst
+        (λ n. slice_get q.units (n - s.sent.due) ≡ Some found.0) fits.units found.1 in
+        record {
+          same = rw (oldest, place, unit, without_oldest_mark-last s.sent.due q.units some within) refl;
+          fits = record { waiting = fits.waiting; units = fits.units };
+          same_room = refl;
+          same_nn = refl;
+          placed = omega (arith, place, fits.units, some, within);
+          seen = refl;
+        }
+
+    sequence_goes : Goes s q (pulls.next_sequence s) (pulls.next_sequence (with_queues s q))
+    sequence_goes = elim (cases_lt 0 s.sent.due) [
+      | inl some ↦
+          let due : (s.sent.due == 0) ≡ false = ne_eqb s.sent.due 0 (λ z. omega (arith, some, z)) in
+          rw due (again_goes some)
+      | inr le ↦
+          let none : s.sent.due ≡ 0 = omega (arith, le) in
+          let due : (s.sent.due == 0) ≡ true = eq-eqb s.sent.due 0 none in
+          let unmarked : oldest_marked 0 (marked_last s.sent.due q.units) ≡ None =
+          subst (λ n. oldest_marked 0 (marked_last n q.units) ≡ None) (sym none) (oldest_marked-none 0 q.units) in
+          rw (due, unmarked) (waiting_goes q.waiting s.waiting fits.waiting refl none)
+    ]
+
+  in_state_goes : (s : SenderNumbers) (q : Queues U) (mode : FopMode) → mode ≡ s.state → IsSender s → Fits s q
+      → Goes s q (pulls.pull_in s mode) (pulls.pull_in (with_queues s q) mode)
+  in_state_goes s q S1 e is fits = sequence_goes s q is fits (is.agrees.numbered (λ h. cc (e, h)))
+  in_state_goes s q S2 e is fits = sequence_goes s q is fits (is.agrees.numbered (λ h. cc (e, h)))
+  in_state_goes s q _ e is fits = nothing_goes s q fits
+
+  -- what goes where no bypass unit goes before it
+  control_goes : (s : SenderNumbers) (q : Queues U) (control : Control) (bypass : List U)
+      → first_bypass (is_due control) bypass ≡ None
+      → bypass ≡ q.bypass → IsSender s → Fits s q → Goes s q (pulls.pull_control s control)
+      (pulls.pull_control (record (with_queues s q) { bypass = bypass }) control)
+  control_goes s q (Due command) bypass none same is fits =
+      rw same (record {
+        same = refl;
+        fits = record { waiting = fits.waiting; units = fits.units };
+        same_room = refl;
+        same_nn = refl;
+        placed = tt;
+        seen = refl;
+      })
+  control_goes s q _ [] none same is fits = rw same (in_state_goes s q s.state refl is fits)
+  control_goes s q _ (u ∷ us) none same is fits = absurd (cc none)
+
+  pub next-goes : {s : SenderNumbers} {q : Queues U} {first : Option U} → IsSender s → Fits s q
+      → first ≡ first_bypass (is_due s.control) q.bypass → first ≡ None
+      → Goes s q (pulls.pull_step s) (pulls.pull_step (with_queues s q))
+  next-goes {s = s} {q = q} is fits e none = control_goes s q s.control q.bypass (sym e ∙ none) refl is fits
+
+  -- a bypass unit goes before any other
+  bypass_goes : (s : SenderNumbers) (q : Queues U) (control : Control) (bypass : List U) (u : U)
+      → first_bypass (is_due control) bypass ≡ Some u
+      → pulls.pull_control (record (with_queues s q) { bypass = bypass }) control
+      ≡ pulls.pulls (with_queues s (record q { bypass = drop 1 bypass })) (pulls.BypassPulled u)
+  bypass_goes s q (Due command) bypass u some = absurd (cc some)
+  bypass_goes s q _ [] u some = absurd (cc some)
+  bypass_goes s q _ (v ∷ vs) u some = cc some
+
+  pulled-by : (s : SenderNumbers) (q : Queues U) (first : Option U) → first_bypass (is_due s.control) q.bypass ≡ first
+      → IsSender s → Fits s q → pulls.pull_step (with_queues s q) ≡ pulled_by s q first
+  pulled-by s q None e is fits = (next-goes is fits (sym e) refl).same
+  pulled-by s q (Some u) e is fits = bypass_goes s q s.control q.bypass u e
+
+  -- ---- whatever comes
+
+  follows : (s : SenderNumbers) (q : Queues U) (input : FopInput U) → IsSender s → Fits s q
+      → fop_step (with_queues s q) input ≡ by_rules s q input
+  follows s q (fop.Submit unit) is fits = submitted_in s q unit s.state fits
+  follows s q (fop.Bypass unit) is fits = refl
+  follows s q (fop.Direct directive) is fits = (directive-follows fits directive).same
+  follows s q fop.Pull is fits = pulled-by s q (first_bypass (is_due s.control) q.bypass) refl is fits
+  follows s q (fop.Report report) is fits = (report-follows fits report).same
+  follows s q fop.Tick is fits = (tick-follows fits).same
+
+pub follows_the_rules : (U : Type 0) → FollowsTheRules U
+follows_the_rules U s q is fits input = follows s q input is fits

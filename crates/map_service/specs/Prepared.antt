@@ -1,0 +1,44 @@
+-- What is found out of a segment before anything changes.
+use Rattle.std.specs.Prelude.{◌≡◌, ◌≤◌, ℕ, List, ◌++◌, length, Option, Some, None, option_map}
+use Rattle.std.specs.Prelude.{IfSome}
+use Rattle.std.specs.Vec.{vec_capacity}
+use Rattle.tc_frame.specs.Layout.{SegmentView}
+use Rattle.map_service.specs.declared.assembler.Change.{Change}
+use Rattle.map_service.specs.declared.assembler.Change.TheVariants.{Same, Closed, Opened, Grown}
+use Rattle.map_service.specs.declared.assembler.Prepared.{Prepared}
+use Rattle.map_service.specs.declared.limits.Limits.{Limits}
+use Rattle.map_service.specs.Exactness.{AssemblerState, part_on_map}
+use Rattle.map_service.specs.AssemblerTable.{TakeOutcome, take_step}
+use Rattle.map_service.specs.Views.{ready_view}
+
+-- the part that is open then, where this one was and these are the segment's data
+abbrev pub part_after : Change → Option (List ℕ) → List ℕ → Option (List ℕ)
+part_after Same part octets = part
+part_after Closed part octets = None
+part_after (Opened new) part octets = Some new.items
+part_after Grown part octets = option_map (λ begun. begun ++ octets) part
+
+-- what was found out, as an outcome of the table
+abbrev pub outcome_of : Prepared → Option (List ℕ) → List ℕ → TakeOutcome
+outcome_of p part octets = record {
+  dropped = p.dropped;
+  packets = ready_view p.packets;
+  part = part_after p.change part octets;
+}
+
+-- the part has room for the longest packet, or the data fit into that room
+abbrev pub HasRoom : ℕ → Change → Option (List ℕ) → List ℕ → Type 0
+HasRoom most Same part octets = Unit {0}
+HasRoom most Closed part octets = Unit {0}
+HasRoom most (Opened new) part octets = most ≤ vec_capacity new
+HasRoom most Grown part octets = IfSome part (λ begun. length (begun ++ octets) ≤ most)
+
+-- this was found out of this segment, where this part is open on its MAP
+pub record IsPreparedBy (limits : Limits) (part : Option (List ℕ)) (s : SegmentView) (p : Prepared)
+    : Type 0 where
+  pub outcome : outcome_of p part s.payload ≡ take_step limits part s
+  pub room : HasRoom limits.max_packet p.change part s.payload
+
+-- the same, at an assembler in this state
+abbrev pub IsPrepared : AssemblerState → SegmentView → Prepared → Type 0
+IsPrepared a s p = IsPreparedBy a.limits (part_on_map a s.header.map) s p

@@ -1,0 +1,127 @@
+-- What is known of packets that the ground does not refuse: their segments fit into frames.
+use Rattle.std.proofs.Common.{◌≡◌, ◌≤◌, ◌<◌, ◌+◌, ℕ, zero, suc, get_or, Bool, true, false, not, cond, List, [], ◌∷◌}
+use Rattle.std.proofs.Common.{length, Option, Some, None, refl, sym, subst, ◌∙◌, arith, length-append}
+use Rattle.std.specs.Prelude.{◌==◌, option_to_list}
+use Rattle.std.specs.List.{AllByRecursion}
+use Rattle.std.proofs.lemmas.Bool.{ltb-true, ltb-false, and_parts, not-false}
+use Rattle.tc_frame.specs.declared.frame.SegmentFlags.TheVariants.{Alone}
+use Rattle.tc_frame.specs.declared.frame.Segment.{Segment}
+use Rattle.tc_frame.specs.Layout.{SegmentView, segment_view}
+use Rattle.map_service.specs.Assembly.{is_open}
+use Rattle.map_service.specs.Cutting.{segment_with, segment_views, alone_segment, segments_of, IsPart}
+use Rattle.map_service.specs.Packets.{is_packet, packets_in, are_taken, is_some_over}
+use Rattle.map_service.specs.declared.limits.Limits.{Limits}
+use Rattle.map_service.proofs.Parts.{segments-parts, alone-some, parts-alone}
+use Rattle.map_service.proofs.Groups.{in-one}
+use Rattle.map_service.proofs.Passage.{one-from, IsCuttable, cuttable_from}
+use Rattle.space_packet.proofs.WholePackets.{no_more}
+use Rattle.nodes.specs.declared.fault.LinkFault.{LinkFault}
+use Rattle.nodes.specs.declared.fault.LinkFault.TheVariants.{NotOpen, ClosedMap, NotCommand, TooLong, QueueFull}
+use Rattle.nodes.specs.CommandPackets.{are_commands, commands_fault}
+use Rattle.nodes.specs.Parameters.{IsConfig, limits_of}
+use Rattle.nodes.specs.Ground.{GroundState, is_closed, unsent_segments, segments_on, is_over_slots, submit_fault}
+use Rattle.nodes.specs.Ground.{bypass_fault}
+use Rattle.nodes.specs.OwnedFields.{FitsFrame}
+
+-- a test that refused nothing
+passed : (b : Bool) (fault : LinkFault) (rest : Option LinkFault) → cond b (Some fault) rest ≡ None
+    → (b ≡ false) × (rest ≡ None)
+passed true fault rest h = absurd cc
+passed false fault rest h = (refl, h)
+
+below_64 : (limits : Limits) (m : ℕ) → not (is_open limits m) ≡ false → m < 64
+below_64 limits m h = ltb-true m 64 (and_parts _ _ (not-false _ h)).0
+
+some_octet : (octets : List ℕ) → is_packet octets ≡ true → 1 ≤ length octets
+some_octet [] h = let one = (one-from [] h).1 in let none = (no_more [] refl).0 in absurd cc
+some_octet (x ∷ xs) h = omega arith
+
+pub submit_map : (s : GroundState) (m : ℕ) (octets : List ℕ) → submit_fault s m octets ≡ None → m < 64
+submit_map s m octets h = below_64 (limits_of s.config) m (passed _ _ _ (passed _ _ _ h).1).0
+
+-- what is not refused has places in the queue
+pub have_places : (s : GroundState) (m : ℕ) (octets : List ℕ) → submit_fault s m octets ≡ None
+    → length s.pending + length (segments_on s m octets) ≤ s.config.queue_slots
+have_places s m octets h =
+    let unsent : length (unsent_segments s) ≡ length (option_to_list s.fop.waiting) + length s.pending =
+    length-append (option_to_list s.fop.waiting) s.pending in
+    let session = passed (is_closed s.fop.state) NotOpen _ h in
+    let open_map = passed (not (is_open (limits_of s.config) m)) ClosedMap _ session.1 in
+    let commands = passed (not (are_commands (s.config.blocking == 1) octets)) NotCommand _ open_map.1 in
+    let short = passed (is_some_over s.config.max_packet (packets_in octets)) TooLong _ commands.1 in
+    let over = passed (is_over_slots s m octets) QueueFull None short.1 in
+    let places : length (unsent_segments s) + length (segments_on s m octets) ≤ s.config.queue_slots =
+    ltb-false _ _ over.0 in
+    omega arith
+
+pub bypass_fits : (s : GroundState) (m : ℕ) (octets : List ℕ) → IsConfig s.config → bypass_fault s m octets ≡ None
+    → FitsFrame (segment_with Alone m octets)
+bypass_fits s m octets c h =
+    let open_map = passed _ _ _ h in
+    let command = passed _ _ _ open_map.1 in
+    let packet = passed _ _ _ command.1 in
+    let part = passed _ _ _ packet.1 in
+    let one = and_parts _ _ (not-false _ command.0) in
+    let fits : length octets ≤ s.config.part = ltb-false _ _ part.0 in
+    record {
+      map = below_64 (limits_of s.config) m open_map.0;
+      least = some_octet octets one.0;
+      most = omega (arith, c.part.1);
+    }
+
+all_fit : (part m : ℕ) (segments : List SegmentView) → part ≤ 1016 → m < 64 → AllByRecursion (IsPart part m) segments
+    → AllByRecursion FitsFrame segments
+all_fit part m [] le lt h = tt
+all_fit part m (s ∷ ss) le lt h = (
+  record { map = omega (arith, h.0.on_map); least = h.0.least; most = omega (arith, h.0.most) },
+  all_fit part m ss le
+      lt h.1,
+)
+
+pub segments_fit : (part m : ℕ) (octets : List ℕ) → 1 ≤ part → part ≤ 1016 → m < 64
+    → AllByRecursion FitsFrame (segments_of part m octets)
+segments_fit part m octets one le lt =
+    all_fit part m (segments_of part m octets) le lt (segments-parts part m octets one)
+
+-- ---- what is known of commands
+
+pub cuttable : (limits : Limits) (octets : List ℕ) → commands_fault limits octets ≡ None → IsCuttable limits octets
+cuttable limits octets h =
+    let command = passed _ _ _ h in
+    let taken : are_taken limits.blocking octets ≡ true = (and_parts _ _ (not-false _ command.0)).0 in
+    let over : is_some_over limits.max_packet (packets_in octets) ≡ false = (passed _ _ _ command.1).0 in
+    cuttable_from limits octets (rw (taken, over) refl)
+
+-- those that go into one segment
+pub one_segment : (limits : Limits) (m : ℕ) (octets : List ℕ) (s : SegmentView) → commands_fault limits octets ≡ None
+    → Some s ≡ alone_segment limits.part m octets
+    → s ∷ [] ≡ segments_of limits.part m octets
+one_segment limits m octets s h e =
+    let is = cuttable limits octets h in
+    parts-alone limits.part m octets s is.some e
+    ∙ sym (in-one limits.part m octets is.whole is.some (alone-some limits.part m octets s e).1)
+
+pub one_fits : (limits : Limits) (m : ℕ) (octets : List ℕ) (s : SegmentView) → commands_fault limits octets ≡ None
+    → m < 64 → limits.part ≤ 1016 → Some s ≡ alone_segment limits.part m octets → FitsFrame s
+one_fits limits m octets s h lt most e =
+    let is = alone-some limits.part m octets s e in
+    subst FitsFrame (sym is.0)
+    (record { map = lt; least = (cuttable limits octets h).some; most = omega (arith, is.1) })
+
+-- what the ground does not refuse
+pub not_refused : (s : GroundState) (m : ℕ) (octets : List ℕ) → is_closed s.fop.state ≡ false
+    → is_open (limits_of s.config) m ≡ true
+    → commands_fault (limits_of s.config) octets ≡ None → is_over_slots s m octets ≡ false
+    → submit_fault s m octets ≡ None
+not_refused s m octets closed opened h over =
+    let command = passed _ _ _ h in
+    let all : are_commands (s.config.blocking == 1) octets ≡ true = not-false _ command.0 in
+    let short : is_some_over s.config.max_packet (packets_in octets) ≡ false = (passed _ _ _ command.1).0 in
+    rw (closed, opened, all, short, over) refl
+
+-- one of several
+pub fits_at : (segments : List Segment) (i : ℕ) (d : Segment) → AllByRecursion FitsFrame (segment_views segments)
+    → i < length segments → FitsFrame (segment_view (get_or segments i d))
+fits_at [] i d h lt = absurd (omega arith)
+fits_at (s ∷ ss) zero d h lt = h.0
+fits_at (s ∷ ss) (suc i) d h lt = fits_at ss i d h.1 (omega arith)

@@ -1,0 +1,129 @@
+// What comes from the spacecraft.
+
+ghost use Rattle.std.specs.Prelude.{◌≡◌, None};
+
+use super::Ground;
+use crate::fault::LinkFault;
+use crate::heard::{Heard, HeardClcw, HeardReport};
+use clcw::{Clcw, ClcwFault};
+use tm_link::{Gap, TmFrame, decode};
+
+impl Ground {
+    ghost use Rattle.std.specs.Prelude.{◌≡◌, [], IsOk, IfOk, IfErr, OnOk, OnErr, IsTrue, length};
+    ghost use Rattle.tm_link.specs.Extractor.{extract_step};
+    ghost use Rattle.tm_link.specs.Layout.{frame_view, pointer_fits};
+    ghost use Rattle.tm_link.specs.Decoding.{frame_at};
+    ghost use Rattle.nodes.specs.Ground.{ground_step, Telemetry, ControlWord, ForgetTelemetry, report_outcome};
+    ghost use Rattle.nodes.specs.Ground.{is_own_telemetry, after_extraction, FinishesNothing};
+    ghost use Rattle.nodes.specs.Steps.{TakesStep};
+
+    /// Takes octets that came from the spacecraft: exactly one telemetry frame (CCSDS 132.0-B-3, 4.1).
+    /// The packets that it finishes wait to be taken, and the report that it carries goes to the sender
+    /// where it is of this virtual channel. All growths are made first: at a fault the ground is as it
+    /// was.
+    /// Faults: 6 Memory. Memory: only where a packet is finished. Cost: n, the packets finished and the
+    /// segments released.
+    pub fn telemetry(&mut self, octets: &[u8]) -> Result<Heard, LinkFault>
+        ensures step { TakesStep (ground_step self.old (Telemetry octets.now)) self.old self.new result }
+
+        // It takes no memory for octets that are no frame, nor for a frame of another spacecraft or
+        // virtual channel, nor for one that finishes no packet.
+        ensures none { FinishesNothing self.old (frame_at self.old.config.frame_length octets.now)
+            → IsOk result }
+    {
+        let frame = match decode(octets, self.config.frame_length as usize) {
+            Ok(frame) => frame,
+            Err(fault) => return Ok(Heard::Invalid(fault)),
+        };
+        if !self.is_own_telemetry(&frame) {
+            return Ok(Heard::Foreign);
+        }
+        let (gap, packets) = self.extract(&frame)?;
+        let HeardClcw { report, alert } = self.report(frame.report());
+        Ok(Heard::Frame {
+            gap,
+            packets,
+            report,
+            alert,
+        })
+    }
+
+    /// Takes a report that came by itself, without a telemetry frame: a CLCW as a front end hands it
+    /// on (CCSDS 232.0-B-4, 4.2.1). It goes to the sender where it is of this virtual channel, as the
+    /// report that a telemetry frame carries does; telemetry is not touched. A report that is handed on
+    /// twice counts as two, so one that was given before may not come again as if it were new.
+    /// Cost: the number of segments released.
+    pub fn clcw(&mut self, octets: [u8; 4]) -> HeardClcw
+        ensures answer { result ≡ (ground_step self.old (ControlWord octets)).answer }
+        ensures after { self.new ≡ (ground_step self.old (ControlWord octets)).after }
+    {
+        self.report(clcw::decode(octets))
+    }
+
+    /// Begins to take packets out of telemetry anew, as where a spacecraft was restarted, whose counts go
+    /// on elsewhere: a packet that is not finished is dropped, and the next frame is the first (CCSDS
+    /// 132.0-B-3, 4.3.2). Packets that wait to be taken stay.
+    pub fn forget_telemetry(&mut self)
+        ensures { self.new ≡ (ground_step self.old ForgetTelemetry).after }
+    {
+        self.extractor.forget();
+    }
+
+    // Hands a report on to the sender where it is of this virtual channel.
+    fn report(&mut self, word: Result<Clcw, ClcwFault>) -> HeardClcw
+        ensures answer { result ≡ (report_outcome self.old word).answer }
+        ensures after { self.new ≡ (report_outcome self.old word).after }
+    {
+        let word = match word {
+            Err(fault) => return unused(HeardReport::Refused(fault)),
+            Ok(word) => word,
+        };
+        if u32::from(word.vcid) != self.config.vcid {
+            return unused(HeardReport::OtherChannel);
+        }
+        let alert = self.fop.clcw(&word);
+        self.refill();
+        HeardClcw {
+            report: HeardReport::Used,
+            alert,
+        }
+    }
+
+    fn is_own_telemetry(&self, frame: &TmFrame<'_>) -> bool
+        ensures { result ≡ is_own_telemetry self.now.config (frame_view frame.now) }
+    {
+        u32::from(frame.scid) == self.config.scid && u32::from(frame.vcid) == self.config.tm_vcid
+    }
+
+    // Takes out the packets that the frame finishes: says how many frames are missing before it, and how
+    // many packets there are.
+    fn extract(&mut self, frame: &TmFrame<'_>) -> Result<(Gap, usize), LinkFault>
+        requires { IsTrue (pointer_fits frame.now.pointer (length frame.now.payload.now)) }
+        ensures gap { IfOk result
+            (λ r. r.0 ≡ (extract_step self.old.extractor (frame_view frame.now)).gap) }
+        ensures count { IfOk result
+            (λ r. r.1 ≡ length (extract_step self.old.extractor (frame_view frame.now)).packets) }
+        ensures after { OnOk result (self.new
+            ≡ after_extraction self.old (extract_step self.old.extractor (frame_view frame.now))) }
+        ensures err { OnErr result (self.new ≡ self.old) }
+        ensures fault { IfErr result (λ e. e ≡ LinkFault.Memory) }
+        ensures none { (extract_step self.old.extractor (frame_view frame.now)).packets ≡ []
+            → IsOk result }
+    {
+        let before = self.finished.len();
+        let Ok(gap) = self.extractor.frame(frame, &mut self.finished) else {
+            return Err(LinkFault::Memory);
+        };
+        Ok((gap, self.finished.len() - before))
+    }
+}
+
+// A report that does not reach the sender.
+fn unused(report: HeardReport) -> HeardClcw
+    ensures { result ≡ record { report = report; alert = None } }
+{
+    HeardClcw {
+        report,
+        alert: None,
+    }
+}

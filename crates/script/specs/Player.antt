@@ -1,0 +1,93 @@
+-- A script played: the responses to its lines, and the text that is written of them.
+use Rattle.std.specs.Prelude.{ℕ, zero, suc, ◌+◌, if◌then◌else◌, List, [], ◌∷◌, ◌++◌, length, codes}
+use Rattle.std.specs.Prelude.{decimal, Option, Some, None, Result}
+use Rattle.std.specs.List.{flat_map}
+use Rattle.cop1.specs.declared.vocabulary.FopMode.{FopMode}
+use Rattle.cop1.specs.declared.vocabulary.FopMode.TheVariants.{S1, S2, S3, S4, S5, S6}
+use Rattle.simulated_link.specs.declared.fault.SimFault.{SimFault}
+use Rattle.simulated_link.specs.declared.session_start.Opening.{Opening}
+use Rattle.nodes.specs.Ground.{outstanding}
+use Rattle.simulated_link.specs.Replies.{ReplyView}
+use Rattle.simulated_link.specs.World.{World, world_step, accepted, submitted, delivered}
+use Rattle.script_lines.specs.Lines.{ScriptLine, Skipped, Setting, Happening, Showing, Unreadable}
+use Rattle.script.specs.Answers.{answer_text}
+
+-- a response: to an event its answer, to a show the world as it is then
+pub data Response : Type 0 where
+  ToEvent : Result ReplyView SimFault → Response
+  ToShow : World → Response
+
+-- the responses to a line of a script, from the world before it
+abbrev pub line_responses : World → ScriptLine → List Response
+line_responses w Skipped = []
+line_responses w (Setting field n) = []
+line_responses w (Happening event) = ToEvent (world_step w event).answer ∷ []
+line_responses w Showing = ToShow w ∷ []
+line_responses w Unreadable = []
+
+-- the world after a line; each event is a step of it
+abbrev pub after_line : World → ScriptLine → World
+after_line w Skipped = w
+after_line w (Setting field n) = w
+after_line w (Happening event) = (world_step w event).after
+after_line w Showing = w
+after_line w Unreadable = w
+
+-- the responses to the lines of a script, in their order
+abbrev pub script_responses : World → List ScriptLine → List Response
+script_responses w [] = []
+script_responses w (line ∷ more) =
+    line_responses w line ++ script_responses (after_line w line) more
+
+-- ---- one line of text for each
+
+abbrev pub fop_state_word : FopMode → List ℕ
+fop_state_word S1 = codes "S1"
+fop_state_word S2 = codes "S2"
+fop_state_word S3 = codes "S3"
+fop_state_word S4 = codes "S4"
+fop_state_word S5 = codes "S5"
+fop_state_word S6 = codes "S6"
+
+-- how the session began
+abbrev pub clean_word : Option Opening → List ℕ
+clean_word None = codes "none"
+clean_word (Some opening) = if opening.clean then codes "yes" else codes "no"
+
+-- how many there are on the MAPs below this one
+abbrev pub count_below_map : (ℕ → List (List ℕ)) → ℕ → ℕ
+count_below_map packets_on zero = 0
+count_below_map packets_on (suc m) = count_below_map packets_on m + length (packets_on m)
+
+-- how many there are on all 64 MAPs
+unfoldable pub count_over_maps : (ℕ → List (List ℕ)) → ℕ
+count_over_maps packets_on = count_below_map packets_on 64
+
+-- of the packets
+abbrev pub packets_text : World → List ℕ
+packets_text w =
+    codes "clean=" ++ (clean_word w.session.opening
+    ++ (codes " state=" ++ (fop_state_word w.ground_node.fop.state
+    ++ (codes " submitted=" ++ (decimal (count_over_maps (submitted w))
+    ++ (codes " delivered=" ++ decimal (count_over_maps (delivered w))))))))
+
+-- of the frames
+abbrev pub frames_text : World → List ℕ
+frames_text w = codes " sent=" ++ (decimal (length w.session.sent)
+    ++ (codes " accepted=" ++ decimal (length (accepted w))))
+
+-- of what is acknowledged
+abbrev pub acknowledged_text : World → List ℕ
+acknowledged_text w = codes " acknowledged=" ++ (decimal w.session.acknowledged
+    ++ (codes " outstanding=" ++ decimal (length (outstanding w.ground_node))))
+
+abbrev pub show_text : World → List ℕ
+show_text w = packets_text w ++ (frames_text w ++ acknowledged_text w)
+
+abbrev pub response_line : Response → List ℕ
+response_line (ToEvent answer) = answer_text answer ++ 10 ∷ []
+response_line (ToShow w) = show_text w ++ 10 ∷ []
+
+-- the text that is written of a script that is played from this world on
+abbrev pub answers_from : World → List ScriptLine → List ℕ
+answers_from w script = flat_map response_line (script_responses w script)

@@ -1,0 +1,242 @@
+-- A line that is read is spelled so.
+use Rattle.std.proofs.Common.{◌≡◌, ◌∙◌, ◌≤◌, ◌<◌, ◌^◌, ◌==◌, ◌&&◌, ◌++◌, ℕ, Bool, true, false, cond, List, [], ◌∷◌}
+use Rattle.std.proofs.Common.{Option, Some, None, inl, inr, refl, sym, ap, subst, arith}
+use Rattle.std.specs.Prelude.{codes, decimal, ◌↔◌, ◌⊎◌, option_map, option_and_then}
+use Rattle.std.specs.List.{find, join_with_byte}
+use Rattle.std.specs.Map.{lookup}
+use Rattle.std.specs.Option.{unwrap_or, option_or}
+use Rattle.std.specs.Str.{bytes_eq}
+use Rattle.std.proofs.lemmas.Bool.{and_parts, eqb-true}
+use Rattle.std.proofs.lemmas.Map.Views.{Contains-from_lookup}
+use Rattle.std.proofs.lemmas.List.Splits.{join_with_byte-slice_split}
+use Rattle.std.proofs.lemmas.Slice.Eq.{bytes_eq-Decides}
+use Rattle.std.proofs.lemmas.Option.{same_Some}
+use denote.Bor.{Bor}
+use Rattle.cop1.specs.declared.vocabulary.Directive.{Directive}
+use Rattle.cop1.specs.declared.vocabulary.Directive.TheVariants as directives
+use Rattle.nodes.specs.declared.parameter.Parameter.{Parameter}
+use Rattle.nodes.specs.declared.parameter.Parameter.TheVariants as parameters
+use Rattle.nodes.specs.Parameters.{all_in_order, row_of, parameter_named}
+use Rattle.nodes.specs.declared.event.Event.{Event}
+use Rattle.nodes.specs.declared.event.Event.TheVariants as events
+use Rattle.script_lines.specs.Lines.{ScriptLine, Skipped, Setting, Happening, Showing, Unreadable, borrow_of}
+use Rattle.script_lines.specs.Lines.{plain_events, plain_line, line_of_two_words, submission_line, most_for}
+use Rattle.script_lines.specs.Lines.{setting_line, line_of_three_words, line_of_words, readable_line, line_in}
+use Rattle.script_lines.specs.Words.{words_in, number_in_word, octets_in_word}
+use Rattle.script_lines.specs.Spelling as spelling
+use Rattle.script_lines.specs.Spelling.{Spells, IsHex}
+use Rattle.script_lines.proofs.HexWords.{read_octets}
+use Rattle.script_lines.proofs.Numerals.{read}
+use Rattle.script_lines.proofs.SpelledLines.{spelled, most_small}
+
+-- ---- what is found
+
+mapped : {A B : Type 0} (f : A → B) (o : Option A) (b : B) → option_map f o ≡ Some b
+    → (a : A) × (o ≡ Some a) × (f a ≡ b)
+mapped f (Some a) b e = (a, refl, same_Some (f a) b e)
+mapped f None b e = cc e
+
+chained : {A B : Type 0} (f : A → Option B) (o : Option A) (b : B) → option_and_then f o ≡ Some b
+    → (a : A) × (o ≡ Some a) × (f a ≡ Some b)
+chained f (Some a) b e = (a, refl, e)
+chained f None b e = cc e
+
+tested_as : {A : Type 0} (P : A → Type 0) {word name : List ℕ} {one other : Option A} {a : A} (is : Bool)
+    → bytes_eq word name ≡ is → cond is one other ≡ Some a
+    → (word ≡ name → one ≡ Some a → P a) → (other ≡ Some a → P a) → P a
+tested_as P {word = word} {name = name} true is e if_so if_not = if_so ((bytes_eq-Decides word name).0 is) e
+tested_as P {word = word} {name = name} false is e if_so if_not = if_not e
+
+-- a test of a word
+tested : {A : Type 0} (P : A → Type 0) {word name : List ℕ} {one other : Option A} {a : A}
+    → cond (bytes_eq word name) one other ≡ Some a
+    → (word ≡ name → one ≡ Some a → P a) → (other ≡ Some a → P a) → P a
+tested P {word = word} {name = name} e if_so if_not = tested_as P (bytes_eq word name) refl e if_so if_not
+
+both_as : {A : Type 0} (P : A → Type 0) {word name next kind : List ℕ} {one other : Option A} {a : A} (is : Bool)
+    → bytes_eq word name && bytes_eq next kind ≡ is → cond is one other ≡ Some a
+    → (word ≡ name → next ≡ kind → one ≡ Some a → P a) → (other ≡ Some a → P a) → P a
+both_as P {word = word} {name = name} {next = next} {kind = kind} true is e if_so if_not =
+    let parts = and_parts (bytes_eq word name) (bytes_eq next kind) is in
+    if_so ((bytes_eq-Decides word name).0 parts.0) ((bytes_eq-Decides next kind).0 parts.1) e
+both_as P {word = word} {name = name} {next = next} {kind = kind} false is e if_so if_not = if_not e
+
+-- a test of two words
+tested_both : {A : Type 0} (P : A → Type 0) {word name next kind : List ℕ} {one other : Option A} {a : A}
+    → cond (bytes_eq word name && bytes_eq next kind) one other ≡ Some a
+    → (word ≡ name → next ≡ kind → one ≡ Some a → P a) → (other ≡ Some a → P a) → P a
+tested_both P {word = word} {name = name} {next = next} {kind = kind} e if_so if_not =
+    both_as P (bytes_eq word name && bytes_eq next kind) refl e if_so if_not
+
+moved : {what other : ScriptLine} {text line : List ℕ} → Spells what text → what ≡ other → line ≡ text
+    → Spells other line
+moved {what = what} {other = other} {text = text} {line = line} spells same is =
+    subst (λ w. Spells w line) same (subst (λ t. Spells what t) (sym is) spells)
+
+one_more : {name text word spelled : List ℕ} → name ≡ text → word ≡ spelled → name ++ 32 ∷ word ≡ text ++ 32 ∷ spelled
+one_more {name = name} {text = text} {word = word} {spelled = spelled} is same =
+    ap (λ (n : List ℕ). n ++ 32 ∷ word) is ∙ ap (λ (w : List ℕ). text ++ 32 ∷ w) same
+
+-- ---- lines with neither a number nor octets
+
+plain : (line : List ℕ) (what : ScriptLine) → plain_line line ≡ Some what → Spells what line
+plain line what e =
+    tested (λ (other : ScriptLine). Spells other line) e
+    (λ is same. moved spelling.show (same_Some Showing what same) is)
+    (λ f.
+    let event = mapped Happening (lookup (bytes_eq line) plain_events) what f in
+    let has = Contains-from_lookup (λ x y. (bytes_eq-Decides x y).0) line event.0 plain_events event.1 in
+    moved (spelling.plain event.0 line has) event.2 refl)
+
+-- ---- lines of two words
+
+module _ (name word : List ℕ) where
+  abbrev Pair : ScriptLine → Type 0
+  Pair what = Spells what (name ++ 32 ∷ word)
+
+  with_number : (text : List ℕ) (most : ℕ) (event : ℕ → Event) (a : ScriptLine) → most < 2 ^ 64
+      → ((x : ℕ) → x ≤ most → Spells (Happening (event x)) (text ++ 32 ∷ decimal x)) → name ≡ text
+      → option_map (λ x. Happening (event x)) (number_in_word most word) ≡ Some a → Pair a
+  with_number text most event a small spells is e =
+      let n = mapped (λ x. Happening (event x)) (number_in_word most word) a e in
+      let number = read most n.0 word small n.1 in
+      moved (spells n.0 number.1) n.2 (one_more is number.0)
+
+  with_octets : (text : List ℕ) (event : List ℕ → Event) (a : ScriptLine)
+      → ((octets hex : List ℕ) → IsHex octets hex → Spells (Happening (event octets)) (text ++ 32 ∷ hex)) → name ≡ text
+      → option_map (λ octets. Happening (event octets)) (octets_in_word word) ≡ Some a → Pair a
+  with_octets text event a spells is e =
+      let o = mapped (λ octets. Happening (event octets)) (octets_in_word word) a e in
+      moved (spells o.0 word (read_octets o.0 word o.1)) o.2 (one_more is refl)
+
+  two_words : (what : ScriptLine) → line_of_two_words name word ≡ Some what → Pair what
+  two_words what e =
+      let sets = λ (directive : ℕ → Directive) (x : ℕ). events.Directive (directive x) in
+      tested Pair e (with_number (codes "vs") 255 (sets directives.SetVs) what (omega arith) spelling.vs) (λ f.
+      tested Pair f (with_number (codes "window") 255 (sets directives.SetWindow) what (omega arith) spelling.window)
+      (λ g.
+      tested Pair g (with_number (codes "limit") 255 (sets directives.SetLimit) what (omega arith) spelling.limit) (λ h.
+      tested Pair h (with_number (codes "timer") 65535 (sets directives.SetTimer) what (omega arith) spelling.timer)
+      (λ i.
+      tested Pair i (with_octets (codes "telemetry") (λ octets. events.Telemetry (borrow_of octets)) what
+      spelling.telemetry) (λ k. cc k)))))
+
+-- ---- lines of three words
+
+small_or_in_range : (p : Parameter) (n : ℕ) → n ≤ most_for p → (n ≤ 65542) ⊎ (n ≤ (row_of p).most)
+small_or_in_range parameters.Maps n le = inr le
+small_or_in_range p n le = inl le
+
+named : (word : List ℕ) (all : List Parameter) (p : Parameter)
+    → find (λ one. bytes_eq word (row_of one).name) all ≡ Some p → word ≡ (row_of p).name
+named word [] p e = cc e
+named word (one ∷ more) p e =
+    tested (λ (q : Parameter). word ≡ (row_of q).name) e
+    (λ is same. is ∙ ap (λ (q : Parameter). (row_of q).name) (same_Some one p same)) (named word more p)
+
+module _ (name first second : List ℕ) where
+  abbrev Three : ScriptLine → Type 0
+  Three what = Spells what (name ++ 32 ∷ (first ++ 32 ∷ second))
+
+  set : (what : ScriptLine) → name ≡ codes "config" → setting_line first second ≡ Some what → Three what
+  set what is e =
+      let p = chained (λ q. option_map (λ n. Setting q n) (number_in_word (most_for q) second)) (parameter_named first)
+      what e in
+      let n = mapped (λ x. Setting p.0 x) (number_in_word (most_for p.0) second) what p.2 in
+      let number = read (most_for p.0) n.0 second (most_small p.0) n.1 in
+      moved (spelling.config p.0 n.0 (small_or_in_range p.0 n.0 number.1)) n.2
+      (one_more is (one_more (named first all_in_order p.0 p.1) number.0))
+
+  submitted : (text : List ℕ) (event : ℕ → Bor (List ℕ) → Event) (what : ScriptLine)
+      → ((map : ℕ) (octets hex : List ℕ) → map ≤ 255 → IsHex octets hex
+      → Spells (Happening (event map (borrow_of octets))) (text ++ 32 ∷ (decimal map ++ 32 ∷ hex)))
+      → name ≡ text → submission_line event first second ≡ Some what → Three what
+  submitted text event what spells is e =
+      let m = chained (λ x. option_map (λ octets. Happening (event x (borrow_of octets))) (octets_in_word second))
+      (number_in_word 255 first) what e in
+      let o = mapped (λ octets. Happening (event m.0 (borrow_of octets))) (octets_in_word second) what m.2 in
+      let number = read 255 m.0 first (omega arith) m.1 in
+      moved (spells m.0 o.0 second number.1 (read_octets o.0 second o.1)) o.2 (one_more is (one_more number.0 refl))
+
+  set_vr : (what : ScriptLine) → name ≡ codes "init" → first ≡ codes "set"
+      → option_map (λ x. Happening (events.Directive (directives.InitSetVr x))) (number_in_word 255 second) ≡ Some what
+      → Three what
+  set_vr what is kind e =
+      let n = mapped (λ x. Happening (events.Directive (directives.InitSetVr x))) (number_in_word 255 second) what e in
+      let number = read 255 n.0 second (omega arith) n.1 in
+      moved (spelling.init_set n.0 number.1) n.2 (one_more is (one_more kind number.0))
+
+  damaged : (text : List ℕ) (event : List ℕ → Event) (what : ScriptLine)
+      → ((octets hex : List ℕ) → IsHex octets hex
+      → Spells (Happening (event octets)) (text ++ 32 ∷ (codes "damage" ++ 32 ∷ hex)))
+      → name ≡ text → first ≡ codes "damage"
+      → option_map (λ octets. Happening (event octets)) (octets_in_word second) ≡ Some what → Three what
+  damaged text event what spells is kind e =
+      let o = mapped (λ octets. Happening (event octets)) (octets_in_word second) what e in
+      moved (spells o.0 second (read_octets o.0 second o.1)) o.2 (one_more is (one_more kind refl))
+
+  three_words : (what : ScriptLine) → line_of_three_words name first second ≡ Some what → Three what
+  three_words what e =
+      tested Three e (set what) (λ f.
+      tested Three f (submitted (codes "submit") events.Submit what spelling.submit) (λ g.
+      tested Three g (submitted (codes "bypass") events.Bypass what spelling.bypass) (λ h.
+      tested_both Three h (set_vr what) (λ i.
+      tested_both Three i (damaged (codes "up") (λ octets. events.UpDamage (borrow_of octets)) what spelling.up_damage)
+      (λ j.
+      tested_both Three j (damaged (codes "down") (λ octets. events.DownDamage (borrow_of octets)) what
+      spelling.down_damage) (λ k. cc k))))))
+
+-- ---- lines
+
+spelled_words : (words : List (List ℕ)) (what : ScriptLine) → line_of_words words ≡ Some what
+    → Spells what (join_with_byte 32 words)
+spelled_words (name ∷ word ∷ []) what e = two_words name word what e
+spelled_words (name ∷ first ∷ second ∷ []) what e = three_words name first second what e
+spelled_words words what e = cc e
+
+by_words : (line : List ℕ) (what : ScriptLine) → line_of_words (words_in line) ≡ Some what → Spells what line
+by_words line what e =
+    moved (spelled_words (words_in line) what e) refl (sym (join_with_byte-slice_split 32 line))
+
+by_table : (line : List ℕ) (what : ScriptLine) (o : Option ScriptLine) → plain_line line ≡ o
+    → option_or o (line_of_words (words_in line)) ≡ Some what → Spells what line
+by_table line what (Some other) is e = plain line what (is ∙ e)
+by_table line what None is e = by_words line what e
+
+by_reading : (line : List ℕ) (what : ScriptLine) (o : Option ScriptLine) → readable_line line ≡ o
+    → unwrap_or o Unreadable ≡ what → (what ≡ Unreadable → ⊥) → Spells what line
+by_reading line what (Some other) is e readable =
+    moved (by_table line other (plain_line line) refl is) e refl
+by_reading line what None is e readable = absurd (readable (sym e))
+
+by_first : (octet : ℕ) (more : List ℕ) (what : ScriptLine) (note : Bool) → (octet == 35) ≡ note
+    → cond note Skipped (unwrap_or (readable_line (octet ∷ more)) Unreadable) ≡ what
+    → (what ≡ Unreadable → ⊥) → Spells what (octet ∷ more)
+by_first octet more what true is e readable =
+    moved (spelling.note more) e (ap (λ (x : ℕ). x ∷ more) (eqb-true octet 35 is))
+by_first octet more what false is e readable =
+    by_reading (octet ∷ more) what (readable_line (octet ∷ more)) refl e readable
+
+spells : (line : List ℕ) (what : ScriptLine) → line_in line ≡ what → (what ≡ Unreadable → ⊥) → Spells what line
+spells [] what e readable = moved spelling.empty e refl
+spells (octet ∷ more) what e readable = by_first octet more what (octet == 35) refl e readable
+
+unspelled : {line : List ℕ} → Spells Unreadable line → ⊥
+unspelled spells = elim spells [ ]
+
+-- a line says what it spells, and nothing else that is readable
+pub says : (line : List ℕ) (what : ScriptLine) → Spells what line ↔ ((line_in line ≡ what) × (what ≡ Unreadable → ⊥))
+says line what = (λ it. (spelled it, λ e. unspelled (subst (λ w. Spells w line) e it)), λ e. spells line what e.0 e.1)
+
+unreadable_as : (line : List ℕ) (what : ScriptLine) → line_in line ≡ what
+    → ((other : ScriptLine) → Spells other line → ⊥) → what ≡ Unreadable
+unreadable_as line Unreadable e none = refl
+unreadable_as line what e none = absurd (none what (spells line what e (λ no. cc no)))
+
+-- a line is unreadable where it spells nothing
+pub unreadable : (line : List ℕ) → (line_in line ≡ Unreadable) ↔ ((what : ScriptLine) → Spells what line → ⊥)
+unreadable line = (
+  λ e what it. unspelled (subst (λ w. Spells w line) (sym (spelled it) ∙ e) it),
+  unreadable_as line (line_in line)
+      refl,
+)

@@ -1,0 +1,337 @@
+-- A builder of telemetry frames, with its packets in the caller's memory.
+use Rattle.std.proofs.Common.{◌≡◌, ◌≤◌, ◌<◌, ℕ, ◌+◌, ◌-◌, min, Bool, true, false, List, [], ◌∷◌, ◌++◌, length}
+use Rattle.std.proofs.Common.{take, drop, map, Option, Some, None, Ok, Err, refl, sym, ap, subst, ◌∙◌, arith, inl, inr}
+use Rattle.std.proofs.Common.{length-take, length-drop, length-append}
+use Rattle.std.specs.Prelude.{◌==◌, ◌%◌, if◌then◌else◌, IfOk}
+use Rattle.std.specs.List.{concat}
+use Rattle.std.proofs.lemmas.Bool.{and_parts, le-leb, le-ltb, eqb-true, cases_lt}
+use Rattle.std.proofs.lemmas.Grind.{common_steps}
+use Rattle.std.proofs.lemmas.List.{drop_all, drop-drop, drop-append-le, map-append, drop-take}
+use Rattle.octets.proofs.Streams.{records_of-append, rest_of-append}
+use Rattle.space_packet.specs.Laws.{extent_has_header}
+use Rattle.space_packet.specs.Packets.{first_packet, packets_in, rest_in, is_packet}
+use Rattle.space_packet.specs.Decoding.{extent_at}
+use Rattle.space_packet.proofs.WholePackets.{one_more, one_more-by_len, no_more}
+use Rattle.map_service.proofs.Groups.{all_of}
+use Rattle.map_service.proofs.Passage.{one-from}
+use Rattle.tm_link.specs.Builder.{BuilderState, builder_fits, new_builder, is_to_send, after_queue, left_after}
+use Rattle.tm_link.specs.Builder.{idle_after, after_send, with_next_count, build_step}
+use Rattle.tm_link.proofs.Fields.{passed_within, passed_beyond}
+use Rattle.sedgechisel.specs.declared.telemetry_builder.KeptBuilder.{KeptBuilder}
+use Rattle.sedgechisel.specs.Answers.{damaged}
+use Rattle.sedgechisel.specs.Builders.{queued_at, built_at, pending_of, whole_of, has_numbers, is_builder, state_of}
+use Rattle.sedgechisel.specs.Builders.{builder_described}
+
+-- ---- the numbers
+
+pub record HasNumbers (b : KeptBuilder) (room : ℕ) : Type 0 where
+  pub fits : builder_fits b.scid b.vcid b.length ≡ true
+  pub idle_left : b.idle_left ≤ 6
+  pub within : b.from + b.count ≤ room
+  pub begun : b.begun ≤ b.count
+
+pub numbers_are : (b : KeptBuilder) (room : ℕ) → has_numbers b room ≡ true → HasNumbers b room
+numbers_are b room h = grind (arith, common_steps, h)
+
+pub numbers_hold : (b : KeptBuilder) (room : ℕ) → HasNumbers b room → has_numbers b room ≡ true
+numbers_hold b room h =
+    rw (
+      h.fits,
+      le-leb b.idle_left 6 h.idle_left,
+      le-leb b.from room (omega arith),
+      le-leb b.count (room - b.from)
+          (omega arith),
+      le-leb b.begun b.count h.begun,
+    ) refl
+
+-- octets that end with a packet
+none_left : (xs : List ℕ) → (length xs == 0) ≡ true → xs ≡ []
+none_left [] h = refl
+none_left (x ∷ xs) h = absurd (omega (arith, eqb-true (length (x ∷ xs)) 0 h))
+
+pub described_by : (b : KeptBuilder) (memory : List ℕ) → HasNumbers b (length memory)
+    → rest_in (whole_of b memory) ≡ [] → builder_described b memory ≡ Ok (state_of b memory)
+described_by b memory h none = rw (numbers_hold b (length memory) h, none) refl
+
+pub record IsBuilder (b : KeptBuilder) (memory : List ℕ) : Type 0 where
+  pub numbers : HasNumbers b (length memory)
+  pub none : rest_in (whole_of b memory) ≡ []
+
+pub builder_is : (b : KeptBuilder) (memory : List ℕ) → is_builder b memory ≡ true → IsBuilder b memory
+builder_is b memory h =
+    let both = and_parts (has_numbers b (length memory)) (length (rest_in (whole_of b memory)) == 0) h in
+    record { numbers = numbers_are b (length memory) both.0; none = none_left (rest_in (whole_of b memory)) both.1 }
+
+-- ---- a new builder
+
+abbrev opened : ℕ → ℕ → ℕ → KeptBuilder
+opened scid vcid total =
+    record { from = 0; count = 0; begun = 0; scid = scid; length = total; vcid = vcid; next_count = 0; idle_left = 0 }
+
+pub open_described : (scid vcid total : ℕ) (memory : List ℕ) → builder_fits scid vcid total ≡ true
+    → builder_described (opened scid vcid total) memory ≡ Ok (new_builder scid vcid total)
+open_described scid vcid total memory fits =
+    let nothing = no_more [] refl in
+    rw (fits, le-leb 0 (length memory) (omega arith), le-leb 0 (length memory - 0) (omega arith), nothing.0, nothing.1)
+    refl
+
+-- ---- a packet that is queued
+
+queued_whole : (whole packet : List ℕ) → rest_in whole ≡ [] → is_packet packet ≡ true
+    → (packets_in (whole ++ packet) ≡ packets_in whole ++ packet ∷ []) × (rest_in (whole ++ packet) ≡ [])
+queued_whole whole packet none is =
+    let one = one-from packet is in (
+      records_of-append 6 extent_at (omega arith) extent_has_header whole packet
+          ∙ ap (λ (xs : List ℕ). packets_in whole ++ packets_in (xs ++ packet)) none
+          ∙ ap (λ (ps : List (List ℕ)). packets_in whole ++ ps) one.1,
+      rest_of-append 6 extent_at (omega arith) extent_has_header whole packet
+          ∙ ap (λ (xs : List ℕ). rest_in (xs ++ packet)) none ∙ one.0,
+    )
+
+-- the state with other octets to be sent, of packets of these sizes
+abbrev with_octets : BuilderState → List ℕ → List ℕ → BuilderState
+with_octets s pending sizes = record s { pending = pending; sizes = sizes }
+
+queue_at : (b : KeptBuilder) (from : ℕ) (packet memory after : List ℕ) → IsBuilder b memory
+    → is_to_send packet ≡ true
+    → take (b.count + length packet) (drop from after) ≡ pending_of b memory ++ packet
+    → from + (b.count + length packet) ≤ length after
+    → builder_described (record b { from = from; count = b.count + length packet }) after
+    ≡ Ok (after_queue (state_of b memory) packet)
+queue_at b from packet memory after is send pending within =
+    let new : KeptBuilder = record b { from = from; count = b.count + length packet } in
+    let s : BuilderState = state_of b memory in
+    let long : length (pending_of b memory) ≡ b.count =
+    omega (arith, is.numbers.within, length-take b.count (drop b.from memory), length-drop b.from memory) in
+    let whole : whole_of new after ≡ whole_of b memory ++ packet =
+    ap (drop b.begun) pending
+    ∙ drop-append-le b.begun (pending_of b memory) packet (omega (arith, long, is.numbers.begun)) in
+    let queued = queued_whole (whole_of b memory) packet is.none (and_parts _ _ send).0 in
+    let numbers : HasNumbers new (length after) = record {
+      fits = is.numbers.fits;
+      idle_left = is.numbers.idle_left;
+      within = within;
+      begun = omega (arith, is.numbers.begun);
+    } in
+    let sizes : map length (packets_in (whole_of new after)) ≡ (after_queue s packet).sizes =
+    ap (λ (xs : List ℕ). map length (packets_in xs)) whole ∙ ap (map length) queued.0
+    ∙ map-append length (packets_in (whole_of b memory)) (packet ∷ []) in
+    described_by new after numbers (ap rest_in whole ∙ queued.1)
+    ∙ ap (λ (xs : List ℕ). Ok (with_octets s xs (map length (packets_in (whole_of new after))))) pending
+    ∙ ap (λ (ns : List ℕ). Ok (with_octets s (pending_of b memory ++ packet) ns)) sizes
+
+pub queue_described : (b new : KeptBuilder) (packet memory after : List ℕ) → is_builder b memory ≡ true
+    → is_to_send packet ≡ true
+    → new ≡ record b { from = new.from; count = b.count + length packet }
+    → pending_of new after ≡ pending_of b memory ++ packet
+    → new.from + new.count ≤ length after
+    → builder_described new after ≡ Ok (after_queue (state_of b memory) packet)
+queue_described b new packet memory after is send same pending within =
+    let count : new.count ≡ b.count + length packet = ap (λ (k : KeptBuilder). k.count) same in
+    subst (λ (k : KeptBuilder). builder_described k after ≡ Ok (after_queue (state_of b memory) packet)) (sym same)
+    (queue_at b new.from packet memory after (builder_is b memory is) send
+    (ap (λ (n : ℕ). take n (drop new.from after)) (sym count) ∙ pending) (omega (arith, count, within)))
+
+-- ---- octets that are sent
+
+abbrev with_all : BuilderState → ℕ → List ℕ → ℕ → List ℕ → BuilderState
+with_all s idle pending begun sizes =
+    record s { idle_left = idle; pending = pending; begun = begun; sizes = sizes }
+
+-- what is left of the packet that is begun then stands first in these octets, and packets of these sizes after it
+record IsLeft (left : ℕ × List ℕ) (octets : List ℕ) : Type 0 where
+  within : left.0 ≤ length octets
+  none : rest_in (drop left.0 octets) ≡ []
+  sizes : map length (packets_in (drop left.0 octets)) ≡ left.1
+
+record IsFirst (p : List ℕ) (ps : List (List ℕ)) (whole : List ℕ) : Type 0 where
+  within : length p ≤ length whole
+  packets : packets_in (drop (length p) whole) ≡ ps
+  none : rest_in (drop (length p) whole) ≡ []
+
+first_by : (whole p : List ℕ) (ps : List (List ℕ)) (o : Option (List ℕ)) → first_packet whole ≡ o
+    → packets_in whole ≡ p ∷ ps → rest_in whole ≡ [] → IsFirst p ps whole
+first_by whole p ps None e is none = absurd (let no = (no_more whole e).0 in cc)
+first_by whole p ps (Some q) e is none =
+    let more = one_more whole q e in
+    let same : q ≡ p = cc in
+    let behind : packets_in (drop (length q) whole) ≡ ps = cc in
+    let all : whole ≡ p ++ concat ps = all_of whole none ∙ ap concat is in
+    record {
+      within = omega (arith, ap length all, length-append p (concat ps));
+      packets = ap (λ (xs : List ℕ). packets_in (drop (length xs) whole)) (sym same) ∙ behind;
+      none = ap (λ (xs : List ℕ). rest_in (drop (length xs) whole)) (sym same) ∙ sym more.1 ∙ none;
+    }
+
+-- no packet stands after what was begun
+left_none : (begun room : ℕ) (pending : List ℕ) → begun ≤ length pending → packets_in (drop begun pending) ≡ []
+    → rest_in (drop begun pending) ≡ []
+    → IsLeft (begun - room, []) (drop room pending)
+left_none begun room pending le is none =
+    let nothing : drop begun pending ≡ [] = all_of (drop begun pending) none ∙ ap concat is in
+    let long : length pending ≡ begun = omega (arith, ap length nothing, length-drop begun pending) in
+    let gone : drop (begun - room) (drop room pending) ≡ [] =
+    drop_all (begun - room) (drop room pending) (omega (arith, length-drop room pending)) in
+    record {
+      within = omega (arith, length-drop room pending);
+      none = ap rest_in gone ∙ (no_more [] refl).1;
+      sizes = ap (λ (xs : List ℕ). map length (packets_in xs)) gone ∙ ap (map length) (no_more [] refl).0;
+    }
+
+-- no more was sent than was begun
+left_within : (begun room : ℕ) (pending : List ℕ) (sizes : List ℕ) → begun ≤ length pending → room ≤ begun
+    → map length (packets_in (drop begun pending)) ≡ sizes → rest_in (drop begun pending) ≡ []
+    → IsLeft (begun - room, sizes) (drop room pending)
+left_within begun room pending sizes le few is none =
+    let back : room + (begun - room) ≡ begun = omega arith in
+    let same : drop (begun - room) (drop room pending) ≡ drop begun pending =
+    drop-drop (begun - room) room pending ∙ ap (λ (n : ℕ). drop n pending) back in
+    record {
+      within = omega (arith, length-drop room pending);
+      none = ap rest_in same ∙ none;
+      sizes = ap (λ (xs : List ℕ). map length (packets_in xs)) same ∙ is;
+    }
+
+left_of : (packets : List (List ℕ)) (begun room : ℕ) (pending : List ℕ) → begun ≤ length pending
+    → packets_in (drop begun pending) ≡ packets → rest_in (drop begun pending) ≡ []
+    → IsLeft (left_after room begun (map length packets)) (drop room pending)
+left_of [] begun room pending le is none = left_none begun room pending le is none
+left_of (p ∷ ps) begun room pending le is none =
+    elim (cases_lt begun room) [
+      | inl lt ↦
+          let whole : List ℕ = drop begun pending in
+          let first : IsFirst p ps whole = first_by whole p ps (first_packet whole) refl is none in
+          let ahead : begun + (room - begun) ≡ room = omega arith in
+          let same : drop (room - begun) whole ≡ drop room pending =
+          drop-drop (room - begun) begun pending ∙ ap (λ (n : ℕ). drop n pending) ahead in
+          subst (λ (r : ℕ × List ℕ). IsLeft r (drop room pending))
+          (sym (passed_beyond room begun (length p) (map length ps) lt))
+          (subst (IsLeft (left_after (room - begun) (length p) (map length ps))) same
+          (left_of ps (length p) (room - begun) whole first.within first.packets first.none))
+      | inr few ↦
+          subst (λ (r : ℕ × List ℕ). IsLeft r (drop room pending))
+          (sym (passed_within room begun (map length (p ∷ ps)) few))
+          (left_within begun room pending (map length (p ∷ ps)) le few (ap (map length) is) none)
+    ]
+
+-- the packet that was begun is passed, and the next one begins
+pub passed_one : (rest : List ℕ) (left room n : ℕ) → left < room → Some (take n rest) ≡ first_packet rest
+    → n ≤ length rest
+    → left_after room left (map length (packets_in rest))
+    ≡ left_after (room - left) n (map length (packets_in (drop n rest)))
+passed_one rest left room n lt first within =
+    let long : length (take n rest) ≡ n = omega (arith, length-take n rest) in
+    let sizes : List ℕ = map length (packets_in (drop n rest)) in
+    ap (λ (ps : List (List ℕ)). left_after room left (map length ps)) (one_more-by_len rest n first within).0
+    ∙ passed_beyond room left (length (take n rest)) sizes lt
+    ∙ ap (λ (k : ℕ). left_after (room - left) k sizes) long
+
+pub passed_none : (rest : List ℕ) (left room : ℕ) → left < room → first_packet rest ≡ None
+    → (left_after room left (map length (packets_in rest))).0 ≡ 0
+passed_none rest left room lt none =
+    let gone : left - room ≡ 0 = omega arith in
+    ap (λ (ps : List (List ℕ)). (left_after room left (map length ps)).0) (no_more rest none).0 ∙ gone
+
+pub passed_all : (rest : List ℕ) (left room : ℕ) → room ≤ left
+    → (left_after room left (map length (packets_in rest))).0 ≡ left - room
+passed_all rest left room le =
+    ap (λ (r : ℕ × List ℕ). r.0) (passed_within room left (map length (packets_in rest)) le)
+
+-- the octets that are left, where this many of the memory's were passed
+passed_octets : (count room from : ℕ) (memory : List ℕ)
+    → take (count - min room count) (drop (from + min room count) memory) ≡ drop room (take count (drop from memory))
+passed_octets count room from memory =
+    elim (cases_lt room count) [
+      | inl lt ↦
+          let passed : min room count ≡ room = omega arith in
+          let all : room + (count - room) ≡ count = omega arith in
+          ap (λ (n : ℕ). take (count - n) (drop (from + n) memory)) passed
+          ∙ ap (take (count - room)) (sym (drop-drop room from memory))
+          ∙ sym (drop-take room (count - room) (drop from memory))
+          ∙ ap (λ (n : ℕ). drop room (take n (drop from memory))) all
+      | inr le ↦
+          let none : count - min room count ≡ 0 = omega arith in
+          ap (λ (n : ℕ). take n (drop (from + min room count) memory)) none
+          ∙ sym (drop_all room (take count (drop from memory)) (omega (arith, length-take count (drop from memory))))
+    ]
+
+-- a builder after a data field
+abbrev sent_by : KeptBuilder → ℕ → ℕ → ℕ → ℕ → KeptBuilder
+sent_by b room begun passed idle =
+    record b { from = b.from + passed; count = b.count - passed; begun = begun; idle_left = idle }
+
+pub send_described : (b : KeptBuilder) (memory : List ℕ) (room begun passed idle size : ℕ) → is_builder b memory ≡ true
+    → room ≡ size - b.idle_left → passed ≡ min room b.count
+    → begun ≡ (left_after room b.begun (map length (packets_in (whole_of b memory)))).0
+    → idle ≡ idle_after size b.idle_left b.count → idle ≤ 6
+    → builder_described (sent_by b room begun passed idle) memory ≡ Ok (after_send (state_of b memory) size)
+send_described b memory room begun passed idle size is room-is passed-is begun-is idle-is small =
+    let new : KeptBuilder = sent_by b room begun passed idle in
+    let s : BuilderState = state_of b memory in
+    let old : IsBuilder b memory = builder_is b memory is in
+    let long : length (pending_of b memory) ≡ b.count =
+    omega (arith, old.numbers.within, length-take b.count (drop b.from memory), length-drop b.from memory) in
+    let sizes : List ℕ = map length (packets_in (whole_of b memory)) in
+    let left : IsLeft (left_after room b.begun sizes) (drop room (pending_of b memory)) =
+    left_of (packets_in (whole_of b memory)) b.begun room (pending_of b memory)
+    (omega (arith, long, old.numbers.begun)) refl old.none in
+    let pending : pending_of new memory ≡ drop room (pending_of b memory) =
+    ap (λ (n : ℕ). take (b.count - n) (drop (b.from + n) memory)) passed-is
+    ∙ passed_octets b.count room b.from memory in
+    let whole : whole_of new memory ≡ drop (left_after room b.begun sizes).0 (drop room (pending_of b memory)) =
+    ap (drop begun) pending ∙ ap (λ (n : ℕ). drop n (drop room (pending_of b memory))) begun-is in
+    let numbers : HasNumbers new (length memory) = record {
+      fits = old.numbers.fits;
+      idle_left = small;
+      within = omega (arith, old.numbers.within, passed-is);
+      begun = omega (
+        arith,
+        left.within,
+        begun-is,
+        passed-is,
+        long,
+        length-drop room (pending_of b memory),
+      );
+    } in
+    described_by new memory numbers (ap rest_in whole ∙ left.none)
+    ∙ ap (λ (xs : List ℕ). Ok (with_all s idle xs begun (map length (packets_in (whole_of new memory))))) pending
+    ∙ ap (λ (ns : List ℕ). Ok (with_all s idle (drop room (pending_of b memory)) begun ns))
+    (ap (λ (xs : List ℕ). map length (packets_in xs)) whole ∙ left.sizes)
+    ∙ ap (λ (n : ℕ). Ok (with_all s idle (drop room (pending_of b memory)) n (left_after room b.begun sizes).1))
+    begun-is
+    ∙ ap (λ (n : ℕ). Ok (with_all s n (drop room (pending_of b memory)) (left_after room b.begun sizes).0
+    (left_after room b.begun sizes).1)) (idle-is ∙ ap (idle_after size b.idle_left) (sym long))
+    ∙ ap (λ (n : ℕ). Ok (with_all s (idle_after size b.idle_left (length s.pending)) (drop n s.pending)
+    (left_after n b.begun sizes).0 (left_after n b.begun sizes).1)) room-is
+
+-- ---- the next frame's count
+
+counted_by : (b : KeptBuilder) (memory : List ℕ) (s : BuilderState) (is : Bool)
+    → (if is then Ok (state_of b memory) else Err damaged) ≡ Ok s
+    → (if is then Ok (record (state_of b memory) { count = (b.next_count + 1) % 256 }) else Err damaged)
+    ≡ Ok (with_next_count s)
+counted_by b memory s true h =
+    let same : state_of b memory ≡ s = cc in ap (λ (t : BuilderState). Ok (with_next_count t)) same
+counted_by b memory s false h = absurd cc
+
+pub counted : (b : KeptBuilder) (memory : List ℕ) (s : BuilderState) → builder_described b memory ≡ Ok s
+    → builder_described (record b { next_count = (b.next_count + 1) % 256 }) memory ≡ Ok (with_next_count s)
+counted b memory s h = counted_by b memory s (is_builder b memory) h
+
+-- ---- what a call answers
+
+pub if_taken : {A : Type 0} (b : Bool) (x : A) (number : ℕ) (P : A → Type 0) → b ≡ true → P x
+    → IfOk (if b then Ok x else Err number) P
+if_taken true x number P e p = p
+if_taken false x number P e p = absurd cc
+
+pub queue_taken : (b : KeptBuilder) (packet memory : List ℕ) (new : KeptBuilder) (after : List ℕ)
+    → is_builder b memory ≡ true → is_to_send packet ≡ true → b.count + length packet ≤ length memory
+    → builder_described new after ≡ Ok (after_queue (state_of b memory) packet)
+    → IfOk (queued_at b packet memory) (λ s. builder_described new after ≡ Ok s)
+queue_taken b packet memory new after is send room h = rw (is, send, le-ltb _ _ room) h
+
+pub build_taken : (b : KeptBuilder) (ocf memory : List ℕ) (room : ℕ) → is_builder b memory ≡ true
+    → (length ocf == 4) ≡ true → b.length ≤ room
+    → built_at b ocf memory room ≡ Ok (build_step (state_of b memory) ocf)
+build_taken b ocf memory room is four long = rw (is, four, le-ltb _ _ long) refl

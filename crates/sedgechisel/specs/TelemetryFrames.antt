@@ -1,0 +1,53 @@
+-- Telemetry frames as C has them.
+use Rattle.std.specs.Prelude.{◌≡◌, ℕ, List, length, take, drop, Result, Ok}
+use Rattle.tm_link.specs.Faults.{fault_row}
+use Rattle.tm_link.specs.Layout.{FrameView, pointer_number}
+use Rattle.tm_link.specs.Decoding.{pointer_at, frame_at}
+use Rattle.tm_link.specs.Encoding.{encode_answer}
+use Rattle.sedgechisel.specs.declared.telemetry_frame.ReportFrame.{ReportFrame}
+use Rattle.sedgechisel.specs.declared.part.Part.{Part}
+use Rattle.sedgechisel.specs.Answers.{numbered, if_ok}
+
+-- the frame that the fields and the data describe; the pointer is as the header has it
+abbrev pub frame_described : ReportFrame → List ℕ → FrameView
+frame_described f payload = record {
+  scid = f.scid;
+  vcid = f.vcid;
+  mc_count = f.mc_count;
+  vc_count = f.vc_count;
+  pointer = pointer_at f.pointer;
+  payload = payload;
+  ocf = f.ocf;
+}
+
+-- the fields that describe the frame
+abbrev pub fields_of : FrameView → ReportFrame
+fields_of f = record {
+  scid = f.scid;
+  pointer = pointer_number f.pointer;
+  vcid = f.vcid;
+  mc_count = f.mc_count;
+  vc_count = f.vc_count;
+  ocf = f.ocf;
+}
+
+-- where its data stand, after the header
+abbrev pub part_of : FrameView → Part
+part_of f = record { from = 6; count = length f.payload }
+
+-- ---- the calls
+
+abbrev pub frame_read : ℕ → List ℕ → Result FrameView ℕ
+frame_read total octets = numbered fault_row (frame_at total octets)
+
+-- the frame that is written where there is so much room
+abbrev pub frame_taken : ReportFrame → List ℕ → ℕ → Result FrameView ℕ
+frame_taken f payload room =
+    if_ok (numbered fault_row (encode_answer (frame_described f payload) room))
+    (frame_described f payload)
+
+-- what the fields and the octets at the place describe is the frame that was read
+abbrev pub DescribesFrame : ℕ → List ℕ → ReportFrame → Part → Type 0
+DescribesFrame total octets f part =
+    (view : FrameView) → frame_read total octets ≡ Ok view
+    → frame_described f (take part.count (drop part.from octets)) ≡ view

@@ -1,0 +1,25 @@
+// The directives to the sender (CCSDS 232.1-B-2, 5.2.4).
+
+ghost use Rattle.c_words.specs.Directives.{directive_named};
+ghost use Rattle.sedgechisel.specs.Senders.{directed, IsAnswered};
+
+use super::KeptSender;
+use super::fields::{described, kept};
+use crate::numbers::DAMAGED;
+use c_words::directive_named;
+
+/// Gives the sender a directive, of `sedge_directive`, with its value; one that has none ignores it. Returns 0; or
+/// `SEDGE_COP_WRONG_STATE`; or for a value out of its range `SEDGE_COP_WINDOW`, `SEDGE_COP_LIMIT` or `SEDGE_COP_TIMER`;
+/// or `SEDGE_DAMAGED`, also for a directive that is none, and for a number V(R) or V(S) above 255.
+#[unsafe(no_mangle)]
+pub extern "C" fn sedge_fop_directive(sender: &mut KeptSender, directive: u8, value: u16) -> u8
+    ensures { IsAnswered (directed sender.old (directive_named directive value)) sender.old sender.new result }
+{
+    let Some(directive) = directive_named(directive, value) else {
+        return DAMAGED;
+    };
+    match described(sender) {
+        Ok(mut machine) => written!(machine.directive(directive), |_| *sender = kept(&machine)),
+        Err(number) => number,
+    }
+}

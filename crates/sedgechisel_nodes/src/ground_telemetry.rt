@@ -1,0 +1,243 @@
+// The ground of a program in C: telemetry and reports, the clock, and packets past the sequence control.
+
+ghost use Rattle.std.specs.Prelude.{◌≡◌, ◌≢◌, None, IfSome};
+ghost use Rattle.tm_link.specs.Decoding.{frame_at};
+ghost use Rattle.nodes.specs.Ground.{Bypass, Telemetry, ControlWord, ForgetTelemetry, Tick, ground_step};
+ghost use Rattle.nodes.specs.Ground.{bypass_fault, FinishesNothing};
+ghost use Rattle.sedgechisel_nodes.specs.Calls.{closed, IsRead, IsTold, IsStep};
+ghost use Rattle.sedgechisel_nodes.specs.Ground.{stepped, IsAnswer, IsSubmission};
+ghost use Rattle.sedgechisel_nodes.specs.Heard.{alert_number, gap_kept, report_kept, heard_kept, word_kept};
+ghost use Rattle.sedgechisel_nodes.specs.Heard.{word_said, report_in};
+
+use crate::answers::{ABSENT, MEMORY};
+use crate::ground::number_of;
+use crate::handles::GroundHandle;
+use crate::room::write;
+use clcw::Clcw;
+use cop1::Alert;
+use nodes::{Ground, Heard, HeardClcw, HeardReport};
+use std::alloc::Global;
+use tm_link::{Gap, decode};
+
+/// What came of telemetry. For C it is `struct sedge_heard`.
+#[repr(C)]
+#[derive(Clone, Copy, Default)]
+pub struct KeptHeard {
+    /// 3: the number of packets that came to wait to be taken.
+    pub packets: usize,
+    /// 1: no frame; 2: a frame of another channel; 3: a frame of this one; 4: a report by itself.
+    pub kind: u8,
+    /// 1: why they are no frame, of `sedge_tm_fault`.
+    pub fault: u8,
+    /// 3: whether no frame came before it, 0 or 1.
+    pub first: u8,
+    /// 3: the number of frames that are missing before it.
+    pub missing: u8,
+    /// 3, 4: its report is used (0), none (1), or of another virtual channel (2).
+    pub report: u8,
+    /// 3 and 4, 1: why it is none, of `sedge_clcw_fault`.
+    pub word_fault: u8,
+    /// 3 and 4, 0: of `sedge_alert`; 0 for none.
+    pub alert: u8,
+}
+
+pub(crate) fn number_of_alert(alert: Option<Alert>) -> u8
+    ensures { result ≡ alert_number alert }
+{
+    match alert {
+        None => 0,
+        Some(alert) => alert as u8 + 1,
+    }
+}
+
+fn kept_gap(gap: Gap) -> (u8, u8)
+    ensures { result ≡ gap_kept gap }
+{
+    match gap {
+        Gap::First => (1, 0),
+        Gap::Lost(count) => (0, count),
+    }
+}
+
+fn kept_report(report: HeardReport) -> (u8, u8)
+    ensures { result ≡ report_kept report }
+{
+    match report {
+        HeardReport::Used => (0, 0),
+        HeardReport::Refused(fault) => (1, fault.number()),
+        HeardReport::OtherChannel => (2, 0),
+    }
+}
+
+pub(crate) fn kept_heard(heard: Heard) -> KeptHeard
+    ensures { result ≡ heard_kept heard }
+{
+    let none = KeptHeard::default();
+    match heard {
+        Heard::Invalid(fault) => KeptHeard {
+            kind: 1,
+            fault: fault.number(),
+            ..none
+        },
+        Heard::Foreign => KeptHeard { kind: 2, ..none },
+        Heard::Frame {
+            gap,
+            packets,
+            report,
+            alert,
+        } => {
+            let (first, missing) = kept_gap(gap);
+            let (report, word_fault) = kept_report(report);
+            KeptHeard {
+                packets,
+                kind: 3,
+                first,
+                missing,
+                report,
+                word_fault,
+                alert: number_of_alert(alert),
+                ..none
+            }
+        }
+    }
+}
+
+/// Takes octets that came from the spacecraft, and writes what they are. Returns 0, or `SEDGE_NODE_MEMORY` where they
+/// finish a packet.
+#[unsafe(no_mangle)]
+pub extern "C" fn sedge_ground_telemetry(
+    alloc: Global,
+    ground: &mut GroundHandle,
+    octets: &[u8],
+    heard: &mut KeptHeard,
+) -> u8
+    ensures { IsStep (λ s. FinishesNothing s (frame_at s.config.frame_length octets.now))
+        (λ s. (ground_step s (Telemetry octets.now)).after)
+        (λ s. heard_kept (ground_step s (Telemetry octets.now)).answer)
+        ground.old.value ground.new.value result heard.old heard.new }
+{
+    held!(alloc, ground, |node| match node.telemetry(octets) {
+        Ok(outcome) => {
+            *heard = kept_heard(outcome);
+            0
+        }
+        Err(_) => MEMORY,
+    })
+}
+
+// The report that a telemetry frame of this length carries.
+fn report_in(octets: &[u8], length: usize) -> Option<Clcw>
+    ensures { result ≡ report_in (frame_at length octets.now) }
+{
+    let Ok(frame) = decode(octets, length) else {
+        return None;
+    };
+    match frame.report() {
+        Ok(word) => Some(word),
+        Err(_) => None,
+    }
+}
+
+// A report that came by itself.
+fn kept_word(word: HeardClcw) -> KeptHeard
+    ensures { result ≡ word_kept word }
+{
+    let (report, word_fault) = kept_report(word.report);
+    KeptHeard {
+        kind: 4,
+        report,
+        word_fault,
+        alert: number_of_alert(word.alert),
+        ..KeptHeard::default()
+    }
+}
+
+/// Takes a report that came by itself, a CLCW as a front end hands it on (232.0-B-4, 4.2), and writes what becomes of
+/// it, as `sedge_ground_telemetry` does of the report in a telemetry frame; telemetry is not touched. One that was
+/// given before may not come again as if it were new. Returns 0, or `SEDGE_NODE_ABSENT` if the octets are not four.
+#[unsafe(no_mangle)]
+pub extern "C" fn sedge_ground_clcw(
+    alloc: Global,
+    ground: &mut GroundHandle,
+    octets: &[u8],
+    heard: &mut KeptHeard,
+) -> u8
+    ensures { IsTold (word_said octets.now) (λ s. (ground_step s (ControlWord octets.now)).after)
+        ground.old.value ground.new.value result heard.old heard.new }
+{
+    held!(alloc, ground, |node| match octets {
+        [first, second, third, fourth] => {
+            *heard = kept_word(node.clcw([*first, *second, *third, *fourth]));
+            0
+        }
+        _ => ABSENT,
+    })
+}
+
+/// Begins to take packets out of telemetry anew, as after a restart of the spacecraft, whose counts go on elsewhere: a
+/// packet that is not finished is dropped, and the next frame is the first (132.0-B-3, 4.3.2). Packets that wait to be
+/// taken stay. Returns 0.
+#[unsafe(no_mangle)]
+pub extern "C" fn sedge_ground_forget_telemetry(alloc: Global, ground: &mut GroundHandle) -> u8
+    ensures none { ground.old.value ≡ None → result ≡ closed }
+    ensures open { IfSome ground.old.value (λ s. result ≡ 0) }
+    ensures after { ground.new.value ≡ stepped ground.old.value ForgetTelemetry }
+{
+    held!(alloc, ground, |node| {
+        node.forget_telemetry();
+        0
+    })
+}
+
+/// Writes the report that a telemetry frame carries, of whichever spacecraft and virtual channel (232.0-B-4, 4.2); the
+/// ground stays as it was. Returns 0, or `SEDGE_NODE_ABSENT` if the octets are no frame or the frame carries no report.
+#[unsafe(no_mangle)]
+pub extern "C" fn sedge_ground_report(
+    alloc: Global,
+    ground: &mut GroundHandle,
+    octets: &[u8],
+    report: &mut Clcw,
+) -> u8
+    ensures { IsRead (λ s. report_in (frame_at s.config.frame_length octets.now))
+        ground.old.value ground.new.value result report.old report.new }
+{
+    held!(
+        alloc,
+        ground,
+        |node| write(report_in(octets, node.frame_length()), report)
+    )
+}
+
+/// A tick of the clock has passed. Returns the alert, of `sedge_alert`, 0 for none; or `SEDGE_NODE_NONE`.
+#[unsafe(no_mangle)]
+pub extern "C" fn sedge_ground_tick(alloc: Global, ground: &mut GroundHandle) -> u8
+    ensures none { ground.old.value ≡ None → result ≡ closed }
+    ensures alert { IfSome ground.old.value (λ s. result ≡ alert_number (ground_step s Tick).answer) }
+    ensures after { ground.new.value ≡ stepped ground.old.value Tick }
+{
+    held!(alloc, ground, |node| number_of_alert(node.tick()))
+}
+
+#[tactic(auto, using(crate::proofs::Answered::answered))]
+fn bypassed(node: &mut Ground, map: u8, octets: &[u8]) -> u8
+    ensures answer { IsAnswer (bypass_fault node.old map octets.now) result }
+    ensures after { result ≡ 0 → node.new ≡ (ground_step node.old (Bypass map octets.now)).after }
+    ensures unchanged { result ≢ 0 → node.new ≡ node.old }
+{
+    number_of(node.bypass(map, octets))
+}
+
+/// Submits one packet on a MAP past the sequence control. Returns 0, or the first of 2 to 5 of `sedge_node_status` that
+/// applies, or `SEDGE_NODE_MEMORY`.
+#[unsafe(no_mangle)]
+pub extern "C" fn sedge_ground_bypass(
+    alloc: Global,
+    ground: &mut GroundHandle,
+    map: u8,
+    octets: &[u8],
+) -> u8
+    ensures { IsSubmission (λ s. bypass_fault s map octets.now) (Bypass map octets.now)
+        ground.old.value ground.new.value result }
+{
+    held!(alloc, ground, |node| bypassed(&mut node, map, octets))
+}

@@ -1,0 +1,135 @@
+// What a program in C reads of its nodes.
+
+ghost use Rattle.std.specs.Prelude.{◌≡◌, Some};
+ghost use Rattle.sedgechisel_nodes.specs.Spacecraft.{board_reading_of, farm_mode_number};
+ghost use Rattle.cop1.specs.Accepted.{accepted_beyond};
+ghost use Rattle.sedgechisel_nodes.specs.Calls.{IsRead};
+ghost use Rattle.sedgechisel_nodes.specs.Ground.{mode_number, reading_of};
+
+use crate::handles::{GroundHandle, SpacecraftHandle};
+use crate::room::write;
+use bitflags::Flags;
+use cop1::{FarmMode, FopMode};
+use nodes::{Ground, Spacecraft};
+use std::alloc::Global;
+
+/// What is read of a ground.
+#[repr(C)]
+#[derive(Clone, Copy)]
+pub struct GroundReading {
+    /// The number of segments that were submitted and are not acknowledged.
+    pub outstanding: usize,
+    /// Of telemetry, in octets.
+    pub frame_length: usize,
+    /// Of the sender, 1 to 6 (232.1-B-2, 5.1).
+    pub state: u8,
+    /// V(S), the number of the next segment that is sent for the first time.
+    pub vs: u8,
+    /// NN(R), the number that the spacecraft was last known to expect.
+    pub nn: u8,
+}
+
+pub(crate) fn number_of_mode(mode: FopMode) -> u8
+    ensures { result ≡ mode_number mode }
+{
+    mode as u8 + 1
+}
+
+fn reading(node: &Ground) -> GroundReading
+    ensures { result ≡ reading_of node.now }
+{
+    GroundReading {
+        outstanding: node.outstanding(),
+        frame_length: node.frame_length(),
+        state: number_of_mode(node.state()),
+        vs: node.vs(),
+        nn: node.nn(),
+    }
+}
+
+/// Reads the ground: the sender's state, V(S) and NN(R), what is outstanding, and how many octets a telemetry frame
+/// has. It stays as it was. Returns 0.
+#[unsafe(no_mangle)]
+pub extern "C" fn sedge_ground_read(
+    alloc: Global,
+    ground: &mut GroundHandle,
+    read: &mut GroundReading,
+) -> u8
+    ensures { IsRead (λ s. Some (reading_of s)) ground.old.value ground.new.value result read.old read.new }
+{
+    read!(alloc, ground, read, |node| reading(&node))
+}
+
+/// What is read of a spacecraft: the octets of a telemetry frame, and the report that the next one carries, its flags
+/// as the bits of the third octet (CCSDS 232.0-B-4, 4.2.1); and the receiver's state. For C it is
+/// `struct sedge_spacecraft_reading`.
+#[repr(C)]
+#[derive(Clone, Copy)]
+pub struct BoardReading {
+    /// Of telemetry, in octets.
+    pub frame_length: usize,
+    /// Of the report that the next frame carries, as in struct `sedge_clcw`.
+    pub status: u8,
+    pub vcid: u8,
+    pub flags: u8,
+    pub farm_b: u8,
+    pub value: u8,
+    /// Of the receiver, of `sedge_farm_mode`.
+    pub state: u8,
+}
+
+fn number_of_farm_mode(state: FarmMode) -> u8
+    ensures { result ≡ farm_mode_number state }
+{
+    state as u8
+}
+
+fn board_reading(node: &Spacecraft) -> BoardReading
+    ensures { result ≡ board_reading_of node.now }
+{
+    let word = node.control_word();
+    BoardReading {
+        frame_length: node.frame_length(),
+        status: word.status,
+        vcid: word.vcid,
+        flags: word.flags.bits(),
+        farm_b: word.farm_b,
+        value: word.value,
+        state: number_of_farm_mode(node.state()),
+    }
+}
+
+/// Reads the spacecraft: how many octets a telemetry frame has, the report that the next one carries, and the
+/// receiver's state. It stays as it was. Returns 0.
+#[unsafe(no_mangle)]
+pub extern "C" fn sedge_spacecraft_read(
+    alloc: Global,
+    spacecraft: &mut SpacecraftHandle,
+    read: &mut BoardReading,
+) -> u8
+    ensures { IsRead (λ s. Some (board_reading_of s))
+        spacecraft.old.value spacecraft.new.value result read.old read.new }
+{
+    read!(alloc, spacecraft, read, |node| board_reading(&node))
+}
+
+/// Writes how many of the segments that were sent and not acknowledged were accepted on board when a report of this
+/// value was made: the oldest ones (232.1-B-2, 5.1). It does so after an alert too, until V(S) is set or an initiation
+/// begins. If V(S) is NN(R) there are no such segments, and it writes 0 whatever the value. Returns 0, or
+/// `SEDGE_NODE_ABSENT` if there are and the value does not lie from NN(R) to V(S), so that nothing is known of them.
+#[unsafe(no_mangle)]
+pub extern "C" fn sedge_ground_accepted_beyond(
+    alloc: Global,
+    ground: &mut GroundHandle,
+    value: u8,
+    accepted: &mut u8,
+) -> u8
+    ensures { IsRead (λ s. accepted_beyond s.fop.nn s.fop.vs value)
+        ground.old.value ground.new.value result accepted.old accepted.new }
+{
+    held!(
+        alloc,
+        ground,
+        |node| write(node.accepted_beyond(value), accepted)
+    )
+}

@@ -1,0 +1,87 @@
+// What a program in C reads of a simulated link.
+
+ghost use Rattle.std.specs.Prelude.{◌≡◌, Some};
+ghost use Rattle.sedgechisel_nodes.specs.Calls.{IsRead};
+ghost use Rattle.sedgechisel_nodes.specs.Links.{begun_number, link_reading_of};
+ghost use Rattle.sedgechisel_nodes.specs.Rooms.{next_answer, IsHanding};
+
+use crate::handles::SimHandle;
+use crate::readings::number_of_mode;
+use crate::room::hand_out;
+use cop1::Directive;
+use std::alloc::Global;
+use tc_link::Sim;
+
+/// What is read of a simulated link.
+#[repr(C)]
+#[derive(Clone, Copy)]
+pub struct SimReading {
+    /// The number of segments that were submitted and are not acknowledged.
+    pub outstanding: usize,
+    /// How many of the first ones of the frames sent the ground holds acknowledged.
+    pub acknowledged: usize,
+    /// Of the ground's sender, of `sedge_fop_state`.
+    pub state: u8,
+    /// Of `sedge_begun`.
+    pub begun: u8,
+    /// The number of Set V(R).
+    pub vr: u8,
+    /// It began with nothing on its way, and without a CLCW check only where V(R) was V(S).
+    pub clean: bool,
+    /// It had an idle start (docs/PROMISES.md).
+    pub idle: bool,
+    /// A report has taken the ground from S4 or S5 to S1.
+    pub confirmed: bool,
+}
+
+fn number_of_beginning(directive: Option<Directive>) -> (u8, u8)
+    ensures { result ≡ begun_number directive }
+{
+    match directive {
+        Some(Directive::InitWithoutCheck) => (1, 0),
+        Some(Directive::InitWithCheck) => (2, 0),
+        Some(Directive::InitUnlock) => (3, 0),
+        Some(Directive::InitSetVr(vr)) => (4, vr),
+        _ => (0, 0),
+    }
+}
+
+fn link_reading(sim: &Sim) -> SimReading
+    ensures { result ≡ link_reading_of sim.now.world }
+{
+    let (begun, vr) = number_of_beginning(sim.begun());
+    SimReading {
+        outstanding: sim.outstanding(),
+        acknowledged: sim.acknowledged(),
+        state: number_of_mode(sim.state()),
+        begun,
+        vr,
+        clean: sim.clean().unwrap_or(false),
+        idle: sim.idle().unwrap_or(false),
+        confirmed: sim.confirmed(),
+    }
+}
+
+/// Reads the link: how the session began and how far it is. It stays as it was. Returns 0.
+#[unsafe(no_mangle)]
+pub extern "C" fn sedge_sim_read(alloc: Global, sim: &mut SimHandle, read: &mut SimReading) -> u8
+    ensures { IsRead (λ l. Some (link_reading_of l.world)) sim.old.value sim.new.value result read.old read.new }
+{
+    read!(alloc, sim, read, |link| link_reading(link.sim()))
+}
+
+/// Writes the octets of the last event's frame or packet, of which the reply has the `count`, and their number; 0
+/// octets where the reply had none. They stay. Returns 0 or `SEDGE_NODE_ROOM`.
+#[unsafe(no_mangle)]
+pub extern "C" fn sedge_sim_octets(
+    alloc: Global,
+    sim: &mut SimHandle,
+    out: &mut [u8],
+    count: &mut usize,
+) -> u8
+    ensures octets { IsHanding next_answer (λ l. Some l.octets)
+        sim.old.value result count.old count.new out.old out.new }
+    ensures unchanged { sim.new.value ≡ sim.old.value }
+{
+    held!(alloc, sim, |link| hand_out(Some(link.octets()), out, count))
+}

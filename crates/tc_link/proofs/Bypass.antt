@@ -1,0 +1,391 @@
+-- Packets that go past the sequence control.
+use Rattle.tc_link.proofs.Common.{ℕ, zero, suc, List, [], ◌∷◌, ◌++◌, drop, AreSomeOf, ◌≡◌, ◌+◌, ◌%◌, ◌-◌, Bool, true}
+use Rattle.tc_link.proofs.Common.{false, length, map, Option, Some, None, Result, Ok, Err, refl, ap, sym, subst, ◌∙◌}
+use Rattle.tc_link.proofs.Common.{append_assoc, append-nil, map-append, cond_both, AllByRecursion, TcFault, On}
+use Rattle.tc_link.proofs.Common.{SegmentView, BodyView, Ad, Bd, Bc, PulledUnit, pull_step, pulled_out, FopOutcome}
+use Rattle.tc_link.proofs.Common.{units_of, Verdict, is_to_send, after_queue, Config, FitsFrame, LinkFault, GroundState}
+use Rattle.tc_link.proofs.Common.{with_fop, frame_of, frame_to_send, submit_fault, bypass_fault, unless_refused}
+use Rattle.tc_link.proofs.Common.{after_bypass, PacketOn, SpacecraftState, SpacecraftOutcome, frame_outcome}
+use Rattle.tc_link.proofs.Common.{body_outcome, sequence_outcome, bypass_outcome, is_own_frame, is_kept, verdict_of}
+use Rattle.tc_link.proofs.Common.{is_free, limits_of, spacecraft_take, spacecraft_take_bypass, Heard, Event}
+use Rattle.tc_link.proofs.Common.{spacecraft_telemetry, World, WorldOutcome, world_step, world_after_pull}
+use Rattle.tc_link.proofs.Common.{world_after_take, world_after_queueing}
+use Rattle.tc_link.specs.Telemetry.{none, one, without}
+use Rattle.tc_frame.specs.Layout.{FrameView}
+use Rattle.tc_frame.specs.Encoding.{spelling}
+use Rattle.std.proofs.lemmas.List.Concat.{flat_map-append}
+use Rattle.std.specs.List.{flat_map}
+use Rattle.std.specs.Borrow.{Bor}
+use Rattle.nodes.specs.Ground.{ground_step, ground_take_telemetry}
+use Rattle.nodes.specs.Spacecraft.{is_accepted, after_take}
+use Rattle.nodes.specs.declared.received.Received.{Received}
+use Rattle.nodes.specs.declared.heard.HeardReport.{HeardReport}
+use Rattle.nodes.specs.declared.heard.HeardReport.TheVariants.{Used}
+use Rattle.clcw.specs.Decoding.{clcw_at}
+use Rattle.simulated_link.proofs.Unchanged.{AtEachLoss, lost, up_arrives, down_arrives}
+use Rattle.simulated_link.specs.World.{world_after_bypass}
+use Rattle.tm_link.specs.Decoding.{frame_at}
+use Rattle.tc_link.specs.AnyPast.{LinkStep, Happens, TakeTelemetry, Receives, Hears, ReportArrives, HearsReport}
+use Rattle.tc_link.specs.AnyPast.{ForgetTelemetry, NewGround, NewSpacecraft, IsLinkStep, link_step, link_run}
+use Rattle.tc_link.specs.AnyPast.{after_report, after_hearing, word_in, after_word}
+use Rattle.tc_link.specs.Bypass.{packet_of, packet_in, bypass_up, bypass_queued, bypass_held, bypass_accepted_by}
+use Rattle.tc_link.specs.Bypass.{bypass_taken_by, by_step, bypass_accepted, bypass_taken, ReceivesNothingElse}
+use Rattle.tc_link.specs.Bypass.{BypassKeepsOrder}
+use Rattle.tc_link.specs.InTransit.{in_frame}
+use Rattle.tc_link.proofs.AnyPast.{link_step_holds, past_holds}
+use Rattle.tc_link.proofs.BypassKept.{refilled_same, submission_same, directive_same, telemetry_same, word_same}
+use Rattle.tc_link.proofs.BypassKept.{ticked_same}
+use Rattle.tc_link.proofs.Common.{active_on}
+use Rattle.tc_link.proofs.FitFrames.{moved}
+use Rattle.tc_link.proofs.Invariant.{Holding}
+use Rattle.tc_link.proofs.Lists.{oldest_stands}
+use Rattle.tc_link.proofs.Spelled.{Goes, reads_back, fits_at}
+use Rattle.tc_frame.specs.Decoding as command
+use Rattle.nodes.specs.Ground as ground_calls
+use Rattle.nodes.specs.declared.heard.Heard.TheVariants as heard_cases
+use Rattle.nodes.specs.declared.event.Event.TheVariants as events
+
+-- What some of a list, in order, are of another.
+
+module _ {A : Type 0} where
+  pub some_all : (xs : List A) → AreSomeOf xs xs
+  some_all [] = none
+  some_all (x ∷ xs) = one (some_all xs)
+
+  pub some_none : (xs : List A) → AreSomeOf [] xs
+  some_none [] = none
+  some_none (x ∷ xs) = without (some_none xs)
+
+  pub some_append : {xs ys us vs : List A} → AreSomeOf xs ys → AreSomeOf us vs → AreSomeOf (xs ++ us) (ys ++ vs)
+  some_append none q = q
+  some_append (one p) q = one (some_append p q)
+  some_append (without p) q = without (some_append p q)
+
+  -- some of some of a list are some of it
+  pub some_trans : {ys zs : List A} → AreSomeOf ys zs → {xs : List A} → AreSomeOf xs ys → AreSomeOf xs zs
+  some_trans none p = p
+  some_trans (one q) (one p) = one (some_trans q p)
+  some_trans (one q) (without p) = without (some_trans q p)
+  some_trans (without q) p = without (some_trans q p)
+
+  pub some_drop : (n : ℕ) (xs : List A) → AreSomeOf (drop n xs) xs
+  some_drop zero xs = some_all xs
+  some_drop (suc n) [] = none
+  some_drop (suc n) (x ∷ xs) = without (some_drop n xs)
+
+  -- the last of both, and the first
+  pub some_later : (xs ys : List A) → AreSomeOf ys (xs ++ ys)
+  some_later [] ys = some_all ys
+  some_later (x ∷ xs) ys = without (some_later xs ys)
+
+  pub some_first : (xs ys : List A) → AreSomeOf xs (xs ++ ys)
+  some_first [] ys = some_none ys
+  some_first (x ∷ xs) ys = one (some_first xs ys)
+
+-- Each step passes bypass packets on, or drops some: none comes twice, or before one that was accepted before it.
+
+-- the packets in octets, and in those on a way
+abbrev in_octets : List ℕ → List PacketOn
+in_octets octets = in_frame packet_in (command.frame_at On octets)
+
+abbrev in_all : List (List ℕ) → List PacketOn
+in_all way = flat_map (λ octets. in_octets octets) way
+
+-- ---- what the spacecraft keeps of what arrives
+
+module _ (s : SpacecraftState) where
+  abbrev Keeps_of : List PacketOn → List PacketOn → Type 0
+  Keeps_of came after = AreSomeOf after (s.bypass ++ came)
+
+  verdict_kept : (n : ℕ) (u : SegmentView) (v : Verdict) → Keeps_of [] (sequence_outcome s n u v).after.bypass
+  verdict_kept n u v =
+      cond_both (is_accepted v) _ _ (λ (o : SpacecraftOutcome Received). Keeps_of [] o.after.bypass)
+      (λ t. some_first s.bypass []) (λ t. some_first s.bypass [])
+
+  bypass_kept : (u : SegmentView) (kept : Bool) → Keeps_of (packet_of u ∷ []) (bypass_outcome s u kept).after.bypass
+  bypass_kept u true =
+      let all : List PacketOn = s.bypass ++ packet_of u ∷ [] in some_drop (length all - s.config.bypass_slots) all
+  bypass_kept u false = some_first s.bypass (packet_of u ∷ [])
+
+  body_kept : (f : BodyView) → Keeps_of (packet_in f) (body_outcome s f).after.bypass
+  body_kept (Ad n u) = verdict_kept n u (verdict_of s.farm n (is_free s))
+  body_kept (Bd u) = bypass_kept u (is_kept (limits_of s.config) u)
+  body_kept (Bc command) = some_first s.bypass []
+
+  frame_kept : (r : Result FrameView TcFault) → Keeps_of (in_frame packet_in r) (frame_outcome s r).after.bypass
+  frame_kept (Err fault) = some_first s.bypass []
+  frame_kept (Ok frame) =
+      cond_both (is_own_frame s.config frame) _ _
+      (λ (o : SpacecraftOutcome Received). Keeps_of (packet_in frame.body) o.after.bypass)
+      (λ t. body_kept frame.body) (λ t. some_first s.bypass (packet_in frame.body))
+
+-- ---- each step
+
+-- from a world to the next one, where these were accepted and those taken
+record Passes (w : World) (taken accepted : List PacketOn) (new : World) : Type 0 where
+  some : AreSomeOf (taken ++ bypass_held new) (bypass_held w ++ accepted)
+
+module _ (c : Config) (w : World) (h : Holding c w) where
+  abbrev Passes_on : Event → WorldOutcome → Type 0
+  Passes_on e o = Passes w (bypass_taken_by e o.answer) (bypass_accepted_by e o.answer) o.after
+
+  -- none is accepted, and none taken
+  with_none : (new : World) → AreSomeOf (bypass_held new) (bypass_held w) → Passes w [] [] new
+  with_none new some = record { some = subst (AreSomeOf (bypass_held new)) (sym (append-nil (bypass_held w))) some }
+
+  -- fewer are held at each place
+  fewer : (new : World) → AreSomeOf new.spacecraft.bypass w.spacecraft.bypass → AreSomeOf (bypass_up new) (bypass_up w)
+      → AreSomeOf (bypass_queued new) (bypass_queued w) → Passes w [] [] new
+  fewer new board up queued = with_none new (some_append board (some_append up queued))
+
+  same : Passes w [] [] w
+  same = with_none w (some_all (bypass_held w))
+
+  -- the ground has the same queue, or another
+  on_ground : (new : World) → new.spacecraft ≡ w.spacecraft → new.up ≡ w.up
+      → new.ground_node.fop.bypass ≡ w.ground_node.fop.bypass → Passes w [] [] new
+  on_ground new board up queued =
+      fewer new (rw board (some_all w.spacecraft.bypass)) (rw up (some_all (bypass_up w)))
+      (rw queued (some_all (bypass_queued w)))
+
+  on_board : (s : SpacecraftState) → AreSomeOf s.bypass w.spacecraft.bypass
+      → Passes w [] [] (record w { spacecraft = s })
+  on_board s board = fewer (record w { spacecraft = s }) board (some_all (bypass_up w)) (some_all (bypass_queued w))
+
+  -- ---- the first frame on its way up is there no more
+
+  module _ (b : List ℕ) (bs : List (List ℕ)) (is : w.up ≡ b ∷ bs) where
+    up_is : bypass_up w ≡ in_octets b ++ in_all bs
+    up_is = ap (λ (way : List (List ℕ)). in_all way) is
+
+    up_gone : Passes w [] [] (record w { up = bs })
+    up_gone =
+        fewer (record w { up = bs }) (some_all w.spacecraft.bypass)
+        (subst (AreSomeOf (in_all bs)) (sym up_is) (some_later (in_octets b) (in_all bs)))
+        (some_all (bypass_queued w))
+
+    arrived : (s : SpacecraftState) → AreSomeOf s.bypass (w.spacecraft.bypass ++ in_octets b)
+        → Passes w [] [] (record w { up = bs; spacecraft = s })
+    arrived s kept =
+        let q = bypass_queued w in
+        let ring = w.spacecraft.bypass in
+        let all : AreSomeOf (s.bypass ++ (in_all bs ++ q)) ((ring ++ in_octets b) ++ (in_all bs ++ q)) =
+        some_append kept (some_all (in_all bs ++ q)) in
+        let parts : (ring ++ in_octets b) ++ (in_all bs ++ q) ≡ bypass_held w =
+        append_assoc ring (in_octets b) (in_all bs ++ q)
+        ∙ ap (λ (ps : List PacketOn). ring ++ ps) (sym (append_assoc (in_octets b) (in_all bs) q))
+        ∙ ap (λ (ps : List PacketOn). ring ++ (ps ++ q)) (sym up_is) in
+        with_none (record w { up = bs; spacecraft = s }) (subst (AreSomeOf (s.bypass ++ (in_all bs ++ q))) parts all)
+
+  -- ---- a frame is sent
+
+  abbrev Pulls : FopOutcome SegmentView (PulledUnit SegmentView) → Type 0
+  Pulls o = Passes w [] [] (world_after_pull w (with_fop w.ground_node o.after)
+      (frame_to_send w.ground_node.config o.answer)).after
+
+  -- what is read of the frame that is sent
+  reads : (f : BodyView) → Goes f → in_octets (spelling On (frame_of w.ground_node.config f)) ≡ packet_in f
+  reads f goes =
+      let octets : List ℕ = spelling On (frame_of w.ground_node.config f) in
+      let read : command.frame_at On octets ≡ Ok (frame_of w.ground_node.config f) =
+      rw h.sound.ground_node.config (reads_back c f h.sound.ranges goes) in ap (in_frame packet_in) read
+
+  pushed : (f : BodyView) → Goes f
+      → in_all (w.up ++ spelling On (frame_of w.ground_node.config f) ∷ []) ≡ bypass_up w ++ packet_in f
+  pushed f goes =
+      flat_map-append (λ (octets : List ℕ). in_octets octets) w.up (spelling On (frame_of w.ground_node.config f) ∷ [])
+      ∙ ap (λ (ps : List PacketOn). bypass_up w ++ ps)
+      (append-nil (in_octets (spelling On (frame_of w.ground_node.config f))) ∙ reads f goes)
+
+  -- with what is left in the queue the same packets are there
+  sends : (f : BodyView) → Goes f → (new : World) → new.spacecraft ≡ w.spacecraft
+      → new.up ≡ w.up ++ spelling On (frame_of w.ground_node.config f) ∷ []
+      → packet_in f ++ bypass_queued new ≡ bypass_queued w → Passes w [] [] new
+  sends f goes new board up queued =
+      let up_so : bypass_up new ≡ bypass_up w ++ packet_in f =
+      ap (λ (way : List (List ℕ)). in_all way) up ∙ pushed f goes in
+      let held : bypass_held new ≡ bypass_held w =
+      ap (λ (s : SpacecraftState). s.bypass ++ (bypass_up new ++ bypass_queued new)) board
+      ∙ ap (λ (ps : List PacketOn). w.spacecraft.bypass ++ (ps ++ bypass_queued new)) up_so
+      ∙ ap (λ (ps : List PacketOn). w.spacecraft.bypass ++ ps)
+      (append_assoc (bypass_up w) (packet_in f) (bypass_queued new))
+      ∙ ap (λ (ps : List PacketOn). w.spacecraft.bypass ++ (bypass_up w ++ ps)) queued in
+      with_none new (subst (λ (ps : List PacketOn). AreSomeOf ps (bypass_held w)) (sym held) (some_all (bypass_held w)))
+
+  abbrev queue_of : List SegmentView → List PacketOn
+  queue_of us = map packet_of us
+
+  sent_passes : Pulls (pull_step w.ground_node.fop)
+  sent_passes =
+      let s = w.ground_node.fop in
+      let g = h.carried.fits in
+      pulled_out s Pulls (record {
+        none = on_ground _ refl refl (refilled_same w.ground_node);
+        command = λ command is. sends (Bc command) tt _ refl refl (ap queue_of (refilled_same _));
+        bypass = λ u us is.
+            let fit : AllByRecursion FitsFrame (u ∷ us) = rw is at h.sound.ground_node.fop.bypass_fits in
+            sends (Bd u) fit.0 _ refl refl
+            (ap (λ (left : List SegmentView). packet_of u ∷ queue_of left) (refilled_same _) ∙ ap queue_of (sym is));
+        again = λ active x is.
+            let stands = oldest_stands 0 s.sent x is in
+            let fit : FitsFrame x.1 =
+            fits_at (units_of s.sent) stands.0 x.1 (g.sent (active_on s.state active)) stands.2 in
+            sends (Ad ((s.nn + x.0) % 256) x.1) fit _ refl refl (ap queue_of (refilled_same _));
+        first = λ active u is room.
+            let fit : FitsFrame u = (moved s w.ground_node.pending g u is (active_on s.state active)).0 in
+            sends (Ad s.vs u) fit _ refl refl (ap queue_of (refilled_same _));
+      })
+
+  -- ---- a packet is accepted on the ground, or taken on board
+
+  accepted_on : (m : ℕ) (octets : List ℕ) → Passes w [] (record { on_map = m; octets = octets } ∷ [])
+      (record w { ground_node = after_bypass w.ground_node m octets })
+  accepted_on m octets =
+      let p : PacketOn = record { on_map = m; octets = octets } in
+      let ring = w.spacecraft.bypass in
+      let q = bypass_queued w in
+      let queued : bypass_queued (record w { ground_node = after_bypass w.ground_node m octets }) ≡ q ++ p ∷ [] =
+      map-append packet_of w.ground_node.fop.bypass _ in
+      let held : ring ++ (bypass_up w ++ (q ++ p ∷ [])) ≡ bypass_held w ++ p ∷ [] =
+      ap (λ (ps : List PacketOn). ring ++ ps) (sym (append_assoc (bypass_up w) q (p ∷ [])))
+      ∙ sym (append_assoc ring (bypass_up w ++ q) (p ∷ [])) in
+      record {
+        some = subst (λ (ps : List PacketOn). AreSomeOf ps (bypass_held w ++ p ∷ []))
+            (sym (ap (λ (ps : List PacketOn). ring ++ (bypass_up w ++ ps)) queued ∙ held))
+            (some_all (bypass_held w ++ p ∷ []));
+      }
+
+  bypass_event : (m : ℕ) (octets : Bor (List ℕ)) (o : Option LinkFault) → Passes_on (events.Bypass m octets)
+      (world_after_bypass w (unless_refused o w.ground_node (after_bypass w.ground_node m octets.now)))
+  bypass_event m octets None = accepted_on m octets.now
+  bypass_event m octets (Some fault) = same
+
+  take_event : (packets : List PacketOn) → w.spacecraft.bypass ≡ packets
+      → Passes_on events.TakeBypass (world_after_take w (spacecraft_take_bypass w.spacecraft packets))
+  take_event [] is = same
+  take_event (packet ∷ left) is =
+      let rest : List PacketOn = bypass_up w ++ bypass_queued w in
+      record {
+        some = subst (AreSomeOf (packet ∷ (left ++ rest)))
+            (ap (λ (ps : List PacketOn). ps ++ rest) (sym is) ∙ sym (append-nil (bypass_held w)))
+            (some_all (packet ∷ (left ++ rest)));
+      }
+
+  take_kept : (packets : List PacketOn)
+      → Passes w [] [] (world_after_take w (spacecraft_take w.spacecraft packets)).after
+  take_kept [] = same
+  take_kept (packet ∷ left) = on_board (after_take w.spacecraft left) (some_all w.spacecraft.bypass)
+
+  queue_kept : (octets : List ℕ)
+      → Passes w [] [] (world_after_queueing w (spacecraft_telemetry w.spacecraft octets)).after
+  queue_kept octets =
+      cond_both (is_to_send octets) _ _ (λ o. Passes w [] [] (world_after_queueing w o).after)
+      (λ t. on_board (record w.spacecraft { builder = after_queue w.spacecraft.builder octets })
+      (some_all w.spacecraft.bypass)) (λ t. same)
+
+  -- ---- all events
+
+  abbrev AtLoss : WorldOutcome → Type 0
+  AtLoss o = Passes w [] [] o.after
+
+  losses : AtEachLoss w AtLoss
+  losses = record {
+    refused = λ fault. same;
+    up = λ b bs is reply silent. up_gone b bs is;
+    down = λ b bs is reply silent. on_ground (record w { down = bs }) refl refl refl;
+  }
+
+  event_passes : (e : Event) → Passes_on e (world_step w e)
+  event_passes (events.Submit m octets) =
+      on_ground _ refl refl (submission_same w.ground_node m octets.now (submit_fault w.ground_node m octets.now))
+  event_passes (events.Bypass m octets) = bypass_event m octets (bypass_fault w.ground_node m octets.now)
+  event_passes (events.Directive d) = on_ground _ refl refl (directive_same w.ground_node d)
+  event_passes events.Send = sent_passes
+  event_passes events.UpDeliver =
+      up_arrives w (Passes_on events.UpDeliver) same
+      (λ b bs is. arrived b bs is _ (frame_kept w.spacecraft (command.frame_at On b)))
+  event_passes events.Report =
+      fewer (world_step w events.Report).after (some_all w.spacecraft.bypass) (some_all (bypass_up w))
+      (some_all (bypass_queued w))
+  event_passes events.DownDeliver =
+      down_arrives w (Passes_on events.DownDeliver) same (λ b bs is.
+      on_ground _ refl refl (telemetry_same w.ground_node (frame_at w.ground_node.config.frame_length b)))
+  event_passes events.UpLose = lost w AtLoss losses events.UpLose tt
+  event_passes (events.UpDamage octets) = lost w AtLoss losses (events.UpDamage octets) tt
+  event_passes events.DownLose = lost w AtLoss losses events.DownLose tt
+  event_passes (events.DownDamage octets) = lost w AtLoss losses (events.DownDamage octets) tt
+  event_passes events.Tick = on_ground _ refl refl (ticked_same w.ground_node)
+  event_passes events.Take = take_kept w.spacecraft.ready
+  event_passes events.TakeBypass = take_event w.spacecraft.bypass refl
+  event_passes (events.Telemetry octets) = queue_kept octets.now
+
+  -- ---- the other steps
+
+  report_passes : (after : GroundState) (r : HeardReport) → after.fop.bypass ≡ w.ground_node.fop.bypass
+      → Passes w [] [] (after_report w after r)
+  report_passes after Used queued = on_ground _ refl refl queued
+  report_passes after _ queued = on_ground _ refl refl queued
+
+  heard_passes : (after : GroundState) (a : Heard) → after.fop.bypass ≡ w.ground_node.fop.bypass
+      → Passes w [] [] (after_hearing w after a)
+  heard_passes after (heard_cases.Frame gap packets report alert) queued = report_passes after report queued
+  heard_passes after _ queued = on_ground _ refl refl queued
+
+  word_passes : (bs : List (List ℕ)) → Passes w [] [] (after_word w bs)
+  word_passes [] = same
+  word_passes (b ∷ bs) =
+      on_ground _ refl refl
+      (word_same w.ground_node (clcw_at (word_in (frame_at w.ground_node.config.frame_length b))))
+
+  taken_same : (packets : List (List ℕ))
+      → (ground_take_telemetry w.ground_node packets).after.fop.bypass ≡ w.ground_node.fop.bypass
+  taken_same [] = refl
+  taken_same (packet ∷ left) = refl
+
+  step_passes : (s : LinkStep) → ReceivesNothingElse s
+      → Passes w (by_step bypass_taken_by w s) (by_step bypass_accepted_by w s) (link_step w s)
+  step_passes (Happens e) own = event_passes e
+  step_passes TakeTelemetry own = on_ground _ refl refl (taken_same w.ground_node.telemetry)
+  step_passes (Hears octets) own =
+      let o = ground_step w.ground_node (ground_calls.Telemetry octets) in
+      heard_passes o.after o.answer
+      (telemetry_same w.ground_node (frame_at w.ground_node.config.frame_length octets))
+  step_passes ReportArrives own = word_passes w.down
+  step_passes (HearsReport octets) own =
+      let o = ground_step w.ground_node (ground_calls.ControlWord octets) in
+      report_passes o.after o.answer.report (word_same w.ground_node (clcw_at octets))
+  step_passes ForgetTelemetry own = on_ground _ refl refl refl
+  step_passes NewGround own =
+      fewer _ (some_all w.spacecraft.bypass) (some_all (bypass_up w)) (some_none (bypass_queued w))
+  step_passes NewSpacecraft own =
+      fewer _ (some_none w.spacecraft.bypass) (some_all (bypass_up w)) (some_all (bypass_queued w))
+  step_passes (Receives octets) own = elim own [ ]
+
+-- ---- a run
+
+run_passes : (c : Config) (steps : List LinkStep) (w : World) → Holding c w → AllByRecursion IsLinkStep steps
+    → AllByRecursion ReceivesNothingElse steps
+    → AreSomeOf (bypass_taken w steps ++ bypass_held (link_run w steps)) (bypass_held w ++ bypass_accepted w steps)
+run_passes c [] w h fits own = (same c w h).some
+run_passes c (s ∷ more) w h fits own =
+    let next = link_step w s in
+    let t = by_step bypass_taken_by w s in
+    let a = by_step bypass_accepted_by w s in
+    let held = bypass_held (link_run next more) in
+    let later = run_passes c more next (link_step_holds c w h s fits.0) fits.1 own.1 in
+    let first : AreSomeOf (t ++ (bypass_taken next more ++ held))
+    (t ++ (bypass_held next ++ bypass_accepted next more)) =
+    some_append (some_all t) later in
+    let last : AreSomeOf ((t ++ bypass_held next) ++ bypass_accepted next more)
+    ((bypass_held w ++ a) ++ bypass_accepted next more) =
+    some_append (step_passes c w h s own.0).some (some_all (bypass_accepted next more)) in
+    let middle : AreSomeOf (t ++ (bypass_held next ++ bypass_accepted next more))
+    (bypass_held w ++ (a ++ bypass_accepted next more)) =
+    rw (
+      ← append_assoc t (bypass_held next) (bypass_accepted next more),
+      ← append_assoc (bypass_held w) a (bypass_accepted next more),
+    ) last in
+    rw (append_assoc t (bypass_taken next more) held) (some_trans middle first)
+
+pub bypass_keeps_order : BypassKeepsOrder
+bypass_keeps_order w since past fits own = run_passes past.config since w (past_holds w past) fits own

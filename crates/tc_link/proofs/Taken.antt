@@ -1,0 +1,279 @@
+-- What is taken on board since a session began is what it has delivered.
+use Rattle.tc_link.proofs.Common.{◌≡◌, ℕ, List, [], ◌∷◌, ◌++◌, length, take, drop, map, filter, eqb, Option, Result}
+use Rattle.tc_link.proofs.Common.{option_map, option_to_list, refl, sym, subst, ap, ◌∙◌, append-nil, append_assoc}
+use Rattle.tc_link.proofs.Common.{cond_both, map-append, filter-append, SegmentView, assembled, assembled-push}
+use Rattle.tc_link.proofs.Common.{assembled-other, is_to_send, TmFault, Config, segment_to_accept, PacketOn, limits_of}
+use Rattle.tc_link.proofs.Common.{SpacecraftState, SpacecraftOutcome, spacecraft_step, spacecraft_take}
+use Rattle.tc_link.proofs.Common.{spacecraft_take_bypass, spacecraft_telemetry, Event, Opening, KeepsSession, World}
+use Rattle.tc_link.proofs.Common.{WorldOutcome, IsIdle, delivered, world_step, world_run, run_answers}
+use Rattle.tc_link.proofs.Common.{world_after_take, inl, inr, Bool, true, false, S1, take_all, Directive, PlainLink}
+use Rattle.std.proofs.lemmas.List.{append_cancel_left}
+use Rattle.tc_link.proofs.Made.{made, made-append, receives_made, all_made, first_made}
+use Rattle.std.proofs.Math.Seq.{take-append_seam, drop-append_seam}
+use Rattle.nodes.specs.Delivery.{packets_of_map, delivered_on}
+use Rattle.nodes.specs.Spacecraft.{Receive}
+use Rattle.nodes.proofs.Delivery.{delivers}
+use Rattle.tc_link.specs.Taken.{BeginsSession, handed_out, taken, taken_since, ready_on, HandsOutWhatIsDelivered}
+use Rattle.tc_link.specs.Taken.{HandsOutWhatIsSubmitted, HandsOutAsSubmitted, all_submitted}
+use Rattle.nodes.specs.Ground.{outstanding}
+use Rattle.octets.specs.Beginning.{IsBeginning}
+use Rattle.tc_link.proofs.Linked.{In}
+use Rattle.tc_link.proofs.Sound.{Sound}
+use Rattle.simulated_link.proofs.AcceptedSegments.{accepts_segment}
+use Rattle.tc_link.proofs.InOrder.{is_in_order, all_accepted}
+use Rattle.simulated_link.proofs.Gained.{config_stays}
+use Rattle.tc_link.proofs.AnyPast.{past_holds}
+use Rattle.tc_link.proofs.Invariant.{opened, session_stays, begun_is, step_holds, run_holds}
+use Rattle.simulated_link.proofs.Unchanged.{AtEachLoss, lost, pulled, up_arrives, down_arrives}
+use Rattle.nodes.specs.declared.event.Event.TheVariants as events
+
+-- from the one state to the other these packets were handed out, and some more were made ready
+record Passes (old : SpacecraftState) (out : List PacketOn) (new : SpacecraftState) : Type 0 where
+  config : new.config ≡ old.config
+  segments : List SegmentView
+  accepted : new.accepted ≡ old.accepted ++ segments
+  more : List PacketOn
+  made_is : more ≡ made (limits_of old.config) old.accepted segments
+  ready : out ++ new.ready ≡ old.ready ++ more
+  delivered : (m : ℕ) → delivered_on m new ≡ delivered_on m old ++ packets_of_map m more
+
+of_both : (m : ℕ) (xs ys : List PacketOn) → packets_of_map m (xs ++ ys) ≡ packets_of_map m xs ++ packets_of_map m ys
+of_both m xs ys =
+    ap (map (λ (p : PacketOn). p.octets)) (filter-append (λ (p : PacketOn). eqb p.on_map m) xs ys)
+    ∙ map-append (λ (p : PacketOn). p.octets) (filter (λ (p : PacketOn). eqb p.on_map m) xs)
+    (filter (λ (p : PacketOn). eqb p.on_map m) ys)
+
+-- nothing more is made ready
+passes_none : (old new : SpacecraftState) (out : List PacketOn) → new.config ≡ old.config
+    → new.accepted ≡ old.accepted → out ++ new.ready ≡ old.ready → Passes old out new
+passes_none old new out config accepted ready = record {
+  config = config;
+  segments = [];
+  accepted = accepted ∙ sym (append-nil old.accepted);
+  more = [];
+  made_is = refl;
+  ready = ready ∙ sym (append-nil old.ready);
+  delivered = λ m. rw (config, accepted) (sym (append-nil (delivered_on m old)));
+}
+
+passes_both : (s t u : SpacecraftState) (xs ys : List PacketOn) → Passes s xs t → Passes t ys u → Passes s (xs ++ ys) u
+passes_both s t u xs ys first then = record {
+  config = then.config ∙ first.config;
+  segments = first.segments ++ then.segments;
+  accepted = then.accepted ∙ ap (λ a. a ++ then.segments) first.accepted
+      ∙ append_assoc s.accepted first.segments then.segments;
+  more = first.more ++ then.more;
+  made_is = ap (λ r. r ++ then.more) first.made_is
+      ∙ ap (λ r. made (limits_of s.config) s.accepted first.segments ++ r) (then.made_is
+      ∙ ap (λ (c : Config). made (limits_of c) t.accepted then.segments) first.config
+      ∙ ap (λ a. made (limits_of s.config) a then.segments) first.accepted)
+      ∙ sym (made-append (limits_of s.config) s.accepted first.segments then.segments);
+  ready = append_assoc xs ys u.ready
+      ∙ ap (λ r. xs ++ r) then.ready
+      ∙ sym (append_assoc xs t.ready then.more)
+      ∙ ap (λ r. r ++ then.more) first.ready
+      ∙ append_assoc s.ready first.more then.more;
+  delivered = λ m. then.delivered m
+      ∙ ap (λ d. d ++ packets_of_map m then.more) (first.delivered m)
+      ∙ append_assoc (delivered_on m s) (packets_of_map m first.more) (packets_of_map m then.more)
+      ∙ ap (λ d. delivered_on m s ++ d) (sym (of_both m first.more then.more));
+}
+
+-- ---- each event
+
+receives : (s : SpacecraftState) (octets : List ℕ) → Passes s [] (spacecraft_step s (Receive octets)).after
+receives s octets =
+    let has = delivers (λ limits segments u. assembled-push limits segments u _ refl) assembled-other s octets in
+    record {
+      config = config_stays s octets;
+      segments = option_to_list (segment_to_accept s octets);
+      accepted = accepts_segment s octets;
+      more = has.more;
+      made_is = append_cancel_left s.ready has.more _ (sym has.ready ∙ receives_made s octets);
+      ready = has.ready;
+      delivered = has.delivered;
+    }
+
+module _ (w : World) where
+  takes : (ready : List PacketOn) → w.spacecraft.ready ≡ ready
+      → let o : WorldOutcome = world_after_take w (spacecraft_take w.spacecraft ready) in
+      Passes w.spacecraft (handed_out events.Take o.answer) o.after.spacecraft
+  takes [] is = passes_none w.spacecraft w.spacecraft [] refl refl refl
+  takes (p ∷ left) is = passes_none w.spacecraft _ (p ∷ []) refl refl (sym is)
+
+  takes_bypass : (bypass : List PacketOn)
+      → Passes w.spacecraft [] (spacecraft_take_bypass w.spacecraft bypass).after
+  takes_bypass [] = passes_none w.spacecraft _ [] refl refl refl
+  takes_bypass (p ∷ left) = passes_none w.spacecraft _ [] refl refl refl
+
+  queues : (packet : List ℕ) → Passes w.spacecraft [] (spacecraft_telemetry w.spacecraft packet).after
+  queues packet =
+      cond_both (is_to_send packet) _ _
+      (λ (o : SpacecraftOutcome (Result (Unit {0}) TmFault)). Passes w.spacecraft [] o.after)
+      (λ _. passes_none w.spacecraft _ [] refl refl refl) (λ _. passes_none w.spacecraft _ [] refl refl refl)
+
+  stays : Passes w.spacecraft [] w.spacecraft
+  stays = passes_none w.spacecraft w.spacecraft [] refl refl refl
+
+  abbrev HandsOutNone : WorldOutcome → Type 0
+  HandsOutNone o = Passes w.spacecraft [] o.after.spacecraft
+
+  losses : AtEachLoss w HandsOutNone
+  losses = record {
+    refused = λ fault. stays;
+    up = λ b bs is reply silent. stays;
+    down = λ b bs is reply silent. stays;
+  }
+
+  passes : (e : Event)
+      → Passes w.spacecraft (handed_out e (world_step w e).answer) (world_step w e).after.spacecraft
+  passes events.Send = pulled w HandsOutNone (λ reply up sent silent. stays)
+  passes events.UpDeliver = up_arrives w HandsOutNone stays (λ b bs is. receives w.spacecraft b)
+  passes events.DownDeliver = down_arrives w HandsOutNone stays (λ b bs is. stays)
+  passes events.UpLose = lost w HandsOutNone losses events.UpLose tt
+  passes (events.UpDamage octets) = lost w HandsOutNone losses (events.UpDamage octets) tt
+  passes events.DownLose = lost w HandsOutNone losses events.DownLose tt
+  passes (events.DownDamage octets) = lost w HandsOutNone losses (events.DownDamage octets) tt
+  passes events.Report = passes_none w.spacecraft _ [] refl refl refl
+  passes events.Take = takes w.spacecraft.ready refl
+  passes events.TakeBypass = takes_bypass w.spacecraft.bypass
+  passes (events.Telemetry octets) = queues octets.now
+  passes _ = stays
+
+-- ---- a session
+
+record Since (old : World) (out : List PacketOn) (new : World) : Type 0 where
+  passes : Passes old.spacecraft out new.spacecraft
+  same : opened new.session ≡ opened old.session
+
+since_then : (w : World) (events : List Event) → KeepsSession w events
+    → Since w (taken events (run_answers w events)) (world_run w events)
+since_then w [] keeps = record { passes = stays w; same = refl }
+since_then w (e ∷ es) keeps =
+    let rest = since_then (world_step w e).after es keeps.1 in
+    record {
+      passes = passes_both w.spacecraft (world_step w e).after.spacecraft
+          (world_run (world_step w e).after es).spacecraft (handed_out e (world_step w e).answer)
+          (taken es (run_answers (world_step w e).after es)) (passes w e) rest.passes;
+      same = rest.same ∙ session_stays w e keeps.0;
+    }
+
+module _ (old new : World) (out : List PacketOn) (m : ℕ) (s : Since old out new)
+    (begins : old.session.before ≡ length old.spacecraft.accepted) where
+  -- what the session delivered was made ready since
+  delivered_is : delivered new m ≡ packets_of_map m s.passes.more
+  delivered_is =
+      let was : List (List ℕ) = delivered_on m old.spacecraft in
+      ap (λ (c : Config). drop (length (assembled (limits_of c) m (take new.session.before new.spacecraft.accepted)))
+      (delivered_on m new.spacecraft)) s.passes.config
+      ∙ ap (λ (n : ℕ). drop (length (assembled (limits_of old.spacecraft.config) m (take n new.spacecraft.accepted)))
+      (delivered_on m new.spacecraft)) (ap (λ (o : Option Opening × ℕ). o.1) s.same ∙ begins)
+      ∙ ap (λ (xs : List SegmentView). drop (length (assembled (limits_of old.spacecraft.config) m
+      (take (length old.spacecraft.accepted) xs))) (delivered_on m new.spacecraft)) s.passes.accepted
+      ∙ ap (λ (xs : List SegmentView). drop (length (assembled (limits_of old.spacecraft.config) m xs))
+      (delivered_on m new.spacecraft)) (take-append_seam old.spacecraft.accepted s.passes.segments)
+      ∙ ap (drop (length was)) (s.passes.delivered m)
+      ∙ drop-append_seam was (packets_of_map m s.passes.more)
+
+  hands_out : packets_of_map m out ++ ready_on new m ≡ ready_on old m ++ delivered new m
+  hands_out =
+      sym (of_both m out new.spacecraft.ready)
+      ∙ ap (packets_of_map m) s.passes.ready
+      ∙ of_both m old.spacecraft.ready s.passes.more
+      ∙ ap (λ d. ready_on old m ++ d) (sym delivered_is)
+
+begins_there : (w : World) (e : Event) → BeginsSession w e
+    → (world_step w e).after.session.before ≡ length (world_step w e).after.spacecraft.accepted
+begins_there w e b =
+    subst (λ (e : Event). (world_step w e).after.session.before ≡ length (world_step w e).after.spacecraft.accepted)
+    (sym b.1) (ap (λ s. s.before) (begun_is w b.0 b.2 b.3))
+
+pub hands_out_what_is_delivered : HandsOutWhatIsDelivered
+hands_out_what_is_delivered w e since m b keeps =
+    let start : World = (world_step w e).after in
+    hands_out start (world_run start since) (taken since (run_answers start since)) m (since_then start since keeps)
+    (begins_there w e b)
+
+pub hands_out_what_is_submitted : HandsOutWhatIsSubmitted
+hands_out_what_is_submitted w e since m r b keeps fits idle =
+    let start : World = (world_step w e).after in
+    let new : World = world_run start since in
+    let s = since_then start since keeps in
+    let h = run_holds r.config since start fits.1 (step_holds r.config w (past_holds w r) e fits.0) in
+    let still : IsIdle new = ap (λ (o : Option Opening × ℕ). option_map (λ (x : Opening). x.idle) o.0) s.same ∙ idle in
+    let order = (is_in_order r.config new h.sound (h.session still)).in_order m in (
+      ready_on new m ++ order.0,
+      ap (λ d. ready_on start m ++ d) order.1
+          ∙ sym (append_assoc (ready_on start m) (delivered new m) order.0)
+          ∙ ap (λ d. d ++ order.0) (sym (hands_out_what_is_delivered w e since m b keeps))
+          ∙ append_assoc (taken_since start since m) (ready_on new m) order.0,
+    )
+
+-- ---- over all MAPs
+
+module _ (old new : World) (out : List PacketOn) (s : Since old out new)
+    (begins : old.session.before ≡ length old.spacecraft.accepted) where
+  -- what was accepted since is what the session has accepted
+  since_is : s.passes.segments ≡ drop new.session.before new.spacecraft.accepted
+  since_is =
+      sym (ap (λ n. drop n new.spacecraft.accepted) (ap (λ (o : Option Opening × ℕ). o.1) s.same ∙ begins)
+      ∙ ap (drop (length old.spacecraft.accepted)) s.passes.accepted
+      ∙ drop-append_seam old.spacecraft.accepted s.passes.segments)
+
+  module _ (early : Bool) (c : Config) (d : Directive) (base : ℕ) (k : Sound c new) (g : In early c d base new) where
+    abbrev p : PlainLink
+    p = g.plain
+
+    abbrev was : List SegmentView
+    was = old.spacecraft.accepted
+
+    old_config : old.spacecraft.config ≡ c
+    old_config = sym s.passes.config ∙ k.spacecraft.config
+
+    more_is : s.passes.more ≡ made (limits_of c) was (take p.r p.units)
+    more_is =
+        s.passes.made_is
+        ∙ ap (λ (x : Config). made (limits_of x) was s.passes.segments) old_config
+        ∙ ap (made (limits_of c) was) (since_is ∙ g.linked.accepted_is)
+
+    units_made : made (limits_of c) was p.units ≡ all_submitted new
+    units_made = ap (made (limits_of c) was) g.linked.units_are
+        ∙ all_made c k.ranges.part.0 was new.session.submissions g.linked.given
+
+    begins_all : IsBeginning s.passes.more (all_submitted new)
+    begins_all = (
+      made (limits_of c) (was ++ take p.r p.units) (drop p.r p.units),
+      sym units_made
+          ∙ first_made c k.ranges.part.0 was p.units p.r
+          ∙ ap (λ ps. ps ++ made (limits_of c) (was ++ take p.r p.units) (drop p.r p.units)) (sym more_is),
+    )
+
+    all_passed : new.ground_node.fop.state ≡ S1 → outstanding new.ground_node ≡ [] → s.passes.more ≡ all_submitted new
+    all_passed on nothing =
+        more_is
+        ∙ ap (made (limits_of c) was) (take_all p.r p.units (all_accepted early c d base new g on nothing))
+        ∙ units_made
+
+pub hands_out_as_submitted : HandsOutAsSubmitted
+hands_out_as_submitted w e since r b keeps fits idle =
+    let start : World = (world_step w e).after in
+    let new : World = world_run start since in
+    let out = taken since (run_answers start since) in
+    let s = since_then start since keeps in
+    let begins = begins_there w e b in
+    let h = run_holds r.config since start fits.1 (step_holds r.config w (past_holds w r) e fits.0) in
+    let still : IsIdle new = ap (λ (o : Option Opening × ℕ). option_map (λ (x : Opening). x.idle) o.0) s.same ∙ idle in
+    let t = h.session still in
+    let k = h.sound in
+    record {
+      passed = s.passes.more;
+      order = s.passes.ready;
+      begins = elim t.session [
+        | inl g ↦ begins_all start new out s begins true r.config t.directive t.base k g
+        | inr g ↦ begins_all start new out s begins false r.config t.directive t.base k g
+      ];
+      complete = elim t.session [
+        | inl g ↦ all_passed start new out s begins true r.config t.directive t.base k g
+        | inr g ↦ all_passed start new out s begins false r.config t.directive t.base k g
+      ];
+    }
