@@ -23,6 +23,7 @@ pub mod Locks
 pub mod Made
 pub mod NoMore
 pub mod OneLink
+pub mod Outage
 pub mod ProgressLists
 pub mod ProgressLive
 pub mod Progress

@@ -10,7 +10,7 @@ use Rattle.tc_link.specs.Telemetry.{none, one, without}
 
 -- ---- the frames that came, of those that are no longer on their way
 
-choice_none : (frames : List FrameView) → choice frames [] ≡ []
+pub choice_none : (frames : List FrameView) → choice frames [] ≡ []
 choice_none [] = refl
 choice_none (f ∷ frames) = refl
 

@@ -413,13 +413,13 @@ all_came : (spelled : List FrameView) → map spelling spelled ≡ [] → spelle
 all_came [] e = refl
 all_came (f ∷ fs) e = absurd cc
 
-in_range : (c : Config) (frames : List FrameView) → AllByRecursion (IsSentBy c) frames
+pub in_range : (c : Config) (frames : List FrameView) → AllByRecursion (IsSentBy c) frames
     → AllByRecursion IsInRange frames
 in_range c [] each = tt
 in_range c (f ∷ frames) each = (each.0.range, in_range c frames each.1)
 
 module _ (c : Config) (d : Downlink) (g : Laid c d) where
-  chosen : choice d.sent d.came ≡ choice g.way.gone d.came
+  pub chosen : choice d.sent d.came ≡ choice g.way.gone d.came
   chosen = ap (λ fs. choice fs d.came) g.way.parts ∙ choice_front g.way.gone g.way.going d.came g.way.counted
 
   arrived : IsClose d.came → packets_down d ≡ arrived_packets g.laid.laid.all d.sent d.came
@@ -452,7 +452,7 @@ module _ (c : Config) (d : Downlink) (g : Laid c d) where
     complete = whole;
   }
 
-run_laid : (c : Config) (steps : List DownlinkStep) (d : Downlink) → AllByRecursion IsDownlinkStep steps → Laid c d
+pub run_laid : (c : Config) (steps : List DownlinkStep) (d : Downlink) → AllByRecursion IsDownlinkStep steps → Laid c d
     → Laid c (downlink_run d steps)
 run_laid c [] d all g = g
 run_laid c (step ∷ steps) d all g = run_laid c steps (downlink_step d step) all.1 (step_laid c d g step all.0)

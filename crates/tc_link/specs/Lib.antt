@@ -8,7 +8,9 @@ pub mod History
 pub mod InOrder
 pub mod InTransit
 pub mod Known
+pub mod Needed
 pub mod OneLink
+pub mod Outage
 pub mod PlainLink
 pub mod Progress
 pub mod Promises

@@ -7,6 +7,8 @@
 
 mod event;
 mod laws;
+mod outage_law;
+mod premises;
 mod sim;
 mod telemetry_law;
 
@@ -18,6 +20,8 @@ pub use nodes::{
     Config, Event, Ground, Heard, HeardClcw, HeardReport, LinkFault, Received, Spacecraft,
     law_of_delivery,
 };
+pub use outage_law::law_of_outage;
+pub use premises::law_of_premises;
 pub use sim::{Sim, run};
 pub use simulated_link::{NodeFault, Reply, SimFault};
 pub use telemetry_law::law_of_telemetry;

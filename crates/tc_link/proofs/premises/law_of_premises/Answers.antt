@@ -1,0 +1,73 @@
+use Rattle.std.proofs.Common.{refl, arith}
+use Rattle.octets.specs.Check.{check_of, remainder}
+use Rattle.octets.specs.Records.{records_of, rest_of}
+use Rattle.space_packet.specs.Decoding.{extent_at, packet_at}
+use Rattle.clcw.specs.Decoding.{clcw_at}
+use Rattle.tc_frame.specs.Decoding as tc
+use Rattle.map_service.specs.Cutting.{groups_of, pieces_of}
+use Rattle.tm_link.specs.Decoding as tm
+use Rattle.tc_link.proofs.premises.law_of_premises.Goals as goal
+
+-- the runs, computed
+runs : goal.returns-clause-frame × goal.returns-clause-report × goal.returns-clause-up × goal.returns-clause-down
+    × goal.returns-clause-number × goal.returns-clause-sender × goal.returns-clause-restart
+    × goal.returns-clause-window × goal.returns-clause-outage
+unfolding tc.frame_at tc.body_at tc.command_at tc.segment_at tm.frame_at check_of remainder clcw_at records_of rest_of
+    extent_at packet_at groups_of pieces_of
+runs = (
+  λ c. record { active = refl; nothing = refl; start = refl; submitted = refl; delivered = refl },
+  λ c. record { active = refl; nothing = refl; start = refl; submitted = refl; delivered = refl },
+  λ c. record { active = refl; nothing = refl; start = refl; submitted = refl; delivered = refl },
+  λ c. record { active = refl; nothing = refl; start = refl; submitted = refl; delivered = refl },
+  λ c. record { active = refl; nothing = refl; start = refl; submitted = refl; delivered = refl },
+  λ c. record { active = refl; nothing = refl; start = refl; submitted = refl; delivered = refl },
+  λ c. record { active = refl; nothing = refl; start = refl; submitted = refl; delivered = refl },
+  λ c. record { idle = refl; directive = refl; locked = refl },
+  λ c. refl,
+)
+
+pub returns-clause-frame : goal.returns-clause-frame
+returns-clause-frame = runs.0
+
+pub returns-clause-report : goal.returns-clause-report
+returns-clause-report = runs.1
+
+pub returns-clause-up : goal.returns-clause-up
+returns-clause-up = runs.2
+
+pub returns-clause-down : goal.returns-clause-down
+returns-clause-down = runs.3
+
+pub returns-clause-number : goal.returns-clause-number
+returns-clause-number = runs.4
+
+pub returns-clause-sender : goal.returns-clause-sender
+returns-clause-sender = runs.5
+
+pub returns-clause-restart : goal.returns-clause-restart
+returns-clause-restart = runs.6
+
+pub returns-clause-window : goal.returns-clause-window
+returns-clause-window = runs.7
+
+pub returns-clause-outage : goal.returns-clause-outage
+returns-clause-outage = runs.8
+
+pub returns-clause-ranges : goal.returns-clause-ranges
+returns-clause-ranges c = record {
+  scid = omega arith;
+  vcid = omega arith;
+  tm_vcid = omega arith;
+  even = refl;
+  width = (omega arith, omega arith);
+  window = (omega arith, omega arith);
+  limit = (omega arith, omega arith);
+  timer = (omega arith, omega arith);
+  part = (omega arith, omega arith);
+  max_packet = (omega arith, omega arith);
+  ready_slots = (omega arith, omega arith);
+  bypass_slots = (omega arith, omega arith);
+  queue_slots = (omega arith, omega arith);
+  frame_length = (omega arith, omega arith);
+  blocking = omega arith;
+}

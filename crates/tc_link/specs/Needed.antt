@@ -1,0 +1,182 @@
+-- Runs that show that each condition of a link is needed: what goes wrong where one is not kept.
+-- Their link lets more happen than `AnyPast` does within a session.
+use Rattle.std.specs.Prelude.{◌≡◌, ℕ, zero, suc, List, [], ◌∷◌, ◌++◌, take, drop, Bool, true}
+use Rattle.std.specs.Prelude.{Some, option_map}
+use Rattle.tc_frame.specs.declared.frame.Check.TheVariants.{On}
+use Rattle.tc_frame.specs.declared.frame.SegmentFlags.TheVariants.{Alone}
+use Rattle.tc_frame.specs.Layout.{Ad}
+use Rattle.tc_frame.specs.Encoding.{spelling}
+use Rattle.map_service.specs.Cutting.{segment_with}
+use Rattle.cop1.specs.declared.vocabulary.Directive.{Directive}
+use Rattle.cop1.specs.declared.vocabulary.Directive.TheVariants.{InitWithoutCheck, InitUnlock}
+use Rattle.cop1.specs.declared.vocabulary.Directive.TheVariants.{InitSetVr, SetVs, Terminate}
+use Rattle.cop1.specs.declared.vocabulary.FopMode.TheVariants.{S1}
+use Rattle.nodes.specs.declared.config.Config.{Config}
+use Rattle.nodes.specs.Ground.{outstanding, frame_of, ground_step}
+use Rattle.nodes.specs.Ground as ground_calls
+use Rattle.nodes.specs.Packets.{packet_on}
+use Rattle.nodes.specs.Parameters.{default_config}
+use Rattle.nodes.specs.Spacecraft.{new_spacecraft, spacecraft_step}
+use Rattle.nodes.specs.Spacecraft as spacecraft_calls
+use Rattle.nodes.specs.declared.event.Event.{Event}
+use Rattle.nodes.specs.declared.event.Event.TheVariants as events
+use Rattle.simulated_link.specs.declared.session_start.Opening.{Opening}
+use Rattle.simulated_link.specs.World.{World, world_step, world_after_submission}
+use Rattle.simulated_link.specs.World.{world_after_queueing, submitted, delivered}
+use Rattle.simulated_link.specs.World.{directive_of, IsIdle}
+
+-- ---- a link that lets more happen
+
+pub data LooseStep : Type 0 where
+  -- an event happens
+  Happens : (event : Event) → LooseStep
+  -- a packet is submitted on MAP 4, or a packet of telemetry is queued on board
+  Submits : (octets : List ℕ) → LooseStep
+  Queues : (octets : List ℕ) → LooseStep
+  -- the second frame on its way up, or down, overtakes the first
+  UpOvertakes : LooseStep
+  DownOvertakes : LooseStep
+  -- a frame of another sender goes up
+  UpJoins : (octets : List ℕ) → LooseStep
+  -- the spacecraft begins anew
+  Restarts : LooseStep
+
+abbrev pub overtaken : List (List ℕ) → List (List ℕ)
+overtaken (first ∷ (second ∷ more)) = second ∷ (first ∷ more)
+overtaken few = few
+
+abbrev pub loose_step : World → LooseStep → World
+loose_step w (Happens event) = (world_step w event).after
+loose_step w (Submits octets) =
+    (world_after_submission w (packet_on 4 octets)
+    (ground_step w.ground_node (ground_calls.Submit 4 octets))).after
+loose_step w (Queues octets) =
+    (world_after_queueing w
+    (spacecraft_step w.spacecraft (spacecraft_calls.Telemetry octets))).after
+loose_step w UpOvertakes = record w { up = overtaken w.up }
+loose_step w DownOvertakes = record w { down = overtaken w.down }
+loose_step w (UpJoins octets) = record w { up = w.up ++ octets ∷ [] }
+loose_step w Restarts = record w { spacecraft = new_spacecraft w.spacecraft.config }
+
+abbrev pub loose_run : World → List LooseStep → World
+loose_run w [] = w
+loose_run w (step ∷ more) = loose_run (loose_step w step) more
+
+-- ---- what goes wrong
+
+-- All seems well: the sender is Active with nothing outstanding. The session had an idle start or
+-- not, these packets were submitted in it on MAP 4, and those were delivered.
+pub record EndsWith (w : World) (idle : Bool) (these those : List (List ℕ)) : Type 0 where
+  pub active : w.ground_node.fop.state ≡ S1
+  pub nothing : outstanding w.ground_node ≡ []
+  pub start : option_map (λ (o : Opening). o.idle) w.session.opening ≡ Some idle
+  pub submitted : submitted w 4 ≡ these
+  pub delivered : delivered w 4 ≡ those
+
+-- the receiver is locked in a session that began by Unlock with an idle start
+pub record IsFalseAlarm (w : World) : Type 0 where
+  pub idle : IsIdle w
+  pub directive : directive_of w ≡ Some InitUnlock
+  pub locked : w.spacecraft.farm.lockout ≡ true
+
+-- ---- the configuration, the packets
+
+-- the least window, and a timer that ends at the first tick
+abbrev pub small : Config
+small = record default_config { width = 2; window = 1; timer = 1; frame_length = 16 }
+
+-- a sender's window of one more than half the width
+abbrev pub wide : Config
+wide = record small { window = 2 }
+
+abbrev pub command : List ℕ
+command = 0x10 ∷ 0x05 ∷ 0xc0 ∷ 0 ∷ 0 ∷ 0 ∷ 0xaa ∷ []
+
+abbrev pub another : List ℕ
+another = 0x10 ∷ 0x05 ∷ 0xc0 ∷ 0x01 ∷ 0 ∷ 0 ∷ 0xbb ∷ []
+
+-- two packets of telemetry, each of which fills two frames
+abbrev pub queued : List ℕ
+queued = 0 ∷ 0x05 ∷ 0xc0 ∷ 0 ∷ 0 ∷ 1 ∷ 0xaa ∷ 0xaa ∷ []
+
+abbrev pub queued_later : List ℕ
+queued_later = 0 ∷ 0x05 ∷ 0xc0 ∷ 1 ∷ 0 ∷ 1 ∷ 0xbb ∷ 0xbb ∷ []
+
+-- ---- the runs
+
+abbrev pub begins : Directive → LooseStep
+begins directive = Happens (events.Directive directive)
+
+-- a frame that arrives, and a report that does
+abbrev pub up : List LooseStep
+up = Happens events.Send ∷ (Happens events.UpDeliver ∷ [])
+
+abbrev pub down : List LooseStep
+down = Happens events.Report ∷ (Happens events.DownDeliver ∷ [])
+
+-- a frame that is lost, and so many reports that are
+abbrev pub up_lost : List LooseStep
+up_lost = Happens events.Send ∷ (Happens events.UpLose ∷ [])
+
+abbrev pub down_lost : ℕ → List LooseStep
+down_lost zero = []
+down_lost (suc n) = Happens events.Report ∷ (Happens events.DownLose ∷ down_lost n)
+
+-- A frame out of its order: Set V(R), which the timer sent twice, comes the second time after the
+-- command. The command is sent again, since no report came.
+abbrev pub frame_overtaken : List LooseStep
+frame_overtaken =
+    begins (InitSetVr 0) ∷ Happens events.Send ∷ Happens events.Tick ∷ up ++ down
+    ++ Submits command ∷ Happens events.Send ∷ UpOvertakes ∷ Happens events.UpDeliver
+    ∷ Happens events.UpDeliver ∷ Happens events.Tick ∷ up ++ down
+
+-- A report out of its order: one that was made before Set V(R) came arrives after one made since.
+abbrev pub report_overtaken : List LooseStep
+report_overtaken =
+    begins (InitSetVr 255) ∷ Happens events.Report ∷ up ++ Happens events.Report ∷ DownOvertakes
+    ∷ Happens events.DownDeliver ∷ Submits command ∷ up_lost ++ Happens events.DownDeliver ∷ []
+
+-- No idle start: a frame of the session before is on its way up.
+abbrev pub frame_left : List LooseStep
+frame_left =
+    begins InitWithoutCheck ∷ Submits another ∷ Happens events.Send ∷ begins Terminate
+    ∷ begins (SetVs 0) ∷ begins InitWithoutCheck ∷ Submits command ∷ up
+    ++ Happens events.UpDeliver ∷ down
+
+-- No idle start: a report of the session before is on its way down.
+abbrev pub report_left : List LooseStep
+report_left =
+    begins InitWithoutCheck ∷ Submits another ∷ up ++ Happens events.Report ∷ begins Terminate
+    ∷ begins (InitSetVr 0) ∷ up ++ begins Terminate ∷ begins InitWithoutCheck ∷ Submits command
+    ∷ up_lost ++ Happens events.DownDeliver ∷ []
+
+-- No check, and V(S) is one below V(R).
+abbrev pub other_number : List LooseStep
+other_number = begins (SetVs 255) ∷ begins InitWithoutCheck ∷ Submits command ∷ up ++ down
+
+-- A second sender on the channel; also damage that the FECF does not show.
+abbrev pub second_sender : List LooseStep
+second_sender =
+    begins InitWithoutCheck ∷ Submits command ∷ up_lost
+    ++ UpJoins (spelling On (frame_of small (Ad 0 (segment_with Alone 4 another))))
+    ∷ Happens events.UpDeliver ∷ down
+
+-- The spacecraft restarts, with V(R) = 0.
+abbrev pub restarted : List LooseStep
+restarted =
+    begins (InitSetVr 255) ∷ up ++ down ++ Submits command ∷ up_lost ++ Restarts ∷ down
+
+-- A sender's window of one more than half the width: of two frames the first is lost.
+abbrev pub over_the_window : List LooseStep
+over_the_window =
+    begins InitUnlock ∷ up ++ down ++ Submits command ∷ up_lost ++ Submits another ∷ up
+
+-- 256 frames of telemetry are lost in a row: one with the second half of a packet, 254 of idle
+-- data, and one with the first half of another.
+abbrev pub frames_lost : List LooseStep
+frames_lost =
+    Queues queued ∷ down ++ down_lost 255 ++ Queues queued_later ∷ down_lost 1 ++ down
+
+-- the first half of one packet, and the second half of the other
+abbrev pub joined : List ℕ
+joined = take 4 queued ++ drop 4 queued_later

@@ -1,0 +1,31 @@
+// What goes wrong where a condition of the link is not kept.
+
+ghost use Rattle.std.specs.Prelude.{◌≡◌, [], ◌∷◌, true, false};
+ghost use Rattle.nodes.specs.Parameters.{IsConfig};
+ghost use Rattle.simulated_link.specs.World.{new_world};
+ghost use Rattle.tc_link.specs.Needed.{EndsWith, IsFalseAlarm, loose_run, small, wide, command, another, joined};
+ghost use Rattle.tc_link.specs.Needed.{frame_overtaken, report_overtaken, frame_left, report_left, other_number};
+ghost use Rattle.tc_link.specs.Needed.{second_sender, restarted, over_the_window, frames_lost};
+
+/// Each condition of the link is needed: for each there is a run that keeps the others and goes wrong.
+/// In seven of them the ground is Active with nothing outstanding at the end, so that all seems well,
+/// and a command is lost, comes twice, or is not the one that was submitted: one frame out of its order
+/// (`frame`), one report out of its order (`report`), a frame or a report on its way when the session
+/// begins (`up`, `down`), V(S) one below V(R) and no check (`number`), a second sender (`sender`), a
+/// spacecraft that restarts (`restart`). With a sender's window of one more than half the width the
+/// receiver locks (`window`). After 256 telemetry frames lost in a row a packet comes down that was
+/// never queued (`outage`). The configuration is in its ranges, but for that window (`ranges`).
+pub fn law_of_premises()
+    ensures frame { EndsWith (loose_run (new_world small) frame_overtaken) true
+        (command ∷ []) (command ∷ command ∷ []) }
+    ensures report { EndsWith (loose_run (new_world small) report_overtaken) true (command ∷ []) [] }
+    ensures up { EndsWith (loose_run (new_world small) frame_left) false (command ∷ []) (another ∷ []) }
+    ensures down { EndsWith (loose_run (new_world small) report_left) false (command ∷ []) [] }
+    ensures number { EndsWith (loose_run (new_world small) other_number) false (command ∷ []) [] }
+    ensures sender { EndsWith (loose_run (new_world small) second_sender) true
+        (command ∷ []) (another ∷ []) }
+    ensures restart { EndsWith (loose_run (new_world small) restarted) true (command ∷ []) [] }
+    ensures window { IsFalseAlarm (loose_run (new_world wide) over_the_window) }
+    ensures outage { (loose_run (new_world small) frames_lost).ground_node.telemetry ≡ joined ∷ [] }
+    ensures ranges { IsConfig small }
+{}
