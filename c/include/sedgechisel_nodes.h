@@ -139,6 +139,15 @@ uint8_t sedge_ground_next(struct sedge_ground *ground, size_t *count);
  * or 0 octets where nothing is to be sent. Returns 0 or SEDGE_NODE_ROOM. */
 uint8_t sedge_ground_pull(struct sedge_ground *ground, uint8_t *out, size_t room, size_t *count);
 
+/* Writes the frame that goes on the link next as sedge_ground_pull does; the ground stays as it was. With
+ * sedge_ground_advance the frame counts as sent once a radio that may refuse it has taken it. Returns 0 or
+ * SEDGE_NODE_ROOM. */
+uint8_t sedge_ground_peek(struct sedge_ground *ground, uint8_t *out, size_t room, size_t *count);
+
+/* Counts the frame that goes on the link next as sent, as sedge_ground_pull does; nothing changes where nothing is to
+ * be sent. Returns 0. */
+uint8_t sedge_ground_advance(struct sedge_ground *ground);
+
 /* What the ground makes of octets that it received: their kind, then what that kind has; the rest is 0. */
 struct sedge_heard {
     size_t packets;     /* 3: the number of packets that came to wait to be taken */

@@ -62,7 +62,9 @@ static void goes_up(struct sedge_ground *ground, struct sedge_spacecraft *spacec
     WANT(sedge_ground_next(ground, &next) == 0 && next >= 6);
     up[0] = 77;
     WANT(sedge_ground_pull(ground, up, next - 1, &count) == SEDGE_NODE_ROOM && count == 77 && up[0] == 77);
-    WANT(sedge_ground_pull(ground, up, next, &count) == 0 && count == next);
+    WANT(sedge_ground_peek(ground, out, next - 1, &count) == SEDGE_NODE_ROOM && count == 77);
+    WANT(sedge_ground_peek(ground, out, next, &count) == 0 && count == next);
+    WANT(sedge_ground_pull(ground, up, next, &count) == 0 && count == next && memcmp(out, up, next) == 0);
     while (again(sedge_spacecraft_receive(spacecraft, up, count, &received)))
         ;
     WANT(received.kind == kind && received.verdict == 0 && received.dropped == 0);
@@ -108,6 +110,7 @@ static void session(void) {
     goes_up(&ground, &spacecraft, 3);
     goes_up(&ground, &spacecraft, 3);
     WANT(sedge_ground_next(&ground, &count) == 0 && count == 0);
+    WANT(sedge_ground_peek(&ground, up, 0, &count) == 0 && count == 0 && sedge_ground_advance(&ground) == 0);
     WANT(sedge_ground_pull(&ground, up, 0, &count) == 0 && count == 0);
     comes_out(&spacecraft, sedge_spacecraft_next, sedge_spacecraft_take, 4);
     WANT(sedge_ground_accepted_beyond(&ground, 2, &accepted) == 0 && accepted == 2);
@@ -215,7 +218,8 @@ static void handles_that_hold_none(void) {
     WANT(sedge_ground_submit(&ground, 0, packet, 7) == 255 && sedge_ground_bypass(&ground, 0, packet, 7) == 255);
     WANT(sedge_ground_next(&ground, &count) == 255 && sedge_ground_pull(&ground, up, 1024, &count) == 255);
     WANT(sedge_ground_report(&ground, packet, 7, &word) == 255 && sedge_ground_clcw(&ground, packet, 4, &heard) == 255);
-    WANT(sedge_ground_forget_telemetry(&ground) == 255);
+    WANT(sedge_ground_forget_telemetry(&ground) == 255 && sedge_ground_advance(&ground) == 255);
+    WANT(sedge_ground_peek(&ground, up, 1024, &count) == 255 && count == 77);
     WANT(count == 77 && word.value == 77);
     WANT(sedge_ground_next_telemetry(&ground, &count) == 255 && sedge_ground_accepted_beyond(&ground, 0, &map) == 255);
     WANT(sedge_ground_take_telemetry(&ground, out, sizeof out, &count) == 255);

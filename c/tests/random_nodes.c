@@ -253,7 +253,12 @@ static void pulls(void) {
     WANT(is_answer(answer, SEDGE_NODE_OK, ground.node) && next <= 1024);
     if (answer != SEDGE_NODE_OK) return;
     out = room_of(room = any_room(next));
-    answer = sedge_ground_pull(&ground, out, room, &count);
+    if (below(2) == 0) {
+        answer = sedge_ground_pull(&ground, out, room, &count);
+    } else {
+        answer = sedge_ground_peek(&ground, out, room, &count);
+        if (answer == SEDGE_NODE_OK) WANT(sedge_ground_advance(&ground) == SEDGE_NODE_OK);
+    }
     look_at_written(answer, next, room, count, out);
     if (answer == SEDGE_NODE_OK && count > 0) memcpy(up, out, up_count = count);
 }

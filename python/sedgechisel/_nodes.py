@@ -323,6 +323,16 @@ class Ground(Sender):
         nothing is to be sent now."""
         return self._given(_ground_pull, 1024) or None
 
+    def peek(self) -> Optional[bytes]:
+        """The telecommand frame that goes on the link next, as `pull` gives it; None where nothing is to be sent now.
+        The ground stays as it is: the frame counts as sent once `advance` is called, as where a radio that may refuse
+        it has taken it."""
+        return self._given(_ground_peek, 1024) or None
+
+    def advance(self) -> None:
+        """Counts the frame that goes on the link next as sent, as `pull` does."""
+        self._asked(_ground_advance(byref(self._handle)))
+
     def telemetry(self, octets: bytes) -> Heard:
         """Octets came from the spacecraft, which are one telemetry frame if all is well. A LinkFault, 6 Memory."""
         octets, heard = _octets_of("octets", octets), _Heard()
@@ -415,6 +425,8 @@ _ground_directive = _call("ground_directive", c_uint8, POINTER(_Raw), ("directiv
 _ground_submit = _call("ground_submit", c_uint8, POINTER(_Raw), ("map", c_uint8), c_char_p, c_size_t)
 _ground_bypass = _call("ground_bypass", c_uint8, POINTER(_Raw), ("map", c_uint8), c_char_p, c_size_t)
 _ground_pull = _call("ground_pull", c_uint8, POINTER(_Raw), c_char_p, c_size_t, POINTER(c_size_t))
+_ground_peek = _call("ground_peek", c_uint8, POINTER(_Raw), c_char_p, c_size_t, POINTER(c_size_t))
+_ground_advance = _call("ground_advance", c_uint8, POINTER(_Raw))
 _ground_telemetry = _call("ground_telemetry", c_uint8, POINTER(_Raw), c_char_p, c_size_t, POINTER(_Heard))
 _ground_clcw = _call("ground_clcw", c_uint8, POINTER(_Raw), c_char_p, c_size_t, POINTER(_Heard))
 _ground_forget_telemetry = _call("ground_forget_telemetry", c_uint8, POINTER(_Raw))

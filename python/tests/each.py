@@ -334,8 +334,13 @@ def longest_nodes(it):
         assert [board.receive(frame) for frame in frames] == [
             it.Received(n=(255 + k) % 256, ready=k // 64, **accepted) for k in range(65)]
         assert board.take() == (63, command) and board.take() is None and ground.accepted_beyond(64) == 65
+        ground.advance()
+        assert ground.peek() is None
         ground.bypass(63, it.Packet(kind=1).encode(DATA[:1010]))
-        octets = ground.pull()
+        octets = ground.peek()
+        assert ground.peek() == octets
+        ground.advance()
+        assert ground.peek() is None
         assert len(octets) == 1024 and board.receive(octets) == it.Received(it.Arrived.BD, kept=True)
         assert board.take_bypass() == (63, octets[6:-2]) and board.take_bypass() is None
         for _ in range(255):

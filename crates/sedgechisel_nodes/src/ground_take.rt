@@ -1,13 +1,13 @@
 // The frames that a program in C takes of its ground, and the packets of telemetry.
 
-ghost use Rattle.std.specs.Prelude.{◌≡◌, ◌≢◌, true, length, Some};
+ghost use Rattle.std.specs.Prelude.{◌≡◌, ◌≢◌, true, length, Some, None, IfSome};
 ghost use Rattle.std.specs.Option.{unwrap_or};
 ghost use Rattle.tc_frame.specs.declared.frame.Check.TheVariants.{On};
 ghost use Rattle.tc_frame.specs.Layout.{frame_view};
 ghost use Rattle.tc_frame.specs.Encoding.{frame_fits};
 ghost use Rattle.nodes.specs.Frames.{size_of, written_over};
 ghost use Rattle.nodes.specs.Ground.{Pull, TakeTelemetry, ground_step};
-ghost use Rattle.sedgechisel_nodes.specs.Calls.{IsRead};
+ghost use Rattle.sedgechisel_nodes.specs.Calls.{closed, IsRead};
 ghost use Rattle.sedgechisel_nodes.specs.Ground.{stepped};
 ghost use Rattle.sedgechisel_nodes.specs.Rooms.{room_answer, next_answer, count_of, IsHanding, IsSent};
 
@@ -94,6 +94,37 @@ pub extern "C" fn sedge_ground_pull(
             node.advance();
         }
         answer
+    })
+}
+
+/// Writes the frame that goes on the link next as `sedge_ground_pull` does; the ground stays as it was. With
+/// `sedge_ground_advance` the frame counts as sent once a radio that may refuse it has taken it. Returns 0 or
+/// `SEDGE_NODE_ROOM`.
+#[unsafe(no_mangle)]
+pub extern "C" fn sedge_ground_peek(
+    alloc: Global,
+    ground: &mut GroundHandle,
+    out: &mut [u8],
+    count: &mut usize,
+) -> u8
+    ensures { IsSent (λ s. size_of (ground_step s Pull).answer)
+        (λ s room. written_over room (ground_step s Pull).answer) (λ s. s)
+        ground.old.value ground.new.value result count.old count.new out.old out.new }
+{
+    held!(alloc, ground, |node| write_next(&node, out, count))
+}
+
+/// Counts the frame that goes on the link next as sent, as `sedge_ground_pull` does; nothing changes where nothing is to
+/// be sent. Returns 0.
+#[unsafe(no_mangle)]
+pub extern "C" fn sedge_ground_advance(alloc: Global, ground: &mut GroundHandle) -> u8
+    ensures none { ground.old.value ≡ None → result ≡ closed }
+    ensures open { IfSome ground.old.value (λ s. result ≡ 0) }
+    ensures after { ground.new.value ≡ stepped ground.old.value Pull }
+{
+    held!(alloc, ground, |node| {
+        node.advance();
+        0
     })
 }
 

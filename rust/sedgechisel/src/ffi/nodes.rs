@@ -345,6 +345,8 @@ unsafe extern "C" {
     fn sedge_ground_bypass(ground: &mut Ground, map: u8, octets: *const u8, count: usize) -> u8;
     pub safe fn sedge_ground_next(ground: &mut Ground, count: &mut usize) -> u8;
     fn sedge_ground_pull(ground: &mut Ground, out: *mut u8, room: usize, count: &mut usize) -> u8;
+    fn sedge_ground_peek(ground: &mut Ground, out: *mut u8, room: usize, count: &mut usize) -> u8;
+    pub safe fn sedge_ground_advance(ground: &mut Ground) -> u8;
     fn sedge_ground_telemetry(ground: &mut Ground, octets: *const u8, count: usize, heard: &mut Heard) -> u8;
     fn sedge_ground_clcw(ground: &mut Ground, octets: *const u8, count: usize, heard: &mut Heard) -> u8;
     pub safe fn sedge_ground_forget_telemetry(ground: &mut Ground) -> u8;
@@ -407,6 +409,10 @@ pub fn ground_bypass(ground: &mut Ground, map: u8, octets: &[u8]) -> u8 {
 
 pub fn ground_pull(ground: &mut Ground, out: &mut [u8], count: &mut usize) -> u8 {
     unsafe { sedge_ground_pull(ground, out.as_mut_ptr(), out.len(), count) }
+}
+
+pub fn ground_peek(ground: &mut Ground, out: &mut [u8], count: &mut usize) -> u8 {
+    unsafe { sedge_ground_peek(ground, out.as_mut_ptr(), out.len(), count) }
 }
 
 pub fn ground_telemetry(ground: &mut Ground, octets: &[u8], heard: &mut Heard) -> u8 {

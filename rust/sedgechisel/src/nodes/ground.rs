@@ -185,6 +185,20 @@ impl Ground {
         (count > 0).then_some(&mut room[..count])
     }
 
+    /// Writes the telecommand frame that goes on the link next, as `pull` does; or `None`, if nothing is to be sent now.
+    /// The ground stays as it is: the frame counts as sent once [`advance`](Self::advance) is called, as where a radio
+    /// that may refuse it has taken it.
+    pub fn peek<'o>(&self, room: &'o mut [u8; TcFrame::LONGEST]) -> Option<&'o mut [u8]> {
+        let mut count = 0;
+        self.0.read(|it| raw::ground_peek(it, room, &mut count));
+        (count > 0).then_some(&mut room[..count])
+    }
+
+    /// Counts the frame that goes on the link next as sent, as `pull` does.
+    pub fn advance(&mut self) {
+        done(raw::sedge_ground_advance(self.0.get()));
+    }
+
     /// Octets came from the spacecraft, which are one telemetry frame if all is well. Refused with 6
     /// [`Memory`](LinkFault::Memory) alone.
     pub fn telemetry(&mut self, octets: &[u8]) -> Result<Heard, LinkFault> {

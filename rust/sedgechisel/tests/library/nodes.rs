@@ -445,6 +445,21 @@ fn submissions_and_reports() {
     assert_eq!(ground.report_in(&frame[1..]), None);
 }
 
+/// A frame that is peeked at counts as sent where the ground is told so, and then the next one goes.
+#[test]
+fn a_frame_that_a_radio_refuses() {
+    let (mut ground, _) = pair(&Config::default());
+    let mut room = [0; TcFrame::LONGEST];
+    assert_eq!(ground.peek(&mut room), None);
+    ground.init_without_check().unwrap();
+    ground.submit(4, &octets_of(P0)).unwrap();
+    let first = ground.peek(&mut room).map(|it| it.to_vec());
+    assert_eq!((first.is_some(), ground.vs()), (true, 0));
+    assert_eq!(ground.peek(&mut room).map(|it| it.to_vec()), first);
+    ground.advance();
+    assert_eq!((ground.peek(&mut room), ground.vs()), (None, 1));
+}
+
 /// A report by itself goes to the sender as that of a telemetry frame, and telemetry begins anew where it is asked to.
 #[test]
 fn a_report_by_itself() {
