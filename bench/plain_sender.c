@@ -6,21 +6,43 @@
 #define CALL(name) tested_fop_##name
 #define TEST(fop) if (!is_sender(fop)) return SEDGE_DAMAGED
 
-static bool is_sender(const struct sedge_fop *fop)
+static bool has_ranges(const struct sedge_fop *fop)
 {
     if (fop->state < SEDGE_FOP_S1 || fop->state > SEDGE_FOP_S6 || fop->waiting > 1 || fop->control > SEDGE_CONTROL_SET_VR_SENT)
         return false;
     if (fop->room > 127 || fop->sent > fop->room || fop->due > fop->sent || fop->window < 1 || fop->window > fop->room)
         return false;
-    if (fop->limit < 1 || fop->timer < 1 || fop->count < 1)
+    if (fop->limit < 1 || fop->timer < 1 || fop->count < 1 || (uint8_t)(fop->vs - fop->nn) > fop->room)
         return false;
-    if (fop->control < SEDGE_CONTROL_SET_VR_DUE && fop->vr != 0)
+    return fop->control >= SEDGE_CONTROL_SET_VR_DUE || fop->vr == 0;
+}
+
+static bool is_commanding(const struct sedge_fop *fop)
+{
+    if (fop->control == SEDGE_CONTROL_IDLE || (fop->control >= SEDGE_CONTROL_SET_VR_DUE && fop->vr != fop->vs))
         return false;
-    if (fop->control != SEDGE_CONTROL_IDLE && fop->state != SEDGE_FOP_S5)
+    return fop->control == SEDGE_CONTROL_UNLOCK_DUE || fop->control == SEDGE_CONTROL_SET_VR_DUE || fop->ticks != 0;
+}
+
+static bool is_sender(const struct sedge_fop *fop)
+{
+    const bool runs = fop->ticks != 0, is_idle = fop->control == SEDGE_CONTROL_IDLE;
+    const bool is_numbered = (uint8_t)(fop->vs - fop->nn) == fop->sent;
+    if (!has_ranges(fop))
         return false;
-    if (fop->state == SEDGE_FOP_S6)
-        return fop->sent == 0 && fop->waiting == 0 && fop->ticks == 0;
-    return (uint8_t)(fop->vs - fop->nn) == fop->sent;
+    switch (fop->state) {
+    case SEDGE_FOP_S1:
+        return is_numbered && is_idle && runs == (fop->sent > 0);
+    case SEDGE_FOP_S2:
+    case SEDGE_FOP_S3:
+        return is_numbered && is_idle && runs && fop->sent > 0;
+    case SEDGE_FOP_S4:
+        return is_numbered && is_idle && runs && fop->sent == 0;
+    case SEDGE_FOP_S5:
+        return is_numbered && fop->sent == 0 && is_commanding(fop);
+    default:
+        return fop->sent == 0 && fop->waiting == 0 && is_idle && !runs;
+    }
 }
 #else
 #define CALL(name) plain_fop_##name
