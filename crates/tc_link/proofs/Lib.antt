@@ -45,6 +45,7 @@ pub mod Silence
 pub mod Sound
 pub mod Spelled
 pub mod SteadyNodes
+pub mod Senders
 pub mod SteadyWorld
 pub mod History
 pub mod Submissions

@@ -337,7 +337,7 @@ module _ (most k : ℕ) where
       let waits = awaits_so w p.0 in
       cond_both (awaits w.ground_node.fop.state marked)
       (replicate (ticks_left w.ground_node.fop.ticks) events.Tick) [] (λ es. Ends ReadyWith w es)
-      (λ t. elim (known w g).live.sender.timed.running [
+      (λ t. elim (known w g).live.sender.running [
         | inl none ↦ absurd
             (let no : marked ≡ false = not-true marked (sym waits ∙ t) in
             let all : marked ≡ true = rw none refl in cc (all, no))

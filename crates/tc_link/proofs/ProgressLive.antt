@@ -18,7 +18,7 @@ use Rattle.tc_link.proofs.Common.{Event, PacketOn, IsConfig, SpacecraftState, Sp
 use Rattle.tc_link.proofs.Common.{body_outcome, sequence_outcome, bypass_outcome, is_free, is_own_frame, is_kept}
 use Rattle.tc_link.proofs.Common.{limits_of, spacecraft_take, spacecraft_take_bypass, spacecraft_telemetry, is_to_send}
 use Rattle.tc_link.proofs.Common.{TcFault, World, WorldOutcome, new_world, world_step, world_run, IsEvent, IsReached}
-use Rattle.tc_link.proofs.Common.{Unlock, SetVr}
+use Rattle.tc_link.proofs.Common.{Unlock, SetVr, or_parts}
 use Rattle.std.specs.Prelude.{◌||◌, nat_le, ◌/◌}
 use Rattle.std.proofs.Math.Seq.{drop-nil}
 use Rattle.tc_frame.specs.Layout.{FrameView}
@@ -29,12 +29,14 @@ use Rattle.cop1.specs.declared.vocabulary.Alert.TheVariants.{Timer}
 use Rattle.cop1.specs.Farm.{ad_verdict, place_at}
 use Rattle.cop1.specs.FopDirective.{obeys, from_S6, terminate_in}
 use Rattle.cop1.specs.FopReport.{ticks_for}
+use Rattle.cop1.specs.Units.{is_none_sent}
 use Rattle.cop1.specs.FopTick.{tick_with, timer_ended, while_below}
 use Rattle.nodes.specs.Ground.{after_moving_up}
 use Rattle.nodes.specs.Packets.{put_on_map}
 use Rattle.nodes.specs.Spacecraft.{assemble_step}
 use Rattle.simulated_link.proofs.Unchanged.{AtEachLoss, lost, pulled, up_arrives, down_arrives}
 use Rattle.simulated_link.proofs.TelemetryCases.{reported, frame_seen}
+use Rattle.tc_link.proofs.Senders.{hears_kept, step_kept}
 use Rattle.tc_link.proofs.Sound.{Sound}
 use Rattle.tc_link.proofs.SteadyWorld.{step_sound, new_sound}
 use Rattle.tc_frame.specs.Decoding as command
@@ -55,14 +57,22 @@ IsDueNow _ = ⊥
 pub record Timed (f : FopState SegmentView) : Type 0 where
   pub active : IsActive f.state ⊎ (f.sent ≡ [])
   pub running : (f.sent ≡ []) ⊎ Running f.ticks
-  pub timer : 1 ≤ f.timer
   -- in S5 the timer runs once the command is pulled
   pub command : f.state ≡ S5 → IsDueNow f.control ⊎ Running f.ticks
+  pub timer : 1 ≤ f.timer
+  pub count : 1 ≤ f.count
+  pub window : 1 ≤ f.window
 
-timed_empty : (f : FopState SegmentView) → f.sent ≡ [] → 1 ≤ f.timer → (f.state ≡ S5 → IsDueNow f.control)
-    → Timed f
-timed_empty f none timer due =
-    record { active = inr none; running = inl none; timer = timer; command = λ is. inl (due is) }
+timed_empty : (f : FopState SegmentView) → f.sent ≡ [] → (f.state ≡ S5 → IsDueNow f.control) → 1 ≤ f.timer
+    → 1 ≤ f.count → 1 ≤ f.window → Timed f
+timed_empty f none due timer count window = record {
+  active = inr none;
+  running = inl none;
+  command = λ is. inl (due is);
+  timer = timer;
+  count = count;
+  window = window;
+}
 
 module _ (s : FopState SegmentView) (k : Timed s) where
   abbrev Times : {A : Type 0} → FopOutcome SegmentView A → Type 0
@@ -70,38 +80,46 @@ module _ (s : FopState SegmentView) (k : Timed s) where
 
   -- the sender is active, and none is sent that was not before
   fewer : (f : FopState SegmentView) → IsActive f.state → (s.sent ≡ [] → f.sent ≡ []) → f.ticks ≡ s.ticks
-      → f.timer ≡ s.timer → Timed f
-  fewer f active sent ticks timer = record {
+      → f.timer ≡ s.timer → 1 ≤ f.count → f.window ≡ s.window → Timed f
+  fewer f active sent ticks timer count window = record {
     active = inl active;
     running = elim k.running [ inl none ↦ inl (sent none) | inr runs ↦ inr (rw ticks runs) ];
-    timer = rw timer k.timer;
     command = λ is. absurd (let no : IsActive S5 = rw is at active in no);
+    timer = rw timer k.timer;
+    count = count;
+    window = rw window k.window;
   }
 
-  same_as : (f : FopState SegmentView) → f.state ≡ s.state → f.sent ≡ s.sent → f.ticks ≡ s.ticks → 1 ≤ f.timer
-      → f.control ≡ s.control → Timed f
-  same_as f state sent ticks timer control = record {
+  -- with these settings it is as it was
+  same_as : (f : FopState SegmentView) → f.state ≡ s.state → f.sent ≡ s.sent → f.ticks ≡ s.ticks
+      → f.control ≡ s.control → f.count ≡ s.count → 1 ≤ f.timer → 1 ≤ f.window → Timed f
+  same_as f state sent ticks control count timer window = record {
     active = rw (state, sent) k.active;
     running = rw (sent, ticks) k.running;
-    timer = timer;
     command = rw (state, ticks, control) k.command;
+    timer = timer;
+    count = rw count k.count;
+    window = window;
   }
 
   restarted : (f : FopState SegmentView) → IsActive f.state ⊎ (f.sent ≡ []) → f.ticks ≡ Some s.timer
-      → f.timer ≡ s.timer → Timed f
-  restarted f active ticks timer =
+      → f.timer ≡ s.timer → 1 ≤ f.count → f.window ≡ s.window → Timed f
+  restarted f active ticks timer count window =
       record {
         active = active;
         running = inr (rw ticks k.timer);
-        timer = rw timer k.timer;
         command = λ is. inr (rw ticks k.timer);
+        timer = rw timer k.timer;
+        count = count;
+        window = rw window k.window;
       }
 
-  stopped : (f : FopState SegmentView) → f.sent ≡ [] → f.timer ≡ s.timer → (f.state ≡ S5 → IsDueNow f.control)
-      → Timed f
-  stopped f none timer due = timed_empty f none (rw timer k.timer) due
+  gives_up : (f : FopState SegmentView) → f.timer ≡ s.timer → 1 ≤ f.count → f.window ≡ s.window
+      → Timed (after_alert f)
+  gives_up f timer count window =
+      timed_empty (after_alert f) refl (λ e. absurd cc) (rw timer k.timer) count (rw window k.window)
 
-  -- in S4 and S5 none is sent
+  -- in S4 to S6 none is sent
   none_in : (m : FopMode) → s.state ≡ m → (IsActive m → ⊥) → s.sent ≡ []
   none_in m is not_active = elim k.active [
     | inl active ↦ absurd (not_active (rw is at active))
@@ -119,63 +137,73 @@ module _ (s : FopState SegmentView) (k : Timed s) where
     drops none = rw none (drop-nil (ahead_by r.value s.nn))
 
     again_timed : (repeats : Bool) → Timed (retransmits s repeats)
-    again_timed true = restarted (retransmits s true) (inl tt) refl refl
-    again_timed false = fewer (retransmits s false) tt (λ none. none) refl refl
+    again_timed true = restarted (retransmits s true) (inl tt) refl refl (omega arith) refl
+    again_timed false = fewer (retransmits s false) tt (λ none. none) refl refl k.count refl
 
     active_timed : Times (report_while_active s r)
     active_timed = heard_active s r (λ o. Times o) (record {
-      locked = λ t. stopped (after_alert s) refl refl (λ e. absurd cc);
-      outside = λ t. stopped (after_alert s) refl refl (λ e. absurd cc);
-      wait_flag = λ none waiting. stopped (after_alert s) refl refl (λ e. absurd cc);
-      asks_none = λ asking at. stopped (after_alert s) refl refl (λ e. absurd cc);
+      locked = λ t. gives_up s refl k.count refl;
+      outside = λ t. gives_up s refl k.count refl;
+      wait_flag = λ none waiting. gives_up s refl k.count refl;
+      asks_none = λ asking at. gives_up s refl k.count refl;
       same = k;
-      ceases = λ none at were. stopped (after_alert s) refl refl (λ e. absurd cc);
+      ceases = λ none at were. gives_up s refl k.count refl;
       moves = λ inside. record {
         active = inl tt;
         running = moved_ticks (drop (ahead_by r.value s.nn) s.sent);
-        timer = k.timer;
         command = λ e. absurd cc;
+        timer = k.timer;
+        count = omega arith;
+        window = k.window;
       };
-      others_over = λ inside asking one. stopped (after_alert (after_new_value s r.value)) refl refl (λ e. absurd cc);
-      others_wait = λ inside asking. fewer (record (after_new_value s r.value) { state = S3 }) tt drops refl refl;
-      others_again = λ inside asking. restarted (retransmits (after_new_value s r.value) true) (inl tt) refl refl;
-      all_over = λ asking one. stopped (after_alert s) refl refl (λ e. absurd cc);
-      all_wait = λ asking. fewer (record s { state = S3 }) tt (λ none. none) refl refl;
+      others_over = λ inside asking one. gives_up (after_new_value s r.value) refl (omega arith) refl;
+      others_wait = λ inside asking. fewer (record (after_new_value s r.value) { state = S3 }) tt drops refl refl
+          (omega arith) refl;
+      others_again = λ inside asking. restarted (retransmits (after_new_value s r.value) true) (inl tt) refl refl
+          (omega arith) refl;
+      all_over = λ asking one. gives_up s refl k.count refl;
+      all_wait = λ asking. fewer (record s { state = S3 }) tt (λ none. none) refl refl k.count refl;
       all_again = λ asking. again_timed;
     })
 
-  pub report_timed : (r : Clcw) → Times (clcw_step s r)
+  report_timed : (r : Clcw) → Times (clcw_step s r)
   report_timed r = reported s r (λ o. Times o) (record {
     active = λ active. active_timed r active;
-    alerted = λ is x cause. stopped (after_alert s) refl refl (λ e. absurd cc);
-    checked = λ is confirms. stopped (record s { state = S1; ticks = None }) (none_in S4 is (λ a. a)) refl
-        (λ e. absurd cc);
-    commanded = λ is confirms. stopped (record s { state = S1; ticks = None; control = Idle })
-        (none_in S5 is (λ a. a)) refl (λ e. absurd cc);
+    alerted = λ is x cause. gives_up s refl k.count refl;
+    checked = λ is confirms. timed_empty (record s { state = S1; ticks = None }) (none_in S4 is (λ a. a))
+        (λ e. absurd cc) k.timer k.count k.window;
+    commanded = λ is confirms. timed_empty (record s { state = S1; ticks = None; control = Idle })
+        (none_in S5 is (λ a. a)) (λ e. absurd cc) k.timer k.count k.window;
     same = k;
   })
 
   -- ---- a tick
 
-  marked_none : s.sent ≡ [] → map marked_unit s.sent ≡ []
-  marked_none none = rw none refl
-
   below : (next : FopState SegmentView) → Timed next → Times (while_below (after_stop s) next)
   below next is = cond_both (nat_lt s.count s.limit) (goes_on next) (alerts (after_stop s) Timer) (λ o. Times o)
-      (λ t. is) (λ t. stopped (after_alert (after_stop s)) refl refl (λ e. absurd cc))
+      (λ t. is) (λ t. gives_up (after_stop s) refl k.count refl)
 
   repeated : IsActive s.state → Timed (after_repeat (after_stop s))
-  repeated active = restarted (after_repeat (after_stop s)) (inl active) refl refl
+  repeated active = restarted (after_repeat (after_stop s)) (inl active) refl refl (omega arith) refl
 
   ended_timed : (m : FopMode) → s.state ≡ m → Times (timer_ended (after_stop s) m)
   ended_timed S1 is = below (after_repeat (after_stop s)) (repeated (rw is tt))
   ended_timed S2 is = below (after_repeat (after_stop s)) (repeated (rw is tt))
-  ended_timed S3 is = below (after_count (after_stop s)) (restarted (after_count (after_stop s)) k.active refl refl)
-  ended_timed S4 is = stopped (after_alert (after_stop s)) refl refl (λ e. absurd cc)
+  ended_timed S3 is =
+      below (after_count (after_stop s))
+      (restarted (after_count (after_stop s)) k.active refl refl (omega arith) refl)
+  ended_timed S4 is = gives_up (after_stop s) refl k.count refl
   ended_timed S5 is =
-      below (record (after_count (after_stop s)) { control = due_again s.control })
-      (restarted (record (after_count (after_stop s)) { control = due_again s.control }) k.active refl refl)
-  ended_timed S6 is = stopped (after_stop s) (none_in S6 is (λ a. a)) refl (λ e. absurd (cc (e, is)))
+      let f = record (after_count (after_stop s)) { control = due_again s.control } in
+      below f (restarted f k.active refl refl (omega arith) refl)
+  ended_timed S6 is =
+      timed_empty (after_stop s) (none_in S6 is (λ a. a)) (λ e. absurd (cc (e, is))) k.timer k.count k.window
+
+  runs_on : (left : ℕ) → s.ticks ≡ Some left → (left == 1) ≡ false → Running s.ticks → Running (Some (left - 1))
+  runs_on left is t runs =
+      let more : Running (Some left) = rw is at runs in
+      let one : left ≢ 1 = eqb-false left 1 t in
+      omega (arith, more, one)
 
   ticked_timed : (ticks : Option ℕ) → s.ticks ≡ ticks → Times (tick_with s ticks)
   ticked_timed None is = k
@@ -184,50 +212,41 @@ module _ (s : FopState SegmentView) (k : Timed s) where
       (λ o. Times o) (λ t. ended_timed s.state refl)
       (λ t. record {
         active = k.active;
-        running = elim k.running [
-          | inl none ↦ inl none
-          | inr runs ↦ (
-              let more : Running (Some left) = rw is at runs in
-              let one : left ≢ 1 = eqb-false left 1 t in
-              inr (omega (arith, more, one)))
-        ];
+        running = elim k.running [ inl none ↦ inl none | inr runs ↦ inr (runs_on left is t runs) ];
+        command = λ e. elim (k.command e) [ inl due ↦ inl due | inr runs ↦ inr (runs_on left is t runs) ];
         timer = k.timer;
-        command = λ e. elim (k.command e) [
-          | inl due ↦ inl due
-          | inr runs ↦ (
-              let more : Running (Some left) = rw is at runs in
-              let one : left ≢ 1 = eqb-false left 1 t in
-              inr (omega (arith, more, one)))
-        ];
+        count = k.count;
+        window = k.window;
       })
-
-  pub tick_timed : Times (tick_step s)
-  tick_timed = ticked_timed s.ticks refl
 
   -- ---- a pull
 
-  pub pull_timed : Times (pull_step s)
+  pull_timed : Times (pull_step s)
   pull_timed = pulled_out s (λ o. Times o) (record {
     none = k;
-    command = λ command is. restarted (record (after_restart s) { control = Sent command }) k.active refl refl;
-    bypass = λ u us is. same_as (record s { bypass = us }) refl refl refl k.timer refl;
-    again = λ active x is. restarted (record (after_restart s) { sent = without_oldest_mark s.sent }) (inl active) refl
+    command = λ command is. restarted (record (after_restart s) { control = Sent command }) k.active refl refl k.count
         refl;
+    bypass = λ u us is. same_as (record s { bypass = us }) refl refl refl refl refl k.timer k.window;
+    again = λ active x is. restarted (record (after_restart s) { sent = without_oldest_mark s.sent }) (inl active) refl
+        refl k.count refl;
     first = λ active u is room. record {
       active = inl active;
       running = inr k.timer;
-      timer = k.timer;
       command = λ e. inr k.timer;
+      timer = k.timer;
+      count = cond_both (is_none_sent s.sent) 1 s.count (λ n. 1 ≤ n) (λ t. omega arith) (λ t. k.count);
+      window = k.window;
     };
   })
 
   -- ---- a directive
 
   begun_timed : (d : Directive) → Timed (begun s d)
-  begun_timed InitWithoutCheck = stopped (begun s InitWithoutCheck) refl refl (λ e. absurd cc)
-  begun_timed InitWithCheck = stopped (begun s InitWithCheck) refl refl (λ e. absurd cc)
-  begun_timed InitUnlock = stopped (begun s InitUnlock) refl refl (λ e. tt)
-  begun_timed (InitSetVr x) = stopped (begun s (InitSetVr x)) refl refl (λ e. tt)
+  begun_timed InitWithoutCheck =
+      timed_empty (begun s InitWithoutCheck) refl (λ e. absurd cc) k.timer (omega arith) k.window
+  begun_timed InitWithCheck = timed_empty (begun s InitWithCheck) refl (λ e. absurd cc) k.timer (omega arith) k.window
+  begun_timed InitUnlock = timed_empty (begun s InitUnlock) refl (λ e. tt) k.timer (omega arith) k.window
+  begun_timed (InitSetVr x) = timed_empty (begun s (InitSetVr x)) refl (λ e. tt) k.timer (omega arith) k.window
   begun_timed _ = k
 
   from_timed : (m : FopMode) (next : FopState SegmentView) → Timed next → Times (from_S6 s m next)
@@ -236,9 +255,9 @@ module _ (s : FopState SegmentView) (k : Timed s) where
 
   terminated_timed : (m : FopMode) → Times (terminate_in s m)
   terminated_timed S6 = k
-  terminated_timed _ = stopped (after_alert s) refl refl (λ e. absurd cc)
+  terminated_timed _ = gives_up s refl k.count refl
 
-  pub directive_timed : (d : Directive) → Times (directive_step s d)
+  directive_timed : (d : Directive) → Times (directive_step s d)
   directive_timed InitWithoutCheck = from_timed s.state (begun s InitWithoutCheck) (begun_timed InitWithoutCheck)
   directive_timed InitWithCheck = from_timed s.state (begun s InitWithCheck) (begun_timed InitWithCheck)
   directive_timed InitUnlock = from_timed s.state (begun s InitUnlock) (begun_timed InitUnlock)
@@ -246,61 +265,35 @@ module _ (s : FopState SegmentView) (k : Timed s) where
   directive_timed Terminate = terminated_timed s.state
   directive_timed (SetVs x) =
       from_timed s.state (record s { vs = x; nn = x })
-      (same_as (record s { vs = x; nn = x }) refl refl refl k.timer refl)
+      (same_as (record s { vs = x; nn = x }) refl refl refl refl refl k.timer k.window)
   directive_timed (SetWindow n) =
       cond_both ((n == 0) || nat_lt s.room n) _ (obeys (record s { window = n })) (λ o. Times o) (λ t. k)
-      (λ t. same_as (record s { window = n }) refl refl refl k.timer refl)
+      (λ t. same_as (record s { window = n }) refl refl refl refl refl k.timer
+      (omega (arith, eqb-false n 0 (or_parts (n == 0) (nat_lt s.room n) t).0)))
   directive_timed (SetLimit n) =
       cond_both (n == 0) _ (obeys (record s { limit = n })) (λ o. Times o) (λ t. k)
-      (λ t. same_as (record s { limit = n }) refl refl refl k.timer refl)
+      (λ t. same_as (record s { limit = n }) refl refl refl refl refl k.timer k.window)
   directive_timed (SetTimer n) =
       cond_both (n == 0) _ (obeys (record s { timer = n })) (λ o. Times o) (λ t. k)
-      (λ t. same_as (record s { timer = n }) refl refl refl (omega (arith, eqb-false n 0 t)) refl)
+      (λ t. same_as (record s { timer = n }) refl refl refl refl refl (omega (arith, eqb-false n 0 t)) k.window)
 
--- ---- the ground: what is pending moves up
+-- whatever waits
+queued_timed : (f : FopState SegmentView) (waiting : Option SegmentView) (bypass : List SegmentView) → Timed f
+    → Timed (record f { waiting = waiting; bypass = bypass })
+queued_timed f waiting bypass k = record {
+  active = k.active;
+  running = k.running;
+  command = k.command;
+  timer = k.timer;
+  count = k.count;
+  window = k.window;
+}
 
-pub record LiveGround (s : GroundState) : Type 0 where
-  pub timed : Timed s.fop
-  pub moved : s.fop.waiting ≡ None → s.pending ≡ []
-
-moves_up : (s : GroundState) (o : Option SegmentView) (ps : List SegmentView) → s.fop.waiting ≡ o → s.pending ≡ ps
-    → Timed s.fop → LiveGround (after_moving_up s o ps)
-moves_up s (Some u) ps has is k = record { timed = k; moved = λ none. absurd (cc (none, has)) }
-moves_up s None [] has is k = record { timed = k; moved = λ none. is }
-moves_up s None (u ∷ ps) has is k =
-    record { timed = assumption k; moved = λ none. absurd (cc none) }
-
-refilled_live : (s : GroundState) → Timed s.fop → LiveGround (refill_step s)
-refilled_live s k =
-    cond_both (is_closed s.fop.state) (record s { pending = [] }) (after_moving_up s s.fop.waiting s.pending) LiveGround
-    (λ off. record { timed = k; moved = λ none. refl }) (λ on. moves_up s s.fop.waiting s.pending refl refl k)
-
-with_live : (s : GroundState) (f : FopState SegmentView) → Timed f → LiveGround (with_fop s f)
-with_live s f k = refilled_live (record s { fop = f }) k
-
-module _ (s : GroundState) (k : LiveGround s) where
-  directed_live : (r : Result (Option Alert) CopFault) (f : FopState SegmentView) → Timed f
-      → LiveGround (directive_outcome s (record { after = f; answer = r; gone = 0 })).after
-  directed_live (Ok alert) f is = with_live s f is
-  directed_live (Err fault) f is = k
-
-  submitted_live : (m : ℕ) (octets : List ℕ) (o : Option LinkFault)
-      → LiveGround (unless_refused o s (after_submission s m octets)).after
-  submitted_live m octets (Some fault) = k
-  submitted_live m octets None = refilled_live _ k.timed
-
-  bypassed_live : (m : ℕ) (octets : List ℕ) (o : Option LinkFault)
-      → LiveGround (unless_refused o s (after_bypass s m octets)).after
-  bypassed_live m octets (Some fault) = k
-  bypassed_live m octets None = record { timed = assumption k.timed; moved = k.moved }
-
-  heard_live : (r : Result telemetry.FrameView TmFault) → LiveGround (telemetry_outcome s r).after
-  heard_live = frame_seen s LiveGround (record {
-    same = k;
-    extracts = λ x. record { timed = k.timed; moved = k.moved };
-    uses = λ x report. with_live (after_extraction s x) (clcw_step s.fop report).after
-        (report_timed s.fop k.timed report);
-  })
+timed_step : (w : World) → Timed w.ground_node.fop → (e : Event) → Timed (world_step w e).after.ground_node.fop
+timed_step w k e =
+    let s = w.ground_node.fop in
+    step_kept Timed queued_timed w k (ticked_timed s k s.ticks refl) (pull_timed s k)
+    (hears_kept Timed queued_timed w k (report_timed s k)) e (λ d is. directive_timed s k d)
 
 -- ---- on board: a receiver that waits has no buffer
 
@@ -402,72 +395,38 @@ module _ (s : SpacecraftState) (flags : FlagsAgree s.farm) (k : WaitsFull s) whe
 -- ---- the world
 
 pub record Live (w : World) : Type 0 where
-  pub sender : LiveGround w.ground_node
+  pub sender : Timed w.ground_node.fop
   pub receiver : WaitsFull w.spacecraft
 
-module _ (c : Config) (w : World) (sound : Sound c w) (k : Live w) where
-  abbrev Lives : WorldOutcome → Type 0
-  Lives o = Live o.after
+module _ (w : World) (flags : FlagsAgree w.spacecraft.farm) (k : WaitsFull w.spacecraft) where
+  abbrev Full : WorldOutcome → Type 0
+  Full o = WaitsFull o.after.spacecraft
 
-  losses : AtEachLoss w Lives
+  losses : AtEachLoss w Full
   losses = record {
     refused = λ fault. k;
-    up = λ b bs is reply silent. record { sender = k.sender; receiver = k.receiver };
-    down = λ b bs is reply silent. record { sender = k.sender; receiver = k.receiver };
+    up = λ b bs is reply silent. k;
+    down = λ b bs is reply silent. k;
   }
 
-  flags : FlagsAgree w.spacecraft.farm
-  flags = sound.spacecraft.farm.flags
-
-  step_live : (e : Event) → Lives (world_step w e)
-  step_live (events.Submit m octets) = record {
-    sender = submitted_live w.ground_node k.sender m octets.now (submit_fault w.ground_node m octets.now);
-    receiver = k.receiver;
-  }
-  step_live (events.Bypass m octets) = record {
-    sender = bypassed_live w.ground_node k.sender m octets.now (bypass_fault w.ground_node m octets.now);
-    receiver = k.receiver;
-  }
-  step_live (events.Directive d) = record {
-    sender = directed_live w.ground_node k.sender (directive_step w.ground_node.fop d).answer
-        (directive_step w.ground_node.fop d).after (directive_timed w.ground_node.fop k.sender.timed d);
-    receiver = k.receiver;
-  }
-  step_live events.Send = pulled w Lives (λ reply up sent silent. record {
-    sender = with_live w.ground_node (pull_step w.ground_node.fop).after
-        (pull_timed w.ground_node.fop k.sender.timed);
-    receiver = k.receiver;
-  })
-  step_live events.UpDeliver = up_arrives w Lives k (λ b bs is. record {
-    sender = k.sender;
-    receiver = arrived_full w.spacecraft flags k.receiver (command.frame_at _ b);
-  })
-  step_live events.Report = record { sender = k.sender; receiver = k.receiver }
-  step_live events.DownDeliver = down_arrives w Lives k (λ b bs is. record {
-    sender = heard_live w.ground_node k.sender (telemetry_reading.frame_at w.ground_node.config.frame_length b);
-    receiver = k.receiver;
-  })
-  step_live events.Tick = record {
-    sender = with_live w.ground_node (tick_step w.ground_node.fop).after (tick_timed w.ground_node.fop k.sender.timed);
-    receiver = k.receiver;
-  }
-  step_live events.Take = record {
-    sender = k.sender;
-    receiver = taken_full w.spacecraft flags k.receiver w.spacecraft.ready;
-  }
-  step_live events.TakeBypass = record {
-    sender = k.sender;
-    receiver = bypass_taken_full w.spacecraft flags k.receiver w.spacecraft.bypass;
-  }
-  step_live (events.Telemetry octets) = record {
-    sender = k.sender;
-    receiver = queued_full w.spacecraft flags k.receiver octets.now;
-  }
-  step_live e = lost w Lives losses e tt
+  full_step : (e : Event) → Full (world_step w e)
+  full_step events.Send = pulled w Full (λ reply up sent silent. k)
+  full_step events.UpDeliver = up_arrives w Full k (λ b bs is.
+      arrived_full w.spacecraft flags k (command.frame_at _ b))
+  full_step events.DownDeliver = down_arrives w Full k (λ b bs is. k)
+  full_step events.Take = taken_full w.spacecraft flags k w.spacecraft.ready
+  full_step events.TakeBypass = bypass_taken_full w.spacecraft flags k w.spacecraft.bypass
+  full_step (events.Telemetry octets) = queued_full w.spacecraft flags k octets.now
+  full_step (events.Submit m octets) = k
+  full_step (events.Bypass m octets) = k
+  full_step (events.Directive d) = k
+  full_step events.Report = k
+  full_step events.Tick = k
+  full_step e = lost w Full losses e tt
 
 new_live : (c : Config) → IsConfig c → Live (new_world c)
 new_live c ranges = record {
-  sender = record { timed = timed_empty _ refl ranges.timer.0 (λ e. absurd cc); moved = λ none. refl };
+  sender = timed_empty _ refl (λ e. absurd cc) ranges.timer.0 (omega arith) ranges.window.0;
   receiver = λ waits. absurd cc;
 }
 
@@ -475,7 +434,10 @@ run_live : (c : Config) (es : List Event) (w : World) → AllByRecursion IsEvent
     → Live (world_run w es)
 run_live c [] w fits sound k = k
 run_live c (e ∷ es) w fits sound k =
-    run_live c es (world_step w e).after fits.1 (step_sound c w sound e fits.0) (step_live c w sound k e)
+    run_live c es (world_step w e).after fits.1 (step_sound c w sound e fits.0) (record {
+      sender = timed_step w k.sender e;
+      receiver = full_step w sound.spacecraft.farm.flags k.receiver e;
+    })
 
 pub reached_live : (w : World) → IsReached w → Live w
 reached_live w r =

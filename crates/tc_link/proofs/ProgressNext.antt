@@ -198,7 +198,7 @@ module _ (most k : ℕ) where
           at,
           elim why [
             | inl waits ↦ (
-                let rest = (known w g).live.sender.moved waits in
+                let rest = (known w g).holds.sound.ground_node.moved waits in
                 inl (rw (waits, rest) refl))
             | inr full ↦ inr (omega (arith, full, numbers.numbered, p.bounds.window))
           ],

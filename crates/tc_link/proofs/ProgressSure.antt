@@ -16,8 +16,9 @@ use Rattle.tc_link.specs.Progress.{EachIsDelivered}
 use Rattle.tc_link.proofs.Early.{early_off}
 use Rattle.tc_link.proofs.Invariant.{reached_holds}
 use Rattle.tc_link.proofs.Promised.{promised_of}
+use Rattle.tc_link.proofs.ProgressLive.{reached_live}
 use Rattle.tc_link.proofs.Progress.{each_makes_progress}
-use Rattle.tc_link.proofs.ProgressCount.{reached_counts, limit_stays, IsBelow, IsFine, IsBefore, step_below, hears_fine}
+use Rattle.tc_link.proofs.ProgressCount.{limit_stays, IsBelow, IsFine, IsBefore, step_below, hears_fine}
 use Rattle.tc_link.proofs.ProgressCount.{ends_silent}
 use Rattle.tc_link.proofs.ProgressFirst.{awaits_so, Quiet, Ready, ReadyWith, Heard, first_round_trip, first_exchange}
 use Rattle.tc_link.proofs.ProgressNodes.{with_same, IsBounded}
@@ -249,7 +250,7 @@ settled_of w reached idle active checking =
 pub each_is_delivered : EachIsDelivered
 each_is_delivered w g idle active checking below n most =
     let settled = settled_of w g idle active checking in
-    let two : 2 ≤ w.ground_node.fop.limit = omega (arith, (reached_counts w g).0, below) in
+    let two : 2 ≤ w.ground_node.fop.limit = omega (arith, (reached_live w g).sender.count, below) in
     let k : Steady w =
     record { going = g; idle = idle; settled = settled; checking = checking; two = two } in
     let window = w.ground_node.fop.window in

@@ -12,21 +12,27 @@ use Rattle.tc_link.proofs.Transit.{Ranks, bit, ranks_lower}
 abbrev pub queued_as : GroundState → Option SegmentView → List SegmentView → GroundState
 queued_as s waiting pending = record s { fop = record s.fop { waiting = waiting }; pending = pending }
 
+-- nothing is pending where the sender is off, or nothing waits
+abbrev pub NonePends : Bool → Option SegmentView → List SegmentView → Type 0
+NonePends off waiting pending = (off ≡ true → pending ≡ []) × (waiting ≡ None → pending ≡ [])
+
 module _ (P : GroundState → Type 0) (s : GroundState)
     (each : (waiting : Option SegmentView) (pending : List SegmentView)
     → (is_closed s.fop.state ≡ false → option_to_list waiting ++ pending ≡ unsent_segments s)
-    → (is_closed s.fop.state ≡ true → pending ≡ [])
+    → NonePends (is_closed s.fop.state) waiting pending
     → P (queued_as s waiting pending)) where
   moved : (o : Option SegmentView) (ps : List SegmentView) → s.fop.waiting ≡ o → s.pending ≡ ps
       → is_closed s.fop.state ≡ false → P (after_moving_up s o ps)
-  moved (Some u) ps has is on = each s.fop.waiting s.pending (λ e. refl) (λ e. absurd cc)
-  moved None [] has is on = each s.fop.waiting s.pending (λ e. refl) (λ e. absurd cc)
-  moved None (u ∷ ps) has is on = each (Some u) ps (λ e. rw (has, is) refl) (λ e. absurd cc)
+  moved (Some u) ps has is on = each s.fop.waiting s.pending (λ e. refl)
+      (λ off. absurd (cc (off, on)), λ none. absurd (cc (none, has)))
+  moved None [] has is on = each s.fop.waiting s.pending (λ e. refl) (λ off. is, λ none. is)
+  moved None (u ∷ ps) has is on = each (Some u) ps (λ e. rw (has, is) refl)
+      (λ off. absurd (cc (off, on)), λ none. absurd cc)
 
   pub refilled_keeps : P (refill_step s)
   refilled_keeps =
       cond_both (is_closed s.fop.state) (record s { pending = [] }) (after_moving_up s s.fop.waiting s.pending) P
-      (λ off. each s.fop.waiting [] (λ on. absurd (cc (off, on))) (λ e. refl))
+      (λ off. each s.fop.waiting [] (λ on. absurd (cc (off, on))) (λ off. refl, λ none. refl))
       (λ on. moved s.fop.waiting s.pending refl refl on)
 
 pub held_again : (off : Bool) (base vs nn : ℕ) (sent : List (SentUnit SegmentView)) (rest new : List SegmentView)

@@ -1,7 +1,7 @@
 -- What holds of both nodes and of the world at every moment, in any session.
 use Rattle.tc_link.proofs.Common.{◌≡◌, ◌/◌, ◌<◌, ◌≤◌, true, [], length, AllByRecursion, SegmentView, Control, Idle}
 use Rattle.tc_link.proofs.Common.{FopMode, FarmState, FlagsAgree, FopState, Config, FitsFrame, GroundState, is_closed}
-use Rattle.tc_link.proofs.Common.{SpacecraftState, IsBuilderOf, IsConfig, World, S5}
+use Rattle.tc_link.proofs.Common.{SpacecraftState, IsBuilderOf, IsConfig, World, S5, None}
 
 -- ---- the ground
 
@@ -21,6 +21,8 @@ pub record GroundNodeSteady (c : Config) (s : GroundState) : Type 0 where
   pub config : s.config ≡ c
   pub fop : FopSteady c s.fop
   pub pending_none : is_closed s.fop.state ≡ true → s.pending ≡ []
+  -- what is pending moves up
+  pub moved : s.fop.waiting ≡ None → s.pending ≡ []
 
 -- ---- the spacecraft
 

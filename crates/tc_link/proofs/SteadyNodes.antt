@@ -131,7 +131,7 @@ module _ (c : Config) (s : FopState SegmentView) (k : FopSteady c s) where
 pub refilled_so : (c : Config) (s : GroundState) → s.config ≡ c → FopSteady c s.fop → GroundNodeSteady c (refill_step s)
 refilled_so c s is k = refilled_keeps (GroundNodeSteady c) s (λ waiting pending on off.
     let fop : FopSteady c (record s.fop { waiting = waiting }) = assumption k in
-    record { config = is; fop = fop; pending_none = off })
+    record { config = is; fop = fop; pending_none = off.0; moved = off.1 })
 
 -- ---- the receiver
 

@@ -181,10 +181,10 @@ module _ (c : Config) (s : GroundState) (k : GroundNodeSteady c s) where
       let fits : AllByRecursion FitsFrame (s.fop.bypass ++ segment_with Alone m octets ∷ []) =
       all_push FitsFrame s.fop.bypass (segment_with Alone m octets) k.fop.bypass_fits
       (bypass_fits s m octets own is) in
-      record { config = k.config; fop = assumption (fits, k.fop); pending_none = k.pending_none }
+      record { config = k.config; fop = assumption (fits, k.fop); pending_none = k.pending_none; moved = k.moved }
 
   extracted_so : (x : Extracted) → GroundNodeSteady c (after_extraction s x)
-  extracted_so x = record { config = k.config; fop = k.fop; pending_none = k.pending_none }
+  extracted_so x = record { config = k.config; fop = k.fop; pending_none = k.pending_none; moved = k.moved }
 
   telemetry_so : (r : Result telemetry.FrameView TmFault) → GroundNodeSteady c (telemetry_outcome s r).after
   telemetry_so = frame_seen s (GroundNodeSteady c) (record {
@@ -336,6 +336,7 @@ new_sound c ranges = record {
       bypass_fits = tt;
     };
     pending_none = λ e. refl;
+    moved = λ none. refl;
   };
   spacecraft = record {
     config = refl;

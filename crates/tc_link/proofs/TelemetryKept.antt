@@ -393,6 +393,7 @@ module _ (c : Config) (d : Downlink) (g : Laid c d) where
             config = g.sound.ground_node.config;
             fop = g.sound.ground_node.fop;
             pending_none = g.sound.ground_node.pending_none;
+            moved = g.sound.ground_node.moved;
           };
           spacecraft = g.sound.spacecraft;
           before = g.sound.before;

@@ -1,0 +1,78 @@
+-- What is so of the sender alone, whatever it queues, and stays so with each event.
+use Rattle.tc_link.proofs.Common.{◌≡◌, ℕ, ◌++◌, List, ◌∷◌, Option, Some, None, Result, Ok, Err, refl, SegmentView}
+use Rattle.tc_link.proofs.Common.{Clcw, CopFault, Alert, Directive, FopState, clcw_step, directive_step, pull_step}
+use Rattle.tc_link.proofs.Common.{tick_step, GroundState, with_fop, segments_on, submit_fault, bypass_fault, LinkFault}
+use Rattle.tc_link.proofs.Common.{after_submission, after_bypass, unless_refused, directive_outcome, after_extraction}
+use Rattle.tc_link.proofs.Common.{Event, World, WorldOutcome, world_step, down_deliver_step}
+use Rattle.simulated_link.proofs.TelemetryCases.{frame_seen}
+use Rattle.simulated_link.proofs.Unchanged.{AtEachLoss, lost, pulled, up_arrives, down_arrives}
+use Rattle.tm_link.specs.Decoding as telemetry_reading
+use Rattle.nodes.specs.declared.event.Event.TheVariants as events
+use Rattle.tc_link.proofs.Refilled.{refilled_keeps}
+
+module _ (P : FopState SegmentView → Type 0)
+    (queues : (f : FopState SegmentView) (waiting : Option SegmentView) (bypass : List SegmentView) → P f
+    → P (record f { waiting = waiting; bypass = bypass })) where
+  pub with_kept : (s : GroundState) (f : FopState SegmentView) → P f → P (with_fop s f).fop
+  with_kept s f k =
+      refilled_keeps (λ (t : GroundState). P t.fop) (record s { fop = f })
+      (λ waiting pending on off. queues f waiting f.bypass k)
+
+  module _ (s : GroundState) (k : P s.fop) where
+    submitted : (m : ℕ) (octets : List ℕ) (o : Option LinkFault)
+        → P (unless_refused o s (after_submission s m octets)).after.fop
+    submitted m octets (Some fault) = k
+    submitted m octets None = with_kept (record s { pending = s.pending ++ segments_on s m octets }) s.fop k
+
+    bypassed : (m : ℕ) (octets : List ℕ) (o : Option LinkFault)
+        → P (unless_refused o s (after_bypass s m octets)).after.fop
+    bypassed m octets (Some fault) = k
+    bypassed m octets None = queues s.fop s.fop.waiting (after_bypass s m octets).fop.bypass k
+
+    directed : (r : Result (Option Alert) CopFault) (f : FopState SegmentView) → P f
+        → P (directive_outcome s (record { after = f; answer = r; gone = 0 })).after.fop
+    directed (Ok alert) f is = with_kept s f is
+    directed (Err fault) f is = k
+
+  module _ (w : World) (k : P w.ground_node.fop) where
+    abbrev s : FopState SegmentView
+    s = w.ground_node.fop
+
+    abbrev pub After : WorldOutcome → Type 0
+    After o = P o.after.ground_node.fop
+
+    pub hears_kept : ((report : Clcw) → P (clcw_step s report).after) → After (world_step w events.DownDeliver)
+    hears_kept reports = down_arrives w After k (λ b bs is.
+        frame_seen w.ground_node (λ t. P t.fop) (record {
+          same = k;
+          extracts = λ x. k;
+          uses = λ x report. with_kept (after_extraction w.ground_node x) (clcw_step s report).after (reports report);
+        }) (telemetry_reading.frame_at w.ground_node.config.frame_length b))
+
+    losses : AtEachLoss w After
+    losses = record {
+      refused = λ fault. k;
+      up = λ b bs is reply silent. k;
+      down = λ b bs is reply silent. k;
+    }
+
+    -- where each report, tick, pull and directive keeps it
+    pub step_kept : P (tick_step s).after → P (pull_step s).after → After (world_step w events.DownDeliver)
+        → (e : Event) → ((d : Directive) → e ≡ events.Directive d → P (directive_step s d).after)
+        → After (world_step w e)
+    step_kept tick pull hears (events.Submit m octets) direct =
+        submitted w.ground_node k m octets.now (submit_fault w.ground_node m octets.now)
+    step_kept tick pull hears (events.Bypass m octets) direct =
+        bypassed w.ground_node k m octets.now (bypass_fault w.ground_node m octets.now)
+    step_kept tick pull hears (events.Directive d) direct =
+        directed w.ground_node k (directive_step s d).answer (directive_step s d).after (direct d refl)
+    step_kept tick pull hears events.Send direct =
+        pulled w After (λ reply up sent silent. with_kept w.ground_node (pull_step s).after pull)
+    step_kept tick pull hears events.UpDeliver direct = up_arrives w After k (λ b bs is. k)
+    step_kept tick pull hears events.DownDeliver direct = hears
+    step_kept tick pull hears events.Tick direct = with_kept w.ground_node (tick_step s).after tick
+    step_kept tick pull hears events.Report direct = k
+    step_kept tick pull hears events.Take direct = k
+    step_kept tick pull hears events.TakeBypass direct = k
+    step_kept tick pull hears (events.Telemetry octets) direct = k
+    step_kept tick pull hears e direct = lost w After losses e tt
