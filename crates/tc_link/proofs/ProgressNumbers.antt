@@ -38,7 +38,7 @@ use Rattle.tc_link.proofs.Invariant.{Holding, step_holds, new_holds}
 use Rattle.tc_link.proofs.Linked.{Carries, carries_push, Tells, Reporting}
 use Rattle.tc_link.proofs.Lists.{oldest_stands}
 use Rattle.tc_link.proofs.ReportFrames.{reporting_now}
-use Rattle.tc_link.proofs.Refilled.{refilled_keeps}
+use Rattle.tc_link.proofs.Senders.{with_kept, step_kept}
 use Rattle.tc_link.proofs.Sound.{Commanded}
 use Rattle.tc_link.proofs.Spelled.{Goes, reads_back, fits_at}
 use Rattle.tc_link.proofs.Submissions.{all_append}
@@ -222,41 +222,11 @@ module _ (s : FopState SegmentView) (k : Numbered s) where
         refl refl (λ t. t) k.command;
   })
 
--- ---- the ground
-
-refilled_numbers : (s : GroundState) → Numbered s.fop → Numbered (refill_step s).fop
-refilled_numbers s k = refilled_keeps (λ (t : GroundState). Numbered t.fop) s (λ waiting pending on off. record {
-  vs = k.vs;
-  nn = k.nn;
-  command = k.command;
-  numbered = k.numbered;
-  most = k.most;
-})
-
-with_numbers : (s : GroundState) (f : FopState SegmentView) → Numbered f → Numbered (with_fop s f).fop
-with_numbers s f k = refilled_numbers (record s { fop = f }) k
-
-module _ (s : GroundState) (k : Numbered s.fop) where
-  directed_numbers : (r : Result (Option Alert) CopFault) (f : FopState SegmentView) → Numbered f
-      → Numbered (directive_outcome s (record { after = f; answer = r; gone = 0 })).after.fop
-  directed_numbers (Ok alert) f is = with_numbers s f is
-  directed_numbers (Err fault) f is = k
-
-  submitted_numbers : (m : ℕ) (octets : List ℕ) (o : Option LinkFault)
-      → Numbered (unless_refused o s (after_submission s m octets)).after.fop
-  submitted_numbers m octets (Some fault) = k
-  submitted_numbers m octets None = refilled_numbers _ k
-
-  bypassed_numbers : (m : ℕ) (octets : List ℕ) (o : Option LinkFault)
-      → Numbered (unless_refused o s (after_bypass s m octets)).after.fop
-  bypassed_numbers m octets (Some fault) = k
-  bypassed_numbers m octets None = record {
-    vs = k.vs;
-    nn = k.nn;
-    command = k.command;
-    numbered = k.numbered;
-    most = k.most;
-  }
+-- whatever waits
+queued_numbers : (f : FopState SegmentView) (waiting : Option SegmentView) (bypass : List SegmentView) → Numbered f
+    → Numbered (record f { waiting = waiting; bypass = bypass })
+queued_numbers f waiting bypass k =
+    record { vs = k.vs; nn = k.nn; command = k.command; numbered = k.numbered; most = k.most }
 
 -- ---- the receiver
 
@@ -390,11 +360,9 @@ module _ (c : Config) (w : World) (h : Holding c w) (k : HasOctets c w) where
     down = λ b bs is reply silent. record { sender = k.sender; vr = k.vr; up = k.up; down = (down_of b bs is).rest };
   }
 
-  with_sender : (g : GroundState) → Numbered g.fop → HasOctets c (record w { ground_node = g })
-  with_sender g sender = record { sender = sender; vr = k.vr; up = k.up; down = k.down }
-
-  with_craft : (s : SpacecraftState) → s.farm.vr < 256 → HasOctets c (record w { spacecraft = s })
-  with_craft s vr = record { sender = k.sender; vr = vr; up = k.up; down = k.down }
+  -- the receiver is another
+  with_vr : (s : SpacecraftState) → s.farm.vr < 256 → HasOctets c (record w { spacecraft = s })
+  with_vr s vr = record { sender = k.sender; vr = vr; up = k.up; down = k.down }
 
   -- ---- a frame is sent
 
@@ -414,7 +382,7 @@ module _ (c : Config) (w : World) (h : Holding c w) (k : HasOctets c w) where
   sent_after : (f : FopState SegmentView) (b : BodyView) → Goes b → IsOctetBody b → Numbered f
       → After (world_after_pull w (with_fop w.ground_node f) (Some (frame_of w.ground_node.config b)))
   sent_after f b goes is numbers = record {
-    sender = with_numbers w.ground_node f numbers;
+    sender = with_kept Numbered queued_numbers w.ground_node f numbers;
     vr = k.vr;
     up = pushed b goes is;
     down = k.down;
@@ -422,7 +390,12 @@ module _ (c : Config) (w : World) (h : Holding c w) (k : HasOctets c w) where
 
   sends : Pulls (pull_step s)
   sends = pulled_out s Pulls (record {
-    none = λ numbers. with_sender (with_fop w.ground_node s) (with_numbers w.ground_node s numbers);
+    none = λ numbers. record {
+      sender = with_kept Numbered queued_numbers w.ground_node s numbers;
+      vr = k.vr;
+      up = k.up;
+      down = k.down;
+    };
     command = λ command is numbers.
         sent_after (record (after_restart s) { control = Sent command }) (Bc command) tt
         (sent_octet s k.sender command is) numbers;
@@ -462,7 +435,7 @@ module _ (c : Config) (w : World) (h : Holding c w) (k : HasOctets c w) where
       let x = extract_step w.ground_node.extractor first.tells.frame in
       subst (λ o. After (world_after_telemetry w bs o))
       (sym (used_is c w.ground_node b first.report h.sound.ground_node.config first.tells)) (record {
-        sender = with_numbers (after_extraction w.ground_node x) (clcw_step s first.report).after
+        sender = with_kept Numbered queued_numbers (after_extraction w.ground_node x) (clcw_step s first.report).after
             (report_numbers s k.sender first.report first.is);
         vr = k.vr;
         up = k.up;
@@ -473,29 +446,27 @@ module _ (c : Config) (w : World) (h : Holding c w) (k : HasOctets c w) where
   off_idle off =
       let idle : Commanded S6 s.control = rw off at h.sound.ground_node.fop.commanded in idle
 
+  numbers_step : (e : Event) → IsEvent e → Numbered (world_step w e).after.ground_node.fop
+  numbers_step e fits =
+      step_kept Numbered queued_numbers w k.sender (tick_numbers s k.sender) (pull_numbers s k.sender small_window)
+      (down_arrives w (λ o. Numbered o.after.ground_node.fop) k.sender (λ b bs is. (hears b bs is).sender)) e
+      (λ d is. directive_numbers s k.sender off_idle d (subst IsEvent is fits))
+
+  -- only the sender is another
+  step_sender : (e : Event) → IsEvent e → (world_step w e).after.spacecraft ≡ w.spacecraft
+      → (world_step w e).after.up ≡ w.up → (world_step w e).after.down ≡ w.down → After (world_step w e)
+  step_sender e fits craft up down = record {
+    sender = numbers_step e fits;
+    vr = rw craft k.vr;
+    up = rw up k.up;
+    down = rw down k.down;
+  }
+
   step_octets : (e : Event) → IsEvent e → After (world_step w e)
-  step_octets (events.Submit m octets) fits =
-      record {
-        sender = submitted_numbers w.ground_node k.sender m octets.now (submit_fault w.ground_node m octets.now);
-        vr = k.vr;
-        up = k.up;
-        down = k.down;
-      }
-  step_octets (events.Bypass m octets) fits =
-      record {
-        sender = bypassed_numbers w.ground_node k.sender m octets.now (bypass_fault w.ground_node m octets.now);
-        vr = k.vr;
-        up = k.up;
-        down = k.down;
-      }
-  step_octets (events.Directive d) fits =
-      record {
-        sender = directed_numbers w.ground_node k.sender (directive_step s d).answer (directive_step s d).after
-            (directive_numbers s k.sender off_idle d fits);
-        vr = k.vr;
-        up = k.up;
-        down = k.down;
-      }
+  step_octets (events.Submit m octets) fits = step_sender (events.Submit m octets) fits refl refl refl
+  step_octets (events.Bypass m octets) fits = step_sender (events.Bypass m octets) fits refl refl refl
+  step_octets (events.Directive d) fits = step_sender (events.Directive d) fits refl refl refl
+  step_octets events.Tick fits = step_sender events.Tick fits refl refl refl
   step_octets events.Send fits = sends (pull_numbers s k.sender small_window)
   step_octets events.UpDeliver fits = up_arrives w After k arrives
   step_octets events.Report fits = record {
@@ -510,17 +481,14 @@ module _ (c : Config) (w : World) (h : Holding c w) (k : HasOctets c w) where
     };
   }
   step_octets events.DownDeliver fits = down_arrives w After k hears
-  step_octets events.Tick fits =
-      with_sender (with_fop w.ground_node (tick_step s).after)
-      (with_numbers w.ground_node (tick_step s).after (tick_numbers s k.sender))
   step_octets events.Take fits =
-      with_craft (spacecraft_take w.spacecraft w.spacecraft.ready).after
+      with_vr (spacecraft_take w.spacecraft w.spacecraft.ready).after
       (taken_octet w.spacecraft k.vr w.spacecraft.ready)
   step_octets events.TakeBypass fits =
-      with_craft (spacecraft_take_bypass w.spacecraft w.spacecraft.bypass).after
+      with_vr (spacecraft_take_bypass w.spacecraft w.spacecraft.bypass).after
       (bypass_taken_octet w.spacecraft k.vr w.spacecraft.bypass)
   step_octets (events.Telemetry octets) fits =
-      with_craft (spacecraft_telemetry w.spacecraft octets.now).after (queued_octet w.spacecraft k.vr octets.now)
+      with_vr (spacecraft_telemetry w.spacecraft octets.now).after (queued_octet w.spacecraft k.vr octets.now)
   step_octets e fits = lost w After losses e tt
 
 run_octets : (c : Config) (es : List Event) (w : World) → AllByRecursion IsEvent es → Holding c w → HasOctets c w
