@@ -357,9 +357,6 @@ module _ (count limit : ℕ) where
 
 -- ---- as many exchanges as transmissions are left, and one more
 
-abbrev Within : ℕ → World → Type 0
-Within most w = (m : ℕ) × (m ≤ suc most) × (AlertsIn w (times m exchange w) ⊎ Active (world_run w (times m exchange w)))
-
 one_first : (Q : World → Type 0) (w : World) (m : ℕ)
     → AlertsIn (world_run w (exchange w)) (times m exchange (world_run w (exchange w)))
     ⊎ Q (world_run (world_run w (exchange w)) (times m exchange (world_run w (exchange w))))
@@ -371,29 +368,31 @@ one_first Q w m so =
       | inr q ↦ inr (subst Q (sym (run_append w (exchange w) (times m exchange v))) q)
     ]
 
-begins_within : (most : ℕ) (w : World) → IsReached w → IsBeginning w.ground_node.fop.state
-    → w.ground_node.fop.limit - w.ground_node.fop.count ≤ most → Within most w
-begins_within zero w g begins few =
-    let s = w.ground_node.fop in
-    elim (exchange_begins s.count s.limit w g (record { state = begins; count_is = refl; limit_is = refl })) [
-      | inl a ↦ (1, omega arith, inl (alerts_first w (exchange w) [] a))
-      | inr t ↦ elim t.1 [
-        | inl active ↦ (1, omega arith, one_first Active w zero (inr active))
-        | inr again ↦ absurd (omega (arith, again.less, few))
-      ]
-    ]
-begins_within (suc most) w g begins few =
-    let s = w.ground_node.fop in
-    elim (exchange_begins s.count s.limit w g (record { state = begins; count_is = refl; limit_is = refl })) [
-      | inl a ↦ (1, omega arith, inl (alerts_first w (exchange w) [] a))
-      | inr t ↦ elim t.1 [
-        | inl active ↦ (1, omega arith, one_first Active w zero (inr active))
-        | inr again ↦ (
-            let v = world_run w (exchange w) in
-            let more = begins_within most v t.0 (inr again.five) (omega (arith, again.less, few)) in
-            (suc more.0, omega (arith, more.1), one_first Active w more.0 more.2))
-      ]
-    ]
+-- an alert comes, or the sender is Active, or one transmission less is left, and the next exchange begins
+module _ (Leads : ℕ → World → ℕ → Type 0)
+    (alert : (most : ℕ) (w : World) → AlertsIn w (exchange w) → Leads (suc most) w 1)
+    (active : (most : ℕ) (w : World) → IsReached w → Active w → (m : ℕ) × Leads most w m)
+    (later : (most : ℕ) (w : World) (m : ℕ) → Leads most (world_run w (exchange w)) m → Leads (suc most) w (suc m))
+  where
+    leads : (most : ℕ) (w : World) → IsReached w → IsBeginning w.ground_node.fop.state
+        → w.ground_node.fop.limit - w.ground_node.fop.count < most → (m : ℕ) × Leads most w m
+    leads zero w g begins few = absurd (omega (arith, few))
+    leads (suc most) w g begins few =
+        let s = w.ground_node.fop in
+        let v = world_run w (exchange w) in
+        let on : (m : ℕ) × Leads most v m → (m : ℕ) × Leads (suc most) w m =
+        λ x. (suc x.0, later most w x.0 x.1) in
+        elim (exchange_begins s.count s.limit w g (record { state = begins; count_is = refl; limit_is = refl })) [
+          | inl a ↦ (1, alert most w a)
+          | inr t ↦ on (elim t.1 [
+            | inl begun ↦ active most v t.0 begun
+            | inr again ↦ leads most v t.0 (inr again.five) (omega (arith, again.less, few))
+          ])
+        ]
+
+-- within so many exchanges
+abbrev Within : ℕ → World → ℕ → Type 0
+Within most w m = (m ≤ most) × (AlertsIn w (times m exchange w) ⊎ Active (world_run w (times m exchange w)))
 
 beginning : (m : FopMode) → is_initialising m ≡ true → IsBeginning m
 beginning S4 is = inl refl
@@ -402,8 +401,12 @@ beginning _ is = absurd cc
 
 pub each_begins : EachBegins
 each_begins w reached begins =
-    begins_within (w.ground_node.fop.limit - w.ground_node.fop.count) w reached
-    (beginning w.ground_node.fop.state begins) (omega arith)
+    let most : ℕ = suc (w.ground_node.fop.limit - w.ground_node.fop.count) in
+    let m =
+    leads Within (λ most w a. (omega arith, inl (alerts_first w (exchange w) [] a)))
+    (λ most w g on. (zero, (omega arith, inr on))) (λ most w m t. (omega (arith, t.0), one_first Active w m t.1)) most
+    w reached (beginning w.ground_node.fop.state begins) (omega arith) in
+    (m.0, m.1.0, m.1.1)
 
 -- ---- and on to the end
 
@@ -436,41 +439,13 @@ ends_active w reached active =
     let window = (reached_live w reached).sender.window in
     (suc n, each_makes_progress w reached active n (no_less n w.ground_node.fop.window window))
 
-ends_begun : (most : ℕ) (w : World) → IsReached w → IsBeginning w.ground_node.fop.state
-    → w.ground_node.fop.limit - w.ground_node.fop.count ≤ most → (m : ℕ) × Done w m
-ends_begun zero w g begins few =
-    let s = w.ground_node.fop in
-    elim (exchange_begins s.count s.limit w g (record { state = begins; count_is = refl; limit_is = refl })) [
-      | inl a ↦ (1, inl (alerts_first w (exchange w) [] a))
-      | inr t ↦ elim t.1 [
-        | inl active ↦ (
-            let more = ends_active (world_run w (exchange w)) t.0 active in
-            (suc more.0, then_done w more.0 more.1))
-        | inr again ↦ absurd (omega (arith, again.less, few))
-      ]
-    ]
-ends_begun (suc most) w g begins few =
-    let s = w.ground_node.fop in
-    let v = world_run w (exchange w) in
-    elim (exchange_begins s.count s.limit w g (record { state = begins; count_is = refl; limit_is = refl })) [
-      | inl a ↦ (1, inl (alerts_first w (exchange w) [] a))
-      | inr t ↦ elim t.1 [
-        | inl active ↦ (let more = ends_active v t.0 active in (suc more.0, then_done w more.0 more.1))
-        | inr again ↦ (
-            let more = ends_begun most v t.0 (inr again.five) (omega (arith, again.less, few)) in
-            (suc more.0, then_done w more.0 more.1))
-      ]
-    ]
-
 pub each_ends : EachEnds
 each_ends w reached on = in_mode w.ground_node.fop.state refl on
   where
-    few : w.ground_node.fop.limit - w.ground_node.fop.count ≤ w.ground_node.fop.limit - w.ground_node.fop.count
-    few = omega arith
-
     from_start : IsBeginning w.ground_node.fop.state → (m : ℕ) × Done w m
     from_start begins =
-        ends_begun (w.ground_node.fop.limit - w.ground_node.fop.count) w reached begins few
+        leads (λ most. Done) (λ most w a. inl (alerts_first w (exchange w) [] a)) (λ most. ends_active)
+        (λ most. then_done) (suc (w.ground_node.fop.limit - w.ground_node.fop.count)) w reached begins (omega arith)
 
     in_mode : (m : FopMode) → w.ground_node.fop.state ≡ m → is_closed m ≡ false → (m : ℕ) × Done w m
     in_mode S4 is on = from_start (inl is)
