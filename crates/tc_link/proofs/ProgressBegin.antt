@@ -28,7 +28,7 @@ use Rattle.tc_link.proofs.ProgressFirst.{first_tells, holds_more, alerted}
 use Rattle.tc_link.proofs.Progress.{each_makes_progress}
 use Rattle.tc_link.proofs.ProgressLists.{idle_run, exchange_calm}
 use Rattle.tc_link.proofs.ProgressNodes.{with_same, heard_is}
-use Rattle.tc_link.proofs.ProgressLive.{IsDueNow, Running, reached_live}
+use Rattle.tc_link.proofs.ProgressLive.{IsDueNow, Running}
 use Rattle.tc_link.proofs.ProgressRuns.{known, Ends, ends_then, ends_repeat, ends_once, alerts_first}
 use Rattle.tc_link.proofs.ProgressRuns.{alerts_then, run_append, ends_so}
 use Rattle.tc_link.proofs.ProgressSender.{tick_on}
@@ -214,8 +214,8 @@ module _ (count limit : ℕ) where
     hears_one [] is = absurd (omega (arith, ap length is, p.0))
     hears_one (b ∷ bs) is =
         let h = known w g in
-        let told = first_tells 0 0 h.config b bs h.holds.reports.reports
-        (subst (λ ds. Reporting h.config ds h.holds.reports.reports) is h.holds.reports.reporting) in
+        let told = first_tells 0 0 g.config b bs h.holds.reports.reports
+        (subst (λ ds. Reporting g.config ds h.holds.reports.reports) is h.holds.reports.reporting) in
         let r : Clcw = told.0 in
         let tells : Tells w.ground_node.config b r =
         subst (λ c. Tells c b r) (sym h.holds.sound.ground_node.config) told.1 in
@@ -333,7 +333,7 @@ module _ (count limit : ℕ) where
             (λ es. Ends Begun w es) (λ t. active_ticks ticks w g active) (λ t. inr (g, inl active))
         | inr t ↦ (
             let waits : awaits s.state (are_marked s.sent) ≡ true = rw t.1 refl in
-            let on : Running s.ticks = elim ((known w g).live.sender.command t.1) [
+            let on : Running s.ticks = elim ((known w g).sender.command t.1) [
               | inl due ↦ absurd (t.0.1 due)
               | inr runs ↦ runs
             ] in
@@ -436,7 +436,7 @@ no_less (suc n) k one = omega (arith, no_less n k one, one)
 ends_active : (w : World) → IsReached w → Active w → (m : ℕ) × Done w m
 ends_active w reached active =
     let n = length (outstanding w.ground_node) in
-    let window = (reached_live w reached).sender.window in
+    let window = (known w reached).sender.window in
     (suc n, each_makes_progress w reached active n (no_less n w.ground_node.fop.window window))
 
 pub each_ends : EachEnds

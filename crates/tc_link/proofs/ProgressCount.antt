@@ -8,7 +8,7 @@ use Rattle.tc_link.proofs.Common.{after_new_value, heard_active, pull_step, pull
 use Rattle.tc_link.proofs.Common.{after_stop, GroundState, refill_step, with_fop, after_extraction, telemetry_outcome}
 use Rattle.tc_link.proofs.Common.{TmFault, submit_fault, bypass_fault, after_submission, after_bypass, unless_refused}
 use Rattle.tc_link.proofs.Common.{LinkFault, directive_outcome, Event, World, WorldOutcome, new_world, world_step}
-use Rattle.tc_link.proofs.Common.{world_run, IsReached}
+use Rattle.tc_link.proofs.Common.{◌≢◌}
 use Rattle.std.specs.Prelude.{◌||◌}
 use Rattle.cop1.specs.FopDirective.{obeys, from_S6, terminate_in}
 use Rattle.cop1.specs.declared.vocabulary.Directive.TheVariants.{Terminate, SetVs, SetWindow, SetLimit, SetTimer}
@@ -134,11 +134,7 @@ module _ (s : FopState SegmentView) (two : 2 ≤ s.limit) where
 
 -- until the report is heard
 abbrev pub IsBefore : Event → Type 0
-IsBefore events.Send = Unit {0}
-IsBefore events.UpDeliver = Unit {0}
-IsBefore events.Report = Unit {0}
-IsBefore events.Take = Unit {0}
-IsBefore _ = ⊥
+IsBefore e = IsCalm e × (e ≢ events.Tick) × (e ≢ events.DownDeliver)
 
 module _ (w : World) (two : 2 ≤ w.ground_node.fop.limit) where
   abbrev BelowAfter : WorldOutcome → Type 0
@@ -151,7 +147,9 @@ module _ (w : World) (two : 2 ≤ w.ground_node.fop.limit) where
   step_below below events.UpDeliver is = up_arrives w BelowAfter below (λ b bs e. below)
   step_below below events.Report is = below
   step_below below events.Take is = below
-  step_below below _ is = elim is [ ]
+  step_below below events.Tick is = absurd (is.1 refl)
+  step_below below events.DownDeliver is = absurd (is.2 refl)
+  step_below below _ is = elim is.0 [ ]
 
   pub hears_fine : IsFine w.ground_node.fop → IsFine (world_step w events.DownDeliver).after.ground_node.fop
   hears_fine fine =

@@ -96,7 +96,7 @@ module _ (most k : ℕ) where
       let known = known w g in
       let slots : 1 ≤ w.spacecraft.config.ready_slots =
       rw known.holds.sound.spacecraft.config known.holds.sound.ranges.ready_slots.0 in
-      let full = known.live.receiver waits in
+      let full = known.receiver waits in
       let no : 1 ≤ 0 = omega (arith, slots, full, none) in
       absurd (omega (arith, no)))
 
@@ -116,7 +116,7 @@ module _ (most k : ℕ) where
           last = telemetry_writing.spelling (spacecraft_report w.spacecraft).answer;
           down = refl;
           count = refl;
-          tells = rw h.holds.sound.ground_node.config (tells_now h.config w h.holds.sound);
+          tells = rw h.holds.sound.ground_node.config (tells_now g.config w h.holds.sound);
         },
       ))
 
@@ -215,8 +215,8 @@ module _ (most k : ℕ) where
     hears_one (b ∷ bs) is =
         let h = known w g in
         let down : w.down ≡ b ∷ (bs ++ t.last ∷ []) = t.down ∙ ap (λ xs. xs ++ t.last ∷ []) is in
-        let told = first_tells h.config b (bs ++ t.last ∷ []) h.holds.reports.reports
-        (subst (λ ds. Reporting h.config ds h.holds.reports.reports) down h.holds.reports.reporting) in
+        let told = first_tells g.config b (bs ++ t.last ∷ []) h.holds.reports.reports
+        (subst (λ ds. Reporting g.config ds h.holds.reports.reports) down h.holds.reports.reporting) in
         let r : Clcw = told.0 in
         let tells : Tells w.ground_node.config b r =
         subst (λ c. Tells c b r) (sym h.holds.sound.ground_node.config) told.1 in
@@ -337,7 +337,7 @@ module _ (most k : ℕ) where
       let waits = awaits_so w p.0 in
       cond_both (awaits w.ground_node.fop.state marked)
       (replicate (ticks_left w.ground_node.fop.ticks) events.Tick) [] (λ es. Ends ReadyWith w es)
-      (λ t. elim (known w g).live.sender.running [
+      (λ t. elim (known w g).sender.running [
         | inl none ↦ absurd
             (let no : marked ≡ false = not-true marked (sym waits ∙ t) in
             let all : marked ≡ true = rw none refl in cc (all, no))

@@ -1,5 +1,5 @@
 -- The events of an exchange, and that a session goes on with them.
-use Rattle.tc_link.proofs.Common.{ℕ, zero, suc, List, [], ◌∷◌, length, replicate, cond_both}
+use Rattle.tc_link.proofs.Common.{◌≢◌, ℕ, zero, suc, List, [], ◌∷◌, length, replicate, cond_both}
 use Rattle.tc_link.proofs.Common.{AllByRecursion, Event, World, world_step, world_run, IsIdle}
 use Rattle.nodes.specs.declared.event.Event.TheVariants as events
 use Rattle.tc_link.specs.Progress.{awaits, most_sent}
@@ -30,22 +30,25 @@ module _ (K : Event → Type 0) where
   all_times (suc n) schedule is w = all_then schedule (times n schedule) is (all_times n schedule is) w
 
   module _ (send : K events.Send) (deliver : K events.UpDeliver) (take : K events.Take) (report : K events.Report) where
-    pub sends_are : (w : World) → All (all_sent w)
+    sends_are : (w : World) → All (all_sent w)
     sends_are w = all_same (most_sent w) events.Send send
 
-    pub takes_are : (w : World) → All (all_taken w)
+    takes_are : (w : World) → All (all_taken w)
     takes_are w = all_same _ events.Take take
 
-    pub arrives_are : (w : World) → All (all_arrived w)
+    arrives_are : (w : World) → All (all_arrived w)
     arrives_are w =
         all_times (length w.up) (followed_by all_taken next_arrived)
         (all_then all_taken next_arrived takes_are (λ w. (deliver, tt))) w
 
-    pub reports_are : (w : World) → All (reported w)
+    reports_are : (w : World) → All (reported w)
     reports_are w = (report, tt)
 
+    pub befores_are : (w : World) → All (all_sent w) × All (all_arrived w) × All (all_taken w) × All (reported w)
+    befores_are w = (sends_are w, arrives_are w, takes_are w, reports_are w)
+
     module _ (hear : K events.DownDeliver) where
-      pub hears_are : (w : World) → All (all_heard w)
+      hears_are : (w : World) → All (all_heard w)
       hears_are w = all_same _ events.DownDeliver hear
 
       pub trips_are : (w : World) → All (round_trip w)
@@ -58,27 +61,15 @@ module _ (K : Event → Type 0) where
 
 -- the events of a round trip
 abbrev pub IsTalk : Event → Type 0
-IsTalk events.Send = Unit {0}
-IsTalk events.UpDeliver = Unit {0}
-IsTalk events.Take = Unit {0}
-IsTalk events.Report = Unit {0}
-IsTalk events.DownDeliver = Unit {0}
-IsTalk _ = ⊥
-
-pub talk_calm : (e : Event) → IsTalk e → IsCalm e
-talk_calm events.Send talk = tt
-talk_calm events.UpDeliver talk = tt
-talk_calm events.Take talk = tt
-talk_calm events.Report talk = tt
-talk_calm events.DownDeliver talk = tt
-talk_calm _ talk = elim talk [ ]
+IsTalk e = IsCalm e × (e ≢ events.Tick)
 
 pub talks_calm : (es : List Event) → AllByRecursion IsTalk es → AllByRecursion IsCalm es
 talks_calm [] all = tt
-talks_calm (e ∷ es) all = (talk_calm e all.0, talks_calm es all.1)
+talks_calm (e ∷ es) all = (all.0.0, talks_calm es all.1)
 
 pub trip_talks : (w : World) → AllByRecursion IsTalk (round_trip w)
-trip_talks = trips_are IsTalk tt tt tt tt tt
+trip_talks = trips_are IsTalk (tt, λ is. absurd (cc is)) (tt, λ is. absurd (cc is)) (tt, λ is. absurd (cc is))
+    (tt, λ is. absurd (cc is)) (tt, λ is. absurd (cc is))
 
 pub timer_calm : (w : World) → AllByRecursion IsCalm (timer_run_out w)
 timer_calm w =

@@ -63,7 +63,7 @@ pub record Timed (f : FopState SegmentView) : Type 0 where
   pub count : 1 ≤ f.count
   pub window : 1 ≤ f.window
 
-timed_empty : (f : FopState SegmentView) → f.sent ≡ [] → (f.state ≡ S5 → IsDueNow f.control) → 1 ≤ f.timer
+pub timed_empty : (f : FopState SegmentView) → f.sent ≡ [] → (f.state ≡ S5 → IsDueNow f.control) → 1 ≤ f.timer
     → 1 ≤ f.count → 1 ≤ f.window → Timed f
 timed_empty f none due timer count window = record {
   active = inr none;
@@ -289,7 +289,7 @@ queued_timed f waiting bypass k = record {
   window = k.window;
 }
 
-timed_step : (w : World) → Timed w.ground_node.fop → (e : Event) → Timed (world_step w e).after.ground_node.fop
+pub timed_step : (w : World) → Timed w.ground_node.fop → (e : Event) → Timed (world_step w e).after.ground_node.fop
 timed_step w k e =
     let s = w.ground_node.fop in
     step_kept Timed queued_timed w k (ticked_timed s k s.ticks refl) (pull_timed s k)
@@ -394,10 +394,6 @@ module _ (s : SpacecraftState) (flags : FlagsAgree s.farm) (k : WaitsFull s) whe
 
 -- ---- the world
 
-pub record Live (w : World) : Type 0 where
-  pub sender : Timed w.ground_node.fop
-  pub receiver : WaitsFull w.spacecraft
-
 module _ (w : World) (flags : FlagsAgree w.spacecraft.farm) (k : WaitsFull w.spacecraft) where
   abbrev Full : WorldOutcome → Type 0
   Full o = WaitsFull o.after.spacecraft
@@ -409,7 +405,7 @@ module _ (w : World) (flags : FlagsAgree w.spacecraft.farm) (k : WaitsFull w.spa
     down = λ b bs is reply silent. k;
   }
 
-  full_step : (e : Event) → Full (world_step w e)
+  pub full_step : (e : Event) → Full (world_step w e)
   full_step events.Send = pulled w Full (λ reply up sent silent. k)
   full_step events.UpDeliver = up_arrives w Full k (λ b bs is.
       arrived_full w.spacecraft flags k (command.frame_at _ b))
@@ -423,23 +419,3 @@ module _ (w : World) (flags : FlagsAgree w.spacecraft.farm) (k : WaitsFull w.spa
   full_step events.Report = k
   full_step events.Tick = k
   full_step e = lost w Full losses e tt
-
-new_live : (c : Config) → IsConfig c → Live (new_world c)
-new_live c ranges = record {
-  sender = timed_empty _ refl (λ e. absurd cc) ranges.timer.0 (omega arith) ranges.window.0;
-  receiver = λ waits. absurd cc;
-}
-
-run_live : (c : Config) (es : List Event) (w : World) → AllByRecursion IsEvent es → Sound c w → Live w
-    → Live (world_run w es)
-run_live c [] w fits sound k = k
-run_live c (e ∷ es) w fits sound k =
-    run_live c es (world_step w e).after fits.1 (step_sound c w sound e fits.0) (record {
-      sender = timed_step w k.sender e;
-      receiver = full_step w sound.spacecraft.farm.flags k.receiver e;
-    })
-
-pub reached_live : (w : World) → IsReached w → Live w
-reached_live w r =
-    subst Live r.led (run_live r.config r.events (new_world r.config) r.octets (new_sound r.config r.ranges)
-    (new_live r.config r.ranges))

@@ -434,7 +434,7 @@ module _ (most k : ℕ) where
         ];
         last = last;
         down = ap (λ ds. ds ++ last ∷ []) p.down;
-        tells = rw h.holds.sound.ground_node.config (tells_now h.config w h.holds.sound);
+        tells = rw h.holds.sound.ground_node.config (tells_now g.config w h.holds.sound);
       }))
 
   -- ---- the report is heard, and all is acknowledged

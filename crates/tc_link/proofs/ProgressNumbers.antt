@@ -462,7 +462,7 @@ module _ (c : Config) (w : World) (h : Holding c w) (k : HasOctets c w) where
     down = rw down k.down;
   }
 
-  step_octets : (e : Event) → IsEvent e → After (world_step w e)
+  pub step_octets : (e : Event) → IsEvent e → After (world_step w e)
   step_octets (events.Submit m octets) fits = step_sender (events.Submit m octets) fits refl refl refl
   step_octets (events.Bypass m octets) fits = step_sender (events.Bypass m octets) fits refl refl refl
   step_octets (events.Directive d) fits = step_sender (events.Directive d) fits refl refl refl
@@ -491,13 +491,7 @@ module _ (c : Config) (w : World) (h : Holding c w) (k : HasOctets c w) where
       with_vr (spacecraft_telemetry w.spacecraft octets.now).after (queued_octet w.spacecraft k.vr octets.now)
   step_octets e fits = lost w After losses e tt
 
-run_octets : (c : Config) (es : List Event) (w : World) → AllByRecursion IsEvent es → Holding c w → HasOctets c w
-    → HasOctets c (world_run w es)
-run_octets c [] w fits h k = k
-run_octets c (e ∷ es) w fits h k =
-    run_octets c es (world_step w e).after fits.1 (step_holds c w h e fits.0) (step_octets c w h k e fits.0)
-
-new_octets : (c : Config) → HasOctets c (new_world c)
+pub new_octets : (c : Config) → HasOctets c (new_world c)
 new_octets c = record {
   sender = record {
     vs = omega arith;
@@ -510,8 +504,3 @@ new_octets c = record {
   up = record { frames = []; carries = tt; are = tt };
   down = record { reports = []; reporting = tt; are = tt };
 }
-
-pub reached_octets : (w : World) → (r : IsReached w) → HasOctets r.config w
-reached_octets w r =
-    subst (HasOctets r.config) r.led
-    (run_octets r.config r.events (new_world r.config) r.octets (new_holds r.config r.ranges) (new_octets r.config))

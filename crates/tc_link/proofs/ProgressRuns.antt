@@ -2,14 +2,14 @@
 use Rattle.tc_link.proofs.Common.{◌≡◌, ◌⊎◌, inl, inr, ℕ, zero, suc, true, List, [], ◌∷◌, ◌++◌}
 use Rattle.tc_link.proofs.Common.{refl, ap, sym, subst, ◌∙◌, replicate, Config, Event, World}
 use Rattle.tc_link.proofs.Common.{WorldOutcome, world_step, world_run, IsIdle, IsSettled, IsReached, IsEvent}
-use Rattle.tc_link.proofs.Common.{BeginsNoSession, option_map, Opening, directive_of}
+use Rattle.tc_link.proofs.Common.{arith, new_world, AllByRecursion, BeginsNoSession, option_map, Opening, directive_of}
 use Rattle.std.specs.Prelude.{IsSome}
 use Rattle.simulated_link.proofs.Unchanged.{pulled, up_arrives, down_arrives}
 use Rattle.tc_link.specs.FalseAlarms.{alert_in}
 use Rattle.tc_link.specs.Progress.{Schedule, followed_by, times, AlertsIn}
-use Rattle.tc_link.proofs.Invariant.{reached_holds, opening_stays, idle_goes, Holding}
-use Rattle.tc_link.proofs.ProgressLive.{Live, reached_live}
-use Rattle.tc_link.proofs.ProgressNumbers.{HasOctets, reached_octets}
+use Rattle.tc_link.proofs.Invariant.{opening_stays, idle_goes, Holding, step_holds, new_holds}
+use Rattle.tc_link.proofs.ProgressLive.{Timed, timed_empty, timed_step, WaitsFull, full_step}
+use Rattle.tc_link.proofs.ProgressNumbers.{HasOctets, step_octets, new_octets}
 use Rattle.tc_link.proofs.Promised.{reached_step}
 use Rattle.nodes.specs.declared.event.Event.TheVariants as events
 
@@ -60,20 +60,31 @@ module _ (w : World) where
 pub going_step : (w : World) → IsReached w → (e : Event) → IsCalm e → IsReached (world_step w e).after
 going_step w g e calm = reached_step w e g (calm_fits e calm)
 
--- what is known of it
-pub record Known (w : World) : Type 0 where
-  pub config : Config
-  pub holds : Holding config w
-  pub live : Live w
-  pub octets : HasOctets config w
+-- what is known of it, at every moment of a run
+pub record Known (c : Config) (w : World) : Type 0 where
+  pub holds : Holding c w
+  pub sender : Timed w.ground_node.fop
+  pub receiver : WaitsFull w.spacecraft
+  pub octets : HasOctets c w
 
-pub known : (w : World) → IsReached w → Known w
-known w g = record {
-  config = g.config;
-  holds = reached_holds w g;
-  live = reached_live w g;
-  octets = reached_octets w g;
-}
+run_known : (c : Config) (es : List Event) (w : World) → AllByRecursion IsEvent es → Known c w
+    → Known c (world_run w es)
+run_known c [] w fits k = k
+run_known c (e ∷ es) w fits k = run_known c es (world_step w e).after fits.1 (record {
+  holds = step_holds c w k.holds e fits.0;
+  sender = timed_step w k.sender e;
+  receiver = full_step w k.holds.sound.spacecraft.farm.flags k.receiver e;
+  octets = step_octets c w k.holds k.octets e fits.0;
+})
+
+pub known : (w : World) → (r : IsReached w) → Known r.config w
+known w r =
+    subst (Known r.config) r.led (run_known r.config r.events (new_world r.config) r.octets (record {
+      holds = new_holds r.config r.ranges;
+      sender = timed_empty _ refl (λ e. absurd cc) r.ranges.timer.0 (omega arith) r.ranges.window.0;
+      receiver = λ waits. absurd cc;
+      octets = new_octets r.config;
+    }))
 
 -- ---- the session goes on
 

@@ -16,17 +16,16 @@ use Rattle.tc_link.specs.Progress.{EachIsDelivered}
 use Rattle.tc_link.proofs.Early.{early_off}
 use Rattle.tc_link.proofs.Invariant.{reached_holds}
 use Rattle.tc_link.proofs.Promised.{promised_of}
-use Rattle.tc_link.proofs.ProgressLive.{reached_live}
 use Rattle.tc_link.proofs.Progress.{each_makes_progress}
 use Rattle.tc_link.proofs.ProgressCount.{limit_stays, IsBelow, IsFine, IsBefore, step_below, hears_fine}
 use Rattle.tc_link.proofs.ProgressCount.{ends_silent}
 use Rattle.tc_link.proofs.ProgressFirst.{awaits_so, Quiet, Ready, ReadyWith, Heard, first_round_trip, first_exchange}
 use Rattle.tc_link.proofs.ProgressNodes.{with_same, IsBounded}
-use Rattle.tc_link.proofs.ProgressLists.{sends_are, takes_are, arrives_are, reports_are, IsTalk, talk_calm, talks_calm}
+use Rattle.tc_link.proofs.ProgressLists.{befores_are, IsTalk, talks_calm}
 use Rattle.tc_link.proofs.ProgressLists.{trip_talks, timer_calm}
 use Rattle.tc_link.proofs.ProgressNext.{Advanced, next_round_trip, next_exchange}
 use Rattle.tc_link.proofs.ProgressRuns.{going_step, IsCalm, calm_fits, run_append, Ends, directive_stays}
-use Rattle.tc_link.proofs.ProgressRuns.{idle_step, settled_step}
+use Rattle.tc_link.proofs.ProgressRuns.{known, idle_step, settled_step}
 use Rattle.tc_link.proofs.ProgressSender.{tick_on}
 
 -- ---- alerts
@@ -76,14 +75,14 @@ module _ (w : World) (k : Steady w) where
   no_cause e talk ClcwAlert h = h
   no_cause e talk Synch h = not_under_check h.0
   no_cause e talk Limit h = omega (arith, k.two, h.2)
-  no_cause e talk Timer h = subst IsTalk h talk
-  no_cause e talk Terminated h = subst IsTalk h talk
+  no_cause e talk Timer h = talk.1 h
+  no_cause e talk Terminated h = subst IsCalm h talk.0
 
   silent : (e : Event) → IsTalk e → (o : Option Alert) → alert_in (world_step w e).answer ≡ o → IsSome o → ⊥
   silent e talk None is some = cc
   silent e talk (Some x) is some =
       let g = k.going in
-      let promises = promised_of w e g (calm_fits e (talk_calm e talk)) k.idle in
+      let promises = promised_of w e g (calm_fits e talk.0) k.idle in
       let none = promises.no_false_alarm k.checking in
       no_cause e talk x (none.alerts x is)
 
@@ -91,7 +90,7 @@ talk_silent : (es : List Event) (w : World) → Steady w → AllByRecursion IsTa
 talk_silent [] w k all a = a
 talk_silent (e ∷ es) w k all a = elim a [
   | inl now ↦ silent w k e all.0 (alert_in (world_step w e).answer) refl now
-  | inr later ↦ talk_silent es (world_step w e).after (steady_step w k e (talk_calm e all.0)) all.1 later
+  | inr later ↦ talk_silent es (world_step w e).after (steady_step w k e all.0.0) all.1 later
 ]
 
 trip_silent : (w : World) → Steady w → AlertsIn w (round_trip w) → ⊥
@@ -159,18 +158,11 @@ exchange_steady w k =
 abbrev Below : World → Type 0
 Below w = IsBelow w.ground_node.fop × (2 ≤ w.ground_node.fop.limit)
 
-before_calm : (e : Event) → IsBefore e → IsCalm e
-before_calm events.Send is = tt
-before_calm events.UpDeliver is = tt
-before_calm events.Report is = tt
-before_calm events.Take is = tt
-before_calm _ is = elim is [ ]
-
 below_run : (es : List Event) (w : World) → AllByRecursion IsBefore es → Below w → Below (world_run w es)
 below_run [] w all k = k
 below_run (e ∷ es) w all k =
     below_run es (world_step w e).after all.1
-    (step_below w k.1 k.0 e all.0, rw (limit_stays w e (before_calm e all.0)) k.1)
+    (step_below w k.1 k.0 e all.0, rw (limit_stays w e all.0.0) k.1)
 
 fine_run : (n : ℕ) (w : World) → 2 ≤ w.ground_node.fop.limit → IsFine w.ground_node.fop
     → IsFine (world_run w (replicate n events.DownDeliver)).ground_node.fop
@@ -188,16 +180,21 @@ module _ (P Q : World → Type 0) (first next : Schedule) where
 abbrev Fine : World → Type 0
 Fine w = IsFine w.ground_node.fop
 
+before_all : (w : World) → AllByRecursion IsBefore (all_sent w) × AllByRecursion IsBefore (all_arrived w)
+    × AllByRecursion IsBefore (all_taken w) × AllByRecursion IsBefore (reported w)
+before_all w =
+    befores_are IsBefore (tt, λ is. absurd (cc is), λ is. absurd (cc is)) (tt, λ is. absurd (cc is), λ is. absurd (cc is)) (tt, λ is. absurd (cc is), λ is. absurd (cc is)) (tt, λ is. absurd (cc is), λ is. absurd (cc is)) w
+
 trip_fine : (w : World) → Below w → Fine (world_run w (round_trip w))
 trip_fine =
     run_then Below Fine all_sent (followed_by all_arrived (followed_by all_taken (followed_by reported all_heard)))
-    (λ w. below_run (all_sent w) w (sends_are IsBefore tt tt tt tt w))
+    (λ w. below_run (all_sent w) w (before_all w).0)
     (run_then Below Fine all_arrived (followed_by all_taken (followed_by reported all_heard))
-    (λ w. below_run (all_arrived w) w (arrives_are IsBefore tt tt tt tt w))
+    (λ w. below_run (all_arrived w) w (before_all w).1)
     (run_then Below Fine all_taken (followed_by reported all_heard)
-    (λ w. below_run (all_taken w) w (takes_are IsBefore tt tt tt tt w))
+    (λ w. below_run (all_taken w) w (before_all w).2)
     (run_then Below Fine reported all_heard
-    (λ w. below_run (reported w) w (reports_are IsBefore tt tt tt tt w))
+    (λ w. below_run (reported w) w (before_all w).3)
     (λ w p. fine_run (length w.down) w p.1 (inl p.0)))))
 
 -- ---- the exchanges
@@ -250,7 +247,7 @@ settled_of w reached idle active checking =
 pub each_is_delivered : EachIsDelivered
 each_is_delivered w g idle active checking below n most =
     let settled = settled_of w g idle active checking in
-    let two : 2 ≤ w.ground_node.fop.limit = omega (arith, (reached_live w g).sender.count, below) in
+    let two : 2 ≤ w.ground_node.fop.limit = omega (arith, (known w g).sender.count, below) in
     let k : Steady w =
     record { going = g; idle = idle; settled = settled; checking = checking; two = two } in
     let window = w.ground_node.fop.window in
