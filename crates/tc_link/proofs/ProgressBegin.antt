@@ -23,13 +23,13 @@ use Rattle.tc_link.specs.Progress.{followed_by, times, most_sent, all_sent, all_
 use Rattle.tc_link.specs.Progress.{are_marked, ticks_left, awaits, timer_run_out, round_trip, exchange, AlertsIn}
 use Rattle.tc_link.specs.Progress.{EachBegins, EachEnds, IsDone}
 use Rattle.tc_link.proofs.Linked.{Tells, Reporting}
-use Rattle.tc_link.proofs.ProgressNodes.{Arrived, takes, arrives}
-use Rattle.tc_link.proofs.ProgressFirst.{first_tells, holds_more, alerted}
+use Rattle.tc_link.proofs.ProgressNodes.{Arrived, Taken, ground_takes, ground_arrives, ends_ticks, oldest_heard, alerted}
+use Rattle.tc_link.proofs.ProgressFirst.{holds_more}
 use Rattle.tc_link.proofs.Progress.{each_makes_progress}
 use Rattle.tc_link.proofs.ProgressLists.{idle_run, exchange_calm}
 use Rattle.tc_link.proofs.ProgressNodes.{with_same, heard_is}
 use Rattle.tc_link.proofs.ProgressLive.{IsDueNow, Running}
-use Rattle.tc_link.proofs.ProgressRuns.{known, Ends, ends_then, ends_repeat, ends_once, alerts_first}
+use Rattle.tc_link.proofs.ProgressRuns.{ends_trip, known, Ends, ends_then, ends_repeat, ends_once, alerts_first}
 use Rattle.tc_link.proofs.ProgressRuns.{alerts_then, run_append, ends_so}
 use Rattle.tc_link.proofs.ProgressSender.{tick_on}
 
@@ -213,18 +213,12 @@ module _ (count limit : ℕ) where
     hears_one : (ds : List (List ℕ)) → w.down ≡ ds → Heard (world_step w events.DownDeliver)
     hears_one [] is = absurd (omega (arith, ap length is, p.0))
     hears_one (b ∷ bs) is =
-        let h = known w g in
-        let told = first_tells 0 0 g.config b bs h.holds.reports.reports
-        (subst (λ ds. Reporting g.config ds h.holds.reports.reports) is h.holds.reports.reporting) in
-        let r : Clcw = told.0 in
-        let tells : Tells w.ground_node.config b r =
-        subst (λ c. Tells c b r) (sym h.holds.sound.ground_node.config) told.1 in
-        let x = extract_step w.ground_node.extractor tells.frame in
+        let count : length bs ≡ n = omega (arith, ap length is, p.0) in
+        oldest_heard Heard w g b bs is (λ r x.
         let s : GroundState = after_extraction w.ground_node x in
         let f : FopState SegmentView = (clcw_step w.ground_node.fop r).after in
         let same = with_same s f in
-        let count : length bs ≡ n = omega (arith, ap length is, p.0) in
-        subst Heard (sym (heard_is w b bs r is tells)) (elim p.1 [
+        elim p.1 [
           | inl active ↦ elim (holds_more 0 0 w r active) [
             | inl a ↦ inl a
             | inr less ↦ inr (count, inl (rw same.state less.active))
@@ -284,45 +278,37 @@ module _ (count limit : ℕ) where
   active_ticks n w g active =
       ends_so Active Begun w (replicate n events.Tick)
       (ends_repeat (λ n. Active) events.Tick tt (λ n v h on. elim (tick_active v.ground_node.fop on) [
-        | inl a ↦ inl (alerted 0 0 (tick_step v.ground_node.fop).answer a)
+        | inl a ↦ inl (alerted (tick_step v.ground_node.fop).answer a)
         | inr on ↦ inr (rw (with_same v.ground_node (tick_step v.ground_node.fop).after).state on)
       ]) n w g active) (λ v h on. inl on)
 
-  abbrev Runs : ℕ → World → Type 0
-  Runs zero w = Begun w
-  Runs (suc n) w = Begins w.ground_node × (w.ground_node.fop.state ≡ S5) × (w.ground_node.fop.ticks ≡ Some (suc n))
+  abbrev Repeats : World → Type 0
+  Repeats w = Begins w.ground_node × (w.ground_node.fop.state ≡ S5)
 
-  runs : (n : ℕ) (w : World) → IsReached w → Runs (suc n) w
-      → IsSome (alert_in (world_step w events.Tick).answer) ⊎ Runs n (world_step w events.Tick).after
-  runs zero w g p =
+  ends : (w : World) → Repeats w → w.ground_node.fop.ticks ≡ Some 1
+      → IsSome (alert_in (world_step w events.Tick).answer) ⊎ Begun (world_step w events.Tick).after
+  ends w p is =
       let s = w.ground_node.fop in
       let f : FopState SegmentView = record (after_count (after_stop s)) { control = due_again s.control } in
-      elim (retried s p.2 p.1) [
-        | inl a ↦ inl (alerted 0 0 (tick_step s).answer a)
+      elim (retried s is p.1) [
+        | inl a ↦ inl (alerted (tick_step s).answer a)
         | inr again ↦ (
             let same = with_same w.ground_node f in
-            let next : Runs zero (record w { ground_node = with_fop w.ground_node f }) = inr (record {
+            let next : Begun (record w { ground_node = with_fop w.ground_node f }) = inr (record {
               five = same.state ∙ p.1;
               less = omega (arith, same.limit, same.count, again.0, p.0.count_is, p.0.limit_is);
             }) in
-            inr (subst (λ (o : FopOutcome SegmentView (Option Alert)). Runs zero
+            inr (subst (λ (o : FopOutcome SegmentView (Option Alert)). Begun
             (record w { ground_node = with_fop w.ground_node o.after })) (sym again.1) next))
       ]
-  runs (suc n) w g p =
-      let s = w.ground_node.fop in
-      let f : FopState SegmentView = record s { ticks = Some (suc n) } in
-      let same = with_same w.ground_node f in
-      let b = begins_with w.ground_node f p.0 (stays s p.0.state f refl refl refl) in
-      let next : Runs (suc n) (record w { ground_node = with_fop w.ground_node f }) =
-      (b, same.state ∙ p.1, same.ticks) in
-      inr (subst (λ (o : FopOutcome SegmentView (Option Alert)). Runs (suc n)
-      (record w { ground_node = with_fop w.ground_node o.after })) (sym (tick_on s n p.2)) next)
 
-  left_running : (w : World) → IsReached w → Begins w.ground_node → w.ground_node.fop.state ≡ S5 → (ticks : Option ℕ)
-      → w.ground_node.fop.ticks ≡ ticks → Running ticks → Ends Begun w (replicate (ticks_left ticks) events.Tick)
-  left_running w g b five None is on = elim on [ ]
-  left_running w g b five (Some zero) is on = absurd (omega (arith, on))
-  left_running w g b five (Some (suc n)) is on = ends_repeat Runs events.Tick tt runs (suc n) w g (b, five, is)
+  runs : (w : World) (left : ℕ) → Repeats w
+      → Repeats (record w { ground_node = with_fop w.ground_node (record w.ground_node.fop { ticks = Some left }) })
+  runs w left p =
+      let f : FopState SegmentView = record w.ground_node.fop { ticks = Some left } in (
+        begins_with w.ground_node f p.0 (stays w.ground_node.fop p.0.state f refl refl refl),
+        (with_same w.ground_node f).state ∙ p.1,
+      )
 
   run_out : (w : World) → IsReached w → Asked w → Ends Begun w (timer_run_out w)
   run_out w g p =
@@ -338,22 +324,14 @@ module _ (count limit : ℕ) where
               | inr runs ↦ runs
             ] in
             cond_both (awaits s.state (are_marked s.sent)) (replicate ticks events.Tick) [] (λ es. Ends Begun w es)
-            (λ e. left_running w g t.0.0 t.1 s.ticks refl on) (λ e. absurd (cc (e, waits))))
+            (λ e. ends_ticks Repeats Begun runs ends w g (t.0.0, t.1) s.ticks refl on) (λ e. absurd (cc (e, waits))))
       ]
 
   exchange_begins : (w : World) → IsReached w → Begins w.ground_node → Ends Begun w (exchange w)
   exchange_begins w g b =
-      let after_reporting = all_heard in
-      let after_taking = followed_by reported after_reporting in
-      let after_arriving = followed_by all_taken after_taking in
-      let after_sending = followed_by all_arrived after_arriving in
-      ends_then Asked Begun round_trip timer_run_out w (
-      ends_then Ready Asked all_sent after_sending w (sends w g b) (λ w g b.
-      ends_then (Arrived IsReady zero) Asked all_arrived after_arriving w (arrives IsReady w g b) (λ w g p.
-      ends_then (λ v. Arrived IsReady zero v × (length v.spacecraft.ready ≡ 0)) Asked all_taken after_taking w
-      (takes IsReady zero w g p) (λ w g p.
-      ends_then (λ v. (n : ℕ) × Hears (suc n) v) Asked reported after_reporting w (reports w g p.0.0) heard_all))))
-      run_out
+      ends_then Asked Begun round_trip timer_run_out w
+      (ends_trip Ready (Arrived IsReady zero) (Taken (Arrived IsReady) zero zero) (λ v. (n : ℕ) × Hears (suc n) v) Asked w
+      (sends w g b) (ground_arrives IsReady) (ground_takes IsReady) (λ v h p. reports v h p.0.0) heard_all) run_out
 
 -- ---- as many exchanges as transmissions are left, and one more
 

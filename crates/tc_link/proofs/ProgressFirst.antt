@@ -22,11 +22,11 @@ use Rattle.tc_link.proofs.Downward.{used}
 use Rattle.tc_link.proofs.Linked.{Tells, Reporting}
 use Rattle.tc_link.proofs.ReportFrames.{tells_now}
 use Rattle.tc_link.proofs.ReportFrames.{flags_are}
-use Rattle.tc_link.proofs.ProgressNodes.{Arrived, takes, arrives}
+use Rattle.tc_link.proofs.ProgressNodes.{Arrived, Taken, ground_takes, ground_arrives, ends_ticks, oldest_heard, alerted}
 use Rattle.tc_link.proofs.ProgressNodes.{with_same, with_config, IsBounded, bounded, HasNumbers, has_numbers}
 use Rattle.tc_link.proofs.ProgressNodes.{some_sent, heard_is}
 use Rattle.tc_link.proofs.ProgressLive.{Running}
-use Rattle.tc_link.proofs.ProgressRuns.{going_step, known, Ends, ends_then, ends_repeat, ends_once}
+use Rattle.tc_link.proofs.ProgressRuns.{going_step, known, Ends, ends_then, ends_repeat, ends_once, ends_trip}
 use Rattle.tc_link.proofs.ProgressSender.{Obeys, heard_fresh, HoldsNoMore, pull_no_more, report_holds, active_report}
 use Rattle.tc_link.proofs.ProgressSender.{tick_on, tick_end, marked_all}
 
@@ -69,7 +69,7 @@ module _ (most k : ℕ) where
   -- ---- all arrives, and is taken
 
   abbrev Waits : World → Type 0
-  Waits w = Arrived (IsBounded most k) zero w × (length w.spacecraft.ready ≡ 0)
+  Waits = Taken (Arrived (IsBounded most k)) zero zero
 
   -- ---- the spacecraft reports; it does not wait
 
@@ -195,11 +195,6 @@ module _ (most k : ℕ) where
       ])
 
   -- one before it
-  pub first_tells : (c : Config) (b : List ℕ) (bs : List (List ℕ)) (rs : List Clcw) → Reporting c (b ∷ bs) rs
-      → (r : Clcw) × Tells c b r
-  first_tells c b bs [] so = elim so [ ]
-  first_tells c b bs (r ∷ rs) so = (r, so.0)
-
   pub holds_more : (w : World) (r : Clcw) → IsActive w.ground_node.fop.state
       → IsSome (clcw_step w.ground_node.fop r).answer
       ⊎ HoldsNoMore w.ground_node.fop w.ground_node.pending (clcw_step w.ground_node.fop r).after
@@ -213,31 +208,22 @@ module _ (most k : ℕ) where
     hears_one : (olds : List (List ℕ)) → t.olds ≡ olds → More (world_step w events.DownDeliver)
     hears_one [] is = absurd (omega (arith, ap length is, t.count))
     hears_one (b ∷ bs) is =
-        let h = known w g in
         let down : w.down ≡ b ∷ (bs ++ t.last ∷ []) = t.down ∙ ap (λ xs. xs ++ t.last ∷ []) is in
-        let told = first_tells g.config b (bs ++ t.last ∷ []) h.holds.reports.reports
-        (subst (λ ds. Reporting g.config ds h.holds.reports.reports) down h.holds.reports.reporting) in
-        let r : Clcw = told.0 in
-        let tells : Tells w.ground_node.config b r =
-        subst (λ c. Tells c b r) (sym h.holds.sound.ground_node.config) told.1 in
-        let x = extract_step w.ground_node.extractor tells.frame in
-        let s : GroundState = after_extraction w.ground_node x in
-        let f : FopState SegmentView = (clcw_step w.ground_node.fop r).after in
-        let same = heard_is w b (bs ++ t.last ∷ []) r down tells in
-        subst More (sym same) (elim (holds_more w r t.bounds.active) [
+        oldest_heard More w g b (bs ++ t.last ∷ []) down (λ r x. elim (holds_more w r t.bounds.active) [
           | inl a ↦ inl a
           | inr less ↦ (
+              let s : GroundState = after_extraction w.ground_node x in
               let before : IsBounded most k s =
               record { active = t.bounds.active; holds = t.bounds.holds; window = t.bounds.window } in
               inr (record {
-                bounds = bounded most k s f before less;
+                bounds = bounded most k s (clcw_step w.ground_node.fop r).after before less;
                 up = t.up;
                 free = t.free;
                 olds = bs;
                 last = t.last;
                 down = refl;
                 count = omega (arith, ap length is, t.count);
-                tells = rw (with_config s f) t.tells;
+                tells = rw (with_config s (clcw_step w.ground_node.fop r).after) t.tells;
               }))
         ])
 
@@ -259,14 +245,6 @@ module _ (most k : ℕ) where
   abbrev pub ReadyWith : World → Type 0
   ReadyWith w = Ready w × Bounded w
 
-  abbrev Runs : ℕ → World → Type 0
-  Runs zero w = ReadyWith w
-  Runs (suc n) w = Heard w × (w.ground_node.fop.ticks ≡ Some (suc n))
-
-  pub alerted : (a : Option Alert) → IsSome a → IsSome (alert_in (Ok (reply_to_alert a)))
-  alerted None is = absurd cc
-  alerted (Some x) is = refl
-
   -- the sender is another, with as many units sent
   quiet_with : (w : World) (f : FopState SegmentView) → Quiet w → f.state ≡ w.ground_node.fop.state
       → f.nn ≡ w.ground_node.fop.nn → length f.sent ≡ length w.ground_node.fop.sent
@@ -285,51 +263,41 @@ module _ (most k : ℕ) where
         asks = λ e. omega (arith, sent_is, q.asks e);
       }
 
-  holds_same : (w : World) (f : FopState SegmentView) → Quiet w → Bounded w → f.state ≡ w.ground_node.fop.state
+  holds_same : (w : World) (f : FopState SegmentView) → Bounded w → f.state ≡ w.ground_node.fop.state
       → length f.sent ≡ length w.ground_node.fop.sent → f.waiting ≡ w.ground_node.fop.waiting
       → f.window ≡ w.ground_node.fop.window → IsBounded most k (with_fop w.ground_node f)
-  holds_same w f q b state sent waiting window =
+  holds_same w f b state sent waiting window =
       bounded most k w.ground_node f b (record {
         active = rw state b.active;
         size = rw waiting (omega (arith, sent));
         window = window;
       })
 
-  runs : (n : ℕ) (w : World) → IsReached w → Runs (suc n) w
-      → IsSome (alert_in (world_step w events.Tick).answer) ⊎ Runs n (world_step w events.Tick).after
-  runs zero w g p =
+  ends : (w : World) → Heard w → w.ground_node.fop.ticks ≡ Some 1
+      → IsSome (alert_in (world_step w events.Tick).answer) ⊎ ReadyWith (world_step w events.Tick).after
+  ends w p is =
       let s = w.ground_node.fop in
-      let q = p.0.0 in
       let f : FopState SegmentView = after_repeat (after_stop s) in
       let sent : length f.sent ≡ length s.sent = length-map s.sent marked_unit in
-      elim (tick_end s p.1 q.state) [
+      elim (tick_end s is p.0.state) [
         | inl a ↦ inl (alerted (tick_step s).answer a)
         | inr is ↦ (
             let ready : ReadyWith (record w { ground_node = with_fop w.ground_node f }) = (
               record {
-                quiet = quiet_with w f q refl refl sent;
+                quiet = quiet_with w f p.0 refl refl sent;
                 marked = ap are_marked (with_same w.ground_node f).sent ∙ marked_all s.sent;
               },
-              holds_same w f q p.0.1 refl sent refl refl,
+              holds_same w f p.1 refl sent refl refl,
             ) in
             inr (subst (λ (o : FopOutcome SegmentView (Option Alert)). ReadyWith
             (record w { ground_node = with_fop w.ground_node o.after })) (sym is) ready))
       ]
-  runs (suc n) w g p =
-      let s = w.ground_node.fop in
-      let q = p.0.0 in
-      let f : FopState SegmentView = record s { ticks = Some (suc n) } in
-      let next : Runs (suc n) (record w { ground_node = with_fop w.ground_node f }) =
-      let same = with_same w.ground_node f in
-      ((quiet_with w f q refl refl refl, holds_same w f q p.0.1 refl refl refl refl), same.ticks) in
-      inr (subst (λ (o : FopOutcome SegmentView (Option Alert)). Runs (suc n)
-      (record w { ground_node = with_fop w.ground_node o.after })) (sym (tick_on s n p.1)) next)
 
-  left_running : (w : World) → IsReached w → Heard w → (ticks : Option ℕ) → w.ground_node.fop.ticks ≡ ticks
-      → Running ticks → Ends ReadyWith w (replicate (ticks_left ticks) events.Tick)
-  left_running w g p None is on = elim on [ ]
-  left_running w g p (Some zero) is on = absurd (omega (arith, on))
-  left_running w g p (Some (suc n)) is on = ends_repeat Runs events.Tick tt runs (suc n) w g (p, is)
+  runs : (w : World) (left : ℕ) → Heard w
+      → Heard (record w { ground_node = with_fop w.ground_node (record w.ground_node.fop { ticks = Some left }) })
+  runs w left p =
+      let f : FopState SegmentView = record w.ground_node.fop { ticks = Some left } in
+      (quiet_with w f p.0 refl refl refl, holds_same w f p.1 refl refl refl refl)
 
   run_out : (w : World) → IsReached w → Heard w → Ends ReadyWith w (timer_run_out w)
   run_out w g p =
@@ -341,7 +309,7 @@ module _ (most k : ℕ) where
         | inl none ↦ absurd
             (let no : marked ≡ false = not-true marked (sym waits ∙ t) in
             let all : marked ≡ true = rw none refl in cc (all, no))
-        | inr on ↦ left_running w g p w.ground_node.fop.ticks refl on
+        | inr on ↦ ends_ticks Heard ReadyWith runs ends w g p w.ground_node.fop.ticks refl on
       ])
       (λ t. inr (g, (record { quiet = p.0; marked = not-false marked (sym waits ∙ t) }, p.1)))
 
@@ -349,15 +317,8 @@ module _ (most k : ℕ) where
 
   pub first_round_trip : (w : World) → IsReached w → Bounded w → Ends Heard w (round_trip w)
   first_round_trip w g b =
-      let after_reporting = all_heard in
-      let after_taking = followed_by reported after_reporting in
-      let after_arriving = followed_by all_taken after_taking in
-      let after_sending = followed_by all_arrived after_arriving in
-      ends_then Bounded Heard all_sent after_sending w (sends w g b) (λ w g b.
-      ends_then (Arrived (IsBounded most k) zero) Heard all_arrived after_arriving w (arrives (IsBounded most k) w g b)
-      (λ w g p.
-      ends_then Waits Heard all_taken after_taking w (takes (IsBounded most k) zero w g p) (λ w g p.
-      ends_then Reports Heard reported after_reporting w (reports w g p) heard_all)))
+      ends_trip Bounded (Arrived (IsBounded most k) zero) Waits Reports Heard w (sends w g b)
+      (ground_arrives (IsBounded most k)) (ground_takes (IsBounded most k)) reports heard_all
 
   pub first_exchange : (w : World) → IsReached w → Bounded w → Ends ReadyWith w (exchange w)
   first_exchange w g b =

@@ -34,10 +34,10 @@ use Rattle.tc_link.proofs.Spelled.{reads_back, fits_at}
 use Rattle.tc_link.proofs.ReportFrames.{flags_are}
 use Rattle.tc_link.proofs.ProgressFirst.{awaits_so, Ready}
 use Rattle.tc_link.proofs.ProgressNodes.{with_same, with_config, with_unsent, size, size_is, IsBounded, bounded}
-use Rattle.tc_link.proofs.ProgressNodes.{has_numbers, heard_is}
+use Rattle.tc_link.proofs.ProgressNodes.{has_numbers, heard_is, Taken, takes, arrives}
 use Rattle.tc_link.proofs.ProgressPull.{NextPull, bypasses, again, first, none, next_pull, Consecutive, next_number}
 use Rattle.tc_link.proofs.ProgressPull.{next_bypass, accepts_expected, Acknowledged, all_acknowledged}
-use Rattle.tc_link.proofs.ProgressRuns.{known, Ends, ends_then, ends_repeat, ends_times, ends_once, ends_so}
+use Rattle.tc_link.proofs.ProgressRuns.{known, Ends, ends_then, ends_repeat, ends_times, ends_once, ends_so, ends_trip}
 use Rattle.tc_link.proofs.ProgressSender.{MarkedFrom, all_marked, marked_within, marked_push, HoldsNoMore, pull_no_more}
 use Rattle.tc_link.proofs.ProgressSender.{without_length, active_report}
 
@@ -301,21 +301,13 @@ module _ (most k : ℕ) where
     clear = rw same p.clear;
   }
 
-  abbrev Takes : ℕ → ℕ → World → Type 0
-  Takes n m w = Coming n w × (length w.spacecraft.ready ≡ m)
+  abbrev Takes : ℕ → World → Type 0
+  Takes n = Taken Coming n zero
 
-  takes_first : (n m : ℕ) (w : World) (ps : List PacketOn) → Coming n w → length ps ≡ suc m
-      → Takes n m (world_after_take w (spacecraft_take w.spacecraft ps)).after
-  takes_first n m w [] p is = absurd (omega (arith, is))
-  takes_first n m w (x ∷ ps) p is = (
-    coming_as n w (spacecraft_take w.spacecraft (x ∷ ps)).after (taken_farm w.spacecraft (x ∷ ps) p.opened) p,
-    omega (arith, is),
-  )
-
-  takes_all : (n : ℕ) (w : World) → IsReached w → Coming n w → Ends (Takes n zero) w (all_taken w)
-  takes_all n w g p =
-      ends_repeat (Takes n) events.Take tt
-      (λ m v h q. inr (takes_first n m v v.spacecraft.ready q.0 q.1)) (length w.spacecraft.ready) w g (p, refl)
+  one_taken : (n : ℕ) (w : World) → Coming n w → Coming n (world_step w events.Take).after
+  one_taken n w p =
+      coming_as n w (spacecraft_take w.spacecraft w.spacecraft.ready).after
+      (taken_farm w.spacecraft w.spacecraft.ready p.opened) p
 
   sequence_farm : (s : SpacecraftState) (n : ℕ) (u : SegmentView) (v : Verdict)
       → (sequence_outcome s n u v).after.farm ≡ farm_step s.farm (AdArrives n (is_free s))
@@ -395,11 +387,7 @@ module _ (most k : ℕ) where
         ]
 
   arrives_all : (w : World) → IsReached w → ComesAll w → Ends (Coming zero) w (all_arrived w)
-  arrives_all w g p =
-      ends_times Coming (followed_by all_taken next_arrived)
-      (λ n v h q. ends_then (Takes (suc n) zero) (Coming n) all_taken next_arrived v (takes_all (suc n) v h q)
-      (λ u i t. ends_once (Coming n) u events.UpDeliver tt i (inr (arrives_first n u i t.0 t.1 u.up refl))))
-      (length w.up) w g p
+  arrives_all = arrives Coming one_taken (λ n w g p. arrives_first n w g p.0 p.1 w.up refl)
 
   -- ---- the spacecraft reports that all was accepted
 
@@ -413,7 +401,7 @@ module _ (most k : ℕ) where
     down : w.down ≡ last ∷ []
     tells : Tells w.ground_node.config last (report_of w.spacecraft.farm w.spacecraft.config.vcid)
 
-  reports_all : (w : World) → IsReached w → Takes zero zero w → Ends Tells_all w (reported w)
+  reports_all : (w : World) → IsReached w → Takes zero w → Ends Tells_all w (reported w)
   reports_all w g t =
       let h = known w g in
       let p = t.0 in
@@ -511,14 +499,8 @@ module _ (most k : ℕ) where
   pub next_round_trip : (w : World) → IsReached w → Ready w → IsBounded most k w.ground_node
       → Ends Advanced w (round_trip w)
   next_round_trip w g r b =
-      let after_reporting = all_heard in
-      let after_taking = followed_by reported after_reporting in
-      let after_arriving = followed_by all_taken after_taking in
-      let after_sending = followed_by all_arrived after_arriving in
-      ends_then ComesAll Advanced all_sent after_sending w (sends_all w g r b) (λ w g p.
-      ends_then (Coming zero) Advanced all_arrived after_arriving w (arrives_all w g p) (λ w g p.
-      ends_then (Takes zero zero) Advanced all_taken after_taking w (takes_all zero w g p) (λ w g p.
-      ends_then Tells_all Advanced reported after_reporting w (reports_all w g p) hears_all)))
+      ends_trip ComesAll (Coming zero) (Takes zero) Tells_all Advanced w (sends_all w g r b) arrives_all
+      (takes Coming one_taken zero) reports_all hears_all
 
   pub next_exchange : (w : World) → IsReached w → Ready w → IsBounded most k w.ground_node
       → Ends Advanced w (exchange w)

@@ -8,10 +8,17 @@ use Rattle.nodes.specs.Ground.{outstanding}
 use Rattle.simulated_link.specs.World.{world_after_telemetry}
 use Rattle.tc_link.proofs.Common.{active_on}
 use Rattle.tc_link.proofs.Downward.{used, used_is}
-use Rattle.tc_link.proofs.Linked.{Tells}
+use Rattle.tc_link.proofs.Linked.{Tells, Reporting}
+use Rattle.tc_link.proofs.Common.{◌⊎◌, Option, Some, None, Ok, Config, Alert, Extracted, SpacecraftState, WorldOutcome}
+use Rattle.tc_link.proofs.Common.{FopOutcome, subst, sym, replicate}
+use Rattle.std.specs.Prelude.{IsSome}
+use Rattle.simulated_link.specs.Replies.{reply_to_alert}
+use Rattle.tc_link.specs.FalseAlarms.{alert_in}
+use Rattle.tc_link.specs.Progress.{ticks_left}
+use Rattle.tc_link.proofs.ProgressLive.{Running}
 use Rattle.tc_link.proofs.Refilled.{refilled_keeps}
 use Rattle.tc_link.proofs.ProgressRuns.{known, Ends, ends_then, ends_repeat, ends_times, ends_once}
-use Rattle.tc_link.proofs.ProgressSender.{HoldsNoMore}
+use Rattle.tc_link.proofs.ProgressSender.{HoldsNoMore, tick_on}
 use Rattle.tc_link.specs.Progress.{followed_by, all_taken, next_arrived, all_arrived}
 use Rattle.nodes.specs.declared.event.Event.TheVariants as events
 
@@ -120,36 +127,92 @@ heard_is w b bs r is t =
     ap (down_deliver_step w) is
     ∙ ap (world_after_telemetry w bs) (used_is w.ground_node.config w.ground_node b r refl t)
 
--- Frames arrive on board, and packets are taken there: the ground is as it was.
+first_tells : (c : Config) (b : List ℕ) (bs : List (List ℕ)) (rs : List Clcw) → Reporting c (b ∷ bs) rs
+    → (r : Clcw) × Tells c b r
+first_tells c b bs [] so = elim so [ ]
+first_tells c b bs (r ∷ rs) so = (r, so.0)
 
--- whatever holds of the ground
+-- whatever report is the oldest on its way
+pub oldest_heard : (P : WorldOutcome → Type 0) (w : World) → IsReached w → (b : List ℕ) (bs : List (List ℕ))
+    → w.down ≡ b ∷ bs
+    → ((r : Clcw) (x : Extracted) → P (world_after_telemetry w bs (used w.ground_node x r)))
+    → P (world_step w events.DownDeliver)
+oldest_heard P w g b bs is each =
+    let h = (known w g).holds in
+    let told = first_tells g.config b bs h.reports.reports
+    (subst (λ ds. Reporting g.config ds h.reports.reports) is h.reports.reporting) in
+    let tells : Tells w.ground_node.config b told.0 =
+    subst (λ c. Tells c b told.0) (sym h.sound.ground_node.config) told.1 in
+    subst P (sym (heard_is w b bs told.0 is tells)) (each told.0 (extract_step w.ground_node.extractor tells.frame))
+
+pub alerted : (a : Option Alert) → IsSome a → IsSome (alert_in (Ok (reply_to_alert a)))
+alerted None is = absurd cc
+alerted (Some x) is = refl
+
+-- ---- frames arrive on board, and packets are taken there
+
+-- so much holds with so many frames on their way up, and so many packets are ready
+abbrev pub Taken : (ℕ → World → Type 0) → ℕ → ℕ → World → Type 0
+Taken P n m w = P n w × (length w.spacecraft.ready ≡ m)
+
+one_taken : (m : ℕ) (s : SpacecraftState) (ps : List PacketOn) → length ps ≡ suc m
+    → length (spacecraft_take s ps).after.ready ≡ m
+one_taken m s [] is = absurd (omega (arith, is))
+one_taken m s (p ∷ ps) is = omega (arith, is)
+
+module _ (P : ℕ → World → Type 0) (taken : (n : ℕ) (w : World) → P n w → P n (world_step w events.Take).after) where
+  pub takes : (n : ℕ) (w : World) → IsReached w → P n w → Ends (Taken P n zero) w (all_taken w)
+  takes n w g p =
+      ends_repeat (Taken P n) events.Take tt
+      (λ m v h q. inr (taken n v q.0, one_taken m v.spacecraft v.spacecraft.ready q.1)) (length w.spacecraft.ready) w g
+      (p, refl)
+
+  pub arrives : ((n : ℕ) (w : World) → IsReached w → Taken P (suc n) zero w → P n (world_step w events.UpDeliver).after)
+      → (w : World) → IsReached w → P (length w.up) w → Ends (P zero) w (all_arrived w)
+  arrives arrived w g p =
+      ends_times P (followed_by all_taken next_arrived)
+      (λ n v h q. ends_then (Taken P (suc n) zero) (P n) all_taken next_arrived v (takes (suc n) v h q)
+      (λ u i t. ends_once (P n) u events.UpDeliver tt i (inr (arrived n u i t)))) (length w.up) w g p
+
+-- whatever holds of the ground stays so
 module _ (P : GroundState → Type 0) where
-  -- so many frames are on their way up
   abbrev pub Arrived : ℕ → World → Type 0
-  Arrived ups w = P w.ground_node × (length w.up ≡ ups)
-
-  abbrev Left : ℕ → ℕ → World → Type 0
-  Left ups n w = Arrived ups w × (length w.spacecraft.ready ≡ n)
-
-  take_first : (ups n : ℕ) (w : World) (ps : List PacketOn) → Arrived ups w → length ps ≡ suc n
-      → Left ups n (world_after_take w (spacecraft_take w.spacecraft ps)).after
-  take_first ups n w [] p is = absurd (omega (arith, is))
-  take_first ups n w (x ∷ ps) p is = (p, omega (arith, is))
-
-  pub takes : (ups : ℕ) (w : World) → IsReached w → Arrived ups w
-      → Ends (λ v. Arrived ups v × (length v.spacecraft.ready ≡ 0)) w (all_taken w)
-  takes ups w g p =
-      ends_repeat (Left ups) events.Take tt
-      (λ n v h q. inr (take_first ups n v v.spacecraft.ready q.0 q.1)) (length w.spacecraft.ready) w g (p, refl)
+  Arrived n w = P w.ground_node × (length w.up ≡ n)
 
   up_first : (n : ℕ) (w : World) (bs : List (List ℕ)) → P w.ground_node → length bs ≡ suc n
       → Arrived n (up_deliver_step w bs).after
   up_first n w [] p is = absurd (omega (arith, is))
   up_first n w (b ∷ bs) p is = (p, omega (arith, is))
 
-  pub arrives : (w : World) → IsReached w → P w.ground_node → Ends (Arrived zero) w (all_arrived w)
-  arrives w g p =
-      ends_times Arrived (followed_by all_taken next_arrived)
-      (λ n v h q. ends_then (Left (suc n) zero) (Arrived n) all_taken next_arrived v (takes (suc n) v h q)
-      (λ u i t. ends_once (Arrived n) u events.UpDeliver tt i (inr (up_first n u u.up t.0.0 t.0.1))))
-      (length w.up) w g (p, refl)
+  pub ground_arrives : (w : World) → IsReached w → P w.ground_node → Ends (Arrived zero) w (all_arrived w)
+  ground_arrives w g p =
+      arrives Arrived (λ n v q. q) (λ n v h q. up_first n v v.up q.0.0 q.0.1) w g (p, refl)
+
+  pub ground_takes : (w : World) → IsReached w → Arrived zero w → Ends (Taken Arrived zero zero) w (all_taken w)
+  ground_takes = takes Arrived (λ n v q. q) zero
+
+-- ---- the timer runs out
+
+module _ (P Q : World → Type 0)
+    (goes : (w : World) (left : ℕ) → P w
+    → P (record w { ground_node = with_fop w.ground_node (record w.ground_node.fop { ticks = Some left }) }))
+    (ends : (w : World) → P w → w.ground_node.fop.ticks ≡ Some 1
+    → IsSome (alert_in (world_step w events.Tick).answer) ⊎ Q (world_step w events.Tick).after) where
+  abbrev Runs : ℕ → World → Type 0
+  Runs zero w = Q w
+  Runs (suc n) w = P w × (w.ground_node.fop.ticks ≡ Some (suc n))
+
+  runs : (n : ℕ) (w : World) → IsReached w → Runs (suc n) w
+      → IsSome (alert_in (world_step w events.Tick).answer) ⊎ Runs n (world_step w events.Tick).after
+  runs zero w g p = ends w p.0 p.1
+  runs (suc n) w g p =
+      let same = with_same w.ground_node (record w.ground_node.fop { ticks = Some (suc n) }) in
+      inr (subst (λ (o : FopOutcome SegmentView (Option Alert)). Runs (suc n)
+      (record w { ground_node = with_fop w.ground_node o.after })) (sym (tick_on w.ground_node.fop n p.1))
+      (goes w (suc n) p.0, same.ticks))
+
+  pub ends_ticks : (w : World) → IsReached w → P w → (ticks : Option ℕ) → w.ground_node.fop.ticks ≡ ticks
+      → Running ticks → Ends Q w (replicate (ticks_left ticks) events.Tick)
+  ends_ticks w g p None is on = elim on [ ]
+  ends_ticks w g p (Some zero) is on = absurd (omega (arith, on))
+  ends_ticks w g p (Some (suc n)) is on = ends_repeat Runs events.Tick tt runs (suc n) w g (p, is)

@@ -6,7 +6,8 @@ use Rattle.tc_link.proofs.Common.{arith, new_world, AllByRecursion, BeginsNoSess
 use Rattle.std.specs.Prelude.{IsSome}
 use Rattle.simulated_link.proofs.Unchanged.{pulled, up_arrives, down_arrives}
 use Rattle.tc_link.specs.FalseAlarms.{alert_in}
-use Rattle.tc_link.specs.Progress.{Schedule, followed_by, times, AlertsIn}
+use Rattle.tc_link.specs.Progress.{Schedule, followed_by, times, AlertsIn, all_sent, all_arrived, all_taken, reported}
+use Rattle.tc_link.specs.Progress.{all_heard, round_trip}
 use Rattle.tc_link.proofs.Invariant.{opening_stays, idle_goes, Holding, step_holds, new_holds}
 use Rattle.tc_link.proofs.ProgressLive.{Timed, timed_empty, timed_step, WaitsFull, full_step}
 use Rattle.tc_link.proofs.ProgressNumbers.{HasOctets, step_octets, new_octets}
@@ -172,3 +173,17 @@ ends_so P Q w es ends says = elim ends [
   | inl a ↦ inl a
   | inr t ↦ inr (t.0, says (world_run w es) t.0 t.1)
 ]
+
+-- a round trip: all is sent, arrives and is taken, and a report is made and heard
+pub ends_trip : (A B C D Q : World → Type 0) (w : World) → Ends A w (all_sent w)
+    → ((v : World) → IsReached v → A v → Ends B v (all_arrived v))
+    → ((v : World) → IsReached v → B v → Ends C v (all_taken v))
+    → ((v : World) → IsReached v → C v → Ends D v (reported v))
+    → ((v : World) → IsReached v → D v → Ends Q v (all_heard v)) → Ends Q w (round_trip w)
+ends_trip A B C D Q w sent arrive take report hear =
+    let after_taking = followed_by reported all_heard in
+    let after_arriving = followed_by all_taken after_taking in
+    ends_then A Q all_sent (followed_by all_arrived after_arriving) w sent (λ v g p.
+    ends_then B Q all_arrived after_arriving v (arrive v g p) (λ v g p.
+    ends_then C Q all_taken after_taking v (take v g p) (λ v g p.
+    ends_then D Q reported all_heard v (report v g p) hear)))
