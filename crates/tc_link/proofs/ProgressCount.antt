@@ -8,7 +8,7 @@ use Rattle.tc_link.proofs.Common.{after_new_value, heard_active, pull_step, pull
 use Rattle.tc_link.proofs.Common.{after_stop, GroundState, refill_step, with_fop, after_extraction, telemetry_outcome}
 use Rattle.tc_link.proofs.Common.{TmFault, submit_fault, bypass_fault, after_submission, after_bypass, unless_refused}
 use Rattle.tc_link.proofs.Common.{LinkFault, directive_outcome, Event, World, WorldOutcome, new_world, world_step}
-use Rattle.tc_link.proofs.Common.{◌≢◌}
+use Rattle.tc_link.proofs.Common.{◌≢◌, goes_on}
 use Rattle.std.specs.Prelude.{◌||◌}
 use Rattle.cop1.specs.FopDirective.{obeys, from_S6, terminate_in}
 use Rattle.cop1.specs.declared.vocabulary.Directive.TheVariants.{Terminate, SetVs, SetWindow, SetLimit, SetTimer}
@@ -27,34 +27,57 @@ use Rattle.tc_link.proofs.ProgressRuns.{IsCalm}
 use Rattle.tc_link.proofs.ProgressSender.{marked_all}
 use Rattle.tc_link.proofs.Senders.{with_kept, hears_kept, step_kept}
 
--- ---- the limit stays, where no directive sets it
+-- ---- units may be sent again: the count is below the limit, or all that was sent is to be sent again already
+
+abbrev pub IsBelow : FopState SegmentView → Type 0
+IsBelow s = s.count < s.limit
+
+abbrev pub IsFine : FopState SegmentView → Type 0
+IsFine s = IsBelow s ⊎ (are_marked s.sent ≡ true)
+
+-- they still may, where they may be sent more than once; and the limit stays, where no directive sets it
 
 module _ (s : FopState SegmentView) where
-  again_limit : (again : Bool) → (retransmits s again).limit ≡ s.limit
-  again_limit true = refl
-  again_limit false = refl
+  abbrev Goes : (FopState SegmentView → Type 0) → {A : Type 0} → FopOutcome SegmentView A → Type 0
+  Goes P o = (o.after.limit ≡ s.limit) × (2 ≤ s.limit → P s → P o.after)
 
-  report_limit : (r : Clcw) → (clcw_step s r).after.limit ≡ s.limit
-  report_limit r = reported s r (λ o. o.after.limit ≡ s.limit) (record {
-    active = λ active. heard_active s r (λ o. o.after.limit ≡ s.limit) (record {
-      locked = λ t. refl;
-      outside = λ t. refl;
-      wait_flag = λ none waiting. refl;
-      asks_none = λ asking at. refl;
-      same = refl;
-      ceases = λ none at were. refl;
-      moves = λ inside. refl;
-      others_over = λ inside asking one. refl;
-      others_wait = λ inside asking. refl;
-      others_again = λ inside asking. refl;
-      all_over = λ asking one. refl;
-      all_wait = λ asking. refl;
-      all_again = λ asking. again_limit;
+  again_goes : (again : Bool) → Goes IsFine (goes_on (retransmits s again))
+  again_goes true = (refl, λ two fine. inr (marked_all s.sent))
+  again_goes false = (refl, λ two fine. fine)
+
+  report_goes : (r : Clcw) → Goes IsFine (clcw_step s r)
+  report_goes r = reported s r (λ o. Goes IsFine o) (record {
+    active = λ active. heard_active s r (λ o. Goes IsFine o) (record {
+      locked = λ t. (refl, λ two fine. inr refl);
+      outside = λ t. (refl, λ two fine. inr refl);
+      wait_flag = λ none waiting. (refl, λ two fine. inr refl);
+      asks_none = λ asking at. (refl, λ two fine. inr refl);
+      same = (refl, λ two fine. fine);
+      ceases = λ none at were. (refl, λ two fine. inr refl);
+      moves = λ inside. (refl, λ two fine. inl two);
+      others_over = λ inside asking one. (refl, λ two fine. inr refl);
+      others_wait = λ inside asking. (refl, λ two fine. inl two);
+      others_again = λ inside asking. (refl, λ two fine. inr (marked_all (after_new_value s r.value).sent));
+      all_over = λ asking one. (refl, λ two fine. inr refl);
+      all_wait = λ asking. (refl, λ two fine. fine);
+      all_again = λ asking. again_goes;
     });
-    alerted = λ is x cause. refl;
-    checked = λ is confirms. refl;
-    commanded = λ is confirms. refl;
-    same = refl;
+    alerted = λ is x cause. (refl, λ two fine. inr refl);
+    checked = λ is confirms. (refl, λ two fine. fine);
+    commanded = λ is confirms. (refl, λ two fine. fine);
+    same = (refl, λ two fine. fine);
+  })
+
+  pull_goes : Goes IsBelow (pull_step s)
+  pull_goes = pulled_out s (λ o. Goes IsBelow o) (record {
+    none = (refl, λ two below. below);
+    command = λ c is. (refl, λ two below. below);
+    bypass = λ u us is. (refl, λ two below. below);
+    again = λ on x is. (refl, λ two below. below);
+    first = λ on u is room. (
+      refl,
+      λ two below. cond_both (is_none_sent s.sent) 1 s.count (λ n. n < s.limit) (λ t. two) (λ t. below),
+    );
   })
 
   tick_limit : (tick_step s).after.limit ≡ s.limit
@@ -68,69 +91,14 @@ module _ (s : FopState SegmentView) where
     gives_up = refl;
   })
 
-  pull_limit : (pull_step s).after.limit ≡ s.limit
-  pull_limit = pulled_out s (λ o. o.after.limit ≡ s.limit) (record {
-    none = refl;
-    command = λ c is. refl;
-    bypass = λ u us is. refl;
-    again = λ on x is. refl;
-    first = λ on u is room. refl;
-  })
-
 pub limit_stays : (w : World) (e : Event) → IsCalm e
     → (world_step w e).after.ground_node.fop.limit ≡ w.ground_node.fop.limit
 limit_stays w e calm =
     let s = w.ground_node.fop in
     let Same : FopState SegmentView → Type 0 = λ f. f.limit ≡ s.limit in
-    step_kept Same (λ f waiting bypass is. is) w refl (tick_limit s) (pull_limit s)
-    (hears_kept Same (λ f waiting bypass is. is) w refl (report_limit s)) e
+    step_kept Same (λ f waiting bypass is. is) w refl (tick_limit s) (pull_goes s).0
+    (hears_kept Same (λ f waiting bypass is. is) w refl (λ r. (report_goes s r).0)) e
     (λ d is. absurd (let no : IsCalm (events.Directive d) = subst IsCalm is calm in no))
-
--- ---- units may be sent again: the count is below the limit, or all that was sent is to be sent again already
-
-abbrev pub IsBelow : FopState SegmentView → Type 0
-IsBelow s = s.count < s.limit
-
-abbrev pub IsFine : FopState SegmentView → Type 0
-IsFine s = IsBelow s ⊎ (are_marked s.sent ≡ true)
-
-module _ (s : FopState SegmentView) (two : 2 ≤ s.limit) where
-  pull_below : IsBelow s → IsBelow (pull_step s).after
-  pull_below below = pulled_out s (λ o. IsBelow o.after) (record {
-    none = below;
-    command = λ c is. below;
-    bypass = λ u us is. below;
-    again = λ on x is. below;
-    first = λ on u is room. cond_both (is_none_sent s.sent) 1 s.count (λ n. n < s.limit) (λ t. two) (λ t. below);
-  })
-
-  module _ (fine : IsFine s) where
-    again_fine : (again : Bool) → IsFine (retransmits s again)
-    again_fine true = inr (marked_all s.sent)
-    again_fine false = fine
-
-    report_fine : (r : Clcw) → IsFine (clcw_step s r).after
-    report_fine r = reported s r (λ o. IsFine o.after) (record {
-      active = λ active. heard_active s r (λ o. IsFine o.after) (record {
-        locked = λ t. inr refl;
-        outside = λ t. inr refl;
-        wait_flag = λ none waiting. inr refl;
-        asks_none = λ asking at. inr refl;
-        same = fine;
-        ceases = λ none at were. inr refl;
-        moves = λ inside. inl two;
-        others_over = λ inside asking one. inr refl;
-        others_wait = λ inside asking. inl two;
-        others_again = λ inside asking. inr (marked_all (after_new_value s r.value).sent);
-        all_over = λ asking one. inr refl;
-        all_wait = λ asking. fine;
-        all_again = λ asking. again_fine;
-      });
-      alerted = λ is x cause. inr refl;
-      checked = λ is confirms. fine;
-      commanded = λ is confirms. fine;
-      same = fine;
-    })
 
 -- until the report is heard
 abbrev pub IsBefore : Event → Type 0
@@ -143,7 +111,7 @@ module _ (w : World) (two : 2 ≤ w.ground_node.fop.limit) where
   pub step_below : IsBelow w.ground_node.fop → (e : Event) → IsBefore e → BelowAfter (world_step w e)
   step_below below events.Send is = pulled w BelowAfter (λ reply up sent silent.
       with_kept IsBelow (λ f waiting bypass is. is) w.ground_node (pull_step w.ground_node.fop).after
-      (pull_below w.ground_node.fop two below))
+      ((pull_goes w.ground_node.fop).1 two below))
   step_below below events.UpDeliver is = up_arrives w BelowAfter below (λ b bs e. below)
   step_below below events.Report is = below
   step_below below events.Take is = below
@@ -153,7 +121,8 @@ module _ (w : World) (two : 2 ≤ w.ground_node.fop.limit) where
 
   pub hears_fine : IsFine w.ground_node.fop → IsFine (world_step w events.DownDeliver).after.ground_node.fop
   hears_fine fine =
-      hears_kept IsFine (λ f waiting bypass is. is) w fine (report_fine w.ground_node.fop two fine)
+      hears_kept IsFine (λ f waiting bypass is. is) w fine
+      (λ r. (report_goes w.ground_node.fop r).1 two fine)
 
 -- ---- the timer ends with no alert
 

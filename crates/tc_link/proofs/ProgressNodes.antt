@@ -8,7 +8,9 @@ use Rattle.nodes.specs.Ground.{outstanding}
 use Rattle.simulated_link.specs.World.{world_after_telemetry}
 use Rattle.tc_link.proofs.Common.{active_on}
 use Rattle.tc_link.proofs.Downward.{used, used_is}
-use Rattle.tc_link.proofs.Linked.{Tells, Reporting}
+use Rattle.tc_link.proofs.Linked.{Tells}
+use Rattle.tc_link.proofs.Common.{AllByRecursion}
+use Rattle.tc_link.proofs.ProgressNumbers.{IsOctetReport}
 use Rattle.tc_link.proofs.Common.{◌⊎◌, Option, Some, None, Ok, Config, Alert, Extracted, SpacecraftState, WorldOutcome}
 use Rattle.tc_link.proofs.Common.{FopOutcome, subst, sym, replicate}
 use Rattle.std.specs.Prelude.{IsSome}
@@ -127,23 +129,18 @@ heard_is w b bs r is t =
     ap (down_deliver_step w) is
     ∙ ap (world_after_telemetry w bs) (used_is w.ground_node.config w.ground_node b r refl t)
 
-first_tells : (c : Config) (b : List ℕ) (bs : List (List ℕ)) (rs : List Clcw) → Reporting c (b ∷ bs) rs
-    → (r : Clcw) × Tells c b r
-first_tells c b bs [] so = elim so [ ]
-first_tells c b bs (r ∷ rs) so = (r, so.0)
-
 -- whatever report is the oldest on its way
 pub oldest_heard : (P : WorldOutcome → Type 0) (w : World) → IsReached w → (b : List ℕ) (bs : List (List ℕ))
     → w.down ≡ b ∷ bs
     → ((r : Clcw) (x : Extracted) → P (world_after_telemetry w bs (used w.ground_node x r)))
     → P (world_step w events.DownDeliver)
 oldest_heard P w g b bs is each =
-    let h = (known w g).holds in
-    let told = first_tells g.config b bs h.reports.reports
-    (subst (λ ds. Reporting g.config ds h.reports.reports) is h.reports.reporting) in
-    let tells : Tells w.ground_node.config b told.0 =
-    subst (λ c. Tells c b told.0) (sym h.sound.ground_node.config) told.1 in
-    subst P (sym (heard_is w b bs told.0 is tells)) (each told.0 (extract_step w.ground_node.extractor tells.frame))
+    let h = known w g in
+    let first = subst (AllByRecursion (IsOctetReport g.config)) is h.octets.down in
+    let r = first.0.0 in
+    let tells : Tells w.ground_node.config b r =
+    subst (λ c. Tells c b r) (sym h.holds.sound.ground_node.config) first.0.1 in
+    subst P (sym (heard_is w b bs r is tells)) (each r (extract_step w.ground_node.extractor tells.frame))
 
 pub alerted : (a : Option Alert) → IsSome a → IsSome (alert_in (Ok (reply_to_alert a)))
 alerted None is = absurd cc

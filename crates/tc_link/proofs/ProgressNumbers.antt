@@ -35,9 +35,11 @@ use Rattle.tc_link.proofs.Common.{closed_not, active_on}
 use Rattle.tc_link.proofs.FitFrames.{moved}
 use Rattle.tc_link.proofs.Downward.{used_is}
 use Rattle.tc_link.proofs.Invariant.{Holding, step_holds, new_holds}
-use Rattle.tc_link.proofs.Linked.{Carries, carries_push, Tells, Reporting}
+use Rattle.tc_link.proofs.Linked.{Tells}
+use Rattle.tm_link.specs.Encoding as telemetry_writing
+use Rattle.tc_link.proofs.Common.{spacecraft_report}
 use Rattle.tc_link.proofs.Lists.{oldest_stands}
-use Rattle.tc_link.proofs.ReportFrames.{reporting_now}
+use Rattle.tc_link.proofs.ReportFrames.{tells_now}
 use Rattle.tc_link.proofs.Senders.{with_kept, step_kept}
 use Rattle.tc_link.proofs.Sound.{Commanded}
 use Rattle.tc_link.proofs.Spelled.{Goes, reads_back, fits_at}
@@ -286,58 +288,20 @@ module _ (s : SpacecraftState) (octet : s.farm.vr < 256) where
 
 -- ---- what is on its way
 
-pub record UpOctets (c : Config) (up : List (List ℕ)) : Type 0 where
-  pub frames : List BodyView
-  pub carries : Carries c up frames
-  pub are : AllByRecursion IsOctetBody frames
+-- a frame of the ground's, or a report of the spacecraft's, with octets
+abbrev pub IsOctetFrame : Config → List ℕ → Type 0
+IsOctetFrame c b = (f : BodyView) × (frame_at On b ≡ Ok (frame_of c f)) × IsOctetBody f
 
-abbrev IsOctetReport : Clcw → Type 0
-IsOctetReport r = r.value < 256
-
-pub record DownOctets (c : Config) (down : List (List ℕ)) : Type 0 where
-  pub reports : List Clcw
-  pub reporting : Reporting c down reports
-  pub are : AllByRecursion IsOctetReport reports
-
-record FirstUp (c : Config) (b : List ℕ) (bs : List (List ℕ)) : Type 0 where
-  frame : BodyView
-  reads : frame_at On b ≡ Ok (frame_of c frame)
-  is : IsOctetBody frame
-  rest : UpOctets c bs
-
-first_up : (c : Config) (b : List ℕ) (bs : List (List ℕ)) (fs : List BodyView) → Carries c (b ∷ bs) fs
-    → AllByRecursion IsOctetBody fs → FirstUp c b bs
-first_up c b bs [] carries all = elim carries [ ]
-first_up c b bs (f ∷ fs) carries all = record {
-  frame = f;
-  reads = carries.0;
-  is = all.0;
-  rest = record { frames = fs; carries = carries.1; are = all.1 };
-}
-
-record FirstDown (c : Config) (b : List ℕ) (bs : List (List ℕ)) : Type 0 where
-  report : Clcw
-  tells : Tells c b report
-  is : IsOctetReport report
-  rest : DownOctets c bs
-
-first_down : (c : Config) (b : List ℕ) (bs : List (List ℕ)) (rs : List Clcw) → Reporting c (b ∷ bs) rs
-    → AllByRecursion IsOctetReport rs → FirstDown c b bs
-first_down c b bs [] reporting all = elim reporting [ ]
-first_down c b bs (r ∷ rs) reporting all = record {
-  report = r;
-  tells = reporting.0;
-  is = all.0;
-  rest = record { reports = rs; reporting = reporting.1; are = all.1 };
-}
+abbrev pub IsOctetReport : Config → List ℕ → Type 0
+IsOctetReport c b = (r : Clcw) × Tells c b r × (r.value < 256)
 
 -- ---- the world
 
 pub record HasOctets (c : Config) (w : World) : Type 0 where
   pub sender : Numbered w.ground_node.fop
   pub vr : w.spacecraft.farm.vr < 256
-  pub up : UpOctets c w.up
-  pub down : DownOctets c w.down
+  pub up : AllByRecursion (IsOctetFrame c) w.up
+  pub down : AllByRecursion (IsOctetReport c) w.down
 
 module _ (c : Config) (w : World) (h : Holding c w) (k : HasOctets c w) where
   abbrev s : FopState SegmentView
@@ -346,18 +310,17 @@ module _ (c : Config) (w : World) (h : Holding c w) (k : HasOctets c w) where
   abbrev After : WorldOutcome → Type 0
   After o = HasOctets c o.after
 
-  up_of : (b : List ℕ) (bs : List (List ℕ)) → w.up ≡ b ∷ bs → FirstUp c b bs
-  up_of b bs is = first_up c b bs k.up.frames (subst (λ u. Carries c u k.up.frames) is k.up.carries) k.up.are
+  up_of : (b : List ℕ) (bs : List (List ℕ)) → w.up ≡ b ∷ bs → AllByRecursion (IsOctetFrame c) (b ∷ bs)
+  up_of b bs is = subst (AllByRecursion (IsOctetFrame c)) is k.up
 
-  down_of : (b : List ℕ) (bs : List (List ℕ)) → w.down ≡ b ∷ bs → FirstDown c b bs
-  down_of b bs is =
-      first_down c b bs k.down.reports (subst (λ d. Reporting c d k.down.reports) is k.down.reporting) k.down.are
+  down_of : (b : List ℕ) (bs : List (List ℕ)) → w.down ≡ b ∷ bs → AllByRecursion (IsOctetReport c) (b ∷ bs)
+  down_of b bs is = subst (AllByRecursion (IsOctetReport c)) is k.down
 
   losses : AtEachLoss w After
   losses = record {
     refused = λ fault. k;
-    up = λ b bs is reply silent. record { sender = k.sender; vr = k.vr; up = (up_of b bs is).rest; down = k.down };
-    down = λ b bs is reply silent. record { sender = k.sender; vr = k.vr; up = k.up; down = (down_of b bs is).rest };
+    up = λ b bs is reply silent. record { sender = k.sender; vr = k.vr; up = (up_of b bs is).1; down = k.down };
+    down = λ b bs is reply silent. record { sender = k.sender; vr = k.vr; up = k.up; down = (down_of b bs is).1 };
   }
 
   -- the receiver is another
@@ -371,13 +334,11 @@ module _ (c : Config) (w : World) (h : Holding c w) (k : HasOctets c w) where
       → After (world_after_pull w (with_fop w.ground_node o.after) (frame_to_send w.ground_node.config o.answer))
 
   pushed : (f : BodyView) → Goes f → IsOctetBody f
-      → UpOctets c (w.up ++ spelling On (frame_of w.ground_node.config f) ∷ [])
-  pushed f goes is = record {
-    frames = k.up.frames ++ f ∷ [];
-    carries = carries_push c (spelling On (frame_of w.ground_node.config f)) f w.up k.up.frames
-        (rw h.sound.ground_node.config (reads_back c f h.sound.ranges goes)) k.up.carries;
-    are = all_append IsOctetBody k.up.frames (f ∷ []) k.up.are (is, tt);
-  }
+      → AllByRecursion (IsOctetFrame c) (w.up ++ spelling On (frame_of w.ground_node.config f) ∷ [])
+  pushed f goes is =
+      let reads : frame_at On (spelling On (frame_of w.ground_node.config f)) ≡ Ok (frame_of c f) =
+      rw h.sound.ground_node.config (reads_back c f h.sound.ranges goes) in
+      all_append (IsOctetFrame c) w.up (spelling On (frame_of w.ground_node.config f) ∷ []) k.up ((f, reads, is), tt)
 
   sent_after : (f : FopState SegmentView) (b : BodyView) → Goes b → IsOctetBody b → Numbered f
       → After (world_after_pull w (with_fop w.ground_node f) (Some (frame_of w.ground_node.config b)))
@@ -422,24 +383,24 @@ module _ (c : Config) (w : World) (h : Holding c w) (k : HasOctets c w) where
   arrives b bs is =
       let first = up_of b bs is in
       subst (λ (o : SpacecraftOutcome Received). HasOctets c (record w { up = bs; spacecraft = o.after }))
-      (sym (own_arrives w.spacecraft c first.frame (frame_at On b) h.sound.spacecraft.config first.reads)) (record {
+      (sym (own_arrives w.spacecraft c first.0.0 (frame_at On b) h.sound.spacecraft.config first.0.1)) (record {
         sender = k.sender;
-        vr = body_octet w.spacecraft k.vr first.frame first.is;
-        up = first.rest;
+        vr = body_octet w.spacecraft k.vr first.0.0 first.0.2;
+        up = first.1;
         down = k.down;
       })
 
   hears : (b : List ℕ) (bs : List (List ℕ)) → w.down ≡ b ∷ bs → After (down_deliver_step w (b ∷ bs))
   hears b bs is =
       let first = down_of b bs is in
-      let x = extract_step w.ground_node.extractor first.tells.frame in
+      let x = extract_step w.ground_node.extractor first.0.1.frame in
       subst (λ o. After (world_after_telemetry w bs o))
-      (sym (used_is c w.ground_node b first.report h.sound.ground_node.config first.tells)) (record {
-        sender = with_kept Numbered queued_numbers (after_extraction w.ground_node x) (clcw_step s first.report).after
-            (report_numbers s k.sender first.report first.is);
+      (sym (used_is c w.ground_node b first.0.0 h.sound.ground_node.config first.0.1)) (record {
+        sender = with_kept Numbered queued_numbers (after_extraction w.ground_node x) (clcw_step s first.0.0).after
+            (report_numbers s k.sender first.0.0 first.0.2);
         vr = k.vr;
         up = k.up;
-        down = first.rest;
+        down = first.1;
       })
 
   off_idle : s.state ≡ S6 → s.control ≡ Idle
@@ -473,12 +434,8 @@ module _ (c : Config) (w : World) (h : Holding c w) (k : HasOctets c w) where
     sender = k.sender;
     vr = k.vr;
     up = k.up;
-    down = record {
-      reports = k.down.reports ++ report_of w.spacecraft.farm w.spacecraft.config.vcid ∷ [];
-      reporting = reporting_now c w h.sound k.down.reports k.down.reporting;
-      are = all_append IsOctetReport k.down.reports (report_of w.spacecraft.farm w.spacecraft.config.vcid ∷ [])
-          k.down.are (k.vr, tt);
-    };
+    down = all_append (IsOctetReport c) w.down (telemetry_writing.spelling (spacecraft_report w.spacecraft).answer ∷ [])
+        k.down ((report_of w.spacecraft.farm w.spacecraft.config.vcid, tells_now c w h.sound, k.vr), tt);
   }
   step_octets events.DownDeliver fits = down_arrives w After k hears
   step_octets events.Take fits =
@@ -501,6 +458,6 @@ new_octets c = record {
     most = omega arith;
   };
   vr = omega arith;
-  up = record { frames = []; carries = tt; are = tt };
-  down = record { reports = []; reporting = tt; are = tt };
+  up = tt;
+  down = tt;
 }
