@@ -96,7 +96,7 @@ module _ (most k : ℕ) where
       let known = known w g in
       let slots : 1 ≤ w.spacecraft.config.ready_slots =
       rw known.holds.sound.spacecraft.config known.holds.sound.ranges.ready_slots.0 in
-      let full = known.receiver waits in
+      let full = known.octets.receiver.full waits in
       let no : 1 ≤ 0 = omega (arith, slots, full, none) in
       absurd (omega (arith, no)))
 

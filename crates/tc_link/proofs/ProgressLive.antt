@@ -352,17 +352,11 @@ module _ (s : SpacecraftState) (flags : FlagsAgree s.farm) (k : WaitsFull s) whe
   set_full x Wait waits = absurd cc
   set_full x Lockout waits = k waits
 
-  body_full : (f : BodyView) → WaitsFull (body_outcome s f).after
+  pub body_full : (f : BodyView) → WaitsFull (body_outcome s f).after
   body_full (Ad n u) = sequence_full n u (verdict_of s.farm n (is_free s)) refl
   body_full (Bd u) = bypass_full u (is_kept (limits_of s.config) u)
   body_full (Bc Unlock) = unlock_full s.farm.state
   body_full (Bc (SetVr x)) = set_full x s.farm.state
-
-  arrived_full : (r : Result FrameView TcFault) → WaitsFull (frame_outcome s r).after
-  arrived_full (Err fault) = k
-  arrived_full (Ok frame) =
-      cond_both (is_own_frame s.config frame) (body_outcome s frame.body) _ (λ o. WaitsFull o.after)
-      (λ t. body_full frame.body) (λ t. k)
 
   -- a receiver that is released does not wait
   released : (m : FarmMode) → s.farm.state ≡ m → (after_release s.farm m).wait ≡ false
@@ -375,7 +369,7 @@ module _ (s : SpacecraftState) (flags : FlagsAgree s.farm) (k : WaitsFull s) whe
       open_waits false true e = absurd cc
       open_waits false false e = refl
 
-  taken_full : (ps : List PacketOn) → WaitsFull (spacecraft_take s ps).after
+  pub taken_full : (ps : List PacketOn) → WaitsFull (spacecraft_take s ps).after
   taken_full [] = k
   taken_full (p ∷ left) =
       cond_both (nat_lt (length left) s.config.ready_slots) (farm_step s.farm BufferReleased) s.farm
@@ -383,39 +377,11 @@ module _ (s : SpacecraftState) (flags : FlagsAgree s.farm) (k : WaitsFull s) whe
       (λ t waits. absurd (let no = released s.farm.state refl in cc (waits, no)))
       (λ t waits. ltb-false (length left) s.config.ready_slots t)
 
-  bypass_taken_full : (ps : List PacketOn) → WaitsFull (spacecraft_take_bypass s ps).after
+  pub bypass_taken_full : (ps : List PacketOn) → WaitsFull (spacecraft_take_bypass s ps).after
   bypass_taken_full [] = k
   bypass_taken_full (p ∷ left) = k
 
-  queued_full : (octets : List ℕ) → WaitsFull (spacecraft_telemetry s octets).after
+  pub queued_full : (octets : List ℕ) → WaitsFull (spacecraft_telemetry s octets).after
   queued_full octets =
       cond_both (is_to_send octets) _ _ (λ (o : SpacecraftOutcome (Result (Unit {0}) TmFault)). WaitsFull o.after)
       (λ t. k) (λ t. k)
-
--- ---- the world
-
-module _ (w : World) (flags : FlagsAgree w.spacecraft.farm) (k : WaitsFull w.spacecraft) where
-  abbrev Full : WorldOutcome → Type 0
-  Full o = WaitsFull o.after.spacecraft
-
-  losses : AtEachLoss w Full
-  losses = record {
-    refused = λ fault. k;
-    up = λ b bs is reply silent. k;
-    down = λ b bs is reply silent. k;
-  }
-
-  pub full_step : (e : Event) → Full (world_step w e)
-  full_step events.Send = pulled w Full (λ reply up sent silent. k)
-  full_step events.UpDeliver = up_arrives w Full k (λ b bs is.
-      arrived_full w.spacecraft flags k (command.frame_at _ b))
-  full_step events.DownDeliver = down_arrives w Full k (λ b bs is. k)
-  full_step events.Take = taken_full w.spacecraft flags k w.spacecraft.ready
-  full_step events.TakeBypass = bypass_taken_full w.spacecraft flags k w.spacecraft.bypass
-  full_step (events.Telemetry octets) = queued_full w.spacecraft flags k octets.now
-  full_step (events.Submit m octets) = k
-  full_step (events.Bypass m octets) = k
-  full_step (events.Directive d) = k
-  full_step events.Report = k
-  full_step events.Tick = k
-  full_step e = lost w Full losses e tt

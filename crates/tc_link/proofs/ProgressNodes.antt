@@ -111,7 +111,7 @@ has_numbers w g active =
       most = k.sender.most;
       vs = k.sender.vs;
       nn = k.sender.nn;
-      vr = k.vr;
+      vr = k.receiver.vr;
     }
 
 -- units are sent where the numbers differ

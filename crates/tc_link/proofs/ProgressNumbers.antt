@@ -45,6 +45,8 @@ use Rattle.tc_link.proofs.Sound.{Commanded}
 use Rattle.tc_link.proofs.Spelled.{Goes, reads_back, fits_at}
 use Rattle.tc_link.proofs.Submissions.{all_append}
 use Rattle.tc_link.proofs.ProgressSender.{without_length}
+use Rattle.tc_link.proofs.ProgressLive.{WaitsFull, body_full, taken_full, bypass_taken_full, queued_full}
+use Rattle.tc_link.proofs.Common.{FlagsAgree}
 
 -- ---- the sender
 
@@ -297,9 +299,13 @@ IsOctetReport c b = (r : Clcw) × Tells c b r × (r.value < 256)
 
 -- ---- the world
 
+pub record Receives (s : SpacecraftState) : Type 0 where
+  pub vr : s.farm.vr < 256
+  pub full : WaitsFull s
+
 pub record HasOctets (c : Config) (w : World) : Type 0 where
   pub sender : Numbered w.ground_node.fop
-  pub vr : w.spacecraft.farm.vr < 256
+  pub receiver : Receives w.spacecraft
   pub up : AllByRecursion (IsOctetFrame c) w.up
   pub down : AllByRecursion (IsOctetReport c) w.down
 
@@ -319,13 +325,17 @@ module _ (c : Config) (w : World) (h : Holding c w) (k : HasOctets c w) where
   losses : AtEachLoss w After
   losses = record {
     refused = λ fault. k;
-    up = λ b bs is reply silent. record { sender = k.sender; vr = k.vr; up = (up_of b bs is).1; down = k.down };
-    down = λ b bs is reply silent. record { sender = k.sender; vr = k.vr; up = k.up; down = (down_of b bs is).1 };
+    up = λ b bs is reply silent. record { sender = k.sender; receiver = k.receiver; up = (up_of b bs is).1; down = k.down };
+    down = λ b bs is reply silent. record { sender = k.sender; receiver = k.receiver; up = k.up; down = (down_of b bs is).1 };
   }
 
   -- the receiver is another
-  with_vr : (s : SpacecraftState) → s.farm.vr < 256 → HasOctets c (record w { spacecraft = s })
-  with_vr s vr = record { sender = k.sender; vr = vr; up = k.up; down = k.down }
+  with_receiver : (s : SpacecraftState) → s.farm.vr < 256 → WaitsFull s → HasOctets c (record w { spacecraft = s })
+  with_receiver s vr full =
+      record { sender = k.sender; receiver = record { vr = vr; full = full }; up = k.up; down = k.down }
+
+  flags : FlagsAgree w.spacecraft.farm
+  flags = h.sound.spacecraft.farm.flags
 
   -- ---- a frame is sent
 
@@ -344,7 +354,7 @@ module _ (c : Config) (w : World) (h : Holding c w) (k : HasOctets c w) where
       → After (world_after_pull w (with_fop w.ground_node f) (Some (frame_of w.ground_node.config b)))
   sent_after f b goes is numbers = record {
     sender = with_kept Numbered queued_numbers w.ground_node f numbers;
-    vr = k.vr;
+    receiver = k.receiver;
     up = pushed b goes is;
     down = k.down;
   }
@@ -353,7 +363,7 @@ module _ (c : Config) (w : World) (h : Holding c w) (k : HasOctets c w) where
   sends = pulled_out s Pulls (record {
     none = λ numbers. record {
       sender = with_kept Numbered queued_numbers w.ground_node s numbers;
-      vr = k.vr;
+      receiver = k.receiver;
       up = k.up;
       down = k.down;
     };
@@ -385,7 +395,10 @@ module _ (c : Config) (w : World) (h : Holding c w) (k : HasOctets c w) where
       subst (λ (o : SpacecraftOutcome Received). HasOctets c (record w { up = bs; spacecraft = o.after }))
       (sym (own_arrives w.spacecraft c first.0.0 (frame_at On b) h.sound.spacecraft.config first.0.1)) (record {
         sender = k.sender;
-        vr = body_octet w.spacecraft k.vr first.0.0 first.0.2;
+        receiver = record {
+          vr = body_octet w.spacecraft k.receiver.vr first.0.0 first.0.2;
+          full = body_full w.spacecraft flags k.receiver.full first.0.0;
+        };
         up = first.1;
         down = k.down;
       })
@@ -398,7 +411,7 @@ module _ (c : Config) (w : World) (h : Holding c w) (k : HasOctets c w) where
       (sym (used_is c w.ground_node b first.0.0 h.sound.ground_node.config first.0.1)) (record {
         sender = with_kept Numbered queued_numbers (after_extraction w.ground_node x) (clcw_step s first.0.0).after
             (report_numbers s k.sender first.0.0 first.0.2);
-        vr = k.vr;
+        receiver = k.receiver;
         up = k.up;
         down = first.1;
       })
@@ -418,7 +431,7 @@ module _ (c : Config) (w : World) (h : Holding c w) (k : HasOctets c w) where
       → (world_step w e).after.up ≡ w.up → (world_step w e).after.down ≡ w.down → After (world_step w e)
   step_sender e fits craft up down = record {
     sender = numbers_step e fits;
-    vr = rw craft k.vr;
+    receiver = rw craft k.receiver;
     up = rw up k.up;
     down = rw down k.down;
   }
@@ -432,20 +445,23 @@ module _ (c : Config) (w : World) (h : Holding c w) (k : HasOctets c w) where
   step_octets events.UpDeliver fits = up_arrives w After k arrives
   step_octets events.Report fits = record {
     sender = k.sender;
-    vr = k.vr;
+    receiver = record { vr = k.receiver.vr; full = k.receiver.full };
     up = k.up;
     down = all_append (IsOctetReport c) w.down (telemetry_writing.spelling (spacecraft_report w.spacecraft).answer ∷ [])
-        k.down ((report_of w.spacecraft.farm w.spacecraft.config.vcid, tells_now c w h.sound, k.vr), tt);
+        k.down ((report_of w.spacecraft.farm w.spacecraft.config.vcid, tells_now c w h.sound, k.receiver.vr), tt);
   }
   step_octets events.DownDeliver fits = down_arrives w After k hears
   step_octets events.Take fits =
-      with_vr (spacecraft_take w.spacecraft w.spacecraft.ready).after
-      (taken_octet w.spacecraft k.vr w.spacecraft.ready)
+      let ready = w.spacecraft.ready in
+      with_receiver (spacecraft_take w.spacecraft ready).after (taken_octet w.spacecraft k.receiver.vr ready)
+      (taken_full w.spacecraft flags k.receiver.full ready)
   step_octets events.TakeBypass fits =
-      with_vr (spacecraft_take_bypass w.spacecraft w.spacecraft.bypass).after
-      (bypass_taken_octet w.spacecraft k.vr w.spacecraft.bypass)
+      let ring = w.spacecraft.bypass in
+      with_receiver (spacecraft_take_bypass w.spacecraft ring).after
+      (bypass_taken_octet w.spacecraft k.receiver.vr ring) (bypass_taken_full w.spacecraft flags k.receiver.full ring)
   step_octets (events.Telemetry octets) fits =
-      with_vr (spacecraft_telemetry w.spacecraft octets.now).after (queued_octet w.spacecraft k.vr octets.now)
+      with_receiver (spacecraft_telemetry w.spacecraft octets.now).after
+      (queued_octet w.spacecraft k.receiver.vr octets.now) (queued_full w.spacecraft flags k.receiver.full octets.now)
   step_octets e fits = lost w After losses e tt
 
 pub new_octets : (c : Config) → HasOctets c (new_world c)
@@ -457,7 +473,7 @@ new_octets c = record {
     numbered = λ on. absurd cc;
     most = omega arith;
   };
-  vr = omega arith;
+  receiver = record { vr = omega arith; full = λ waits. absurd cc };
   up = tt;
   down = tt;
 }

@@ -9,7 +9,7 @@ use Rattle.tc_link.specs.FalseAlarms.{alert_in}
 use Rattle.tc_link.specs.Progress.{Schedule, followed_by, times, AlertsIn, all_sent, all_arrived, all_taken, reported}
 use Rattle.tc_link.specs.Progress.{all_heard, round_trip}
 use Rattle.tc_link.proofs.Invariant.{opening_stays, idle_goes, Holding, step_holds, new_holds}
-use Rattle.tc_link.proofs.ProgressLive.{Timed, timed_empty, timed_step, WaitsFull, full_step}
+use Rattle.tc_link.proofs.ProgressLive.{Timed, timed_empty, timed_step}
 use Rattle.tc_link.proofs.ProgressNumbers.{HasOctets, step_octets, new_octets}
 use Rattle.tc_link.proofs.Promised.{reached_step}
 use Rattle.nodes.specs.declared.event.Event.TheVariants as events
@@ -65,7 +65,6 @@ going_step w g e calm = reached_step w e g (calm_fits e calm)
 pub record Known (c : Config) (w : World) : Type 0 where
   pub holds : Holding c w
   pub sender : Timed w.ground_node.fop
-  pub receiver : WaitsFull w.spacecraft
   pub octets : HasOctets c w
 
 run_known : (c : Config) (es : List Event) (w : World) → AllByRecursion IsEvent es → Known c w
@@ -74,7 +73,6 @@ run_known c [] w fits k = k
 run_known c (e ∷ es) w fits k = run_known c es (world_step w e).after fits.1 (record {
   holds = step_holds c w k.holds e fits.0;
   sender = timed_step w k.sender e;
-  receiver = full_step w k.holds.sound.spacecraft.farm.flags k.receiver e;
   octets = step_octets c w k.holds k.octets e fits.0;
 })
 
@@ -83,7 +81,6 @@ known w r =
     subst (Known r.config) r.led (run_known r.config r.events (new_world r.config) r.octets (record {
       holds = new_holds r.config r.ranges;
       sender = timed_empty _ refl (λ e. absurd cc) r.ranges.timer.0 (omega arith) r.ranges.window.0;
-      receiver = λ waits. absurd cc;
       octets = new_octets r.config;
     }))
 
