@@ -118,7 +118,7 @@ each_has_one_link w ranges = (one_link w ranges, λ nothing base plain h. unsent
 -- ---- from one moment to the next
 
 -- a settled session stays so
-settled_goes : (c : Config) (w : World) (k : Sound c w) (s : InSession c w) (e : Event) → IsEvent e → IsSettled w
+pub settled_goes : (c : Config) (w : World) (k : Sound c w) (s : InSession c w) (e : Event) → IsEvent e → IsSettled w
     → BeginsNoSession w e → IsSettled (world_step w e).after
 settled_goes c w k s e fits settled goes = elim s.session [
   | inl g ↦ absurd (unsettled c s.directive s.base w g settled)

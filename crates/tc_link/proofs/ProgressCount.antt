@@ -23,7 +23,7 @@ use Rattle.nodes.specs.declared.event.Event.TheVariants as events
 use Rattle.tc_link.specs.Progress.{are_marked}
 use Rattle.tc_link.proofs.Refilled.{refilled_keeps}
 use Rattle.tc_link.proofs.ProgressNodes.{with_same}
-use Rattle.tc_link.proofs.ProgressRuns.{IsCalm}
+use Rattle.tc_link.proofs.ProgressRuns.{IsCalm, no_directive}
 use Rattle.tc_link.proofs.ProgressSender.{marked_all}
 use Rattle.tc_link.proofs.Senders.{with_kept, hears_kept, step_kept}
 
@@ -98,7 +98,7 @@ limit_stays w e calm =
     let Same : FopState SegmentView → Type 0 = λ f. f.limit ≡ s.limit in
     step_kept Same (λ f waiting bypass is. is) w refl (tick_limit s) (pull_goes s).0
     (hears_kept Same (λ f waiting bypass is. is) w refl (λ r. (report_goes s r).0)) e
-    (λ d is. absurd (let no : IsCalm (events.Directive d) = subst IsCalm is calm in no))
+    (λ d is. no_directive e calm d is)
 
 -- until the report is heard
 abbrev pub IsBefore : Event → Type 0

@@ -11,7 +11,9 @@ use Rattle.tc_link.specs.Progress.{all_heard, round_trip}
 use Rattle.tc_link.proofs.Invariant.{opening_stays, idle_goes, Holding, step_holds, new_holds}
 use Rattle.tc_link.proofs.ProgressLive.{Timed, timed_empty, timed_step}
 use Rattle.tc_link.proofs.ProgressNumbers.{HasOctets, step_octets, new_octets}
+use Rattle.tc_link.proofs.OneLink.{settled_goes}
 use Rattle.tc_link.proofs.Promised.{reached_step}
+use Rattle.tc_link.proofs.Common.{Directive}
 use Rattle.nodes.specs.declared.event.Event.TheVariants as events
 
 -- ---- a session goes on
@@ -35,28 +37,11 @@ calm_fits events.Tick calm = tt
 calm_fits events.Take calm = tt
 calm_fits _ calm = elim calm [ ]
 
+pub no_directive : {A : Type 0} (e : Event) → IsCalm e → (d : Directive) → e ≡ events.Directive d → A
+no_directive e calm d is = absurd (let no : IsCalm (events.Directive d) = subst IsCalm is calm in no)
+
 pub calm_goes : (w : World) (e : Event) → IsCalm e → BeginsNoSession w e
-calm_goes w events.Send calm = λ d is. absurd (cc is)
-calm_goes w events.UpDeliver calm = λ d is. absurd (cc is)
-calm_goes w events.Report calm = λ d is. absurd (cc is)
-calm_goes w events.DownDeliver calm = λ d is. absurd (cc is)
-calm_goes w events.Tick calm = λ d is. absurd (cc is)
-calm_goes w events.Take calm = λ d is. absurd (cc is)
-calm_goes w _ calm = elim calm [ ]
-
-module _ (w : World) where
-  abbrev StaysConfirmed : WorldOutcome → Type 0
-  StaysConfirmed o = w.session.confirmed ≡ true → o.after.session.confirmed ≡ true
-
-  calm_confirmed : (e : Event) → IsCalm e → StaysConfirmed (world_step w e)
-  calm_confirmed events.Send calm = pulled w StaysConfirmed (λ reply up sent silent is. is)
-  calm_confirmed events.UpDeliver calm = up_arrives w StaysConfirmed (λ is. is) (λ b bs same is. is)
-  calm_confirmed events.Report calm = λ is. is
-  calm_confirmed events.DownDeliver calm =
-      down_arrives w StaysConfirmed (λ is. is) (λ b bs same is. rw is refl)
-  calm_confirmed events.Tick calm = λ is. is
-  calm_confirmed events.Take calm = λ is. is
-  calm_confirmed _ calm = elim calm [ ]
+calm_goes w e calm d is = no_directive e calm d is
 
 pub going_step : (w : World) → IsReached w → (e : Event) → IsCalm e → IsReached (world_step w e).after
 going_step w g e calm = reached_step w e g (calm_fits e calm)
@@ -93,11 +78,11 @@ pub directive_stays : (w : World) (e : Event) → IsCalm e → directive_of (wor
 directive_stays w e calm =
     ap (λ o. option_map (λ (o : Opening). o.directive) o) (opening_stays w e (calm_goes w e calm))
 
-pub settled_step : (w : World) (e : Event) → IsCalm e → IsSettled w → IsSettled (world_step w e).after
-settled_step w e calm settled = elim settled [
-  | inl confirmed ↦ inl (calm_confirmed w e calm confirmed)
-  | inr without ↦ inr (directive_stays w e calm ∙ without)
-]
+pub settled_step : (w : World) → IsReached w → (e : Event) → IsCalm e → IsIdle w → IsSettled w
+    → IsSettled (world_step w e).after
+settled_step w g e calm idle settled =
+    let h = (known w g).holds in
+    settled_goes g.config w h.sound (h.session idle) e (calm_fits e calm) settled (calm_goes w e calm)
 
 -- ---- where a list of events leads
 

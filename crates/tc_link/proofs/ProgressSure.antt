@@ -53,7 +53,7 @@ steady_step w k e calm =
     record {
       going = going_step w k.going e calm;
       idle = idle_step w e calm k.idle;
-      settled = settled_step w e calm k.settled;
+      settled = settled_step w k.going e calm k.idle k.settled;
       checking = subst IsChecking (sym (directive_stays w e calm)) k.checking;
       two = rw (limit_stays w e calm) k.two;
     }
