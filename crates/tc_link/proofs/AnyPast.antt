@@ -5,7 +5,7 @@ use Rattle.tc_link.proofs.Common.{Verdict, Accepted, Directive, TmFault, Extract
 use Rattle.tc_link.proofs.Common.{World, new_world, world_step, world_run, inl, inr, GroundState}
 use Rattle.tc_link.proofs.Common.{SpacecraftState, SpacecraftOutcome, frame_outcome, body_outcome, sequence_outcome}
 use Rattle.tc_link.proofs.Common.{bypass_outcome, verdict_of, is_free, is_kept, limits_of, is_own_frame, with_fop}
-use Rattle.tc_link.proofs.Common.{after_extraction, telemetry_outcome, ap, sym, FarmState, FarmEvent, AdArrives}
+use Rattle.tc_link.proofs.Common.{telemetry_outcome, ap, sym, FarmState, FarmEvent, AdArrives}
 use Rattle.tc_link.proofs.Common.{farm_step, after_verdict, ◌∙◌}
 use Rattle.cop1.specs.declared.farm.Verdict.TheVariants.{Behind, Discarded}
 use Rattle.cop1.specs.Units.{FopState}

@@ -1,28 +1,20 @@
 -- The transmission count in an exchange, in any session.
-use Rattle.tc_link.proofs.Common.{eqb-false, or_parts, FopMode, ◌==◌, nat_lt, S6, ◌≡◌, ◌<◌, ◌≤◌, ◌⊎◌, inl, inr, ℕ}
-use Rattle.tc_link.proofs.Common.{Bool, true, false, List, [], ◌∷◌, Option, Some, None, Result, Ok, Err, refl, ap, sym}
-use Rattle.tc_link.proofs.Common.{subst, ◌∙◌, arith, cond_both, Clcw, SegmentView, Alert, CopFault, FopState}
-use Rattle.tc_link.proofs.Common.{FopOutcome, S1, S2, Directive, InitWithoutCheck, InitWithCheck, InitUnlock, InitSetVr}
-use Rattle.tc_link.proofs.Common.{begun, directive_step, clcw_step, report_while_active, retransmits}
+use Rattle.tc_link.proofs.Common.{◌≡◌, ◌<◌, ◌≤◌, ◌⊎◌, inl, inr}
+use Rattle.tc_link.proofs.Common.{Bool, true, false, Option, Some, None, refl, ap, sym}
+use Rattle.tc_link.proofs.Common.{subst, cond_both, Clcw, SegmentView, Alert, FopState}
+use Rattle.tc_link.proofs.Common.{FopOutcome, S1, S2}
+use Rattle.tc_link.proofs.Common.{clcw_step, retransmits}
 use Rattle.tc_link.proofs.Common.{after_new_value, heard_active, pull_step, pulled_out, tick_step, ticked, after_repeat}
-use Rattle.tc_link.proofs.Common.{after_stop, GroundState, refill_step, with_fop, after_extraction, telemetry_outcome}
-use Rattle.tc_link.proofs.Common.{TmFault, submit_fault, bypass_fault, after_submission, after_bypass, unless_refused}
-use Rattle.tc_link.proofs.Common.{LinkFault, directive_outcome, Event, World, WorldOutcome, new_world, world_step}
+use Rattle.tc_link.proofs.Common.{after_stop}
+use Rattle.tc_link.proofs.Common.{Event, World, WorldOutcome, world_step}
 use Rattle.tc_link.proofs.Common.{◌≢◌, goes_on}
-use Rattle.std.specs.Prelude.{◌||◌}
-use Rattle.cop1.specs.FopDirective.{obeys, from_S6, terminate_in}
-use Rattle.cop1.specs.declared.vocabulary.Directive.TheVariants.{Terminate, SetVs, SetWindow, SetLimit, SetTimer}
 use Rattle.std.proofs.lemmas.Bool.{lt-ltb}
 use Rattle.cop1.specs.FopTick.{tick_with, timer_ended, while_below}
 use Rattle.cop1.specs.Units.{is_none_sent}
-use Rattle.simulated_link.proofs.Unchanged.{AtEachLoss, lost, pulled, up_arrives, down_arrives}
-use Rattle.simulated_link.proofs.TelemetryCases.{reported, frame_seen}
-use Rattle.tm_link.specs.Layout as telemetry
-use Rattle.tm_link.specs.Decoding as telemetry_reading
+use Rattle.simulated_link.proofs.Unchanged.{pulled, up_arrives}
+use Rattle.simulated_link.proofs.TelemetryCases.{reported}
 use Rattle.nodes.specs.declared.event.Event.TheVariants as events
 use Rattle.tc_link.specs.Progress.{are_marked}
-use Rattle.tc_link.proofs.Refilled.{refilled_keeps}
-use Rattle.tc_link.proofs.ProgressNodes.{with_same}
 use Rattle.tc_link.proofs.ProgressRuns.{IsCalm, no_directive}
 use Rattle.tc_link.proofs.ProgressSender.{marked_all}
 use Rattle.tc_link.proofs.Senders.{with_kept, hears_kept, step_kept}

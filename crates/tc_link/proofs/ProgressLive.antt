@@ -1,27 +1,25 @@
 -- What progress rests on, at every moment of a run, in any session: the timer runs where a unit is sent and not
 -- acknowledged, what is pending moves up, and a receiver waits only where no buffer is free.
 use Rattle.tc_link.proofs.Common.{Control, Due, ◌≡◌, ◌≢◌, ◌≤◌, ◌⊎◌, inl, inr, ℕ, ◌-◌, Bool, true, false}
-use Rattle.tc_link.proofs.Common.{List, [], ◌∷◌, length, map, drop, Option, Some, None, refl, sym, ◌∙◌, arith, subst}
-use Rattle.tc_link.proofs.Common.{Result, Ok, Err, AllByRecursion, ◌==◌, nat_lt, cond_both, eqb-false, ltb-false}
-use Rattle.tc_link.proofs.Common.{length-append, Clcw, SegmentView, BodyView, Ad, Bd, Bc, ahead_by, Alert, CopFault}
+use Rattle.tc_link.proofs.Common.{List, [], ◌∷◌, length, drop, Option, Some, None, refl, sym, ◌∙◌, arith}
+use Rattle.tc_link.proofs.Common.{Result, ◌==◌, nat_lt, cond_both, eqb-false, ltb-false}
+use Rattle.tc_link.proofs.Common.{length-append, Clcw, SegmentView, BodyView, Ad, Bd, Bc, ahead_by}
 use Rattle.tc_link.proofs.Common.{FopMode, S1, S2, S3, S4, S5, S6, FopState, SentUnit, FopOutcome, IsActive}
-use Rattle.tc_link.proofs.Common.{without_oldest_mark, Idle, Sent, marked_unit, report_while_active, after_new_value}
+use Rattle.tc_link.proofs.Common.{without_oldest_mark, Idle, Sent, report_while_active, after_new_value}
 use Rattle.tc_link.proofs.Common.{retransmits, after_repeat, after_alert, after_stop, after_restart, after_count}
-use Rattle.tc_link.proofs.Common.{due_again, alerts, goes_on, tick_step, pull_step, pulled_out, clcw_step, heard_active}
+use Rattle.tc_link.proofs.Common.{due_again, alerts, goes_on, pull_step, pulled_out, clcw_step, heard_active}
 use Rattle.tc_link.proofs.Common.{directive_step, begun, Directive, InitWithoutCheck, InitWithCheck, InitUnlock}
 use Rattle.tc_link.proofs.Common.{InitSetVr, FarmMode, Open, Wait, FarmState, FlagsAgree, state_of, farm_step}
 use Rattle.tc_link.proofs.Common.{after_unlock, after_set_vr, after_release, BufferReleased, Verdict, Accepted, Ahead}
-use Rattle.tc_link.proofs.Common.{NoBuffer, Outside, verdict_of, GroundState, refill_step, with_fop, is_closed}
-use Rattle.tc_link.proofs.Common.{after_extraction, telemetry_outcome, submit_fault, bypass_fault, after_bypass}
-use Rattle.tc_link.proofs.Common.{after_submission, unless_refused, directive_outcome, TmFault, Config, LinkFault}
-use Rattle.tc_link.proofs.Common.{Event, PacketOn, IsConfig, SpacecraftState, SpacecraftOutcome, frame_outcome}
-use Rattle.tc_link.proofs.Common.{body_outcome, sequence_outcome, bypass_outcome, is_free, is_own_frame, is_kept}
+use Rattle.tc_link.proofs.Common.{NoBuffer, Outside, verdict_of}
+use Rattle.tc_link.proofs.Common.{TmFault}
+use Rattle.tc_link.proofs.Common.{Event, PacketOn, SpacecraftState, SpacecraftOutcome}
+use Rattle.tc_link.proofs.Common.{body_outcome, sequence_outcome, bypass_outcome, is_free, is_kept}
 use Rattle.tc_link.proofs.Common.{limits_of, spacecraft_take, spacecraft_take_bypass, spacecraft_telemetry, is_to_send}
-use Rattle.tc_link.proofs.Common.{TcFault, World, WorldOutcome, new_world, world_step, world_run, IsEvent, IsReached}
+use Rattle.tc_link.proofs.Common.{World, world_step}
 use Rattle.tc_link.proofs.Common.{Unlock, SetVr, or_parts}
 use Rattle.std.specs.Prelude.{◌||◌, nat_le, ◌/◌}
 use Rattle.std.proofs.Math.Seq.{drop-nil}
-use Rattle.tc_frame.specs.Layout.{FrameView}
 use Rattle.cop1.specs.declared.farm.FarmMode.TheVariants.{Lockout}
 use Rattle.cop1.specs.declared.farm.Verdict.TheVariants.{Behind, Discarded}
 use Rattle.cop1.specs.declared.vocabulary.Directive.TheVariants.{Terminate, SetVs, SetWindow, SetLimit, SetTimer}
@@ -31,18 +29,10 @@ use Rattle.cop1.specs.FopDirective.{obeys, from_S6, terminate_in}
 use Rattle.cop1.specs.FopReport.{ticks_for}
 use Rattle.cop1.specs.Units.{is_none_sent}
 use Rattle.cop1.specs.FopTick.{tick_with, timer_ended, while_below}
-use Rattle.nodes.specs.Ground.{after_moving_up}
 use Rattle.nodes.specs.Packets.{put_on_map}
 use Rattle.nodes.specs.Spacecraft.{assemble_step}
-use Rattle.simulated_link.proofs.Unchanged.{AtEachLoss, lost, pulled, up_arrives, down_arrives}
-use Rattle.simulated_link.proofs.TelemetryCases.{reported, frame_seen}
+use Rattle.simulated_link.proofs.TelemetryCases.{reported}
 use Rattle.tc_link.proofs.Senders.{hears_kept, step_kept}
-use Rattle.tc_link.proofs.Sound.{Sound}
-use Rattle.tc_link.proofs.SteadyWorld.{step_sound, new_sound}
-use Rattle.tc_frame.specs.Decoding as command
-use Rattle.tm_link.specs.Layout as telemetry
-use Rattle.tm_link.specs.Decoding as telemetry_reading
-use Rattle.nodes.specs.declared.event.Event.TheVariants as events
 
 -- ---- the sender's timer
 

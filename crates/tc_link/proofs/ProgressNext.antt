@@ -9,7 +9,7 @@ use Rattle.tc_link.proofs.Common.{Accepted, report_of, Config, IsConfig, FitsFra
 use Rattle.tc_link.proofs.Common.{GroundState, with_fop, unsent_segments, after_extraction, extract_step}
 use Rattle.tc_link.proofs.Common.{SpacecraftState, SpacecraftOutcome, spacecraft_take, spacecraft_report, body_outcome}
 use Rattle.tc_link.proofs.Common.{sequence_outcome, bypass_outcome, is_free, is_kept, limits_of, World, WorldOutcome}
-use Rattle.tc_link.proofs.Common.{world_step, world_after_pull, up_deliver_step, world_after_take, after_release}
+use Rattle.tc_link.proofs.Common.{world_step, world_after_pull, up_deliver_step, after_release}
 use Rattle.tc_link.proofs.Common.{state_of, BodyView}
 use Rattle.tc_link.proofs.Common.{IsReached}
 use Rattle.std.proofs.lemmas.Bool.{lt-ltb, false_from_ne_true}
@@ -21,7 +21,7 @@ use Rattle.cop1.specs.FopPull.{after_send_first, pulls, BypassPulled, SequencePu
 use Rattle.nodes.specs.declared.received.Received.{Received}
 use Rattle.nodes.specs.declared.event.Event.TheVariants as events
 use Rattle.tm_link.specs.Encoding as telemetry_writing
-use Rattle.tc_link.specs.Progress.{awaits, followed_by, all_sent, all_taken, next_arrived, all_arrived, reported}
+use Rattle.tc_link.specs.Progress.{awaits, all_sent, all_arrived, reported}
 use Rattle.tc_link.specs.Progress.{all_heard, are_marked, ticks_left, timer_run_out, round_trip, exchange}
 use Rattle.tc_link.proofs.Upward.{own_arrives}
 use Rattle.tc_link.proofs.Common.{active_on}
@@ -37,7 +37,7 @@ use Rattle.tc_link.proofs.ProgressNodes.{with_same, with_config, with_unsent, si
 use Rattle.tc_link.proofs.ProgressNodes.{has_numbers, heard_is, Taken, takes, arrives}
 use Rattle.tc_link.proofs.ProgressPull.{NextPull, bypasses, again, first, none, next_pull, Consecutive, next_number}
 use Rattle.tc_link.proofs.ProgressPull.{next_bypass, accepts_expected, Acknowledged, all_acknowledged}
-use Rattle.tc_link.proofs.ProgressRuns.{known, Ends, ends_then, ends_repeat, ends_times, ends_once, ends_so, ends_trip}
+use Rattle.tc_link.proofs.ProgressRuns.{known, Ends, ends_then, ends_repeat, ends_once, ends_so, ends_trip}
 use Rattle.tc_link.proofs.ProgressSender.{MarkedFrom, all_marked, marked_within, marked_push, HoldsNoMore, pull_no_more}
 use Rattle.tc_link.proofs.ProgressSender.{without_length, active_report}
 

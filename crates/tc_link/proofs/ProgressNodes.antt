@@ -3,7 +3,7 @@ use Rattle.tc_link.proofs.Common.{◌≡◌, ◌≢◌, ◌<◌, ◌≤◌, ℕ,
 use Rattle.tc_link.proofs.Common.{length-append, length-map, option_to_list, Clcw, SegmentView, ahead_by, FopState}
 use Rattle.tc_link.proofs.Common.{IsActive, units_of, extract_step, GroundState, with_fop, is_closed, unsent_segments}
 use Rattle.tc_link.proofs.Common.{World, world_step, down_deliver_step, IsReached, inr, zero, suc, [], PacketOn}
-use Rattle.tc_link.proofs.Common.{spacecraft_take, world_after_take, up_deliver_step}
+use Rattle.tc_link.proofs.Common.{spacecraft_take, up_deliver_step}
 use Rattle.nodes.specs.Ground.{outstanding}
 use Rattle.simulated_link.specs.World.{world_after_telemetry}
 use Rattle.tc_link.proofs.Common.{active_on}
@@ -11,7 +11,7 @@ use Rattle.tc_link.proofs.Downward.{used, used_is}
 use Rattle.tc_link.proofs.Linked.{Tells}
 use Rattle.tc_link.proofs.Common.{AllByRecursion}
 use Rattle.tc_link.proofs.ProgressNumbers.{IsOctetReport}
-use Rattle.tc_link.proofs.Common.{◌⊎◌, Option, Some, None, Ok, Config, Alert, Extracted, SpacecraftState, WorldOutcome}
+use Rattle.tc_link.proofs.Common.{◌⊎◌, Option, Some, None, Ok, Alert, Extracted, SpacecraftState, WorldOutcome}
 use Rattle.tc_link.proofs.Common.{FopOutcome, subst, sym, replicate}
 use Rattle.std.specs.Prelude.{IsSome}
 use Rattle.simulated_link.specs.Replies.{reply_to_alert}

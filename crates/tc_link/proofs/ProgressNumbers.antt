@@ -1,10 +1,10 @@
 -- The numbers of the sender, at every moment of a run, in any session: while it is on, those of the units that it sent
 -- are the ones from NN(R) to V(S) - 1; and all numbers are octets, those that are on their way too.
 use Rattle.tc_link.proofs.Common.{ap, ◌≡◌, ◌<◌, ◌≤◌, ℕ, ◌+◌, ◌%◌, Bool, true, false, List, [], ◌∷◌, ◌++◌, length, map}
-use Rattle.tc_link.proofs.Common.{drop, Option, Some, None, Result, Ok, Err, refl, sym, subst, ◌∙◌, arith, cond_both}
+use Rattle.tc_link.proofs.Common.{drop, Option, Some, None, Result, Ok, refl, sym, subst, ◌∙◌, arith, cond_both}
 use Rattle.tc_link.proofs.Common.{nat_lt, ltb-true, ltb-false, length-append, length-drop, length-map, AllByRecursion}
 use Rattle.tc_link.proofs.Common.{Clcw, On, SegmentView, SentUnit, BodyView, Ad, Bd, Bc, Command, Unlock, SetVr}
-use Rattle.tc_link.proofs.Common.{Control, Idle, Due, Sent, ahead_by, Alert, CopFault, Directive, InitWithoutCheck}
+use Rattle.tc_link.proofs.Common.{Control, Idle, Due, Sent, ahead_by, Directive, InitWithoutCheck}
 use Rattle.tc_link.proofs.Common.{InitWithCheck, InitUnlock, InitSetVr, is_initiation, begun, obeyed, directive_step}
 use Rattle.tc_link.proofs.Common.{FopState, FopOutcome, S1, S3, S6, clcw_step, report_while_active, after_move_on}
 use Rattle.tc_link.proofs.Common.{after_acknowledge, after_new_value, retransmits, heard_active, pull_step, pulled_out}
@@ -12,13 +12,12 @@ use Rattle.tc_link.proofs.Common.{PulledUnit, after_restart, without_oldest_mark
 use Rattle.tc_link.proofs.Common.{tick_step, ticked, after_repeat, after_stop, after_count, due_again, after_alert}
 use Rattle.tc_link.proofs.Common.{FarmState, FarmMode, Open, Wait, Verdict, Accepted, verdict_of, farm_step}
 use Rattle.tc_link.proofs.Common.{after_verdict, after_unlock, after_set_vr, after_release, BufferReleased, report_of}
-use Rattle.tc_link.proofs.Common.{Config, FitsFrame, frame_of, frame_to_send, GroundState, with_fop, is_closed}
-use Rattle.tc_link.proofs.Common.{refill_step, after_extraction, extract_step, submit_fault, bypass_fault}
-use Rattle.tc_link.proofs.Common.{after_submission, after_bypass, unless_refused, LinkFault, directive_outcome}
+use Rattle.tc_link.proofs.Common.{Config, FitsFrame, frame_of, frame_to_send, with_fop, is_closed}
+use Rattle.tc_link.proofs.Common.{after_extraction, extract_step}
 use Rattle.tc_link.proofs.Common.{IsDirective, IsEvent, PacketOn, SpacecraftState, SpacecraftOutcome, body_outcome}
 use Rattle.tc_link.proofs.Common.{sequence_outcome, bypass_outcome, is_free, is_kept, limits_of, spacecraft_take}
-use Rattle.tc_link.proofs.Common.{spacecraft_take_bypass, spacecraft_telemetry, is_to_send, Event, IsReached, World}
-use Rattle.tc_link.proofs.Common.{WorldOutcome, new_world, world_step, world_run, world_after_pull, up_deliver_step}
+use Rattle.tc_link.proofs.Common.{spacecraft_take_bypass, spacecraft_telemetry, is_to_send, Event, World}
+use Rattle.tc_link.proofs.Common.{WorldOutcome, new_world, world_step, world_after_pull, up_deliver_step}
 use Rattle.tc_link.proofs.Common.{down_deliver_step, TmFault}
 use Rattle.tc_frame.specs.Decoding.{frame_at}
 use Rattle.tc_frame.specs.Encoding.{spelling}
@@ -34,7 +33,7 @@ use Rattle.tc_link.proofs.Upward.{own_arrives}
 use Rattle.tc_link.proofs.Common.{closed_not, active_on}
 use Rattle.tc_link.proofs.FitFrames.{moved}
 use Rattle.tc_link.proofs.Downward.{used_is}
-use Rattle.tc_link.proofs.Invariant.{Holding, step_holds, new_holds}
+use Rattle.tc_link.proofs.Invariant.{Holding}
 use Rattle.tc_link.proofs.Linked.{Tells}
 use Rattle.tm_link.specs.Encoding as telemetry_writing
 use Rattle.tc_link.proofs.Common.{spacecraft_report}

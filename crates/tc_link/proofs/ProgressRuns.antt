@@ -1,10 +1,9 @@
 -- How schedules are put together: an alert comes in one of their parts, or each leads to what the next one starts from.
-use Rattle.tc_link.proofs.Common.{◌≡◌, ◌⊎◌, inl, inr, ℕ, zero, suc, true, List, [], ◌∷◌, ◌++◌}
-use Rattle.tc_link.proofs.Common.{refl, ap, sym, subst, ◌∙◌, replicate, Config, Event, World}
-use Rattle.tc_link.proofs.Common.{WorldOutcome, world_step, world_run, IsIdle, IsSettled, IsReached, IsEvent}
+use Rattle.tc_link.proofs.Common.{◌≡◌, ◌⊎◌, inl, inr, ℕ, zero, suc, List, [], ◌∷◌, ◌++◌}
+use Rattle.tc_link.proofs.Common.{refl, ap, sym, subst, replicate, Config, Event, World}
+use Rattle.tc_link.proofs.Common.{world_step, world_run, IsIdle, IsSettled, IsReached, IsEvent}
 use Rattle.tc_link.proofs.Common.{arith, new_world, AllByRecursion, BeginsNoSession, option_map, Opening, directive_of}
 use Rattle.std.specs.Prelude.{IsSome}
-use Rattle.simulated_link.proofs.Unchanged.{pulled, up_arrives, down_arrives}
 use Rattle.tc_link.specs.FalseAlarms.{alert_in}
 use Rattle.tc_link.specs.Progress.{Schedule, followed_by, times, AlertsIn, all_sent, all_arrived, all_taken, reported}
 use Rattle.tc_link.specs.Progress.{all_heard, round_trip}

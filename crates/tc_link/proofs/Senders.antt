@@ -1,9 +1,9 @@
 -- What is so of the sender alone, whatever it queues, and stays so with each event.
-use Rattle.tc_link.proofs.Common.{◌≡◌, ℕ, ◌++◌, List, ◌∷◌, Option, Some, None, Result, Ok, Err, refl, SegmentView}
+use Rattle.tc_link.proofs.Common.{◌≡◌, ℕ, ◌++◌, List, Option, Some, None, Result, Ok, Err, refl, SegmentView}
 use Rattle.tc_link.proofs.Common.{Clcw, CopFault, Alert, Directive, FopState, clcw_step, directive_step, pull_step}
 use Rattle.tc_link.proofs.Common.{tick_step, GroundState, with_fop, segments_on, submit_fault, bypass_fault, LinkFault}
 use Rattle.tc_link.proofs.Common.{after_submission, after_bypass, unless_refused, directive_outcome, after_extraction}
-use Rattle.tc_link.proofs.Common.{Event, World, WorldOutcome, world_step, down_deliver_step}
+use Rattle.tc_link.proofs.Common.{Event, World, WorldOutcome, world_step}
 use Rattle.simulated_link.proofs.TelemetryCases.{frame_seen}
 use Rattle.simulated_link.proofs.Unchanged.{AtEachLoss, lost, pulled, up_arrives, down_arrives}
 use Rattle.tm_link.specs.Decoding as telemetry_reading
