@@ -1,7 +1,6 @@
 -- Progress: exchanges end with an alert, or with all delivered.
-use Rattle.tc_link.proofs.Common.{sym, subst, ◌∙◌, ◌≡◌, ◌≤◌, inl, inr, ℕ, zero, suc, ◌-◌, ◌*◌, []}
-use Rattle.tc_link.proofs.Common.{refl, arith, S1, IsActive, World, world_run}
-use Rattle.tc_link.proofs.Common.{IsReached}
+use Rattle.tc_link.proofs.Common.{sym, subst, ◌∙◌, ◌≡◌, ◌≤◌, inl, inr, ℕ, zero, suc, ◌-◌, ◌*◌, [], refl, arith, S1}
+use Rattle.tc_link.proofs.Common.{IsActive, World, world_run, IsReached}
 use Rattle.std.proofs.lemmas.List.{nil_from_length}
 use Rattle.nodes.specs.Ground.{outstanding}
 use Rattle.tc_link.specs.Progress.{times, exchange, EachMakesProgress, EachAcknowledges}
@@ -10,8 +9,7 @@ use Rattle.tc_link.proofs.ProgressFirst.{Ready, ReadyWith, first_exchange}
 use Rattle.tc_link.proofs.ProgressNodes.{size, size_is, IsBounded}
 use Rattle.tc_link.proofs.ProgressLists.{idle_after}
 use Rattle.tc_link.proofs.ProgressNext.{next_exchange}
-use Rattle.tc_link.proofs.ProgressRuns.{alerts_first, alerts_then, run_append, Ends, ends_then, ends_times}
-use Rattle.tc_link.proofs.ProgressRuns.{ends_so}
+use Rattle.tc_link.proofs.ProgressRuns.{alerts_first, alerts_then, run_append, Ends, ends_then, ends_times, ends_so}
 
 module _ (k : ℕ) where
   -- the link is ready, and the ground holds no more than so many windows

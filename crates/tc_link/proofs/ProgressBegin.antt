@@ -6,8 +6,8 @@ use Rattle.tc_link.proofs.Common.{subst, ◌∙◌, arith, length-append, cond_b
 use Rattle.tc_link.proofs.Common.{SegmentView, Alert, NnR, Synch, Control, Idle, Due, Sent, FopState, FopOutcome}
 use Rattle.tc_link.proofs.Common.{FopMode, S1, S2, S4, S5, IsActive, locks, waits, asks, confirms, clcw_step, report_in}
 use Rattle.tc_link.proofs.Common.{pull_step, pulled_out, tick_step, ticked, after_stop, after_count, due_again, goes_on}
-use Rattle.tc_link.proofs.Common.{alerts, GroundState, with_fop, after_extraction, World, WorldOutcome}
-use Rattle.tc_link.proofs.Common.{world_step, world_run, is_initialising, spacecraft_report}
+use Rattle.tc_link.proofs.Common.{alerts, GroundState, with_fop, after_extraction, World, WorldOutcome, world_step}
+use Rattle.tc_link.proofs.Common.{world_run, is_initialising, spacecraft_report}
 use Rattle.tm_link.specs.Encoding as telemetry_writing
 use Rattle.std.specs.Prelude.{IsSome}
 use Rattle.std.proofs.lemmas.Bool.{ltb-true}
@@ -19,14 +19,13 @@ use Rattle.nodes.specs.Ground.{outstanding}
 use Rattle.simulated_link.proofs.Unchanged.{pulled}
 use Rattle.nodes.specs.declared.event.Event.TheVariants as events
 use Rattle.tc_link.specs.FalseAlarms.{alert_in}
-use Rattle.tc_link.specs.Progress.{times, most_sent, all_sent, reported, all_heard}
-use Rattle.tc_link.specs.Progress.{are_marked, ticks_left, awaits, timer_run_out, round_trip, exchange, AlertsIn}
-use Rattle.tc_link.specs.Progress.{EachBegins, EachEnds, IsDone}
-use Rattle.tc_link.proofs.ProgressNodes.{Arrived, Taken, ground_takes, ground_arrives, ends_ticks, oldest_heard, alerted}
+use Rattle.tc_link.specs.Progress.{times, most_sent, all_sent, reported, all_heard, are_marked, ticks_left, awaits}
+use Rattle.tc_link.specs.Progress.{timer_run_out, round_trip, exchange, AlertsIn, EachBegins, EachEnds, IsDone}
+use Rattle.tc_link.proofs.ProgressNodes.{Arrived, Taken, ground_takes, ground_arrives, ends_ticks, oldest_heard}
+use Rattle.tc_link.proofs.ProgressNodes.{alerted, with_same}
 use Rattle.tc_link.proofs.ProgressFirst.{holds_more}
 use Rattle.tc_link.proofs.Progress.{each_makes_progress}
 use Rattle.tc_link.proofs.ProgressLists.{idle_run, exchange_calm}
-use Rattle.tc_link.proofs.ProgressNodes.{with_same}
 use Rattle.tc_link.proofs.ProgressLive.{IsDueNow, Running}
 use Rattle.tc_link.proofs.ProgressRuns.{ends_trip, known, Ends, ends_then, ends_repeat, ends_once, alerts_first}
 use Rattle.tc_link.proofs.ProgressRuns.{alerts_then, run_append, ends_so}

@@ -1,13 +1,8 @@
 -- The transmission count in an exchange, in any session.
-use Rattle.tc_link.proofs.Common.{◌≡◌, ◌<◌, ◌≤◌, ◌⊎◌, inl, inr}
-use Rattle.tc_link.proofs.Common.{Bool, true, false, Option, Some, None, refl, ap, sym}
-use Rattle.tc_link.proofs.Common.{subst, cond_both, Clcw, SegmentView, Alert, FopState}
-use Rattle.tc_link.proofs.Common.{FopOutcome, S1, S2}
-use Rattle.tc_link.proofs.Common.{clcw_step, retransmits}
-use Rattle.tc_link.proofs.Common.{after_new_value, heard_active, pull_step, pulled_out, tick_step, ticked, after_repeat}
-use Rattle.tc_link.proofs.Common.{after_stop}
-use Rattle.tc_link.proofs.Common.{Event, World, WorldOutcome, world_step}
-use Rattle.tc_link.proofs.Common.{◌≢◌, goes_on}
+use Rattle.tc_link.proofs.Common.{◌≡◌, ◌<◌, ◌≤◌, ◌⊎◌, inl, inr, Bool, true, false, Option, Some, None, refl, ap, sym}
+use Rattle.tc_link.proofs.Common.{subst, cond_both, Clcw, SegmentView, Alert, FopState, FopOutcome, S1, S2, clcw_step}
+use Rattle.tc_link.proofs.Common.{retransmits, after_new_value, heard_active, pull_step, pulled_out, tick_step, ticked}
+use Rattle.tc_link.proofs.Common.{after_repeat, after_stop, Event, World, WorldOutcome, world_step, ◌≢◌, goes_on}
 use Rattle.std.proofs.lemmas.Bool.{lt-ltb}
 use Rattle.cop1.specs.FopTick.{tick_with, timer_ended, while_below}
 use Rattle.cop1.specs.Units.{is_none_sent}

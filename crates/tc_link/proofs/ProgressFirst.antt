@@ -1,12 +1,11 @@
 -- An exchange from any moment: an alert comes, or the link is ready: nothing is on its way, NN(R) is V(R), and all
 -- that is not acknowledged is to be sent again.
 use Rattle.tc_link.proofs.Common.{not, ◌≡◌, ◌≢◌, ◌≤◌, ◌⊎◌, inl, inr, ℕ, zero, suc, true, false, List, [], ◌∷◌, ◌++◌}
-use Rattle.tc_link.proofs.Common.{length, Option, Some, refl, ap, sym, subst, ◌∙◌, arith, length-append}
-use Rattle.tc_link.proofs.Common.{cond_both, replicate, Clcw, SegmentView, marked_unit, FopState, S1, S2, IsActive}
-use Rattle.tc_link.proofs.Common.{clcw_step, locks, waits, asks, pull_step, tick_step, after_repeat, after_stop, Open}
-use Rattle.tc_link.proofs.Common.{FarmState, FlagsAgree, report_of, extract_step, GroundState, with_fop}
-use Rattle.tc_link.proofs.Common.{after_extraction, spacecraft_report, World, WorldOutcome, world_step, FopOutcome}
-use Rattle.tc_link.proofs.Common.{Alert, length-map}
+use Rattle.tc_link.proofs.Common.{length, Option, Some, refl, ap, sym, subst, ◌∙◌, arith, length-append, cond_both}
+use Rattle.tc_link.proofs.Common.{replicate, Clcw, SegmentView, marked_unit, FopState, S1, S2, IsActive, clcw_step}
+use Rattle.tc_link.proofs.Common.{locks, waits, asks, pull_step, tick_step, after_repeat, after_stop, Open, FarmState}
+use Rattle.tc_link.proofs.Common.{FlagsAgree, report_of, extract_step, GroundState, with_fop, after_extraction}
+use Rattle.tc_link.proofs.Common.{spacecraft_report, World, WorldOutcome, world_step, FopOutcome, Alert, length-map}
 use Rattle.tc_link.proofs.Common.{IsReached}
 use Rattle.std.specs.Prelude.{IsSome}
 use Rattle.std.proofs.lemmas.Bool.{false_from_ne_true, not-true, not-false}
@@ -15,14 +14,13 @@ use Rattle.simulated_link.proofs.Unchanged.{pulled}
 use Rattle.nodes.specs.declared.event.Event.TheVariants as events
 use Rattle.tm_link.specs.Encoding as telemetry_writing
 use Rattle.tc_link.specs.FalseAlarms.{alert_in}
-use Rattle.tc_link.specs.Progress.{awaits, most_sent, all_sent, reported}
-use Rattle.tc_link.specs.Progress.{all_heard, are_marked, ticks_left, timer_run_out, round_trip, exchange}
+use Rattle.tc_link.specs.Progress.{awaits, most_sent, all_sent, reported, all_heard, are_marked, ticks_left}
+use Rattle.tc_link.specs.Progress.{timer_run_out, round_trip, exchange}
 use Rattle.tc_link.proofs.Downward.{used}
 use Rattle.tc_link.proofs.Linked.{Tells}
-use Rattle.tc_link.proofs.ReportFrames.{tells_now}
-use Rattle.tc_link.proofs.ReportFrames.{flags_are}
-use Rattle.tc_link.proofs.ProgressNodes.{Arrived, Taken, ground_takes, ground_arrives, ends_ticks, oldest_heard, alerted}
-use Rattle.tc_link.proofs.ProgressNodes.{with_same, with_config, IsBounded, bounded, HasNumbers, has_numbers}
+use Rattle.tc_link.proofs.ReportFrames.{tells_now, flags_are}
+use Rattle.tc_link.proofs.ProgressNodes.{Arrived, Taken, ground_takes, ground_arrives, ends_ticks, oldest_heard}
+use Rattle.tc_link.proofs.ProgressNodes.{alerted, with_same, with_config, IsBounded, bounded, HasNumbers, has_numbers}
 use Rattle.tc_link.proofs.ProgressNodes.{some_sent, heard_is}
 use Rattle.tc_link.proofs.ProgressRuns.{going_step, known, Ends, ends_then, ends_repeat, ends_once, ends_trip}
 use Rattle.tc_link.proofs.ProgressSender.{Obeys, heard_fresh, HoldsNoMore, pull_no_more, report_holds, active_report}

@@ -1,11 +1,10 @@
 -- The events of an exchange, and that a session goes on with them.
-use Rattle.tc_link.proofs.Common.{◌≢◌, ℕ, zero, suc, List, [], ◌∷◌, length, replicate, cond_both}
-use Rattle.tc_link.proofs.Common.{AllByRecursion, Event, World, world_step, world_run, IsIdle}
+use Rattle.tc_link.proofs.Common.{◌≢◌, ℕ, zero, suc, List, [], ◌∷◌, length, replicate, cond_both, AllByRecursion, Event}
+use Rattle.tc_link.proofs.Common.{World, world_step, world_run, IsIdle}
 use Rattle.nodes.specs.declared.event.Event.TheVariants as events
-use Rattle.tc_link.specs.Progress.{awaits, most_sent}
-use Rattle.tc_link.specs.Progress.{Schedule, followed_by, times, all_sent, all_taken, next_arrived, all_arrived}
-use Rattle.tc_link.specs.Progress.{reported}
-use Rattle.tc_link.specs.Progress.{all_heard, are_marked, ticks_left, timer_run_out, round_trip, exchange}
+use Rattle.tc_link.specs.Progress.{awaits, most_sent, Schedule, followed_by, times, all_sent, all_taken, next_arrived}
+use Rattle.tc_link.specs.Progress.{all_arrived, reported, all_heard, are_marked, ticks_left, timer_run_out, round_trip}
+use Rattle.tc_link.specs.Progress.{exchange}
 use Rattle.tc_link.proofs.Submissions.{all_append}
 use Rattle.tc_link.proofs.ProgressRuns.{IsCalm, idle_step}
 

@@ -1,23 +1,19 @@
 -- What progress rests on, at every moment of a run, in any session: the timer runs where a unit is sent and not
 -- acknowledged, what is pending moves up, and a receiver waits only where no buffer is free.
-use Rattle.tc_link.proofs.Common.{Control, Due, ◌≡◌, ◌≢◌, ◌≤◌, ◌⊎◌, inl, inr, ℕ, ◌-◌, Bool, true, false}
-use Rattle.tc_link.proofs.Common.{List, [], ◌∷◌, length, drop, Option, Some, None, refl, sym, ◌∙◌, arith}
-use Rattle.tc_link.proofs.Common.{Result, ◌==◌, nat_lt, cond_both, eqb-false, ltb-false}
-use Rattle.tc_link.proofs.Common.{length-append, Clcw, SegmentView, BodyView, Ad, Bd, Bc, ahead_by}
-use Rattle.tc_link.proofs.Common.{FopMode, S1, S2, S3, S4, S5, S6, FopState, SentUnit, FopOutcome, IsActive}
-use Rattle.tc_link.proofs.Common.{without_oldest_mark, Idle, Sent, report_while_active, after_new_value}
+use Rattle.tc_link.proofs.Common.{Control, Due, ◌≡◌, ◌≢◌, ◌≤◌, ◌⊎◌, inl, inr, ℕ, ◌-◌, Bool, true, false, List, [], ◌∷◌}
+use Rattle.tc_link.proofs.Common.{length, drop, Option, Some, None, refl, sym, ◌∙◌, arith, Result, ◌==◌, nat_lt}
+use Rattle.tc_link.proofs.Common.{cond_both, eqb-false, ltb-false, length-append, Clcw, SegmentView, BodyView, Ad, Bd}
+use Rattle.tc_link.proofs.Common.{Bc, ahead_by, FopMode, S1, S2, S3, S4, S5, S6, FopState, SentUnit, FopOutcome}
+use Rattle.tc_link.proofs.Common.{IsActive, without_oldest_mark, Idle, Sent, report_while_active, after_new_value}
 use Rattle.tc_link.proofs.Common.{retransmits, after_repeat, after_alert, after_stop, after_restart, after_count}
 use Rattle.tc_link.proofs.Common.{due_again, alerts, goes_on, pull_step, pulled_out, clcw_step, heard_active}
 use Rattle.tc_link.proofs.Common.{directive_step, begun, Directive, InitWithoutCheck, InitWithCheck, InitUnlock}
 use Rattle.tc_link.proofs.Common.{InitSetVr, FarmMode, Open, Wait, FarmState, FlagsAgree, state_of, farm_step}
 use Rattle.tc_link.proofs.Common.{after_unlock, after_set_vr, after_release, BufferReleased, Verdict, Accepted, Ahead}
-use Rattle.tc_link.proofs.Common.{NoBuffer, Outside, verdict_of}
-use Rattle.tc_link.proofs.Common.{TmFault}
-use Rattle.tc_link.proofs.Common.{Event, PacketOn, SpacecraftState, SpacecraftOutcome}
-use Rattle.tc_link.proofs.Common.{body_outcome, sequence_outcome, bypass_outcome, is_free, is_kept}
+use Rattle.tc_link.proofs.Common.{NoBuffer, Outside, verdict_of, TmFault, Event, PacketOn, SpacecraftState}
+use Rattle.tc_link.proofs.Common.{SpacecraftOutcome, body_outcome, sequence_outcome, bypass_outcome, is_free, is_kept}
 use Rattle.tc_link.proofs.Common.{limits_of, spacecraft_take, spacecraft_take_bypass, spacecraft_telemetry, is_to_send}
-use Rattle.tc_link.proofs.Common.{World, world_step}
-use Rattle.tc_link.proofs.Common.{Unlock, SetVr, or_parts}
+use Rattle.tc_link.proofs.Common.{World, world_step, Unlock, SetVr, or_parts}
 use Rattle.std.specs.Prelude.{◌||◌, nat_le, ◌/◌}
 use Rattle.std.proofs.Math.Seq.{drop-nil}
 use Rattle.cop1.specs.declared.farm.FarmMode.TheVariants.{Lockout}

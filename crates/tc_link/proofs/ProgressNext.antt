@@ -9,9 +9,8 @@ use Rattle.tc_link.proofs.Common.{Accepted, report_of, Config, IsConfig, FitsFra
 use Rattle.tc_link.proofs.Common.{GroundState, with_fop, unsent_segments, after_extraction, extract_step}
 use Rattle.tc_link.proofs.Common.{SpacecraftState, SpacecraftOutcome, spacecraft_take, spacecraft_report, body_outcome}
 use Rattle.tc_link.proofs.Common.{sequence_outcome, bypass_outcome, is_free, is_kept, limits_of, World, WorldOutcome}
-use Rattle.tc_link.proofs.Common.{world_step, world_after_pull, up_deliver_step, after_release}
-use Rattle.tc_link.proofs.Common.{state_of, BodyView}
-use Rattle.tc_link.proofs.Common.{IsReached}
+use Rattle.tc_link.proofs.Common.{world_step, world_after_pull, up_deliver_step, after_release, state_of, BodyView}
+use Rattle.tc_link.proofs.Common.{IsReached, active_on}
 use Rattle.std.proofs.lemmas.Bool.{lt-ltb, false_from_ne_true}
 use Rattle.std.proofs.lemmas.List.{nil_from_length}
 use Rattle.tc_frame.specs.Decoding.{frame_at}
@@ -21,17 +20,15 @@ use Rattle.cop1.specs.FopPull.{after_send_first, pulls, BypassPulled, SequencePu
 use Rattle.nodes.specs.declared.received.Received.{Received}
 use Rattle.nodes.specs.declared.event.Event.TheVariants as events
 use Rattle.tm_link.specs.Encoding as telemetry_writing
-use Rattle.tc_link.specs.Progress.{awaits, all_sent, all_arrived, reported}
-use Rattle.tc_link.specs.Progress.{all_heard, are_marked, ticks_left, timer_run_out, round_trip, exchange}
+use Rattle.tc_link.specs.Progress.{awaits, all_sent, all_arrived, reported, all_heard, are_marked, ticks_left}
+use Rattle.tc_link.specs.Progress.{timer_run_out, round_trip, exchange}
 use Rattle.tc_link.proofs.Upward.{own_arrives}
-use Rattle.tc_link.proofs.Common.{active_on}
 use Rattle.tc_link.proofs.FitFrames.{moved}
 use Rattle.tc_link.proofs.Linked.{Tells}
 use Rattle.tc_link.proofs.Lists.{oldest_stands}
-use Rattle.tc_link.proofs.ReportFrames.{tells_now}
+use Rattle.tc_link.proofs.ReportFrames.{tells_now, flags_are}
 use Rattle.tc_link.proofs.Sound.{Commanded}
 use Rattle.tc_link.proofs.Spelled.{reads_back, fits_at}
-use Rattle.tc_link.proofs.ReportFrames.{flags_are}
 use Rattle.tc_link.proofs.ProgressFirst.{awaits_so, Ready}
 use Rattle.tc_link.proofs.ProgressNodes.{with_same, with_config, with_unsent, size, size_is, IsBounded, bounded}
 use Rattle.tc_link.proofs.ProgressNodes.{has_numbers, heard_is, Taken, takes, arrives}

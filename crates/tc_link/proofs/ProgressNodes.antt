@@ -3,25 +3,22 @@ use Rattle.tc_link.proofs.Common.{◌≡◌, ◌≢◌, ◌<◌, ◌≤◌, ℕ,
 use Rattle.tc_link.proofs.Common.{length-append, length-map, option_to_list, Clcw, SegmentView, ahead_by, FopState}
 use Rattle.tc_link.proofs.Common.{IsActive, units_of, extract_step, GroundState, with_fop, is_closed, unsent_segments}
 use Rattle.tc_link.proofs.Common.{World, world_step, down_deliver_step, IsReached, inr, zero, suc, [], PacketOn}
-use Rattle.tc_link.proofs.Common.{spacecraft_take, up_deliver_step}
+use Rattle.tc_link.proofs.Common.{spacecraft_take, up_deliver_step, active_on, AllByRecursion, ◌⊎◌, Option, Some, None}
+use Rattle.tc_link.proofs.Common.{Ok, Alert, Extracted, SpacecraftState, WorldOutcome, FopOutcome, subst, sym}
+use Rattle.tc_link.proofs.Common.{replicate}
 use Rattle.nodes.specs.Ground.{outstanding}
 use Rattle.simulated_link.specs.World.{world_after_telemetry}
-use Rattle.tc_link.proofs.Common.{active_on}
 use Rattle.tc_link.proofs.Downward.{used, used_is}
 use Rattle.tc_link.proofs.Linked.{Tells}
-use Rattle.tc_link.proofs.Common.{AllByRecursion}
 use Rattle.tc_link.proofs.ProgressNumbers.{IsOctetReport}
-use Rattle.tc_link.proofs.Common.{◌⊎◌, Option, Some, None, Ok, Alert, Extracted, SpacecraftState, WorldOutcome}
-use Rattle.tc_link.proofs.Common.{FopOutcome, subst, sym, replicate}
 use Rattle.std.specs.Prelude.{IsSome}
 use Rattle.simulated_link.specs.Replies.{reply_to_alert}
 use Rattle.tc_link.specs.FalseAlarms.{alert_in}
-use Rattle.tc_link.specs.Progress.{ticks_left}
+use Rattle.tc_link.specs.Progress.{ticks_left, followed_by, all_taken, next_arrived, all_arrived}
 use Rattle.tc_link.proofs.ProgressLive.{Running}
 use Rattle.tc_link.proofs.Refilled.{refilled_keeps}
 use Rattle.tc_link.proofs.ProgressRuns.{known, Ends, ends_then, ends_repeat, ends_times, ends_once}
 use Rattle.tc_link.proofs.ProgressSender.{HoldsNoMore, tick_on}
-use Rattle.tc_link.specs.Progress.{followed_by, all_taken, next_arrived, all_arrived}
 use Rattle.nodes.specs.declared.event.Event.TheVariants as events
 
 -- ---- the wait queue is refilled

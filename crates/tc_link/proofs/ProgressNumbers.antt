@@ -1,24 +1,23 @@
 -- The numbers of the sender, at every moment of a run, in any session: while it is on, those of the units that it sent
 -- are the ones from NN(R) to V(S) - 1; and all numbers are octets, those that are on their way too.
 use Rattle.tc_link.proofs.Common.{ap, ◌≡◌, ◌<◌, ◌≤◌, ℕ, ◌+◌, ◌%◌, Bool, true, false, List, [], ◌∷◌, ◌++◌, length, map}
-use Rattle.tc_link.proofs.Common.{drop, Option, Some, None, Result, Ok, refl, sym, subst, ◌∙◌, arith, cond_both}
-use Rattle.tc_link.proofs.Common.{nat_lt, ltb-true, ltb-false, length-append, length-drop, length-map, AllByRecursion}
-use Rattle.tc_link.proofs.Common.{Clcw, On, SegmentView, SentUnit, BodyView, Ad, Bd, Bc, Command, Unlock, SetVr}
-use Rattle.tc_link.proofs.Common.{Control, Idle, Due, Sent, ahead_by, Directive, InitWithoutCheck}
-use Rattle.tc_link.proofs.Common.{InitWithCheck, InitUnlock, InitSetVr, is_initiation, begun, obeyed, directive_step}
-use Rattle.tc_link.proofs.Common.{FopState, FopOutcome, S1, S3, S6, clcw_step, report_while_active, after_move_on}
-use Rattle.tc_link.proofs.Common.{after_acknowledge, after_new_value, retransmits, heard_active, pull_step, pulled_out}
-use Rattle.tc_link.proofs.Common.{PulledUnit, after_restart, without_oldest_mark, unmarked_unit, marked_unit, units_of}
-use Rattle.tc_link.proofs.Common.{tick_step, ticked, after_repeat, after_stop, after_count, due_again, after_alert}
-use Rattle.tc_link.proofs.Common.{FarmState, FarmMode, Open, Wait, Verdict, Accepted, verdict_of, farm_step}
-use Rattle.tc_link.proofs.Common.{after_verdict, after_unlock, after_set_vr, after_release, BufferReleased, report_of}
-use Rattle.tc_link.proofs.Common.{Config, FitsFrame, frame_of, frame_to_send, with_fop, is_closed}
-use Rattle.tc_link.proofs.Common.{after_extraction, extract_step}
-use Rattle.tc_link.proofs.Common.{IsDirective, IsEvent, PacketOn, SpacecraftState, SpacecraftOutcome, body_outcome}
-use Rattle.tc_link.proofs.Common.{sequence_outcome, bypass_outcome, is_free, is_kept, limits_of, spacecraft_take}
-use Rattle.tc_link.proofs.Common.{spacecraft_take_bypass, spacecraft_telemetry, is_to_send, Event, World}
-use Rattle.tc_link.proofs.Common.{WorldOutcome, new_world, world_step, world_after_pull, up_deliver_step}
-use Rattle.tc_link.proofs.Common.{down_deliver_step, TmFault}
+use Rattle.tc_link.proofs.Common.{drop, Option, Some, None, Result, Ok, refl, sym, subst, ◌∙◌, arith, cond_both, nat_lt}
+use Rattle.tc_link.proofs.Common.{ltb-true, ltb-false, length-append, length-drop, length-map, AllByRecursion, Clcw, On}
+use Rattle.tc_link.proofs.Common.{SegmentView, SentUnit, BodyView, Ad, Bd, Bc, Command, Unlock, SetVr, Control, Idle}
+use Rattle.tc_link.proofs.Common.{Due, Sent, ahead_by, Directive, InitWithoutCheck, InitWithCheck, InitUnlock}
+use Rattle.tc_link.proofs.Common.{InitSetVr, is_initiation, begun, obeyed, directive_step, FopState, FopOutcome, S1, S3}
+use Rattle.tc_link.proofs.Common.{S6, clcw_step, report_while_active, after_move_on, after_acknowledge, after_new_value}
+use Rattle.tc_link.proofs.Common.{retransmits, heard_active, pull_step, pulled_out, PulledUnit, after_restart}
+use Rattle.tc_link.proofs.Common.{without_oldest_mark, unmarked_unit, marked_unit, units_of, tick_step, ticked}
+use Rattle.tc_link.proofs.Common.{after_repeat, after_stop, after_count, due_again, after_alert, FarmState, FarmMode}
+use Rattle.tc_link.proofs.Common.{Open, Wait, Verdict, Accepted, verdict_of, farm_step, after_verdict, after_unlock}
+use Rattle.tc_link.proofs.Common.{after_set_vr, after_release, BufferReleased, report_of, Config, FitsFrame, frame_of}
+use Rattle.tc_link.proofs.Common.{frame_to_send, with_fop, is_closed, after_extraction, extract_step, IsDirective}
+use Rattle.tc_link.proofs.Common.{IsEvent, PacketOn, SpacecraftState, SpacecraftOutcome, body_outcome, sequence_outcome}
+use Rattle.tc_link.proofs.Common.{bypass_outcome, is_free, is_kept, limits_of, spacecraft_take, spacecraft_take_bypass}
+use Rattle.tc_link.proofs.Common.{spacecraft_telemetry, is_to_send, Event, World, WorldOutcome, new_world, world_step}
+use Rattle.tc_link.proofs.Common.{world_after_pull, up_deliver_step, down_deliver_step, TmFault, closed_not, active_on}
+use Rattle.tc_link.proofs.Common.{spacecraft_report, FlagsAgree}
 use Rattle.tc_frame.specs.Decoding.{frame_at}
 use Rattle.tc_frame.specs.Encoding.{spelling}
 use Rattle.cop1.specs.declared.farm.FarmMode.TheVariants.{Lockout}
@@ -30,13 +29,11 @@ use Rattle.simulated_link.proofs.Unchanged.{AtEachLoss, lost, up_arrives, down_a
 use Rattle.simulated_link.proofs.TelemetryCases.{reported}
 use Rattle.nodes.specs.declared.event.Event.TheVariants as events
 use Rattle.tc_link.proofs.Upward.{own_arrives}
-use Rattle.tc_link.proofs.Common.{closed_not, active_on}
 use Rattle.tc_link.proofs.FitFrames.{moved}
 use Rattle.tc_link.proofs.Downward.{used_is}
 use Rattle.tc_link.proofs.Invariant.{Holding}
 use Rattle.tc_link.proofs.Linked.{Tells}
 use Rattle.tm_link.specs.Encoding as telemetry_writing
-use Rattle.tc_link.proofs.Common.{spacecraft_report}
 use Rattle.tc_link.proofs.Lists.{oldest_stands}
 use Rattle.tc_link.proofs.ReportFrames.{tells_now}
 use Rattle.tc_link.proofs.Senders.{with_kept, step_kept}
@@ -45,7 +42,6 @@ use Rattle.tc_link.proofs.Spelled.{Goes, reads_back, fits_at}
 use Rattle.tc_link.proofs.Submissions.{all_append}
 use Rattle.tc_link.proofs.ProgressSender.{without_length}
 use Rattle.tc_link.proofs.ProgressLive.{WaitsFull, body_full, taken_full, bypass_taken_full, queued_full}
-use Rattle.tc_link.proofs.Common.{FlagsAgree}
 
 -- ---- the sender
 

@@ -1,13 +1,12 @@
 -- What goes on the link next in an exchange, where what is not acknowledged is to be sent again: units with the
 -- numbers from NN(R) on, one after another; and how the receiver takes them.
-use Rattle.tc_link.proofs.Common.{◌≡◌, ◌<◌, ◌≤◌, ◌⊎◌, inl, inr, ℕ, suc, ◌+◌, ◌/◌, ◌%◌, Bool, true, false}
-use Rattle.tc_link.proofs.Common.{not, List, [], ◌∷◌, ◌++◌, length, Option, Some, None, Ok, refl, ap, sym, subst, ◌∙◌}
-use Rattle.tc_link.proofs.Common.{arith, nat_lt, ◌==◌, cond_both, eqb-true, ltb-true, ltb-false, Clcw}
-use Rattle.tc_link.proofs.Common.{On, SegmentView, Ad, Bd, ahead_by, FopState, FopOutcome, S1, S2}
-use Rattle.tc_link.proofs.Common.{Alert, Idle, oldest_marked, without_oldest_mark, PulledUnit}
-use Rattle.tc_link.proofs.Common.{pull_step, after_restart, report_while_active, locks, waits, asks, goes_on, alerts}
-use Rattle.tc_link.proofs.Common.{NnR, Synch, FarmState, Open, Accepted}
-use Rattle.tc_link.proofs.Common.{verdict_of, Config, frame_of, SentUnit}
+use Rattle.tc_link.proofs.Common.{◌≡◌, ◌<◌, ◌≤◌, ◌⊎◌, inl, inr, ℕ, suc, ◌+◌, ◌/◌, ◌%◌, Bool, true, false, not, List, []}
+use Rattle.tc_link.proofs.Common.{◌∷◌, ◌++◌, length, Option, Some, None, Ok, refl, ap, sym, subst, ◌∙◌, arith, nat_lt}
+use Rattle.tc_link.proofs.Common.{◌==◌, cond_both, eqb-true, ltb-true, ltb-false, Clcw, On, SegmentView, Ad, Bd}
+use Rattle.tc_link.proofs.Common.{ahead_by, FopState, FopOutcome, S1, S2, Alert, Idle, oldest_marked}
+use Rattle.tc_link.proofs.Common.{without_oldest_mark, PulledUnit, pull_step, after_restart, report_while_active, locks}
+use Rattle.tc_link.proofs.Common.{waits, asks, goes_on, alerts, NnR, Synch, FarmState, Open, Accepted, verdict_of}
+use Rattle.tc_link.proofs.Common.{Config, frame_of, SentUnit}
 use Rattle.std.specs.Prelude.{◌&&◌}
 use Rattle.std.proofs.lemmas.List.{drop_all}
 use Rattle.tc_frame.specs.Decoding.{frame_at}

@@ -1,8 +1,8 @@
 -- How schedules are put together: an alert comes in one of their parts, or each leads to what the next one starts from.
-use Rattle.tc_link.proofs.Common.{◌≡◌, ◌⊎◌, inl, inr, ℕ, zero, suc, List, [], ◌∷◌, ◌++◌}
-use Rattle.tc_link.proofs.Common.{refl, ap, sym, subst, replicate, Config, Event, World}
-use Rattle.tc_link.proofs.Common.{world_step, world_run, IsIdle, IsSettled, IsReached, IsEvent}
-use Rattle.tc_link.proofs.Common.{arith, new_world, AllByRecursion, BeginsNoSession, option_map, Opening, directive_of}
+use Rattle.tc_link.proofs.Common.{◌≡◌, ◌⊎◌, inl, inr, ℕ, zero, suc, List, [], ◌∷◌, ◌++◌, refl, ap, sym, subst}
+use Rattle.tc_link.proofs.Common.{replicate, Config, Event, World, world_step, world_run, IsIdle, IsSettled, IsReached}
+use Rattle.tc_link.proofs.Common.{IsEvent, arith, new_world, AllByRecursion, BeginsNoSession, option_map, Opening}
+use Rattle.tc_link.proofs.Common.{directive_of, Directive}
 use Rattle.std.specs.Prelude.{IsSome}
 use Rattle.tc_link.specs.FalseAlarms.{alert_in}
 use Rattle.tc_link.specs.Progress.{Schedule, followed_by, times, AlertsIn, all_sent, all_arrived, all_taken, reported}
@@ -12,7 +12,6 @@ use Rattle.tc_link.proofs.ProgressLive.{Timed, timed_empty, timed_step}
 use Rattle.tc_link.proofs.ProgressNumbers.{HasOctets, step_octets, new_octets}
 use Rattle.tc_link.proofs.OneLink.{settled_goes}
 use Rattle.tc_link.proofs.Promised.{reached_step}
-use Rattle.tc_link.proofs.Common.{Directive}
 use Rattle.nodes.specs.declared.event.Event.TheVariants as events
 
 -- ---- a session goes on

@@ -2,9 +2,9 @@
 -- limit.
 use Rattle.tc_link.proofs.Common.{IsReached, IsActive, not, true, ◌∙◌, IsIdle, IsSettled, ◌≡◌, ◌≤◌, ◌⊎◌, inl, inr, ℕ}
 use Rattle.tc_link.proofs.Common.{zero, suc, ◌-◌, ◌*◌, List, [], ◌∷◌, ◌++◌, length, Option, Some, None, Ok, refl, ap}
-use Rattle.tc_link.proofs.Common.{sym, subst, arith, cond_both, replicate, AllByRecursion, Alert, NnR}
-use Rattle.tc_link.proofs.Common.{Synch, Limit, FopState, S1, S2, FopOutcome, tick_step, with_fop, Event, World}
-use Rattle.tc_link.proofs.Common.{world_step, world_run, directive_of, IsChecking}
+use Rattle.tc_link.proofs.Common.{sym, subst, arith, cond_both, replicate, AllByRecursion, Alert, NnR, Synch, Limit}
+use Rattle.tc_link.proofs.Common.{FopState, S1, S2, FopOutcome, tick_step, with_fop, Event, World, world_step}
+use Rattle.tc_link.proofs.Common.{world_run, directive_of, IsChecking}
 use Rattle.std.specs.Prelude.{IsSome}
 use Rattle.cop1.specs.declared.vocabulary.Alert.TheVariants.{Lockout, Clcw as ClcwAlert, Timer, Terminated}
 use Rattle.simulated_link.specs.Replies.{reply_to_alert}
@@ -17,15 +17,13 @@ use Rattle.tc_link.proofs.Early.{early_off}
 use Rattle.tc_link.proofs.Invariant.{reached_holds}
 use Rattle.tc_link.proofs.Promised.{promised_of}
 use Rattle.tc_link.proofs.Progress.{each_makes_progress}
-use Rattle.tc_link.proofs.ProgressCount.{limit_stays, IsBelow, IsFine, IsBefore, step_below, hears_fine}
-use Rattle.tc_link.proofs.ProgressCount.{ends_silent}
+use Rattle.tc_link.proofs.ProgressCount.{limit_stays, IsBelow, IsFine, IsBefore, step_below, hears_fine, ends_silent}
 use Rattle.tc_link.proofs.ProgressFirst.{awaits_so, Quiet, Ready, ReadyWith, Heard, first_round_trip, first_exchange}
 use Rattle.tc_link.proofs.ProgressNodes.{with_same, IsBounded}
-use Rattle.tc_link.proofs.ProgressLists.{befores_are, IsTalk, talks_calm}
-use Rattle.tc_link.proofs.ProgressLists.{trip_talks, timer_calm}
+use Rattle.tc_link.proofs.ProgressLists.{befores_are, IsTalk, talks_calm, trip_talks, timer_calm}
 use Rattle.tc_link.proofs.ProgressNext.{Advanced, next_round_trip, next_exchange}
-use Rattle.tc_link.proofs.ProgressRuns.{going_step, IsCalm, calm_fits, run_append, Ends, directive_stays}
-use Rattle.tc_link.proofs.ProgressRuns.{known, idle_step, settled_step}
+use Rattle.tc_link.proofs.ProgressRuns.{going_step, IsCalm, calm_fits, run_append, Ends, directive_stays, known}
+use Rattle.tc_link.proofs.ProgressRuns.{idle_step, settled_step}
 use Rattle.tc_link.proofs.ProgressSender.{tick_on}
 
 -- ---- alerts

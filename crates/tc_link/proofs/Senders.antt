@@ -1,7 +1,7 @@
 -- What is so of the sender alone, whatever it queues, and stays so with each event.
-use Rattle.tc_link.proofs.Common.{◌≡◌, ℕ, ◌++◌, List, Option, Some, None, Result, Ok, Err, refl, SegmentView}
-use Rattle.tc_link.proofs.Common.{Clcw, CopFault, Alert, Directive, FopState, clcw_step, directive_step, pull_step}
-use Rattle.tc_link.proofs.Common.{tick_step, GroundState, with_fop, segments_on, submit_fault, bypass_fault, LinkFault}
+use Rattle.tc_link.proofs.Common.{◌≡◌, ℕ, ◌++◌, List, Option, Some, None, Result, Ok, Err, refl, SegmentView, Clcw}
+use Rattle.tc_link.proofs.Common.{CopFault, Alert, Directive, FopState, clcw_step, directive_step, pull_step, tick_step}
+use Rattle.tc_link.proofs.Common.{GroundState, with_fop, segments_on, submit_fault, bypass_fault, LinkFault}
 use Rattle.tc_link.proofs.Common.{after_submission, after_bypass, unless_refused, directive_outcome, after_extraction}
 use Rattle.tc_link.proofs.Common.{Event, World, WorldOutcome, world_step}
 use Rattle.simulated_link.proofs.TelemetryCases.{frame_seen}
