@@ -8,6 +8,7 @@ use Rattle.tc_link.proofs.Common.{FlagsAgree, report_of, extract_step, GroundSta
 use Rattle.tc_link.proofs.Common.{spacecraft_report, World, WorldOutcome, world_step, FopOutcome, Alert, length-map}
 use Rattle.tc_link.proofs.Common.{IsReached}
 use Rattle.std.specs.Prelude.{IsSome}
+use Rattle.std.proofs.lemmas.List.{nil_from_length}
 use Rattle.std.proofs.lemmas.Bool.{false_from_ne_true, not-true, not-false}
 use Rattle.simulated_link.specs.World.{world_after_telemetry}
 use Rattle.simulated_link.proofs.Unchanged.{pulled}
@@ -83,10 +84,6 @@ module _ (most k : ℕ) where
   abbrev Reports : World → Type 0
   Reports w = (n : ℕ) × ToHear n w
 
-  none_up : (bs : List (List ℕ)) → length bs ≡ 0 → bs ≡ []
-  none_up [] is = refl
-  none_up (b ∷ bs) is = absurd (omega (arith, is))
-
   is_free : (w : World) → IsReached w → length w.spacecraft.ready ≡ 0 → w.spacecraft.farm.wait ≡ false
   is_free w g none = false_from_ne_true w.spacecraft.farm.wait (λ waits.
       let known = known w g in
@@ -105,7 +102,7 @@ module _ (most k : ℕ) where
           bounds =
               p.0.0;
           up =
-              none_up w.up p.0.1;
+              nil_from_length w.up p.0.1;
           free =
               is_free w g p.1;
           olds = w.down;
@@ -160,7 +157,7 @@ module _ (most k : ℕ) where
       let x = extract_step w.ground_node.extractor t.tells.frame in
       let s : GroundState = after_extraction w.ground_node x in
       let f : FopState SegmentView = (clcw_step w.ground_node.fop r).after in
-      let only : w.down ≡ t.last ∷ [] = t.down ∙ ap (λ xs. xs ++ t.last ∷ []) (none_up t.olds t.count) in
+      let only : w.down ≡ t.last ∷ [] = t.down ∙ ap (λ xs. xs ++ t.last ∷ []) (nil_from_length t.olds t.count) in
       let same = heard_is w t.last [] r only t.tells in
       let o : WorldOutcome = world_after_telemetry w [] (used w.ground_node x r) in
       let going : IsReached o.after =

@@ -308,6 +308,11 @@ no_buffer s n free =
 abbrev pub WaitsFull : SpacecraftState → Type 0
 WaitsFull s = s.farm.wait ≡ true → s.config.ready_slots ≤ length s.ready
 
+pub open_flags : (lockout wait : Bool) → Open ≡ state_of lockout wait → (lockout ≡ false) × (wait ≡ false)
+open_flags true wait e = absurd cc
+open_flags false true e = absurd cc
+open_flags false false e = (refl, refl)
+
 module _ (s : SpacecraftState) (flags : FlagsAgree s.farm) (k : WaitsFull s) where
   full_where : is_free s ≡ false → s.config.ready_slots ≤ length s.ready
   full_where busy = ltb-false (length s.ready) s.config.ready_slots busy
@@ -348,12 +353,7 @@ module _ (s : SpacecraftState) (flags : FlagsAgree s.farm) (k : WaitsFull s) whe
   released : (m : FarmMode) → s.farm.state ≡ m → (after_release s.farm m).wait ≡ false
   released Wait is = refl
   released Lockout is = refl
-  released Open is = open_waits s.farm.lockout s.farm.wait (sym is ∙ flags.state)
-    where
-      open_waits : (lockout wait : Bool) → Open ≡ state_of lockout wait → wait ≡ false
-      open_waits true wait e = absurd cc
-      open_waits false true e = absurd cc
-      open_waits false false e = refl
+  released Open is = (open_flags s.farm.lockout s.farm.wait (sym is ∙ flags.state)).1
 
   pub taken_full : (ps : List PacketOn) → WaitsFull (spacecraft_take s ps).after
   taken_full [] = k

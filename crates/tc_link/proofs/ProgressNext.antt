@@ -9,8 +9,8 @@ use Rattle.tc_link.proofs.Common.{Accepted, report_of, Config, IsConfig, FitsFra
 use Rattle.tc_link.proofs.Common.{GroundState, with_fop, unsent_segments, after_extraction, extract_step}
 use Rattle.tc_link.proofs.Common.{SpacecraftState, SpacecraftOutcome, spacecraft_take, spacecraft_report, body_outcome}
 use Rattle.tc_link.proofs.Common.{sequence_outcome, bypass_outcome, is_free, is_kept, limits_of, World, WorldOutcome}
-use Rattle.tc_link.proofs.Common.{world_step, world_after_pull, up_deliver_step, after_release, state_of, BodyView}
-use Rattle.tc_link.proofs.Common.{IsReached, active_on}
+use Rattle.tc_link.proofs.Common.{world_step, world_after_pull, up_deliver_step, after_release, BodyView, IsReached}
+use Rattle.tc_link.proofs.Common.{active_on}
 use Rattle.std.proofs.lemmas.Bool.{lt-ltb, false_from_ne_true}
 use Rattle.std.proofs.lemmas.List.{nil_from_length}
 use Rattle.tc_frame.specs.Decoding.{frame_at}
@@ -29,6 +29,7 @@ use Rattle.tc_link.proofs.Lists.{oldest_stands}
 use Rattle.tc_link.proofs.ReportFrames.{tells_now, flags_are}
 use Rattle.tc_link.proofs.Sound.{Commanded}
 use Rattle.tc_link.proofs.Spelled.{reads_back, fits_at}
+use Rattle.tc_link.proofs.ProgressLive.{open_flags}
 use Rattle.tc_link.proofs.ProgressFirst.{awaits_so, Ready}
 use Rattle.tc_link.proofs.ProgressNodes.{with_same, with_config, with_unsent, size, size_is, IsBounded, bounded}
 use Rattle.tc_link.proofs.ProgressNodes.{has_numbers, heard_is, Taken, takes, arrives}
@@ -423,11 +424,6 @@ module _ (most k : ℕ) where
       }))
 
   -- ---- the report is heard, and all is acknowledged
-
-  open_flags : (lockout wait : Bool) → Open ≡ state_of lockout wait → (lockout ≡ false) × (wait ≡ false)
-  open_flags true wait e = absurd cc
-  open_flags false true e = absurd cc
-  open_flags false false e = (refl, refl)
 
   -- nothing is on its way, and by so much the ground holds less
   abbrev pub Advanced : World → Type 0

@@ -1,20 +1,20 @@
 -- The numbers of the sender, at every moment of a run, in any session: while it is on, those of the units that it sent
 -- are the ones from NN(R) to V(S) - 1; and all numbers are octets, those that are on their way too.
-use Rattle.tc_link.proofs.Common.{ap, ◌≡◌, ◌<◌, ◌≤◌, ℕ, ◌+◌, ◌%◌, Bool, true, false, List, [], ◌∷◌, ◌++◌, length, map}
-use Rattle.tc_link.proofs.Common.{drop, Option, Some, None, Result, Ok, refl, sym, subst, ◌∙◌, arith, cond_both, nat_lt}
-use Rattle.tc_link.proofs.Common.{ltb-true, ltb-false, length-append, length-drop, length-map, AllByRecursion, Clcw, On}
-use Rattle.tc_link.proofs.Common.{SegmentView, SentUnit, BodyView, Ad, Bd, Bc, Command, Unlock, SetVr, Control, Idle}
-use Rattle.tc_link.proofs.Common.{Due, Sent, ahead_by, Directive, InitWithoutCheck, InitWithCheck, InitUnlock}
-use Rattle.tc_link.proofs.Common.{InitSetVr, is_initiation, begun, obeyed, directive_step, FopState, FopOutcome, S1, S3}
-use Rattle.tc_link.proofs.Common.{S6, clcw_step, report_while_active, after_move_on, after_acknowledge, after_new_value}
+use Rattle.tc_link.proofs.Common.{ap, ◌≡◌, ◌<◌, ◌≤◌, ℕ, ◌+◌, ◌%◌, Bool, true, false, List, [], ◌∷◌, ◌++◌, length, drop}
+use Rattle.tc_link.proofs.Common.{Option, Some, None, Result, Ok, refl, sym, subst, ◌∙◌, arith, cond_both, nat_lt}
+use Rattle.tc_link.proofs.Common.{ltb-true, ltb-false, length-append, length-drop, AllByRecursion, Clcw, On}
+use Rattle.tc_link.proofs.Common.{SegmentView, BodyView, Ad, Bd, Bc, Command, Unlock, SetVr, Control, Idle, Due, Sent}
+use Rattle.tc_link.proofs.Common.{ahead_by, Directive, InitWithoutCheck, InitWithCheck, InitUnlock, InitSetVr}
+use Rattle.tc_link.proofs.Common.{is_initiation, begun, obeyed, directive_step, FopState, FopOutcome, S1, S3, S6}
+use Rattle.tc_link.proofs.Common.{clcw_step, report_while_active, after_move_on, after_acknowledge, after_new_value}
 use Rattle.tc_link.proofs.Common.{retransmits, heard_active, pull_step, pulled_out, PulledUnit, after_restart}
-use Rattle.tc_link.proofs.Common.{without_oldest_mark, unmarked_unit, marked_unit, units_of, tick_step, ticked}
-use Rattle.tc_link.proofs.Common.{after_repeat, after_stop, after_count, due_again, after_alert, FarmState, FarmMode}
-use Rattle.tc_link.proofs.Common.{Open, Wait, Verdict, Accepted, verdict_of, farm_step, after_verdict, after_unlock}
-use Rattle.tc_link.proofs.Common.{after_set_vr, after_release, BufferReleased, report_of, Config, FitsFrame, frame_of}
-use Rattle.tc_link.proofs.Common.{frame_to_send, with_fop, is_closed, after_extraction, extract_step, IsDirective}
-use Rattle.tc_link.proofs.Common.{IsEvent, PacketOn, SpacecraftState, SpacecraftOutcome, body_outcome, sequence_outcome}
-use Rattle.tc_link.proofs.Common.{bypass_outcome, is_free, is_kept, limits_of, spacecraft_take, spacecraft_take_bypass}
+use Rattle.tc_link.proofs.Common.{without_oldest_mark, unmarked_unit, units_of, tick_step, ticked, after_repeat}
+use Rattle.tc_link.proofs.Common.{after_stop, after_count, due_again, after_alert, FarmState, FarmMode, Open, Wait}
+use Rattle.tc_link.proofs.Common.{Verdict, Accepted, verdict_of, farm_step, after_verdict, after_unlock, after_set_vr}
+use Rattle.tc_link.proofs.Common.{after_release, BufferReleased, report_of, Config, FitsFrame, frame_of, frame_to_send}
+use Rattle.tc_link.proofs.Common.{with_fop, is_closed, after_extraction, extract_step, IsDirective, IsEvent, PacketOn}
+use Rattle.tc_link.proofs.Common.{SpacecraftState, SpacecraftOutcome, body_outcome, sequence_outcome, bypass_outcome}
+use Rattle.tc_link.proofs.Common.{is_free, is_kept, limits_of, spacecraft_take, spacecraft_take_bypass}
 use Rattle.tc_link.proofs.Common.{spacecraft_telemetry, is_to_send, Event, World, WorldOutcome, new_world, world_step}
 use Rattle.tc_link.proofs.Common.{world_after_pull, up_deliver_step, down_deliver_step, TmFault, closed_not, active_on}
 use Rattle.tc_link.proofs.Common.{spacecraft_report, FlagsAgree}
@@ -40,7 +40,7 @@ use Rattle.tc_link.proofs.Senders.{with_kept, step_kept}
 use Rattle.tc_link.proofs.Sound.{Commanded}
 use Rattle.tc_link.proofs.Spelled.{Goes, reads_back, fits_at}
 use Rattle.tc_link.proofs.Submissions.{all_append}
-use Rattle.tc_link.proofs.ProgressSender.{without_length}
+use Rattle.tc_link.proofs.ProgressSender.{without_length, marked_length}
 use Rattle.tc_link.proofs.ProgressLive.{WaitsFull, body_full, taken_full, bypass_taken_full, queued_full}
 
 -- ---- the sender
@@ -101,9 +101,6 @@ module _ (s : FopState SegmentView) (k : Numbered s) where
           numbered = λ runs. omega (arith, vs, nn, sent, fewer, below, numbered, octet, k.vs, k.nn, k.most);
           most = omega (arith, sent, fewer, k.most);
         }
-
-  marked_length : (us : List (SentUnit SegmentView)) → length (map marked_unit us) ≡ length us
-  marked_length us = length-map us marked_unit
 
   module _ (r : Clcw) (octet : r.value < 256) where
     again_numbers : is_closed s.state ≡ false → (again : Bool) → Numbered (retransmits s again)

@@ -6,9 +6,9 @@ use Rattle.tc_link.proofs.Common.{◌==◌, cond_both, eqb-true, ltb-true, ltb-f
 use Rattle.tc_link.proofs.Common.{ahead_by, FopState, FopOutcome, S1, S2, Alert, Idle, oldest_marked}
 use Rattle.tc_link.proofs.Common.{without_oldest_mark, PulledUnit, pull_step, after_restart, report_while_active, locks}
 use Rattle.tc_link.proofs.Common.{waits, asks, goes_on, alerts, NnR, Synch, FarmState, Open, Accepted, verdict_of}
-use Rattle.tc_link.proofs.Common.{Config, frame_of, SentUnit}
+use Rattle.tc_link.proofs.Common.{Config, frame_of}
 use Rattle.std.specs.Prelude.{◌&&◌}
-use Rattle.std.proofs.lemmas.List.{drop_all}
+use Rattle.std.proofs.lemmas.List.{drop_all, nil_from_length}
 use Rattle.tc_frame.specs.Decoding.{frame_at}
 use Rattle.cop1.specs.declared.vocabulary.Alert.TheVariants.{Lockout, Clcw as ClcwAlert}
 use Rattle.cop1.specs.Farm.{ad_verdict, place_at}
@@ -132,10 +132,6 @@ module _ (s : FopState SegmentView) (c : Clcw) (unlocked : locks c ≡ false) (f
     window = refl;
   }
 
-  nothing_sent : (us : List (SentUnit SegmentView)) → length us ≡ 0 → us ≡ []
-  nothing_sent [] is = refl
-  nothing_sent (u ∷ us) is = absurd (omega (arith, is))
-
   pub all_acknowledged : (s.state ≡ S1) ⊎ (s.state ≡ S2) → (s.state ≡ S2 → 1 ≤ length s.sent)
       → Acks (report_while_active s c)
   all_acknowledged state asked =
@@ -153,7 +149,7 @@ module _ (s : FopState SegmentView) (c : Clcw) (unlocked : locks c ≡ false) (f
       let at : c.value ≡ s.nn = eqb-true c.value s.nn it in
       let empty : length s.sent ≡ 0 = omega (arith, numbered, all, at, vs, nn) in
       elim state [
-        | inl one ↦ subst (λ m. Acks (nothing_new s m)) (sym one) (gone (nothing_sent s.sent empty) one)
+        | inl one ↦ subst (λ m. Acks (nothing_new s m)) (sym one) (gone (nil_from_length s.sent empty) one)
         | inr two ↦ absurd (omega (arith, asked two, empty))
       ])
       (λ t. cond_both (not (asks c)) (move_on s c.value) _ Acks

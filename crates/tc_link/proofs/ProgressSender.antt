@@ -166,6 +166,9 @@ without_length us =
     sym (length-map (without_oldest_mark us) (λ u. u.unit)) ∙ ap length (units-without us)
     ∙ length-map us (λ u. u.unit)
 
+pub marked_length : (us : List (SentUnit SegmentView)) → length (map marked_unit us) ≡ length us
+marked_length us = length-map us marked_unit
+
 module _ (s : FopState SegmentView) (pending : List SegmentView) (active : IsActive s.state) where
   abbrev NoMore : FopState SegmentView → Type 0
   NoMore t = HoldsNoMore s pending t
@@ -173,9 +176,6 @@ module _ (s : FopState SegmentView) (pending : List SegmentView) (active : IsAct
   no_more : (t : FopState SegmentView) → IsActive t.state → length t.sent ≤ length s.sent → t.waiting ≡ s.waiting
       → t.window ≡ s.window → NoMore t
   no_more t on sent waiting window = record { active = on; size = rw waiting (omega (arith, sent)); window = window }
-
-  marked_length : (us : List (SentUnit SegmentView)) → length (map marked_unit us) ≡ length us
-  marked_length us = length-map us marked_unit
 
   pub pull_no_more : NoMore (pull_step s).after
   pull_no_more = pulled_out s (λ o. NoMore o.after) (record {
