@@ -23,7 +23,7 @@ use Rattle.tc_link.specs.Progress.{times, most_sent, all_sent, reported, all_hea
 use Rattle.tc_link.specs.Progress.{timer_run_out, round_trip, exchange, AlertsIn, EachBegins, EachEnds, IsDone}
 use Rattle.tc_link.proofs.ProgressNodes.{Arrived, Taken, ground_takes, ground_arrives, ends_ticks, oldest_heard}
 use Rattle.tc_link.proofs.ProgressNodes.{alerted, with_same}
-use Rattle.tc_link.proofs.ProgressFirst.{holds_more}
+use Rattle.tc_link.proofs.ProgressSender.{holds_more}
 use Rattle.tc_link.proofs.Progress.{each_makes_progress}
 use Rattle.tc_link.proofs.ProgressLists.{idle_run, exchange_calm}
 use Rattle.tc_link.proofs.ProgressLive.{IsDueNow, Running}
@@ -216,7 +216,7 @@ module _ (count limit : ℕ) where
         let f : FopState SegmentView = (clcw_step w.ground_node.fop r).after in
         let same = with_same s f in
         elim p.1 [
-          | inl active ↦ elim (holds_more 0 0 w r active) [
+          | inl active ↦ elim (holds_more w.ground_node.fop w.ground_node.pending r active) [
             | inl a ↦ inl a
             | inr less ↦ inr (count, inl (rw same.state less.active))
           ]
@@ -226,19 +226,18 @@ module _ (count limit : ℕ) where
               | inl active ↦ inr (count, inl (rw same.state active))
               | inr ignored ↦ (
                   let still : f ≡ w.ground_node.fop = ap (λ o. o.after) ignored.1 in
-                  let as_was = with_same s f in
                   let state : (with_fop s f).fop.state ≡ S5 =
-                  as_was.state ∙ ap (λ f. f.state) still ∙ ignored.0 in
+                  same.state ∙ ap (λ f. f.state) still ∙ ignored.0 in
                   inr (
                     count,
                     inr (
                       (
                         record {
                           state = inr state;
-                          count_is = as_was.count ∙ ap (λ f. f.count) still ∙ begun.0.0.count_is;
-                          limit_is = as_was.limit ∙ ap (λ f. f.limit) still ∙ begun.0.0.limit_is;
+                          count_is = same.count ∙ ap (λ f. f.count) still ∙ begun.0.0.count_is;
+                          limit_is = same.limit ∙ ap (λ f. f.limit) still ∙ begun.0.0.limit_is;
                         },
-                        λ due. begun.0.1 (subst IsDueNow (as_was.control ∙ ap (λ f. f.control) still) due),
+                        λ due. begun.0.1 (subst IsDueNow (same.control ∙ ap (λ f. f.control) still) due),
                       ),
                       inl state,
                     ),

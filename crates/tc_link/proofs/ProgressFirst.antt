@@ -24,8 +24,8 @@ use Rattle.tc_link.proofs.ProgressNodes.{Arrived, Taken, ground_takes, ground_ar
 use Rattle.tc_link.proofs.ProgressNodes.{alerted, with_same, with_config, IsBounded, bounded, HasNumbers, has_numbers}
 use Rattle.tc_link.proofs.ProgressNodes.{some_sent, heard_is}
 use Rattle.tc_link.proofs.ProgressRuns.{going_step, known, Ends, ends_then, ends_repeat, ends_once, ends_trip}
-use Rattle.tc_link.proofs.ProgressSender.{Obeys, heard_fresh, HoldsNoMore, pull_no_more, report_holds, active_report}
-use Rattle.tc_link.proofs.ProgressSender.{tick_end, marked_all}
+use Rattle.tc_link.proofs.ProgressSender.{holds_more, Obeys, heard_fresh, HoldsNoMore, pull_no_more, report_holds}
+use Rattle.tc_link.proofs.ProgressSender.{active_report, tick_end, marked_all}
 
 -- nothing is on its way, and the receiver is open and expects the number NN(R)
 pub record Quiet (w : World) : Type 0 where
@@ -188,12 +188,6 @@ module _ (most k : ℕ) where
       ])
 
   -- one before it
-  pub holds_more : (w : World) (r : Clcw) → IsActive w.ground_node.fop.state
-      → IsSome (clcw_step w.ground_node.fop r).answer
-      ⊎ HoldsNoMore w.ground_node.fop w.ground_node.pending (clcw_step w.ground_node.fop r).after
-  holds_more w r active =
-      rw (active_report w.ground_node.fop r active) (report_holds w.ground_node.fop w.ground_node.pending active r)
-
   module _ (n : ℕ) (w : World) (g : IsReached w) (t : ToHear (suc n) w) where
     abbrev More : WorldOutcome → Type 0
     More o = IsSome (alert_in o.answer) ⊎ ToHear n o.after
@@ -202,7 +196,7 @@ module _ (most k : ℕ) where
     hears_one [] is = absurd (omega (arith, ap length is, t.count))
     hears_one (b ∷ bs) is =
         let down : w.down ≡ b ∷ (bs ++ t.last ∷ []) = t.down ∙ ap (λ xs. xs ++ t.last ∷ []) is in
-        oldest_heard More w g b (bs ++ t.last ∷ []) down (λ r x. elim (holds_more w r t.bounds.active) [
+        oldest_heard More w g b (bs ++ t.last ∷ []) down (λ r x. elim (holds_more w.ground_node.fop w.ground_node.pending r t.bounds.active) [
           | inl a ↦ inl a
           | inr less ↦ (
               let s : GroundState = after_extraction w.ground_node x in

@@ -232,6 +232,10 @@ active_report s r active = in_mode s.state active
     in_mode S3 on = refl
     in_mode _ on = elim on [ ]
 
+pub holds_more : (s : FopState SegmentView) (pending : List SegmentView) (r : Clcw) → IsActive s.state
+    → IsSome (clcw_step s r).answer ⊎ HoldsNoMore s pending (clcw_step s r).after
+holds_more s pending r active = rw (active_report s r active) (report_holds s pending active r)
+
 -- ---- the timer
 
 pub tick_on : (s : FopState SegmentView) (n : ℕ) → s.ticks ≡ Some (suc (suc n))
