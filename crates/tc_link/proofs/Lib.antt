@@ -40,6 +40,7 @@ pub mod Promised
 pub mod Pulled
 pub mod Reports
 pub mod ReportsDown
+pub mod Repeated
 pub mod Refilled
 pub mod Silence
 pub mod Sound

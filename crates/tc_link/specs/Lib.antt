@@ -16,6 +16,7 @@ pub mod Progress
 pub mod Promises
 pub mod Reached
 pub mod Readable
+pub mod Repeated
 pub mod Silence
 pub mod SimFields
 pub mod Simulation

@@ -1,0 +1,725 @@
+-- A report that comes again, and no other since, changes nothing.
+use Rattle.tc_link.proofs.Common.{◌≡◌, ◌≢◌, ◌≤◌, ◌<◌, ℕ, Bool, true, false, List, [], ◌∷◌, Option, Some, None, refl}
+use Rattle.tc_link.proofs.Common.{Result, Ok, Err, Idle, not, ◌+◌, ◌%◌, ◌∙◌, sym, ap, arith, cond_both, and_parts}
+use Rattle.tc_link.proofs.Common.{eqb-true, eq-eqb, ne_eqb, not-false, ltb-true, nat_lt, ◌==◌, ◌||◌, Clcw, ClcwFault}
+use Rattle.tc_link.proofs.Common.{SegmentView, Directive, InitWithoutCheck, InitWithCheck, InitUnlock, InitSetVr, S1}
+use Rattle.tc_link.proofs.Common.{S2, S3, S4, S5, S6, FopMode, FopState, FopOutcome, Alert, CopFault, IsActive, NnR}
+use Rattle.tc_link.proofs.Common.{Synch, Limit, locks, waits, asks, confirms, clcw_step, report_in, report_while_active}
+use Rattle.tc_link.proofs.Common.{after_new_value, retransmits, goes_on, alerts, after_alert, ahead_by, ticked}
+use Rattle.tc_link.proofs.Common.{pulled_out, heard_active, obeyed, begun, is_initiation, tick_step, pull_step}
+use Rattle.tc_link.proofs.Common.{directive_step, Config, LinkFault, IsConfig, GroundState, GroundOutcome, is_closed}
+use Rattle.tc_link.proofs.Common.{refill_step, with_fop, unless_refused, submit_fault, after_submission}
+use Rattle.tc_link.proofs.Common.{bypass_fault, after_bypass, after_extraction}
+use Rattle.std.specs.Prelude.{◌&&◌, ◌++◌, ◌/◌, IfOk, slice_index}
+use Rattle.std.proofs.lemmas.Bool.{not-true}
+use Rattle.octets.specs.Number.{IsOctets}
+use Rattle.clcw.specs.Decoding.{clcw_at}
+use Rattle.cop1.specs.FopDirective.{from_S6, terminate_in}
+use Rattle.cop1.specs.FopReport.{nothing_new, move_on, ask_for_others, ask_for_all, goes_back_again}
+use Rattle.cop1.specs.FopWords.{is_outside, after_gone}
+use Rattle.cop1.specs.declared.vocabulary.Alert.TheVariants.{Lockout, Clcw as ClcwAlert}
+use Rattle.cop1.specs.declared.vocabulary.Directive.TheVariants.{Terminate, SetVs, SetWindow, SetLimit, SetTimer}
+use Rattle.tm_link.specs.Decoding.{frame_at}
+use Rattle.simulated_link.proofs.TelemetryCases.{reported, report_seen, frame_seen}
+use Rattle.nodes.specs.declared.heard.HeardClcw.{HeardClcw}
+use Rattle.nodes.specs.declared.heard.HeardReport.TheVariants.{Used, OtherChannel}
+use Rattle.nodes.specs.Ground.{GroundEvent, Submit, Bypass, Direct, Pull, Tick, Telemetry, ControlWord, TakeTelemetry}
+use Rattle.nodes.specs.Ground.{ForgetTelemetry, new_ground, ground_step, ground_take_telemetry, after_moving_up}
+use Rattle.nodes.specs.Ground.{after_directive, report_outcome, segments_on}
+use Rattle.tc_link.specs.Repeated.{ground_run, BringsNoReport, BringNoReport, repeated_outcome, RepeatsNothing}
+use Rattle.tc_link.proofs.Refilled.{refilled_keeps}
+
+-- ---- what is so of the configuration and the sender, whatever waits, is so after each call
+
+module _ (P : Config → FopState SegmentView → Type 0)
+    (waits_so : (c : Config) (f : FopState SegmentView) (u : Option SegmentView) → P c f
+    → P c (record f { waiting = u }))
+    (bypass_so : (c : Config) (f : FopState SegmentView) (us : List SegmentView) → P c f
+    → P c (record f { bypass = us }))
+    (s : GroundState) (k : P s.config s.fop) where
+  abbrev Are : GroundState → Type 0
+  Are g = P g.config g.fop
+
+  refilled_are : (g : GroundState) → Are g → Are (refill_step g)
+  refilled_are g same = refilled_keeps Are g (λ waiting pending on off. waits_so g.config g.fop waiting same)
+
+  settled_are : (f : FopState SegmentView) → P s.config f → Are (with_fop s f)
+  settled_are f same = refilled_are (record s { fop = f }) same
+
+  unless_are : (fault : Option LinkFault) (next : GroundState) → Are next → Are (unless_refused fault s next).after
+  unless_are None next same = same
+  unless_are (Some fault) next same = k
+
+  submits_are : (m : ℕ) (octets : List ℕ) → Are (ground_step s (Submit m octets)).after
+  submits_are m octets =
+      unless_are (submit_fault s m octets) (after_submission s m octets)
+      (refilled_are (record s { pending = s.pending ++ segments_on s m octets }) k)
+
+  bypasses_are : (m : ℕ) (octets : List ℕ) → Are (ground_step s (Bypass m octets)).after
+  bypasses_are m octets =
+      unless_are (bypass_fault s m octets) (after_bypass s m octets) (bypass_so s.config s.fop _ k)
+
+  directs_are : (d : Directive) → P s.config (directive_step s.fop d).after → Are (ground_step s (Direct d)).after
+  directs_are d same = answered (directive_step s.fop d).answer where
+    answered : (answer : Result (Option Alert) CopFault)
+        → Are (after_directive s answer (directive_step s.fop d).after)
+    answered (Ok alert) = settled_are (directive_step s.fop d).after same
+    answered (Err fault) = k
+
+  takes_are : (packets : List (List ℕ)) → Are (ground_take_telemetry s packets).after
+  takes_are [] = k
+  takes_are (packet ∷ left) = k
+
+-- ---- the numbers of a sender, as far as they matter here
+
+abbrev IsStarting : FopMode → Type 0
+IsStarting S4 = Unit {0}
+IsStarting S5 = Unit {0}
+IsStarting _ = ⊥
+
+-- the window is far below 256, and nothing is outstanding while a session begins
+record Usual (f : FopState SegmentView) : Type 0 where
+  room : f.room ≤ 127
+  window : f.window ≤ f.room
+  even : IsStarting f.state → f.vs ≡ f.nn
+
+module _ (s : FopState SegmentView) (k : Usual s) where
+  abbrev Usually : {A : Type 0} → FopOutcome SegmentView A → Type 0
+  Usually o = Usual o.after
+
+  on_so : (f : FopState SegmentView) → f.room ≡ s.room → f.window ≡ s.window → (IsStarting f.state → ⊥) → Usual f
+  on_so f room window not_so = record {
+    room = rw room k.room;
+    window = rw (room, window) k.window;
+    even = λ starting. absurd (not_so starting);
+  }
+
+  same_so : (f : FopState SegmentView) → f.room ≡ s.room → f.window ≡ s.window → f.state ≡ s.state → f.vs ≡ s.vs
+      → f.nn ≡ s.nn → Usual f
+  same_so f room window state vs nn = record {
+    room = rw room k.room;
+    window = rw (room, window) k.window;
+    even = λ starting. rw (vs, nn) (k.even (rw state at starting));
+  }
+
+  again_usual : (again : Bool) → Usual (retransmits s again)
+  again_usual true = on_so (retransmits s true) refl refl (λ t. t)
+  again_usual false = on_so (retransmits s false) refl refl (λ t. t)
+
+  active_usual : (r : Clcw) → Usually (report_while_active s r)
+  active_usual r = heard_active s r (λ o. Usually o) (record {
+    locked = λ t. on_so (after_alert s) refl refl (λ t. t);
+    outside = λ t. on_so (after_alert s) refl refl (λ t. t);
+    wait_flag = λ none waiting. on_so (after_alert s) refl refl (λ t. t);
+    asks_none = λ asking at. on_so (after_alert s) refl refl (λ t. t);
+    same = k;
+    ceases = λ none at were. on_so (after_alert s) refl refl (λ t. t);
+    moves = λ inside. on_so (move_on s r.value).after refl refl (λ t. t);
+    others_over = λ inside asking one. on_so (after_alert (after_new_value s r.value)) refl refl (λ t. t);
+    others_wait = λ inside asking. on_so (record (after_new_value s r.value) { state = S3 }) refl refl (λ t. t);
+    others_again = λ inside asking. on_so (retransmits (after_new_value s r.value) true) refl refl (λ t. t);
+    all_over = λ asking one. on_so (after_alert s) refl refl (λ t. t);
+    all_wait = λ asking. on_so (record s { state = S3 }) refl refl (λ t. t);
+    all_again = λ asking. again_usual;
+  })
+
+  report_usual : (r : Clcw) → Usual (clcw_step s r).after
+  report_usual r = reported s r (λ o. Usually o) (record {
+    active = λ active. active_usual r;
+    alerted = λ is x cause. on_so (after_alert s) refl refl (λ t. t);
+    checked = λ is confirms. on_so (record s { state = S1; ticks = None }) refl refl (λ t. t);
+    commanded = λ is confirms. on_so (record s { state = S1; ticks = None; control = Idle }) refl refl (λ t. t);
+    same = k;
+  })
+
+  tick_usual : Usually (tick_step s)
+  tick_usual = ticked s (λ o. Usually o) (record {
+    off = k;
+    runs = λ left. same_so _ refl refl refl refl refl;
+    stops = same_so _ refl refl refl refl refl;
+    repeats = λ active. same_so _ refl refl refl refl refl;
+    counts = same_so _ refl refl refl refl refl;
+    commands = λ is. same_so _ refl refl refl refl refl;
+    gives_up = on_so _ refl refl (λ t. t);
+  })
+
+  active_started : (m : FopMode) → IsActive m → IsStarting m → ⊥
+  active_started S4 active starting = elim active [ ]
+  active_started S5 active starting = elim active [ ]
+  active_started _ active starting = starting
+
+  pull_usual : Usually (pull_step s)
+  pull_usual = pulled_out s (λ o. Usually o) (record {
+    none = k;
+    command = λ command is. same_so _ refl refl refl refl refl;
+    bypass = λ u us is. same_so _ refl refl refl refl refl;
+    again = λ active x is. same_so _ refl refl refl refl refl;
+    first = λ active u is room. on_so _ refl refl (active_started s.state active);
+  })
+
+  off_started : s.state ≡ S6 → IsStarting s.state → ⊥
+  off_started off starting = rw off at starting
+
+  begun_usual : (d : Directive) → is_initiation d ≡ true → Usual (begun s d)
+  begun_usual InitWithoutCheck is = on_so _ refl refl (λ t. t)
+  begun_usual InitWithCheck is = record { room = k.room; window = k.window; even = λ t. refl }
+  begun_usual InitUnlock is = record { room = k.room; window = k.window; even = λ t. refl }
+  begun_usual (InitSetVr x) is = record { room = k.room; window = k.window; even = λ t. refl }
+  begun_usual _ is = absurd cc
+
+  direct_usual : (d : Directive) → Usually (directive_step s d)
+  direct_usual d = obeyed s (λ d o. Usually o) (record {
+    refused = λ d fault goes. k;
+    begins = λ d is off. begun_usual d is;
+    terminated = on_so (after_alert s) refl refl (λ t. t);
+    numbers = λ x off. on_so _ refl refl (off_started off);
+    sets = λ d n limit ticks plain most. record
+        { room = k.room; window = most s.room k.window (omega arith); even = k.even };
+  }) d
+
+abbrev UsualAt : Config → FopState SegmentView → Type 0
+UsualAt c f = Usual f
+
+waits_usual : (c : Config) (f : FopState SegmentView) (u : Option SegmentView) → UsualAt c f
+    → UsualAt c (record f { waiting = u })
+waits_usual c f u k = same_so f k _ refl refl refl refl refl
+
+bypass_usual : (c : Config) (f : FopState SegmentView) (us : List SegmentView) → UsualAt c f
+    → UsualAt c (record f { bypass = us })
+bypass_usual c f us k = same_so f k _ refl refl refl refl refl
+
+step_usual : (s : GroundState) → Usual s.fop → (e : GroundEvent) → Usual (ground_step s e).after.fop
+step_usual s k (Submit m octets) = submits_are UsualAt waits_usual bypass_usual s k m octets
+step_usual s k (Bypass m octets) = bypasses_are UsualAt waits_usual bypass_usual s k m octets
+step_usual s k (Direct d) = directs_are UsualAt waits_usual bypass_usual s k d (direct_usual s.fop k d)
+step_usual s k Pull = settled_are UsualAt waits_usual bypass_usual s k _ (pull_usual s.fop k)
+step_usual s k Tick = settled_are UsualAt waits_usual bypass_usual s k _ (tick_usual s.fop k)
+step_usual s k (Telemetry octets) =
+    frame_seen s (λ g. Usual g.fop) (record {
+      same = k;
+      extracts = λ x. k;
+      uses = λ x r. settled_are UsualAt waits_usual bypass_usual (after_extraction s x) k _ (report_usual s.fop k r);
+    }) (frame_at s.config.frame_length octets)
+step_usual s k (ControlWord octets) =
+    report_seen s (λ g. Usual g.fop) k
+    (λ r. settled_are UsualAt waits_usual bypass_usual s k _ (report_usual s.fop k r)) (clcw_at octets)
+step_usual s k TakeTelemetry = takes_are UsualAt waits_usual bypass_usual s k s.telemetry
+step_usual s k ForgetTelemetry = k
+
+run_usual : (es : List GroundEvent) (s : GroundState) → Usual s.fop → Usual (ground_run s es).fop
+run_usual [] s k = k
+run_usual (e ∷ es) s k = run_usual es (ground_step s e).after (step_usual s k e)
+
+new_usual : (c : Config) → IsConfig c → Usual (new_ground c).fop
+new_usual c ranges = record {
+  room = omega (arith, ranges.width.1);
+  window = ranges.window.1;
+  even = λ starting. refl;
+}
+
+-- ---- a report that says nothing new
+
+record Told (nn : ℕ) (r : Clcw) : Type 0 where
+  unlocked : locks r ≡ false
+  asking : asks r ≡ false
+  waiting : waits r ≡ false
+  at : r.value ≡ nn
+
+-- units were asked for, with the wait flag or without
+record Asked (wait : Bool) (vs nn limit : ℕ) (r : Clcw) : Type 0 where
+  unlocked : locks r ≡ false
+  asking : asks r ≡ true
+  waiting : waits r ≡ wait
+  at : r.value ≡ nn
+  apart : (r.value == vs) ≡ false
+  several : (limit == 1) ≡ false
+
+abbrev Known : FopMode → (vs nn limit : ℕ) → Clcw → Type 0
+Known S1 vs nn limit r = Told nn r
+Known S2 vs nn limit r = Asked false vs nn limit r
+Known S3 vs nn limit r = Asked true vs nn limit r
+Known S4 vs nn limit r = ⊥
+Known S5 vs nn limit r = (not (locks r) && not (waits r) && not (asks r) && (r.value == vs)) ≡ false
+Known S6 vs nn limit r = Unit {0}
+
+abbrev KnownTo : FopState SegmentView → Clcw → Type 0
+KnownTo f r = Known f.state f.vs f.nn f.limit r
+
+and_right : (a b : Bool) → a ≡ true → (a && b) ≡ false → b ≡ false
+and_right true b is none = none
+and_right false b is none = absurd cc
+
+not_and_right : (a b : Bool) → a ≡ false → (not a && b) ≡ false → b ≡ false
+not_and_right false b is none = none
+not_and_right true b is none = absurd cc
+
+-- it changes nothing
+module _ (s : FopState SegmentView) (r : Clcw) (octet : r.value < 256) where
+  abbrev Nothing : FopOutcome SegmentView (Option Alert) → Type 0
+  Nothing o = o ≡ goes_on s
+
+  inside : r.value ≡ s.nn → is_outside s r.value ≡ true → ⊥
+  inside at t = absurd (omega (arith, ltb-true (ahead_by s.vs s.nn) (ahead_by r.value s.nn) t, at, octet))
+
+  told_ignored : s.state ≡ S1 → Told s.nn r → Nothing (report_while_active s r)
+  told_ignored is k =
+      cond_both (locks r) (alerts s Lockout) _ Nothing (λ t. absurd (cc (t, k.unlocked)))
+      (λ l. cond_both (is_outside s r.value) (alerts s NnR) _ Nothing (λ t. absurd (inside k.at t))
+      (λ i. cond_both (not (asks r) && waits r) (alerts s ClcwAlert) _ Nothing
+      (λ t. absurd (cc ((and_parts (not (asks r)) (waits r) t).1, k.waiting)))
+      (λ w. cond_both (asks r && (r.value == s.vs)) (alerts s Synch) _ Nothing
+      (λ t. absurd (cc ((and_parts (asks r) (r.value == s.vs) t).0, k.asking)))
+      (λ a. cond_both (not (asks r) && (r.value == s.nn)) (nothing_new s s.state) _ Nothing
+      (λ t. ap (nothing_new s) is)
+      (λ n. absurd (cc (not_and_right (asks r) (r.value == s.nn) k.asking n, eq-eqb r.value s.nn k.at)))))))
+
+  again_ignored : (wait : Bool) → (wait ≡ false → s.state ≡ S2) → (wait ≡ true → s.state ≡ S3)
+      → Asked wait s.vs s.nn s.limit r → Nothing (ask_for_all s (waits r))
+  again_ignored wait plain waiting k =
+      cond_both (s.limit == 1) (alerts s Limit) _ Nothing (λ t. absurd (cc (t, k.several)))
+      (λ t. cond_both (waits r) (goes_on (record s { state = S3 })) (goes_on (goes_back_again s s.state)) Nothing
+      (λ t. ap (λ m. goes_on (record s { state = m })) (sym (waiting (sym k.waiting ∙ t))))
+      (λ t. ap (λ m. goes_on (goes_back_again s m)) (plain (sym k.waiting ∙ t))))
+
+  asked_ignored : (wait : Bool) → (wait ≡ false → s.state ≡ S2) → (wait ≡ true → s.state ≡ S3)
+      → Asked wait s.vs s.nn s.limit r → Nothing (report_while_active s r)
+  asked_ignored wait plain waiting k =
+      cond_both (locks r) (alerts s Lockout) _ Nothing (λ t. absurd (cc (t, k.unlocked)))
+      (λ l. cond_both (is_outside s r.value) (alerts s NnR) _ Nothing (λ t. absurd (inside k.at t))
+      (λ i. cond_both (not (asks r) && waits r) (alerts s ClcwAlert) _ Nothing
+      (λ t. absurd (cc (not-true (asks r) (and_parts (not (asks r)) (waits r) t).0, k.asking)))
+      (λ w. cond_both (asks r && (r.value == s.vs)) (alerts s Synch) _ Nothing
+      (λ t. absurd (cc ((and_parts (asks r) (r.value == s.vs) t).1, k.apart)))
+      (λ a. cond_both (not (asks r) && (r.value == s.nn)) (nothing_new s s.state) _ Nothing
+      (λ t. absurd (cc (not-true (asks r) (and_parts (not (asks r)) (r.value == s.nn) t).0, k.asking)))
+      (λ n. cond_both (not (asks r)) (move_on s r.value) _ Nothing
+      (λ t. absurd (cc (not-true (asks r) t, k.asking)))
+      (λ q. cond_both (not (r.value == s.nn)) (ask_for_others s r.value (waits r)) _ Nothing
+      (λ t. absurd (cc (not-true (r.value == s.nn) t, eq-eqb r.value s.nn k.at)))
+      (λ v. again_ignored wait plain waiting k)))))))
+
+  ignored_in : (m : FopMode) → s.state ≡ m → Known m s.vs s.nn s.limit r → Nothing (report_in s r m)
+  ignored_in S1 is k = told_ignored is k
+  ignored_in S2 is k = asked_ignored false (λ t. is) (λ t. absurd cc) k
+  ignored_in S3 is k = asked_ignored true (λ t. absurd cc) (λ t. is) k
+  ignored_in S4 is k = elim k [ ]
+  ignored_in S5 is k = cond_both (confirms s r) _ (goes_on s) Nothing (λ t. absurd (cc (t, k))) (λ t. refl)
+  ignored_in S6 is k = refl
+
+  ignored : KnownTo s r → Nothing (clcw_step s r)
+  ignored k = ignored_in s.state refl k
+
+-- ---- a report is known once it was heard
+
+module _ (s : FopState SegmentView) (k : Usual s) (r : Clcw) where
+  abbrev KnownAfter : FopOutcome SegmentView (Option Alert) → Type 0
+  KnownAfter o = KnownTo o.after r
+
+  -- the sender repeats what was asked for
+  abbrev AskedFor : Bool → FopState SegmentView → Type 0
+  AskedFor wait f = Asked wait f.vs f.nn f.limit r
+
+  repeats_known : (f : FopState SegmentView) → AskedFor false f → (again : Bool) → KnownTo (retransmits f again) r
+  repeats_known f asked true = assumption asked
+  repeats_known f asked false = assumption asked
+
+  nothing_known : (m : FopMode) → s.state ≡ m → IsActive m → Told s.nn r → KnownAfter (nothing_new s m)
+  nothing_known S1 is active told = rw is told
+  nothing_known S2 is active told = tt
+  nothing_known S3 is active told = tt
+  nothing_known S4 is active told = elim active [ ]
+  nothing_known S5 is active told = elim active [ ]
+  nothing_known S6 is active told = elim active [ ]
+
+  module _ (l : locks r ≡ false) (a : asks r ≡ true) (apart : (r.value == s.vs) ≡ false) where
+    asked_by : (f : FopState SegmentView) (wait : Bool) → waits r ≡ wait → f.vs ≡ s.vs → r.value ≡ f.nn
+        → (f.limit == 1) ≡ false → AskedFor wait f
+    asked_by f wait w vs at several = record {
+      unlocked = l;
+      asking = a;
+      waiting = w;
+      at = at;
+      apart = rw vs apart;
+      several = several;
+    }
+
+    others_known : KnownAfter (ask_for_others s r.value (waits r))
+    others_known =
+        let f : FopState SegmentView = after_new_value s r.value in
+        cond_both (f.limit == 1) (alerts f Limit) _ (λ o. KnownAfter (after_gone (ahead_by r.value s.nn) o)) (λ t. tt)
+        (λ several. cond_both (waits r) (goes_on (record f { state = S3 })) (goes_on (retransmits f true))
+        (λ o. KnownAfter (after_gone (ahead_by r.value s.nn) o))
+        (λ w. asked_by (record f { state = S3 }) true w refl refl several)
+        (λ w. repeats_known f (asked_by f false w refl refl several) true))
+
+    back_known : (m : FopMode) → s.state ≡ m → IsActive m → AskedFor false s → KnownTo (goes_back_again s m) r
+    back_known S1 is active asked = repeats_known s asked (nat_lt s.count s.limit)
+    back_known S2 is active asked = rw is asked
+    back_known S3 is active asked = repeats_known s asked (nat_lt s.count s.limit)
+    back_known S4 is active asked = elim active [ ]
+    back_known S5 is active asked = elim active [ ]
+    back_known S6 is active asked = elim active [ ]
+
+    all_known : IsActive s.state → r.value ≡ s.nn → KnownAfter (ask_for_all s (waits r))
+    all_known active at =
+        cond_both (s.limit == 1) (alerts s Limit) _ KnownAfter (λ t. tt)
+        (λ several. cond_both (waits r) (goes_on (record s { state = S3 })) (goes_on (goes_back_again s s.state))
+        KnownAfter (λ w. asked_by (record s { state = S3 }) true w refl at several)
+        (λ w. back_known s.state refl active (asked_by s false w refl at several)))
+
+  active_known : IsActive s.state → KnownAfter (report_while_active s r)
+  active_known active =
+      cond_both (locks r) (alerts s Lockout) _ KnownAfter (λ t. tt)
+      (λ l. cond_both (is_outside s r.value) (alerts s NnR) _ KnownAfter (λ t. tt)
+      (λ i. cond_both (not (asks r) && waits r) (alerts s ClcwAlert) _ KnownAfter (λ t. tt)
+      (λ w. cond_both (asks r && (r.value == s.vs)) (alerts s Synch) _ KnownAfter (λ t. tt)
+      (λ v. cond_both (not (asks r) && (r.value == s.nn)) (nothing_new s s.state) _ KnownAfter
+      (λ t.
+      let both = and_parts (not (asks r)) (r.value == s.nn) t in
+      let none : asks r ≡ false = not-true (asks r) both.0 in
+      nothing_known s.state refl active (record {
+        unlocked = l;
+        asking = none;
+        waiting = not_and_right (asks r) (waits r) none w;
+        at = eqb-true r.value s.nn both.1;
+      }))
+      (λ n. cond_both (not (asks r)) (move_on s r.value) _ KnownAfter
+      (λ t.
+      let none : asks r ≡ false = not-true (asks r) t in record {
+        unlocked = l;
+        asking = none;
+        waiting = not_and_right (asks r) (waits r) none w;
+        at = refl;
+      })
+      (λ t.
+      let a : asks r ≡ true = not-false (asks r) t in
+      let apart = and_right (asks r) (r.value == s.vs) a v in
+      cond_both (not (r.value == s.nn)) (ask_for_others s r.value (waits r)) _ KnownAfter
+      (λ t. others_known l a apart)
+      (λ at. all_known l a apart active (eqb-true r.value s.nn (not-false (r.value == s.nn) at)))))))))
+
+  -- the session begins with what is reported
+  begun_known : IsStarting s.state → locks r ≡ false → waits r ≡ false → asks r ≡ false → r.value ≡ s.vs
+      → Told s.nn r
+  begun_known starting l w a at =
+      record { unlocked = l; asking = a; waiting = w; at = at ∙ k.even starting }
+
+  known_in : (m : FopMode) → s.state ≡ m → KnownAfter (report_in s r m)
+  known_in S1 is = active_known (rw is tt)
+  known_in S2 is = active_known (rw is tt)
+  known_in S3 is = active_known (rw is tt)
+  known_in S4 is =
+      cond_both (locks r) (alerts s Lockout) _ KnownAfter (λ t. tt)
+      (λ l. cond_both (not (r.value == s.vs)) (alerts s NnR) _ KnownAfter (λ t. tt)
+      (λ v. cond_both (asks r) (alerts s Synch) _ KnownAfter (λ t. tt)
+      (λ a. cond_both (waits r) (alerts s ClcwAlert) _ KnownAfter (λ t. tt)
+      (λ w. begun_known (rw is tt) l w a (eqb-true r.value s.vs (not-false (r.value == s.vs) v))))))
+  known_in S5 is =
+      cond_both (confirms s r) (goes_on (record s { state = S1; ticks = None; control = Idle })) (goes_on s) KnownAfter
+      (λ t.
+      let p = and_parts (not (locks r) && not (waits r) && not (asks r)) (r.value == s.vs) t in
+      let q = and_parts (not (locks r) && not (waits r)) (not (asks r)) p.0 in
+      let u = and_parts (not (locks r)) (not (waits r)) q.0 in
+      begun_known (rw is tt) (not-true (locks r) u.0) (not-true (waits r) u.1) (not-true (asks r) q.1)
+      (eqb-true r.value s.vs p.1))
+      (λ t. rw is t)
+  known_in S6 is = rw is tt
+
+  report_known : KnownTo (clcw_step s r).after r
+  report_known = known_in s.state refl
+
+-- ---- it stays so
+
+module _ (r : Clcw) (octet : r.value < 256) (s : FopState SegmentView) (usual : Usual s) (k : KnownTo s r) where
+  first_known : (m : FopMode) (vs : ℕ) → IsActive m → (r.value ≡ s.nn → (r.value == vs) ≡ false)
+      → Known m s.vs s.nn s.limit r → Known m vs s.nn s.limit r
+  first_known S1 vs active other k = k
+  first_known S2 vs active other k = let apart = other k.at in assumption (apart, k)
+  first_known S3 vs active other k = let apart = other k.at in assumption (apart, k)
+  first_known S4 vs active other k = k
+  first_known S5 vs active other k = elim active [ ]
+  first_known S6 vs active other k = k
+
+  next_apart : nat_lt (ahead_by s.vs s.nn) s.window ≡ true → r.value ≡ s.nn → (r.value == ((s.vs + 1) % 256)) ≡ false
+  next_apart room at =
+      ne_eqb r.value ((s.vs + 1) % 256)
+      (λ e. absurd (omega (arith, e, at, octet, ltb-true (ahead_by s.vs s.nn) s.window room, usual.window, usual.room)))
+
+  pull_known : KnownTo (pull_step s).after r
+  pull_known = pulled_out s (λ o. KnownTo o.after r) (record {
+    none = k;
+    command = λ command is. k;
+    bypass = λ u us is. k;
+    again = λ active x is. k;
+    first = λ active u is room. first_known s.state ((s.vs + 1) % 256) active (next_apart room) k;
+  })
+
+  tick_known : KnownTo (tick_step s).after r
+  tick_known = ticked s (λ o. KnownTo o.after r) (record {
+    off = k;
+    runs = λ left. k;
+    stops = k;
+    repeats = λ active. k;
+    counts = k;
+    commands = λ is. k;
+    gives_up = tt;
+  })
+
+  -- a directive in S6, which does not begin a session
+  set_known : (x : ℕ) (m : FopMode) → s.state ≡ m
+      → KnownTo (from_S6 s m (record s { vs = x; nn = x })).after r
+  set_known x S6 is = rw is tt
+  set_known x _ is = k
+
+  not_begun : (m : FopMode) (next : FopState SegmentView) → is_closed m ≡ false → KnownTo (from_S6 s m next).after r
+  not_begun S6 next on = absurd cc
+  not_begun _ next on = k
+
+  ended_known : (m : FopMode) → KnownTo (terminate_in s m).after r
+  ended_known S6 = k
+  ended_known _ = tt
+
+  limited : (n : ℕ) (m : FopMode) → (n == 1) ≡ false → Known m s.vs s.nn s.limit r → Known m s.vs s.nn n r
+  limited n S2 several k = assumption (several, k)
+  limited n S3 several k = assumption (several, k)
+  limited n _ several k = k
+
+  direct_known : (d : Directive) → (is_initiation d ≡ true → is_closed s.state ≡ false) → d ≢ SetLimit 1
+      → KnownTo (directive_step s d).after r
+  direct_known InitWithoutCheck on other = not_begun s.state _ (on refl)
+  direct_known InitWithCheck on other = not_begun s.state _ (on refl)
+  direct_known InitUnlock on other = not_begun s.state _ (on refl)
+  direct_known (InitSetVr x) on other = not_begun s.state _ (on refl)
+  direct_known Terminate on other = ended_known s.state
+  direct_known (SetVs x) on other = set_known x s.state refl
+  direct_known (SetWindow n) on other =
+      cond_both ((n == 0) || nat_lt s.room n) _ _ (λ (o : FopOutcome SegmentView (Result (Option Alert) CopFault)).
+      KnownTo o.after r) (λ t. k) (λ t. k)
+  direct_known (SetLimit n) on other =
+      cond_both (n == 0) _ _ (λ (o : FopOutcome SegmentView (Result (Option Alert) CopFault)). KnownTo o.after r)
+      (λ t. k) (λ t. limited n s.state (ne_eqb n 1 (λ e. other (ap SetLimit e))) k)
+  direct_known (SetTimer n) on other =
+      cond_both (n == 0) _ _ (λ (o : FopOutcome SegmentView (Result (Option Alert) CopFault)). KnownTo o.after r)
+      (λ t. k) (λ t. k)
+
+-- ---- the ground
+
+-- nothing of it would move up
+record Filled (s : GroundState) : Type 0 where
+  off : is_closed s.fop.state ≡ true → s.pending ≡ []
+  on : is_closed s.fop.state ≡ false → s.fop.waiting ≡ None → s.pending ≡ []
+
+module _ (s : GroundState) where
+  moved_filled : is_closed s.fop.state ≡ false → (o : Option SegmentView) (us : List SegmentView) → s.fop.waiting ≡ o
+      → s.pending ≡ us → Filled (after_moving_up s o us)
+  moved_filled on (Some u) us has is =
+      record { off = λ t. absurd (cc (t, on)); on = λ t none. absurd (cc (none, has)) }
+  moved_filled on None [] has is = record { off = λ t. is; on = λ t none. is }
+  moved_filled on None (u ∷ us) has is = record { off = λ t. absurd (cc (t, on)); on = λ t none. absurd cc }
+
+  refill_filled : Filled (refill_step s)
+  refill_filled =
+      cond_both (is_closed s.fop.state) (record s { pending = [] }) (after_moving_up s s.fop.waiting s.pending) Filled
+      (λ off. record { off = λ t. refl; on = λ t none. refl })
+      (λ on. moved_filled on s.fop.waiting s.pending refl refl)
+
+  stays_put : is_closed s.fop.state ≡ false → Filled s → (o : Option SegmentView) (us : List SegmentView)
+      → s.fop.waiting ≡ o → s.pending ≡ us → after_moving_up s o us ≡ s
+  stays_put on k (Some u) us has is = refl
+  stays_put on k None [] has is = refl
+  stays_put on k None (u ∷ us) has is = let none = k.on on has in absurd (cc (none, is))
+
+  filled_is : Filled s → refill_step s ≡ s
+  filled_is k =
+      cond_both (is_closed s.fop.state) (record s { pending = [] }) (after_moving_up s s.fop.waiting s.pending)
+      (λ g. g ≡ s) (λ off. ap (λ us. record s { pending = us }) (sym (k.off off)))
+      (λ on. stays_put on k s.fop.waiting s.pending refl refl)
+
+abbrev ConfigIs : Config → Config → FopState SegmentView → Type 0
+ConfigIs c own f = own ≡ c
+
+module _ (c : Config) where
+  waits_config : (own : Config) (f : FopState SegmentView) (u : Option SegmentView) → ConfigIs c own f
+      → ConfigIs c own (record f { waiting = u })
+  waits_config own f u is = is
+
+  bypass_config : (own : Config) (f : FopState SegmentView) (us : List SegmentView) → ConfigIs c own f
+      → ConfigIs c own (record f { bypass = us })
+  bypass_config own f us is = is
+
+  settled_config : (s : GroundState) → s.config ≡ c → (f : FopState SegmentView) → (with_fop s f).config ≡ c
+  settled_config s is f = settled_are (ConfigIs c) waits_config bypass_config s is f is
+
+  step_config : (s : GroundState) → s.config ≡ c → (e : GroundEvent) → (ground_step s e).after.config ≡ c
+  step_config s is (Submit m octets) = submits_are (ConfigIs c) waits_config bypass_config s is m octets
+  step_config s is (Bypass m octets) = bypasses_are (ConfigIs c) waits_config bypass_config s is m octets
+  step_config s is (Direct d) = directs_are (ConfigIs c) waits_config bypass_config s is d is
+  step_config s is Pull = settled_config s is _
+  step_config s is Tick = settled_config s is _
+  step_config s is (Telemetry octets) =
+      frame_seen s (λ g. g.config ≡ c) (record {
+        same = is;
+        extracts = λ x. is;
+        uses = λ x r. settled_config (after_extraction s x) is (clcw_step s.fop r).after;
+      }) (frame_at s.config.frame_length octets)
+  step_config s is (ControlWord octets) =
+      report_seen s (λ g. g.config ≡ c) is (λ r. settled_config s is _) (clcw_at octets)
+  step_config s is TakeTelemetry = takes_are (ConfigIs c) waits_config bypass_config s is s.telemetry
+  step_config s is ForgetTelemetry = is
+
+  run_config : (es : List GroundEvent) (s : GroundState) → s.config ≡ c → (ground_run s es).config ≡ c
+  run_config [] s is = is
+  run_config (e ∷ es) s is = run_config es (ground_step s e).after (step_config s is e)
+
+-- a report would change nothing
+record Heard (r : Clcw) (s : GroundState) : Type 0 where
+  usual : Usual s.fop
+  known : KnownTo s.fop r
+  filled : Filled s
+
+module _ (r : Clcw) (octet : r.value < 256) where
+  abbrev KnownAt : Config → FopState SegmentView → Type 0
+  KnownAt c f = KnownTo f r
+
+  waits_known : (c : Config) (f : FopState SegmentView) (u : Option SegmentView) → KnownAt c f
+      → KnownAt c (record f { waiting = u })
+  waits_known c f u k = k
+
+  bypass_known : (c : Config) (f : FopState SegmentView) (us : List SegmentView) → KnownAt c f
+      → KnownAt c (record f { bypass = us })
+  bypass_known c f us k = k
+
+  settled_known : (s : GroundState) → KnownTo s.fop r → (f : FopState SegmentView) → KnownTo f r
+      → KnownTo (with_fop s f).fop r
+  settled_known s k f known = settled_are KnownAt waits_known bypass_known s k f known
+
+  module _ (s : GroundState) (h : Heard r s) where
+    step_known : (e : GroundEvent) → BringsNoReport s e → KnownTo (ground_step s e).after.fop r
+    step_known (Submit m octets) goes = submits_are KnownAt waits_known bypass_known s h.known m octets
+    step_known (Bypass m octets) goes = bypasses_are KnownAt waits_known bypass_known s h.known m octets
+    step_known (Direct d) goes =
+        directs_are KnownAt waits_known bypass_known s h.known d
+        (direct_known r octet s.fop h.usual h.known d goes.0 goes.1)
+    step_known Pull goes = settled_known s h.known _ (pull_known r octet s.fop h.usual h.known)
+    step_known Tick goes = settled_known s h.known _ (tick_known r octet s.fop h.usual h.known)
+    step_known (Telemetry octets) goes = elim goes [ ]
+    step_known (ControlWord octets) goes = elim goes [ ]
+    step_known TakeTelemetry goes = takes_are KnownAt waits_known bypass_known s h.known s.telemetry
+    step_known ForgetTelemetry goes = h.known
+
+    unless_filled : (fault : Option LinkFault) (next : GroundState) → Filled next
+        → Filled (unless_refused fault s next).after
+    unless_filled None next filled = filled
+    unless_filled (Some fault) next filled = h.filled
+
+    takes_filled : (packets : List (List ℕ)) → Filled (ground_take_telemetry s packets).after
+    takes_filled [] = h.filled
+    takes_filled (packet ∷ left) = assumption h.filled
+
+    directs_filled : (answer : Result (Option Alert) CopFault) (f : FopState SegmentView)
+        → Filled (after_directive s answer f)
+    directs_filled (Ok alert) f = refill_filled (record s { fop = f })
+    directs_filled (Err fault) f = h.filled
+
+    step_filled : (e : GroundEvent) → BringsNoReport s e → Filled (ground_step s e).after
+    step_filled (Submit m octets) goes =
+        unless_filled (submit_fault s m octets) (after_submission s m octets)
+        (refill_filled (record s { pending = s.pending ++ segments_on s m octets }))
+    step_filled (Bypass m octets) goes =
+        unless_filled (bypass_fault s m octets) (after_bypass s m octets) (assumption h.filled)
+    step_filled (Direct d) goes = directs_filled (directive_step s.fop d).answer (directive_step s.fop d).after
+    step_filled Pull goes = refill_filled (record s { fop = (pull_step s.fop).after })
+    step_filled Tick goes = refill_filled (record s { fop = (tick_step s.fop).after })
+    step_filled (Telemetry octets) goes = elim goes [ ]
+    step_filled (ControlWord octets) goes = elim goes [ ]
+    step_filled TakeTelemetry goes = takes_filled s.telemetry
+    step_filled ForgetTelemetry goes = assumption h.filled
+
+    step_heard : (e : GroundEvent) → BringsNoReport s e → Heard r (ground_step s e).after
+    step_heard e goes = record {
+      usual = step_usual s h.usual e;
+      known = step_known e goes;
+      filled = step_filled e goes;
+    }
+
+  run_heard : (es : List GroundEvent) (s : GroundState) → BringNoReport s es → Heard r s → Heard r (ground_run s es)
+  run_heard [] s all h = h
+  run_heard (e ∷ es) s all h = run_heard es (ground_step s e).after all.1 (step_heard s h e all.0)
+
+  -- it was heard
+  uses_heard : (s : GroundState) → Usual s.fop → Heard r (with_fop s (clcw_step s.fop r).after)
+  uses_heard s usual = record {
+    usual = settled_are UsualAt waits_usual bypass_usual s usual _ (report_usual s.fop usual r);
+    known = refilled_keeps (λ g. KnownTo g.fop r) (record s { fop = (clcw_step s.fop r).after })
+        (λ waiting pending on off. report_known s.fop usual r);
+    filled = refill_filled (record s { fop = (clcw_step s.fop r).after });
+  }
+
+  -- it comes again
+  abbrev using : GroundState → GroundOutcome HeardClcw
+  using s = record {
+    answer = record { report = Used; alert = (clcw_step s.fop r).answer };
+    after = with_fop s (clcw_step s.fop r).after;
+  }
+
+  again : (s : GroundState) (once : HeardClcw) → once.report ≡ Used → Heard r s → using s ≡ repeated_outcome s once
+  again s once is h =
+      let o : FopOutcome SegmentView (Option Alert) = clcw_step s.fop r in
+      ap (λ (o : FopOutcome SegmentView (Option Alert)).
+      record { answer = record { report = Used; alert = o.answer }; after = with_fop s o.after })
+      (ignored s.fop r octet h.known)
+      ∙ ap (λ (g : GroundState). record { answer = record { report = Used; alert = None }; after = g })
+      (filled_is s h.filled)
+      ∙ ap (λ report. record { answer = record { report = report; alert = None }; after = s }) (sym is)
+
+  module _ (s : GroundState) (usual : Usual s.fop) (since : List GroundEvent) where
+    abbrev Repeats : GroundOutcome HeardClcw → Type 0
+    Repeats o = BringNoReport o.after since
+        → report_outcome (ground_run o.after since) (Ok r) ≡ repeated_outcome (ground_run o.after since) o.answer
+
+    used_again : (r.vcid == s.config.vcid) ≡ true → Repeats (using s)
+    used_again own all =
+        let now : GroundState = ground_run (using s).after since in
+        let config = run_config s.config since (using s).after (settled_config s.config s refl _) in
+        cond_both (r.vcid == now.config.vcid) _ _
+        (λ (o : GroundOutcome HeardClcw). o ≡ repeated_outcome now (using s).answer)
+        (λ t. again now (using s).answer refl (run_heard since (using s).after all (uses_heard s usual)))
+        (λ t. absurd (cc (t, own, config)))
+
+    abbrev others : GroundState → GroundOutcome HeardClcw
+    others g = record { answer = record { report = OtherChannel; alert = None }; after = g }
+
+    other_again : (r.vcid == s.config.vcid) ≡ false → Repeats (others s)
+    other_again other all =
+        let now : GroundState = ground_run s since in
+        let config = run_config s.config since s refl in
+        cond_both (r.vcid == now.config.vcid) _ _
+        (λ (o : GroundOutcome HeardClcw). o ≡ repeated_outcome now (others s).answer)
+        (λ t. absurd (cc (t, other, config))) (λ t. refl)
+
+    report_again : Repeats (report_outcome s (Ok r))
+    report_again = cond_both (r.vcid == s.config.vcid) (using s) (others s) Repeats used_again other_again
+
+abbrev Fits : Result Clcw ClcwFault → Type 0
+Fits word = IfOk word (λ r. r.value < 256)
+
+word_octet : (octets : List ℕ) → IsOctets octets → Fits (clcw_at octets)
+unfolding clcw_at
+word_octet octets are =
+    cond_both (not (slice_index octets 0 / 128 == 0)) _ _ Fits (λ t. tt)
+    (λ t. cond_both (not (slice_index octets 0 / 32 % 4 == 0)) _ _ Fits (λ t. tt)
+    (λ t. cond_both (not (slice_index octets 0 % 4 == 1)) _ _ Fits (λ t. tt)
+    (λ t. cond_both (not (slice_index octets 1 % 4 == 0)) _ _ Fits (λ t. tt)
+    (λ t. cond_both (not (slice_index octets 2 % 2 == 0)) _ _ Fits (λ t. tt) (λ t. are 3)))))
+
+pub repeats_nothing : RepeatsNothing
+repeats_nothing c before since octets ranges are = repeated (clcw_at octets) (word_octet octets are) where
+  x : GroundState
+  x = ground_run (new_ground c) before
+
+  repeated : (word : Result Clcw ClcwFault) → Fits word
+      → BringNoReport (report_outcome x word).after since
+      → report_outcome (ground_run (report_outcome x word).after since) word
+      ≡ repeated_outcome (ground_run (report_outcome x word).after since) (report_outcome x word).answer
+  repeated (Err fault) octet all = refl
+  repeated (Ok r) octet all = report_again r octet x (run_usual before (new_ground c) (new_usual c ranges)) since all

@@ -1,0 +1,49 @@
+-- A report that the ground hears again.
+use Rattle.std.specs.Prelude.{◌≡◌, ◌≢◌, List, ℕ, [], ◌∷◌, true, false, None}
+use Rattle.octets.specs.Number.{IsOctets}
+use Rattle.cop1.specs.FopDirective.{is_initiation}
+use Rattle.cop1.specs.declared.vocabulary.Directive.TheVariants.{SetLimit}
+use Rattle.nodes.specs.declared.config.Config.{Config}
+use Rattle.nodes.specs.declared.heard.HeardClcw.{HeardClcw}
+use Rattle.nodes.specs.Parameters.{IsConfig}
+use Rattle.nodes.specs.Ground.{GroundState, GroundOutcome, GroundEvent, Direct}
+use Rattle.nodes.specs.Ground.{Telemetry, ControlWord}
+use Rattle.nodes.specs.Ground.{new_ground, ground_step, is_closed}
+
+-- the ground after these calls
+abbrev pub ground_run : GroundState → List GroundEvent → GroundState
+ground_run s [] = s
+ground_run s (event ∷ more) = ground_run (ground_step s event).after more
+
+-- a call brings no report, begins no session, and does not set the transmission limit to 1
+abbrev pub BringsNoReport : GroundState → GroundEvent → Type 0
+BringsNoReport s (Direct directive) =
+    (is_initiation directive ≡ true → is_closed s.fop.state ≡ false) × (directive ≢ SetLimit 1)
+BringsNoReport s (Telemetry octets) = ⊥
+BringsNoReport s (ControlWord octets) = ⊥
+BringsNoReport s _ = Unit {0}
+
+-- so does each of these calls
+abbrev pub BringNoReport : GroundState → List GroundEvent → Type 0
+BringNoReport s [] = Unit {0}
+BringNoReport s (event ∷ more) =
+    BringsNoReport s event × BringNoReport (ground_step s event).after more
+
+-- the octets come again: the answer says the same of the report, without an alert, and nothing else
+-- comes of them
+abbrev pub repeated_outcome : GroundState → HeardClcw → GroundOutcome HeardClcw
+repeated_outcome s once = record {
+  answer = record { report = once.report; alert = None };
+  after = s;
+}
+
+-- After any calls of the ground: a control word that it was given by itself changes nothing when it
+-- comes again, as long as no other report came and no session began.
+abbrev pub RepeatsNothing : Type 0
+RepeatsNothing =
+    (c : Config) (before since : List GroundEvent) (octets : List ℕ) → IsConfig c → IsOctets octets
+    → let once : GroundOutcome HeardClcw =
+    ground_step (ground_run (new_ground c) before) (ControlWord octets) in
+    let now : GroundState = ground_run once.after since in
+    BringNoReport once.after since
+    → ground_step now (ControlWord octets) ≡ repeated_outcome now once.answer
