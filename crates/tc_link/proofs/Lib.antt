@@ -7,6 +7,7 @@ pub mod Board
 pub mod BypassKept
 pub mod Readable
 pub mod CountsOn
+pub mod Configured
 pub mod InOrder
 pub mod Directives
 pub mod Early

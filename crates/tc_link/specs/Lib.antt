@@ -1,6 +1,7 @@
 pub mod Accepted
 pub mod AnyPast
 pub mod Bypass
+pub mod Configured
 pub mod Confirmation
 pub mod CountsOn
 pub mod FalseAlarms

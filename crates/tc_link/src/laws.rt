@@ -2,6 +2,7 @@
 
 ghost use Rattle.tc_link.specs.AnyPast.{HoldsAfterAnyPast, ReportsDoAsFrames, RunsAsEvents};
 ghost use Rattle.tc_link.specs.Bypass.{BypassKeepsOrder};
+ghost use Rattle.tc_link.specs.Configured.{AlikeIsAsOne};
 ghost use Rattle.tc_link.specs.CountsOn.{KeepsWhatIsKnown};
 ghost use Rattle.tc_link.specs.OneLink.{EachGoesOnAsOne, EachHasOneLink};
 ghost use Rattle.tc_link.specs.Progress.{EachAcknowledges, EachBegins, EachEnds, EachIsDelivered};
@@ -104,4 +105,13 @@ pub fn law_of_bypass()
 /// its last CLCW again, until there is another, does no harm to a session.
 pub fn law_of_repetition()
     ensures { RepeatsNothing }
+{}
+
+/// Two nodes need not have one configuration. Where those of the ground and of the spacecraft have the
+/// same `scid`, `vcid`, `tm_vcid`, `width`, `max_packet`, `maps`, `frame_length` and `blocking`, each node
+/// answers each call as with one configuration that is made of both, and is left the same but for its
+/// own. The ground does not read `ready_slots` and `bypass_slots`; the spacecraft does not read `window`,
+/// `limit`, `timer`, `part` and `queue_slots`.
+pub fn law_of_configurations()
+    ensures { AlikeIsAsOne }
 {}

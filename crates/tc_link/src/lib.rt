@@ -13,8 +13,8 @@ mod sim;
 mod telemetry_law;
 
 pub use laws::{
-    law_of_any_past, law_of_bypass, law_of_numbers, law_of_plain_links, law_of_progress,
-    law_of_repetition, law_of_sessions, law_of_silence, law_of_taking,
+    law_of_any_past, law_of_bypass, law_of_configurations, law_of_numbers, law_of_plain_links,
+    law_of_progress, law_of_repetition, law_of_sessions, law_of_silence, law_of_taking,
 };
 pub use nodes::{
     Config, Event, Ground, Heard, HeardClcw, HeardReport, LinkFault, Received, Spacecraft,
