@@ -1,6 +1,6 @@
 -- A report that comes again, and no other since, changes nothing.
 use Rattle.tc_link.proofs.Common.{◌≡◌, ◌≢◌, ◌≤◌, ◌<◌, ℕ, Bool, true, false, List, [], ◌∷◌, Option, Some, None, refl}
-use Rattle.tc_link.proofs.Common.{Result, Ok, Err, Idle, not, ◌+◌, ◌%◌, ◌∙◌, sym, ap, arith, cond_both, and_parts}
+use Rattle.tc_link.proofs.Common.{Result, Ok, Err, Idle, not, ◌+◌, ◌%◌, ◌∙◌, sym, ap, subst, arith, cond_both}
 use Rattle.tc_link.proofs.Common.{eqb-true, eq-eqb, ne_eqb, not-false, ltb-true, nat_lt, ◌==◌, ◌||◌, Clcw, ClcwFault}
 use Rattle.tc_link.proofs.Common.{SegmentView, Directive, InitWithoutCheck, InitWithCheck, InitUnlock, InitSetVr, S1}
 use Rattle.tc_link.proofs.Common.{S2, S3, S4, S5, S6, FopMode, FopState, FopOutcome, Alert, CopFault, IsActive, NnR}
@@ -8,8 +8,9 @@ use Rattle.tc_link.proofs.Common.{Synch, Limit, locks, waits, asks, confirms, cl
 use Rattle.tc_link.proofs.Common.{after_new_value, retransmits, goes_on, alerts, after_alert, ahead_by, ticked}
 use Rattle.tc_link.proofs.Common.{pulled_out, heard_active, obeyed, begun, is_initiation, tick_step, pull_step}
 use Rattle.tc_link.proofs.Common.{directive_step, Config, LinkFault, IsConfig, GroundState, GroundOutcome, is_closed}
-use Rattle.tc_link.proofs.Common.{refill_step, with_fop, unless_refused, submit_fault, after_submission}
-use Rattle.tc_link.proofs.Common.{bypass_fault, after_bypass, after_extraction}
+use Rattle.tc_link.proofs.Common.{telemetry_outcome}
+use Rattle.tc_link.proofs.Common.{and_parts, extract_step, refill_step, with_fop, unless_refused, submit_fault}
+use Rattle.tc_link.proofs.Common.{after_submission, bypass_fault, after_bypass, after_extraction, TmFault}
 use Rattle.std.specs.Prelude.{◌&&◌, ◌++◌, ◌/◌, IfOk, slice_index}
 use Rattle.std.proofs.lemmas.Bool.{not-true}
 use Rattle.octets.specs.Number.{IsOctets}
@@ -21,12 +22,15 @@ use Rattle.cop1.specs.declared.vocabulary.Alert.TheVariants.{Lockout, Clcw as Cl
 use Rattle.cop1.specs.declared.vocabulary.Directive.TheVariants.{Terminate, SetVs, SetWindow, SetLimit, SetTimer}
 use Rattle.tm_link.specs.Decoding.{frame_at}
 use Rattle.simulated_link.proofs.TelemetryCases.{reported, report_seen, frame_seen}
+use Rattle.tm_link.specs.Layout.{FrameView}
+use Rattle.nodes.specs.declared.heard.Heard.{Heard}
 use Rattle.nodes.specs.declared.heard.HeardClcw.{HeardClcw}
 use Rattle.nodes.specs.declared.heard.HeardReport.TheVariants.{Used, OtherChannel}
 use Rattle.nodes.specs.Ground.{GroundEvent, Submit, Bypass, Direct, Pull, Tick, Telemetry, ControlWord, TakeTelemetry}
 use Rattle.nodes.specs.Ground.{ForgetTelemetry, new_ground, ground_step, ground_take_telemetry, after_moving_up}
-use Rattle.nodes.specs.Ground.{after_directive, report_outcome, segments_on}
+use Rattle.nodes.specs.Ground.{after_directive, report_outcome, segments_on, is_own_telemetry}
 use Rattle.tc_link.specs.Repeated.{ground_run, BringsNoReport, BringNoReport, repeated_outcome, RepeatsNothing}
+use Rattle.tc_link.specs.Repeated.{RepeatsNothingOfFrames, word_of}
 use Rattle.tc_link.proofs.Refilled.{refilled_keeps}
 
 -- ---- what is so of the configuration and the sender, whatever waits, is so after each call
@@ -572,7 +576,7 @@ module _ (c : Config) where
   run_config (e ∷ es) s is = run_config es (ground_step s e).after (step_config s is e)
 
 -- a report would change nothing
-record Heard (r : Clcw) (s : GroundState) : Type 0 where
+record IsKnown (r : Clcw) (s : GroundState) : Type 0 where
   usual : Usual s.fop
   known : KnownTo s.fop r
   filled : Filled s
@@ -593,7 +597,7 @@ module _ (r : Clcw) (octet : r.value < 256) where
       → KnownTo (with_fop s f).fop r
   settled_known s k f known = settled_are KnownAt waits_known bypass_known s k f known
 
-  module _ (s : GroundState) (h : Heard r s) where
+  module _ (s : GroundState) (h : IsKnown r s) where
     step_known : (e : GroundEvent) → BringsNoReport s e → KnownTo (ground_step s e).after.fop r
     step_known (Submit m octets) goes = submits_are KnownAt waits_known bypass_known s h.known m octets
     step_known (Bypass m octets) goes = bypasses_are KnownAt waits_known bypass_known s h.known m octets
@@ -635,19 +639,19 @@ module _ (r : Clcw) (octet : r.value < 256) where
     step_filled TakeTelemetry goes = takes_filled s.telemetry
     step_filled ForgetTelemetry goes = assumption h.filled
 
-    step_heard : (e : GroundEvent) → BringsNoReport s e → Heard r (ground_step s e).after
+    step_heard : (e : GroundEvent) → BringsNoReport s e → IsKnown r (ground_step s e).after
     step_heard e goes = record {
       usual = step_usual s h.usual e;
       known = step_known e goes;
       filled = step_filled e goes;
     }
 
-  run_heard : (es : List GroundEvent) (s : GroundState) → BringNoReport s es → Heard r s → Heard r (ground_run s es)
+  run_heard : (es : List GroundEvent) (s : GroundState) → BringNoReport s es → IsKnown r s → IsKnown r (ground_run s es)
   run_heard [] s all h = h
   run_heard (e ∷ es) s all h = run_heard es (ground_step s e).after all.1 (step_heard s h e all.0)
 
   -- it was heard
-  uses_heard : (s : GroundState) → Usual s.fop → Heard r (with_fop s (clcw_step s.fop r).after)
+  uses_heard : (s : GroundState) → Usual s.fop → IsKnown r (with_fop s (clcw_step s.fop r).after)
   uses_heard s usual = record {
     usual = settled_are UsualAt waits_usual bypass_usual s usual _ (report_usual s.fop usual r);
     known = refilled_keeps (λ g. KnownTo g.fop r) (record s { fop = (clcw_step s.fop r).after })
@@ -662,7 +666,7 @@ module _ (r : Clcw) (octet : r.value < 256) where
     after = with_fop s (clcw_step s.fop r).after;
   }
 
-  again : (s : GroundState) (once : HeardClcw) → once.report ≡ Used → Heard r s → using s ≡ repeated_outcome s once
+  again : (s : GroundState) (once : HeardClcw) → once.report ≡ Used → IsKnown r s → using s ≡ repeated_outcome s once
   again s once is h =
       let o : FopOutcome SegmentView (Option Alert) = clcw_step s.fop r in
       ap (λ (o : FopOutcome SegmentView (Option Alert)).
@@ -712,14 +716,38 @@ word_octet octets are =
     (λ t. cond_both (not (slice_index octets 1 % 4 == 0)) _ _ Fits (λ t. tt)
     (λ t. cond_both (not (slice_index octets 2 % 2 == 0)) _ _ Fits (λ t. tt) (λ t. are 3)))))
 
-pub repeats_nothing : RepeatsNothing
-repeats_nothing c before since octets ranges are = repeated (clcw_at octets) (word_octet octets are) where
-  x : GroundState
-  x = ground_run (new_ground c) before
-
-  repeated : (word : Result Clcw ClcwFault) → Fits word
-      → BringNoReport (report_outcome x word).after since
+module _ (x : GroundState) (usual : Usual x.fop) (since : List GroundEvent) where
+  repeated : (word : Result Clcw ClcwFault) → Fits word → BringNoReport (report_outcome x word).after since
       → report_outcome (ground_run (report_outcome x word).after since) word
       ≡ repeated_outcome (ground_run (report_outcome x word).after since) (report_outcome x word).answer
   repeated (Err fault) octet all = refl
-  repeated (Ok r) octet all = report_again r octet x (run_usual before (new_ground c) (new_usual c ranges)) since all
+  repeated (Ok r) octet all = report_again r octet x usual since all
+
+pub repeats_nothing : RepeatsNothing
+repeats_nothing c before since octets ranges are =
+    repeated (ground_run (new_ground c) before) (run_usual before (new_ground c) (new_usual c ranges)) since
+    (clcw_at octets) (word_octet octets are)
+
+-- a telemetry frame of the ground's channel
+module _ (s : GroundState) (frame : FrameView) (since : List GroundEvent) where
+  abbrev Carried : GroundOutcome Heard → Type 0
+  Carried o = BringNoReport o.after since
+      → report_outcome (ground_run o.after since) (clcw_at frame.ocf)
+      ≡ repeated_outcome (ground_run o.after since) (word_of o.answer)
+
+  frame_again : Usual s.fop → IsOctets frame.ocf → (r : Result FrameView TmFault) → r ≡ Ok frame
+      → is_own_telemetry s.config frame ≡ true → Carried (telemetry_outcome s r)
+  frame_again usual are r is own =
+      subst (λ (r : Result FrameView TmFault). Carried (telemetry_outcome s r)) (sym is)
+      (cond_both (is_own_telemetry s.config frame) _ _ Carried
+      (λ t. repeated (after_extraction s (extract_step s.extractor frame)) usual since (clcw_at frame.ocf)
+      (word_octet frame.ocf are))
+      (λ t. absurd (cc (t, own))))
+
+pub repeats_nothing_of_frames : RepeatsNothingOfFrames
+repeats_nothing_of_frames c before since octets frame ranges is own are =
+    let x : GroundState = ground_run (new_ground c) before in
+    let config : x.config ≡ c = run_config c before (new_ground c) refl in
+    frame_again x frame since (run_usual before (new_ground c) (new_usual c ranges)) are
+    (frame_at x.config.frame_length octets) (ap (λ (c : Config). frame_at c.frame_length octets) config ∙ is)
+    (ap (λ (c : Config). is_own_telemetry c frame) config ∙ own)

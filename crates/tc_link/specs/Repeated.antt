@@ -1,14 +1,19 @@
 -- A report that the ground hears again.
-use Rattle.std.specs.Prelude.{◌≡◌, ◌≢◌, List, ℕ, [], ◌∷◌, true, false, None}
+use Rattle.std.specs.Prelude.{◌≡◌, ◌≢◌, List, ℕ, [], ◌∷◌, true, false, None, Ok}
 use Rattle.octets.specs.Number.{IsOctets}
 use Rattle.cop1.specs.FopDirective.{is_initiation}
 use Rattle.cop1.specs.declared.vocabulary.Directive.TheVariants.{SetLimit}
 use Rattle.nodes.specs.declared.config.Config.{Config}
+use Rattle.tm_link.specs.Layout.{FrameView}
+use Rattle.tm_link.specs.Decoding.{frame_at}
+use Rattle.nodes.specs.declared.heard.Heard.{Heard}
+use Rattle.nodes.specs.declared.heard.Heard.TheVariants.{Invalid, Foreign, Frame}
 use Rattle.nodes.specs.declared.heard.HeardClcw.{HeardClcw}
+use Rattle.nodes.specs.declared.heard.HeardReport.TheVariants.{OtherChannel}
 use Rattle.nodes.specs.Parameters.{IsConfig}
 use Rattle.nodes.specs.Ground.{GroundState, GroundOutcome, GroundEvent, Direct}
 use Rattle.nodes.specs.Ground.{Telemetry, ControlWord}
-use Rattle.nodes.specs.Ground.{new_ground, ground_step, is_closed}
+use Rattle.nodes.specs.Ground.{new_ground, ground_step, is_closed, is_own_telemetry}
 
 -- the ground after these calls
 abbrev pub ground_run : GroundState → List GroundEvent → GroundState
@@ -47,3 +52,21 @@ RepeatsNothing =
     let now : GroundState = ground_run once.after since in
     BringNoReport once.after since
     → ground_step now (ControlWord octets) ≡ repeated_outcome now once.answer
+
+-- what is answered of a report by itself, where a telemetry frame carried it
+abbrev pub word_of : Heard → HeardClcw
+word_of (Frame gap packets report alert) = record { report = report; alert = alert }
+word_of (Invalid fault) = record { report = OtherChannel; alert = None }
+word_of Foreign = record { report = OtherChannel; alert = None }
+
+-- So it is where a telemetry frame of the ground's channel carried the word at first.
+abbrev pub RepeatsNothingOfFrames : Type 0
+RepeatsNothingOfFrames =
+    (c : Config) (before since : List GroundEvent) (octets : List ℕ) (frame : FrameView)
+    → IsConfig c → frame_at c.frame_length octets ≡ Ok frame → is_own_telemetry c frame ≡ true
+    → IsOctets frame.ocf
+    → let once : GroundOutcome Heard =
+    ground_step (ground_run (new_ground c) before) (Telemetry octets) in
+    let now : GroundState = ground_run once.after since in
+    BringNoReport once.after since
+    → ground_step now (ControlWord frame.ocf) ≡ repeated_outcome now (word_of once.answer)

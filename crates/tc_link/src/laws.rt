@@ -8,7 +8,7 @@ ghost use Rattle.tc_link.specs.OneLink.{EachGoesOnAsOne, EachHasOneLink};
 ghost use Rattle.tc_link.specs.Progress.{EachAcknowledges, EachBegins, EachEnds, EachIsDelivered};
 ghost use Rattle.tc_link.specs.Progress.{EachMakesProgress};
 ghost use Rattle.tc_link.specs.Promises.{HoldsOfAllRuns};
-ghost use Rattle.tc_link.specs.Repeated.{RepeatsNothing};
+ghost use Rattle.tc_link.specs.Repeated.{RepeatsNothing, RepeatsNothingOfFrames};
 ghost use Rattle.tc_link.specs.Silence.{SilenceIsIdle};
 ghost use Rattle.tc_link.specs.Taken.{HandsOutAsSubmitted, HandsOutWhatIsDelivered, HandsOutWhatIsSubmitted};
 
@@ -101,10 +101,12 @@ pub fn law_of_bypass()
 /// A CLCW that comes again, and no other since, changes nothing. Of every ground, whatever it was called
 /// with: `clcw` is given four octets, and is given them again after other calls. Between the two no other
 /// report comes, no session begins, and the transmission limit is not set to 1. Then the second call leaves
-/// the ground as it was, raises no alert, and answers the same of the report. So a front end that hands on
-/// its last CLCW again, until there is another, does no harm to a session.
+/// the ground as it was, raises no alert, and answers the same of the report (`words`). So it is where they
+/// came at first in a telemetry frame of the ground's channel (`frames`). So a front end that hands on its
+/// last CLCW again, until there is another, does no harm to a session.
 pub fn law_of_repetition()
-    ensures { RepeatsNothing }
+    ensures words { RepeatsNothing }
+    ensures frames { RepeatsNothingOfFrames }
 {}
 
 /// Two nodes need not have one configuration. Where those of the ground and of the spacecraft have the
