@@ -11,17 +11,20 @@
 #[cfg(feature = "nodes")]
 pub mod nodes;
 
+// enum sedge_status
 pub const SEDGE_OK: u8 = 0;
 pub const SEDGE_ABSENT: u8 = 253;
 pub const SEDGE_WRONG_COUNT: u8 = 254;
 pub const SEDGE_DAMAGED: u8 = 255;
 
+// enum sedge_clcw_flags
 pub const SEDGE_CLCW_RETRANSMIT: u8 = 0x08;
 pub const SEDGE_CLCW_WAIT: u8 = 0x10;
 pub const SEDGE_CLCW_LOCKOUT: u8 = 0x20;
 pub const SEDGE_CLCW_NO_BIT_LOCK: u8 = 0x40;
 pub const SEDGE_CLCW_NO_RF: u8 = 0x80;
 
+// enum sedge_control
 pub const SEDGE_CONTROL_IDLE: u8 = 0;
 pub const SEDGE_CONTROL_UNLOCK_DUE: u8 = 1;
 pub const SEDGE_CONTROL_UNLOCK_SENT: u8 = 2;
@@ -30,6 +33,7 @@ pub const SEDGE_CONTROL_SET_VR_SENT: u8 = 4;
 
 pub const SEDGE_NO_ALERT: u8 = 0;
 
+// enum sedge_directive
 pub const SEDGE_INIT_WITHOUT_CHECK: u8 = 1;
 pub const SEDGE_INIT_WITH_CHECK: u8 = 2;
 pub const SEDGE_INIT_UNLOCK: u8 = 3;
@@ -40,24 +44,29 @@ pub const SEDGE_SET_WINDOW: u8 = 7;
 pub const SEDGE_SET_LIMIT: u8 = 8;
 pub const SEDGE_SET_TIMER: u8 = 9;
 
+// enum sedge_next
 pub const SEDGE_NEXT_NOTHING: u8 = 0;
 pub const SEDGE_NEXT_UNLOCK: u8 = 1;
 pub const SEDGE_NEXT_SET_VR: u8 = 2;
 pub const SEDGE_NEXT_FIRST: u8 = 3;
 pub const SEDGE_NEXT_AGAIN: u8 = 4;
 
+// enum sedge_tc_kind
 pub const SEDGE_TC_AD: u8 = 0;
 pub const SEDGE_TC_BD: u8 = 1;
 pub const SEDGE_TC_BC: u8 = 2;
 
+// enum sedge_command
 pub const SEDGE_UNLOCK: u8 = 0;
 pub const SEDGE_SET_VR: u8 = 1;
 
+// enum sedge_pointer
 pub const SEDGE_POINTER_ONLY_IDLE: u16 = 2046;
 pub const SEDGE_POINTER_NO_START: u16 = 2047;
 
 pub const SEDGE_NOT_DROPPED: u8 = 0;
 
+// enum sedge_where
 pub const SEDGE_NO_PACKET: u8 = 0;
 pub const SEDGE_IN_MEMORY: u8 = 1;
 pub const SEDGE_IN_DATA: u8 = 2;

@@ -15,6 +15,7 @@ pub const SEDGE_NODE_ABSENT: u8 = 253;
 pub const SEDGE_NODE_OUT_OF_RANGE: u8 = 254;
 pub const SEDGE_NODE_NONE: u8 = 255;
 
+// enum sedge_event_kind
 pub const SEDGE_EVENT_SUBMIT: u8 = 1;
 pub const SEDGE_EVENT_BYPASS: u8 = 2;
 pub const SEDGE_EVENT_DIRECTIVE: u8 = 3;
@@ -31,6 +32,7 @@ pub const SEDGE_EVENT_TAKE: u8 = 13;
 pub const SEDGE_EVENT_TAKE_BYPASS: u8 = 14;
 pub const SEDGE_EVENT_TELEMETRY: u8 = 15;
 
+// enum sedge_reply_kind
 pub const SEDGE_REPLY_DONE: u8 = 0;
 pub const SEDGE_REPLY_NOTHING: u8 = 1;
 pub const SEDGE_REPLY_LOST: u8 = 2;
@@ -42,16 +44,19 @@ pub const SEDGE_REPLY_UP: u8 = 7;
 pub const SEDGE_REPLY_DOWN: u8 = 8;
 pub const SEDGE_REPLY_PACKET: u8 = 9;
 
+// enum sedge_refused_by
 pub const SEDGE_BY_NODE: u8 = 1;
 pub const SEDGE_BY_SENDER: u8 = 2;
 pub const SEDGE_BY_TELEMETRY: u8 = 3;
 
+// enum sedge_begun
 pub const SEDGE_BEGUN_NOT: u8 = 0;
 pub const SEDGE_BEGUN_WITHOUT_CHECK: u8 = 1;
 pub const SEDGE_BEGUN_WITH_CHECK: u8 = 2;
 pub const SEDGE_BEGUN_UNLOCK: u8 = 3;
 pub const SEDGE_BEGUN_SET_VR: u8 = 4;
 
+// enum sedge_record
 pub const SEDGE_SUBMITTED: u8 = 1;
 pub const SEDGE_DELIVERED: u8 = 2;
 pub const SEDGE_SENT: u8 = 3;
