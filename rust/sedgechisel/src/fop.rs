@@ -199,52 +199,7 @@ impl Fop {
         CopFault::judge(ffi::sedge_fop_directive(&mut self.0, directive, value))
     }
 
-    /// The directive to initiate without CLCW check (5.2.4): S6 to S1. The four initiations and
-    /// [`set_vs`](Fop::set_vs) are refused with 8 [`WrongState`](CopFault::WrongState) in any other state than S6.
-    pub fn init_without_check(&mut self) -> Result<(), CopFault> {
-        self.direct(ffi::SEDGE_INIT_WITHOUT_CHECK, 0)
-    }
-
-    /// The directive to initiate with CLCW check: S6 to S4, until a report agrees.
-    pub fn init_with_check(&mut self) -> Result<(), CopFault> {
-        self.direct(ffi::SEDGE_INIT_WITH_CHECK, 0)
-    }
-
-    /// The directive to initiate with Unlock: S6 to S5, and Unlock is sent.
-    pub fn init_unlock(&mut self) -> Result<(), CopFault> {
-        self.direct(ffi::SEDGE_INIT_UNLOCK, 0)
-    }
-
-    /// The directive to initiate with Set V(R): S6 to S5, V(S) and NN(R) to this number, and Set V(R) is sent.
-    pub fn init_set_vr(&mut self, vr: u8) -> Result<(), CopFault> {
-        self.direct(ffi::SEDGE_INIT_SET_VR, vr.into())
-    }
-
-    /// The directive Terminate: from S1 to S5 to S6. It is the alert [`Terminated`](Alert::Terminated): all units are
-    /// discarded. Refused with 8 [`WrongState`](CopFault::WrongState) in S6.
-    pub fn terminate(&mut self) -> Result<(), CopFault> {
-        self.direct(ffi::SEDGE_TERMINATE, 0)
-    }
-
-    /// The directive Set V(S), which sets NN(R) too; in S6 alone.
-    pub fn set_vs(&mut self, vs: u8) -> Result<(), CopFault> {
-        self.direct(ffi::SEDGE_SET_VS, vs.into())
-    }
-
-    /// Sets the window K, in any state. Refused with 2 [`Window`](CopFault::Window) unless it is 1 to half the width.
-    pub fn set_window(&mut self, window: u8) -> Result<(), CopFault> {
-        self.direct(ffi::SEDGE_SET_WINDOW, window.into())
-    }
-
-    /// Sets the transmission limit, in any state. Refused with 3 [`Limit`](CopFault::Limit) if it is 0.
-    pub fn set_limit(&mut self, limit: u8) -> Result<(), CopFault> {
-        self.direct(ffi::SEDGE_SET_LIMIT, limit.into())
-    }
-
-    /// Sets the timer's value in ticks, in any state. Refused with 4 [`Timer`](CopFault::Timer) if it is 0.
-    pub fn set_timer(&mut self, timer: u16) -> Result<(), CopFault> {
-        self.direct(ffi::SEDGE_SET_TIMER, timer)
-    }
+    directives!();
 
     /// Submits a unit, to be sent under sequence control: it waits, and the caller keeps it. Refused with
     /// 6 [`NotOpen`](CopFault::NotOpen) in S6, and 7 [`Busy`](CopFault::Busy) while another one waits.

@@ -36,6 +36,8 @@ extern crate alloc;
 extern crate std;
 
 #[macro_use]
+mod directives;
+#[macro_use]
 mod numbers;
 
 mod check;

@@ -2,7 +2,7 @@
 
 use super::ground::alert_of;
 use super::{room_for, Config, Heard, LinkFault, OpenFault, Received};
-use crate::ffi::{self, nodes as raw};
+use crate::ffi::nodes as raw;
 use crate::numbers::{done, never};
 use crate::{Alert, Clcw, CopFault, FopState, Packet, TcFrame, TmFault};
 use alloc::vec::Vec;
@@ -132,50 +132,7 @@ impl Link {
         Ok(Some((reply.map, octets)))
     }
 
-    /// [`Ground::init_without_check`](crate::Ground::init_without_check).
-    pub fn init_without_check(&mut self) -> Result<(), CopFault> {
-        self.direct(ffi::SEDGE_INIT_WITHOUT_CHECK, 0)
-    }
-
-    /// [`Ground::init_with_check`](crate::Ground::init_with_check).
-    pub fn init_with_check(&mut self) -> Result<(), CopFault> {
-        self.direct(ffi::SEDGE_INIT_WITH_CHECK, 0)
-    }
-
-    /// [`Ground::init_unlock`](crate::Ground::init_unlock).
-    pub fn init_unlock(&mut self) -> Result<(), CopFault> {
-        self.direct(ffi::SEDGE_INIT_UNLOCK, 0)
-    }
-
-    /// [`Ground::init_set_vr`](crate::Ground::init_set_vr).
-    pub fn init_set_vr(&mut self, vr: u8) -> Result<(), CopFault> {
-        self.direct(ffi::SEDGE_INIT_SET_VR, vr.into())
-    }
-
-    /// [`Ground::terminate`](crate::Ground::terminate).
-    pub fn terminate(&mut self) -> Result<(), CopFault> {
-        self.direct(ffi::SEDGE_TERMINATE, 0)
-    }
-
-    /// [`Ground::set_vs`](crate::Ground::set_vs).
-    pub fn set_vs(&mut self, vs: u8) -> Result<(), CopFault> {
-        self.direct(ffi::SEDGE_SET_VS, vs.into())
-    }
-
-    /// [`Ground::set_window`](crate::Ground::set_window).
-    pub fn set_window(&mut self, window: u8) -> Result<(), CopFault> {
-        self.direct(ffi::SEDGE_SET_WINDOW, window.into())
-    }
-
-    /// [`Ground::set_limit`](crate::Ground::set_limit).
-    pub fn set_limit(&mut self, limit: u8) -> Result<(), CopFault> {
-        self.direct(ffi::SEDGE_SET_LIMIT, limit.into())
-    }
-
-    /// [`Ground::set_timer`](crate::Ground::set_timer).
-    pub fn set_timer(&mut self, ticks: u16) -> Result<(), CopFault> {
-        self.direct(ffi::SEDGE_SET_TIMER, ticks)
-    }
+    directives!();
 
     /// [`Ground::submit`](crate::Ground::submit).
     pub fn submit(&mut self, map: u8, packets: &[u8]) -> Result<(), LinkFault> {
