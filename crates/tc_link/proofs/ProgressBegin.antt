@@ -326,8 +326,9 @@ module _ (count limit : ℕ) where
   exchange_begins : (w : World) → IsReached w → Begins w.ground_node → Ends Begun w (exchange w)
   exchange_begins w g b =
       ends_then Asked Begun round_trip timer_run_out w
-      (ends_trip Ready (Arrived IsReady zero) (Taken (Arrived IsReady) zero zero) (λ v. (n : ℕ) × Hears (suc n) v) Asked w
-      (sends w g b) (ground_arrives IsReady) (ground_takes IsReady) (λ v h p. reports v h p.0.0) heard_all) run_out
+      (ends_trip Ready (Arrived IsReady zero) (Taken (Arrived IsReady) zero zero) (λ v. (n : ℕ) × Hears (suc n) v)
+      Asked w (sends w g b) (ground_arrives IsReady) (ground_takes IsReady) (λ v h p. reports v h p.0.0) heard_all)
+      run_out
 
 -- ---- as many exchanges as transmissions are left, and one more
 

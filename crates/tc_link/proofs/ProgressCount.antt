@@ -23,7 +23,6 @@ abbrev pub IsFine : FopState SegmentView → Type 0
 IsFine s = IsBelow s ⊎ (are_marked s.sent ≡ true)
 
 -- they still may, where they may be sent more than once; and the limit stays, where no directive sets it
-
 module _ (s : FopState SegmentView) where
   abbrev Goes : (FopState SegmentView → Type 0) → {A : Type 0} → FopOutcome SegmentView A → Type 0
   Goes P o = (o.after.limit ≡ s.limit) × (2 ≤ s.limit → P s → P o.after)

@@ -196,7 +196,8 @@ module _ (most k : ℕ) where
     hears_one [] is = absurd (omega (arith, ap length is, t.count))
     hears_one (b ∷ bs) is =
         let down : w.down ≡ b ∷ (bs ++ t.last ∷ []) = t.down ∙ ap (λ xs. xs ++ t.last ∷ []) is in
-        oldest_heard More w g b (bs ++ t.last ∷ []) down (λ r x. elim (holds_more w.ground_node.fop w.ground_node.pending r t.bounds.active) [
+        oldest_heard More w g b (bs ++ t.last ∷ []) down (λ r x.
+        elim (holds_more w.ground_node.fop w.ground_node.pending r t.bounds.active) [
           | inl a ↦ inl a
           | inr less ↦ (
               let s : GroundState = after_extraction w.ground_node x in

@@ -1,5 +1,5 @@
 -- What progress rests on, at every moment of a run, in any session: the timer runs where a unit is sent and not
--- acknowledged, what is pending moves up, and a receiver waits only where no buffer is free.
+-- acknowledged, and a receiver waits only where no buffer is free.
 use Rattle.tc_link.proofs.Common.{Control, Due, ◌≡◌, ◌≢◌, ◌≤◌, ◌⊎◌, inl, inr, ℕ, ◌-◌, Bool, true, false, List, [], ◌∷◌}
 use Rattle.tc_link.proofs.Common.{length, drop, Option, Some, None, refl, sym, ◌∙◌, arith, Result, ◌==◌, nat_lt}
 use Rattle.tc_link.proofs.Common.{cond_both, eqb-false, ltb-false, length-append, Clcw, SegmentView, BodyView, Ad, Bd}

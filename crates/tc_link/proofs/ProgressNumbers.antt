@@ -317,8 +317,10 @@ module _ (c : Config) (w : World) (h : Holding c w) (k : HasOctets c w) where
   losses : AtEachLoss w After
   losses = record {
     refused = λ fault. k;
-    up = λ b bs is reply silent. record { sender = k.sender; receiver = k.receiver; up = (up_of b bs is).1; down = k.down };
-    down = λ b bs is reply silent. record { sender = k.sender; receiver = k.receiver; up = k.up; down = (down_of b bs is).1 };
+    up = λ b bs is reply silent.
+        record { sender = k.sender; receiver = k.receiver; up = (up_of b bs is).1; down = k.down };
+    down = λ b bs is reply silent.
+        record { sender = k.sender; receiver = k.receiver; up = k.up; down = (down_of b bs is).1 };
   }
 
   -- the receiver is another

@@ -181,7 +181,9 @@ Fine w = IsFine w.ground_node.fop
 before_all : (w : World) → AllByRecursion IsBefore (all_sent w) × AllByRecursion IsBefore (all_arrived w)
     × AllByRecursion IsBefore (all_taken w) × AllByRecursion IsBefore (reported w)
 before_all w =
-    befores_are IsBefore (tt, λ is. absurd (cc is), λ is. absurd (cc is)) (tt, λ is. absurd (cc is), λ is. absurd (cc is)) (tt, λ is. absurd (cc is), λ is. absurd (cc is)) (tt, λ is. absurd (cc is), λ is. absurd (cc is)) w
+    befores_are IsBefore (tt, λ is. absurd (cc is), λ is. absurd (cc is))
+    (tt, λ is. absurd (cc is), λ is. absurd (cc is)) (tt, λ is. absurd (cc is), λ is. absurd (cc is))
+    (tt, λ is. absurd (cc is), λ is. absurd (cc is)) w
 
 trip_fine : (w : World) → Below w → Fine (world_run w (round_trip w))
 trip_fine =
