@@ -1,11 +1,12 @@
-"""The calls for C that are one export with values of its own, by tools/bindings.txt: for tools/bindings."""
+"""The calls for C that are one export with values of its own, by the directives and the events of the sources: for
+tools/bindings, which writes them as `static inline` in the header, in place of those that stand there."""
 import re
 import textwrap
 import typing
 
+from exports import snake
 from items import text_of
 
-TABLE = "tools/bindings.txt"
 INLINE = re.compile(r"^static inline [\w ]+ \*?sedge_(\w+)\(", re.M)
 
 
@@ -18,16 +19,24 @@ class Row(typing.NamedTuple):
     values: list
 
 
+def variants(file, name):
+    """The variants of an enumeration of the sources, each as C has it, and what it holds."""
+    body = re.search(rf"^pub enum {name}(?:<'a>)? \{{\n(.*?)^\}}", text_of(file), re.M | re.S)[1]
+    return [(snake(own), holds) for own, holds in re.findall(r"^    (\w+)(?:\((.*)\))?,$", body, re.M)]
+
+
 def rows():
+    """Each directive is one call with its number and its value; of the events each is one with its kind, but for that
+    of a directive: those with octets, then those that have nothing."""
     found = []
-    for line in text_of(TABLE).splitlines():
-        cells = [it.strip() for it in line.split("|")]
-        if line.startswith("    "):
-            for serving in servings:
-                values = [prefix + cells[0].upper(), *cells[1:]]
-                found.append(Row(f"{serving.split('_')[0]}_{cells[0]}", serving, given, values))
-        elif not line.startswith("#"):
-            servings, given, prefix = cells[0].split(), cells[1].split(), cells[2]
+    for own, holds in variants("crates/cop1/src/vocabulary.rt", "Directive"):
+        value = f"uint{holds[1:]}_t {own.split('_')[-1]}" if holds else "0"
+        found += [Row(f"{it}_{own}", f"{it}_directive", ["directive", "value"], [f"SEDGE_{own.upper()}", value])
+                  for it in ("fop", "ground", "sim")]
+    events = variants("crates/nodes/src/event.rt", "Event")
+    for own, holds in [it for it in events if "[u8]" in it[1]] + [it for it in events if not it[1]]:
+        values = [f"SEDGE_EVENT_{own.upper()}", "uint8_t map" if holds.startswith("u8, ") else "0"]
+        found.append(Row(f"sim_{own}", "sim_octets_event" if holds else "sim_event", ["kind", "map"], values))
     return found
 
 

@@ -324,8 +324,8 @@ static inline uint8_t sedge_fop_set_window(struct sedge_fop *fop, uint8_t window
 static inline uint8_t sedge_fop_set_limit(struct sedge_fop *fop, uint8_t limit) {
     return sedge_fop_directive(fop, SEDGE_SET_LIMIT, limit);
 }
-static inline uint8_t sedge_fop_set_timer(struct sedge_fop *fop, uint16_t ticks) {
-    return sedge_fop_directive(fop, SEDGE_SET_TIMER, ticks);
+static inline uint8_t sedge_fop_set_timer(struct sedge_fop *fop, uint16_t timer) {
+    return sedge_fop_directive(fop, SEDGE_SET_TIMER, timer);
 }
 
 /* Submits a unit, to be sent under sequence control: it waits, and the caller keeps it. Returns 0, or SEDGE_DAMAGED, or

@@ -119,8 +119,8 @@ static inline uint8_t sedge_ground_set_window(struct sedge_ground *ground, uint8
 static inline uint8_t sedge_ground_set_limit(struct sedge_ground *ground, uint8_t limit) {
     return sedge_ground_directive(ground, SEDGE_SET_LIMIT, limit);
 }
-static inline uint8_t sedge_ground_set_timer(struct sedge_ground *ground, uint16_t ticks) {
-    return sedge_ground_directive(ground, SEDGE_SET_TIMER, ticks);
+static inline uint8_t sedge_ground_set_timer(struct sedge_ground *ground, uint16_t timer) {
+    return sedge_ground_directive(ground, SEDGE_SET_TIMER, timer);
 }
 
 /* Submits packets on a MAP, to be sent under sequence control: one, or several where blocking is on. Returns 0, or the
@@ -424,8 +424,8 @@ static inline uint8_t sedge_sim_set_window(struct sedge_sim *sim, uint8_t window
 static inline uint8_t sedge_sim_set_limit(struct sedge_sim *sim, uint8_t limit, struct sedge_reply *reply) {
     return sedge_sim_directive(sim, SEDGE_SET_LIMIT, limit, reply);
 }
-static inline uint8_t sedge_sim_set_timer(struct sedge_sim *sim, uint16_t ticks, struct sedge_reply *reply) {
-    return sedge_sim_directive(sim, SEDGE_SET_TIMER, ticks, reply);
+static inline uint8_t sedge_sim_set_timer(struct sedge_sim *sim, uint16_t timer, struct sedge_reply *reply) {
+    return sedge_sim_directive(sim, SEDGE_SET_TIMER, timer, reply);
 }
 static inline uint8_t sedge_sim_submit(struct sedge_sim *sim, uint8_t map, const uint8_t *octets, size_t count,
                                        struct sedge_reply *reply) {
