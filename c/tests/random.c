@@ -3,7 +3,7 @@
  * structs end where a page begins that may not be touched. Ends with 0 where all is as wanted, and says what is not.
  * */
 #define _DEFAULT_SOURCE
-#include <sedgechisel.h>
+#include "none.h"
 #include <stdio.h>
 #include <stdlib.h>
 #include <string.h>
@@ -180,10 +180,6 @@ static int is_sender(const struct sedge_fop *fop) {
     }
 }
 
-static int is_no_directive(uint8_t number, uint16_t value) {
-    return number < 1 || number > 9 || (value > 255 && (number == SEDGE_INIT_SET_VR || number == SEDGE_SET_VS));
-}
-
 static void senders(void) {
     struct sedge_fop *fop = any_sender(), kept = *fop;
     struct sedge_clcw word;
@@ -207,7 +203,7 @@ static void senders(void) {
     case 11: answer = sedge_fop_next(fop, number); break;
     case 12: answer = sedge_fop_report(fop, vcid, &word, number); break;
     case 13: answer = sedge_fop_accepted_beyond(fop, value, number); break;
-    case 14: answer = sedge_fop_directive(fop, named = (uint8_t)below(12), wide); break;
+    case 14: answer = sedge_fop_directive(fop, named = (uint8_t)below(LAST_DIRECTIVE + 3), wide); break;
     default: answer = sedge_fop_tick(fop); break;
     }
     if (which == 14 && is_no_directive(named, wide)) {

@@ -8,6 +8,7 @@
 #define _DEFAULT_SOURCE
 #include "config.h"
 #include "memory.h"
+#include "none.h"
 #include <stdio.h>
 #include <stdlib.h>
 #include <string.h>
@@ -385,8 +386,8 @@ static uint8_t directs_link(struct sedge_reply *reply) {
 static uint8_t happens_not(const uint8_t *octets, size_t count, struct sedge_reply *reply) {
     struct sedge_event event = {0, 4, 0, 256, octets, count};
     uint8_t answer;
-    event.kind = (uint8_t)(below(2) ? SEDGE_EVENT_DIRECTIVE : below(241) + 16);
-    event.directive = (uint8_t)(below(2) ? SEDGE_SET_VS : below(247) + 10);
+    event.kind = (uint8_t)(below(2) ? SEDGE_EVENT_DIRECTIVE : below(256 - LAST_EVENT) + LAST_EVENT + 1);
+    event.directive = (uint8_t)(below(2) ? SEDGE_SET_VS : below(256 - LAST_DIRECTIVE) + LAST_DIRECTIVE + 1);
     if (below(4) == 0) event.kind = 0;
     answer = sedge_sim_step(&sim, &event, reply);
     WANT(answer == SEDGE_NODE_NONE && reply->kind == 77);

@@ -1,6 +1,6 @@
 /* The library as a program in C meets it: rows worked by hand, vectors from outside, the receiver's table, each
  * refusal by its number, and damaged structs. Ends with 0 where all is as wanted, and says each line that is not. */
-#include <sedgechisel.h>
+#include "none.h"
 #include <stdio.h>
 #include <string.h>
 
@@ -439,7 +439,7 @@ static void the_directives(void) {
 /* By number and value: what names no directive, and a value out of its range, is refused, and changes nothing. */
 static void directives_by_number(void) {
     struct sedge_fop fop = opened_sender(), kept = fop;
-    static const uint8_t none[] = {0, 10, 255};
+    static const uint8_t none[] = {0, LAST_DIRECTIVE + 1, 255};
     size_t k;
     for (k = 0; k < sizeof none; k++) WANT(sedge_fop_directive(&fop, none[k], 1) == SEDGE_DAMAGED);
     WANT(sedge_fop_directive(&fop, SEDGE_INIT_SET_VR, 256) == SEDGE_DAMAGED);
