@@ -166,7 +166,7 @@ static const unsigned char constant_7[10] = {
     84, 101, 114, 109, 105, 110, 97, 116, 101, 100
 };
 
-/* Of octets_checking_check. */
+/* Of octets_frame_check_check. */
 static const unsigned char constant_8[8192] = {
     0, 0, 33, 16, 66, 32, 99, 48, 132, 64, 165, 80, 198, 96, 231, 112, 8, 129, 41, 145, 74, 161, 107, 177, 140, 193,
     173, 209, 206, 225, 239, 241, 49, 18, 16, 2, 115, 50, 82, 34, 181, 82, 148, 66, 247, 114, 214, 98, 57, 147, 24,
@@ -523,7 +523,7 @@ static const unsigned char constant_28[17] = {
 
 /* Of sedge_version_at. */
 static const unsigned char constant_48[5] = {
-    48, 46, 50, 46, 48
+    48, 46, 51, 46, 48
 };
 
 /* Of sedge_tm_builder_build_at. */
@@ -560,13 +560,12 @@ static const unsigned char table_sedge_verdict_name[48] = {
 
 /* ---- The functions, as they were compiled. ---- */
 
-static uint32_t octets_checking_check(uint64_t p0, uint64_t p1);
-static void map_service_counting_segment_count(uint64_t p0, uint64_t p1, uint64_t p2, uint64_t p3);
+static uint32_t octets_frame_check_check(uint64_t p0, uint64_t p1);
+static void map_service_cutting_segment_count(uint64_t p0, uint64_t p1, uint64_t p2, uint64_t p3);
+static uint64_t map_service_cutting_group_len(uint64_t p0, uint64_t p1, uint64_t p2);
 static void tm_link_decoding_fields_of(uint64_t p0, uint64_t p1, uint64_t p2, uint32_t p3, uint32_t p4);
 static void sedgechisel_telemetry_extractor_start(uint64_t p0, uint64_t p1, uint64_t p2, uint64_t p3, uint64_t p4,
     uint64_t p5, uint64_t p6, uint64_t p7, uint64_t p8);
-static uint32_t sedgechisel_sender_directing_direct(uint64_t p0, uint64_t p1);
-static void cop1_sender_Sender_restore(uint64_t p0, uint64_t p1);
 static void sedge_alert_name_at(uint64_t result, uint32_t alert);
 static uint32_t sedge_check_at(uint64_t octets, uint64_t count);
 static uint32_t sedge_check_append_at(uint64_t octets, uint64_t count);
@@ -614,25 +613,17 @@ static uint32_t sedge_map_take_at(uint64_t map, uint32_t flags, uint64_t data, u
     uint64_t room, uint64_t taken);
 static uint32_t sedge_tm_extractor_frame_at(uint64_t extractor, uint64_t frame, uint64_t data, uint64_t data_count,
     uint64_t memory, uint64_t room, uint64_t extracted);
-static uint32_t sedge_fop_init_set_vr_at(uint64_t fop, uint32_t vr);
-static uint32_t sedge_fop_init_unlock_at(uint64_t fop);
-static uint32_t sedge_fop_init_with_check_at(uint64_t fop);
-static uint32_t sedge_fop_init_without_check_at(uint64_t fop);
+static uint32_t sedge_fop_directive_at(uint64_t fop, uint32_t directive, uint32_t value);
 static uint32_t sedge_fop_next_at(uint64_t fop, uint64_t number);
 static uint32_t sedge_fop_report_at(uint64_t fop, uint32_t vcid, uint64_t word, uint64_t released);
-static uint32_t sedge_fop_set_limit_at(uint64_t fop, uint32_t limit);
-static uint32_t sedge_fop_set_timer_at(uint64_t fop, uint32_t timer);
-static uint32_t sedge_fop_set_vs_at(uint64_t fop, uint32_t vs);
-static uint32_t sedge_fop_set_window_at(uint64_t fop, uint32_t window);
 static uint32_t sedge_fop_submit_at(uint64_t fop);
-static uint32_t sedge_fop_terminate_at(uint64_t fop);
 static uint32_t sedge_fop_tick_at(uint64_t fop);
 static uint32_t sedge_tm_builder_build_at(uint64_t builder, uint64_t ocf, uint64_t ocf_count, uint64_t memory,
     uint64_t memory_count, uint64_t out, uint64_t room, uint64_t total);
 static uint32_t sedge_accepted_beyond_at(uint32_t nn, uint32_t vs, uint32_t value, uint64_t accepted);
 static uint32_t sedge_fop_accepted_beyond_at(uint64_t fop, uint32_t value, uint64_t accepted);
 
-static uint32_t octets_checking_check(uint64_t p0, uint64_t p1)
+static uint32_t octets_frame_check_check(uint64_t p0, uint64_t p1)
 {
     uint32_t v2 = 0, v3 = 0, t1, t2, t3, t4, t5, t6, t7, t9, t10, t11;
     uint64_t v4 = 0, v5 = 0, v6 = 0;
@@ -693,139 +684,112 @@ static uint32_t octets_checking_check(uint64_t p0, uint64_t p1)
     return v2;
 }
 
-static void map_service_counting_segment_count(uint64_t p0, uint64_t p1, uint64_t p2, uint64_t p3)
+static void map_service_cutting_segment_count(uint64_t p0, uint64_t p1, uint64_t p2, uint64_t p3)
 {
-    uint32_t v6 = 0, v10 = 0;
-    uint64_t v4 = 0, v5 = 0, v7 = 0, v8 = 0, v9 = 0;
+    uint32_t v5 = 0, v8 = 0, v10 = 0;
+    uint64_t v6 = 0, v7 = 0, v9 = 0, v11 = 0, t2;
     if (get8(p3 + 16) == 1) {
-        if (p2 < 6) {
-            put16(p0, 1);
-            put64(p0 + 8, 0);
-            return;
-        }
-        v4 = p2;
-        v5 = p1;
-        do {
-            v6 = get8(v5);
-            if (v6 > 31) {
-                put16(p0, 1);
-                put64(p0 + 8, 0);
-                return;
-            }
-            if ((v6 & 8) != 0) {
-                if ((((v6 << 8) & 0x700) | get8(v5 + 1)) == 0x7ff) {
-                    put16(p0, 1);
-                    put64(p0 + 8, 0);
-                    return;
-                }
-            }
-            v7 = (((uint64_t)get8(v5 + 4) << 8) | (uint64_t)get8(v5 + 5)) + 7;
-            if (v4 < v7) {
-                put16(p0, 1);
-                put64(p0 + 8, 0);
-                return;
-            }
-            v5 = v5 + v7;
-            v4 = v4 - v7;
-        } while (v4 >= 6);
-        if (v4 != 0) {
-            put16(p0, 1);
-            put64(p0 + 8, 0);
-            return;
-        }
-        goto l2;
-    }
-    if (p2 < 6) {
-        put16(p0, 1);
-        put64(p0 + 8, 0);
-        return;
-    }
-    v6 = get8(p1);
-    if (v6 > 31) {
-        put16(p0, 1);
-        put64(p0 + 8, 0);
-        return;
-    }
-    if ((v6 & 8) != 0) {
-        if ((((v6 << 8) & 0x700) | get8(p1 + 1)) == 0x7ff) {
-            put16(p0, 1);
-            put64(p0 + 8, 0);
-            return;
-        }
-    }
-    if (((((uint64_t)get8(p1 + 4) << 8) | (uint64_t)get8(p1 + 5)) + 7) == p2) goto l2;
-    put16(p0, 1);
-    put64(p0 + 8, 0);
-    return;
-l2:;
-    v8 = (uint64_t)get32(p3 + 4);
-    v7 = p2;
-    v5 = p1;
-l9:;
-    v6 = get8(v5);
-    if (v6 > 31) goto l8;
-    if ((v6 & 8) != 0) {
-        if ((((v6 << 8) & 0x700) | get8(v5 + 1)) == 0x7ff) goto l8;
-    }
-    v4 = (((uint64_t)get8(v5 + 4) << 8) | (uint64_t)get8(v5 + 5)) + 7;
-    if (v7 < v4) goto l8;
-    if (v4 <= v8) {
-        v5 = v5 + v4;
-        v7 = v7 - v4;
-        if (v7 >= 6) goto l9;
-        goto l8;
-    }
-    put16(p0, 257);
-    put64(p0 + 8, 0);
-    return;
-l8:;
-    if (p2 == 0) {
-        v9 = 0;
-        put16(p0, 0);
-        put64(p0 + 8, v9);
-        return;
-    }
-    v10 = get32(p3);
-    v8 = (uint64_t)v10;
-    v9 = 0;
-    do {
-        if (p2 < 6) UNREACHABLE;
-        v6 = get8(p1);
-        if (v6 > 31) UNREACHABLE;
-        if ((v6 & 8) != 0) {
-            if ((((v6 << 8) & 0x700) | get8(p1 + 1)) == 0x7ff) UNREACHABLE;
-        }
-        v4 = (((uint64_t)get8(p1 + 4) << 8) | (uint64_t)get8(p1 + 5)) + 7;
-        if (p2 < v4) UNREACHABLE;
-        if (v4 <= v8) {
-            v4 = 0;
-            p3 = p2;
-            v5 = p1;
+        if (p2 >= 6) {
+            v6 = (uint64_t)get32(p3 + 4);
+            v5 = 0;
+            v7 = p1;
+            v8 = 0;
+            v9 = p2;
             do {
-                v6 = get8(v5);
-                if (v6 > 31) goto l16;
-                if ((v6 & 8) != 0) {
-                    if ((((v6 << 8) & 0x700) | get8(v5 + 1)) == 0x7ff) goto l16;
+                v10 = get8(v7);
+                if (v10 > 31) goto l3;
+                if ((v10 & 8) != 0) {
+                    if ((((v10 << 8) & 0x700) | get8(v7 + 1)) == 0x7ff) goto l3;
                 }
-                v7 = (((uint64_t)get8(v5 + 4) << 8) | (uint64_t)get8(v5 + 5)) + 7;
-                v6 = p3 < v7;
-                if (v6 != 0) goto l16;
-                v7 = (v6 != 0) ? 0ULL : v7;
-                if ((v8 - v4) < v7) goto l16;
-                v5 = v5 + v7;
-                v4 = v7 + v4;
-                p3 = p3 - v7;
-            } while (p3 >= 6);
+                v11 = (((uint64_t)get8(v7 + 4) << 8) | (uint64_t)get8(v7 + 5)) + 7;
+                if (v9 < v11) goto l3;
+                v7 = v7 + v11;
+                v8 = v8 | (uint32_t)(v11 > v6);
+                v9 = v9 - v11;
+            } while (v9 >= 6);
+            v5 = v9 == 0;
+            if (v9 != 0) goto l3;
+            if ((v5 & v8) != 0) goto l3;
+            goto l1;
         }
-    l16:;
-        if (v10 == 0) UNREACHABLE;
-        p1 = p1 + v4;
-        v9 = (v9 + ((v4 - 1) / v8)) + 1;
-        p2 = p2 - v4;
+        v5 = 0;
+        goto l3;
+    }
+    v5 = 0;
+    if (p2 >= 6) {
+        v10 = get8(p1);
+        if (v10 <= 31) {
+            if ((v10 & 8) != 0) {
+                if ((((v10 << 8) & 0x700) | get8(p1 + 1)) == 0x7ff) goto l3;
+            }
+            if (((((uint64_t)get8(p1 + 4) << 8) | (uint64_t)get8(p1 + 5)) + 7) == p2) {
+                if (p2 <= (uint64_t)get32(p3 + 4)) goto l1;
+                v5 = 1;
+            }
+        }
+    }
+l3:;
+    put8(p0, 1);
+    put64(p0 + 8, 0);
+    put8(p0 + 1, v5);
+    return;
+l1:;
+    v9 = (uint64_t)get32(p3);
+    if (v9 == 0) {
+        t2 = map_service_cutting_group_len(p1, p2, 0);
+        UNREACHABLE;
+    }
+    v11 = 0;
+    do {
+        v7 = map_service_cutting_group_len(p1, p2, v9);
+        p1 = p1 + v7;
+        v11 = (v11 + ((v7 - 1) / v9)) + 1;
+        p2 = p2 - v7;
     } while (p2 != 0);
     put16(p0, 0);
-    put64(p0 + 8, v9);
+    put64(p0 + 8, v11);
     return;
+}
+
+static uint64_t map_service_cutting_group_len(uint64_t p0, uint64_t p1, uint64_t p2)
+{
+    uint32_t v3 = 0;
+    uint64_t v4 = 0, v5 = 0, v6 = 0;
+    if (p1 < 6) UNREACHABLE;
+    v3 = get8(p0);
+    if (v3 > 31) UNREACHABLE;
+    if ((v3 & 8) != 0) {
+        if ((((v3 << 8) & 0x700) | get8(p0 + 1)) == 0x7ff) UNREACHABLE;
+    }
+    v4 = (((uint64_t)get8(p0 + 4) << 8) | (uint64_t)get8(p0 + 5)) + 7;
+    v3 = p1 < v4;
+    if (v3 != 0) UNREACHABLE;
+    if (p2 < v4) return v4;
+    v5 = (v3 != 0) ? 0ULL : v4;
+    v6 = 0;
+    p1 = p1 - v4;
+    if (p1 >= 6) {
+        p0 = p0 + v4;
+        v6 = 0;
+        do {
+            v3 = get8(p0);
+            if (v3 > 31) goto l4;
+            if ((v3 & 8) != 0) {
+                if ((((v3 << 8) & 0x700) | get8(p0 + 1)) == 0x7ff) goto l4;
+            }
+            v4 = (((uint64_t)get8(p0 + 4) << 8) | (uint64_t)get8(p0 + 5)) + 7;
+            v3 = p1 < v4;
+            if (v3 != 0) goto l4;
+            v4 = (v3 != 0) ? 0ULL : v4;
+            if ((p2 - (v5 + v6)) < v4) goto l4;
+            p0 = p0 + v4;
+            v6 = v4 + v6;
+            p1 = p1 - v4;
+        } while (p1 > 5);
+    }
+l4:;
+    v4 = v6 + v5;
+    return v4;
 }
 
 static void tm_link_decoding_fields_of(uint64_t p0, uint64_t p1, uint64_t p2, uint32_t p3, uint32_t p4)
@@ -1008,548 +972,6 @@ l2:;
     return;
 }
 
-static uint32_t sedgechisel_sender_directing_direct(uint64_t p0, uint64_t p1)
-{
-    unsigned char frame_octets[48 + 15];
-    uint32_t v3 = 0, v4 = 0, v5 = 0, v6 = 0, v7 = 0, v8 = 0, v9 = 0, v10 = 0, v11 = 0, v12 = 0, v13 = 0, v14 = 0,
-        v15 = 0, v16 = 0, v17 = 0, v18 = 0, v19 = 0, v20 = 0, v21 = 0, v22 = 0, v23 = 0, v24 = 0, v25 = 0, v26 = 0,
-        v27 = 0, v28 = 0, v29 = 0, v30 = 0, v31 = 0, v32 = 0, v33 = 0, v34 = 0, v35 = 0, v36 = 0, v37 = 0;
-    uint64_t v2 = 0;
-    v2 = aligned(frame_octets);
-    if (ordered64(v2) < 0x8000000000000010ULL) UNREACHABLE;
-    v3 = get16(p1 + 2);
-    v4 = get8(p1 + 1);
-    v5 = get8(p1);
-    put64(v2 + 14, 0);
-    put64(v2 + 8, 0);
-    put64(v2, 0);
-    v6 = 255;
-    v7 = get8(p0 + 5) - 1;
-    if ((v7 & 255) > 5) return v6;
-    v8 = 1;
-    v9 = get8(p0 + 8);
-    if (v9 > 1) return v6;
-    v10 = get8(p0 + 15);
-    v11 = 1;
-    v12 = get8(p0 + 14);
-    switch (v12 - 3) {
-    case 0:
-        goto l6;
-    case 1:
-        v11 = 2;
-        goto l6;
-    default:
-        goto l7;
-    }
-l7:;
-    if (v12 > 2) return v6;
-    v8 = 0;
-    v11 = v12;
-    if ((v10 & 255) != 0) return v6;
-l6:;
-    put8(v2 + 47, v10);
-    put8(v2 + 46, v8);
-    put8(v2 + 45, v11);
-    put8(v2 + 32, v9);
-    put8(v2 + 29, v7);
-    put16(v2 + 38, get16(p0));
-    put8(v2 + 44, get8(p0 + 13));
-    v7 = get16(p0 + 2);
-    put16(v2 + 42, v7);
-    put32(v2 + 33, get32(p0 + 9));
-    put16(v2 + 30, get16(p0 + 6));
-    put8(v2 + 28, get8(p0 + 4));
-    put8(v2 + 37, 0);
-    put16(v2 + 40, v7 != 0);
-    cop1_sender_Sender_restore(v2, v2 + 28);
-    if (get8(v2) != 0) return v6;
-    v13 = get8(v2 + 21);
-    v10 = get8(v2 + 19);
-    v7 = get8(v2 + 18);
-    v14 = get16(v2 + 16);
-    v15 = get16(v2 + 14);
-    v11 = get16(v2 + 12);
-    v12 = get8(v2 + 10);
-    v16 = get8(v2 + 9);
-    v17 = get8(v2 + 8);
-    v18 = get8(v2 + 7);
-    v19 = get8(v2 + 6);
-    v8 = get8(v2 + 5);
-    v6 = get8(v2 + 4);
-    v9 = get8(v2 + 3);
-    v20 = get8(v2 + 2);
-    v21 = get8(v2 + 20);
-    switch (v5) {
-    case 4:
-        if ((v9 & 255) == 5) {
-            v6 = 8;
-            return v6;
-        }
-        v9 = 0;
-        v24 = 6;
-        v25 = 0;
-        v3 = 0;
-        v26 = v6;
-        v27 = 0;
-        v28 = 0;
-        v29 = 0;
-        goto l2;
-    case 6:
-        v5 = v9;
-        v22 = v6;
-        v23 = v8;
-        v16 = v4;
-        if (((v4 - 1) & 255) < (v20 & 255)) goto l10;
-        v6 = 2;
-        return v6;
-    case 7:
-        v5 = v9;
-        v22 = v6;
-        v23 = v8;
-        v12 = v4;
-        if ((v4 & 255) != 0) goto l10;
-        v6 = 3;
-        return v6;
-    case 8:
-        v5 = v9;
-        v22 = v6;
-        v23 = v8;
-        v11 = v3;
-        if ((v3 & 0xffff) != 0) goto l10;
-        v6 = 4;
-        return v6;
-    default:
-        if ((v9 & 255) == 5) {
-            v30 = 3;
-            v28 = 0;
-            v24 = 6;
-            v31 = 4;
-            v32 = 1;
-            v22 = v4;
-            v23 = v4;
-            v33 = 0;
-            v34 = 0;
-            v35 = v5;
-            v36 = v11;
-            v27 = 0;
-            v37 = 0;
-            v26 = v6;
-            v3 = 0;
-            v9 = 0;
-            v25 = 0;
-            v29 = 0;
-            switch (v5) {
-            case 1:
-                goto l3;
-            case 2:
-                v30 = 4;
-                v28 = 0;
-                v35 = 1;
-                v5 = v15;
-                v36 = v14;
-                v27 = 0;
-                v37 = 0;
-                v26 = v6;
-                v3 = 1;
-                v9 = 0;
-                goto l3;
-            case 3:
-                goto l9;
-            case 4:
-                goto l2;
-            case 5:
-                goto l10;
-            default:
-                v28 = 0;
-                v35 = 1;
-                v5 = v15;
-                v36 = v14;
-                v27 = 0;
-                v37 = 0;
-                v26 = v6;
-                v30 = 0;
-                v3 = 0;
-                v9 = 0;
-                goto l3;
-            }
-        }
-        v6 = 8;
-        return v6;
-    }
-l10:;
-    v30 = v5;
-    v5 = v15;
-    v35 = v7;
-    v36 = v14;
-    v28 = v17;
-    v27 = v18;
-    v37 = v19;
-    v6 = v23;
-    v26 = v22;
-    v3 = v10;
-    v9 = v10;
-    switch (v10) {
-    case 1:
-        v6 = v21 & 255;
-        v3 = (v6 != 0) ? 3U : 1U;
-        if (v6 == 1) goto l20;
-        goto l4;
-    case 2:
-        goto l21;
-    default:
-        goto l3;
-    }
-l21:;
-    v6 = v21 & 255;
-    v3 = (v6 != 0) ? 4U : 2U;
-    if (v6 != 1) goto l4;
-l20:;
-    v4 = v13;
-    v32 = v7;
-    v28 = v17;
-    v33 = v18;
-    v34 = v19;
-    v31 = v30;
-    v5 = v3;
-l9:;
-    v3 = v5;
-    v5 = v15;
-    v35 = v32;
-    v36 = v14;
-    v27 = v33;
-    v37 = v34;
-    v6 = v23;
-    v26 = v22;
-    v30 = v31;
-    v9 = v4;
-    goto l3;
-l4:;
-    v9 = 0;
-    v5 = v15;
-    v35 = v7;
-    v36 = v14;
-    v28 = v17;
-    v27 = v18;
-    v37 = v19;
-    v6 = v23;
-    v26 = v22;
-l3:;
-    v29 = ((v5 & 255) != 0) ? v36 : 0U;
-    v24 = v30 + 1;
-    v25 = v37 & 1;
-    v8 = v6;
-    v7 = v35;
-l2:;
-    put16(p0, v11);
-    put8(p0 + 15, v9);
-    put8(p0 + 14, v3);
-    put8(p0 + 13, v7);
-    put8(p0 + 12, v12);
-    put8(p0 + 11, v16);
-    put8(p0 + 10, v28);
-    put8(p0 + 9, v27);
-    put8(p0 + 8, v25);
-    put8(p0 + 7, v8);
-    put8(p0 + 6, v26);
-    put8(p0 + 5, v24);
-    put8(p0 + 4, v20);
-    put16(p0 + 2, v29);
-    v6 = 0;
-    return v6;
-}
-
-static void cop1_sender_Sender_restore(uint64_t p0, uint64_t p1)
-{
-    uint32_t v2 = 0, v3 = 0, v4 = 0, v5 = 0, v6 = 0, v7 = 0, v8 = 0, v9 = 0, v10 = 0, v11 = 0, v12 = 0, v13 = 0,
-        v14 = 0, v15 = 0, v16 = 0, v17 = 0, v18 = 0, v19 = 0, v20 = 0, v21 = 0, v22 = 0, v23 = 0, v24 = 0, v25 = 0,
-        v26 = 0, v27 = 0, v28 = 0, v29 = 0, v30 = 0, v31 = 0, v32 = 0, v33 = 0, v34 = 0, v35 = 0, v36 = 0, v37 = 0,
-        v38 = 0, v39 = 0, v40 = 0;
-    v2 = 0;
-    v3 = 8;
-    v4 = 1;
-    v5 = get8(p1);
-    if (extend32(v5, 0x80) > 0x7fffffffU) goto l3;
-    v6 = get8(p1 + 7);
-    v7 = v5 & 255;
-    if (((v6 - 1) & 255) >= v7) goto l3;
-    v8 = get8(p1 + 2);
-    v9 = get8(p1 + 3);
-    v10 = v8 - v9;
-    if ((v10 & 255) > v7) goto l3;
-    v11 = get8(p1 + 5);
-    v7 = v11 & 255;
-    if (v7 > (v5 & 255)) goto l3;
-    v12 = get8(p1 + 6);
-    if ((v12 & 255) > v7) goto l3;
-    v13 = get8(p1 + 8);
-    if ((v13 & 255) == 0) goto l3;
-    v14 = get16(p1 + 10);
-    if ((v14 & 0xffff) == 0) goto l3;
-    v2 = 0;
-    v4 = 1;
-    v15 = get8(p1 + 12);
-    v16 = get16(p1 + 14);
-    if ((uint32_t)((v15 & 255) != 1 || (v16 & 0xffff) != 0) != 1) goto l3;
-    v17 = get8(p1 + 16);
-    if ((v17 & 255) == 0) goto l3;
-    v18 = get8(p1 + 19);
-    v19 = get8(p1 + 18);
-    v20 = get8(p1 + 17);
-    v21 = get8(p1 + 13);
-    v22 = get8(p1 + 9);
-    v23 = get8(p1 + 4);
-    v24 = get8(p1 + 1);
-    switch (v24) {
-    case 1:
-    case 2:
-        goto l7;
-    case 3:
-        v2 = 0;
-        if ((v11 & 255) != (v10 & 255)) goto l3;
-        if (v20 != 0) goto l3;
-        if ((v15 & 255) != 1) goto l3;
-        v7 = 0;
-        v10 = 0;
-        v26 = 0;
-        v27 = 0;
-        v28 = 0;
-        v29 = 0;
-        v30 = 0;
-        v31 = 0;
-        v32 = 0;
-        v33 = 0;
-        v34 = 0;
-        v35 = 0;
-        v36 = 0;
-        v37 = 0;
-        v38 = 0;
-        v39 = 0;
-        v40 = 0;
-        if ((v11 & 255) == 0) goto l6;
-        goto l1;
-    case 4:
-        v33 = 0;
-        v2 = v11 & 255;
-        if (v2 != (v10 & 255)) goto l4;
-        if (v2 != 0) goto l4;
-        v2 = v20;
-        v7 = v20;
-        v10 = v20;
-        v26 = v20;
-        v27 = v20;
-        v28 = v20;
-        v29 = v20;
-        v30 = v20;
-        v31 = v20;
-        v32 = v20;
-        v34 = v20;
-        v35 = v20;
-        v36 = 0;
-        v37 = v20;
-        v38 = v20;
-        v39 = v20;
-        v40 = v20;
-        switch (v20) {
-        case 1:
-            if ((v19 & 255) == 0) goto l6;
-            v2 = 0;
-            v7 = 0;
-            v10 = 0;
-            v26 = 0;
-            v27 = 0;
-            v28 = 0;
-            v29 = 0;
-            v30 = 0;
-            v31 = 0;
-            v32 = 0;
-            v33 = 0;
-            v34 = 0;
-            v35 = 0;
-            v36 = 0;
-            v37 = 0;
-            v38 = 0;
-            v39 = 0;
-            v40 = 0;
-            if ((v18 & 255) == (v8 & 255)) goto l6;
-            goto l1;
-        case 2:
-            v4 = 1;
-            v2 = 0;
-            if ((v15 & 255) != 1) goto l3;
-            if ((v19 & 255) == 0) goto l6;
-            v2 = 0;
-            v7 = 0;
-            v10 = 0;
-            v26 = 0;
-            v27 = 0;
-            v28 = 0;
-            v29 = 0;
-            v30 = 0;
-            v31 = 0;
-            v32 = 0;
-            v33 = 0;
-            v34 = 0;
-            v35 = 0;
-            v36 = 0;
-            v37 = 0;
-            v38 = 0;
-            v39 = 0;
-            v40 = 0;
-            if ((v18 & 255) == (v8 & 255)) goto l6;
-            goto l1;
-        default:
-            goto l1;
-        }
-    case 5:
-        v2 = 0;
-        if ((v11 & 255) != 0) goto l3;
-        if ((v23 & 1) != 0) goto l3;
-        if (v20 != 0) goto l3;
-        v7 = 0;
-        v10 = 0;
-        v26 = 0;
-        v27 = 0;
-        v28 = 0;
-        v29 = 0;
-        v30 = 0;
-        v31 = 0;
-        v32 = 0;
-        v33 = 0;
-        v34 = 0;
-        v35 = 0;
-        v36 = 0;
-        v37 = 0;
-        v38 = 0;
-        v39 = 0;
-        v40 = 0;
-        if ((v15 & 255) != 1) goto l6;
-        goto l1;
-    default:
-        v4 = 1;
-        v2 = 0;
-        v25 = v11 & 255;
-        if (v25 != (v10 & 255)) goto l3;
-        if (v20 != 0) goto l3;
-        v7 = 0;
-        v10 = 0;
-        v26 = 0;
-        v27 = 0;
-        v28 = 0;
-        v29 = 0;
-        v30 = 0;
-        v31 = 0;
-        v32 = 0;
-        v33 = 0;
-        v34 = 0;
-        v35 = 0;
-        v36 = 0;
-        v37 = 0;
-        v38 = 0;
-        v39 = 0;
-        v40 = 0;
-        if (((uint32_t)(v25 == 0) ^ (uint32_t)((v15 & 255) == 1)) != 0) goto l6;
-        goto l1;
-    }
-l7:;
-    v2 = 0;
-    if ((v11 & 255) != (v10 & 255)) goto l3;
-    if (v20 != 0) goto l3;
-    if ((v15 & 255) != 1) goto l3;
-    v7 = 0;
-    v10 = 0;
-    v26 = 0;
-    v27 = 0;
-    v28 = 0;
-    v29 = 0;
-    v30 = 0;
-    v31 = 0;
-    v32 = 0;
-    v33 = 0;
-    v34 = 0;
-    v35 = 0;
-    v36 = 0;
-    v37 = 0;
-    v38 = 0;
-    v39 = 0;
-    v40 = 0;
-    if ((v11 & 255) == 0) goto l1;
-l6:;
-    v4 = 0;
-    v2 = v5;
-    v7 = v24;
-    v10 = v8;
-    v26 = v9;
-    v27 = v23;
-    v28 = v11;
-    v29 = v12;
-    v30 = v6;
-    v31 = v13;
-    v32 = v22;
-    v33 = v14;
-    v34 = v15;
-    v35 = v21;
-    v36 = v16;
-    v37 = v17;
-    v38 = v20;
-    v39 = v19;
-    v40 = v18;
-    v3 = 0;
-    goto l1;
-l4:;
-    v2 = 0;
-    v7 = 0;
-    v10 = 0;
-    v26 = 0;
-    v27 = 0;
-    v28 = 0;
-    v29 = 0;
-    v30 = 0;
-    v31 = 0;
-    v32 = 0;
-    goto l2;
-l3:;
-    v7 = 0;
-    v10 = 0;
-    v26 = 0;
-    v27 = 0;
-    v28 = 0;
-    v29 = 0;
-    v30 = 0;
-    v31 = 0;
-    v32 = 0;
-    v33 = 0;
-l2:;
-    v34 = 0;
-    v35 = 0;
-    v36 = 0;
-    v37 = 0;
-    v38 = 0;
-    v39 = 0;
-    v40 = 0;
-l1:;
-    put8(p0, v4);
-    put8(p0 + 21, v40);
-    put8(p0 + 20, v39);
-    put8(p0 + 19, v38);
-    put8(p0 + 18, v37);
-    put16(p0 + 16, v36);
-    put8(p0 + 15, v35);
-    put8(p0 + 14, v34);
-    put16(p0 + 12, v33);
-    put8(p0 + 11, v32);
-    put8(p0 + 10, v31);
-    put8(p0 + 9, v30);
-    put8(p0 + 8, v29);
-    put8(p0 + 7, v28);
-    put8(p0 + 6, v27);
-    put8(p0 + 5, v26);
-    put8(p0 + 4, v10);
-    put8(p0 + 3, v7);
-    put8(p0 + 2, v2);
-    put8(p0 + 1, v3);
-    return;
-}
-
 static void sedge_alert_name_at(uint64_t result, uint32_t alert)
 {
     unsigned char frame_octets[16 + 15];
@@ -1627,7 +1049,7 @@ l1:;
 static uint32_t sedge_check_at(uint64_t octets, uint64_t count)
 {
     uint32_t v3 = 0;
-    v3 = octets_checking_check(some(octets), count);
+    v3 = octets_frame_check_check(some(octets), count);
     return v3 & 0xffff;
 }
 
@@ -1638,7 +1060,7 @@ static uint32_t sedge_check_append_at(uint64_t octets, uint64_t count)
     if (count < 2) return count > 1;
     octets = some(octets);
     v3 = count - 2;
-    v4 = octets_checking_check(octets, v3);
+    v4 = octets_frame_check_check(octets, v3);
     put16(octets + v3, (v4 << 8) | ((v4 & 0xff00) >> 8));
     return count > 1;
 }
@@ -1651,7 +1073,7 @@ static uint32_t sedge_check_holds_at(uint64_t octets, uint64_t count)
     octets = some(octets);
     count = count - 2;
     v3 = get16(octets + count);
-    t1 = octets_checking_check(octets, count);
+    t1 = octets_frame_check_check(octets, count);
     v3 = (((v3 << 8) | (v3 >> 8)) & 0xffff) == (t1 & 0xffff);
     return v3;
 }
@@ -2095,7 +1517,7 @@ static uint32_t sedge_map_count_at(uint64_t octets, uint64_t count, uint64_t lim
     put32(v4 + 44, 0);
     put8(v4 + 40, v7 == 1);
     put32(v4 + 28, get32(limits + 4));
-    map_service_counting_segment_count(v4 + 8, some(octets), count, v4 + 24);
+    map_service_cutting_segment_count(v4 + 8, some(octets), count, v4 + 24);
     if (get8(v4 + 8) != 0) goto l2;
     put64(segments, get64(v4 + 16));
     return v5 & 255;
@@ -2177,84 +1599,55 @@ static uint32_t sedge_map_segment_at(uint64_t octets, uint64_t count, uint64_t l
     uint64_t data)
 {
     unsigned char frame_octets[48 + 15];
-    uint32_t v8 = 0, v9 = 0, v10 = 0;
-    uint64_t v6 = 0, v7 = 0, v11 = 0, v12 = 0, v13 = 0, v14 = 0;
+    uint32_t v7 = 0, v8 = 0, v9 = 0;
+    uint64_t v6 = 0, v10 = 0, v11 = 0, v12 = 0;
     v6 = aligned(frame_octets);
-    v7 = v6;
-    if (ordered64(v7) < 0x8000000000000010ULL) UNREACHABLE;
-    put64(v7 + 16, 0);
-    put64(v7 + 8, 0);
-    v8 = 255;
-    v9 = get32(limits);
-    if (v9 == 0) return v8 & 255;
-    v8 = 255;
-    v10 = get8(limits + 8);
-    if (v10 > 1) return v8 & 255;
-    put32(v7 + 41, 0);
-    put64(v7 + 32, 0);
-    put32(v7 + 24, v9);
-    put32(v7 + 44, 0);
-    put8(v7 + 40, v10 == 1);
-    put32(v7 + 28, get32(limits + 4));
-    v11 = some(octets);
-    map_service_counting_segment_count(v7 + 8, v11, count, v7 + 24);
-    if (get8(v7 + 8) != 0) {
-        v8 = get8(v7 + 9) + 1;
-        return v8 & 255;
+    if (ordered64(v6) < 0x8000000000000010ULL) UNREACHABLE;
+    put64(v6 + 16, 0);
+    put64(v6 + 8, 0);
+    v7 = 255;
+    v8 = get32(limits);
+    if (v8 == 0) return v7 & 255;
+    v7 = 255;
+    v9 = get8(limits + 8);
+    if (v9 > 1) return v7 & 255;
+    put32(v6 + 41, 0);
+    put64(v6 + 32, 0);
+    put32(v6 + 24, v8);
+    put32(v6 + 44, 0);
+    put8(v6 + 40, v9 == 1);
+    put32(v6 + 28, get32(limits + 4));
+    octets = some(octets);
+    map_service_cutting_segment_count(v6 + 8, octets, count, v6 + 24);
+    if (get8(v6 + 8) != 0) {
+        v7 = get8(v6 + 9) + 1;
+        return v7 & 255;
     }
-    v8 = 253;
-    if (count == 0) return v8 & 255;
-    v12 = (uint64_t)v9;
-    v13 = 0;
+    v7 = 253;
+    if (count == 0) return v7 & 255;
+    v10 = (uint64_t)v8;
+    v11 = 0;
 l5:;
-    if (count < 6) UNREACHABLE;
-    v9 = get8(v11);
-    if (v9 > 31) UNREACHABLE;
-    if ((v9 & 8) != 0) {
-        if ((((v9 << 8) & 0x700) | get8(v11 + 1)) == 0x7ff) UNREACHABLE;
-    }
-    v6 = (((uint64_t)get8(v11 + 4) << 8) | (uint64_t)get8(v11 + 5)) + 7;
-    if (count < v6) UNREACHABLE;
-    if (v6 <= v12) {
-        v6 = 0;
-        v14 = count;
-        limits = v11;
-        do {
-            v9 = get8(limits);
-            if (v9 > 31) goto l7;
-            if ((v9 & 8) != 0) {
-                if ((((v9 << 8) & 0x700) | get8(limits + 1)) == 0x7ff) goto l7;
-            }
-            octets = (((uint64_t)get8(limits + 4) << 8) | (uint64_t)get8(limits + 5)) + 7;
-            v9 = v14 < octets;
-            if (v9 != 0) goto l7;
-            octets = (v9 != 0) ? 0ULL : octets;
-            if ((v12 - v6) < octets) goto l7;
-            limits = limits + octets;
-            v6 = octets + v6;
-            v14 = v14 - octets;
-        } while (v14 >= 6);
-    }
-l7:;
-    limits = ((v6 - 1) / v12) + 1;
-    if (k < limits) goto l2;
-    v11 = v11 + v6;
-    v13 = v6 + v13;
-    k = k - limits;
-    count = count - v6;
+    limits = map_service_cutting_group_len(octets, count, v10);
+    v12 = ((limits - 1) / v10) + 1;
+    if (k < v12) goto l2;
+    octets = octets + limits;
+    v11 = limits + v11;
+    k = k - v12;
+    count = count - limits;
     if (count != 0) goto l5;
-    return v8 & 255;
-    v8 = get8(v7 + 9) + 1;
-    return v8 & 255;
+    return v7 & 255;
+    v7 = get8(v6 + 9) + 1;
+    return v7 & 255;
 l2:;
-    v8 = 0;
-    octets = k * v12;
-    limits = v6 - octets;
-    v9 = limits > v12;
-    put8(flags, 0x3020001U >> (((k == 0) ? ((v9 != 0) ? 0U : 24U) : ((v9 != 0) ? 8U : 16U)) & 31));
-    put64(data + 8, (v12 < limits) ? v12 : limits);
-    put64(data, octets + v13);
-    return v8 & 255;
+    v7 = 0;
+    octets = k * v10;
+    count = limits - octets;
+    v8 = count > v10;
+    put8(flags, 0x3020001U >> (((k == 0) ? ((v8 != 0) ? 0U : 24U) : ((v8 != 0) ? 8U : 16U)) & 31));
+    put64(data + 8, (v10 < count) ? v10 : count);
+    put64(data, octets + v11);
+    return v7 & 255;
 }
 
 static uint32_t sedge_packet_declared_at(uint64_t octets, uint64_t count, uint64_t total)
@@ -2488,7 +1881,7 @@ static uint32_t sedge_tc_decode_at(uint64_t octets, uint64_t count, uint32_t che
                     if ((checked & 1) != 0) {
                         v9 = count - 2;
                         checked = get16(octets + v9);
-                        t1 = octets_checking_check(octets, v9);
+                        t1 = octets_frame_check_check(octets, v9);
                         if ((((checked << 8) | (checked >> 8)) & 0xffff) != (t1 & 0xffff)) return 6;
                     }
                     checked = get8(octets + 4);
@@ -2859,7 +2252,7 @@ static uint32_t sedge_tm_decode_at(uint64_t octets, uint64_t count, uint64_t len
     v10 = get8(length + 1);
     octets = count - 2;
     v11 = get16(length + octets);
-    t1 = octets_checking_check(length, octets);
+    t1 = octets_frame_check_check(length, octets);
     if ((((v11 << 8) | (v11 >> 8)) & 0xffff) != (t1 & 0xffff)) return v6;
     if ((v8 & 248) != 24) {
         v6 = 4;
@@ -2999,7 +2392,7 @@ l6:;
 l9:;
     put32(v18, v7);
     frame = data_count + 10;
-    v10 = octets_checking_check(v17, frame);
+    v10 = octets_frame_check_check(v17, frame);
     put16(v17 + frame, (v10 << 8) | ((v10 & 0xff00) >> 8));
     put64(total, v13);
     v10 = 0;
@@ -3327,7 +2720,7 @@ l11:;
         return 0;
     }
     data_count = v17 - 2;
-    v8 = octets_checking_check(frame, data_count);
+    v8 = octets_frame_check_check(frame, data_count);
     put16(frame + data_count, (v8 << 8) | ((v8 & 0xff00) >> 8));
     put64(total, v17);
     return 0;
@@ -3355,11 +2748,14 @@ static uint32_t sedge_map_take_at(uint64_t map, uint32_t flags, uint64_t data, u
     v13 = memory + v12;
     v14 = (data == 0) ? 0x1000ULL : 0ULL;
     v15 = data + v14;
-    put16(v7 + 12, 0);
-    put32(v7 + 8, 0);
     switch ((uint32_t)((uint64_t)flags & 255)) {
     case 1:
-        if (data_count > ((room < 0xffffffffULL) ? room : 0xffffffffULL)) goto l4;
+        if (data_count > ((room < 0xffffffffULL) ? room : 0xffffffffULL)) {
+            put64(map, 0);
+            put8(map + 8, 0);
+            v8 = 5;
+            goto l4;
+        }
         if ((v13 - v15) < data_count) {
             v17 = data_count & 3;
             v11 = 0;
@@ -3389,10 +2785,10 @@ static uint32_t sedge_map_take_at(uint64_t map, uint32_t flags, uint64_t data, u
         }
         if (data_count != 0) copy(v13, v15, data_count);
     l21:;
-        flags = (v9 != 0) ? 2U : 0U;
+        v8 = (v9 != 0) ? 2U : 0U;
         put64(map, data_count);
         put8(map + 8, 1);
-        v8 = 0;
+        flags = 0;
         put32(v7 + 8, 0);
         put16(v7 + 12, 0);
         data_count = 0;
@@ -3433,19 +2829,19 @@ static uint32_t sedge_map_take_at(uint64_t map, uint32_t flags, uint64_t data, u
             l31:;
                 data_count = 0;
                 put64(map, 0);
-                v8 = 0;
+                flags = 0;
                 put8(map + 8, 0);
                 if (v16 >= 6) {
-                    flags = get8(v13);
-                    if (flags <= 31) {
-                        if ((flags & 8) != 0) {
-                            if ((((flags << 8) & 0x700) | get8(v13 + 1)) == 0x7ff) goto l37;
+                    v8 = get8(v13);
+                    if (v8 <= 31) {
+                        if ((v8 & 8) != 0) {
+                            if ((((v8 << 8) & 0x700) | get8(v13 + 1)) == 0x7ff) goto l37;
                         }
                         if (((((uint64_t)get8(v13 + 4) << 8) | (uint64_t)get8(v13 + 5)) + 7) == v16) {
-                            flags = 0;
+                            v8 = 0;
                             put16(v7 + 12, 0);
                             put32(v7 + 8, 0);
-                            v8 = 1;
+                            flags = 1;
                             data_count = v16;
                             goto l2;
                         }
@@ -3454,66 +2850,55 @@ static uint32_t sedge_map_take_at(uint64_t map, uint32_t flags, uint64_t data, u
             l37:;
                 put16(v7 + 12, 0);
                 put32(v7 + 8, 0);
-                flags = 4;
+                v8 = 4;
                 goto l2;
             }
-            goto l4;
+            goto l6;
         }
-        flags = 3;
-        goto l3;
-    case 3:
-        v11 = (room < 0xffffffffULL) ? room : 0xffffffffULL;
-        if (v10 == 1) {
-            flags = 4;
-            if (data_count < 6) goto l3;
-            memory = data_count;
-            room = v15;
-            do {
-                v8 = get8(room);
-                if (v8 > 31) goto l3;
-                if ((v8 & 8) != 0) {
-                    if ((((v8 << 8) & 0x700) | get8(room + 1)) == 0x7ff) goto l3;
-                }
-                data = (((uint64_t)get8(room + 4) << 8) | (uint64_t)get8(room + 5)) + 7;
-                if (memory < data) goto l3;
-                room = room + data;
-                memory = memory - data;
-            } while (memory > 5);
-            if (memory != 0) goto l3;
-            memory = data_count;
-        l17:;
-            flags = get8(v15);
-            if (flags > 31) goto l13;
-            if ((flags & 8) != 0) {
-                if ((((flags << 8) & 0x700) | get8(v15 + 1)) == 0x7ff) goto l13;
-            }
-            room = (((uint64_t)get8(v15 + 4) << 8) | (uint64_t)get8(v15 + 5)) + 7;
-            if (memory < room) goto l13;
-            if (room > v11) goto l4;
-            v15 = v15 + room;
-            memory = memory - room;
-            if (memory >= 6) goto l17;
-            goto l13;
-        }
-        if (data_count > v11) goto l4;
-        flags = 4;
-        if (data_count < 6) goto l3;
-        v8 = get8(v15);
-        if (v8 > 31) goto l3;
-        if ((v8 & 8) != 0) {
-            if ((((v8 << 8) & 0x700) | get8(v15 + 1)) == 0x7ff) goto l3;
-        }
-        if (((((uint64_t)get8(v15 + 4) << 8) | (uint64_t)get8(v15 + 5)) + 7) != data_count) goto l3;
-    l13:;
-        flags = (v9 != 0) ? 2U : 0U;
-        put64(map, 0);
-        put8(map + 8, 0);
         v8 = 2;
-        goto l2;
+        goto l5;
+    case 3:
+        put16(v7 + 12, 0);
+        put32(v7 + 8, 0);
+        data = (room < 0xffffffffULL) ? room : 0xffffffffULL;
+        if (v10 == 1) {
+            v8 = 3;
+            if (data_count < 6) goto l5;
+            v10 = 0;
+            memory = data_count;
+            do {
+                flags = get8(v15);
+                if (flags > 31) goto l5;
+                if ((flags & 8) != 0) {
+                    if ((((flags << 8) & 0x700) | get8(v15 + 1)) == 0x7ff) goto l5;
+                }
+                room = (((uint64_t)get8(v15 + 4) << 8) | (uint64_t)get8(v15 + 5)) + 7;
+                if (memory < room) goto l5;
+                v15 = v15 + room;
+                v10 = v10 | (uint32_t)(room > data);
+                memory = memory - room;
+            } while (memory > 5);
+            flags = memory == 0;
+            v10 = flags & v10;
+            v8 = (flags != 0) ? ((v10 != 0) ? 4U : 0U) : 3U;
+            if (v10 != 0) goto l5;
+            if (memory == 0) goto l3;
+            goto l5;
+        }
+        if (data_count > data) goto l6;
+        v8 = 3;
+        if (data_count < 6) goto l5;
+        flags = get8(v15);
+        if (flags > 31) goto l5;
+        if ((flags & 8) != 0) {
+            if ((((flags << 8) & 0x700) | get8(v15 + 1)) == 0x7ff) goto l5;
+        }
+        if (((((uint64_t)get8(v15 + 4) << 8) | (uint64_t)get8(v15 + 5)) + 7) != data_count) goto l5;
+        goto l3;
     default:
         if (v9 != 0) {
             v20 = v11 + data_count;
-            if (v20 > ((room < 0xffffffffULL) ? room : 0xffffffffULL)) goto l4;
+            if (v20 > ((room < 0xffffffffULL) ? room : 0xffffffffULL)) goto l6;
             v13 = v13 + v11;
             if ((v13 - v15) < data_count) {
                 v17 = data_count & 3;
@@ -3545,26 +2930,36 @@ static uint32_t sedge_map_take_at(uint64_t map, uint32_t flags, uint64_t data, u
             if (data_count != 0) copy(v13, v15, data_count);
         l26:;
             put64(map, v20);
-            v8 = 0;
+            flags = 0;
             put32(v7 + 8, 0);
             put16(v7 + 12, 0);
             data_count = 0;
-            flags = 0;
+            v8 = 0;
             goto l2;
         }
-        flags = 3;
-        goto l3;
+        v8 = 2;
+        goto l5;
     }
-l4:;
-    flags = 5;
-l3:;
-    data_count = 0;
+l6:;
+    v8 = 4;
+l5:;
     put64(map, 0);
-    v8 = 0;
     put8(map + 8, 0);
+    v8 = v8 + 1;
+l4:;
+    flags = 0;
+    put16(v7 + 12, 0);
+    put32(v7 + 8, 0);
+    data_count = 0;
+    goto l2;
+l3:;
+    v8 = (v9 != 0) ? 2U : 0U;
+    put64(map, 0);
+    put8(map + 8, 0);
+    flags = 2;
 l2:;
-    put8(taken + 9, flags);
-    put8(taken + 8, v8);
+    put8(taken + 9, v8);
+    put8(taken + 8, flags);
     put64(taken, data_count);
     put32(taken + 10, get32(v7 + 8));
     put16(taken + 14, get16(v7 + 12));
@@ -3802,785 +3197,1109 @@ l2:;
     return v8;
 }
 
-static uint32_t sedge_fop_init_set_vr_at(uint64_t fop, uint32_t vr)
+static uint32_t sedge_fop_directive_at(uint64_t fop, uint32_t directive, uint32_t value)
 {
-    unsigned char frame_octets[16 + 15];
-    uint64_t v2 = 0;
-    v2 = aligned(frame_octets);
-    if (ordered64(v2) > 0x800000000000000fULL) {
-        put32(v2 + 12, 3);
-        put8(v2 + 13, vr);
-        vr = sedgechisel_sender_directing_direct(fop, v2 + 12);
-        return vr & 255;
+    uint32_t v3 = 0, v4 = 0, v5 = 0, v6 = 0, v7 = 0, v8 = 0, v9 = 0, v10 = 0, v11 = 0, v12 = 0, v13 = 0, v14 = 0,
+        v15 = 0, v16 = 0, v17 = 0, v18 = 0, v19 = 0, v20 = 0, v21 = 0, v22 = 0, v23 = 0, v24 = 0, v25 = 0, v26 = 0,
+        v27 = 0, v28 = 0, v29 = 0, v30 = 0;
+    v3 = value & 0xffff;
+    v4 = v3 < 256;
+    v5 = (v4 != 0) ? v3 : 256U;
+    v3 = 255;
+    v6 = 0;
+    v7 = 0;
+    v8 = 0;
+    switch ((directive & 255) - 1) {
+    case 0:
+        goto l5;
+    case 1:
+        v7 = 0;
+        v8 = 1;
+        v6 = 0;
+        goto l5;
+    case 2:
+        v7 = 0;
+        v8 = 2;
+        v6 = 0;
+        goto l5;
+    case 3:
+        if (v4 == 0) return v3;
+        v8 = 3;
+        v7 = v5;
+        goto l5;
+    case 4:
+        v7 = 0;
+        v8 = 4;
+        v6 = 0;
+        goto l5;
+    case 5:
+        if (v4 == 0) return v3;
+        v8 = 5;
+        v7 = v5;
+        goto l5;
+    case 6:
+        v8 = 6;
+        v7 = v5;
+        goto l5;
+    case 7:
+        v8 = 7;
+        v7 = v5;
+        goto l5;
+    case 8:
+        goto l6;
+    default:
+        return v3;
     }
-    UNREACHABLE;
-}
-
-static uint32_t sedge_fop_init_unlock_at(uint64_t fop)
-{
-    unsigned char frame_octets[16 + 15];
-    uint32_t v2 = 0;
-    uint64_t v1 = 0;
-    v1 = aligned(frame_octets);
-    if (ordered64(v1) > 0x800000000000000fULL) {
-        put32(v1 + 12, 2);
-        v2 = sedgechisel_sender_directing_direct(fop, v1 + 12);
-        return v2 & 255;
+l6:;
+    v8 = 8;
+    v7 = 0;
+    v6 = value;
+l5:;
+    v3 = 255;
+    value = get8(fop + 5);
+    directive = value - 1;
+    if ((directive & 255) > 5) return v3;
+    v5 = 1;
+    v4 = get8(fop + 8);
+    if (v4 > 1) return v3;
+    v9 = get8(fop + 15);
+    v10 = 0;
+    v11 = get8(fop + 14);
+    switch (v11 - 3) {
+    case 0:
+        goto l14;
+    case 1:
+        goto l15;
+    default:
+        if (v11 > 2) return v3;
+        v10 = 1;
+        v5 = v11;
+        if ((v9 & 255) == 0) goto l14;
+        return v3;
     }
-    UNREACHABLE;
-}
-
-static uint32_t sedge_fop_init_with_check_at(uint64_t fop)
-{
-    unsigned char frame_octets[16 + 15];
-    uint32_t v2 = 0;
-    uint64_t v1 = 0;
-    v1 = aligned(frame_octets);
-    if (ordered64(v1) > 0x800000000000000fULL) {
-        put32(v1 + 12, 1);
-        v2 = sedgechisel_sender_directing_direct(fop, v1 + 12);
-        return v2 & 255;
+l15:;
+    v5 = 2;
+l14:;
+    v12 = get8(fop + 13);
+    if (v12 == 0) return v3;
+    v13 = get16(fop);
+    if ((v13 & 0xffff) == 0) return v3;
+    v14 = get8(fop + 12);
+    if ((v14 & 255) == 0) return v3;
+    v15 = get8(fop + 10);
+    v11 = get8(fop + 9);
+    if ((v15 & 255) > (v11 & 255)) return v3;
+    v16 = get8(fop + 4);
+    v17 = v16 & 255;
+    if ((v11 & 255) > v17) return v3;
+    v18 = get8(fop + 6);
+    v19 = get8(fop + 7);
+    v20 = v18 - v19;
+    if ((v20 & 255) > v17) return v3;
+    if (extend32(v16, 0x80) > 0x7fffffffU) return v3;
+    v21 = get8(fop + 11);
+    if (((v21 - 1) & 255) >= (v16 & 255)) return v3;
+    v17 = get16(fop + 2);
+    switch (value - 1) {
+    case 1:
+    case 2:
+        v3 = 255;
+        if (v5 != 0) return v3;
+        v22 = v11 & 255;
+        if (v22 != (v20 & 255)) return v3;
+        if (v22 == 0) return v3;
+        if ((v17 & 0xffff) == 0) return v3;
+        goto l1;
+    case 3:
+        v3 = 255;
+        if ((v11 & 255) != (v20 & 255)) return v3;
+        if (((v11 | v5) & 255) != 0) return v3;
+        if ((v17 & 0xffff) != 0) goto l1;
+        return v3;
+    case 4:
+        v3 = 255;
+        if ((v11 & 255) != (v20 & 255)) return v3;
+        if ((v11 & 255) != 0) return v3;
+        v3 = 255;
+        switch (v5) {
+        case 1:
+            goto l3;
+        case 2:
+            v3 = 255;
+            if ((~v10 & (uint32_t)((v9 & 255) != (v18 & 255))) != 0) return v3;
+            if ((v17 & 0xffff) != 0) goto l1;
+            return v3;
+        default:
+            return v3;
+        }
+    case 5:
+        v3 = 255;
+        if (((v11 | v5) & 255) != 0) return v3;
+        if ((v4 & 1) != 0) return v3;
+        if ((v17 & 0xffff) == 0) goto l1;
+        return v3;
+    default:
+        v3 = 255;
+        if (v5 != 0) return v3;
+        if ((v11 & 255) != (v20 & 255)) return v3;
+        if (((uint32_t)((v11 & 255) == 0) ^ (uint32_t)((v17 & 0xffff) != 0)) != 0) goto l1;
+        return v3;
     }
-    UNREACHABLE;
-}
-
-static uint32_t sedge_fop_init_without_check_at(uint64_t fop)
-{
-    unsigned char frame_octets[16 + 15];
-    uint32_t v2 = 0;
-    uint64_t v1 = 0;
-    v1 = aligned(frame_octets);
-    if (ordered64(v1) > 0x800000000000000fULL) {
-        put32(v1 + 12, 0);
-        v2 = sedgechisel_sender_directing_direct(fop, v1 + 12);
-        return v2 & 255;
+l3:;
+    v3 = 255;
+    if ((v10 | (uint32_t)((v9 & 255) == (v18 & 255))) != 0) goto l1;
+    return v3;
+l1:;
+    switch (v8) {
+    case 4:
+        if ((directive & 255) == 5) return 8;
+        v25 = 0;
+        v3 = 6;
+        directive = 0;
+        v6 = 0;
+        v16 = 0;
+        v20 = 0;
+        v22 = 0;
+        goto l23;
+    case 6:
+        v23 = v18;
+        v24 = v19;
+        v21 = v7;
+        if (((v7 - 1) & 255) < (v16 & 255)) goto l30;
+        return 2;
+    case 7:
+        v23 = v18;
+        v24 = v19;
+        v14 = v7;
+        if ((v7 & 255) != 0) goto l30;
+        return 3;
+    case 8:
+        v23 = v18;
+        v24 = v19;
+        v13 = v6;
+        if ((v6 & 0xffff) != 0) goto l30;
+        return 4;
+    default:
+        v26 = 5;
+        if ((directive & 255) == 5) {
+            v25 = 0;
+            v3 = 6;
+            v27 = 1;
+            v23 = v7;
+            v24 = v7;
+            v28 = 0;
+            v29 = 0;
+            v30 = v7;
+            directive = 0;
+            v6 = 0;
+            v16 = 0;
+            v20 = 0;
+            v22 = 0;
+            switch (v8) {
+            case 1:
+                v12 = 1;
+                v25 = 0;
+                v3 = 4;
+                directive = 0;
+                v6 = 0;
+                v19 = v18;
+                v16 = 0;
+                v20 = 0;
+                v22 = v13;
+                goto l23;
+            case 2:
+                v6 = 1;
+                v25 = 0;
+                v3 = 5;
+                directive = 0;
+                goto l24;
+            case 3:
+                goto l29;
+            case 4:
+                goto l23;
+            case 5:
+                goto l30;
+            default:
+                v25 = 0;
+                v3 = 1;
+                directive = 0;
+                v6 = 0;
+                goto l24;
+            }
+        }
+        return 8;
     }
-    UNREACHABLE;
+l30:;
+    v3 = value;
+    v25 = v4;
+    directive = v5;
+    v6 = v5;
+    v18 = v23;
+    v19 = v24;
+    v16 = v11;
+    v20 = v15;
+    v22 = v17;
+    switch (v5) {
+    case 1:
+        goto l40;
+    case 2:
+        v6 = (v10 != 0) ? 2U : 4U;
+        v3 = value;
+        v25 = v4;
+        directive = v9;
+        goto l25;
+    default:
+        goto l23;
+    }
+l40:;
+    if (v10 != 0) {
+        v6 = 1;
+        directive = 0;
+        v3 = value;
+        v25 = v4;
+        goto l25;
+    }
+    v26 = value;
+    v7 = v23;
+    v25 = v4;
+    v28 = v11;
+    v29 = v15;
+    v27 = v12;
+    v30 = v9;
+l29:;
+    v6 = 3;
+    v3 = v26;
+    directive = v30;
+    v18 = v7;
+    v19 = v24;
+    v16 = v28;
+    v20 = v29;
+    v12 = v27;
+    v22 = v17;
+    goto l23;
+l25:;
+    v18 = v23;
+    v19 = v24;
+    v16 = v11;
+    v20 = v15;
+    v22 = v17;
+    goto l23;
+l24:;
+    v19 = v18;
+    v16 = 0;
+    v20 = 0;
+    v12 = 1;
+    v22 = v17;
+l23:;
+    put16(fop, v13);
+    put8(fop + 15, directive);
+    put8(fop + 14, v6);
+    put8(fop + 13, v12);
+    put8(fop + 12, v14);
+    put8(fop + 11, v21);
+    put8(fop + 10, v20);
+    put8(fop + 9, v16);
+    put8(fop + 8, v25);
+    put8(fop + 7, v19);
+    put8(fop + 6, v18);
+    put8(fop + 5, v3);
+    put16(fop + 2, v22);
+    return 0;
 }
 
 static uint32_t sedge_fop_next_at(uint64_t fop, uint64_t number)
 {
-    unsigned char frame_octets[48 + 15];
-    uint32_t v3 = 0, v4 = 0, v5 = 0, v6 = 0, v7 = 0, v8 = 0, v9 = 0, v10 = 0, v11 = 0, v12 = 0, v13 = 0, v14 = 0,
-        v15 = 0, v16 = 0, v17 = 0, v18 = 0, v19 = 0;
-    uint64_t v2 = 0;
-    v2 = aligned(frame_octets);
-    if (ordered64(v2) < 0x8000000000000010ULL) UNREACHABLE;
-    put64(v2 + 14, 0);
-    put64(v2 + 8, 0);
-    put64(v2, 0);
-    v3 = 255;
-    v4 = get8(fop + 5) - 1;
-    if ((v4 & 255) > 5) return v3;
+    uint32_t v2 = 0, v3 = 0, v4 = 0, v5 = 0, v6 = 0, v7 = 0, v8 = 0, v9 = 0, v10 = 0, v11 = 0, v12 = 0, v13 = 0,
+        v14 = 0, v15 = 0, v16 = 0, v17 = 0, v18 = 0, v19 = 0, v20 = 0;
+    v2 = 255;
+    v3 = get8(fop + 5);
+    v4 = v3 - 1;
+    if ((v4 & 255) > 5) return v2;
     v5 = 1;
     v6 = get8(fop + 8);
-    if (v6 > 1) return v3;
+    if (v6 > 1) return v2;
     v7 = get8(fop + 15);
-    v8 = 1;
+    v8 = 0;
     v9 = get8(fop + 14);
     switch (v9 - 3) {
     case 0:
-        goto l3;
+        goto l8;
     case 1:
-        v8 = 2;
-        goto l3;
-    default:
-        goto l4;
-    }
-l4:;
-    if (v9 > 2) return v3;
-    v5 = 0;
-    v8 = v9;
-    if ((v7 & 255) != 0) return v3;
-l3:;
-    put8(v2 + 47, v7);
-    put8(v2 + 46, v5);
-    put8(v2 + 45, v8);
-    put8(v2 + 32, v6);
-    put8(v2 + 29, v4);
-    put16(v2 + 38, get16(fop));
-    put8(v2 + 44, get8(fop + 13));
-    v4 = get16(fop + 2);
-    put16(v2 + 42, v4);
-    put32(v2 + 33, get32(fop + 9));
-    put16(v2 + 30, get16(fop + 6));
-    put8(v2 + 28, get8(fop + 4));
-    put8(v2 + 37, 0);
-    put16(v2 + 40, v4 != 0);
-    cop1_sender_Sender_restore(v2, v2 + 28);
-    if (get8(v2) != 0) return v3;
-    v6 = 1;
-    v9 = get8(v2 + 21);
-    v10 = get8(v2 + 20);
-    v11 = get8(v2 + 18);
-    v5 = get16(v2 + 12);
-    v12 = get8(v2 + 10);
-    v13 = get8(v2 + 9);
-    v4 = get8(v2 + 8);
-    v7 = get8(v2 + 7);
-    v14 = get8(v2 + 6);
-    v15 = get8(v2 + 5);
-    v16 = get8(v2 + 4);
-    v8 = get8(v2 + 3);
-    v17 = get8(v2 + 2);
-    v18 = get8(v2 + 19);
-    if (v18 != 1) {
-        v19 = get16(v2 + 16);
-        v6 = get16(v2 + 14);
-        if ((v8 & 255) <= 1) {
-            if ((v4 & 255) != 0) goto l11;
-            if ((v14 & 1) != 0) {
-                v3 = v7 & 255;
-                if ((v13 & 255) > v3) {
-                    put8(number, v16);
-                    v6 = 1;
-                    v11 = (v3 != 0) ? v11 : 1U;
-                    v16 = v16 + 1;
-                    v7 = v7 + 1;
-                    v3 = 3;
-                    v14 = 0;
-                    v4 = 0;
-                    goto l10;
-                }
-            }
-        }
-        v3 = 0;
-        put8(number, 0);
         goto l9;
-    l11:;
-        put8(number, v7 + v15 - v4);
-        v4 = v4 - 1;
-        v3 = 4;
-        v6 = 1;
-    l10:;
-        v19 = v5;
-    l9:;
-        if (v18 == 0) {
-            v10 = 0;
-            v9 = 0;
-            goto l6;
-        }
-        goto l7;
+    default:
+        if (v9 > 2) return v2;
+        v8 = 1;
+        v5 = v9;
+        if ((v7 & 255) == 0) goto l8;
+        return v2;
     }
-    v3 = v10 & 255;
-    put8(number, (v3 != 0) ? v9 : 0U);
-    v3 = (v3 != 0) ? 2U : 1U;
-    v19 = v5;
-l7:;
-    v18 = v10 & 255;
-    v10 = (v18 != 0) ? 4U : 2U;
-    v9 = (v18 == 1) ? v9 : 0U;
+l9:;
+    v5 = 2;
+l8:;
+    v10 = get8(fop + 13);
+    if (v10 == 0) return v2;
+    v11 = get16(fop);
+    if ((v11 & 0xffff) == 0) return v2;
+    v12 = get8(fop + 12);
+    if ((v12 & 255) == 0) return v2;
+    v13 = get8(fop + 10);
+    v9 = get8(fop + 9);
+    if ((v13 & 255) > (v9 & 255)) return v2;
+    v14 = get8(fop + 4);
+    v15 = v14 & 255;
+    if ((v9 & 255) > v15) return v2;
+    v16 = get8(fop + 6);
+    v17 = get8(fop + 7);
+    v18 = v16 - v17;
+    if ((v18 & 255) > v15) return v2;
+    if (extend32(v14, 0x80) > 0x7fffffffU) return v2;
+    v19 = get8(fop + 11);
+    if (((v19 - 1) & 255) >= (v14 & 255)) return v2;
+    v15 = get16(fop + 2);
+    switch (v3 - 1) {
+    case 1:
+    case 2:
+        goto l14;
+    case 3:
+        v2 = 255;
+        if ((v9 & 255) != (v18 & 255)) return v2;
+        if (((v9 | v5) & 255) != 0) return v2;
+        if ((v15 & 0xffff) != 0) goto l15;
+        return v2;
+    case 4:
+        v2 = 255;
+        if ((v9 & 255) != (v18 & 255)) return v2;
+        if ((v9 & 255) != 0) return v2;
+        v2 = 255;
+        switch (v5) {
+        case 1:
+            goto l6;
+        case 2:
+            v2 = 255;
+            if ((~v8 & (uint32_t)((v7 & 255) != (v16 & 255))) != 0) return v2;
+            if ((v15 & 0xffff) == 0) return v2;
+            v18 = 0;
+            put8(number, 0);
+            v20 = 1;
+            goto l3;
+        default:
+            return v2;
+        }
+    case 5:
+        goto l16;
+    default:
+        v2 = 255;
+        if (v5 != 0) return v2;
+        if ((v9 & 255) != (v18 & 255)) return v2;
+        if (((uint32_t)((v9 & 255) == 0) ^ (uint32_t)((v15 & 0xffff) != 0)) != 0) goto l13;
+        return v2;
+    }
+l16:;
+    v2 = 255;
+    if (((v9 | v5) & 255) != 0) return v2;
+    if ((v6 & 1) != 0) return v2;
+    if ((v15 & 0xffff) != 0) return v2;
+l15:;
+    if (v5 != 1) {
+        v18 = 0;
+        put8(number, 0);
+        v20 = (v15 & 0xffff) != 0;
+        v4 = 0;
+        v2 = 0;
+        if (v5 == 0) goto l2;
+        goto l3;
+    }
+    goto l4;
+l14:;
+    v2 = 255;
+    if (v5 != 0) return v2;
+    v5 = v9 & 255;
+    if (v5 != (v18 & 255)) return v2;
+    if (v5 == 0) return v2;
+    if ((v15 & 0xffff) == 0) return v2;
+    if ((v4 & 255) > 1) goto l12;
+l13:;
+    if ((v13 & 255) != 0) {
+        put8(number, v9 + v17 - v13);
+        v13 = v13 - 1;
+        v18 = 4;
+        v2 = 0;
+        v4 = 0;
+        v5 = v11;
+        goto l1;
+    }
+    if ((v9 & 255) < (v19 & 255)) {
+        if ((v6 & 1) != 0) {
+            put8(number, v16);
+            v10 = ((v9 & 255) != 0) ? v10 : 1U;
+            v16 = v16 + 1;
+            v9 = v9 + 1;
+            v18 = 3;
+            v2 = 0;
+            v4 = 0;
+            v6 = 0;
+            v13 = 0;
+            v5 = v11;
+            goto l1;
+        }
+    }
+l12:;
+    v18 = 0;
+    put8(number, 0);
+    v20 = (v15 & 0xffff) != 0;
+    v4 = 0;
+    v2 = 0;
+    goto l2;
 l6:;
-    put16(fop, v5);
-    put8(fop + 15, v9);
-    put8(fop + 14, v10);
-    put8(fop + 13, v11);
+    v2 = 255;
+    if ((v8 | (uint32_t)((v7 & 255) == (v16 & 255))) != 0) goto l4;
+    return v2;
+l4:;
+    put8(number, (v8 != 0) ? 0U : v7);
+    v20 = 1;
+    v18 = (v8 != 0) ? 1U : 2U;
+    v15 = v11;
+l3:;
+    v4 = (v8 != 0) ? 2U : 4U;
+    v2 = v7;
+l2:;
+    v5 = (v20 != 0) ? v15 : 0U;
+l1:;
+    put16(fop, v11);
+    put8(fop + 15, v2);
+    put8(fop + 14, v4);
+    put8(fop + 13, v10);
     put8(fop + 12, v12);
-    put8(fop + 11, v13);
-    put8(fop + 10, v4);
-    put8(fop + 9, v7);
-    put8(fop + 8, v14 & 1);
-    put8(fop + 7, v15);
+    put8(fop + 11, v19);
+    put8(fop + 10, v13);
+    put8(fop + 9, v9);
+    put8(fop + 8, v6);
+    put8(fop + 7, v17);
     put8(fop + 6, v16);
-    put8(fop + 5, v8 + 1);
-    put8(fop + 4, v17);
-    put16(fop + 2, ((v6 & 255) != 0) ? v19 : 0U);
-    return v3;
+    put8(fop + 5, v3);
+    put8(fop + 4, v14);
+    put16(fop + 2, v5);
+    return v18;
 }
 
 static uint32_t sedge_fop_report_at(uint64_t fop, uint32_t vcid, uint64_t word, uint64_t released)
 {
-    unsigned char frame_octets[48 + 15];
-    uint32_t v5 = 0, v6 = 0, v7 = 0, v8 = 0, v9 = 0, v10 = 0, v11 = 0, v12 = 0, v13 = 0, v14 = 0, v15 = 0, v16 = 0,
-        v17 = 0, v18 = 0, v19 = 0, v20 = 0, v21 = 0, v22 = 0, v23 = 0, v24 = 0, v25 = 0;
-    uint64_t v4 = 0;
-    v4 = aligned(frame_octets);
-    if (ordered64(v4) < 0x8000000000000010ULL) UNREACHABLE;
-    v5 = 253;
-    if (get8(word + 1) != (vcid & 255)) return v5;
-    put64(v4 + 14, 0);
-    put64(v4 + 8, 0);
-    put64(v4, 0);
-    v5 = get8(fop + 5) - 1;
-    if ((v5 & 255) > 5) {
-        v5 = 255;
-        return v5;
-    }
-    vcid = 1;
-    v6 = get8(fop + 8);
-    if (v6 > 1) {
-        v5 = 255;
-        return v5;
-    }
-    v7 = get8(fop + 15);
-    v8 = 1;
-    v9 = get8(fop + 14);
-    switch (v9 - 3) {
-    case 0:
-        goto l9;
-    case 1:
-        v8 = 2;
-        goto l9;
-    default:
-        goto l10;
-    }
-l10:;
-    if (v9 > 2) {
-        v5 = 255;
-        return v5;
-    }
-    vcid = 0;
-    v8 = v9;
-    if ((v7 & 255) != 0) {
-        v5 = 255;
-        return v5;
-    }
-l9:;
-    put8(v4 + 47, v7);
-    put8(v4 + 46, vcid);
-    put8(v4 + 45, v8);
-    put8(v4 + 32, v6);
-    put8(v4 + 29, v5);
-    put16(v4 + 38, get16(fop));
-    put8(v4 + 44, get8(fop + 13));
-    v5 = get16(fop + 2);
-    put16(v4 + 42, v5);
-    put32(v4 + 33, get32(fop + 9));
-    put16(v4 + 30, get16(fop + 6));
-    put8(v4 + 28, get8(fop + 4));
-    vcid = 0;
-    put8(v4 + 37, 0);
-    put16(v4 + 40, v5 != 0);
-    cop1_sender_Sender_restore(v4, v4 + 28);
-    if (get8(v4) != 0) {
-        v5 = 255;
-        return v5;
-    }
-    v10 = get8(v4 + 21);
-    v5 = get8(v4 + 20);
-    v6 = get8(v4 + 19);
-    v11 = get8(v4 + 18);
-    v12 = get16(v4 + 16);
-    v13 = get16(v4 + 14);
-    v14 = get16(v4 + 12);
-    v15 = get8(v4 + 10);
-    v16 = get8(v4 + 9);
-    v9 = get8(v4 + 8);
-    v7 = get8(v4 + 7);
-    v17 = get8(v4 + 6);
-    v18 = get8(v4 + 5);
-    v19 = get8(v4 + 4);
-    v20 = get8(v4 + 2);
-    v8 = 6;
-    v21 = get8(v4 + 3);
-    switch ((uint32_t)((uint64_t)v21 & 255)) {
-    case 3:
-        v8 = 6;
-        vcid = 0;
-        v22 = get8(word + 2);
-        if ((v22 & 32) == 0) {
-            if (get8(word + 4) == (v19 & 255)) {
-                if ((v22 & 8) != 0) goto l6;
-                vcid = 0;
-                if ((v22 & 16) != 0) {
-                    v5 = 3;
-                    v22 = 0;
-                    goto l4;
-                }
-                v12 = 0;
-                v13 = 0;
-                goto l13;
+    uint32_t v4 = 0, v5 = 0, v6 = 0, v7 = 0, v8 = 0, v9 = 0, v10 = 0, v11 = 0, v12 = 0, v13 = 0, v14 = 0, v15 = 0,
+        v16 = 0, v17 = 0, v18 = 0, v19 = 0, v20 = 0, v21 = 0;
+    v4 = 253;
+    if (get8(word + 1) != (vcid & 255)) return v4;
+    vcid = get8(fop + 5);
+    v5 = vcid - 1;
+    if ((v5 & 255) <= 5) {
+        v6 = 1;
+        v7 = get8(fop + 8);
+        if (v7 <= 1) {
+            v8 = get8(fop + 15);
+            v9 = 0;
+            v10 = 1;
+            v4 = get8(fop + 14);
+            switch (v4 - 3) {
+            case 0:
+                goto l14;
+            case 1:
+                v10 = 2;
+                goto l14;
+            default:
+                goto l15;
             }
-            v5 = 2;
-            v22 = 0;
-            goto l4;
-        }
-        v5 = 1;
-        v22 = 0;
-        goto l4;
-    case 4:
-        v8 = 5;
-        if ((get8(word + 2) & 56) != 0) goto l12;
-        if (get8(word + 4) != (v19 & 255)) goto l12;
-        v8 = 1;
-        v22 = v17 & 1;
-        vcid = 0;
-        v5 = 0;
-        goto l3;
-    case 5:
-        goto l12;
-    default:
-        v8 = 6;
-        v22 = 0;
-        v23 = get8(word + 2);
-        if ((v23 & 32) == 0) {
-            v24 = get8(word + 4);
-            vcid = v24 - v18;
-            if (((v19 - v18) & 255) >= (vcid & 255)) {
-                if ((v23 & 24) != 16) {
-                    if ((v23 & 8) == 0) {
-                        if ((v18 & 255) != (v24 & 255)) goto l14;
-                        vcid = 0;
-                        if ((v21 & 255) == 0) goto l13;
-                        goto l6;
-                    }
-                    v25 = v24 & 255;
-                    if (v25 != (v19 & 255)) {
-                        v23 = v23 & 16;
-                        if ((v18 & 255) == v25) {
-                            v24 = v15 & 255;
-                            if (v24 != 1) {
-                                vcid = 0;
-                                if (v23 == 0) {
-                                    v8 = 2;
-                                    if (!((v21 & 255) != 1 && (v11 & 255) < v24)) goto l12;
-                                    v13 = 1;
+        l15:;
+            if (v4 > 2) return 255;
+            if ((v8 & 255) != 0) return 255;
+            v6 = 0;
+            v9 = 1;
+            v10 = v4;
+        l14:;
+            v11 = get8(fop + 13);
+            if (v11 != 0) {
+                v12 = get16(fop);
+                if ((v12 & 0xffff) != 0) {
+                    v13 = get8(fop + 12);
+                    if ((v13 & 255) != 0) {
+                        v14 = get8(fop + 10);
+                        v15 = get8(fop + 9);
+                        if ((v14 & 255) <= (v15 & 255)) {
+                            v16 = get8(fop + 4);
+                            v4 = v16 & 255;
+                            if ((v15 & 255) <= v4) {
+                                v17 = get8(fop + 6);
+                                v18 = get8(fop + 7);
+                                v19 = v17 - v18;
+                                if ((v19 & 255) <= v4) {
+                                    if (extend32(v16, 0x80) <= 0x7fffffffU) goto l25;
+                                    return 255;
+                                l25:;
+                                    v4 = 255;
+                                    v20 = get8(fop + 11);
+                                    if (((v20 - 1) & 255) >= (v16 & 255)) return v4;
+                                    v21 = get16(fop + 2);
+                                    switch (vcid - 1) {
+                                    case 1:
+                                    case 2:
+                                        goto l34;
+                                    case 3:
+                                        goto l37;
+                                    case 4:
+                                        goto l36;
+                                    case 5:
+                                        goto l35;
+                                    default:
+                                        goto l38;
+                                    }
+                                l38:;
+                                    v4 = 255;
+                                    if (v10 != 0) return v4;
+                                    if ((v15 & 255) != (v19 & 255)) return v4;
+                                    if (((uint32_t)((v15 & 255) == 0) ^ (uint32_t)((v21 & 0xffff) != 0)) != 0) goto
+                                        l33;
+                                    return v4;
+                                l37:;
+                                    v4 = 255;
+                                    if ((v15 & 255) != (v19 & 255)) return v4;
+                                    if (((v15 | v10) & 255) != 0) return v4;
+                                    if ((v21 & 0xffff) == 0) return v4;
+                                    vcid = 0;
+                                    v4 = get8(word + 2);
+                                    if ((v4 & 32) == 0) goto l32;
+                                    v5 = 1;
+                                    goto l30;
+                                l36:;
+                                    v4 = 255;
+                                    if ((v15 & 255) != (v19 & 255)) return v4;
+                                    if ((v15 & 255) != 0) return v4;
+                                    v4 = 255;
+                                    switch (v10) {
+                                    case 1:
+                                        goto l10;
+                                    case 2:
+                                        goto l39;
+                                    default:
+                                        return v4;
+                                    }
+                                l39:;
+                                    v4 = 255;
+                                    if ((~v9 & (uint32_t)((v8 & 255) != (v17 & 255))) != 0) return v4;
+                                    if ((v21 & 0xffff) == 0) return v4;
+                                    goto l8;
+                                l35:;
+                                    v4 = 255;
+                                    if (((v15 | v10) & 255) != 0) return v4;
+                                    if ((v7 & 1) != 0) return v4;
+                                    if ((v21 & 0xffff) != 0) return v4;
+                                    goto l6;
+                                l34:;
+                                    v4 = 255;
+                                    if (v10 != 0) return v4;
+                                    vcid = v15 & 255;
+                                    if (vcid != (v19 & 255)) return v4;
+                                    if (vcid == 0) return v4;
+                                    if ((v21 & 0xffff) == 0) return v4;
+                                l33:;
+                                    vcid = 0;
+                                    v4 = get8(word + 2);
+                                    if ((v4 & 32) == 0) goto l40;
+                                    v5 = 1;
+                                    goto l30;
+                                l40:;
+                                    v6 = get8(word + 4);
+                                    v10 = v6 - v18;
+                                    if ((v19 & 255) >= (v10 & 255)) goto l41;
+                                    v5 = 2;
+                                    goto l30;
+                                l41:;
+                                    if ((v4 & 24) == 16) goto l31;
+                                    if ((v4 & 8) == 0) goto l43;
+                                    v8 = v6 & 255;
+                                    if (v8 != (v17 & 255)) goto l42;
+                                    v5 = 4;
+                                    goto l30;
+                                l43:;
+                                    if ((v18 & 255) != (v6 & 255)) goto l44;
+                                    if ((v5 & 255) == 0) goto l27;
+                                    v5 = 4;
+                                    goto l30;
+                                l44:;
+                                    put8(released, v10);
+                                    v15 = v18 - v6 + v15;
+                                    v5 = v15 & 255;
+                                    vcid = v14 & 255;
+                                    v14 = (v5 < vcid) ? v5 : vcid;
+                                    v4 = 0;
+                                    vcid = 1;
+                                    v10 = 0;
+                                    v11 = 1;
+                                    v21 = v12;
+                                    v18 = v6;
+                                    if (v5 != 0) goto l2;
+                                    v10 = 0;
+                                    v11 = 1;
+                                    v15 = 0;
+                                    v18 = v6;
+                                    goto l5;
+                                l42:;
+                                    v4 = v4 & 16;
+                                    if ((v18 & 255) == v8) goto l45;
+                                    v11 = 1;
+                                    if ((v13 & 255) != 1) goto l46;
+                                    v5 = 5;
+                                    vcid = v10;
+                                    v18 = v6;
+                                    goto l30;
+                                l46:;
+                                    v15 = v18 - v6 + v15;
+                                    v11 = 2;
+                                    if (v4 != 0) goto l47;
+                                    v14 = v15;
+                                    v18 = v6;
+                                    goto l28;
+                                l47:;
+                                    vcid = v15 & 255;
+                                    v4 = v14 & 255;
+                                    v14 = (vcid < v4) ? vcid : v4;
+                                    vcid = 3;
+                                    v11 = 1;
+                                    v18 = v6;
+                                    goto l26;
+                                l45:;
+                                    v6 = v13 & 255;
+                                    if (v6 != 1) goto l48;
+                                    v5 = 5;
+                                    goto l30;
+                                l48:;
+                                    if (v4 == 0) goto l49;
+                                    vcid = 3;
+                                    goto l26;
+                                l49:;
+                                    if ((v5 & 255) != 1 && v11 < v6) goto l29;
+                                    vcid = 2;
+                                    goto l26;
+                                l32:;
+                                    if (get8(word + 4) == (v17 & 255)) goto l50;
+                                    v5 = 2;
+                                    goto l30;
+                                l50:;
+                                    if ((v4 & 8) == 0) goto l51;
+                                    v5 = 4;
+                                    goto l30;
+                                l51:;
+                                    if ((v4 & 16) == 0) goto l7;
+                                l31:;
+                                    v5 = 3;
+                                l30:;
+                                    put8(released, vcid);
+                                    v4 = 0;
+                                    vcid = 6;
+                                    v10 = 0;
+                                    v14 = 0;
+                                    v15 = 0;
+                                    v7 = 0;
+                                    goto l3;
+                                l29:;
                                     v11 = v11 + 1;
-                                    v12 = v14;
-                                    v9 = v7;
-                                    goto l12;
+                                    v14 = v15;
+                                l28:;
+                                    put8(released, v10);
+                                    v4 = 0;
+                                    vcid = 2;
+                                    v10 = 0;
+                                    v21 = v12;
+                                    goto l2;
+                                l27:;
+                                    vcid = 1;
+                                l26:;
+                                    put8(released, v10);
+                                    v4 = 0;
+                                    v10 = 0;
+                                    if ((v21 & 0xffff) != 0) goto l2;
+                                    v10 = 0;
+                                    goto l5;
                                 }
-                                v8 = 3;
-                                goto l12;
+                                return 255;
                             }
-                            v5 = 5;
-                            goto l5;
+                            return 255;
                         }
-                        v11 = 1;
-                        if ((v15 & 255) != 1) {
-                            v7 = v18 - v24 + v7;
-                            if (v23 == 0) {
-                                v13 = 1;
-                                v11 = 2;
-                                v12 = v14;
-                                v9 = v7;
-                                v18 = v24;
-                                v8 = 2;
-                                goto l12;
-                            }
-                            v8 = v7 & 255;
-                            v9 = v9 & 255;
-                            v9 = (v8 < v9) ? v8 : v9;
-                            v8 = 3;
-                            v11 = 1;
-                            v18 = v24;
-                            goto l12;
-                        }
-                        v5 = 5;
-                        v18 = v24;
-                        goto l4;
+                        return 255;
                     }
-                    v5 = 4;
-                    goto l5;
+                    return 255;
                 }
-                v5 = 3;
-                goto l5;
+                return 255;
             }
-            v5 = 2;
-            goto l5;
+            return 255;
         }
-        v5 = 1;
-        goto l5;
+        return 255;
     }
-l14:;
-    v7 = v18 - v24 + v7;
-    v8 = v7 & 255;
-    v9 = v9 & 255;
-    v9 = (v8 < v9) ? v8 : v9;
-    v12 = (v8 != 0) ? v14 : 0U;
-    v13 = v8 != 0;
-    v11 = 1;
-    v18 = v24;
-l13:;
-    v8 = 1;
-l12:;
-    put8(released, vcid);
-    vcid = v6;
-    switch (v6) {
-    case 1:
-        v5 = v5 & 255;
-        v6 = (v5 != 0) ? 3U : 1U;
-        if (v5 == 1) goto l32;
-        vcid = 0;
-        goto l31;
-    case 2:
-        v5 = v5 & 255;
-        v6 = (v5 != 0) ? 4U : 2U;
-        if (v5 == 1) goto l32;
-        vcid = 0;
-        goto l31;
-    default:
-        goto l31;
-    }
-l32:;
-    vcid = v10;
-l31:;
-    v5 = 0;
-    v12 = ((v13 & 255) != 0) ? v12 : 0U;
-    v22 = v17 & 1;
-    goto l2;
+    return 255;
+l10:;
+    v4 = 255;
+    if ((v9 | (uint32_t)((v8 & 255) == (v17 & 255))) != 0) goto l8;
+    return v4;
+l8:;
+    if ((get8(word + 2) & 56) != 0) goto l6;
+    if (get8(word + 4) != (v17 & 255)) goto l6;
+l7:;
+    v4 = 0;
+    put8(released, 0);
+    vcid = 1;
+    v10 = 0;
+    v15 = 0;
+    goto l5;
 l6:;
-    v5 = 4;
-    v22 = 0;
-    goto l4;
+    v4 = 0;
+    put8(released, 0);
+    switch (v10) {
+    case 1:
+        goto l53;
+    case 2:
+        v10 = (v9 != 0) ? 2U : 4U;
+        if (v6 == 0) goto l52;
+        goto l4;
+    default:
+        goto l52;
+    }
+l53:;
+    v10 = (v9 != 0) ? 1U : 3U;
+    if (v6 != 0) goto l4;
+l52:;
+    if ((v21 & 0xffff) != 0) goto l2;
 l5:;
-    vcid = 0;
+    v5 = 0;
+    goto l3;
 l4:;
-    v7 = 0;
-    v9 = 0;
+    if ((v21 & 0xffff) != 0) {
+        v4 = v8;
+        v5 = 0;
+        goto l1;
+    }
+    v5 = 0;
+    v4 = v8;
 l3:;
-    put8(released, vcid);
-    vcid = 0;
-    v6 = 0;
-    v12 = 0;
+    v21 = 0;
+    goto l1;
 l2:;
-    put16(fop, v14);
-    put8(fop + 15, vcid);
-    put8(fop + 14, v6);
+    v5 = 0;
+l1:;
+    put16(fop, v12);
+    put8(fop + 15, v4);
+    put8(fop + 14, v10);
     put8(fop + 13, v11);
-    put8(fop + 12, v15);
-    put8(fop + 11, v16);
-    put8(fop + 10, v9);
-    put8(fop + 9, v7);
-    put8(fop + 8, v22);
+    put8(fop + 12, v13);
+    put8(fop + 11, v20);
+    put8(fop + 10, v14);
+    put8(fop + 9, v15);
+    put8(fop + 8, v7);
     put8(fop + 7, v18);
-    put8(fop + 6, v19);
-    put8(fop + 5, v8);
-    put8(fop + 4, v20);
-    put16(fop + 2, v12);
+    put8(fop + 6, v17);
+    put8(fop + 5, vcid);
+    put8(fop + 4, v16);
+    put16(fop + 2, v21);
     return v5;
-}
-
-static uint32_t sedge_fop_set_limit_at(uint64_t fop, uint32_t limit)
-{
-    unsigned char frame_octets[16 + 15];
-    uint64_t v2 = 0;
-    v2 = aligned(frame_octets);
-    if (ordered64(v2) > 0x800000000000000fULL) {
-        put32(v2 + 12, 7);
-        put8(v2 + 13, limit);
-        limit = sedgechisel_sender_directing_direct(fop, v2 + 12);
-        return limit & 255;
-    }
-    UNREACHABLE;
-}
-
-static uint32_t sedge_fop_set_timer_at(uint64_t fop, uint32_t timer)
-{
-    unsigned char frame_octets[16 + 15];
-    uint64_t v2 = 0;
-    v2 = aligned(frame_octets);
-    if (ordered64(v2) > 0x800000000000000fULL) {
-        put32(v2 + 12, 8);
-        put16(v2 + 14, timer);
-        timer = sedgechisel_sender_directing_direct(fop, v2 + 12);
-        return timer & 255;
-    }
-    UNREACHABLE;
-}
-
-static uint32_t sedge_fop_set_vs_at(uint64_t fop, uint32_t vs)
-{
-    unsigned char frame_octets[16 + 15];
-    uint64_t v2 = 0;
-    v2 = aligned(frame_octets);
-    if (ordered64(v2) > 0x800000000000000fULL) {
-        put32(v2 + 12, 5);
-        put8(v2 + 13, vs);
-        vs = sedgechisel_sender_directing_direct(fop, v2 + 12);
-        return vs & 255;
-    }
-    UNREACHABLE;
-}
-
-static uint32_t sedge_fop_set_window_at(uint64_t fop, uint32_t window)
-{
-    unsigned char frame_octets[16 + 15];
-    uint64_t v2 = 0;
-    v2 = aligned(frame_octets);
-    if (ordered64(v2) > 0x800000000000000fULL) {
-        put32(v2 + 12, 6);
-        put8(v2 + 13, window);
-        window = sedgechisel_sender_directing_direct(fop, v2 + 12);
-        return window & 255;
-    }
-    UNREACHABLE;
 }
 
 static uint32_t sedge_fop_submit_at(uint64_t fop)
 {
-    unsigned char frame_octets[48 + 15];
-    uint32_t v2 = 0, v3 = 0, v4 = 0, v5 = 0, v6 = 0, v7 = 0, v8 = 0, v9 = 0, v10 = 0, v11 = 0, v12 = 0, v13 = 0,
-        v14 = 0, v15 = 0, v16 = 0, v17 = 0;
-    uint64_t v1 = 0;
-    v1 = aligned(frame_octets);
-    if (ordered64(v1) < 0x8000000000000010ULL) UNREACHABLE;
-    put64(v1 + 14, 0);
-    put64(v1 + 8, 0);
-    put64(v1, 0);
-    v2 = 255;
-    v3 = get8(fop + 5) - 1;
-    if ((v3 & 255) > 5) return v2;
-    v4 = 1;
-    v5 = get8(fop + 8);
-    if (v5 > 1) return v2;
-    v6 = get8(fop + 15);
+    uint32_t v1 = 0, v2 = 0, v3 = 0, v4 = 0, v5 = 0, v6 = 0, v7 = 0, v8 = 0, v9 = 0, v10 = 0, v11 = 0, v12 = 0;
+    v1 = 255;
+    v2 = get8(fop + 5);
+    if (((v2 - 1) & 255) > 5) return v1 & 255;
+    v3 = 1;
+    v1 = 255;
+    v4 = get8(fop + 8);
+    if (v4 > 1) return v1 & 255;
+    v5 = get8(fop + 15);
+    v6 = 0;
     v7 = 1;
     v8 = get8(fop + 14);
     switch (v8 - 3) {
     case 0:
-        goto l3;
+        goto l5;
     case 1:
         v7 = 2;
-        goto l3;
+        goto l5;
     default:
-        goto l4;
+        goto l6;
     }
-l4:;
-    if (v8 > 2) return v2;
-    v4 = 0;
+l6:;
+    v1 = 255;
+    if (v8 > 2) return v1 & 255;
+    v1 = 255;
+    if ((v5 & 255) != 0) return v1 & 255;
+    v3 = 0;
+    v6 = 1;
     v7 = v8;
-    if ((v6 & 255) != 0) return v2;
-l3:;
-    put8(v1 + 47, v6);
-    put8(v1 + 46, v4);
-    put8(v1 + 45, v7);
-    put8(v1 + 32, v5);
-    put8(v1 + 29, v3);
-    put16(v1 + 38, get16(fop));
-    put8(v1 + 44, get8(fop + 13));
-    v3 = get16(fop + 2);
-    put16(v1 + 42, v3);
-    put32(v1 + 33, get32(fop + 9));
-    put16(v1 + 30, get16(fop + 6));
-    put8(v1 + 28, get8(fop + 4));
-    put8(v1 + 37, 0);
-    put16(v1 + 40, v3 != 0);
-    cop1_sender_Sender_restore(v1, v1 + 28);
-    if (get8(v1) != 0) return v2;
-    v2 = get8(v1 + 3);
-    if (v2 == 5) {
-        v2 = 6;
-        return v2;
-    }
-    if ((get8(v1 + 6) & 1) != 0) {
-        v2 = 7;
-        return v2;
-    }
-    v9 = get8(v1 + 21);
-    v10 = get8(v1 + 20);
-    v5 = get8(v1 + 18);
-    v7 = get16(v1 + 16);
-    v6 = get8(v1 + 14);
-    v8 = get16(v1 + 12);
-    v11 = get8(v1 + 10);
-    v12 = get8(v1 + 9);
-    v13 = get8(v1 + 8);
-    v14 = get8(v1 + 7);
-    v15 = get8(v1 + 5);
-    v16 = get8(v1 + 4);
-    v17 = get8(v1 + 2);
-    v3 = get8(v1 + 19);
-    v4 = v3;
-    switch (v3) {
+l5:;
+    v1 = 255;
+    if (get8(fop + 13) == 0) return v1 & 255;
+    v1 = 255;
+    if ((get16(fop) & 0xffff) == 0) return v1 & 255;
+    v1 = 255;
+    if ((get8(fop + 12) & 255) == 0) return v1 & 255;
+    v1 = 255;
+    v8 = get8(fop + 9);
+    if ((get8(fop + 10) & 255) > (v8 & 255)) return v1 & 255;
+    v1 = 255;
+    v9 = get8(fop + 4);
+    v10 = v9 & 255;
+    if ((v8 & 255) > v10) return v1 & 255;
+    v1 = 255;
+    v11 = get8(fop + 6);
+    v12 = v11 - get8(fop + 7);
+    if ((v12 & 255) > v10) return v1 & 255;
+    v1 = 255;
+    if (extend32(v9, 0x80) > 0x7fffffffU) return v1 & 255;
+    v1 = 255;
+    if (((get8(fop + 11) - 1) & 255) >= (v9 & 255)) return v1 & 255;
+    v9 = get16(fop + 2);
+    switch (v2 - 1) {
     case 1:
-        v4 = v10 & 255;
-        v3 = (v4 != 0) ? 3U : 1U;
-        if (v4 == 1) goto l9;
-        v4 = 0;
-        goto l8;
     case 2:
-        v4 = v10 & 255;
-        v3 = (v4 != 0) ? 4U : 2U;
-        if (v4 == 1) goto l9;
-        v4 = 0;
-        goto l8;
+        v1 = 255;
+        if (v7 != 0) return v1 & 255;
+        v2 = v8 & 255;
+        if (v2 != (v12 & 255)) return v1 & 255;
+        if (v2 == 0) return v1 & 255;
+        if ((v9 & 0xffff) == 0) return v1 & 255;
+        goto l2;
+    case 3:
+        v1 = 255;
+        if ((v8 & 255) != (v12 & 255)) return v1 & 255;
+        if (((v8 | v7) & 255) != 0) return v1 & 255;
+        if ((v9 & 0xffff) != 0) goto l2;
+        return v1 & 255;
+    case 4:
+        v1 = 255;
+        if ((v8 & 255) != (v12 & 255)) return v1 & 255;
+        if ((v8 & 255) != 0) return v1 & 255;
+        v1 = 255;
+        switch (v7) {
+        case 1:
+            goto l3;
+        case 2:
+            v1 = 255;
+            if ((~v6 & (uint32_t)((v5 & 255) != (v11 & 255))) != 0) return v1 & 255;
+            if ((v9 & 0xffff) != 0) goto l2;
+            return v1 & 255;
+        default:
+            return v1 & 255;
+        }
+    case 5:
+        return ((((v8 | v7) & 255) != 0) ? ~0U : (((v4 & 1) != 0) ? ~0U : (((v9 & 0xffff) != 0) ? ~0U : 6U))) & 255;
     default:
-        goto l8;
+        v1 = 255;
+        if (v7 != 0) return v1 & 255;
+        if ((v8 & 255) != (v12 & 255)) return v1 & 255;
+        if (((uint32_t)((v8 & 255) == 0) ^ (uint32_t)((v9 & 0xffff) != 0)) != 0) goto l2;
+        return v1 & 255;
     }
-l9:;
-    v4 = v9;
-l8:;
-    put16(fop, v8);
-    put8(fop + 15, v4);
-    put8(fop + 14, v3);
-    put8(fop + 13, v5);
-    put8(fop + 12, v11);
-    put8(fop + 11, v12);
-    put8(fop + 10, v13);
-    put8(fop + 9, v14);
+l3:;
+    v1 = 255;
+    if ((v6 | (uint32_t)((v5 & 255) == (v11 & 255))) == 0) return v1 & 255;
+l2:;
+    v1 = 7;
+    if ((v4 & 1) != 0) return v1 & 255;
+    v1 = v7;
+    switch (v7) {
+    case 1:
+        v7 = (v6 != 0) ? 1U : 3U;
+        if (v3 != 0) goto l15;
+        v1 = 0;
+        goto l14;
+    case 2:
+        v7 = (v6 != 0) ? 2U : 4U;
+        if (v3 != 0) goto l15;
+        v1 = 0;
+        goto l14;
+    default:
+        goto l14;
+    }
+l15:;
+    v1 = v5;
+l14:;
+    put8(fop + 15, v1);
+    put8(fop + 14, v7);
     put8(fop + 8, 1);
-    put8(fop + 7, v15);
-    put8(fop + 6, v16);
-    put8(fop + 5, v2 + 1);
-    put8(fop + 4, v17);
-    v2 = 0;
-    put16(fop + 2, ((v6 & 255) != 0) ? v7 : 0U);
-    return v2;
-}
-
-static uint32_t sedge_fop_terminate_at(uint64_t fop)
-{
-    unsigned char frame_octets[16 + 15];
-    uint32_t v2 = 0;
-    uint64_t v1 = 0;
-    v1 = aligned(frame_octets);
-    if (ordered64(v1) > 0x800000000000000fULL) {
-        put32(v1 + 12, 4);
-        v2 = sedgechisel_sender_directing_direct(fop, v1 + 12);
-        return v2 & 255;
-    }
-    UNREACHABLE;
+    return 0U & 255U;
 }
 
 static uint32_t sedge_fop_tick_at(uint64_t fop)
 {
-    unsigned char frame_octets[48 + 15];
-    uint32_t v2 = 0, v3 = 0, v4 = 0, v5 = 0, v6 = 0, v7 = 0, v8 = 0, v9 = 0, v10 = 0, v11 = 0, v12 = 0, v13 = 0,
-        v14 = 0, v15 = 0, v16 = 0, v17 = 0, v18 = 0, v19 = 0;
-    uint64_t v1 = 0;
-    v1 = aligned(frame_octets);
-    if (ordered64(v1) < 0x8000000000000010ULL) UNREACHABLE;
-    put64(v1 + 14, 0);
-    put64(v1 + 8, 0);
-    put64(v1, 0);
-    v2 = 255;
-    v3 = get8(fop + 5) - 1;
-    if ((v3 & 255) > 5) return v2;
+    uint32_t v1 = 0, v2 = 0, v3 = 0, v4 = 0, v5 = 0, v6 = 0, v7 = 0, v8 = 0, v9 = 0, v10 = 0, v11 = 0, v12 = 0,
+        v13 = 0, v14 = 0, v15 = 0, v16 = 0, v17 = 0;
+    v1 = 255;
+    v2 = get8(fop + 5);
+    v3 = v2 - 1;
+    if ((v3 & 255) > 5) return v1;
     v4 = 1;
     v5 = get8(fop + 8);
-    if (v5 > 1) return v2;
+    if (v5 > 1) return v1;
     v6 = get8(fop + 15);
-    v7 = 1;
-    v8 = get8(fop + 14);
-    switch (v8 - 3) {
+    v7 = 0;
+    v8 = 1;
+    v9 = get8(fop + 14);
+    switch (v9 - 3) {
     case 0:
-        goto l10;
+        goto l12;
     case 1:
-        v7 = 2;
-        goto l10;
+        v8 = 2;
+        goto l12;
     default:
-        goto l11;
+        goto l13;
     }
-l11:;
-    if (v8 > 2) return v2;
+l13:;
+    if (v9 > 2) return v1;
+    if ((v6 & 255) != 0) return v1;
     v4 = 0;
-    v7 = v8;
-    if ((v6 & 255) != 0) return v2;
-l10:;
-    put8(v1 + 47, v6);
-    put8(v1 + 46, v4);
-    put8(v1 + 45, v7);
-    put8(v1 + 32, v5);
-    put8(v1 + 29, v3);
-    put16(v1 + 38, get16(fop));
-    put8(v1 + 44, get8(fop + 13));
-    v3 = get16(fop + 2);
-    put16(v1 + 42, v3);
-    put32(v1 + 33, get32(fop + 9));
-    put16(v1 + 30, get16(fop + 6));
-    put8(v1 + 28, get8(fop + 4));
-    put8(v1 + 37, 0);
-    put16(v1 + 40, v3 != 0);
-    cop1_sender_Sender_restore(v1, v1 + 28);
-    if (get8(v1) != 0) return v2;
-    v9 = get8(v1 + 21);
-    v2 = get8(v1 + 20);
-    v3 = get8(v1 + 19);
-    v7 = get8(v1 + 18);
-    v4 = get16(v1 + 16);
-    v10 = get16(v1 + 12);
-    v8 = get8(v1 + 10);
-    v11 = get8(v1 + 9);
-    v12 = get8(v1 + 8);
-    v13 = get8(v1 + 7);
-    v14 = get8(v1 + 6);
-    v15 = get8(v1 + 5);
-    v16 = get8(v1 + 4);
-    v6 = get8(v1 + 3);
-    v17 = get8(v1 + 2);
-    v18 = get16(v1 + 14);
-    if ((v18 & 255) != 1) goto l8;
-    if ((v4 & 0xffff) < 2) {
-        v4 = 0;
-        v19 = 6;
-        if (v6 == 3) goto l3;
-        if ((v8 & 255) <= (v7 & 255)) goto l3;
-        switch (v6) {
+    v7 = 1;
+    v8 = v9;
+l12:;
+    v10 = get8(fop + 13);
+    if (v10 == 0) return v1;
+    v11 = get16(fop);
+    if ((v11 & 0xffff) == 0) return v1;
+    v12 = get8(fop + 12);
+    if ((v12 & 255) == 0) return v1;
+    v13 = get8(fop + 10);
+    v9 = get8(fop + 9);
+    if ((v13 & 255) > (v9 & 255)) return v1;
+    v14 = get8(fop + 4);
+    v15 = v14 & 255;
+    if ((v9 & 255) > v15) return v1;
+    v16 = get8(fop + 6);
+    v17 = v16 - get8(fop + 7);
+    if ((v17 & 255) > v15) return v1;
+    if (extend32(v14, 0x80) > 0x7fffffffU) return v1;
+    if (((get8(fop + 11) - 1) & 255) >= (v14 & 255)) return v1;
+    v14 = get16(fop + 2);
+    switch (v2 - 1) {
+    case 1:
+    case 2:
+        v1 = 255;
+        if (v8 != 0) return v1;
+        v15 = v9 & 255;
+        if (v15 != (v17 & 255)) return v1;
+        if (v15 == 0) return v1;
+        if ((v14 & 0xffff) == 0) return v1;
+        goto l9;
+    case 3:
+        v1 = 255;
+        if ((v9 & 255) != (v17 & 255)) return v1;
+        if (((v9 | v8) & 255) != 0) return v1;
+        if ((v14 & 0xffff) != 0) goto l9;
+        return v1;
+    case 4:
+        v1 = 255;
+        if ((v9 & 255) != (v17 & 255)) return v1;
+        if ((v9 & 255) != 0) return v1;
+        v1 = 255;
+        switch (v8) {
+        case 1:
+            goto l15;
         case 2:
-            v7 = v7 + 1;
-            v6 = 2;
-            v4 = v10;
-            goto l8;
+            v1 = 255;
+            if ((~v7 & (uint32_t)((v6 & 255) != (v16 & 255))) != 0) return v1;
+            if ((v14 & 0xffff) != 0) goto l9;
+            return v1;
+        default:
+            return v1;
+        }
+    case 5:
+        v1 = 255;
+        if (((v9 | v8) & 255) != 0) return v1;
+        if ((v5 & 1) != 0) return v1;
+        v11 = 0;
+        v15 = 0;
+        if ((v14 & 0xffff) == 0) goto l7;
+        return v1;
+    default:
+        v1 = 255;
+        if (v8 != 0) return v1;
+        if ((v9 & 255) != (v17 & 255)) return v1;
+        if (((uint32_t)((v9 & 255) == 0) ^ (uint32_t)((v14 & 0xffff) != 0)) == 0) return v1;
+        goto l10;
+    }
+l15:;
+    v1 = 255;
+    if ((v7 | (uint32_t)((v6 & 255) == (v16 & 255))) != 0) goto l10;
+    return v1;
+l10:;
+    if ((v14 & 0xffff) == 0) {
+        v11 = 0;
+        v15 = 0;
+        goto l7;
+    }
+l9:;
+    v15 = 1;
+    if ((v14 & 0xffff) == 1) {
+        v1 = 0;
+        v14 = 6;
+        if ((v3 & 255) == 3) goto l2;
+        if ((v12 & 255) <= v10) goto l2;
+        switch (v2 - 1) {
+        case 2:
+            v15 = 1;
+            v10 = v10 + 1;
+            goto l7;
         case 3:
             UNREACHABLE;
         case 4:
-        case 5:
-            v7 = v7 + 1;
-            v4 = v10;
-            if (v3 != 2) goto l8;
-            goto l7;
+            v15 = 1;
+            v10 = v10 + 1;
+            if (v8 != 2) goto l7;
+            goto l6;
         default:
-            v7 = v7 + 1;
-            v4 = v10;
-            v12 = v13;
-            goto l8;
+            v15 = 1;
+            v10 = v10 + 1;
+            v13 = v9;
+            goto l7;
         }
     }
-    v4 = v4 - 1;
-    goto l8;
-l8:;
-    v5 = v3;
-    switch (v3) {
-    case 1:
-        goto l7;
-    case 2:
-        v2 = v2 & 255;
-        v3 = (v2 != 0) ? 4U : 2U;
-        if (v2 == 1) goto l5;
-        v5 = 0;
-        goto l4;
-    default:
-        goto l4;
-    }
+    v11 = v14 - 1;
+    goto l7;
 l7:;
-    v2 = v2 & 255;
-    v3 = (v2 != 0) ? 3U : 1U;
-    if (v2 != 1) {
-        v5 = 0;
-        goto l4;
+    v1 = v8;
+    switch (v8) {
+    case 1:
+        goto l6;
+    case 2:
+        v8 = (v7 != 0) ? 2U : 4U;
+        if (v4 != 0) goto l4;
+        v1 = 0;
+        goto l3;
+    default:
+        goto l3;
     }
-l5:;
-    v5 = v9;
+l6:;
+    v8 = (v7 != 0) ? 1U : 3U;
+    if (v4 == 0) {
+        v1 = 0;
+        goto l3;
+    }
 l4:;
-    v2 = 0;
-    v18 = ((v18 & 255) != 0) ? v4 : 0U;
-    v19 = v6 + 1;
-    v4 = v14 & 1;
-    goto l2;
+    v1 = v6;
 l3:;
+    v14 = 0;
+    v3 = (v15 != 0) ? v11 : 0U;
+    goto l1;
+l2:;
+    v2 = 6;
+    v8 = 0;
+    v13 = 0;
+    v9 = 0;
     v5 = 0;
     v3 = 0;
-    v12 = 0;
-    v13 = 0;
-    v2 = 6;
-    v18 = 0;
-l2:;
-    put16(fop, v10);
-    put8(fop + 15, v5);
-    put8(fop + 14, v3);
-    put8(fop + 13, v7);
-    put8(fop + 12, v8);
-    put8(fop + 11, v11);
-    put8(fop + 10, v12);
-    put8(fop + 9, v13);
-    put8(fop + 8, v4);
-    put8(fop + 7, v15);
-    put8(fop + 6, v16);
-    put8(fop + 5, v19);
-    put8(fop + 4, v17);
-    put16(fop + 2, v18);
-    return v2;
+l1:;
+    put8(fop + 15, v1);
+    put8(fop + 14, v8);
+    put8(fop + 13, v10);
+    put8(fop + 10, v13);
+    put8(fop + 9, v9);
+    put8(fop + 8, v5);
+    put8(fop + 5, v2);
+    put16(fop + 2, v3);
+    return v14;
 }
 
 static uint32_t sedge_tm_builder_build_at(uint64_t builder, uint64_t ocf, uint64_t ocf_count, uint64_t memory,
@@ -4765,7 +4484,7 @@ l8:;
     put16(v19 + 4, v9);
     put32(v25 + v23, v12);
     memory_count = v22 - 2;
-    v9 = octets_checking_check(v19, memory_count);
+    v9 = octets_frame_check_check(v19, memory_count);
     put16(v19 + memory_count, (v9 << 8) | ((v9 & 0xff00) >> 8));
     ocf = get64(builder + 8);
     memory_count = (uint64_t)get8(builder + 30);
@@ -4840,69 +4559,105 @@ static uint32_t sedge_accepted_beyond_at(uint32_t nn, uint32_t vs, uint32_t valu
 
 static uint32_t sedge_fop_accepted_beyond_at(uint64_t fop, uint32_t value, uint64_t accepted)
 {
-    unsigned char frame_octets[48 + 15];
-    uint32_t v4 = 0, v5 = 0, v6 = 0, v7 = 0, v8 = 0, v9 = 0, v10 = 0;
-    uint64_t v3 = 0;
-    v3 = aligned(frame_octets);
-    if (ordered64(v3) < 0x8000000000000010ULL) UNREACHABLE;
-    put64(v3 + 14, 0);
-    put64(v3 + 8, 0);
-    put64(v3, 0);
-    v4 = 255;
-    v5 = get8(fop + 5) - 1;
-    if ((v5 & 255) > 5) return v4 & 255;
-    v6 = 1;
-    v7 = get8(fop + 8);
-    if (v7 > 1) return v4 & 255;
-    v8 = get8(fop + 15);
-    v9 = 1;
-    v10 = get8(fop + 14);
-    switch (v10 - 3) {
+    uint32_t v3 = 0, v4 = 0, v5 = 0, v6 = 0, v7 = 0, v8 = 0, v9 = 0, v10 = 0, v11 = 0, v12 = 0, v13 = 0, v14 = 0;
+    v3 = 255;
+    v4 = get8(fop + 5);
+    if (((v4 - 1) & 255) > 5) return v3;
+    v5 = 1;
+    v6 = get8(fop + 8);
+    if (v6 > 1) return v3;
+    v7 = get8(fop + 15);
+    v8 = 0;
+    v9 = get8(fop + 14);
+    switch (v9 - 3) {
     case 0:
-        goto l3;
+        goto l5;
     case 1:
-        v9 = 2;
-        goto l3;
+        goto l6;
     default:
-        goto l4;
+        if (v9 > 2) return v3;
+        v8 = 1;
+        v5 = v9;
+        if ((v7 & 255) == 0) goto l5;
+        return v3;
     }
-l4:;
-    if (v10 > 2) return v4 & 255;
-    v6 = 0;
-    v9 = v10;
-    if ((v8 & 255) != 0) return v4 & 255;
+l6:;
+    v5 = 2;
+l5:;
+    if (get8(fop + 13) == 0) return v3;
+    if ((get16(fop) & 0xffff) == 0) return v3;
+    if ((get8(fop + 12) & 255) == 0) return v3;
+    v9 = get8(fop + 9);
+    if ((get8(fop + 10) & 255) > (v9 & 255)) return v3;
+    v10 = get8(fop + 4);
+    v11 = v10 & 255;
+    if ((v9 & 255) > v11) return v3;
+    v12 = get8(fop + 6);
+    v13 = get8(fop + 7);
+    v14 = v12 - v13;
+    if ((v14 & 255) > v11) return v3;
+    if (extend32(v10, 0x80) > 0x7fffffffU) return v3;
+    if (((get8(fop + 11) - 1) & 255) >= (v10 & 255)) return v3;
+    v10 = get16(fop + 2);
+    switch (v4 - 1) {
+    case 1:
+    case 2:
+        v3 = 255;
+        if (v5 != 0) return v3;
+        v4 = v9 & 255;
+        if (v4 != (v14 & 255)) return v3;
+        if (v4 == 0) return v3;
+        if ((v10 & 0xffff) == 0) return v3;
+        goto l2;
+    case 3:
+        v3 = 255;
+        if ((v9 & 255) != (v14 & 255)) return v3;
+        if (((v9 | v5) & 255) != 0) return v3;
+        if ((v10 & 0xffff) != 0) goto l2;
+        return v3;
+    case 4:
+        v3 = 255;
+        if ((v9 & 255) != (v14 & 255)) return v3;
+        if ((v9 & 255) != 0) return v3;
+        v3 = 255;
+        switch (v5) {
+        case 1:
+            goto l3;
+        case 2:
+            v3 = 255;
+            if ((~v8 & (uint32_t)((v7 & 255) != (v12 & 255))) != 0) return v3;
+            if ((v10 & 0xffff) != 0) goto l2;
+            return v3;
+        default:
+            return v3;
+        }
+    case 5:
+        v3 = 255;
+        if (((v9 | v5) & 255) != 0) return v3;
+        if ((v6 & 1) != 0) return v3;
+        if ((v10 & 0xffff) == 0) goto l2;
+        return v3;
+    default:
+        v3 = 255;
+        if (v5 != 0) return v3;
+        if ((v9 & 255) != (v14 & 255)) return v3;
+        if (((uint32_t)((v9 & 255) == 0) ^ (uint32_t)((v10 & 0xffff) != 0)) != 0) goto l2;
+        return v3;
+    }
 l3:;
-    put8(v3 + 47, v8);
-    put8(v3 + 46, v6);
-    put8(v3 + 45, v9);
-    put8(v3 + 32, v7);
-    put8(v3 + 29, v5);
-    put16(v3 + 38, get16(fop));
-    put8(v3 + 44, get8(fop + 13));
-    v4 = get16(fop + 2);
-    put16(v3 + 42, v4);
-    put32(v3 + 33, get32(fop + 9));
-    put16(v3 + 30, get16(fop + 6));
-    put8(v3 + 28, get8(fop + 4));
-    v5 = 0;
-    put8(v3 + 37, 0);
-    put16(v3 + 40, v4 != 0);
-    cop1_sender_Sender_restore(v3, v3 + 28);
-    v4 = get8(v3);
-    if (v4 != 0) {
-        v4 = (v4 != 0) ? ~0U : 0U;
-        return v4 & 255;
-    }
-    v7 = get8(v3 + 4);
-    v6 = get8(v3 + 5);
-    if ((v7 & 255) != (v6 & 255)) {
-        v4 = 253;
-        v5 = value - v6;
-        if (((v7 - v6) & 255) < (v5 & 255)) return v4 & 255;
-    }
-    put8(accepted, v5);
+    v3 = 255;
+    if ((v8 | (uint32_t)((v7 & 255) == (v12 & 255))) == 0) return v3;
+l2:;
     v4 = 0;
-    return v4 & 255;
+    if ((v12 & 255) == (v13 & 255)) {
+        put8(accepted, v4);
+        return 0;
+    }
+    v3 = 253;
+    v4 = value - v13;
+    if ((v14 & 255) < (v4 & 255)) return v3;
+    put8(accepted, v4);
+    return 0;
 }
 
 /* ---- The structs of the header, in the layout that the functions know. ---- */
@@ -5195,101 +4950,13 @@ uint8_t sedge_fop_open(struct sedge_fop *fop, uint8_t width, uint8_t window, uin
     return answer;
 }
 
-uint8_t sedge_fop_init_without_check(struct sedge_fop *fop)
+uint8_t sedge_fop_directive(struct sedge_fop *fop, uint8_t directive, uint16_t value)
 {
     unsigned char fop_octets[16 + 15];
     const uint64_t fop_at = aligned(fop_octets);
     uint8_t answer;
     put_sedge_fop(fop_at, fop);
-    answer = (uint8_t)sedge_fop_init_without_check_at(fop_at);
-    get_sedge_fop(fop_at, fop);
-    return answer;
-}
-
-uint8_t sedge_fop_init_with_check(struct sedge_fop *fop)
-{
-    unsigned char fop_octets[16 + 15];
-    const uint64_t fop_at = aligned(fop_octets);
-    uint8_t answer;
-    put_sedge_fop(fop_at, fop);
-    answer = (uint8_t)sedge_fop_init_with_check_at(fop_at);
-    get_sedge_fop(fop_at, fop);
-    return answer;
-}
-
-uint8_t sedge_fop_init_unlock(struct sedge_fop *fop)
-{
-    unsigned char fop_octets[16 + 15];
-    const uint64_t fop_at = aligned(fop_octets);
-    uint8_t answer;
-    put_sedge_fop(fop_at, fop);
-    answer = (uint8_t)sedge_fop_init_unlock_at(fop_at);
-    get_sedge_fop(fop_at, fop);
-    return answer;
-}
-
-uint8_t sedge_fop_init_set_vr(struct sedge_fop *fop, uint8_t vr)
-{
-    unsigned char fop_octets[16 + 15];
-    const uint64_t fop_at = aligned(fop_octets);
-    uint8_t answer;
-    put_sedge_fop(fop_at, fop);
-    answer = (uint8_t)sedge_fop_init_set_vr_at(fop_at, vr);
-    get_sedge_fop(fop_at, fop);
-    return answer;
-}
-
-uint8_t sedge_fop_terminate(struct sedge_fop *fop)
-{
-    unsigned char fop_octets[16 + 15];
-    const uint64_t fop_at = aligned(fop_octets);
-    uint8_t answer;
-    put_sedge_fop(fop_at, fop);
-    answer = (uint8_t)sedge_fop_terminate_at(fop_at);
-    get_sedge_fop(fop_at, fop);
-    return answer;
-}
-
-uint8_t sedge_fop_set_vs(struct sedge_fop *fop, uint8_t vs)
-{
-    unsigned char fop_octets[16 + 15];
-    const uint64_t fop_at = aligned(fop_octets);
-    uint8_t answer;
-    put_sedge_fop(fop_at, fop);
-    answer = (uint8_t)sedge_fop_set_vs_at(fop_at, vs);
-    get_sedge_fop(fop_at, fop);
-    return answer;
-}
-
-uint8_t sedge_fop_set_window(struct sedge_fop *fop, uint8_t window)
-{
-    unsigned char fop_octets[16 + 15];
-    const uint64_t fop_at = aligned(fop_octets);
-    uint8_t answer;
-    put_sedge_fop(fop_at, fop);
-    answer = (uint8_t)sedge_fop_set_window_at(fop_at, window);
-    get_sedge_fop(fop_at, fop);
-    return answer;
-}
-
-uint8_t sedge_fop_set_limit(struct sedge_fop *fop, uint8_t limit)
-{
-    unsigned char fop_octets[16 + 15];
-    const uint64_t fop_at = aligned(fop_octets);
-    uint8_t answer;
-    put_sedge_fop(fop_at, fop);
-    answer = (uint8_t)sedge_fop_set_limit_at(fop_at, limit);
-    get_sedge_fop(fop_at, fop);
-    return answer;
-}
-
-uint8_t sedge_fop_set_timer(struct sedge_fop *fop, uint16_t timer)
-{
-    unsigned char fop_octets[16 + 15];
-    const uint64_t fop_at = aligned(fop_octets);
-    uint8_t answer;
-    put_sedge_fop(fop_at, fop);
-    answer = (uint8_t)sedge_fop_set_timer_at(fop_at, timer);
+    answer = (uint8_t)sedge_fop_directive_at(fop_at, directive, value);
     get_sedge_fop(fop_at, fop);
     return answer;
 }
