@@ -34,9 +34,9 @@
 extern "C" {
 #endif
 
-/* The version of this header; sedge_version() gives that of the library, as "0.2.0". */
+/* The version of this header; sedge_version() gives that of the library, as "0.3.0". */
 #define SEDGE_VERSION_MAJOR 0
-#define SEDGE_VERSION_MINOR 2
+#define SEDGE_VERSION_MINOR 3
 #define SEDGE_VERSION_PATCH 0
 
 /* A word of at most 19 characters, with zeros after it. To print one, keep it in a variable of your own first:

@@ -1,4 +1,4 @@
-/* Sedgechisel 0.2.0, the library of sedgechisel.h, as portable C: C99 for any order of octets, any alignment, and
+/* Sedgechisel 0.3.0, the library of sedgechisel.h, as portable C: C99 for any order of octets, any alignment, and
  * addresses of 32 to 64 bits. It is made by tools/portable_c of the library's object for wasm64, and not edited: change
  * the library, and make this anew.
  *
