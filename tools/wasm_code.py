@@ -8,6 +8,7 @@ each frame where the code was compiled. LLVM writes `|` for `+` where it knows t
 - an address of a constant meets `+`, `-` and comparisons alone, and is never put into memory.
 
 What breaks a rule, or is not known here, is refused with the name of the function."""
+import collections
 import re
 import textwrap
 
@@ -541,7 +542,7 @@ class Translation:
         return f"static {result} {self.program.name_of(self.function)}({names or 'void'})"
 
     def lines(self):
-        body = shown(simplified(self.items), 1)
+        body = without_kept(shown(simplified(self.items), 1))
         used = set(re.findall(r"\b[vt]\d+\b", "\n".join(body)))
         variables = {f"{name}@=@0": kind for name, kind in self.locals[len(self.function.params) :] if name in used}
         variables |= {name: kind for name, kind in self.kinds.items() if name in used}
@@ -553,6 +554,13 @@ class Translation:
             declared = wrapped(f"    {C_TYPES[kind]} {', '.join(names)};") if names else []
             lines += [it.replace("@", " ") for it in declared]
         return [*lines, *(line for it in body for line in wrapped(it)), "}"]
+
+
+def without_kept(body):
+    """A body in which the result of a call is not kept where nothing uses it, as before what is never reached."""
+    counts = collections.Counter(re.findall(r"\bt\d+\b", "\n".join(body)))
+    kept = re.compile(r"^( *)(t\d+) = (\w+\(.*\);)$")
+    return [kept.sub(lambda it: it[1] + it[3] if counts[it[2]] == 1 else it[0], line) for line in body]
 
 
 def wrapped(text, width=118):

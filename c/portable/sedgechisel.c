@@ -687,7 +687,7 @@ static uint32_t octets_frame_check_check(uint64_t p0, uint64_t p1)
 static void map_service_cutting_segment_count(uint64_t p0, uint64_t p1, uint64_t p2, uint64_t p3)
 {
     uint32_t v5 = 0, v8 = 0, v10 = 0;
-    uint64_t v6 = 0, v7 = 0, v9 = 0, v11 = 0, t2;
+    uint64_t v6 = 0, v7 = 0, v9 = 0, v11 = 0;
     if (get8(p3 + 16) == 1) {
         if (p2 >= 6) {
             v6 = (uint64_t)get32(p3 + 4);
@@ -736,7 +736,7 @@ l3:;
 l1:;
     v9 = (uint64_t)get32(p3);
     if (v9 == 0) {
-        t2 = map_service_cutting_group_len(p1, p2, 0);
+        map_service_cutting_group_len(p1, p2, 0);
         UNREACHABLE;
     }
     v11 = 0;
