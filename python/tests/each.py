@@ -153,10 +153,12 @@ def arrivals(it):
             it.TmFrame(scid=1, ocf=b"\x80\0\0\0", **idle).encode(bytes(52)),
             it.TmFrame(scid=1, vc_count=3, ocf=it.Clcw(vcid=3).encode(), **idle).encode(bytes(52)),
             it.TmFrame(scid=1, vc_count=4, ocf=it.Clcw(vcid=2).encode(), **idle).encode(bytes(52)))]
+        heard.append(ground.clcw(it.Clcw(vcid=2).encode()))
         assert heard == [
             it.Heard(kind.INVALID, fault=it.TmFault(1)), it.Heard(kind.FOREIGN),
             it.Heard(kind.TM, gap=None, report=it.Report.NONE, word_fault=it.ClcwFault(1)),
-            it.Heard(kind.TM, gap=2, report=it.Report.OTHER), it.Heard(kind.TM, gap=0, report=it.Report.USED)], heard
+            it.Heard(kind.TM, gap=2, report=it.Report.OTHER), it.Heard(kind.TM, gap=0, report=it.Report.USED),
+            it.Heard(kind.CLCW, report=it.Report.USED)], heard
     with it.Spacecraft(max_packet=7) as board:
         long = it.TcFrame(scid=1, vcid=2, flags=it.Segment.ALONE)
         assert board.receive(long.encode(it.Packet(kind=1).encode(b"12"))).dropped == "TooLong"
