@@ -22,7 +22,7 @@ ENUMS = {"Verdict": "verdict", "Mode": "farm_mode", "Alert": "alert", "Next": "n
          "State": "fop_state", "Begun": "begun"}
 MEMBERS = {"SEDGE_NO_ALERT": "NONE"}
 NOTED = {"SequenceFlags": "CONTINUATION FIRST LAST UNSEGMENTED", "Report": "USED NONE OTHER",
-         "Arrived": "- INVALID FOREIGN AD BD BC TM"}
+         "Arrived": "- INVALID FOREIGN AD BD BC TM CLCW"}
 
 
 def text_of(file):
@@ -127,6 +127,7 @@ OTHERS = {
     "_Received.value": "dropped_word", "Handle.__init__": "config_fault", "Ground.report_in": "ground_report",
     "Ground._read": "ground_read", "Ground._direct": "ground_directive", "Fop._direct": "fop_directive",
     "Spacecraft._read": "spacecraft_read", "Link._read": "sim_read", "Link._event": "sim_step",
+    "Link._direct": "sim_directive",
     "Link._octets": "sim_octets",
     "Link._entries": "sim_count sim_entry_length sim_entry",
     "Link.submissions": "sim_submissions sim_submission_length sim_submission",
@@ -145,7 +146,7 @@ BY = {
 }
 # Methods that make none at all.
 NONE = {"TmFrame.__init__", "TmFrame.ocf", "TmBuilder.waiting", "TmExtractor.__init__", "Map.__init__", "Clcw.__init__",
-        "TcFrame.__init__", "Packet.__init__", "Config.__init__", "Spacecraft._taken", "Link._direct", "Link._taken",
+        "TcFrame.__init__", "Packet.__init__", "Config.__init__", "Spacecraft._taken", "Link._taken",
         "Sender._direct"}
 # What a method keeps for itself, wherever it does.
 KEPT = {"room", "longest", "blocking"}
