@@ -6,10 +6,10 @@ from ctypes import POINTER, byref, c_bool, c_char_p, c_size_t, c_uint8, c_uint16
 from enum import IntEnum
 from typing import List, Optional, Tuple
 
-from ._calls import Alert, Clcw
+from ._calls import Alert, Clcw, _directive
 from ._faults import CopFault, LinkFault, SimFault, TelemetryFault
 from ._library import octets_of, within
-from ._nodes import Config, Heard, Received, Sender, State, _call, _directive, _Heard, _Raw, _Received
+from ._nodes import Config, Heard, Received, Sender, State, _call, _Heard, _Raw, _Received
 
 _REFUSED = 3
 _REFUSED_BY = {1: LinkFault, 2: CopFault, 3: TelemetryFault}

@@ -236,11 +236,11 @@ class _Heard(ctypes.Structure):
             return Heard(Arrived.INVALID, fault=TmFault(self.fault))
         if self.kind == 2:
             return Heard(Arrived.FOREIGN)
+        kind = Arrived.CLCW if self.kind == 4 else Arrived.TM
+        gap = None if self.first or kind == Arrived.CLCW else self.missing
         word_fault = ClcwFault(self.word_fault) if self.report == Report.NONE else None
-        heard = {"report": Report(self.report), "word_fault": word_fault, "alert": Alert(self.alert)}
-        if self.kind == 4:
-            return Heard(Arrived.CLCW, **heard)
-        return Heard(Arrived.TM, gap=None if self.first else self.missing, packets=self.packets, **heard)
+        return Heard(kind, gap=gap, packets=self.packets, report=Report(self.report), word_fault=word_fault,
+                     alert=Alert(self.alert))
 
 
 # ---- The ground ----
