@@ -306,6 +306,18 @@ def directs(node):
         directive(*number)
 
 
+def reports_alone(it, ground, down, word):
+    """Telemetry that begins anew, and control words by themselves."""
+    assert ground.telemetry(down).gap == 255
+    ground.forget_telemetry()
+    assert ground.telemetry(down).gap is None
+    assert ground.clcw(word) == it.Heard(it.Arrived.CLCW, report=it.Report.USED)
+    assert ground.clcw(b"\x01\x00\x00\x00") == it.Heard(it.Arrived.CLCW, report=it.Report.OTHER)
+    assert ground.clcw(b"\x81\xfc\x00\x00") == it.Heard(
+        it.Arrived.CLCW, report=it.Report.NONE, word_fault=it.ClcwFault(1))
+    says(ValueError, "word: 3 octets", ground.clcw, word[:3])
+
+
 def longest_nodes(it):
     packet, command = packets(it)
     assert largest(it).fault() is None and it.Config(scid=2**32 - 1).fault() == "scid"
@@ -319,15 +331,7 @@ def longest_nodes(it):
         assert len(down) == ground.frame_length == board.frame_length == 2048
         assert ground.report_in(down) == board.control_word
         assert ground.telemetry(down) == it.Heard(it.Arrived.TM, report=it.Report.USED)
-        assert ground.telemetry(down).gap == 255
-        ground.forget_telemetry()
-        assert ground.telemetry(down).gap is None
-        word = board.control_word.encode()
-        assert ground.clcw(word) == it.Heard(it.Arrived.CLCW, report=it.Report.USED)
-        assert ground.clcw(b"\x01\x00\x00\x00") == it.Heard(it.Arrived.CLCW, report=it.Report.OTHER)
-        assert ground.clcw(b"\x81\xfc\x00\x00") == it.Heard(
-            it.Arrived.CLCW, report=it.Report.NONE, word_fault=it.ClcwFault(1))
-        says(ValueError, "word: 3 octets", ground.clcw, word[:3])
+        reports_alone(it, ground, down, board.control_word.encode())
         ground.submit(63, command)
         assert (ground.state, ground.vs, ground.nn, ground.outstanding) == (it.State.S1, 255, 255, 65)
         frames = [ground.pull() for _ in range(65)]
