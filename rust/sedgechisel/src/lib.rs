@@ -46,6 +46,7 @@ mod farm;
 mod ffi;
 mod fop;
 mod map;
+mod memory;
 #[cfg(feature = "nodes")]
 mod nodes;
 mod packet;

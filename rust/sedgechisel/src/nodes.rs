@@ -27,7 +27,7 @@ faults! {
 }
 
 /// Room for a number of octets, if there is memory for it.
-fn room_for(count: usize) -> Option<Vec<u8>> {
+pub(crate) fn room_for(count: usize) -> Option<Vec<u8>> {
     let mut room = Vec::new();
     room.try_reserve_exact(count).ok()?;
     room.resize(count, 0);

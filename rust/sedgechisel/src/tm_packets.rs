@@ -2,11 +2,12 @@
 //! and 4.3).
 
 use crate::ffi;
+use crate::memory::Memory;
 use crate::tm::{TmFault, TmFrame};
 use core::iter::FusedIterator;
 
-/// Builds the frames of one virtual channel, all of one length, out of packets that wait in its caller's memory (CCSDS
-/// 132.0-B-3, 4.2).
+/// Builds the frames of one virtual channel, all of one length, out of packets that wait in memory that its caller
+/// lends, or with the feature `nodes` in its own (CCSDS 132.0-B-3, 4.2).
 ///
 /// ```
 /// use sedgechisel::{Pointer, TmBuilder, TmFrame};
@@ -21,28 +22,26 @@ use core::iter::FusedIterator;
 #[derive(Debug)]
 pub struct TmBuilder<'m> {
     kept: ffi::TmBuilder,
-    memory: &'m mut [u8],
+    memory: Memory<'m>,
 }
 
 impl<'m> TmBuilder<'m> {
     /// A builder of frames of `length` octets, 16 to 2,048, whose counts begin at 0. The memory is as many octets of
     /// packets as may wait. Refused with 10 [`FieldRange`](TmFault::FieldRange).
     pub fn new(scid: u16, vcid: u8, length: usize, memory: &'m mut [u8]) -> Result<Self, TmFault> {
-        let mut kept = ffi::TmBuilder::default();
-        TmFault::judge(ffi::sedge_tm_builder_open(&mut kept, scid, vcid, length))?;
-        Ok(Self { kept, memory })
+        Ok(Self { kept: ffi::TmBuilder::opened(scid, vcid, length)?, memory: Memory::Lent(memory) })
     }
 
     /// The octets that are to be sent: the rest of the packet that was begun, and the packets that wait.
     #[must_use]
     pub fn waiting(&self) -> &[u8] {
-        ffi::Part { from: self.kept.from, count: self.kept.count }.of(self.memory)
+        ffi::Part { from: self.kept.from, count: self.kept.count }.of(&self.memory)
     }
 
     /// Queues a packet, all of its octets. Refused with the first of 8 [`NotAPacket`](TmFault::NotAPacket), for octets
     /// that are not exactly one packet or an idle one, and 7 [`Memory`](TmFault::Memory).
     pub fn queue(&mut self, packet: &[u8]) -> Result<(), TmFault> {
-        TmFault::judge(ffi::tm_builder_queue(&mut self.kept, packet, self.memory))
+        TmFault::judge(ffi::tm_builder_queue(&mut self.kept, packet, &mut self.memory))
     }
 
     /// Writes the next frame, with this operational control field, to the beginning of `out`, and returns its octets.
@@ -50,13 +49,33 @@ impl<'m> TmBuilder<'m> {
     /// [`Room`](TmFault::Room), with nothing written.
     pub fn build<'o>(&mut self, ocf: [u8; 4], out: &'o mut [u8]) -> Result<&'o mut [u8], TmFault> {
         let mut total = 0;
-        TmFault::judge(ffi::tm_builder_build(&mut self.kept, &ocf, self.memory, out, &mut total))?;
+        TmFault::judge(ffi::tm_builder_build(&mut self.kept, &ocf, &self.memory, out, &mut total))?;
         Ok(&mut out[..total])
     }
 }
 
+#[cfg(feature = "nodes")]
+impl TmBuilder<'static> {
+    /// A builder as [`new`](TmBuilder::new) begins one, which owns its memory: `room` octets of packets may wait. It
+    /// may go to another thread, and gives its memory back when it is dropped. Refused with the first of 10
+    /// [`FieldRange`](TmFault::FieldRange) and 7 [`Memory`](TmFault::Memory), where there is none.
+    pub fn owning(scid: u16, vcid: u8, length: usize, room: usize) -> Result<Self, TmFault> {
+        let kept = ffi::TmBuilder::opened(scid, vcid, length)?;
+        Ok(Self { kept, memory: Memory::own(room).ok_or(TmFault::Memory)? })
+    }
+}
+
+impl ffi::TmBuilder {
+    /// The fields of a builder that has sent nothing.
+    fn opened(scid: u16, vcid: u8, length: usize) -> Result<Self, TmFault> {
+        let mut kept = Self::default();
+        TmFault::judge(ffi::sedge_tm_builder_open(&mut kept, scid, vcid, length))?;
+        Ok(kept)
+    }
+}
+
 /// Extracts packets from the frames of one virtual channel, of which any may be missing; the part of a packet whose end
-/// is to come is in its caller's memory (CCSDS 132.0-B-3, 4.3).
+/// is to come is in memory that its caller lends, or with the feature `nodes` in its own (CCSDS 132.0-B-3, 4.3).
 ///
 /// Packets are handed on before the next frame is taken, which may overwrite them; so this is refused:
 ///
@@ -74,34 +93,46 @@ impl<'m> TmBuilder<'m> {
 #[derive(Debug)]
 pub struct TmExtractor<'m> {
     kept: ffi::TmExtractor,
-    memory: &'m mut [u8],
+    memory: Memory<'m>,
 }
 
 impl<'m> TmExtractor<'m> {
+    /// The octets of memory that are enough for all packets: as many as the longest packet and the longest data of a
+    /// frame have together.
+    pub const ENOUGH: usize = 67_578;
+
     /// An extractor that has seen no frame. As many octets of memory as the longest packet and the data of a frame
-    /// have together are enough, and 67,578 for all packets.
+    /// have together are enough, and [`ENOUGH`](Self::ENOUGH) for all packets.
     #[must_use]
     pub fn new(memory: &'m mut [u8]) -> Self {
-        Self { kept: ffi::TmExtractor::default(), memory }
+        Self { kept: ffi::TmExtractor::default(), memory: Memory::Lent(memory) }
     }
 
     /// The part of a packet whose end is to come; no octets where there is none.
     #[must_use]
     pub fn part(&self) -> &[u8] {
-        ffi::Part { from: self.kept.from, count: self.kept.count }.of(self.memory)
+        ffi::Part { from: self.kept.from, count: self.kept.count }.of(&self.memory)
     }
 
     /// Takes the next frame of its spacecraft and channel that came. Where frames are missing before it, the part is
     /// dropped. Refused with the first of 10 [`FieldRange`](TmFault::FieldRange), for a pointer after the data, and 7
     /// [`Memory`](TmFault::Memory); then the frame counts as missing.
     pub fn take<'t>(&'t mut self, frame: &TmFrame<'t>) -> Result<Extracted<'t>, TmFault> {
-        let mut extracted = ffi::TmExtracted::default();
-        let answer =
-            ffi::tm_extractor_frame(&mut self.kept, &frame.raw(), frame.data, self.memory, &mut extracted);
-        TmFault::judge(answer)?;
+        let (kept, memory, mut extracted) = (&mut self.kept, &mut self.memory, ffi::TmExtracted::default());
+        TmFault::judge(ffi::tm_extractor_frame(kept, &frame.raw(), frame.data, memory, &mut extracted))?;
         let joined = (extracted.joined > 0).then(|| &self.memory[..extracted.joined]);
         let lost = (extracted.first == 0).then_some(extracted.lost);
         Ok(Extracted { packets: TmPackets { joined, data: frame.data, last: extracted.packets }, lost })
+    }
+}
+
+#[cfg(feature = "nodes")]
+impl TmExtractor<'static> {
+    /// An extractor as [`new`](TmExtractor::new) begins one, which owns its memory, of `room` octets. It may go to
+    /// another thread, and gives its memory back when it is dropped. Refused with 7 [`Memory`](TmFault::Memory) alone,
+    /// where there is none.
+    pub fn owning(room: usize) -> Result<Self, TmFault> {
+        Ok(Self { kept: ffi::TmExtractor::default(), memory: Memory::own(room).ok_or(TmFault::Memory)? })
     }
 }
 

@@ -1,7 +1,7 @@
 //! The memory of the nodes and of the link: all of it is given back, whatever happened; and a call answers that there
 //! was none only where an allocation was refused, and has changed nothing then.
 
-use crate::allocator::{live, refusing, Refusals};
+use crate::allocator::{live, refusing, Live, Refusals};
 use crate::common::Chance;
 use sedgechisel::*;
 use std::collections::VecDeque;
@@ -349,6 +349,21 @@ fn nodes_that_are_not_opened() {
     leaves(Ground::new);
     leaves(Spacecraft::new);
     leaves(Link::new);
+}
+
+/// A builder and an extractor with memory of their own give it back, and where there is none they are refused.
+#[test]
+fn the_memory_of_builders_and_extractors() {
+    fn leaves<N: Debug>(make: impl Fn() -> Result<N, TmFault>) {
+        let before = live();
+        let made = make().unwrap();
+        assert_eq!(live(), Live { allocations: before.allocations + 1, octets: before.octets + 1000 });
+        drop(made);
+        let (made, is_refused) = refusing(Refusals::default(), make);
+        assert_eq!((made.err(), is_refused, live()), (Some(TmFault::Memory), true, before));
+    }
+    leaves(|| TmBuilder::owning(1, 0, 20, 1000));
+    leaves(|| TmExtractor::owning(1000));
 }
 
 /// A packet with this number, of 7 to 306 octets.

@@ -1,4 +1,5 @@
-//! Packets in telemetry frames: rows worked by hand, packets over many frames, lost frames, and each refusal.
+//! Packets in telemetry frames: rows worked by hand, packets over many frames, lost frames, and each refusal; alike over
+//! memory that is lent and over memory of their own.
 
 use sedgechisel::{Pointer, TmBuilder, TmExtractor, TmFault, TmFrame};
 
@@ -19,14 +20,15 @@ const LONG: [u8; 16] = [0, 5, 0xc0, 0, 0, 9, 1, 2, 3, 4, 5, 6, 7, 8, 9, 10];
 
 #[test]
 fn packets_in_frames() {
-    let (mut sending, mut receiving, mut room) = ([0; 28], [0; 30], [0; TmFrame::LONGEST]);
-    let mut builder = TmBuilder::new(1, 0, 20, &mut sending).unwrap();
+    four_packets(TmBuilder::new(1, 0, 20, &mut [0; 28]).unwrap(), TmExtractor::new(&mut [0; 30]));
+}
+
+fn four_packets(mut builder: TmBuilder, mut extractor: TmExtractor) {
     for packet in &FOUR {
         builder.queue(packet).unwrap();
     }
     assert_eq!(builder.queue(&FOUR[0]), Err(TmFault::Memory));
-    let mut extractor = TmExtractor::new(&mut receiving);
-    let mut found = Vec::new();
+    let (mut found, mut room) = (Vec::new(), [0; TmFrame::LONGEST]);
     for (count, (data, place)) in [
         (b"\x00\x05\xc0\x00\x00\x00\xaa\x00", 0),
         (b"\x05\xc0\x01\x00\x00\xbb\x00\x05", 6),
@@ -59,8 +61,10 @@ fn taken(extractor: &mut TmExtractor, frame: &TmFrame) -> Vec<Vec<u8>> {
 
 #[test]
 fn a_packet_over_many_frames() {
-    let mut memory = [0; 32];
-    let mut extractor = TmExtractor::new(&mut memory);
+    a_long_packet(TmExtractor::new(&mut [0; 32]));
+}
+
+fn a_long_packet(mut extractor: TmExtractor) {
     assert!(taken(&mut extractor, &frame(255, Pointer::At(0), &LONG[..4])).is_empty());
     assert!(taken(&mut extractor, &frame(0, Pointer::NoStart, &LONG[4..15])).is_empty());
     assert_eq!(extractor.part(), &LONG[..15]);
@@ -77,8 +81,10 @@ fn refusals() {
     for (scid, vcid, length) in [(1024, 0, 20), (0, 8, 20), (0, 0, 15), (0, 0, 2049), (0, 0, 65_556)] {
         assert_eq!(TmBuilder::new(scid, vcid, length, &mut []).err(), Some(TmFault::FieldRange));
     }
-    let mut memory = [0; 7];
-    let mut builder = TmBuilder::new(1023, 7, 2048, &mut memory).unwrap();
+    refusals_of(TmBuilder::new(1023, 7, 2048, &mut [0; 7]).unwrap(), TmExtractor::new(&mut [0; 10]));
+}
+
+fn refusals_of(mut builder: TmBuilder, mut extractor: TmExtractor) {
     assert_eq!(builder.queue(&IDLE), Err(TmFault::NotAPacket));
     assert_eq!(builder.queue(&[&FOUR[0][..], &FOUR[1]].concat()), Err(TmFault::NotAPacket));
     assert_eq!(builder.queue(&LONG), Err(TmFault::Memory));
@@ -86,8 +92,6 @@ fn refusals() {
     assert_eq!(builder.build(OCF, &mut [0; 2047]).err(), Some(TmFault::Room));
     assert_eq!(builder.waiting(), FOUR[0]);
 
-    let mut memory = [0; 10];
-    let mut extractor = TmExtractor::new(&mut memory);
     for (pointer, size) in [(0, 0), (8, 8), (2046, 8), (2047, 8), (65_535, 8)] {
         let fault = extractor.take(&frame(0, Pointer::At(pointer), &LONG[..size])).err();
         assert_eq!(fault, Some(TmFault::FieldRange));
@@ -96,4 +100,55 @@ fn refusals() {
     assert_eq!(extractor.take(&frame(1, Pointer::NoStart, &LONG[8..])).err(), Some(TmFault::Memory));
     assert_eq!(extractor.part(), &LONG[..8]);
     assert_eq!(extractor.take(&frame(2, Pointer::At(0), &FOUR[0])).unwrap().lost, Some(1));
+}
+
+#[cfg(feature = "nodes")]
+mod owning {
+    use super::*;
+    use std::sync::mpsc::channel;
+    use std::thread::spawn;
+
+    #[test]
+    fn packets_in_frames_that_own_their_memory() {
+        four_packets(TmBuilder::owning(1, 0, 20, 28).unwrap(), TmExtractor::owning(30).unwrap());
+        a_long_packet(TmExtractor::owning(32).unwrap());
+    }
+
+    /// Those of what borrows its memory, and 7 where there is none; 10 comes before it.
+    #[test]
+    fn refusals_of_what_owns_its_memory() {
+        for (scid, vcid, length) in [(1024, 0, 20), (0, 8, 20), (0, 0, 15), (0, 0, 2049), (0, 0, 65_556)] {
+            for room in [0, 7, usize::MAX] {
+                let fault = TmBuilder::owning(scid, vcid, length, room).err();
+                assert_eq!(fault, Some(TmFault::FieldRange));
+            }
+        }
+        refusals_of(TmBuilder::owning(1023, 7, 2048, 7).unwrap(), TmExtractor::owning(10).unwrap());
+        assert_eq!(TmBuilder::owning(1, 0, 20, usize::MAX).err(), Some(TmFault::Memory));
+        assert_eq!(TmExtractor::owning(usize::MAX).err(), Some(TmFault::Memory));
+        assert_eq!(TmBuilder::owning(1, 0, 20, 0).unwrap().queue(&FOUR[0]), Err(TmFault::Memory));
+    }
+
+    /// A builder is kept in one thread and an extractor in another, each by a program's own type without a lifetime.
+    #[test]
+    fn threads_that_own_them() {
+        struct Sending(TmBuilder<'static>);
+        struct Receiving(TmExtractor<'static>);
+        let (frames, arriving) = channel::<Vec<u8>>();
+        let sending = Sending(TmBuilder::owning(1, 0, 20, 28).unwrap());
+        let receiving = Receiving(TmExtractor::owning(TmExtractor::ENOUGH).unwrap());
+        let sender = spawn(move || {
+            let (Sending(mut builder), mut room) = (sending, [0; TmFrame::LONGEST]);
+            FOUR.iter().for_each(|it| builder.queue(it).unwrap());
+            for _ in 0..4 {
+                frames.send(builder.build(OCF, &mut room).unwrap().to_vec()).unwrap();
+            }
+        });
+        let receiver = spawn(move || {
+            let Receiving(mut extractor) = receiving;
+            let took = |it: Vec<u8>| taken(&mut extractor, &TmFrame::decode(&it, 20).unwrap());
+            arriving.into_iter().flat_map(took).collect::<Vec<_>>()
+        });
+        assert_eq!((sender.join().unwrap(), receiver.join().unwrap()), ((), FOUR.map(Vec::from).to_vec()));
+    }
 }
