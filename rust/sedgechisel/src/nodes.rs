@@ -13,6 +13,7 @@ pub use spacecraft::{Received, Spacecraft};
 use crate::ffi;
 use crate::numbers::{done, never};
 use alloc::vec::Vec;
+use core::iter::{from_fn, FusedIterator};
 
 faults! {
     /// Why a node refuses a call; nothing has changed then.
@@ -42,6 +43,22 @@ fn taken(count: usize, take: impl FnOnce(&mut [u8], &mut usize) -> u8) -> Result
     let (mut packet, mut written) = (room_for(count).ok_or(LinkFault::Memory)?, 0);
     done(take(&mut packet, &mut written));
     Ok(Some(packet))
+}
+
+/// What a call takes out, one after another as it is asked for, until there is no more; a refusal is the last.
+fn one_by_one<'n, T: 'n>(
+    mut take: impl FnMut() -> Result<Option<T>, LinkFault> + 'n,
+) -> impl FusedIterator<Item = Result<T, LinkFault>> + 'n {
+    let mut is_refused = false;
+    let next = move || {
+        if is_refused {
+            return None;
+        }
+        let one = take();
+        is_refused = one.is_err();
+        one.transpose()
+    };
+    from_fn(next).fuse()
 }
 
 /// Calls that can be refused for want of memory alone.

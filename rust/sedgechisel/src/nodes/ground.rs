@@ -1,11 +1,12 @@
 //! The ground.
 
-use super::{in_memory, taken, Config, LinkFault, OpenFault};
+use super::{in_memory, one_by_one, taken, Config, LinkFault, OpenFault};
 use crate::ffi::nodes as raw;
 use crate::numbers::{done, never};
 use crate::{Alert, Clcw, ClcwFault, CopFault, FopState, TcFrame, TmFault};
 use alloc::vec::Vec;
 use core::fmt;
+use core::iter::FusedIterator;
 
 /// What the ground makes of a report, which a telemetry frame carries, or which comes by itself.
 #[derive(Clone, Copy, Debug, PartialEq, Eq, Hash)]
@@ -140,6 +141,17 @@ impl Ground {
         (count > 0).then_some(&mut room[..count])
     }
 
+    /// The telecommand frames that go on the link next, until nothing is to be sent now. Each is taken when it is asked
+    /// for, as [`pull`](Self::pull) takes it; those that are not asked for stay in the ground. Refused with 6
+    /// [`Memory`](LinkFault::Memory) alone, and then there are no more; the frame does not count as sent.
+    pub fn frames(&mut self) -> impl FusedIterator<Item = Result<Vec<u8>, LinkFault>> + '_ {
+        one_by_one(|| {
+            let mut count = 0;
+            done(raw::sedge_ground_next(self.0.get(), &mut count));
+            taken(count, |out, written| raw::ground_pull(self.0.get(), out, written))
+        })
+    }
+
     /// Writes the telecommand frame that goes on the link next, as `pull` does; or `None`, if nothing is to be sent now.
     /// The ground stays as it is: the frame counts as sent once [`advance`](Self::advance) is called, as where a radio
     /// that may refuse it has taken it.
@@ -191,6 +203,13 @@ impl Ground {
         let mut count = 0;
         done(raw::sedge_ground_next_telemetry(self.0.get(), &mut count));
         taken(count, |out, written| raw::ground_take_telemetry(self.0.get(), out, written))
+    }
+
+    /// The packets that telemetry frames carried, the oldest one first. Each is taken when it is asked for, as
+    /// [`take_telemetry`](Self::take_telemetry) takes it; those that are not asked for stay in the ground. Refused with
+    /// 6 [`Memory`](LinkFault::Memory) alone, and then there are no more; the packet waits.
+    pub fn packets(&mut self) -> impl FusedIterator<Item = Result<Vec<u8>, LinkFault>> + '_ {
+        one_by_one(|| self.take_telemetry())
     }
 
     /// A tick of the clock has passed: the alert, if there is one.

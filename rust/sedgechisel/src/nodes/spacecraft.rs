@@ -1,11 +1,12 @@
 //! The spacecraft.
 
-use super::{in_memory, taken, Config, LinkFault, OpenFault};
+use super::{in_memory, one_by_one, taken, Config, LinkFault, OpenFault};
 use crate::ffi::nodes as raw;
 use crate::numbers::{done, never};
 use crate::{Clcw, Command, Dropped, FarmMode, TcFault, TmFault, TmFrame, Verdict};
 use alloc::vec::Vec;
 use core::fmt;
+use core::iter::FusedIterator;
 
 /// What the spacecraft makes of octets that it received.
 #[derive(Clone, Copy, Debug, PartialEq, Eq, Hash)]
@@ -103,6 +104,13 @@ impl Spacecraft {
         Ok(packet.map(|packet| (map, packet)))
     }
 
+    /// The packets of sequence-controlled frames, each with its MAP, the oldest one first. Each is taken when it is
+    /// asked for, as [`take`](Self::take) takes it; those that are not asked for stay on board. Refused with 6
+    /// [`Memory`](LinkFault::Memory) alone, and then there are no more; the packet waits.
+    pub fn packets(&mut self) -> impl FusedIterator<Item = Result<(u8, Vec<u8>), LinkFault>> + '_ {
+        one_by_one(|| self.take())
+    }
+
     /// Takes the oldest packet that came past the sequence control, with its MAP, if one is kept. Refused with 6
     /// [`Memory`](LinkFault::Memory) alone; the packet is kept then.
     pub fn take_bypass(&mut self) -> Result<Option<(u8, Vec<u8>)>, LinkFault> {
@@ -111,6 +119,11 @@ impl Spacecraft {
         let packet =
             taken(count, |out, written| raw::spacecraft_take_bypass(self.0.get(), &mut map, out, written))?;
         Ok(packet.map(|packet| (map, packet)))
+    }
+
+    /// The same of the packets that came past the sequence control, as [`take_bypass`](Self::take_bypass) takes them.
+    pub fn bypass_packets(&mut self) -> impl FusedIterator<Item = Result<(u8, Vec<u8>), LinkFault>> + '_ {
+        one_by_one(|| self.take_bypass())
     }
 
     /// Queues a packet to be sent as telemetry. Refused with 8 [`NotAPacket`](TmFault::NotAPacket) (the octets are not

@@ -66,10 +66,18 @@ impl Trial {
     fn both<N, T: PartialEq + Debug, E: Fault>(
         &mut self, twins: &mut Twins<N>, call: impl Fn(&mut N) -> Result<T, E>,
     ) {
+        self.answered(twins, call).ok();
+    }
+
+    /// The same, with what both answer.
+    fn answered<N, T: PartialEq + Debug, E: Fault>(
+        &mut self, twins: &mut Twins<N>, call: impl Fn(&mut N) -> Result<T, E>,
+    ) -> Result<T, E> {
         let answer = self.tried(|| call(&mut twins.tried));
         let wanted = call(&mut twins.plain);
         assert!(!wanted.as_ref().is_err_and(E::is_memory), "{wanted:?}, and no allocation was refused");
         assert_eq!(answer, wanted);
+        answer
     }
 
     /// What both show alike, by a call that is never refused.
@@ -198,6 +206,11 @@ impl Nodes {
                 let packet = trial.any_packets(PacketKind::Telemetry);
                 trial.both(spacecraft, |it| it.telemetry(&packet));
             }
+            14 if trial.chance.once_in(2) => {
+                trial.both(spacecraft, |it| it.packets().next().transpose());
+                trial.both(spacecraft, |it| it.bypass_packets().next().transpose());
+                trial.both(ground, |it| it.packets().next().transpose());
+            }
             14 => {
                 trial.both(spacecraft, |it| it.take());
                 trial.both(spacecraft, |it| it.take_bypass());
@@ -228,6 +241,9 @@ fn submitted(ground: &mut Twins<Ground>, trial: &mut Trial) {
 
 /// The frame that goes on the link next.
 fn sent(ground: &mut Twins<Ground>, trial: &mut Trial) -> Option<Vec<u8>> {
+    if trial.chance.once_in(2) {
+        return trial.answered(ground, |it| it.frames().next().transpose()).unwrap();
+    }
     let (count, room) = trial.shown(ground, |it| {
         let mut room = [0; TcFrame::LONGEST];
         (it.pull(&mut room).map(|frame| frame.len()), room)
@@ -349,6 +365,36 @@ fn nodes_that_are_not_opened() {
     leaves(Ground::new);
     leaves(Spacecraft::new);
     leaves(Link::new);
+}
+
+/// An iterator that is refused is at its end, and what it did not give is given by the next one.
+#[test]
+fn iterators_that_are_refused() {
+    fn refused<N, T: PartialEq + Debug>(
+        node: &mut N, mut two: impl FnMut(&mut N) -> [Option<Result<T, LinkFault>>; 2], wanted: T,
+    ) {
+        assert_eq!(refusing(Refusals::default(), || two(node)).0, [Some(Err(LinkFault::Memory)), None]);
+        assert_eq!(two(node), [Some(Ok(wanted)), None]);
+    }
+    let packet = [0x10, 5, 0xc0, 0, 0, 0, 0xaa];
+    let mut ground = Ground::new(&Config::default()).unwrap();
+    let mut spacecraft = Spacecraft::new(&Config::default()).unwrap();
+    ground.init_without_check().unwrap();
+    ground.submit(4, &packet).unwrap();
+    spacecraft.telemetry(&packet).unwrap();
+    ground.telemetry(spacecraft.report(&mut [0; TmFrame::LONGEST])).unwrap();
+    let frame = ground.peek(&mut [0; TcFrame::LONGEST]).unwrap().to_vec();
+    spacecraft.receive(&frame).unwrap();
+    refused(&mut ground, |it| next_two(it.frames()), frame);
+    refused(&mut ground, |it| next_two(it.packets()), packet.to_vec());
+    refused(&mut spacecraft, |it| next_two(it.packets()), (4, packet.to_vec()));
+    ground.bypass(4, &packet).unwrap();
+    spacecraft.receive(ground.pull(&mut [0; TcFrame::LONGEST]).unwrap()).unwrap();
+    refused(&mut spacecraft, |it| next_two(it.bypass_packets()), (4, packet.to_vec()));
+}
+
+fn next_two<T>(mut them: impl Iterator<Item = T>) -> [Option<T>; 2] {
+    [them.next(), them.next()]
 }
 
 /// A builder and an extractor with memory of their own give it back, and where there is none they are refused.

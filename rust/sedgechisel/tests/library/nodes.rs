@@ -460,6 +460,43 @@ fn a_frame_that_a_radio_refuses() {
     assert_eq!((ground.peek(&mut room), ground.vs()), (None, 1));
 }
 
+/// Frames and packets by iterators, which take one when it is asked for: what is not asked for stays.
+#[test]
+fn one_by_one() {
+    let (mut ground, mut spacecraft) = pair(&Config { window: 3, frame_length: 32, ..Config::default() });
+    assert!(ground.frames().next().is_none() && ground.packets().next().is_none());
+    ground.init_without_check().unwrap();
+    for packet in [P0, P1, P2, P0] {
+        ground.submit(4, &octets_of(packet)).unwrap();
+    }
+    let first = ground.frames().next().unwrap().unwrap();
+    assert_eq!((&first, ground.vs()), (&octets_of("0001080E00C41005C0000000AAE75D"), 1));
+    let rest = ground.frames().collect::<Result<Vec<_>, _>>().unwrap();
+    assert_eq!((rest.len(), &rest[1], ground.vs()), (2, &octets_of("0001080E02C41005C0020000ACAC94"), 3));
+    for frame in [&[first], &rest[..]].concat() {
+        spacecraft.receive(&frame).unwrap();
+    }
+    assert_eq!(spacecraft.packets().next(), Some(Ok((4, octets_of(P0)))));
+    assert!(spacecraft.packets().eq([P1, P2].map(|it| Ok((4, octets_of(it))))));
+    assert!(spacecraft.packets().next().is_none() && spacecraft.bypass_packets().next().is_none());
+    let packets = ["0005C0000000AA", "0005C0010000AB"].map(octets_of);
+    packets.iter().for_each(|it| spacecraft.telemetry(it).unwrap());
+    assert_eq!(ground.telemetry(&reported(&mut spacecraft)), Ok(used(None, 2)));
+    assert_eq!(ground.packets().next(), Some(Ok(packets[0].clone())));
+    let mut left = ground.packets();
+    assert_eq!([left.next(), left.next(), left.next()], [Some(Ok(packets[1].clone())), None, None]);
+    drop(left);
+    assert!(ground.frames().eq([Ok(octets_of("0001080E03C41005C0000000AACA19"))]));
+    for packet in [P1, P2] {
+        ground.bypass(5, &octets_of(packet)).unwrap();
+    }
+    for frame in ground.frames() {
+        spacecraft.receive(&frame.unwrap()).unwrap();
+    }
+    assert_eq!(spacecraft.bypass_packets().next(), Some(Ok((5, octets_of(P1)))));
+    assert_eq!(spacecraft.take_bypass(), Ok(Some((5, octets_of(P2)))));
+}
+
 /// A report by itself goes to the sender as that of a telemetry frame, and telemetry begins anew where it is asked to.
 #[test]
 fn a_report_by_itself() {
