@@ -205,6 +205,10 @@ module _ (early : Bool) {Reached : PlainLink → Type 0} (c : Config) (d : Direc
           ∙ ap (drop (length (assembled lim m old))) begins.1
           ∙ drop_front (assembled lim m old) begins.0
 
+      -- the units that were accepted give what is delivered
+      pub delivered_so : assembled lim m (old ++ new) ≡ assembled lim m old ++ delivered w m
+      delivered_so = begins.1 ∙ ap (λ ps. assembled lim m old ++ ps) (sym delivered_is)
+
       whole : assembled lim m (old ++ p.units) ≡ assembled lim m old ++ submitted w m
       whole = ap (λ us. assembled lim m (old ++ us)) l.units_are
           ∙ all_given c m k.ranges.part.0 old w.session.submissions l.given
@@ -241,7 +245,7 @@ module _ (early : Bool) {Reached : PlainLink → Type 0} (c : Config) (d : Direc
         ∙ length-map (take p.r p.units) segment_octets
         ∙ length-take-le p.r p.units (omega (arith, l.r_n, l.n_most))
 
-    sent_length : length w.session.sent ≡ p.n
+    pub sent_length : length w.session.sent ≡ p.n
     sent_length =
         ap length l.sent_is ∙ length-map (take p.n p.units) segment_octets ∙ length-take-le p.n p.units l.n_most
 

@@ -58,6 +58,7 @@ pub mod TelemetrySteps
 pub mod Transit
 pub mod Verdicts
 pub mod InTransit
+pub mod Whole
 pub mod Bypass
 pub mod ProgressNodes
 pub mod Common

@@ -17,6 +17,7 @@ use Rattle.tc_link.proofs.Submissions.{all_push}
 use Rattle.tc_link.proofs.Locks.{has_no_false_alarm, confirms_exactly}
 use Rattle.tc_link.proofs.History.{goes_on_by_a_step}
 use Rattle.tc_link.proofs.InTransit.{keeps_to_window, is_confirmed_exactly}
+use Rattle.tc_link.proofs.Whole.{delivers_whole}
 
 module _ (c : Config) (w : World) (h : Holding c w) where
   readable_so : AllReadable w
@@ -27,6 +28,7 @@ module _ (c : Config) (w : World) (h : Holding c w) where
       let s = h.session is in
       record {
         in_order = is_in_order c w h.sound s;
+        whole = delivers_whole c w h.sound s;
         history = has_plain_history c w h.sound s;
         window = keeps_to_window c w h.sound s;
         confirmed = is_confirmed_exactly c w h.sound s;

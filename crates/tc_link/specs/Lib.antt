@@ -23,3 +23,4 @@ pub mod SimFields
 pub mod Simulation
 pub mod Taken
 pub mod Telemetry
+pub mod Whole

@@ -13,12 +13,14 @@ use Rattle.tc_link.specs.InTransit.{KeepsToWindow}
 use Rattle.tc_link.specs.Known.{SetsNoNumber, MovesWithRecords}
 use Rattle.tc_link.specs.Reached.{IsEvent}
 use Rattle.tc_link.specs.Readable.{AllReadable}
+use Rattle.tc_link.specs.Whole.{DeliversWhole}
 use Rattle.simulated_link.specs.World.{World, new_world, world_step, world_run, IsClean, IsIdle}
 use Rattle.simulated_link.specs.World.{IsSettled, BeginsNoSession, directive_of}
 
 -- of a world, in a session that had an idle start
 pub record IsPromised (w : World) : Type 0 where
   pub in_order : IsInOrder w
+  pub whole : DeliversWhole w
   pub history : HasPlainHistory w
   pub window : KeepsToWindow w
   pub confirmed : IsConfirmedExactly w

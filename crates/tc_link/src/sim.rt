@@ -80,7 +80,8 @@ impl Sim {
     /// Whatever the events of a session that began clean: packets are delivered in order, each once;
     /// what the ground holds acknowledged was accepted on board; and where it was begun by check,
     /// Unlock or Set V(R), no alert is a false one. All of this holds of a session that had an idle
-    /// start too, as a clean one had (`from_idle`). In any session the node that a frame is on its way
+    /// start too, as a clean one had; and what is delivered there is, without blocking, the packets all
+    /// of whose segments were accepted (`from_idle`). In any session the node that a frame is on its way
     /// to can read it. docs/PROMISES.md states each of these.
     /// Faults: 7 NothingInTransit, then 8 NotDetectable, then 6 Memory. Memory: yes; none for losing,
     /// damaging, ticks, directives and taking. Cost: that of the nodes' calls; for an initiation also

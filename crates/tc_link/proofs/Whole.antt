@@ -1,0 +1,366 @@
+-- In a session that had an idle start what is delivered is the packets of the submissions that are on board whole.
+use Rattle.tc_link.proofs.Common.{◌≡◌, ◌≢◌, ℕ, zero, suc, ◌+◌, ◌-◌, ◌≤◌, ◌<◌, inl, inr, Bool, true, false, eqb}
+use Rattle.tc_link.proofs.Common.{List, [], ◌∷◌, ◌++◌, length, take, drop, map, Option, Some, None, refl, ap, sym}
+use Rattle.tc_link.proofs.Common.{subst, ◌∙◌, append_assoc, arith, cond_both, eqb-true, eqb-false, ne_eqb, append-nil}
+use Rattle.tc_link.proofs.Common.{take-append-drop, take-append-le, take_all, AllByRecursion, SegmentView, Limits}
+use Rattle.tc_link.proofs.Common.{is_open, assembled, assembled-push, assembled-other, assembled_begins, segments_of}
+use Rattle.tc_link.proofs.Common.{Directive, Config, PacketOn, limits_of, World, accepted, delivered, PlainLink}
+use Rattle.std.specs.List.{concat, flat_map}
+use Rattle.std.specs.Prelude.{nat_le}
+use Rattle.std.proofs.lemmas.Bool.{cases_lt, leb-true, leb-false}
+use Rattle.std.proofs.lemmas.List.{append_cancel_left}
+use Rattle.std.proofs.Math.Seq.{take-append-add}
+use Rattle.octets.specs.Beginning.{IsBeginning}
+use Rattle.tc_frame.specs.declared.frame.SegmentFlags.{SegmentFlags}
+use Rattle.tc_frame.specs.declared.frame.SegmentFlags.TheVariants.{First, Continuing, Last, Alone}
+use Rattle.map_service.specs.declared.dropped.Dropped.{Dropped}
+use Rattle.map_service.specs.Assembly.{open_part, is_too_long}
+use Rattle.map_service.specs.AssemblerTable.{TakeOutcome, interruption, part_outcome, cell, take_step}
+use Rattle.map_service.specs.Cutting.{pieces_of, flagged_segments, parts_of, groups_of, payloads}
+use Rattle.map_service.specs.Packets.{packets_in}
+use Rattle.map_service.proofs.Parts.{segments-joined}
+use Rattle.map_service.proofs.Passage.{cuttable_from}
+use Rattle.tc_link.specs.Whole.{without_one, left_after, whole_within, segments_each, on_board, submitted_first}
+use Rattle.tc_link.specs.Whole.{IsOneGroup, DeliversWhole}
+use Rattle.tc_link.proofs.IdleStart.{InSession}
+use Rattle.tc_link.proofs.InOrder.{all_given, delivered_so, accepted_length, sent_length, is_in_order}
+use Rattle.tc_link.proofs.Linked.{SessionBy, Linked, IsGiven, units_of_all}
+use Rattle.tc_link.proofs.Sound.{Sound}
+
+-- ---- how many first submissions are whole within so many segments
+
+left_most : (k : ℕ) (ns : List ℕ) → length (left_after k ns) ≤ length ns
+left_most zero ns = omega arith
+left_most (suc k) [] = left_most k []
+left_most (suc k) (n ∷ ns) =
+    cond_both (nat_le n 1) ns ((n - 1) ∷ ns) (λ (l : List ℕ). length (left_after k l) ≤ suc (length ns))
+    (λ t. omega (arith, left_most k ns)) (λ t. left_most k ((n - 1) ∷ ns))
+
+left_add : (i k : ℕ) (ns : List ℕ) → left_after (i + k) ns ≡ left_after k (left_after i ns)
+left_add zero k ns = let same : zero + k ≡ k = omega arith in ap (λ (j : ℕ). left_after j ns) same
+left_add (suc i) k ns =
+    let same : suc i + k ≡ suc (i + k) = omega arith in
+    ap (λ (j : ℕ). left_after j ns) same ∙ left_add i k (without_one ns)
+
+left_rises : (i k : ℕ) (ns : List ℕ) → i ≤ k → length (left_after k ns) ≤ length (left_after i ns)
+left_rises i k ns le =
+    let split : k ≡ i + (k - i) = omega (arith, le) in
+    let on : left_after k ns ≡ left_after (k - i) (left_after i ns) =
+    ap (λ (j : ℕ). left_after j ns) split ∙ left_add i (k - i) ns in
+    omega (arith, ap length on, left_most (k - i) (left_after i ns))
+
+left_within : (k n : ℕ) (ns : List ℕ) → k < n → left_after k (n ∷ ns) ≡ (n - k) ∷ ns
+left_within zero n ns lt = let same : n ≡ n - zero = omega arith in ap (λ (j : ℕ). j ∷ ns) same
+left_within (suc k) n ns lt =
+    let same : n - 1 - k ≡ n - suc k = omega arith in
+    cond_both (nat_le n 1) ns ((n - 1) ∷ ns) (λ (l : List ℕ). left_after k l ≡ (n - suc k) ∷ ns)
+    (λ t. absurd (omega (arith, leb-true n 1 t, lt)))
+    (λ t. left_within k (n - 1) ns (omega (arith, lt)) ∙ ap (λ (j : ℕ). j ∷ ns) same)
+
+left_past : (k n : ℕ) (ns : List ℕ) → 1 ≤ n → n ≤ k → left_after k (n ∷ ns) ≡ left_after (k - n) ns
+left_past zero n ns some le = absurd (omega (arith, some, le))
+left_past (suc k) n ns some le =
+    cond_both (nat_le n 1) ns ((n - 1) ∷ ns) (λ (l : List ℕ). left_after k l ≡ left_after (suc k - n) ns)
+    (λ t. let same : k ≡ suc k - n = omega (arith, leb-true n 1 t, some) in ap (λ (j : ℕ). left_after j ns) same)
+    (λ t. let more : 1 < n = leb-false n 1 t in
+    let same : k - (n - 1) ≡ suc k - n = omega (arith, more) in
+    left_past k (n - 1) ns (omega (arith, more)) (omega (arith, le)) ∙ ap (λ (j : ℕ). left_after j ns) same)
+
+-- within the first submission none is whole
+whole_first : (k n : ℕ) (ns : List ℕ) → k < n → 0 ≡ whole_within k (n ∷ ns)
+whole_first k n ns lt = omega (arith, ap length (left_within k n ns lt))
+
+-- past it there is one more than within the others
+whole_past : (k n : ℕ) (ns : List ℕ) → 1 ≤ n → n ≤ k → suc (whole_within (k - n) ns) ≡ whole_within k (n ∷ ns)
+whole_past k n ns some le = omega (arith, ap length (left_past k n ns some le), left_most (k - n) ns)
+
+-- with more segments there are no fewer
+whole_rises : (i k : ℕ) (ns : List ℕ) → i ≤ k → whole_within i ns ≤ whole_within k ns
+whole_rises i k ns le = omega (arith, left_rises i k ns le)
+
+-- ---- segments after which more of their group comes hand nothing out
+
+abbrev HasMore : SegmentFlags → Type 0
+HasMore First = Unit {0}
+HasMore Continuing = Unit {0}
+HasMore Last = ⊥
+HasMore Alone = ⊥
+
+abbrev AllHaveMore : List SegmentView → Type 0
+AllHaveMore segments = AllByRecursion (λ (s : SegmentView). HasMore s.header.flags) segments
+
+opens_only : (limits : Limits) (earlier : Option Dropped) (octets : List ℕ)
+    → (part_outcome limits earlier octets).packets ≡ []
+opens_only limits earlier octets =
+    cond_both (is_too_long limits octets) _ _ (λ (o : TakeOutcome). o.packets ≡ []) (λ t. refl) (λ t. refl)
+
+cell_none : (limits : Limits) (flags : SegmentFlags) (part : Option (List ℕ)) (octets : List ℕ) → HasMore flags
+    → (cell limits flags part octets).packets ≡ []
+cell_none limits First part octets more = opens_only limits (interruption part) octets
+cell_none limits Continuing None octets more = refl
+cell_none limits Continuing (Some part) octets more = opens_only limits None (part ++ octets)
+cell_none limits Last part octets more = elim more [ ]
+cell_none limits Alone part octets more = elim more [ ]
+
+step_none : (limits : Limits) (part : Option (List ℕ)) (s : SegmentView) → HasMore s.header.flags
+    → (take_step limits part s).packets ≡ []
+step_none limits part s more =
+    cond_both (is_open limits s.header.map) _ _ (λ (o : TakeOutcome). o.packets ≡ [])
+    (λ t. cell_none limits s.header.flags part s.payload more) (λ t. refl)
+
+one_none : (limits : Limits) (m : ℕ) (before : List SegmentView) (s : SegmentView) (same : Bool)
+    → eqb s.header.map m ≡ same → HasMore s.header.flags
+    → assembled limits m (before ++ s ∷ []) ≡ assembled limits m before
+one_none limits m before s true own more =
+    let is : s.header.map ≡ m = eqb-true _ _ own in
+    subst (λ (k : ℕ). assembled limits k (before ++ s ∷ []) ≡ assembled limits k before) is
+    (assembled-push limits before s _ refl
+    ∙ ap (λ (ps : List (List ℕ)). assembled limits s.header.map before ++ ps)
+    (step_none limits (open_part limits s.header.map before) s more)
+    ∙ append-nil (assembled limits s.header.map before))
+one_none limits m before s false other more =
+    assembled-other limits before s m (λ (e : m ≡ s.header.map). eqb-false _ _ other (sym e))
+
+all_none : (limits : Limits) (m : ℕ) (before segments : List SegmentView) → AllHaveMore segments
+    → assembled limits m (before ++ segments) ≡ assembled limits m before
+all_none limits m before [] h = ap (assembled limits m) (append-nil before)
+all_none limits m before (s ∷ segments) h =
+    ap (assembled limits m) (sym (append_assoc before (s ∷ []) segments))
+    ∙ all_none limits m (before ++ s ∷ []) segments h.1
+    ∙ one_none limits m before s (eqb s.header.map m) refl h.0
+
+-- ---- a proper beginning of the segments of one group
+
+flagged_more : (front single : SegmentFlags) (m : ℕ) (pieces : List (List ℕ)) (i : ℕ) → HasMore front
+    → i < length (flagged_segments front single m pieces)
+    → AllHaveMore (take i (flagged_segments front single m pieces))
+flagged_more front single m pieces zero more lt = tt
+flagged_more front single m [] (suc i) more lt = absurd (omega (arith, lt))
+flagged_more front single m (x ∷ []) (suc i) more lt = absurd (omega (arith, lt))
+flagged_more front single m (x ∷ y ∷ ys) (suc i) more lt =
+    (more, flagged_more Continuing Last m (y ∷ ys) i tt (omega (arith, lt)))
+
+only_group : (part m : ℕ) (groups : List (List (List ℕ))) → length groups ≡ 1
+    → (group : List (List ℕ)) × (flat_map (λ g. parts_of part m (concat g)) groups ≡ parts_of part m (concat group))
+only_group part m [] one = absurd (omega (arith, one))
+only_group part m (g ∷ []) one = (g, append-nil (parts_of part m (concat g)))
+only_group part m (g ∷ h ∷ gs) one = absurd (omega (arith, one))
+
+begun_none : (limits : Limits) (part m : ℕ) (p : PacketOn) (i : ℕ) → IsOneGroup part p
+    → i < length (segments_of part p.on_map p.octets) → (before : List SegmentView)
+    → assembled limits m (before ++ take i (segments_of part p.on_map p.octets)) ≡ assembled limits m before
+begun_none limits part m p i one lt before =
+    let t = only_group part p.on_map (groups_of part (packets_in p.octets)) one in
+    let fewer : i < length (parts_of part p.on_map (concat t.0)) =
+    subst (λ (ss : List SegmentView). i < length ss) t.1 lt in
+    all_none limits m before (take i (segments_of part p.on_map p.octets))
+    (subst (λ (ss : List SegmentView). AllHaveMore (take i ss)) (sym t.1)
+    (flagged_more First Alone p.on_map (pieces_of part (concat t.0)) i tt fewer))
+
+-- ---- submissions that were accepted
+
+some_in : (segments : List SegmentView) (octets : List ℕ) → concat (payloads segments) ≡ octets → 1 ≤ length octets
+    → 1 ≤ length segments
+some_in [] octets joined some = absurd (omega (arith, ap length joined, some))
+some_in (s ∷ segments) octets joined some = omega arith
+
+lone_group : (part : ℕ) (octets : List ℕ) → length (groups_of part (octets ∷ [])) ≡ 1
+unfolding groups_of
+lone_group part octets = refl
+
+given_first : (c : Config) (j : ℕ) (ps : List PacketOn) → AllByRecursion (IsGiven c) ps
+    → AllByRecursion (IsGiven c) (take j ps)
+given_first c zero ps h = tt
+given_first c (suc j) [] h = tt
+given_first c (suc j) (p ∷ ps) h = (h.0, given_first c j ps h.1)
+
+abbrev each : ℕ → List PacketOn → List ℕ
+each part ps = map (λ (p : PacketOn). length (segments_of part p.on_map p.octets)) ps
+
+-- without blocking each is one packet
+all_single : (c : Config) → c.blocking ≢ 1 → (ps : List PacketOn) → AllByRecursion (IsGiven c) ps
+    → AllByRecursion (IsOneGroup c.part) ps
+all_single c without [] h = tt
+all_single c without (p ∷ ps) h =
+    let one : packets_in p.octets ≡ p.octets ∷ [] =
+    (cuttable_from (limits_of c) p.octets h.0.cut).one (ne_eqb c.blocking 1 without) in
+    let single : IsOneGroup c.part p =
+    ap (λ (packets : List (List ℕ)). length (groups_of c.part packets)) one ∙ lone_group c.part p.octets in
+    (single, all_single c without ps h.1)
+
+-- The first k segments are those of the first whole submissions, and a part of the next one's.
+record CutAt (c : Config) (m k : ℕ) (ps : List PacketOn) : Type 0 where
+  whole : ℕ
+  whole_is : whole ≡ whole_within k (each c.part ps)
+  part : List SegmentView
+  taken : take k (units_of_all c ps) ≡ units_of_all c (take whole ps) ++ part
+  rest : List SegmentView
+  next : units_of_all c (take (suc whole) ps) ≡ take k (units_of_all c ps) ++ rest
+  none : AllByRecursion (IsOneGroup c.part) ps → (before : List SegmentView)
+      → assembled (limits_of c) m (before ++ part) ≡ assembled (limits_of c) m before
+
+module _ (c : Config) (m : ℕ) (one : 1 ≤ c.part) where
+  abbrev segments : PacketOn → List SegmentView
+  segments p = segments_of c.part p.on_map p.octets
+
+  some_segments : (p : PacketOn) → IsGiven c p → 1 ≤ length (segments p)
+  some_segments p h =
+      let cut = cuttable_from (limits_of c) p.octets h.cut in
+      some_in (segments p) p.octets (segments-joined c.part p.on_map p.octets one cut.whole) cut.some
+
+  within_first : (k : ℕ) (p : PacketOn) (ps : List PacketOn) → k < length (segments p) → CutAt c m k (p ∷ ps)
+  within_first k p ps lt =
+      let beginning : take k (segments p ++ units_of_all c ps) ≡ take k (segments p) =
+      take-append-le k (segments p) (units_of_all c ps) (omega (arith, lt)) in
+      record {
+        whole = 0;
+        whole_is = whole_first k (length (segments p)) (each c.part ps) lt;
+        part = take k (segments p);
+        taken = beginning;
+        rest = drop k (segments p);
+        next = append-nil (segments p) ∙ sym (take-append-drop k (segments p))
+            ∙ ap (λ (xs : List SegmentView). xs ++ drop k (segments p)) (sym beginning);
+        none = λ single. begun_none (limits_of c) c.part m p k single.0 lt;
+      }
+
+  past_first : (k : ℕ) (p : PacketOn) (ps : List PacketOn) → 1 ≤ length (segments p) → length (segments p) ≤ k
+      → CutAt c m (k - length (segments p)) ps → CutAt c m k (p ∷ ps)
+  past_first k p ps some le t =
+      let n = length (segments p) in
+      let split : k ≡ n + (k - n) = omega (arith, le) in
+      let past : take k (segments p ++ units_of_all c ps) ≡ segments p ++ take (k - n) (units_of_all c ps) =
+      ap (λ (j : ℕ). take j (segments p ++ units_of_all c ps)) split
+      ∙ take-append-add (segments p) (units_of_all c ps) (k - n) in
+      record {
+        whole = suc t.whole;
+        whole_is = ap (λ (j : ℕ). suc j) t.whole_is ∙ whole_past k n (each c.part ps) some le;
+        part = t.part;
+        taken = past ∙ ap (λ (xs : List SegmentView). segments p ++ xs) t.taken
+            ∙ sym (append_assoc (segments p) (units_of_all c (take t.whole ps)) t.part);
+        rest = t.rest;
+        next = ap (λ (xs : List SegmentView). segments p ++ xs) t.next
+            ∙ sym (append_assoc (segments p) (take (k - n) (units_of_all c ps)) t.rest)
+            ∙ ap (λ (xs : List SegmentView). xs ++ t.rest) (sym past);
+        none = λ single. t.none single.1;
+      }
+
+  cut_at : (k : ℕ) (ps : List PacketOn) → AllByRecursion (IsGiven c) ps → CutAt c m k ps
+  cut_at k [] h = record {
+    whole = 0;
+    whole_is = omega arith;
+    part = [];
+    taken = take_all k [] (omega arith);
+    rest = [];
+    next = sym (append-nil (take k []) ∙ take_all k [] (omega arith));
+    none = λ single before. ap (assembled (limits_of c) m) (append-nil before);
+  }
+  cut_at k (p ∷ ps) h =
+      elim (cases_lt k (length (segments p))) [
+        | inl lt ↦ within_first k p ps lt
+        | inr ge ↦ past_first k p ps (some_segments p h.0) ge (cut_at (k - length (segments p)) ps h.1)
+      ]
+
+-- ---- what is delivered
+
+module _ (early : Bool) {Reached : PlainLink → Type 0} (c : Config) (d : Directive) (base : ℕ) (w : World)
+    (g : SessionBy early Reached c d base w) (k : Sound c w) where
+  abbrev p : PlainLink
+  p = g.plain
+
+  abbrev l : Linked c d base w p g.front g.frames g.reports
+  l = g.linked
+
+  abbrev ps : List PacketOn
+  ps = w.session.submissions
+
+  board_is : on_board w ≡ whole_within p.r (each c.part ps)
+  board_is =
+      ap (λ (n : ℕ). whole_within n (segments_each w)) (accepted_length early c d base w g k)
+      ∙ ap (λ (x : Config). whole_within p.r (each x.part ps)) k.ground_node.config
+
+  module _ (m : ℕ) where
+    abbrev lim : Limits
+    lim = limits_of c
+
+    abbrev old : List SegmentView
+    old = take w.session.before w.spacecraft.accepted
+
+    cut : CutAt c m p.r ps
+    cut = cut_at c m k.ranges.part.0 p.r ps l.given
+
+    is_cut : on_board w ≡ cut.whole
+    is_cut = board_is ∙ sym cut.whole_is
+
+    -- the segments of the first submissions give their packets
+    first_give : (j : ℕ) → assembled lim m (old ++ units_of_all c (take j ps)) ≡ assembled lim m old
+        ++ submitted_first j w m
+    first_give j = all_given c m k.ranges.part.0 old (take j ps) (given_first c j ps l.given)
+
+    abbrev front : List SegmentView
+    front = old ++ units_of_all c (take cut.whole ps)
+
+    gives : assembled lim m old ++ delivered w m ≡ assembled lim m (front ++ cut.part)
+    gives =
+        sym (delivered_so early c d base w g k m)
+        ∙ ap (λ (us : List SegmentView). assembled lim m (old ++ us)) (ap (take p.r) l.units_are ∙ cut.taken)
+        ∙ ap (assembled lim m) (sym (append_assoc old (units_of_all c (take cut.whole ps)) cut.part))
+
+    delivers_exactly : AllByRecursion (IsOneGroup c.part) ps → delivered w m ≡ submitted_first (on_board w) w m
+    delivers_exactly single =
+        append_cancel_left (assembled lim m old) (delivered w m) (submitted_first cut.whole w m)
+        (gives ∙ cut.none single front ∙ first_give cut.whole)
+        ∙ ap (λ (j : ℕ). submitted_first j w m) (sym is_cut)
+
+    delivers_least : IsBeginning (submitted_first (on_board w) w m) (delivered w m)
+    delivers_least =
+        let more = assembled_begins lim m front cut.part in
+        let both : assembled lim m old ++ delivered w m
+        ≡ assembled lim m old ++ (submitted_first cut.whole w m ++ more.0) =
+        gives ∙ more.1 ∙ ap (λ (xs : List (List ℕ)). xs ++ more.0) (first_give cut.whole)
+        ∙ append_assoc (assembled lim m old) (submitted_first cut.whole w m) more.0 in (
+          more.0,
+          append_cancel_left (assembled lim m old) (delivered w m) (submitted_first cut.whole w m ++ more.0) both
+              ∙ ap (λ (j : ℕ). submitted_first j w m ++ more.0) (sym is_cut),
+        )
+
+    delivers_most : IsBeginning (delivered w m) (submitted_first (suc (on_board w)) w m)
+    delivers_most =
+        let after = assembled_begins lim m (old ++ take p.r p.units) cut.rest in
+        let joined : old ++ units_of_all c (take (suc cut.whole) ps) ≡ (old ++ take p.r p.units) ++ cut.rest =
+        ap (λ (us : List SegmentView). old ++ us)
+        (cut.next ∙ ap (λ (us : List SegmentView). take p.r us ++ cut.rest) (sym l.units_are))
+        ∙ sym (append_assoc old (take p.r p.units) cut.rest) in
+        let both : assembled lim m old ++ submitted_first (suc cut.whole) w m
+        ≡ assembled lim m old ++ (delivered w m ++ after.0) =
+        sym (first_give (suc cut.whole)) ∙ ap (assembled lim m) joined ∙ after.1
+        ∙ ap (λ (xs : List (List ℕ)). xs ++ after.0) (delivered_so early c d base w g k m)
+        ∙ append_assoc (assembled lim m old) (delivered w m) after.0 in (
+          after.0,
+          ap (λ (j : ℕ). submitted_first (suc j) w m) is_cut
+              ∙ append_cancel_left (assembled lim m old) (submitted_first (suc cut.whole) w m)
+              (delivered w m ++ after.0) both,
+        )
+
+  whole_by : w.session.acknowledged ≤ length (accepted w) → DeliversWhole w
+  whole_by acknowledged =
+      let same : w.ground_node.config ≡ c = k.ground_node.config in
+      let most : length (accepted w) ≤ length w.session.sent =
+      omega (arith, accepted_length early c d base w g k, sent_length early c d base w g k, l.r_n) in
+      record {
+        exactly = λ single m.
+            delivers_exactly m (subst (λ (x : Config). AllByRecursion (IsOneGroup x.part) ps) same single);
+        single = λ without. subst (λ (x : Config). AllByRecursion (IsOneGroup x.part) ps) (sym same)
+            (all_single c (subst (λ (x : Config). x.blocking ≢ 1) same without) ps l.given);
+        least = delivers_least;
+        most = delivers_most;
+        acknowledged = whole_rises w.session.acknowledged (length (accepted w)) (segments_each w) acknowledged;
+        sent = whole_rises (length (accepted w)) (length w.session.sent) (segments_each w) most;
+      }
+
+pub delivers_whole : (c : Config) (w : World) → Sound c w → InSession c w → DeliversWhole w
+delivers_whole c w k s =
+    let acknowledged : w.session.acknowledged ≤ length (accepted w) = (is_in_order c w k s).counted.1 in
+    elim s.session [
+      | inl g ↦ whole_by true c s.directive s.base w g k acknowledged
+      | inr g ↦ whole_by false c s.directive s.base w g k acknowledged
+    ]
