@@ -1,17 +1,17 @@
 -- What is known of packets that the ground does not refuse: their segments fit into frames.
 use Rattle.std.proofs.Common.{◌≡◌, ◌≤◌, ◌<◌, ◌+◌, ℕ, zero, suc, get_or, Bool, true, false, not, cond, List, [], ◌∷◌}
-use Rattle.std.proofs.Common.{length, Option, Some, None, refl, sym, subst, ◌∙◌, arith, length-append}
+use Rattle.std.proofs.Common.{length, Option, Some, None, refl, sym, ap, subst, ◌∙◌, arith, length-append}
 use Rattle.std.specs.Prelude.{◌==◌, option_to_list}
-use Rattle.std.specs.List.{AllByRecursion}
+use Rattle.std.specs.List.{AllByRecursion, concat}
 use Rattle.std.proofs.lemmas.Bool.{ltb-true, ltb-false, and_parts, not-false}
 use Rattle.tc_frame.specs.declared.frame.SegmentFlags.TheVariants.{Alone}
 use Rattle.tc_frame.specs.declared.frame.Segment.{Segment}
 use Rattle.tc_frame.specs.Layout.{SegmentView, segment_view}
 use Rattle.map_service.specs.Assembly.{is_open}
-use Rattle.map_service.specs.Cutting.{segment_with, segment_views, alone_segment, segments_of, IsPart}
+use Rattle.map_service.specs.Cutting.{segment_with, segment_views, alone_segment, segments_of, payloads, IsPart}
 use Rattle.map_service.specs.Packets.{is_packet, packets_in, are_taken, is_some_over}
 use Rattle.map_service.specs.declared.limits.Limits.{Limits}
-use Rattle.map_service.proofs.Parts.{segments-parts, alone-some, parts-alone}
+use Rattle.map_service.proofs.Parts.{segments-parts, segments-joined, alone-some, parts-alone}
 use Rattle.map_service.proofs.Groups.{in-one}
 use Rattle.map_service.proofs.Passage.{one-from, IsCuttable, cuttable_from}
 use Rattle.space_packet.proofs.WholePackets.{no_more}
@@ -39,20 +39,29 @@ some_octet (x ∷ xs) h = omega arith
 pub submit_map : (s : GroundState) (m : ℕ) (octets : List ℕ) → submit_fault s m octets ≡ None → m < 64
 submit_map s m octets h = below_64 (limits_of s.config) m (passed _ _ _ (passed _ _ _ h).1).0
 
--- what is not refused has places in the queue
-pub have_places : (s : GroundState) (m : ℕ) (octets : List ℕ) → submit_fault s m octets ≡ None
-    → length s.pending + length (segments_on s m octets) ≤ s.config.queue_slots
-have_places s m octets h =
-    let unsent : length (unsent_segments s) ≡ length (option_to_list s.fop.waiting) + length s.pending =
-    length-append (option_to_list s.fop.waiting) s.pending in
+-- what is not refused comes while the sender is on, is packets, and has places in the queue
+pub record IsAccepted (s : GroundState) (m : ℕ) (octets : List ℕ) : Type 0 where
+  pub active : is_closed s.fop.state ≡ false
+  pub commands : commands_fault (limits_of s.config) octets ≡ None
+  pub places : length (unsent_segments s) + length (segments_on s m octets) ≤ s.config.queue_slots
+
+pub is_accepted : (s : GroundState) (m : ℕ) (octets : List ℕ) → submit_fault s m octets ≡ None → IsAccepted s m octets
+is_accepted s m octets h =
     let session = passed (is_closed s.fop.state) NotOpen _ h in
     let open_map = passed (not (is_open (limits_of s.config) m)) ClosedMap _ session.1 in
     let commands = passed (not (are_commands (s.config.blocking == 1) octets)) NotCommand _ open_map.1 in
     let short = passed (is_some_over s.config.max_packet (packets_in octets)) TooLong _ commands.1 in
     let over = passed (is_over_slots s m octets) QueueFull None short.1 in
-    let places : length (unsent_segments s) + length (segments_on s m octets) ≤ s.config.queue_slots =
-    ltb-false _ _ over.0 in
-    omega arith
+    record {
+      active = session.0;
+      commands = rw (commands.0, short.0) refl;
+      places = ltb-false _ _ over.0;
+    }
+
+pub have_places : (s : GroundState) (m : ℕ) (octets : List ℕ) → submit_fault s m octets ≡ None
+    → length s.pending + length (segments_on s m octets) ≤ s.config.queue_slots
+have_places s m octets h =
+    omega (arith, length-append (option_to_list s.fop.waiting) s.pending, (is_accepted s m octets h).places)
 
 pub bypass_fits : (s : GroundState) (m : ℕ) (octets : List ℕ) → IsConfig s.config → bypass_fault s m octets ≡ None
     → FitsFrame (segment_with Alone m octets)
@@ -91,6 +100,18 @@ cuttable limits octets h =
     let taken : are_taken limits.blocking octets ≡ true = (and_parts _ _ (not-false _ command.0)).0 in
     let over : is_some_over limits.max_packet (packets_in octets) ≡ false = (passed _ _ _ command.1).0 in
     cuttable_from limits octets (rw (taken, over) refl)
+
+-- packets have a segment
+some_of : (segments : List SegmentView) (octets : List ℕ) → concat (payloads segments) ≡ octets → 1 ≤ length octets
+    → 1 ≤ length segments
+some_of [] octets is some = absurd (omega (arith, ap length is, some))
+some_of (s ∷ ss) octets is some = omega arith
+
+pub some_segments : (limits : Limits) (m : ℕ) (octets : List ℕ) → 1 ≤ limits.part → commands_fault limits octets ≡ None
+    → 1 ≤ length (segments_of limits.part m octets)
+some_segments limits m octets one h =
+    let is = cuttable limits octets h in
+    some_of (segments_of limits.part m octets) octets (segments-joined limits.part m octets one is.whole) is.some
 
 -- those that go into one segment
 pub one_segment : (limits : Limits) (m : ℕ) (octets : List ℕ) (s : SegmentView) → commands_fault limits octets ≡ None

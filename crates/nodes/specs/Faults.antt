@@ -2,7 +2,7 @@
 use Rattle.std.specs.Prelude.{ℕ, List, codes}
 use Rattle.nodes.specs.declared.fault.LinkFault.{LinkFault}
 use Rattle.nodes.specs.declared.fault.LinkFault.TheVariants.{NotOpen, ClosedMap, NotCommand}
-use Rattle.nodes.specs.declared.fault.LinkFault.TheVariants.{TooLong, QueueFull, Memory}
+use Rattle.nodes.specs.declared.fault.LinkFault.TheVariants.{TooLong, QueueFull, Memory, NotKnown}
 
 -- the number, and the name in ASCII
 abbrev pub fault_row : LinkFault → ℕ × List ℕ
@@ -12,3 +12,4 @@ fault_row NotCommand = (3, codes "NotCommand")
 fault_row TooLong = (4, codes "TooLong")
 fault_row QueueFull = (5, codes "QueueFull")
 fault_row Memory = (6, codes "Memory")
+fault_row NotKnown = (7, codes "NotKnown")

@@ -1,7 +1,7 @@
 -- The ground: what it holds, and what each of its calls answers and leaves.
 use Rattle.std.specs.Prelude.{◌≡◌, ℕ, ◌+◌, List, [], ◌∷◌, ◌++◌, length, map, option_to_list, Bool}
-use Rattle.std.specs.Prelude.{true, false, not, ◌&&◌, ◌==◌, nat_lt, if◌then◌else◌, Option, Some}
-use Rattle.std.specs.Prelude.{None, IfSome, Result, Ok, Err, OnOk, OnErr, IsOkUnless}
+use Rattle.std.specs.Prelude.{true, false, not, ◌&&◌, ◌==◌, nat_lt, if◌then◌else◌, Option, Some, None}
+use Rattle.std.specs.Prelude.{option_map, IfSome, Result, Ok, Err, OnOk, OnErr, IsOkUnless}
 use Rattle.clcw.specs.declared.word.Clcw.{Clcw}
 use Rattle.clcw.specs.declared.fault.ClcwFault.{ClcwFault}
 use Rattle.clcw.specs.Decoding.{clcw_at}
@@ -15,6 +15,9 @@ use Rattle.cop1.specs.declared.vocabulary.FopMode.{FopMode}
 use Rattle.cop1.specs.declared.vocabulary.FopMode.TheVariants.{S6}
 use Rattle.cop1.specs.declared.vocabulary.Alert.{Alert}
 use Rattle.cop1.specs.declared.vocabulary.Directive.{Directive}
+use Rattle.cop1.specs.declared.vocabulary.Directive.TheVariants.{SetVs, InitUnlock}
+use Rattle.cop1.specs.Accepted.{accepted_beyond}
+use Rattle.cop1.specs.Modulo.{ahead_by}
 use Rattle.cop1.specs.Units.{FopState, new_fop, FopOutcome}
 use Rattle.cop1.specs.FopPull.{PulledUnit, NothingPulled, ControlPulled, BypassPulled}
 use Rattle.cop1.specs.FopPull.{SequencePulled}
@@ -26,12 +29,14 @@ use Rattle.tm_link.specs.Extractor.{ExtractorState, Extracted, new_extractor, ex
 use Rattle.nodes.specs.declared.config.Config.{Config}
 use Rattle.nodes.specs.declared.fault.LinkFault.{LinkFault}
 use Rattle.nodes.specs.declared.fault.LinkFault.TheVariants.{NotOpen, ClosedMap, NotCommand}
-use Rattle.nodes.specs.declared.fault.LinkFault.TheVariants.{TooLong, QueueFull, Memory}
+use Rattle.nodes.specs.declared.fault.LinkFault.TheVariants.{TooLong, QueueFull, Memory, NotKnown}
 use Rattle.nodes.specs.declared.heard.Heard.{Heard}
 use Rattle.nodes.specs.declared.heard.Heard.TheVariants.{Invalid, Foreign, Frame}
 use Rattle.nodes.specs.declared.heard.HeardClcw.{HeardClcw}
 use Rattle.nodes.specs.declared.heard.HeardReport.TheVariants.{Used, Refused, OtherChannel}
 use Rattle.nodes.specs.CommandPackets.{are_commands}
+use Rattle.nodes.specs.Fates.{Fates, new_fates, with_submission, whole_with, after_acknowledging}
+use Rattle.nodes.specs.Fates.{after_obeying}
 use Rattle.nodes.specs.Parameters.{limits_of}
 use Rattle.nodes.specs.Steps.{Outcome}
 
@@ -46,6 +51,8 @@ pub record GroundState : Type 0 where
   -- first
   pub extractor : ExtractorState
   pub telemetry : List (List ℕ)
+  -- how far the submissions of the session have come
+  pub fates : Fates
 
 abbrev pub GroundOutcome : Type 0 → Type 0
 GroundOutcome A = Outcome GroundState A
@@ -57,6 +64,7 @@ new_ground c = record {
   pending = [];
   extractor = new_extractor;
   telemetry = [];
+  fates = new_fates false;
 }
 
 -- ---- what is pending
@@ -90,6 +98,10 @@ unsent_segments s = option_to_list s.fop.waiting ++ s.pending
 abbrev pub outstanding : GroundState → List SegmentView
 outstanding s = map (λ u. u.unit) s.fop.sent ++ unsent_segments s
 
+-- how many segments were sent and are not acknowledged, after an alert too
+abbrev pub sent_beyond : GroundState → ℕ
+sent_beyond s = ahead_by s.fop.vs s.fop.nn
+
 -- ---- packets are submitted
 
 abbrev pub segments_on : GroundState → ℕ → List ℕ → List SegmentView
@@ -112,7 +124,10 @@ submit_fault s m octets =
 
 abbrev pub after_submission : GroundState → ℕ → List ℕ → GroundState
 after_submission s m octets =
-    refill_step (record s { pending = s.pending ++ segments_on s m octets })
+    refill_step (record s {
+      pending = s.pending ++ segments_on s m octets;
+      fates = with_submission (length (segments_on s m octets)) s.fates;
+    })
 
 -- the call is refused, or the ground is the next
 abbrev pub unless_refused : Option LinkFault → GroundState → GroundState
@@ -153,21 +168,55 @@ abbrev pub sender_outcome : {A : Type 0} → GroundState → FopOutcome SegmentV
 sender_outcome s outcome = record { answer = outcome.answer; after = with_fop s outcome.after }
 
 -- a directive that is refused changes nothing
-abbrev pub after_directive : GroundState → Result (Option Alert) CopFault → FopState SegmentView
-    → GroundState
-after_directive s (Ok alert) fop = with_fop s fop
-after_directive s (Err fault) fop = s
+abbrev pub after_directive : GroundState → Directive → Result (Option Alert) CopFault
+    → FopState SegmentView → GroundState
+after_directive s directive (Ok alert) fop =
+    with_fop (record s { fates = after_obeying s.fates directive }) fop
+after_directive s directive (Err fault) fop = s
 
-abbrev pub directive_outcome : GroundState → FopOutcome SegmentView (Result (Option Alert) CopFault)
+abbrev pub directive_outcome : GroundState → Directive
+    → FopOutcome SegmentView (Result (Option Alert) CopFault)
     → GroundOutcome (Result (Option Alert) CopFault)
-directive_outcome s outcome = record {
+directive_outcome s directive outcome = record {
   answer = outcome.answer;
-  after = after_directive s outcome.answer outcome.after;
+  after = after_directive s directive outcome.answer outcome.after;
 }
 
 abbrev pub ground_directive : GroundState → Directive
     → GroundOutcome (Result (Option Alert) CopFault)
-ground_directive s directive = directive_outcome s (sender.fop_step s.fop (sender.Direct directive))
+ground_directive s directive =
+    directive_outcome s directive (sender.fop_step s.fop (sender.Direct directive))
+
+-- ---- a session goes on after an alert
+
+-- how many submissions are known to be on board whole by a report of this value, modulo 2^64: those
+-- that are acknowledged, and those all of whose segments it says were accepted; none where nothing
+-- is known
+abbrev pub known_on_board : GroundState → ℕ → Option ℕ
+known_on_board s value =
+    if s.fates.kept
+    then option_map (λ k. whole_with k s.fates) (accepted_beyond s.fop.nn s.fop.vs value)
+    else None
+
+-- the session has ended, its numbers stand, and the value lies from NN(R) to V(S)
+abbrev pub can_resume : GroundState → ℕ → Bool
+can_resume s value =
+    is_closed s.fop.state && s.fates.kept
+    && not (nat_lt (sent_beyond s) (ahead_by value s.fop.nn))
+
+-- V(S) is set to the value, and a session begins by Unlock
+abbrev pub after_resuming : GroundState → ℕ → GroundState
+after_resuming s value =
+    (ground_directive (ground_directive s (SetVs value)).after InitUnlock).after
+
+-- with how many submissions of the session that ended are on board
+abbrev pub ground_resume : GroundState → ℕ → GroundOutcome (Result ℕ LinkFault)
+ground_resume s value =
+    if can_resume s value then record {
+      answer = Ok (whole_with (ahead_by value s.fop.nn) s.fates);
+      after = after_resuming s value;
+    }
+    else record { answer = Err NotKnown; after = s }
 
 abbrev pub ground_tick : GroundState → GroundOutcome (Option Alert)
 ground_tick s = sender_outcome s (sender.fop_step s.fop sender.Tick)
@@ -195,6 +244,15 @@ ground_pull s = record {
 abbrev pub after_extraction : GroundState → Extracted → GroundState
 after_extraction s x = record s { extractor = x.after; telemetry = s.telemetry ++ x.packets }
 
+-- how many segments are acknowledged where NN(R) goes from one number to another
+abbrev pub moved_by : (new old : ℕ) → ℕ
+moved_by new old = if new == old then 0 else ahead_by new old
+
+-- the sender obeys a report, by which segments may be acknowledged
+abbrev pub after_report : GroundState → FopState SegmentView → GroundState
+after_report s fop =
+    with_fop (record s { fates = after_acknowledging (moved_by fop.nn s.fop.nn) s.fates }) fop
+
 -- a report reaches the sender where it is one of this ground's virtual channel
 abbrev pub report_outcome : GroundState → Result Clcw ClcwFault → GroundOutcome HeardClcw
 report_outcome s (Err fault) = record {
@@ -207,7 +265,7 @@ report_outcome s (Ok report) =
         report = Used;
         alert = (sender.fop_step s.fop (sender.Report report)).answer;
       };
-      after = with_fop s (sender.fop_step s.fop (sender.Report report)).after;
+      after = after_report s (sender.fop_step s.fop (sender.Report report)).after;
     }
     else record { answer = record { report = OtherChannel; alert = None }; after = s }
 
@@ -265,6 +323,8 @@ pub data GroundEvent : Type 0 where
   Submit : (on_map : ℕ) (octets : List ℕ) → GroundEvent
   Bypass : (on_map : ℕ) (octets : List ℕ) → GroundEvent
   Direct : (directive : Directive) → GroundEvent
+  -- a session goes on after an alert, by a report's value
+  Resume : (value : ℕ) → GroundEvent
   Pull : GroundEvent
   Tick : GroundEvent
   Telemetry : (octets : List ℕ) → GroundEvent
@@ -278,6 +338,7 @@ abbrev pub GroundAnswer : GroundEvent → Type 0
 GroundAnswer (Submit m octets) = Result (Unit {0}) LinkFault
 GroundAnswer (Bypass m octets) = Result (Unit {0}) LinkFault
 GroundAnswer (Direct directive) = Result (Option Alert) CopFault
+GroundAnswer (Resume value) = Result ℕ LinkFault
 GroundAnswer Pull = Option FrameView
 GroundAnswer Tick = Option Alert
 GroundAnswer (Telemetry octets) = Heard
@@ -291,6 +352,7 @@ ground_step s (Submit m octets) =
 ground_step s (Bypass m octets) =
     unless_refused (bypass_fault s m octets) s (after_bypass s m octets)
 ground_step s (Direct directive) = ground_directive s directive
+ground_step s (Resume value) = ground_resume s value
 ground_step s Pull = ground_pull s
 ground_step s Tick = ground_tick s
 ground_step s (Telemetry octets) = ground_telemetry s octets

@@ -1,12 +1,14 @@
 -- How a ground's fields stand for its state.
-use Rattle.std.specs.Prelude.{◌≡◌, ◌≤◌, ◌++◌, true}
+use Rattle.std.specs.Prelude.{◌≡◌, ◌≢◌, ◌≤◌, ◌+◌, [], ◌++◌, length, true}
 use Rattle.std.specs.List.{AllByRecursion}
 use Rattle.std.specs.VecDeque.{deque_capacity}
 use Rattle.tm_link.specs.Extractor.{octets_of}
 use Rattle.map_service.specs.Packets.{is_packet}
+use Rattle.cop1.specs.declared.vocabulary.FopMode.TheVariants.{S6}
 use Rattle.nodes.specs.declared.ground_node.Ground.TheInside.{Inside}
 use Rattle.nodes.specs.Parameters.{IsConfig}
-use Rattle.nodes.specs.Ground.{GroundState}
+use Rattle.nodes.specs.Fates.{left_after, fates_of}
+use Rattle.nodes.specs.Ground.{GroundState, outstanding}
 
 abbrev pub state_of : Inside → GroundState
 state_of s = record {
@@ -15,6 +17,7 @@ state_of s = record {
   pending = s.pending.items;
   extractor = s.extractor;
   telemetry = octets_of s.waiting.items ++ octets_of s.finished.items;
+  fates = fates_of s.acknowledged s.left.items s.kept;
 }
 
 -- what the fields keep to
@@ -26,3 +29,6 @@ pub record IsSound (s : Inside) : Type 0 where
   pub packets :
       AllByRecursion (λ p. is_packet p ≡ true)
       (octets_of s.waiting.items ++ octets_of s.finished.items)
+  -- once all that is sent and waits is acknowledged every submission is whole, and all have room
+  pub owed : s.fop.state ≢ S6 → left_after (length (outstanding (state_of s))) s.left.items ≡ []
+  pub places : s.config.queue_slots + 127 ≤ deque_capacity s.left

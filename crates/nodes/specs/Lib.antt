@@ -1,6 +1,7 @@
 pub mod BypassSegments
 pub mod CommandPackets
 pub mod Delivery
+pub mod Fates
 pub mod Faults
 pub mod Frames
 pub mod Ground

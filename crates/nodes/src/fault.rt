@@ -20,6 +20,8 @@ pub enum LinkFault {
     QueueFull = 5,
     /// There was no memory.
     Memory = 6,
+    /// Nothing is known of how far the session has come.
+    NotKnown = 7,
 }
 
 impl LinkFault {
@@ -43,6 +45,7 @@ impl LinkFault {
             LinkFault::TooLong => "TooLong",
             LinkFault::QueueFull => "QueueFull",
             LinkFault::Memory => "Memory",
+            LinkFault::NotKnown => "NotKnown",
         }
     }
 }

@@ -1,5 +1,6 @@
 // The node on the ground.
 
+mod fates;
 mod pull;
 mod submission;
 mod submit;
@@ -10,6 +11,7 @@ use crate::fault::LinkFault;
 use crate::owned_segment::OwnedSegment;
 use crate::valid_config::ValidConfig;
 use cop1::{Alert, CopFault, Directive, Fop, FopMode};
+use fates::count_anew;
 use std::alloc::Global;
 use std::collections::VecDeque;
 use std::marker::Model;
@@ -25,6 +27,11 @@ pub struct Ground {
     config: Config,
     fop: Fop<OwnedSegment>,
     pending: VecDeque<OwnedSegment>,
+    // how many submissions of the session are acknowledged whole, modulo 2^64; how many segments of each
+    // of the others are not, the oldest first; whether V(S) and NN(R) are the session's
+    acknowledged: u64,
+    left: VecDeque<usize>,
+    kept: bool,
     extractor: Extractor,
     // the packets of telemetry: those that are taken first, and those that frames finished since
     waiting: VecDeque<Vec<u8>>,
@@ -85,11 +92,19 @@ impl Ground {
         let Ok(pending) = VecDeque::with_capacity(alloc, config.queue_slots as usize) else {
             return Err(LinkFault::Memory);
         };
+        // (each submission has a segment among those that may wait, or those that may be sent, of
+        // which there are 127 at most)
+        let Ok(left) = VecDeque::with_capacity(alloc, config.queue_slots as usize + 127) else {
+            return Err(LinkFault::Memory);
+        };
         Ok(Ground {
             alloc,
             config: *config,
             fop,
             pending,
+            acknowledged: 0,
+            left,
+            kept: false,
             extractor,
             waiting: VecDeque::new(alloc),
             finished: Vec::new(alloc),
@@ -153,6 +168,12 @@ impl Ground {
         ensures err { OnErr result (self.new ≡ self.old) }
     {
         let alert = self.fop.directive(directive)?;
+        count_anew(
+            directive,
+            &mut self.acknowledged,
+            &mut self.left,
+            &mut self.kept,
+        );
         self.refill();
         Ok(alert)
     }

@@ -17,6 +17,8 @@ use Rattle.cop1.specs.Units.{IsFop}
 use Rattle.cop1.specs.FopWords.{is_outside}
 use Rattle.simulated_link.proofs.TelemetryCases.{reported, frame_seen}
 use Rattle.tm_link.specs.Layout as telemetry
+use Rattle.nodes.specs.Fates.{Fates, with_submission, after_acknowledging, after_obeying}
+use Rattle.nodes.specs.Ground.{moved_by}
 use Rattle.nodes.specs.Ground as ground
 
 -- ---- the sender's queue
@@ -163,7 +165,11 @@ with_sent s f = (refilled_sent (record s { fop = f })).0
 
 pub submit_same : (s : GroundState) (m : ℕ) (octets : List ℕ) (o : Option LinkFault)
     → (unless_refused o s (after_submission s m octets)).after.fop.sent ≡ s.fop.sent
-submit_same s m octets None = (refilled_sent (record s { pending = s.pending ++ ground.segments_on s m octets })).0
+submit_same s m octets None =
+    (refilled_sent (record s {
+      pending = s.pending ++ ground.segments_on s m octets;
+      fates = with_submission (length (ground.segments_on s m octets)) s.fates;
+    })).0
 submit_same s m octets (Some fault) = refl
 
 pub tick_shorter : (s : GroundState) → length (ground.ground_tick s).after.fop.sent ≤ length s.fop.sent
@@ -175,15 +181,16 @@ pub pull_first : (s : GroundState)
 pull_first s =
     omega (arith, ap length (with_sent s (pull_step s.fop).after), put_first s.config s.fop)
 
-directed_short : (s : GroundState) (f : FopState SegmentView) (r : Result (Option Alert) CopFault)
-    → length f.sent ≤ length s.fop.sent → length (ground.after_directive s r f).fop.sent ≤ length s.fop.sent
-directed_short s f (Ok a) le = omega (arith, ap length (with_sent s f), le)
-directed_short s f (Err fault) le = omega arith
+directed_short : (s : GroundState) (d : Directive) (f : FopState SegmentView) (r : Result (Option Alert) CopFault)
+    → length f.sent ≤ length s.fop.sent → length (ground.after_directive s d r f).fop.sent ≤ length s.fop.sent
+directed_short s d f (Ok a) le =
+    omega (arith, ap length (with_sent (record s { fates = after_obeying s.fates d }) f), le)
+directed_short s d f (Err fault) le = omega arith
 
 pub directive_shorter : (s : GroundState) (d : Directive)
     → length (ground.ground_directive s d).after.fop.sent ≤ length s.fop.sent
 directive_shorter s d =
-    directed_short s (directive_step s.fop d).after (directive_step s.fop d).answer (directed_shorter s.fop d)
+    directed_short s d (directive_step s.fop d).after (directive_step s.fop d).answer (directed_shorter s.fop d)
 
 module _ (s : GroundState) (fop : IsFop s.fop) (octet : s.fop.nn < 256) where
   abbrev IsLess : GroundState → Type 0
@@ -200,8 +207,10 @@ module _ (s : GroundState) (fop : IsFop s.fop) (octet : s.fop.nn < 256) where
   heard_less = frame_seen s IsLess (record {
     same = same_less s refl;
     extracts = λ x. same_less (after_extraction s x) refl;
-    uses = λ x report. refilled_less (record (after_extraction s x) { fop = (clcw_step s.fop report).after })
-        (report_gone s.fop fop octet report);
+    uses = λ x report.
+        let f : FopState SegmentView = (clcw_step s.fop report).after in
+        let fates : Fates = after_acknowledging (moved_by f.nn s.fop.nn) s.fates in
+        refilled_less (record (after_extraction s x) { fates = fates; fop = f }) (report_gone s.fop fop octet report);
   })
 
 -- ---- nothing is sent first where nothing goes

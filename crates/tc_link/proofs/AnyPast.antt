@@ -6,7 +6,7 @@ use Rattle.tc_link.proofs.Common.{World, new_world, world_step, world_run, inl, 
 use Rattle.tc_link.proofs.Common.{SpacecraftState, SpacecraftOutcome, frame_outcome, body_outcome, sequence_outcome}
 use Rattle.tc_link.proofs.Common.{bypass_outcome, verdict_of, is_free, is_kept, limits_of, is_own_frame, with_fop}
 use Rattle.tc_link.proofs.Common.{telemetry_outcome, ap, sym, FarmState, FarmEvent, AdArrives}
-use Rattle.tc_link.proofs.Common.{farm_step, after_verdict, ◌∙◌}
+use Rattle.tc_link.proofs.Common.{farm_step, after_verdict, ◌∙◌, after_report, acknowledging}
 use Rattle.cop1.specs.declared.farm.Verdict.TheVariants.{Behind, Discarded}
 use Rattle.cop1.specs.Units.{FopState}
 use Rattle.std.specs.Prelude.{if◌then◌else◌, Option, Some, None, ◌++◌}
@@ -207,14 +207,15 @@ module _ (c : Config) (w : World) (h : Holding c w) where
   -- ---- a report, beside such telemetry
 
   used_holds : (x : ExtractorState) (packets : List (List ℕ)) (report : Clcw) → Holding c
-      (with_nodes w (with_fop (apart w.ground_node x packets) (clcw_step w.ground_node.fop report).after) w.spacecraft)
+      (with_nodes w (after_report (apart w.ground_node x packets) (clcw_step w.ground_node.fop report).after)
+      w.spacecraft)
   used_holds x packets report =
       let s : GroundState = w.ground_node in
       let k = h.sound.ground_node in
-      nodes_hold _ w.spacecraft
-      (refilled_so c (record (apart s x packets) { fop = (clcw_step s.fop report).after }) k.config
-      (report_so c s.fop k.fop report))
-      (with_fits (apart s x packets) (clcw_step s.fop report).after (heard_fits s.fop s.pending h.carried.fits report))
+      let f : FopState SegmentView = (clcw_step s.fop report).after in
+      let t : GroundState = acknowledging (apart s x packets) f in
+      nodes_hold _ w.spacecraft (refilled_so c (record t { fop = f }) k.config (report_so c s.fop k.fop report))
+      (with_fits t f (heard_fits s.fop s.pending h.carried.fits report))
       h.sound.spacecraft
 
   word_holds : (x : ExtractorState) (packets : List (List ℕ)) (r : Result Clcw ClcwFault)
@@ -249,9 +250,9 @@ module _ (c : Config) (w : World) (h : Holding c w) where
         let s : GroundState = w.ground_node in
         let f : FopState SegmentView = (clcw_step s.fop r).after in
         ap (λ (o : GroundOutcome HeardClcw). with_heard w o.after bs) alone_is
-        ∙ ap (λ (g : GroundState). with_heard w g bs) (settled_apart s f s.extractor s.telemetry)
+        ∙ ap (λ (g : GroundState). with_heard w g bs) (settled_apart (acknowledging s f) f s.extractor s.telemetry)
         ∙ sym (ap (λ (g : GroundState). with_telemetry_of w (with_heard w g bs))
-        (settled_apart s f extracted.after (s.telemetry ++ extracted.packets)))
+        (settled_apart (acknowledging s f) f extracted.after (s.telemetry ++ extracted.packets)))
         ∙ sym (ap (λ (o : GroundOutcome Heard). with_telemetry_of w (with_heard w o.after bs)) whole_is)
 
     says_as : SaysAs (Ok (Down (ground_telemetry w.ground_node b).answer)) (arriving_word w b).answer

@@ -3,8 +3,8 @@ use Rattle.tc_link.proofs.Common.{◌≡◌, ℕ, Bool, true, false, refl, ◌�
 use Rattle.tc_link.proofs.Common.{InitWithoutCheck, InitWithCheck, InitUnlock, InitSetVr, directive_step, FopState}
 use Rattle.tc_link.proofs.Common.{FopOutcome, clcw_step, retransmits, tick_step, heard_active, obeyed, begun, ticked}
 use Rattle.tc_link.proofs.Common.{GroundState, refill_step, with_fop, Result, Option, directive_outcome, TmFault}
-use Rattle.tc_link.proofs.Common.{telemetry_outcome, LinkFault, unless_refused, List, ◌++◌, after_submission}
-use Rattle.tc_link.proofs.Common.{segments_on, after_alert, Some, None}
+use Rattle.tc_link.proofs.Common.{telemetry_outcome, LinkFault, unless_refused, List, after_submission}
+use Rattle.tc_link.proofs.Common.{after_alert, Some, None, SetVs, obeying, submitting}
 use Rattle.clcw.specs.declared.fault.ClcwFault.{ClcwFault}
 use Rattle.nodes.specs.Ground.{report_outcome}
 use Rattle.simulated_link.proofs.TelemetryCases.{reported, report_seen, frame_seen}
@@ -65,25 +65,26 @@ module _ (s : GroundState) where
   pub refilled_same : (refill_step s).fop.bypass ≡ s.fop.bypass
   refilled_same = refilled_keeps (λ g. g.fop.bypass ≡ s.fop.bypass) s (λ waiting pending on off. refl)
 
+with_same : (s : GroundState) (f : FopState SegmentView) → Same s.fop f → (with_fop s f).fop.bypass ≡ s.fop.bypass
+with_same s f same = refilled_same (record s { fop = f }) ∙ same
+
 module _ (s : GroundState) where
   pub submission_same : (m : ℕ) (octets : List ℕ) (o : Option LinkFault)
       → (unless_refused o s (after_submission s m octets)).after.fop.bypass ≡ s.fop.bypass
   submission_same m octets (Some fault) = refl
-  submission_same m octets None = refilled_same (record s { pending = s.pending ++ segments_on s m octets })
-
-  with_same : (f : FopState SegmentView) → Same s.fop f → (with_fop s f).fop.bypass ≡ s.fop.bypass
-  with_same f same = refilled_same (record s { fop = f }) ∙ same
+  submission_same m octets None = refilled_same (submitting s m octets)
 
   abbrev Directed : Directive → FopOutcome SegmentView (Result (Option Alert) CopFault) → Type 0
-  Directed d o = (directive_outcome s o).after.fop.bypass ≡ s.fop.bypass
+  Directed d o = (directive_outcome s d o).after.fop.bypass ≡ s.fop.bypass
 
   pub directive_same : (d : Directive) → Directed d (directive_step s.fop d)
   directive_same = obeyed s.fop Directed (record {
     refused = λ d fault on. refl;
-    begins = λ d is off. with_same (begun s.fop d) (begun_same s.fop d);
-    terminated = with_same (after_alert s.fop) refl;
-    numbers = λ x is. with_same (record s.fop { vs = x; nn = x }) refl;
-    sets = λ d n limit ticks plain most. with_same (record s.fop { window = n; limit = limit; timer = ticks }) refl;
+    begins = λ d is off. with_same (obeying s d) (begun s.fop d) (begun_same s.fop d);
+    terminated = with_same s (after_alert s.fop) refl;
+    numbers = λ x is. with_same (obeying s (SetVs x)) (record s.fop { vs = x; nn = x }) refl;
+    sets = λ d n limit ticks plain most. with_same (obeying s d)
+        (record s.fop { window = n; limit = limit; timer = ticks }) refl;
   })
 
   pub telemetry_same : (r : Result telemetry.FrameView TmFault)
@@ -99,4 +100,4 @@ module _ (s : GroundState) where
       report_seen s (λ g. g.fop.bypass ≡ s.fop.bypass) refl (λ report. refilled_same _ ∙ report_same s.fop report)
 
   pub ticked_same : (with_fop s (tick_step s.fop).after).fop.bypass ≡ s.fop.bypass
-  ticked_same = with_same (tick_step s.fop).after (tick_same s.fop)
+  ticked_same = with_same s (tick_step s.fop).after (tick_same s.fop)

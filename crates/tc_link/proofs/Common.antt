@@ -48,6 +48,7 @@ pub use Rattle.cop1.specs.declared.farm.FarmMode.{FarmMode}
 pub use Rattle.cop1.specs.declared.farm.FarmMode.TheVariants.{Open, Wait}
 pub use Rattle.cop1.specs.declared.farm.Verdict.TheVariants.{Ahead, NoBuffer, Outside}
 pub use Rattle.cop1.specs.declared.vocabulary.Alert.TheVariants.{Limit}
+pub use Rattle.cop1.specs.declared.vocabulary.Directive.TheVariants.{SetVs}
 pub use Rattle.cop1.specs.declared.vocabulary.Control.{Control}
 pub use Rattle.cop1.specs.declared.vocabulary.Control.TheVariants.{Due, Sent}
 pub use Rattle.tm_link.specs.Arrivals.{all_extracted, state_after}
@@ -57,7 +58,8 @@ pub use Rattle.tm_link.specs.Extractor.{ExtractorState, without_idle}
 pub use Rattle.tm_link.specs.Stream.{choice}
 pub use Rattle.nodes.proofs.Submissions.{segments_fit}
 pub use Rattle.nodes.specs.Ground.{unsent_segments, bypass_fault, after_bypass, frame_of, directive_outcome}
-pub use Rattle.nodes.specs.Ground.{segments_on, ground_telemetry}
+pub use Rattle.nodes.specs.Ground.{segments_on, ground_telemetry, after_report, moved_by}
+pub use Rattle.nodes.specs.Fates.{Fates, with_submission, after_acknowledging, after_obeying}
 pub use Rattle.nodes.specs.OwnedFields.{FitsFrame}
 pub use Rattle.nodes.specs.Parameters.{IsConfig}
 pub use Rattle.nodes.specs.Spacecraft.{spacecraft_take, spacecraft_take_bypass, spacecraft_telemetry, report_octets}
@@ -82,6 +84,20 @@ pub use Rattle.simulated_link.specs.World.{run_answers}
 pub use Rattle.simulated_link.specs.declared.fault.SimFault.{SimFault}
 pub use Rattle.simulated_link.specs.declared.fault.SimFault.TheVariants.{NotDetectable}
 pub use Rattle.simulated_link.specs.declared.session_start.Opening.{Opening}
+
+-- The ground with what a directive, a submission or a report leaves of the submissions, before its sender goes on.
+
+abbrev pub obeying : GroundState → Directive → GroundState
+obeying s d = record s { fates = after_obeying s.fates d }
+
+abbrev pub submitting : GroundState → ℕ → List ℕ → GroundState
+submitting s m octets = record s {
+  pending = s.pending ++ segments_on s m octets;
+  fates = with_submission (length (segments_on s m octets)) s.fates;
+}
+
+abbrev pub acknowledging : GroundState → FopState SegmentView → GroundState
+acknowledging s f = record s { fates = after_acknowledging (moved_by f.nn s.fop.nn) s.fates }
 
 -- In S6 the sender is closed, and in no other state.
 

@@ -7,7 +7,8 @@ use Rattle.tc_link.proofs.Common.{refill_step, with_fop, unless_refused, submit_
 use Rattle.tc_link.proofs.Common.{bypass_fault, after_bypass, frame_to_send, after_extraction}
 use Rattle.tc_link.proofs.Common.{telemetry_outcome, frame_outcome, body_outcome, sequence_outcome, bypass_outcome}
 use Rattle.tc_link.proofs.Common.{is_free, is_own_frame, verdict_of, directive_step, pull_step, tick_step, clcw_step}
-use Rattle.tc_link.proofs.Common.{extract_step, Extracted, TmFault, AdArrives, segments_on, is_open}
+use Rattle.tc_link.proofs.Common.{extract_step, Extracted, TmFault, AdArrives, is_open}
+use Rattle.tc_link.proofs.Common.{Directive, InitUnlock, SetVs, ahead_by, obeying, submitting, acknowledging}
 use Rattle.std.specs.Prelude.{◌++◌}
 use Rattle.clcw.specs.Decoding.{clcw_at}
 use Rattle.tc_frame.specs.Decoding as command
@@ -25,12 +26,15 @@ use Rattle.nodes.specs.declared.received.Received.TheVariants.{Sequence}
 use Rattle.nodes.specs.Ground.{GroundEvent, Submit, Bypass, Direct, Pull, Tick, Telemetry, ControlWord, TakeTelemetry}
 use Rattle.nodes.specs.Ground.{ForgetTelemetry, ground_step, after_moving_up, after_directive, report_outcome}
 use Rattle.nodes.specs.Ground.{ground_take_telemetry, is_own_telemetry, beside_packets}
+use Rattle.nodes.specs.Ground.{Resume, can_resume, after_resuming, ground_directive}
 use Rattle.nodes.specs.Packets.{PacketOn, put_on_map}
 use Rattle.nodes.specs.Spacecraft.{SpacecraftEvent, Receive, Take, TakeBypass, Report, spacecraft_step, after_farm}
 use Rattle.nodes.specs.Spacecraft.{Telemetry as Queue, is_accepted, assemble_step, spacecraft_take}
 use Rattle.nodes.specs.Spacecraft.{spacecraft_take_bypass}
 use Rattle.tc_link.specs.Configured.{AreAlike, made_of, ground_with, ground_outcome_with, spacecraft_with}
 use Rattle.tc_link.specs.Configured.{spacecraft_outcome_with, IsSpacecraftAs, AlikeIsAsOne}
+use Rattle.nodes.specs.Fates.{whole_with}
+use Rattle.tc_link.proofs.Refilled.{refilled_keeps}
 
 -- what is so in both branches
 either : {A B : Type 0} (f : A → B) (t : Bool) {x y : A} {u v : B} → u ≡ f x → v ≡ f y
@@ -65,10 +69,30 @@ module _ (g : Config) (ready bypass : ℕ) where
       ap (λ (after : GroundState). record { answer = Ok tt; after = after }) same
   unless_as s next other (Some fault) same = refl
 
-  directed_as : (s : GroundState) (answer : Result (Option Alert) CopFault) (f : FopState SegmentView)
-      → after_directive (ground_with g s) answer f ≡ ground_with g (after_directive (ground_with c s) answer f)
-  directed_as s (Ok alert) f = settled_as s f
-  directed_as s (Err fault) f = refl
+  directed_as : (s : GroundState) (d : Directive) (answer : Result (Option Alert) CopFault) (f : FopState SegmentView)
+      → after_directive (ground_with g s) d answer f ≡ ground_with g (after_directive (ground_with c s) d answer f)
+  directed_as s d (Ok alert) f = settled_as (obeying s d) f
+  directed_as s d (Err fault) f = refl
+
+  directed_own : (s : GroundState) (d : Directive) (answer : Result (Option Alert) CopFault) (f : FopState SegmentView)
+      → ground_with c (after_directive (ground_with c s) d answer f) ≡ after_directive (ground_with c s) d answer f
+  directed_own s d (Ok alert) f =
+      refilled_keeps (λ (t : GroundState). ground_with c t ≡ t) (record (obeying (ground_with c s) d) { fop = f })
+      (λ waiting pending on off. refl)
+  directed_own s d (Err fault) f = refl
+
+  -- it is set, and begins
+  resumed_as : (s : GroundState) (value : ℕ)
+      → after_resuming (ground_with g s) value ≡ ground_with g (after_resuming (ground_with c s) value)
+  resumed_as s value =
+      let d : Directive = SetVs value in
+      let o = directive_step s.fop d in
+      let t : GroundState = after_directive (ground_with c s) d o.answer o.after in
+      let p = directive_step t.fop InitUnlock in
+      ap (λ (x : GroundState). (ground_directive x InitUnlock).after) (directed_as s d o.answer o.after)
+      ∙ directed_as t InitUnlock p.answer p.after
+      ∙ ap (λ (x : GroundState). ground_with g (ground_directive x InitUnlock).after)
+      (directed_own s d o.answer o.after)
 
   sends_as : (pulled : PulledUnit SegmentView) → frame_to_send g pulled ≡ frame_to_send c pulled
   sends_as NothingPulled = refl
@@ -83,7 +107,7 @@ module _ (g : Config) (ready bypass : ℕ) where
       either (ground_outcome_with g) (report.vcid == g.vcid)
       (ap (λ (after : GroundState).
       record { answer = record { report = Used; alert = (clcw_step s.fop report).answer }; after = after })
-      (settled_as s (clcw_step s.fop report).after))
+      (settled_as (acknowledging s (clcw_step s.fop report).after) (clcw_step s.fop report).after))
       refl
 
   framed_as : (s : GroundState) (r : Result telemetry.FrameView TmFault)
@@ -104,13 +128,18 @@ module _ (g : Config) (ready bypass : ℕ) where
       → ground_step (ground_with g s) event ≡ ground_outcome_with g (ground_step (ground_with c s) event)
   ground_as s (Submit m octets) =
       unless_as s _ _ (submit_fault (ground_with g s) m octets)
-      (refilled_as (record s { pending = s.pending ++ segments_on (ground_with g s) m octets }))
+      (refilled_as (submitting (ground_with g s) m octets))
   ground_as s (Bypass m octets) =
       unless_as s _ (after_bypass (ground_with c s) m octets) (bypass_fault (ground_with g s) m octets) refl
   ground_as s (Direct directive) =
       let answer = (directive_step s.fop directive).answer in
       ap (λ (after : GroundState). record { answer = answer; after = after })
-      (directed_as s answer (directive_step s.fop directive).after)
+      (directed_as s directive answer (directive_step s.fop directive).after)
+  ground_as s (Resume value) =
+      either (ground_outcome_with g) (can_resume s value)
+      (ap (λ (after : GroundState).
+      record { answer = Ok (whole_with (ahead_by value s.fop.nn) s.fates); after = after }) (resumed_as s value))
+      refl
   ground_as s Pull =
       ap (λ (frame : Option FrameView). record
       { answer = frame; after = with_fop (ground_with g s) (pull_step s.fop).after })

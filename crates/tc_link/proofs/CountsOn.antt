@@ -8,7 +8,7 @@ use Rattle.simulated_link.specs.World.{Session}
 use Rattle.tc_link.proofs.AnyPast.{past_holds}
 use Rattle.tc_link.specs.CountsOn.{SetsNone, CountsFrom, KeepsWhatIsKnown}
 use Rattle.tc_link.specs.Known.{MovesWithRecords}
-use Rattle.tc_link.proofs.Common.{closed_is}
+use Rattle.tc_link.proofs.Common.{closed_is, obeying}
 use Rattle.tc_link.proofs.InOrder.{has_plain_history}
 use Rattle.tc_link.proofs.Invariant.{Holding, begun_is, idle_goes, step_holds}
 use Rattle.tc_link.proofs.Known.{with_same, octet, moves_with_records}
@@ -25,7 +25,7 @@ begun_equal f _ is = absurd cc
 module _ (w : World) where
   abbrev StartsEqual : Directive → FopOutcome SegmentView (Result (Option Alert) CopFault) → Type 0
   StartsEqual d o = is_initiation d ≡ true → is_closed w.ground_node.fop.state ≡ true
-      → (directive_outcome w.ground_node o).after.fop.nn ≡ (directive_outcome w.ground_node o).after.fop.vs
+      → (directive_outcome w.ground_node d o).after.fop.nn ≡ (directive_outcome w.ground_node d o).after.fop.vs
 
   starts_equal : (d : Directive) → StartsEqual d (directive_step w.ground_node.fop d)
   starts_equal =
@@ -33,7 +33,7 @@ module _ (w : World) where
       obeyed s StartsEqual (record {
         refused = λ d fault on is off. absurd (on is (closed_is s.state off));
         begins = λ d is off so closed.
-            let same = with_same w.ground_node (begun s d) in same.1 ∙ begun_equal s d is ∙ sym same.0;
+            let same = with_same (obeying w.ground_node d) (begun s d) in same.1 ∙ begun_equal s d is ∙ sym same.0;
         terminated = λ is off. absurd cc;
         numbers = λ x same is off. absurd cc;
         sets = λ d k n ticks plain most is off. absurd (cc (plain, is));

@@ -28,7 +28,8 @@ module _ (early : Bool) (c : Config) (d : Directive) (base : ℕ) (w : World) (g
       → f.control ≡ w.ground_node.fop.control
       → Next early c d base g.plain (record w { ground_node = with_fop w.ground_node f })
   same f vs nn state sent waiting control =
-      same_keeps early c d base w g f vs nn state (ap units_of sent) waiting (λ fits. rw control fits)
+      same_keeps early c d base w g w.ground_node.fates f vs nn state (ap units_of sent) waiting
+      (λ fits. rw control fits)
 
   pub ticks : Leaves (tick_step w.ground_node.fop)
   ticks =
@@ -37,19 +38,20 @@ module _ (early : Bool) (c : Config) (d : Directive) (base : ℕ) (w : World) (g
         off = same s refl refl refl refl refl refl;
         runs = λ left. same (record s { ticks = Some left }) refl refl refl refl refl refl;
         stops = same (after_stop s) refl refl refl refl refl refl;
-        repeats = λ active. same_keeps early c d base w g (after_repeat (after_stop s)) refl refl refl
-            (units-marked s.sent) refl (λ fits. fits);
+        repeats = λ active. same_keeps early c d base w g w.ground_node.fates (after_repeat (after_stop s)) refl refl
+            refl (units-marked s.sent) refl (λ fits. fits);
         counts = same (after_count (after_stop s)) refl refl refl refl refl refl;
-        commands = λ is. same_keeps early c d base w g
+        commands = λ is. same_keeps early c d base w g w.ground_node.fates
             (record (after_count (after_stop s)) { control = due_again s.control }) refl refl refl refl refl
             (due_fits d base s.control);
-        gives_up = off_keeps early c d base w g (after_alert (after_stop s)) refl g.linked.nn_octet (λ fits. tt) kept;
+        gives_up = off_keeps early c d base w g w.ground_node.fates
+            (after_alert (after_stop s)) refl g.linked.nn_octet (λ fits. tt) kept;
       })
 
   -- a directive that begins no session
   abbrev Keeps : Directive → FopOutcome SegmentView (Result (Option Alert) CopFault) → Type 0
   Keeps e o = IsDirective e → (is_initiation e ≡ true → is_closed w.ground_node.fop.state ≡ false)
-      → Next early c d base g.plain (world_after_directive w e (directive_outcome w.ground_node o)).after
+      → Next early c d base g.plain (world_after_directive w e (directive_outcome w.ground_node e o)).after
 
   pub directs : (e : Directive) → Keeps e (directive_step w.ground_node.fop e)
   directs =
@@ -57,9 +59,11 @@ module _ (early : Bool) (c : Config) (d : Directive) (base : ℕ) (w : World) (g
       obeyed s Keeps (record {
         refused = λ e fault on fits goes. stays g;
         begins = λ e is off fits goes. absurd (closed_not s.state off (goes is));
-        terminated = λ fits goes. off_keeps early c d base w g (after_alert s) refl g.linked.nn_octet (λ fits. tt) kept;
-        numbers = λ x is fits goes. off_keeps early c d base w g (record s { vs = x; nn = x }) is fits (λ so. so)
-            (inr refl);
+        terminated = λ fits goes. off_keeps early c d base w g w.ground_node.fates
+            (after_alert s) refl g.linked.nn_octet (λ fits. tt) kept;
+        numbers = λ x is fits goes. off_keeps early c d base w g _ (record s { vs = x; nn = x }) is fits
+            (λ so. so) (inr refl);
         sets = λ e k n ticks plain most fits goes. rw plain
-            (same (record s { window = k; limit = n; timer = ticks }) refl refl refl refl refl refl);
+            (same_keeps early c d base w g _ (record s { window = k; limit = n; timer = ticks }) refl refl refl refl
+            refl (λ fits. fits));
       })

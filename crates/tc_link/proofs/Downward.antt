@@ -3,9 +3,9 @@ use Rattle.tc_link.proofs.Common.{◌≡◌, ℕ, ◌+◌, ◌*◌, ◌/◌, ◌
 use Rattle.tc_link.proofs.Common.{◌++◌, length, option_to_list, Ok, refl, ap, sym, subst, ◌∙◌, arith, length-append}
 use Rattle.tc_link.proofs.Common.{◌||◌, eq-eqb, Clcw, SegmentView, ahead_by, Directive, InitWithCheck, asks, clcw_step}
 use Rattle.tc_link.proofs.Common.{FopState, report_of, Extracted, extract_step, Config, Heard, spacecraft_step, Report}
-use Rattle.tc_link.proofs.Common.{GroundState, GroundOutcome, is_closed, with_fop, after_extraction, ground_telemetry}
+use Rattle.tc_link.proofs.Common.{GroundState, GroundOutcome, is_closed, after_report, after_extraction}
 use Rattle.tc_link.proofs.Common.{telemetry_outcome, own_frame_outcome, IsChecked, World, is_confirmation}
-use Rattle.tc_link.proofs.Common.{AtMostOneStep, Rises}
+use Rattle.tc_link.proofs.Common.{AtMostOneStep, Rises, acknowledging, ground_telemetry}
 use Rattle.nodes.specs.declared.heard.Heard.TheVariants.{Frame}
 use Rattle.nodes.specs.declared.heard.HeardReport.TheVariants.{Used}
 use Rattle.simulated_link.specs.World.{session_after_report, world_after_report}
@@ -31,7 +31,7 @@ use Rattle.tc_link.proofs.Sound.{Sound}
 abbrev pub used : GroundState → Extracted → Clcw → GroundOutcome Heard
 used s x report = record {
   answer = Frame x.gap (length x.packets) Used (clcw_step s.fop report).answer;
-  after = with_fop (after_extraction s x) (clcw_step s.fop report).after;
+  after = after_report (after_extraction s x) (clcw_step s.fop report).after;
 }
 
 pub used_is : (c : Config) (s : GroundState) (octets : List ℕ) (report : Clcw) → s.config ≡ c
@@ -48,7 +48,7 @@ used_is c s octets report is t =
 abbrev pub used_word : GroundState → Clcw → GroundOutcome HeardClcw
 used_word s report = record {
   answer = record { report = Used; alert = (clcw_step s.fop report).answer };
-  after = with_fop s (clcw_step s.fop report).after;
+  after = after_report s (clcw_step s.fop report).after;
 }
 
 pub word_is : (c : Config) (s : GroundState) (octets : List ℕ) (report : Clcw) → s.config ≡ c
@@ -81,10 +81,10 @@ pub heard_keeps : (early to : Bool) (c : Config) (d : Directive) (base : ℕ) (w
     → Moves base w.ground_node.fop g.plain.a v gone f
     → Stage to d base f.state f.control w.spacecraft.farm
     (w.session.confirmed || is_confirmation w.ground_node.fop.state f.state) g.front rs (g.plain.a + gone) g.plain.r
-    g.plain.n vs → Next to c d base g.plain (with_heard w (with_fop (after_extraction w.ground_node x) f) bs)
+    g.plain.n vs → Next to c d base g.plain (with_heard w (after_report (after_extraction w.ground_node x) f) bs)
 heard_keeps early to c d base w g x bs rs v vs f gone also rest count up moves stage =
     refilled_keeps (λ t. Next to c d base g.plain (with_heard w t bs))
-    (record (after_extraction w.ground_node x) { fop = f }) (λ waiting pending on off.
+    (record (acknowledging (after_extraction w.ground_node x) f) { fop = f }) (λ waiting pending on off.
     let p = g.plain in
     let l = g.linked in
     let a : ℕ = p.a + gone in

@@ -3,8 +3,9 @@ use Rattle.tc_link.proofs.Common.{◌≡◌, ℕ, ◌+◌, ◌*◌, ◌⊎◌, i
 use Rattle.tc_link.proofs.Common.{Option, None, option_to_list, refl, ap, sym, subst, ◌∙◌, arith, ◌||◌, Clcw}
 use Rattle.tc_link.proofs.Common.{SegmentView, Alert, Idle, Directive, InitWithCheck, FopMode, S1, S4, S5, S6}
 use Rattle.tc_link.proofs.Common.{clcw_step, FopState, FopOutcome, units_of, after_alert, alerts, goes_on, Extracted}
-use Rattle.tc_link.proofs.Common.{extract_step, Config, Heard, GroundOutcome, is_closed, with_fop, after_extraction}
+use Rattle.tc_link.proofs.Common.{extract_step, Config, Heard, GroundOutcome, is_closed, after_report, after_extraction}
 use Rattle.tc_link.proofs.Common.{World, is_confirmation, is_initialising, down_deliver_step, Rises, PlainLink}
+use Rattle.tc_link.proofs.Common.{acknowledging}
 use Rattle.tc_link.proofs.Early.{WouldConfirm, Good, Lasts, IsEarly, ControlFits, AllSame, early_off, last_good}
 use Rattle.tc_link.proofs.Early.{good_down, good_ranks}
 use Rattle.tc_link.proofs.Downward.{used_is, with_heard, Moves, heard_keeps}
@@ -42,8 +43,8 @@ module _ (c : Config) (d : Directive) (base : ℕ) (w : World) (k : Sound c w) (
       (is : g.reports ≡ r ∷ rs) (also : g.plain.down ≡ v ∷ vs) (rest : Reporting c bs rs)
       (count : length rs ≡ length vs) (up : Rises g.plain.a (v ∷ vs) g.plain.r) where
     abbrev Hears : FopOutcome SegmentView (Option Alert) → Type 0
-    Hears o = Next true c d base g.plain (with_heard w (with_fop (after_extraction w.ground_node x) o.after) bs)
-        ⊎ Confirmed c d base g.plain (with_heard w (with_fop (after_extraction w.ground_node x) o.after) bs)
+    Hears o = Next true c d base g.plain (with_heard w (after_report (after_extraction w.ground_node x) o.after) bs)
+        ⊎ Confirmed c d base g.plain (with_heard w (after_report (after_extraction w.ground_node x) o.after) bs)
 
     lasts : Lasts base (r ∷ rs) (WouldConfirm base w.spacecraft.farm)
     lasts = rw is at g.stage.lasts
@@ -70,7 +71,7 @@ module _ (c : Config) (d : Directive) (base : ℕ) (w : World) (k : Sound c w) (
     -- the session is not confirmed
     stays_early : (f : FopState SegmentView) → IsEarly d f.state → ControlFits d base f.control
         → Moves base w.ground_node.fop g.plain.a v 0 f
-        → Next true c d base g.plain (with_heard w (with_fop (after_extraction w.ground_node x) f) bs)
+        → Next true c d base g.plain (with_heard w (after_report (after_extraction w.ground_node x) f) bs)
     stays_early f early command_is to =
         heard_keeps true true c d base w g x bs rs v vs f 0 also rest count up to (record {
           checked = g.stage.checked;
@@ -132,7 +133,7 @@ module _ (c : Config) (d : Directive) (base : ℕ) (w : World) (k : Sound c w) (
         inr (record {
           late = heard_keeps true false c d base w g x bs rs v vs f 0 also rest count up to stage;
           exact = refilled_keeps (λ t. (farm.vr ≡ t.fop.vs) × (t.fop.nn ≡ t.fop.vs))
-              (record (after_extraction w.ground_node x) { fop = f })
+              (record (acknowledging (after_extraction w.ground_node x) f) { fop = f })
               (λ wait pending so off. (
                 last.3 ∙ sym (vs_of on) ∙ sym vs_is,
                 omega (arith, nn_is, vs_is, was.nn_is, a_none, vs_of on, g.linked.base_octet),

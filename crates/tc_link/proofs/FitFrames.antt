@@ -11,7 +11,7 @@ use Rattle.tc_link.proofs.Common.{ticked, TmFault, Extracted, Config, LinkFault,
 use Rattle.tc_link.proofs.Common.{is_closed, unsent_segments, refill_step, with_fop, directive_outcome, submit_fault}
 use Rattle.tc_link.proofs.Common.{after_submission, after_bypass, unless_refused, segments_on, after_extraction}
 use Rattle.tc_link.proofs.Common.{telemetry_outcome, segments_fit}
-use Rattle.tc_link.proofs.Common.{closed_not, active_on}
+use Rattle.tc_link.proofs.Common.{closed_not, active_on, SetVs, obeying, submitting, acknowledging}
 use Rattle.tc_link.proofs.Submissions.{taken_is, all_append}
 use Rattle.tc_link.proofs.Lists.{units-marked, units-drop, units-push, units-without}
 use Rattle.simulated_link.proofs.TelemetryCases.{reported, frame_seen}
@@ -147,18 +147,18 @@ module _ (c : Config) (s : GroundState) (g : GroundNodeSteady c s) (k : GroundFi
   begun_fits _ is none = absurd cc
 
   abbrev Directed : Directive → FopOutcome SegmentView (Result (Option Alert) CopFault) → Type 0
-  Directed d o = GroundFits (directive_outcome s o).after
+  Directed d o = GroundFits (directive_outcome s d o).after
 
   pub directive_fits : (d : Directive) → Directed d (directive_step s.fop d)
   directive_fits = obeyed s.fop Directed (record {
     refused = λ d fault on. k;
-    begins = λ d is off. with_fits s (begun s.fop d) (begun_fits d is (g.pending_none (rw off refl)));
+    begins = λ d is off. with_fits (obeying s d) (begun s.fop d) (begun_fits d is (g.pending_none (rw off refl)));
     terminated = with_fits s (after_alert s.fop) (off s.fop s.pending k (after_alert s.fop) refl);
-    numbers = λ x is. with_fits s (record s.fop { vs = x; nn = x })
+    numbers = λ x is. with_fits (obeying s (SetVs x)) (record s.fop { vs = x; nn = x })
         (as_was s.fop s.pending k (record s.fop { vs = x; nn = x }) refl refl refl);
     sets = λ d n limit ticks plain most.
         let f : FopState SegmentView = record s.fop { window = n; limit = limit; timer = ticks } in
-        with_fits s f (as_was s.fop s.pending k f refl refl refl);
+        with_fits (obeying s d) f (as_was s.fop s.pending k f refl refl refl);
   })
 
   pub tick_refilled : GroundFits (with_fop s (tick_step s.fop).after)
@@ -177,7 +177,7 @@ module _ (c : Config) (s : GroundState) (g : GroundNodeSteady c s) (k : GroundFi
       let cut : segments_on s m octets ≡ segments_of c.part m octets =
       ap (λ x. segments_of x.part m octets) g.config in
       let added : All (segments_on s m octets) = subst All (sym cut) new in
-      refilled_fits (record s { pending = s.pending ++ segments_on s m octets }) (record {
+      refilled_fits (submitting s m octets) (record {
         sent = k.sent;
         unsent = λ running. subst All (append_assoc (option_to_list s.fop.waiting) s.pending (segments_on s m octets))
             (all_append FitsFrame (unsent_segments s) (segments_on s m octets) (k.unsent running) added);
@@ -195,6 +195,7 @@ module _ (c : Config) (s : GroundState) (g : GroundNodeSteady c s) (k : GroundFi
   telemetry_fits = frame_seen s GroundFits (record {
     same = k;
     extracts = extracted;
-    uses = λ x report. with_fits (after_extraction s x) (clcw_step s.fop report).after
-        (heard_fits s.fop s.pending k report);
+    uses = λ x report.
+        let f : FopState SegmentView = (clcw_step s.fop report).after in
+        with_fits (acknowledging (after_extraction s x) f) f (heard_fits s.fop s.pending k report);
   })

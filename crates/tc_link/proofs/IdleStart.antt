@@ -10,7 +10,7 @@ use Rattle.cop1.specs.FopDirective.{obeys}
 use Rattle.simulated_link.specs.World.{is_idle}
 use Rattle.tc_link.proofs.Linked.{Carries, Held, Stage, In, Begun, Late}
 use Rattle.tc_link.proofs.Refilled.{session_refilled}
-use Rattle.tc_link.proofs.Common.{closed_is}
+use Rattle.tc_link.proofs.Common.{closed_is, obeying}
 use Rattle.tc_link.proofs.Early.{IsEarly, ControlFits, zeros, zeros_plain, zeros_run, zeros_rise, zeros_count}
 use Rattle.tc_link.proofs.Idle.{AllSay, idle_parts, all_last, all_same, all_zeros}
 use Rattle.tc_link.proofs.ReportsDown.{HasReports}
@@ -23,7 +23,10 @@ pub record InSession (c : Config) (w : World) : Type 0 where
 
 module _ (c : Config) (w : World) (k : Sound c w) (t : HasReports c w.down) where
   abbrev begun_with : Directive → FopState SegmentView → World
-  begun_with d f = record w { ground_node = record w.ground_node { fop = f }; session = session_begun_by w d }
+  begun_with d f = record w {
+    ground_node = record (obeying w.ground_node d) { fop = f };
+    session = session_begun_by w d;
+  }
 
   parts : is_idle w ≡ true → (w.up ≡ []) × AllSay (report_now w) t.reports
   parts h = idle_parts c w t k.ground_node.config h
@@ -42,7 +45,7 @@ module _ (c : Config) (w : World) (k : Sound c w) (t : HasReports c w.down) wher
     session_from : (early front : Bool) (d : Directive) (base : ℕ) (f : FopState SegmentView) → base < 256
         → is_idle w ≡ true → f.vs ≡ base → f.nn ≡ base → f.sent ≡ [] → f.waiting ≡ None → is_closed f.state ≡ false
         → Stage early d base f.state f.control w.spacecraft.farm false front t.reports 0 0 0 (zeros t.reports)
-        → In early c d base (record (begun_with d f) { ground_node = refill_step (record w.ground_node { fop = f }) })
+        → In early c d base (record (begun_with d f) { ground_node = refill_step (begun_with d f).ground_node })
     session_from early front d base f octet start vs nn sent waiting on stage =
         let rest : option_to_list f.waiting ++ w.ground_node.pending ≡ [] = rw waiting pending in
         let held : Held (is_closed f.state) base f.vs f.nn f.sent (option_to_list f.waiting ++ w.ground_node.pending)
@@ -80,7 +83,7 @@ module _ (c : Config) (w : World) (k : Sound c w) (t : HasReports c w.down) wher
     checked_begins : (d : Directive) (base : ℕ) (f : FopState SegmentView) → base < 256 → IsChecked d
         → is_idle w ≡ true → IsEarly d f.state → is_closed f.state ≡ false → f.vs ≡ base
         → f.nn ≡ base → f.sent ≡ [] → f.waiting ≡ None → ControlFits d base f.control
-        → InSession c (record (begun_with d f) { ground_node = refill_step (record w.ground_node { fop = f }) })
+        → InSession c (record (begun_with d f) { ground_node = refill_step (begun_with d f).ground_node })
     checked_begins d base f octet checked start early on vs nn sent waiting control = record {
       directive = d;
       base = base;
@@ -92,7 +95,7 @@ module _ (c : Config) (w : World) (k : Sound c w) (t : HasReports c w.down) wher
 
     begun_idle : (d : Directive) → is_initiation d ≡ true → IsDirective d → begins_idle w d ≡ true
         → InSession c (world_after_directive w d
-        (directive_outcome w.ground_node (obeys (begun w.ground_node.fop d)))).after
+        (directive_outcome w.ground_node d (obeys (begun w.ground_node.fop d)))).after
     begun_idle InitWithoutCheck is fits start =
         let f : FopState SegmentView = begun w.ground_node.fop InitWithoutCheck in
         let both = and_parts (w.spacecraft.farm.vr == f.vs) (is_idle w) start in
@@ -125,7 +128,7 @@ module _ (c : Config) (w : World) (k : Sound c w) (t : HasReports c w.down) wher
 
   abbrev Begins : Directive → FopOutcome SegmentView (Result (Option Alert) CopFault) → Type 0
   Begins d o = is_initiation d ≡ true → IsDirective d → is_closed w.ground_node.fop.state ≡ true
-      → begins_idle w d ≡ true → InSession c (world_after_directive w d (directive_outcome w.ground_node o)).after
+      → begins_idle w d ≡ true → InSession c (world_after_directive w d (directive_outcome w.ground_node d o)).after
 
   -- only in S6 does an initiation begin a session
   pub begins : (d : Directive) → Begins d (directive_step w.ground_node.fop d)

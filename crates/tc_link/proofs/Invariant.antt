@@ -47,7 +47,7 @@ module _ (w : World) where
 
   abbrev Opened : Directive → FopOutcome SegmentView (Result (Option Alert) CopFault) → Type 0
   Opened d o = (is_initiation d ≡ true → is_closed w.ground_node.fop.state ≡ false)
-      → opened (session_after_directive w d (directive_outcome w.ground_node o).answer) ≡ opened w.session
+      → opened (session_after_directive w d (directive_outcome w.ground_node d o).answer) ≡ opened w.session
 
   opened_directive : (d : Directive) → Opened d (directive_step w.ground_node.fop d)
   opened_directive = obeyed w.ground_node.fop Opened (record {
@@ -79,7 +79,7 @@ module _ (w : World) where
 
   abbrev Begins : Directive → FopOutcome SegmentView (Result (Option Alert) CopFault) → Type 0
   Begins d o = is_initiation d ≡ true → is_closed w.ground_node.fop.state ≡ true
-      → session_after_directive w d (directive_outcome w.ground_node o).answer ≡ session_begun_by w d
+      → session_after_directive w d (directive_outcome w.ground_node d o).answer ≡ session_begun_by w d
 
   pub begun_is : (d : Directive) → Begins d (directive_step w.ground_node.fop d)
   begun_is = obeyed w.ground_node.fop Begins (record {

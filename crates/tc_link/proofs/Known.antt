@@ -6,7 +6,7 @@ use Rattle.tc_link.proofs.Common.{directive_step, PulledUnit, pull_step, clcw_st
 use Rattle.tc_link.proofs.Common.{after_alert, after_repeat, after_stop, after_count, due_again, retransmits}
 use Rattle.tc_link.proofs.Common.{after_new_value, after_restart, obeyed, pulled_out, ticked, heard_active}
 use Rattle.tc_link.proofs.Common.{without_oldest_mark, TmFault, Config, LinkFault, GroundState, with_fop}
-use Rattle.tc_link.proofs.Common.{directive_outcome, frame_to_send, segments_on, submit_fault, after_submission}
+use Rattle.tc_link.proofs.Common.{directive_outcome, frame_to_send, submit_fault, after_submission}
 use Rattle.tc_link.proofs.Common.{bypass_fault, after_bypass, unless_refused, after_extraction, telemetry_outcome}
 use Rattle.tc_link.proofs.Common.{Event, World, world_step, world_after_pull, world_after_directive, BeginsNoSession}
 use Rattle.tc_link.proofs.Common.{IsIdle, IsEvent}
@@ -14,7 +14,7 @@ use Rattle.cop1.specs.FopPull.{after_send_first}
 use Rattle.simulated_link.specs.World.{first_sent}
 use Rattle.tc_link.specs.Known.{SetsNoNumber, MovesWithRecords}
 use Rattle.tc_link.proofs.IdleStart.{InSession}
-use Rattle.tc_link.proofs.Common.{closed_not}
+use Rattle.tc_link.proofs.Common.{closed_not, Fates, submitting, acknowledging}
 use Rattle.tc_link.proofs.Invariant.{Holding, idle_goes, step_holds}
 use Rattle.tc_link.proofs.Linked.{In}
 use Rattle.tc_link.proofs.Pulled.{not_next}
@@ -39,7 +39,7 @@ submitted_same : (s : GroundState) (m : ℕ) (octets : List ℕ) (o : Option Lin
     → Same s.fop (unless_refused o s (after_submission s m octets)).after.fop
 submitted_same s m octets (Some fault) = (refl, refl)
 submitted_same s m octets None =
-    refilled_keeps (λ t. Same s.fop t.fop) (record s { pending = s.pending ++ segments_on s m octets })
+    refilled_keeps (λ t. Same s.fop t.fop) (submitting s m octets)
     (λ waiting pending on closed. (refl, refl))
 
 bypassed_same : (s : GroundState) (m : ℕ) (octets : List ℕ) (o : Option LinkFault)
@@ -84,7 +84,9 @@ telemetry_same : (s : GroundState) (r : Result telemetry.FrameView TmFault)
 telemetry_same s = frame_seen s (λ t. t.fop.vs ≡ s.fop.vs) (record {
   same = refl;
   extracts = λ x. refl;
-  uses = λ x report. (with_same (after_extraction s x) (clcw_step s.fop report).after).0 ∙ heard_same s.fop report;
+  uses = λ x report.
+      let f : FopState SegmentView = (clcw_step s.fop report).after in
+      (with_same (acknowledging (after_extraction s x) f) f).0 ∙ heard_same s.fop report;
 })
 
 -- ---- one event
@@ -103,9 +105,16 @@ module _ (w : World) where
       let t = with_same w.ground_node f in
       moves (record w { ground_node = with_fop w.ground_node f }) (t.0 ∙ same.0, t.1 ∙ same.1) refl refl
 
+  counted_so : (fates : Fates) (f : FopState SegmentView) → Same w.ground_node.fop f
+      → MovesWithRecords w (record w { ground_node = with_fop (record w.ground_node { fates = fates }) f })
+  counted_so fates f same =
+      let s : GroundState = record w.ground_node { fates = fates } in
+      let t = with_same s f in
+      moves (record w { ground_node = with_fop s f }) (t.0 ∙ same.0, t.1 ∙ same.1) refl refl
+
   abbrev Directed : Directive → FopOutcome SegmentView (Result (Option Alert) CopFault) → Type 0
   Directed d o = BeginsNoSession w (events.Directive d) → SetsNoNumber w (events.Directive d)
-      → MovesWithRecords w (world_after_directive w d (directive_outcome w.ground_node o)).after
+      → MovesWithRecords w (world_after_directive w d (directive_outcome w.ground_node d o)).after
 
   directive_so : (d : Directive) → Directed d (directive_step w.ground_node.fop d)
   directive_so =
@@ -116,7 +125,7 @@ module _ (w : World) where
         terminated = λ goes quiet. with_so (after_alert s) (alert_same s);
         numbers = λ x is goes quiet. closed_not s.state is (quiet x refl);
         sets = λ d k n ticks plain most goes quiet. rw plain
-            (with_so (record s { window = k; limit = n; timer = ticks }) (refl, refl));
+            (counted_so _ (record s { window = k; limit = n; timer = ticks }) (refl, refl));
       })
 
   tick_so : MovesWithRecords w (record w { ground_node = with_fop w.ground_node (tick_step w.ground_node.fop).after })

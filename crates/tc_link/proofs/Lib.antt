@@ -13,6 +13,7 @@ pub mod Directives
 pub mod Early
 pub mod EarlyTelemetry
 pub mod Eased
+pub mod Fates
 pub mod FitFrames
 pub mod Downward
 pub mod Idle
@@ -42,6 +43,7 @@ pub mod Pulled
 pub mod Reports
 pub mod ReportsDown
 pub mod Repeated
+pub mod RepeatedCounts
 pub mod Refilled
 pub mod Silence
 pub mod Sound
@@ -64,3 +66,6 @@ pub mod ProgressNodes
 pub mod Common
 pub mod Lists
 pub mod ReportFrames
+pub mod Resumed
+pub mod Whole
+pub mod WholeLists

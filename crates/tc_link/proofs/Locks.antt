@@ -129,7 +129,7 @@ module _ (c : Config) (d : Directive) (base : ℕ) (w : World) (k : Sound c w) w
       × ((world_step w e).after.ground_node.fop.nn ≡ (world_step w e).after.ground_node.fop.vs)
   exactly g (events.Directive e) not_yet now =
       absurd (cc (
-        confirmed_by e (directive_outcome w.ground_node (directive_step w.ground_node.fop e)).answer not_yet,
+        confirmed_by e (directive_outcome w.ground_node e (directive_step w.ground_node.fop e)).answer not_yet,
         now,
       ))
   exactly g events.Send not_yet now =

@@ -6,7 +6,7 @@ use Rattle.tc_link.proofs.Common.{FopMode, S6, directive_step, PulledUnit, pull_
 use Rattle.tc_link.proofs.Common.{FopOutcome, IsActive, tick_step, after_count, due_again, after_alert, after_repeat}
 use Rattle.tc_link.proofs.Common.{after_restart, after_stop, obeyed, pulled_out, ticked, is_to_send, TmFault, Config}
 use Rattle.tc_link.proofs.Common.{LinkFault, is_kept, FitsFrame, PacketOn, IsConfig, limits_of, GroundState, with_fop}
-use Rattle.tc_link.proofs.Common.{directive_outcome, frame_of, frame_to_send, segments_on, submit_fault}
+use Rattle.tc_link.proofs.Common.{directive_outcome, frame_of, frame_to_send, submit_fault}
 use Rattle.tc_link.proofs.Common.{after_submission, bypass_fault, after_bypass, unless_refused, after_extraction}
 use Rattle.tc_link.proofs.Common.{telemetry_outcome, SpacecraftState, SpacecraftOutcome, frame_outcome, body_outcome}
 use Rattle.tc_link.proofs.Common.{bypass_outcome, is_own_frame, spacecraft_take, spacecraft_take_bypass}
@@ -18,7 +18,7 @@ use Rattle.tc_frame.specs.Decoding.{frame_at}
 use Rattle.tc_frame.specs.Encoding.{spelling}
 use Rattle.tc_link.specs.Accepted.{AcceptsNoMore}
 use Rattle.tc_link.specs.InTransit.{numbers_up}
-use Rattle.tc_link.proofs.Common.{closed_not, active_on}
+use Rattle.tc_link.proofs.Common.{closed_not, active_on, Fates, submitting, acknowledging}
 use Rattle.simulated_link.proofs.Unchanged.{AtEachLoss, lost, up_arrives, down_arrives}
 use Rattle.simulated_link.proofs.TelemetryCases.{frame_seen}
 use Rattle.tc_link.proofs.Refilled.{refilled_keeps}
@@ -68,7 +68,7 @@ submitted_closed : (s : GroundState) (m : ℕ) (octets : List ℕ) (o : Option L
     → (unless_refused o s (after_submission s m octets)).after.fop.state ≡ S6
 submitted_closed s m octets (Some fault) off = off
 submitted_closed s m octets None off =
-    refilled_keeps (λ t. t.fop.state ≡ S6) (record s { pending = s.pending ++ segments_on s m octets })
+    refilled_keeps (λ t. t.fop.state ≡ S6) (submitting s m octets)
     (λ waiting pending on closed. off)
 
 bypassed_closed : (s : GroundState) (m : ℕ) (octets : List ℕ) (o : Option LinkFault) → s.fop.state ≡ S6
@@ -86,8 +86,9 @@ module _ (s : GroundState) (off : s.fop.state ≡ S6) where
   telemetry_closed = frame_seen s (λ t. t.fop.state ≡ S6) (record {
     same = off;
     extracts = λ x. off;
-    uses = λ x report. closed_with (after_extraction s x) (clcw_step s.fop report).after
-        (heard_in s.fop report s.fop.state off off);
+    uses = λ x report.
+        let f : FopState SegmentView = (clcw_step s.fop report).after in
+        closed_with (acknowledging (after_extraction s x) f) f (heard_in s.fop report s.fop.state off off);
   })
 
 -- on board a frame that is not of Type-AD adds no segment to those accepted
@@ -136,6 +137,12 @@ module _ (c : Config) (w : World) (k : Sound c w) (off : IsOff w) (none_up : num
   with_so : (f : FopState SegmentView) → f.state ≡ S6 → Over w (record w { ground_node = with_fop w.ground_node f })
   with_so f closed = ground_so (with_fop w.ground_node f) (closed_with w.ground_node f closed)
 
+  counted_so : (fates : Fates) (f : FopState SegmentView) → f.state ≡ S6
+      → Over w (record w { ground_node = with_fop (record w.ground_node { fates = fates }) f })
+  counted_so fates f closed =
+      let s : GroundState = record w.ground_node { fates = fates } in
+      ground_so (with_fop s f) (closed_with s f closed)
+
   spacecraft_so : (s : SpacecraftState) → s.accepted ≡ w.spacecraft.accepted → Over w (record w { spacecraft = s })
   spacecraft_so s same = record {
     closed = off;
@@ -145,7 +152,7 @@ module _ (c : Config) (w : World) (k : Sound c w) (off : IsOff w) (none_up : num
 
   abbrev Directed : Directive → FopOutcome SegmentView (Result (Option Alert) CopFault) → Type 0
   Directed d o = BeginsNoSession w (events.Directive d)
-      → Stays (world_after_directive w d (directive_outcome w.ground_node o))
+      → Stays (world_after_directive w d (directive_outcome w.ground_node d o))
 
   directive_so : (d : Directive) → Directed d (directive_step w.ground_node.fop d)
   directive_so =
@@ -154,9 +161,9 @@ module _ (c : Config) (w : World) (k : Sound c w) (off : IsOff w) (none_up : num
         refused = λ d fault on goes. stays;
         begins = λ d is closed goes. closed_not s.state closed (goes d refl is);
         terminated = λ goes. with_so (after_alert s) refl;
-        numbers = λ x is goes. with_so (record s { vs = x; nn = x }) off;
+        numbers = λ x is goes. counted_so _ (record s { vs = x; nn = x }) off;
         sets = λ d k n ticks plain most goes. rw plain
-            (with_so (record s { window = k; limit = n; timer = ticks }) off);
+            (counted_so _ (record s { window = k; limit = n; timer = ticks }) off);
       })
 
   tick_so : Over w (record w { ground_node = with_fop w.ground_node (tick_step w.ground_node.fop).after })

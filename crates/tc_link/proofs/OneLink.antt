@@ -66,7 +66,7 @@ module _ (w : World) (b : ℕ) (p : PlainLink) (h : IsHistory w b p) where
   sent_count =
       ap length h.sent ∙ length-map (take p.n p.units) segment_octets ∙ length-take-le p.n p.units h.order.2
 
-  accepted_count : length (accepted w) ≡ p.r
+  pub accepted_count : length (accepted w) ≡ p.r
   accepted_count =
       ap length h.accepted_so
       ∙ length-map (take p.r p.units) segment_octets

@@ -7,7 +7,7 @@ use Rattle.tc_link.proofs.Common.{SegmentView, Alert, NnR, Synch, Control, Idle,
 use Rattle.tc_link.proofs.Common.{FopMode, S1, S2, S4, S5, IsActive, locks, waits, asks, confirms, clcw_step, report_in}
 use Rattle.tc_link.proofs.Common.{pull_step, pulled_out, tick_step, ticked, after_stop, after_count, due_again, goes_on}
 use Rattle.tc_link.proofs.Common.{alerts, GroundState, with_fop, after_extraction, World, WorldOutcome, world_step}
-use Rattle.tc_link.proofs.Common.{world_run, is_initialising, spacecraft_report}
+use Rattle.tc_link.proofs.Common.{world_run, is_initialising, spacecraft_report, acknowledging}
 use Rattle.tm_link.specs.Encoding as telemetry_writing
 use Rattle.std.specs.Prelude.{IsSome}
 use Rattle.std.proofs.lemmas.Bool.{ltb-true}
@@ -212,8 +212,8 @@ module _ (count limit : ℕ) where
     hears_one (b ∷ bs) is =
         let count : length bs ≡ n = omega (arith, ap length is, p.0) in
         oldest_heard Heard w g b bs is (λ r x.
-        let s : GroundState = after_extraction w.ground_node x in
         let f : FopState SegmentView = (clcw_step w.ground_node.fop r).after in
+        let s : GroundState = acknowledging (after_extraction w.ground_node x) f in
         let same = with_same s f in
         elim p.1 [
           | inl active ↦ elim (holds_more w.ground_node.fop w.ground_node.pending r active) [

@@ -6,7 +6,7 @@ use Rattle.tc_link.proofs.Common.{replicate, Clcw, SegmentView, marked_unit, Fop
 use Rattle.tc_link.proofs.Common.{locks, waits, asks, pull_step, tick_step, after_repeat, after_stop, Open, FarmState}
 use Rattle.tc_link.proofs.Common.{FlagsAgree, report_of, extract_step, GroundState, with_fop, after_extraction}
 use Rattle.tc_link.proofs.Common.{spacecraft_report, World, WorldOutcome, world_step, FopOutcome, Alert, length-map}
-use Rattle.tc_link.proofs.Common.{IsReached}
+use Rattle.tc_link.proofs.Common.{IsReached, acknowledging}
 use Rattle.std.specs.Prelude.{IsSome}
 use Rattle.std.proofs.lemmas.List.{nil_from_length}
 use Rattle.std.proofs.lemmas.Bool.{false_from_ne_true, not-true, not-false}
@@ -155,8 +155,8 @@ module _ (most k : ℕ) where
   hears_last w g t =
       let r : Clcw = report_of w.spacecraft.farm w.spacecraft.config.vcid in
       let x = extract_step w.ground_node.extractor t.tells.frame in
-      let s : GroundState = after_extraction w.ground_node x in
       let f : FopState SegmentView = (clcw_step w.ground_node.fop r).after in
+      let s : GroundState = acknowledging (after_extraction w.ground_node x) f in
       let only : w.down ≡ t.last ∷ [] = t.down ∙ ap (λ xs. xs ++ t.last ∷ []) (nil_from_length t.olds t.count) in
       let same = heard_is w t.last [] r only t.tells in
       let o : WorldOutcome = world_after_telemetry w [] (used w.ground_node x r) in
@@ -200,18 +200,19 @@ module _ (most k : ℕ) where
         elim (holds_more w.ground_node.fop w.ground_node.pending r t.bounds.active) [
           | inl a ↦ inl a
           | inr less ↦ (
-              let s : GroundState = after_extraction w.ground_node x in
+              let f : FopState SegmentView = (clcw_step w.ground_node.fop r).after in
+              let s : GroundState = acknowledging (after_extraction w.ground_node x) f in
               let before : IsBounded most k s =
               record { active = t.bounds.active; holds = t.bounds.holds; window = t.bounds.window } in
               inr (record {
-                bounds = bounded most k s (clcw_step w.ground_node.fop r).after before less;
+                bounds = bounded most k s f before less;
                 up = t.up;
                 free = t.free;
                 olds = bs;
                 last = t.last;
                 down = refl;
                 count = omega (arith, ap length is, t.count);
-                tells = rw (with_config s (clcw_step w.ground_node.fop r).after) t.tells;
+                tells = rw (with_config s f) t.tells;
               }))
         ])
 

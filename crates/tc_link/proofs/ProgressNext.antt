@@ -10,7 +10,7 @@ use Rattle.tc_link.proofs.Common.{GroundState, with_fop, unsent_segments, after_
 use Rattle.tc_link.proofs.Common.{SpacecraftState, SpacecraftOutcome, spacecraft_take, spacecraft_report, body_outcome}
 use Rattle.tc_link.proofs.Common.{sequence_outcome, bypass_outcome, is_free, is_kept, limits_of, World, WorldOutcome}
 use Rattle.tc_link.proofs.Common.{world_step, world_after_pull, up_deliver_step, after_release, BodyView, IsReached}
-use Rattle.tc_link.proofs.Common.{active_on}
+use Rattle.tc_link.proofs.Common.{active_on, acknowledging}
 use Rattle.std.proofs.lemmas.Bool.{lt-ltb, false_from_ne_true}
 use Rattle.std.proofs.lemmas.List.{nil_from_length}
 use Rattle.tc_frame.specs.Decoding.{frame_at}
@@ -434,8 +434,8 @@ module _ (most k : ℕ) where
       let r : Clcw = report_of w.spacecraft.farm w.spacecraft.config.vcid in
       let s : FopState SegmentView = w.ground_node.fop in
       let x = extract_step w.ground_node.extractor t.tells.frame in
-      let ground : GroundState = after_extraction w.ground_node x in
       let f : FopState SegmentView = (clcw_step s r).after in
+      let ground : GroundState = acknowledging (after_extraction w.ground_node x) f in
       let flags = open_flags w.spacecraft.farm.lockout w.spacecraft.farm.wait
       (sym t.opened ∙ (known w g).holds.sound.spacecraft.farm.flags.state) in
       let said = flags_are w.spacecraft.farm w.spacecraft.config.vcid in

@@ -17,7 +17,7 @@ use Rattle.tc_link.proofs.Common.{SpacecraftState, SpacecraftOutcome, body_outco
 use Rattle.tc_link.proofs.Common.{is_free, is_kept, limits_of, spacecraft_take, spacecraft_take_bypass}
 use Rattle.tc_link.proofs.Common.{spacecraft_telemetry, is_to_send, Event, World, WorldOutcome, new_world, world_step}
 use Rattle.tc_link.proofs.Common.{world_after_pull, up_deliver_step, down_deliver_step, TmFault, closed_not, active_on}
-use Rattle.tc_link.proofs.Common.{spacecraft_report, FlagsAgree}
+use Rattle.tc_link.proofs.Common.{spacecraft_report, FlagsAgree, acknowledging}
 use Rattle.tc_frame.specs.Decoding.{frame_at}
 use Rattle.tc_frame.specs.Encoding.{spelling}
 use Rattle.cop1.specs.declared.farm.FarmMode.TheVariants.{Lockout}
@@ -401,9 +401,10 @@ module _ (c : Config) (w : World) (h : Holding c w) (k : HasOctets c w) where
   hears b bs is =
       let first = down_of b bs is in
       let x = extract_step w.ground_node.extractor first.0.1.frame in
+      let f : FopState SegmentView = (clcw_step s first.0.0).after in
       subst (λ o. After (world_after_telemetry w bs o))
       (sym (used_is c w.ground_node b first.0.0 h.sound.ground_node.config first.0.1)) (record {
-        sender = with_kept Numbered queued_numbers (after_extraction w.ground_node x) (clcw_step s first.0.0).after
+        sender = with_kept Numbered queued_numbers (acknowledging (after_extraction w.ground_node x) f) f
             (report_numbers s k.sender first.0.0 first.0.2);
         receiver = k.receiver;
         up = k.up;

@@ -23,7 +23,7 @@ module _ (c : Config) (w : World) (h : Holding c w) where
   readable_so : AllReadable w
   readable_so = all_readable c w h.sound h.carried h.reports
 
-  promised_so : IsIdle w → IsPromised w
+  pub promised_so : IsIdle w → IsPromised w
   promised_so is =
       let s = h.session is in
       record {

@@ -265,7 +265,7 @@ module _ (early : Bool) (c : Config) (d : Directive) (base : ℕ) (w : World) (k
     pulls_keep =
         let s = w.ground_node.fop in
         pulled_out s Leaves (record {
-          none = same_keeps early c d base w g s refl refl refl refl refl (λ fits. fits);
+          none = same_keeps early c d base w g w.ground_node.fates s refl refl refl refl refl (λ fits. fits);
           command = λ command is.
               let both = commanded early c d base w k g command is in
               sends (Bc command) (record (after_restart s) { control = Sent command }) refl refl refl refl refl tt

@@ -2,7 +2,7 @@
 use Rattle.tc_link.proofs.Common.{◌≡◌, ℕ, ◌+◌, ◌*◌, ◌<◌, Bool, true, false, List, [], ◌∷◌, ◌++◌, drop, Option, Some}
 use Rattle.tc_link.proofs.Common.{None, option_to_list, refl, ◌∙◌, arith, inl, cond_both, SegmentView, Control}
 use Rattle.tc_link.proofs.Common.{Directive, FopMode, S6, FopState, SentUnit, units_of, Config, GroundState, is_closed}
-use Rattle.tc_link.proofs.Common.{unsent_segments, refill_step, with_fop, IsChecked, PlainLink, World}
+use Rattle.tc_link.proofs.Common.{unsent_segments, refill_step, with_fop, IsChecked, PlainLink, World, Fates}
 use Rattle.nodes.specs.Ground.{after_moving_up}
 use Rattle.tc_link.proofs.Early.{IsEarly, ControlFits}
 use Rattle.tc_link.proofs.Linked.{In, Held, Kept, Next, SessionBy, WithSender, Calm, beside}
@@ -111,33 +111,33 @@ module _ (early : Bool) (c : Config) (d : Directive) (base : ℕ) where
       g.stage)
 
   module _ (w : World) (g : In early c d base w) where
-    -- the sender is as it was but for what it holds
-    goes_keeps : (f : FopState SegmentView)
+    -- the sender is as it was but for what it holds, and other submissions may be known
+    goes_keeps : (fates : Fates) (f : FopState SegmentView)
         → Held (is_closed f.state) base f.vs f.nn f.sent (option_to_list f.waiting ++ w.ground_node.pending) g.plain.a
         g.plain.n g.plain.units
         → f.nn < 256 → WithSender g f.state f.control
-        → Next early c d base g.plain (record w { ground_node = with_fop w.ground_node f })
-    goes_keeps f held nn_octet stage =
+        → Next early c d base g.plain (record w { ground_node = with_fop (record w.ground_node { fates = fates }) f })
+    goes_keeps fates f held nn_octet stage =
         let l = g.linked in
-        session_refilled (record w { ground_node = record w.ground_node { fop = f } })
-        (beside g (record w { ground_node = record w.ground_node { fop = f } }) (inl refl)
-        (assumption (held, nn_octet, l)) stage)
+        let new : World = record w { ground_node = record w.ground_node { fop = f; fates = fates } } in
+        session_refilled new (beside g new (inl refl) (assumption (held, nn_octet, l)) stage)
 
     -- the sender holds the same
-    pub same_keeps : (f : FopState SegmentView) → f.vs ≡ w.ground_node.fop.vs → f.nn ≡ w.ground_node.fop.nn
-        → f.state ≡ w.ground_node.fop.state → units_of f.sent ≡ units_of w.ground_node.fop.sent
-        → f.waiting ≡ w.ground_node.fop.waiting
+    pub same_keeps : (fates : Fates) (f : FopState SegmentView) → f.vs ≡ w.ground_node.fop.vs
+        → f.nn ≡ w.ground_node.fop.nn → f.state ≡ w.ground_node.fop.state
+        → units_of f.sent ≡ units_of w.ground_node.fop.sent → f.waiting ≡ w.ground_node.fop.waiting
         → (ControlFits d base w.ground_node.fop.control → ControlFits d base f.control)
-        → Next early c d base g.plain (record w { ground_node = with_fop w.ground_node f })
-    same_keeps f vs nn state sent waiting fits =
+        → Next early c d base g.plain (record w { ground_node = with_fop (record w.ground_node { fates = fates }) f })
+    same_keeps fates f vs nn state sent waiting fits =
         let l = g.linked in
-        goes_keeps f (held_same base w.ground_node f g.plain.a g.plain.n g.plain.units vs nn state sent waiting l.held)
+        goes_keeps fates f
+        (held_same base w.ground_node f g.plain.a g.plain.n g.plain.units vs nn state sent waiting l.held)
         (rw nn l.nn_octet) (sender_same early c d base w g f.state f.control state fits)
 
     -- the sender is off
-    pub off_keeps : (f : FopState SegmentView) → f.state ≡ S6 → f.nn < 256
+    pub off_keeps : (fates : Fates) (f : FopState SegmentView) → f.state ≡ S6 → f.nn < 256
         → (ControlFits d base w.ground_node.fop.control → ControlFits d base f.control)
         → Kept base f.vs f.nn g.plain.a g.plain.n
-        → Next early c d base g.plain (record w { ground_node = with_fop w.ground_node f })
-    off_keeps f state nn_octet fits kept =
-        goes_keeps f (rw state kept) nn_octet (sender_off early c d base w g f.state f.control state fits)
+        → Next early c d base g.plain (record w { ground_node = with_fop (record w.ground_node { fates = fates }) f })
+    off_keeps fates f state nn_octet fits kept =
+        goes_keeps fates f (rw state kept) nn_octet (sender_off early c d base w g f.state f.control state fits)

@@ -8,10 +8,11 @@ use Rattle.tc_link.proofs.Common.{Synch, Limit, locks, waits, asks, confirms, cl
 use Rattle.tc_link.proofs.Common.{after_new_value, retransmits, goes_on, alerts, after_alert, ahead_by, ticked}
 use Rattle.tc_link.proofs.Common.{pulled_out, heard_active, obeyed, begun, is_initiation, tick_step, pull_step}
 use Rattle.tc_link.proofs.Common.{directive_step, Config, LinkFault, IsConfig, GroundState, GroundOutcome, is_closed}
-use Rattle.tc_link.proofs.Common.{telemetry_outcome}
+use Rattle.tc_link.proofs.Common.{telemetry_outcome, obeying, submitting, acknowledging}
 use Rattle.tc_link.proofs.Common.{and_parts, extract_step, refill_step, with_fop, unless_refused, submit_fault}
 use Rattle.tc_link.proofs.Common.{after_submission, bypass_fault, after_bypass, after_extraction, TmFault}
-use Rattle.std.specs.Prelude.{◌&&◌, ◌++◌, ◌/◌, IfOk, slice_index}
+use Rattle.tc_link.proofs.Common.{inl, Fates, after_report}
+use Rattle.std.specs.Prelude.{◌&&◌, ◌/◌, IfOk, slice_index}
 use Rattle.std.proofs.lemmas.Bool.{not-true}
 use Rattle.octets.specs.Number.{IsOctets}
 use Rattle.clcw.specs.Decoding.{clcw_at}
@@ -28,10 +29,12 @@ use Rattle.nodes.specs.declared.heard.HeardClcw.{HeardClcw}
 use Rattle.nodes.specs.declared.heard.HeardReport.TheVariants.{Used, OtherChannel}
 use Rattle.nodes.specs.Ground.{GroundEvent, Submit, Bypass, Direct, Pull, Tick, Telemetry, ControlWord, TakeTelemetry}
 use Rattle.nodes.specs.Ground.{ForgetTelemetry, new_ground, ground_step, ground_take_telemetry, after_moving_up}
-use Rattle.nodes.specs.Ground.{after_directive, report_outcome, segments_on, is_own_telemetry}
+use Rattle.nodes.specs.Ground.{after_directive, report_outcome, is_own_telemetry}
+use Rattle.nodes.specs.Ground.{Resume, can_resume, ground_resume, ground_directive}
 use Rattle.tc_link.specs.Repeated.{ground_run, BringsNoReport, BringNoReport, repeated_outcome, RepeatsNothing}
 use Rattle.tc_link.specs.Repeated.{RepeatsNothingOfFrames, word_of}
 use Rattle.tc_link.proofs.Refilled.{refilled_keeps}
+use Rattle.tc_link.proofs.RepeatedCounts.{Counts, counted_same, refilled_counts, step_counts}
 
 -- ---- what is so of the configuration and the sender, whatever waits, is so after each call
 
@@ -50,6 +53,9 @@ module _ (P : Config → FopState SegmentView → Type 0)
   settled_are : (f : FopState SegmentView) → P s.config f → Are (with_fop s f)
   settled_are f same = refilled_are (record s { fop = f }) same
 
+  reports_are : (f : FopState SegmentView) → P s.config f → Are (after_report s f)
+  reports_are f same = refilled_are (record (acknowledging s f) { fop = f }) same
+
   unless_are : (fault : Option LinkFault) (next : GroundState) → Are next → Are (unless_refused fault s next).after
   unless_are None next same = same
   unless_are (Some fault) next same = k
@@ -57,7 +63,7 @@ module _ (P : Config → FopState SegmentView → Type 0)
   submits_are : (m : ℕ) (octets : List ℕ) → Are (ground_step s (Submit m octets)).after
   submits_are m octets =
       unless_are (submit_fault s m octets) (after_submission s m octets)
-      (refilled_are (record s { pending = s.pending ++ segments_on s m octets }) k)
+      (refilled_are (submitting s m octets) k)
 
   bypasses_are : (m : ℕ) (octets : List ℕ) → Are (ground_step s (Bypass m octets)).after
   bypasses_are m octets =
@@ -66,13 +72,28 @@ module _ (P : Config → FopState SegmentView → Type 0)
   directs_are : (d : Directive) → P s.config (directive_step s.fop d).after → Are (ground_step s (Direct d)).after
   directs_are d same = answered (directive_step s.fop d).answer where
     answered : (answer : Result (Option Alert) CopFault)
-        → Are (after_directive s answer (directive_step s.fop d).after)
-    answered (Ok alert) = settled_are (directive_step s.fop d).after same
+        → Are (after_directive s d answer (directive_step s.fop d).after)
+    answered (Ok alert) = refilled_are (record (obeying s d) { fop = (directive_step s.fop d).after }) same
     answered (Err fault) = k
 
   takes_are : (packets : List (List ℕ)) → Are (ground_take_telemetry s packets).after
   takes_are [] = k
   takes_are (packet ∷ left) = k
+
+-- where a directive keeps it
+resumes_are : (P : Config → FopState SegmentView → Type 0)
+    → ((c : Config) (f : FopState SegmentView) (u : Option SegmentView) → P c f → P c (record f { waiting = u }))
+    → ((c : Config) (f : FopState SegmentView) (us : List SegmentView) → P c f → P c (record f { bypass = us }))
+    → ((c : Config) (f : FopState SegmentView) (d : Directive) → P c f → P c (directive_step f d).after)
+    → (s : GroundState) → P s.config s.fop → (value : ℕ)
+    → P (ground_resume s value).after.config (ground_resume s value).after.fop
+resumes_are P waits_so bypass_so directs s k value =
+    let set : GroundState = (ground_directive s (SetVs value)).after in
+    let so : P set.config set.fop =
+    directs_are P waits_so bypass_so s k (SetVs value) (directs s.config s.fop (SetVs value) k) in
+    cond_both (can_resume s value) _ _
+    (λ (o : GroundOutcome (Result ℕ LinkFault)). P o.after.config o.after.fop)
+    (λ t. directs_are P waits_so bypass_so set so InitUnlock (directs set.config set.fop InitUnlock so)) (λ t. k)
 
 -- ---- the numbers of a sender, as far as they matter here
 
@@ -196,17 +217,19 @@ step_usual : (s : GroundState) → Usual s.fop → (e : GroundEvent) → Usual (
 step_usual s k (Submit m octets) = submits_are UsualAt waits_usual bypass_usual s k m octets
 step_usual s k (Bypass m octets) = bypasses_are UsualAt waits_usual bypass_usual s k m octets
 step_usual s k (Direct d) = directs_are UsualAt waits_usual bypass_usual s k d (direct_usual s.fop k d)
+step_usual s k (Resume value) =
+    resumes_are UsualAt waits_usual bypass_usual (λ c f d k. direct_usual f k d) s k value
 step_usual s k Pull = settled_are UsualAt waits_usual bypass_usual s k _ (pull_usual s.fop k)
 step_usual s k Tick = settled_are UsualAt waits_usual bypass_usual s k _ (tick_usual s.fop k)
 step_usual s k (Telemetry octets) =
     frame_seen s (λ g. Usual g.fop) (record {
       same = k;
       extracts = λ x. k;
-      uses = λ x r. settled_are UsualAt waits_usual bypass_usual (after_extraction s x) k _ (report_usual s.fop k r);
+      uses = λ x r. reports_are UsualAt waits_usual bypass_usual (after_extraction s x) k _ (report_usual s.fop k r);
     }) (frame_at s.config.frame_length octets)
 step_usual s k (ControlWord octets) =
     report_seen s (λ g. Usual g.fop) k
-    (λ r. settled_are UsualAt waits_usual bypass_usual s k _ (report_usual s.fop k r)) (clcw_at octets)
+    (λ r. reports_are UsualAt waits_usual bypass_usual s k _ (report_usual s.fop k r)) (clcw_at octets)
 step_usual s k TakeTelemetry = takes_are UsualAt waits_usual bypass_usual s k s.telemetry
 step_usual s k ForgetTelemetry = k
 
@@ -554,20 +577,25 @@ module _ (c : Config) where
   settled_config : (s : GroundState) → s.config ≡ c → (f : FopState SegmentView) → (with_fop s f).config ≡ c
   settled_config s is f = settled_are (ConfigIs c) waits_config bypass_config s is f is
 
+  reported_config : (s : GroundState) → s.config ≡ c → (f : FopState SegmentView) → (after_report s f).config ≡ c
+  reported_config s is f = reports_are (ConfigIs c) waits_config bypass_config s is f is
+
   step_config : (s : GroundState) → s.config ≡ c → (e : GroundEvent) → (ground_step s e).after.config ≡ c
   step_config s is (Submit m octets) = submits_are (ConfigIs c) waits_config bypass_config s is m octets
   step_config s is (Bypass m octets) = bypasses_are (ConfigIs c) waits_config bypass_config s is m octets
   step_config s is (Direct d) = directs_are (ConfigIs c) waits_config bypass_config s is d is
+  step_config s is (Resume value) =
+      resumes_are (ConfigIs c) waits_config bypass_config (λ own f d is. is) s is value
   step_config s is Pull = settled_config s is _
   step_config s is Tick = settled_config s is _
   step_config s is (Telemetry octets) =
       frame_seen s (λ g. g.config ≡ c) (record {
         same = is;
         extracts = λ x. is;
-        uses = λ x r. settled_config (after_extraction s x) is (clcw_step s.fop r).after;
+        uses = λ x r. reported_config (after_extraction s x) is (clcw_step s.fop r).after;
       }) (frame_at s.config.frame_length octets)
   step_config s is (ControlWord octets) =
-      report_seen s (λ g. g.config ≡ c) is (λ r. settled_config s is _) (clcw_at octets)
+      report_seen s (λ g. g.config ≡ c) is (λ r. reported_config s is _) (clcw_at octets)
   step_config s is TakeTelemetry = takes_are (ConfigIs c) waits_config bypass_config s is s.telemetry
   step_config s is ForgetTelemetry = is
 
@@ -580,6 +608,7 @@ record IsKnown (r : Clcw) (s : GroundState) : Type 0 where
   usual : Usual s.fop
   known : KnownTo s.fop r
   filled : Filled s
+  counts : Counts s.fates
 
 module _ (r : Clcw) (octet : r.value < 256) where
   abbrev KnownAt : Config → FopState SegmentView → Type 0
@@ -604,6 +633,9 @@ module _ (r : Clcw) (octet : r.value < 256) where
     step_known (Direct d) goes =
         directs_are KnownAt waits_known bypass_known s h.known d
         (direct_known r octet s.fop h.usual h.known d goes.0 goes.1)
+    step_known (Resume value) goes =
+        cond_both (can_resume s value) _ _ (λ (o : GroundOutcome (Result ℕ LinkFault)). KnownTo o.after.fop r)
+        (λ t. absurd (cc (t, goes))) (λ t. h.known)
     step_known Pull goes = settled_known s h.known _ (pull_known r octet s.fop h.usual h.known)
     step_known Tick goes = settled_known s h.known _ (tick_known r octet s.fop h.usual h.known)
     step_known (Telemetry octets) goes = elim goes [ ]
@@ -620,18 +652,21 @@ module _ (r : Clcw) (octet : r.value < 256) where
     takes_filled [] = h.filled
     takes_filled (packet ∷ left) = assumption h.filled
 
-    directs_filled : (answer : Result (Option Alert) CopFault) (f : FopState SegmentView)
-        → Filled (after_directive s answer f)
-    directs_filled (Ok alert) f = refill_filled (record s { fop = f })
-    directs_filled (Err fault) f = h.filled
+    directs_filled : (d : Directive) (answer : Result (Option Alert) CopFault) (f : FopState SegmentView)
+        → Filled (after_directive s d answer f)
+    directs_filled d (Ok alert) f = refill_filled (record (obeying s d) { fop = f })
+    directs_filled d (Err fault) f = h.filled
 
     step_filled : (e : GroundEvent) → BringsNoReport s e → Filled (ground_step s e).after
     step_filled (Submit m octets) goes =
         unless_filled (submit_fault s m octets) (after_submission s m octets)
-        (refill_filled (record s { pending = s.pending ++ segments_on s m octets }))
+        (refill_filled (submitting s m octets))
     step_filled (Bypass m octets) goes =
         unless_filled (bypass_fault s m octets) (after_bypass s m octets) (assumption h.filled)
-    step_filled (Direct d) goes = directs_filled (directive_step s.fop d).answer (directive_step s.fop d).after
+    step_filled (Direct d) goes = directs_filled d (directive_step s.fop d).answer (directive_step s.fop d).after
+    step_filled (Resume value) goes =
+        cond_both (can_resume s value) _ _ (λ (o : GroundOutcome (Result ℕ LinkFault)). Filled o.after)
+        (λ t. absurd (cc (t, goes))) (λ t. h.filled)
     step_filled Pull goes = refill_filled (record s { fop = (pull_step s.fop).after })
     step_filled Tick goes = refill_filled (record s { fop = (tick_step s.fop).after })
     step_filled (Telemetry octets) goes = elim goes [ ]
@@ -644,6 +679,7 @@ module _ (r : Clcw) (octet : r.value < 256) where
       usual = step_usual s h.usual e;
       known = step_known e goes;
       filled = step_filled e goes;
+      counts = step_counts s h.counts e goes;
     }
 
   run_heard : (es : List GroundEvent) (s : GroundState) → BringNoReport s es → IsKnown r s → IsKnown r (ground_run s es)
@@ -651,27 +687,34 @@ module _ (r : Clcw) (octet : r.value < 256) where
   run_heard (e ∷ es) s all h = run_heard es (ground_step s e).after all.1 (step_heard s h e all.0)
 
   -- it was heard
-  uses_heard : (s : GroundState) → Usual s.fop → IsKnown r (with_fop s (clcw_step s.fop r).after)
-  uses_heard s usual = record {
-    usual = settled_are UsualAt waits_usual bypass_usual s usual _ (report_usual s.fop usual r);
-    known = refilled_keeps (λ g. KnownTo g.fop r) (record s { fop = (clcw_step s.fop r).after })
-        (λ waiting pending on off. report_known s.fop usual r);
-    filled = refill_filled (record s { fop = (clcw_step s.fop r).after });
-  }
+  uses_heard : (s : GroundState) → Usual s.fop → IsKnown r (after_report s (clcw_step s.fop r).after)
+  uses_heard s usual =
+      let f : FopState SegmentView = (clcw_step s.fop r).after in
+      let t : GroundState = record (acknowledging s f) { fop = f } in
+      record {
+        usual = reports_are UsualAt waits_usual bypass_usual s usual f (report_usual s.fop usual r);
+        known = refilled_keeps (λ g. KnownTo g.fop r) t (λ waiting pending on off. report_known s.fop usual r);
+        filled = refill_filled t;
+        counts = refilled_counts t (omega arith);
+      }
 
   -- it comes again
   abbrev using : GroundState → GroundOutcome HeardClcw
   using s = record {
     answer = record { report = Used; alert = (clcw_step s.fop r).answer };
-    after = with_fop s (clcw_step s.fop r).after;
+    after = after_report s (clcw_step s.fop r).after;
   }
 
   again : (s : GroundState) (once : HeardClcw) → once.report ≡ Used → IsKnown r s → using s ≡ repeated_outcome s once
   again s once is h =
       let o : FopOutcome SegmentView (Option Alert) = clcw_step s.fop r in
       ap (λ (o : FopOutcome SegmentView (Option Alert)).
-      record { answer = record { report = Used; alert = o.answer }; after = with_fop s o.after })
+      record { answer = record { report = Used; alert = o.answer }; after = after_report s o.after })
       (ignored s.fop r octet h.known)
+      ∙ ap (λ (k : Fates). record {
+        answer = record { report = Used; alert = None };
+        after = refill_step (record s { fates = k });
+      }) (counted_same s.fop.nn s.fates h.counts)
       ∙ ap (λ (g : GroundState). record { answer = record { report = Used; alert = None }; after = g })
       (filled_is s h.filled)
       ∙ ap (λ report. record { answer = record { report = report; alert = None }; after = s }) (sym is)
@@ -684,7 +727,7 @@ module _ (r : Clcw) (octet : r.value < 256) where
     used_again : (r.vcid == s.config.vcid) ≡ true → Repeats (using s)
     used_again own all =
         let now : GroundState = ground_run (using s).after since in
-        let config = run_config s.config since (using s).after (settled_config s.config s refl _) in
+        let config = run_config s.config since (using s).after (reported_config s.config s refl _) in
         cond_both (r.vcid == now.config.vcid) _ _
         (λ (o : GroundOutcome HeardClcw). o ≡ repeated_outcome now (using s).answer)
         (λ t. again now (using s).answer refl (run_heard since (using s).after all (uses_heard s usual)))

@@ -1,9 +1,9 @@
 -- What is so of the sender alone, whatever it queues, and stays so with each event.
-use Rattle.tc_link.proofs.Common.{◌≡◌, ℕ, ◌++◌, List, Option, Some, None, Result, Ok, Err, refl, SegmentView, Clcw}
+use Rattle.tc_link.proofs.Common.{◌≡◌, ℕ, List, Option, Some, None, Result, Ok, Err, refl, SegmentView, Clcw}
 use Rattle.tc_link.proofs.Common.{CopFault, Alert, Directive, FopState, clcw_step, directive_step, pull_step, tick_step}
-use Rattle.tc_link.proofs.Common.{GroundState, with_fop, segments_on, submit_fault, bypass_fault, LinkFault}
+use Rattle.tc_link.proofs.Common.{GroundState, with_fop, submit_fault, bypass_fault, LinkFault}
 use Rattle.tc_link.proofs.Common.{after_submission, after_bypass, unless_refused, directive_outcome, after_extraction}
-use Rattle.tc_link.proofs.Common.{Event, World, WorldOutcome, world_step}
+use Rattle.tc_link.proofs.Common.{Event, World, WorldOutcome, world_step, obeying, submitting, acknowledging}
 use Rattle.simulated_link.proofs.TelemetryCases.{frame_seen}
 use Rattle.simulated_link.proofs.Unchanged.{AtEachLoss, lost, pulled, up_arrives, down_arrives}
 use Rattle.tm_link.specs.Decoding as telemetry_reading
@@ -22,17 +22,17 @@ module _ (P : FopState SegmentView → Type 0)
     submitted : (m : ℕ) (octets : List ℕ) (o : Option LinkFault)
         → P (unless_refused o s (after_submission s m octets)).after.fop
     submitted m octets (Some fault) = k
-    submitted m octets None = with_kept (record s { pending = s.pending ++ segments_on s m octets }) s.fop k
+    submitted m octets None = with_kept (submitting s m octets) s.fop k
 
     bypassed : (m : ℕ) (octets : List ℕ) (o : Option LinkFault)
         → P (unless_refused o s (after_bypass s m octets)).after.fop
     bypassed m octets (Some fault) = k
     bypassed m octets None = queues s.fop s.fop.waiting (after_bypass s m octets).fop.bypass k
 
-    directed : (r : Result (Option Alert) CopFault) (f : FopState SegmentView) → P f
-        → P (directive_outcome s (record { after = f; answer = r; gone = 0 })).after.fop
-    directed (Ok alert) f is = with_kept s f is
-    directed (Err fault) f is = k
+    directed : (d : Directive) (r : Result (Option Alert) CopFault) (f : FopState SegmentView) → P f
+        → P (directive_outcome s d (record { after = f; answer = r; gone = 0 })).after.fop
+    directed d (Ok alert) f is = with_kept (obeying s d) f is
+    directed d (Err fault) f is = k
 
   module _ (w : World) (k : P w.ground_node.fop) where
     abbrev s : FopState SegmentView
@@ -46,7 +46,9 @@ module _ (P : FopState SegmentView → Type 0)
         frame_seen w.ground_node (λ t. P t.fop) (record {
           same = k;
           extracts = λ x. k;
-          uses = λ x report. with_kept (after_extraction w.ground_node x) (clcw_step s report).after (reports report);
+          uses = λ x report.
+              let f : FopState SegmentView = (clcw_step s report).after in
+              with_kept (acknowledging (after_extraction w.ground_node x) f) f (reports report);
         }) (telemetry_reading.frame_at w.ground_node.config.frame_length b))
 
     losses : AtEachLoss w After
@@ -65,7 +67,7 @@ module _ (P : FopState SegmentView → Type 0)
     step_kept tick pull hears (events.Bypass m octets) direct =
         bypassed w.ground_node k m octets.now (bypass_fault w.ground_node m octets.now)
     step_kept tick pull hears (events.Directive d) direct =
-        directed w.ground_node k (directive_step s d).answer (directive_step s d).after (direct d refl)
+        directed w.ground_node k d (directive_step s d).answer (directive_step s d).after (direct d refl)
     step_kept tick pull hears events.Send direct =
         pulled w After (λ reply up sent silent. with_kept w.ground_node (pull_step s).after pull)
     step_kept tick pull hears events.UpDeliver direct = up_arrives w After k (λ b bs is. k)

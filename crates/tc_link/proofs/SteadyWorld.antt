@@ -15,6 +15,7 @@ use Rattle.tc_link.proofs.Common.{directive_outcome, submit_fault, after_submiss
 use Rattle.tc_link.proofs.Common.{unless_refused, after_extraction, telemetry_outcome, World, WorldOutcome, new_world}
 use Rattle.tc_link.proofs.Common.{world_step, up_deliver_step, down_deliver_step, is_initiation}
 use Rattle.tc_link.proofs.Common.{session_after_directive, IsDirective, IsEvent, obeyed, begun}
+use Rattle.tc_link.proofs.Common.{SetVs, obeying, submitting, acknowledging}
 use Rattle.tc_frame.specs.declared.frame.SegmentFlags.TheVariants.{Alone}
 use Rattle.tc_frame.specs.Layout.{FrameView}
 use Rattle.tc_frame.specs.Decoding.{frame_at}
@@ -31,7 +32,6 @@ use Rattle.simulated_link.proofs.Unchanged.{AtEachLoss, lost, pulled, up_arrives
 use Rattle.tm_link.specs.Layout as telemetry
 use Rattle.tm_link.specs.Decoding as telemetry_reading
 use Rattle.nodes.specs.declared.event.Event.TheVariants as events
-use Rattle.nodes.specs.Ground as ground
 
 -- ---- the spacecraft
 
@@ -134,6 +134,9 @@ module _ (c : Config) (s : GroundState) (k : GroundNodeSteady c s) where
   with_so : (f : FopState SegmentView) → FopSteady c f → GroundNodeSteady c (with_fop s f)
   with_so f so = refilled_so c (record s { fop = f }) k.config so
 
+  obeys_so : (d : Directive) (f : FopState SegmentView) → FopSteady c f → GroundNodeSteady c (with_fop (obeying s d) f)
+  obeys_so d f so = refilled_so c (record (obeying s d) { fop = f }) k.config so
+
   idle_off : s.fop.state ≡ S6 → s.fop.control ≡ Idle
   idle_off is = let idle : Commanded S6 s.fop.control = rw is at k.fop.commanded in idle
 
@@ -155,15 +158,15 @@ module _ (c : Config) (s : GroundState) (k : GroundNodeSteady c s) where
   begun_so _ is fits off = absurd cc
 
   abbrev Directed : Directive → FopOutcome SegmentView (Result (Option Alert) CopFault) → Type 0
-  Directed d o = IsDirective d → GroundNodeSteady c (directive_outcome s o).after
+  Directed d o = IsDirective d → GroundNodeSteady c (directive_outcome s d o).after
 
   directive_so : (d : Directive) → Directed d (directive_step s.fop d)
   directive_so = obeyed s.fop Directed (record {
     refused = λ d fault on fits. k;
-    begins = λ d is off fits. with_so (begun s.fop d) (begun_so d is fits off);
+    begins = λ d is off fits. obeys_so d (begun s.fop d) (begun_so d is fits off);
     terminated = λ fits. with_so (after_alert s.fop) (gives_up c s.fop k.fop s.fop refl refl refl refl);
-    numbers = λ x is fits. with_so (record s.fop { vs = x; nn = x }) (set_vs_so x fits);
-    sets = λ d n limit ticks plain most fits. with_so (record s.fop { window = n; limit = limit; timer = ticks })
+    numbers = λ x is fits. obeys_so (SetVs x) (record s.fop { vs = x; nn = x }) (set_vs_so x fits);
+    sets = λ d n limit ticks plain most fits. obeys_so d (record s.fop { window = n; limit = limit; timer = ticks })
         (sets_so n limit ticks (most (c.width / 2) k.fop.window (omega (arith, k.fop.room))));
   })
 
@@ -171,7 +174,7 @@ module _ (c : Config) (s : GroundState) (k : GroundNodeSteady c s) where
       → GroundNodeSteady c (unless_refused o s (after_submission s m octets)).after
   submitted_so m octets (Some fault) = k
   submitted_so m octets None =
-      refilled_so c (record s { pending = s.pending ++ ground.segments_on s m octets }) k.config k.fop
+      refilled_so c (submitting s m octets) k.config k.fop
 
   bypassed_so : IsConfig c → (m : ℕ) (octets : List ℕ) (o : Option LinkFault) → bypass_fault s m octets ≡ o
       → GroundNodeSteady c (unless_refused o s (after_bypass s m octets)).after
@@ -190,7 +193,9 @@ module _ (c : Config) (s : GroundState) (k : GroundNodeSteady c s) where
   telemetry_so = frame_seen s (GroundNodeSteady c) (record {
     same = k;
     extracts = extracted_so;
-    uses = λ x report. refilled_so c (record (after_extraction s x) { fop = (clcw_step s.fop report).after }) k.config
+    uses = λ x report.
+        let f : FopState SegmentView = (clcw_step s.fop report).after in
+        refilled_so c (record (acknowledging (after_extraction s x) f) { fop = f }) k.config
         (report_so c s.fop k.fop report);
   })
 
@@ -284,7 +289,7 @@ module _ (c : Config) (w : World) (k : Sound c w) where
         spacecraft =
             k.spacecraft;
         before =
-            session_so d (directive_outcome w.ground_node (directive_step w.ground_node.fop d)).answer;
+            session_so d (directive_outcome w.ground_node d (directive_step w.ground_node.fop d)).answer;
       }
   step_sound events.Send fits =
       pulled w IsSound (λ reply up sent silent. record {

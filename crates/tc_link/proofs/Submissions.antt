@@ -5,7 +5,7 @@ use Rattle.tc_link.proofs.Common.{append_assoc, arith, length-append, inl, inr, 
 use Rattle.tc_link.proofs.Common.{not-false, take-append-le, drop-append-le, append-nil, SegmentView, segment_octets}
 use Rattle.tc_link.proofs.Common.{segments_of, Directive, Config, LinkFault, FitsFrame, PacketOn, packet_on}
 use Rattle.tc_link.proofs.Common.{GroundState, is_closed, segments_on, submit_fault, after_submission, bypass_fault}
-use Rattle.tc_link.proofs.Common.{after_bypass, unless_refused, World, segments_fit}
+use Rattle.tc_link.proofs.Common.{after_bypass, unless_refused, World, segments_fit, submitting}
 use Rattle.map_service.specs.Packets.{packets_in, are_taken, is_some_over}
 use Rattle.simulated_link.specs.World.{world_after_submission, world_after_bypass}
 use Rattle.nodes.proofs.Submissions.{submit_map}
@@ -111,7 +111,7 @@ module _ (early : Bool) (c : Config) (d : Directive) (base : ℕ) (w : World) (k
       fits_longer (c.width / 2) p.n p.units new p.r p.up l.fits in
       session_refilled early c d base (record w {
         ground_node =
-            record w.ground_node { pending = w.ground_node.pending ++ segments_on w.ground_node m octets };
+            submitting w.ground_node m octets;
         session =
             record w.session { submissions = w.session.submissions ++ packet_on m octets ∷ [] };
       }) (record {

@@ -328,7 +328,7 @@ module _ (c : Config) (d : Downlink) (g : Laid c d) where
   keeps (events.Directive x) =
       let s : GroundState = d.world.ground_node in
       λ sound. stays (world_step d.world (events.Directive x)).after sound refl refl
-      (directed_extracts s (directive_step s.fop x).answer (directive_step s.fop x).after (with_extracts s))
+      (directed_extracts s x (directive_step s.fop x).answer (directive_step s.fop x).after)
   keeps events.Send =
       let s : GroundState = d.world.ground_node in
       pulled d.world (Keeps events.Send) (λ reply up sent silent sound.

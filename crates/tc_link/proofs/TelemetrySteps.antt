@@ -8,7 +8,8 @@ use Rattle.tc_link.proofs.Common.{held_by, IsLaidOutBy, LinkFault, is_kept, Pack
 use Rattle.tc_link.proofs.Common.{SpacecraftState, frame_outcome, body_outcome, sequence_outcome, bypass_outcome}
 use Rattle.tc_link.proofs.Common.{is_own_frame, spacecraft_take, spacecraft_take_bypass, GroundState, GroundOutcome}
 use Rattle.tc_link.proofs.Common.{with_fop, refill_step, after_submission, after_bypass, unless_refused}
-use Rattle.tc_link.proofs.Common.{after_extraction, own_frame_outcome, segments_on}
+use Rattle.tc_link.proofs.Common.{after_extraction, own_frame_outcome}
+use Rattle.tc_link.proofs.Common.{Directive, obeying, submitting, acknowledging}
 use Rattle.std.specs.List.{concat}
 use Rattle.octets.specs.Records.{IsRecord}
 use Rattle.octets.proofs.Streams.{split_of}
@@ -98,11 +99,6 @@ module _ (s : GroundState) where
   refilled_extracts : Extracts (refill_step s)
   refilled_extracts = refilled_keeps Extracts s (λ waiting pending on off. (refl, refl))
 
-  pub directed_extracts : (r : Result (Option Alert) CopFault) (fop : FopState SegmentView)
-      → ((f : FopState SegmentView) → Extracts (with_fop s f)) → Extracts (after_directive s r fop)
-  directed_extracts (Ok alert) fop so = so fop
-  directed_extracts (Err fault) fop so = (refl, refl)
-
   pub bypass_extracts : (m : ℕ) (octets : List ℕ) (o : Option LinkFault)
       → Extracts (unless_refused o s (after_bypass s m octets)).after
   bypass_extracts m octets (Some fault) = (refl, refl)
@@ -111,10 +107,15 @@ module _ (s : GroundState) where
 pub with_extracts : (s : GroundState) (f : FopState SegmentView) → Extracts s (with_fop s f)
 with_extracts s f = refilled_extracts (record s { fop = f })
 
+pub directed_extracts : (s : GroundState) (d : Directive) (r : Result (Option Alert) CopFault)
+    (fop : FopState SegmentView) → Extracts s (after_directive s d r fop)
+directed_extracts s d (Ok alert) fop = with_extracts (obeying s d) fop
+directed_extracts s d (Err fault) fop = (refl, refl)
+
 pub submitted_extracts : (s : GroundState) (m : ℕ) (octets : List ℕ) (o : Option LinkFault)
     → Extracts s (unless_refused o s (after_submission s m octets)).after
 submitted_extracts s m octets (Some fault) = (refl, refl)
-submitted_extracts s m octets None = refilled_extracts (record s { pending = s.pending ++ segments_on s m octets })
+submitted_extracts s m octets None = refilled_extracts (submitting s m octets)
 
 -- ---- a frame is heard
 
@@ -126,4 +127,6 @@ pub word_extracts : (s : GroundState) (x : Extracted) (r : Result Clcw ClcwFault
 word_extracts s x (Err fault) = (refl, refl)
 word_extracts s x (Ok report) =
     cond_both (report.vcid == s.config.vcid) _ _ (λ (o : GroundOutcome HeardClcw). IsExtracted s x o.after)
-    (λ t. with_extracts (after_extraction s x) (clcw_step s.fop report).after) (λ t. (refl, refl))
+    (λ t.
+    let f : FopState SegmentView = (clcw_step s.fop report).after in
+    with_extracts (acknowledging (after_extraction s x) f) f) (λ t. (refl, refl))

@@ -6,8 +6,7 @@ use Rattle.tc_link.proofs.Common.{take-append-drop, take-append-le, take_all, Al
 use Rattle.tc_link.proofs.Common.{is_open, assembled, assembled-push, assembled-other, assembled_begins, segments_of}
 use Rattle.tc_link.proofs.Common.{Directive, Config, PacketOn, limits_of, World, accepted, delivered, PlainLink}
 use Rattle.std.specs.List.{concat, flat_map}
-use Rattle.std.specs.Prelude.{nat_le}
-use Rattle.std.proofs.lemmas.Bool.{cases_lt, leb-true, leb-false}
+use Rattle.std.proofs.lemmas.Bool.{cases_lt}
 use Rattle.std.proofs.lemmas.List.{append_cancel_left}
 use Rattle.std.proofs.Math.Seq.{take-append-add}
 use Rattle.octets.specs.Beginning.{IsBeginning}
@@ -20,63 +19,14 @@ use Rattle.map_service.specs.Cutting.{pieces_of, flagged_segments, parts_of, gro
 use Rattle.map_service.specs.Packets.{packets_in}
 use Rattle.map_service.proofs.Parts.{segments-joined}
 use Rattle.map_service.proofs.Passage.{cuttable_from}
-use Rattle.tc_link.specs.Whole.{without_one, left_after, whole_within, segments_each, on_board, submitted_first}
+use Rattle.nodes.specs.Fates.{whole_within}
+use Rattle.tc_link.specs.Whole.{segments_each, on_board, submitted_first}
 use Rattle.tc_link.specs.Whole.{IsOneGroup, DeliversWhole}
 use Rattle.tc_link.proofs.IdleStart.{InSession}
 use Rattle.tc_link.proofs.InOrder.{all_given, delivered_so, accepted_length, sent_length, is_in_order}
 use Rattle.tc_link.proofs.Linked.{SessionBy, Linked, IsGiven, units_of_all}
 use Rattle.tc_link.proofs.Sound.{Sound}
-
--- ---- how many first submissions are whole within so many segments
-
-left_most : (k : ℕ) (ns : List ℕ) → length (left_after k ns) ≤ length ns
-left_most zero ns = omega arith
-left_most (suc k) [] = left_most k []
-left_most (suc k) (n ∷ ns) =
-    cond_both (nat_le n 1) ns ((n - 1) ∷ ns) (λ (l : List ℕ). length (left_after k l) ≤ suc (length ns))
-    (λ t. omega (arith, left_most k ns)) (λ t. left_most k ((n - 1) ∷ ns))
-
-left_add : (i k : ℕ) (ns : List ℕ) → left_after (i + k) ns ≡ left_after k (left_after i ns)
-left_add zero k ns = let same : zero + k ≡ k = omega arith in ap (λ (j : ℕ). left_after j ns) same
-left_add (suc i) k ns =
-    let same : suc i + k ≡ suc (i + k) = omega arith in
-    ap (λ (j : ℕ). left_after j ns) same ∙ left_add i k (without_one ns)
-
-left_rises : (i k : ℕ) (ns : List ℕ) → i ≤ k → length (left_after k ns) ≤ length (left_after i ns)
-left_rises i k ns le =
-    let split : k ≡ i + (k - i) = omega (arith, le) in
-    let on : left_after k ns ≡ left_after (k - i) (left_after i ns) =
-    ap (λ (j : ℕ). left_after j ns) split ∙ left_add i (k - i) ns in
-    omega (arith, ap length on, left_most (k - i) (left_after i ns))
-
-left_within : (k n : ℕ) (ns : List ℕ) → k < n → left_after k (n ∷ ns) ≡ (n - k) ∷ ns
-left_within zero n ns lt = let same : n ≡ n - zero = omega arith in ap (λ (j : ℕ). j ∷ ns) same
-left_within (suc k) n ns lt =
-    let same : n - 1 - k ≡ n - suc k = omega arith in
-    cond_both (nat_le n 1) ns ((n - 1) ∷ ns) (λ (l : List ℕ). left_after k l ≡ (n - suc k) ∷ ns)
-    (λ t. absurd (omega (arith, leb-true n 1 t, lt)))
-    (λ t. left_within k (n - 1) ns (omega (arith, lt)) ∙ ap (λ (j : ℕ). j ∷ ns) same)
-
-left_past : (k n : ℕ) (ns : List ℕ) → 1 ≤ n → n ≤ k → left_after k (n ∷ ns) ≡ left_after (k - n) ns
-left_past zero n ns some le = absurd (omega (arith, some, le))
-left_past (suc k) n ns some le =
-    cond_both (nat_le n 1) ns ((n - 1) ∷ ns) (λ (l : List ℕ). left_after k l ≡ left_after (suc k - n) ns)
-    (λ t. let same : k ≡ suc k - n = omega (arith, leb-true n 1 t, some) in ap (λ (j : ℕ). left_after j ns) same)
-    (λ t. let more : 1 < n = leb-false n 1 t in
-    let same : k - (n - 1) ≡ suc k - n = omega (arith, more) in
-    left_past k (n - 1) ns (omega (arith, more)) (omega (arith, le)) ∙ ap (λ (j : ℕ). left_after j ns) same)
-
--- within the first submission none is whole
-whole_first : (k n : ℕ) (ns : List ℕ) → k < n → 0 ≡ whole_within k (n ∷ ns)
-whole_first k n ns lt = omega (arith, ap length (left_within k n ns lt))
-
--- past it there is one more than within the others
-whole_past : (k n : ℕ) (ns : List ℕ) → 1 ≤ n → n ≤ k → suc (whole_within (k - n) ns) ≡ whole_within k (n ∷ ns)
-whole_past k n ns some le = omega (arith, ap length (left_past k n ns some le), left_most (k - n) ns)
-
--- with more segments there are no fewer
-whole_rises : (i k : ℕ) (ns : List ℕ) → i ≤ k → whole_within i ns ≤ whole_within k ns
-whole_rises i k ns le = omega (arith, left_rises i k ns le)
+use Rattle.tc_link.proofs.WholeLists.{whole_first, whole_past, whole_rises}
 
 -- ---- segments after which more of their group comes hand nothing out
 

@@ -5,6 +5,7 @@ pub mod Configured
 pub mod Confirmation
 pub mod CountsOn
 pub mod FalseAlarms
+pub mod Fates
 pub mod History
 pub mod InOrder
 pub mod InTransit
@@ -24,3 +25,4 @@ pub mod Simulation
 pub mod Taken
 pub mod Telemetry
 pub mod Whole
+pub mod Resumed

@@ -12,8 +12,8 @@ use Rattle.nodes.specs.declared.heard.HeardClcw.{HeardClcw}
 use Rattle.nodes.specs.declared.heard.HeardReport.TheVariants.{OtherChannel}
 use Rattle.nodes.specs.Parameters.{IsConfig}
 use Rattle.nodes.specs.Ground.{GroundState, GroundOutcome, GroundEvent, Direct}
-use Rattle.nodes.specs.Ground.{Telemetry, ControlWord}
-use Rattle.nodes.specs.Ground.{new_ground, ground_step, is_closed, is_own_telemetry}
+use Rattle.nodes.specs.Ground.{Resume, Telemetry, ControlWord}
+use Rattle.nodes.specs.Ground.{new_ground, ground_step, can_resume, is_closed, is_own_telemetry}
 
 -- the ground after these calls
 abbrev pub ground_run : GroundState → List GroundEvent → GroundState
@@ -24,6 +24,7 @@ ground_run s (event ∷ more) = ground_run (ground_step s event).after more
 abbrev pub BringsNoReport : GroundState → GroundEvent → Type 0
 BringsNoReport s (Direct directive) =
     (is_initiation directive ≡ true → is_closed s.fop.state ≡ false) × (directive ≢ SetLimit 1)
+BringsNoReport s (Resume value) = can_resume s value ≡ false
 BringsNoReport s (Telemetry octets) = ⊥
 BringsNoReport s (ControlWord octets) = ⊥
 BringsNoReport s _ = Unit {0}

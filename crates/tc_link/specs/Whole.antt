@@ -1,28 +1,14 @@
 -- Submissions that are on board whole: those all of whose segments were accepted. What is delivered
 -- is their packets.
-use Rattle.std.specs.Prelude.{◌≡◌, ◌≢◌, ◌≤◌, ℕ, zero, suc, ◌-◌, List, [], ◌∷◌, length, take, map}
-use Rattle.std.specs.Prelude.{flat_map, filter, ◌==◌, nat_le, if◌then◌else◌}
+use Rattle.std.specs.Prelude.{◌≡◌, ◌≢◌, ◌≤◌, ℕ, suc, List, length, take, map}
+use Rattle.std.specs.Prelude.{flat_map, filter, ◌==◌}
 use Rattle.std.specs.List.{AllByRecursion}
 use Rattle.octets.specs.Beginning.{IsBeginning}
 use Rattle.map_service.specs.Cutting.{groups_of, segments_of}
 use Rattle.map_service.specs.Packets.{packets_in}
+use Rattle.nodes.specs.Fates.{whole_within}
 use Rattle.nodes.specs.Packets.{PacketOn}
 use Rattle.simulated_link.specs.World.{World, accepted, delivered}
-
--- How many segments are left of each submission, once one segment more is done: the oldest
--- submission has one less, and leaves with its last.
-abbrev pub without_one : List ℕ → List ℕ
-without_one [] = []
-without_one (n ∷ ns) = if nat_le n 1 then ns else (n - 1) ∷ ns
-
--- and once k more are
-abbrev pub left_after : ℕ → List ℕ → List ℕ
-left_after zero left = left
-left_after (suc k) left = left_after k (without_one left)
-
--- how many first submissions are whole with k segments more
-abbrev pub whole_within : ℕ → List ℕ → ℕ
-whole_within k left = length left - length (left_after k left)
 
 -- how many segments each submission of the session is, in its order across all MAPs
 abbrev pub segments_each : World → List ℕ

@@ -4,11 +4,13 @@ ghost use Rattle.tc_link.specs.AnyPast.{HoldsAfterAnyPast, ReportsDoAsFrames, Ru
 ghost use Rattle.tc_link.specs.Bypass.{BypassKeepsOrder};
 ghost use Rattle.tc_link.specs.Configured.{AlikeIsAsOne};
 ghost use Rattle.tc_link.specs.CountsOn.{KeepsWhatIsKnown};
+ghost use Rattle.tc_link.specs.Fates.{KnowsFates};
 ghost use Rattle.tc_link.specs.OneLink.{EachGoesOnAsOne, EachHasOneLink};
 ghost use Rattle.tc_link.specs.Progress.{EachAcknowledges, EachBegins, EachEnds, EachIsDelivered};
 ghost use Rattle.tc_link.specs.Progress.{EachMakesProgress};
 ghost use Rattle.tc_link.specs.Promises.{HoldsOfAllRuns};
 ghost use Rattle.tc_link.specs.Repeated.{RepeatsNothing, RepeatsNothingOfFrames};
+ghost use Rattle.tc_link.specs.Resumed.{ResumesInOrder, ResumesSo};
 ghost use Rattle.tc_link.specs.Silence.{SilenceIsIdle};
 ghost use Rattle.tc_link.specs.Taken.{HandsOutAsSubmitted, HandsOutWhatIsDelivered, HandsOutWhatIsSubmitted};
 
@@ -116,4 +118,24 @@ pub fn law_of_repetition()
 /// `limit`, `timer`, `part` and `queue_slots`.
 pub fn law_of_configurations()
     ensures { AlikeIsAsOne }
+{}
+
+/// What the ground says of its submissions is so. Since a session with an idle start began, whatever came
+/// before it, and until a directive sets V(S), in each state and after each alert: the numbers of
+/// submissions, of those that were sent whole and of those that are acknowledged whole are those of the
+/// records, modulo 2^64; and by the value of a report that is made now, so is that of those that are on
+/// board whole.
+pub fn law_of_submissions()
+    ensures { KnowsFates }
+{}
+
+/// One way on after an alert. A program that resumes after each alert, by the value of a report that is made
+/// when nothing is on its way up, and submits again exactly the submissions from the one on that `resume`
+/// answers, session after session, has on each MAP over all its sessions together a prefix of what it
+/// wants delivered, each packet once (`in_order`). Each of its submissions is one packet, or packets that
+/// fit into one segment together. What `resume` leaves is the ground once V(S) is set to the value and
+/// Unlock begins a session (`ground`).
+pub fn law_of_resuming()
+    ensures in_order { ResumesInOrder }
+    ensures ground { ResumesSo }
 {}

@@ -15,6 +15,21 @@ pub(crate) enum Segments {
     Several(VecDeque<OwnedSegment>),
 }
 
+impl Segments {
+    ghost use Rattle.std.specs.Prelude.{length};
+    ghost use Rattle.nodes.specs.Submissions.{segments_held};
+
+    // How many there are.
+    pub(crate) fn count(&self) -> usize
+        ensures { result ≡ length (segments_held self.now) }
+    {
+        match self {
+            Segments::One(_) => 1,
+            Segments::Several(segments) => segments.len(),
+        }
+    }
+}
+
 /// Packets that are to be submitted on a MAP and their segments, with all the memory that these need:
 /// `Ground::prepare` makes it, and `Ground::commit` takes it.
 #[derive(Drop)]

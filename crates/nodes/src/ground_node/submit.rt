@@ -80,6 +80,9 @@ impl Ground {
             ≡ (ground_step self.old (Submit submission.entry.map submission.entry.octets.now)).after }
     {
         let segments = submission.segments;
+        // (at most 127 are sent, so there is room)
+        let _ = self.fop.sent();
+        self.left.push_back_reserved(segments.count());
         match segments {
             Segments::One(segment) => self.pending.push_back_reserved(segment),
             Segments::Several(mut segments) => {

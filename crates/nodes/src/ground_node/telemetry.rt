@@ -3,6 +3,7 @@
 ghost use Rattle.std.specs.Prelude.{◌≡◌, None};
 
 use super::Ground;
+use super::fates::take_segments;
 use crate::fault::LinkFault;
 use crate::heard::{Heard, HeardClcw, HeardReport};
 use clcw::{Clcw, ClcwFault};
@@ -50,8 +51,8 @@ impl Ground {
 
     /// Takes a report that came by itself, without a telemetry frame: a CLCW as a front end hands it
     /// on (CCSDS 232.0-B-4, 4.2.1). It goes to the sender where it is of this virtual channel, as the
-    /// report that a telemetry frame carries does; telemetry is not touched. A report that is handed on
-    /// twice counts as two, so one that was given before may not come again as if it were new.
+    /// report that a telemetry frame carries does; telemetry is not touched. The last one may be handed on
+    /// again before the next, which changes nothing; an older one may not come again as if it were new.
     /// Cost: the number of segments released.
     pub fn clcw(&mut self, octets: [u8; 4]) -> HeardClcw
         ensures answer { result ≡ (ground_step self.old (ControlWord octets)).answer }
@@ -81,7 +82,10 @@ impl Ground {
         if u32::from(word.vcid) != self.config.vcid {
             return unused(HeardReport::OtherChannel);
         }
+        let nn = self.fop.nn();
         let alert = self.fop.clcw(&word);
+        let whole = take_segments(&mut self.left, self.fop.nn().wrapping_sub(nn));
+        self.acknowledged = self.acknowledged.wrapping_add(whole as u64);
         self.refill();
         HeardClcw {
             report: HeardReport::Used,

@@ -41,7 +41,6 @@ impl Sim {
     ghost use Rattle.tc_link.specs.Simulation.{record_step};
 
     // Lets an event happen, and keeps what was answered.
-    #[tactic(auto, using(simulated_link::proofs::Refusals::refused_keeps))]
     fn record_step(&mut self, event: Event<'_>) -> Result<(), SimFault>
         ensures ok { OnOk result (self.new ≡ record_step self.old event.entry) }
         ensures fault { IsOkUnless result SimFault.Memory }

@@ -1,92 +1,200 @@
-use Rattle.std.proofs.Common.{◌≡◌, ◌≤◌, ◌+◌, ◌++◌, List, length, Bool, true, if◌then◌else◌, is_ok, sym, ap, subst}
-use Rattle.std.proofs.Common.{◌∙◌}
-use Rattle.std.proofs.Common.{arith}
+use Rattle.std.proofs.Common.{◌≡◌, ◌≢◌, ◌≤◌, ◌+◌, ◌++◌, ℕ, List, [], ◌∷◌, length, Bool, true, if◌then◌else◌, is_ok}
+use Rattle.std.proofs.Common.{sym, ap, ◌∙◌, arith, length-append}
+use Rattle.std.specs.Prelude.{map, option_to_list}
+use Rattle.std.proofs.lemmas.List.{length-map}
 use Rattle.tc_frame.specs.Layout.{SegmentView}
+use Rattle.cop1.specs.declared.vocabulary.FopMode.TheVariants.{S6}
+use Rattle.nodes.specs.declared.ground_node.Ground.TheInside.{Inside}
 use Rattle.nodes.specs.declared.ground_node.submission.Segments.{Segments}
+use Rattle.nodes.specs.declared.ground_node.submission.Segments.TheVariants.{One, Several}
 use Rattle.nodes.specs.declared.ground_node.submission.Submission.{Submission}
-use Rattle.nodes.specs.Ground.{GroundState, segments_on, after_submission, refill_step, unless_refused}
-use Rattle.nodes.specs.GroundFields.{state_of}
+use Rattle.nodes.specs.Ground.{GroundState, segments_on, after_submission, outstanding, refill_step, submit_fault}
+use Rattle.nodes.specs.Ground.{unless_refused}
+use Rattle.nodes.specs.Ground.{unsent_segments}
+use Rattle.nodes.specs.GroundFields.{state_of, IsSound}
+use Rattle.nodes.specs.Parameters.{IsConfig, limits_of}
 use Rattle.nodes.specs.Submissions.{segments_held, IsSubmissionAt}
-use Rattle.nodes.proofs.Submissions.{have_places}
+use Rattle.nodes.proofs.Fates.{most_left}
+use Rattle.nodes.proofs.Owed.{AreOwed, owed_with}
+use Rattle.nodes.proofs.Submissions.{IsAccepted, is_accepted, some_segments}
 use Rattle.nodes.proofs.ground_node.Ground.commit.Goals.{in-One, in-Several}
 use Rattle.nodes.proofs.ground_node.Ground.commit.Goals as goal
 
 -- a ground as it was when the packets were prepared
 module _ (s t : GroundState) (b : Submission) (prepared : IsSubmissionAt s b) (same : t ≡ s) where
-  places : length t.pending + length (segments_held b.segments) ≤ t.config.queue_slots
-  places =
-      subst (λ (x : GroundState). length x.pending + length (segments_held b.segments) ≤ x.config.queue_slots)
-      (sym same)
-      (subst (λ (ss : List SegmentView). length s.pending + length ss ≤ s.config.queue_slots) (sym prepared.segments)
-      (have_places s b.map b.octets.now prepared.fault))
+  abbrev held : List SegmentView
+  held = segments_held b.segments
 
-  queued : (x : GroundState) (pending : List SegmentView) → x ≡ record t { pending = pending }
-      → pending ≡ t.pending ++ segments_held b.segments
-      → x ≡ record s { pending = s.pending ++ segments_on s b.map b.octets.now }
-  queued x pending is joined =
-      is ∙ ap (λ (ss : List SegmentView). record t { pending = ss })
-      (joined ∙ ap (λ (ss : List SegmentView). t.pending ++ ss) prepared.segments)
-      ∙ ap (λ (x : GroundState). record x { pending = x.pending ++ segments_on s b.map b.octets.now }) same
+  accepted : IsAccepted t b.map b.octets.now
+  accepted =
+      is_accepted t b.map b.octets.now
+      (ap (λ (x : GroundState). submit_fault x b.map b.octets.now) same ∙ prepared.fault)
+
+  held_is : held ≡ segments_on t b.map b.octets.now
+  held_is = prepared.segments ∙ ap (λ (x : GroundState). segments_on x b.map b.octets.now) (sym same)
+
+  on : t.fop.state ≢ S6
+  on off = absurd (cc (accepted.active, off))
+
+  places : length (unsent_segments t) + length held ≤ t.config.queue_slots
+  places = omega (arith, ap length held_is, accepted.places)
+
+  pending_places : length t.pending + length held ≤ t.config.queue_slots
+  pending_places = omega (arith, places, length-append (option_to_list t.fop.waiting) t.pending)
+
+  some : IsConfig t.config → 1 ≤ length held
+  some c =
+      omega (arith, ap length held_is, some_segments (limits_of t.config) b.map b.octets.now c.part.0 accepted.commands)
+
+  -- the submissions have a segment each, and there are no more than may be outstanding
+  room : AreOwed t.fop t.pending t.fates.left → length t.fop.sent ≤ 127 → IsConfig t.config
+      → 1 + length t.fates.left ≤ t.config.queue_slots + 127
+  room owed sent c =
+      omega (
+        arith,
+        most_left (length (outstanding t)) t.fates.left (owed on),
+        length-append (map (λ u. u.unit) t.fop.sent) (unsent_segments t),
+        length-map t.fop.sent (λ u. u.unit),
+        sent,
+        places,
+        some c,
+      )
+
+  queued : (x : GroundState) (pending : List SegmentView) (left : List ℕ)
+      → x ≡ record t { pending = pending; fates = record t.fates { left = left } }
+      → pending ≡ t.pending ++ held → left ≡ t.fates.left ++ length held ∷ []
+      → refill_step x ≡ after_submission s b.map b.octets.now
+  queued x pending left is joined counted =
+      ap refill_step
+      (is
+      ∙ ap (λ (ss : List SegmentView). record t { pending = ss; fates = record t.fates { left = left } }) joined
+      ∙ ap (λ (ns : List ℕ). record t { pending = t.pending ++ held; fates = record t.fates { left = ns } }) counted
+      ∙ ap (λ (ss : List SegmentView). record t {
+        pending = t.pending ++ ss;
+        fates = record t.fates { left = t.fates.left ++ length ss ∷ [] };
+      }) held_is)
+      ∙ ap (λ (x : GroundState). after_submission x b.map b.octets.now) same
 
 pub push_back_reserved-requires : goal.push_back_reserved-requires
 push_back_reserved-requires c =
-    let one : length (segments_held c.args.submission.segments) ≡ 1 =
-    ap (λ (ss : Segments). length (segments_held ss)) c.in-One.is in
-    let fits = places c.args.self.now (state_of c.self.inside) c.args.submission c.requires c.self.view_is in
-    omega (arith, one, fits, c.self.invariant.room, c.self.inside.pending.ok.0)
+    let fits = room c.args.self.now (state_of c.self.inside) c.args.submission c.requires c.self.view_is
+    c.self.invariant.owed (omega (arith, c.sent.ensures.count, c.sent.ensures.most)) c.self.invariant.config in
+    omega (arith, fits, c.self.invariant.places, c.self.inside.left.ok.0)
+
+-- one segment more is pending, or several
+
+module _ (s : GroundState) (i : Inside) (b : Submission) (prepared : IsSubmissionAt s b) (same : state_of i ≡ s)
+    (sound : IsSound i) where
+  owed : (pending : List SegmentView) (left : List ℕ) (n : ℕ) → n ≡ length (segments_held b.segments)
+      → pending ≡ i.pending.items ++ segments_held b.segments → left ≡ i.left.items ++ n ∷ []
+      → AreOwed i.fop pending left
+  owed pending left n count joined counted =
+      let one = some s (state_of i) b prepared same sound.config in
+      rw (joined, counted)
+      (owed_with i.fop i.pending.items (segments_held b.segments) i.left.items n count (omega (arith, one, count))
+      sound.owed)
+
+  fits : length i.pending.items + length (segments_held b.segments) ≤ i.config.queue_slots
+  fits = pending_places s (state_of i) b prepared same
+
+one_held : (b : Submission) (segment : SegmentView) → b.segments ≡ One segment
+    → segment ∷ [] ≡ segments_held b.segments
+one_held b segment is = sym (ap segments_held is)
+
+pub push_back_reserved-requires-in-One : goal.push_back_reserved-requires-in-One
+push_back_reserved-requires-in-One c =
+    omega (
+      arith,
+      fits c.args.self.now c.self.inside c.args.submission c.requires c.self.view_is c.self.invariant,
+      ap length (one_held c.args.submission c.in-One.segment c.in-One.is),
+      c.self.invariant.room,
+      c.self.inside.pending.ok.0,
+    )
 
 pub invariant_of-self : goal.invariant_of-self
 invariant_of-self c = record {
   config = c.self.invariant.config;
-  room = omega (arith, c.self.invariant.room, c.push_back_reserved.ensures.capacity);
+  room = omega (arith, c.self.invariant.room, c.push_back_reserved-in-One.ensures.capacity);
   packets = c.self.invariant.packets;
+  owed =
+      owed c.args.self.now c.self.inside c.args.submission c.requires c.self.view_is c.self.invariant
+      c.push_back_reserved-in-One.new.self.items c.push_back_reserved.new.self.items c.count.result c.count.ensures
+      (c.push_back_reserved-in-One.ensures.items
+      ∙ ap (λ (ss : List SegmentView). c.self.inside.pending.items ++ ss)
+      (one_held c.args.submission c.in-One.segment c.in-One.is))
+      c.push_back_reserved.ensures.items;
+  places = omega (arith, c.self.invariant.places, c.push_back_reserved.ensures.capacity);
 }
+
+several_held : (i : Inside) (b : Submission) (segments : List SegmentView)
+    → segments ≡ segments_held b.segments → (pending : List SegmentView) (joined : Bool)
+    → pending ≡ (if joined then i.pending.items ++ segments else i.pending.items) → joined ≡ true
+    → pending ≡ i.pending.items ++ segments_held b.segments
+several_held i b segments is pending joined appended ok =
+    appended ∙ ap (λ (all : Bool). if all then i.pending.items ++ segments else i.pending.items) ok
+    ∙ ap (λ (ss : List SegmentView). i.pending.items ++ ss) is
+
+module _ (c : goal.After-drop-segments) where
+  held_are : c.in-Several.segments.items ≡ segments_held c.args.submission.segments
+  held_are = sym (ap segments_held c.in-Several.is)
+
+  all_joined : is_ok c.append.result ≡ true
+  all_joined =
+      c.append.ensures.succeeds (omega (
+        arith,
+        fits c.args.self.now c.self.inside c.args.submission c.requires c.self.view_is c.self.invariant,
+        ap length held_are,
+        c.self.invariant.room,
+        c.self.inside.pending.ok.0,
+        c.in-Several.segments.ok.0,
+      ))
+
+  joined_are : c.append.new.self.items ≡ c.self.inside.pending.items ++ segments_held c.args.submission.segments
+  joined_are =
+      several_held c.self.inside c.args.submission c.in-Several.segments.items held_are c.append.new.self.items
+      (is_ok c.append.result) c.append.ensures.items all_joined
 
 pub invariant_of-self-in-Several : goal.invariant_of-self-in-Several
 invariant_of-self-in-Several c = record {
   config = c.self.invariant.config;
   room = omega (arith, c.self.invariant.room, c.append.ensures.capacity);
   packets = c.self.invariant.packets;
+  owed =
+      owed c.args.self.now c.self.inside c.args.submission c.requires c.self.view_is c.self.invariant
+      c.append.new.self.items c.push_back_reserved.new.self.items c.count.result c.count.ensures (joined_are c)
+      c.push_back_reserved.ensures.items;
+  places = omega (arith, c.self.invariant.places, c.push_back_reserved.ensures.capacity);
 }
-
-module _ (c : goal.Joined-submission) where
-  abbrev s : GroundState
-  s = c.args.self.now
-
-  abbrev b : Submission
-  b = c.args.submission
-
-  abbrev t : GroundState
-  t = state_of c.self.inside
-
-  with_segments : c.match-segments.self ≡ record s { pending = s.pending ++ segments_on s b.map b.octets.now }
-  with_segments =
-      elim c.match-segments.branch [
-        | in-One w ↦
-            queued s t b c.requires c.self.view_is c.match-segments.self w.push_back_reserved.new.self.items w.self-is
-            (w.push_back_reserved.ensures.items
-            ∙ ap (λ (ss : Segments). t.pending ++ segments_held ss) (sym w.in-One.is))
-        | in-Several w ↦
-            let count : length (segments_held b.segments) ≡ length w.in-Several.segments.items =
-            ap (λ (ss : Segments). length (segments_held ss)) w.in-Several.is in
-            let fits = places s t b c.requires c.self.view_is in
-            let ok : is_ok w.append.result ≡ true =
-            w.append.ensures.succeeds (omega (
-              arith,
-              count,
-              fits,
-              c.self.invariant.room,
-              c.self.inside.pending.ok.0,
-              w.in-Several.segments.ok.0,
-            )) in
-            queued s t b c.requires c.self.view_is c.match-segments.self w.append.new.self.items w.self-is
-            (w.append.ensures.items
-            ∙ ap (λ (is : Bool). if is then t.pending ++ w.in-Several.segments.items else t.pending) ok
-            ∙ ap (λ (ss : Segments). t.pending ++ segments_held ss) (sym w.in-Several.is))
-      ]
 
 pub returns : goal.returns
 returns c =
-    c.refill.ensures ∙ ap refill_step (with_segments c)
-    ∙ ap (λ reason. (unless_refused reason (s c) (after_submission (s c) (b c).map (b c).octets.now)).after)
-    (sym c.requires.fault)
+    let s : GroundState = c.args.self.now in
+    let b : Submission = c.args.submission in
+    let i : Inside = c.self.inside in
+    let counted = c.push_back_reserved.ensures.items
+    ∙ ap (λ (n : ℕ). i.left.items ++ n ∷ []) c.count.ensures in
+    let after : refill_step c.match-segments.self ≡ after_submission s b.map b.octets.now =
+    elim c.match-segments.branch [
+      | in-One w ↦
+          queued s (state_of i) b c.requires c.self.view_is c.match-segments.self
+          w.push_back_reserved-in-One.new.self.items c.push_back_reserved.new.self.items w.self-is
+          (w.push_back_reserved-in-One.ensures.items
+          ∙ ap (λ (ss : List SegmentView). i.pending.items ++ ss) (one_held b w.in-One.segment w.in-One.is)) counted
+      | in-Several w ↦
+          let is = sym (ap segments_held w.in-Several.is) in
+          let ok : is_ok w.append.result ≡ true =
+          w.append.ensures.succeeds (omega (
+            arith,
+            fits s i b c.requires c.self.view_is c.self.invariant,
+            ap length is,
+            c.self.invariant.room,
+            i.pending.ok.0,
+            w.in-Several.segments.ok.0,
+          )) in
+          queued s (state_of i) b c.requires c.self.view_is c.match-segments.self w.append.new.self.items
+          c.push_back_reserved.new.self.items w.self-is
+          (several_held i b w.in-Several.segments.items is w.append.new.self.items (is_ok w.append.result)
+          w.append.ensures.items ok) counted
+    ] in
+    c.refill.ensures ∙ after
+    ∙ ap (λ reason. (unless_refused reason s (after_submission s b.map b.octets.now)).after) (sym c.requires.fault)

@@ -9,12 +9,11 @@ use Rattle.cop1.specs.declared.vocabulary.Directive.{Directive}
 use Rattle.cop1.specs.FopDirective.{directive_step}
 use Rattle.cop1.proofs.DirectiveCases.{obeyed}
 use Rattle.std.proofs.lemmas.Result.{IfErr-at_err}
-use Rattle.nodes.specs.Ground.{GroundState, ground_step, Direct, after_directive}
+use Rattle.nodes.specs.Fates.{Fates}
+use Rattle.nodes.specs.Ground.{GroundState, ground_step, Direct, after_directive, with_fop}
+use Rattle.nodes.proofs.Owed.{still_owed_then}
+use Rattle.std.proofs.Common.{arith}
 use Rattle.nodes.proofs.ground_node.Ground.directive.Goals as goal
-
--- What a ground's fields keep to is kept where the sender changes.
-with_sender : (i : Inside) (fop : FopState SegmentView) → IsSound i → IsSound (record i { fop = fop })
-with_sender i fop is = record { config = is.config; room = is.room; packets = is.packets }
 
 -- What a `?` hands on of a fault.
 
@@ -49,17 +48,27 @@ returns-clause-answer c =
 
 pub returns-clause-after : goal.returns-clause-after
 returns-clause-after c =
-    let s = state_of c.self.inside in
+    let t : GroundState = state_of c.self.inside in
+    let d : Directive = c.args.directive in
+    let step = directive_step t.fop d in
     c.refill.ensures
-    ∙ ap (λ r. after_directive s r c.directive.new.self) (sym c.in_ok-alert.was ∙ c.directive.ensures.answer)
-    ∙ ap (after_directive s (directive_step s.fop c.args.directive).answer) c.directive.ensures.after
-    ∙ ap (λ (s : GroundState). (ground_step s (Direct c.args.directive)).after) c.self.view_is
-
-pub invariant_of-self : goal.invariant_of-self
-invariant_of-self c = with_sender c.self.inside c.directive.new.self c.self.invariant
+    ∙ ap (λ (fates : Fates). with_fop (record t { fates = fates }) c.directive.new.self) c.count_anew.ensures.counted
+    ∙ ap (λ r. after_directive t d r c.directive.new.self) (sym c.in_ok-alert.was ∙ c.directive.ensures.answer)
+    ∙ ap (after_directive t d step.answer) c.directive.ensures.after
+    ∙ ap (λ (s : GroundState). (ground_step s (Direct d)).after) c.self.view_is
 
 pub invariant_of-self-2 : goal.invariant_of-self-2
-invariant_of-self-2 c = with_sender c.self.inside c.directive.new.self c.self.invariant
+invariant_of-self-2 c =
+    let t : GroundState = state_of c.self.inside in
+    let owed = still_owed_then t.fop c.args.directive t.pending t.fates c.self.invariant.owed in
+    let left = ap (λ (fates : Fates). fates.left) c.count_anew.ensures.counted in
+    record {
+      config = c.self.invariant.config;
+      room = c.self.invariant.room;
+      packets = c.self.invariant.packets;
+      owed = rw (c.directive.ensures.after, left) owed;
+      places = omega (arith, c.self.invariant.places, c.count_anew.ensures.capacity);
+    }
 
 -- where the sender refuses
 module _ (c : goal.After-from_residual) where
@@ -72,12 +81,23 @@ module _ (c : goal.After-from_residual) where
   answered : refusal ≡ (directive_step s.fop c.args.directive).answer
   answered = sym c.in_err-alert.was ∙ c.directive.ensures.answer
 
-  unchanged : record s { fop = c.directive.new.self } ≡ s
-  unchanged =
-      ap (λ (fop : FopState SegmentView). record s { fop = fop })
-      (c.directive.ensures.after
+  same_fop : c.directive.new.self ≡ s.fop
+  same_fop =
+      c.directive.ensures.after
       ∙ IfErr-at_err (λ fault. (directive_step s.fop c.args.directive).after ≡ s.fop) (sym answered)
-      (refused_keeps s.fop c.args.directive))
+      (refused_keeps s.fop c.args.directive)
+
+  unchanged : record s { fop = c.directive.new.self } ≡ s
+  unchanged = ap (λ (fop : FopState SegmentView). record s { fop = fop }) same_fop
+
+pub invariant_of-self : goal.invariant_of-self
+invariant_of-self c = record {
+  config = c.self.invariant.config;
+  room = c.self.invariant.room;
+  packets = c.self.invariant.packets;
+  owed = rw (same_fop c) c.self.invariant.owed;
+  places = c.self.invariant.places;
+}
 
 pub returns-in_err-alert-clause-answer : goal.returns-in_err-alert-clause-answer
 returns-in_err-alert-clause-answer c =
@@ -87,7 +107,7 @@ returns-in_err-alert-clause-answer c =
 pub returns-in_err-alert-clause-after : goal.returns-in_err-alert-clause-after
 returns-in_err-alert-clause-after c =
     unchanged c
-    ∙ ap (λ r. after_directive (s c) r (directive_step (s c).fop c.args.directive).after) (answered c)
+    ∙ ap (λ r. after_directive (s c) c.args.directive r (directive_step (s c).fop c.args.directive).after) (answered c)
     ∙ ap (λ (s : GroundState). (ground_step s (Direct c.args.directive)).after) c.self.view_is
 
 pub returns-in_err-alert-clause-err : goal.returns-in_err-alert-clause-err

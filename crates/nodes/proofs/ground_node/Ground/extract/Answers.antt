@@ -39,4 +39,6 @@ invariant_of-self-2 c =
           subst AreWhole
           (append_assoc waiting old packets ∙ ap (λ (ps : List (List ℕ)). waiting ++ ps) (sym c.in-Ok.ensures.packets))
           all;
+      owed = c.self.invariant.owed;
+      places = c.self.invariant.places;
     }

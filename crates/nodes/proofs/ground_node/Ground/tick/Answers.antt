@@ -1,7 +1,26 @@
 use Rattle.std.proofs.Common.{ap, ◌∙◌}
+use Rattle.cop1.specs.FopTick.{tick_step}
 use Rattle.nodes.specs.Ground.{GroundState, ground_step, Tick, with_fop}
 use Rattle.nodes.specs.GroundFields.{state_of}
+use Rattle.nodes.proofs.Owed.{ticked_holds, still_owed}
 use Rattle.nodes.proofs.ground_node.Ground.tick.Goals as goal
+
+pub invariant_of-self : goal.invariant_of-self
+invariant_of-self c =
+    let s = c.self.inside in
+    let owed = still_owed s.fop (tick_step s.fop).after s.pending.items s.left.items 0 (ticked_holds s.fop)
+    c.self.invariant.owed in
+    record {
+      config = c.self.invariant.config;
+      room = c.self.invariant.room;
+      packets = c.self.invariant.packets;
+      owed = rw c.tick-alert.ensures.after owed;
+      places = c.self.invariant.places;
+    }
+
+pub returns-clause-answer : goal.returns-clause-answer
+returns-clause-answer c =
+    c.tick-alert.ensures.alert ∙ ap (λ (s : GroundState). (ground_step s Tick).answer) c.self.view_is
 
 pub returns-clause-after : goal.returns-clause-after
 returns-clause-after c =

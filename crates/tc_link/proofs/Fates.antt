@@ -1,0 +1,450 @@
+-- The ground's account of the submissions of a session is that of the records.
+use Rattle.tc_link.proofs.Common.{◌≡◌, ◌≢◌, ℕ, zero, suc, ◌+◌, ◌-◌, ◌%◌, ◌/◌, ◌<◌, ◌≤◌, ◌⊎◌, inl, inr, Bool, true, false}
+use Rattle.tc_link.proofs.Common.{List, [], ◌∷◌, ◌++◌, length, map, Option, Some, None, Result, Ok, Err, refl, ap, sym}
+use Rattle.tc_link.proofs.Common.{subst, ◌∙◌, arith, length-append, length-map, append-nil, AllByRecursion, Clcw}
+use Rattle.tc_link.proofs.Common.{SegmentView, CopFault, Alert, Directive, InitWithoutCheck, InitWithCheck, InitUnlock}
+use Rattle.tc_link.proofs.Common.{InitSetVr, directive_step, FopState, FopOutcome, FopMode, is_initiation, is_closed}
+use Rattle.tc_link.proofs.Common.{Config, TmFault, LinkFault, GroundState, GroundOutcome, refill_step, with_fop}
+use Rattle.tc_link.proofs.Common.{directive_outcome, segments_on, segments_of, submit_fault, bypass_fault, after_bypass}
+use Rattle.tc_link.proofs.Common.{after_submission, unless_refused, after_extraction, telemetry_outcome, clcw_step}
+use Rattle.tc_link.proofs.Common.{ahead_by, PacketOn, Event, World, WorldOutcome, world_step, world_run, KeepsSession}
+use Rattle.tc_link.proofs.Common.{world_after_directive, BeginsNoSession, IsIdle, IsSettled, IsEvent, accepted}
+use Rattle.tc_link.proofs.Common.{directive_of, option_map, Opening, IsChecking}
+use Rattle.tc_link.specs.Confirmation.{IsChecked}
+use Rattle.tc_link.proofs.Common.{session_begun_by, closed_not, closed_is, IsHistory, HasPlainHistory, obeyed, begun}
+use Rattle.std.specs.Prelude.{◌^◌, ◌==◌}
+use Rattle.std.specs.List.{flat_map}
+use Rattle.cop1.specs.declared.vocabulary.Directive.TheVariants.{Terminate, SetVs, SetWindow, SetLimit, SetTimer}
+use Rattle.cop1.specs.declared.vocabulary.FopMode.TheVariants.{S6}
+use Rattle.cop1.specs.declared.fault.CopFault.TheVariants.{WrongState}
+use Rattle.cop1.specs.Accepted.{accepted_beyond}
+use Rattle.cop1.specs.FopDirective.{from_S6, obeys, refuses, terminate_in}
+use Rattle.nodes.specs.Fates.{Fates, without_one, left_after, whole_within, whole_with, new_fates, with_submission}
+use Rattle.nodes.specs.Fates.{after_acknowledging, after_obeying, kept_after, submitted as submissions_of}
+use Rattle.nodes.specs.Ground.{moved_by, after_report, after_directive, known_on_board, sent_beyond}
+use Rattle.nodes.proofs.Owed.{moved_is}
+use Rattle.nodes.proofs.Fates.{fewer_left, left_more}
+use Rattle.nodes.specs.declared.event.Event.TheVariants as events
+use Rattle.simulated_link.proofs.TelemetryCases.{frame_seen}
+use Rattle.simulated_link.proofs.Unchanged.{AtEachLoss, lost, pulled, up_arrives, down_arrives}
+use Rattle.simulated_link.specs.World.{Session, submission_of, session_after_directive, session_after_report}
+use Rattle.tc_link.proofs.AnyPast.{past_holds}
+use Rattle.tc_link.proofs.CountsOn.{keeps_what_is_known}
+use Rattle.tc_link.proofs.InOrder.{has_plain_history}
+use Rattle.tc_link.proofs.Invariant.{Holding, begun_is, idle_goes, opening_stays, step_holds}
+use Rattle.tc_link.proofs.Known.{octet}
+use Rattle.tc_link.proofs.OneLink.{sent_count, accepted_count}
+use Rattle.tc_link.proofs.Promised.{promised_so}
+use Rattle.tc_link.proofs.Refilled.{refilled_keeps}
+use Rattle.tc_link.proofs.WholeLists.{total, left_with, whole_still, whole_more}
+use Rattle.tc_link.specs.Accepted.{SaysWhatWasAccepted}
+use Rattle.std.proofs.lemmas.Bool.{cases_Bool, eqb-true, eqb-false}
+use Rattle.tc_link.specs.CountsOn.{SetsNone, CountsFrom}
+use Rattle.tc_link.specs.Fates.{whole_first, CountsSubmissions, KnowsFates}
+use Rattle.tc_link.specs.Whole.{segments_each}
+use Rattle.tc_link.specs.Known.{SetsNoNumber}
+use Rattle.tm_link.specs.Decoding as telemetry_reading
+use Rattle.tm_link.specs.Layout as telemetry
+
+-- ---- the segments of submissions
+
+module _ (c : Config) where
+  abbrev segments : PacketOn → List SegmentView
+  segments p = segments_of c.part p.on_map p.octets
+
+  abbrev counts : List PacketOn → List ℕ
+  counts ps = map (λ (p : PacketOn). length (segments p)) ps
+
+  counts_total : (ps : List PacketOn) → length (flat_map segments ps) ≡ total (counts ps)
+  counts_total [] = refl
+  counts_total (p ∷ ps) = omega (arith, length-append (segments p) (flat_map segments ps), counts_total ps)
+
+  counts_with : (ps : List PacketOn) (p : PacketOn) → counts (ps ++ p ∷ []) ≡ counts ps ++ length (segments p) ∷ []
+  counts_with [] p = refl
+  counts_with (q ∷ ps) p = ap (λ (ns : List ℕ). length (segments q) ∷ ns) (counts_with ps p)
+
+-- ---- the ground's account
+
+-- the ground's account is of these submissions, of whose segments so many are acknowledged
+record Accounts (c : Config) (fates : Fates) (submissions : List PacketOn) (a : ℕ) : Type 0 where
+  kept : fates.kept ≡ true
+  left : fates.left ≡ left_after a (counts c submissions)
+  acknowledged : fates.acknowledged ≡ whole_within a (counts c submissions) % 2 ^ 64
+
+abbrev AccountsAt : Config → World → Type 0
+AccountsAt c w = Accounts c w.ground_node.fates w.session.submissions w.session.acknowledged
+
+new_accounts : (c : Config) → Accounts c (new_fates true) [] 0
+new_accounts c = record { kept = refl; left = refl; acknowledged = refl }
+
+with_accounts : (c : Config) (fates : Fates) (ps : List PacketOn) (p : PacketOn) (a n : ℕ)
+    → a ≤ length (flat_map (segments c) ps) → n ≡ length (segments c p) → Accounts c fates ps a
+    → Accounts c (with_submission n fates) (ps ++ p ∷ []) a
+with_accounts c fates ps p a n le is k =
+    let most : a ≤ total (counts c ps) = omega (arith, le, counts_total c ps) in
+    record {
+      kept = k.kept;
+      left =
+          ap (λ (ns : List ℕ). ns ++ n ∷ []) k.left
+          ∙ ap (λ (m : ℕ). left_after a (counts c ps) ++ m ∷ []) is
+          ∙ sym (left_with a (counts c ps) (length (segments c p) ∷ []) most)
+          ∙ ap (left_after a) (sym (counts_with c ps p));
+      acknowledged =
+          k.acknowledged
+          ∙ ap (λ (m : ℕ). m % 2 ^ 64)
+          (sym (whole_still a (counts c ps) (length (segments c p) ∷ []) most)
+          ∙ ap (whole_within a) (sym (counts_with c ps p)));
+    }
+
+acknowledging : (c : Config) (fates : Fates) (ps : List PacketOn) (a k b : ℕ) → b ≡ a + k → Accounts c fates ps a
+    → Accounts c (after_acknowledging k fates) ps b
+acknowledging c fates ps a k b is t =
+    let left : left_after k fates.left ≡ left_after b (counts c ps) =
+    ap (left_after k) t.left ∙ sym (left_more a k b (counts c ps) is) in
+    let more : whole_within k fates.left ≡ whole_within k (left_after a (counts c ps)) =
+    ap (whole_within k) t.left in
+    record {
+      kept = t.kept;
+      left = left;
+      acknowledged = omega (arith, t.acknowledged, more, whole_more a k b (counts c ps) is);
+    }
+
+-- ---- the ground
+
+refilled_fates : (s : GroundState) → (refill_step s).fates ≡ s.fates
+refilled_fates s = refilled_keeps (λ t. t.fates ≡ s.fates) s (λ waiting pending on closed. refl)
+
+with_fates : (s : GroundState) (f : FopState SegmentView) → (with_fop s f).fates ≡ s.fates
+with_fates s f = refilled_fates (record s { fop = f })
+
+-- a report acknowledges as many segments as NN(R) moves; telemetry without one leaves the account
+abbrev Acknowledges : GroundState → GroundState → Type 0
+Acknowledges s t =
+    ((t.fates ≡ s.fates) × (t.fop.nn ≡ s.fop.nn))
+    ⊎ (t.fates ≡ after_acknowledging (moved_by t.fop.nn s.fop.nn) s.fates)
+
+with_report : (s : GroundState) (f : FopState SegmentView) → Acknowledges s (after_report s f)
+with_report s f =
+    let counted : GroundState = record s { fates = after_acknowledging (moved_by f.nn s.fop.nn) s.fates } in
+    let nn : (with_fop counted f).fop.nn ≡ f.nn =
+    refilled_keeps (λ t. t.fop.nn ≡ f.nn) (record counted { fop = f }) (λ waiting pending on closed. refl) in
+    inr (with_fates counted f
+    ∙ ap (λ (n : ℕ). after_acknowledging (moved_by n s.fop.nn) s.fates) (sym nn))
+
+telemetry_acknowledges : (s : GroundState) (r : Result telemetry.FrameView TmFault)
+    → Acknowledges s (telemetry_outcome s r).after
+telemetry_acknowledges s = frame_seen s (Acknowledges s) (record {
+  same = inl (refl, refl);
+  extracts = λ x. inl (refl, refl);
+  uses = λ x report. with_report (after_extraction s x) (clcw_step s.fop report).after;
+})
+
+-- ---- a directive that begins no session, and sets no number
+
+off_refused : (s : FopState SegmentView) (m : FopMode) (next : FopState SegmentView) → is_closed m ≡ false
+    → from_S6 s m next ≡ refuses s WrongState
+off_refused s S6 next on = absurd cc
+off_refused s _ next on = refl
+
+abbrev KeepsAccount : World → WorldOutcome → Type 0
+KeepsAccount w o =
+    (o.after.ground_node.fates ≡ w.ground_node.fates) × (o.after.session.submissions ≡ w.session.submissions)
+    × (o.after.session.acknowledged ≡ w.session.acknowledged)
+
+module _ (w : World) where
+  obeyed_keeps : (d : Directive) → kept_after d ≡ None → is_initiation d ≡ false
+      → (r : Result (Option Alert) CopFault) (f : FopState SegmentView)
+      → KeepsAccount w (world_after_directive w d (record { answer = r; after = after_directive w.ground_node d r f }))
+  obeyed_keeps d none plain (Err fault) f = (refl, refl, refl)
+  obeyed_keeps d none plain (Ok alert) f =
+      let fates : after_obeying w.ground_node.fates d ≡ w.ground_node.fates = rw none refl in
+      (with_fates (record w.ground_node { fates = after_obeying w.ground_node.fates d }) f ∙ fates, rw plain refl,
+      rw plain refl)
+
+  refused_keeps : (d : Directive) → directive_step w.ground_node.fop d ≡ refuses w.ground_node.fop WrongState
+      → KeepsAccount w (world_after_directive w d
+      (directive_outcome w.ground_node d (directive_step w.ground_node.fop d)))
+  refused_keeps d is =
+      subst (λ o. KeepsAccount w (world_after_directive w d (directive_outcome w.ground_node d o))) (sym is)
+      (refl, refl, refl)
+
+  directive_keeps : (d : Directive) → BeginsNoSession w (events.Directive d) → SetsNoNumber w (events.Directive d)
+      → KeepsAccount w (world_step w (events.Directive d))
+  directive_keeps InitWithoutCheck goes quiet =
+      refused_keeps InitWithoutCheck (off_refused _ w.ground_node.fop.state _ (goes InitWithoutCheck refl refl))
+  directive_keeps InitWithCheck goes quiet =
+      refused_keeps InitWithCheck (off_refused _ w.ground_node.fop.state _ (goes InitWithCheck refl refl))
+  directive_keeps InitUnlock goes quiet =
+      refused_keeps InitUnlock (off_refused _ w.ground_node.fop.state _ (goes InitUnlock refl refl))
+  directive_keeps (InitSetVr x) goes quiet =
+      refused_keeps (InitSetVr x) (off_refused _ w.ground_node.fop.state _ (goes (InitSetVr x) refl refl))
+  directive_keeps (SetVs x) goes quiet =
+      refused_keeps (SetVs x) (off_refused _ w.ground_node.fop.state _ (quiet x refl))
+  directive_keeps Terminate goes quiet = obeyed_keeps Terminate refl refl _ _
+  directive_keeps (SetWindow x) goes quiet = obeyed_keeps (SetWindow x) refl refl _ _
+  directive_keeps (SetLimit x) goes quiet = obeyed_keeps (SetLimit x) refl refl _ _
+  directive_keeps (SetTimer x) goes quiet = obeyed_keeps (SetTimer x) refl refl _ _
+
+  losses : AtEachLoss w (KeepsAccount w)
+  losses = record {
+    refused = λ fault. (refl, refl, refl);
+    up = λ b bs is reply silent. (refl, refl, refl);
+    down = λ b bs is reply silent. (refl, refl, refl);
+  }
+
+-- ---- one event
+
+module _ (c : Config) (w : World) (k : AccountsAt c w) (config : w.ground_node.config ≡ c)
+    (most : w.session.acknowledged ≤ length (flat_map (segments c) w.session.submissions)) where
+  abbrev Still : WorldOutcome → Type 0
+  Still o = AccountsAt c o.after
+
+  same_account : (o : WorldOutcome) → KeepsAccount w o → Still o
+  same_account o is = rw (is.0, is.1, is.2) k
+
+  bypass_fates : (m : ℕ) (octets : List ℕ) (fault : Option LinkFault)
+      → (unless_refused fault w.ground_node (after_bypass w.ground_node m octets)).after.fates ≡ w.ground_node.fates
+  bypass_fates m octets (Some fault) = refl
+  bypass_fates m octets None = refl
+
+  submits : (m : ℕ) (octets : List ℕ) (fault : Option LinkFault)
+      → Accounts c (unless_refused fault w.ground_node (after_submission w.ground_node m octets)).after.fates
+      (w.session.submissions ++ submission_of (record { on_map = m; octets = octets })
+      (unless_refused fault w.ground_node (after_submission w.ground_node m octets)).answer) w.session.acknowledged
+  submits m octets (Some fault) = rw (append-nil w.session.submissions) k
+  submits m octets None =
+      let s : GroundState = w.ground_node in
+      let p : PacketOn = record { on_map = m; octets = octets } in
+      let n : ℕ = length (segments_on s m octets) in
+      let count : n ≡ length (segments c p) = ap (λ (x : Config). length (segments_of x.part m octets)) config in
+      subst (λ (fates : Fates). Accounts c fates (w.session.submissions ++ p ∷ []) w.session.acknowledged)
+      (sym (refilled_fates (record s { pending = s.pending ++ segments_on s m octets; fates = with_submission n s.fates })))
+      (with_accounts c s.fates w.session.submissions p w.session.acknowledged n most count k)
+
+  hears : (t : GroundState) → w.ground_node.fop.nn < 256 → Acknowledges w.ground_node t
+      → Accounts c t.fates w.session.submissions (session_after_report w.session w.ground_node t).acknowledged
+  hears t octet is = elim is [
+    | inl same ↦ (
+        let none : w.session.acknowledged ≡ w.session.acknowledged + ahead_by t.fop.nn w.ground_node.fop.nn =
+        omega (arith, same.1, octet) in
+        rw (same.0) (subst (Accounts c w.ground_node.fates w.session.submissions) none k))
+    | inr fates ↦ (
+        let moved : ahead_by t.fop.nn w.ground_node.fop.nn ≡ moved_by t.fop.nn w.ground_node.fop.nn =
+        moved_is t.fop.nn w.ground_node.fop.nn octet in
+        rw fates (acknowledging c w.ground_node.fates w.session.submissions w.session.acknowledged
+        (moved_by t.fop.nn w.ground_node.fop.nn) (w.session.acknowledged + ahead_by t.fop.nn w.ground_node.fop.nn)
+        (ap (λ (n : ℕ). w.session.acknowledged + n) moved) k))
+  ]
+
+  step_accounts : w.ground_node.fop.nn < 256 → (e : Event) → BeginsNoSession w e → SetsNoNumber w e
+      → Still (world_step w e)
+  step_accounts octet (events.Submit m octets) goes quiet =
+      submits m octets.now (submit_fault w.ground_node m octets.now)
+  step_accounts octet (events.Bypass m octets) goes quiet =
+      rw (bypass_fates m octets.now (bypass_fault w.ground_node m octets.now)) k
+  step_accounts octet (events.Directive d) goes quiet =
+      same_account (world_step w (events.Directive d)) (directive_keeps w d goes quiet)
+  step_accounts octet events.Send goes quiet =
+      pulled w Still (λ reply up sent silent. rw (with_fates w.ground_node _) k)
+  step_accounts octet events.UpDeliver goes quiet = up_arrives w Still k (λ b bs is. k)
+  step_accounts octet events.DownDeliver goes quiet =
+      down_arrives w Still k (λ b bs is. hears
+      (telemetry_outcome w.ground_node (telemetry_reading.frame_at w.ground_node.config.frame_length b)).after octet
+      (telemetry_acknowledges w.ground_node (telemetry_reading.frame_at w.ground_node.config.frame_length b)))
+  step_accounts octet events.Tick goes quiet = rw (with_fates w.ground_node _) k
+  step_accounts octet events.Report goes quiet = k
+  step_accounts octet events.Take goes quiet = k
+  step_accounts octet events.TakeBypass goes quiet = k
+  step_accounts octet (events.Telemetry octets) goes quiet = k
+  step_accounts octet e goes quiet = same_account (world_step w e) (lost w (KeepsAccount w) (losses w) e tt)
+
+-- ---- since the session began
+
+begun_kept : (d : Directive) → is_initiation d ≡ true → (fates : Fates) → after_obeying fates d ≡ new_fates true
+begun_kept d is fates = rw is refl
+
+module _ (w : World) where
+  abbrev StartsAccount : Directive → FopOutcome SegmentView (Result (Option Alert) CopFault) → Type 0
+  StartsAccount d o = is_initiation d ≡ true → is_closed w.ground_node.fop.state ≡ true
+      → (directive_outcome w.ground_node d o).after.fates ≡ new_fates true
+
+  starts_account : (d : Directive) → StartsAccount d (directive_step w.ground_node.fop d)
+  starts_account =
+      let s = w.ground_node.fop in
+      obeyed s StartsAccount (record {
+        refused = λ d fault on is off. absurd (on is (closed_is s.state off));
+        begins = λ d is off so closed.
+            with_fates (record w.ground_node { fates = after_obeying w.ground_node.fates d }) (begun s d)
+            ∙ begun_kept d is w.ground_node.fates;
+        terminated = λ is off. absurd cc;
+        numbers = λ x same is off. absurd cc;
+        sets = λ d k n ticks plain most is off. absurd (cc (plain, is));
+      })
+
+module _ (c : Config) where
+  -- the acknowledged segments are some of those submitted
+  acknowledged_most : (w : World) (h : Holding c w) → IsIdle w
+      → w.session.acknowledged ≤ length (flat_map (segments c) w.session.submissions)
+  acknowledged_most w h idle =
+      let p = has_plain_history c w h.sound (h.session idle) in
+      let units : p.plain.units ≡ flat_map (segments c) w.session.submissions =
+      p.is.units
+      ∙ ap (λ (x : Config). flat_map (λ (p : PacketOn). segments_of x.part p.on_map p.octets) w.session.submissions)
+      h.sound.ground_node.config in
+      omega (arith, p.is.acknowledged, p.is.order.0, p.is.order.1, p.is.order.2, ap length units)
+
+  -- the session goes on, and the account with it
+  record Goes (o : Option Opening) (w : World) : Type 0 where
+    holds : Holding c w
+    idle : IsIdle w
+    opening : w.session.opening ≡ o
+    accounts : AccountsAt c w
+
+  goes_on : (o : Option Opening) (w : World) → Goes o w → (es : List Event) → AllByRecursion IsEvent es
+      → KeepsSession w es → SetsNone w es → Goes o (world_run w es)
+  goes_on o w g [] fits keeps quiet = g
+  goes_on o w g (e ∷ es) fits keeps quiet =
+      let h = g.holds in
+      let small = octet c w h.sound (h.session g.idle) in
+      goes_on o (world_step w e).after (record {
+        holds = step_holds c w h e fits.0;
+        idle = idle_goes w e g.idle keeps.0;
+        opening = opening_stays w e keeps.0 ∙ g.opening;
+        accounts = step_accounts c w g.accounts h.sound.ground_node.config (acknowledged_most w h g.idle) small e keeps.0
+            quiet.0;
+      }) es fits.1 keeps.1 quiet.1
+
+  -- before the session is settled nothing is sent
+  unchecked_or_not : (d : Directive) → is_initiation d ≡ true → (d ≡ InitWithoutCheck) ⊎ IsChecked d
+  unchecked_or_not InitWithoutCheck is = inl refl
+  unchecked_or_not InitWithCheck is = inr (refl, λ e. absurd cc)
+  unchecked_or_not InitUnlock is = inr (refl, λ e. absurd cc)
+  unchecked_or_not (InitSetVr x) is = inr (refl, λ e. absurd cc)
+  unchecked_or_not _ is = absurd cc
+
+  settled_or_none : (w : World) → Holding c w → IsIdle w → (d : Directive) → is_initiation d ≡ true
+      → directive_of w ≡ Some d → IsSettled w ⊎ (length w.session.sent ≡ 0)
+  settled_or_none w h idle d is opened =
+      let s = h.session idle in
+      elim s.session [
+        | inl g ↦ inr (ap length g.linked.sent_is ∙ rw g.stage.none_sent refl)
+        | inr g ↦ inl (elim (unchecked_or_not d is) [
+          | inl without ↦ inr (opened ∙ ap Some without)
+          | inr checked ↦ inl (g.stage.confirmed_is
+              (subst IsChecking (sym opened ∙ g.linked.opened) checked))
+        ])
+      ]
+
+  -- ---- what is read of it
+
+  module _ (w : World) (h : Holding c w) (idle : IsIdle w) (k : AccountsAt c w) where
+    abbrev history : HasPlainHistory w
+    history = has_plain_history c w h.sound (h.session idle)
+
+    counts_are : segments_each w ≡ counts c w.session.submissions
+    counts_are =
+        ap (λ (x : Config). map (λ (p : PacketOn). length (segments_of x.part p.on_map p.octets)) w.session.submissions)
+        h.sound.ground_node.config
+
+    -- with so many segments more than those acknowledged
+    whole_is : (j m : ℕ) → m ≡ w.session.acknowledged + j → whole_with j w.ground_node.fates ≡ whole_first w m
+    whole_is j m is =
+        omega (
+          arith,
+          k.acknowledged,
+          ap (whole_within j) k.left,
+          whole_more w.session.acknowledged j m (counts c w.session.submissions) is,
+          ap (whole_within m) counts_are,
+        )
+
+    submitted_is : submissions_of w.ground_node.fates ≡ length w.session.submissions % 2 ^ 64
+    submitted_is =
+        omega (
+          arith,
+          k.acknowledged,
+          ap length k.left,
+          (fewer_left w.session.acknowledged (counts c w.session.submissions)).0,
+          length-map w.session.submissions (λ (p : PacketOn). length (segments c p)),
+        )
+
+    module _ (base : ℕ) (t : CountsFrom base w) where
+      half : w.ground_node.config.width / 2 ≤ 127
+      half = let it : c.width / 2 ≤ 127 = omega (arith, h.sound.ranges.width) in rw h.sound.ground_node.config it
+
+      -- V(S) is above NN(R) by those that were sent and are not acknowledged
+      sent_is : length w.session.sent ≡ w.session.acknowledged + sent_beyond w.ground_node
+      sent_is =
+          let p = history in
+          omega (
+            arith,
+            t.vs,
+            t.nn,
+            sent_count w p.base p.plain p.is,
+            p.is.acknowledged,
+            p.is.order.0,
+            p.is.order.1,
+            p.is.window,
+            half,
+          )
+
+      known_with : (value j : ℕ) → accepted_beyond w.ground_node.fop.nn w.ground_node.fop.vs value ≡ Some j
+          → known_on_board w.ground_node value ≡ Some (whole_with j w.ground_node.fates)
+      known_with value j is = rw (k.kept, is) refl
+
+      on_board : SaysWhatWasAccepted w → IsSettled w ⊎ (length w.session.sent ≡ 0)
+          → known_on_board w.ground_node w.spacecraft.farm.vr ≡ Some (whole_first w (length (accepted w)))
+      on_board says settled =
+          let f = w.ground_node.fop in
+          let p = history in
+          let sent = sent_count w p.base p.plain p.is in
+          elim (cases_Bool (f.vs == f.nn)) [
+            | inl equal ↦ (
+                let all : length (accepted w) ≡ w.session.acknowledged + 0 =
+                omega (
+                  arith,
+                  t.all (eqb-true f.vs f.nn equal),
+                  sent,
+                  accepted_count w p.base p.plain p.is,
+                  p.is.acknowledged,
+                  p.is.order.0,
+                  p.is.order.1,
+                ) in
+                known_with w.spacecraft.farm.vr 0 (rw equal refl) ∙ ap Some (whole_is 0 (length (accepted w)) all))
+            | inr two ↦ (elim settled [
+              | inl settled ↦ (
+                  let said = says.now settled (inr (eqb-false f.vs f.nn two)) in
+                  known_with w.spacecraft.farm.vr said.0 said.1
+                  ∙ ap Some (whole_is said.0 (length (accepted w)) (sym said.2)))
+              | inr none ↦ (
+                  let one : f.vs ≡ f.nn =
+                  omega (arith, t.vs, t.nn, none, sent, p.is.acknowledged, p.is.order.0, p.is.order.1) in
+                  absurd (eqb-false f.vs f.nn two one))
+            ])
+          ]
+
+pub knows_fates : KnowsFates
+knows_fates w e since r b keeps quiet fits idle =
+    let c : Config = r.config in
+    let start : World = (world_step w e).after in
+    let h = step_holds c w (past_holds w r) e fits.0 in
+    let s = subst (λ (e : Event). (world_step w e).after.session ≡ session_begun_by w b.0) (sym b.1)
+    (begun_is w b.0 b.2 b.3) in
+    let fates = subst (λ (e : Event). (world_step w e).after.ground_node.fates ≡ new_fates true) (sym b.1)
+    (starts_account w b.0 b.2 b.3) in
+    let k : AccountsAt c start = rw (fates, s) (new_accounts c) in
+    let on = goes_on c start.session.opening start (record { holds = h; idle = idle; opening = refl; accounts = k }) since
+    fits.1 keeps quiet in
+    let now : World = world_run start since in
+    let counts = keeps_what_is_known w e since r b keeps quiet fits idle in
+    let base : ℕ = start.ground_node.fop.vs in
+    let opened : directive_of now ≡ Some b.0 =
+    ap (λ (o : Option Opening). option_map (λ (o : Opening). o.directive) o)
+    (on.opening ∙ ap (λ (s : Session). s.opening) s) in
+    record {
+      submitted = submitted_is c now on.holds on.idle on.accounts;
+      sent = whole_is c now on.holds on.idle on.accounts (sent_beyond now.ground_node) (length now.session.sent)
+          (sent_is c now on.holds on.idle on.accounts base counts);
+      acknowledged = whole_is c now on.holds on.idle on.accounts 0 now.session.acknowledged (omega arith);
+      on_board = on_board c now on.holds on.idle on.accounts base counts (promised_so c now on.holds on.idle).says
+          (settled_or_none c now on.holds on.idle b.0 b.2 opened);
+    }
