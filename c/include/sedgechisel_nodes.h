@@ -39,6 +39,7 @@ enum sedge_node_status {
     SEDGE_NODE_TOO_LONG = 4,       /* a packet has more octets than it may have */
     SEDGE_NODE_QUEUE_FULL = 5,     /* as many units as may wait are waiting */
     SEDGE_NODE_MEMORY = 6,         /* there was no memory */
+    SEDGE_NODE_NOT_KNOWN = 7,      /* nothing is known of how far the session has come */
     SEDGE_NODE_ROOM = 252,         /* the room is too short; nothing was taken out */
     SEDGE_NODE_ABSENT = 253,       /* there is no record at this place, or a report says nothing of the segments */
     SEDGE_NODE_OUT_OF_RANGE = 254, /* a parameter is out of its range */
@@ -73,7 +74,7 @@ uint8_t sedge_config_fault(const struct sedge_config *config);
 
 /* Names, as tctool writes them; "?" for a number out of the enum. */
 struct sedge_text sedge_parameter_name(uint8_t number);  /* the name of a managed parameter, by its number, 1 to 15 */
-struct sedge_text sedge_link_fault_name(uint8_t number); /* the name of a sedge_node_status, 1 to 6 */
+struct sedge_text sedge_link_fault_name(uint8_t number); /* the name of a sedge_node_status, 1 to 7 */
 
 /* ---- The ground. ---- */
 
@@ -166,8 +167,9 @@ uint8_t sedge_ground_telemetry(struct sedge_ground *ground, const uint8_t *octet
                                struct sedge_heard *heard);
 
 /* Takes a report that came by itself, a CLCW as a front end hands it on (232.0-B-4, 4.2), and writes what becomes of
- * it, as sedge_ground_telemetry does of the report in a telemetry frame; telemetry is not touched. One that was given
- * before may not come again as if it were new. Returns 0, or SEDGE_NODE_ABSENT if the octets are not four. */
+ * it, as sedge_ground_telemetry does of the report in a telemetry frame; telemetry is not touched. The last one may be
+ * handed on again before the next, which changes nothing; an older one may not come again as if it were new. Returns 0,
+ * or SEDGE_NODE_ABSENT if the octets are not four. */
 uint8_t sedge_ground_clcw(struct sedge_ground *ground, const uint8_t *octets, size_t count, struct sedge_heard *heard);
 
 /* Begins to take packets out of telemetry anew, as after a restart of the spacecraft, whose counts go on elsewhere: a
@@ -191,15 +193,19 @@ uint8_t sedge_ground_take_telemetry(struct sedge_ground *ground, uint8_t *out, s
 uint8_t sedge_ground_tick(struct sedge_ground *ground);
 
 struct sedge_ground_reading {
-    size_t outstanding;  /* the number of segments that were submitted and are not acknowledged */
-    size_t frame_length; /* of telemetry, in octets */
-    uint8_t state;       /* of the sender, 1 to 6 (232.1-B-2, 5.1) */
-    uint8_t vs;          /* V(S), the number of the next segment that is sent for the first time */
-    uint8_t nn;          /* NN(R), the number that the spacecraft was last known to expect */
+    uint64_t submitted;          /* the number of submissions of the session; they count from 0. This and the two
+                                  * below: modulo 2^64, after an alert too, and 0 once V(S) is set */
+    uint64_t sent_whole;         /* how many first ones of them were sent whole, each to its last segment */
+    uint64_t acknowledged_whole; /* how many first ones are acknowledged whole, so that they are on board */
+    size_t outstanding;          /* the number of segments that were submitted and are not acknowledged */
+    size_t frame_length;         /* of telemetry, in octets */
+    uint8_t state;               /* of the sender, 1 to 6 (232.1-B-2, 5.1) */
+    uint8_t vs;                  /* V(S), the number of the next segment that is sent for the first time */
+    uint8_t nn;                  /* NN(R), the number that the spacecraft was last known to expect */
 };
 
-/* Reads the ground: the sender's state, V(S) and NN(R), what is outstanding, and how many octets a telemetry frame has.
- * It stays as it was. Returns 0. */
+/* Reads the ground: how far its submissions have come, the sender's state, V(S) and NN(R), what is outstanding, and how
+ * many octets a telemetry frame has. It stays as it was. Returns 0. */
 uint8_t sedge_ground_read(struct sedge_ground *ground, struct sedge_ground_reading *read);
 
 /* Writes how many of the segments that were sent and not acknowledged were accepted on board when a report of this
@@ -207,6 +213,18 @@ uint8_t sedge_ground_read(struct sedge_ground *ground, struct sedge_ground_readi
  * begins. If V(S) is NN(R) there are no such segments, and it writes 0 whatever the value. Returns 0, or
  * SEDGE_NODE_ABSENT if there are and the value does not lie from NN(R) to V(S), so that nothing is known of them. */
 uint8_t sedge_ground_accepted_beyond(struct sedge_ground *ground, uint8_t value, uint8_t *accepted);
+
+/* Writes how many first ones of the session's submissions are known to be on board whole by a report of this value:
+ * those that are acknowledged, and those all of whose segments it says were accepted (232.1-B-2, 5.1). It does so after
+ * an alert too. Returns 0, or SEDGE_NODE_ABSENT where nothing is known: no session has begun, V(S) was set since, or
+ * the value does not lie from NN(R) to V(S), which are not equal. */
+uint8_t sedge_ground_known_on_board(struct sedge_ground *ground, uint8_t value, uint64_t *whole);
+
+/* Begins the next session after an alert, where the last one has got to: sets V(S) to the value of a report that was
+ * made when nothing was on its way up, begins by Unlock (232.1-B-2, 5.2.4), and writes how many first ones of the
+ * submissions of the session that ended are on board whole; those after them are to be submitted again. Returns 0, or
+ * SEDGE_NODE_NOT_KNOWN. */
+uint8_t sedge_ground_resume(struct sedge_ground *ground, uint8_t value, uint64_t *whole);
 
 /* ---- The spacecraft. ---- */
 

@@ -179,6 +179,7 @@ class LinkFault(Fault):
         4: "a packet has more octets than it may have",
         5: "as many units as may wait are waiting",
         6: "there was no memory",
+        7: "nothing is known of how far the session has come",
     }
 
 

@@ -247,7 +247,8 @@ class _Heard(ctypes.Structure):
 
 
 class _GroundReading(ctypes.Structure):
-    _fields_ = [("outstanding", c_size_t), ("frame_length", c_size_t), ("state", c_uint8), ("vs", c_uint8),
+    _fields_ = [("submitted", c_uint64), ("sent_whole", c_uint64), ("acknowledged_whole", c_uint64),
+                ("outstanding", c_size_t), ("frame_length", c_size_t), ("state", c_uint8), ("vs", c_uint8),
                 ("nn", c_uint8)]
 
 
@@ -306,11 +307,15 @@ class Ground(Sender):
     def _direct(self, name: str, own: str = "", value: int = 0) -> None:
         self._asked(_ground_directive(byref(self._handle), *_directive(name, own, value)), CopFault)
 
-    def submit(self, map: int, packets: bytes) -> None:
-        """Packets are to be sent on a MAP under sequence control: one, or with blocking several, one after another. The
-        first LinkFault of 1 to 6 that applies; nothing has changed then."""
+    def submit(self, map: int, packets: bytes) -> int:
+        """Packets are to be sent on a MAP under sequence control: one, or with blocking several, one after another.
+        Returns the number of this submission in its session, from 0. The first LinkFault of 1 to 6 that applies;
+        nothing has changed then."""
         packets = _octets_of("packets", packets)
-        self._asked(_ground_submit(byref(self._handle), map, packets, len(packets)))
+        with self._lock:
+            number = self.submitted
+            self._asked(_ground_submit(byref(self._handle), map, packets, len(packets)))
+        return number
 
     def bypass(self, map: int, packet: bytes) -> None:
         """One packet is to be sent on a MAP past the sequence control, in any state. The first LinkFault of 2 to 6 that
@@ -341,8 +346,8 @@ class Ground(Sender):
 
     def clcw(self, word: bytes) -> Heard:
         """A report came by itself, a CLCW of four octets as a front end hands it on. The sender gets it as it does that
-        of a telemetry frame; telemetry is not touched. One that was given before may not come again as if it were new.
-        A ValueError for octets that are not four."""
+        of a telemetry frame; telemetry is not touched. The last one may be given again before the next, which changes
+        nothing; an older one may not come again as if it were new. A ValueError for octets that are not four."""
         octets, heard = _octets_of("word", word), _Heard()
         answer = _ground_clcw(byref(self._handle), octets, len(octets), byref(heard))
         if answer == _ABSENT:
@@ -385,6 +390,44 @@ class Ground(Sender):
             return None
         self._asked(answer)
         return accepted.value
+
+    def known_on_board(self, value: int) -> Optional[int]:
+        """How many first ones of the session's submissions are known to be on board whole by a report of this value:
+        those that are acknowledged, and those all of whose segments it says were accepted. After an alert too (232.1-B-2,
+        5.1). None where nothing is known: no session has begun, V(S) was set since, or the value does not lie from NN(R)
+        to V(S), which are not equal."""
+        whole = c_uint64()
+        answer = _ground_known_on_board(byref(self._handle), value, byref(whole))
+        if answer == _ABSENT:
+            return None
+        self._asked(answer)
+        return whole.value
+
+    def resume(self, value: int) -> int:
+        """Begins the next session after an alert, where the last one has got to: sets V(S) to the value of a report
+        that was made when nothing was on its way up, begins by Unlock (232.1-B-2, 5.2.4), and returns how many first
+        ones of the submissions of the session that ended are on board whole; those after them are to be submitted
+        again. A LinkFault, 7 NotKnown, where nothing is known of it: the sender is not in S6, no session has begun,
+        V(S) was set since, or the value does not lie from NN(R) to V(S). Nothing has changed then."""
+        whole = c_uint64()
+        self._asked(_ground_resume(byref(self._handle), value, byref(whole)))
+        return whole.value
+
+    @property
+    def submitted(self) -> int:
+        """How many submissions the session has; they are numbered from 0, in order. This and the two below: after an
+        alert too, and 0 once V(S) is set."""
+        return int(self._read().submitted)
+
+    @property
+    def sent_whole(self) -> int:
+        """How many first ones of the session's submissions were sent whole, each to its last segment."""
+        return int(self._read().sent_whole)
+
+    @property
+    def acknowledged_whole(self) -> int:
+        """How many first ones of the session's submissions are acknowledged whole, so that they are on board."""
+        return int(self._read().acknowledged_whole)
 
     def _read(self) -> _GroundReading:
         read = _GroundReading()
@@ -433,6 +476,8 @@ _ground_forget_telemetry = _call("ground_forget_telemetry", c_uint8, POINTER(_Ra
 _ground_report = _call("ground_report", c_uint8, POINTER(_Raw), c_char_p, c_size_t, POINTER(Clcw))
 _ground_take_telemetry = _call("ground_take_telemetry", c_uint8, POINTER(_Raw), c_char_p, c_size_t, POINTER(c_size_t))
 _ground_tick = _call("ground_tick", c_uint8, POINTER(_Raw))
+_ground_known_on_board = _call("ground_known_on_board", c_uint8, POINTER(_Raw), ("value", c_uint8), POINTER(c_uint64))
+_ground_resume = _call("ground_resume", c_uint8, POINTER(_Raw), ("value", c_uint8), POINTER(c_uint64))
 _ground_accepted_beyond = _call("ground_accepted_beyond", c_uint8, POINTER(_Raw), ("value", c_uint8), POINTER(c_uint8))
 _ground_read = _call("ground_read", c_uint8, POINTER(_Raw), POINTER(_GroundReading))
 

@@ -8,7 +8,9 @@ use Rattle.cop1.specs.declared.vocabulary.FopMode.TheVariants.{S1, S2, S3, S4, S
 use Rattle.cop1.specs.declared.vocabulary.Alert.{Alert}
 use Rattle.cop1.specs.declared.fault.CopFault.{CopFault}
 use Rattle.cop1.specs.Faults.{fault_row as cop_row}
-use Rattle.nodes.specs.Ground.{GroundState, GroundEvent, Direct, ground_step, outstanding}
+use Rattle.nodes.specs.Ground.{GroundState, GroundEvent, Direct, Resume, ground_step, outstanding}
+use Rattle.nodes.specs.Ground.{sent_beyond}
+use Rattle.nodes.specs.Fates.{submitted, whole_with}
 use Rattle.nodes.specs.declared.fault.LinkFault.{LinkFault}
 use Rattle.nodes.specs.Faults.{fault_row}
 use Rattle.sedgechisel_nodes.specs.declared.readings.GroundReading.{GroundReading}
@@ -51,12 +53,26 @@ pub record IsDirected (named : Option Directive) (old new : Option GroundState) 
   pub answer_is : answer ≡ unwrap_or (option_map (directive_answer old) named) closed
   pub after : new ≡ unwrap_or (option_map (λ d. stepped old (Direct d)) named) old
 
+-- what a call that resumes answers and writes, and the ground before and after it
+abbrev pub IsResumption : Result ℕ LinkFault → ℕ → ℕ → ℕ → Type 0
+IsResumption (Ok whole) answer v v' = (answer ≡ 0) × (v' ≡ whole)
+IsResumption (Err fault) answer v v' = (answer ≡ (fault_row fault).0) × (v' ≡ v)
+
+pub record IsResumed (value : ℕ) (old new : Option GroundState) (answer v v' : ℕ) : Type 0 where
+  pub none : old ≡ None → (answer ≡ closed) × (v' ≡ v)
+  pub answer_is : IfSome old
+      (λ s. IsResumption (ground_step s (Resume value)).answer answer v v')
+  pub after : new ≡ stepped old (Resume value)
+
 -- the sender's state (CCSDS 232.1-B-2, 5.1)
 abbrev pub mode_number : FopMode → ℕ
 mode_number mode = elim mode [ S1 ↦ 1 | S2 ↦ 2 | S3 ↦ 3 | S4 ↦ 4 | S5 ↦ 5 | S6 ↦ 6 ]
 
 abbrev pub reading_of : GroundState → GroundReading
 reading_of s = record {
+  submitted = submitted s.fates;
+  sent_whole = whole_with (sent_beyond s) s.fates;
+  acknowledged_whole = whole_with 0 s.fates;
   outstanding = length (outstanding s);
   frame_length = s.config.frame_length;
   state = mode_number s.fop.state;

@@ -44,7 +44,7 @@ abbrev pub link_fault_word : ℕ → List ℕ
 link_fault_word n =
     name_by link_faults.fault_row
     (link.NotOpen ∷ link.ClosedMap ∷ link.NotCommand ∷ link.TooLong ∷ link.QueueFull ∷ link.Memory
-    ∷ []) n
+    ∷ link.NotKnown ∷ []) n
 
 abbrev pub sim_fault_word : ℕ → List ℕ
 sim_fault_word n =

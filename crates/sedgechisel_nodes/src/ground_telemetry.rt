@@ -153,8 +153,9 @@ fn kept_word(word: HeardClcw) -> KeptHeard
 }
 
 /// Takes a report that came by itself, a CLCW as a front end hands it on (232.0-B-4, 4.2), and writes what becomes of
-/// it, as `sedge_ground_telemetry` does of the report in a telemetry frame; telemetry is not touched. One that was
-/// given before may not come again as if it were new. Returns 0, or `SEDGE_NODE_ABSENT` if the octets are not four.
+/// it, as `sedge_ground_telemetry` does of the report in a telemetry frame; telemetry is not touched. The last one may
+/// be handed on again before the next, which changes nothing; an older one may not come again as if it were new.
+/// Returns 0, or `SEDGE_NODE_ABSENT` if the octets are not four.
 #[unsafe(no_mangle)]
 pub extern "C" fn sedge_ground_clcw(
     alloc: Global,

@@ -3,6 +3,7 @@
 ghost use Rattle.std.specs.Prelude.{◌≡◌, Some};
 ghost use Rattle.sedgechisel_nodes.specs.Spacecraft.{board_reading_of, farm_mode_number};
 ghost use Rattle.cop1.specs.Accepted.{accepted_beyond};
+ghost use Rattle.nodes.specs.Ground.{known_on_board};
 ghost use Rattle.sedgechisel_nodes.specs.Calls.{IsRead};
 ghost use Rattle.sedgechisel_nodes.specs.Ground.{mode_number, reading_of};
 
@@ -17,6 +18,13 @@ use std::alloc::Global;
 #[repr(C)]
 #[derive(Clone, Copy)]
 pub struct GroundReading {
+    /// The number of submissions of the session; they count from 0. This and the two below: modulo 2^64, after an
+    /// alert too, and 0 once V(S) is set.
+    pub submitted: u64,
+    /// How many first ones of them were sent whole, each to its last segment.
+    pub sent_whole: u64,
+    /// How many first ones are acknowledged whole, so that they are on board.
+    pub acknowledged_whole: u64,
     /// The number of segments that were submitted and are not acknowledged.
     pub outstanding: usize,
     /// Of telemetry, in octets.
@@ -39,6 +47,9 @@ fn reading(node: &Ground) -> GroundReading
     ensures { result ≡ reading_of node.now }
 {
     GroundReading {
+        submitted: node.submitted(),
+        sent_whole: node.sent_whole(),
+        acknowledged_whole: node.acknowledged_whole(),
         outstanding: node.outstanding(),
         frame_length: node.frame_length(),
         state: number_of_mode(node.state()),
@@ -47,8 +58,8 @@ fn reading(node: &Ground) -> GroundReading
     }
 }
 
-/// Reads the ground: the sender's state, V(S) and NN(R), what is outstanding, and how many octets a telemetry frame
-/// has. It stays as it was. Returns 0.
+/// Reads the ground: how far its submissions have come, the sender's state, V(S) and NN(R), what is outstanding, and
+/// how many octets a telemetry frame has. It stays as it was. Returns 0.
 #[unsafe(no_mangle)]
 pub extern "C" fn sedge_ground_read(
     alloc: Global,
@@ -131,5 +142,25 @@ pub extern "C" fn sedge_ground_accepted_beyond(
         alloc,
         ground,
         |node| write(node.accepted_beyond(value), accepted)
+    )
+}
+
+/// Writes how many first ones of the session's submissions are known to be on board whole by a report of this value:
+/// those that are acknowledged, and those all of whose segments it says were accepted (232.1-B-2, 5.1). It does so
+/// after an alert too. Returns 0, or `SEDGE_NODE_ABSENT` where nothing is known: no session has begun, V(S) was set
+/// since, or the value does not lie from NN(R) to V(S), which are not equal.
+#[unsafe(no_mangle)]
+pub extern "C" fn sedge_ground_known_on_board(
+    alloc: Global,
+    ground: &mut GroundHandle,
+    value: u8,
+    whole: &mut u64,
+) -> u8
+    ensures { IsRead (λ s. known_on_board s value) ground.old.value ground.new.value result whole.old whole.new }
+{
+    held!(
+        alloc,
+        ground,
+        |node| write(node.known_on_board(value), whole)
     )
 }

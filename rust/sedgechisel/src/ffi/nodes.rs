@@ -98,6 +98,9 @@ pub struct Heard {
 #[repr(C)]
 #[derive(Clone, Copy, Debug, Default)]
 pub struct GroundReading {
+    pub submitted: u64,
+    pub sent_whole: u64,
+    pub acknowledged_whole: u64,
     pub outstanding: usize,
     pub frame_length: usize,
     pub state: u8,
@@ -361,6 +364,8 @@ unsafe extern "C" {
     pub safe fn sedge_ground_tick(ground: &mut Ground) -> u8;
     pub safe fn sedge_ground_read(ground: &mut Ground, read: &mut GroundReading) -> u8;
     pub safe fn sedge_ground_accepted_beyond(ground: &mut Ground, value: u8, accepted: &mut u8) -> u8;
+    pub safe fn sedge_ground_known_on_board(ground: &mut Ground, value: u8, whole: &mut u64) -> u8;
+    pub safe fn sedge_ground_resume(ground: &mut Ground, value: u8, whole: &mut u64) -> u8;
 
     pub safe fn sedge_spacecraft_open(config: &Config, spacecraft: &mut Spacecraft) -> u8;
     pub safe fn sedge_spacecraft_close(spacecraft: &mut Spacecraft);

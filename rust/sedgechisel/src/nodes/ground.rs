@@ -175,7 +175,8 @@ impl Ground {
     }
 
     /// A report came by itself, a CLCW as a front end hands it on. The sender gets it as it does that of a telemetry
-    /// frame; telemetry is not touched. One that was given before may not come again as if it were new.
+    /// frame; telemetry is not touched. The last one may be given again before the next, which changes nothing; an older
+    /// one may not come again as if it were new.
     pub fn clcw(&mut self, octets: &[u8; 4]) -> HeardClcw {
         let mut heard = raw::Heard::default();
         done(raw::ground_clcw(self.0.get(), octets, &mut heard));
@@ -228,6 +229,47 @@ impl Ground {
         let mut accepted = 0;
         let known = self.0.is_there(|it| raw::sedge_ground_accepted_beyond(it, value, &mut accepted));
         known.then_some(accepted)
+    }
+
+    /// The number of first ones of the session's submissions that are known to be on board whole by a report of this
+    /// value: those that are acknowledged, and those all of whose segments it says were accepted. After an alert too
+    /// (CCSDS 232.1-B-2, 5.1). `None` where nothing is known: no session has begun, V(S) was set since, or the value
+    /// does not lie from NN(R) to V(S), which are not equal.
+    #[must_use]
+    pub fn known_on_board(&self, value: u8) -> Option<u64> {
+        let mut whole = 0;
+        let known = self.0.is_there(|it| raw::sedge_ground_known_on_board(it, value, &mut whole));
+        known.then_some(whole)
+    }
+
+    /// Begins the next session after an alert, where the last one has got to: sets V(S) to the value of a report that
+    /// was made when nothing was on its way up, begins by Unlock (CCSDS 232.1-B-2, 5.2.4), and returns the number of
+    /// first ones of the submissions of the session that ended that are on board whole; those after them are to be
+    /// submitted again. Refused with 7 [`NotKnown`](LinkFault::NotKnown) alone: the sender is not in S6, no session has
+    /// begun, V(S) was set since, or the value does not lie from NN(R) to V(S). Nothing has changed then.
+    pub fn resume(&mut self, value: u8) -> Result<u64, LinkFault> {
+        let mut whole = 0;
+        LinkFault::judge(raw::sedge_ground_resume(self.0.get(), value, &mut whole))?;
+        Ok(whole)
+    }
+
+    /// The number of submissions of the session; they are numbered from 0, in order. This and the two below: modulo
+    /// 2^64, after an alert too, and 0 once V(S) is set.
+    #[must_use]
+    pub fn submitted(&self) -> u64 {
+        self.read().submitted
+    }
+
+    /// The number of first ones of the session's submissions that were sent whole, each to its last segment.
+    #[must_use]
+    pub fn sent_whole(&self) -> u64 {
+        self.read().sent_whole
+    }
+
+    /// The number of first ones of the session's submissions that are acknowledged whole, so that they are on board.
+    #[must_use]
+    pub fn acknowledged_whole(&self) -> u64 {
+        self.read().acknowledged_whole
     }
 
     fn read(&self) -> raw::GroundReading {
