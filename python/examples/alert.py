@@ -32,8 +32,8 @@ with sc.Ground(config) as ground, sc.Spacecraft(config) as spacecraft:
         now, alert = now + 1, sc.Alert.NONE
         for frame in arrived(up):
             spacecraft.receive(frame)
-        while (taken := spacecraft.take()) is not None:
-            print(f"tick {now}: packet {sc.Packet.decode(taken[1])[0].count} is delivered")
+        for _, packet in spacecraft.packets():
+            print(f"tick {now}: packet {sc.Packet.decode(packet)[0].count} is delivered")
         send(down, spacecraft.report())
         for frame in arrived(down):
             nn, heard = ground.nn, ground.telemetry(frame)
@@ -61,6 +61,6 @@ with sc.Ground(config) as ground, sc.Spacecraft(config) as spacecraft:
             for packet in packets[submitted:]:
                 ground.submit(4, packet)
             submitted = len(packets)
-            while (frame := ground.pull()) is not None:
+            for frame in ground.frames():
                 send(up, frame)
 print(f"tick {now}: all are acknowledged")

@@ -11,7 +11,7 @@ with sc.Ground(config) as ground, sc.Spacecraft(config) as spacecraft:
         ground.submit(map=4, packets=sc.Packet(apid=5, count=k, kind=1, flags=3).encode(b"hello"))
     print("ground              spacecraft")
     while ground.outstanding:
-        while (frame := ground.pull()) is not None:
+        for frame in ground.frames():
             number, is_lost = sc.TcFrame.decode(frame)[0].n, chance.randrange(3) == 0
             came = "x" if is_lost else f"-----> {spacecraft.receive(frame).verdict.word}"
             print(f"AD {number} -----{came}")
@@ -19,5 +19,5 @@ with sc.Ground(config) as ground, sc.Spacecraft(config) as spacecraft:
         print(f"     {'     x' if is_lost else '<-----'}----- V(R)={word.value}{', again' * (word.flags > 0)}")
         alert = ground.tick() if is_lost else ground.telemetry(frame).alert or ground.tick()
         assert alert == sc.Alert.NONE, alert
-    while (taken := spacecraft.take()) is not None:
-        print(f"MAP {taken[0]}: packet {sc.Packet.decode(taken[1])[0].count}")
+    for map, packet in spacecraft.packets():
+        print(f"MAP {map}: packet {sc.Packet.decode(packet)[0].count}")

@@ -7,7 +7,7 @@ from dataclasses import dataclass
 from enum import IntEnum
 from threading import RLock
 from types import TracebackType
-from typing import Any, Callable, Dict, Optional, Tuple, Type, TypeVar
+from typing import Any, Callable, Dict, Iterator, Optional, Tuple, Type, TypeVar
 
 from ._calls import Alert, Clcw, Command, Mode, Verdict, _directive, _dropped_word, _Struct
 from ._faults import ClcwFault, ConfigFault, CopFault, Fault, LinkFault, TcFault, TelemetryFault, TmFault
@@ -328,6 +328,11 @@ class Ground(Sender):
         nothing is to be sent now."""
         return self._given(_ground_pull, 1024) or None
 
+    def frames(self) -> Iterator[bytes]:
+        """Pulls frames until nothing is to be sent. Each counts as sent when it is given; those that are not asked for
+        stay in the ground."""
+        return iter(self.pull, None)
+
     def peek(self) -> Optional[bytes]:
         """The telecommand frame that goes on the link next, as `pull` gives it; None where nothing is to be sent now.
         The ground stays as it is: the frame counts as sent once `advance` is called, as where a radio that may refuse
@@ -373,6 +378,11 @@ class Ground(Sender):
     def take_telemetry(self) -> Optional[bytes]:
         """Takes the oldest packet that telemetry frames carried, or None."""
         return self._given(_ground_take_telemetry, _LONGEST) or None
+
+    def packets(self) -> Iterator[bytes]:
+        """Takes the packets that telemetry frames carried, the oldest first, until none is left. Those that are not
+        asked for stay in the ground."""
+        return iter(self.take_telemetry, None)
 
     def tick(self) -> Alert:
         """A tick of the clock has passed: the Alert."""
@@ -517,6 +527,15 @@ class Spacecraft(Handle):
     def take_bypass(self) -> Optional[Tuple[int, bytes]]:
         """The same of the packets that came past the sequence control."""
         return self._taken(_spacecraft_take_bypass)
+
+    def packets(self) -> Iterator[Tuple[int, bytes]]:
+        """Takes the packets of sequence-controlled frames, the oldest first, each with its MAP, until none is left.
+        Those that are not asked for stay on board."""
+        return iter(self.take, None)
+
+    def bypass_packets(self) -> Iterator[Tuple[int, bytes]]:
+        """The same of the packets that came past the sequence control."""
+        return iter(self.take_bypass, None)
 
     def telemetry(self, packet: bytes) -> None:
         """A packet is to be sent as telemetry. A TelemetryFault: 8 NotAPacket where the octets are not exactly one

@@ -334,12 +334,12 @@ def longest_nodes(it):
         reports_alone(it, ground, down, board.control_word.encode())
         ground.submit(63, command)
         assert (ground.state, ground.vs, ground.nn, ground.outstanding) == (it.State.S1, 255, 255, 65)
-        frames = [ground.pull() for _ in range(65)]
+        frames = [ground.pull(), *ground.frames()]
         assert [len(frame) for frame in frames] == [1024] * 64 + [526] and ground.pull() is None
         accepted = {"kind": it.Arrived.AD, "verdict": it.Verdict.ACCEPTED}
         assert [board.receive(frame) for frame in frames] == [
             it.Received(n=(255 + k) % 256, ready=k // 64, **accepted) for k in range(65)]
-        assert board.take() == (63, command) and board.take() is None and ground.accepted_beyond(64) == 65
+        assert board.take() == (63, command) and [*board.packets()] == [] and ground.accepted_beyond(64) == 65
         ground.advance()
         assert ground.peek() is None
         ground.bypass(63, it.Packet(kind=1).encode(DATA[:1010]))
@@ -348,14 +348,14 @@ def longest_nodes(it):
         ground.advance()
         assert ground.peek() is None
         assert len(octets) == 1024 and board.receive(octets) == it.Received(it.Arrived.BD, kept=True)
-        assert board.take_bypass() == (63, octets[6:-2]) and board.take_bypass() is None
+        assert board.take_bypass() == (63, octets[6:-2]) and [*board.bypass_packets()] == []
         for _ in range(255):
             board.report()
         board.telemetry(packet)
         heard = [ground.telemetry(board.report()) for _ in range(33)]
         assert [one.gap for one in heard] == [255] + [0] * 32 and [one.packets for one in heard] == [0] * 32 + [1]
         assert (ground.nn, ground.outstanding) == (64, 0) and ground.take_telemetry() == packet
-        assert ground.take_telemetry() is None and ground.tick() == it.Alert.NONE and not ground.closed
+        assert [*ground.packets()] == [] and ground.tick() == it.Alert.NONE and not ground.closed
         ground.close()
         assert ground.closed
 

@@ -143,6 +143,8 @@ BY = {
     **{f"Link.{name}": f"_read {name}" for name in ("state", "outstanding", "acknowledged", "begun", "clean", "idle",
                                                     "confirmed")},
     "Link._shown": "_read state outstanding acknowledged",
+    "Ground.frames": "iter pull", "Ground.packets": "iter take_telemetry", "Spacecraft.packets": "iter take",
+    "Spacecraft.bypass_packets": "iter take_bypass",
 }
 # Methods that make none at all.
 NONE = {"TmFrame.__init__", "TmFrame.ocf", "TmBuilder.waiting", "TmExtractor.__init__", "Map.__init__", "Clcw.__init__",
@@ -176,11 +178,14 @@ def calls_in(function, known):
 
 
 def reads_in(function):
-    """What a function makes its call by: `_entries` and the record, or `_read` and the fields that it reads."""
+    """What a function makes its call by: `_entries` and the record, `_read` and the fields that it reads, or `iter` and
+    the method."""
     found = []
     for node in ast.walk(function):
         if isinstance(node, ast.Call) and getattr(node.func, "attr", "") in ("_entries", "_read"):
             found += [node.func.attr, *(one.id for one in node.args[:1])]
+        if isinstance(node, ast.Call) and getattr(node.func, "id", "") == "iter":
+            found += ["iter", *(one.attr for one in node.args[:1])]
     read = [node for node in ast.walk(function) if isinstance(node, ast.Attribute)
             and (isinstance(node.value, ast.Call) or getattr(node.value, "id", "") in ("it", "read"))]
     fields = {node.attr: (node.lineno, node.col_offset) for node in read}
