@@ -6,6 +6,7 @@
   in telemetry frames (`TmBuilder`, `TmExtractor`).
 - Nodes: the ground (`Ground`) and the spacecraft (`Spacecraft`), with their queues, and the simulated link between them
   (`Link`).
+- Files: `read_frames` reads telemetry frames.
 
 Octets are `bytes`. What the library refuses is a `Fault` with its number and its name, those of the headers for C, and
 its meaning. The fields of structs are those of the headers too; a number that does not fit its field is an
@@ -18,6 +19,7 @@ from ._calls import (
 from ._faults import (
     CheckFault, ClcwFault, ConfigFault, CopFault, Fault, LinkFault, MapFault, PacketFault, SimFault, TcFault,
     TelemetryFault, TmFault)
+from ._files import read_frames
 from ._link import Begun, Link
 from ._nodes import Arrived, Config, Ground, Heard, Received, Report, Spacecraft, State
 
@@ -27,4 +29,5 @@ __all__ = [
     "ConfigFault", "CopFault", "Farm", "Fault", "Flags", "Fop", "Ground", "Heard", "Kind", "Link", "LinkFault", "Map",
     "MapFault", "Mode", "Next", "Packet", "PacketFault", "PacketKind", "Received", "Report", "Segment", "SequenceFlags",
     "SimFault", "Spacecraft", "State", "TcFault", "TcFrame", "TelemetryFault", "TmBuilder", "TmExtractor", "TmFault",
-    "TmFrame", "Verdict", "accepted_beyond", "check", "check_append", "check_holds", "segments", "version"]
+    "TmFrame", "Verdict", "accepted_beyond", "check", "check_append", "check_holds", "read_frames", "segments",
+    "version"]

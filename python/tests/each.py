@@ -3,6 +3,7 @@ threads that share an object."""
 import ctypes
 import enum
 import inspect
+import io
 import sys
 import threading
 
@@ -231,6 +232,7 @@ def longest_frames(it):
     octets = frame.encode(DATA[:2036])
     assert len(octets) == 2048 and octets[:6].hex() == "3fffffff1ff3" and octets[2042:2046] == frame.ocf
     assert it.TmFrame.decode(octets, 2048) == it.TmFrame.decode(octets) == (frame, DATA[:2036])
+    assert [*it.read_frames(io.BytesIO(octets * 100), 2048)] == [octets] * 100
     word = it.Clcw(status=7, vcid=63, flags=0xF8, farm_b=3, value=255)
     assert word.encode().hex() == "1dfcfeff" and it.Clcw.decode(word.encode()) == word
     assert it.check_append(DATA) == DATA[:-2] + it.check(DATA[:-2]).to_bytes(2, "big")
@@ -403,16 +405,17 @@ def callables(it):
             if name[0] != "_" and callable(getattr(type(one), name)):
                 yield f"{type(one).__name__}.{name}", getattr(one, name)
     yield "Config", it.Config
-    for name in ("accepted_beyond", "check", "check_append", "check_holds", "segments"):
+    for name in ("accepted_beyond", "check", "check_append", "check_holds", "read_frames", "segments"):
         yield name, getattr(it, name)
 
 
 def each_wrong_argument(it):
     """A value of a wrong type is a TypeError, and a number that does not fit an OverflowError; both name it."""
     right = {"int": 1, "Optional[int]": 1, "bytes": bytes(4), "bool": False, "Clcw": it.Clcw(), "TmFrame": it.TmFrame(),
-             "Optional[Config]": None}
+             "Optional[Config]": None, "Readable": io.BytesIO()}
     wrong = {"int": ("1", 1.0, None, b"1"), "bytes": ("1", 1, None), "Clcw": ("1", 1, None, it.TmFrame()),
-             "TmFrame": ("1", 1, None, it.Clcw()), "Optional[Config]": ("1", 1, it.Clcw()), "Optional[int]": ("1", 1.0)}
+             "TmFrame": ("1", 1, None, it.Clcw()), "Optional[Config]": ("1", 1, it.Clcw()), "Optional[int]": ("1", 1.0),
+             "Readable": ("1", 1, None)}
     tried = 0
     for name, call in callables(it):
         parameters = {own: one for own, one in inspect.signature(call).parameters.items() if own != "fields"}
@@ -422,8 +425,8 @@ def each_wrong_argument(it):
                 says(TypeError, f"{own}: ", call, **{**given, own: value})
             tried += 1
             for value in (-1, 2**64) if "int" in kind else ():
-                says(ValueError if name == "TmExtractor" else OverflowError, f"{own}: {value} is not in ", call,
-                     **{**given, own: value})
+                says(ValueError if name in ("TmExtractor", "read_frames") else OverflowError,
+                     f"{own}: {value} is not in ", call, **{**given, own: value})
     assert tried > 100, tried
     for one in (*owners(it)[:6], it.Config()):
         for own, kind in one._fields_:
