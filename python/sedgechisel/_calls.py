@@ -637,7 +637,14 @@ class TmExtractor(Single):
         if not 7 <= _number_of("longest", longest) <= 65542:
             raise ValueError(f"longest: {longest} is not in 7 to 65542")
         self._extractor, self._memory = _TmExtractor(), ctypes.create_string_buffer(longest + 2036)
-        self._lock = RLock()
+        self._dropped, self._lock = 0, RLock()
+
+    @property
+    def dropped(self) -> int:
+        """The number of packets so far that were begun and dropped: frames are missing after their first octets, or a
+        frame does not go on with them (docs/PROFILE.md, "Extraction", 1 to 4). Idle packets do not count, unless only
+        one octet of one had come. Packets that are missing from their first octet on show in the sequence counts."""
+        return self._dropped
 
     def take(self, frame: TmFrame, data: bytes) -> Tuple[List[bytes], Optional[int]]:
         """Takes the next frame that came, a TmFrame and its data: the packets whose last octets it has, but for idle ones,
@@ -645,13 +652,31 @@ class TmExtractor(Single):
         pointer after the data, and 7 Memory where the packets need more memory; then the frame counts as missing."""
         data, extracted = _octets_of("data", data), _TmExtracted()
         with self._lock:
+            begun = self._begun()
             TmFault._look_at(_tm_extractor_frame(
                 byref(self._extractor), _struct_of("frame", TmFrame, frame), data, len(data), self._memory,
                 len(self._memory), byref(extracted)))
             packets = [ctypes.string_at(self._memory, extracted.joined)] if extracted.joined else []
+            goes_on = frame.pointer == NO_START and self._extractor.count > 0
+            if begun and not packets and not goes_on:
+                self._dropped += not _is_idle(begun + (b"" if extracted.lost else _before_start(frame.pointer, data)))
         while _tm_packet(data, len(data), byref(extracted.packets)):
             packets.append(extracted.packets.of(data))
         return packets, None if extracted.first else extracted.lost
+
+    def _begun(self) -> bytes:
+        """The first octets of the packet whose end is to come, two at most; none where there is none."""
+        return ctypes.string_at(byref(self._memory, self._extractor.start), min(self._extractor.count, 2))
+
+
+def _before_start(pointer: int, data: bytes) -> bytes:
+    """The octets of a frame's data before the first packet that starts in it."""
+    return data if pointer == NO_START else b"" if pointer == ONLY_IDLE else data[:pointer]
+
+
+def _is_idle(octets: bytes) -> bool:
+    """Whether they begin an idle packet (133.0-B-2, 4.1.3.3.4)."""
+    return len(octets) > 1 and octets[0] & 7 == 7 and octets[1] == 255
 
 
 _tm_builder_open = _call("tm_builder_open", c_uint8, POINTER(_TmBuilder), ("scid", c_uint16), ("vcid", c_uint8),

@@ -252,6 +252,7 @@ def longest_telemetry(it):
     assert found == [packet] * 2
     frame = it.TmFrame(vc_count=63, pointer=it.ONLY_IDLE)
     assert extractor.take(frame, bytes(2036)) == ([], 254)  # the last count was 64, of 65 frames
+    assert extractor.dropped == 0
 
 
 def longest_segments(it):

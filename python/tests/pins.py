@@ -147,9 +147,9 @@ BY = {
     "Spacecraft.bypass_packets": "iter take_bypass",
 }
 # Methods that make none at all.
-NONE = {"TmFrame.__init__", "TmFrame.ocf", "TmBuilder.waiting", "TmExtractor.__init__", "Map.__init__", "Clcw.__init__",
-        "TcFrame.__init__", "Packet.__init__", "Config.__init__", "Spacecraft._taken", "Link._taken",
-        "Sender._direct"}
+NONE = {"TmFrame.__init__", "TmFrame.ocf", "TmBuilder.waiting", "TmExtractor.__init__", "TmExtractor.dropped",
+        "TmExtractor._begun", "Map.__init__", "Clcw.__init__", "TcFrame.__init__", "Packet.__init__", "Config.__init__",
+        "Spacecraft._taken", "Link._taken", "Sender._direct"}
 # What a method keeps for itself, wherever it does.
 KEPT = {"room", "longest", "blocking"}
 

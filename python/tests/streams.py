@@ -1,4 +1,5 @@
-"""What is given one at a time: the frames and the packets of nodes, and the frames of files."""
+"""What is given one at a time: the frames and the packets of nodes, and the frames of files; and how many packets are
+dropped between frames."""
 import gzip
 import io
 import os
@@ -182,5 +183,80 @@ def files_that_are_refused(it):
         says(BlockingIOError, "file: it does not wait", next, it.read_frames(file, 16))
 
 
+# ---- Packets that are dropped. ----
+
+
+def dropped_packets(it):
+    """Each way in which a packet that was begun is dropped, or is not, by the rules of docs/PROFILE.md."""
+    at, octets, idle = it.NO_START, bytes.fromhex("0005c0000004") + b"abcde", bytes.fromhex("07ffc0000004") + b"UUUUU"
+    begun, wrong = (0, 0, octets[:6]), bytes.fromhex("e005c0000004")
+    rows = (  # frames, each with the number of frames missing before it; and how many packets are dropped
+        ((begun, (0, at, octets[6:])), 0), ((begun, (0, at, octets[6:8]), (0, 3, octets[8:] + octets)), 0),
+        ((begun, (1, at, octets[6:])), 1), ((begun, (255, 0, octets)), 1), ((begun, (0, it.ONLY_IDLE, b"UUUU")), 1),
+        ((begun, (0, 4, octets[6:])), 1), ((begun, begun, begun), 2), ((begun, (0, at, octets)), 1),
+        (((0, 0, idle[:6]), (0, at, idle[6:])), 0), (((0, 0, idle[:6]), (1, at, idle[6:])), 0),
+        (((0, 0, idle[:1]), (0, 10, idle[1:] + octets)), 0), (((0, 0, idle[:1]), (0, 9, idle[1:])), 0),
+        (((0, 0, idle[:1]), (1, 0, octets)), 1), (((0, 0, idle[:1]), (1, at, idle[1:])), 1),
+        (((0, 0, idle[:1]), (0, it.ONLY_IDLE, idle[1:])), 1), (((0, 0, wrong[:5]), (0, at, wrong[5:])), 1),
+        (((0, 0, wrong), (0, at, octets)), 0), (((0, at, octets), (1, at, octets)), 0))
+    for frames, dropped in rows:
+        extractor, count = it.TmExtractor(), 0
+        assert extractor.dropped == 0
+        for missing, pointer, data in frames:
+            count = (count + 1 + missing) % 256
+            extractor.take(it.TmFrame(pointer=pointer, vc_count=count), data)
+        assert extractor.dropped == dropped, f"{frames}: {extractor.dropped}, and not {dropped}"
+    extractor = it.TmExtractor(16)
+    extractor.take(it.TmFrame(pointer=0), octets[:6])
+    says(it.TmFault, "10 FieldRange", extractor.take, it.TmFrame(pointer=9, vc_count=1), bytes(9))
+    long = octets[6:] + it.Packet(apid=5).encode(bytes(65536))[:2042]
+    says(it.TmFault, "7 Memory", extractor.take, it.TmFrame(pointer=5, vc_count=1), long)
+    assert extractor.dropped == 0
+    extractor.take(it.TmFrame(pointer=at, vc_count=2), octets[6:])
+    assert extractor.dropped == 1
+
+
+def built(it, chance):
+    """The frames of a builder as it is given packets, each with its pointer and its data, until all are sent."""
+    builder, frames = it.TmBuilder(1, 0, chance.randrange(16, 80)), []
+    for count in range(60):
+        if chance.randrange(2):
+            builder.queue(it.Packet(apid=5, count=count).encode(chance.randbytes(chance.randrange(1, 90))))
+        frames.append(it.TmFrame.decode(builder.build(bytes(4))))
+    while builder.waiting or len(frames) < 70:
+        frames.append(it.TmFrame.decode(builder.build(bytes(4))))
+    return frames
+
+
+def packets_of(it, frames):
+    """The packets of the frames, idle ones too: the octets, and which frames these are in."""
+    places = [(octet, k) for k, (frame, data) in enumerate(frames) if frame.pointer != it.ONLY_IDLE for octet in data]
+    octets, found, start = bytes(octet for octet, _ in places), [], 0
+    while start + 6 <= len(octets) and (end := start + it.Packet.declared(octets[start:start + 6])) <= len(octets):
+        found.append((octets[start:end], [k for _, k in places[start:end]]))
+        start = end
+    return found
+
+
+def dropped_packets_of_streams(it):
+    """Of the packets whose first octet came, those are dropped of which any other octet did not."""
+    chance, total = random.Random(8), 0
+    for _ in range(300):
+        frames = built(it, chance)
+        came = {k for k in range(len(frames)) if k + 3 > len(frames) or chance.randrange(4)}
+        extractor, found, dropped = it.TmExtractor(), [], 0
+        for k in sorted(came):
+            found += extractor.take(*frames[k])[0]
+        packets = packets_of(it, frames)
+        for octets, places in packets:
+            is_idle = octets.startswith(b"\x07\xff") and (places[0] == places[1] or places[1] in came)
+            dropped += places[0] in came and not came.issuperset(places) and not is_idle
+        assert found == [octets for octets, places in packets
+                         if came.issuperset(places) and not octets.startswith(b"\x07\xff")]
+        assert extractor.dropped == dropped
+        total += dropped
+    assert total > 1000, total
+
+
 TESTS = (frames_one_at_a_time, packets_one_at_a_time, frames_of_files, frames_of_an_open_pipe, reads_of_a_file,
-         files_that_are_refused)
+         files_that_are_refused, dropped_packets, dropped_packets_of_streams)
