@@ -223,7 +223,8 @@ uint8_t sedge_ground_known_on_board(struct sedge_ground *ground, uint8_t value, 
 /* Begins the next session after an alert, where the last one has got to: sets V(S) to the value of a report that was
  * made when nothing was on its way up, begins by Unlock (232.1-B-2, 5.2.4), and writes how many first ones of the
  * submissions of the session that ended are on board whole; those after them are to be submitted again. Returns 0, or
- * SEDGE_NODE_NOT_KNOWN. */
+ * SEDGE_NODE_NOT_KNOWN, and nothing has changed, where nothing is known: the sender is not in S6, no session has begun,
+ * V(S) was set since, or the value does not lie from NN(R) to V(S). */
 uint8_t sedge_ground_resume(struct sedge_ground *ground, uint8_t value, uint64_t *whole);
 
 /* ---- The spacecraft. ---- */

@@ -1,7 +1,7 @@
 -- The ground: what it holds, and what each of its calls answers and leaves.
 use Rattle.std.specs.Prelude.{◌≡◌, ℕ, ◌+◌, List, [], ◌∷◌, ◌++◌, length, map, option_to_list, Bool}
-use Rattle.std.specs.Prelude.{true, false, not, ◌&&◌, ◌==◌, nat_lt, if◌then◌else◌, Option, Some, None}
-use Rattle.std.specs.Prelude.{option_map, IfSome, Result, Ok, Err, OnOk, OnErr, IsOkUnless}
+use Rattle.std.specs.Prelude.{true, false, not, ◌&&◌, ◌==◌, nat_lt, if◌then◌else◌, Option, Some}
+use Rattle.std.specs.Prelude.{None, option_map, IfSome, Result, Ok, Err, OnOk, OnErr, IsOkUnless}
 use Rattle.clcw.specs.declared.word.Clcw.{Clcw}
 use Rattle.clcw.specs.declared.fault.ClcwFault.{ClcwFault}
 use Rattle.clcw.specs.Decoding.{clcw_at}

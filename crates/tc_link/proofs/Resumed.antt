@@ -1,9 +1,9 @@
 -- A program that resumes after each alert has a prefix of what it wants delivered.
-use Rattle.tc_link.proofs.Common.{◌≡◌, ◌≢◌, ℕ, zero, suc, ◌+◌, ◌-◌, ◌%◌, ◌<◌, ◌≤◌, Bool, true, false, List, [], ◌∷◌, ◌++◌}
-use Rattle.tc_link.proofs.Common.{length, take, drop, map, Option, Some, None, Result, Ok, Err, refl, ap, sym, subst, ◌∙◌}
-use Rattle.tc_link.proofs.Common.{arith, append_assoc, length-append, length-map, take-append-drop, AllByRecursion, Clcw}
+use Rattle.tc_link.proofs.Common.{◌≡◌, ℕ, zero, suc, ◌+◌, ◌%◌, ◌<◌, ◌≤◌, Bool, true, false, List, [], ◌∷◌, ◌++◌}
+use Rattle.tc_link.proofs.Common.{length, take, drop, map, Option, Some, None, Result, Ok, Err, refl, ap, sym, subst}
+use Rattle.tc_link.proofs.Common.{◌∙◌, arith, length-append, length-map, take-append-drop, AllByRecursion, Clcw}
 use Rattle.tc_link.proofs.Common.{inl, inr, Opening, segments_of, closed_is, length-drop}
-use Rattle.tc_link.proofs.Common.{option_map, SetVs, InitUnlock, Directive, is_closed, S6, Config, GroundState, PacketOn}
+use Rattle.tc_link.proofs.Common.{option_map, SetVs, InitUnlock, is_closed, S6, Config, GroundState, PacketOn}
 use Rattle.tc_link.proofs.Common.{Event, World, world_step, world_run, KeepsSession, BeginsNoSession, IsIdle, IsEvent}
 use Rattle.tc_link.proofs.Common.{session_begun_by, begins_idle, delivered, accepted, ahead_by, cond_both}
 use Rattle.std.specs.Prelude.{◌^◌, ◌==◌, ◌&&◌, not, nat_lt}
@@ -176,7 +176,8 @@ resumes_if false s next whole more answered = absurd (cc answered)
 ground_resumes : (s : GroundState) (value more : ℕ) → (ground_resume s value).answer ≡ Ok more
     → (can_resume s value ≡ true) × (more ≡ whole_with (ahead_by value s.fop.nn) s.fates)
 ground_resumes s value more answered =
-    resumes_if (can_resume s value) s (after_resuming s value) (whole_with (ahead_by value s.fop.nn) s.fates) more answered
+    resumes_if (can_resume s value) s (after_resuming s value) (whole_with (ahead_by value s.fop.nn) s.fates) more
+    answered
 
 pub resumes_so : ResumesSo
 resumes_so w value more answered =
@@ -269,7 +270,8 @@ module _ (c : Config) (wanted : List PacketOn) (w : World) (done : ℕ) (l : Lea
 
 -- ---- the next session
 
-closed_set : (s : GroundState) (value : ℕ) → s.fop.state ≡ S6 → (ground_step s (Direct (SetVs value))).after.fop.state ≡ S6
+closed_set : (s : GroundState) (value : ℕ) → s.fop.state ≡ S6
+    → (ground_step s (Direct (SetVs value))).after.fop.state ≡ S6
 closed_set s value is = rw is refl
 
 module _ (c : Config) (wanted : List PacketOn) (w : World) (done : ℕ) (l : Leads c wanted w done) (value more : ℕ)
@@ -282,7 +284,8 @@ module _ (c : Config) (wanted : List PacketOn) (w : World) (done : ℕ) (l : Lea
   off =
       let can = (ground_resumes w.ground_node value more answered).0 in
       let both = and_parts (is_closed w.ground_node.fop.state && w.ground_node.fates.kept) _ can in
-      closed_is w.ground_node.fop.state (and_parts (is_closed w.ground_node.fop.state) w.ground_node.fates.kept both.0).0
+      closed_is w.ground_node.fop.state
+      (and_parts (is_closed w.ground_node.fop.state) w.ground_node.fates.kept both.0).0
 
   set_past : (q : HasAnyPast set) × (q.config ≡ c)
   set_past =
@@ -320,7 +323,10 @@ module _ (c : Config) (wanted : List PacketOn) (w : World) (done : ℕ) (l : Lea
     fits = (tt, tt);
     idle = resumed_idle;
     led = refl;
-    submits = (drop (done + more) wanted, sym (ap (λ (s : Session). s.submissions ++ drop (done + more) wanted) begun_so));
+    submits = (
+      drop (done + more) wanted,
+      sym (ap (λ (s : Session). s.submissions ++ drop (done + more) wanted) begun_so),
+    );
   }
 
 -- ---- all sessions
@@ -359,7 +365,8 @@ module _ (wanted : List PacketOn) (small : length wanted < 2 ^ 64) (m : ℕ) whe
   whole_now : {w : World} {done : ℕ} {before : ℕ → List (List ℕ)} (s : Sessions wanted w done before) → DeliversWhole w
   whole_now {w} {done} s =
       let l = leads s in
-      (promised_so (config_of s) w (holds_now (config_of s) wanted w done l) (idle_now (config_of s) wanted w done l)).whole
+      let c : Config = config_of s in
+      (promised_so c w (holds_now c wanted w done l) (idle_now c wanted w done l)).whole
 
   given : {w : World} {done : ℕ} {before : ℕ → List (List ℕ)} (s : Sessions wanted w done before)
       → AllByRecursion (IsOneGroup (config_of s).part) wanted → before m ≡ packets_on_map (take done wanted) m

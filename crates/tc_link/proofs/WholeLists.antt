@@ -1,6 +1,6 @@
 -- How many submissions are whole, by lists of how many segments each has.
-use Rattle.tc_link.proofs.Common.{◌≡◌, ℕ, zero, suc, ◌+◌, ◌-◌, ◌≤◌, ◌<◌, List, [], ◌∷◌, ◌++◌, length, refl, ap, sym, ◌∙◌}
-use Rattle.tc_link.proofs.Common.{arith, length-append}
+use Rattle.tc_link.proofs.Common.{◌≡◌, ℕ, zero, suc, ◌+◌, ◌-◌, ◌≤◌, ◌<◌, List, [], ◌∷◌, ◌++◌, length, refl, ap, sym}
+use Rattle.tc_link.proofs.Common.{◌∙◌, arith, length-append}
 use Rattle.nodes.specs.Fates.{without_one, left_after, whole_within}
 use Rattle.nodes.proofs.Fates.{fewer_left, left_more, Needs, none_whole, one_whole}
 

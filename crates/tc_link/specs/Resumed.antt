@@ -1,5 +1,5 @@
--- A program that goes on by `Ground::resume` after each alert: session after session it submits what
--- it wants delivered, from where the session before has got to.
+-- A program that goes on by `Ground::resume` after each alert: session after session it submits
+-- what it wants delivered, from where the session before has got to.
 use Rattle.std.specs.Prelude.{◌≡◌, ◌<◌, ℕ, ◌+◌, ◌^◌, List, [], ◌++◌, length, drop, flat_map, filter}
 use Rattle.std.specs.Prelude.{◌==◌, true, Ok}
 use Rattle.std.specs.List.{AllByRecursion}
@@ -10,7 +10,8 @@ use Rattle.nodes.specs.Ground.{ground_step, Resume}
 use Rattle.nodes.specs.Packets.{PacketOn}
 use Rattle.nodes.specs.declared.event.Event.{Event}
 use Rattle.nodes.specs.declared.event.Event.TheVariants as events
-use Rattle.simulated_link.specs.World.{World, IsIdle, BeginsNoSession, is_idle, delivered, world_step}
+use Rattle.simulated_link.specs.World.{World, IsIdle, BeginsNoSession, is_idle, delivered}
+use Rattle.simulated_link.specs.World.{world_step}
 use Rattle.tc_link.specs.AnyPast.{HasAnyPast}
 use Rattle.tc_link.specs.Known.{SetsNoNumber}
 use Rattle.tc_link.specs.Reached.{IsEvent}
@@ -30,9 +31,9 @@ resumed w value =
     (world_step (world_step w (events.Directive (SetVs value))).after
     (events.Directive InitUnlock)).after
 
--- The sessions of a program that wants these submissions delivered, in this order: the link now, how
--- many of the submissions the sessions before this one have brought on board, and what these have
--- delivered on each MAP.
+-- The sessions of a program that wants these submissions delivered, in this order: the link now,
+-- how many of the submissions the sessions before this one have brought on board, and what these
+-- have delivered on each MAP.
 pub data Sessions (wanted : List PacketOn) : World → ℕ → (ℕ → List (List ℕ)) → Type 0 where
   -- the first has an idle start, whatever came before
   first : {w : World} (initiation : Event) → HasAnyPast w → BeginsSession w initiation
