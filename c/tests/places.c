@@ -1,19 +1,10 @@
-/* The places of docs/C.md, in memory/static.c, of a ground, or with BOARD of a spacecraft, with BLOCKED of one with
- * blocking: at full queues all are used and nothing is refused; with one place less of the size LESS, a call answers
- * that there was no memory, and the status is 2. */
+/* The places that c/tools/places.c prints, in memory/static.c, of a ground, or with BOARD of a spacecraft, with BLOCKED
+ * of one with blocking: at full queues all are used and nothing is refused; with one place less of the size LESS, a
+ * call answers that there was no memory, and the status is 2. SEDGE_PLACES has BUT for each PLACES. */
 #ifndef LESS
 #define LESS 0
 #endif
 #define BUT(octets, count) PLACES(octets, (count) - (LESS == octets))
-#if defined(BLOCKED)
-#define SEDGE_PLACES                                                                                                   \
-    BUT(16, 150) BUT(64, 1) BUT(96, 1) BUT(192, 1) BUT(384, 1) BUT(768, 1) BUT(1536, 1) BUT(2336, 1) BUT(3072, 1)      \
-    BUT(5504, 1) BUT(6144, 1)
-#elif defined(BOARD)
-#define SEDGE_PLACES BUT(16, 1) BUT(64, 1) BUT(208, 5) BUT(2336, 1) BUT(5504, 1)
-#else
-#define SEDGE_PLACES BUT(96, 1) BUT(112, 12) BUT(128, 2) BUT(256, 1) BUT(352, 1) BUT(65552, 1)
-#endif
 #include "../memory/static.c"
 #include "config.h"
 #include <stdio.h>
@@ -35,16 +26,21 @@ static void gives(size_t wanted, size_t answer) {
 }
 
 #if defined(BOARD) || defined(BLOCKED)
-/* A Type-AD frame arrives with these octets, and is accepted. */
-static size_t arrives(struct sedge_spacecraft *spacecraft, uint8_t n, uint8_t flags, uint8_t map, const uint8_t *data,
-                      size_t count) {
-    struct sedge_tc_frame frame = {1, 2, SEDGE_TC_AD, n, flags, map, 0, 0};
+/* A frame arrives with these octets, and is accepted. */
+static size_t arrives_as(struct sedge_spacecraft *spacecraft, uint8_t kind, uint8_t n, uint8_t flags, uint8_t map,
+                         const uint8_t *data, size_t count) {
+    struct sedge_tc_frame frame = {1, 2, kind, n, flags, map, 0, 0};
     struct sedge_received received;
     size_t total;
     gives(0, sedge_tc_encode(&frame, data, count, true, octets, sizeof octets, &total));
     gives(0, sedge_spacecraft_receive(spacecraft, octets, total, &received));
-    gives(SEDGE_ACCEPTED, received.verdict);
+    if (kind == SEDGE_TC_AD) gives(SEDGE_ACCEPTED, received.verdict);
     return received.ready;
+}
+
+static size_t arrives(struct sedge_spacecraft *spacecraft, uint8_t n, uint8_t flags, uint8_t map, const uint8_t *data,
+                      size_t count) {
+    return arrives_as(spacecraft, SEDGE_TC_AD, n, flags, map, data, count);
 }
 
 /* The last segment of a packet, or with blocking one of as many packets as it may hold, from a ground whose `part` is
@@ -60,15 +56,18 @@ static void is_last(struct sedge_spacecraft *spacecraft, uint8_t n) {
 #endif
 }
 
-/* A packet of telemetry waits, a packet is ready, and on each MAP a part is open, when another packet becomes whole. */
+/* A packet of telemetry waits, a packet is ready, and on each MAP a part is open, when another packet becomes whole;
+ * and then packets come past the sequence control, one more than are kept. */
 static void fill(void) {
     struct sedge_spacecraft spacecraft = {0};
+    size_t k;
     gives(0, sedge_spacecraft_open(&config, &spacecraft));
     gives(0, sedge_spacecraft_telemetry(&spacecraft, packet, LONG));
     gives(1, arrives(&spacecraft, 0, SEDGE_SEGMENT_ALONE, 0, packet, LONG));
     gives(0, arrives(&spacecraft, 1, SEDGE_SEGMENT_FIRST, 0, packet, LONG / 2));
     gives(0, arrives(&spacecraft, 2, SEDGE_SEGMENT_FIRST, 1, packet, LONG / 2));
     is_last(&spacecraft, 3);
+    for (k = 0; k <= BYPASS; k++) arrives_as(&spacecraft, SEDGE_TC_BD, 0, SEDGE_SEGMENT_ALONE, 0, packet, LONG);
     sedge_spacecraft_close(&spacecraft);
 }
 #else
