@@ -1,5 +1,5 @@
 -- The ground's account of the submissions of a session is that of the records.
-use Rattle.tc_link.proofs.Common.{◌≡◌, ◌≢◌, ℕ, zero, suc, ◌+◌, ◌-◌, ◌%◌, ◌/◌, ◌<◌, ◌≤◌, ◌⊎◌, inl, inr, Bool, true, false}
+use Rattle.tc_link.proofs.Common.{◌≡◌, ℕ, ◌+◌, ◌%◌, ◌/◌, ◌<◌, ◌≤◌, ◌⊎◌, inl, inr, Bool, true, false}
 use Rattle.tc_link.proofs.Common.{List, [], ◌∷◌, ◌++◌, length, map, Option, Some, None, Result, Ok, Err, refl, ap, sym}
 use Rattle.tc_link.proofs.Common.{subst, ◌∙◌, arith, length-append, length-map, append-nil, AllByRecursion, Clcw}
 use Rattle.tc_link.proofs.Common.{SegmentView, CopFault, Alert, Directive, InitWithoutCheck, InitWithCheck, InitUnlock}
@@ -7,7 +7,7 @@ use Rattle.tc_link.proofs.Common.{InitSetVr, directive_step, FopState, FopOutcom
 use Rattle.tc_link.proofs.Common.{Config, TmFault, LinkFault, GroundState, GroundOutcome, refill_step, with_fop}
 use Rattle.tc_link.proofs.Common.{directive_outcome, segments_on, segments_of, submit_fault, bypass_fault, after_bypass}
 use Rattle.tc_link.proofs.Common.{after_submission, unless_refused, after_extraction, telemetry_outcome, clcw_step}
-use Rattle.tc_link.proofs.Common.{ahead_by, PacketOn, Event, World, WorldOutcome, world_step, world_run, KeepsSession}
+use Rattle.tc_link.proofs.Common.{submitting, ahead_by, PacketOn, Event, World, WorldOutcome, world_step, world_run, KeepsSession}
 use Rattle.tc_link.proofs.Common.{world_after_directive, BeginsNoSession, IsIdle, IsSettled, IsEvent, accepted}
 use Rattle.tc_link.proofs.Common.{directive_of, option_map, Opening, IsChecking}
 use Rattle.tc_link.specs.Confirmation.{IsChecked}
@@ -218,7 +218,7 @@ module _ (c : Config) (w : World) (k : AccountsAt c w) (config : w.ground_node.c
       let n : ℕ = length (segments_on s m octets) in
       let count : n ≡ length (segments c p) = ap (λ (x : Config). length (segments_of x.part m octets)) config in
       subst (λ (fates : Fates). Accounts c fates (w.session.submissions ++ p ∷ []) w.session.acknowledged)
-      (sym (refilled_fates (record s { pending = s.pending ++ segments_on s m octets; fates = with_submission n s.fates })))
+      (sym (refilled_fates (submitting s m octets)))
       (with_accounts c s.fates w.session.submissions p w.session.acknowledged n most count k)
 
   hears : (t : GroundState) → w.ground_node.fop.nn < 256 → Acknowledges w.ground_node t
@@ -310,8 +310,8 @@ module _ (c : Config) where
         holds = step_holds c w h e fits.0;
         idle = idle_goes w e g.idle keeps.0;
         opening = opening_stays w e keeps.0 ∙ g.opening;
-        accounts = step_accounts c w g.accounts h.sound.ground_node.config (acknowledged_most w h g.idle) small e keeps.0
-            quiet.0;
+        accounts = step_accounts c w g.accounts h.sound.ground_node.config (acknowledged_most w h g.idle) small e
+            keeps.0 quiet.0;
       }) es fits.1 keeps.1 quiet.1
 
   -- before the session is settled nothing is sent
@@ -432,8 +432,9 @@ knows_fates w e since r b keeps quiet fits idle =
     let fates = subst (λ (e : Event). (world_step w e).after.ground_node.fates ≡ new_fates true) (sym b.1)
     (starts_account w b.0 b.2 b.3) in
     let k : AccountsAt c start = rw (fates, s) (new_accounts c) in
-    let on = goes_on c start.session.opening start (record { holds = h; idle = idle; opening = refl; accounts = k }) since
-    fits.1 keeps quiet in
+    let goes : Goes c start.session.opening start =
+    record { holds = h; idle = idle; opening = refl; accounts = k } in
+    let on = goes_on c start.session.opening start goes since fits.1 keeps quiet in
     let now : World = world_run start since in
     let counts = keeps_what_is_known w e since r b keeps quiet fits idle in
     let base : ℕ = start.ground_node.fop.vs in
