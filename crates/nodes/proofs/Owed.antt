@@ -1,7 +1,7 @@
 -- Whatever the sender does, each submission that is not acknowledged whole has a segment that it holds.
 use Rattle.std.proofs.Common.{◌≡◌, ◌≢◌, ◌≤◌, ◌<◌, ℕ, suc, ◌+◌, List, [], ◌∷◌, ◌++◌, length, drop, Option, Some, None}
 use Rattle.std.proofs.Common.{refl, sym, ap, ◌∙◌}
-use Rattle.std.proofs.Common.{arith, length-append, length-drop, subst}
+use Rattle.std.proofs.Common.{arith, length-append, length-drop}
 use Rattle.std.specs.Prelude.{map, option_to_list, Result, Bool, true, false}
 use Rattle.std.proofs.lemmas.List.{length-map}
 use Rattle.std.proofs.lemmas.Bool.{cond_both, eqb-true}
@@ -14,7 +14,7 @@ use Rattle.cop1.specs.declared.vocabulary.FopMode.TheVariants.{S6}
 use Rattle.cop1.specs.declared.fault.CopFault.{CopFault}
 use Rattle.cop1.specs.declared.vocabulary.Directive.{Directive}
 use Rattle.cop1.specs.FopDirective.{is_initiation, directive_step}
-use Rattle.cop1.specs.FopPull.{PulledUnit, pull_step}
+use Rattle.cop1.specs.FopPull.{pull_step}
 use Rattle.cop1.specs.FopReport.{clcw_step, report_while_active, retransmits}
 use Rattle.cop1.specs.FopTick.{tick_step}
 use Rattle.cop1.specs.FopVariables.{IsActive}

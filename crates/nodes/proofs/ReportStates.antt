@@ -1,5 +1,5 @@
 -- What a report may do at the ground's sender, in any state.
-use Rattle.std.proofs.Common.{◌≡◌, Bool, true, false, not, Option, None, refl}
+use Rattle.std.proofs.Common.{◌≡◌, true, false, not, Option, None, refl}
 use Rattle.std.specs.Prelude.{◌==◌, ◌&&◌}
 use Rattle.std.proofs.lemmas.Bool.{cond_both, eqb-true, not-true, not-false, and_parts}
 use Rattle.clcw.specs.declared.word.Clcw.{Clcw}

@@ -1,25 +1,26 @@
 -- The ground's account of the submissions of a session is that of the records.
-use Rattle.tc_link.proofs.Common.{◌≡◌, ℕ, ◌+◌, ◌%◌, ◌/◌, ◌<◌, ◌≤◌, ◌⊎◌, inl, inr, Bool, true, false}
+use Rattle.tc_link.proofs.Common.{◌≡◌, ℕ, ◌+◌, ◌%◌, ◌/◌, ◌<◌, ◌≤◌, ◌⊎◌, inl, inr, true, false}
 use Rattle.tc_link.proofs.Common.{List, [], ◌∷◌, ◌++◌, length, map, Option, Some, None, Result, Ok, Err, refl, ap, sym}
-use Rattle.tc_link.proofs.Common.{subst, ◌∙◌, arith, length-append, length-map, append-nil, AllByRecursion, Clcw}
+use Rattle.tc_link.proofs.Common.{subst, ◌∙◌, arith, length-append, length-map, append-nil, AllByRecursion}
 use Rattle.tc_link.proofs.Common.{SegmentView, CopFault, Alert, Directive, InitWithoutCheck, InitWithCheck, InitUnlock}
 use Rattle.tc_link.proofs.Common.{InitSetVr, directive_step, FopState, FopOutcome, FopMode, is_initiation, is_closed}
-use Rattle.tc_link.proofs.Common.{Config, TmFault, LinkFault, GroundState, GroundOutcome, refill_step, with_fop}
+use Rattle.tc_link.proofs.Common.{Config, TmFault, LinkFault, GroundState, refill_step, with_fop}
 use Rattle.tc_link.proofs.Common.{directive_outcome, segments_on, segments_of, submit_fault, bypass_fault, after_bypass}
 use Rattle.tc_link.proofs.Common.{after_submission, unless_refused, after_extraction, telemetry_outcome, clcw_step}
-use Rattle.tc_link.proofs.Common.{submitting, ahead_by, PacketOn, Event, World, WorldOutcome, world_step, world_run, KeepsSession}
+use Rattle.tc_link.proofs.Common.{submitting, ahead_by, PacketOn, Event, World, WorldOutcome, world_step, world_run}
+use Rattle.tc_link.proofs.Common.{KeepsSession}
 use Rattle.tc_link.proofs.Common.{world_after_directive, BeginsNoSession, IsIdle, IsSettled, IsEvent, accepted}
 use Rattle.tc_link.proofs.Common.{directive_of, option_map, Opening, IsChecking}
 use Rattle.tc_link.specs.Confirmation.{IsChecked}
-use Rattle.tc_link.proofs.Common.{session_begun_by, closed_not, closed_is, IsHistory, HasPlainHistory, obeyed, begun}
+use Rattle.tc_link.proofs.Common.{session_begun_by, closed_is, HasPlainHistory, obeyed, begun}
 use Rattle.std.specs.Prelude.{◌^◌, ◌==◌}
 use Rattle.std.specs.List.{flat_map}
 use Rattle.cop1.specs.declared.vocabulary.Directive.TheVariants.{Terminate, SetVs, SetWindow, SetLimit, SetTimer}
 use Rattle.cop1.specs.declared.vocabulary.FopMode.TheVariants.{S6}
 use Rattle.cop1.specs.declared.fault.CopFault.TheVariants.{WrongState}
 use Rattle.cop1.specs.Accepted.{accepted_beyond}
-use Rattle.cop1.specs.FopDirective.{from_S6, obeys, refuses, terminate_in}
-use Rattle.nodes.specs.Fates.{Fates, without_one, left_after, whole_within, whole_with, new_fates, with_submission}
+use Rattle.cop1.specs.FopDirective.{from_S6, refuses}
+use Rattle.nodes.specs.Fates.{Fates, left_after, whole_within, whole_with, new_fates, with_submission}
 use Rattle.nodes.specs.Fates.{after_acknowledging, after_obeying, kept_after, submitted as submissions_of}
 use Rattle.nodes.specs.Ground.{moved_by, after_report, after_directive, known_on_board, sent_beyond}
 use Rattle.nodes.proofs.Owed.{moved_is}
@@ -27,7 +28,7 @@ use Rattle.nodes.proofs.Fates.{fewer_left, left_more}
 use Rattle.nodes.specs.declared.event.Event.TheVariants as events
 use Rattle.simulated_link.proofs.TelemetryCases.{frame_seen}
 use Rattle.simulated_link.proofs.Unchanged.{AtEachLoss, lost, pulled, up_arrives, down_arrives}
-use Rattle.simulated_link.specs.World.{Session, submission_of, session_after_directive, session_after_report}
+use Rattle.simulated_link.specs.World.{Session, submission_of, session_after_report}
 use Rattle.tc_link.proofs.AnyPast.{past_holds}
 use Rattle.tc_link.proofs.CountsOn.{keeps_what_is_known}
 use Rattle.tc_link.proofs.InOrder.{has_plain_history}
@@ -40,7 +41,7 @@ use Rattle.tc_link.proofs.WholeLists.{total, left_with, whole_still, whole_more}
 use Rattle.tc_link.specs.Accepted.{SaysWhatWasAccepted}
 use Rattle.std.proofs.lemmas.Bool.{cases_Bool, eqb-true, eqb-false}
 use Rattle.tc_link.specs.CountsOn.{SetsNone, CountsFrom}
-use Rattle.tc_link.specs.Fates.{whole_first, CountsSubmissions, KnowsFates}
+use Rattle.tc_link.specs.Fates.{whole_first, KnowsFates}
 use Rattle.tc_link.specs.Whole.{segments_each}
 use Rattle.tc_link.specs.Known.{SetsNoNumber}
 use Rattle.tm_link.specs.Decoding as telemetry_reading
@@ -157,9 +158,11 @@ module _ (w : World) where
       → KeepsAccount w (world_after_directive w d (record { answer = r; after = after_directive w.ground_node d r f }))
   obeyed_keeps d none plain (Err fault) f = (refl, refl, refl)
   obeyed_keeps d none plain (Ok alert) f =
-      let fates : after_obeying w.ground_node.fates d ≡ w.ground_node.fates = rw none refl in
-      (with_fates (record w.ground_node { fates = after_obeying w.ground_node.fates d }) f ∙ fates, rw plain refl,
-      rw plain refl)
+      let fates : after_obeying w.ground_node.fates d ≡ w.ground_node.fates = rw none refl in (
+        with_fates (record w.ground_node { fates = after_obeying w.ground_node.fates d }) f ∙ fates,
+        rw plain refl,
+        rw plain refl,
+      )
 
   refused_keeps : (d : Directive) → directive_step w.ground_node.fop d ≡ refuses w.ground_node.fop WrongState
       → KeepsAccount w (world_after_directive w d

@@ -67,5 +67,4 @@ pub mod Common
 pub mod Lists
 pub mod ReportFrames
 pub mod Resumed
-pub mod Whole
 pub mod WholeLists

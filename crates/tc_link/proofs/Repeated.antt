@@ -11,7 +11,7 @@ use Rattle.tc_link.proofs.Common.{directive_step, Config, LinkFault, IsConfig, G
 use Rattle.tc_link.proofs.Common.{telemetry_outcome, obeying, submitting, acknowledging}
 use Rattle.tc_link.proofs.Common.{and_parts, extract_step, refill_step, with_fop, unless_refused, submit_fault}
 use Rattle.tc_link.proofs.Common.{after_submission, bypass_fault, after_bypass, after_extraction, TmFault}
-use Rattle.tc_link.proofs.Common.{inl, Fates, after_report}
+use Rattle.tc_link.proofs.Common.{Fates, after_report}
 use Rattle.std.specs.Prelude.{◌&&◌, ◌/◌, IfOk, slice_index}
 use Rattle.std.proofs.lemmas.Bool.{not-true}
 use Rattle.octets.specs.Number.{IsOctets}

@@ -1,7 +1,8 @@
 -- What is known of the submissions is the same where a report comes again.
 use Rattle.tc_link.proofs.Common.{◌≡◌, ◌<◌, ℕ, Bool, List, [], ◌∷◌, Option, Some, None, Result, Ok, Err, refl, ◌∙◌, ap}
 use Rattle.tc_link.proofs.Common.{arith, cond_both, eq-eqb, SegmentView, Directive, FopState, Alert, CopFault}
-use Rattle.tc_link.proofs.Common.{tick_step, pull_step, directive_step, LinkFault, GroundState, GroundOutcome, refill_step}
+use Rattle.tc_link.proofs.Common.{tick_step, pull_step, directive_step, LinkFault, GroundState, GroundOutcome}
+use Rattle.tc_link.proofs.Common.{refill_step}
 use Rattle.tc_link.proofs.Common.{unless_refused, submit_fault, bypass_fault, after_submission, after_bypass, Fates}
 use Rattle.tc_link.proofs.Common.{after_acknowledging, obeying, submitting, moved_by}
 use Rattle.std.specs.Prelude.{◌^◌}

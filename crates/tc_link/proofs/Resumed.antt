@@ -1,32 +1,31 @@
 -- A program that resumes after each alert has a prefix of what it wants delivered.
 use Rattle.tc_link.proofs.Common.{◌≡◌, ℕ, zero, suc, ◌+◌, ◌%◌, ◌<◌, ◌≤◌, Bool, true, false, List, [], ◌∷◌, ◌++◌}
-use Rattle.tc_link.proofs.Common.{length, take, drop, map, Option, Some, None, Result, Ok, Err, refl, ap, sym, subst}
-use Rattle.tc_link.proofs.Common.{◌∙◌, arith, length-append, length-map, take-append-drop, AllByRecursion, Clcw}
+use Rattle.tc_link.proofs.Common.{length, take, drop, Some, Result, Ok, Err, refl, ap, sym, subst}
+use Rattle.tc_link.proofs.Common.{◌∙◌, arith, length-append, length-map, take-append-drop, AllByRecursion}
 use Rattle.tc_link.proofs.Common.{inl, inr, Opening, segments_of, closed_is, length-drop}
 use Rattle.tc_link.proofs.Common.{option_map, SetVs, InitUnlock, is_closed, S6, Config, GroundState, PacketOn}
 use Rattle.tc_link.proofs.Common.{Event, World, world_step, world_run, KeepsSession, BeginsNoSession, IsIdle, IsEvent}
-use Rattle.tc_link.proofs.Common.{session_begun_by, begins_idle, delivered, accepted, ahead_by, cond_both}
-use Rattle.std.specs.Prelude.{◌^◌, ◌==◌, ◌&&◌, not, nat_lt}
+use Rattle.tc_link.proofs.Common.{session_begun_by, delivered, ahead_by}
+use Rattle.std.specs.Prelude.{◌^◌, ◌==◌, ◌&&◌, nat_lt}
 use Rattle.std.specs.List.{flat_map, filter, list_all}
-use Rattle.std.proofs.lemmas.Bool.{cases_Bool, and_parts, not-true, ltb-false, eqb-true, eqb-false, ltb-true}
+use Rattle.std.proofs.lemmas.Bool.{cases_Bool, and_parts, not-true, ltb-false, eqb-true}
 use Rattle.std.proofs.Math.Seq.{take-nil}
 use Rattle.std.proofs.lemmas.List.{take-append-le}
 use Rattle.std.proofs.lemmas.List.Concat.{flat_map-append}
 use Rattle.std.proofs.lemmas.List.Elements.{filter-append}
 use Rattle.octets.specs.Beginning.{IsBeginning}
 use Rattle.map_service.specs.Packets.{packets_in}
-use Rattle.cop1.specs.Accepted.{accepted_beyond}
-use Rattle.nodes.specs.Fates.{whole_within, whole_with}
+use Rattle.nodes.specs.Fates.{whole_with}
 use Rattle.nodes.specs.Ground.{ground_step, Resume, Direct, can_resume, after_resuming, known_on_board, ground_resume}
 use Rattle.nodes.specs.Ground.{GroundOutcome}
 use Rattle.nodes.specs.declared.fault.LinkFault.{LinkFault}
 use Rattle.nodes.specs.declared.fault.LinkFault.TheVariants.{NotKnown}
 use Rattle.tc_link.proofs.Common.{cond}
 use Rattle.nodes.specs.declared.event.Event.TheVariants as events
-use Rattle.simulated_link.specs.World.{Session, submitted, is_idle, is_none, reports_as, report_now}
+use Rattle.simulated_link.specs.World.{Session, is_idle, is_none, reports_as, report_now}
 use Rattle.tc_link.proofs.AnyPast.{past_holds}
 use Rattle.tc_link.proofs.Fates.{knows_fates}
-use Rattle.tc_link.proofs.Invariant.{Holding, begun_is, idle_goes, step_holds}
+use Rattle.tc_link.proofs.Invariant.{Holding, begun_is, idle_goes}
 use Rattle.tc_link.proofs.Known.{octet}
 use Rattle.tc_link.proofs.Promised.{promised_so}
 use Rattle.tc_link.proofs.Submissions.{all_push}
@@ -36,7 +35,7 @@ use Rattle.tc_link.specs.Fates.{CountsSubmissions}
 use Rattle.tc_link.specs.Known.{SetsNoNumber}
 use Rattle.tc_link.specs.Resumed.{packets_on_map, resumed, Sessions, first, goes_on, resumes, ResumesInOrder, ResumesSo}
 use Rattle.tc_link.specs.Taken.{BeginsSession}
-use Rattle.tc_link.specs.Whole.{segments_each, on_board, IsOneGroup, AreSingle, submitted_first, DeliversWhole}
+use Rattle.tc_link.specs.Whole.{on_board, IsOneGroup, AreSingle, DeliversWhole}
 use Rattle.tm_link.specs.Decoding as telemetry_reading
 
 -- ---- lists of submissions
@@ -88,13 +87,16 @@ link_push w (x ∷ xs) s = link_push (link_step w x) xs s
 
 past_push : (c : Config) (w : World) (p : HasAnyPast w) → p.config ≡ c → (e : Event) → IsEvent e
     → (q : HasAnyPast (world_step w e).after) × (q.config ≡ c)
-past_push c w p is e fits = (record {
-  config = p.config;
-  ranges = p.ranges;
-  steps = p.steps ++ Happens e ∷ [];
-  numbers = all_push IsLinkStep p.steps (Happens e) p.numbers fits;
-  led = link_push _ p.steps (Happens e) ∙ ap (λ (x : World). (world_step x e).after) p.led;
-}, is)
+past_push c w p is e fits = (
+  record {
+    config = p.config;
+    ranges = p.ranges;
+    steps = p.steps ++ Happens e ∷ [];
+    numbers = all_push IsLinkStep p.steps (Happens e) p.numbers fits;
+    led = link_push _ p.steps (Happens e) ∙ ap (λ (x : World). (world_step x e).after) p.led;
+  },
+  is,
+)
 
 past_run : (c : Config) (w : World) (p : HasAnyPast w) → p.config ≡ c → (es : List Event) → AllByRecursion IsEvent es
     → (q : HasAnyPast (world_run w es)) × (q.config ≡ c)
@@ -216,7 +218,7 @@ module _ (c : Config) (wanted : List PacketOn) (w : World) (done : ℕ) (l : Lea
       omega (
         arith,
         length-map w.session.submissions
-        (λ (p : PacketOn). length (segments_of w.ground_node.config.part p.on_map p.octets)),
+            (λ (p : PacketOn). length (segments_of w.ground_node.config.part p.on_map p.octets)),
       )
 
   -- as many more as are on board

@@ -66,7 +66,10 @@ impl Ground {
         ensures err { OnErr result (self.new ≡ self.old) }
     {
         let accepted = value.wrapping_sub(self.nn());
-        if self.state() != FopMode::S6 || !self.kept || self.vs().wrapping_sub(self.nn()) < accepted {
+        if self.state() != FopMode::S6
+            || !self.kept
+            || self.vs().wrapping_sub(self.nn()) < accepted
+        {
             return Err(LinkFault::NotKnown);
         }
         let whole = self.whole_with(accepted);

@@ -5,8 +5,7 @@ use Rattle.std.proofs.lemmas.List.{length-map}
 use Rattle.tc_frame.specs.Layout.{SegmentView}
 use Rattle.cop1.specs.declared.vocabulary.FopMode.TheVariants.{S6}
 use Rattle.nodes.specs.declared.ground_node.Ground.TheInside.{Inside}
-use Rattle.nodes.specs.declared.ground_node.submission.Segments.{Segments}
-use Rattle.nodes.specs.declared.ground_node.submission.Segments.TheVariants.{One, Several}
+use Rattle.nodes.specs.declared.ground_node.submission.Segments.TheVariants.{One}
 use Rattle.nodes.specs.declared.ground_node.submission.Submission.{Submission}
 use Rattle.nodes.specs.Ground.{GroundState, segments_on, after_submission, outstanding, refill_step, submit_fault}
 use Rattle.nodes.specs.Ground.{unless_refused}

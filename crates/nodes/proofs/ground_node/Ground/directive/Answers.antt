@@ -1,7 +1,6 @@
 use Rattle.tc_frame.specs.Layout.{SegmentView}
 use Rattle.cop1.specs.Units.{FopState, FopOutcome}
-use Rattle.nodes.specs.declared.ground_node.Ground.TheInside.{Inside}
-use Rattle.nodes.specs.GroundFields.{IsSound, state_of}
+use Rattle.nodes.specs.GroundFields.{state_of}
 use Rattle.std.proofs.Common.{◌≡◌, Result, Ok, Err, IsErrAnd, OnErr, ap, Option, IfErr, refl, sym, ◌∙◌}
 use Rattle.cop1.specs.declared.fault.CopFault.{CopFault}
 use Rattle.cop1.specs.declared.vocabulary.Alert.{Alert}

@@ -1,13 +1,13 @@
-use Rattle.std.proofs.Common.{◌≡◌, ◌<◌, ℕ, ◌+◌, ◌%◌, List, true, Result, Ok, Err, ap, refl, sym, ◌∙◌, arith}
+use Rattle.std.proofs.Common.{◌≡◌, ◌<◌, ℕ, ◌+◌, ◌%◌, List, Result, Ok, ap, refl, sym, ◌∙◌, arith}
 use Rattle.std.proofs.lemmas.Bool.{eq-eqb}
-use Rattle.std.specs.Prelude.{◌==◌, ◌^◌}
+use Rattle.std.specs.Prelude.{◌^◌}
 use Rattle.clcw.specs.declared.word.Clcw.{Clcw}
 use Rattle.clcw.specs.declared.fault.ClcwFault.{ClcwFault}
 use Rattle.tc_frame.specs.Layout.{SegmentView}
 use Rattle.cop1.specs.Modulo.{ahead_by}
 use Rattle.cop1.specs.FopReport.{clcw_step}
 use Rattle.cop1.specs.Units.{FopState}
-use Rattle.nodes.specs.Fates.{left_after, whole_within, after_acknowledging}
+use Rattle.nodes.specs.Fates.{left_after, whole_within}
 use Rattle.nodes.specs.Ground.{GroundState, moved_by, report_outcome, after_report, refill_step}
 use Rattle.nodes.specs.GroundFields.{state_of}
 use Rattle.nodes.proofs.Owed.{moved_is, reported_holds, still_owed}
