@@ -14,35 +14,35 @@ impl Ground {
     ghost use Rattle.nodes.specs.Fates.{submitted, whole_with};
     ghost use Rattle.nodes.specs.Ground.{ground_step, Resume, sent_beyond, known_on_board};
 
-    /// How many submissions the session has, modulo 2^64; they are numbered from 0 in their order. As what
-    /// is said of them below: from the initiation on, after an alert too, until V(S) is set or a session
-    /// begins (CCSDS 232.1-B-2, 5.1). It takes no memory.
+    /// How many submissions the session has; they are numbered from 0, in order. The number counts modulo
+    /// 2^64. It stands after an alert too, and is 0 once V(S) is set (CCSDS 232.1-B-2, 5.1); so it is with
+    /// `sent_whole` and `acknowledged_whole`. It takes no memory.
     pub fn submitted(&self) -> u64
         ensures { result ≡ submitted self.now.fates }
     {
         self.acknowledged.wrapping_add(self.left.len() as u64)
     }
 
-    /// How many first ones of the session's submissions were sent whole, each to its last segment, modulo
-    /// 2^64. It takes no memory. Cost: the number of segments that are not acknowledged, 127 at most.
+    /// How many of the session's submissions were sent whole, each to its last segment: the first ones. It
+    /// takes no memory. Cost: the number of segments that were sent and are not acknowledged, 127 at most.
     pub fn sent_whole(&self) -> u64
         ensures { result ≡ whole_with (sent_beyond self.now) self.now.fates }
     {
         self.whole_with(self.vs().wrapping_sub(self.nn()))
     }
 
-    /// How many first ones of the session's submissions are acknowledged whole, so that they are on board,
-    /// modulo 2^64. It takes no memory.
+    /// How many of the session's submissions are acknowledged whole, so that they are on board: the first
+    /// ones. It takes no memory.
     pub fn acknowledged_whole(&self) -> u64
         ensures { result ≡ whole_with 0 self.now.fates }
     {
         self.whole_with(0)
     }
 
-    /// How many first ones of the session's submissions are known to be on board whole by a report of this
-    /// value, modulo 2^64: those that are acknowledged, and those all of whose segments the report says were
-    /// accepted. None where nothing is known: no session has begun, V(S) was set since, or
-    /// `accepted_beyond` knows nothing. After an alert too (CCSDS 232.1-B-2, 5.1). It takes no memory.
+    /// How many of the session's submissions are known to be on board whole by a report of this value, the
+    /// first ones: those that are acknowledged, and those all of whose segments the report says were
+    /// accepted. None where nothing is known: no session has begun, V(S) was set since, or `accepted_beyond`
+    /// knows nothing. After an alert too (CCSDS 232.1-B-2, 5.1). It takes no memory. Cost: as `sent_whole`.
     pub fn known_on_board(&self, value: u8) -> Option<u64>
         ensures { result ≡ known_on_board self.now value }
     {
@@ -53,13 +53,13 @@ impl Ground {
         Some(self.whole_with(accepted))
     }
 
-    /// Begins the next session after an alert, where the last one has got to: sets V(S) to the value of a
-    /// report that was made when nothing was on its way up, begins by Unlock (CCSDS 232.1-B-2, 5.2.4), and
-    /// says how many first ones of the submissions of the session that ended are on board whole, modulo
-    /// 2^64; those after them are to be submitted again. Refuses by 7, and changes nothing, where nothing is
+    /// Begins the next session after an alert, from where the last one has got to: sets V(S) to the value of
+    /// a report that was made when nothing was on its way up, and begins by Unlock (CCSDS 232.1-B-2, 5.2.4).
+    /// Returns how many submissions of the session that ended are on board whole, modulo 2^64: the first
+    /// ones; those after them are to be submitted again. Refuses by 7, and changes nothing, where nothing is
     /// known: the sender is not in S6, no session has begun, V(S) was set since, or the value does not lie
     /// from NN(R) to V(S).
-    /// Faults: 7 NotKnown.
+    /// Faults: 7 NotKnown. Cost: as `sent_whole`.
     pub fn resume(&mut self, value: u8) -> Result<u64, LinkFault>
         ensures answer { result ≡ (ground_step self.old (Resume value)).answer }
         ensures after { self.new ≡ (ground_step self.old (Resume value)).after }
