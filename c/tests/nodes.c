@@ -167,6 +167,150 @@ static void past_the_sequence_control(void) {
     WANT(live == 0);
 }
 
+/* ---- A session goes on after an alert. ---- */
+
+static struct sedge_ground_reading read_of(struct sedge_ground *ground) {
+    struct sedge_ground_reading read = {77, 77, 77, 77, 77, 77, 77, 77};
+    WANT(sedge_ground_read(ground, &read) == 0);
+    return read;
+}
+
+/* How many submissions there are, how many were sent whole, and how many are acknowledged whole. */
+static void has_come(struct sedge_ground *ground, uint64_t submitted, uint64_t sent, uint64_t acknowledged) {
+    struct sedge_ground_reading read = read_of(ground);
+    WANT(read.submitted == submitted && read.sent_whole == sent && read.acknowledged_whole == acknowledged);
+}
+
+static void is_known(struct sedge_ground *ground, uint8_t value, uint64_t on_board) {
+    uint64_t whole = 77;
+    WANT(sedge_ground_known_on_board(ground, value, &whole) == 0 && whole == on_board);
+}
+
+static void is_not_known(struct sedge_ground *ground, uint8_t value) {
+    uint64_t whole = 77;
+    WANT(sedge_ground_known_on_board(ground, value, &whole) == SEDGE_NODE_ABSENT && whole == 77);
+}
+
+/* It does not go on at this value, and nothing has changed: neither what is read, nor what goes on the link next. */
+static void does_not_resume(struct sedge_ground *ground, uint8_t value) {
+    struct sedge_ground_reading before = read_of(ground), after;
+    uint64_t whole = 77;
+    size_t next = 77, later = 77;
+    WANT(sedge_ground_next(ground, &next) == 0);
+    WANT(sedge_ground_resume(ground, value, &whole) == SEDGE_NODE_NOT_KNOWN && whole == 77);
+    after = read_of(ground);
+    WANT(after.state == before.state && after.vs == before.vs && after.nn == before.nn);
+    WANT(after.outstanding == before.outstanding && after.frame_length == before.frame_length);
+    has_come(ground, before.submitted, before.sent_whole, before.acknowledged_whole);
+    WANT(sedge_ground_next(ground, &later) == 0 && later == next);
+}
+
+/* It goes on at this value, where so many submissions are on board whole. */
+static void resumes(struct sedge_ground *ground, uint8_t value, uint64_t on_board) {
+    struct sedge_ground_reading read;
+    uint64_t whole = 77;
+    WANT(sedge_ground_resume(ground, value, &whole) == 0 && whole == on_board);
+    read = read_of(ground);
+    WANT(read.state == SEDGE_FOP_S5 && read.vs == value && read.nn == value && read.outstanding == 0);
+    has_come(ground, 0, 0, 0);
+    is_known(ground, value, 0);
+}
+
+/* Packet k goes into two segments of 4 and 3 octets. */
+static void submits(struct sedge_ground *ground, uint8_t k) {
+    const uint8_t octets[] = {0x10, 0x05, 0xc0, k, 0x00, 0x00, k};
+    while (again(sedge_ground_submit(ground, 4, octets, sizeof octets)))
+        ;
+}
+
+/* So many frames of segments are sent, and the first of them come on board; the first one ends an open part, where one
+ * is dropped. */
+static void sends(struct sedge_ground *ground, struct sedge_spacecraft *spacecraft, int all, int come, int dropped) {
+    struct sedge_received received = {0};
+    size_t count = 77;
+    int k;
+    for (k = 0; k < all; k++) {
+        WANT(sedge_ground_pull(ground, up, sizeof up, &count) == 0 && count > 0);
+        if (k >= come) continue;
+        while (again(sedge_spacecraft_receive(spacecraft, up, count, &received)))
+            ;
+        WANT(received.kind == 3 && received.verdict == SEDGE_ACCEPTED && received.dropped == (k == 0 ? dropped : 0));
+    }
+}
+
+static void hears_of(struct sedge_ground *ground, struct sedge_spacecraft *spacecraft) {
+    struct sedge_heard heard = {0};
+    size_t count = 77;
+    WANT(sedge_spacecraft_report(spacecraft, down, 64, &count) == 0 && count == 64);
+    while (again(sedge_ground_telemetry(ground, down, count, &heard)))
+        ;
+    WANT(heard.kind == 3 && heard.report == 0 && heard.alert == 0);
+}
+
+/* Packets 0, 1 and so on are taken on board, each once. */
+static void are_taken(struct sedge_spacecraft *spacecraft, uint8_t packets) {
+    uint8_t k, map = 99;
+    size_t count = 77;
+    for (k = 0; k < packets; k++) {
+        WANT(sedge_spacecraft_take(spacecraft, &map, out, sizeof out, &count) == 0);
+        WANT(map == 4 && count == 7 && out[3] == k && out[6] == k);
+    }
+    WANT(sedge_spacecraft_take(spacecraft, &map, out, sizeof out, &count) == 0 && count == 0);
+}
+
+/* Of three submissions five segments are sent. Three are accepted on board, which are one submission and a half, and
+ * one is acknowledged when the timer gives the alert. */
+static void stops(struct sedge_ground *ground, struct sedge_spacecraft *spacecraft) {
+    uint8_t k;
+    for (k = 0; k < 3; k++) submits(ground, k), has_come(ground, k + 1, 0, 0);
+    sends(ground, spacecraft, 1, 1, 0), has_come(ground, 3, 0, 0);
+    hears_of(ground, spacecraft);
+    WANT(read_of(ground).nn == 1 && read_of(ground).outstanding == 5);
+    sends(ground, spacecraft, 1, 1, 0), has_come(ground, 3, 1, 0);
+    sends(ground, spacecraft, 3, 1, 0), has_come(ground, 3, 2, 0);
+    is_known(ground, 2, 1), does_not_resume(ground, 3);
+    WANT(sedge_ground_tick(ground) == SEDGE_ALERT_TIMER);
+    WANT(read_of(ground).state == SEDGE_FOP_S6 && read_of(ground).vs == 5 && read_of(ground).outstanding == 0);
+    has_come(ground, 3, 2, 0);
+}
+
+/* A session, an alert, the session after it by the value of a report, and what stops that. */
+static void after_an_alert(void) {
+    struct sedge_config two = config;
+    struct sedge_ground ground = {0};
+    struct sedge_spacecraft spacecraft = {0};
+    two.part = 4, two.limit = 1, two.timer = 1;
+    while (again(sedge_ground_open(&two, &ground)))
+        ;
+    while (again(sedge_spacecraft_open(&two, &spacecraft)))
+        ;
+    is_not_known(&ground, 0), does_not_resume(&ground, 0); /* no session has begun */
+    WANT(sedge_ground_init_without_check(&ground) == 0);
+    is_known(&ground, 0, 0), does_not_resume(&ground, 0); /* the sender is in S1 */
+    stops(&ground, &spacecraft);
+    is_known(&ground, 1, 0), is_known(&ground, 2, 1), is_known(&ground, 3, 1), is_known(&ground, 4, 2);
+    is_known(&ground, 5, 2), is_not_known(&ground, 6), is_not_known(&ground, 0);
+    does_not_resume(&ground, 6), does_not_resume(&ground, 0); /* not from NN(R) = 1 to V(S) = 5 */
+    resumes(&ground, 3, 1);
+    does_not_resume(&ground, 3); /* S5 */
+    goes_up(&ground, &spacecraft, 5);
+    hears_of(&ground, &spacecraft);
+    submits(&ground, 1), submits(&ground, 2);
+    sends(&ground, &spacecraft, 4, 4, SEDGE_DROPPED_INTERRUPTED);
+    hears_of(&ground, &spacecraft);
+    are_taken(&spacecraft, 3);
+    has_come(&ground, 2, 2, 2);
+    WANT(sedge_ground_terminate(&ground) == 0);
+    is_known(&ground, 7, 2), is_known(&ground, 99, 2); /* NN(R) = V(S) = 7 */
+    does_not_resume(&ground, 6), does_not_resume(&ground, 8), does_not_resume(&ground, 99);
+    resumes(&ground, 7, 2);
+    WANT(sedge_ground_terminate(&ground) == 0 && sedge_ground_set_vs(&ground, 7) == 0);
+    has_come(&ground, 0, 0, 0), is_not_known(&ground, 7), does_not_resume(&ground, 7); /* V(S) was set */
+    sedge_ground_close(&ground);
+    sedge_spacecraft_close(&spacecraft);
+    WANT(live == 0);
+}
+
 /* A frame on a MAP that is closed on board is accepted, and its octets are dropped. */
 static void on_a_closed_map(void) {
     struct sedge_config whole = config, board;
@@ -203,8 +347,9 @@ static void handles_that_hold_none(void) {
     struct sedge_spacecraft spacecraft = {0};
     struct sedge_heard heard;
     struct sedge_received received;
-    struct sedge_ground_reading read = {77, 77, 77, 77, 77};
+    struct sedge_ground_reading read = {77, 77, 77, 77, 77, 77, 77, 77};
     struct sedge_clcw word = {77, 77, 77, 77, 77};
+    uint64_t whole = 77;
     size_t count = 77;
     uint8_t map = 77;
     WANT(sedge_config_fault(&config) == 0);
@@ -222,7 +367,8 @@ static void handles_that_hold_none(void) {
     WANT(sedge_ground_peek(&ground, up, 1024, &count) == 255 && count == 77);
     WANT(count == 77 && word.value == 77);
     WANT(sedge_ground_next_telemetry(&ground, &count) == 255 && sedge_ground_accepted_beyond(&ground, 0, &map) == 255);
-    WANT(sedge_ground_take_telemetry(&ground, out, sizeof out, &count) == 255);
+    WANT(sedge_ground_known_on_board(&ground, 0, &whole) == 255 && sedge_ground_resume(&ground, 0, &whole) == 255);
+    WANT(sedge_ground_take_telemetry(&ground, out, sizeof out, &count) == 255 && whole == 77);
     WANT(sedge_ground_telemetry(&ground, down, 64, &heard) == 255 && sedge_ground_read(&ground, &read) == 255);
     WANT(sedge_spacecraft_receive(&spacecraft, up, 12, &received) == SEDGE_NODE_NONE);
     WANT(sedge_spacecraft_next(&spacecraft, &map, &count) == 255);
@@ -231,7 +377,7 @@ static void handles_that_hold_none(void) {
     WANT(sedge_spacecraft_take_bypass(&spacecraft, &map, out, sizeof out, &count) == 255);
     WANT(sedge_spacecraft_telemetry(&spacecraft, packet, 7) == 255);
     WANT(sedge_spacecraft_report(&spacecraft, down, 2048, &count) == 255);
-    WANT(count == 77 && map == 77 && read.state == 77);
+    WANT(count == 77 && map == 77 && read.state == 77 && read.submitted == 77);
     sedge_ground_close(&ground);
     sedge_spacecraft_close(&spacecraft);
 }
@@ -412,6 +558,8 @@ static void names(void) {
     is_named(sedge_parameter_name(15), "blocking");
     is_named(sedge_parameter_name(16), "?");
     is_named(sedge_link_fault_name(SEDGE_NODE_QUEUE_FULL), "QueueFull");
+    is_named(sedge_link_fault_name(SEDGE_NODE_NOT_KNOWN), "NotKnown");
+    is_named(sedge_link_fault_name(8), "?");
     is_named(sedge_link_fault_name(SEDGE_NODE_ROOM), "?");
     is_named(sedge_sim_fault_name(SEDGE_SIM_NOT_DETECTABLE), "NotDetectable");
 }
@@ -425,6 +573,7 @@ int main(void) {
     WANT(tried == 0);
     session();
     past_the_sequence_control();
+    after_an_alert();
     on_a_closed_map();
     link();
     events_by_number();
@@ -436,6 +585,7 @@ int main(void) {
         tried = 0;
         session();
         past_the_sequence_control();
+        after_an_alert();
         on_a_closed_map();
         link();
         events_by_number();

@@ -1,10 +1,10 @@
 /* Random calls of libsedgechisel_nodes: `random_nodes COUNT`. Each call answers with one of its numbers; one that
  * refuses has written nothing and left the node as it was, as far as it is read; and one that writes octets has written
  * those that it says. What is taken out was put in: packets past the sequence control and of telemetry, and on board
- * those of one segment; of the link each submission, and in a session with an idle start each packet delivered. Octets
- * end where a page begins that may not be touched. One allocation in some is refused, and only a call during which one
- * was answers that there was no memory. Ends with 0 where all is as wanted and all memory is given back, and says what
- * is not. */
+ * those of one segment; of the link each submission, and in a session with an idle start each packet delivered. What a
+ * ground says of its submissions, and where a session goes on, is as it was counted. Octets end where a page begins
+ * that may not be touched. One allocation in some is refused, and only a call during which one was answers that there
+ * was no memory. Ends with 0 where all is as wanted and all memory is given back, and says what is not. */
 #define _DEFAULT_SOURCE
 #include "config.h"
 #include "memory.h"
@@ -143,6 +143,32 @@ static struct {
 } submissions[1 << 16];
 static size_t submitted;
 
+/* How far the submissions of the ground's session have come: after how many segments each ends, and how many segments
+ * are acknowledged; and whether V(S) and NN(R) are the session's. */
+static struct {
+    size_t count, acknowledged;
+    size_t ends[1 << 16];
+    bool kept;
+} fates;
+
+static void fates_begin(bool kept) {
+    fates.count = fates.acknowledged = 0;
+    fates.kept = kept;
+}
+
+/* How many are whole with so many segments more than those that are acknowledged. */
+static uint64_t whole_with(size_t more) {
+    uint64_t whole = 0;
+    while (whole < fates.count && fates.ends[whole] <= fates.acknowledged + more) whole++;
+    return whole;
+}
+
+static uint8_t nn_of_ground(void) {
+    struct sedge_ground_reading read = {.nn = 0};
+    sedge_ground_read(&ground, &read);
+    return read.nn;
+}
+
 /* One of few MAPs, mostly, or of those below the limit. */
 static uint8_t any_map(uint32_t limit) {
     return (uint8_t)below(below(8) == 0 ? limit : 4);
@@ -176,9 +202,9 @@ static int is_answer(uint8_t answer, uint8_t most, const void *node) {
     return node == NULL ? answer == SEDGE_NODE_NONE : answer <= most;
 }
 
-static uint8_t directs(struct sedge_reply *reply) {
+static uint8_t directs_by(uint32_t kind, struct sedge_reply *reply) {
     uint8_t number = (uint8_t)(below(4) == 0 ? below(256) : below(12));
-    switch (below(9)) {
+    switch (kind) {
     case 0: return reply ? sedge_sim_init_without_check(&sim, reply) : sedge_ground_init_without_check(&ground);
     case 1: return reply ? sedge_sim_init_with_check(&sim, reply) : sedge_ground_init_with_check(&ground);
     case 2: return reply ? sedge_sim_init_unlock(&sim, reply) : sedge_ground_init_unlock(&ground);
@@ -193,11 +219,19 @@ static uint8_t directs(struct sedge_reply *reply) {
     }
 }
 
+/* A directive; submissions are counted anew where a session of the ground begins, or its V(S) is set. */
+static uint8_t directs(struct sedge_reply *reply) {
+    uint32_t kind = below(9);
+    uint8_t answer = directs_by(kind, reply);
+    if (reply == NULL && answer == SEDGE_NODE_OK && (kind < 4 || kind == 5)) fates_begin(kind < 4);
+    return answer;
+}
+
 /* Opens a ground, and a spacecraft whose MAPs, longest packet and blocking may be others. */
 static void opens_nodes(void) {
     uint8_t answer = CALL(SEDGE_NODE_MEMORY, sedge_ground_open(&config, &ground));
     WANT(is_answer(answer, SEDGE_NODE_OUT_OF_RANGE, &config));
-    if (answer == SEDGE_NODE_OK) ground_part = config.part;
+    if (answer == SEDGE_NODE_OK) ground_part = config.part, fates_begin(false);
     if (below(4) == 0) config.maps = any_maps();
     if (below(4) == 0) config.max_packet = 7 + below(60);
     config.blocking ^= below(4) == 0;
@@ -233,9 +267,10 @@ static void submits(void) {
     struct sedge_ground_reading before = {0}, after = {0};
     size_t count, next = 0, later = 0;
     uint8_t *octets = any_packets(1, &count), map = any_map(256), answer;
+    bool is_bypass = below(4) == 0;
     sedge_ground_read(&ground, &before);
     sedge_ground_next(&ground, &next);
-    if (below(4) == 0) {
+    if (is_bypass) {
         answer = CALL(SEDGE_NODE_MEMORY, sedge_ground_bypass(&ground, map, octets, count));
     } else {
         answer = CALL(SEDGE_NODE_MEMORY, sedge_ground_submit(&ground, map, octets, count));
@@ -246,6 +281,11 @@ static void submits(void) {
     sedge_ground_next(&ground, &later);
     WANT(answer == SEDGE_NODE_OK || (after.outstanding == before.outstanding && after.vs == before.vs));
     WANT(answer == SEDGE_NODE_OK || later == next);
+    if (answer != SEDGE_NODE_OK || is_bypass) return;
+    fates.ends[fates.count] = after.outstanding - before.outstanding;
+    WANT(fates.ends[fates.count] > 0);
+    if (fates.count > 0) fates.ends[fates.count] += fates.ends[fates.count - 1];
+    fates.count++;
 }
 
 static void pulls(void) {
@@ -311,7 +351,7 @@ static void reports(void) {
 static void hears(void) {
     struct sedge_heard heard = {77, 77, 77, 77, 77, 77, 77, 77};
     struct sedge_clcw word = {77, 77, 77, 77, 77};
-    uint8_t *octets, answer;
+    uint8_t *octets, answer, nn = nn_of_ground();
     octets = any_octets(down_count);
     if (below(16) != 0) memcpy(octets, down, down_count);
     answer = sedge_ground_report(&ground, octets, down_count, &word);
@@ -320,14 +360,16 @@ static void hears(void) {
     answer = CALL(SEDGE_NODE_MEMORY, sedge_ground_telemetry(&ground, octets, down_count, &heard));
     WANT(is_answer(answer, SEDGE_NODE_MEMORY, ground.node) && (answer == 0 || answer >= SEDGE_NODE_MEMORY));
     WANT(answer == SEDGE_NODE_OK ? heard.kind >= 1 && heard.kind <= 3 && heard.alert <= 7 : heard.kind == 77);
+    fates.acknowledged += (uint8_t)(nn_of_ground() - nn);
 }
 
 static void hears_words(void) {
     struct sedge_heard heard = {77, 77, 77, 77, 77, 77, 77, 77};
     size_t count = 3 + below(3);
-    uint8_t answer = sedge_ground_clcw(&ground, any_octets(count), count, &heard);
+    uint8_t nn = nn_of_ground(), answer = sedge_ground_clcw(&ground, any_octets(count), count, &heard);
     WANT(ground.node == NULL ? answer == SEDGE_NODE_NONE : answer == (count == 4 ? SEDGE_NODE_OK : SEDGE_NODE_ABSENT));
     WANT(answer == SEDGE_NODE_OK ? heard.kind == 4 && heard.alert <= 7 : heard.kind == 77);
+    fates.acknowledged += (uint8_t)(nn_of_ground() - nn);
     if (below(64) == 0) WANT(sedge_ground_forget_telemetry(&ground) == (ground.node == NULL ? SEDGE_NODE_NONE : 0));
 }
 
@@ -347,7 +389,7 @@ static void telemetry(void) {
 }
 
 static void clocks(void) {
-    struct sedge_ground_reading read = {99, 99, 99, 99, 99};
+    struct sedge_ground_reading read = {99, 99, 99, 99, 99, 99, 99, 99};
     uint8_t accepted = 99, answer;
     WANT(is_answer(sedge_ground_tick(&ground), 7, ground.node));
     answer = sedge_ground_read(&ground, &read);
@@ -357,6 +399,50 @@ static void clocks(void) {
     WANT(ground.node == NULL ? answer == SEDGE_NODE_NONE : answer == SEDGE_NODE_OK || answer == SEDGE_NODE_ABSENT);
     WANT(answer == SEDGE_NODE_OK ? accepted <= 127 : accepted == 99);
     WANT(is_answer(directs(NULL), 8, ground.node) || ground.node == NULL);
+}
+
+/* Whether a session went on where one had come to whole submissions, and in the middle of one. */
+static bool has_resumed, has_resumed_within;
+
+/* A session goes on at a value where it may, and there alone; what is refused changes nothing. */
+static void resumes_at(uint8_t value, const struct sedge_ground_reading *before) {
+    uint8_t accepted = (uint8_t)(value - before->nn), sent = (uint8_t)(before->vs - before->nn), answer;
+    bool may = before->state == SEDGE_FOP_S6 && fates.kept && accepted <= sent;
+    struct sedge_ground_reading after = {.nn = 0};
+    uint64_t whole = 99;
+    answer = sedge_ground_resume(&ground, value, &whole);
+    WANT(answer == (may ? SEDGE_NODE_OK : SEDGE_NODE_NOT_KNOWN) && whole == (may ? whole_with(accepted) : 99));
+    sedge_ground_read(&ground, &after);
+    if (!may) {
+        WANT(after.state == before->state && after.vs == before->vs && after.nn == before->nn);
+        WANT(after.submitted == before->submitted && after.outstanding == before->outstanding);
+        return;
+    }
+    WANT(after.state == SEDGE_FOP_S5 && after.vs == value && after.nn == value && after.submitted == 0);
+    has_resumed |= whole > 0;
+    has_resumed_within |= fates.acknowledged + accepted > (whole == 0 ? 0 : fates.ends[whole - 1]);
+    fates_begin(true);
+}
+
+/* What the ground says of its submissions is as counted. */
+static void resumes(void) {
+    struct sedge_ground_reading read = {.nn = 0};
+    uint64_t known = 99;
+    uint8_t answer = sedge_ground_read(&ground, &read), sent = (uint8_t)(read.vs - read.nn), value, accepted;
+    WANT(is_answer(answer, SEDGE_NODE_OK, ground.node));
+    if (ground.node == NULL) {
+        WANT(sedge_ground_known_on_board(&ground, 0, &known) == SEDGE_NODE_NONE && known == 99);
+        WANT(sedge_ground_resume(&ground, 0, &known) == SEDGE_NODE_NONE && known == 99);
+        return;
+    }
+    value = (uint8_t)(below(8) == 0 ? below(256) : read.nn + below(sent + 2u));
+    accepted = (uint8_t)(sent == 0 ? 0 : value - read.nn);
+    WANT(read.submitted == fates.count && read.acknowledged_whole == whole_with(0));
+    WANT(read.sent_whole == whole_with(sent));
+    answer = sedge_ground_known_on_board(&ground, value, &known);
+    WANT(answer == (fates.kept && accepted <= sent ? SEDGE_NODE_OK : SEDGE_NODE_ABSENT));
+    WANT(known == (answer == SEDGE_NODE_OK ? whole_with(accepted) : 99));
+    resumes_at(value, &read);
 }
 
 /* ---- The link. ---- */
@@ -489,7 +575,8 @@ static void links(void) {
 
 int main(int count, char **words) {
     static void (*const kinds[])(void) = {submits, submits, pulls, pulls, receives, receives, takes, takes,
-                                          reports, hears, hears_words, telemetry, clocks, links, links, links, links};
+                                          reports, hears, hears_words, telemetry, clocks, resumes, links, links, links,
+                                          links};
     unsigned long left;
     uint32_t stay = 500;
     if (count != 2 || make_regions() != 0) return 2;
@@ -500,6 +587,7 @@ int main(int count, char **words) {
     closes_all();
     WANT(refused > 0);
     WANT(has_dropped[SEDGE_DROPPED_CLOSED_MAP] && has_dropped[SEDGE_DROPPED_TOO_LONG]);
+    WANT(has_resumed && has_resumed_within);
     printf(failures ? "%d failed\n" : "all as wanted\n", failures);
     return failures != 0;
 }

@@ -335,7 +335,7 @@ def longest_nodes(it):
         assert ground.report_in(down) == board.control_word
         assert ground.telemetry(down) == it.Heard(it.Arrived.TM, report=it.Report.USED)
         reports_alone(it, ground, down, board.control_word.encode())
-        ground.submit(63, command)
+        assert ground.submit(63, command) == 0
         assert (ground.state, ground.vs, ground.nn, ground.outstanding) == (it.State.S1, 255, 255, 65)
         frames = [ground.pull(), *ground.frames()]
         assert [len(frame) for frame in frames] == [1024] * 64 + [526] and ground.pull() is None
@@ -343,6 +343,9 @@ def longest_nodes(it):
         assert [board.receive(frame) for frame in frames] == [
             it.Received(n=(255 + k) % 256, ready=k // 64, **accepted) for k in range(65)]
         assert board.take() == (63, command) and [*board.packets()] == [] and ground.accepted_beyond(64) == 65
+        assert (ground.submitted, ground.sent_whole, ground.acknowledged_whole) == (1, 1, 0)
+        # V(S) is 64, NN(R) 255, and the submission has 65 segments.
+        assert [ground.known_on_board(value) for value in (254, 255, 63, 64, 65)] == [None, 0, 0, 1, None]
         ground.advance()
         assert ground.peek() is None
         ground.bypass(63, it.Packet(kind=1).encode(DATA[:1010]))
@@ -359,6 +362,8 @@ def longest_nodes(it):
         assert [one.gap for one in heard] == [255] + [0] * 32 and [one.packets for one in heard] == [0] * 32 + [1]
         assert (ground.nn, ground.outstanding) == (64, 0) and ground.take_telemetry() == packet
         assert [*ground.packets()] == [] and ground.tick() == it.Alert.NONE and not ground.closed
+        ground.terminate()
+        assert (ground.acknowledged_whole, ground.resume(64), ground.state) == (1, 1, it.State.S5)
         ground.close()
         assert ground.closed
 
@@ -473,6 +478,12 @@ def threads_that_share(it):
         board.take(it.Segment.FIRST, other[:3]), board.take(it.Segment.LAST, other[3:])
 
     assert between(calls, "_map_take", takes, lambda: board.take(it.Segment.LAST, COMMAND[3:])) == ([COMMAND], None)
+    with it.Ground() as ground:
+        ground.init_without_check()
+        numbers = []
+        numbers.append(between(it._nodes, "_ground_submit", lambda: numbers.append(ground.submit(4, COMMAND)),
+                               lambda: ground.submit(4, COMMAND), is_after=False))
+        assert numbers == [1, 0]
     extractor, packet = it.TmExtractor(16), bytes.fromhex("0005c0000004") + b"abcde"
     halves = [(it.TmFrame(pointer=0), packet[:6]), (it.TmFrame(pointer=it.NO_START, vc_count=1), packet[6:])]
     extractor.take(*halves[0])

@@ -136,7 +136,8 @@ OTHERS = {
 BY = {
     "Link.submitted": "_entries _SUBMITTED", "Link.delivered": "_entries _DELIVERED", "Link.sent": "_entries _SENT",
     "Link.accepted": "_entries _ACCEPTED",
-    **{f"Ground.{name}": f"_read {name}" for name in ("state", "vs", "nn", "outstanding", "frame_length")},
+    **{f"Ground.{name}": f"_read {name}" for name in ("state", "vs", "nn", "outstanding", "frame_length", "submitted",
+                                                      "sent_whole", "acknowledged_whole")},
     "Ground._shown": "_read state vs nn", "Spacecraft._shown": "_read state value", "Spacecraft.mode": "_read state",
     "Spacecraft.frame_length": "_read frame_length",
     "Spacecraft.control_word": "_read status vcid flags farm_b value",

@@ -187,6 +187,10 @@ impl Nodes {
     fn step(&mut self, trial: &mut Trial) {
         let Self { ground, spacecraft, up, down } = self;
         match trial.chance.below(16) {
+            0 if trial.chance.once_in(4) => {
+                let value = trial.shown(ground, |it| it.nn()).wrapping_add(trial.chance.below(3) as u8);
+                trial.both(ground, |it| it.resume(value));
+            }
             0 => directed!(trial, ground),
             1..=4 => submitted(ground, trial),
             5..=7 => up.extend(sent(ground, trial)),
@@ -225,6 +229,9 @@ impl Nodes {
         let value = trial.chance.octet();
         trial.shown(&mut self.ground, |it| {
             (it.state(), it.vs(), it.nn(), it.outstanding(), it.accepted_beyond(value), it.frame_length())
+        });
+        trial.shown(&mut self.ground, |it| {
+            (it.submitted(), it.sent_whole(), it.acknowledged_whole(), it.known_on_board(value))
         });
         trial.shown(&mut self.spacecraft, |it| (it.mode(), it.control_word(), it.frame_length()));
     }

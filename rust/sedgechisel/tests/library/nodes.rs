@@ -418,6 +418,97 @@ fn accepted_after_an_alert() {
     assert_eq!([0, 2, 3, 200].map(|value| ground.accepted_beyond(value)), [Some(0); 4]);
 }
 
+/// Packet k, which is two segments of 4 and 3 octets.
+fn packet(k: u8) -> [u8; 7] {
+    [0x10, 5, 0xc0, k, 0, 0, k]
+}
+
+/// So many frames are sent, of which the first come on board.
+fn go_up(ground: &mut Ground, spacecraft: &mut Spacecraft, frames: usize, arrive: usize) {
+    for k in 0..frames {
+        let frame = sent(ground).unwrap();
+        if k < arrive {
+            spacecraft.receive(&frame).unwrap();
+        }
+    }
+}
+
+/// How many submissions there are, how many were sent whole, and how many are acknowledged whole.
+fn has_come(ground: &Ground) -> [u64; 3] {
+    [ground.submitted(), ground.sent_whole(), ground.acknowledged_whole()]
+}
+
+/// It does not go on at this value, and is as it was.
+fn does_not_resume(ground: &mut Ground, value: u8) {
+    let shown = |it: &Ground| {
+        (it.state(), it.vs(), it.nn(), it.outstanding(), has_come(it), it.known_on_board(value))
+    };
+    let before = shown(ground);
+    assert_eq!((ground.resume(value), shown(ground)), (Err(LinkFault::NotKnown), before));
+}
+
+/// Nodes after an alert. Of three submissions five segments were sent, three accepted on board, which are a submission
+/// and a half, and one acknowledged.
+fn stopped_within_a_submission() -> (Ground, Spacecraft) {
+    let (mut ground, mut spacecraft) = pair(&Config { part: 4, timer: 1, limit: 1, ..Config::default() });
+    assert_eq!((ground.known_on_board(0), has_come(&ground)), (None, [0, 0, 0]));
+    does_not_resume(&mut ground, 0); // no session has begun
+    ground.init_without_check().unwrap();
+    assert_eq!(ground.known_on_board(0), Some(0));
+    does_not_resume(&mut ground, 0); // S1
+    (0..3).for_each(|k| ground.submit(4, &packet(k)).unwrap());
+    go_up(&mut ground, &mut spacecraft, 1, 1);
+    ground.telemetry(&reported(&mut spacecraft)).unwrap();
+    assert_eq!((ground.nn(), has_come(&ground)), (1, [3, 0, 0]));
+    go_up(&mut ground, &mut spacecraft, 1, 1);
+    assert_eq!(has_come(&ground), [3, 1, 0]);
+    go_up(&mut ground, &mut spacecraft, 3, 1);
+    assert_eq!(ground.tick(), Some(Alert::Timer));
+    assert_eq!((ground.state(), ground.vs(), has_come(&ground)), (FopState::S6, 5, [3, 2, 0]));
+    (ground, spacecraft)
+}
+
+/// After an alert a session goes on where the last one has got to: each packet is delivered once.
+#[test]
+fn a_session_that_goes_on() {
+    let (mut ground, mut spacecraft) = stopped_within_a_submission();
+    let known: Vec<_> = (0..7).map(|value| ground.known_on_board(value)).collect();
+    assert_eq!(known, [None, Some(0), Some(1), Some(1), Some(2), Some(2), None]);
+    does_not_resume(&mut ground, 0); // not from NN(R) = 1
+    does_not_resume(&mut ground, 6); // to V(S) = 5
+    let value = ground.report_in(&reported(&mut spacecraft)).unwrap().value;
+    assert_eq!((value, ground.resume(value)), (3, Ok(1)));
+    assert_eq!(
+        (ground.state(), ground.vs(), ground.nn(), has_come(&ground)),
+        (FopState::S5, 3, 3, [0, 0, 0])
+    );
+    assert_eq!(spacecraft.receive(&sent(&mut ground).unwrap()), Ok(Received::Control(Command::Unlock)));
+    ground.telemetry(&reported(&mut spacecraft)).unwrap();
+    (1..3).for_each(|k| ground.submit(4, &packet(k)).unwrap());
+    go_up(&mut ground, &mut spacecraft, 4, 4);
+    ground.telemetry(&reported(&mut spacecraft)).unwrap();
+    assert_eq!((ground.state(), ground.nn(), has_come(&ground)), (FopState::S1, 7, [2, 2, 2]));
+    (0..3).for_each(|k| assert_eq!(spacecraft.take(), Ok(Some((4, packet(k).to_vec())))));
+    assert_eq!(spacecraft.take(), Ok(None));
+}
+
+/// Where V(S) = NN(R) a session goes on at that number alone, and where V(S) was set at none.
+#[test]
+fn a_session_of_which_nothing_is_known() {
+    let mut ground = Ground::new(&Config::default()).unwrap();
+    ground.init_set_vr(7).unwrap();
+    ground.terminate().unwrap();
+    assert_eq!([7, 8, 99].map(|value| ground.known_on_board(value)), [Some(0); 3]);
+    does_not_resume(&mut ground, 6);
+    does_not_resume(&mut ground, 8);
+    assert_eq!((ground.resume(7), ground.terminate()), (Ok(0), Ok(())));
+    ground.set_vs(7).unwrap();
+    assert_eq!(ground.known_on_board(7), None);
+    does_not_resume(&mut ground, 7);
+    let fault = LinkFault::NotKnown;
+    assert_eq!((fault.number(), fault.name()), (7, "NotKnown"));
+}
+
 /// A node may go to another thread, and is let go of there.
 #[test]
 fn another_thread() {
