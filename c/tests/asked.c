@@ -9,9 +9,9 @@
 #include <stdio.h>
 #include <stdlib.h>
 
-/* The octets of a ground and of a spacecraft, of a place in a list of segments or of packets on board, and of the
- * extractor's packet. */
-enum { GROUND = 344, SPACECRAFT = 2336, PLACE = 32, EXTRACTOR = 65542, FRAME = 1016 };
+/* The octets of a ground and of a spacecraft, of a place in a list of segments or of packets on board, of one in the
+ * list of submissions, and of the extractor's packet; and how many segments may be sent and not acknowledged. */
+enum { GROUND = 400, SPACECRAFT = 2336, PLACE = 32, NUMBER = 8, EXTRACTOR = 65542, FRAME = 1016, SENT = 127 };
 
 static int failures;
 
@@ -71,16 +71,20 @@ static size_t most_alone(size_t part) {
     return most < 7 ? 0 : most;
 }
 
+/* The octets of a ground's lists. */
+static size_t lists_of_ground(void) {
+    return 16 * config.width + PLACE * config.queue_slots + NUMBER * (config.queue_slots + SENT) + EXTRACTOR;
+}
+
 static void asks_on_ground(void) {
     size_t most = most_alone(config.part), count = most == 0 ? 0 : 7 + below((uint32_t)most - 6);
     size_t list = config.blocking ? 4 * 16 : 0; /* of the packets of a submission */
-    WANT(ASKED(sedge_ground_open(&config, &ground))
-         == GROUND + 16 * config.width + PLACE * config.queue_slots + EXTRACTOR);
-    WANT(live == 4 && sedge_ground_init_without_check(&ground) == 0 && live == 4);
+    WANT(ASKED(sedge_ground_open(&config, &ground)) == GROUND + lists_of_ground());
+    WANT(live == 5 && sedge_ground_init_without_check(&ground) == 0 && live == 5);
     if (count == 0) return;
     make_packet(1, count);
-    WANT(ASKED(sedge_ground_submit(&ground, 63, packet, count)) == count + list && live == 5);
-    WANT(ASKED(sedge_ground_bypass(&ground, 63, packet, count)) == count + 4 * PLACE && live == 7);
+    WANT(ASKED(sedge_ground_submit(&ground, 63, packet, count)) == count + list && live == 6);
+    WANT(ASKED(sedge_ground_bypass(&ground, 63, packet, count)) == count + 4 * PLACE && live == 8);
 }
 
 /* The next Type-AD frame arrives, with these octets of the packet. */
@@ -108,8 +112,7 @@ static void asks_on_board(void) {
 /* What a link asks for beside its two nodes is the same for all. */
 static void asks_of_link(void) {
     static size_t same;
-    size_t nodes = 16 * config.width + PLACE * config.queue_slots + EXTRACTOR
-                   + PLACE * (config.ready_slots + 170) + PLACE * config.bypass_slots;
+    size_t nodes = lists_of_ground() + PLACE * (config.ready_slots + 170) + PLACE * config.bypass_slots;
     size_t more = ASKED(sedge_sim_open(&config, &sim)) - nodes;
     if (same == 0) same = more;
     WANT(more == same && more < 65536);
@@ -131,7 +134,8 @@ int main(int count, char **words) {
         WANT(live == 0);
     }
     WANT(refused == 0);
-    printf("| ground | %d; 16 * `width`; %d * `queue_slots`; 65,542 | 1 each |\n", GROUND, PLACE);
+    printf("| ground | %d; 16 * `width`; %d * `queue_slots`; %d * (`queue_slots` + %d); 65,542 | 1 each |\n", GROUND,
+           PLACE, NUMBER, SENT);
     printf("| spacecraft | %d,%03d; %d * (`ready_slots` + 170); %d * `bypass_slots` | 1 each |\n", SPACECRAFT / 1000,
            SPACECRAFT % 1000, PLACE, PLACE);
     if (failures > 0) printf("%d failed\n", failures);

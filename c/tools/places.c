@@ -20,10 +20,10 @@
 #include <string.h>
 
 /* The octets of a node, and of what it keeps for each packet, segment or number of a list. */
-enum { GROUND = 344, SPACECRAFT = 2336, UNIT = 16, PLACE = 32, CUT = 24, SLICE = 16, PACKET = 24, NUMBER = 4 };
-/* The longest packet; the most data of a frame, and packets in them; the places on board past the ready slots; and the
- * sizes that a list of places may have. */
-enum { LONGEST = 65542, DATA = 1016, MOST = DATA / 7, FURTHER = 170, SIZES = 128, DEFAULT = 65536 };
+enum { GROUND = 400, SPACECRAFT = 2336, UNIT = 16, PLACE = 32, COUNT = 8, CUT = 24, SLICE = 16, PACKET = 24, NUMBER = 4 };
+/* The longest packet; the most segments that are sent and not acknowledged; the most data of a frame, and packets in
+ * them; the places on board past the ready slots; and the sizes that a list of places may have. */
+enum { LONGEST = 65542, SENT = 127, DATA = 1016, MOST = DATA / 7, FURTHER = 170, SIZES = 128, DEFAULT = 65536 };
 
 struct traffic {
     uint32_t packets, segments, bypass, telemetry, telemetry_octets, spare;
@@ -69,6 +69,7 @@ static void places_of_ground(const struct sedge_config *config, const struct tra
     add(GROUND, 1);
     add(UNIT * config->width, 1);
     add(PLACE * config->queue_slots, 1);
+    add(COUNT * (config->queue_slots + SENT), 1);
     add(LONGEST, 1);
     add(config->part, config->queue_slots + config->width / 2 + traffic->bypass);
     if (config->blocking == 1) add_list(SLICE, traffic->packets);
