@@ -20,7 +20,8 @@
 #include <string.h>
 
 /* The octets of a node, and of what it keeps for each packet, segment or number of a list. */
-enum { GROUND = 400, SPACECRAFT = 2336, UNIT = 16, PLACE = 32, COUNT = 8, CUT = 24, SLICE = 16, PACKET = 24, NUMBER = 4 };
+enum { GROUND = 400, SPACECRAFT = 2336 };
+enum { UNIT = 16, PLACE = 32, COUNT = 8, CUT = 24, SLICE = 16, PACKET = 24, NUMBER = 4 };
 /* The longest packet; the most segments that are sent and not acknowledged; the most data of a frame, and packets in
  * them; the places on board past the ready slots; and the sizes that a list of places may have. */
 enum { LONGEST = 65542, SENT = 127, DATA = 1016, MOST = DATA / 7, FURTHER = 170, SIZES = 128, DEFAULT = 65536 };

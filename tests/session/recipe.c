@@ -1,8 +1,8 @@
 /* Follows the steps after an alert (docs/TOUR.md, "A session with losses") over random links with delays and losses,
  * until that many sessions have begun: `recipe SESSIONS`. On board each packet has to be the next one that was wanted
- * on its MAP: none twice, and none left out that was said to be accepted. recipe.py and recipe.rs do the same, and
+ * on its MAP: none twice, and none left out that was said to be on board. recipe.py and recipe.rs do the same, and
  * write the same lines. With a second word, `early`, it believes the first report after an alert, whenever that was
- * made. */
+ * made, and begins a session by it even where the ground refuses. */
 #include "../../c/tests/config.h"
 #include "sedgechisel.h"
 #include <stdio.h>
@@ -38,14 +38,14 @@ static struct way up, down;
 static struct sedge_ground ground;
 static struct sedge_spacecraft spacecraft;
 static struct sedge_config config;
-/* The packets of a run, and the number of segments of those before each; ticks between takes. */
+/* The packets of a run; ticks between takes. */
 static struct packet packets[PACKETS];
-static long segments[PACKETS + 1];
 static uint32_t pause;
-/* The tick at which a frame was last sent up; segments known to be accepted; packets submitted, and of them those that
- * an earlier session had; packets taken. */
-static long sent, accepted;
-static size_t submitted, known, taken[2];
+/* Whether a session of the run came to S1; the tick at which a frame was last sent up; packets submitted, and of them
+ * those that earlier sessions have brought on board; packets taken. */
+static int was_active;
+static long sent;
+static size_t submitted, done, taken[2];
 
 static uint32_t draw(uint32_t below) {
     state = state * 1664525 + 1013904223;
@@ -108,7 +108,6 @@ static void begin_packets(void) {
         memcpy(it->octets, "\x10\x05\xc0", 3);
         it->octets[4] = 0;
         it->octets[5] = (uint8_t)(length - 1);
-        segments[k + 1] = segments[k] + (long)((it->count + config.part - 1) / config.part);
     }
 }
 
@@ -129,8 +128,8 @@ static void begin_run(void) {
     pause = 1 + draw(3);
     begin_packets();
     sent = -99;
-    accepted = 0;
-    submitted = known = taken[0] = taken[1] = 0;
+    was_active = 0;
+    submitted = done = taken[0] = taken[1] = 0;
     expect(sedge_ground_open(&config, &ground) == 0, "sedge_ground_open");
     expect(sedge_spacecraft_open(&config, &spacecraft) == 0, "sedge_spacecraft_open");
 }
@@ -160,21 +159,36 @@ static int take(void) {
     return 1;
 }
 
-static void begin(uint8_t value) {
-    uint8_t more;
-    uint32_t how;
-    if (sedge_ground_accepted_beyond(&ground, value, &more) != 0) wrong("nothing is known of what was sent");
-    accepted += more;
-    for (submitted = PACKETS; segments[submitted] > accepted; submitted--) continue;
-    known = submitted;
-    accepted = segments[submitted];
-    how = draw(4);
+/* Begins a session by an initiation, where none has sent a packet yet. */
+static void begin_first(uint8_t value) {
+    uint32_t how = draw(4);
     if (how == 0) {
         expect(sedge_ground_init_set_vr(&ground, (uint8_t)draw(256)) == 0, "sedge_ground_init_set_vr");
     } else {
         expect(sedge_ground_set_vs(&ground, value) == 0, "sedge_ground_set_vs");
         expect((how == 1 ? sedge_ground_init_with_check : sedge_ground_init_unlock)(&ground) == 0, "an initiation");
     }
+}
+
+/* Begins the next session where the last one has got to. */
+static void resume(uint8_t value) {
+    uint64_t known = 0, whole = 0;
+    if (sedge_ground_known_on_board(&ground, value, &known) != 0 || sedge_ground_resume(&ground, value, &whole) != 0) {
+        if (!is_early) wrong("nothing is known of how far the session has come");
+        begin_first(value);
+        return;
+    }
+    expect(whole == known, "sedge_ground_resume");
+    done += (size_t)whole;
+}
+
+static void begin(uint8_t value) {
+    if (was_active) {
+        resume(value);
+    } else {
+        begin_first(value);
+    }
+    submitted = done;
     begun++;
     if (begun % 1000 == 0) {
         printf("%lu sessions: %lu alerts, %lu packets, %lu ticks\n", begun, alerts, taken_in_all, ticks);
@@ -182,12 +196,11 @@ static void begin(uint8_t value) {
 }
 
 static void hear(const struct frame *frame, long now) {
-    uint8_t nn = read_ground().nn;
     struct sedge_heard heard;
     struct sedge_clcw report;
     expect(sedge_ground_telemetry(&ground, frame->octets, frame->count, &heard) == 0, "sedge_ground_telemetry");
-    accepted += (uint8_t)(read_ground().nn - nn);
     alerts += heard.alert != 0;
+    was_active |= read_ground().state == SEDGE_FOP_S1;
     if (heard.alert != 0 || read_ground().state != SEDGE_FOP_S6 || heard.kind != 3 || heard.report != 0) return;
     expect(sedge_ground_report(&ground, frame->octets, frame->count, &report) == 0, "sedge_ground_report");
     if (is_early || now - sent > 2 * (long)up.delay) begin(report.value);
@@ -226,14 +239,14 @@ static void tick(long now) {
     if (read_ground().state != SEDGE_FOP_S6) submit_and_send(now);
 }
 
-/* The number of packets on a MAP that are known to be accepted. */
-static size_t known_on(uint8_t map) {
+/* The number of packets on a MAP that are on board, as the ground says. */
+static size_t done_on(uint8_t map) {
     size_t k, count = 0;
-    for (k = 0; k < known; k++) count += packets[k].map == map;
+    for (k = 0; k < done; k++) count += packets[k].map == map;
     return count;
 }
 
-/* Goes on until all packets came, as long as a run may be; those that were said to be accepted have come then. */
+/* Goes on until all packets came, as long as a run may be; those that were said to be on board have come then. */
 static void play(void) {
     long now;
     int has_ended = 0;
@@ -246,8 +259,9 @@ static void play(void) {
         has_ended = submitted == PACKETS && reading.state == SEDGE_FOP_S1 && reading.outstanding == 0;
     }
     while (take()) continue;
-    if (has_ended) known = PACKETS;
-    if (taken[0] < known_on(4) || taken[1] < known_on(5)) wrong("a packet that was said to be accepted did not come");
+    done += (size_t)read_ground().acknowledged_whole;
+    if (has_ended) expect(done == PACKETS, "the submissions that are acknowledged whole");
+    if (taken[0] < done_on(4) || taken[1] < done_on(5)) wrong("a packet that was said to be on board did not come");
 }
 
 int main(int count, char **words) {

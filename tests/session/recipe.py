@@ -1,7 +1,8 @@
 """Follows the steps after an alert (docs/TOUR.md, "A session with losses") over random links with delays and losses,
 until that many sessions have begun: `recipe.py SESSIONS`. On board each packet has to be the next one that was wanted
-on its MAP: none twice, and none left out that was said to be accepted. recipe.c and recipe.rs do the same, and write
-the same lines. With a second word, `early`, it believes the first report after an alert, whenever that was made."""
+on its MAP: none twice, and none left out that was said to be on board. recipe.c and recipe.rs do the same, and write
+the same lines. With a second word, `early`, it believes the first report after an alert, whenever that was made, and
+begins a session by it even where the ground refuses."""
 import collections
 import sys
 
@@ -51,15 +52,14 @@ class Run:
                                 queue_slots=500, frame_length=32)
         self.up, self.down = Way(self.delay, draw(5)), Way(self.delay, draw(5))
         self.pause = 1 + draw(3)
-        self.packets, self.segments = [], [0]
+        self.packets = []
         for k in range(PACKETS):
             map_, length = 4 + draw(2), 1 + draw(24)
             octets = bytes([0x10, 5, 0xC0, k, 0, length - 1]) + bytes([k]) * length
             self.packets.append((map_, octets))
-            self.segments.append(self.segments[-1] + -(-len(octets) // part))
-        # the tick at which a frame was last sent up; packets submitted, and of them those that an earlier session had;
-        # segments known to be accepted; packets taken
-        self.sent, self.submitted, self.known, self.accepted, self.taken = -99, 0, 0, 0, {4: 0, 5: 0}
+        # whether a session came to S1; the tick at which a frame was last sent up; packets submitted, and of them those
+        # that earlier sessions have brought on board; packets taken
+        self.was_active, self.sent, self.submitted, self.done, self.taken = False, -99, 0, 0, {4: 0, 5: 0}
 
     def take(self, spacecraft):
         """Takes a packet on board, which has to be the next of its MAP; whether there was one."""
@@ -74,27 +74,42 @@ class Run:
         taken_in_all += 1
         return True
 
-    def begin(self, ground, value):
-        global begun
-        more = ground.accepted_beyond(value)
-        if more is None:
-            wrong("nothing is known of what was sent")
-        self.accepted += more
-        self.submitted = max(k for k in range(PACKETS + 1) if self.segments[k] <= self.accepted)
-        self.known, self.accepted = self.submitted, self.segments[self.submitted]
+    def resume(self, ground, value):
+        """Begins the next session where the last one has got to."""
+        known = ground.known_on_board(value)
+        try:
+            whole = ground.resume(value)
+        except sc.LinkFault:
+            if not IS_EARLY:
+                wrong("nothing is known of how far the session has come")
+            self.begin_first(ground, value)
+            return
+        assert whole == known
+        self.done += whole
+
+    def begin_first(self, ground, value):
+        """Begins a session by an initiation, where none has sent a packet yet."""
         how = draw(4)
         if how == 0:
             ground.init_set_vr(draw(256))
         else:
             ground.set_vs(value)
             ground.init_with_check() if how == 1 else ground.init_unlock()
+
+    def begin(self, ground, value):
+        global begun
+        if self.was_active:
+            self.resume(ground, value)
+        else:
+            self.begin_first(ground, value)
+        self.submitted = self.done
         begun += 1
         if begun % 1000 == 0:
             print(f"{begun} sessions: {alerts} alerts, {taken_in_all} packets, {ticks} ticks")
 
     def hear(self, ground, frame, now):
-        nn, heard = ground.nn, ground.telemetry(frame)
-        self.accepted += (ground.nn - nn) % 256
+        heard = ground.telemetry(frame)
+        self.was_active = self.was_active or ground.state == sc.State.S1
         if heard.alert or ground.state != sc.State.S6 or heard.report != sc.Report.USED:
             return heard.alert
         is_made_after = now - self.sent > 2 * self.delay
@@ -125,7 +140,7 @@ class Run:
             self.up.send(now, frame)
 
     def play(self):
-        """Goes on until all packets came, as long as a run may be; what was said to be accepted has come then."""
+        """Goes on until all packets came, as long as a run may be; what was said to be on board has come then."""
         global ticks
         with sc.Ground(self.config) as ground, sc.Spacecraft(self.config) as spacecraft:
             for now in range(LONGEST_RUN):
@@ -136,9 +151,11 @@ class Run:
                     break
             while self.take(spacecraft):
                 pass
+            self.done += ground.acknowledged_whole
+            assert not has_ended or self.done == PACKETS
             for map_, taken in self.taken.items():
-                if taken < sum(it[0] == map_ for it in self.packets[:PACKETS if has_ended else self.known]):
-                    wrong("a packet that was said to be accepted did not come")
+                if taken < sum(it[0] == map_ for it in self.packets[:self.done]):
+                    wrong("a packet that was said to be on board did not come")
 
 
 while begun < SESSIONS:

@@ -1,8 +1,8 @@
 //! Follows the steps after an alert (docs/TOUR.md, "A session with losses") over random links with delays and losses,
 //! until that many sessions have begun: `recipe SESSIONS`. On board each packet has to be the next one that was wanted
-//! on its MAP: none twice, and none left out that was said to be accepted. recipe.c and recipe.py do the same, and
+//! on its MAP: none twice, and none left out that was said to be on board. recipe.c and recipe.py do the same, and
 //! write the same lines. With a second word, `early`, it believes the first report after an alert, whenever that was
-//! made.
+//! made, and begins a session by it even where the ground refuses.
 
 use sedgechisel::*;
 use std::collections::VecDeque;
@@ -84,15 +84,13 @@ struct Run {
     down: Way,
     pause: u8,
     packets: Vec<(u8, Vec<u8>)>,
-    /// The number of segments of the packets before each.
-    segments: Vec<i64>,
+    /// Whether a session came to S1.
+    was_active: bool,
     /// The tick at which a frame was last sent up.
     sent: i64,
     submitted: usize,
-    /// The packets that an earlier session had submitted and that are known to be accepted.
-    known: usize,
-    /// The segments that are known to be accepted.
-    accepted: i64,
+    /// The packets that earlier sessions have brought on board.
+    done: usize,
     taken: [usize; 2],
 }
 
@@ -117,16 +115,15 @@ impl Run {
         };
         let (up, down) = (Way::new(delay, all.draw(5)), Way::new(delay, all.draw(5)));
         let pause = 1 + all.draw(3);
-        let (mut packets, mut segments) = (Vec::new(), vec![0]);
+        let mut packets = Vec::new();
         for k in 0..PACKETS as u8 {
             let (map, length) = (4 + all.draw(2), 1 + all.draw(24));
             let mut octets = vec![0x10, 5, 0xc0, k, 0, length - 1];
             octets.resize(6 + usize::from(length), k);
-            segments.push(segments[usize::from(k)] + i64::from((6 + length).div_ceil(part)));
             packets.push((map, octets));
         }
         let (ground, spacecraft) = (Ground::new(&config)?, Spacecraft::new(&config)?);
-        let (sent, submitted, known, accepted, taken) = (-99, 0, 0, 0, [0; 2]);
+        let (was_active, sent, submitted, done, taken) = (false, -99, 0, 0, [0; 2]);
         Ok(Run {
             ground,
             spacecraft,
@@ -134,11 +131,10 @@ impl Run {
             down,
             pause,
             packets,
-            segments,
+            was_active,
             sent,
             submitted,
-            known,
-            accepted,
+            done,
             taken,
         })
     }
@@ -158,18 +154,22 @@ impl Run {
         Ok(true)
     }
 
-    fn begin(&mut self, all: &mut Totals, value: u8) -> Outcome {
-        let Some(more) = self.ground.accepted_beyond(value) else {
-            all.wrong("nothing is known of what was sent")
+    /// Begins the next session where the last one has got to.
+    fn resume(&mut self, all: &mut Totals, value: u8) -> Outcome {
+        let known = self.ground.known_on_board(value);
+        let Ok(whole) = self.ground.resume(value) else {
+            if !all.is_early {
+                all.wrong("nothing is known of how far the session has come");
+            }
+            return self.begin_first(all, value);
         };
-        self.accepted += i64::from(more);
-        self.submitted = self
-            .segments
-            .iter()
-            .rposition(|it| *it <= self.accepted)
-            .unwrap_or(0);
-        self.known = self.submitted;
-        self.accepted = self.segments[self.submitted];
+        assert_eq!(known, Some(whole));
+        self.done += usize::try_from(whole)?;
+        Ok(())
+    }
+
+    /// Begins a session by an initiation, where none has sent a packet yet.
+    fn begin_first(&mut self, all: &mut Totals, value: u8) -> Outcome {
         match all.draw(4) {
             0 => self.ground.init_set_vr(all.draw(256))?,
             how => {
@@ -181,6 +181,16 @@ impl Run {
                 }
             }
         }
+        Ok(())
+    }
+
+    fn begin(&mut self, all: &mut Totals, value: u8) -> Outcome {
+        if self.was_active {
+            self.resume(all, value)?;
+        } else {
+            self.begin_first(all, value)?;
+        }
+        self.submitted = self.done;
         all.begun += 1;
         if all.begun % 1000 == 0 {
             println!(
@@ -192,9 +202,8 @@ impl Run {
     }
 
     fn hear(&mut self, all: &mut Totals, frame: &[u8], now: i64) -> Outcome {
-        let nn = self.ground.nn();
         let heard = self.ground.telemetry(frame)?;
-        self.accepted += i64::from(self.ground.nn().wrapping_sub(nn));
+        self.was_active |= self.ground.state() == FopState::S1;
         let Heard::Frame {
             report: HeardReport::Used,
             alert,
@@ -253,7 +262,7 @@ impl Run {
         Ok(())
     }
 
-    /// Goes on until all packets came, as long as a run may be; those that were said to be accepted have come then.
+    /// Goes on until all packets came, as long as a run may be; those that were said to be on board have come then.
     fn play(&mut self, all: &mut Totals) -> Outcome {
         let mut has_ended = false;
         for now in 0..LONGEST_RUN {
@@ -267,10 +276,12 @@ impl Run {
             }
         }
         while self.take(all)? {}
-        let known = &self.packets[..if has_ended { PACKETS } else { self.known }];
+        self.done += usize::try_from(self.ground.acknowledged_whole())?;
+        assert!(!has_ended || self.done == PACKETS);
         for (map, taken) in (4..).zip(self.taken) {
-            if taken < known.iter().filter(|it| it.0 == map).count() {
-                all.wrong("a packet that was said to be accepted did not come");
+            let done = self.packets[..self.done].iter();
+            if taken < done.filter(|it| it.0 == map).count() {
+                all.wrong("a packet that was said to be on board did not come");
             }
         }
         Ok(())

@@ -1,12 +1,12 @@
 //! A session over both nodes and a link that loses frames: packets are submitted as the queue has room, and each round is
-//! a tick of the clock. After an alert a report says which packets were accepted on board, though it was not heard: a new
+//! a tick of the clock. After an alert the ground resumes by a report, which says how many packets are on board: the new
 //! session submits the others alone, so that each packet is delivered once.
 
 use sedgechisel::{Alert, Clcw, Config, FopState, Ground, Heard, HeardReport, Spacecraft, TcFrame, TmFrame};
 use std::error::Error;
 
 /// The packets, of 7 octets each, that are sent on MAP 4. Each is one segment.
-const PACKETS: u8 = 8;
+const PACKETS: u64 = 8;
 
 /// Loses every fifth frame, up or down, and once ten in a row.
 struct Link {
@@ -26,48 +26,41 @@ fn main() -> Result<(), Box<dyn Error>> {
     let config = Config { window: 4, limit: 2, timer: 3, queue_slots: 2, ..Config::default() };
     let (mut ground, mut spacecraft) = (Ground::new(&config)?, Spacecraft::new(&config)?);
     let mut link = Link { frames: 0 };
-    // How many packets were submitted, and of how many the ground knows that they were accepted.
-    let (mut submitted, mut accepted) = (0, 0);
-    begin(&mut ground, 0)?;
+    // How many packets the sessions before this one have brought on board.
+    let mut done = 0;
+    ground.init_unlock()?;
     for round in 1..=100 {
-        while submitted < PACKETS && ground.submit(4, &packet(submitted)).is_ok() {
-            submitted += 1;
+        for number in done + ground.submitted()..PACKETS {
+            if ground.submit(4, &packet(number)).is_err() {
+                break;
+            }
         }
         carry_up(&mut ground, &mut spacecraft, &mut link)?;
         while let Some((map, packet)) = spacecraft.take()? {
             println!("MAP {map} {}", packet.iter().map(|it| format!("{it:02X}")).collect::<String>());
         }
-        let nn = ground.nn();
         let (value, heard) = carry_down(&mut ground, &mut spacecraft, &mut link)?;
-        accepted += ground.nn().wrapping_sub(nn);
+        let acknowledged = done + ground.acknowledged_whole();
         if let Some(alert) = heard.or(ground.tick()) {
-            println!("round {round}: {}; {accepted} are acknowledged", alert.name());
+            println!("round {round}: {}; {acknowledged} are acknowledged", alert.name());
         }
-        if accepted == PACKETS {
+        if acknowledged == PACKETS {
             println!("round {round}: all are acknowledged");
             return Ok(());
         }
         // The report of this round was made when all frames had arrived or were lost: nothing was on its way up. An older
         // one would say too little, and what was accepted since would be sent again.
         if let (FopState::S6, Some(vr)) = (ground.state(), value) {
-            let more = ground.accepted_beyond(vr).ok_or("nothing is known of what is not acknowledged")?;
-            accepted += more;
-            println!("round {round}: {more} more were accepted; again from packet {accepted}");
-            submitted = accepted;
-            begin(&mut ground, vr)?;
+            done += ground.resume(vr)?;
+            let more = done - acknowledged;
+            println!("round {round}: {more} more were accepted; again from packet {done}");
         }
     }
     Err("not all were acknowledged".into())
 }
 
-fn packet(number: u8) -> [u8; 7] {
-    [0x10, 0x05, 0xc0, number, 0x00, 0x00, number]
-}
-
-/// Begins a session at the number that the spacecraft expects. Unlock clears its flags, and ends a lockout.
-fn begin(ground: &mut Ground, vr: u8) -> Result<(), Box<dyn Error>> {
-    ground.set_vs(vr)?;
-    Ok(ground.init_unlock()?)
+fn packet(number: u64) -> [u8; 7] {
+    [0x10, 0x05, 0xc0, number as u8, 0x00, 0x00, number as u8]
 }
 
 /// Carries up what the ground sends, until it has nothing more to send now.
