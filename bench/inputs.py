@@ -98,6 +98,14 @@ def telemetry(size, seed, length=1115):
             done += length
 
 
+def words(size, seed):
+    """Control words of channel 2, whose report value goes on and whose flags are any of the receiver's."""
+    source, value = random.Random(seed), 0
+    for _ in range(size // 4):
+        value = (value + source.randrange(3)) % 256
+        yield bytes([0x01, 0x08, source.choice((0x00, 0x00, 0x00, 0x08, 0x18, 0x20)) | 2 * source.randrange(4), value])
+
+
 # ---- hostile ones
 
 def damaged(octets, seed, spared=(), share=0.1):

@@ -1,4 +1,4 @@
-/* The limit of the machine: the lines of tctool's tc, farm, map, check, packets and tm, by whatever is fastest in plain C.
+/* The limit of the machine: the lines of tctool's tc, farm, map, check, packets, tm and clcw, by whatever is fastest in plain C.
  *
  * The file is mapped and no record is copied. Hexadecimal digits go by pairs from a table, the check takes eight octets a
  * turn, the number of a record is kept as digits, and there is one buffer. It is what tctool is measured beside (bench/run),
@@ -579,6 +579,74 @@ static void start_at(const uint8_t *data, uint32_t len, uint32_t pointer) {
     add(data, len);
 }
 
+/* Why a control word is none, and its line where it is one (CCSDS 232.0-B-4, 4.2). */
+static const char *const word_faults[] = {0, "Kind", "Version", "Cop", "Spare"};
+
+ALWAYS int fault_of_word(const uint8_t *octets) {
+    if (octets[0] >> 7)
+        return 1;
+    if (octets[0] >> 5)
+        return 2;
+    if ((octets[0] & 3) != 1)
+        return 3;
+    return (octets[1] & 3) || (octets[2] & 1) ? 4 : 0;
+}
+
+ALWAYS void put_report(const uint8_t *octets) {
+    PUT("report vcid=");
+    put_octet(octets[1] >> 2);
+    PUT(" vr=");
+    put_octet(octets[3]);
+    PUT(" l=");
+    *out++ = '0' + (octets[2] >> 5 & 1);
+    PUT(" w=");
+    *out++ = '0' + (octets[2] >> 4 & 1);
+    PUT(" t=");
+    *out++ = '0' + (octets[2] >> 3 & 1);
+    PUT(" b=");
+    *out++ = '0' + (octets[2] >> 1 & 3);
+    PUT(" status=");
+    *out++ = '0' + (octets[0] >> 2 & 7);
+    PUT(" rf=");
+    *out++ = '0' + (octets[2] >> 7);
+    PUT(" lock=");
+    *out++ = '0' + (octets[2] >> 6 & 1);
+    *out++ = '\n';
+}
+
+static void list_words(const uint8_t *octets, size_t left) {
+    for (; left >= 4; octets += 4, left -= 4) {
+        int fault = fault_of_word(octets);
+        count_record();
+        if (fault) {
+            put_invalid(fault, word_faults[fault]);
+            continue;
+        }
+        begin_line();
+        put_number();
+        *out++ = ' ';
+        put_report(octets);
+    }
+    if (left) {
+        count_record();
+        put_invalid(6, "Short");
+    }
+}
+
+static void put_field(const uint8_t *octets) {
+    int fault = fault_of_word(octets);
+    if (fault) {
+        PUT("report invalid ");
+        *out++ = '0' + fault;
+        *out++ = ' ';
+        put_name(word_faults[fault]);
+        *out++ = '\n';
+    } else
+        put_report(octets);
+}
+
+static int reports;
+
 static void list_telemetry(const uint8_t *octets, size_t left, uint32_t size) {
     int last = -1;
     for (; left >= size; octets += size, left -= size) {
@@ -631,6 +699,8 @@ static void list_telemetry(const uint8_t *octets, size_t left, uint32_t size) {
         else
             put_octet(gap);
         *out++ = '\n';
+        if (reports)
+            put_field(octets + size - 6);
         if (gap > 0)
             lose();
         if (pointer == NO_START)
@@ -658,6 +728,8 @@ int main(int count, char **words) {
             checked = 1;
         else if (!strcmp(words[i], "--blocking"))
             blocking = 1;
+        else if (!strcmp(words[i], "--report"))
+            reports = 1;
         else if (!strcmp(words[i], "--width"))
             half = atoi(words[++i]) / 2;
         else if (!strcmp(words[i], "--vr"))
@@ -692,6 +764,8 @@ int main(int count, char **words) {
         list_packets(octets, left);
     else if (!strcmp(task, "tm"))
         list_telemetry(octets, left, size);
+    else if (!strcmp(task, "clcw"))
+        list_words(octets, left);
     else
         return 2;
     flush();

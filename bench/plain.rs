@@ -1,6 +1,6 @@
 // The yardstick: the commands of tctool that read files, written by hand in plain Rust. It writes the same
 // lines, proves nothing, and has one status for all endings. Built by `rustc -O`; run as
-// `plain COMMAND [--check] [--blocking] [--length F] FILE`.
+// `plain COMMAND [--check] [--blocking] [--length F] [--report] FILE`.
 
 use std::env;
 use std::fs::File;
@@ -504,8 +504,44 @@ fn telemetry(frame: &[u8], length: usize) -> Result<(), Refused> {
     }
 }
 
+// ---- control words: CCSDS 232.0-B-4, 4.2
+
+fn push_report(line: &mut Vec<u8>, word: &[u8]) -> io::Result<Result<(), Refused>> {
+    let (first, second, third) = (word[0], word[1], word[2]);
+    if first >> 7 != 0 {
+        return Ok(Err((1, "Kind")));
+    }
+    if first >> 5 != 0 {
+        return Ok(Err((2, "Version")));
+    }
+    if first & 3 != 1 {
+        return Ok(Err((3, "Cop")));
+    }
+    if second & 3 != 0 || third & 1 != 0 {
+        return Ok(Err((4, "Spare")));
+    }
+    let bit = |place: u8| third >> place & 1;
+    write!(line, "report vcid={} vr={} l={} w={} t={}", second >> 2, word[3], bit(5), bit(4), bit(3))?;
+    writeln!(line, " b={} status={} rf={} lock={}", third >> 1 & 3, first >> 2 & 7, bit(7), bit(6))?;
+    Ok(Ok(()))
+}
+
+struct Words;
+
+impl Listing for Words {
+    fn list(&mut self, line: &mut Vec<u8>, index: u64, record: &[u8]) -> io::Result<()> {
+        write!(line, "{index} ")?;
+        if let Err(why) = push_report(line, record)? {
+            line.clear();
+            push_refused(line, index, why)?;
+        }
+        Ok(())
+    }
+}
+
 struct Tm {
     length: usize,
+    has_reports: bool,
     extractor: Extractor,
     packets: Vec<u8>,
 }
@@ -532,6 +568,11 @@ impl Listing for Tm {
         match last {
             None => line.extend_from_slice(b" gap=-\n"),
             Some(last) => writeln!(line, " gap={}", count.wrapping_sub(last).wrapping_sub(1))?,
+        }
+        if self.has_reports {
+            if let Err((number, name)) = push_report(line, &record[end..end + 4])? {
+                writeln!(line, "report invalid {number} {name}")?;
+            }
         }
         line.extend_from_slice(&self.packets);
         Ok(())
@@ -566,6 +607,7 @@ fn packet_extent(octets: &[u8]) -> Result<usize, Refused> {
 const PACKETS: Cut = Cut { head: 6, length: packet_extent, rest: (1, "Truncated") };
 const FRAMES: Cut = Cut { head: 5, length: |octets| declared(octets, 5), rest: (1, "Short") };
 const CHECKED: Cut = Cut { head: 5, length: |octets| declared(octets, 7), rest: (1, "Short") };
+const WORDS: Cut = Cut { head: 4, length: |_| Ok(4), rest: (6, "Short") };
 
 fn list_records(file: &mut File, out: &mut Out, cut: &Cut, listing: &mut impl Listing) -> io::Result<()> {
     let mut piece = vec![0; 1 << 16];
@@ -643,9 +685,10 @@ fn main() -> io::Result<()> {
         "tm" => {
             let place = words.iter().position(|it| it == "--length").map_or(0, |place| place + 1);
             let length = words[place].parse().map_err(|_| io::ErrorKind::InvalidInput)?;
-            let mut tm = Tm { length, extractor: Extractor::default(), packets: Vec::new() };
+            let mut tm = Tm { length, has_reports: has("--report"), extractor: Extractor::default(), packets: Vec::new() };
             list_frames(&mut file, &mut out, length, &mut tm)?;
         }
+        "clcw" => list_records(&mut file, &mut out, &WORDS, &mut Words)?,
         _ => return Err(io::ErrorKind::InvalidInput.into()),
     }
     out.flush()

@@ -3,7 +3,7 @@ _tctool() {
     local word=${COMP_WORDS[COMP_CWORD]} before=${COMP_WORDS[COMP_CWORD - 1]} words
     COMPREPLY=()
     if [ "$COMP_CWORD" -eq 1 ]; then
-        words='farm map tc tm check packets sim help --help --version -h -V'
+        words='farm map tc tm clcw check packets sim help --help --version -h -V'
     else
         case $before in
             --width | --vr | --length) return ;;
@@ -12,9 +12,9 @@ _tctool() {
             farm) words='--width --vr --check --help -h' ;;
             map) words='--width --vr --check --blocking --help -h' ;;
             tc) words='--check --help -h' ;;
-            tm) words='--length --help -h' ;;
-            check | packets | sim) words='--help -h' ;;
-            help) words='farm map tc tm check packets sim' ;;
+            tm) words='--length --report --help -h' ;;
+            clcw | check | packets | sim) words='--help -h' ;;
+            help) words='farm map tc tm clcw check packets sim' ;;
         esac
     fi
     if [ "$COMP_CWORD" -eq 1 ] || [ "${COMP_WORDS[1]}" = help ] || [ "${word#-}" != "$word" ]; then

@@ -47,6 +47,9 @@ check = named (codes "check")
 abbrev pub blocking : Wanted
 blocking = named (codes "blocking")
 
+abbrev pub report : Wanted
+report = named (codes "report")
+
 abbrev pub length : Wanted
 length = record { name = codes "length"; is_required = true; range = Some (16, 2048) }
 
@@ -58,7 +61,8 @@ abbrev pub options_of : Named → List Wanted
 options_of commands.Farm = width ∷ vr ∷ check ∷ []
 options_of commands.Map = width ∷ vr ∷ check ∷ blocking ∷ []
 options_of commands.Tc = check ∷ []
-options_of commands.Tm = length ∷ []
+options_of commands.Tm = length ∷ report ∷ []
+options_of commands.Clcw = []
 options_of commands.Check = []
 options_of commands.Packets = []
 options_of commands.Sim = []
@@ -103,7 +107,8 @@ abbrev pub IsInRange : Task → Type 0
 IsInRange (tasks.Farm check width vr) = IsWidth width × (vr < 256)
 IsInRange (tasks.Map check width vr blocking) = IsWidth width × (vr < 256)
 IsInRange (tasks.Tc check) = Unit {0}
-IsInRange (tasks.Tm length) = (16 ≤ length) × (length ≤ 2048)
+IsInRange (tasks.Tm length report) = (16 ≤ length) × (length ≤ 2048)
+IsInRange tasks.Clcw = Unit {0}
 IsInRange tasks.Check = Unit {0}
 IsInRange tasks.Packets = Unit {0}
 IsInRange tasks.Sim = Unit {0}

@@ -3,7 +3,7 @@
 ghost use Rattle.std.specs.Prelude.{◌≡◌, ◌≤◌, Some, None, IfOk};
 ghost use Rattle.clap.specs.Facts.{least_values};
 ghost use Rattle.command_line.specs.Arguments.{AreArguments, IsArgument, wanted_of};
-ghost use Rattle.command_line.specs.Arguments.{blocking, check, file, length, named, vr, width};
+ghost use Rattle.command_line.specs.Arguments.{blocking, check, file, length, named, report, vr, width};
 
 use crate::commands::Named;
 use clap::{Arg, ArgAction, value_parser};
@@ -29,8 +29,12 @@ impl Named {
                 file_argument(alloc, help),
             ]?,
             Named::Tc => vec![in alloc; check_flag(alloc), file_argument(alloc, help)]?,
-            Named::Tm => vec![in alloc; length_option(alloc), file_argument(alloc, help)]?,
-            Named::Check | Named::Packets | Named::Sim => {
+            Named::Tm => vec![in alloc;
+                length_option(alloc),
+                report_flag(alloc),
+                file_argument(alloc, help),
+            ]?,
+            Named::Clcw | Named::Check | Named::Packets | Named::Sim => {
                 vec![in alloc; file_argument(alloc, help)]?
             }
         })
@@ -60,6 +64,14 @@ fn length_option<'a>(alloc: Global) -> Arg<'a>
     option(alloc, "length", "F", "Octets of a frame, 16 to 2048")
         .required(true)
         .value_parser(value_parser!(u16).range(16..=2048))
+}
+
+// `--report`, whether control words have a line.
+fn report_flag<'a>(alloc: Global) -> Arg<'a>
+    ensures { IsArgument result report }
+{
+    let help = "Writes what the control word of each frame reports";
+    flag(alloc, "report", help)
 }
 
 // `--check`, whether frames end with their check.

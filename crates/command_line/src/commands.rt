@@ -18,6 +18,7 @@ pub enum Named {
     Map,
     Tc,
     Tm,
+    Clcw,
     Check,
     Packets,
     Sim,

@@ -33,7 +33,9 @@ impl Named {
             },
             Named::Tm => Task::Tm {
                 length: length_given(given),
+                report: given.get_flag("report"),
             },
+            Named::Clcw => Task::Clcw,
             Named::Check => Task::Check,
             Named::Packets => Task::Packets,
             Named::Sim => Task::Sim,

@@ -56,7 +56,7 @@ pub(crate) use ending_of_help;
 const FRAMES: &str = "Telecommand frames, one after another";
 
 /// The commands in the order in which the help lists them.
-pub const COMMANDS: [Described<'static>; 7] = [
+pub const COMMANDS: [Described<'static>; 8] = [
     Described {
         command: Named::Farm,
         name: "farm",
@@ -98,6 +98,7 @@ pub const COMMANDS: [Described<'static>; 7] = [
         file: "Telemetry frames, one after another",
         ending: ending_of_help!(
             "1 scid=1 vcid=0 mc=0 vc=0 pointer=0 ocf=01080000 gap=-",
+            "and under --report the line of tctool clcw, without its number\n\n",
             "Faults of a frame, the first that applies:\n",
             "  1 Length             not as many octets as --length says\n",
             "  2 Version            the version number is not 00\n",
@@ -105,6 +106,25 @@ pub const COMMANDS: [Described<'static>; 7] = [
             "  4 Status             a status flag is not 0, or segment length not 11\n",
             "  5 Pointer            the first header pointer is not within the data\n",
             "  6 NoOcf              the frame has no operational control field\n",
+            "\n"
+        ),
+    },
+    Described {
+        command: Named::Clcw,
+        name: "clcw",
+        bin_name: "tctool clcw",
+        about: "Lists what each control word (CLCW) reports",
+        file: "Control words of four octets, one after another",
+        ending: ending_of_help!(
+            "1 report vcid=2 vr=0 l=0 w=0 t=0 b=0 status=0 rf=0 lock=0",
+            "l, w and t are the flags lockout, wait and retransmit, and b is FARM-B.\n",
+            "rf=1 says that no radio frequency is available, lock=1 that there is no bit lock.\n",
+            "\nFaults of a control word, the first that applies:\n",
+            "  1 Kind               the type is not 0\n",
+            "  2 Version            the version number is not 00\n",
+            "  3 Cop                the COP in effect is not 01, COP-1\n",
+            "  4 Spare              a spare bit is not 0\n",
+            "  6 Short              the file ends within the control word\n",
             "\n"
         ),
     },

@@ -24,11 +24,14 @@ pub enum Task {
     Tc {
         check: bool,
     },
-    /// Lists the fields of each telemetry frame, of frames of this length, 16 to 2,048 octets, and the
-    /// packets that are finished with it.
+    /// Lists the fields of each telemetry frame, of frames of this length, 16 to 2,048 octets, what its
+    /// control word reports, if that is asked for, and the packets that are finished with it.
     Tm {
         length: u16,
+        report: bool,
     },
+    /// Lists what each control word reports.
+    Clcw,
     /// Lists the frames that are refused, of frames that end with their FECF.
     Check,
     /// Lists the fields of each space packet.

@@ -1,5 +1,5 @@
 -- The lines of a receiver: what the receiver makes of each record, and how it stands after it.
-use Rattle.std.specs.Prelude.{ℕ, is_ok, Bool, true, false, List, ◌++◌, codes, decimal, Result, Ok}
+use Rattle.std.specs.Prelude.{ℕ, is_ok, true, List, ◌++◌, codes, decimal, Result, Ok}
 use Rattle.std.specs.Prelude.{Err}
 use Rattle.tc_frame.specs.declared.frame.Check.{Check}
 use Rattle.tc_frame.specs.declared.frame.Command.TheVariants.{Unlock, SetVr}
@@ -13,17 +13,12 @@ use Rattle.cop1.specs.declared.farm.FarmMode.TheVariants.{Open, Wait, Lockout}
 use Rattle.cop1.specs.Names.{verdict_row}
 use Rattle.listings.specs.RefusalLines.{frame_fault_line}
 use Rattle.listings.specs.Listing.{Lines}
-use Rattle.listings.specs.Text.{line_end}
+use Rattle.listings.specs.Text.{flag_number, line_end}
 
 abbrev pub state_word : FarmMode → List ℕ
 state_word Open = codes "Open"
 state_word Wait = codes "Wait"
 state_word Lockout = codes "Lockout"
-
--- a flag as 0 or 1
-abbrev pub flag_number : Bool → ℕ
-flag_number true = 1
-flag_number false = 0
 
 -- the flags after a frame, and FARM-B, as its line ends
 abbrev pub flags_text : FarmState → List ℕ

@@ -1,7 +1,10 @@
--- How a stream of octets is cut into records, and the three ways in which the files of the commands
+-- How a stream of octets is cut into records, and the four ways in which the files of the commands
 -- are.
 use Rattle.std.specs.Prelude.{◌≡◌, ◌≤◌, ℕ, List, take, length, nat_lt, if◌then◌else◌, Option, Some}
 use Rattle.std.specs.Prelude.{Result, Ok, Err, drop}
+use Rattle.clcw.specs.declared.word.Clcw.{Clcw}
+use Rattle.clcw.specs.declared.fault.ClcwFault.{ClcwFault}
+use Rattle.clcw.specs.Decoding.{clcw_at}
 use Rattle.octets.specs.Records.{first_record, records_of, rest_of}
 use Rattle.tc_frame.specs.declared.frame.Check.{Check}
 use Rattle.tc_frame.specs.declared.fault.TcFault.{TcFault}
@@ -12,6 +15,8 @@ use Rattle.space_packet.specs.declared.fault.PacketFault.TheVariants.{Truncated}
 use Rattle.space_packet.specs.Decoding.{extent_at}
 use Rattle.tm_link.specs.declared.fault.TmFault.{TmFault}
 use Rattle.tm_link.specs.declared.fault.TmFault.TheVariants.{Length}
+use Rattle.listings.specs.declared.control_words.WordFault.{WordFault}
+use Rattle.listings.specs.declared.control_words.WordFault.TheVariants as words
 use Rattle.listings.specs.declared.frame_cutter.FrameCutter.{FrameCutter}
 use Rattle.listings.specs.declared.frame_cutter.FrameLength as lengths
 
@@ -74,6 +79,21 @@ telemetry_layout size = record { head = size; extent = frame_extent size; trunca
 -- space packets: the first six octets give the length (CCSDS 133.0-B-2, 4.1.3)
 abbrev pub packet_layout : Layout PacketFault
 packet_layout = record { head = 6; extent = extent_at; truncated = Truncated }
+
+-- control words: every four octets are one, whatever they are (CCSDS 232.0-B-4, 4.2.1)
+abbrev pub word_extent : List ℕ → Result ℕ WordFault
+word_extent head = Ok 4
+
+abbrev pub word_layout : Layout WordFault
+word_layout = record { head = 4; extent = word_extent; truncated = words.Short }
+
+-- the control word of a record, or why it is none
+abbrev pub as_word : Result Clcw ClcwFault → Result Clcw WordFault
+as_word (Ok word) = Ok word
+as_word (Err fault) = Err (words.Refused fault)
+
+abbrev pub word_in : List ℕ → Result Clcw WordFault
+word_in octets = if nat_lt (length octets) 4 then Err words.Short else as_word (clcw_at octets)
 
 -- What is held of a stream of telemetry frames.
 

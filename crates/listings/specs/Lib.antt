@@ -4,6 +4,7 @@ pub mod FrameLines
 pub mod MapLines
 pub mod ListedPackets
 pub mod PacketLines
+pub mod ReportLines
 pub mod TelemetryLines
 pub mod Devices
 pub mod Text

@@ -1,19 +1,31 @@
 -- The lines of TM frames: what each frame says, how many are missing before it, and the packets
 -- that are finished with it.
-use Rattle.std.specs.Prelude.{ℕ, is_ok, List, ◌++◌, map, codes, decimal, Result, Ok, Err}
+use Rattle.std.specs.Prelude.{ℕ, is_ok, Bool, true, false, List, [], ◌++◌, map, codes, decimal}
+use Rattle.std.specs.Prelude.{Result, Ok, Err}
 use Rattle.std.specs.List.{concat}
 use Rattle.hex.specs.Hex.{encode_upper}
+use Rattle.clcw.specs.Decoding.{clcw_at}
 use Rattle.tm_link.specs.declared.fault.TmFault.{TmFault}
 use Rattle.tm_link.specs.declared.frame.Pointer.{Pointer}
 use Rattle.tm_link.specs.declared.frame.Pointer.TheVariants.{At, NoStart, OnlyIdle}
 use Rattle.tm_link.specs.declared.gap.Gap.{Gap}
 use Rattle.tm_link.specs.declared.gap.Gap.TheVariants.{First, Lost}
-use Rattle.tm_link.specs.Extractor.{ExtractorState, extract_step}
+use Rattle.tm_link.specs.Extractor.{ExtractorState, extract_step, new_extractor}
 use Rattle.tm_link.specs.Layout.{FrameView}
 use Rattle.tm_link.specs.Decoding.{frame_at}
 use Rattle.listings.specs.RefusalLines.{telemetry_fault_line}
+use Rattle.listings.specs.ReportLines.{field_line}
 use Rattle.listings.specs.Listing.{Lines}
 use Rattle.listings.specs.Text.{octets_line, line_end}
+
+-- the one extractor that takes all frames, and whether control words have a line
+pub record TelemetryState : Type 0 where
+  pub reports : Bool
+  pub extractor : ExtractorState
+
+-- before the first frame
+abbrev pub telemetry_opened : Bool → TelemetryState
+telemetry_opened reports = record { reports = reports; extractor = new_extractor }
 
 -- a frame's number, the channel that it came on, and its counts
 abbrev pub counts_text : ℕ → FrameView → List ℕ
@@ -49,19 +61,25 @@ finished_line packet = codes "packet " ++ octets_line packet
 abbrev pub finished_lines : List (List ℕ) → List ℕ
 finished_lines packets = concat (map finished_line packets)
 
+-- the line of the operational control field, where it has one
+abbrev pub report_text : Bool → FrameView → List ℕ
+report_text true f = field_line (clcw_at f.ocf)
+report_text false f = []
+
 -- the lines of a record, from the extractor before it
-abbrev pub record_text : ExtractorState → ℕ → Result FrameView TmFault → List ℕ
+abbrev pub record_text : TelemetryState → ℕ → Result FrameView TmFault → List ℕ
 record_text x i (Ok f) =
-    frame_line i f (extract_step x f).gap ++ finished_lines (extract_step x f).packets
+    frame_line i f (extract_step x.extractor f).gap
+    ++ (report_text x.reports f ++ finished_lines (extract_step x.extractor f).packets)
 record_text x i (Err e) = telemetry_fault_line i e
 
 -- the extractor after a record; it is not given one that is refused
-abbrev pub after_record : ExtractorState → Result FrameView TmFault → ExtractorState
-after_record x (Ok f) = (extract_step x f).after
+abbrev pub after_record : TelemetryState → Result FrameView TmFault → TelemetryState
+after_record x (Ok f) = record x { extractor = (extract_step x.extractor f).after }
 after_record x (Err e) = x
 
 -- what is written of frames of this many octets; one extractor takes them all
-abbrev pub telemetry_lines : ℕ → Lines ExtractorState TmFault
+abbrev pub telemetry_lines : ℕ → Lines TelemetryState TmFault
 telemetry_lines size = record {
   line_of = λ x i octets. record_text x i (frame_at size octets);
   after = λ x octets. after_record x (frame_at size octets);

@@ -1,6 +1,6 @@
 -- Pieces of the tool's lines.
 use Rattle.std.specs.Prelude.{ℕ, List, [], ◌∷◌, ◌++◌, codes, decimal, ◌≡◌, take, Result, OnOk, ◌+◌}
-use Rattle.std.specs.Prelude.{◌/◌, ◌%◌}
+use Rattle.std.specs.Prelude.{◌/◌, ◌%◌, Bool, true, false}
 use Rattle.hex.specs.Hex.{encode_upper}
 use Rattle.listings.specs.declared.text.Text.{Text}
 
@@ -16,6 +16,11 @@ invalid_line i (number, name) =
 -- octets as upper-case hexadecimal digits, at the end of a line
 abbrev pub octets_line : List ℕ → List ℕ
 octets_line octets = encode_upper octets ++ line_end
+
+-- a flag as 0 or 1
+abbrev pub flag_number : Bool → ℕ
+flag_number true = 1
+flag_number false = 0
 
 -- What is written in a text, and what is put into room of octets.
 

@@ -1,16 +1,16 @@
 // The line of each TC frame as a receiver takes it: its verdict, and how the receiver stands then.
 
-ghost use Rattle.std.specs.Prelude.{◌≡◌, ◌+◌, ◌≤◌, ◌++◌, [], ◌∷◌, codes, decimal, length, take, OnOk, IfOk, is_ok};
+ghost use Rattle.std.specs.Prelude.{◌≡◌, ◌+◌, ◌≤◌, ◌++◌, codes, decimal, length, take, OnOk, IfOk, is_ok};
 ghost use Rattle.tc_frame.specs.Layout.{body_view, frame_view};
 ghost use Rattle.tc_frame.specs.Decoding.{frame_at};
 ghost use Rattle.tc_frame.specs.Splitter.{check_if};
 ghost use Rattle.cop1.specs.Names.{verdict_row};
 ghost use Rattle.listings.specs.Text.{Appends};
-ghost use Rattle.listings.specs.FarmLines.{state_word, flag_number, flags_text, state_text, body_text, after_body, farm_line, after_record, farm_lines};
+ghost use Rattle.listings.specs.FarmLines.{state_word, flags_text, state_text, body_text, after_body, farm_line, after_record, farm_lines};
 
 use crate::lines::{push_invalid, push_refused};
 use crate::listing::Listing;
-use crate::parts::{put_field, put_number, put_word};
+use crate::parts::{put_field, put_flag, put_number, put_word};
 use crate::text::Text;
 use cop1::{Farm, FarmMode, Verdict};
 use octets::Splitter;
@@ -42,23 +42,6 @@ fn put_verdict(room: &mut [u8], at: usize, verdict: Verdict) -> usize
         Verdict::Outside => put_word(room, at, b"outside"),
         Verdict::Discarded => put_word(room, at, b"discarded"),
     }
-}
-
-#[tactic(auto, using(std::proofs::lemmas::Fmt::decimal_digit))]
-fn digit_of_flag(flag: bool) -> u8
-    ensures { result ∷ [] ≡ decimal (flag_number flag) }
-{
-    if flag { b'1' } else { b'0' }
-}
-
-fn put_flag(room: &mut [u8], at: usize, word: &[u8; 3], flag: bool) -> usize
-    requires { at + 4 ≤ length room.old }
-    ensures put { take result room.new ≡ take at room.old
-        ++ (word.now ++ decimal (flag_number flag)) }
-    ensures next { result ≡ at + 4 }
-{
-    let next = put_word(room, at, word);
-    put_word(room, next, &[digit_of_flag(flag)])
 }
 
 fn put_flags(room: &mut [u8], at: usize, farm: &Farm) -> usize

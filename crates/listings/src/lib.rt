@@ -1,10 +1,11 @@
-//! The lines that are written of streams of telecommand frames, telemetry frames and space packets,
-//! and of what a receiver and an assembler make of telecommand frames.
+//! The lines that are written of streams of telecommand frames, telemetry frames, control words and space
+//! packets, and of what a receiver and an assembler make of telecommand frames.
 //!
 //! `list_stream` reads a `Source` in pieces, cuts what it reads into records by a `Cutter`, has a
 //! `Listing` append the lines of each, and writes them to a `Sink` before it reads the next piece.
 #![tactic(auto)]
 
+mod control_words;
 mod cutter;
 mod device_log;
 mod farm;
@@ -18,12 +19,14 @@ mod output;
 mod packets;
 mod parts;
 mod refusals;
+mod reports;
 mod sink;
 mod source;
 mod stream;
 mod telemetry;
 mod text;
 
+pub use control_words::{ControlWords, WordFault};
 pub use cutter::Cutter;
 pub use device_log::{Call, DeviceLog};
 pub use fault::ListingFault;
@@ -34,6 +37,7 @@ pub use maps::{MapListing, law_of_listed_packets};
 pub use output::{WriteFailed, write_all};
 pub use packets::PacketListing;
 pub use refusals::RefusalListing;
+pub use reports::ReportListing;
 pub use sink::{Sink, Writer};
 pub use source::{Reader, Source};
 pub use stream::{MOST_OCTETS, list_stream};

@@ -1,9 +1,9 @@
 // Parts of a line, each put in place after the one before it. Each call answers the place after what it put.
 
-ghost use Rattle.std.specs.Prelude.{◌≡◌, ◌+◌, ◌*◌, ◌<◌, ◌≤◌, ◌%◌, ◌++◌};
+ghost use Rattle.std.specs.Prelude.{◌≡◌, ◌+◌, ◌*◌, ◌<◌, ◌≤◌, ◌%◌, ◌++◌, [], ◌∷◌};
 ghost use Rattle.std.specs.Prelude.{◌/◌, bit_and, codes, decimal, drop, length, map, take, slice_index};
 ghost use Rattle.hex.specs.Hex.{encode_upper, upper_digits};
-ghost use Rattle.listings.specs.Text.{four_digits};
+ghost use Rattle.listings.specs.Text.{flag_number, four_digits};
 
 use std::simd::prelude::*;
 
@@ -40,6 +40,24 @@ pub fn put_field<const N: usize>(room: &mut [u8], at: usize, word: &[u8; N], num
 {
     let next = put_word(room, at, word);
     put_eight(room, next, u32::from(number))
+}
+
+#[tactic(auto, using(std::proofs::lemmas::Fmt::decimal_digit))]
+fn digit_of_flag(flag: bool) -> u8
+    ensures { result ∷ [] ≡ decimal (flag_number flag) }
+{
+    if flag { b'1' } else { b'0' }
+}
+
+/// Puts a word, and a flag as 0 or 1 after it.
+pub fn put_flag<const N: usize>(room: &mut [u8], at: usize, word: &[u8; N], flag: bool) -> usize
+    requires { at + (N + 1) ≤ length room.old }
+    ensures put { take result room.new ≡ take at room.old
+        ++ (word.now ++ decimal (flag_number flag)) }
+    ensures next { result ≡ at + (N + 1) }
+{
+    let next = put_word(room, at, word);
+    put_word(room, next, &[digit_of_flag(flag)])
 }
 
 /// Puts the decimal digits of the number of a record, which are at most twenty.

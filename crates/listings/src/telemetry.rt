@@ -3,49 +3,53 @@
 ghost use Rattle.std.specs.Prelude.{◌≡◌, ◌+◌, ◌≤◌, ◌++◌, IfOk, codes, length, take};
 ghost use Rattle.listings.specs.Text.{Appends};
 ghost use Rattle.listings.specs.Text.{line_end};
-ghost use Rattle.tm_link.specs.Extractor.{ExtractorState, new_extractor, octets_of};
+ghost use Rattle.tm_link.specs.Extractor.{octets_of};
 ghost use Rattle.tm_link.specs.Layout.{frame_view};
-ghost use Rattle.listings.specs.TelemetryLines.{counts_text, pointer_text, lost_text, frame_line, finished_line, finished_lines, telemetry_lines};
+ghost use Rattle.listings.specs.TelemetryLines.{TelemetryState, telemetry_opened, counts_text, pointer_text, lost_text, frame_line, report_text, finished_line, finished_lines, telemetry_lines};
 
 use crate::frame_cutter::{FrameCutter, FrameLength};
 use crate::lines::{push_invalid, push_octets, push_refused};
 use crate::listing::Listing;
 use crate::parts::{put_digits, put_field, put_number, put_word};
+use crate::reports::push_report;
 use crate::text::Text;
 use std::alloc::{AllocError, Global};
 use std::marker::{Model, PhantomData};
 use tm_link::{Extractor, Gap, Pointer, TmFault, TmFrame, decode};
 
-/// Lists the fields of each frame, and the packets that are finished with it. One extractor takes all
-/// frames.
+/// Lists the fields of each frame, what its control word reports, where that is asked for, and the packets
+/// that are finished with it. One extractor takes all frames.
 #[derive(Drop)]
 pub struct TelemetryListing<K: FrameLength> {
     frame_length: u16,
+    reports: bool,
     extractor: Extractor,
     packets: Vec<Vec<u8>>,
     channel: PhantomData<K>,
 }
 
 impl<K: FrameLength> Model for TelemetryListing<K> {
-    ghost Value = { ExtractorState };
+    ghost Value = { TelemetryState };
 
-    ghost view = { λ l. l.extractor };
+    ghost view = { λ l. record { reports = l.reports; extractor = l.extractor } };
 
     ghost invariant = { λ l. l.frame_length ≡ K.payload + 12 };
 }
 
 impl<K: FrameLength> TelemetryListing<K> {
-    /// A listing that has seen no frame. Its extractor reserves the octets of the longest packet.
+    /// A listing that has seen no frame; `reports` says whether control words have a line. Its extractor
+    /// reserves the octets of the longest packet.
     /// Faults: AllocError. Memory: yes.
-    pub fn new(alloc: Global, frame_length: u16) -> Result<Self, AllocError>
+    pub fn new(alloc: Global, frame_length: u16, reports: bool) -> Result<Self, AllocError>
         requires { frame_length ≡ K.payload + 12 }
-        ensures { IfOk result (λ l. l ≡ new_extractor) }
+        ensures { IfOk result (λ l. l ≡ telemetry_opened reports) }
     {
         let Ok(extractor) = Extractor::new(alloc) else {
             return Err(AllocError);
         };
         Ok(TelemetryListing {
             frame_length,
+            reports,
             extractor,
             packets: Vec::new(alloc),
             channel: PhantomData,
@@ -65,6 +69,7 @@ impl<K: FrameLength> Listing<FrameCutter<K>> for TelemetryListing<K> {
                 };
                 text.make_room(128)?;
                 text.len = put_frame(text.octets.as_mut_slice(), text.len, index, &frame, gap);
+                push_report_if(text, self.reports, &frame)?;
                 push_finished(text, self.packets.as_slice())?;
                 Ok(true)
             }
@@ -131,6 +136,16 @@ fn put_frame(room: &mut [u8], at: usize, index: u64, frame: &TmFrame, gap: Gap) 
     let next = put_pointer(room, next, frame.pointer);
     let next = put_digits(room, next, &frame.ocf);
     put_gap(room, next, gap)
+}
+
+/// Appends the line of a frame's control word, where it has one.
+fn push_report_if(text: &mut Text, reports: bool, frame: &TmFrame) -> Result<(), AllocError>
+    ensures { Appends result text.old text.new (report_text reports (frame_view frame.now)) }
+{
+    if !reports {
+        return Ok(());
+    }
+    push_report(text, frame.ocf)
 }
 
 /// Appends the line of each packet that is finished.

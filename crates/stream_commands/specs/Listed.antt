@@ -4,7 +4,6 @@ use Rattle.std.specs.Prelude.{List, [], ℕ}
 use Rattle.tc_frame.specs.declared.frame.Check.TheVariants.{On}
 use Rattle.tc_frame.specs.Splitter.{check_if}
 use Rattle.cop1.specs.Farm.{new_farm}
-use Rattle.tm_link.specs.Extractor.{new_extractor}
 use Rattle.command_line.specs.declared.task.Task.{Task}
 use Rattle.command_line.specs.declared.task.Task.TheVariants as tasks
 use Rattle.listings.specs.FarmLines.{farm_lines}
@@ -12,9 +11,10 @@ use Rattle.listings.specs.FrameLines.{frame_lines}
 use Rattle.listings.specs.MapLines.{map_lines, map_opened}
 use Rattle.listings.specs.RefusalLines.{refusal_lines}
 use Rattle.listings.specs.PacketLines.{none_seen, packet_lines}
-use Rattle.listings.specs.TelemetryLines.{telemetry_lines}
-use Rattle.listings.specs.Layouts.{Layout, frame_layout, telemetry_layout, packet_layout, rest_by}
-use Rattle.listings.specs.Layouts.{IsRefused}
+use Rattle.listings.specs.ReportLines.{report_lines}
+use Rattle.listings.specs.TelemetryLines.{telemetry_lines, telemetry_opened}
+use Rattle.listings.specs.Layouts.{Layout, frame_layout, telemetry_layout, word_layout}
+use Rattle.listings.specs.Layouts.{packet_layout, rest_by, IsRefused}
 use Rattle.listings.specs.Listing.{Lines, fresh, text_of, is_all_good}
 use Rattle.stream_commands.specs.declared.outcome.Outcome.{Outcome}
 use Rattle.stream_commands.specs.declared.outcome.Outcome.TheVariants.{Good}
@@ -36,7 +36,9 @@ work_of (tasks.Map check width vr blocking) =
     (map_opened width vr blocking)
 work_of (tasks.Tc check) =
     Lists (frame_layout (check_if check)) (frame_lines (check_if check)) tt
-work_of (tasks.Tm size) = Lists (telemetry_layout size) (telemetry_lines size) new_extractor
+work_of (tasks.Tm size report) =
+    Lists (telemetry_layout size) (telemetry_lines size) (telemetry_opened report)
+work_of tasks.Clcw = Lists word_layout report_lines tt
 work_of tasks.Check = Lists (frame_layout On) refusal_lines tt
 work_of tasks.Packets = Lists packet_layout packet_lines none_seen
 work_of tasks.Sim = Plays

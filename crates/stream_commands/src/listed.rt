@@ -14,8 +14,9 @@ use crate::outcome::Outcome;
 use command_line::Task;
 use cop1::Farm;
 use listings::{
-    Cutter, FrameCutter, FrameLength, FrameListing, Listing, ListingFault, MapListing,
-    PacketListing, RefusalListing, Sink, Source, TelemetryListing, list_stream,
+    ControlWords, Cutter, FrameCutter, FrameLength, FrameListing, Listing, ListingFault,
+    MapListing, PacketListing, RefusalListing, ReportListing, Sink, Source, TelemetryListing,
+    list_stream,
 };
 use octets::Splitter;
 use space_packet::Packets;
@@ -83,7 +84,13 @@ pub fn list<R: Source, W: Sink>(
                 list_records(alloc, reader, writer, task, cutter, FrameListing)
             }
         }
-        Task::Tm { length } => list_frames::<Brand, R, W>(alloc, reader, writer, task, length),
+        Task::Tm { length, report } => {
+            list_frames::<Brand, R, W>(alloc, reader, writer, task, length, report)
+        }
+        Task::Clcw => {
+            let cutter = Splitter::<ControlWords>::new(alloc);
+            list_records(alloc, reader, writer, task, cutter, ReportListing)
+        }
         Task::Check => {
             let cutter = Splitter::<Checked>::new(alloc);
             list_records(alloc, reader, writer, task, cutter, RefusalListing)
@@ -103,8 +110,9 @@ fn list_frames<K: FrameLength, R: Source, W: Sink>(
     writer: &mut W,
     task: Task,
     size: u16,
+    report: bool,
 ) -> Result<Outcome, ListingFault>
-    requires task { task ≡ Task.Tm size }
+    requires task { task ≡ Task.Tm size report }
     requires size { size ≡ K.payload + 12 }
     ensures reads { Reads R.given R.remaining R.failures result reader.old reader.new }
     ensures writes { WritesText W.taken_octets W.failures result writer.old writer.new
@@ -114,7 +122,7 @@ fn list_frames<K: FrameLength, R: Source, W: Sink>(
     ensures end { OnOk result (HasEnded (R.has_ended reader.new) (R.remaining reader.new)
         ⊎ StopsAt task (gained (R.given reader.old) (R.given reader.new))) }
 {
-    let Ok(frames) = TelemetryListing::<K>::new(alloc, size) else {
+    let Ok(frames) = TelemetryListing::<K>::new(alloc, size, report) else {
         return Err(ListingFault::Memory);
     };
     let cutter = FrameCutter::<K>::new(alloc, usize::from(size));

@@ -5,9 +5,9 @@ ghost use Rattle.std.specs.Prelude.{◌≡◌, [], None};
 use super::equal::equal;
 use cop1::Farm;
 use listings::{
-    Call, Cutter, DeviceLog, FrameCutter, FrameLength, FrameListing, Listing, ListingFault,
-    MapListing, PacketListing, Reader, RefusalListing, Sink, Source, TelemetryListing, Writer,
-    list_stream, write_all,
+    Call, ControlWords, Cutter, DeviceLog, FrameCutter, FrameLength, FrameListing, Listing,
+    ListingFault, MapListing, PacketListing, Reader, RefusalListing, ReportListing, Sink, Source,
+    TelemetryListing, Writer, list_stream, write_all,
 };
 use octets::{Splitter, remove_front};
 use space_packet::Packets;
@@ -65,6 +65,7 @@ fn each_listing(rt: HostRuntime) {
     lists_frames(&rt, rt.alloc());
     lists_data(&rt, rt.alloc());
     lists_telemetry(&rt, rt.alloc());
+    lists_reports(&rt, rt.alloc());
 }
 
 fn lists_frames(rt: &impl Abort, alloc: Global) {
@@ -92,11 +93,32 @@ fn lists_data(rt: &impl Abort, alloc: Global) {
 }
 
 fn lists_telemetry(rt: &impl Abort, alloc: Global) {
-    let frames = TelemetryListing::<Twenty>::new(alloc, 20).expect(rt, "a listing");
+    let frames = TelemetryListing::<Twenty>::new(alloc, 20, false).expect(rt, "a listing");
     let cutter = FrameCutter::<Twenty>::new(alloc, 20);
     let lines = "1 scid=1 vcid=0 mc=0 vc=0 pointer=0 ocf=01080000 gap=-\n\
                  packet 0005C0000000AA\n";
     is_listed(rt, alloc, &TELEMETRY, cutter, frames, true, lines);
+}
+
+fn lists_reports(rt: &impl Abort, alloc: Global) {
+    let frames = TelemetryListing::<Twenty>::new(alloc, 20, true).expect(rt, "a listing");
+    let cutter = FrameCutter::<Twenty>::new(alloc, 20);
+    let lines = "1 scid=1 vcid=0 mc=0 vc=0 pointer=0 ocf=01080000 gap=-\n\
+                 report vcid=2 vr=0 l=0 w=0 t=0 b=0 status=0 rf=0 lock=0\n\
+                 packet 0005C0000000AA\n";
+    is_listed(rt, alloc, &TELEMETRY, cutter, frames, true, lines);
+    let words = Splitter::<ControlWords>::new(alloc);
+    let lines = "1 report vcid=2 vr=0 l=0 w=0 t=0 b=0 status=0 rf=0 lock=0\n\
+                 2 invalid 6 Short\n";
+    is_listed(
+        rt,
+        alloc,
+        &TELEMETRY[14..19],
+        words,
+        ReportListing,
+        false,
+        lines,
+    );
 }
 
 #[test]

@@ -1,0 +1,133 @@
+// The line of each control word: what a receiver reports by it.
+
+ghost use Rattle.std.specs.Prelude.{◌≡◌, ◌+◌, ◌≤◌, ◌++◌, codes, decimal, length, take, IfOk, is_ok};
+ghost use Rattle.clcw.specs.Decoding.{clcw_at};
+ghost use Rattle.listings.specs.Layouts.{word_in};
+ghost use Rattle.listings.specs.Text.{Appends};
+ghost use Rattle.listings.specs.ReportLines.{field_line, receiver_text, report_line, report_lines, status_text};
+
+use crate::control_words::{ControlWords, WordFault, word_in};
+use crate::lines::{push_invalid, push_name, push_refused};
+use crate::listing::Listing;
+use crate::parts::{put_field, put_flag, put_number, put_word};
+use crate::text::Text;
+use bitflags::Flags;
+use clcw::{Clcw, ClcwFlags, decode};
+use octets::Splitter;
+use std::alloc::AllocError;
+use std::marker::Model;
+
+/// Lists what each control word reports. Nothing is kept between two.
+#[derive(Drop)]
+pub struct ReportListing;
+
+impl Model for ReportListing {
+    ghost Value = { Unit {0} };
+
+    ghost view = { λ l. tt };
+}
+
+fn put_status(room: &mut [u8], at: usize, word: &Clcw) -> usize
+    requires { at + 32 ≤ length room.old }
+    ensures put { take result room.new ≡ take at room.old ++ status_text word.now }
+    ensures next { result ≤ at + 32 }
+{
+    let next = put_field(room, at, b" status=", u16::from(word.status));
+    let next = put_flag(
+        room,
+        next,
+        b" rf=",
+        word.flags.contains(ClcwFlags::NO_RF_AVAILABLE),
+    );
+    let next = put_flag(
+        room,
+        next,
+        b" lock=",
+        word.flags.contains(ClcwFlags::NO_BIT_LOCK),
+    );
+    put_word(room, next, b"\n")
+}
+
+fn put_receiver(room: &mut [u8], at: usize, word: &Clcw) -> usize
+    requires { at + 64 ≤ length room.old }
+    ensures put { take result room.new ≡ take at room.old ++ receiver_text word.now }
+    ensures next { result ≤ at + 64 }
+{
+    let next = put_field(room, at, b" vr=", u16::from(word.value));
+    let next = put_flag(room, next, b" l=", word.flags.contains(ClcwFlags::LOCKOUT));
+    let next = put_flag(room, next, b" w=", word.flags.contains(ClcwFlags::WAIT));
+    let next = put_flag(
+        room,
+        next,
+        b" t=",
+        word.flags.contains(ClcwFlags::RETRANSMIT),
+    );
+    let next = put_field(room, next, b" b=", u16::from(word.farm_b));
+    put_status(room, next, word)
+}
+
+fn put_report(room: &mut [u8], at: usize, word: &Clcw) -> usize
+    requires { at + 96 ≤ length room.old }
+    ensures put { take result room.new ≡ take at room.old ++ report_line word.now }
+    ensures next { result ≤ at + 96 }
+{
+    let next = put_field(room, at, b"report vcid=", u16::from(word.vcid));
+    put_receiver(room, next, word)
+}
+
+fn put_numbered(room: &mut [u8], at: usize, index: u64, word: &Clcw) -> usize
+    requires { at + 128 ≤ length room.old }
+    ensures put { take result room.new ≡ take at room.old
+        ++ (decimal index ++ (codes " " ++ report_line word.now)) }
+    ensures next { result ≤ at + 128 }
+{
+    let next = put_number(room, at, index);
+    let next = put_word(room, next, b" ");
+    put_report(room, next, word)
+}
+
+fn put_invalid(room: &mut [u8], at: usize, number: u8) -> usize
+    requires { at + 32 ≤ length room.old }
+    ensures put { take result room.new ≡ take at room.old
+        ++ (codes "report invalid " ++ (decimal number ++ codes " ")) }
+    ensures next { result ≤ at + 32 }
+{
+    let next = put_field(room, at, b"report invalid ", u16::from(number));
+    put_word(room, next, b" ")
+}
+
+/// Appends the line of the control word in a telemetry frame, or why its field is none.
+pub fn push_report(text: &mut Text, field: [u8; 4]) -> Result<(), AllocError>
+    ensures { Appends result text.old text.new (field_line (clcw_at field)) }
+{
+    text.make_room(96)?;
+    match decode(field) {
+        Ok(word) => {
+            text.len = put_report(text.octets.as_mut_slice(), text.len, &word);
+            Ok(())
+        }
+        Err(fault) => {
+            text.len = put_invalid(text.octets.as_mut_slice(), text.len, fault.number());
+            push_name(text, fault.name())
+        }
+    }
+}
+
+impl Listing<Splitter<ControlWords>> for ReportListing {
+    ghost lines = { report_lines };
+
+    fn take(&mut self, text: &mut Text, index: u64, octets: &[u8]) -> Result<bool, AllocError> {
+        match word_in(octets) {
+            Ok(word) => {
+                text.make_room(128)?;
+                text.len = put_numbered(text.octets.as_mut_slice(), text.len, index, &word);
+                Ok(true)
+            }
+            Err(fault) => push_refused(text, index, fault.number(), fault.name()),
+        }
+    }
+
+    fn refuse(text: &mut Text, index: u64, fault: WordFault) -> Result<(), AllocError> {
+        push_invalid(text, index, fault.number(), fault.name())
+    }
+}
