@@ -442,7 +442,7 @@ static void resumes(void) {
     answer = sedge_ground_known_on_board(&ground, value, &known);
     WANT(answer == (fates.kept && accepted <= sent ? SEDGE_NODE_OK : SEDGE_NODE_ABSENT));
     WANT(known == (answer == SEDGE_NODE_OK ? whole_with(accepted) : 99));
-    resumes_at(value, &read);
+    if (below(4) == 0) resumes_at(value, &read);
 }
 
 /* ---- The link. ---- */
