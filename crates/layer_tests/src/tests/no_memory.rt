@@ -91,8 +91,18 @@ fn calls_ground(rt: &(impl Abort + Eprint), ground: &mut Ground) {
         equal(rt, &ground.tick(), &None);
     }
     pulls(rt, ground, Some(15));
+    tells(rt, ground);
     directs(rt, ground);
     pulls(rt, ground, Some(8));
+    resumes(rt, ground);
+    pulls(rt, ground, Some(8));
+}
+
+// Its one submission was sent, and a report may say that it is on board.
+fn tells(rt: &impl Abort, ground: &Ground) {
+    equal(rt, &(ground.submitted(), ground.sent_whole()), &(1, 1));
+    equal(rt, &ground.acknowledged_whole(), &0);
+    equal(rt, &ground.known_on_board(1), &Some(1));
 }
 
 // Passes the last frame that goes next.
@@ -118,6 +128,14 @@ fn directs(rt: &impl Abort, ground: &mut Ground) {
     ] {
         equal(rt, &ground.directive(directive), &Ok(answer));
     }
+}
+
+// It goes on, after a session in which nothing was submitted.
+fn resumes(rt: &impl Abort, ground: &mut Ground) {
+    equal(rt, &ground.resume(9), &Err(LinkFault::NotKnown));
+    let terminated = ground.directive(Directive::Terminate);
+    equal(rt, &terminated, &Ok(Some(Alert::Terminated)));
+    equal(rt, &ground.resume(9), &Ok(0));
 }
 
 #[test]

@@ -29,6 +29,11 @@ pub enum Ask<'a> {
     ForgetTelemetry,
     // What a report of this value says was accepted.
     AcceptedBeyond(u8, Option<u8>),
+    // How many submissions there are, how many were sent whole, and how many are acknowledged whole.
+    Counts([u64; 3]),
+    // What a report of this value says is on board whole.
+    KnownOnBoard(u8, Option<u64>),
+    Resume(u8, Result<u64, LinkFault>),
 }
 
 /// The sender's state, V(S), NN(R), and how many segments are not acknowledged.
@@ -65,7 +70,26 @@ fn answers(rt: &(impl Abort + Eprint), ground: &mut Ground, ask: &Ask<'_>) {
         Ask::AcceptedBeyond(value, want) => {
             equal(rt, &ground.accepted_beyond(*value), want);
         }
+        Ask::Counts(want) => equal(rt, &counts(ground), want),
+        Ask::KnownOnBoard(value, want) => equal(rt, &ground.known_on_board(*value), want),
+        Ask::Resume(value, want) => resumes(rt, ground, *value, *want),
     }
+}
+
+fn counts(ground: &Ground) -> [u64; 3] {
+    [
+        ground.submitted(),
+        ground.sent_whole(),
+        ground.acknowledged_whole(),
+    ]
+}
+
+// Where it is refused nothing has changed.
+fn resumes(rt: &impl Abort, ground: &mut Ground, value: u8, want: Result<u64, LinkFault>) {
+    let before = (seen(ground), counts(ground), ground.known_on_board(value));
+    equal(rt, &ground.resume(value), &want);
+    let after = (seen(ground), counts(ground), ground.known_on_board(value));
+    assert!(rt; want.is_ok() || after == before);
 }
 
 fn obeys(
