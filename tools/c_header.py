@@ -1,9 +1,11 @@
 """The structs and the calls of a header for C, with the layout that wasm64 gives the structs: for tools/portable_c and
 c/tools/random_calls."""
+import os
 import re
 import typing
 
-SIZES = {"uint8_t": 1, "char": 1, "bool": 1, "uint16_t": 2, "uint32_t": 4, "uint64_t": 8, "size_t": 8}
+POINTER = "pointer"
+SIZES = {"uint8_t": 1, "char": 1, "bool": 1, "uint16_t": 2, "uint32_t": 4, "uint64_t": 8, "size_t": 8, POINTER: 8}
 
 
 class Field(typing.NamedTuple):
@@ -23,14 +25,18 @@ class Parameter(typing.NamedTuple):
 
 
 class Header:
-    """`structs` has each struct's fields, size and alignment; `calls` has each call's result, name and parameters."""
+    """`structs` has each struct's fields, size and alignment, those of a header that it includes too; `calls` has each
+    call's result, name and parameters."""
 
     def __init__(self, path):
         with open(path, encoding="utf-8") as file:
             text = re.sub(r"/\*.*?\*/", "", file.read(), flags=re.S)
         self.version = ".".join(re.findall(r"#define SEDGE_VERSION_\w+ (\d+)", text))
-        text = re.sub(r"^#.*$", "", text, flags=re.M)
         self.structs, self.calls = {}, []
+        for it in re.findall(r'^#include "(.*)"$', text, re.M):
+            below = Header(os.path.join(os.path.dirname(path), it))
+            self.version, self.structs = below.version, dict(below.structs)
+        text = re.sub(r"^#.*$", "", text, flags=re.M)
         for name, body in re.findall(r"struct (\w+) \{(.*?)\};", text, flags=re.S):
             self.structs[name] = self.layout(body)
         text = re.sub(r"(struct|enum) \w+ \{.*?\};", "", text, flags=re.S)
@@ -46,9 +52,10 @@ class Header:
     def layout(self, body):
         at, most, fields = 0, 1, []
         for text in filter(None, (it.strip() for it in body.split(";"))):
-            it = re.fullmatch(r"((?:struct )?\w+) (\w+)(?:\[(\d+)\])?", text)
-            of, name, count = it[1], it[2], int(it[3] or 0)
-            _, size, align = self.structs[of[7:]] if of.startswith("struct ") else (None, SIZES[of], SIZES[of])
+            it = re.fullmatch(r"(?:const )?((?:struct )?\w+) (\*?)(\w+)(?:\[(\d+)\])?", text)
+            of, name, count = POINTER if it[2] else it[1], it[3], int(it[4] or 0)
+            size = SIZES.get(of)
+            _, size, align = self.structs[of[7:]] if of.startswith("struct ") else (None, size, size)
             at = -(-at // align) * align
             fields.append(Field(name, of, at, count))
             at += size * max(count, 1)

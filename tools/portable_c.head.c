@@ -19,6 +19,7 @@
 typedef char octets_have_8_bits[CHAR_BIT == 8 ? 1 : -1];
 typedef char an_int_has_at_least_32_bits[INT_MAX >= 2147483647 ? 1 : -1];
 typedef char addresses_have_32_to_64_bits[sizeof(uintptr_t) >= 4 && sizeof(uintptr_t) <= 8 ? 1 : -1];
+typedef char a_bool_is_an_octet[sizeof(bool) == 1 ? 1 : -1];
 typedef char counts_have_the_bits_of_addresses[sizeof(size_t) == sizeof(uintptr_t) ? 1 : -1];
 
 /* Memory from an address on. */
@@ -177,4 +178,43 @@ static uint32_t ordered32(uint32_t x)
 static uint64_t ordered64(uint64_t x)
 {
     return x ^ 0x8000000000000000ULL;
+}
+
+/* How many of the highest bits are 0, of the lowest, and how many bits are 1. */
+static uint32_t clz32(uint32_t x)
+{
+    uint32_t count = 32;
+    for (; x != 0; x >>= 1) count--;
+    return count;
+}
+
+static uint64_t clz64(uint64_t x)
+{
+    uint64_t count = 64;
+    for (; x != 0; x >>= 1) count--;
+    return count;
+}
+
+static uint32_t ones32(uint32_t x)
+{
+    uint32_t count = 0;
+    for (; x != 0; x &= x - 1) count++;
+    return count;
+}
+
+static uint64_t ones64(uint64_t x)
+{
+    uint64_t count = 0;
+    for (; x != 0; x &= x - 1) count++;
+    return count;
+}
+
+static uint32_t ctz32(uint32_t x)
+{
+    return ones32((x & (0 - x)) - 1);
+}
+
+static uint64_t ctz64(uint64_t x)
+{
+    return ones64((x & (0 - x)) - 1);
 }

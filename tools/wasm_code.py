@@ -5,7 +5,10 @@ depends. A frame on the stack in memory is an array of the function, from an add
 each frame where the code was compiled. LLVM writes `|` for `+` where it knows that no bit meets another, so:
 
 - the size of a frame is a multiple of 16, and `|` takes an address in a frame and a constant below 16, nothing else;
-- an address of a constant meets `+`, `-` and comparisons alone, and is never put into memory.
+  its lowest bits may be copied, since they are known alike here;
+- an address of a constant meets `+`, `-` and comparisons alone, and where LLVM aligned the constant, so that it knows
+  bits of the address, this is never put into memory, from where it could come back unseen;
+- nothing is written at such an address, and a table of them is read alone, each address whole.
 
 What breaks a rule, or is not known here, is refused with the name of the function."""
 import collections
@@ -17,13 +20,15 @@ from wasm_object import Reader, Refused
 
 I32, I64 = 0x7F, 0x7E
 C_TYPES, BITS = {I32: "uint32_t", I64: "uint64_t"}, {I32: 32, I64: 64}
-# What an address is derived from: a constant, the frame, or the stack pointer itself.
-CONSTANT, FRAME, POINTER = "constant", "frame", "pointer"
+# What an address is derived from: a constant that LLVM aligned, another constant, the frame, or the stack pointer.
+CONSTANT, TEXT, FRAME, POINTER = "constant", "text", "frame", "pointer"
+# What stands for a place in a table of addresses, where no text may have it; and why.
+TABLE, MISREAD = "\0", "a table of addresses is used as octets"
 END, RETURN = 0x0B, 0x0F
 # How the code asks whether the stack has room for its frame, and the answer: an array of the function has.
 ENOUGH = {("<s", 16): 0, (">s", 15): 1}
 
-OPERATIONS = ["+", "-", "*", None, "/", None, "%", "&", "|", "^", "<<", ">>s", ">>", "rotl", None]
+OPERATIONS = ["+", "-", "*", None, "/", None, "%", "&", "|", "^", "<<", ">>s", ">>", "rotl", "rotr"]
 COMPARISONS = ["==", "!=", "<s", "<", ">s", ">", "<=s", "<=", ">=s", ">="]
 CONTRARY = {"==": "!=", "!=": "==", "<": ">=", ">=": "<", ">": "<=", "<=": ">"}
 BINARY = {first + k: (it, t) for first, t in ((0x6A, I32), (0x7C, I64)) for k, it in enumerate(OPERATIONS) if it}
@@ -35,6 +40,8 @@ READ |= {0x34: (I64, 32, 1), 0x35: (I64, 32, 0)}
 WRITE = {0x36: 32, 0x37: 64, 0x3A: 8, 0x3B: 16, 0x3C: 8, 0x3D: 16, 0x3E: 32}
 # The numbers that are made longer, with the sign of so many bits.
 EXTEND = {0xAC: (I64, 32), 0xC0: (I32, 8), 0xC1: (I32, 16), 0xC2: (I64, 8), 0xC3: (I64, 16), 0xC4: (I64, 32)}
+# What counts the bits of a number: the highest that are 0, the lowest, and all that are 1.
+COUNTS = {first + k: (it, t) for first, t in ((0x67, I32), (0x79, I64)) for k, it in enumerate(("clz", "ctz", "ones"))}
 # How many numbers follow an instruction, where these are read over.
 OPERANDS = dict.fromkeys([0x0C, 0x0D, 0x10, *range(0x20, 0x25), 0x41, 0x42], 1) | dict.fromkeys(range(0x28, 0x3F), 2)
 NOTHING = frozenset()
@@ -47,7 +54,7 @@ class Value:
         self, text, kind, *of, tight=False, number=None, contrary=None, reads=False, name=None, derived=NOTHING
     ):
         self.text, self.kind, self.number, self.contrary, self.derived = text, kind, number, contrary, derived
-        self.is_bottom = False
+        self.is_bottom, self.entry = False, None
         self.is_tight = tight or number is not None
         self.names = frozenset().union({name} if name else (), *(it.names for it in of))
         self.reads = reads or any(it.reads for it in of)
@@ -322,6 +329,10 @@ class Translation:
             self.binary(*BINARY[op], *self.pop(2))
         elif op in COMPARE:
             self.compare(*COMPARE[op], *self.pop(2))
+        elif op in COUNTS:
+            (value,), (name, kind) = self.pop(1), COUNTS[op]
+            self.no_address(value)
+            self.push(f"{name}{BITS[kind]}({value.plain()})", kind, value, tight=True)
         elif op in EXTEND:
             kind, bits = EXTEND[op]
             (value,) = self.pop(1)
@@ -397,33 +408,76 @@ class Translation:
     def constant(self, kind):
         place = self.reader.at
         number, found = self.reader.signed(), self.program.object.constant_at(place)
-        if found:
-            self.push(self.address_of(found), kind, tight=True, derived=frozenset([CONSTANT]))
+        if found and found[0] in self.program.object.tables:
+            self.stack.append(self.entry(*found))
+        elif found:
+            self.push(self.address_of(found), kind, tight=True, derived=self.derived_from(found[0]))
         else:
             self.stack.append(number_of(number, kind))
 
     def address_of(self, found):
         segment, offset = found
-        if segment not in self.constants:
-            self.constants.append(segment)
-        name = self.program.constant_name(segment)
+        if segment in self.program.object.tables:
+            raise Refused(MISREAD)
+        name = self.constant_named(segment)
         if offset < 0:
             return f"(address({name}) - {-offset})"
         return f"address({name} + {offset})" if offset else f"address({name})"
 
-    def place(self, base):
+    def derived_from(self, segment):
+        return frozenset([CONSTANT if self.program.object.aligned[segment] else TEXT])
+
+    def constant_named(self, segment):
+        if segment not in self.constants:
+            self.constants.append(segment)
+        return self.program.constant_name(segment)
+
+    def place(self, base, is_written=False):
         """The address of a read or a write."""
         self.reader.unsigned()
         place = self.reader.at
         offset, found = self.reader.unsigned(), self.program.object.constant_at(place)
         if POINTER in base.derived:
             raise Refused("memory at the stack pointer itself is used")
+        if is_written and (found or base.derived & {CONSTANT, TEXT}):
+            raise Refused("a constant is written")
         if found:
             return self.address_of(found) if base.number == 0 else f"{left_of(base)} + {self.address_of(found)}"
         return f"{left_of(base)} + {offset}" if offset else base.plain()
 
+    def entry(self, segment, offset, index=None):
+        """A place in a table of addresses: so many octets from its beginning, and an index times 8 more. It is read
+        alone; a text with its own is refused."""
+        more = index.number if index and index.number is not None else 0
+        index = None if index and index.number is not None else index
+        if (offset + more) % 8 != 0 or index and index.derived:
+            raise Refused(MISREAD)
+        value = Value(TABLE, I64, *[index] * bool(index), derived=frozenset([CONSTANT]))
+        value.entry = segment, offset + more, index
+        return value
+
+    def read_address(self, base):
+        """Reads an address from a table of them, where the instruction does so: true then. A place there has 8 octets;
+        here it has those of an address."""
+        at = self.reader.at
+        self.reader.unsigned()
+        found, offset = self.program.object.constant_at(self.reader.at), self.reader.unsigned()
+        if found and found[0] in self.program.object.tables:
+            base, offset = self.entry(*found, base), 0
+        elif found or not base.entry:
+            self.reader.at = at
+            return False
+        segment, begin, index = base.entry
+        begin = (begin + offset) // 8
+        text = f"{index.operand()} / 8" + f" + {begin}" * (begin > 0) if index else str(begin)
+        derived = frozenset().union(*(self.derived_from(it) for it, _ in self.program.object.tables[segment]))
+        self.push(f"address({self.constant_named(segment)}[{text}])", I64, base, tight=True, derived=derived)
+        return True
+
     def read(self, kind, bits, has_sign):
         (base,) = self.pop(1)
+        if bits == 64 and self.read_address(base):
+            return
         text = f"get{bits}({self.place(base)})"
         if has_sign:
             text = f"extend{BITS[kind]}({text}, {1 << (bits - 1):#x})"
@@ -434,8 +488,8 @@ class Translation:
     def write(self, bits):
         base, value = self.pop(2)
         if CONSTANT in value.derived:
-            raise Refused("an address of a constant is put into memory")
-        place = self.place(base)
+            raise Refused("an address of a constant that is aligned is put into memory")
+        place = self.place(base, True)
         self.settle_reads()
         text = value.plain() if value.number is None else number_of(value.number & (2**bits - 1), value.kind).plain()
         if value.kind == I64 and bits < 64 and value.number is None:
@@ -449,13 +503,16 @@ class Translation:
         for _ in range(2 if how == 10 else 1):
             self.reader.unsigned()
         given = self.pop(3)
+        if given[0].derived & {CONSTANT, TEXT}:
+            raise Refused("a constant is written")
         self.settle_reads()
         self.items.append(f"{'copy' if how == 10 else 'fill'}({', '.join(it.plain() for it in given)});")
 
     def cast(self, kind):
         (value,) = self.pop(1)
-        self.no_address(value)
-        self.push(f"({C_TYPES[kind]}){value.operand()}", kind, value, tight=True)
+        if value.derived != {FRAME} or kind != I32:
+            self.no_address(value)
+        self.push(f"({C_TYPES[kind]}){value.operand()}", kind, value, tight=True, derived=value.derived)
 
     @staticmethod
     def no_address(*values):
@@ -495,6 +552,11 @@ class Translation:
         derived = a.derived | b.derived
         if POINTER in derived:
             return self.frame_address(sign, a, b)
+        if a.entry or b.entry:
+            (segment, offset, index), other = (a.entry, b) if a.entry else (b.entry, a)
+            if sign != "+" or index:
+                raise Refused(MISREAD)
+            return self.stack.append(self.entry(segment, offset, other))
         is_within = derived == {FRAME} and sign == "|" and not b.derived and (b.number or 16) < 16
         if derived and sign not in "+-" and not is_within:
             raise Refused(f"an address of the frame or of a constant meets {sign}")
@@ -514,6 +576,9 @@ class Translation:
             return self.push(f"~{a.operand()}", kind, a, tight=True)
         elif sign in ("<<", ">>"):
             text = f"{a.operand()} {sign} " + (str(b.number % bits) if b.number is not None else f"({y} & {bits - 1})")
+        elif sign == "rotr":
+            count = str(-b.number % bits) if b.number is not None else f"({bits} - ({y} & {bits - 1})) & {bits - 1}"
+            return self.push(f"rotl{bits}({a.plain()}, {count})", kind, a, b, tight=True)
         elif sign in (">>s", "rotl"):
             count = str(b.number % bits) if b.number is not None else f"{y} & {bits - 1}"
             text = f"{'sar' if sign == '>>s' else 'rotl'}{bits}({a.plain()}, {count})"
@@ -543,6 +608,8 @@ class Translation:
 
     def lines(self):
         body = without_kept(shown(simplified(self.items), 1))
+        if any(TABLE in it for it in body):
+            raise Refused(f"{self.name}: {MISREAD}")
         used = set(re.findall(r"\b[vt]\d+\b", "\n".join(body)))
         variables = {f"{name}@=@0": kind for name, kind in self.locals[len(self.function.params) :] if name in used}
         variables |= {name: kind for name, kind in self.kinds.items() if name in used}

@@ -1,13 +1,17 @@
 """A relocatable object of WebAssembly with 64-bit addresses: its functions, constants, symbols and relocations, as the
 notes of the tools for WebAssembly describe them (linking, version 2). For tools/portable_c.
 
-What a library without heap has none of is refused: calls by pointer, constants that hold addresses, data to write."""
+What the libraries have none of is refused: calls by pointer, constants that hold addresses beside something else, data
+to write."""
 import typing
 
 TYPE_SECTION, IMPORTS, FUNCTIONS, ELEMENTS, CODE, DATA = 1, 2, 3, 9, 10, 11
 IS_LOCAL, IS_UNDEFINED, IS_NAMED = 0x02, 0x10, 0x40
-# The relocations of an address of a constant, as numbers of 64 bits without and with a sign, and those with an addend.
-ADDRESSES, WITH_ADDEND = (14, 15), (3, 4, 5, 8, 9, 11, 14, 15, 16, 22, 23, 25)
+# The relocations of an address of a constant, as numbers of 64 bits in code, without and with a sign, and in data; and
+# those with an addend.
+ADDRESSES, WITH_ADDEND = (14, 15, 16), (3, 4, 5, 8, 9, 11, 14, 15, 16, 22, 23, 25)
+# How the names of segments begin that hold constants alone.
+CONSTANTS = (".rodata", ".data.rel.ro")
 
 
 class Refused(Exception):
@@ -64,7 +68,7 @@ class Object:
     def __init__(self, data):
         self.data, self.types, self.imports, self.own_types, self.bodies = data, [], [], [], []
         self.globals, self.segments, self.segment_names, self.symbols, self.relocations = [], [], [], [], {}
-        self.starts, index, r = {}, 0, Reader(data, 8)
+        self.places, self.aligned, self.tables, self.starts, index, r = [], [], {}, {}, 0, Reader(data, 8)
         reads = {
             TYPE_SECTION: self.read_types,
             IMPORTS: lambda s: s.several(lambda: self.read_import(s)),
@@ -81,6 +85,10 @@ class Object:
             r.at += size
             index += 1
         self.functions = self.named_functions()
+        self.tables = {k: it for k, it in enumerate(map(self.table, range(len(self.segments)))) if it}
+        for name in self.segment_names:
+            if not name.startswith(CONSTANTS):
+                raise Refused(f"the object: its data {name} are no constants")
 
     def read_types(self, s):
         for _ in range(s.unsigned()):
@@ -115,19 +123,18 @@ class Object:
             raise Refused("the object: a constant has no place")
         s.octet(), s.signed(), s.octet()
         size = s.unsigned()
+        self.places.append(s.at)
         self.segments.append(s.octets(size))
 
     def read_custom(self, s):
         name = s.name()
         if name == "linking":
             self.read_linking(s)
-        elif name == "reloc.CODE":
+        elif name in ("reloc.CODE", "reloc.DATA"):
             _, start = self.starts[s.unsigned()]
             for _ in range(s.unsigned()):
                 kind, offset, symbol = s.octet(), s.unsigned(), s.unsigned()
                 self.relocations[start + offset] = (kind, symbol, s.signed() if kind in WITH_ADDEND else 0)
-        elif name == "reloc.DATA":
-            raise Refused("the object: a constant holds an address")
 
     def read_linking(self, s):
         s.unsigned()
@@ -137,7 +144,8 @@ class Object:
             if kind == 8:
                 self.symbols = part.several(lambda: self.read_symbol(part))
             elif kind == 5:
-                self.segment_names = part.several(lambda: (part.name(), part.unsigned(), part.unsigned())[0])
+                found = part.several(lambda: (part.name(), part.unsigned(), part.unsigned()))
+                self.segment_names, self.aligned = [it[0] for it in found], [it[1] > 0 for it in found]
             s.at += size
 
     @staticmethod
@@ -183,3 +191,14 @@ class Object:
         if kind not in ADDRESSES or self.symbols[symbol][0] != 1:
             raise Refused("an address that is not that of a constant")
         return self.symbols[symbol][3], self.symbols[symbol][4] + addend
+
+    def table(self, segment):
+        """The constants whose addresses a constant holds, one after another, and nothing else; or None if it holds
+        none."""
+        begin, size = self.places[segment], len(self.segments[segment])
+        if not any(it in self.relocations for it in range(begin, begin + size)):
+            return None
+        found = [self.constant_at(it) for it in range(begin, begin + size, 8)]
+        if None in found or size % 8 != 0:
+            raise Refused("the object: a constant holds an address beside something else")
+        return found

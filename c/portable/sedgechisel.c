@@ -8,8 +8,8 @@
  *
  * The functions have the names of the library's source; one whose name ends in _at is the call of that name, given
  * addresses as numbers. An address is a uint64_t of a uintptr_t, and memory is read and written by the functions below
- * alone, octet by octet or by memcpy. Parameters and variables without a name in the source are p0 or v0 on, what is kept
- * between two steps t1 on. Nothing here is static that a program writes, and nothing is allocated. */
+ * alone, octet by octet or by memcpy. Parameters and variables without a name in the source are p0 or v0 on, what is
+ * kept between two steps t1 on. Nothing here is static that a program writes, and nothing is allocated. */
 #include "sedgechisel.h"
 
 #include <limits.h>
@@ -31,6 +31,7 @@
 typedef char octets_have_8_bits[CHAR_BIT == 8 ? 1 : -1];
 typedef char an_int_has_at_least_32_bits[INT_MAX >= 2147483647 ? 1 : -1];
 typedef char addresses_have_32_to_64_bits[sizeof(uintptr_t) >= 4 && sizeof(uintptr_t) <= 8 ? 1 : -1];
+typedef char a_bool_is_an_octet[sizeof(bool) == 1 ? 1 : -1];
 typedef char counts_have_the_bits_of_addresses[sizeof(size_t) == sizeof(uintptr_t) ? 1 : -1];
 
 /* Memory from an address on. */

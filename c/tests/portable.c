@@ -62,6 +62,15 @@ static void numbers(void) {
     WANT(sar64(0x8000000000000000ULL, 4) == 0xf800000000000000ULL && sar64(16, 4) == 1);
 }
 
+static void counts(void) {
+    WANT(clz32(0) == 32 && clz32(1) == 31 && clz32(0x80000000U) == 0 && clz32(0x00ffffff) == 8);
+    WANT(clz64(0) == 64 && clz64(1) == 63 && clz64(0x8000000000000000ULL) == 0 && clz64(0xffffffffU) == 32);
+    WANT(ctz32(0) == 32 && ctz32(1) == 0 && ctz32(0x80000000U) == 31 && ctz32(0xffffff00U) == 8);
+    WANT(ctz64(0) == 64 && ctz64(1) == 0 && ctz64(0x8000000000000000ULL) == 63 && ctz64(0xffffffff00000000ULL) == 32);
+    WANT(ones32(0) == 0 && ones32(0xffffffffU) == 32 && ones32(0x80000001U) == 2);
+    WANT(ones64(0) == 0 && ones64(0xffffffffffffffffULL) == 64 && ones64(0x8000000000000001ULL) == 2);
+}
+
 static void frames(void) {
     static unsigned char room[32 + 15];
     int k;
@@ -77,6 +86,7 @@ int main(void) {
     writes();
     moves();
     numbers();
+    counts();
     frames();
     printf(failures ? "%d failed\n" : "all as wanted\n", failures);
     return failures != 0;
