@@ -1,5 +1,6 @@
 //! Finds the library for C that `./install --prefix DIR` puts in place: below the folder `SEDGECHISEL_DIR`, or where
-//! the program pkg-config finds it.
+//! the program pkg-config finds it. Where neither is so, a package of the crate, which carries the portable C, compiles
+//! that.
 
 use std::env;
 use std::path::{Path, PathBuf};
@@ -18,12 +19,12 @@ which proves, builds and installs it, and then set one of these to its whole pat
 With `--target TRIPLE`, ./install makes the library of another processor. For that one set SEDGECHISEL_DIR.";
 
 fn main() {
-    for name in ["SEDGECHISEL_DIR", "PKG_CONFIG", "PKG_CONFIG_PATH", "PKG_CONFIG_LIBDIR"] {
+    for name in ["SEDGECHISEL_DIR", "PKG_CONFIG", "PKG_CONFIG_PATH", "PKG_CONFIG_LIBDIR", "CC", "AR"] {
         println!("cargo:rerun-if-env-changed={name}");
     }
     let folder = match env::var_os("SEDGECHISEL_DIR") {
         Some(prefix) => Some(PathBuf::from(prefix).join("lib")),
-        None => asked(),
+        None => asked().or_else(compiled),
     };
     let Some(folder) = folder else { give_up(LOST) };
     println!("cargo:rustc-link-search=native={}", folder.display());
@@ -52,6 +53,35 @@ fn asked() -> Option<PathBuf> {
     let prefix = String::from_utf8(ran.stdout).ok()?;
     let found = ran.status.success() && !prefix.trim().is_empty();
     found.then(|| PathBuf::from(prefix.trim()).join("lib"))
+}
+
+/// The folder with both libraries, made of the portable C that the crate carries, if it does, by the programs that `CC`
+/// and `AR` name, or `cc` and `ar`. For another processor than this one `CC` has to be set.
+fn compiled() -> Option<PathBuf> {
+    let source = PathBuf::from(env::var_os("CARGO_MANIFEST_DIR")?).join("c");
+    let out = PathBuf::from(env::var_os("OUT_DIR")?);
+    if !source.is_dir() {
+        return None;
+    }
+    if env::var_os("TARGET") != env::var_os("HOST") && env::var_os("CC").is_none() {
+        give_up("set CC to a compiler of C for the processor that the crate is built for, and AR to its ar");
+    }
+    let cc = env::var_os("CC").unwrap_or("cc".into());
+    let ar = env::var_os("AR").unwrap_or("ar".into());
+    for name in ["sedgechisel", "sedgechisel_nodes"] {
+        let (from, object) = (source.join(format!("{name}.c")), out.join(format!("{name}.o")));
+        println!("cargo:rerun-if-changed={}", from.display());
+        let flags = ["-std=c99", "-O2", "-fPIC", "-ffunction-sections", "-c"];
+        run(Command::new(&cc).args(flags).arg("-I").arg(&source).arg(&from).arg("-o").arg(&object));
+        run(Command::new(&ar).arg("rcs").arg(out.join(format!("lib{name}.a"))).arg(&object));
+    }
+    Some(out)
+}
+
+fn run(command: &mut Command) {
+    if !command.status().is_ok_and(|it| it.success()) {
+        give_up(&format!("this did not end well: {command:?}"));
+    }
 }
 
 fn give_up(text: &str) -> ! {

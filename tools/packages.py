@@ -1,0 +1,47 @@
+"""Archives whose octets depend on their files and one time alone: a tarball, and a package for Debian. For
+tools/release. A file is its name, its octets and its mode."""
+import gzip
+import io
+import os
+import tarfile
+
+
+def folders_of(names):
+    """The folders that files stand in, each before what is in it."""
+    found = {}
+    for name in names:
+        while os.path.dirname(name):
+            name = os.path.dirname(name)
+            found[name] = True
+    return sorted(found)
+
+
+def tarball(files, when, top):
+    """A gzipped tar archive of files, each below a folder."""
+    entries = {f"{top}/{name}": (octets, mode) for name, octets, mode in files}
+    packed = io.BytesIO()
+    with tarfile.open(fileobj=packed, mode="w", format=tarfile.USTAR_FORMAT) as out:
+        for name in folders_of(entries):
+            entry = tarfile.TarInfo(name)
+            entry.type, entry.mode, entry.mtime = tarfile.DIRTYPE, 0o755, when
+            out.addfile(entry)
+        for name, (octets, mode) in sorted(entries.items()):
+            entry = tarfile.TarInfo(name)
+            entry.size, entry.mode, entry.mtime = len(octets), mode, when
+            out.addfile(entry, io.BytesIO(octets))
+    return gzip.compress(packed.getvalue(), mtime=0)
+
+
+def debian(control, files, when):
+    """A package for Debian: an ar archive with the format's version, what is said of the package, and its files."""
+    told = "".join(f"{name}: {what}\n" for name, what in control.items()).encode()
+    members = {
+        "debian-binary": b"2.0\n",
+        "control.tar.gz": tarball([("control", told, 0o644)], when, "."),
+        "data.tar.gz": tarball(files, when, "."),
+    }
+    packed = b"!<arch>\n"
+    for name, octets in members.items():
+        packed += f"{name:<16}{when:<12}{0:<6}{0:<6}{100644:<8}{len(octets):<10}`\n".encode() + octets
+        packed += b"\n" * (len(octets) % 2)
+    return packed
