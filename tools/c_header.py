@@ -1,5 +1,5 @@
-"""The structs and the calls of a header for C, with the layout that wasm64 gives the structs: for tools/portable_c and
-c/tools/random_calls."""
+"""The structs and the calls of a header for C, with the layout that wasm64 gives the structs, or another processor with
+addresses of so many octets: for tools/portable_c, c/tools/random_calls and web/bindings."""
 import os
 import re
 import typing
@@ -28,13 +28,14 @@ class Header:
     """`structs` has each struct's fields, size and alignment, those of a header that it includes too; `calls` has each
     call's result, name and parameters."""
 
-    def __init__(self, path):
+    def __init__(self, path, address=8):
+        self.sizes = {**SIZES, "size_t": address, POINTER: address}
         with open(path, encoding="utf-8") as file:
             text = re.sub(r"/\*.*?\*/", "", file.read(), flags=re.S)
         self.version = ".".join(re.findall(r"#define SEDGE_VERSION_\w+ (\d+)", text))
         self.structs, self.calls = {}, []
         for it in re.findall(r'^#include "(.*)"$', text, re.M):
-            below = Header(os.path.join(os.path.dirname(path), it))
+            below = Header(os.path.join(os.path.dirname(path), it), address)
             self.version, self.structs = below.version, dict(below.structs)
         text = re.sub(r"^#.*$", "", text, flags=re.M)
         for name, body in re.findall(r"struct (\w+) \{(.*?)\};", text, flags=re.S):
@@ -54,7 +55,7 @@ class Header:
         for text in filter(None, (it.strip() for it in body.split(";"))):
             it = re.fullmatch(r"(?:const )?((?:struct )?\w+) (\*?)(\w+)(?:\[(\d+)\])?", text)
             of, name, count = POINTER if it[2] else it[1], it[3], int(it[4] or 0)
-            size = SIZES.get(of)
+            size = self.sizes.get(of)
             _, size, align = self.structs[of[7:]] if of.startswith("struct ") else (None, size, size)
             at = -(-at // align) * align
             fields.append(Field(name, of, at, count))

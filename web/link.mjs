@@ -1,0 +1,176 @@
+// The simulated link by the lines of scripts (docs/PROFILE.md, "Scripts of the simulated link"): lines are read here and
+// answered in the words of `tctool sim`. What happens is the library's.
+import { numbers as n } from './sedgechisel.mjs';
+
+export const DEFAULTS = {
+    scid: 1, vcid: 2, tm_vcid: 0, width: 254, window: 127, limit: 3, timer: 10, part: 1016, max_packet: 65542,
+    maps: 0xffffffffffffffffn, ready_slots: 64, bypass_slots: 4, queue_slots: 1000, frame_length: 64, blocking: 0,
+};
+const NONE = new Uint8Array(0);
+
+export function digitsOf(octets) {
+    return Array.from(octets, (it) => it.toString(16).padStart(2, '0')).join('').toUpperCase();
+}
+
+// The octets of hexadecimal digits, or of '-', which are none; null for anything else.
+export function octetsOf(digits) {
+    if (digits === '-') return NONE;
+    if (!/^([0-9a-fA-F]{2})+$/.test(digits)) return null;
+    return Uint8Array.from(digits.match(/../g), (it) => parseInt(it, 16));
+}
+
+// A number as digits without leading zeros, up to the most; null for anything else.
+function numberOf(digits, most) {
+    if (!/^(0|[1-9]\d{0,19})$/.test(digits ?? '') || BigInt(digits) > BigInt(most)) return null;
+    return Number(digits);
+}
+
+const PLAIN = {
+    terminate: { kind: n.SEDGE_EVENT_DIRECTIVE, directive: n.SEDGE_TERMINATE },
+    send: { kind: n.SEDGE_EVENT_SEND },
+    report: { kind: n.SEDGE_EVENT_REPORT },
+    tick: { kind: n.SEDGE_EVENT_TICK },
+    take: { kind: n.SEDGE_EVENT_TAKE },
+    takebypass: { kind: n.SEDGE_EVENT_TAKE_BYPASS },
+    show: { kind: 0 },
+    'up deliver': { kind: n.SEDGE_EVENT_UP_DELIVER },
+    'up lose': { kind: n.SEDGE_EVENT_UP_LOSE },
+    'down deliver': { kind: n.SEDGE_EVENT_DOWN_DELIVER },
+    'down lose': { kind: n.SEDGE_EVENT_DOWN_LOSE },
+    'init none': { kind: n.SEDGE_EVENT_DIRECTIVE, directive: n.SEDGE_INIT_WITHOUT_CHECK },
+    'init check': { kind: n.SEDGE_EVENT_DIRECTIVE, directive: n.SEDGE_INIT_WITH_CHECK },
+    'init unlock': { kind: n.SEDGE_EVENT_DIRECTIVE, directive: n.SEDGE_INIT_UNLOCK },
+};
+// The words before a number, with the directive that has it, and the most that it may be.
+const NUMBERED = {
+    'init set': [n.SEDGE_INIT_SET_VR, 255], vs: [n.SEDGE_SET_VS, 255], window: [n.SEDGE_SET_WINDOW, 255],
+    limit: [n.SEDGE_SET_LIMIT, 255], timer: [n.SEDGE_SET_TIMER, 65535],
+};
+// The words before octets.
+const WITH_OCTETS = {
+    'up damage': n.SEDGE_EVENT_UP_DAMAGE, 'down damage': n.SEDGE_EVENT_DOWN_DAMAGE, telemetry: n.SEDGE_EVENT_TELEMETRY,
+};
+const WITH_MAP = { submit: n.SEDGE_EVENT_SUBMIT, bypass: n.SEDGE_EVENT_BYPASS };
+
+// The event of a line; null where it is unreadable.
+export function eventOf(line) {
+    if (line in PLAIN) return { octets: NONE, ...PLAIN[line] };
+    const words = line.split(' '), last = words.pop(), first = words.join(' ');
+    if (first in NUMBERED) {
+        const [directive, most] = NUMBERED[first], value = numberOf(last, most);
+        return value === null ? null : { kind: n.SEDGE_EVENT_DIRECTIVE, directive, value, octets: NONE };
+    }
+    const octets = octetsOf(last);
+    if (first in WITH_OCTETS) return octets && { kind: WITH_OCTETS[first], octets };
+    const map = words.length === 2 && words[0] in WITH_MAP ? numberOf(words[1], 255) : null;
+    return map === null ? null : octets && { kind: WITH_MAP[words[0]], map, octets };
+}
+
+// A script: its managed parameters, and its lines with their events. An Error says which line is unreadable.
+export function scriptOf(text) {
+    const config = { ...DEFAULTS }, events = [];
+    text.split('\n').forEach((line, k) => {
+        if (line === '' || line.startsWith('#')) return;
+        const [word, name, value, ...more] = line.split(' ');
+        if (word === 'config' && events.length === 0 && name in config && more.length === 0 && /^\d+$/.test(value)) {
+            config[name] = name === 'maps' ? BigInt(value) : Number(value);
+            return;
+        }
+        const event = eventOf(line);
+        if (event === null) throw new Error(`line ${k + 1} is unreadable: ${line}`);
+        events.push({ line, event });
+    });
+    return { config, events };
+}
+
+export class Link {
+    constructor(calls, config) {
+        this.calls = calls;
+        this.sim = {};
+        const number = calls.sedge_config_fault(config);
+        if (number !== 0) throw new RangeError(`${calls.sedge_parameter_name(number)} is out of its range`);
+        if (calls.sedge_sim_open(config, this.sim) !== n.SEDGE_NODE_OK) throw new RangeError('no memory');
+    }
+
+    close() {
+        this.calls.sedge_sim_close(this.sim);
+    }
+
+    // An event happens; its line. What it answered stays in `reply`.
+    answer(event) {
+        this.reply = {};
+        if (event.kind === 0) return this.show();
+        const fault = this.calls.sedge_sim_step(this.sim, event, this.reply);
+        return fault !== 0 ? `refused ${fault} ${this.calls.sedge_sim_fault_name(fault)}` : this.lineOf(this.reply);
+    }
+
+    // The octets of the frame or the packet that the last event had.
+    octets() {
+        const out = new Uint8Array(this.reply.count), count = {};
+        this.calls.sedge_sim_octets(this.sim, out, count);
+        return out;
+    }
+
+    lineOf(it) {
+        const calls = this.calls, word = new Uint8Array(4);
+        const names = [null, calls.sedge_link_fault_name, calls.sedge_cop_fault_name, calls.sedge_tm_fault_name];
+        switch (it.kind) {
+        case n.SEDGE_REPLY_DONE: return 'ok';
+        case n.SEDGE_REPLY_NOTHING: return 'nothing';
+        case n.SEDGE_REPLY_LOST: return 'lost';
+        case n.SEDGE_REPLY_REFUSED: return `refused ${it.fault} ${names[it.by](it.fault)}`;
+        case n.SEDGE_REPLY_ALERT: return `alert ${calls.sedge_alert_name(it.alert)}`;
+        case n.SEDGE_REPLY_SENT: return `sent ${digitsOf(this.octets())}`;
+        case n.SEDGE_REPLY_REPORTED:
+            calls.sedge_clcw_encode(it.report, word);
+            return `report ${digitsOf(word)}`;
+        case n.SEDGE_REPLY_UP: return this.receivedLine(it.up);
+        case n.SEDGE_REPLY_DOWN: return this.heardLine(it.down);
+        default: return `packet ${it.map} ${digitsOf(this.octets())}`;
+        }
+    }
+
+    receivedLine(it) {
+        const calls = this.calls;
+        if (it.kind === 1) return `invalid ${it.fault} ${calls.sedge_tc_fault_name(it.fault)}`;
+        if (it.kind === 3) {
+            const ready = it.ready === 0 ? '' : it.ready === 1 ? ' ready' : ` ready ${it.ready}`;
+            const dropped = it.dropped === 0 ? '' : ` dropped ${calls.sedge_dropped_name(it.dropped)}`;
+            return `AD ${it.n} ${calls.sedge_verdict_name(it.verdict)}${ready}${dropped}`;
+        }
+        if (it.kind === 4) return it.kept ? 'BD kept' : 'BD dropped';
+        return it.kind === 2 ? 'foreign' : it.command === n.SEDGE_SET_VR ? `BC set ${it.vr}` : 'BC unlock';
+    }
+
+    heardLine(it) {
+        if (it.kind === 1) return `invalid ${it.fault} ${this.calls.sedge_tm_fault_name(it.fault)}`;
+        if (it.kind === 2) return 'foreign';
+        const alert = it.alert === 0 ? '' : ` alert ${this.calls.sedge_alert_name(it.alert)}`;
+        return `gap=${it.first !== 0 ? '-' : it.missing} packets=${it.packets}${alert}`;
+    }
+
+    // How many entries a record has on a MAP.
+    count(record, map) {
+        const entries = {};
+        this.calls.sedge_sim_count(this.sim, record, map, entries);
+        return entries.value;
+    }
+
+    // What the link is like: the fields of sedge_sim_reading, and how many packets were submitted and delivered, and
+    // how many frames were sent and accepted.
+    read() {
+        const it = { submitted: 0, delivered: 0, sent: this.count(n.SEDGE_SENT, 0), accepted: this.count(n.SEDGE_RECEIVED, 0) };
+        this.calls.sedge_sim_read(this.sim, it);
+        for (let map = 0; map < 64; map++) {
+            it.submitted += this.count(n.SEDGE_SUBMITTED, map);
+            it.delivered += this.count(n.SEDGE_DELIVERED, map);
+        }
+        return it;
+    }
+
+    show() {
+        const it = this.read(), clean = it.begun === 0 ? 'none' : it.clean ? 'yes' : 'no';
+        return `clean=${clean} state=S${it.state} submitted=${it.submitted} delivered=${it.delivered} sent=${it.sent} `
+            + `accepted=${it.accepted} acknowledged=${it.acknowledged} outstanding=${it.outstanding}`;
+    }
+}

@@ -1,0 +1,185 @@
+// Both libraries for JavaScript: load(source) gives the calls of c/include/sedgechisel.h and sedgechisel_nodes.h, by
+// their names there, of the module that web/build makes. Octets are a Uint8Array, which a call copies in, and out where
+// it writes there; its length is the number that stands after it in C. A struct is an object with its fields; a pointer
+// to a number is an object with a value. A call writes into those that it is given.
+import { calls, numbers, structs } from './calls.mjs';
+
+export { numbers };
+
+const PAGE = 65536;
+const SIZES = { bool: 1, uint8_t: 1, uint16_t: 2, uint32_t: 4, size_t: 4, pointer: 4, uint64_t: 8 };
+
+// The memory of nodes, and of what calls are given: places of 16, 32, 64 .. octets after the module's own memory, with
+// lists of those that are free.
+class Places {
+    constructor(memory, begin) {
+        this.memory = memory;
+        this.end = (begin + 15) & ~15;
+        this.free = new Map();
+        this.sizes = new Map();
+    }
+
+    // The address of a place; 0 where there is none.
+    take(count) {
+        let size = 16;
+        while (size < count) size *= 2;
+        let at = this.free.get(size)?.pop();
+        if (at === undefined) {
+            at = this.end;
+            const more = Math.ceil((at + size - this.memory.buffer.byteLength) / PAGE);
+            try {
+                if (more > 0) this.memory.grow(more);
+            } catch {
+                return 0;
+            }
+            this.end += size;
+        }
+        this.sizes.set(at, size);
+        return at;
+    }
+
+    give(at) {
+        const size = this.sizes.get(at);
+        this.sizes.delete(at);
+        if (!this.free.has(size)) this.free.set(size, []);
+        this.free.get(size).push(at);
+    }
+}
+
+// The three functions of sedgechisel_memory.h, as a module of 32 bits calls them.
+function memoryFunctions(of) {
+    const answer = (to, at, align) => {
+        const view = new DataView(of.memory.buffer);
+        view.setUint8(to, at !== 0 ? 1 : 0);
+        view.setUint32(to + 4, at || align, true);
+    };
+    return {
+        rattle_alloc: (to, count, align) => answer(to, of.places.take(count >>> 0), align),
+        rattle_realloc: (to, at, kept, count, align) => {
+            let found = at;
+            if (of.places.sizes.get(at) < count >>> 0) {
+                found = of.places.take(count >>> 0);
+                if (found !== 0) {
+                    new Uint8Array(of.memory.buffer).copyWithin(found, at, at + kept);
+                    of.places.give(at);
+                }
+            }
+            answer(to, found, align);
+        },
+        rattle_dealloc: (at) => of.places.give(at),
+    };
+}
+
+// What a call is given, in the module's memory: a place for each thing, all in one room.
+class Given {
+    constructor(of, count) {
+        this.of = of;
+        this.at = this.room = of.places.take(count);
+        if (this.room === 0) throw new RangeError('the module has no memory for what the call is given');
+        this.view = new DataView(of.memory.buffer);
+    }
+
+    place(size) {
+        const at = this.at;
+        this.at += (size + 15) & ~15;
+        return at;
+    }
+
+    octets(from) {
+        const at = this.place(from.length);
+        new Uint8Array(this.of.memory.buffer, at, from.length).set(from);
+        return at;
+    }
+
+    write(kind, at, count, value) {
+        if (kind === 'octets') {
+            const octets = value ?? [];
+            this.view.setUint32(at, this.octets(octets), true);
+            this.view.setUint32(count, octets.length, true);
+        } else if (count > 0) {
+            new Uint8Array(this.of.memory.buffer, at, count).set(value ?? []);
+        } else if (structs[kind]) {
+            for (const [field, own, from, many] of structs[kind].fields) {
+                this.write(own, at + from, own === 'octets' ? at + many : many, value?.[field]);
+            }
+        } else if (kind === 'uint64_t') {
+            this.view.setBigUint64(at, BigInt(value ?? 0), true);
+        } else {
+            this.view[`setUint${8 * SIZES[kind]}`](at, Number(value ?? 0), true);
+        }
+    }
+}
+
+// Reads a value of some kind, a struct into an object.
+function read(memory, kind, at, count, into) {
+    const view = new DataView(memory.buffer);
+    if (count > 0) return Array.from(new Uint8Array(memory.buffer, at, count));
+    if (structs[kind]) {
+        const it = into ?? {};
+        for (const [field, own, from, many] of structs[kind].fields) it[field] = read(memory, own, at + from, many);
+        return it;
+    }
+    if (kind === 'uint64_t') return view.getBigUint64(at, true);
+    const number = view[`getUint${8 * SIZES[kind]}`](at, true);
+    return kind === 'bool' ? number !== 0 : number;
+}
+
+// The octets that a value takes in the room of a call, or fewer.
+function sizeOf(way, kind, value) {
+    if (way === 'octets' || way === 'room') return value.length + 16;
+    const more = kind === 'sedge_event' ? (value.octets?.length ?? 0) + 16 : 0;
+    return (structs[kind]?.size ?? 8) + 16 + more;
+}
+
+// A call: what it is given is put into a room, and what it wrote is read from there.
+function callOf(of, name, result, parameters) {
+    return (...values) => {
+        let size = 32;
+        parameters.forEach(([, way, kind], k) => {
+            size += sizeOf(way, kind, values[k]);
+        });
+        const given = new Given(of, size), words = [], after = [];
+        const text = result === 'sedge_text' ? given.place(20) : 0;
+        if (text !== 0) words.push(text);
+        parameters.forEach(([, way, kind], k) => {
+            const value = values[k];
+            if (way === 'octets' || way === 'room') {
+                const at = given.octets(value);
+                words.push(at, value.length);
+                if (way === 'room') after.push(() => value.set(new Uint8Array(of.memory.buffer, at, value.length)));
+            } else if (way === 'value') {
+                words.push(kind === 'uint64_t' ? BigInt(value) : Number(value));
+            } else {
+                const at = given.place(structs[kind]?.size ?? 8), isStruct = kind in structs;
+                given.write(kind, at, 0, isStruct ? value : value.value);
+                words.push(at);
+                if (way === 'written') after.push(() => {
+                    const it = read(of.memory, kind, at, 0, isStruct ? value : undefined);
+                    if (!isStruct) value.value = it;
+                });
+            }
+        });
+        const answer = of.exports[name](...words);
+        for (const act of after) act();
+        const shown = text !== 0 ? textAt(of.memory, text) : result === 'bool' ? answer !== 0 : answer;
+        of.places.give(given.room);
+        return shown;
+    };
+}
+
+function textAt(memory, at) {
+    const octets = new Uint8Array(memory.buffer, at, 20);
+    return String.fromCharCode(...octets.subarray(0, octets.indexOf(0)));
+}
+
+// Makes the calls of a module: of its octets, or as the machine has compiled it.
+export async function load(source) {
+    const of = {};
+    const made = await WebAssembly.instantiate(source, { env: memoryFunctions(of) });
+    of.exports = (made.instance ?? made).exports;
+    of.memory = of.exports.memory;
+    of.places = new Places(of.memory, of.exports.__heap_base.value);
+    const found = {};
+    for (const [name, [result, parameters]] of Object.entries(calls)) found[name] = callOf(of, name, result, parameters);
+    return found;
+}

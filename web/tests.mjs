@@ -1,0 +1,84 @@
+// Tests the module for JavaScript: `node tests.mjs MODULE`. Codecs, both machines, two nodes, memory that is given back,
+// and what is wrong. It ends with 0 where all is as wanted, and with an Error that says what is not.
+import assert from 'node:assert/strict';
+import { readFileSync } from 'node:fs';
+import { load, numbers as n } from './sedgechisel.mjs';
+import { DEFAULTS, digitsOf, eventOf, octetsOf, scriptOf } from './link.mjs';
+
+const sedge = await load(readFileSync(process.argv[2]));
+const packet = octetsOf('1005C0000000AA');
+
+function codecs() {
+    const octets = octetsOf('0001080E00C41005C0000000AAE75D'), frame = {}, data = {}, total = {};
+    assert.equal(sedge.sedge_tc_decode(octets, true, frame, data), n.SEDGE_OK);
+    assert.deepEqual([frame.scid, frame.vcid, frame.kind, frame.n, frame.map], [1, 2, n.SEDGE_TC_AD, 0, 4]);
+    assert.equal(digitsOf(octets.subarray(data.from, data.from + data.count)), digitsOf(packet));
+    const out = new Uint8Array(1024);
+    assert.equal(sedge.sedge_tc_encode(frame, packet, true, out, total), n.SEDGE_OK);
+    assert.equal(digitsOf(out.subarray(0, total.value)), digitsOf(octets));
+    octets[14] ^= 1;
+    assert.equal(sedge.sedge_tc_decode(octets, true, frame, data), n.SEDGE_TC_CHECK);
+    assert.equal(sedge.sedge_tc_fault_name(n.SEDGE_TC_CHECK), 'Check');
+    assert.equal(sedge.sedge_check(new TextEncoder().encode('123456789')), 0x29b1);
+}
+
+function machines() {
+    const farm = {}, fop = {}, word = {};
+    assert.equal(sedge.sedge_farm_open(farm, 10, 0), n.SEDGE_OK);
+    assert.equal(sedge.sedge_farm_ad(farm, 0, true), n.SEDGE_ACCEPTED);
+    assert.equal(farm.vr, 1);
+    assert.equal(sedge.sedge_farm_report(farm, 2, word), n.SEDGE_OK);
+    assert.equal(word.value, 1);
+    assert.equal(sedge.sedge_fop_open(fop, 10, 5, 3, 10), n.SEDGE_OK);
+    assert.equal(sedge.sedge_fop_directive(fop, n.SEDGE_INIT_WITHOUT_CHECK, 0), n.SEDGE_OK);
+    assert.equal(fop.state, n.SEDGE_FOP_S1);
+}
+
+// A packet goes up, and the report on it comes down.
+function nodes() {
+    const ground = {}, spacecraft = {}, out = new Uint8Array(2048), count = {}, received = {}, heard = {}, map = {};
+    assert.equal(sedge.sedge_ground_open(DEFAULTS, ground), n.SEDGE_NODE_OK);
+    assert.equal(sedge.sedge_spacecraft_open(DEFAULTS, spacecraft), n.SEDGE_NODE_OK);
+    assert.equal(sedge.sedge_ground_submit(ground, 4, packet), n.SEDGE_NODE_NOT_OPEN);
+    assert.equal(sedge.sedge_ground_directive(ground, n.SEDGE_INIT_WITHOUT_CHECK, 0), n.SEDGE_NODE_OK);
+    assert.equal(sedge.sedge_ground_submit(ground, 4, packet), n.SEDGE_NODE_OK);
+    assert.equal(sedge.sedge_ground_pull(ground, out.subarray(0, 3), count), n.SEDGE_NODE_ROOM);
+    assert.equal(sedge.sedge_ground_pull(ground, out, count), n.SEDGE_NODE_OK);
+    assert.equal(sedge.sedge_spacecraft_receive(spacecraft, out.subarray(0, count.value), received), n.SEDGE_NODE_OK);
+    assert.deepEqual([received.kind, received.verdict, received.ready], [3, n.SEDGE_ACCEPTED, 1]);
+    assert.equal(sedge.sedge_spacecraft_take(spacecraft, map, out, count), n.SEDGE_NODE_OK);
+    assert.deepEqual([map.value, digitsOf(out.subarray(0, count.value))], [4, digitsOf(packet)]);
+    assert.equal(sedge.sedge_spacecraft_report(spacecraft, out, count), n.SEDGE_NODE_OK);
+    assert.equal(sedge.sedge_ground_telemetry(ground, out.subarray(0, count.value), heard), n.SEDGE_NODE_OK);
+    assert.deepEqual([heard.kind, heard.report, heard.alert], [3, 0, 0]);
+    const read = {};
+    sedge.sedge_ground_read(ground, read);
+    assert.deepEqual([read.outstanding, read.vs, read.nn], [0, 1, 1]);
+    sedge.sedge_ground_close(ground);
+    sedge.sedge_spacecraft_close(spacecraft);
+    assert.equal(sedge.sedge_ground_tick(ground), n.SEDGE_NODE_NONE);
+    assert.equal(sedge.sedge_config_fault({ ...DEFAULTS, width: 7 }), 4);
+    assert.equal(sedge.sedge_parameter_name(4), 'width');
+}
+
+// What was opened and closed many times takes no more memory than once.
+function memory() {
+    const config = { ...DEFAULTS, max_packet: 65542, ready_slots: 64 };
+    for (let k = 0; k < 2000; k++) {
+        const sim = {};
+        assert.equal(sedge.sedge_sim_open(config, sim), n.SEDGE_NODE_OK);
+        sedge.sedge_sim_close(sim);
+        assert.equal(sim.link, 0);
+    }
+}
+
+function lines() {
+    for (const line of ['submit 4', 'submit 256 00', 'up', 'up damage 0', 'vs 256', 'init', 'vs 01', 'send now', 'fly']) {
+        assert.equal(eventOf(line), null, line);
+    }
+    assert.throws(() => scriptOf('# first\nsend\nconfig width 10\n'), /^Error: line 3 is unreadable/);
+    assert.equal(scriptOf('config maps 18446744073709551615\n').config.maps, DEFAULTS.maps);
+}
+
+for (const test of [codecs, machines, nodes, memory, lines]) test();
+console.log('all as wanted');
