@@ -144,6 +144,9 @@ export interface sedge_heard {
 }
 
 export interface sedge_ground_reading {
+    submitted: bigint;
+    sent_whole: bigint;
+    acknowledged_whole: bigint;
     outstanding: number;
     frame_length: number;
     state: number;
@@ -286,6 +289,8 @@ export interface Calls {
     sedge_ground_tick(ground: Partial<sedge_ground>): number;
     sedge_ground_read(ground: Partial<sedge_ground>, read: Partial<sedge_ground_reading>): number;
     sedge_ground_accepted_beyond(ground: Partial<sedge_ground>, value: number, accepted: Partial<Box>): number;
+    sedge_ground_known_on_board(ground: Partial<sedge_ground>, value: number, whole: Partial<Box>): number;
+    sedge_ground_resume(ground: Partial<sedge_ground>, value: number, whole: Partial<Box>): number;
     sedge_spacecraft_open(config: sedge_config, spacecraft: Partial<sedge_spacecraft>): number;
     sedge_spacecraft_close(spacecraft: Partial<sedge_spacecraft>): void;
     sedge_spacecraft_receive(spacecraft: Partial<sedge_spacecraft>, octets: Uint8Array, received: Partial<sedge_received>): number;

@@ -284,17 +284,17 @@ static const unsigned char constant_22[6] = {
 };
 
 /* Of sedge_sim_fault_name_at. */
-static const unsigned char constant_23[16] = {
+static const unsigned char constant_24[16] = {
     78, 111, 116, 104, 105, 110, 103, 73, 110, 84, 114, 97, 110, 115, 105, 116
 };
 
 /* Of sedge_sim_fault_name_at. */
-static const unsigned char constant_24[13] = {
+static const unsigned char constant_25[13] = {
     78, 111, 116, 68, 101, 116, 101, 99, 116, 97, 98, 108, 101
 };
 
 /* Of octets_frame_check_check. */
-static const unsigned char constant_29[8192] = {
+static const unsigned char constant_30[8192] = {
     0, 0, 33, 16, 66, 32, 99, 48, 132, 64, 165, 80, 198, 96, 231, 112, 8, 129, 41, 145, 74, 161, 107, 177, 140, 193,
     173, 209, 206, 225, 239, 241, 49, 18, 16, 2, 115, 50, 82, 34, 181, 82, 148, 66, 247, 114, 214, 98, 57, 147, 24,
     131, 123, 179, 90, 163, 189, 211, 156, 195, 255, 243, 222, 227, 98, 36, 67, 52, 32, 4, 1, 20, 230, 100, 199, 116,
@@ -629,12 +629,12 @@ static const unsigned char constant_29[8192] = {
 };
 
 /* Of nodes_spacecraft_Spacecraft_report. */
-static const unsigned char constant_32[7] = {
+static const unsigned char constant_33[7] = {
     7, 255, 192, 0, 0, 0, 85
 };
 
 /* Of nodes_config_Config_fault, sedge_config_fault_at. */
-static const unsigned char switch_table_sedge_config_fault_358[120] = {
+static const unsigned char switch_table_sedge_config_fault_380[120] = {
     4, 0, 0, 0, 0, 0, 0, 0, 4, 0, 0, 0, 0, 0, 0, 0, 7, 0, 0, 0, 0, 0, 0, 0, 5, 0, 0, 0, 0, 0, 0, 0, 6, 0, 0, 0, 0, 0,
     0, 0, 5, 0, 0, 0, 0, 0, 0, 0, 5, 0, 0, 0, 0, 0, 0, 0, 4, 0, 0, 0, 0, 0, 0, 0, 10, 0, 0, 0, 0, 0, 0, 0, 4, 0, 0, 0,
     0, 0, 0, 0, 11, 0, 0, 0, 0, 0, 0, 0, 12, 0, 0, 0, 0, 0, 0, 0, 11, 0, 0, 0, 0, 0, 0, 0, 12, 0, 0, 0, 0, 0, 0, 0, 8,
@@ -642,9 +642,10 @@ static const unsigned char switch_table_sedge_config_fault_358[120] = {
 };
 
 /* Of sedge_link_fault_name_at. */
-static const unsigned char switch_table_sedge_link_fault_name[48] = {
-    111, 116, 79, 112, 101, 110, 0, 0, 108, 111, 115, 101, 100, 77, 97, 112, 111, 116, 67, 111, 109, 109, 97, 110,
-    111, 111, 76, 111, 110, 103, 0, 0, 117, 101, 117, 101, 70, 117, 108, 108, 101, 109, 111, 114, 121, 0, 0, 0
+static const unsigned char switch_table_sedge_link_fault_name[56] = {
+    78, 111, 116, 79, 112, 101, 110, 0, 67, 108, 111, 115, 101, 100, 77, 97, 78, 111, 116, 67, 111, 109, 109, 97, 84,
+    111, 111, 76, 111, 110, 103, 0, 81, 117, 101, 117, 101, 70, 117, 108, 77, 101, 109, 111, 114, 121, 0, 0, 78, 111,
+    116, 75, 110, 111, 119, 110
 };
 
 /* Of sedge_parameter_name_at. */
@@ -653,19 +654,19 @@ static const unsigned char switch_table_sedge_parameter_name[30] = {
 };
 
 /* Of sedge_parameter_name_at. */
-static const unsigned char switch_table_sedge_parameter_name_359[30] = {
+static const unsigned char switch_table_sedge_parameter_name_381[30] = {
     0, 0, 0, 0, 0, 0, 0, 0, 0, 0, 0, 0, 0, 0, 0, 0, 101, 116, 0, 0, 111, 116, 108, 111, 111, 116, 110, 103, 0, 0
 };
 
 /* Of sedge_parameter_name_at. */
-static const unsigned char switch_table_sedge_parameter_name_360[60] = {
+static const unsigned char switch_table_sedge_parameter_name_382[60] = {
     0, 0, 0, 0, 0, 0, 0, 0, 99, 105, 100, 0, 104, 0, 0, 0, 111, 119, 0, 0, 116, 0, 0, 0, 114, 0, 0, 0, 0, 0, 0, 0,
     112, 97, 99, 107, 0, 0, 0, 0, 121, 95, 115, 108, 115, 115, 95, 115, 101, 95, 115, 108, 101, 95, 108, 101, 107,
     105, 110, 103
 };
 
 /* Of sedge_parameter_name_at. */
-static const unsigned char switch_table_sedge_parameter_name_361[60] = {
+static const unsigned char switch_table_sedge_parameter_name_383[60] = {
     115, 99, 105, 100, 118, 99, 105, 100, 116, 109, 95, 118, 119, 105, 100, 116, 119, 105, 110, 100, 108, 105, 109,
     105, 116, 105, 109, 101, 112, 97, 114, 116, 109, 97, 120, 95, 109, 97, 112, 115, 114, 101, 97, 100, 98, 121, 112,
     97, 113, 117, 101, 117, 102, 114, 97, 109, 98, 108, 111, 99
@@ -749,6 +750,7 @@ static uint32_t sedge_ground_forget_telemetry_at(uint64_t ground);
 static uint32_t sedge_ground_next_at(uint64_t ground, uint64_t count);
 static uint32_t sedge_ground_next_telemetry_at(uint64_t ground, uint64_t count);
 static uint32_t sedge_ground_read_at(uint64_t ground, uint64_t read);
+static uint32_t sedge_ground_resume_at(uint64_t ground, uint32_t value, uint64_t whole);
 static uint32_t sedge_ground_submit_at(uint64_t ground, uint32_t map, uint64_t octets, uint64_t count);
 static uint32_t sedge_ground_take_telemetry_at(uint64_t ground, uint64_t out, uint64_t room, uint64_t count);
 static uint32_t sedge_ground_telemetry_at(uint64_t ground, uint64_t octets, uint64_t count, uint64_t heard);
@@ -776,6 +778,7 @@ static uint32_t sedge_spacecraft_take_at(uint64_t spacecraft, uint64_t map, uint
 static uint32_t sedge_spacecraft_take_bypass_at(uint64_t spacecraft, uint64_t map, uint64_t out, uint64_t room,
     uint64_t count);
 static uint32_t sedge_ground_accepted_beyond_at(uint64_t ground, uint32_t value, uint64_t accepted);
+static uint32_t sedge_ground_known_on_board_at(uint64_t ground, uint32_t value, uint64_t whole);
 static uint32_t sedge_ground_report_at(uint64_t ground, uint64_t octets, uint64_t count, uint64_t report);
 static uint32_t sedge_sim_entry_length_at(uint64_t sim, uint32_t record, uint32_t map, uint64_t k, uint64_t count);
 static uint32_t sedge_ground_peek_at(uint64_t ground, uint64_t out, uint64_t room, uint64_t count);
@@ -902,7 +905,7 @@ l1:;
     v18 = 0;
     if ((v19 & 1) != 0) {
         v13 = (uint64_t)get8(v16) << 3;
-        v18 = get64(v13 + address(switch_table_sedge_config_fault_358));
+        v18 = get64(v13 + address(switch_table_sedge_config_fault_380));
         v17 = address(switch_table_sedge_config_fault[v13 / 8]);
         v13 = 1;
     }
@@ -1209,11 +1212,11 @@ static uint32_t core_cmp_slices_groups_equal_i8_31_core_cmp_numbers_U8PartialEq(
 
 static void nodes_ground_node_Ground_of(uint64_t p0, uint64_t p1)
 {
-    unsigned char frame_octets[144 + 15];
-    uint32_t v3 = 0, v4 = 0, v5 = 0, v6 = 0;
-    uint64_t v2 = 0, v7 = 0, v8 = 0, v9 = 0, v10 = 0, v11 = 0, v12 = 0;
+    unsigned char frame_octets[160 + 15];
+    uint32_t v3 = 0, v4 = 0, v5 = 0, v6 = 0, v10 = 0;
+    uint64_t v2 = 0, v7 = 0, v8 = 0, v9 = 0, v11 = 0, v12 = 0, v13 = 0, v14 = 0, v15 = 0;
     v2 = aligned(frame_octets);
-    fill(v2 + 58, 0, 78);
+    fill(v2 + 74, 0, 78);
     v3 = get32(p1 + 16);
     if ((v3 & 255) != 0) {
         v4 = get32(p1 + 12);
@@ -1226,36 +1229,51 @@ static void nodes_ground_node_Ground_of(uint64_t p0, uint64_t p1)
                         v6 = get32(p1 + 24);
                         if ((v6 & 0xffff) != 0) {
                             v7 = (uint64_t)v4;
-                            rattle_alloc_at(v2 + 40, v7 << 5, 8);
-                            if (((uint32_t)get64(v2 + 40) & 1) != 0) {
-                                v8 = get64(v2 + 48);
-                                rattle_alloc_at(v2 + 24, 0x10006, 1);
-                                if (((uint32_t)get64(v2 + 24) & 1) == 0) {
+                            rattle_alloc_at(v2 + 56, v7 << 5, 8);
+                            if (((uint32_t)get64(v2 + 56) & 1) != 0) {
+                                v8 = get64(v2 + 64);
+                                rattle_alloc_at(v2 + 40, 0x10006, 1);
+                                if (((uint32_t)get64(v2 + 40) & 1) == 0) {
                                     rattle_dealloc_at(v8);
                                     put16(p0, 0x501);
-                                    fill(p0 + 8, 0, 344);
+                                    fill(p0 + 8, 0, 400);
                                     return;
                                 }
-                                v9 = get64(v2 + 32);
-                                v10 = (uint64_t)get32(p1 + 56);
+                                v9 = get64(v2 + 48);
+                                v10 = get32(p1 + 56);
+                                v11 = (uint64_t)v10;
                                 if (v10 == 0) {
-                                    v11 = v2 + 136;
-                                    goto l5;
+                                    v12 = v2 + 152;
+                                    v13 = 127;
+                                    goto l6;
                                 }
-                                rattle_alloc_at(v2 + 8, v10 << 5, 8);
-                                if (((uint32_t)get64(v2 + 8) & 1) == 0) {
+                                rattle_alloc_at(v2 + 24, v11 << 5, 8);
+                                if (((uint32_t)get64(v2 + 24) & 1) == 0) {
                                     rattle_dealloc_at(v9);
                                     rattle_dealloc_at(v8);
                                     put16(p0, 0x501);
-                                    fill(p0 + 8, 0, 344);
+                                    fill(p0 + 8, 0, 400);
                                     return;
                                 }
-                                v11 = get64(v2 + 16);
-                            l5:;
-                                v12 = v2 + 64;
-                                copy(v12, p1, 72);
+                                v12 = get64(v2 + 32);
+                                v13 = (uint64_t)get32(p1 + 56) + 127;
+                            l6:;
+                                rattle_alloc_at(v2 + 8, v13 << 3, 8);
+                                if (((uint32_t)get64(v2 + 8) & 1) == 0) {
+                                    if (v10 == 0) goto l8;
+                                    rattle_dealloc_at(v12);
+                                l8:;
+                                    rattle_dealloc_at(v9);
+                                    rattle_dealloc_at(v8);
+                                    put16(p0, 0x501);
+                                    fill(p0 + 8, 0, 400);
+                                    return;
+                                }
+                                v14 = get64(v2 + 16);
+                                v15 = v2 + 80;
+                                copy(v15, p1, 72);
                                 put16(p0, 0);
-                                copy(p0 + 8, v12, 72);
+                                copy(p0 + 8, v15, 72);
                                 put32(p0 + 82, 0);
                                 put8(p0 + 81, 5);
                                 put8(p0 + 80, v4);
@@ -1276,28 +1294,35 @@ static void nodes_ground_node_Ground_of(uint64_t p0, uint64_t p1)
                                 put64(p0 + 144, v8);
                                 put64(p0 + 160, 0);
                                 put64(p0 + 168, 0);
-                                put64(p0 + 184, 0);
-                                put64(p0 + 192, 0);
-                                put64(p0 + 200, 0);
                                 put64(p0 + 208, 0);
-                                put64(p0 + 216, v11);
+                                put64(p0 + 200, 0);
+                                put64(p0 + 192, 0);
+                                put64(p0 + 184, 0);
+                                put64(p0 + 232, v11);
                                 put64(p0 + 224, 0);
-                                put64(p0 + 232, v10);
-                                put64(p0 + 240, 0);
-                                put64(p0 + 248, 0);
+                                put64(p0 + 216, v12);
                                 put64(p0 + 256, 0);
-                                put64(p0 + 264, v9);
+                                put64(p0 + 248, 0);
+                                put64(p0 + 240, 0);
+                                put64(p0 + 280, v13);
                                 put64(p0 + 272, 0);
-                                put64(p0 + 280, 0x10006);
-                                put64(p0 + 296, 0);
-                                put64(p0 + 304, 0);
+                                put64(p0 + 264, v14);
                                 put64(p0 + 312, 0);
-                                put64(p0 + 320, 0);
-                                put64(p0 + 176, v2 + 136);
-                                put64(p0 + 288, v2 + 136);
-                                put64(p0 + 344, 0);
-                                put64(p0 + 336, 0);
-                                put64(p0 + 328, v2 + 136);
+                                put64(p0 + 304, 0);
+                                put64(p0 + 296, 0);
+                                put64(p0 + 288, 0);
+                                put64(p0 + 176, v2 + 152);
+                                put64(p0 + 336, 0x10006);
+                                put64(p0 + 328, 0);
+                                put64(p0 + 320, v9);
+                                put64(p0 + 352, 0);
+                                put64(p0 + 360, 0);
+                                put64(p0 + 368, 0);
+                                put64(p0 + 376, 0);
+                                put64(p0 + 392, 0);
+                                put64(p0 + 400, 0);
+                                put64(p0 + 344, v2 + 152);
+                                put64(p0 + 384, v2 + 152);
                                 return;
                             }
                         }
@@ -1307,7 +1332,7 @@ static void nodes_ground_node_Ground_of(uint64_t p0, uint64_t p1)
         }
     }
     put16(p0, 0x501);
-    fill(p0 + 8, 0, 344);
+    fill(p0 + 8, 0, 400);
     return;
 }
 
@@ -1315,109 +1340,112 @@ static void sedgechisel_nodes_nodes_ground_node_Ground_Destruct_drop(uint64_t p0
 {
     uint64_t v1 = 0, v2 = 0, v3 = 0, v4 = 0, v5 = 0, v6 = 0, v7 = 0, v8 = 0, v9 = 0, v10 = 0, v11 = 0, v12 = 0,
         v13 = 0, v14 = 0, v15 = 0, v16 = 0, v17 = 0, v18 = 0, v19 = 0, v20 = 0, v21 = 0, v22 = 0, v23 = 0, v24 = 0,
-        v25 = 0, v26 = 0, v27 = 0;
-    v1 = get64(p0 + 336);
-    v2 = get64(p0 + 328);
-    v3 = get64(p0 + 320);
-    v4 = get64(p0 + 312);
-    v5 = get64(p0 + 304);
-    v6 = get64(p0 + 296);
-    v7 = get64(p0 + 288);
-    v8 = get64(p0 + 280);
-    v9 = get64(p0 + 272);
-    v10 = get64(p0 + 256);
-    v11 = get64(p0 + 240);
-    v12 = get64(p0 + 232);
-    v13 = get64(p0 + 224);
-    v14 = get64(p0 + 216);
-    v15 = get64(p0 + 208);
-    v16 = get64(p0 + 200);
-    v17 = get64(p0 + 192);
-    v18 = get64(p0 + 184);
-    v19 = get64(p0 + 176);
-    v20 = get64(p0 + 168);
-    v21 = get64(p0 + 160);
-    v22 = get64(p0 + 152);
-    v23 = get64(p0 + 144);
-    v24 = get64(p0 + 136);
+        v25 = 0, v26 = 0, v27 = 0, v28 = 0, v29 = 0;
+    v1 = get64(p0 + 392);
+    v2 = get64(p0 + 384);
+    v3 = get64(p0 + 376);
+    v4 = get64(p0 + 368);
+    v5 = get64(p0 + 360);
+    v6 = get64(p0 + 352);
+    v7 = get64(p0 + 344);
+    v8 = get64(p0 + 336);
+    v9 = get64(p0 + 328);
+    v10 = get64(p0 + 312);
+    v11 = get64(p0 + 272);
+    v12 = get64(p0 + 256);
+    v13 = get64(p0 + 240);
+    v14 = get64(p0 + 232);
+    v15 = get64(p0 + 224);
+    v16 = get64(p0 + 216);
+    v17 = get64(p0 + 208);
+    v18 = get64(p0 + 200);
+    v19 = get64(p0 + 192);
+    v20 = get64(p0 + 184);
+    v21 = get64(p0 + 176);
+    v22 = get64(p0 + 168);
+    v23 = get64(p0 + 160);
+    v24 = get64(p0 + 152);
+    v25 = get64(p0 + 144);
+    v26 = get64(p0 + 136);
     if (get8(p0 + 96) != 0) {
         if (get64(p0 + 128) != 0) rattle_dealloc_at(get64(p0 + 112));
     }
-    if (v22 != 0) {
-        v25 = (v21 < v23) ? 0ULL : v23;
-        p0 = v21 - v25;
-        v26 = v23 - p0;
-        v27 = (v26 < v22) ? v26 : v22;
-        if (v23 != p0) {
-            p0 = (v24 + ((v21 << 5) - (v25 << 5))) + 24;
-            v23 = v27;
+    if (v24 != 0) {
+        v27 = (v23 < v25) ? 0ULL : v25;
+        p0 = v23 - v27;
+        v28 = v25 - p0;
+        v29 = (v28 < v24) ? v28 : v24;
+        if (v25 != p0) {
+            p0 = (v26 + ((v23 << 5) - (v27 << 5))) + 24;
+            v25 = v29;
             do {
                 if (get64(p0) != 0) rattle_dealloc_at(get64(p0 - 16));
                 p0 = p0 + 32;
-                v23 = v23 - 1;
-            } while (v23 != 0);
+                v25 = v25 - 1;
+            } while (v25 != 0);
         }
-        if (v22 > v26) {
-            v23 = v22 - v27;
-            p0 = v24 + 24;
+        if (v24 > v28) {
+            v25 = v24 - v29;
+            p0 = v26 + 24;
             do {
                 if (get64(p0) != 0) rattle_dealloc_at(get64(p0 - 16));
                 p0 = p0 + 32;
-                v23 = v23 - 1;
-            } while (v23 != 0);
-        }
-    }
-    rattle_dealloc_at(v24);
-    if (v19 != 0) {
-        v23 = v19 - v16;
-        if (v17 < (v23 + v17)) {
-            p0 = ((v17 << 5) + v20) + 24;
-            do {
-                if (get64(p0) != 0) rattle_dealloc_at(get64(p0 - 16));
-                p0 = p0 + 32;
-                v23 = v23 - 1;
-            } while (v23 != 0);
-        }
-        if (v16 != 0) {
-            p0 = v20 + 24;
-            do {
-                if (get64(p0) != 0) rattle_dealloc_at(get64(p0 - 16));
-                p0 = p0 + 32;
-                v16 = v16 - 1;
-            } while (v16 != 0);
+                v25 = v25 - 1;
+            } while (v25 != 0);
         }
     }
-    if (v18 != 0) rattle_dealloc_at(v20);
-    if (v14 != 0) {
-        v16 = v14 - v11;
-        if (v12 < (v16 + v12)) {
-            p0 = ((v12 << 5) + v15) + 24;
+    rattle_dealloc_at(v26);
+    if (v21 != 0) {
+        v25 = v21 - v18;
+        if (v19 < (v25 + v19)) {
+            p0 = ((v19 << 5) + v22) + 24;
             do {
                 if (get64(p0) != 0) rattle_dealloc_at(get64(p0 - 16));
                 p0 = p0 + 32;
-                v16 = v16 - 1;
-            } while (v16 != 0);
+                v25 = v25 - 1;
+            } while (v25 != 0);
         }
-        if (v11 != 0) {
-            p0 = v15 + 24;
+        if (v18 != 0) {
+            p0 = v22 + 24;
             do {
                 if (get64(p0) != 0) rattle_dealloc_at(get64(p0 - 16));
                 p0 = p0 + 32;
-                v11 = v11 - 1;
-            } while (v11 != 0);
+                v18 = v18 - 1;
+            } while (v18 != 0);
         }
     }
-    if (v13 != 0) rattle_dealloc_at(v15);
+    if (v20 != 0) rattle_dealloc_at(v22);
+    if (v16 != 0) {
+        v18 = v16 - v13;
+        if (v14 < (v18 + v14)) {
+            p0 = ((v14 << 5) + v17) + 24;
+            do {
+                if (get64(p0) != 0) rattle_dealloc_at(get64(p0 - 16));
+                p0 = p0 + 32;
+                v18 = v18 - 1;
+            } while (v18 != 0);
+        }
+        if (v13 != 0) {
+            p0 = v17 + 24;
+            do {
+                if (get64(p0) != 0) rattle_dealloc_at(get64(p0 - 16));
+                p0 = p0 + 32;
+                v13 = v13 - 1;
+            } while (v13 != 0);
+        }
+    }
+    if (v15 != 0) rattle_dealloc_at(v17);
+    if (v11 != 0) rattle_dealloc_at(v12);
     if (v9 != 0) rattle_dealloc_at(v10);
     if (v7 != 0) {
-        v11 = v7 - v4;
-        if (v5 < (v11 + v5)) {
+        v13 = v7 - v4;
+        if (v5 < (v13 + v5)) {
             p0 = v8 + (v5 * 24);
             do {
                 if (get64(p0 + 16) != 0) rattle_dealloc_at(get64(p0));
                 p0 = p0 + 24;
-                v11 = v11 - 1;
-            } while (v11 != 0);
+                v13 = v13 - 1;
+            } while (v13 != 0);
         }
         if (v4 != 0) {
             p0 = v8;
@@ -1539,42 +1567,42 @@ static void std_alloc_vec_Vec_drop_b0c2e3ac61d256b1(uint64_t p0)
 
 static void sedgechisel_nodes_sedgechisel_nodes_sim_link_Link_Destruct_drop(uint64_t p0)
 {
-    unsigned char frame_octets[7632 + 15];
+    unsigned char frame_octets[7744 + 15];
     uint32_t v26 = 0;
     uint64_t v1 = 0, v2 = 0, v3 = 0, v4 = 0, v5 = 0, v6 = 0, v7 = 0, v8 = 0, v9 = 0, v10 = 0, v11 = 0, v12 = 0,
         v13 = 0, v14 = 0, v15 = 0, v16 = 0, v17 = 0, v18 = 0, v19 = 0, v20 = 0, v21 = 0, v22 = 0, v23 = 0, v24 = 0,
         v25 = 0;
     v1 = aligned(frame_octets);
-    v2 = get64(p0 + 5976);
-    v3 = get64(p0 + 5960);
-    v4 = get64(p0 + 5952);
-    v5 = get64(p0 + 5944);
-    v6 = get64(p0 + 5936);
-    v7 = get64(p0 + 5928);
-    v8 = get64(p0 + 5920);
-    v9 = get64(p0 + 5912);
-    v10 = get64(p0 + 5888);
-    v11 = get64(p0 + 5880);
-    v12 = get64(p0 + 5872);
-    v13 = get64(p0 + 2792);
-    v14 = get64(p0 + 2784);
-    v15 = get64(p0 + 2776);
-    v16 = get64(p0 + 2752);
-    v17 = get64(p0 + 2744);
-    v18 = get64(p0 + 2736);
-    v19 = get64(p0 + 2728);
-    v20 = get64(p0 + 2720);
-    v21 = get64(p0 + 2712);
-    v22 = get64(p0 + 2704);
-    v23 = get64(p0 + 2696);
-    v24 = get64(p0 + 2680);
-    v25 = get64(p0 + 2688);
-    copy(v1 + 0x758, p0 + 0xaf0, 0x600);
-    copy(v1 + 344, p0 + 0x10f0, 0x600);
-    copy(v1 + 0xd58, p0, 0xa78);
-    copy(v1, p0, 344);
+    v2 = get64(p0 + 6032);
+    v3 = get64(p0 + 6016);
+    v4 = get64(p0 + 6008);
+    v5 = get64(p0 + 6000);
+    v6 = get64(p0 + 5992);
+    v7 = get64(p0 + 5984);
+    v8 = get64(p0 + 5976);
+    v9 = get64(p0 + 5968);
+    v10 = get64(p0 + 5944);
+    v11 = get64(p0 + 5936);
+    v12 = get64(p0 + 5928);
+    v13 = get64(p0 + 2848);
+    v14 = get64(p0 + 2840);
+    v15 = get64(p0 + 2832);
+    v16 = get64(p0 + 2808);
+    v17 = get64(p0 + 2800);
+    v18 = get64(p0 + 2792);
+    v19 = get64(p0 + 2784);
+    v20 = get64(p0 + 2776);
+    v21 = get64(p0 + 2768);
+    v22 = get64(p0 + 2760);
+    v23 = get64(p0 + 2752);
+    v24 = get64(p0 + 2736);
+    v25 = get64(p0 + 2744);
+    copy(v1 + 0x790, p0 + 0xb28, 0x600);
+    copy(v1 + 400, p0 + 0x1128, 0x600);
+    copy(v1 + 0xd90, p0, 0xab0);
+    copy(v1, p0, 400);
     sedgechisel_nodes_nodes_ground_node_Ground_Destruct_drop(v1);
-    sedgechisel_nodes_nodes_spacecraft_Spacecraft_Destruct_drop(v1 + 0xd58 + 344);
+    sedgechisel_nodes_nodes_spacecraft_Spacecraft_Destruct_drop(v1 + 0xd90 + 400);
     if (v25 != 0) {
         v25 = v25 - v21;
         if (v22 < (v25 + v22)) {
@@ -1615,7 +1643,7 @@ static void sedgechisel_nodes_sedgechisel_nodes_sim_link_Link_Destruct_drop(uint
         }
     }
     if (v18 != 0) rattle_dealloc_at(v20);
-    copy(v1 + 0x17d0, v1 + 0x758, 0x600);
+    copy(v1 + 0x1840, v1 + 0x790, 0x600);
     if (v14 != 0) {
         p0 = v15 + 24;
         do {
@@ -1627,7 +1655,7 @@ static void sedgechisel_nodes_sedgechisel_nodes_sim_link_Link_Destruct_drop(uint
     if (v13 != 0) rattle_dealloc_at(v15);
     v16 = 0;
     do {
-        p0 = v1 + 0x17d0 + (v16 * 24);
+        p0 = v1 + 0x1840 + (v16 * 24);
         v25 = get64(p0 + 16);
         v21 = get64(p0);
         v14 = get64(p0 + 8);
@@ -1644,7 +1672,7 @@ static void sedgechisel_nodes_sedgechisel_nodes_sim_link_Link_Destruct_drop(uint
     } while (v16 != 64);
     v16 = 0;
     do {
-        p0 = v1 + 344 + (v16 * 24);
+        p0 = v1 + 400 + (v16 * 24);
         v25 = get64(p0 + 16);
         v21 = get64(p0);
         v14 = get64(p0 + 8);
@@ -2489,8 +2517,9 @@ l2:;
 static void nodes_ground_node_Ground_report(uint64_t p0, uint64_t p1, uint64_t p2)
 {
     unsigned char frame_octets[16 + 15];
-    uint32_t v4 = 0, v5 = 0, v6 = 0, v7 = 0, v8 = 0, v9 = 0;
-    uint64_t v3 = 0;
+    uint32_t v4 = 0, v5 = 0, v6 = 0, v7 = 0, v8 = 0, v10 = 0;
+    uint64_t v3 = 0, v9 = 0, v11 = 0, v12 = 0, v13 = 0, v14 = 0, v15 = 0, v16 = 0, v17 = 0, v18 = 0, v19 = 0, v20 = 0,
+        v21 = 0;
     v3 = aligned(frame_octets);
     v4 = 1;
     if (get8(p2) == 1) {
@@ -2510,11 +2539,12 @@ static void nodes_ground_node_Ground_report(uint64_t p0, uint64_t p1, uint64_t p
     v8 = v4 >> 24;
     v5 = v4 >> 8;
     p2 = p1 + 72;
-    v4 = 0;
+    v9 = p1 + 75;
+    v4 = get8(v9);
     v6 = 0;
     v7 = 0;
-    v9 = get8(p1 + 73);
-    switch ((uint32_t)((uint64_t)v9 & 255)) {
+    v10 = get8(p1 + 73);
+    switch ((uint32_t)((uint64_t)v10 & 255)) {
     case 3:
         if ((v5 & 32) == 0) {
             if (get8(p1 + 74) == v8) {
@@ -2567,16 +2597,15 @@ static void nodes_ground_node_Ground_report(uint64_t p0, uint64_t p1, uint64_t p
         put8(v3 + 14, 0);
         put16(v3 + 12, 0);
         if ((v5 & 32) == 0) {
-            v6 = get8(p1 + 74);
-            v7 = get8(p1 + 75);
-            if (((v6 - v7) & 255) >= ((v8 - v7) & 255)) {
+            v7 = get8(p1 + 74);
+            if (((v7 - v4) & 255) >= ((v8 - v4) & 255)) {
                 if ((v5 & 24) != 16) {
                     if ((v5 & 8) == 0) {
-                        if ((v7 & 255) != v8) {
+                        if ((v4 & 255) != v8) {
                             cop1_sender_Sender_move_on(v3 + 12, p2, v8);
                             goto l8;
                         }
-                        if ((v9 & 255) != 0) {
+                        if ((v10 & 255) != 0) {
                             put8(p1 + 78, 0);
                             put8(p1 + 73, 5);
                             put8(p1 + 91, 0);
@@ -2588,15 +2617,15 @@ static void nodes_ground_node_Ground_report(uint64_t p0, uint64_t p1, uint64_t p
                         v6 = 0;
                         goto l9;
                     }
-                    if ((v6 & 255) != v8) {
-                        v6 = v5 & 16;
-                        if ((v7 & 255) == v8) {
-                            cop1_sender_Sender_ask_for_all(v3 + 8, p2, v6 != 0);
+                    if ((v7 & 255) != v8) {
+                        v7 = v5 & 16;
+                        if ((v4 & 255) == v8) {
+                            cop1_sender_Sender_ask_for_all(v3 + 8, p2, v7 != 0);
                             v7 = get8(v3 + 9);
                             v6 = get8(v3 + 8);
                             goto l4;
                         }
-                        cop1_sender_Sender_ask_for_others(v3 + 12, p2, v8, v6 != 0);
+                        cop1_sender_Sender_ask_for_others(v3 + 12, p2, v8, v7 != 0);
                         goto l8;
                     }
                     put8(p1 + 78, 0);
@@ -2633,17 +2662,15 @@ static void nodes_ground_node_Ground_report(uint64_t p0, uint64_t p1, uint64_t p
         goto l4;
     }
 l10:;
-    v6 = 0;
-    v7 = 0;
-    if ((v5 & 56) != 0) goto l4;
-    v6 = 0;
-    v7 = 0;
-    if (get8(p1 + 74) != v8) goto l4;
-    v6 = 0;
-    put8(p1 + 91, 0);
-    put16(p1 + 89, 0);
-    put32(p1 + 84, 0);
-    put8(p1 + 73, 0);
+    if ((v5 & 56) == 0) {
+        v7 = 0;
+        if (get8(p1 + 74) != v8) goto l4;
+        v6 = 0;
+        put8(p1 + 91, 0);
+        put16(p1 + 89, 0);
+        put32(p1 + 84, 0);
+        put8(p1 + 73, 0);
+    }
 l9:;
     v7 = 0;
     goto l4;
@@ -2664,7 +2691,66 @@ l5:;
     v7 = 1;
 l4:;
     cop1_fop_trim_trim_09dedc624c4eb86b(p2, p1 + 96, p1 + 136);
+    v11 = get64(p1 + 264);
+    v12 = v11;
+    v4 = get8(v9) - v4;
+    if ((v4 & 255) != 0) {
+        if (v11 == 0) {
+            v12 = 0;
+            goto l25;
+        }
+        v13 = p1 + 288;
+        v14 = p1 + 264;
+        v15 = p1 + 280;
+        v16 = p1 + 256;
+        v17 = p1 + 272;
+        v12 = v11;
+        v9 = v11;
+        do {
+            p2 = v9;
+            v9 = 0;
+            if (p2 != 0) {
+                if (get64(v13) != p2) {
+                    v9 = get64(v15);
+                    goto l29;
+                }
+                v9 = 0;
+                put64(v13, 0);
+            l29:;
+                v12 = p2 - 1;
+                put64(v14, v12);
+                v18 = v9 + 1;
+                put64(v15, v18);
+                v19 = get64(v16);
+                v20 = v19 + (v9 << 3);
+                v21 = get64(v20);
+                if (v21 < 2) {
+                    v9 = v12;
+                    goto l28;
+                }
+                v21 = v21 - 1;
+                if (v18 == 0) {
+                    put64(v13, v12);
+                    v9 = get64(v17) - 1;
+                    put64(v19 + (v9 << 3), v21);
+                    goto l32;
+                }
+                put64(v20, v21);
+            l32:;
+                put64(v14, p2);
+                put64(v15, v9);
+                v12 = p2;
+                v9 = p2;
+            }
+        l28:;
+            v4 = v4 - 1;
+        } while ((v4 & 255) != 0);
+    }
+l25:;
+    p2 = p1 + 248;
+    put64(p2, v11 - v12 + get64(p2));
     nodes_ground_node_Ground_refill(p1);
+    v4 = 0;
     v5 = 0;
 l1:;
     put8(p0, v4);
@@ -2857,7 +2943,7 @@ static void nodes_ground_node_Ground_directive(uint64_t p0, uint64_t p1, uint64_
     v5 = get8(p2);
     switch (v5) {
     case 4:
-        if (get8(p1 + 73) != 5) goto l8;
+        if (get8(p1 + 73) != 5) goto l10;
         v5 = 7;
         goto l2;
     case 6:
@@ -2866,16 +2952,16 @@ static void nodes_ground_node_Ground_directive(uint64_t p0, uint64_t p1, uint64_
         if (v6 == 0) goto l2;
         if (get8(v3) < v6) goto l2;
         put8(p1 + 79, v4);
-        goto l5;
+        goto l7;
     case 7:
-        if ((v4 & 255) != 0) goto l6;
+        if ((v4 & 255) != 0) goto l8;
         v5 = 2;
         goto l2;
     case 8:
         v5 = get16(p2 + 2);
         if ((v5 & 0xffff) != 0) {
             put16(p1 + 82, v5);
-            goto l5;
+            goto l7;
         }
         v5 = 3;
         goto l2;
@@ -2883,8 +2969,8 @@ static void nodes_ground_node_Ground_directive(uint64_t p0, uint64_t p1, uint64_
         if (get8(p1 + 73) == 5) {
             switch (v5) {
             case 1:
+                v5 = 1;
                 put32(p1 + 88, 1);
-                v5 = 0;
                 put8(p1 + 81, 0);
                 put8(p1 + 78, 0);
                 put16(p1 + 76, 0);
@@ -2895,7 +2981,6 @@ static void nodes_ground_node_Ground_directive(uint64_t p0, uint64_t p1, uint64_
                 goto l4;
             case 2:
                 put32(p1 + 88, 257);
-                v5 = 0;
                 put8(p1 + 81, 0);
                 put8(p1 + 78, 0);
                 put16(p1 + 76, 0);
@@ -2903,12 +2988,13 @@ static void nodes_ground_node_Ground_directive(uint64_t p0, uint64_t p1, uint64_
                 p2 = p1 + 84;
                 put16(p2, get8(p2));
                 put8(p1 + 75, get8(p1 + 74));
+                v5 = 1;
                 goto l4;
             case 3:
                 put8(p1 + 91, v4);
+                v5 = 1;
                 put8(p1 + 90, 1);
                 put16(p1 + 88, 257);
-                v5 = 0;
                 put8(p1 + 81, 0);
                 put8(p1 + 78, 0);
                 put16(p1 + 76, 0);
@@ -2919,14 +3005,12 @@ static void nodes_ground_node_Ground_directive(uint64_t p0, uint64_t p1, uint64_
                 put16(p2, get8(p2));
                 goto l4;
             case 4:
-                goto l8;
+                goto l10;
             case 5:
-                put8(p1 + 75, v4);
-                put8(p1 + 74, v4);
                 goto l5;
             default:
+                v5 = 1;
                 put32(p1 + 88, 1);
-                v5 = 0;
                 put8(p1 + 81, 0);
                 put8(p1 + 78, 0);
                 put16(p1 + 76, 0);
@@ -2940,7 +3024,7 @@ static void nodes_ground_node_Ground_directive(uint64_t p0, uint64_t p1, uint64_
         v5 = 7;
         goto l2;
     }
-l8:;
+l10:;
     put8(p1 + 78, 0);
     put8(p1 + 73, 5);
     put8(p1 + 91, 0);
@@ -2949,15 +3033,31 @@ l8:;
     put16(p1 + 76, 0);
     v4 = 6;
     v5 = 1;
-    goto l3;
-l6:;
+    goto l6;
+l8:;
     put8(p1 + 80, v4);
+l7:;
+    v5 = 0;
+    v4 = 0;
+l6:;
+    cop1_fop_trim_trim_09dedc624c4eb86b(v3, p1 + 96, p1 + 136);
+    goto l3;
 l5:;
+    put8(p1 + 75, v4);
+    put8(p1 + 74, v4);
     v5 = 0;
 l4:;
-    v4 = 0;
-l3:;
     cop1_fop_trim_trim_09dedc624c4eb86b(v3, p1 + 96, p1 + 136);
+    put64(p1 + 248, 0);
+    p2 = p1 + 264;
+    if (get64(p2) != 0) {
+        put64(p1 + 288, 0);
+        put64(p2, 0);
+    }
+    put8(p1 + 296, v5);
+    v4 = 0;
+    v5 = 0;
+l3:;
     nodes_ground_node_Ground_refill(p1);
     v6 = 0;
     goto l1;
@@ -4015,116 +4115,132 @@ l2:;
 
 static void nodes_ground_node_Ground_commit(uint64_t p0, uint64_t p1)
 {
-    uint32_t v8 = 0, v18 = 0, t1;
-    uint64_t v2 = 0, v3 = 0, v4 = 0, v5 = 0, v6 = 0, v7 = 0, v9 = 0, v10 = 0, v11 = 0, v12 = 0, v13 = 0, v14 = 0,
-        v15 = 0, v16 = 0, v17 = 0, v19 = 0, v20 = 0, v21 = 0, v22 = 0;
-    v2 = get64(p1 + 104);
-    v3 = get64(p1 + 96);
-    v4 = get64(p1 + 88);
-    v5 = get64(p1 + 80);
-    v6 = get64(p1 + 64);
-    v7 = get64(p1 + 48);
-    v8 = get8(p1 + 40);
-    if (get8(p1 + 72) == 0) {
-        p1 = get64(p0 + 208);
-        v9 = get64(p0 + 216);
-        v10 = p0 + 240;
-        v11 = get64(v10);
-        v12 = v9 - v11;
-        v13 = get64(p0 + 232);
-        if (v12 < (get64(p0 + 224) - v13)) {
-            p1 = p1 + ((v13 + v12) << 5);
-            put64(p1 + 24, v2);
-            put64(p1 + 16, v3);
-            put64(p1 + 8, v4);
-            put64(p1, v5);
-            goto l3;
-        }
-        p1 = p1 + (v11 << 5);
-        put64(p1 + 24, v2);
-        put64(p1 + 16, v3);
-        put64(p1 + 8, v4);
-        put64(p1, v5);
-        put64(v10, v11 + 1);
-    l3:;
-        put64(p0 + 216, v9 + 1);
+    uint32_t v3 = 0, v12 = 0, t1;
+    uint64_t v2 = 0, v4 = 0, v5 = 0, v6 = 0, v7 = 0, v8 = 0, v9 = 0, v10 = 0, v11 = 0, v13 = 0, v14 = 0, v15 = 0,
+        v16 = 0, v17 = 0, v18 = 0, v19 = 0, v20 = 0, v21 = 0, v22 = 0;
+    v2 = get64(p1 + 88);
+    v3 = get8(p1 + 72);
+    v4 = (v3 != 0) ? v2 : 1ULL;
+    v5 = get64(p0 + 256);
+    v6 = get64(p1 + 112);
+    v7 = get64(p1 + 104);
+    v8 = get64(p1 + 96);
+    v9 = get64(p1 + 80);
+    v10 = get64(p1 + 64);
+    v11 = get64(p1 + 48);
+    v12 = get8(p1 + 40);
+    p1 = get64(p0 + 264);
+    v13 = p0 + 288;
+    v14 = get64(v13);
+    v15 = p1 - v14;
+    v16 = get64(p0 + 280);
+    if (v15 < (get64(p0 + 272) - v16)) {
+        put64(v5 + ((v16 + v15) << 3), v4);
         goto l1;
     }
-    v9 = get64(p1 + 112);
+    put64(v5 + (v14 << 3), v4);
+    put64(v13, v14 + 1);
+l1:;
+    put64(p0 + 264, p1 + 1);
+    if (v3 == 0) {
+        p1 = get64(p0 + 208);
+        v6 = get64(p0 + 216);
+        v5 = p0 + 240;
+        v4 = get64(v5);
+        v14 = v6 - v4;
+        v13 = get64(p0 + 232);
+        if (v14 < (get64(p0 + 224) - v13)) {
+            p1 = p1 + ((v13 + v14) << 5);
+            put64(p1 + 24, v7);
+            put64(p1 + 16, v8);
+            put64(p1 + 8, v2);
+            put64(p1, v9);
+            goto l5;
+        }
+        p1 = p1 + (v4 << 5);
+        put64(p1 + 24, v7);
+        put64(p1 + 16, v8);
+        put64(p1 + 8, v2);
+        put64(p1, v9);
+        put64(v5, v4 + 1);
+    l5:;
+        put64(p0 + 216, v6 + 1);
+        goto l3;
+    }
     p1 = get64(p0 + 216);
-    if (v4 > (get64(p0 + 224) - p1)) {
-        t1 = std_alloc_vec_deque_VecDeque_grow_ab161963403435e1(p0 + 208, v4);
-        if (t1 == 0) goto l6;
+    if (v2 > (get64(p0 + 224) - p1)) {
+        t1 = std_alloc_vec_deque_VecDeque_grow_ab161963403435e1(p0 + 208, v2);
+        if (t1 == 0) goto l8;
         p1 = get64(p0 + 216);
-        goto l7;
+        goto l9;
     }
-    if (v4 == 0) goto l5;
-l7:;
-    v14 = p0 + 232;
-    v15 = p0 + 224;
-    v13 = p0 + 240;
-    v16 = p0 + 208;
-    v17 = p0 + 216;
+    if (v2 == 0) goto l7;
 l9:;
-    v18 = v4 == v9;
-    v10 = (v18 != 0) ? 0ULL : v2;
-    v2 = v5 + (v10 << 5);
-    v12 = get64(v16);
-    v11 = get64(v13);
-    v19 = get64(v14);
-    if ((p1 - v11) < (get64(v15) - v19)) {
-        v20 = get64(v2);
-        v21 = get64(v2 + 8);
-        v22 = get64(v2 + 16);
-        v11 = v12 + ((p1 + (v19 - v11)) << 5);
-        put64(v11 + 24, get64(v2 + 24));
-        put64(v11 + 16, v22);
-        put64(v11 + 8, v21);
-        put64(v11, v20);
-        goto l10;
+    v16 = p0 + 232;
+    v17 = p0 + 224;
+    v13 = p0 + 240;
+    v18 = p0 + 208;
+    v19 = p0 + 216;
+l11:;
+    v3 = v2 == v6;
+    v5 = (v3 != 0) ? 0ULL : v7;
+    v7 = v9 + (v5 << 5);
+    v14 = get64(v18);
+    v4 = get64(v13);
+    v15 = get64(v16);
+    if ((p1 - v4) < (get64(v17) - v15)) {
+        v20 = get64(v7);
+        v21 = get64(v7 + 8);
+        v22 = get64(v7 + 16);
+        v4 = v14 + ((p1 + (v15 - v4)) << 5);
+        put64(v4 + 24, get64(v7 + 24));
+        put64(v4 + 16, v22);
+        put64(v4 + 8, v21);
+        put64(v4, v20);
+        goto l12;
     }
-    v19 = get64(v2);
-    v20 = get64(v2 + 8);
-    v21 = get64(v2 + 16);
-    v12 = v12 + (v11 << 5);
-    put64(v12 + 24, get64(v2 + 24));
-    put64(v12 + 16, v21);
-    put64(v12 + 8, v20);
-    put64(v12, v19);
-    put64(v13, v11 + 1);
-l10:;
-    v9 = (v18 != 0) ? 0ULL : v9;
-    v2 = v10 + 1;
+    v15 = get64(v7);
+    v20 = get64(v7 + 8);
+    v21 = get64(v7 + 16);
+    v14 = v14 + (v4 << 5);
+    put64(v14 + 24, get64(v7 + 24));
+    put64(v14 + 16, v21);
+    put64(v14 + 8, v20);
+    put64(v14, v15);
+    put64(v13, v4 + 1);
+l12:;
+    v6 = (v3 != 0) ? 0ULL : v6;
+    v7 = v5 + 1;
     p1 = p1 + 1;
-    put64(v17, p1);
-    v4 = v4 - 1;
-    if (v4 != 0) goto l9;
-    goto l5;
-l6:;
-    p1 = v4 - v9;
-    if (v2 < (p1 + v2)) {
-        v2 = ((v2 << 5) + v5) + 24;
+    put64(v19, p1);
+    v2 = v2 - 1;
+    if (v2 != 0) goto l11;
+    goto l7;
+l8:;
+    p1 = v2 - v6;
+    if (v7 < (p1 + v7)) {
+        v7 = ((v7 << 5) + v9) + 24;
         do {
-            if (get64(v2) != 0) rattle_dealloc_at(get64(v2 - 16));
-            v2 = v2 + 32;
+            if (get64(v7) != 0) rattle_dealloc_at(get64(v7 - 16));
+            v7 = v7 + 32;
             p1 = p1 - 1;
         } while (p1 != 0);
     }
-    if (v9 != 0) {
-        v2 = v5 + 24;
+    if (v6 != 0) {
+        v7 = v9 + 24;
         do {
-            if (get64(v2) != 0) rattle_dealloc_at(get64(v2 - 16));
-            v2 = v2 + 32;
-            v9 = v9 - 1;
-        } while (v9 != 0);
+            if (get64(v7) != 0) rattle_dealloc_at(get64(v7 - 16));
+            v7 = v7 + 32;
+            v6 = v6 - 1;
+        } while (v6 != 0);
     }
-l5:;
-    if (v3 != 0) rattle_dealloc_at(v5);
-l1:;
+l7:;
+    if (v8 != 0) rattle_dealloc_at(v9);
+l3:;
     nodes_ground_node_Ground_refill(p0);
-    if ((v8 & 255) != 1) return;
-    if (v6 == 0) return;
-    rattle_dealloc_at(v7);
+    if ((v12 & 255) != 1) return;
+    if (v10 == 0) return;
+    rattle_dealloc_at(v11);
     return;
 }
 
@@ -4174,17 +4290,17 @@ l2:;
     v8 = (uint64_t)get16(v4 + 40);
     v9 = get8(v4 + 38);
     v10 = get8(v4 + 36);
-    p2 = p1 + 328;
+    p2 = p1 + 384;
     v11 = get64(p2);
     v12 = 0;
     put64(v4 + 96, 0);
     put64(v4 + 104, 0);
-    v13 = p1 + 264;
-    v14 = get8(p1 + 248);
-    v15 = (v14 != 0) ? (v10 + ~get8(p1 + 249)) : 0U;
+    v13 = p1 + 320;
+    v14 = get8(p1 + 304);
+    v15 = (v14 != 0) ? (v10 + ~get8(p1 + 305)) : 0U;
     v16 = v14 & (uint32_t)((v15 & 255) != 0);
     p3 = (v16 != 0) ? 0ULL : get64(v13);
-    v17 = get64(p1 + 256);
+    v17 = get64(p1 + 312);
     put64(v4 + 88, v4 + 120);
     v18 = v7;
     switch (v9) {
@@ -4268,8 +4384,8 @@ l23:;
 l13:;
     v24 = get64(v4 + 96);
     p3 = get64(p2);
-    if (v24 > (get64(p1 + 336) - p3)) {
-        t4 = std_alloc_vec_Vec_grow_amortized_cf5a566ef03a1ac9(p1 + 320, v24);
+    if (v24 > (get64(p1 + 392) - p3)) {
+        t4 = std_alloc_vec_Vec_grow_amortized_cf5a566ef03a1ac9(p1 + 376, v24);
         if (t4 == 0) {
             p2 = get64(v4 + 104);
             p1 = get64(v4 + 88);
@@ -4282,12 +4398,12 @@ l13:;
             if (p2 != 0) goto l6;
             goto l5;
         }
-        p3 = get64(p1 + 328);
+        p3 = get64(p1 + 384);
         goto l31;
     }
     if (v24 == 0) goto l30;
 l31:;
-    v25 = get64(p1 + 320);
+    v25 = get64(p1 + 376);
     v26 = p3 * 24;
     v27 = v25 + v26;
     v23 = get64(v4 + 88);
@@ -4344,20 +4460,20 @@ l31:;
     }
     if (p3 != 0) copy(v27, v23, p3);
 l33:;
-    p3 = p1 + 328;
+    p3 = p1 + 384;
     put64(p3, get64(p3) + v24);
     put64(v4 + 96, 0);
 l30:;
     if (v16 != 0) {
         if (get64(v13) != 0) put64(v13, 0);
     }
-    put8(p1 + 249, v10);
-    put8(p1 + 248, 1);
-    v20 = get64(p1 + 264);
+    put8(p1 + 305, v10);
+    put8(p1 + 304, 1);
+    v20 = get64(p1 + 320);
     switch (v9) {
     case 1:
         if (v20 == 0) goto l7;
-        v21 = get64(p1 + 256);
+        v21 = get64(p1 + 312);
         v23 = v20 + v6;
         if (v23 > 5) {
             p3 = (v20 < 6) ? v20 : 6ULL;
@@ -4376,15 +4492,15 @@ l30:;
             if (p3 == v23) goto l44;
             if (v23 >= p3) goto l44;
         }
-        v24 = get64(p1 + 272);
+        v24 = get64(p1 + 328);
         if (v6 > (v24 - v20)) {
-            p3 = p1 + 256;
+            p3 = p1 + 312;
             t5 = std_alloc_vec_Vec_grow_amortized_5ff1a26cbddecd5f(p3, v6);
             if (t5 == 0) goto l7;
-            v20 = get64(p1 + 264);
+            v20 = get64(p1 + 320);
             v23 = v20 + v6;
             v21 = get64(p3);
-            v24 = get64(p1 + 272);
+            v24 = get64(p1 + 328);
         }
         p2 = 0;
         put64(v13 + 8, 0);
@@ -4418,9 +4534,9 @@ l30:;
         }
         if (v6 != 0) copy(v18, v7, v6);
     l51:;
-        put64(p1 + 272, v24);
-        put64(p1 + 264, v23);
-        put64(p1 + 256, v21);
+        put64(p1 + 328, v24);
+        put64(p1 + 320, v23);
+        put64(p1 + 312, v21);
         goto l7;
     l44:;
         put64(v13, 0);
@@ -4459,17 +4575,17 @@ l8:;
         if (v12 >= (((p2 << 8) | p3) + 7)) goto l7;
     }
     v21 = 0;
-    v24 = get64(p1 + 272);
+    v24 = get64(p1 + 328);
     if (v12 > v24) {
-        t6 = std_alloc_vec_Vec_grow_amortized_5ff1a26cbddecd5f(p1 + 256, v12);
+        t6 = std_alloc_vec_Vec_grow_amortized_5ff1a26cbddecd5f(p1 + 312, v12);
         if (t6 == 0) goto l7;
-        v24 = get64(p1 + 272);
-        v21 = get64(p1 + 264);
+        v24 = get64(p1 + 328);
+        v21 = get64(p1 + 320);
     }
     put64(v13, 0);
     put64(v13 + 8, 0);
     v27 = v21 + v12;
-    v23 = get64(p1 + 256);
+    v23 = get64(p1 + 312);
     v20 = v23 + v21;
     if ((v20 - v18) < v12) {
         v17 = v12 & 3;
@@ -4500,12 +4616,12 @@ l8:;
     }
     if (v12 != 0) copy(v20, v18, v12);
 l60:;
-    put64(p1 + 272, v24);
-    put64(p1 + 264, v27);
-    put64(p1 + 256, v23);
+    put64(p1 + 328, v24);
+    put64(p1 + 320, v27);
+    put64(p1 + 312, v23);
 l7:;
     if (get64(v4 + 104) != 0) rattle_dealloc_at(get64(v4 + 88));
-    p3 = get64(p1 + 328) - v11;
+    p3 = get64(p1 + 384) - v11;
     if (extend32(v5, 0x80) > 0x7fffffffU) {
         v9 = 1;
         v10 = 0;
@@ -4914,36 +5030,36 @@ static uint32_t octets_frame_check_check(uint64_t p0, uint64_t p1)
         v2 = 255;
         v3 = 255;
         do {
-            t1 = get16(((uint64_t)get8(p0 + 14) << 1) + address(constant_29 + 512)) ^ get16(((uint64_t)get8(p0 + 15)
-                << 1) + address(constant_29));
-            t2 = (t1 ^ get16(((uint64_t)get8(p0 + 13) << 1) + address(constant_29 + 1024))) ^ get16(((uint64_t)get8(p0
-                + 12) << 1) + address(constant_29 + 1536));
-            t3 = (t2 ^ get16(((uint64_t)get8(p0 + 11) << 1) + address(constant_29 + 2048))) ^ get16(((uint64_t)get8(p0
-                + 10) << 1) + address(constant_29 + 2560));
-            t4 = (t3 ^ get16(((uint64_t)get8(p0 + 9) << 1) + address(constant_29 + 3072))) ^ get16(((uint64_t)get8(p0
-                + 8) << 1) + address(constant_29 + 3584));
-            t5 = (t4 ^ get16(((uint64_t)get8(p0 + 7) << 1) + address(constant_29 + 4096))) ^ get16(((uint64_t)get8(p0
-                + 6) << 1) + address(constant_29 + 4608));
-            t6 = (t5 ^ get16(((uint64_t)get8(p0 + 5) << 1) + address(constant_29 + 5120))) ^ get16(((uint64_t)get8(p0
-                + 4) << 1) + address(constant_29 + 5632));
-            t7 = (t6 ^ get16(((uint64_t)get8(p0 + 3) << 1) + address(constant_29 + 6144))) ^ get16(((uint64_t)get8(p0
-                + 2) << 1) + address(constant_29 + 6656));
-            v2 = (t7 ^ get16((((uint64_t)(get8(p0 + 1) ^ v2) & 255) << 1) + address(constant_29 + 7168))) ^
-                get16((((uint64_t)(get8(p0) ^ v3) & 255) << 1) + address(constant_29 + 7680));
+            t1 = get16(((uint64_t)get8(p0 + 14) << 1) + address(constant_30 + 512)) ^ get16(((uint64_t)get8(p0 + 15)
+                << 1) + address(constant_30));
+            t2 = (t1 ^ get16(((uint64_t)get8(p0 + 13) << 1) + address(constant_30 + 1024))) ^ get16(((uint64_t)get8(p0
+                + 12) << 1) + address(constant_30 + 1536));
+            t3 = (t2 ^ get16(((uint64_t)get8(p0 + 11) << 1) + address(constant_30 + 2048))) ^ get16(((uint64_t)get8(p0
+                + 10) << 1) + address(constant_30 + 2560));
+            t4 = (t3 ^ get16(((uint64_t)get8(p0 + 9) << 1) + address(constant_30 + 3072))) ^ get16(((uint64_t)get8(p0
+                + 8) << 1) + address(constant_30 + 3584));
+            t5 = (t4 ^ get16(((uint64_t)get8(p0 + 7) << 1) + address(constant_30 + 4096))) ^ get16(((uint64_t)get8(p0
+                + 6) << 1) + address(constant_30 + 4608));
+            t6 = (t5 ^ get16(((uint64_t)get8(p0 + 5) << 1) + address(constant_30 + 5120))) ^ get16(((uint64_t)get8(p0
+                + 4) << 1) + address(constant_30 + 5632));
+            t7 = (t6 ^ get16(((uint64_t)get8(p0 + 3) << 1) + address(constant_30 + 6144))) ^ get16(((uint64_t)get8(p0
+                + 2) << 1) + address(constant_30 + 6656));
+            v2 = (t7 ^ get16((((uint64_t)(get8(p0 + 1) ^ v2) & 255) << 1) + address(constant_30 + 7168))) ^
+                get16((((uint64_t)(get8(p0) ^ v3) & 255) << 1) + address(constant_30 + 7680));
             v3 = (v2 & 0xff00) >> 8;
             p0 = p0 + 16;
             p1 = p1 - 16;
         } while (p1 >= 16);
     }
     if (p1 >= 8) {
-        t9 = get16(((uint64_t)get8(p0 + 6) << 1) + address(constant_29 + 512)) ^ get16(((uint64_t)get8(p0 + 7) << 1) +
-            address(constant_29));
-        t10 = (t9 ^ get16(((uint64_t)get8(p0 + 5) << 1) + address(constant_29 + 1024))) ^ get16(((uint64_t)get8(p0 +
-            4) << 1) + address(constant_29 + 1536));
-        t11 = (t10 ^ get16(((uint64_t)get8(p0 + 3) << 1) + address(constant_29 + 2048))) ^ get16(((uint64_t)get8(p0 +
-            2) << 1) + address(constant_29 + 2560));
-        v2 = (t11 ^ get16((((uint64_t)(get8(p0 + 1) ^ v2) & 255) << 1) + address(constant_29 + 3072))) ^
-            get16((((uint64_t)(get8(p0) ^ (v2 >> 8)) & 255) << 1) + address(constant_29 + 3584));
+        t9 = get16(((uint64_t)get8(p0 + 6) << 1) + address(constant_30 + 512)) ^ get16(((uint64_t)get8(p0 + 7) << 1) +
+            address(constant_30));
+        t10 = (t9 ^ get16(((uint64_t)get8(p0 + 5) << 1) + address(constant_30 + 1024))) ^ get16(((uint64_t)get8(p0 +
+            4) << 1) + address(constant_30 + 1536));
+        t11 = (t10 ^ get16(((uint64_t)get8(p0 + 3) << 1) + address(constant_30 + 2048))) ^ get16(((uint64_t)get8(p0 +
+            2) << 1) + address(constant_30 + 2560));
+        v2 = (t11 ^ get16((((uint64_t)(get8(p0 + 1) ^ v2) & 255) << 1) + address(constant_30 + 3072))) ^
+            get16((((uint64_t)(get8(p0) ^ (v2 >> 8)) & 255) << 1) + address(constant_30 + 3584));
         p0 = p0 + 8;
         p1 = p1 - 8;
     }
@@ -4955,14 +5071,14 @@ static uint32_t octets_frame_check_check(uint64_t p0, uint64_t p1)
         v4 = 0;
         do {
             p1 = p0 + v4;
-            v3 = get16((((uint64_t)(get8(p1) ^ (v2 >> 8)) & 255) << 1) + address(constant_29));
-            v2 = get16((((uint64_t)(get8(p1 + 1) ^ ((v3 ^ (v2 << 8)) >> 8)) & 255) << 1) + address(constant_29)) ^ (v3
+            v3 = get16((((uint64_t)(get8(p1) ^ (v2 >> 8)) & 255) << 1) + address(constant_30));
+            v2 = get16((((uint64_t)(get8(p1 + 1) ^ ((v3 ^ (v2 << 8)) >> 8)) & 255) << 1) + address(constant_30)) ^ (v3
                 << 8);
             v4 = v4 + 2;
         } while (v6 != v4);
         if (v5 == 0) return v2;
     }
-    v2 = get16((((uint64_t)(get8(p0 + v4) ^ (v2 >> 8)) & 255) << 1) + address(constant_29)) ^ (v2 << 8);
+    v2 = get16((((uint64_t)(get8(p0 + v4) ^ (v2 >> 8)) & 255) << 1) + address(constant_30)) ^ (v2 << 8);
     return v2;
 }
 
@@ -7236,12 +7352,12 @@ static uint64_t nodes_spacecraft_Spacecraft_report(uint64_t p0, uint64_t p1)
     v17 = (v6 < v11) ? v6 : v11;
     v18 = v6 - v17;
     v19 = v4 + v17;
-    v12 = address(constant_32 + 7) - v11;
+    v12 = address(constant_33 + 7) - v11;
     if ((v4 - v12) < v17) {
         v20 = v17 & 3;
         v21 = 0;
         if (v17 >= 4) {
-            v12 = address(constant_32) - v11;
+            v12 = address(constant_33) - v11;
             v22 = v17 & ~3ULL;
             v21 = 0;
             do {
@@ -7251,7 +7367,7 @@ static uint64_t nodes_spacecraft_Spacecraft_report(uint64_t p0, uint64_t p1)
             if (v20 == 0) goto l6;
         }
         v12 = v21 + p1 + 6;
-        v21 = v21 - v11 + address(constant_32 + 7);
+        v21 = v21 - v11 + address(constant_33 + 7);
     l10:;
         put8(v12, get8(v21));
         v12 = v12 + 1;
@@ -7296,7 +7412,7 @@ l6:;
 l11:;
     v12 = v19 + v23;
     if (v24 <= 6) {
-        if ((v12 - address(constant_32)) < v24) {
+        if ((v12 - address(constant_33)) < v24) {
             v22 = v24 & 3;
             v12 = 0;
             v15 = v23 + v17;
@@ -7305,7 +7421,7 @@ l11:;
                 v20 = v24 & 4;
                 v12 = 0;
                 do {
-                    put32(v21 + v12 + 6, get32(v12 + address(constant_32)));
+                    put32(v21 + v12 + 6, get32(v12 + address(constant_33)));
                     v12 = v12 + 4;
                 } while (v20 != v12);
                 if (v22 == 0) goto l16;
@@ -7313,17 +7429,17 @@ l11:;
             v21 = 0 - v22;
             v20 = p1 + v15;
         l21:;
-            put8(v20 + v12 + 6, get8(v12 + address(constant_32)));
+            put8(v20 + v12 + 6, get8(v12 + address(constant_33)));
             v12 = v12 + 1;
             v21 = v21 + 1;
             if (v21 != 0) goto l21;
             goto l16;
         }
         if (v24 == 0) goto l16;
-        copy(v12, address(constant_32), v24);
+        copy(v12, address(constant_33), v24);
         goto l16;
     }
-    if ((v12 - address(constant_32)) <= 3) {
+    if ((v12 - address(constant_33)) <= 3) {
         put32(v12, 0xc0ff07);
         goto l22;
     }
@@ -7922,7 +8038,7 @@ static uint32_t sedge_config_fault_at(uint64_t config)
     do {
         v4 = get8(config + address(constant_0 + 15));
         v5 = ((uint64_t)v4 & 255) << 3;
-        if (v2 == get64(v5 + address(switch_table_sedge_config_fault_358))) {
+        if (v2 == get64(v5 + address(switch_table_sedge_config_fault_380))) {
             v5 = address(switch_table_sedge_config_fault[v5 / 8]);
             if (get8(v3) == get8(v5)) {
                 if ((get8(v3 + 1) & 255) == (get8(v5 + 1) & 255)) {
@@ -7946,41 +8062,41 @@ l2:;
 
 static uint32_t sedge_ground_open_at(uint64_t config, uint64_t ground)
 {
-    unsigned char frame_octets[784 + 15];
+    unsigned char frame_octets[896 + 15];
     uint32_t v3 = 0;
     uint64_t v2 = 0, v4 = 0, v5 = 0;
     v2 = aligned(frame_octets);
-    fill(v2 + 16, 0, 352);
-    put64(v2 + 456, 0);
-    put64(v2 + 448, 0);
-    put64(v2 + 440, 0);
-    nodes_config_Config_fault(v2 + 440, config);
-    if (get8(v2 + 440) != 0) {
+    fill(v2 + 16, 0, 408);
+    put64(v2 + 512, 0);
+    put64(v2 + 504, 0);
+    put64(v2 + 496, 0);
+    nodes_config_Config_fault(v2 + 496, config);
+    if (get8(v2 + 496) != 0) {
         v3 = 254;
         return v3;
     }
-    copy(v2 + 368, config, 72);
-    nodes_ground_node_Ground_of(v2 + 16, v2 + 368);
+    copy(v2 + 424, config, 72);
+    nodes_ground_node_Ground_of(v2 + 16, v2 + 424);
     if (get8(v2 + 16) == 0) {
         config = get64(v2 + 24);
-        rattle_alloc_at(v2, 344, 8);
+        rattle_alloc_at(v2, 400, 8);
         v4 = v2 + 32;
         if (((uint32_t)get64(v2) & 1) != 0) {
             v5 = get64(v2 + 8);
             put64(v5, config);
-            copy(v5 + 8, v4, 336);
+            copy(v5 + 8, v4, 392);
             config = get64(ground);
             put64(ground, v5);
             v3 = 0;
             if (config == 0) return v3;
-            copy(v2 + 440, config, 344);
+            copy(v2 + 496, config, 400);
             rattle_dealloc_at(config);
-            sedgechisel_nodes_nodes_ground_node_Ground_Destruct_drop(v2 + 440);
+            sedgechisel_nodes_nodes_ground_node_Ground_Destruct_drop(v2 + 496);
             return v3;
         }
-        copy(v2 + 440 + 8, v4, 336);
-        put64(v2 + 440, config);
-        sedgechisel_nodes_nodes_ground_node_Ground_Destruct_drop(v2 + 440);
+        copy(v2 + 496 + 8, v4, 392);
+        put64(v2 + 496, config);
+        sedgechisel_nodes_nodes_ground_node_Ground_Destruct_drop(v2 + 496);
     }
     v3 = 6;
     return v3;
@@ -7994,19 +8110,19 @@ static uint64_t sedge_link_fault_name_at(uint64_t result, uint32_t number)
     v2 = 0;
     v3 = aligned(frame_octets);
     put16(v3 + 8, 0);
-    v4 = 0;
     put64(v3, 0);
-    v5 = 63;
+    v4 = 63;
+    v5 = 0;
     number = number - 1;
-    if ((number & 255) <= 5) {
+    if ((number & 255) <= 6) {
         v4 = get64((((uint64_t)number & 255) << 3) + address(switch_table_sedge_link_fault_name));
         v6 = (uint64_t)(number << 3) & 248;
-        v5 = (uint32_t)(0x4d51544e434eULL >> (v6 & 63));
-        v2 = (uint32_t)(0x640000ULL >> (v6 & 63));
+        v5 = (uint32_t)(0x640000ULL >> (v6 & 63));
+        v2 = (uint32_t)(0x6c006e7000ULL >> (v6 & 63));
     }
-    put8(result + 9, v2);
-    put64(result + 1, v4);
-    put8(result, v5);
+    put8(result + 9, v5);
+    put8(result + 8, v2);
+    put64(result, v4);
     put64(result + 10, get64(v3));
     put16(result + 18, get16(v3 + 8));
     return result;
@@ -8026,10 +8142,10 @@ static uint64_t sedge_parameter_name_at(uint64_t result, uint32_t number)
     }
     v5 = (uint64_t)number & 255;
     v6 = v5 << 2;
-    number = get32(v6 + address(switch_table_sedge_parameter_name_361));
-    v4 = get32(v6 + address(switch_table_sedge_parameter_name_360));
+    number = get32(v6 + address(switch_table_sedge_parameter_name_383));
+    v4 = get32(v6 + address(switch_table_sedge_parameter_name_382));
     v5 = v5 << 1;
-    v3 = get16(v5 + address(switch_table_sedge_parameter_name_359));
+    v3 = get16(v5 + address(switch_table_sedge_parameter_name_381));
     v2 = get16(v5 + address(switch_table_sedge_parameter_name));
 l1:;
     put64(result + 12, 0);
@@ -8054,15 +8170,15 @@ static uint64_t sedge_sim_fault_name_at(uint64_t result, uint32_t number)
         number = 77;
         goto l1;
     case 1:
-        put64(v2 + 7, get64(address(constant_23 + 8)));
-        put64(v2, get64(address(constant_23 + 1)));
+        put64(v2 + 7, get64(address(constant_24 + 8)));
+        put64(v2, get64(address(constant_24 + 1)));
         number = 78;
         goto l1;
     case 2:
         put8(v2 + 14, 0);
         put16(v2 + 12, 0);
-        put64(v2, get64(address(constant_24 + 1)));
-        put32(v2 + 8, get32(address(constant_24 + 9)));
+        put64(v2, get64(address(constant_25 + 1)));
+        put32(v2 + 8, get32(address(constant_25 + 9)));
         number = 78;
         goto l1;
     default:
@@ -8082,244 +8198,281 @@ l1:;
 
 static uint32_t sedge_sim_open_at(uint64_t config, uint64_t sim)
 {
-    unsigned char frame_octets[40736 + 15];
+    unsigned char frame_octets[39696 + 15];
     uint32_t v3 = 0, v4 = 0, v16 = 0, v17 = 0;
     uint64_t v2 = 0, v5 = 0, v6 = 0, v7 = 0, v8 = 0, v9 = 0, v10 = 0, v11 = 0, v12 = 0, v13 = 0, v14 = 0, v15 = 0,
         v18 = 0, v19 = 0, v20 = 0, v21 = 0, v22 = 0, v23 = 0, v24 = 0, v25 = 0, v26 = 0, v27 = 0, v28 = 0, v29 = 0,
-        v30 = 0, v31 = 0, v32 = 0, v33 = 0, v34 = 0, v35 = 0, v36 = 0, v37 = 0, v38 = 0, v39 = 0, v40 = 0, v41 = 0;
+        v30 = 0, v31 = 0, v32 = 0, v33 = 0, v34 = 0, v35 = 0, v36 = 0, v37 = 0, v38 = 0, v39 = 0, v40 = 0, v41 = 0,
+        v42 = 0, v43 = 0, v44 = 0, v45 = 0, v46 = 0, v47 = 0;
     v2 = aligned(frame_octets);
-    fill(v2 + 0x1660, 0, 88);
-    put64(v2 + 5720, 0);
+    fill(v2 + 0x1678, 0, 88);
+    put64(v2 + 5744, 0);
+    put64(v2 + 5736, 0);
+    put64(v2 + 5728, 0);
     put64(v2 + 5712, 0);
-    put64(v2 + 5704, 0);
-    put64(v2 + 5688, 0);
-    put64(v2 + 5696, 0);
-    fill(v2 + 0x15f0, 0, 72);
-    put32(v2 + 5611, 0);
+    put64(v2 + 5720, 0);
+    fill(v2 + 0x1608, 0, 72);
+    put32(v2 + 5635, 0);
+    put32(v2 + 5632, 0);
+    put64(v2 + 5616, 0);
+    put64(v2 + 5624, 0);
     put32(v2 + 5608, 0);
-    put32(v2 + 5600, 0);
-    put16(v2 + 5604, 0);
-    fill(v2 + 0xcc0, 0, 0x920);
+    put16(v2 + 5612, 0);
+    fill(v2 + 0xcc8, 0, 0x920);
+    put64(v2 + 3264, 0);
     put64(v2 + 3256, 0);
     put64(v2 + 3248, 0);
     put64(v2 + 3240, 0);
-    put64(v2 + 3232, 0);
-    put64(v2 + 3200, 0);
     put64(v2 + 3208, 0);
     put64(v2 + 3216, 0);
     put64(v2 + 3224, 0);
+    put64(v2 + 3232, 0);
+    put32(v2 + 3200, 0);
+    put16(v2 + 3204, 0);
     put32(v2 + 3192, 0);
-    put16(v2 + 3196, 0);
-    put32(v2 + 3184, 0);
-    put32(v2 + 3187, 0);
-    put64(v2 + 3168, 0);
+    put32(v2 + 3195, 0);
     put64(v2 + 3176, 0);
-    fill(v2 + 0x660, 0, 0x600);
-    fill(v2 + 96, 0, 0x600);
+    put64(v2 + 3184, 0);
+    fill(v2 + 0x668, 0, 0x600);
+    fill(v2 + 104, 0, 0x600);
+    put64(v2 + 96, 0);
     put64(v2 + 88, 0);
     put64(v2 + 80, 0);
     put64(v2 + 72, 0);
-    put64(v2 + 64, 0);
-    put64(v2 + 48, 0);
     put64(v2 + 56, 0);
-    put64(v2 + 32, 0);
+    put64(v2 + 64, 0);
     put64(v2 + 40, 0);
-    put64(v2 + 16, 0);
+    put64(v2 + 48, 0);
     put64(v2 + 24, 0);
-    nodes_config_Config_fault(v2 + 0x1648, config);
-    if (get8(v2 + 5704) == 1) {
+    put64(v2 + 32, 0);
+    nodes_config_Config_fault(v2 + 0x1660, config);
+    if (get8(v2 + 5728) == 1) {
         v3 = 254;
         return v3;
     }
-    put64(v2 + 17104, 0);
-    put64(v2 + 17096, 0);
-    fill(v2 + 0x4280, 0, 72);
-    put32(v2 + 17019, 0);
-    put32(v2 + 17016, 0);
-    put32(v2 + 17008, 0);
-    put16(v2 + 17012, 0);
-    fill(v2 + 0x3950, 0, 0x920);
-    put64(v2 + 14664, 0);
-    put64(v2 + 14656, 0);
+    put64(v2 + 17160, 0);
+    put64(v2 + 17152, 0);
+    fill(v2 + 0x42b8, 0, 72);
+    put32(v2 + 17075, 0);
+    put32(v2 + 17072, 0);
+    put64(v2 + 17056, 0);
+    put64(v2 + 17064, 0);
+    put32(v2 + 17048, 0);
+    put16(v2 + 17052, 0);
+    fill(v2 + 0x3978, 0, 0x920);
+    put64(v2 + 14704, 0);
+    put64(v2 + 14696, 0);
+    put64(v2 + 14688, 0);
+    put64(v2 + 14680, 0);
     put64(v2 + 14648, 0);
-    put64(v2 + 14640, 0);
-    put64(v2 + 14608, 0);
+    put64(v2 + 14656, 0);
+    put64(v2 + 14664, 0);
+    put64(v2 + 14672, 0);
+    put32(v2 + 14640, 0);
+    put16(v2 + 14644, 0);
+    put32(v2 + 14632, 0);
+    put32(v2 + 14635, 0);
     put64(v2 + 14616, 0);
     put64(v2 + 14624, 0);
-    put64(v2 + 14632, 0);
-    put32(v2 + 14600, 0);
-    put16(v2 + 14604, 0);
-    put32(v2 + 14592, 0);
-    put32(v2 + 14595, 0);
-    put64(v2 + 14576, 0);
-    put64(v2 + 14584, 0);
-    fill(v2 + 0x32f0, 0, 0x600);
-    fill(v2 + 0x2cf0, 0, 0x600);
-    put64(v2 + 11496, 0);
-    put64(v2 + 11488, 0);
-    fill(v2 + 0x2c98, 0, 72);
-    put32(v2 + 11411, 0);
-    put32(v2 + 11408, 0);
-    put32(v2 + 11400, 0);
-    put16(v2 + 11404, 0);
-    fill(v2 + 0x2368, 0, 0x920);
+    fill(v2 + 0x3318, 0, 0x600);
+    fill(v2 + 0x2d18, 0, 0x600);
+    put64(v2 + 11536, 0);
+    put64(v2 + 11528, 0);
+    fill(v2 + 0x2cc0, 0, 72);
+    put32(v2 + 11451, 0);
+    put32(v2 + 11448, 0);
+    put64(v2 + 11432, 0);
+    put64(v2 + 11440, 0);
+    put32(v2 + 11424, 0);
+    put16(v2 + 11428, 0);
+    fill(v2 + 0x2380, 0, 0x920);
+    put64(v2 + 9080, 0);
+    put64(v2 + 9072, 0);
+    put64(v2 + 9064, 0);
     put64(v2 + 9056, 0);
-    put64(v2 + 9048, 0);
-    put64(v2 + 9040, 0);
-    put64(v2 + 9032, 0);
-    put64(v2 + 9000, 0);
-    put64(v2 + 9008, 0);
-    put64(v2 + 9016, 0);
     put64(v2 + 9024, 0);
-    put32(v2 + 8992, 0);
-    put16(v2 + 8996, 0);
-    put32(v2 + 8984, 0);
-    put32(v2 + 8987, 0);
-    put64(v2 + 8968, 0);
-    put64(v2 + 8976, 0);
-    fill(v2 + 0x1d08, 0, 0x600);
-    fill(v2 + 0x1708, 0, 0x600);
+    put64(v2 + 9032, 0);
+    put64(v2 + 9040, 0);
+    put64(v2 + 9048, 0);
+    put32(v2 + 9016, 0);
+    put16(v2 + 9020, 0);
+    put32(v2 + 9008, 0);
+    put32(v2 + 9011, 0);
+    put64(v2 + 8992, 0);
+    put64(v2 + 9000, 0);
+    fill(v2 + 0x1d20, 0, 0x600);
+    fill(v2 + 0x1720, 0, 0x600);
+    put64(v2 + 5912, 0);
+    put64(v2 + 5904, 0);
+    put64(v2 + 5896, 0);
     put64(v2 + 5888, 0);
-    put64(v2 + 5880, 0);
     put64(v2 + 5872, 0);
-    put64(v2 + 5864, 0);
-    put64(v2 + 5848, 0);
+    put64(v2 + 5880, 0);
     put64(v2 + 5856, 0);
-    put64(v2 + 5832, 0);
+    put64(v2 + 5864, 0);
     put64(v2 + 5840, 0);
-    put64(v2 + 5816, 0);
-    put64(v2 + 5824, 0);
-    copy(v2 + 0x6ea8, config, 72);
-    put64(v2 + 28320, 0);
+    put64(v2 + 5848, 0);
+    copy(v2 + 0x6f00, config, 72);
+    put64(v2 + 28408, 0);
+    put64(v2 + 28400, 0);
+    fill(v2 + 0x6ea8, 0, 72);
+    put32(v2 + 28323, 0);
+    put32(v2 + 28320, 0);
+    put64(v2 + 28304, 0);
     put64(v2 + 28312, 0);
-    fill(v2 + 0x6e50, 0, 72);
-    put32(v2 + 28235, 0);
-    put32(v2 + 28232, 0);
-    put32(v2 + 28224, 0);
-    put16(v2 + 28228, 0);
-    fill(v2 + 0x6520, 0, 0x920);
-    put64(v2 + 25880, 0);
-    put64(v2 + 25872, 0);
+    put32(v2 + 28296, 0);
+    put16(v2 + 28300, 0);
+    fill(v2 + 0x6568, 0, 0x920);
+    put64(v2 + 25952, 0);
+    put64(v2 + 25944, 0);
+    put64(v2 + 25936, 0);
+    put64(v2 + 25928, 0);
+    put64(v2 + 25896, 0);
+    put64(v2 + 25904, 0);
+    put64(v2 + 25912, 0);
+    put64(v2 + 25920, 0);
+    put32(v2 + 25888, 0);
+    put16(v2 + 25892, 0);
+    put32(v2 + 25880, 0);
+    put32(v2 + 25883, 0);
     put64(v2 + 25864, 0);
-    put64(v2 + 25856, 0);
-    put64(v2 + 25824, 0);
-    put64(v2 + 25832, 0);
-    put64(v2 + 25840, 0);
-    put64(v2 + 25848, 0);
-    put32(v2 + 25816, 0);
-    put16(v2 + 25820, 0);
-    put32(v2 + 25808, 0);
-    put32(v2 + 25811, 0);
-    put64(v2 + 25792, 0);
-    put64(v2 + 25800, 0);
-    fill(v2 + 0x5ec0, 0, 0x600);
-    fill(v2 + 0x58c0, 0, 0x600);
-    put64(v2 + 22712, 0);
-    put64(v2 + 22704, 0);
-    fill(v2 + 0x5868, 0, 72);
-    put32(v2 + 22627, 0);
-    put32(v2 + 22624, 0);
-    put32(v2 + 22616, 0);
-    put16(v2 + 22620, 0);
-    fill(v2 + 0x4f38, 0, 0x920);
+    put64(v2 + 25872, 0);
+    fill(v2 + 0x5f08, 0, 0x600);
+    fill(v2 + 0x5908, 0, 0x600);
+    put64(v2 + 22784, 0);
+    put64(v2 + 22776, 0);
+    fill(v2 + 0x58b0, 0, 72);
+    put32(v2 + 22699, 0);
+    put32(v2 + 22696, 0);
+    put64(v2 + 22680, 0);
+    put64(v2 + 22688, 0);
+    put32(v2 + 22672, 0);
+    put16(v2 + 22676, 0);
+    fill(v2 + 0x4f70, 0, 0x920);
+    put64(v2 + 20328, 0);
+    put64(v2 + 20320, 0);
+    put64(v2 + 20312, 0);
+    put64(v2 + 20304, 0);
     put64(v2 + 20272, 0);
-    put64(v2 + 20264, 0);
-    put64(v2 + 20256, 0);
-    put64(v2 + 20248, 0);
-    put64(v2 + 20216, 0);
-    put64(v2 + 20224, 0);
-    put64(v2 + 20232, 0);
+    put64(v2 + 20280, 0);
+    put64(v2 + 20288, 0);
+    put64(v2 + 20296, 0);
+    put32(v2 + 20264, 0);
+    put16(v2 + 20268, 0);
+    put32(v2 + 20256, 0);
+    put32(v2 + 20259, 0);
     put64(v2 + 20240, 0);
-    put32(v2 + 20208, 0);
-    put16(v2 + 20212, 0);
-    put32(v2 + 20200, 0);
-    put32(v2 + 20203, 0);
-    put64(v2 + 20184, 0);
-    put64(v2 + 20192, 0);
-    fill(v2 + 0x48d8, 0, 0x600);
-    fill(v2 + 0x42d8, 0, 0x600);
-    put64(v2 + 34760, 0);
-    put64(v2 + 34752, 0);
-    put64(v2 + 34744, 0);
-    nodes_config_Config_fault(v2 + 0x87b8, v2 + 0x6ea8);
-    if (get8(v2 + 34744) == 0) {
+    put64(v2 + 20248, 0);
+    fill(v2 + 0x4910, 0, 0x600);
+    fill(v2 + 0x4310, 0, 0x600);
+    put64(v2 + 33664, 0);
+    put64(v2 + 33656, 0);
+    put64(v2 + 33648, 0);
+    nodes_config_Config_fault(v2 + 0x8370, v2 + 0x6f00);
+    if (get8(v2 + 33648) == 0) {
         v4 = 0;
-        fill(v2 + 0x80f0, 0, 352);
-        fill(v2 + 0x87b8, 0, 0x928);
-        nodes_ground_node_Ground_of(v2 + 0x80f0, v2 + 0x6ea8);
-        if (get8(v2 + 33008) == 0) {
-            v5 = get64(v2 + 33352);
-            v6 = get64(v2 + 33344);
-            v7 = get64(v2 + 33336);
-            v8 = get64(v2 + 33328);
-            v9 = get64(v2 + 33320);
-            v10 = get64(v2 + 33312);
-            v11 = get64(v2 + 33304);
-            v12 = get64(v2 + 33296);
-            v13 = get64(v2 + 33288);
-            v14 = get64(v2 + 33280);
-            v15 = get64(v2 + 33272);
-            v16 = get8(v2 + 33265);
-            v17 = get8(v2 + 33264);
-            v18 = get64(v2 + 33256);
-            v19 = get64(v2 + 33248);
-            v20 = get64(v2 + 33240);
-            v21 = get64(v2 + 33232);
-            v22 = get64(v2 + 33224);
-            v23 = get64(v2 + 33216);
-            v24 = get64(v2 + 33208);
-            v25 = get64(v2 + 33200);
-            v26 = get64(v2 + 33192);
-            v27 = get64(v2 + 33184);
-            v28 = get64(v2 + 33176);
-            v29 = get64(v2 + 33168);
-            v30 = get64(v2 + 33160);
-            v31 = get64(v2 + 33152);
-            v32 = get64(v2 + 33144);
-            v33 = get64(v2 + 33136);
-            v34 = get64(v2 + 33128);
-            v35 = get64(v2 + 33120);
-            v3 = get8(v2 + 33112);
-            v36 = get64(v2 + 33016);
-            nodes_spacecraft_Spacecraft_of(v2 + 0x87b8, v2 + 0x6ea8);
-            if (get8(v2 + 34744) != 0) {
+        fill(v2 + 0x6f48, 0, 408);
+        fill(v2 + 0x8370, 0, 0x928);
+        fill(v2 + 0x76e0, 0, 0x600);
+        nodes_ground_node_Ground_of(v2 + 0x6f48, v2 + 0x6f00);
+        if (get8(v2 + 28488) == 0) {
+            v5 = get64(v2 + 28888);
+            v6 = get64(v2 + 28880);
+            v7 = get64(v2 + 28872);
+            v8 = get64(v2 + 28864);
+            v9 = get64(v2 + 28856);
+            v10 = get64(v2 + 28848);
+            v11 = get64(v2 + 28840);
+            v12 = get64(v2 + 28832);
+            v13 = get64(v2 + 28824);
+            v14 = get64(v2 + 28816);
+            v15 = get64(v2 + 28808);
+            v16 = get8(v2 + 28801);
+            v17 = get8(v2 + 28800);
+            v18 = get64(v2 + 28792);
+            v19 = get64(v2 + 28768);
+            v20 = get64(v2 + 28760);
+            v21 = get64(v2 + 28752);
+            v22 = get64(v2 + 28744);
+            v23 = get64(v2 + 28736);
+            v24 = get64(v2 + 28728);
+            v25 = get64(v2 + 28720);
+            v26 = get64(v2 + 28712);
+            v27 = get64(v2 + 28704);
+            v28 = get64(v2 + 28696);
+            v29 = get64(v2 + 28688);
+            v30 = get64(v2 + 28680);
+            v31 = get64(v2 + 28672);
+            v32 = get64(v2 + 28664);
+            v33 = get64(v2 + 28656);
+            v34 = get64(v2 + 28648);
+            v35 = get64(v2 + 28640);
+            v36 = get64(v2 + 28632);
+            v37 = get64(v2 + 28624);
+            v38 = get64(v2 + 28616);
+            v39 = get64(v2 + 28608);
+            v40 = get64(v2 + 28600);
+            v3 = get8(v2 + 28592);
+            v41 = get64(v2 + 28496);
+            nodes_spacecraft_Spacecraft_of(v2 + 0x8370, v2 + 0x6f00);
+            if (get8(v2 + 33648) != 0) {
                 if ((v3 & 255) == 1) {
-                    if (v32 != 0) rattle_dealloc_at(v34);
+                    if (v37 != 0) rattle_dealloc_at(v39);
                 }
-                if (v29 != 0) {
-                    v41 = (v28 < v30) ? 0ULL : v30;
-                    config = v28 - v41;
-                    v36 = v30 - config;
-                    v32 = (v36 < v29) ? v36 : v29;
-                    if (v30 != config) {
-                        config = (v31 + ((v28 << 5) - (v41 << 5))) + 24;
-                        v41 = v32;
+                if (v34 != 0) {
+                    v47 = (v33 < v35) ? 0ULL : v35;
+                    config = v33 - v47;
+                    v41 = v35 - config;
+                    v37 = (v41 < v34) ? v41 : v34;
+                    if (v35 != config) {
+                        config = (v36 + ((v33 << 5) - (v47 << 5))) + 24;
+                        v47 = v37;
                         do {
                             if (get64(config) != 0) rattle_dealloc_at(get64(config - 16));
                             config = config + 32;
-                            v41 = v41 - 1;
-                        } while (v41 != 0);
+                            v47 = v47 - 1;
+                        } while (v47 != 0);
                     }
-                    if (v29 > v36) {
-                        v41 = v29 - v32;
-                        config = v31 + 24;
+                    if (v34 > v41) {
+                        v47 = v34 - v37;
+                        config = v36 + 24;
                         do {
                             if (get64(config) != 0) rattle_dealloc_at(get64(config - 16));
                             config = config + 32;
-                            v41 = v41 - 1;
-                        } while (v41 != 0);
+                            v47 = v47 - 1;
+                        } while (v47 != 0);
                     }
                 }
-                rattle_dealloc_at(v31);
+                rattle_dealloc_at(v36);
+                if (v31 != 0) {
+                    v47 = v31 - v28;
+                    if (v29 < (v47 + v29)) {
+                        config = ((v29 << 5) + v32) + 24;
+                        do {
+                            if (get64(config) != 0) rattle_dealloc_at(get64(config - 16));
+                            config = config + 32;
+                            v47 = v47 - 1;
+                        } while (v47 != 0);
+                    }
+                    if (v28 != 0) {
+                        config = v32 + 24;
+                        do {
+                            if (get64(config) != 0) rattle_dealloc_at(get64(config - 16));
+                            config = config + 32;
+                            v28 = v28 - 1;
+                        } while (v28 != 0);
+                    }
+                }
+                if (v30 != 0) rattle_dealloc_at(v32);
                 if (v26 != 0) {
-                    v41 = v26 - v23;
-                    if (v24 < (v41 + v24)) {
+                    v47 = v26 - v23;
+                    if (v24 < (v47 + v24)) {
                         config = ((v24 << 5) + v27) + 24;
                         do {
                             if (get64(config) != 0) rattle_dealloc_at(get64(config - 16));
                             config = config + 32;
-                            v41 = v41 - 1;
-                        } while (v41 != 0);
+                            v47 = v47 - 1;
+                        } while (v47 != 0);
                     }
                     if (v23 != 0) {
                         config = v27 + 24;
@@ -8331,36 +8484,17 @@ static uint32_t sedge_sim_open_at(uint64_t config, uint64_t sim)
                     }
                 }
                 if (v25 != 0) rattle_dealloc_at(v27);
-                if (v21 != 0) {
-                    v41 = v21 - v18;
-                    if (v19 < (v41 + v19)) {
-                        config = ((v19 << 5) + v22) + 24;
-                        do {
-                            if (get64(config) != 0) rattle_dealloc_at(get64(config - 16));
-                            config = config + 32;
-                            v41 = v41 - 1;
-                        } while (v41 != 0);
-                    }
-                    if (v18 != 0) {
-                        config = v22 + 24;
-                        do {
-                            if (get64(config) != 0) rattle_dealloc_at(get64(config - 16));
-                            config = config + 32;
-                            v18 = v18 - 1;
-                        } while (v18 != 0);
-                    }
-                }
-                if (v20 != 0) rattle_dealloc_at(v22);
+                if (v19 != 0) rattle_dealloc_at(v21);
                 if (v13 != 0) rattle_dealloc_at(v15);
                 if (v11 != 0) {
-                    v41 = v11 - v8;
-                    if (v9 < (v41 + v9)) {
+                    v47 = v11 - v8;
+                    if (v9 < (v47 + v9)) {
                         config = v12 + (v9 * 24);
                         do {
                             if (get64(config + 16) != 0) rattle_dealloc_at(get64(config));
                             config = config + 24;
-                            v41 = v41 - 1;
-                        } while (v41 != 0);
+                            v47 = v47 - 1;
+                        } while (v47 != 0);
                     }
                     if (v8 != 0) {
                         config = v12;
@@ -8381,43 +8515,46 @@ static uint32_t sedge_sim_open_at(uint64_t config, uint64_t sim)
                     } while (v6 != 0);
                 }
                 if (v5 != 0) rattle_dealloc_at(v7);
-                v36 = 0;
-                put64(v2 + 22712, 0);
-                put64(v2 + 22704, 0);
+                v41 = 0;
+                put64(v2 + 22784, 0);
+                put64(v2 + 22776, 0);
                 v4 = 0;
-                fill(v2 + 0x5868, 0, 72);
-                put32(v2 + 22627, 0);
-                put32(v2 + 22624, 0);
-                put32(v2 + 22616, 0);
-                put16(v2 + 22620, 0);
-                fill(v2 + 0x4f38, 0, 0x920);
+                fill(v2 + 0x58b0, 0, 72);
+                put32(v2 + 22699, 0);
+                put32(v2 + 22696, 0);
+                put64(v2 + 22680, 0);
+                put64(v2 + 22688, 0);
+                put32(v2 + 22672, 0);
+                put16(v2 + 22676, 0);
+                fill(v2 + 0x4f70, 0, 0x920);
+                put64(v2 + 20328, 0);
+                put64(v2 + 20320, 0);
+                put64(v2 + 20312, 0);
+                put64(v2 + 20304, 0);
                 put64(v2 + 20272, 0);
-                put64(v2 + 20264, 0);
-                put64(v2 + 20256, 0);
-                put64(v2 + 20248, 0);
-                put64(v2 + 20216, 0);
-                put64(v2 + 20224, 0);
-                put64(v2 + 20232, 0);
+                put64(v2 + 20280, 0);
+                put64(v2 + 20288, 0);
+                put64(v2 + 20296, 0);
+                put32(v2 + 20264, 0);
+                put16(v2 + 20268, 0);
+                put32(v2 + 20256, 0);
+                put32(v2 + 20259, 0);
                 put64(v2 + 20240, 0);
-                put32(v2 + 20208, 0);
-                put16(v2 + 20212, 0);
-                put32(v2 + 20200, 0);
-                put32(v2 + 20203, 0);
-                put64(v2 + 20184, 0);
-                put64(v2 + 20192, 0);
-                fill(v2 + 0x48d8, 0, 0x600);
-                fill(v2 + 0x42d8, 0, 0x600);
+                put64(v2 + 20248, 0);
+                fill(v2 + 0x4910, 0, 0x600);
+                fill(v2 + 0x4310, 0, 0x600);
                 goto l7;
             }
-            v37 = v2 + 0x81f2;
-            v38 = v2 + 0x8159;
-            v39 = v2 + 0x80f0 + 32;
-            v40 = v2 + 0x80f0 + 16;
-            fill(v2 + 0x6ef0, 0, 0x600);
-            v41 = 0;
+            v42 = v2 + 0x7082;
+            v43 = v2 + 0x7068;
+            v44 = v2 + 0x6fb1;
+            v45 = v2 + 0x6f48 + 32;
+            v46 = v2 + 0x6f48 + 16;
+            fill(v2 + 0x70e0, 0, 0x600);
+            v47 = 0;
             do {
-                config = v2 + 0x6ef0 + v41;
-                put64(config, v2 + 0x9f18);
+                config = v2 + 0x70e0 + v47;
+                put64(config, v2 + 0x9b08);
                 put64(config + 8, 0);
                 put64(config + 16, 0);
                 put64(config + 32, 0);
@@ -8426,16 +8563,16 @@ static uint32_t sedge_sim_open_at(uint64_t config, uint64_t sim)
                 put64(config + 64, 0);
                 put64(config + 80, 0);
                 put64(config + 88, 0);
-                put64(config + 24, v2 + 0x9f18);
-                put64(config + 48, v2 + 0x9f18);
-                put64(config + 72, v2 + 0x9f18);
-                v41 = v41 + 96;
-            } while (v41 != 0x600);
-            fill(v2 + 0x74f0, 0, 0x600);
-            v41 = 0;
+                put64(config + 24, v2 + 0x9b08);
+                put64(config + 48, v2 + 0x9b08);
+                put64(config + 72, v2 + 0x9b08);
+                v47 = v47 + 96;
+            } while (v47 != 0x600);
+            fill(v2 + 0x7ce0, 0, 0x600);
+            v47 = 0;
             do {
-                config = v2 + 0x74f0 + v41;
-                put64(config, v2 + 0x9f18);
+                config = v2 + 0x7ce0 + v47;
+                put64(config, v2 + 0x9b08);
                 put64(config + 8, 0);
                 put64(config + 16, 0);
                 put64(config + 32, 0);
@@ -8444,66 +8581,76 @@ static uint32_t sedge_sim_open_at(uint64_t config, uint64_t sim)
                 put64(config + 64, 0);
                 put64(config + 80, 0);
                 put64(config + 88, 0);
-                put64(config + 24, v2 + 0x9f18);
-                put64(config + 48, v2 + 0x9f18);
-                put64(config + 72, v2 + 0x9f18);
-                v41 = v41 + 96;
-            } while (v41 != 0x600);
-            put64(v2 + 22712, get64(v40 + 8));
-            put64(v2 + 22704, get64(v40));
-            copy(v2 + 0x5868, v39, 72);
-            put32(v2 + 22627, get32(v38 + 3));
-            put32(v2 + 22624, get32(v38));
-            put32(v2 + 22616, get32(v37));
-            put16(v2 + 22620, get16(v37 + 4));
-            copy(v2 + 0x4f38, v2 + 0x87c0, 0x920);
+                put64(config + 24, v2 + 0x9b08);
+                put64(config + 48, v2 + 0x9b08);
+                put64(config + 72, v2 + 0x9b08);
+                v47 = v47 + 96;
+            } while (v47 != 0x600);
+            copy(v2 + 0x76e0, v2 + 0x7ce0, 0x600);
+            put64(v2 + 22776, get64(v46));
+            put64(v2 + 22784, get64(v46 + 8));
+            copy(v2 + 0x58b0, v45, 72);
+            put32(v2 + 22699, get32(v44 + 3));
+            put32(v2 + 22696, get32(v44));
+            put64(v2 + 22680, get64(v43));
+            put64(v2 + 22688, get64(v43 + 8));
+            put32(v2 + 22672, get32(v42));
+            put16(v2 + 22676, get16(v42 + 4));
+            copy(v2 + 0x4f70, v2 + 0x8378, 0x920);
+            put64(v2 + 20328, 0);
+            put64(v2 + 20320, 0);
+            put64(v2 + 20312, 0);
+            put64(v2 + 20304, 0);
             put64(v2 + 20272, 0);
-            put64(v2 + 20264, 0);
-            put64(v2 + 20256, 0);
-            put64(v2 + 20248, 0);
-            put64(v2 + 20216, 0);
-            put64(v2 + 20224, 0);
-            put64(v2 + 20232, 0);
+            put64(v2 + 20280, 0);
+            put64(v2 + 20288, 0);
+            put64(v2 + 20296, 0);
+            put32(v2 + 20264, 0);
+            put16(v2 + 20268, 0);
+            put32(v2 + 20256, 0);
+            put32(v2 + 20259, 0);
             put64(v2 + 20240, 0);
-            put32(v2 + 20208, 0);
-            put16(v2 + 20212, 0);
-            put32(v2 + 20200, 0);
-            put32(v2 + 20203, 0);
-            put64(v2 + 20184, 0);
-            put64(v2 + 20192, 0);
-            copy(v2 + 0x48d8, v2 + 0x6ef0, 0x600);
-            copy(v2 + 0x42d8, v2 + 0x74f0, 0x600);
-            v41 = v2 + 0x9f18;
+            put64(v2 + 20248, 0);
+            copy(v2 + 0x4910, v2 + 0x70e0, 0x600);
+            copy(v2 + 0x4310, v2 + 0x76e0, 0x600);
+            v47 = v2 + 0x9b08;
             v4 = 1;
             goto l6;
         }
-        v36 = 0;
-        put64(v2 + 22712, 0);
-        put64(v2 + 22704, 0);
-        fill(v2 + 0x5868, 0, 72);
-        put32(v2 + 22627, 0);
-        put32(v2 + 22624, 0);
-        put32(v2 + 22616, 0);
-        put16(v2 + 22620, 0);
-        fill(v2 + 0x4f38, 0, 0x920);
+        v41 = 0;
+        put64(v2 + 22784, 0);
+        put64(v2 + 22776, 0);
+        fill(v2 + 0x58b0, 0, 72);
+        put32(v2 + 22699, 0);
+        put32(v2 + 22696, 0);
+        put64(v2 + 22680, 0);
+        put64(v2 + 22688, 0);
+        put32(v2 + 22672, 0);
+        put16(v2 + 22676, 0);
+        fill(v2 + 0x4f70, 0, 0x920);
+        put64(v2 + 20328, 0);
+        put64(v2 + 20320, 0);
+        put64(v2 + 20312, 0);
+        put64(v2 + 20304, 0);
         put64(v2 + 20272, 0);
-        put64(v2 + 20264, 0);
-        put64(v2 + 20256, 0);
-        put64(v2 + 20248, 0);
-        put64(v2 + 20216, 0);
-        put64(v2 + 20224, 0);
-        put64(v2 + 20232, 0);
+        put64(v2 + 20280, 0);
+        put64(v2 + 20288, 0);
+        put64(v2 + 20296, 0);
+        put32(v2 + 20264, 0);
+        put16(v2 + 20268, 0);
+        put32(v2 + 20256, 0);
+        put32(v2 + 20259, 0);
         put64(v2 + 20240, 0);
-        put32(v2 + 20208, 0);
-        put16(v2 + 20212, 0);
-        put32(v2 + 20200, 0);
-        put32(v2 + 20203, 0);
-        put64(v2 + 20184, 0);
-        put64(v2 + 20192, 0);
-        fill(v2 + 0x48d8, 0, 0x600);
-        fill(v2 + 0x42d8, 0, 0x600);
+        put64(v2 + 20248, 0);
+        fill(v2 + 0x4910, 0, 0x600);
+        fill(v2 + 0x4310, 0, 0x600);
     l7:;
         v3 = 0;
+        v40 = 0;
+        v39 = 0;
+        v38 = 0;
+        v37 = 0;
+        v36 = 0;
         v35 = 0;
         v34 = 0;
         v33 = 0;
@@ -8535,61 +8682,70 @@ static uint32_t sedge_sim_open_at(uint64_t config, uint64_t sim)
         v7 = 0;
         v6 = 0;
         v5 = 0;
-        v41 = 0;
+        v47 = 0;
     l6:;
-        fill(v2 + 0x8760, 0, 72);
-        put32(v2 + 34651, 0);
-        put32(v2 + 34648, 0);
-        put32(v2 + 34640, 0);
-        put16(v2 + 34644, 0);
-        fill(v2 + 0x87b8, 0, 0x920);
-        put64(v2 + 34632, 0);
-        put64(v2 + 34624, 0);
-        put64(v2 + 34616, 0);
-        put64(v2 + 34608, 0);
-        put64(v2 + 34576, 0);
-        put64(v2 + 34584, 0);
-        put64(v2 + 34592, 0);
-        put64(v2 + 34600, 0);
-        put32(v2 + 34568, 0);
-        put16(v2 + 34572, 0);
-        put32(v2 + 34560, 0);
-        put32(v2 + 34563, 0);
-        put64(v2 + 34544, 0);
-        put64(v2 + 34552, 0);
-        fill(v2 + 0x80f0, 0, 0x600);
-        fill(v2 + 0x7af0, 0, 0x600);
+        fill(v2 + 0x6f48, 0, 72);
+        put32(v2 + 33627, 0);
+        put32(v2 + 33624, 0);
+        put64(v2 + 33608, 0);
+        put64(v2 + 33616, 0);
+        put32(v2 + 33600, 0);
+        put16(v2 + 33604, 0);
+        fill(v2 + 0x8370, 0, 0x920);
+        put64(v2 + 33592, 0);
+        put64(v2 + 33584, 0);
+        put64(v2 + 33576, 0);
+        put64(v2 + 33568, 0);
+        put64(v2 + 33536, 0);
+        put64(v2 + 33544, 0);
+        put64(v2 + 33552, 0);
+        put64(v2 + 33560, 0);
+        put32(v2 + 33528, 0);
+        put16(v2 + 33532, 0);
+        put32(v2 + 33520, 0);
+        put32(v2 + 33523, 0);
+        put64(v2 + 33504, 0);
+        put64(v2 + 33512, 0);
+        fill(v2 + 0x7ce0, 0, 0x600);
+        fill(v2 + 0x76e0, 0, 0x600);
         if (v4 != 0) {
-            put64(v2 + 34736, get64(v2 + 22712));
-            put64(v2 + 34728, get64(v2 + 22704));
-            copy(v2 + 0x8760, v2 + 0x5868, 72);
-            put32(v2 + 34651, get32(v2 + 22627));
-            put32(v2 + 34648, get32(v2 + 22624));
-            put32(v2 + 34640, get32(v2 + 22616));
-            put16(v2 + 34644, get16(v2 + 22620));
-            copy(v2 + 0x87b8, v2 + 0x4f38, 0x920);
-            put64(v2 + 34632, get64(v2 + 20272));
-            put64(v2 + 34624, get64(v2 + 20264));
-            put64(v2 + 34616, get64(v2 + 20256));
-            put64(v2 + 34608, get64(v2 + 20248));
-            put64(v2 + 34576, get64(v2 + 20216));
-            put64(v2 + 34584, get64(v2 + 20224));
-            put64(v2 + 34592, get64(v2 + 20232));
-            put64(v2 + 34600, get64(v2 + 20240));
-            put32(v2 + 34568, get32(v2 + 20208));
-            put16(v2 + 34572, get16(v2 + 20212));
-            put32(v2 + 34563, get32(v2 + 20203));
-            put32(v2 + 34560, get32(v2 + 20200));
-            put64(v2 + 34552, get64(v2 + 20192));
-            put64(v2 + 34544, get64(v2 + 20184));
-            copy(v2 + 0x80f0, v2 + 0x48d8, 0x600);
-            copy(v2 + 0x7af0, v2 + 0x42d8, 0x600);
-            goto l45;
+            put64(v2 + 33640, get64(v2 + 22784));
+            put64(v2 + 33632, get64(v2 + 22776));
+            copy(v2 + 0x6f48, v2 + 0x58b0, 72);
+            put32(v2 + 33627, get32(v2 + 22699));
+            put32(v2 + 33624, get32(v2 + 22696));
+            put64(v2 + 33608, get64(v2 + 22680));
+            put64(v2 + 33616, get64(v2 + 22688));
+            put32(v2 + 33600, get32(v2 + 22672));
+            put16(v2 + 33604, get16(v2 + 22676));
+            copy(v2 + 0x8370, v2 + 0x4f70, 0x920);
+            put64(v2 + 33592, get64(v2 + 20328));
+            put64(v2 + 33584, get64(v2 + 20320));
+            put64(v2 + 33576, get64(v2 + 20312));
+            put64(v2 + 33568, get64(v2 + 20304));
+            put64(v2 + 33536, get64(v2 + 20272));
+            put64(v2 + 33544, get64(v2 + 20280));
+            put64(v2 + 33552, get64(v2 + 20288));
+            put64(v2 + 33560, get64(v2 + 20296));
+            put32(v2 + 33528, get32(v2 + 20264));
+            put16(v2 + 33532, get16(v2 + 20268));
+            put32(v2 + 33523, get32(v2 + 20259));
+            put32(v2 + 33520, get32(v2 + 20256));
+            put64(v2 + 33512, get64(v2 + 20248));
+            put64(v2 + 33504, get64(v2 + 20240));
+            copy(v2 + 0x7ce0, v2 + 0x4910, 0x600);
+            copy(v2 + 0x76e0, v2 + 0x4310, 0x600);
+            goto l46;
         }
-        put64(v2 + 34736, get64(v2 + 22712));
-        put64(v2 + 34728, get64(v2 + 22704));
-        v36 = v36 & 255;
+        put64(v2 + 33640, get64(v2 + 22784));
+        put64(v2 + 33632, get64(v2 + 22776));
+        v41 = v41 & 255;
         v3 = 0;
+        v40 = 0;
+        v39 = 0;
+        v38 = 0;
+        v37 = 0;
+        v36 = 0;
         v35 = 0;
         v34 = 0;
         v33 = 0;
@@ -8621,35 +8777,42 @@ static uint32_t sedge_sim_open_at(uint64_t config, uint64_t sim)
         v7 = 0;
         v6 = 0;
         v5 = 0;
-        v41 = 0;
-    l45:;
-        put64(v2 + 28320, get64(v2 + 34736));
-        put64(v2 + 28312, get64(v2 + 34728));
-        copy(v2 + 0x6e50, v2 + 0x8760, 72);
-        put32(v2 + 28235, get32(v2 + 34651));
-        put32(v2 + 28232, get32(v2 + 34648));
-        put32(v2 + 28224, get32(v2 + 34640));
-        put16(v2 + 28228, get16(v2 + 34644));
-        copy(v2 + 0x6520, v2 + 0x87b8, 0x920);
-        put64(v2 + 25880, get64(v2 + 34632));
-        put64(v2 + 25872, get64(v2 + 34624));
-        put64(v2 + 25864, get64(v2 + 34616));
-        put64(v2 + 25856, get64(v2 + 34608));
-        put64(v2 + 25824, get64(v2 + 34576));
-        put64(v2 + 25832, get64(v2 + 34584));
-        put64(v2 + 25840, get64(v2 + 34592));
-        put64(v2 + 25848, get64(v2 + 34600));
-        put32(v2 + 25816, get32(v2 + 34568));
-        put16(v2 + 25820, get16(v2 + 34572));
-        put32(v2 + 25811, get32(v2 + 34563));
-        put32(v2 + 25808, get32(v2 + 34560));
-        put64(v2 + 25792, get64(v2 + 34544));
-        put64(v2 + 25800, get64(v2 + 34552));
-        copy(v2 + 0x5ec0, v2 + 0x80f0, 0x600);
-        copy(v2 + 0x58c0, v2 + 0x7af0, 0x600);
+        v47 = 0;
+    l46:;
+        put64(v2 + 28408, get64(v2 + 33640));
+        put64(v2 + 28400, get64(v2 + 33632));
+        copy(v2 + 0x6ea8, v2 + 0x6f48, 72);
+        put32(v2 + 28323, get32(v2 + 33627));
+        put32(v2 + 28320, get32(v2 + 33624));
+        put64(v2 + 28304, get64(v2 + 33608));
+        put64(v2 + 28312, get64(v2 + 33616));
+        put32(v2 + 28296, get32(v2 + 33600));
+        put16(v2 + 28300, get16(v2 + 33604));
+        copy(v2 + 0x6568, v2 + 0x8370, 0x920);
+        put64(v2 + 25952, get64(v2 + 33592));
+        put64(v2 + 25944, get64(v2 + 33584));
+        put64(v2 + 25936, get64(v2 + 33576));
+        put64(v2 + 25928, get64(v2 + 33568));
+        put64(v2 + 25896, get64(v2 + 33536));
+        put64(v2 + 25904, get64(v2 + 33544));
+        put64(v2 + 25912, get64(v2 + 33552));
+        put64(v2 + 25920, get64(v2 + 33560));
+        put32(v2 + 25888, get32(v2 + 33528));
+        put16(v2 + 25892, get16(v2 + 33532));
+        put32(v2 + 25883, get32(v2 + 33523));
+        put32(v2 + 25880, get32(v2 + 33520));
+        put64(v2 + 25864, get64(v2 + 33504));
+        put64(v2 + 25872, get64(v2 + 33512));
+        copy(v2 + 0x5f08, v2 + 0x7ce0, 0x600);
+        copy(v2 + 0x5908, v2 + 0x76e0, 0x600);
         if (v4 != 0) goto l4;
     }
     v3 = 0;
+    v41 = 0;
+    v40 = 0;
+    v39 = 0;
+    v38 = 0;
+    v37 = 0;
     v36 = 0;
     v35 = 0;
     v34 = 0;
@@ -8682,271 +8845,291 @@ static uint32_t sedge_sim_open_at(uint64_t config, uint64_t sim)
     v7 = 0;
     v6 = 0;
     v5 = 0;
-    v41 = 0;
-    v37 = 0;
+    v47 = 0;
+    v42 = 0;
     v4 = 0;
     goto l3;
 l4:;
-    put64(v2 + 17104, get64(v2 + 28320));
-    put64(v2 + 17096, get64(v2 + 28312));
-    copy(v2 + 0x4280, v2 + 0x6e50, 72);
-    put32(v2 + 17019, get32(v2 + 28235));
-    put32(v2 + 17016, get32(v2 + 28232));
-    put32(v2 + 17008, get32(v2 + 28224));
-    put16(v2 + 17012, get16(v2 + 28228));
-    copy(v2 + 0x3950, v2 + 0x6520, 0x920);
-    put64(v2 + 14664, get64(v2 + 25880));
-    put64(v2 + 14656, get64(v2 + 25872));
-    put64(v2 + 14648, get64(v2 + 25864));
-    put64(v2 + 14640, get64(v2 + 25856));
-    put64(v2 + 14608, get64(v2 + 25824));
-    put64(v2 + 14616, get64(v2 + 25832));
-    put64(v2 + 14624, get64(v2 + 25840));
-    put64(v2 + 14632, get64(v2 + 25848));
-    put32(v2 + 14600, get32(v2 + 25816));
-    put16(v2 + 14604, get16(v2 + 25820));
-    put32(v2 + 14595, get32(v2 + 25811));
-    put32(v2 + 14592, get32(v2 + 25808));
-    put64(v2 + 14584, get64(v2 + 25800));
-    put64(v2 + 14576, get64(v2 + 25792));
-    copy(v2 + 0x32f0, v2 + 0x5ec0, 0x600);
-    copy(v2 + 0x2cf0, v2 + 0x58c0, 0x600);
-    put64(v2 + 11496, get64(v2 + 17104));
-    put64(v2 + 11488, get64(v2 + 17096));
-    copy(v2 + 0x2c98, v2 + 0x4280, 72);
-    put32(v2 + 11411, get32(v2 + 17019));
-    put32(v2 + 11408, get32(v2 + 17016));
-    put32(v2 + 11400, get32(v2 + 17008));
-    put16(v2 + 11404, get16(v2 + 17012));
-    copy(v2 + 0x2368, v2 + 0x3950, 0x920);
-    put64(v2 + 9056, get64(v2 + 14664));
-    put64(v2 + 9048, get64(v2 + 14656));
-    put64(v2 + 9040, get64(v2 + 14648));
-    put64(v2 + 9032, get64(v2 + 14640));
-    put64(v2 + 9000, get64(v2 + 14608));
-    put64(v2 + 9008, get64(v2 + 14616));
-    put64(v2 + 9016, get64(v2 + 14624));
-    put64(v2 + 9024, get64(v2 + 14632));
-    put32(v2 + 8992, get32(v2 + 14600));
-    put16(v2 + 8996, get16(v2 + 14604));
-    put32(v2 + 8987, get32(v2 + 14595));
-    put32(v2 + 8984, get32(v2 + 14592));
-    put64(v2 + 8976, get64(v2 + 14584));
-    put64(v2 + 8968, get64(v2 + 14576));
-    copy(v2 + 0x1d08, v2 + 0x32f0, 0x600);
-    copy(v2 + 0x1708, v2 + 0x2cf0, 0x600);
+    put64(v2 + 17160, get64(v2 + 28408));
+    put64(v2 + 17152, get64(v2 + 28400));
+    copy(v2 + 0x42b8, v2 + 0x6ea8, 72);
+    put32(v2 + 17075, get32(v2 + 28323));
+    put32(v2 + 17072, get32(v2 + 28320));
+    put64(v2 + 17056, get64(v2 + 28304));
+    put64(v2 + 17064, get64(v2 + 28312));
+    put32(v2 + 17048, get32(v2 + 28296));
+    put16(v2 + 17052, get16(v2 + 28300));
+    copy(v2 + 0x3978, v2 + 0x6568, 0x920);
+    put64(v2 + 14704, get64(v2 + 25952));
+    put64(v2 + 14696, get64(v2 + 25944));
+    put64(v2 + 14688, get64(v2 + 25936));
+    put64(v2 + 14680, get64(v2 + 25928));
+    put64(v2 + 14648, get64(v2 + 25896));
+    put64(v2 + 14656, get64(v2 + 25904));
+    put64(v2 + 14664, get64(v2 + 25912));
+    put64(v2 + 14672, get64(v2 + 25920));
+    put32(v2 + 14640, get32(v2 + 25888));
+    put16(v2 + 14644, get16(v2 + 25892));
+    put32(v2 + 14635, get32(v2 + 25883));
+    put32(v2 + 14632, get32(v2 + 25880));
+    put64(v2 + 14624, get64(v2 + 25872));
+    put64(v2 + 14616, get64(v2 + 25864));
+    copy(v2 + 0x3318, v2 + 0x5f08, 0x600);
+    copy(v2 + 0x2d18, v2 + 0x5908, 0x600);
+    put64(v2 + 11536, get64(v2 + 17160));
+    put64(v2 + 11528, get64(v2 + 17152));
+    copy(v2 + 0x2cc0, v2 + 0x42b8, 72);
+    put32(v2 + 11451, get32(v2 + 17075));
+    put32(v2 + 11448, get32(v2 + 17072));
+    put64(v2 + 11432, get64(v2 + 17056));
+    put64(v2 + 11440, get64(v2 + 17064));
+    put32(v2 + 11424, get32(v2 + 17048));
+    put16(v2 + 11428, get16(v2 + 17052));
+    copy(v2 + 0x2380, v2 + 0x3978, 0x920);
+    put64(v2 + 9080, get64(v2 + 14704));
+    put64(v2 + 9072, get64(v2 + 14696));
+    put64(v2 + 9064, get64(v2 + 14688));
+    put64(v2 + 9056, get64(v2 + 14680));
+    put64(v2 + 9024, get64(v2 + 14648));
+    put64(v2 + 9032, get64(v2 + 14656));
+    put64(v2 + 9040, get64(v2 + 14664));
+    put64(v2 + 9048, get64(v2 + 14672));
+    put32(v2 + 9016, get32(v2 + 14640));
+    put16(v2 + 9020, get16(v2 + 14644));
+    put32(v2 + 9011, get32(v2 + 14635));
+    put32(v2 + 9008, get32(v2 + 14632));
+    put64(v2 + 9000, get64(v2 + 14624));
+    put64(v2 + 8992, get64(v2 + 14616));
+    copy(v2 + 0x1d20, v2 + 0x3318, 0x600);
+    copy(v2 + 0x1720, v2 + 0x2d18, 0x600);
+    put64(v2 + 5912, 0);
+    put64(v2 + 5904, 0);
+    put64(v2 + 5896, 0);
     put64(v2 + 5888, 0);
-    put64(v2 + 5880, 0);
     put64(v2 + 5872, 0);
-    put64(v2 + 5864, 0);
-    put64(v2 + 5848, 0);
+    put64(v2 + 5880, 0);
     put64(v2 + 5856, 0);
-    put64(v2 + 5832, 0);
+    put64(v2 + 5864, 0);
     put64(v2 + 5840, 0);
-    put64(v2 + 5816, 0);
-    put64(v2 + 5824, 0);
+    put64(v2 + 5848, 0);
     v4 = 1;
-    v37 = v2 + 0x9f18;
+    v42 = v2 + 0x9b08;
 l3:;
-    put64(v2 + 5696, get64(v2 + 11496));
-    put64(v2 + 5688, get64(v2 + 11488));
-    copy(v2 + 0x15f0, v2 + 0x2c98, 72);
-    put32(v2 + 5611, get32(v2 + 11411));
-    put32(v2 + 5608, get32(v2 + 11408));
-    put32(v2 + 5600, get32(v2 + 11400));
-    put16(v2 + 5604, get16(v2 + 11404));
-    copy(v2 + 0xcc0, v2 + 0x2368, 0x920);
-    put64(v2 + 3256, get64(v2 + 9056));
-    put64(v2 + 3248, get64(v2 + 9048));
-    put64(v2 + 3240, get64(v2 + 9040));
-    put64(v2 + 3232, get64(v2 + 9032));
-    put64(v2 + 3200, get64(v2 + 9000));
-    put64(v2 + 3208, get64(v2 + 9008));
-    put64(v2 + 3216, get64(v2 + 9016));
-    put64(v2 + 3224, get64(v2 + 9024));
-    put32(v2 + 3192, get32(v2 + 8992));
-    put16(v2 + 3196, get16(v2 + 8996));
-    put32(v2 + 3187, get32(v2 + 8987));
-    put32(v2 + 3184, get32(v2 + 8984));
-    put64(v2 + 3168, get64(v2 + 8968));
-    put64(v2 + 3176, get64(v2 + 8976));
-    copy(v2 + 0x660, v2 + 0x1d08, 0x600);
-    copy(v2 + 96, v2 + 0x1708, 0x600);
-    put64(v2 + 88, get64(v2 + 5888));
-    put64(v2 + 80, get64(v2 + 5880));
-    put64(v2 + 72, get64(v2 + 5872));
-    put64(v2 + 64, get64(v2 + 5864));
-    put64(v2 + 48, get64(v2 + 5848));
-    put64(v2 + 56, get64(v2 + 5856));
-    put64(v2 + 32, get64(v2 + 5832));
-    put64(v2 + 40, get64(v2 + 5840));
-    put64(v2 + 16, get64(v2 + 5816));
-    put64(v2 + 24, get64(v2 + 5824));
+    put64(v2 + 5720, get64(v2 + 11536));
+    put64(v2 + 5712, get64(v2 + 11528));
+    copy(v2 + 0x1608, v2 + 0x2cc0, 72);
+    put32(v2 + 5635, get32(v2 + 11451));
+    put32(v2 + 5632, get32(v2 + 11448));
+    put64(v2 + 5616, get64(v2 + 11432));
+    put64(v2 + 5624, get64(v2 + 11440));
+    put32(v2 + 5608, get32(v2 + 11424));
+    put16(v2 + 5612, get16(v2 + 11428));
+    copy(v2 + 0xcc8, v2 + 0x2380, 0x920);
+    put64(v2 + 3264, get64(v2 + 9080));
+    put64(v2 + 3256, get64(v2 + 9072));
+    put64(v2 + 3248, get64(v2 + 9064));
+    put64(v2 + 3240, get64(v2 + 9056));
+    put64(v2 + 3208, get64(v2 + 9024));
+    put64(v2 + 3216, get64(v2 + 9032));
+    put64(v2 + 3224, get64(v2 + 9040));
+    put64(v2 + 3232, get64(v2 + 9048));
+    put32(v2 + 3200, get32(v2 + 9016));
+    put16(v2 + 3204, get16(v2 + 9020));
+    put32(v2 + 3195, get32(v2 + 9011));
+    put32(v2 + 3192, get32(v2 + 9008));
+    put64(v2 + 3176, get64(v2 + 8992));
+    put64(v2 + 3184, get64(v2 + 9000));
+    copy(v2 + 0x668, v2 + 0x1d20, 0x600);
+    copy(v2 + 104, v2 + 0x1720, 0x600);
+    put64(v2 + 96, get64(v2 + 5912));
+    put64(v2 + 88, get64(v2 + 5904));
+    put64(v2 + 80, get64(v2 + 5896));
+    put64(v2 + 72, get64(v2 + 5888));
+    put64(v2 + 56, get64(v2 + 5872));
+    put64(v2 + 64, get64(v2 + 5880));
+    put64(v2 + 40, get64(v2 + 5856));
+    put64(v2 + 48, get64(v2 + 5864));
+    put64(v2 + 24, get64(v2 + 5840));
+    put64(v2 + 32, get64(v2 + 5848));
     if (v4 != 0) {
-        put64(v2 + 5736, get64(v2 + 5696));
-        put64(v2 + 5728, get64(v2 + 5688));
-        copy(v2 + 0x1670, v2 + 0x15f0, 72);
-        rattle_alloc_at(v2, 0x1760, 8);
-        if (((uint32_t)get64(v2) & 1) != 0) {
-            config = get64(v2 + 8);
-            put64(config, v36);
-            copy(config + 8, v2 + 0x1660, 88);
+        put64(v2 + 5760, get64(v2 + 5720));
+        put64(v2 + 5752, get64(v2 + 5712));
+        copy(v2 + 0x1688, v2 + 0x1608, 72);
+        rattle_alloc_at(v2 + 8, 0x1798, 8);
+        if (((uint32_t)get64(v2 + 8) & 1) != 0) {
+            config = get64(v2 + 16);
+            put64(config, v41);
+            copy(config + 8, v2 + 0x1678, 88);
             put8(config + 96, v3);
-            put8(config + 249, v16);
-            put8(config + 248, v17);
-            put64(config + 240, v18);
-            put64(config + 232, v19);
-            put64(config + 224, v20);
-            put64(config + 216, v21);
-            put64(config + 208, v22);
-            put64(config + 200, v23);
-            put64(config + 192, v24);
-            put64(config + 184, v25);
-            put64(config + 176, v26);
-            put64(config + 168, v27);
-            put64(config + 160, v28);
-            put64(config + 152, v29);
-            put64(config + 144, v30);
-            put64(config + 136, v31);
-            put64(config + 128, v32);
-            put64(config + 120, v33);
-            put64(config + 112, v34);
-            put64(config + 104, v35);
-            put32(config + 97, get32(v2 + 5608));
-            put32(config + 100, get32(v2 + 5611));
-            put64(config + 256, v15);
-            put64(config + 264, v14);
-            put64(config + 272, v13);
-            put64(config + 280, v12);
-            put64(config + 288, v11);
-            put64(config + 296, v10);
-            put64(config + 304, v9);
-            put64(config + 312, v8);
-            put64(config + 320, v7);
-            put64(config + 328, v6);
-            put64(config + 336, v5);
-            put16(config + 254, get16(v2 + 5604));
-            put32(config + 250, get32(v2 + 5600));
-            copy(config + 344, v2 + 0xcc0, 0x920);
-            put64(config + 2680, v41);
-            put64(config + 2720, v41);
-            put64(config + 2688, get64(v2 + 3232));
-            put64(config + 2696, get64(v2 + 3240));
-            put64(config + 2704, get64(v2 + 3248));
-            put64(config + 2712, get64(v2 + 3256));
-            put64(config + 2728, get64(v2 + 3200));
-            put64(config + 2736, get64(v2 + 3208));
-            put64(config + 2744, get64(v2 + 3216));
-            put64(config + 2752, get64(v2 + 3224));
+            put64(config + 272, v19);
+            put64(config + 264, v20);
+            put64(config + 256, v21);
+            put64(config + 248, v22);
+            put64(config + 240, v23);
+            put64(config + 232, v24);
+            put64(config + 224, v25);
+            put64(config + 216, v26);
+            put64(config + 208, v27);
+            put64(config + 200, v28);
+            put64(config + 192, v29);
+            put64(config + 184, v30);
+            put64(config + 176, v31);
+            put64(config + 168, v32);
+            put64(config + 160, v33);
+            put64(config + 152, v34);
+            put64(config + 144, v35);
+            put64(config + 136, v36);
+            put64(config + 128, v37);
+            put64(config + 120, v38);
+            put64(config + 112, v39);
+            put64(config + 104, v40);
+            put32(config + 97, get32(v2 + 5632));
+            put32(config + 100, get32(v2 + 5635));
+            put64(config + 296, v18);
+            put8(config + 305, v16);
+            put8(config + 304, v17);
+            put64(config + 312, v15);
+            put64(config + 320, v14);
+            put64(config + 328, v13);
+            put64(config + 336, v12);
+            put64(config + 344, v11);
+            put64(config + 352, v10);
+            put64(config + 360, v9);
+            put64(config + 368, v8);
+            put64(config + 376, v7);
+            put64(config + 384, v6);
+            put64(config + 392, v5);
+            put64(config + 288, get64(v2 + 5624));
+            put64(config + 280, get64(v2 + 5616));
+            put32(config + 306, get32(v2 + 5608));
+            put16(config + 310, get16(v2 + 5612));
+            copy(config + 400, v2 + 0xcc8, 0x920);
+            put64(config + 2736, v47);
+            put64(config + 2776, v47);
+            put64(config + 2744, get64(v2 + 3240));
+            put64(config + 2752, get64(v2 + 3248));
+            put64(config + 2760, get64(v2 + 3256));
+            put64(config + 2768, get64(v2 + 3264));
+            put64(config + 2784, get64(v2 + 3208));
+            put64(config + 2792, get64(v2 + 3216));
+            put64(config + 2800, get64(v2 + 3224));
+            put64(config + 2808, get64(v2 + 3232));
             v3 = 0;
-            put16(config + 2760, 0);
-            put8(config + 2768, 0);
-            put64(config + 2776, v41);
-            put32(config + 2762, get32(v2 + 3192));
-            put16(config + 2766, get16(v2 + 3196));
-            put32(config + 2769, get32(v2 + 3184));
-            put32(config + 2772, get32(v2 + 3187));
-            put64(config + 2784, get64(v2 + 3168));
-            put64(config + 2792, get64(v2 + 3176));
-            copy(config + 0xaf0, v2 + 0x660, 0x600);
-            copy(config + 0x10f0, v2 + 96, 0x600);
-            put64(config + 5872, v41);
-            put64(config + 5912, v41);
-            put64(config + 5936, v37);
-            put64(config + 5880, get64(v2 + 64));
-            put64(config + 5888, get64(v2 + 72));
-            put64(config + 5896, get64(v2 + 80));
-            put64(config + 5904, get64(v2 + 88));
-            put64(config + 5920, get64(v2 + 48));
-            put64(config + 5928, get64(v2 + 56));
-            put64(config + 5944, get64(v2 + 32));
-            put64(config + 5952, get64(v2 + 40));
-            put64(config + 5960, v37);
-            put64(config + 5968, get64(v2 + 16));
-            put64(config + 5976, get64(v2 + 24));
+            put16(config + 2816, 0);
+            put8(config + 2824, 0);
+            put64(config + 2832, v47);
+            put32(config + 2818, get32(v2 + 3200));
+            put16(config + 2822, get16(v2 + 3204));
+            put32(config + 2825, get32(v2 + 3192));
+            put32(config + 2828, get32(v2 + 3195));
+            put64(config + 2840, get64(v2 + 3176));
+            put64(config + 2848, get64(v2 + 3184));
+            copy(config + 0xb28, v2 + 0x668, 0x600);
+            copy(config + 0x1128, v2 + 104, 0x600);
+            put64(config + 5928, v47);
+            put64(config + 5968, v47);
+            put64(config + 5992, v42);
+            put64(config + 5936, get64(v2 + 72));
+            put64(config + 5944, get64(v2 + 80));
+            put64(config + 5952, get64(v2 + 88));
+            put64(config + 5960, get64(v2 + 96));
+            put64(config + 5976, get64(v2 + 56));
+            put64(config + 5984, get64(v2 + 64));
+            put64(config + 6000, get64(v2 + 40));
+            put64(config + 6008, get64(v2 + 48));
+            put64(config + 6016, v42);
+            put64(config + 6024, get64(v2 + 24));
+            put64(config + 6032, get64(v2 + 32));
             v6 = get64(sim);
             put64(sim, config);
             if (v6 == 0) return v3;
-            copy(v2 + 0x87b8, v6, 0x1760);
+            copy(v2 + 0x8370, v6, 0x1798);
             rattle_dealloc_at(v6);
-            sedgechisel_nodes_sedgechisel_nodes_sim_link_Link_Destruct_drop(v2 + 0x87b8);
+            sedgechisel_nodes_sedgechisel_nodes_sim_link_Link_Destruct_drop(v2 + 0x8370);
             return v3;
         }
-        copy(v2 + 0x87b8 + 8, v2 + 0x1660, 88);
-        put32(v2 + 34844, get32(v2 + 5611));
-        put32(v2 + 34841, get32(v2 + 5608));
-        put32(v2 + 34994, get32(v2 + 5600));
-        put16(v2 + 34998, get16(v2 + 5604));
-        copy(v2 + 0x8910, v2 + 0xcc0, 0x920);
-        put64(v2 + 37456, get64(v2 + 3256));
-        put64(v2 + 37448, get64(v2 + 3248));
-        put64(v2 + 37440, get64(v2 + 3240));
-        put64(v2 + 37432, get64(v2 + 3232));
-        put64(v2 + 37472, get64(v2 + 3200));
-        put64(v2 + 37480, get64(v2 + 3208));
-        put64(v2 + 37488, get64(v2 + 3216));
-        put64(v2 + 37496, get64(v2 + 3224));
-        put32(v2 + 37506, get32(v2 + 3192));
-        put16(v2 + 37510, get16(v2 + 3196));
-        put32(v2 + 37516, get32(v2 + 3187));
-        put32(v2 + 37513, get32(v2 + 3184));
-        put64(v2 + 37528, get64(v2 + 3168));
-        put64(v2 + 37536, get64(v2 + 3176));
-        copy(v2 + 0x92a8, v2 + 0x660, 0x600);
-        copy(v2 + 0x98a8, v2 + 96, 0x600);
-        put64(v2 + 40648, get64(v2 + 88));
-        put64(v2 + 40640, get64(v2 + 80));
-        put64(v2 + 40632, get64(v2 + 72));
-        put64(v2 + 40624, get64(v2 + 64));
-        put64(v2 + 40664, get64(v2 + 48));
-        put64(v2 + 40672, get64(v2 + 56));
-        put64(v2 + 40688, get64(v2 + 32));
-        put64(v2 + 40696, get64(v2 + 40));
-        put64(v2 + 40712, get64(v2 + 16));
-        put64(v2 + 40720, get64(v2 + 24));
-        put64(v2 + 40704, v37);
-        put64(v2 + 40680, v37);
-        put64(v2 + 40656, v41);
-        put64(v2 + 40616, v41);
-        put64(v2 + 37520, v41);
-        put8(v2 + 37512, 0);
-        put16(v2 + 37504, 0);
-        put64(v2 + 37464, v41);
-        put64(v2 + 37424, v41);
-        put64(v2 + 35080, v5);
-        put64(v2 + 35072, v6);
-        put64(v2 + 35064, v7);
-        put64(v2 + 35056, v8);
-        put64(v2 + 35048, v9);
-        put64(v2 + 35040, v10);
-        put64(v2 + 35032, v11);
-        put64(v2 + 35024, v12);
-        put64(v2 + 35016, v13);
-        put64(v2 + 35008, v14);
-        put64(v2 + 35000, v15);
-        put8(v2 + 34993, v16);
-        put8(v2 + 34992, v17);
-        put64(v2 + 34984, v18);
-        put64(v2 + 34976, v19);
-        put64(v2 + 34968, v20);
-        put64(v2 + 34960, v21);
-        put64(v2 + 34952, v22);
-        put64(v2 + 34944, v23);
-        put64(v2 + 34936, v24);
-        put64(v2 + 34928, v25);
-        put64(v2 + 34920, v26);
-        put64(v2 + 34912, v27);
-        put64(v2 + 34904, v28);
-        put64(v2 + 34896, v29);
-        put64(v2 + 34888, v30);
-        put64(v2 + 34880, v31);
-        put64(v2 + 34872, v32);
-        put64(v2 + 34864, v33);
-        put64(v2 + 34856, v34);
-        put64(v2 + 34848, v35);
-        put8(v2 + 34840, v3);
-        put64(v2 + 34744, v36);
-        sedgechisel_nodes_sedgechisel_nodes_sim_link_Link_Destruct_drop(v2 + 0x87b8);
+        copy(v2 + 0x8370 + 8, v2 + 0x1678, 88);
+        put32(v2 + 33748, get32(v2 + 5635));
+        put32(v2 + 33745, get32(v2 + 5632));
+        put64(v2 + 33928, get64(v2 + 5616));
+        put64(v2 + 33936, get64(v2 + 5624));
+        put32(v2 + 33954, get32(v2 + 5608));
+        put16(v2 + 33958, get16(v2 + 5612));
+        copy(v2 + 0x8500, v2 + 0xcc8, 0x920);
+        put64(v2 + 36416, get64(v2 + 3264));
+        put64(v2 + 36408, get64(v2 + 3256));
+        put64(v2 + 36400, get64(v2 + 3248));
+        put64(v2 + 36392, get64(v2 + 3240));
+        put64(v2 + 36432, get64(v2 + 3208));
+        put64(v2 + 36440, get64(v2 + 3216));
+        put64(v2 + 36448, get64(v2 + 3224));
+        put64(v2 + 36456, get64(v2 + 3232));
+        put32(v2 + 36466, get32(v2 + 3200));
+        put16(v2 + 36470, get16(v2 + 3204));
+        put32(v2 + 36476, get32(v2 + 3195));
+        put32(v2 + 36473, get32(v2 + 3192));
+        put64(v2 + 36488, get64(v2 + 3176));
+        put64(v2 + 36496, get64(v2 + 3184));
+        copy(v2 + 0x8e98, v2 + 0x668, 0x600);
+        copy(v2 + 0x9498, v2 + 104, 0x600);
+        put64(v2 + 39608, get64(v2 + 96));
+        put64(v2 + 39600, get64(v2 + 88));
+        put64(v2 + 39592, get64(v2 + 80));
+        put64(v2 + 39584, get64(v2 + 72));
+        put64(v2 + 39624, get64(v2 + 56));
+        put64(v2 + 39632, get64(v2 + 64));
+        put64(v2 + 39648, get64(v2 + 40));
+        put64(v2 + 39656, get64(v2 + 48));
+        put64(v2 + 39672, get64(v2 + 24));
+        put64(v2 + 39680, get64(v2 + 32));
+        put64(v2 + 39664, v42);
+        put64(v2 + 39640, v42);
+        put64(v2 + 39616, v47);
+        put64(v2 + 39576, v47);
+        put64(v2 + 36480, v47);
+        put8(v2 + 36472, 0);
+        put16(v2 + 36464, 0);
+        put64(v2 + 36424, v47);
+        put64(v2 + 36384, v47);
+        put64(v2 + 34040, v5);
+        put64(v2 + 34032, v6);
+        put64(v2 + 34024, v7);
+        put64(v2 + 34016, v8);
+        put64(v2 + 34008, v9);
+        put64(v2 + 34000, v10);
+        put64(v2 + 33992, v11);
+        put64(v2 + 33984, v12);
+        put64(v2 + 33976, v13);
+        put64(v2 + 33968, v14);
+        put64(v2 + 33960, v15);
+        put8(v2 + 33953, v16);
+        put8(v2 + 33952, v17);
+        put64(v2 + 33944, v18);
+        put64(v2 + 33920, v19);
+        put64(v2 + 33912, v20);
+        put64(v2 + 33904, v21);
+        put64(v2 + 33896, v22);
+        put64(v2 + 33888, v23);
+        put64(v2 + 33880, v24);
+        put64(v2 + 33872, v25);
+        put64(v2 + 33864, v26);
+        put64(v2 + 33856, v27);
+        put64(v2 + 33848, v28);
+        put64(v2 + 33840, v29);
+        put64(v2 + 33832, v30);
+        put64(v2 + 33824, v31);
+        put64(v2 + 33816, v32);
+        put64(v2 + 33808, v33);
+        put64(v2 + 33800, v34);
+        put64(v2 + 33792, v35);
+        put64(v2 + 33784, v36);
+        put64(v2 + 33776, v37);
+        put64(v2 + 33768, v38);
+        put64(v2 + 33760, v39);
+        put64(v2 + 33752, v40);
+        put8(v2 + 33744, v3);
+        put64(v2 + 33648, v41);
+        sedgechisel_nodes_sedgechisel_nodes_sim_link_Link_Destruct_drop(v2 + 0x8370);
     }
     v3 = 6;
     return v3;
@@ -8996,7 +9179,7 @@ static uint32_t sedge_spacecraft_open_at(uint64_t config, uint64_t spacecraft)
 
 static uint32_t sedge_ground_advance_at(uint64_t ground)
 {
-    unsigned char frame_octets[352 + 15];
+    unsigned char frame_octets[400 + 15];
     uint32_t v3 = 0;
     uint64_t v1 = 0, v2 = 0, v4 = 0;
     v1 = aligned(frame_octets);
@@ -9011,15 +9194,15 @@ static uint32_t sedge_ground_advance_at(uint64_t ground)
     put64(ground, v2);
     v3 = 0;
     if (v4 == 0) return v3;
-    copy(v1 + 8, v4, 344);
+    copy(v1, v4, 400);
     rattle_dealloc_at(v4);
-    sedgechisel_nodes_nodes_ground_node_Ground_Destruct_drop(v1 + 8);
+    sedgechisel_nodes_nodes_ground_node_Ground_Destruct_drop(v1);
     return v3;
 }
 
 static uint32_t sedge_ground_bypass_at(uint64_t ground, uint32_t map, uint64_t octets, uint64_t count)
 {
-    unsigned char frame_octets[352 + 15];
+    unsigned char frame_octets[416 + 15];
     uint32_t v6 = 0;
     uint64_t v4 = 0, v5 = 0;
     v4 = aligned(frame_octets);
@@ -9029,22 +9212,22 @@ static uint32_t sedge_ground_bypass_at(uint64_t ground, uint32_t map, uint64_t o
         map = 255;
         return map;
     }
-    nodes_ground_node_Ground_bypass(v4, v5, map, some(octets), count);
+    nodes_ground_node_Ground_bypass(v4 + 8, v5, map, some(octets), count);
     octets = get64(ground);
-    map = get8(v4 + 1);
-    v6 = get8(v4);
+    map = get8(v4 + 9);
+    v6 = get8(v4 + 8);
     put64(ground, v5);
     map = ((v6 & 1) != 0) ? (map + 1) : 0U;
     if (octets == 0) return map;
-    copy(v4 + 8, octets, 344);
+    copy(v4 + 16, octets, 400);
     rattle_dealloc_at(octets);
-    sedgechisel_nodes_nodes_ground_node_Ground_Destruct_drop(v4 + 8);
+    sedgechisel_nodes_nodes_ground_node_Ground_Destruct_drop(v4 + 16);
     return map;
 }
 
 static uint32_t sedge_ground_clcw_at(uint64_t ground, uint64_t octets, uint64_t count, uint64_t heard)
 {
-    unsigned char frame_octets[352 + 15];
+    unsigned char frame_octets[416 + 15];
     uint32_t v6 = 0, v7 = 0, v8 = 0, v9 = 0, v10 = 0;
     uint64_t v4 = 0, v5 = 0;
     v4 = aligned(frame_octets);
@@ -9064,42 +9247,42 @@ static uint32_t sedge_ground_clcw_at(uint64_t ground, uint64_t octets, uint64_t 
     v8 = get8(octets + 2);
     v9 = get8(octets + 1);
     v6 = extend32(get8(octets), 0x80);
-    put32(v4 + 4, 0);
-    put32(v4 + 8, 0);
-    put16(v4 + 12, 0);
+    put32(v4 + 12, 0);
+    put32(v4 + 16, 0);
+    put16(v4 + 20, 0);
     if (v6 > 0x7fffffffU) {
-        put32(v4 + 9, 0);
-        put8(v4 + 8, 1);
-        put8(v4 + 13, 0);
+        put32(v4 + 17, 0);
+        put8(v4 + 16, 1);
+        put8(v4 + 21, 0);
         goto l4;
     }
     if (v6 >= 32) {
-        put16(v4 + 8, 257);
+        put16(v4 + 16, 257);
         goto l4;
     }
     if ((v6 & 3) != 1) {
-        put16(v4 + 8, 513);
+        put16(v4 + 16, 513);
         goto l4;
     }
     if ((v9 & 3) != 0) {
-        put16(v4 + 8, 769);
+        put16(v4 + 16, 769);
         goto l4;
     }
     if ((v8 & 1) != 0) {
-        put16(v4 + 8, 769);
+        put16(v4 + 16, 769);
         goto l4;
     }
-    put8(v4 + 13, v7);
-    put8(v4 + 11, v8 & 248);
-    put8(v4 + 12, (v8 >> 1) & 3);
-    put8(v4 + 10, (v9 & 252) >> 2);
-    put8(v4 + 9, (v6 & 252) >> 2);
+    put8(v4 + 21, v7);
+    put8(v4 + 19, v8 & 248);
+    put8(v4 + 20, (v8 >> 1) & 3);
+    put8(v4 + 18, (v9 & 252) >> 2);
+    put8(v4 + 17, (v6 & 252) >> 2);
 l4:;
-    nodes_ground_node_Ground_report(v4 + 4, v5, v4 + 8);
-    v8 = get8(v4 + 5);
-    v9 = get8(v4 + 4);
-    v7 = get8(v4 + 6);
-    v10 = get8(v4 + 7);
+    nodes_ground_node_Ground_report(v4 + 12, v5, v4 + 16);
+    v8 = get8(v4 + 13);
+    v9 = get8(v4 + 12);
+    v7 = get8(v4 + 14);
+    v10 = get8(v4 + 15);
     v6 = 0;
     put8(heard + 15, 0);
     put8(heard + 14, (v7 != 0) ? (v10 + 1) : 0U);
@@ -9110,35 +9293,35 @@ l4:;
     heard = get64(ground);
     put64(ground, v5);
     if (heard == 0) return v6;
-    copy(v4 + 8, heard, 344);
+    copy(v4 + 16, heard, 400);
     rattle_dealloc_at(heard);
-    sedgechisel_nodes_nodes_ground_node_Ground_Destruct_drop(v4 + 8);
+    sedgechisel_nodes_nodes_ground_node_Ground_Destruct_drop(v4 + 16);
     return v6;
 }
 
 static void sedge_ground_close_at(uint64_t ground)
 {
-    unsigned char frame_octets[352 + 15];
+    unsigned char frame_octets[400 + 15];
     uint64_t v1 = 0, v2 = 0;
     v1 = aligned(frame_octets);
     v2 = get64(ground);
     put64(ground, 0);
     if (v2 == 0) return;
-    copy(v1 + 8, v2, 344);
+    copy(v1, v2, 400);
     rattle_dealloc_at(v2);
-    sedgechisel_nodes_nodes_ground_node_Ground_Destruct_drop(v1 + 8);
+    sedgechisel_nodes_nodes_ground_node_Ground_Destruct_drop(v1);
     return;
 }
 
 static uint32_t sedge_ground_directive_at(uint64_t ground, uint32_t directive, uint32_t value)
 {
-    unsigned char frame_octets[352 + 15];
+    unsigned char frame_octets[416 + 15];
     uint32_t v4 = 0, v5 = 0, v6 = 0, v7 = 0, v8 = 0, v9 = 0;
     uint64_t v3 = 0, v10 = 0, v11 = 0;
     v3 = aligned(frame_octets);
     v4 = 0;
-    put8(v3 + 2, 0);
-    put16(v3, 0);
+    put8(v3 + 10, 0);
+    put16(v3 + 8, 0);
     v5 = value & 0xffff;
     v6 = v5 < 256;
     v7 = (v6 != 0) ? v5 : 256U;
@@ -9193,24 +9376,24 @@ l3:;
 l2:;
     v10 = get64(ground);
     put64(ground, 0);
-    put16(v3 + 6, v4);
-    put8(v3 + 5, v5);
-    put8(v3 + 4, v9);
+    put16(v3 + 14, v4);
+    put8(v3 + 13, v5);
+    put8(v3 + 12, v9);
     if (v10 == 0) return v8;
-    nodes_ground_node_Ground_directive(v3, v10, v3 + 4);
+    nodes_ground_node_Ground_directive(v3 + 8, v10, v3 + 12);
     v11 = get64(ground);
     put64(ground, v10);
-    v8 = (get8(v3) != 0) ? (get8(v3 + 1) + 1) : 0U;
+    v8 = (get8(v3 + 8) != 0) ? (get8(v3 + 9) + 1) : 0U;
     if (v11 == 0) return v8;
-    copy(v3 + 8, v11, 344);
+    copy(v3 + 16, v11, 400);
     rattle_dealloc_at(v11);
-    sedgechisel_nodes_nodes_ground_node_Ground_Destruct_drop(v3 + 8);
+    sedgechisel_nodes_nodes_ground_node_Ground_Destruct_drop(v3 + 16);
     return v8;
 }
 
 static uint32_t sedge_ground_forget_telemetry_at(uint64_t ground)
 {
-    unsigned char frame_octets[352 + 15];
+    unsigned char frame_octets[400 + 15];
     uint32_t v3 = 0;
     uint64_t v1 = 0, v2 = 0, v4 = 0;
     v1 = aligned(frame_octets);
@@ -9221,21 +9404,21 @@ static uint32_t sedge_ground_forget_telemetry_at(uint64_t ground)
         return v3;
     }
     v3 = 0;
-    put16(v2 + 248, 0);
-    v4 = v2 + 264;
+    put16(v2 + 304, 0);
+    v4 = v2 + 320;
     if (get64(v4) != 0) put64(v4, 0);
     v4 = get64(ground);
     put64(ground, v2);
     if (v4 == 0) return v3;
-    copy(v1 + 8, v4, 344);
+    copy(v1, v4, 400);
     rattle_dealloc_at(v4);
-    sedgechisel_nodes_nodes_ground_node_Ground_Destruct_drop(v1 + 8);
+    sedgechisel_nodes_nodes_ground_node_Ground_Destruct_drop(v1);
     return v3;
 }
 
 static uint32_t sedge_ground_next_at(uint64_t ground, uint64_t count)
 {
-    unsigned char frame_octets[352 + 15];
+    unsigned char frame_octets[400 + 15];
     uint32_t v5 = 0;
     uint64_t v2 = 0, v3 = 0, v4 = 0;
     v2 = aligned(frame_octets);
@@ -9246,23 +9429,22 @@ static uint32_t sedge_ground_next_at(uint64_t ground, uint64_t count)
         v5 = 255;
         return v5;
     }
-    nodes_ground_node_Ground_peek(v2 + 8, v3);
-    if (get8(v2 + 8) == 1) v4 = ((get8(v2 + 24) == 2) ? ((get8(v2 + 25) != 0) ? 4ULL : 2ULL) : (get64(v2 + 48) + 2)) +
-        6;
+    nodes_ground_node_Ground_peek(v2, v3);
+    if (get8(v2) == 1) v4 = ((get8(v2 + 16) == 2) ? ((get8(v2 + 17) != 0) ? 4ULL : 2ULL) : (get64(v2 + 40) + 2)) + 6;
     put64(count, v4);
     v4 = get64(ground);
     put64(ground, v3);
     v5 = 0;
     if (v4 == 0) return v5;
-    copy(v2 + 8, v4, 344);
+    copy(v2, v4, 400);
     rattle_dealloc_at(v4);
-    sedgechisel_nodes_nodes_ground_node_Ground_Destruct_drop(v2 + 8);
+    sedgechisel_nodes_nodes_ground_node_Ground_Destruct_drop(v2);
     return v5;
 }
 
 static uint32_t sedge_ground_next_telemetry_at(uint64_t ground, uint64_t count)
 {
-    unsigned char frame_octets[352 + 15];
+    unsigned char frame_octets[400 + 15];
     uint32_t v4 = 0;
     uint64_t v2 = 0, v3 = 0, v5 = 0, v6 = 0;
     v2 = aligned(frame_octets);
@@ -9272,18 +9454,18 @@ static uint32_t sedge_ground_next_telemetry_at(uint64_t ground, uint64_t count)
         v4 = 255;
         return v4;
     }
-    v5 = get64(v3 + 288);
+    v5 = get64(v3 + 344);
     if (v5 != 0) {
-        v6 = get64(v3 + 280);
-        if (v5 == get64(v3 + 312)) goto l4;
-        v6 = v6 + (get64(v3 + 304) * 24);
+        v6 = get64(v3 + 336);
+        if (v5 == get64(v3 + 368)) goto l4;
+        v6 = v6 + (get64(v3 + 360) * 24);
         goto l4;
     }
-    if (get64(v3 + 328) == 0) {
+    if (get64(v3 + 384) == 0) {
         v6 = 0;
         goto l3;
     }
-    v6 = get64(v3 + 320);
+    v6 = get64(v3 + 376);
 l4:;
     v6 = get64(v6 + 8);
 l3:;
@@ -9292,48 +9474,153 @@ l3:;
     put64(ground, v3);
     v4 = 0;
     if (count == 0) return v4;
-    copy(v2 + 8, count, 344);
+    copy(v2, count, 400);
     rattle_dealloc_at(count);
-    sedgechisel_nodes_nodes_ground_node_Ground_Destruct_drop(v2 + 8);
+    sedgechisel_nodes_nodes_ground_node_Ground_Destruct_drop(v2);
     return v4;
 }
 
 static uint32_t sedge_ground_read_at(uint64_t ground, uint64_t read)
 {
-    unsigned char frame_octets[352 + 15];
-    uint32_t v4 = 0, v5 = 0, v8 = 0, v9 = 0;
-    uint64_t v2 = 0, v3 = 0, v6 = 0, v7 = 0;
+    unsigned char frame_octets[400 + 15];
+    uint32_t v5 = 0, v6 = 0, v7 = 0, v17 = 0, v18 = 0;
+    uint64_t v2 = 0, v3 = 0, v4 = 0, v8 = 0, v9 = 0, v10 = 0, v11 = 0, v12 = 0, v13 = 0, v14 = 0, v15 = 0, v16 = 0;
     v2 = aligned(frame_octets);
     v3 = get64(ground);
+    v4 = 0;
     put64(ground, 0);
     if (v3 == 0) {
-        v4 = 255;
-        return v4;
+        v5 = 255;
+        return v5;
     }
-    v5 = get8(v3 + 96);
-    v6 = get64(v3 + 216);
-    v7 = get64(v3 + 152);
-    v8 = get8(v3 + 73);
-    v9 = get16(v3 + 74);
-    put64(read + 8, (uint64_t)get32(v3 + 60));
-    v4 = 0;
-    put32(read + 19, 0);
-    put16(read + 17, v9);
-    put8(read + 23, 0);
-    put8(read + 16, v8 + 1);
-    put64(read, v6 + v7 + (uint64_t)(uint32_t)(v5 == 1));
-    read = get64(ground);
+    v6 = get8(v3 + 75);
+    v7 = get8(v3 + 74);
+    v8 = get64(v3 + 248);
+    v9 = get64(v3 + 264);
+    if (v9 != 0) {
+        v4 = get64(v3 + 288);
+        v10 = v4 - v9;
+        v11 = v9 - v4;
+        v12 = (uint64_t)(v7 - v6) & 255;
+        v13 = get64(v3 + 256);
+        v4 = 0;
+        v14 = v3 + 280;
+        do {
+            if (v4 < v11) {
+                v15 = v13 + (get64(v14) << 3);
+                v16 = v4;
+                goto l5;
+            }
+            v16 = v10 + v4;
+            v15 = v13;
+        l5:;
+            v15 = get64(v15 + (v16 << 3));
+            v15 = (v15 > 1) ? v15 : 1ULL;
+            if (v12 < v15) goto l3;
+            v12 = v12 - v15;
+            v4 = v4 + 1;
+        } while (v9 != v4);
+        v4 = v9;
+    }
+l3:;
+    v17 = get8(v3 + 96);
+    v12 = get64(v3 + 216);
+    v15 = get64(v3 + 152);
+    v18 = get8(v3 + 73);
+    v16 = (uint64_t)get32(v3 + 60);
+    v5 = 0;
+    put32(read + 43, 0);
+    put8(read + 42, v6);
+    put8(read + 41, v7);
+    put64(read + 32, v16);
+    put64(read + 16, v8);
+    put64(read + 8, v4 + v8);
+    put64(read, v9 + v8);
+    put8(read + 47, 0);
+    put8(read + 40, v18 + 1);
+    put64(read + 24, v12 + v15 + (uint64_t)(uint32_t)(v17 == 1));
+    v4 = get64(ground);
     put64(ground, v3);
-    if (read == 0) return v4;
-    copy(v2 + 8, read, 344);
-    rattle_dealloc_at(read);
-    sedgechisel_nodes_nodes_ground_node_Ground_Destruct_drop(v2 + 8);
-    return v4;
+    if (v4 == 0) return v5;
+    copy(v2, v4, 400);
+    rattle_dealloc_at(v4);
+    sedgechisel_nodes_nodes_ground_node_Ground_Destruct_drop(v2);
+    return v5;
+}
+
+static uint32_t sedge_ground_resume_at(uint64_t ground, uint32_t value, uint64_t whole)
+{
+    unsigned char frame_octets[416 + 15];
+    uint32_t v5 = 0, v6 = 0;
+    uint64_t v3 = 0, v4 = 0, v7 = 0, v8 = 0, v9 = 0, v10 = 0, v11 = 0, v12 = 0, v13 = 0, v14 = 0, v15 = 0, v16 = 0;
+    v3 = aligned(frame_octets);
+    v4 = get64(ground);
+    put64(ground, 0);
+    if (v4 == 0) {
+        v5 = 255;
+        return v5;
+    }
+    v6 = get8(v4 + 75);
+    v5 = get8(v4 + 73);
+    put32(v3 + 16, 5);
+    if (v5 == 5) {
+        if (get8(v4 + 296) == 1) {
+            v5 = value - v6;
+            if (((get8(v4 + 74) - v6) & 255) >= (v5 & 255)) {
+                v7 = get64(v4 + 248);
+                v8 = get64(v4 + 264);
+                if (v8 == 0) {
+                    v9 = 0;
+                    goto l4;
+                }
+                v10 = (uint64_t)v5 & 255;
+                v9 = get64(v4 + 288);
+                v11 = v9 - v8;
+                v12 = v8 - v9;
+                v13 = get64(v4 + 256);
+                v9 = 0;
+                v14 = v4 + 280;
+                do {
+                    if (v9 < v12) {
+                        v15 = v13 + (get64(v14) << 3);
+                        v16 = v9;
+                        goto l7;
+                    }
+                    v16 = v11 + v9;
+                    v15 = v13;
+                l7:;
+                    v15 = get64(v15 + (v16 << 3));
+                    v15 = (v15 > 1) ? v15 : 1ULL;
+                    if (v10 < v15) goto l4;
+                    v10 = v10 - v15;
+                    v9 = v9 + 1;
+                } while (v8 != v9);
+                v9 = v8;
+            l4:;
+                put8(v3 + 17, value);
+                nodes_ground_node_Ground_directive(v3 + 13, v4, v3 + 16);
+                put8(v3 + 16, 2);
+                nodes_ground_node_Ground_directive(v3 + 13, v4, v3 + 16);
+                put64(whole, v9 + v7);
+                v9 = get64(ground);
+                put64(ground, v4);
+                v5 = 0;
+                if (v9 == 0) return v5;
+                copy(v3 + 16, v9, 400);
+                rattle_dealloc_at(v9);
+                sedgechisel_nodes_nodes_ground_node_Ground_Destruct_drop(v3 + 16);
+                return v5;
+            }
+        }
+    }
+    put64(ground, v4);
+    v5 = 7;
+    return v5;
 }
 
 static uint32_t sedge_ground_submit_at(uint64_t ground, uint32_t map, uint64_t octets, uint64_t count)
 {
-    unsigned char frame_octets[352 + 15];
+    unsigned char frame_octets[400 + 15];
     uint32_t v6 = 0;
     uint64_t v4 = 0, v5 = 0;
     v4 = aligned(frame_octets);
@@ -9343,29 +9630,29 @@ static uint32_t sedge_ground_submit_at(uint64_t ground, uint32_t map, uint64_t o
         map = 255;
         return map;
     }
-    fill(v4 + 8, 0, 128);
-    nodes_ground_node_Ground_prepare(v4 + 8, v5, map, some(octets), count);
-    map = get8(v4 + 8);
+    fill(v4, 0, 128);
+    nodes_ground_node_Ground_prepare(v4, v5, map, some(octets), count);
+    map = get8(v4);
     if (map == 0) {
-        nodes_ground_node_Ground_commit(v5, v4 + 16);
+        nodes_ground_node_Ground_commit(v5, v4 + 8);
         v6 = 1;
         goto l3;
     }
-    v6 = get8(v4 + 9) + 1;
+    v6 = get8(v4 + 1) + 1;
 l3:;
     octets = get64(ground);
     put64(ground, v5);
     map = ((map & 1) != 0) ? v6 : 0U;
     if (octets == 0) return map;
-    copy(v4 + 8, octets, 344);
+    copy(v4, octets, 400);
     rattle_dealloc_at(octets);
-    sedgechisel_nodes_nodes_ground_node_Ground_Destruct_drop(v4 + 8);
+    sedgechisel_nodes_nodes_ground_node_Ground_Destruct_drop(v4);
     return map;
 }
 
 static uint32_t sedge_ground_take_telemetry_at(uint64_t ground, uint64_t out, uint64_t room, uint64_t count)
 {
-    unsigned char frame_octets[352 + 15];
+    unsigned char frame_octets[416 + 15];
     uint32_t v6 = 0;
     uint64_t v4 = 0, v5 = 0, v7 = 0, v8 = 0, v9 = 0, v10 = 0, v11 = 0, v12 = 0, v13 = 0, v14 = 0;
     v4 = aligned(frame_octets);
@@ -9375,18 +9662,18 @@ static uint32_t sedge_ground_take_telemetry_at(uint64_t ground, uint64_t out, ui
         v6 = 255;
         return v6;
     }
-    v7 = get64(v5 + 288);
+    v7 = get64(v5 + 344);
     if (v7 != 0) {
-        v8 = get64(v5 + 280);
-        if (v7 == get64(v5 + 312)) goto l5;
-        v8 = v8 + (get64(v5 + 304) * 24);
+        v8 = get64(v5 + 336);
+        if (v7 == get64(v5 + 368)) goto l5;
+        v8 = v8 + (get64(v5 + 360) * 24);
         goto l5;
     }
-    if (get64(v5 + 328) == 0) {
+    if (get64(v5 + 384) == 0) {
         v9 = 0;
         goto l4;
     }
-    v8 = get64(v5 + 320);
+    v8 = get64(v5 + 376);
 l5:;
     v9 = get64(v8 + 8);
     if (room < v9) {
@@ -9426,88 +9713,88 @@ l5:;
     if (v9 != 0) copy(v11, v12, v9);
 l4:;
     put64(count, v9);
-    room = v5 + 288;
+    room = v5 + 344;
     v8 = get64(room);
     if (v8 == 0) {
-        put64(v5 + 304, 0);
-        put64(v5 + 312, 0);
-        v7 = v5 + 328;
+        put64(v5 + 360, 0);
+        put64(v5 + 368, 0);
+        v7 = v5 + 384;
         v8 = get64(v7);
         put64(v7, 0);
-        v7 = v5 + 336;
+        v7 = v5 + 392;
         v13 = get64(v7);
         put64(v7, 0);
-        v7 = v5 + 280;
+        v7 = v5 + 336;
         v14 = get64(v7);
-        v12 = v5 + 320;
+        v12 = v5 + 376;
         put64(v7, get64(v12));
-        v7 = v5 + 296;
+        v7 = v5 + 352;
         v11 = get64(v7);
         put64(v7, v13);
         put64(room, v8);
-        put64(v12, v4 + 344);
+        put64(v12, v4 + 408);
         if (v11 != 0) {
             rattle_dealloc_at(v14);
-            v8 = get64(v5 + 288);
+            v8 = get64(v5 + 344);
         }
         if (v8 == 0) {
             v6 = 0;
             goto l3;
         }
     }
-    v7 = v5 + 312;
+    v7 = v5 + 368;
     if (get64(v7) != v8) {
-        room = get64(v5 + 304);
+        room = get64(v5 + 360);
         goto l15;
     }
     room = 0;
     put64(v7, 0);
 l15:;
-    put64(v5 + 288, v8 - 1);
-    put64(v5 + 304, room + 1);
+    put64(v5 + 344, v8 - 1);
+    put64(v5 + 360, room + 1);
     v6 = 0;
-    v8 = get64(v5 + 280) + (room * 24);
+    v8 = get64(v5 + 336) + (room * 24);
     if (get64(v8 + 16) != 0) rattle_dealloc_at(get64(v8));
 l3:;
     v8 = get64(ground);
     put64(ground, v5);
     if (v8 == 0) return v6;
-    copy(v4, v8, 344);
+    copy(v4 + 8, v8, 400);
     rattle_dealloc_at(v8);
-    sedgechisel_nodes_nodes_ground_node_Ground_Destruct_drop(v4);
+    sedgechisel_nodes_nodes_ground_node_Ground_Destruct_drop(v4 + 8);
     return v6;
 }
 
 static uint32_t sedge_ground_telemetry_at(uint64_t ground, uint64_t octets, uint64_t count, uint64_t heard)
 {
-    unsigned char frame_octets[384 + 15];
+    unsigned char frame_octets[432 + 15];
     uint32_t v6 = 0, v7 = 0, v8 = 0, v9 = 0, v10 = 0, v11 = 0, v12 = 0, v13 = 0, v14 = 0;
     uint64_t v4 = 0, v5 = 0;
     v4 = aligned(frame_octets);
     v5 = get64(ground);
     put64(ground, 0);
-    put64(v4 + 32, 0);
     put64(v4 + 24, 0);
     put64(v4 + 16, 0);
     put64(v4 + 8, 0);
+    put64(v4, 0);
     if (v5 == 0) {
         v6 = 255;
         return v6;
     }
-    nodes_ground_node_Ground_telemetry(v4 + 8, v5, some(octets), count);
+    nodes_ground_node_Ground_telemetry(v4, v5, some(octets), count);
     v6 = 6;
-    if (get8(v4 + 8) == 0) {
+    if (get8(v4) == 0) {
         v6 = 0;
         v7 = 2;
         octets = 0;
-        v8 = get8(v4 + 17);
+        v8 = get8(v4 + 9);
         v9 = 0;
         v10 = 0;
         v11 = 0;
         v12 = 0;
         v13 = 0;
         v14 = 0;
-        switch ((uint32_t)(uint64_t)get8(v4 + 16)) {
+        switch ((uint32_t)(uint64_t)get8(v4 + 8)) {
         case 1:
             goto l4;
         case 2:
@@ -9524,14 +9811,14 @@ static uint32_t sedge_ground_telemetry_at(uint64_t ground, uint64_t octets, uint
         }
     l5:;
         v9 = 0;
-        v12 = get8(v4 + 32);
-        v13 = (v12 == 1) ? (get8(v4 + 33) + 1) : 0U;
-        v14 = (get8(v4 + 34) != 0) ? (get8(v4 + 35) + 1) : 0U;
+        v12 = get8(v4 + 24);
+        v13 = (v12 == 1) ? (get8(v4 + 25) + 1) : 0U;
+        v14 = (get8(v4 + 26) != 0) ? (get8(v4 + 27) + 1) : 0U;
         v7 = v8 & 255;
-        v11 = (v7 != 0) ? get8(v4 + 18) : 0U;
+        v11 = (v7 != 0) ? get8(v4 + 10) : 0U;
         v10 = v7 == 0;
         v7 = 3;
-        octets = get64(v4 + 24);
+        octets = get64(v4 + 16);
     l4:;
         put8(heard + 15, 0);
         put8(heard + 14, v14);
@@ -9546,15 +9833,15 @@ static uint32_t sedge_ground_telemetry_at(uint64_t ground, uint64_t octets, uint
     heard = get64(ground);
     put64(ground, v5);
     if (heard == 0) return v6;
-    copy(v4 + 40, heard, 344);
+    copy(v4 + 32, heard, 400);
     rattle_dealloc_at(heard);
-    sedgechisel_nodes_nodes_ground_node_Ground_Destruct_drop(v4 + 40);
+    sedgechisel_nodes_nodes_ground_node_Ground_Destruct_drop(v4 + 32);
     return v6;
 }
 
 static uint32_t sedge_ground_tick_at(uint64_t ground)
 {
-    unsigned char frame_octets[352 + 15];
+    unsigned char frame_octets[416 + 15];
     uint32_t v3 = 0, v5 = 0;
     uint64_t v1 = 0, v2 = 0, v4 = 0;
     v1 = aligned(frame_octets);
@@ -9564,36 +9851,36 @@ static uint32_t sedge_ground_tick_at(uint64_t ground)
         v3 = 255;
         return v3;
     }
-    nodes_ground_node_Ground_tick(v1, v2);
+    nodes_ground_node_Ground_tick(v1 + 8, v2);
     v4 = get64(ground);
-    v3 = get8(v1);
-    v5 = get8(v1 + 1);
+    v3 = get8(v1 + 8);
+    v5 = get8(v1 + 9);
     put64(ground, v2);
     v3 = (v3 != 0) ? (v5 + 1) : 0U;
     if (v4 == 0) return v3;
-    copy(v1 + 8, v4, 344);
+    copy(v1 + 16, v4, 400);
     rattle_dealloc_at(v4);
-    sedgechisel_nodes_nodes_ground_node_Ground_Destruct_drop(v1 + 8);
+    sedgechisel_nodes_nodes_ground_node_Ground_Destruct_drop(v1 + 16);
     return v3;
 }
 
 static void sedge_sim_close_at(uint64_t sim)
 {
-    unsigned char frame_octets[5984 + 15];
+    unsigned char frame_octets[6048 + 15];
     uint64_t v1 = 0, v2 = 0;
     v1 = aligned(frame_octets);
     v2 = get64(sim);
     put64(sim, 0);
     if (v2 == 0) return;
-    copy(v1, v2, 0x1760);
+    copy(v1 + 8, v2, 0x1798);
     rattle_dealloc_at(v2);
-    sedgechisel_nodes_sedgechisel_nodes_sim_link_Link_Destruct_drop(v1);
+    sedgechisel_nodes_sedgechisel_nodes_sim_link_Link_Destruct_drop(v1 + 8);
     return;
 }
 
 static uint32_t sedge_sim_count_at(uint64_t sim, uint32_t record, uint32_t map, uint64_t entries)
 {
-    unsigned char frame_octets[5984 + 15];
+    unsigned char frame_octets[6048 + 15];
     uint64_t v4 = 0, v5 = 0, v6 = 0;
     v4 = aligned(frame_octets);
     v5 = get64(sim);
@@ -9606,14 +9893,14 @@ static uint32_t sedge_sim_count_at(uint64_t sim, uint32_t record, uint32_t map, 
     switch ((record & 255) - 1) {
     case 0:
         if ((map & 255) > 63) goto l3;
-        v6 = get64((v5 + (((uint64_t)map & 255) * 24)) + 0xaf8);
+        v6 = get64((v5 + (((uint64_t)map & 255) * 24)) + 0xb30);
         goto l3;
     case 1:
         if ((map & 255) > 63) goto l3;
-        v6 = get64((v5 + (((uint64_t)map & 255) * 24)) + 0x10f8);
+        v6 = get64((v5 + (((uint64_t)map & 255) * 24)) + 0x1130);
         goto l3;
     case 2:
-        v6 = get64(v5 + 0x16f8);
+        v6 = get64(v5 + 0x1730);
         goto l3;
     case 3:
         goto l4;
@@ -9621,23 +9908,23 @@ static uint32_t sedge_sim_count_at(uint64_t sim, uint32_t record, uint32_t map, 
         goto l3;
     }
 l4:;
-    v6 = get64(v5 + 0x1720) - get64(v5 + 0x1710);
+    v6 = get64(v5 + 0x1758) - get64(v5 + 0x1748);
 l3:;
     put64(entries, v6);
     v6 = get64(sim);
     put64(sim, v5);
     record = 0;
     if (v6 == 0) return record;
-    copy(v4, v6, 0x1760);
+    copy(v4 + 8, v6, 0x1798);
     rattle_dealloc_at(v6);
-    sedgechisel_nodes_sedgechisel_nodes_sim_link_Link_Destruct_drop(v4);
+    sedgechisel_nodes_sedgechisel_nodes_sim_link_Link_Destruct_drop(v4 + 8);
     return record;
 }
 
 static uint32_t sedge_sim_entry_at(uint64_t sim, uint32_t record, uint32_t map, uint64_t k, uint64_t out, uint64_t
     room, uint64_t count)
 {
-    unsigned char frame_octets[5984 + 15];
+    unsigned char frame_octets[6048 + 15];
     uint32_t v9 = 0;
     uint64_t v7 = 0, v8 = 0, v10 = 0, v11 = 0, v12 = 0, v13 = 0, v14 = 0, v15 = 0, v16 = 0;
     v7 = aligned(frame_octets);
@@ -9655,8 +9942,8 @@ static uint32_t sedge_sim_entry_at(uint64_t sim, uint32_t record, uint32_t map, 
             return v9;
         }
         v10 = v8 + (((uint64_t)map & 255) * 24);
-        v11 = get64(v10 + 0xaf8);
-        v10 = get64(v10 + 0xaf0);
+        v11 = get64(v10 + 0xb30);
+        v10 = get64(v10 + 0xb28);
         goto l5;
     case 1:
         if ((map & 255) > 63) {
@@ -9664,12 +9951,12 @@ static uint32_t sedge_sim_entry_at(uint64_t sim, uint32_t record, uint32_t map, 
             return v9;
         }
         v10 = v8 + (((uint64_t)map & 255) * 24);
-        v11 = get64(v10 + 0x10f8);
-        v10 = get64(v10 + 0x10f0);
+        v11 = get64(v10 + 0x1130);
+        v10 = get64(v10 + 0x1128);
         goto l5;
     case 2:
-        v11 = get64(v8 + 0x16f8);
-        v10 = get64(v8 + 0x16f0);
+        v11 = get64(v8 + 0x1730);
+        v10 = get64(v8 + 0x1728);
         goto l5;
     case 3:
         goto l6;
@@ -9678,9 +9965,9 @@ static uint32_t sedge_sim_entry_at(uint64_t sim, uint32_t record, uint32_t map, 
         return v9;
     }
 l6:;
-    v10 = get64(v8 + 0x1710);
-    v11 = get64(v8 + 0x1720) - v10;
-    v10 = get64(v8 + 0x1718) + (v10 * 24);
+    v10 = get64(v8 + 0x1748);
+    v11 = get64(v8 + 0x1758) - v10;
+    v10 = get64(v8 + 0x1750) + (v10 * 24);
 l5:;
     if (k >= v11) {
         put64(sim, v8);
@@ -9732,15 +10019,15 @@ l3:;
     put64(sim, v8);
     v9 = 0;
     if (k == 0) return v9;
-    copy(v7, k, 0x1760);
+    copy(v7 + 8, k, 0x1798);
     rattle_dealloc_at(k);
-    sedgechisel_nodes_sedgechisel_nodes_sim_link_Link_Destruct_drop(v7);
+    sedgechisel_nodes_sedgechisel_nodes_sim_link_Link_Destruct_drop(v7 + 8);
     return v9;
 }
 
 static uint32_t sedge_sim_octets_at(uint64_t sim, uint64_t out, uint64_t room, uint64_t count)
 {
-    unsigned char frame_octets[5984 + 15];
+    unsigned char frame_octets[6048 + 15];
     uint32_t v6 = 0;
     uint64_t v4 = 0, v5 = 0, v7 = 0, v8 = 0, v9 = 0, v10 = 0, v11 = 0, v12 = 0, v13 = 0, v14 = 0;
     v4 = aligned(frame_octets);
@@ -9750,7 +10037,7 @@ static uint32_t sedge_sim_octets_at(uint64_t sim, uint64_t out, uint64_t room, u
         v6 = 255;
         return v6;
     }
-    v7 = get64(v5 + 0x1750);
+    v7 = get64(v5 + 0x1788);
     if (room < v7) {
         put64(sim, v5);
         v6 = 252;
@@ -9758,7 +10045,7 @@ static uint32_t sedge_sim_octets_at(uint64_t sim, uint64_t out, uint64_t room, u
     }
     v8 = (out == 0) ? 0x1000ULL : 0ULL;
     v9 = out + v8;
-    v10 = get64(v5 + 0x1748);
+    v10 = get64(v5 + 0x1780);
     if ((v9 - v10) < v7) {
         v11 = v7 & 3;
         v12 = 0;
@@ -9793,15 +10080,15 @@ l4:;
     put64(sim, v5);
     v6 = 0;
     if (room == 0) return v6;
-    copy(v4, room, 0x1760);
+    copy(v4 + 8, room, 0x1798);
     rattle_dealloc_at(room);
-    sedgechisel_nodes_sedgechisel_nodes_sim_link_Link_Destruct_drop(v4);
+    sedgechisel_nodes_sedgechisel_nodes_sim_link_Link_Destruct_drop(v4 + 8);
     return v6;
 }
 
 static uint32_t sedge_sim_read_at(uint64_t sim, uint64_t read)
 {
-    unsigned char frame_octets[5984 + 15];
+    unsigned char frame_octets[6048 + 15];
     uint32_t v4 = 0, v5 = 0, v6 = 0, v7 = 0, v8 = 0, v11 = 0, v12 = 0, v13 = 0, v15 = 0;
     uint64_t v2 = 0, v3 = 0, v9 = 0, v10 = 0, v14 = 0;
     v2 = aligned(frame_octets);
@@ -9812,9 +10099,9 @@ static uint32_t sedge_sim_read_at(uint64_t sim, uint64_t read)
         return v4;
     }
     v5 = 1;
-    v6 = get8(v3 + 0xac8);
+    v6 = get8(v3 + 0xb00);
     if (v6 == 1) {
-        v7 = get8(v3 + 0xaca);
+        v7 = get8(v3 + 0xb02);
         switch ((uint32_t)((uint64_t)v7 & 255)) {
         case 1:
             v7 = 0;
@@ -9825,7 +10112,7 @@ static uint32_t sedge_sim_read_at(uint64_t sim, uint64_t read)
             v5 = 3;
             goto l3;
         case 3:
-            v7 = get8(v3 + 0xacb);
+            v7 = get8(v3 + 0xb03);
             v5 = 4;
             goto l3;
         case 4:
@@ -9845,11 +10132,11 @@ l3:;
     v8 = get8(v3 + 96);
     v9 = get64(v3 + 216);
     v10 = get64(v3 + 152);
-    v11 = get8(v3 + 0xace);
-    v12 = get8(v3 + 0xacf);
+    v11 = get8(v3 + 0xb06);
+    v12 = get8(v3 + 0xb07);
     v13 = get8(v3 + 73);
-    v14 = get64(v3 + 0x1708);
-    v15 = get8(v3 + 0xad0);
+    v14 = get64(v3 + 0x1740);
+    v15 = get8(v3 + 0xb08);
     v4 = 0;
     put16(read + 22, 0);
     put8(read + 21, v15);
@@ -9864,15 +10151,15 @@ l3:;
     read = get64(sim);
     put64(sim, v3);
     if (read == 0) return v4;
-    copy(v2, read, 0x1760);
+    copy(v2 + 8, read, 0x1798);
     rattle_dealloc_at(read);
-    sedgechisel_nodes_sedgechisel_nodes_sim_link_Link_Destruct_drop(v2);
+    sedgechisel_nodes_sedgechisel_nodes_sim_link_Link_Destruct_drop(v2 + 8);
     return v4;
 }
 
 static uint32_t sedge_sim_step_at(uint64_t sim, uint64_t event, uint64_t reply)
 {
-    unsigned char frame_octets[12384 + 15];
+    unsigned char frame_octets[12432 + 15];
     uint32_t v4 = 0, v5 = 0, v6 = 0, v7 = 0, v10 = 0, v11 = 0, v12 = 0, v13 = 0, v14 = 0, v15 = 0, v16 = 0, v23 = 0,
         v24 = 0, v34 = 0, v35 = 0, v36 = 0, v37 = 0, v38 = 0, v39 = 0, v40 = 0, v41 = 0, v42 = 0, v43 = 0, t1, t2, t3,
         t4, t5, t6, t7, t9, t12, t13, t14;
@@ -10055,15 +10342,15 @@ l2:;
     put64(sim, 0);
     if (v17 == 0) return v7;
     v7 = 0;
-    put16(v3 + 196, 0);
-    put32(v3 + 192, 0);
+    put16(v3 + 188, 0);
+    put32(v3 + 184, 0);
     switch (v4) {
     case 1:
-        nodes_ground_node_Ground_bypass(v3 + 56, v17, v13, v8, v9);
+        nodes_ground_node_Ground_bypass(v3 + 48, v17, v13, v8, v9);
         v24 = 0;
-        v12 = get8(v3 + 57);
+        v12 = get8(v3 + 49);
         v7 = v12 == 5;
-        v13 = get8(v3 + 56);
+        v13 = get8(v3 + 48);
         v4 = v7 & (uint32_t)(v13 != 0);
         v23 = (v13 != 0) ? ((v7 != 0) ? 0U : v12) : 0U;
         v7 = (v13 != 0) ? ((v7 != 0) ? 0U : 3U) : 0U;
@@ -10071,12 +10358,12 @@ l2:;
         v20 = 0;
         goto l55;
     case 2:
-        put16(v3 + 6370, v6);
-        put8(v3 + 6369, v10);
-        put8(v3 + 6368, v12);
+        put16(v3 + 6362, v6);
+        put8(v3 + 6361, v10);
+        put8(v3 + 6360, v12);
         v4 = 0;
-        put16(v3 + 6344, 0);
-        put8(v3 + 6346, 0);
+        put16(v3 + 6336, 0);
+        put8(v3 + 6338, 0);
         if (v11 == 0) {
             if (v5 != 0) goto l60;
             v7 = v12;
@@ -10086,38 +10373,38 @@ l2:;
         v7 = 0;
         v6 = 0;
         v4 = 0;
-        if (get8(v17 + 417) != get8(v17 + 74)) goto l59;
+        if (get8(v17 + 473) != get8(v17 + 74)) goto l59;
         goto l60;
     case 3:
-        put64(v3 + 1744, 0);
         put64(v3 + 1736, 0);
-        nodes_ground_node_Ground_peek(v3 + 0x18f8, v17);
+        put64(v3 + 1728, 0);
+        nodes_ground_node_Ground_peek(v3 + 0x18f0, v17);
         v7 = 1;
-        if (get8(v3 + 6392) != 1) goto l74;
-        put64(v3 + 4840, get64(v3 + 6432));
+        if (get8(v3 + 6384) != 1) goto l74;
         put64(v3 + 4832, get64(v3 + 6424));
         put64(v3 + 4824, get64(v3 + 6416));
-        event = get64(v3 + 6408);
-        put64(v3 + 4816, event);
-        put64(v3 + 4808, get64(v3 + 6400));
+        put64(v3 + 4816, get64(v3 + 6408));
+        event = get64(v3 + 6400);
+        put64(v3 + 4808, event);
+        put64(v3 + 4800, get64(v3 + 6392));
         v7 = (uint32_t)event;
         if ((v7 & 255) == 2) {
-            event = (get8(v3 + 4817) != 0) ? 4ULL : 2ULL;
+            event = (get8(v3 + 4809) != 0) ? 4ULL : 2ULL;
             goto l109;
         }
-        event = get64(v3 + 4840) + 2;
+        event = get64(v3 + 4832) + 2;
     l109:;
         v25 = event + 6;
         v4 = v25 == 0;
         if (v4 != 0) {
             v20 = 0;
-            v21 = v3 + 0x3058;
+            v21 = v3 + 0x3088;
             goto l111;
         }
         if (v25 > 0x7fffffffffffffffULL) goto l61;
-        rattle_alloc_at(v3 + 80, v25, 1);
-        if (((uint32_t)get64(v3 + 80) & 1) == 0) goto l61;
-        v21 = get64(v3 + 88);
+        rattle_alloc_at(v3 + 72, v25, 1);
+        if (((uint32_t)get64(v3 + 72) & 1) == 0) goto l61;
+        v21 = get64(v3 + 80);
         v8 = 0;
         if (v25 != 1) {
             v8 = event + 5;
@@ -10126,19 +10413,19 @@ l2:;
         put8(v21 + v8, 0);
         v20 = v8 + 1;
     l111:;
-        tc_frame_encoding_encode(v3 + 0x6c8, v3 + 0x1900, v21, v20);
-        if (get8(v3 + 1736) != 0) UNREACHABLE;
+        tc_frame_encoding_encode(v3 + 0x6c0, v3 + 0x18f8, v21, v20);
+        if (get8(v3 + 1728) != 0) UNREACHABLE;
         v13 = v20 == 0;
         if (v13 != 0) {
-            event = v3 + 0x3058;
+            event = v3 + 0x3088;
             goto l118;
         }
-        rattle_alloc_at(v3 + 64, v20, 1);
-        if (((uint32_t)get64(v3 + 64) & 1) == 0) {
+        rattle_alloc_at(v3 + 56, v20, 1);
+        if (((uint32_t)get64(v3 + 56) & 1) == 0) {
             if (v4 == 0) goto l115;
             goto l61;
         }
-        event = get64(v3 + 72);
+        event = get64(v3 + 64);
     l118:;
         if ((event - v21) < v20) {
             v19 = v20 & 3;
@@ -10171,26 +10458,26 @@ l2:;
     l120:;
         v12 = get8(v17 + 74);
         v8 = 0;
-        put64(v3 + 3296, 0);
         put64(v3 + 3288, 0);
         put64(v3 + 3280, 0);
         put64(v3 + 3272, 0);
+        put64(v3 + 3264, 0);
         v22 = 0;
         v9 = 0;
-        v12 = (v7 & 255) != 0 || (get8(v3 + 4817) & 255) != (v12 & 255);
+        v12 = (v7 & 255) != 0 || (get8(v3 + 4809) & 255) != (v12 & 255);
         if (v12 == 0) {
-            nodes_data_field_data_field_of(v3 + 0xcc8, v3 + 0x12d8);
-            if (get8(v3 + 3272) != 0) goto l116;
-            v8 = get64(v3 + 3296);
-            v22 = get64(v3 + 3288);
-            v9 = get64(v3 + 3280);
+            nodes_data_field_data_field_of(v3 + 0xcc0, v3 + 0x12d0);
+            if (get8(v3 + 3264) != 0) goto l116;
+            v8 = get64(v3 + 3288);
+            v22 = get64(v3 + 3280);
+            v9 = get64(v3 + 3272);
         }
-        if (get64(v17 + 0xa88) == get64(v17 + 0xa80)) {
-            t1 = std_alloc_vec_deque_VecDeque_grow_1598ebf9113514c4(v17 + 0xa78);
+        if (get64(v17 + 0xac0) == get64(v17 + 0xab8)) {
+            t1 = std_alloc_vec_deque_VecDeque_grow_1598ebf9113514c4(v17 + 0xab0);
             if (t1 == 0) goto l126;
         }
-        if (get64(v17 + 0x1700) != get64(v17 + 0x16f8)) goto l114;
-        t2 = std_alloc_vec_Vec_grow_amortized_1598ebf9113514c4(v17 + 0x16f0, 1);
+        if (get64(v17 + 0x1738) != get64(v17 + 0x1730)) goto l114;
+        t2 = std_alloc_vec_Vec_grow_amortized_1598ebf9113514c4(v17 + 0x1728, 1);
         if (t2 != 0) goto l114;
     l126:;
         if (v4 == 0) rattle_dealloc_at(v21);
@@ -10207,13 +10494,13 @@ l2:;
         goto l61;
     l114:;
         nodes_ground_node_Ground_advance(v17);
-        v19 = get64(v17 + 0xa78);
-        v26 = get64(v17 + 0xa80);
-        v18 = v17 + 0xa98;
+        v19 = get64(v17 + 0xab0);
+        v26 = get64(v17 + 0xab8);
+        v18 = v17 + 0xad0;
         v27 = get64(v18);
         v28 = v26 - v27;
-        v29 = get64(v17 + 0xa90);
-        if (v28 < (get64(v17 + 0xa88) - v29)) {
+        v29 = get64(v17 + 0xac8);
+        if (v28 < (get64(v17 + 0xac0) - v29)) {
             v19 = v19 + ((v29 + v28) * 24);
             put64(v19 + 16, v25);
             put64(v19 + 8, v20);
@@ -10226,74 +10513,74 @@ l2:;
         put64(v19, v21);
         put64(v18, v27 + 1);
     l131:;
-        put64(v17 + 0xa80, v26 + 1);
+        put64(v17 + 0xab8, v26 + 1);
         if (v12 == 0) {
-            v21 = v17 + 0x16f8;
+            v21 = v17 + 0x1730;
             v26 = get64(v21);
-            v19 = get64(v17 + 0x16f0) + (v26 * 24);
+            v19 = get64(v17 + 0x1728) + (v26 * 24);
             put64(v19 + 16, v8);
             put64(v19 + 8, v22);
             put64(v19, v9);
             put64(v21, v26 + 1);
         }
-        put16(v3 + 6396, 0);
-        put32(v3 + 6392, 0);
+        put16(v3 + 6388, 0);
+        put32(v3 + 6384, 0);
         v9 = v20;
         goto l51;
     case 4:
         event = 0;
+        put64(v3 + 192, 0);
         put64(v3 + 200, 0);
         put64(v3 + 208, 0);
-        put64(v3 + 216, 0);
         v23 = 0;
-        fill(v3 + 0x18f8, 0, 208);
-        put64(v3 + 6384, 0);
+        fill(v3 + 0x18f0, 0, 208);
         put64(v3 + 6376, 0);
         put64(v3 + 6368, 0);
+        put64(v3 + 6360, 0);
+        put64(v3 + 6336, 0);
         put64(v3 + 6344, 0);
         put64(v3 + 6352, 0);
-        put64(v3 + 6360, 0);
         v4 = 1;
-        v8 = get64(v17 + 0xa80);
+        v8 = get64(v17 + 0xab8);
         if (v8 != 0) {
-            event = get64(v17 + 0xa78);
-            if (v8 != get64(v17 + 0xa98)) event = event + (get64(v17 + 0xa90) * 24);
-            v25 = v17 + 344;
-            nodes_spacecraft_Spacecraft_prepare(v3 + 0x18f8, v25, get64(event), get64(event + 8));
+            event = get64(v17 + 0xab0);
+            if (v8 != get64(v17 + 0xad0)) event = event + (get64(v17 + 0xac8) * 24);
+            v25 = v17 + 400;
+            nodes_spacecraft_Spacecraft_prepare(v3 + 0x18f0, v25, get64(event), get64(event + 8));
             event = 0;
             v7 = 0;
-            if (get8(v3 + 6392) != 0) goto l62;
-            copy(v3 + 0x12c8, v3 + 0x18f8 + 8, 200);
+            if (get8(v3 + 6384) != 0) goto l62;
+            copy(v3 + 0x12c0, v3 + 0x18f0 + 8, 200);
             v28 = 0;
-            put64(v3 + 3296, 0);
             put64(v3 + 3288, 0);
             put64(v3 + 3280, 0);
             put64(v3 + 3272, 0);
-            v4 = get8(v3 + 4856);
+            put64(v3 + 3264, 0);
+            v4 = get8(v3 + 4848);
             if (v4 == 1) {
-                v12 = get8(v3 + 4896);
-                v18 = get64((v12 != 0) ? (v3 + 0x1330) : (v3 + 0x1340));
-                v13 = get8(v3 + 6457);
-                event = get64(v3 + 4904);
-                nodes_data_field_data_field_of(v3 + 0xcc8, v3 + 0x1938);
-                if (get8(v3 + 3272) == 0) {
-                    v29 = get64(v3 + 3296);
-                    v30 = get64(v3 + 3288);
-                    v31 = get64(v3 + 3280);
+                v12 = get8(v3 + 4888);
+                v18 = get64((v12 != 0) ? (v3 + 0x1328) : (v3 + 0x1338));
+                v13 = get8(v3 + 6449);
+                event = get64(v3 + 4896);
+                nodes_data_field_data_field_of(v3 + 0xcc0, v3 + 0x1930);
+                if (get8(v3 + 3264) == 0) {
+                    v29 = get64(v3 + 3288);
+                    v30 = get64(v3 + 3280);
+                    v31 = get64(v3 + 3272);
                     if (v18 == 0) {
-                        v28 = v3 + 0x3058;
+                        v28 = v3 + 0x3088;
                         v32 = 0;
                         v21 = 0;
                         goto l146;
                     }
                     if (v18 > 0x555555555555555ULL) goto l142;
-                    rattle_alloc_at(v3 + 112, v18 * 24, 8);
-                    if (((uint32_t)get64(v3 + 112) & 1) == 0) goto l142;
-                    v33 = (v12 != 0) ? event : (v3 + 0x1328);
-                    v32 = get64(v3 + 120);
-                    put64(v3 + 1752, v18);
-                    put64(v3 + 1744, 0);
-                    put64(v3 + 1736, v32);
+                    rattle_alloc_at(v3 + 104, v18 * 24, 8);
+                    if (((uint32_t)get64(v3 + 104) & 1) == 0) goto l142;
+                    v33 = (v12 != 0) ? event : (v3 + 0x1320);
+                    v32 = get64(v3 + 112);
+                    put64(v3 + 1744, v18);
+                    put64(v3 + 1736, 0);
+                    put64(v3 + 1728, v32);
                     v21 = 0;
                     v28 = 0;
                     do {
@@ -10302,13 +10589,13 @@ l2:;
                         v27 = get64(event + 8);
                         v12 = v27 == 0;
                         if (v12 != 0) {
-                            v22 = v3 + 0x3058;
+                            v22 = v3 + 0x3088;
                             goto l149;
                         }
                         if (v27 > 0x7fffffffffffffffULL) goto l145;
-                        rattle_alloc_at(v3 + 96, v27, 1);
-                        if (((uint32_t)get64(v3 + 96) & 1) == 0) goto l145;
-                        v22 = get64(v3 + 104);
+                        rattle_alloc_at(v3 + 88, v27, 1);
+                        if (((uint32_t)get64(v3 + 88) & 1) == 0) goto l145;
+                        v22 = get64(v3 + 96);
                     l149:;
                         if ((v22 - v19) < v27) {
                             v20 = v27 & 3;
@@ -10339,50 +10626,50 @@ l2:;
                         }
                         if (v12 == 0) copy(v22, v19, v27);
                     l151:;
-                        if (get64(v3 + 1752) == v21) {
-                            t3 = std_alloc_vec_Vec_grow_amortized_1598ebf9113514c4(v3 + 0x6c8, 1);
+                        if (get64(v3 + 1744) == v21) {
+                            t3 = std_alloc_vec_Vec_grow_amortized_1598ebf9113514c4(v3 + 0x6c0, 1);
                             if (t3 == 0) goto l144;
-                            v32 = get64(v3 + 1736);
-                            v21 = get64(v3 + 1744);
+                            v32 = get64(v3 + 1728);
+                            v21 = get64(v3 + 1736);
                         }
                         event = v32 + (v21 * 24);
                         put64(event + 16, v27);
                         put64(event + 8, v27);
                         put64(event, v22);
                         v21 = v21 + 1;
-                        put64(v3 + 1744, v21);
+                        put64(v3 + 1736, v21);
                         v28 = v28 + 1;
                     } while (v28 != v18);
-                    v32 = get64(v3 + 1752);
-                    v28 = get64(v3 + 1736);
+                    v32 = get64(v3 + 1744);
+                    v28 = get64(v3 + 1728);
                 l146:;
-                    if (get64(v17 + 0x1728) == get64(v17 + 0x1720)) {
-                        t4 = std_alloc_vec_Vec_grow_amortized_1598ebf9113514c4(v17 + 0x1718, 1);
+                    if (get64(v17 + 0x1760) == get64(v17 + 0x1758)) {
+                        t4 = std_alloc_vec_Vec_grow_amortized_1598ebf9113514c4(v17 + 0x1750, 1);
                         if (t4 == 0) goto l157;
                     }
-                    event = v17 + 0x10f0 + (((uint64_t)v13 & 255) * 24);
+                    event = v17 + 0x1128 + (((uint64_t)v13 & 255) * 24);
                     if (v21 <= (get64(event + 16) - get64(event + 8))) goto l136;
                     t5 = std_alloc_vec_Vec_grow_amortized_1598ebf9113514c4(event, v21);
                     if (t5 != 0) goto l136;
                 l157:;
                     if (v29 != 0) rattle_dealloc_at(v31);
-                    put64(v3 + 6384, v32);
-                    put64(v3 + 6376, v21);
-                    put64(v3 + 6368, v28);
-                    std_alloc_vec_Vec_drop_b0c2e3ac61d256b1(v3 + 0x18e0);
+                    put64(v3 + 6376, v32);
+                    put64(v3 + 6368, v21);
+                    put64(v3 + 6360, v28);
+                    std_alloc_vec_Vec_drop_b0c2e3ac61d256b1(v3 + 0x18d8);
                     v4 = 1;
-                    if (get8(v3 + 4856) != 1) goto l138;
-                    v9 = get64(v3 + 4960);
-                    v20 = get64(v3 + 4944);
-                    v13 = get8(v3 + 4936);
-                    event = get64(v3 + 4920);
-                    v8 = get64(v3 + 4904);
-                    if (get8(v3 + 4896) != 0) goto l140;
+                    if (get8(v3 + 4848) != 1) goto l138;
+                    v9 = get64(v3 + 4952);
+                    v20 = get64(v3 + 4936);
+                    v13 = get8(v3 + 4928);
+                    event = get64(v3 + 4912);
+                    v8 = get64(v3 + 4896);
+                    if (get8(v3 + 4888) != 0) goto l140;
                     if (event == 0) goto l139;
                     rattle_dealloc_at(v8);
                     goto l139;
                 l145:;
-                    v8 = get64(v3 + 1752);
+                    v8 = get64(v3 + 1744);
                     if (v21 != 0) {
                         event = v32;
                         do {
@@ -10395,9 +10682,9 @@ l2:;
                     goto l142;
                 l144:;
                     if (v12 == 0) rattle_dealloc_at(v22);
-                    v9 = get64(v3 + 1752);
-                    v32 = get64(v3 + 1736);
-                    v8 = get64(v3 + 1744);
+                    v9 = get64(v3 + 1744);
+                    v32 = get64(v3 + 1728);
+                    v8 = get64(v3 + 1736);
                     if (v8 != 0) {
                         event = v32;
                         do {
@@ -10413,17 +10700,17 @@ l2:;
                     if (v29 != 0) rattle_dealloc_at(v31);
                 }
                 v4 = 1;
-                if (get8(v3 + 4856) == 1) {
-                    v22 = get64(v3 + 4960);
-                    v19 = get64(v3 + 4944);
-                    v13 = get8(v3 + 4936);
-                    v20 = get64(v3 + 4920);
-                    v9 = get64(v3 + 4904);
-                    if (get8(v3 + 4896) == 0) {
+                if (get8(v3 + 4848) == 1) {
+                    v22 = get64(v3 + 4952);
+                    v19 = get64(v3 + 4936);
+                    v13 = get8(v3 + 4928);
+                    v20 = get64(v3 + 4912);
+                    v9 = get64(v3 + 4896);
+                    if (get8(v3 + 4888) == 0) {
                         if (v20 != 0) goto l169;
                         goto l168;
                     }
-                    v8 = get64(v3 + 4912);
+                    v8 = get64(v3 + 4904);
                     if (v8 != 0) {
                         event = v9;
                         do {
@@ -10441,26 +10728,26 @@ l2:;
                     }
                 }
                 event = 0;
-                if (get8(v3 + 4968) != 1) goto l62;
-                if (get64(v3 + 5000) == 0) goto l62;
-                rattle_dealloc_at(get64(v3 + 4984));
+                if (get8(v3 + 4960) != 1) goto l62;
+                if (get64(v3 + 4992) == 0) goto l62;
+                rattle_dealloc_at(get64(v3 + 4976));
                 event = 0;
                 goto l62;
             l140:;
-                v22 = get64(v3 + 4912);
-                put64(v3 + 6360, event);
-                put64(v3 + 6352, v22);
-                put64(v3 + 6344, v8);
-                std_alloc_vec_Vec_drop_b0c2e3ac61d256b1(v3 + 0x18c8);
+                v22 = get64(v3 + 4904);
+                put64(v3 + 6352, event);
+                put64(v3 + 6344, v22);
+                put64(v3 + 6336, v8);
+                std_alloc_vec_Vec_drop_b0c2e3ac61d256b1(v3 + 0x18c0);
             l139:;
                 if ((v13 & 255) == 2) {
                     if (v9 != 0) rattle_dealloc_at(v20);
                 }
             l138:;
                 event = 0;
-                if (get8(v3 + 4968) != 1) goto l62;
-                if (get64(v3 + 5000) == 0) goto l62;
-                rattle_dealloc_at(get64(v3 + 4984));
+                if (get8(v3 + 4960) != 1) goto l62;
+                if (get64(v3 + 4992) == 0) goto l62;
+                rattle_dealloc_at(get64(v3 + 4976));
                 event = 0;
                 goto l62;
             }
@@ -10471,32 +10758,32 @@ l2:;
             v30 = 0;
             v29 = 0;
         l136:;
-            nodes_spacecraft_Spacecraft_commit(v3 + 200, v25, v3 + 0x12c8);
-            event = get64(v17 + 0xa80);
+            nodes_spacecraft_Spacecraft_commit(v3 + 192, v25, v3 + 0x12c0);
+            event = get64(v17 + 0xab8);
             if (event != 0) {
-                v9 = v17 + 0xa98;
+                v9 = v17 + 0xad0;
                 if (get64(v9) != event) {
-                    v8 = get64(v17 + 0xa90);
+                    v8 = get64(v17 + 0xac8);
                     goto l175;
                 }
                 v8 = 0;
                 put64(v9, 0);
             l175:;
-                put64(v17 + 0xa80, event - 1);
-                put64(v17 + 0xa90, v8 + 1);
-                event = get64(v17 + 0xa78) + (v8 * 24);
+                put64(v17 + 0xab8, event - 1);
+                put64(v17 + 0xac8, v8 + 1);
+                event = get64(v17 + 0xab0) + (v8 * 24);
                 if (get64(event + 16) != 0) rattle_dealloc_at(get64(event));
             }
             if (v4 == 1) {
-                v8 = v17 + 0x1720;
+                v8 = v17 + 0x1758;
                 v9 = get64(v8);
-                event = get64(v17 + 0x1718) + (v9 * 24);
+                event = get64(v17 + 0x1750) + (v9 * 24);
                 put64(event + 16, v29);
                 put64(event + 8, v30);
                 put64(event, v31);
                 put64(v8, v9 + 1);
                 if (v21 != 0) {
-                    v22 = (v17 + (((uint64_t)v13 & 255) * 24)) + 0x10f0;
+                    v22 = (v17 + (((uint64_t)v13 & 255) * 24)) + 0x1128;
                     v19 = v22 + 8;
                     v27 = get64(v19);
                     v9 = 0;
@@ -10541,31 +10828,31 @@ l2:;
             l178:;
                 if (v32 != 0) rattle_dealloc_at(v28);
             }
-            event = (uint64_t)get16(v3 + 200) | ((uint64_t)get8(v3 + 202) << 16);
+            event = (uint64_t)get16(v3 + 192) | ((uint64_t)get8(v3 + 194) << 16);
             v7 = 7;
             v4 = 0;
-            v9 = (uint64_t)get16(v3 + 216);
-            v20 = get64(v3 + 208);
+            v9 = (uint64_t)get16(v3 + 208);
+            v20 = get64(v3 + 200);
             v24 = 0;
             goto l54;
         }
         v7 = 1;
         goto l62;
     case 5:
-        event = get64(v17 + 0xa80);
+        event = get64(v17 + 0xab8);
         if (event != 0) {
-            v9 = v17 + 0xa98;
+            v9 = v17 + 0xad0;
             if (get64(v9) != event) {
-                v8 = get64(v17 + 0xa90);
+                v8 = get64(v17 + 0xac8);
                 goto l182;
             }
             v8 = 0;
             put64(v9, 0);
         l182:;
-            put64(v17 + 0xa80, event - 1);
-            put64(v17 + 0xa90, v8 + 1);
+            put64(v17 + 0xab8, event - 1);
+            put64(v17 + 0xac8, v8 + 1);
             v7 = 2;
-            event = get64(v17 + 0xa78) + (v8 * 24);
+            event = get64(v17 + 0xab0) + (v8 * 24);
             if (get64(event + 16) == 0) goto l73;
             rattle_dealloc_at(get64(event));
             goto l73;
@@ -10573,7 +10860,7 @@ l2:;
         v7 = 1;
         goto l53;
     case 6:
-        v20 = get64(v17 + 0xa80);
+        v20 = get64(v17 + 0xab8);
         if (v20 != 0) {
             if (v9 < 5) {
                 event = 0;
@@ -10638,20 +10925,20 @@ l2:;
                 }
             }
         l185:;
-            v9 = v17 + 0xa98;
+            v9 = v17 + 0xad0;
             if (get64(v9) != v20) {
-                v8 = get64(v17 + 0xa90);
+                v8 = get64(v17 + 0xac8);
                 goto l196;
             }
             v8 = 0;
             put64(v9, 0);
         l196:;
-            put64(v17 + 0xa80, v20 - 1);
-            put64(v17 + 0xa90, v8 + 1);
-            v8 = get64(v17 + 0xa78) + (v8 * 24);
+            put64(v17 + 0xab8, v20 - 1);
+            put64(v17 + 0xac8, v8 + 1);
+            v8 = get64(v17 + 0xab0) + (v8 * 24);
             if (get64(v8 + 16) != 0) rattle_dealloc_at(get64(v8));
-            put16(v3 + 6396, 0);
-            put32(v3 + 6392, 0);
+            put16(v3 + 6388, 0);
+            put32(v3 + 6384, 0);
             v20 = 0;
             v9 = 0;
             goto l50;
@@ -10659,136 +10946,136 @@ l2:;
         v7 = 1;
         goto l53;
     case 7:
+        put64(v3 + 3264, 0);
         put64(v3 + 3272, 0);
         put64(v3 + 3280, 0);
-        put64(v3 + 3288, 0);
+        put64(v3 + 4800, 0);
         put64(v3 + 4808, 0);
         put64(v3 + 4816, 0);
-        put64(v3 + 4824, 0);
-        put16(v3 + 4832, 0);
-        v7 = get32(v17 + 404);
+        put16(v3 + 4824, 0);
+        v7 = get32(v17 + 460);
         event = (uint64_t)v7;
         if (v7 == 0) {
-            v9 = v3 + 0x3058;
+            v9 = v3 + 0x3088;
             goto l199;
         }
-        rattle_alloc_at(v3 + 128, event, 1);
+        rattle_alloc_at(v3 + 120, event, 1);
         v4 = 1;
-        if (((uint32_t)get64(v3 + 128) & 1) == 0) {
+        if (((uint32_t)get64(v3 + 120) & 1) == 0) {
             event = 0;
-            put64(v3 + 3280, 0);
             put64(v3 + 3272, 0);
-            v8 = v3 + 0xcc8;
+            put64(v3 + 3264, 0);
+            v8 = v3 + 0xcc0;
             goto l65;
         }
-        v9 = get64(v3 + 136);
+        v9 = get64(v3 + 128);
     l199:;
-        put64(v3 + 1752, event);
-        put64(v3 + 1744, 0);
-        put64(v3 + 1736, v9);
-        if (get64(v17 + 0xab0) == get64(v17 + 0xaa8)) {
-            t7 = std_alloc_vec_deque_VecDeque_grow_1598ebf9113514c4(v17 + 0xaa0);
+        put64(v3 + 1744, event);
+        put64(v3 + 1736, 0);
+        put64(v3 + 1728, v9);
+        if (get64(v17 + 0xae8) == get64(v17 + 0xae0)) {
+            t7 = std_alloc_vec_deque_VecDeque_grow_1598ebf9113514c4(v17 + 0xad8);
             if (t7 == 0) {
                 event = 0;
-                put64(v3 + 3280, 0);
                 put64(v3 + 3272, 0);
-                v8 = v3 + 0xcc8;
+                put64(v3 + 3264, 0);
+                v8 = v3 + 0xcc0;
                 v4 = 1;
                 if (v7 == 0) goto l65;
                 rattle_dealloc_at(v9);
                 goto l65;
             }
         }
-        v7 = get8(v17 + 417);
-        v4 = get8(v17 + 421);
-        v13 = get32(v17 + 348);
-        v12 = get8(v17 + 420);
-        v11 = get8(v17 + 419);
-        v6 = get8(v17 + 418);
-        fill(v3 + 0x18f8, 0, 0x800);
+        v7 = get8(v17 + 473);
+        v4 = get8(v17 + 477);
+        v13 = get32(v17 + 404);
+        v12 = get8(v17 + 476);
+        v11 = get8(v17 + 475);
+        v6 = get8(v17 + 474);
+        fill(v3 + 0x18f0, 0, 0x800);
         v11 = (v11 << 4) | (v6 << 5);
         v12 = v12 << 3;
         v20 = 0;
-        v8 = nodes_spacecraft_Spacecraft_report(v17 + 344, v3 + 0x18f8);
+        v8 = nodes_spacecraft_Spacecraft_report(v17 + 400, v3 + 0x18f0);
         if (v8 > event) {
-            t9 = std_alloc_vec_Vec_grow_amortized_49bbd27f022ae39a(v3 + 0x6c8, v8);
+            t9 = std_alloc_vec_Vec_grow_amortized_49bbd27f022ae39a(v3 + 0x6c0, v8);
             if (t9 == 0) goto l202;
-            v9 = get64(v3 + 1736);
-            event = get64(v3 + 1752);
-            v20 = get64(v3 + 1744);
+            v9 = get64(v3 + 1728);
+            event = get64(v3 + 1744);
+            v20 = get64(v3 + 1736);
         }
-        if (v8 != 0) copy(v9 + v20, v3 + 0x18f8, v8);
-        put64(v3 + 1752, event);
-        put64(v3 + 1744, v20 + v8);
+        if (v8 != 0) copy(v9 + v20, v3 + 0x18f0, v8);
+        put64(v3 + 1744, event);
+        put64(v3 + 1736, v20 + v8);
     l202:;
         v12 = v11 | v12;
-        event = get64(v17 + 0xaa0);
-        v8 = get64(v17 + 0xaa8);
-        v20 = v17 + 0xac0;
+        event = get64(v17 + 0xad8);
+        v8 = get64(v17 + 0xae0);
+        v20 = v17 + 0xaf8;
         v9 = get64(v20);
         v22 = v8 - v9;
-        v19 = get64(v17 + 0xab8);
-        if (v22 < (get64(v17 + 0xab0) - v19)) {
+        v19 = get64(v17 + 0xaf0);
+        if (v22 < (get64(v17 + 0xae8) - v19)) {
             event = event + ((v19 + v22) * 24);
-            put64(event + 16, get64(v3 + 1752));
-            put64(event + 8, get64(v3 + 1744));
-            put64(event, get64(v3 + 1736));
+            put64(event + 16, get64(v3 + 1744));
+            put64(event + 8, get64(v3 + 1736));
+            put64(event, get64(v3 + 1728));
             goto l205;
         }
         event = event + (v9 * 24);
-        put64(event + 16, get64(v3 + 1752));
-        put64(event + 8, get64(v3 + 1744));
-        put64(event, get64(v3 + 1736));
+        put64(event + 16, get64(v3 + 1744));
+        put64(event + 8, get64(v3 + 1736));
+        put64(event, get64(v3 + 1728));
         put64(v20, v9 + 1);
     l205:;
-        put64(v17 + 0xaa8, v8 + 1);
+        put64(v17 + 0xae0, v8 + 1);
         t10 = (((((uint64_t)v4 & 255) << 24) | (uint64_t)((v13 << 8) & 0xff00)) | ((uint64_t)v7 << 32)) |
             (((uint64_t)v12 & 255) << 16);
         v23 = (uint32_t)(t10 >> 8);
-        v8 = (v3 + 0x12c8) | 2;
+        v8 = (v3 + 0x12c0) | 2;
         v7 = 6;
         v4 = 0;
-        event = get64(v3 + 4810);
+        event = get64(v3 + 4802);
         goto l64;
     case 8:
         event = 0;
-        put64(v3 + 6416, 0);
         put64(v3 + 6408, 0);
         put64(v3 + 6400, 0);
         put64(v3 + 6392, 0);
+        put64(v3 + 6384, 0);
         v4 = 1;
-        v8 = get64(v17 + 0xaa8);
+        v8 = get64(v17 + 0xae0);
         if (v8 != 0) {
-            event = get64(v17 + 0xaa0);
-            if (v8 != get64(v17 + 0xac0)) event = event + (get64(v17 + 0xab8) * 24);
+            event = get64(v17 + 0xad8);
+            if (v8 != get64(v17 + 0xaf8)) event = event + (get64(v17 + 0xaf0) * 24);
             v7 = get8(v17 + 75);
             v13 = get8(v17 + 73);
-            nodes_ground_node_Ground_telemetry(v3 + 0x18f8, v17, get64(event), get64(event + 8));
-            if (get8(v3 + 6392) == 0) {
-                v9 = (uint64_t)get32(v3 + 6416);
-                v20 = get64(v3 + 6408);
-                v8 = (uint64_t)get8(v3 + 6402);
-                v22 = (uint64_t)get8(v3 + 6401);
-                v19 = (uint64_t)get8(v3 + 6400);
-                event = get64(v17 + 0xaa8);
+            nodes_ground_node_Ground_telemetry(v3 + 0x18f0, v17, get64(event), get64(event + 8));
+            if (get8(v3 + 6384) == 0) {
+                v9 = (uint64_t)get32(v3 + 6408);
+                v20 = get64(v3 + 6400);
+                v8 = (uint64_t)get8(v3 + 6394);
+                v22 = (uint64_t)get8(v3 + 6393);
+                v19 = (uint64_t)get8(v3 + 6392);
+                event = get64(v17 + 0xae0);
                 if (event != 0) {
-                    v26 = v17 + 0xac0;
+                    v26 = v17 + 0xaf8;
                     if (get64(v26) != event) {
-                        v21 = get64(v17 + 0xab8);
+                        v21 = get64(v17 + 0xaf0);
                         goto l211;
                     }
                     v21 = 0;
                     put64(v26, 0);
                 l211:;
-                    put64(v17 + 0xaa8, event - 1);
-                    put64(v17 + 0xab8, v21 + 1);
-                    event = get64(v17 + 0xaa0) + (v21 * 24);
+                    put64(v17 + 0xae0, event - 1);
+                    put64(v17 + 0xaf0, v21 + 1);
+                    event = get64(v17 + 0xad8) + (v21 * 24);
                     if (get64(event + 16) != 0) rattle_dealloc_at(get64(event));
                 }
-                event = v17 + 0x1708;
+                event = v17 + 0x1740;
                 put64(event, get64(event) + ((uint64_t)(get8(v17 + 75) - v7) & 255));
                 v7 = 1;
-                event = v17 + 0xad0;
+                event = v17 + 0xb08;
                 if (get8(event) == 0) v7 = ((v13 - 3) & 255) < 2 && get8(v17 + 73) == 0;
                 put8(event, v7);
                 event = ((v22 << 8) | v19) | (v8 << 16);
@@ -10803,20 +11090,20 @@ l2:;
         v7 = 1;
         goto l67;
     case 9:
-        event = get64(v17 + 0xaa8);
+        event = get64(v17 + 0xae0);
         if (event != 0) {
-            v9 = v17 + 0xac0;
+            v9 = v17 + 0xaf8;
             if (get64(v9) != event) {
-                v8 = get64(v17 + 0xab8);
+                v8 = get64(v17 + 0xaf0);
                 goto l215;
             }
             v8 = 0;
             put64(v9, 0);
         l215:;
-            put64(v17 + 0xaa8, event - 1);
-            put64(v17 + 0xab8, v8 + 1);
+            put64(v17 + 0xae0, event - 1);
+            put64(v17 + 0xaf0, v8 + 1);
             v7 = 2;
-            event = get64(v17 + 0xaa0) + (v8 * 24);
+            event = get64(v17 + 0xad8) + (v8 * 24);
             if (get64(event + 16) == 0) goto l73;
             rattle_dealloc_at(get64(event));
             goto l73;
@@ -10825,39 +11112,39 @@ l2:;
         goto l53;
     case 10:
         v20 = 0;
-        put64(v3 + 6432, 0);
         put64(v3 + 6424, 0);
         put64(v3 + 6416, 0);
         put64(v3 + 6408, 0);
         put64(v3 + 6400, 0);
         put64(v3 + 6392, 0);
-        if (get64(v17 + 0xaa8) == 0) {
+        put64(v3 + 6384, 0);
+        if (get64(v17 + 0xae0) == 0) {
             v4 = 1;
             v7 = 1;
             event = 0;
             goto l217;
         }
-        tm_link_decoding_decode(v3 + 0x18f8, v8, v9, (uint64_t)get32(v17 + 60));
+        tm_link_decoding_decode(v3 + 0x18f0, v8, v9, (uint64_t)get32(v17 + 60));
         v4 = 1;
-        if (get8(v3 + 6392) != 1) {
+        if (get8(v3 + 6384) != 1) {
             v7 = 2;
             event = 0;
             goto l217;
         }
-        v8 = (uint64_t)get8(v3 + 6393);
-        event = get64(v17 + 0xaa8);
+        v8 = (uint64_t)get8(v3 + 6385);
+        event = get64(v17 + 0xae0);
         if (event != 0) {
-            v22 = v17 + 0xac0;
+            v22 = v17 + 0xaf8;
             if (get64(v22) != event) {
-                v9 = get64(v17 + 0xab8);
+                v9 = get64(v17 + 0xaf0);
                 goto l221;
             }
             v9 = 0;
             put64(v22, 0);
         l221:;
-            put64(v17 + 0xaa8, event - 1);
-            put64(v17 + 0xab8, v9 + 1);
-            event = get64(v17 + 0xaa0) + (v9 * 24);
+            put64(v17 + 0xae0, event - 1);
+            put64(v17 + 0xaf0, v9 + 1);
+            event = get64(v17 + 0xad8) + (v9 * 24);
             if (get64(event + 16) != 0) rattle_dealloc_at(get64(event));
         }
         event = v8 << 8;
@@ -10868,45 +11155,45 @@ l2:;
         v24 = 0;
         goto l55;
     case 11:
-        nodes_ground_node_Ground_tick(v3 + 144, v17);
-        if (get8(v3 + 144) == 0) goto l73;
-        v34 = get8(v3 + 145);
-        put16(v3 + 6396, 0);
-        put32(v3 + 6392, 0);
+        nodes_ground_node_Ground_tick(v3 + 136, v17);
+        if (get8(v3 + 136) == 0) goto l73;
+        v34 = get8(v3 + 137);
+        put16(v3 + 6388, 0);
+        put32(v3 + 6384, 0);
         event = 0;
         v20 = 0;
         v9 = 0;
         goto l49;
     case 12:
-        event = get64(v17 + 0x9c8);
+        event = get64(v17 + 0xa00);
         if (event != 0) {
-            v9 = v17 + 0x9e0;
+            v9 = v17 + 0xa18;
             if (get64(v9) != event) {
-                v8 = get64(v17 + 0x9d8);
+                v8 = get64(v17 + 0xa10);
                 goto l224;
             }
             v8 = 0;
             put64(v9, 0);
         l224:;
             v9 = event - 1;
-            put64(v17 + 0x9c8, v9);
-            put64(v17 + 0x9d8, v8 + 1);
-            v8 = get64(v17 + 0x9c0) + (v8 << 5);
+            put64(v17 + 0xa00, v9);
+            put64(v17 + 0xa10, v8 + 1);
+            v8 = get64(v17 + 0x9f8) + (v8 << 5);
             v22 = get64(v8 + 24);
             v20 = get64(v8 + 16);
             event = get64(v8 + 8);
             v35 = get8(v8);
-            if (v9 < (uint64_t)get32(v17 + 392)) put8(v17 + 419, 0);
+            if (v9 < (uint64_t)get32(v17 + 448)) put8(v17 + 475, 0);
             if (v22 > v20) {
                 v9 = 0;
                 if (v20 != 0) {
-                    rattle_realloc_at(v3 + 152, event, v20, v20, 1);
-                    if (((uint32_t)get64(v3 + 152) & 1) != 0) goto l72;
+                    rattle_realloc_at(v3 + 144, event, v20, v20, 1);
+                    if (((uint32_t)get64(v3 + 144) & 1) != 0) goto l72;
                     v9 = v22;
                     goto l70;
                 }
                 rattle_dealloc_at(event);
-                event = v3 + 0x3058;
+                event = v3 + 0x3088;
                 v20 = 0;
                 goto l70;
             }
@@ -10916,30 +11203,30 @@ l2:;
         v7 = 1;
         goto l73;
     case 13:
-        event = v17 + 0x9f8;
+        event = v17 + 0xa30;
         v8 = get64(event);
         if (v8 != 0) {
             put64(event, v8 - 1);
-            event = v17 + 0xa00;
+            event = v17 + 0xa38;
             t11 = event;
             event = get64(event);
             v8 = event + 1;
-            v9 = get64(v17 + 0x9f0);
+            v9 = get64(v17 + 0xa28);
             put64(t11, v8 - ((v8 < v9) ? 0ULL : v9));
-            v8 = get64(v17 + 0x9e8) + (event << 5);
+            v8 = get64(v17 + 0xa20) + (event << 5);
             event = get64(v8 + 8);
             v35 = get8(v8);
             v9 = get64(v8 + 24);
             v20 = get64(v8 + 16);
             if (v9 <= v20) goto l70;
             if (v20 != 0) {
-                rattle_realloc_at(v3 + 168, event, v20, v20, 1);
-                if (((uint32_t)get64(v3 + 168) & 1) == 0) goto l70;
-                event = get64(v3 + 176);
+                rattle_realloc_at(v3 + 160, event, v20, v20, 1);
+                if (((uint32_t)get64(v3 + 160) & 1) == 0) goto l70;
+                event = get64(v3 + 168);
                 goto l71;
             }
             rattle_dealloc_at(event);
-            event = v3 + 0x3058;
+            event = v3 + 0x3088;
             v9 = 0;
             v20 = 0;
             goto l70;
@@ -10947,40 +11234,40 @@ l2:;
         v7 = 1;
         goto l73;
     case 14:
-        nodes_spacecraft_Spacecraft_telemetry(v3 + 184, v17 + 344, v8, v9);
-        if (get8(v3 + 184) == 0) goto l73;
-        v23 = get8(v3 + 185);
+        nodes_spacecraft_Spacecraft_telemetry(v3 + 176, v17 + 400, v8, v9);
+        if (get8(v3 + 176) == 0) goto l73;
+        v23 = get8(v3 + 177);
         if ((v23 & 255) == 6) goto l61;
-        put16(v3 + 6396, 0);
-        put32(v3 + 6392, 0);
+        put16(v3 + 6388, 0);
+        put32(v3 + 6384, 0);
         event = 0;
         v34 = 2;
         v20 = 0;
         v9 = 0;
         goto l48;
     default:
-        fill(v3 + 0x18f8, 0, 128);
-        put64(v3 + 1752, 0);
+        fill(v3 + 0x18f0, 0, 128);
         put64(v3 + 1744, 0);
         put64(v3 + 1736, 0);
-        nodes_ground_node_Ground_prepare(v3 + 0x18f8, v17, v13, v8, v9);
-        if (get8(v3 + 6392) != 0) {
-            v7 = get8(v3 + 6393);
+        put64(v3 + 1728, 0);
+        nodes_ground_node_Ground_prepare(v3 + 0x18f0, v17, v13, v8, v9);
+        if (get8(v3 + 6384) != 0) {
+            v7 = get8(v3 + 6385);
             v4 = v7 == 5;
             v23 = (v4 != 0) ? 0U : v7;
             v7 = (v4 != 0) ? 0U : 3U;
             goto l56;
         }
-        copy(v3 + 0x12c8, v3 + 0x1900, 120);
+        copy(v3 + 0x12c0, v3 + 0x18f8, 120);
         v4 = v9 == 0;
         if (v4 != 0) {
-            v18 = v3 + 0x3058;
+            v18 = v3 + 0x3088;
             goto l92;
         }
         if (v9 > 0x7fffffffffffffffULL) goto l90;
-        rattle_alloc_at(v3 + 40, v9, 1);
-        if (((uint32_t)get64(v3 + 40) & 1) == 0) goto l90;
-        v18 = get64(v3 + 48);
+        rattle_alloc_at(v3 + 32, v9, 1);
+        if (((uint32_t)get64(v3 + 32) & 1) == 0) goto l90;
+        v18 = get64(v3 + 40);
     l92:;
         if ((v18 - v8) < v9) {
             v19 = v9 & 3;
@@ -11013,16 +11300,16 @@ l2:;
         copy(v18, v8, v9);
         goto l58;
     l90:;
-        if (get8(v3 + 4848) == 1) {
-            if (get64(v3 + 4872) != 0) rattle_dealloc_at(get64(v3 + 4856));
+        if (get8(v3 + 4840) == 1) {
+            if (get64(v3 + 4864) != 0) rattle_dealloc_at(get64(v3 + 4848));
         }
-        event = get64(v3 + 4912);
-        v9 = get64(v3 + 4896);
-        if (get8(v3 + 4880) != 0) {
-            v22 = get64(v3 + 4904);
-            v20 = get64(v3 + 4888);
+        event = get64(v3 + 4904);
+        v9 = get64(v3 + 4888);
+        if (get8(v3 + 4872) != 0) {
+            v22 = get64(v3 + 4896);
+            v20 = get64(v3 + 4880);
             if (v9 != 0) {
-                v8 = get64(v3 + 4920);
+                v8 = get64(v3 + 4912);
                 v9 = v9 - v8;
                 if (event < (v9 + event)) {
                     event = ((event << 5) + v20) + 24;
@@ -11054,8 +11341,8 @@ l74:;
     nodes_ground_node_Ground_advance(v17);
 l73:;
     v36 = 0;
-    put16(v3 + 6396, 0);
-    put32(v3 + 6392, 0);
+    put16(v3 + 6388, 0);
+    put32(v3 + 6384, 0);
     event = 0;
     v20 = 0;
     v9 = 0;
@@ -11063,13 +11350,13 @@ l73:;
     v21 = 0;
     goto l41;
 l72:;
-    event = get64(v3 + 160);
+    event = get64(v3 + 152);
 l71:;
     v9 = v20;
 l70:;
     v36 = 0;
-    put16(v3 + 6396, 0);
-    put32(v3 + 6392, 0);
+    put16(v3 + 6388, 0);
+    put32(v3 + 6384, 0);
     v8 = 0;
     v7 = 9;
     v21 = v20;
@@ -11121,9 +11408,9 @@ l61:;
     goto l53;
 l60:;
     v6 = 0;
-    event = get64(v17 + 0xa80);
-    if (event == 0) v6 = get64(v17 + 0xaa8) == 0;
-    v13 = get8(v17 + 417);
+    event = get64(v17 + 0xab8);
+    if (event == 0) v6 = get64(v17 + 0xae0) == 0;
+    v13 = get8(v17 + 473);
     if (v11 != 0) {
         v7 = 0;
         if ((v13 & 255) != get8(v17 + 74)) {
@@ -11133,11 +11420,11 @@ l60:;
     }
     v4 = 0;
     if (event == 0) {
-        v7 = ((get8(v17 + 419) << 4) | (get8(v17 + 418) << 5)) | (get8(v17 + 420) << 3);
-        v9 = get64(v17 + 0xaa0);
+        v7 = ((get8(v17 + 475) << 4) | (get8(v17 + 474) << 5)) | (get8(v17 + 476) << 3);
+        v9 = get64(v17 + 0xad8);
         v20 = v17 + 60;
-        event = get64(v17 + 0xaa8);
-        v19 = get64(v17 + 0xac0);
+        event = get64(v17 + 0xae0);
+        v19 = get64(v17 + 0xaf8);
         if (event == v19) {
             event = v9;
             v8 = v19;
@@ -11145,7 +11432,7 @@ l60:;
             goto l234;
         }
         v8 = event - v19;
-        event = v9 + (get64(v17 + 0xab8) * 24);
+        event = v9 + (get64(v17 + 0xaf0) * 24);
     l234:;
         v21 = (uint64_t)get32(v20);
         v11 = v13 & 255;
@@ -11169,15 +11456,15 @@ l60:;
         l237:;
             v9 = get64(event + 8);
             event = get64(event);
-            put64(v3 + 6432, 0);
             put64(v3 + 6424, 0);
             put64(v3 + 6416, 0);
             put64(v3 + 6408, 0);
             put64(v3 + 6400, 0);
             put64(v3 + 6392, 0);
-            tm_link_decoding_decode(v3 + 0x18f8, event, v9, v21);
-            if (get8(v3 + 6392) != 0) goto l233;
-            v7 = get32(v3 + 6432);
+            put64(v3 + 6384, 0);
+            tm_link_decoding_decode(v3 + 0x18f0, event, v9, v21);
+            if (get8(v3 + 6384) != 0) goto l233;
+            v7 = get32(v3 + 6424);
             if ((v7 & 227) != 1) goto l233;
             v13 = v7 >> 16;
             if ((((v7 >> 8) & 3) | (v13 & 1)) != 0) goto l233;
@@ -11189,28 +11476,28 @@ l60:;
 l233:;
     v7 = v12;
 l59:;
-    nodes_ground_node_Ground_directive(v3 + 0x18c8, v17, v3 + 0x18e0);
-    v23 = get8(v3 + 6345);
-    if (get8(v3 + 6344) != 0) {
+    nodes_ground_node_Ground_directive(v3 + 0x18c0, v17, v3 + 0x18d8);
+    v23 = get8(v3 + 6337);
+    if (get8(v3 + 6336) != 0) {
         v34 = 1;
         v7 = 3;
         goto l240;
     }
-    v13 = get8(v3 + 6346);
+    v13 = get8(v3 + 6338);
     if (v7 <= 3) {
-        v7 = get32(v3 + 6368);
-        fill(v3 + 0xcc8, 0, 0x600);
-        fill(v3 + 200, 0, 0x600);
-        put8(v17 + 0xad0, 0);
-        put8(v17 + 0xacf, v4);
-        put8(v17 + 0xace, v6);
-        put32(v17 + 0xaca, v7);
-        put16(v17 + 0xac8, 1);
-        event = v17 + 0xae0;
+        v7 = get32(v3 + 6360);
+        fill(v3 + 0xcc0, 0, 0x600);
+        fill(v3 + 192, 0, 0x600);
+        put8(v17 + 0xb08, 0);
+        put8(v17 + 0xb07, v4);
+        put8(v17 + 0xb06, v6);
+        put32(v17 + 0xb02, v7);
+        put16(v17 + 0xb00, 1);
+        event = v17 + 0xb18;
         v8 = get64(event);
         if (v8 != 0) {
-            v20 = get64(v17 + 0xae8);
-            v9 = get64(v17 + 0xad8);
+            v20 = get64(v17 + 0xb20);
+            v9 = get64(v17 + 0xb10);
             put64(event + 8, 0);
             put64(event, 0);
             event = v9 + 24;
@@ -11219,15 +11506,15 @@ l59:;
                 event = event + 32;
                 v8 = v8 - 1;
             } while (v8 != 0);
-            put64(v17 + 0xae8, v20);
-            put64(v17 + 0xae0, 0);
-            put64(v17 + 0xad8, v9);
+            put64(v17 + 0xb20, v20);
+            put64(v17 + 0xb18, 0);
+            put64(v17 + 0xb10, v9);
         }
-        fill(v3 + 0x12c8, 0, 0x600);
+        fill(v3 + 0x12c0, 0, 0x600);
         v8 = 0;
         do {
-            event = v3 + 0x12c8 + v8;
-            put64(event, v3 + 0x3058);
+            event = v3 + 0x12c0 + v8;
+            put64(event, v3 + 0x3088);
             put64(event + 8, 0);
             put64(event + 16, 0);
             put64(event + 32, 0);
@@ -11236,17 +11523,17 @@ l59:;
             put64(event + 64, 0);
             put64(event + 80, 0);
             put64(event + 88, 0);
-            put64(event + 24, v3 + 0x3058);
-            put64(event + 48, v3 + 0x3058);
-            put64(event + 72, v3 + 0x3058);
+            put64(event + 24, v3 + 0x3088);
+            put64(event + 48, v3 + 0x3088);
+            put64(event + 72, v3 + 0x3088);
             v8 = v8 + 96;
         } while (v8 != 0x600);
-        event = v17 + 0xaf0;
-        copy(v3 + 0x6c8, event, 0x600);
-        copy(event, v3 + 0x12c8, 0x600);
+        event = v17 + 0xb28;
+        copy(v3 + 0x6c0, event, 0x600);
+        copy(event, v3 + 0x12c0, 0x600);
         v9 = 0;
         do {
-            event = v3 + 0x6c8 + (v9 * 24);
+            event = v3 + 0x6c0 + (v9 * 24);
             v22 = get64(event + 16);
             v20 = get64(event);
             v8 = get64(event + 8);
@@ -11261,11 +11548,11 @@ l59:;
             if (v22 != 0) rattle_dealloc_at(v20);
             v9 = v9 + 1;
         } while (v9 != 64);
-        fill(v3 + 0x18f8, 0, 0x600);
+        fill(v3 + 0x18f0, 0, 0x600);
         v8 = 0;
         do {
-            event = v3 + 0x18f8 + v8;
-            put64(event, v3 + 0x3058);
+            event = v3 + 0x18f0 + v8;
+            put64(event, v3 + 0x3088);
             put64(event + 8, 0);
             put64(event + 16, 0);
             put64(event + 32, 0);
@@ -11274,18 +11561,18 @@ l59:;
             put64(event + 64, 0);
             put64(event + 80, 0);
             put64(event + 88, 0);
-            put64(event + 24, v3 + 0x3058);
-            put64(event + 48, v3 + 0x3058);
-            put64(event + 72, v3 + 0x3058);
+            put64(event + 24, v3 + 0x3088);
+            put64(event + 48, v3 + 0x3088);
+            put64(event + 72, v3 + 0x3088);
             v8 = v8 + 96;
         } while (v8 != 0x600);
-        copy(v3 + 0xcc8, v3 + 0x18f8, 0x600);
-        event = v17 + 0x10f0;
-        copy(v3 + 200, event, 0x600);
-        copy(event, v3 + 0xcc8, 0x600);
+        copy(v3 + 0xcc0, v3 + 0x18f0, 0x600);
+        event = v17 + 0x1128;
+        copy(v3 + 192, event, 0x600);
+        copy(event, v3 + 0xcc0, 0x600);
         v9 = 0;
         do {
-            event = v3 + 200 + (v9 * 24);
+            event = v3 + 192 + (v9 * 24);
             v22 = get64(event + 16);
             v20 = get64(event);
             v8 = get64(event + 8);
@@ -11300,11 +11587,11 @@ l59:;
             if (v22 != 0) rattle_dealloc_at(v20);
             v9 = v9 + 1;
         } while (v9 != 64);
-        event = v17 + 0x16f8;
+        event = v17 + 0x1730;
         v8 = get64(event);
         if (v8 != 0) {
-            v20 = get64(v17 + 0x1700);
-            v9 = get64(v17 + 0x16f0);
+            v20 = get64(v17 + 0x1738);
+            v9 = get64(v17 + 0x1728);
             put64(event + 8, 0);
             put64(event, 0);
             event = v9;
@@ -11313,12 +11600,12 @@ l59:;
                 event = event + 24;
                 v8 = v8 - 1;
             } while (v8 != 0);
-            put64(v17 + 0x1700, v20);
-            put64(v17 + 0x16f8, 0);
-            put64(v17 + 0x16f0, v9);
+            put64(v17 + 0x1738, v20);
+            put64(v17 + 0x1730, 0);
+            put64(v17 + 0x1728, v9);
         }
-        put64(v17 + 0x1708, 0);
-        put64(v17 + 0x1710, get64(v17 + 0x1720));
+        put64(v17 + 0x1740, 0);
+        put64(v17 + 0x1748, get64(v17 + 0x1758));
     }
     v4 = v23 & 255;
     v23 = 0;
@@ -11331,23 +11618,23 @@ l240:;
     event = 0;
     goto l52;
 l58:;
-    v7 = get8(v3 + 4848) == 1;
-    v29 = (v7 != 0) ? get64(v3 + 4864) : 1ULL;
+    v7 = get8(v3 + 4840) == 1;
+    v29 = (v7 != 0) ? get64(v3 + 4856) : 1ULL;
     if (v29 == 0) {
-        v8 = v3 + 0x3058;
+        v8 = v3 + 0x3088;
         v20 = 0;
         v25 = 0;
         goto l268;
     }
     if (v29 > 0x555555555555555ULL) goto l261;
-    event = get64(v3 + 4856);
-    rattle_alloc_at(v3 + 24, v29 * 24, 8);
-    if (((uint32_t)get64(v3 + 24) & 1) == 0) goto l261;
-    v30 = (v7 != 0) ? event : (v3 + 0x12e0);
-    v31 = get64(v3 + 32);
-    put64(v3 + 3288, v29);
-    put64(v3 + 3280, 0);
-    put64(v3 + 3272, v31);
+    event = get64(v3 + 4848);
+    rattle_alloc_at(v3 + 16, v29 * 24, 8);
+    if (((uint32_t)get64(v3 + 16) & 1) == 0) goto l261;
+    v30 = (v7 != 0) ? event : (v3 + 0x12d8);
+    v31 = get64(v3 + 24);
+    put64(v3 + 3280, v29);
+    put64(v3 + 3272, 0);
+    put64(v3 + 3264, v31);
     v25 = 0;
     v28 = 0;
     do {
@@ -11356,13 +11643,13 @@ l58:;
         v27 = get64(event + 8);
         v7 = v27 == 0;
         if (v7 != 0) {
-            v19 = v3 + 0x3058;
+            v19 = v3 + 0x3088;
             goto l271;
         }
         if (v27 > 0x7fffffffffffffffULL) goto l267;
-        rattle_alloc_at(v3 + 8, v27, 1);
-        if (((uint32_t)get64(v3 + 8) & 1) == 0) goto l267;
-        v19 = get64(v3 + 16);
+        rattle_alloc_at(v3, v27, 1);
+        if (((uint32_t)get64(v3) & 1) == 0) goto l267;
+        v19 = get64(v3 + 8);
     l271:;
         if ((v19 - v21) < v27) {
             v22 = v27 & 3;
@@ -11393,13 +11680,13 @@ l58:;
         }
         if (v7 == 0) copy(v19, v21, v27);
     l273:;
-        if (get64(v3 + 3288) == v25) {
-            t12 = std_alloc_vec_Vec_grow_amortized_1598ebf9113514c4(v3 + 0xcc8, 1);
+        if (get64(v3 + 3280) == v25) {
+            t12 = std_alloc_vec_Vec_grow_amortized_1598ebf9113514c4(v3 + 0xcc0, 1);
             if (t12 == 0) {
                 if (v7 == 0) rattle_dealloc_at(v19);
-                v9 = get64(v3 + 3288);
-                v31 = get64(v3 + 3272);
-                v8 = get64(v3 + 3280);
+                v9 = get64(v3 + 3280);
+                v31 = get64(v3 + 3264);
+                v8 = get64(v3 + 3272);
                 if (v8 != 0) {
                     event = v31;
                     do {
@@ -11411,35 +11698,35 @@ l58:;
                 if (v9 != 0) goto l262;
                 goto l261;
             }
-            v31 = get64(v3 + 3272);
-            v25 = get64(v3 + 3280);
+            v31 = get64(v3 + 3264);
+            v25 = get64(v3 + 3272);
         }
         event = v31 + (v25 * 24);
         put64(event + 16, v27);
         put64(event + 8, v27);
         put64(event, v19);
         v25 = v25 + 1;
-        put64(v3 + 3280, v25);
+        put64(v3 + 3272, v25);
         v28 = v28 + 1;
     } while (v28 != v29);
-    v20 = get64(v3 + 3288);
-    v8 = get64(v3 + 3272);
+    v20 = get64(v3 + 3280);
+    v8 = get64(v3 + 3264);
 l268:;
-    if (get64(v17 + 0xae8) == get64(v17 + 0xae0)) {
-        t13 = std_alloc_vec_Vec_grow_amortized_722da43a23cbcade(v17 + 0xad8);
+    if (get64(v17 + 0xb20) == get64(v17 + 0xb18)) {
+        t13 = std_alloc_vec_Vec_grow_amortized_722da43a23cbcade(v17 + 0xb10);
         if (t13 == 0) goto l265;
     }
-    v22 = v17 + 0xaf0;
+    v22 = v17 + 0xb28;
     event = v22 + (((uint64_t)v13 & 255) * 24);
     if (v25 > (get64(event + 16) - get64(event + 8))) {
         t14 = std_alloc_vec_Vec_grow_amortized_1598ebf9113514c4(event, v25);
         if (t14 == 0) goto l264;
     }
-    nodes_ground_node_Ground_commit(v17, v3 + 0x12c8);
+    nodes_ground_node_Ground_commit(v17, v3 + 0x12c0);
     v4 = 0;
-    v19 = v17 + 0xae0;
+    v19 = v17 + 0xb18;
     v21 = get64(v19);
-    event = get64(v17 + 0xad8) + (v21 << 5);
+    event = get64(v17 + 0xb10) + (v21 << 5);
     put32(event + 1, 0);
     put8(event, v13);
     put32(event + 4, 0);
@@ -11447,15 +11734,15 @@ l268:;
     put64(event + 16, v9);
     put64(event + 8, v18);
     put64(v19, v21 + 1);
-    put64(v3 + 1752, v20);
-    put64(v3 + 1744, v25);
-    put64(v3 + 1736, v8);
-    simulated_link_map_lists_append_on(v22, v13, v3 + 0x6c8);
+    put64(v3 + 1744, v20);
+    put64(v3 + 1736, v25);
+    put64(v3 + 1728, v8);
+    simulated_link_map_lists_append_on(v22, v13, v3 + 0x6c0);
     v7 = 0;
     v23 = 0;
     goto l56;
 l267:;
-    v8 = get64(v3 + 3288);
+    v8 = get64(v3 + 3280);
     if (v25 != 0) {
         event = v31;
         do {
@@ -11478,16 +11765,16 @@ l264:;
 l263:;
     if (v20 != 0) rattle_dealloc_at(v8);
     if (v4 == 0) rattle_dealloc_at(v18);
-    if (get8(v3 + 4848) == 1) {
-        if (get64(v3 + 4872) != 0) rattle_dealloc_at(get64(v3 + 4856));
+    if (get8(v3 + 4840) == 1) {
+        if (get64(v3 + 4864) != 0) rattle_dealloc_at(get64(v3 + 4848));
     }
-    event = get64(v3 + 4912);
-    v9 = get64(v3 + 4896);
-    if (get8(v3 + 4880) != 0) {
-        v22 = get64(v3 + 4904);
-        v20 = get64(v3 + 4888);
+    event = get64(v3 + 4904);
+    v9 = get64(v3 + 4888);
+    if (get8(v3 + 4872) != 0) {
+        v22 = get64(v3 + 4896);
+        v20 = get64(v3 + 4880);
         if (v9 != 0) {
-            v8 = get64(v3 + 4920);
+            v8 = get64(v3 + 4912);
             v9 = v9 - v8;
             if (event < (v9 + event)) {
                 event = ((event << 5) + v20) + 24;
@@ -11517,20 +11804,20 @@ l262:;
     rattle_dealloc_at(v31);
 l261:;
     if (v4 == 0) rattle_dealloc_at(v18);
-    if (get8(v3 + 4848) == 1) {
-        if (get64(v3 + 4872) != 0) rattle_dealloc_at(get64(v3 + 4856));
+    if (get8(v3 + 4840) == 1) {
+        if (get64(v3 + 4864) != 0) rattle_dealloc_at(get64(v3 + 4848));
     }
-    event = get64(v3 + 4912);
-    v9 = get64(v3 + 4896);
-    if (get8(v3 + 4880) == 0) {
+    event = get64(v3 + 4904);
+    v9 = get64(v3 + 4888);
+    if (get8(v3 + 4872) == 0) {
         if (event == 0) goto l57;
         rattle_dealloc_at(v9);
         goto l57;
     }
-    v22 = get64(v3 + 4904);
-    v20 = get64(v3 + 4888);
+    v22 = get64(v3 + 4896);
+    v20 = get64(v3 + 4880);
     if (v9 != 0) {
-        v8 = get64(v3 + 4920);
+        v8 = get64(v3 + 4912);
         v9 = v9 - v8;
         if (event < (v9 + event)) {
             event = ((event << 5) + v20) + 24;
@@ -11570,8 +11857,8 @@ l53:;
     goto l31;
 l52:;
     v36 = 0;
-    put16(v3 + 6396, 0);
-    put32(v3 + 6392, 0);
+    put16(v3 + 6388, 0);
+    put32(v3 + 6384, 0);
     v21 = 0;
     v8 = 0;
     v22 = 0;
@@ -11833,8 +12120,8 @@ l34:;
 l33:;
     v35 = 0;
 l32:;
-    put16(v3 + 196, get16(v3 + 6396));
-    put32(v3 + 192, get32(v3 + 6392));
+    put16(v3 + 188, get16(v3 + 6388));
+    put32(v3 + 184, get32(v3 + 6384));
     put8(reply + 44, (uint32_t)(v8 >> 32));
     put32(reply + 40, (uint32_t)v8);
     put8(reply + 49, v35);
@@ -11861,18 +12148,18 @@ l32:;
     put8(reply + 16, v36);
     put64(reply + 8, v22);
     put64(reply, v21);
-    put16(reply + 54, get16(v3 + 196));
-    put32(reply + 50, get32(v3 + 192));
+    put16(reply + 54, get16(v3 + 188));
+    put32(reply + 50, get32(v3 + 184));
     if (((1U << (v7 & 31)) & 479) != 0) {
-        event = v3 + 0x3058;
+        event = v3 + 0x3088;
         v20 = 0;
         v9 = 0;
     }
-    put64(v17 + 0x1750, v20);
-    reply = v17 + 0x1758;
+    put64(v17 + 0x1788, v20);
+    reply = v17 + 0x1790;
     v8 = get64(reply);
     put64(reply, v9);
-    reply = v17 + 0x1748;
+    reply = v17 + 0x1780;
     v9 = get64(reply);
     put64(reply, event);
     v7 = 0;
@@ -11881,16 +12168,16 @@ l31:;
     event = get64(sim);
     put64(sim, v17);
     if (event == 0) return v7;
-    copy(v3 + 0x18f8, event, 0x1760);
+    copy(v3 + 0x18f0, event, 0x1798);
     rattle_dealloc_at(event);
-    sedgechisel_nodes_sedgechisel_nodes_sim_link_Link_Destruct_drop(v3 + 0x18f8);
+    sedgechisel_nodes_sedgechisel_nodes_sim_link_Link_Destruct_drop(v3 + 0x18f0);
     return v7;
 }
 
 static uint32_t sedge_sim_submission_at(uint64_t sim, uint64_t k, uint64_t map, uint64_t out, uint64_t room, uint64_t
     count)
 {
-    unsigned char frame_octets[5984 + 15];
+    unsigned char frame_octets[6048 + 15];
     uint32_t v8 = 0;
     uint64_t v6 = 0, v7 = 0, v9 = 0, v10 = 0, v11 = 0, v12 = 0, v13 = 0, v14 = 0, v15 = 0;
     v6 = aligned(frame_octets);
@@ -11900,12 +12187,12 @@ static uint32_t sedge_sim_submission_at(uint64_t sim, uint64_t k, uint64_t map, 
         v8 = 255;
         return v8;
     }
-    if (k >= get64(v7 + 0xae0)) {
+    if (k >= get64(v7 + 0xb18)) {
         v8 = 253;
         put64(sim, v7);
         return v8;
     }
-    k = get64(v7 + 0xad8) + (k << 5);
+    k = get64(v7 + 0xb10) + (k << 5);
     v9 = get64(k + 16);
     if (room < v9) {
         v8 = 252;
@@ -11951,15 +12238,15 @@ l5:;
     put64(sim, v7);
     v8 = 0;
     if (k == 0) return v8;
-    copy(v6, k, 0x1760);
+    copy(v6 + 8, k, 0x1798);
     rattle_dealloc_at(k);
-    sedgechisel_nodes_sedgechisel_nodes_sim_link_Link_Destruct_drop(v6);
+    sedgechisel_nodes_sedgechisel_nodes_sim_link_Link_Destruct_drop(v6 + 8);
     return v8;
 }
 
 static uint32_t sedge_sim_submission_length_at(uint64_t sim, uint64_t k, uint64_t map, uint64_t count)
 {
-    unsigned char frame_octets[5984 + 15];
+    unsigned char frame_octets[6048 + 15];
     uint32_t v6 = 0;
     uint64_t v4 = 0, v5 = 0, v7 = 0;
     v4 = aligned(frame_octets);
@@ -11969,12 +12256,12 @@ static uint32_t sedge_sim_submission_length_at(uint64_t sim, uint64_t k, uint64_
         v6 = 255;
         return v6;
     }
-    if (k >= get64(v5 + 0xae0)) {
+    if (k >= get64(v5 + 0xb18)) {
         put64(sim, v5);
         v6 = 253;
         return v6;
     }
-    k = get64(v5 + 0xad8) + (k << 5);
+    k = get64(v5 + 0xb10) + (k << 5);
     v7 = get64(k + 16);
     put8(map, get8(k));
     put64(count, v7);
@@ -11982,15 +12269,15 @@ static uint32_t sedge_sim_submission_length_at(uint64_t sim, uint64_t k, uint64_
     put64(sim, v5);
     v6 = 0;
     if (k == 0) return v6;
-    copy(v4, k, 0x1760);
+    copy(v4 + 8, k, 0x1798);
     rattle_dealloc_at(k);
-    sedgechisel_nodes_sedgechisel_nodes_sim_link_Link_Destruct_drop(v4);
+    sedgechisel_nodes_sedgechisel_nodes_sim_link_Link_Destruct_drop(v4 + 8);
     return v6;
 }
 
 static uint32_t sedge_sim_submissions_at(uint64_t sim, uint64_t count)
 {
-    unsigned char frame_octets[5984 + 15];
+    unsigned char frame_octets[6048 + 15];
     uint32_t v4 = 0;
     uint64_t v2 = 0, v3 = 0;
     v2 = aligned(frame_octets);
@@ -12000,14 +12287,14 @@ static uint32_t sedge_sim_submissions_at(uint64_t sim, uint64_t count)
         v4 = 255;
         return v4;
     }
-    put64(count, get64(v3 + 0xae0));
+    put64(count, get64(v3 + 0xb18));
     count = get64(sim);
     put64(sim, v3);
     v4 = 0;
     if (count == 0) return v4;
-    copy(v2, count, 0x1760);
+    copy(v2 + 8, count, 0x1798);
     rattle_dealloc_at(count);
-    sedgechisel_nodes_sedgechisel_nodes_sim_link_Link_Destruct_drop(v2);
+    sedgechisel_nodes_sedgechisel_nodes_sim_link_Link_Destruct_drop(v2 + 8);
     return v4;
 }
 
@@ -12292,7 +12579,7 @@ static uint32_t sedge_spacecraft_take_bypass_at(uint64_t spacecraft, uint64_t ma
 
 static uint32_t sedge_ground_accepted_beyond_at(uint64_t ground, uint32_t value, uint64_t accepted)
 {
-    unsigned char frame_octets[352 + 15];
+    unsigned char frame_octets[400 + 15];
     uint32_t v5 = 0, v6 = 0, v7 = 0, v8 = 0;
     uint64_t v3 = 0, v4 = 0;
     v3 = aligned(frame_octets);
@@ -12318,15 +12605,81 @@ static uint32_t sedge_ground_accepted_beyond_at(uint64_t ground, uint32_t value,
     accepted = get64(ground);
     put64(ground, v4);
     if (accepted == 0) return v5;
-    copy(v3 + 8, accepted, 344);
+    copy(v3, accepted, 400);
     rattle_dealloc_at(accepted);
-    sedgechisel_nodes_nodes_ground_node_Ground_Destruct_drop(v3 + 8);
+    sedgechisel_nodes_nodes_ground_node_Ground_Destruct_drop(v3);
     return v5;
+}
+
+static uint32_t sedge_ground_known_on_board_at(uint64_t ground, uint32_t value, uint64_t whole)
+{
+    unsigned char frame_octets[400 + 15];
+    uint32_t v7 = 0, v8 = 0;
+    uint64_t v3 = 0, v4 = 0, v5 = 0, v6 = 0, v9 = 0, v10 = 0, v11 = 0, v12 = 0, v13 = 0, v14 = 0, v15 = 0, v16 = 0;
+    v3 = aligned(frame_octets);
+    v4 = get64(ground);
+    put64(ground, 0);
+    if (v4 == 0) {
+        value = 255;
+        return value;
+    }
+    if (get8(v4 + 296) == 1) {
+        v5 = 0;
+        v6 = 0;
+        v7 = get8(v4 + 74);
+        v8 = get8(v4 + 75);
+        if (v7 != v8) {
+            value = value - v8;
+            v8 = ((v7 - v8) & 255) < (value & 255);
+            if (v8 != 0) goto l3;
+            v6 = (uint64_t)((v8 != 0) ? 0U : value) & 255;
+        }
+        v9 = get64(v4 + 248);
+        v10 = get64(v4 + 264);
+        if (v10 != 0) {
+            v5 = get64(v4 + 288);
+            v11 = v5 - v10;
+            v12 = v10 - v5;
+            v13 = get64(v4 + 256);
+            v5 = 0;
+            v14 = v4 + 280;
+            do {
+                if (v5 < v12) {
+                    v15 = v13 + (get64(v14) << 3);
+                    v16 = v5;
+                    goto l7;
+                }
+                v16 = v11 + v5;
+                v15 = v13;
+            l7:;
+                v15 = get64(v15 + (v16 << 3));
+                v15 = (v15 > 1) ? v15 : 1ULL;
+                if (v6 < v15) goto l5;
+                v6 = v6 - v15;
+                v5 = v5 + 1;
+            } while (v10 != v5);
+            v5 = v10;
+        }
+    l5:;
+        put64(whole, v5 + v9);
+        v5 = get64(ground);
+        put64(ground, v4);
+        value = 0;
+        if (v5 == 0) return value;
+        copy(v3, v5, 400);
+        rattle_dealloc_at(v5);
+        sedgechisel_nodes_nodes_ground_node_Ground_Destruct_drop(v3);
+        return value;
+    }
+l3:;
+    put64(ground, v4);
+    value = 253;
+    return value;
 }
 
 static uint32_t sedge_ground_report_at(uint64_t ground, uint64_t octets, uint64_t count, uint64_t report)
 {
-    unsigned char frame_octets[352 + 15];
+    unsigned char frame_octets[400 + 15];
     uint32_t v6 = 0, v8 = 0;
     uint64_t v4 = 0, v5 = 0, v7 = 0;
     v4 = aligned(frame_octets);
@@ -12337,15 +12690,15 @@ static uint32_t sedge_ground_report_at(uint64_t ground, uint64_t octets, uint64_
         return v6;
     }
     v7 = (uint64_t)get32(v5 + 60);
-    put64(v4 + 48, 0);
     put64(v4 + 40, 0);
     put64(v4 + 32, 0);
     put64(v4 + 24, 0);
     put64(v4 + 16, 0);
     put64(v4 + 8, 0);
-    tm_link_decoding_decode(v4 + 8, some(octets), count, v7);
-    if (get8(v4 + 8) == 0) {
-        v6 = get32(v4 + 48);
+    put64(v4, 0);
+    tm_link_decoding_decode(v4, some(octets), count, v7);
+    if (get8(v4) == 0) {
+        v6 = get32(v4 + 40);
         if ((v6 & 224) == 0) {
             if ((v6 & 3) == 1) {
                 v8 = v6 >> 16;
@@ -12363,15 +12716,15 @@ l3:;
     octets = get64(ground);
     put64(ground, v5);
     if (octets == 0) return v6;
-    copy(v4 + 8, octets, 344);
+    copy(v4, octets, 400);
     rattle_dealloc_at(octets);
-    sedgechisel_nodes_nodes_ground_node_Ground_Destruct_drop(v4 + 8);
+    sedgechisel_nodes_nodes_ground_node_Ground_Destruct_drop(v4);
     return v6;
 }
 
 static uint32_t sedge_sim_entry_length_at(uint64_t sim, uint32_t record, uint32_t map, uint64_t k, uint64_t count)
 {
-    unsigned char frame_octets[5984 + 15];
+    unsigned char frame_octets[6048 + 15];
     uint64_t v5 = 0, v6 = 0, v7 = 0, v8 = 0;
     v5 = aligned(frame_octets);
     v6 = get64(sim);
@@ -12388,8 +12741,8 @@ static uint32_t sedge_sim_entry_length_at(uint64_t sim, uint32_t record, uint32_
             return record;
         }
         v7 = v6 + (((uint64_t)map & 255) * 24);
-        v8 = get64(v7 + 0xaf8);
-        v7 = get64(v7 + 0xaf0);
+        v8 = get64(v7 + 0xb30);
+        v7 = get64(v7 + 0xb28);
         goto l5;
     case 1:
         if ((map & 255) > 63) {
@@ -12398,12 +12751,12 @@ static uint32_t sedge_sim_entry_length_at(uint64_t sim, uint32_t record, uint32_
             return record;
         }
         v7 = v6 + (((uint64_t)map & 255) * 24);
-        v8 = get64(v7 + 0x10f8);
-        v7 = get64(v7 + 0x10f0);
+        v8 = get64(v7 + 0x1130);
+        v7 = get64(v7 + 0x1128);
         goto l5;
     case 2:
-        v8 = get64(v6 + 0x16f8);
-        v7 = get64(v6 + 0x16f0);
+        v8 = get64(v6 + 0x1730);
+        v7 = get64(v6 + 0x1728);
         goto l5;
     case 3:
         goto l6;
@@ -12413,9 +12766,9 @@ static uint32_t sedge_sim_entry_length_at(uint64_t sim, uint32_t record, uint32_
         return record;
     }
 l6:;
-    v7 = get64(v6 + 0x1710);
-    v8 = get64(v6 + 0x1720) - v7;
-    v7 = get64(v6 + 0x1718) + (v7 * 24);
+    v7 = get64(v6 + 0x1748);
+    v8 = get64(v6 + 0x1758) - v7;
+    v7 = get64(v6 + 0x1750) + (v7 * 24);
 l5:;
     if (k < v8) goto l3;
     put64(sim, v6);
@@ -12427,15 +12780,15 @@ l3:;
     put64(sim, v6);
     record = 0;
     if (k == 0) return record;
-    copy(v5, k, 0x1760);
+    copy(v5 + 8, k, 0x1798);
     rattle_dealloc_at(k);
-    sedgechisel_nodes_sedgechisel_nodes_sim_link_Link_Destruct_drop(v5);
+    sedgechisel_nodes_sedgechisel_nodes_sim_link_Link_Destruct_drop(v5 + 8);
     return record;
 }
 
 static uint32_t sedge_ground_peek_at(uint64_t ground, uint64_t out, uint64_t room, uint64_t count)
 {
-    unsigned char frame_octets[368 + 15];
+    unsigned char frame_octets[416 + 15];
     uint32_t v6 = 0;
     uint64_t v4 = 0, v5 = 0;
     v4 = aligned(frame_octets);
@@ -12445,14 +12798,14 @@ static uint32_t sedge_ground_peek_at(uint64_t ground, uint64_t out, uint64_t roo
         v6 = 255;
         return v6;
     }
-    nodes_ground_node_Ground_peek(v4 + 24, v5);
-    if (get8(v4 + 24) == 1) {
-        put64(v4 + 16, 0);
+    nodes_ground_node_Ground_peek(v4 + 16, v5);
+    if (get8(v4 + 16) == 1) {
         put64(v4 + 8, 0);
-        tc_frame_encoding_encode(v4 + 8, v4 + 32, some(out), room);
+        put64(v4, 0);
+        tc_frame_encoding_encode(v4, v4 + 24, some(out), room);
         v6 = 252;
-        if (get8(v4 + 8) != 0) goto l3;
-        put64(count, get64(v4 + 16));
+        if (get8(v4) != 0) goto l3;
+        put64(count, get64(v4 + 8));
         goto l4;
     }
     put64(count, 0);
@@ -12462,15 +12815,15 @@ l3:;
     out = get64(ground);
     put64(ground, v5);
     if (out == 0) return v6;
-    copy(v4 + 24, out, 344);
+    copy(v4 + 16, out, 400);
     rattle_dealloc_at(out);
-    sedgechisel_nodes_nodes_ground_node_Ground_Destruct_drop(v4 + 24);
+    sedgechisel_nodes_nodes_ground_node_Ground_Destruct_drop(v4 + 16);
     return v6;
 }
 
 static uint32_t sedge_ground_pull_at(uint64_t ground, uint64_t out, uint64_t room, uint64_t count)
 {
-    unsigned char frame_octets[368 + 15];
+    unsigned char frame_octets[416 + 15];
     uint32_t v6 = 0;
     uint64_t v4 = 0, v5 = 0;
     v4 = aligned(frame_octets);
@@ -12480,16 +12833,16 @@ static uint32_t sedge_ground_pull_at(uint64_t ground, uint64_t out, uint64_t roo
         v6 = 255;
         return v6;
     }
-    nodes_ground_node_Ground_peek(v4 + 24, v5);
-    if (get8(v4 + 24) == 1) {
-        put64(v4 + 16, 0);
+    nodes_ground_node_Ground_peek(v4 + 16, v5);
+    if (get8(v4 + 16) == 1) {
         put64(v4 + 8, 0);
-        tc_frame_encoding_encode(v4 + 8, v4 + 32, some(out), room);
-        if (get8(v4 + 8) != 0) {
+        put64(v4, 0);
+        tc_frame_encoding_encode(v4, v4 + 24, some(out), room);
+        if (get8(v4) != 0) {
             v6 = 252;
             goto l3;
         }
-        put64(count, get64(v4 + 16));
+        put64(count, get64(v4 + 8));
         goto l4;
     }
     put64(count, 0);
@@ -12500,9 +12853,9 @@ l3:;
     out = get64(ground);
     put64(ground, v5);
     if (out == 0) return v6;
-    copy(v4 + 24, out, 344);
+    copy(v4 + 16, out, 400);
     rattle_dealloc_at(out);
-    sedgechisel_nodes_nodes_ground_node_Ground_Destruct_drop(v4 + 24);
+    sedgechisel_nodes_nodes_ground_node_Ground_Destruct_drop(v4 + 16);
     return v6;
 }
 
@@ -12563,20 +12916,26 @@ static void get_sedge_heard(uint64_t at, struct sedge_heard *it)
 
 static void put_sedge_ground_reading(uint64_t at, const struct sedge_ground_reading *it)
 {
-    put64(at, it->outstanding);
-    put64(at + 8, it->frame_length);
-    put8(at + 16, it->state);
-    put8(at + 17, it->vs);
-    put8(at + 18, it->nn);
+    put64(at, it->submitted);
+    put64(at + 8, it->sent_whole);
+    put64(at + 16, it->acknowledged_whole);
+    put64(at + 24, it->outstanding);
+    put64(at + 32, it->frame_length);
+    put8(at + 40, it->state);
+    put8(at + 41, it->vs);
+    put8(at + 42, it->nn);
 }
 
 static void get_sedge_ground_reading(uint64_t at, struct sedge_ground_reading *it)
 {
-    it->outstanding = (size_t)get64(at);
-    it->frame_length = (size_t)get64(at + 8);
-    it->state = (uint8_t)get8(at + 16);
-    it->vs = (uint8_t)get8(at + 17);
-    it->nn = (uint8_t)get8(at + 18);
+    it->submitted = get64(at);
+    it->sent_whole = get64(at + 8);
+    it->acknowledged_whole = get64(at + 16);
+    it->outstanding = (size_t)get64(at + 24);
+    it->frame_length = (size_t)get64(at + 32);
+    it->state = (uint8_t)get8(at + 40);
+    it->vs = (uint8_t)get8(at + 41);
+    it->nn = (uint8_t)get8(at + 42);
 }
 
 static void put_sedge_spacecraft(uint64_t at, const struct sedge_spacecraft *it)
@@ -12980,7 +13339,7 @@ uint8_t sedge_ground_read(struct sedge_ground *ground, struct sedge_ground_readi
 {
     unsigned char ground_octets[8 + 15];
     const uint64_t ground_at = aligned(ground_octets);
-    unsigned char read_octets[24 + 15];
+    unsigned char read_octets[48 + 15];
     const uint64_t read_at = aligned(read_octets);
     uint8_t answer;
     put_sedge_ground(ground_at, ground);
@@ -12999,6 +13358,36 @@ uint8_t sedge_ground_accepted_beyond(struct sedge_ground *ground, uint8_t value,
     put_sedge_ground(ground_at, ground);
     answer = (uint8_t)sedge_ground_accepted_beyond_at(ground_at, value, address(accepted));
     get_sedge_ground(ground_at, ground);
+    return answer;
+}
+
+uint8_t sedge_ground_known_on_board(struct sedge_ground *ground, uint8_t value, uint64_t *whole)
+{
+    unsigned char ground_octets[8 + 15];
+    const uint64_t ground_at = aligned(ground_octets);
+    unsigned char whole_octets[8 + 15];
+    const uint64_t whole_at = aligned(whole_octets);
+    uint8_t answer;
+    put_sedge_ground(ground_at, ground);
+    put64(whole_at, *whole);
+    answer = (uint8_t)sedge_ground_known_on_board_at(ground_at, value, whole_at);
+    get_sedge_ground(ground_at, ground);
+    *whole = get64(whole_at);
+    return answer;
+}
+
+uint8_t sedge_ground_resume(struct sedge_ground *ground, uint8_t value, uint64_t *whole)
+{
+    unsigned char ground_octets[8 + 15];
+    const uint64_t ground_at = aligned(ground_octets);
+    unsigned char whole_octets[8 + 15];
+    const uint64_t whole_at = aligned(whole_octets);
+    uint8_t answer;
+    put_sedge_ground(ground_at, ground);
+    put64(whole_at, *whole);
+    answer = (uint8_t)sedge_ground_resume_at(ground_at, value, whole_at);
+    get_sedge_ground(ground_at, ground);
+    *whole = get64(whole_at);
     return answer;
 }
 
