@@ -1,0 +1,166 @@
+"""Each fault of each decode; and results that stay as they are, whatever is called later, or by another thread
+meanwhile."""
+import random
+import sys
+import threading
+
+from each import between
+from wanted import refuses
+
+COMMAND, OTHER = bytes.fromhex("1005c0000000aa"), bytes.fromhex("1005c0010001abac")
+
+
+# ---- Faults. The octets are spelled by 133.0-B-2, 4.1, 132.0-B-3, 4.1, and 232.0-B-4, 4.1 and 4.2. ----
+
+
+def telemetry_of(it, header):
+    """A telemetry frame with this header, given as digits."""
+    return it.check_append(bytes.fromhex(header + "55555555010800000000"))
+
+
+def decodes(it):
+    """Each decode, octets that it reads, what it makes of them, the kind of its faults, and octets that have each."""
+    bad_telemetry = ((2, "401100001ffe"), (4, "001100009ffe"), (4, "001100000ffe"), (5, "001100001804"),
+                     (6, "001000001ffe"))
+    return (
+        (it.Clcw.decode, bytes.fromhex("01080a07"), it.Clcw(vcid=2, flags=8, farm_b=1, value=7), it.ClcwFault, (
+            (1, "81080a07"), (2, "21080a07"), (3, "00080a07"), (4, "01090a07"), (254, "01080a"), (254, ""))),
+        (lambda octets: it.TcFrame.decode(octets, False), bytes.fromhex("0001080c03c4") + COMMAND,
+         (it.TcFrame(scid=1, vcid=2, n=3, flags=3, map=4), COMMAND), it.TcFault, (
+             (1, "0001080c"), (2, "4001080603c4aa"), (3, "1001080603c4aa"), (4, "0401080603c4aa"),
+             (5, "0001080703c4aa"), (7, "2001080603c4aa"), (8, "0001080503c4"), (8, "0001080403"),
+             (9, "300108050001"))),
+        (it.TcFrame.decode, bytes.fromhex("3001080700008b9e"), (it.TcFrame(scid=1, vcid=2, kind=it.Kind.BC), b""),
+         it.TcFault, ((1, ""), (6, "3001080700008b9f"))),
+        (it.Packet.decode, COMMAND + b"more", (it.Packet(apid=5, kind=1), b"\xaa"), it.PacketFault, (
+            (1, ""), (1, "1005c0000000"), (1, "1005c0000001aa"), (2, "3005c0000000aa"), (3, "1fffc0000000aa"))),
+        (it.TmFrame.decode, telemetry_of(it, "001100001ffe"),
+         (it.TmFrame(scid=1, pointer=it.ONLY_IDLE, ocf=bytes.fromhex("01080000")), b"UUUU"), it.TmFault, (
+             (1, ""), (3, "001100001ffe55555555010800000000"),
+             *((number, telemetry_of(it, header).hex()) for number, header in bad_telemetry))))
+
+
+def each_fault_of_each_decode(it):
+    """Octets that are refused change nothing: others give the same before and after, of each type of octets."""
+    seen = set()
+    for decode, octets, wanted, fault, refused in decodes(it):
+        first = decode(octets)
+        for number, digits in refused:
+            refuses(fault, number, fault(number).name, decode, bytes.fromhex(digits))
+            assert decode(octets) == decode(bytearray(octets)) == decode(memoryview(octets)) == first == wanted
+            seen.add((fault, number))
+    for fault, most in ((it.ClcwFault, 4), (it.TcFault, 9), (it.PacketFault, 3), (it.TmFault, 6)):
+        assert {(fault, number) for number in range(1, most + 1)} <= seen, fault
+
+
+def decodes_of_own_kinds(it):
+    """A class of a program's own decodes to itself."""
+    for kind, octets in ((it.Clcw, "01080a07"), (it.TcFrame, "3001080700008b9e"), (it.Packet, "1005c0000000aa"),
+                         (it.TmFrame, telemetry_of(it, "001100001ffe").hex())):
+        own = type("Own", (kind,), {})
+        found = own.decode(bytes.fromhex(octets))
+        assert type(found if kind is it.Clcw else found[0]) is own
+
+
+# ---- Results. ----
+
+
+def any_struct(it, chance, kind):
+    if kind is it.Clcw:
+        return it.Clcw(chance.randrange(8), chance.randrange(64), 8 * chance.randrange(32), chance.randrange(4),
+                       chance.randrange(256))
+    if kind is it.TcFrame:
+        return it.TcFrame(scid=chance.randrange(1024), vcid=chance.randrange(64), n=chance.randrange(256),
+                          flags=chance.randrange(4), map=chance.randrange(64))
+    if kind is it.Packet:
+        return it.Packet(chance.randrange(2047), chance.randrange(16384), *(chance.randrange(2) for _ in range(3)))
+    return it.TmFrame(chance.randrange(1024), chance.randrange(4), *(chance.randrange(8) for _ in range(3)),
+                      ocf=chance.randbytes(4))
+
+
+def results_that_stay(it):
+    """What was encoded and decoded stays as it was, whatever is encoded and decoded later."""
+    chance = random.Random(8)
+    for kind in (it.Clcw, it.TcFrame, it.Packet, it.TmFrame):
+        ones = [any_struct(it, chance, kind) for _ in range(300)]
+        data = [[] if kind is it.Clcw else [chance.randbytes(chance.randrange(4, 900))] for _ in ones]
+        octets = [one.encode(*each) for one, each in zip(ones, data)]
+        found = [kind.decode(each) for each in octets]
+        assert found == (ones if kind is it.Clcw else [(one, *each) for one, each in zip(ones, data)]), kind
+        assert octets == [one.encode(*each) for one, each in zip(ones, data)], kind
+
+
+def frames_and_packets_that_stay(it):
+    """What nodes gave stays as it was, whatever others give later."""
+    chance, nodes = random.Random(9), [(it.Ground(scid=k), it.Spacecraft(scid=k)) for k in range(3)]
+    up, down = ([[it.Packet(apid=k, kind=kind).encode(chance.randbytes(chance.randrange(1, 900))) for k in range(9)]
+                 for _ in nodes] for kind in (1, 0))
+    for (ground, board), commands, telemetry in zip(nodes, up, down):
+        ground.init_without_check()
+        for command, packet in zip(commands, telemetry):
+            ground.submit(4, command), board.telemetry(packet)
+    frames = [[ground.pull() for ground, _ in nodes] for _ in range(9)]
+    reports = [[board.report() for _, board in nodes] for _ in range(180)]
+    words = [[ground.report_in(octets) for (ground, _), octets in zip(nodes, each)] for each in reports]
+    heard = [[ground.telemetry(octets) for (ground, _), octets in zip(nodes, each)] for each in reports]
+    received = [[board.receive(octets) for (_, board), octets in zip(nodes, each)] for each in frames]
+    taken = [[board.take() for _, board in nodes] for _ in range(9)]
+    packets = [[ground.take_telemetry() for ground, _ in nodes] for _ in range(9)]
+    assert [[it.TcFrame.decode(octets)[1] for octets in each] for each in frames] == [*map(list, zip(*up))]
+    assert {word.encode().hex() for each in words for word in each} == {"01080000"}
+    assert [sum(one.packets for one in each) for each in zip(*heard)] == [9] * 3
+    assert received == [[it.Received(it.Arrived.AD, n=n, verdict=it.Verdict.ACCEPTED, ready=1)] * 3 for n in range(9)]
+    assert taken == [[(4, packet) for packet in each] for each in zip(*up)] and packets == [*map(list, zip(*down))]
+
+
+def calls_at_once(it):
+    """What a call gives is its own, whatever another thread calls before it has come to its end."""
+    frames = [it.TcFrame(scid=k, n=k) for k in range(2)]
+    words = [it.Clcw(vcid=k, value=k).encode() for k in range(2)]
+    tm = [it.TmFrame(scid=k, pointer=k, ocf=word).encode(bytes([k]) * 52) for k, word in enumerate(words)]
+    with it.Ground() as one, it.Ground() as other, it.Spacecraft() as board:
+        for ground, packet in ((one, COMMAND), (other, OTHER)):
+            ground.init_without_check()
+            ground.submit(4, packet)
+        commands = [ground.peek() for ground in (one, other)]
+        no_frames = b"1", tm[0][:-1] + b"1", commands[0][:-1] + b"1"
+        for module, name, *calls in (
+                (it._calls, "_tc_encode", lambda: frames[0].encode(b"one"), lambda: frames[1].encode(b"other")),
+                (it._calls, "_tc_decode", *(lambda each=each: it.TcFrame.decode(each) for each in commands)),
+                (it._calls, "_packet_decode", *(lambda each=each: it.Packet.decode(each) for each in (COMMAND, OTHER))),
+                (it._calls, "_tm_decode", *(lambda each=each: it.TmFrame.decode(each) for each in tm)),
+                (it._calls, "_clcw_decode", *(lambda each=each: it.Clcw.decode(each) for each in words)),
+                (it._nodes, "_ground_report", *(lambda each=each: one.report_in(each) for each in tm)),
+                (it._nodes, "_ground_telemetry", *(lambda each=each: one.telemetry(each) for each in no_frames[:2])),
+                (it._nodes, "_spacecraft_receive", *(lambda each=each: board.receive(each) for each in no_frames[::2])),
+                (it._nodes, "_ground_peek", one.peek, other.peek)):
+            wanted, meanwhile = [call() for call in calls], []
+            first = between(module, name, lambda: meanwhile.append(calls[1]()), calls[0])
+            assert [first, *meanwhile] == wanted and wanted[0] != wanted[1], name
+
+
+def threads_that_take_turns(it):
+    """Threads that take turns at any place give what each would give alone."""
+    wrong, interval = [], sys.getswitchinterval()
+
+    def codes(k):
+        frame, data = it.TcFrame(scid=k, n=k), bytes([k]) * (k + 1)
+        wanted = frame.encode(data)
+        for _ in range(2000):
+            if frame.encode(data) != wanted or it.TcFrame.decode(wanted) != (frame, data):
+                wrong.append(k)
+
+    threads = [threading.Thread(target=codes, args=(k,)) for k in range(4)]
+    sys.setswitchinterval(1e-6)
+    try:
+        for one in threads:
+            one.start()
+        for one in threads:
+            one.join()
+    finally:
+        sys.setswitchinterval(interval)
+    assert not wrong, wrong
+
+
+TESTS = (each_fault_of_each_decode, decodes_of_own_kinds, results_that_stay, frames_and_packets_that_stay,
+         calls_at_once, threads_that_take_turns)
