@@ -3,18 +3,19 @@ frames."""
 from __future__ import annotations
 
 import ctypes
-from ctypes import POINTER, byref, c_bool, c_char_p, c_size_t, c_uint8, c_uint16, c_uint32
+from ctypes import POINTER, c_bool, c_char_p, c_size_t, c_uint8, c_uint16, c_uint32
 from enum import IntEnum, IntFlag
 from threading import RLock
-from typing import Any, Callable, Dict, Iterator, List, Optional, Tuple, Type
+from typing import Any, Callable, Dict, Iterator, List, Optional, Tuple, Type, TypeVar
 
 from ._faults import (
     CheckFault, ClcwFault, CopFault, Fault, MapFault, PacketFault, TcFault, Text, TmFault, word_of as _word_of)
 from ._library import (
     FIRST, Single, call_of, number_of as _number_of, octets_of as _octets_of, room_of as _room_of,
-    struct_of as _struct_of, within as _within)
+    struct_of as _struct_of, within as _within, written as _written)
 
 _ABSENT, _DAMAGED = 253, 255
+_Member = TypeVar("_Member", bound=IntEnum)
 
 
 def _call(name: str, answer: Any, *kinds: Any) -> Callable[..., Any]:
@@ -30,10 +31,10 @@ class _Struct(ctypes.Structure):
         cls._kinds = {it[0]: it[1] for it in cls._fields_}
 
     def __setattr__(self, name: str, value: Any) -> None:
-        kinds = self._kinds
-        if name not in kinds and not isinstance(getattr(type(self), name, None), property):
+        kind = self._kinds.get(name)
+        if kind is None and not isinstance(getattr(type(self), name, None), property):
             raise AttributeError(f"{type(self).__name__} has no field {name}")
-        _within(name, kinds.get(name), value)
+        _within(name, kind, value)
         super().__setattr__(name, value)
 
     def _values(self) -> Dict[str, Any]:
@@ -58,16 +59,9 @@ class _Part(ctypes.Structure):
         return octets[self.start:self.start + self.count]
 
 
-def _written(call: Callable[..., Any], fault: Type[Fault], most: int, *values: Any) -> bytes:
-    """The octets that a call writes, and says the number of, given this room."""
-    out, total = ctypes.create_string_buffer(most), c_size_t()
-    fault._look_at(call(*values, out, most, byref(total)))
-    return ctypes.string_at(out, total.value)
-
-
 def _count_of(call: Callable[..., Any], fault: Type[Fault], *values: Any) -> int:
     total = c_size_t()
-    fault._look_at(call(*values, byref(total)))
+    fault._look_at(call(*values, total))
     return total.value
 
 
@@ -131,13 +125,13 @@ class Clcw(_Struct):
     def decode(cls, octets: bytes) -> Clcw:
         """Reads four octets; a ClcwFault where they are none, or not four."""
         octets, word = _octets_of("octets", octets), cls.__new__(cls)
-        ClcwFault._look_at(_clcw_decode(octets, len(octets), byref(word)))
+        ClcwFault._look_at(_clcw_decode(octets, len(octets), word))
         return word
 
     def encode(self) -> bytes:
         """The four octets; a ClcwFault where a field is too large."""
         out = ctypes.create_string_buffer(4)
-        ClcwFault._look_at(_clcw_encode(byref(self), out, 4))
+        ClcwFault._look_at(_clcw_encode(self, out, 4))
         return out.raw
 
 
@@ -145,6 +139,12 @@ _clcw_decode = _call("clcw_decode", c_uint8, c_char_p, c_size_t, POINTER(Clcw))
 _clcw_encode = _call("clcw_encode", c_uint8, POINTER(Clcw), c_char_p, c_size_t)
 
 # ---- The receiver ----
+
+
+def _answered(kind: Type[_Member], answer: int) -> _Member:
+    """What a receiver or a sender answers; CopFault 255 where it answers that it is damaged."""
+    CopFault._look_at(answer == _DAMAGED and answer)
+    return kind(answer)
 
 
 class Verdict(IntEnum):
@@ -183,42 +183,38 @@ class Farm(_Struct):
     def __init__(self, width: int, vr: int = 0) -> None:
         """An open receiver with this window width, which expects the number vr; or CopFault 1."""
         super().__init__()
-        CopFault._look_at(_farm_open(byref(self), width, vr))
+        CopFault._look_at(_farm_open(self, width, vr))
 
     def ad(self, n: int, buffer_free: bool = True) -> Verdict:
         """A Type-AD frame with the number n has come: its Verdict. Hand its data on where that is ACCEPTED."""
-        answer = _farm_ad(byref(self), n, buffer_free)
-        CopFault._look_at(answer == _DAMAGED and answer)
-        return Verdict(answer)
+        return _answered(Verdict, _farm_ad(self, n, buffer_free))
 
     def bd(self) -> None:
         """A Type-BD frame has come; hand its data on in every state."""
-        CopFault._look_at(_farm_bd(byref(self)))
+        CopFault._look_at(_farm_bd(self))
 
     def unlock(self) -> None:
         """The control command Unlock has come."""
-        CopFault._look_at(_farm_unlock(byref(self)))
+        CopFault._look_at(_farm_unlock(self))
 
     def set_vr(self, vr: int) -> None:
         """The control command Set V(R) has come."""
-        CopFault._look_at(_farm_set_vr(byref(self), vr))
+        CopFault._look_at(_farm_set_vr(self, vr))
 
     def released(self) -> None:
         """There is room on board again."""
-        CopFault._look_at(_farm_released(byref(self)))
+        CopFault._look_at(_farm_released(self))
 
     def report(self, vcid: int) -> Clcw:
         """The Clcw that reports the receiver as it is for a virtual channel; a ClcwFault where that is not below 64."""
-        word = Clcw()
-        ClcwFault._look_at(_farm_report(byref(self), vcid, byref(word)))
+        word = Clcw.__new__(Clcw)
+        ClcwFault._look_at(_farm_report(self, vcid, word))
         return word
 
     @property
     def mode(self) -> Mode:
         """The state, a Mode."""
-        answer = _farm_state(byref(self))
-        CopFault._look_at(answer == _DAMAGED and answer)
-        return Mode(answer)
+        return _answered(Mode, _farm_state(self))
 
 
 _farm_open = _call("farm_open", c_uint8, POINTER(Farm), ("width", c_uint8), ("vr", c_uint8))
@@ -301,10 +297,10 @@ class Fop(_Struct):
         """A sender in S6 to a receiver of this window width, with the window K, the transmission limit and the timer's
         value in ticks; or CopFault 1 to 4."""
         super().__init__()
-        CopFault._look_at(_fop_open(byref(self), width, window, limit, timer))
+        CopFault._look_at(_fop_open(self, width, window, limit, timer))
 
     def _direct(self, name: str, own: str = "", value: int = 0) -> None:
-        CopFault._look_at(_fop_directive(byref(self), *_directive(name, own, value)))
+        CopFault._look_at(_fop_directive(self, *_directive(name, own, value)))
 
     def init_without_check(self) -> None:
         """Directive: S6 to S1. The four initiations and set_vs are CopFault 8 in any other state than S6."""
@@ -344,37 +340,30 @@ class Fop(_Struct):
 
     def submit(self) -> None:
         """A unit has come, and waits; or CopFault 6 (not open) or 7 (one waits already)."""
-        CopFault._look_at(_fop_submit(byref(self)))
+        CopFault._look_at(_fop_submit(self))
 
     def next(self) -> Tuple[Next, int]:
         """Takes what goes on the link next: its Next, and its number."""
         number = c_uint8()
-        answer = _fop_next(byref(self), byref(number))
-        CopFault._look_at(answer == _DAMAGED and answer)
-        return Next(answer), number.value
+        return _answered(Next, _fop_next(self, number)), number.value
 
     def report(self, vcid: int, word: Clcw) -> Optional[Tuple[Alert, int]]:
         """A Clcw has come, and the sender is that of the virtual channel vcid: the Alert, and how many of the oldest
         units are acknowledged. None, and nothing changes, for a word that reports on another channel."""
         released = c_uint8()
-        answer = _fop_report(byref(self), vcid, _struct_of("word", Clcw, word), byref(released))
-        if answer == _ABSENT:
-            return None
-        CopFault._look_at(answer == _DAMAGED and answer)
-        return Alert(answer), released.value
+        answer = _fop_report(self, vcid, _struct_of("word", Clcw, word), released)
+        return None if answer == _ABSENT else (_answered(Alert, answer), released.value)
 
     def tick(self) -> Alert:
         """A tick of the clock has passed: the Alert."""
-        answer = _fop_tick(byref(self))
-        CopFault._look_at(answer == _DAMAGED and answer)
-        return Alert(answer)
+        return _answered(Alert, _fop_tick(self))
 
     def accepted_beyond(self, value: int) -> Optional[int]:
         """How many of the units that were sent and not acknowledged were accepted on board when a report of this value
         was made, the oldest ones. Where V(S) = NN(R) it is 0, whatever the value. Elsewhere None, where the value is
         beyond V(S): nothing is known of them. After an alert too, in S6, until V(S) is set or an initiation begins
         (5.1)."""
-        return _accepted_of(_fop_accepted_beyond, byref(self), value)
+        return _accepted_of(_fop_accepted_beyond, self, value)
 
 
 def accepted_beyond(nn: int, vs: int, value: int) -> Optional[int]:
@@ -384,7 +373,7 @@ def accepted_beyond(nn: int, vs: int, value: int) -> Optional[int]:
 
 def _accepted_of(call: Callable[..., Any], *values: Any) -> Optional[int]:
     accepted = c_uint8()
-    answer = call(*values, byref(accepted))
+    answer = call(*values, accepted)
     CopFault._look_at(answer == _DAMAGED and answer)
     return None if answer == _ABSENT else accepted.value
 
@@ -449,14 +438,14 @@ class TcFrame(_Struct):
         """Reads all of the octets as one frame, which ends with its FECF unless `checked` is False: the frame, and the
         data after the segment header, which a control frame lacks. A TcFault of 1 to 9 where they are none."""
         octets, frame, part = _octets_of("octets", octets), cls.__new__(cls), _Part()
-        TcFault._look_at(_tc_decode(octets, len(octets), checked, byref(frame), byref(part)))
+        TcFault._look_at(_tc_decode(octets, len(octets), checked, frame, part))
         return frame, part.of(octets)
 
     def encode(self, data: bytes = b"", checked: bool = True) -> bytes:
         """The octets of the frame with these data, at most 1,024 with its FECF, which it lacks where `checked` is False;
         a TcFault where a field is out of its range."""
         data = _octets_of("data", data)
-        return _written(_tc_encode, TcFault, 1024, byref(self), data, len(data), checked)
+        return _written(TcFault._look_at, _tc_encode, 1024, self, data, len(data), checked)
 
     @staticmethod
     def declared(octets: bytes, checked: bool = True) -> int:
@@ -509,13 +498,13 @@ class Packet(_Struct):
     def decode(cls, octets: bytes) -> Tuple[Packet, bytes]:
         """Reads the packet that the octets begin with: the packet, and its data field. A PacketFault where there is none."""
         octets, packet, part = _octets_of("octets", octets), cls.__new__(cls), _Part()
-        PacketFault._look_at(_packet_decode(octets, len(octets), byref(packet), byref(part)))
+        PacketFault._look_at(_packet_decode(octets, len(octets), packet, part))
         return packet, part.of(octets)
 
     def encode(self, data: bytes) -> bytes:
         """The octets of the packet with this data field; a PacketFault where a field is out of its range."""
         data = _octets_of("data", data)
-        return _written(_packet_encode, PacketFault, len(data) + 6, byref(self), data, len(data))
+        return _written(PacketFault._look_at, _packet_encode, len(data) + 6, self, data, len(data))
 
     @staticmethod
     def declared(octets: bytes) -> int:
@@ -572,13 +561,13 @@ class TmFrame(_Struct):
         TmFault of 1 to 6 where they are none."""
         octets, frame, part = _octets_of("octets", octets), cls.__new__(cls), _Part()
         length = len(octets) if length is None else length
-        TmFault._look_at(_tm_decode(octets, len(octets), length, byref(frame), byref(part)))
+        TmFault._look_at(_tm_decode(octets, len(octets), length, frame, part))
         return frame, part.of(octets)
 
     def encode(self, data: bytes) -> bytes:
         """The octets of the frame with these data; a TmFault where a field is out of its range."""
         data = _octets_of("data", data)
-        return _written(_tm_encode, TmFault, 2048, byref(self), data, len(data))
+        return _written(TmFault._look_at, _tm_encode, 2048, self, data, len(data))
 
 
 _tm_decode = _call("tm_decode", c_uint8, c_char_p, c_size_t, ("length", c_size_t), POINTER(TmFrame), POINTER(_Part))
@@ -607,7 +596,7 @@ class TmBuilder(Single):
 
     def __init__(self, scid: int, vcid: int, length: int, room: int = 65542) -> None:
         self._builder, self._memory = _TmBuilder(), _room_of("room", room)
-        TmFault._look_at(_tm_builder_open(byref(self._builder), scid, vcid, length))
+        TmFault._look_at(_tm_builder_open(self._builder, scid, vcid, length))
 
     @property
     def waiting(self) -> int:
@@ -618,14 +607,15 @@ class TmBuilder(Single):
         """Queues a packet, all of its octets. A TmFault, 8 NotAPacket for octets that are not exactly one packet or an idle
         one, and 7 Memory where more octets would wait than there is room for."""
         packet = _octets_of("packet", packet)
-        TmFault._look_at(_tm_builder_queue(byref(self._builder), packet, len(packet), self._memory, len(self._memory)))
+        TmFault._look_at(_tm_builder_queue(self._builder, packet, len(packet), self._memory, len(self._memory)))
 
     def build(self, ocf: bytes) -> bytes:
         """The octets of the next frame, with this operational control field, the four octets of a Clcw. Where packets run
         out it has an idle packet, and where none are left only idle data. A TmFault, 254 WrongCount, for other octets than
         four."""
         ocf = _octets_of("ocf", ocf)
-        return _written(_tm_builder_build, TmFault, 2048, byref(self._builder), ocf, len(ocf), self._memory, len(self._memory))
+        return _written(TmFault._look_at, _tm_builder_build, 2048, self._builder, ocf, len(ocf), self._memory,
+                        len(self._memory))
 
 
 class TmExtractor(Single):
@@ -636,7 +626,7 @@ class TmExtractor(Single):
     def __init__(self, longest: int = 65542) -> None:
         if not 7 <= _number_of("longest", longest) <= 65542:
             raise ValueError(f"longest: {longest} is not in 7 to 65542")
-        self._extractor, self._memory = _TmExtractor(), ctypes.create_string_buffer(longest + 2036)
+        self._extractor, self._memory = _TmExtractor(), _room_of("longest", longest + 2036)
         self._dropped, self._lock = 0, RLock()
 
     @property
@@ -654,19 +644,21 @@ class TmExtractor(Single):
         with self._lock:
             begun = self._begun()
             TmFault._look_at(_tm_extractor_frame(
-                byref(self._extractor), _struct_of("frame", TmFrame, frame), data, len(data), self._memory,
-                len(self._memory), byref(extracted)))
-            packets = [ctypes.string_at(self._memory, extracted.joined)] if extracted.joined else []
+                self._extractor, _struct_of("frame", TmFrame, frame), data, len(data), self._memory, len(self._memory),
+                extracted))
+            packets = [self._memory[:extracted.joined]] if extracted.joined else []
             goes_on = frame.pointer == NO_START and self._extractor.count > 0
             if begun and not packets and not goes_on:
                 self._dropped += not _is_idle(begun + (b"" if extracted.lost else _before_start(frame.pointer, data)))
-        while _tm_packet(data, len(data), byref(extracted.packets)):
-            packets.append(extracted.packets.of(data))
+        part = extracted.packets
+        while _tm_packet(data, len(data), part):
+            packets.append(part.of(data))
         return packets, None if extracted.first else extracted.lost
 
     def _begun(self) -> bytes:
         """The first octets of the packet whose end is to come, two at most; none where there is none."""
-        return ctypes.string_at(byref(self._memory, self._extractor.start), min(self._extractor.count, 2))
+        start = self._extractor.start
+        return bytes(self._memory[start:start + min(self._extractor.count, 2)])
 
 
 def _before_start(pointer: int, data: bytes) -> bytes:
@@ -709,12 +701,8 @@ class _Limits(ctypes.Structure):
 def _parts_of(octets: bytes) -> Iterator[_Part]:
     """Where the packets are in the octets, one after another; a part is as it is until the next is asked for."""
     part = _Part()
-    while _map_packet(octets, len(octets), byref(part)):
+    while _map_packet(octets, len(octets), part):
         yield part
-
-
-def _packets_of(octets: bytes) -> Iterator[bytes]:
-    return (part.of(octets) for part in _parts_of(octets))
 
 
 class Map(Single):
@@ -730,10 +718,10 @@ class Map(Single):
         dropped, in the word of tctool, or None. A MapFault, 255 Damaged, for flags that are none."""
         data, taken = _octets_of("data", data), _Taken()
         with self._lock:
-            MapFault._look_at(_map_take(
-                byref(self._map), flags, data, len(data), self._memory, len(self._memory), byref(taken)))
-            whole = ctypes.string_at(self._memory, taken.count) if taken.where == _IN_MEMORY else data[:taken.count]
-        return list(_packets_of(whole)), _dropped_word(taken.dropped) if taken.dropped else None
+            MapFault._look_at(_map_take(self._map, flags, data, len(data), self._memory, len(self._memory), taken))
+            whole: bytes = (self._memory if taken.where == _IN_MEMORY else data)[:taken.count]
+        packets = [part.of(whole) for part in _parts_of(whole)]
+        return packets, _dropped_word(taken.dropped) if taken.dropped else None
 
 
 def segments(octets: bytes, part: int, longest: int = 65542, blocking: bool = False) -> List[Tuple[Segment, bytes]]:
@@ -744,10 +732,10 @@ def segments(octets: bytes, part: int, longest: int = 65542, blocking: bool = Fa
     octets, limits = _octets_of("octets", octets), _Limits(part, longest, bool(blocking))
     flags, data = c_uint8(), _Part()
     cut: List[Tuple[Segment, bytes]] = []
-    _count_of(_map_count, MapFault, octets, len(octets), byref(limits))
+    _count_of(_map_count, MapFault, octets, len(octets), limits)
     for group in _groups_of(octets, part):
-        for k in range(_count_of(_map_count, MapFault, group, len(group), byref(limits))):
-            MapFault._look_at(_map_segment(group, len(group), byref(limits), k, byref(flags), byref(data)))
+        for k in range(_count_of(_map_count, MapFault, group, len(group), limits)):
+            MapFault._look_at(_map_segment(group, len(group), limits, k, flags, data))
             cut.append((Segment(flags.value), data.of(group)))
     return cut
 

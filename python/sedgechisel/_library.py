@@ -2,9 +2,9 @@
 from __future__ import annotations
 
 import ctypes
-from ctypes import byref, c_size_t, c_uint8, c_uint16, c_uint32, c_uint64
+from ctypes import c_size_t, c_uint8, c_uint16, c_uint32, c_uint64
 from os import path
-from typing import Any, Callable, Dict, Tuple, TypeVar
+from typing import Any, Callable, Dict, List, Tuple, TypeVar
 
 _LOST = """{file} cannot be loaded: {why}
 The package sedgechisel needs it beside its modules. In the repository of Sedgechisel run one of these:
@@ -12,6 +12,8 @@ The package sedgechisel needs it beside its modules. In the repository of Sedgec
     ./install --prefix DIR     and then  export PYTHONPATH=DIR/lib/python"""
 _Own = TypeVar("_Own", bound="Single")
 _MOST: Dict[Any, int] = {c_uint8: 0xFF, c_uint16: 0xFFFF, c_uint32: 0xFFFFFFFF, c_uint64: 0xFFFF_FFFF_FFFF_FFFF}
+LONGEST = 65542
+_rooms: List[Any] = []  # of LONGEST octets each, that no call has
 
 
 def _load(name: str) -> ctypes.PyDLL:
@@ -32,14 +34,30 @@ def number_of(name: str, value: Any) -> int:
 
 def within(name: str, kind: Any, value: Any) -> None:
     """A number that its kind does not hold is an OverflowError, and what is no number a TypeError."""
-    if kind in _MOST and not 0 <= number_of(name, value) <= _MOST[kind]:
-        raise OverflowError(f"{name}: {value} is not in 0 to {_MOST[kind]}")
+    most = _MOST.get(kind)
+    if most is not None and not 0 <= number_of(name, value) <= most:
+        raise OverflowError(f"{name}: {value} is not in 0 to {most}")
 
 
 def room_of(name: str, count: Any) -> Any:
     """Memory of this many octets."""
     within(name, c_size_t, count)
     return ctypes.create_string_buffer(count)
+
+
+def written(look_at: Callable[[int], Any], call: Callable[..., int], most: int, *values: Any) -> bytes:
+    """The octets that a call writes, and says the number of, given room for the most that it may write. Rooms are kept,
+    since to make one takes longer than most calls; each is that of one call at a time."""
+    count = c_size_t()
+    try:
+        room = _rooms.pop() if most <= LONGEST else room_of("most", most)
+    except IndexError:
+        room = room_of("most", LONGEST)
+    look_at(call(*values, room, most, count))
+    octets: bytes = room[:count.value]
+    if most <= LONGEST:
+        _rooms.append(room)
+    return octets
 
 
 def octets_of(name: str, value: Any) -> bytes:
@@ -55,15 +73,16 @@ def octets_of(name: str, value: Any) -> bytes:
 
 
 def struct_of(name: str, kind: Any, value: Any) -> Any:
-    """A struct of this kind as a call takes it; a TypeError where the value is none."""
+    """A struct of this kind; a TypeError where the value is none."""
     if not isinstance(value, kind):
         raise TypeError(f"{name}: {value!r} is not a {kind.__name__}")
-    return byref(value)
+    return value
 
 
 def call_of(library: ctypes.PyDLL, name: str, answer: Any, *kinds: Any) -> Callable[..., Any]:
     """A call of a library, of which each number that a caller gives has its name and its kind. A number that its kind
-    does not hold is an OverflowError, where ctypes would cut it."""
+    does not hold is an OverflowError, where ctypes would cut it. A struct is given as it is: ctypes makes the pointer,
+    in half the time that `byref` takes."""
     call: Any = getattr(library, "sedge_" + name)
     call.restype, call.argtypes = answer, [it[1] if isinstance(it, tuple) else it for it in kinds]
     numbers = [(place, *it) for place, it in enumerate(kinds) if isinstance(it, tuple)]

@@ -2,7 +2,7 @@
 from __future__ import annotations
 
 import ctypes
-from ctypes import POINTER, byref, c_bool, c_char_p, c_size_t, c_uint8, c_uint16
+from ctypes import POINTER, c_bool, c_char_p, c_size_t, c_uint8, c_uint16
 from enum import IntEnum
 from typing import List, Optional, Tuple
 
@@ -68,7 +68,7 @@ class Link(Sender):
         within("map", c_uint8, map)
         event, reply = _Event(_EVENTS[name], map, *directive, octets, len(octets)), _Reply()
         with self._lock:
-            self._asked(_sim_step(byref(self._handle), byref(event), byref(reply)), SimFault)
+            self._asked(_sim_step(self._handle, event, reply), SimFault)
         if reply.kind == _REFUSED:
             raise _REFUSED_BY[reply.by](reply.fault)
         return reply
@@ -147,7 +147,7 @@ class Link(Sender):
 
     def _read(self) -> _SimReading:
         read = _SimReading()
-        self._asked(_sim_read(byref(self._handle), byref(read)))
+        self._asked(_sim_read(self._handle, read))
         return read
 
     def _shown(self) -> str:
@@ -193,9 +193,9 @@ class Link(Sender):
         entries, length = c_size_t(), c_size_t()
         found = []
         with self._lock:
-            self._asked(_sim_count(byref(self._handle), record, map, byref(entries)))
+            self._asked(_sim_count(self._handle, record, map, entries))
             for k in range(entries.value):
-                self._asked(_sim_entry_length(byref(self._handle), record, map, k, byref(length)))
+                self._asked(_sim_entry_length(self._handle, record, map, k, length))
                 found.append(self._given(_sim_entry, length.value, record, map, k))
         return found
 
@@ -206,8 +206,8 @@ class Link(Sender):
         found = []
         with self._lock:
             for k in range(self._number(_sim_submissions)):
-                self._asked(_sim_submission_length(byref(self._handle), k, byref(map), byref(length)))
-                found.append((map.value, self._given(_sim_submission, length.value, k, byref(map))))
+                self._asked(_sim_submission_length(self._handle, k, map, length))
+                found.append((map.value, self._given(_sim_submission, length.value, k, map)))
         return found
 
     def submitted(self, map: int) -> List[bytes]:

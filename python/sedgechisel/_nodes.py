@@ -2,7 +2,7 @@
 from __future__ import annotations
 
 import ctypes
-from ctypes import POINTER, byref, c_bool, c_char_p, c_size_t, c_uint8, c_uint16, c_uint32, c_uint64, c_void_p
+from ctypes import POINTER, c_bool, c_char_p, c_size_t, c_uint8, c_uint16, c_uint32, c_uint64, c_void_p
 from dataclasses import dataclass
 from enum import IntEnum
 from threading import RLock
@@ -11,10 +11,9 @@ from typing import Any, Callable, Dict, Iterator, Optional, Tuple, Type, TypeVar
 
 from ._calls import Alert, Clcw, Command, Mode, Verdict, _directive, _dropped_word, _Struct
 from ._faults import ClcwFault, ConfigFault, CopFault, Fault, LinkFault, TcFault, TelemetryFault, TmFault
-from ._library import NODES, Single, call_of, octets_of as _octets_of
+from ._library import LONGEST, NODES, Single, call_of, octets_of as _octets_of, written as _written
 
 _ABSENT, _OUT_OF_RANGE, _NONE = 253, 254, 255
-_LONGEST = 65542
 _Own = TypeVar("_Own", bound="Handle")
 
 
@@ -65,7 +64,7 @@ class Config(_Struct):
 
     def fault(self) -> Optional[str]:
         """The name of the first parameter that is out of its range, or None."""
-        number = _config_fault(byref(self))
+        number = _config_fault(self)
         return ConfigFault(number).name if number else None
 
 
@@ -93,15 +92,15 @@ class Handle(Single):
             raise TypeError(f"config: {config!r} is not a Config; parameters are given by name, as in timer=3")
         if not hasattr(self, "_handle"):
             self._handle, self._lock = _Raw(), RLock()
-        answer = type(self)._opens(byref(config), byref(self._handle))
+        answer = type(self)._opens(config, self._handle)
         if answer == _OUT_OF_RANGE:
-            raise ConfigFault(_config_fault(byref(config)))
+            raise ConfigFault(_config_fault(config))
         LinkFault._look_at(answer)
 
     def close(self) -> None:
         """Closes it, and gives its memory back; again does nothing."""
         with self._lock:
-            type(self)._closes(byref(self._handle))
+            type(self)._closes(self._handle)
 
     @property
     def closed(self) -> bool:
@@ -134,17 +133,19 @@ class Handle(Single):
         fault._look_at(answer)
         return answer
 
+    def _is_absent(self, answer: int) -> bool:
+        """Whether a call answers that there is nothing; a fault where it answers neither that nor 0."""
+        return answer == _ABSENT or bool(self._asked(answer))
+
     def _number(self, call: Callable[..., int]) -> int:
         """The number that a call writes."""
         number = c_size_t()
-        self._asked(call(byref(self._handle), byref(number)))
+        self._asked(call(self._handle, number))
         return number.value
 
     def _given(self, call: Callable[..., int], most: int, *values: Any) -> bytes:
         """What a call writes, given room for the most octets that it may write."""
-        out, count = ctypes.create_string_buffer(most), c_size_t()
-        self._asked(call(byref(self._handle), *values, out, most, byref(count)))
-        return ctypes.string_at(out, count.value)
+        return _written(self._asked, call, most, self._handle, *values)
 
 
 # ---- What comes of octets ----
@@ -169,6 +170,11 @@ class State(IntEnum):
     a control command, initial."""
 
     S1, S2, S3, S4, S5, S6 = range(1, 7)
+
+
+# Members by their numbers, in a tenth of the time that a call of their enumeration takes.
+_ARRIVED, _REPORTS = dict(enumerate(Arrived, 1)), dict(enumerate(Report))
+_ALERTS, _VERDICTS = dict(enumerate(Alert)), dict(enumerate(Verdict))
 
 
 @dataclass(frozen=True)
@@ -197,12 +203,12 @@ class _Received(ctypes.Structure):
                 ("dropped", c_uint8), ("kept", c_bool), ("command", c_uint8), ("vr", c_uint8)]
 
     def value(self) -> Received:
-        kind = Arrived(self.kind)
+        kind = _ARRIVED[self.kind]
         if kind == Arrived.INVALID:
             return Received(kind, fault=TcFault(self.fault))
         if kind == Arrived.AD:
             dropped = _dropped_word(self.dropped) if self.dropped else None
-            return Received(kind, n=self.n, verdict=Verdict(self.verdict), ready=self.ready, dropped=dropped)
+            return Received(kind, n=self.n, verdict=_VERDICTS[self.verdict], ready=self.ready, dropped=dropped)
         if kind == Arrived.BC:
             return Received(kind, command=Command(self.command), vr=self.vr)
         return Received(kind, kept=self.kept)
@@ -236,11 +242,10 @@ class _Heard(ctypes.Structure):
             return Heard(Arrived.INVALID, fault=TmFault(self.fault))
         if self.kind == 2:
             return Heard(Arrived.FOREIGN)
-        kind = Arrived.CLCW if self.kind == 4 else Arrived.TM
+        kind, report = Arrived.CLCW if self.kind == 4 else Arrived.TM, _REPORTS[self.report]
         gap = None if self.first or kind == Arrived.CLCW else self.missing
-        word_fault = ClcwFault(self.word_fault) if self.report == Report.NONE else None
-        return Heard(kind, gap=gap, packets=self.packets, report=Report(self.report), word_fault=word_fault,
-                     alert=Alert(self.alert))
+        word_fault = ClcwFault(self.word_fault) if report == Report.NONE else None
+        return Heard(kind, None, gap, self.packets, report, word_fault, _ALERTS[self.alert])
 
 
 # ---- The ground ----
@@ -305,7 +310,7 @@ class Ground(Sender):
     _opens, _closes = _ground_open, _ground_close
 
     def _direct(self, name: str, own: str = "", value: int = 0) -> None:
-        self._asked(_ground_directive(byref(self._handle), *_directive(name, own, value)), CopFault)
+        self._asked(_ground_directive(self._handle, *_directive(name, own, value)), CopFault)
 
     def submit(self, map: int, packets: bytes) -> int:
         """Packets are to be sent on a MAP under sequence control: one, or with blocking several, one after another.
@@ -314,14 +319,14 @@ class Ground(Sender):
         packets = _octets_of("packets", packets)
         with self._lock:
             number = self.submitted
-            self._asked(_ground_submit(byref(self._handle), map, packets, len(packets)))
+            self._asked(_ground_submit(self._handle, map, packets, len(packets)))
         return number
 
     def bypass(self, map: int, packet: bytes) -> None:
         """One packet is to be sent on a MAP past the sequence control, in any state. The first LinkFault of 2 to 6 that
         applies."""
         packet = _octets_of("packet", packet)
-        self._asked(_ground_bypass(byref(self._handle), map, packet, len(packet)))
+        self._asked(_ground_bypass(self._handle, map, packet, len(packet)))
 
     def pull(self) -> Optional[bytes]:
         """Takes the telecommand frame that goes on the link next, with its FECF, at most 1,024 octets; None where
@@ -341,12 +346,12 @@ class Ground(Sender):
 
     def advance(self) -> None:
         """Counts the frame that goes on the link next as sent, as `pull` does."""
-        self._asked(_ground_advance(byref(self._handle)))
+        self._asked(_ground_advance(self._handle))
 
     def telemetry(self, octets: bytes) -> Heard:
         """Octets came from the spacecraft, which are one telemetry frame if all is well. A LinkFault, 6 Memory."""
         octets, heard = _octets_of("octets", octets), _Heard()
-        self._asked(_ground_telemetry(byref(self._handle), octets, len(octets), byref(heard)))
+        self._asked(_ground_telemetry(self._handle, octets, len(octets), heard))
         return heard.value()
 
     def clcw(self, word: bytes) -> Heard:
@@ -354,30 +359,24 @@ class Ground(Sender):
         of a telemetry frame; telemetry is not touched. The last one may be given again before the next, which changes
         nothing; an older one may not come again as if it were new. A ValueError for octets that are not four."""
         octets, heard = _octets_of("word", word), _Heard()
-        answer = _ground_clcw(byref(self._handle), octets, len(octets), byref(heard))
-        if answer == _ABSENT:
+        if self._is_absent(_ground_clcw(self._handle, octets, len(octets), heard)):
             raise ValueError(f"word: {len(octets)} octets, where a control word has four")
-        self._asked(answer)
         return heard.value()
 
     def forget_telemetry(self) -> None:
         """Begins to take packets out of telemetry anew, as after a restart of the spacecraft: a packet that is not
         finished is dropped. Packets that wait to be taken stay."""
-        self._asked(_ground_forget_telemetry(byref(self._handle)))
+        self._asked(_ground_forget_telemetry(self._handle))
 
     def report_in(self, octets: bytes) -> Optional[Clcw]:
         """The report that a telemetry frame carries, of whichever spacecraft and virtual channel; None where the octets
         are no frame, or the frame carries no report. The ground stays as it is."""
-        octets, word = _octets_of("octets", octets), Clcw()
-        answer = _ground_report(byref(self._handle), octets, len(octets), byref(word))
-        if answer == _ABSENT:
-            return None
-        self._asked(answer)
-        return word
+        octets, word = _octets_of("octets", octets), Clcw.__new__(Clcw)
+        return None if self._is_absent(_ground_report(self._handle, octets, len(octets), word)) else word
 
     def take_telemetry(self) -> Optional[bytes]:
         """Takes the oldest packet that telemetry frames carried, or None."""
-        return self._given(_ground_take_telemetry, _LONGEST) or None
+        return self._given(_ground_take_telemetry, LONGEST) or None
 
     def packets(self) -> Iterator[bytes]:
         """Takes the packets that telemetry frames carried, the oldest first, until none is left. Those that are not
@@ -386,8 +385,8 @@ class Ground(Sender):
 
     def tick(self) -> Alert:
         """A tick of the clock has passed: the Alert."""
-        answer = _ground_tick(byref(self._handle))
-        return Alert(self._asked(answer) if answer == _NONE else answer)
+        answer = _ground_tick(self._handle)
+        return _ALERTS[self._asked(answer) if answer == _NONE else answer]
 
     def accepted_beyond(self, value: int) -> Optional[int]:
         """How many of the segments that were sent and not acknowledged were accepted on board when a report of this
@@ -395,11 +394,7 @@ class Ground(Sender):
         is beyond V(S): nothing is known of them. After an alert too, in S6, until V(S) is set or an initiation begins
         (232.1-B-2, 5.1)."""
         accepted = c_uint8()
-        answer = _ground_accepted_beyond(byref(self._handle), value, byref(accepted))
-        if answer == _ABSENT:
-            return None
-        self._asked(answer)
-        return accepted.value
+        return None if self._is_absent(_ground_accepted_beyond(self._handle, value, accepted)) else accepted.value
 
     def known_on_board(self, value: int) -> Optional[int]:
         """How many first ones of the session's submissions are known to be on board whole by a report of this value:
@@ -407,11 +402,7 @@ class Ground(Sender):
         5.1). None where nothing is known: no session has begun, V(S) was set since, or the value does not lie from NN(R)
         to V(S), which are not equal."""
         whole = c_uint64()
-        answer = _ground_known_on_board(byref(self._handle), value, byref(whole))
-        if answer == _ABSENT:
-            return None
-        self._asked(answer)
-        return whole.value
+        return None if self._is_absent(_ground_known_on_board(self._handle, value, whole)) else whole.value
 
     def resume(self, value: int) -> int:
         """Begins the next session after an alert, where the last one has got to: sets V(S) to the value of a report
@@ -420,7 +411,7 @@ class Ground(Sender):
         again. A LinkFault, 7 NotKnown, where nothing is known of it: the sender is not in S6, no session has begun,
         V(S) was set since, or the value does not lie from NN(R) to V(S). Nothing has changed then."""
         whole = c_uint64()
-        self._asked(_ground_resume(byref(self._handle), value, byref(whole)))
+        self._asked(_ground_resume(self._handle, value, whole))
         return whole.value
 
     @property
@@ -441,7 +432,7 @@ class Ground(Sender):
 
     def _read(self) -> _GroundReading:
         read = _GroundReading()
-        self._asked(_ground_read(byref(self._handle), byref(read)))
+        self._asked(_ground_read(self._handle, read))
         return read
 
     def _shown(self) -> str:
@@ -512,12 +503,12 @@ class Spacecraft(Handle):
         """Octets came from the ground, which are one telecommand frame with its FECF if all is well. A LinkFault, 6
         Memory."""
         octets, received = _octets_of("octets", octets), _Received()
-        self._asked(_spacecraft_receive(byref(self._handle), octets, len(octets), byref(received)))
+        self._asked(_spacecraft_receive(self._handle, octets, len(octets), received))
         return received.value()
 
     def _taken(self, call: Callable[..., int]) -> Optional[Tuple[int, bytes]]:
         map = c_uint8()
-        packet = self._given(call, _LONGEST, byref(map))
+        packet = self._given(call, LONGEST, map)
         return (map.value, packet) if packet else None
 
     def take(self) -> Optional[Tuple[int, bytes]]:
@@ -541,7 +532,7 @@ class Spacecraft(Handle):
         """A packet is to be sent as telemetry. A TelemetryFault: 8 NotAPacket where the octets are not exactly one
         packet, or an idle packet; 7 Memory."""
         packet = _octets_of("packet", packet)
-        self._asked(_spacecraft_telemetry(byref(self._handle), packet, len(packet)), TelemetryFault)
+        self._asked(_spacecraft_telemetry(self._handle, packet, len(packet)), TelemetryFault)
 
     def report(self) -> bytes:
         """Takes the next telemetry frame, which reports on the receiver: as many octets as `frame_length` says."""
@@ -549,7 +540,7 @@ class Spacecraft(Handle):
 
     def _read(self) -> _SpacecraftReading:
         read = _SpacecraftReading()
-        self._asked(_spacecraft_read(byref(self._handle), byref(read)))
+        self._asked(_spacecraft_read(self._handle, read))
         return read
 
     def _shown(self) -> str:
