@@ -74,6 +74,7 @@ export const calls = {
     "sedge_tm_fault_name": ["sedge_text", [["fault", "value", "uint8_t"]]],
     "sedge_map_fault_name": ["sedge_text", [["fault", "value", "uint8_t"]]],
     "sedge_dropped_name": ["sedge_text", [["cause", "value", "uint8_t"]]],
+    "sedge_config_default": ["void", [["config", "written", "sedge_config"]]],
     "sedge_config_fault": ["uint8_t", [["config", "read", "sedge_config"]]],
     "sedge_parameter_name": ["sedge_text", [["number", "value", "uint8_t"]]],
     "sedge_link_fault_name": ["sedge_text", [["number", "value", "uint8_t"]]],

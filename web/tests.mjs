@@ -57,6 +57,9 @@ function nodes() {
     sedge.sedge_ground_close(ground);
     sedge.sedge_spacecraft_close(spacecraft);
     assert.equal(sedge.sedge_ground_tick(ground), n.SEDGE_NODE_NONE);
+    const defaults = {};
+    sedge.sedge_config_default(defaults);
+    assert.deepEqual(defaults, DEFAULTS);
     assert.equal(sedge.sedge_config_fault({ ...DEFAULTS, width: 7 }), 4);
     assert.equal(sedge.sedge_parameter_name(4), 'width');
 }

@@ -68,6 +68,9 @@ struct sedge_config {
     uint32_t blocking;     /* 1 where a segment may hold several packets, 0 to 1; default 0 */
 };
 
+/* Writes the default of each parameter. A program begins with these, and sets what its mission has otherwise. */
+void sedge_config_default(struct sedge_config *config);
+
 /* The number of the first parameter that is out of its range, 1 for scid to 15 for blocking in the order of the fields;
  * 0 for none. A width is also out of its range where it is odd, and a window where it is more than half of that. */
 uint8_t sedge_config_fault(const struct sedge_config *config);

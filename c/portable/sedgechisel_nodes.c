@@ -734,6 +734,7 @@ static uint32_t std_alloc_vec_deque_VecDeque_grow_ee377714b7165a56(uint64_t p0);
 static uint32_t std_alloc_vec_Vec_grow_amortized_ee377714b7165a56(uint64_t p0);
 static uint32_t sedgechisel_nodes_spacecraft_take_taken(uint64_t p0, uint32_t p1, uint64_t p2, uint64_t p3, uint64_t
     p4, uint64_t p5);
+static void sedge_config_default_at(uint64_t config);
 static uint32_t sedge_config_fault_at(uint64_t config);
 static uint32_t sedge_ground_open_at(uint64_t config, uint64_t ground);
 static uint64_t sedge_link_fault_name_at(uint64_t result, uint32_t number);
@@ -8018,6 +8019,20 @@ l3:;
     return v8;
 }
 
+static void sedge_config_default_at(uint64_t config)
+{
+    put64(config + 64, 0);
+    put64(config + 56, 0x40000003e8ULL);
+    put64(config + 48, 0x400000040ULL);
+    put64(config + 40, ~0ULL);
+    put64(config + 32, 0x10006);
+    put64(config + 24, 0x3f80000000aULL);
+    put64(config + 16, 0x30000007fULL);
+    put64(config + 8, 0xfe00000000ULL);
+    put64(config, 0x200000001ULL);
+    return;
+}
+
 static uint32_t sedge_config_fault_at(uint64_t config)
 {
     unsigned char frame_octets[32 + 15];
@@ -12880,6 +12895,25 @@ static void put_sedge_config(uint64_t at, const struct sedge_config *it)
     put32(at + 64, it->blocking);
 }
 
+static void get_sedge_config(uint64_t at, struct sedge_config *it)
+{
+    it->scid = get32(at);
+    it->vcid = get32(at + 4);
+    it->tm_vcid = get32(at + 8);
+    it->width = get32(at + 12);
+    it->window = get32(at + 16);
+    it->limit = get32(at + 20);
+    it->timer = get32(at + 24);
+    it->part = get32(at + 28);
+    it->max_packet = get32(at + 32);
+    it->maps = get64(at + 40);
+    it->ready_slots = get32(at + 48);
+    it->bypass_slots = get32(at + 52);
+    it->queue_slots = get32(at + 56);
+    it->frame_length = get32(at + 60);
+    it->blocking = get32(at + 64);
+}
+
 static void put_sedge_ground(uint64_t at, const struct sedge_ground *it)
 {
     put64(at, address(it->node));
@@ -13105,6 +13139,15 @@ static void get_sedge_sim_reading(uint64_t at, struct sedge_sim_reading *it)
 }
 
 /* ---- The calls of the header. ---- */
+
+void sedge_config_default(struct sedge_config *config)
+{
+    unsigned char config_octets[72 + 15];
+    const uint64_t config_at = aligned(config_octets);
+    put_sedge_config(config_at, config);
+    sedge_config_default_at(config_at);
+    get_sedge_config(config_at, config);
+}
 
 uint8_t sedge_config_fault(const struct sedge_config *config)
 {

@@ -341,6 +341,19 @@ static void on_a_closed_map(void) {
     WANT(live == 0);
 }
 
+static void the_defaults(void) {
+    static const struct sedge_config wanted = DEFAULTS;
+    struct sedge_config it;
+    memset(&it, 77, sizeof it);
+    sedge_config_default(&it);
+    WANT(it.scid == wanted.scid && it.vcid == wanted.vcid && it.tm_vcid == wanted.tm_vcid);
+    WANT(it.width == wanted.width && it.window == wanted.window && it.limit == wanted.limit);
+    WANT(it.timer == wanted.timer && it.part == wanted.part && it.max_packet == wanted.max_packet);
+    WANT(it.maps == wanted.maps && it.ready_slots == wanted.ready_slots && it.bypass_slots == wanted.bypass_slots);
+    WANT(it.queue_slots == wanted.queue_slots && it.frame_length == wanted.frame_length);
+    WANT(it.blocking == wanted.blocking && sedge_config_fault(&it) == 0);
+}
+
 static void handles_that_hold_none(void) {
     struct sedge_config wrong = config;
     struct sedge_ground ground = {0};
@@ -567,6 +580,7 @@ static void names(void) {
 int main(void) {
     long all;
     config.part = 3;
+    the_defaults();
     handles_that_hold_none();
     links_that_are_none();
     names();

@@ -185,11 +185,12 @@ static int refuse(const char *what, const char *word) {
 }
 
 int main(int count, char **words) {
-    struct sedge_config config = {1, 2, 0, 254, 127, 3, 10, DATA, LONGEST, ~(uint64_t)0, 64, 4, 1000, 64, 0};
+    struct sedge_config config;
     struct traffic traffic = {1, 1, 0, 0, 0, DEFAULT};
     struct sedge_text name;
     const char *node = count > 1 ? words[1] : "";
     int at;
+    sedge_config_default(&config);
     for (at = 2; at < count; at++)
         if (!set(&config, &traffic, words[at])) return refuse("no parameter with a value: ", words[at]);
     name = sedge_parameter_name(sedge_config_fault(&config));

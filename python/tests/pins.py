@@ -8,9 +8,10 @@ import re
 TOP = os.path.dirname(os.path.dirname(os.path.dirname(os.path.realpath(__file__))))
 MODULES = ("_faults", "_calls", "_nodes", "_link")
 
-# Calls that only tell how many octets are next, which the package does not ask: it gives room for the most.
+# Calls that only tell how many octets are next, which the package does not ask: it gives room for the most; and the
+# defaults, which the signature of Config has (python/check compares them).
 NOT_CALLED = {"sedge_ground_next", "sedge_ground_next_telemetry", "sedge_spacecraft_next",
-              "sedge_spacecraft_next_bypass"}
+              "sedge_spacecraft_next_bypass", "sedge_config_default"}
 
 # The kinds of nodes.
 HANDLES = ("ground", "spacecraft", "sim")

@@ -1,7 +1,7 @@
 // The managed parameters of a program in C.
 
 ghost use Rattle.std.specs.Prelude.{◌≡◌};
-ghost use Rattle.nodes.specs.Parameters.{out_of_range};
+ghost use Rattle.nodes.specs.Parameters.{default_config, out_of_range};
 ghost use Rattle.sedgechisel_nodes.specs.Numbers.{parameter_number, first_number};
 
 use nodes::{Config, Parameter};
@@ -33,4 +33,12 @@ pub extern "C" fn sedge_config_fault(config: &Config) -> u8
         Some(parameter) => number_of_parameter(parameter),
         None => 0,
     }
+}
+
+/// Writes the default of each parameter. A program begins with these, and sets what its mission has otherwise.
+#[unsafe(no_mangle)]
+pub extern "C" fn sedge_config_default(config: &mut Config)
+    ensures { config.new ≡ default_config }
+{
+    *config = Config::default();
 }

@@ -89,4 +89,11 @@ mod tests {
             assert_eq!(Parameter::from_number(it).map_or("?", Parameter::name), word.as_str());
         }
     }
+
+    #[test]
+    fn defaults_are_those_of_the_library_of_nodes() {
+        let mut written = ffi::nodes::Config { tm_vcid: 1, blocking: 1, ..ffi::nodes::Config::default() };
+        ffi::nodes::sedge_config_default(&mut written);
+        assert_eq!(written, Config::default().raw());
+    }
 }

@@ -63,7 +63,7 @@ pub const SEDGE_SENT: u8 = 3;
 pub const SEDGE_RECEIVED: u8 = 4;
 
 #[repr(C)]
-#[derive(Clone, Copy, Debug, Default)]
+#[derive(Clone, Copy, Debug, Default, PartialEq, Eq)]
 pub struct Config {
     pub scid: u32,
     pub vcid: u32,
@@ -342,6 +342,7 @@ pub fn sim_directive(sim: &mut Sim, directive: u8, value: u16, reply: &mut Reply
 // but references, and so is safe.
 #[rustfmt::skip]
 unsafe extern "C" {
+    pub safe fn sedge_config_default(config: &mut Config);
     pub safe fn sedge_config_fault(config: &Config) -> u8;
     pub safe fn sedge_parameter_name(number: u8) -> Text;
     pub safe fn sedge_link_fault_name(number: u8) -> Text;
