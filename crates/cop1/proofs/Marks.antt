@@ -4,7 +4,7 @@ use Rattle.std.proofs.Common.{map, Option, Some, None, inl, inr, refl, ap, arith
 use Rattle.std.specs.Prelude.{slice_get, option_copied, is_some}
 use Rattle.std.proofs.lemmas.Bool.{cases_lt}
 use denote.Bor.{Bor}
-use Rattle.cop1.specs.Units.{marked_unit, unmarked_unit, oldest_marked, without_oldest_mark}
+use Rattle.cop1.specs.Units.{marked_unit, unmarked_unit, oldest_marked, without_oldest_mark, due_units}
 use Rattle.cop1.specs.Queues.{marked_last}
 
 module _ {U : Type 0} where
@@ -31,6 +31,17 @@ module _ {U : Type 0} where
   map-marked_unit-marked_last due (u ∷ us) =
       let more = marked_last-all (length us) (suc (length us)) us (omega arith) (omega arith) in
       grind (arith, map-marked_unit-marked_last due us, more)
+
+  -- as many are marked as are due
+  pub length_due : (due : ℕ) (us : List U) → due ≤ length us → length (due_units (marked_last due us)) ≡ due
+  length_due due [] within = omega arith
+  length_due due (u ∷ us) within =
+      elim (cases_lt (length us) due) [
+        | inl lt ↦
+            let all = marked_last-all due (length us) us (omega arith) (omega arith) in
+            grind (arith, lt, all, length_due (length us) us (omega arith))
+        | inr le ↦ grind (arith, le, length_due due us le)
+      ]
 
   -- where none is marked, a unit comes after
   pub marked_last-push : (us : List U) (u : U) → marked_last 0 (us ++ u ∷ []) ≡ marked_last 0 us ++ unmarked_unit u ∷ []

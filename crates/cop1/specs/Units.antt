@@ -3,6 +3,7 @@
 use Rattle.std.specs.Prelude.{◌≡◌, ◌≢◌, ◌≤◌, ℕ, Bool, true, false, List, [], ◌∷◌, ◌++◌, length, map}
 use Rattle.std.specs.Prelude.{drop, ◌+◌, ◌↔◌, if◌then◌else◌, Option, Some, None, IfSome, IsSome}
 use Rattle.std.specs.Prelude.{is_some}
+use Rattle.std.specs.List.{filter}
 use Rattle.cop1.specs.Modulo.{ahead_by}
 use Rattle.cop1.specs.FopVariables.{IsActive, Store, SenderOf, OutcomeOf}
 use Rattle.cop1.specs.FopNew.{new_sender_of}
@@ -24,6 +25,10 @@ unmarked_unit u = record { unit = u; marked = false }
 abbrev pub is_none_sent : {U : Type 0} → List (SentUnit U) → Bool
 is_none_sent [] = true
 is_none_sent (u ∷ us) = false
+
+-- the units that are to be sent again
+abbrev pub due_units : {U : Type 0} → List (SentUnit U) → List (SentUnit U)
+due_units sent = filter (λ u. u.marked) sent
 
 -- the oldest marked unit with its place in the sent queue, which is counted from a number on
 abbrev pub oldest_marked : {U : Type 0} → ℕ → List (SentUnit U) → Option (ℕ × U)

@@ -42,7 +42,7 @@ impl<U> Model for Fop<U> {
 
 impl<U: Drop> Fop<U> {
     ghost use Rattle.std.specs.Prelude.{◌≡◌, ◌≤◌, ◌/◌, ◌-◌, ◌*◌, None, IfOk, IfErr, IfSome, IsOkUnless, Err, length, is_some};
-    ghost use Rattle.cop1.specs.Units.{new_fop, IsFop};
+    ghost use Rattle.cop1.specs.Units.{new_fop, IsFop, due_units};
     ghost use Rattle.cop1.specs.FopNew.{new_fault};
 
     /// A sender in its state S6 with V(S) and NN(R) 0, to a receiver of this window width, with the
@@ -104,6 +104,28 @@ impl<U: Drop> Fop<U> {
         ensures most { result ≤ 127 }
     {
         self.sent.len()
+    }
+
+    /// How many of these are due to be sent again.
+    #[tactic(auto, using(crate::proofs::Marks::length_due))]
+    pub fn due(&self) -> usize
+        ensures { result ≡ length (due_units self.now.sent) }
+    {
+        usize::from(self.sender.fields().due)
+    }
+
+    /// The transmission count, 1 to the limit (CCSDS 232.1-B-2, 5.1).
+    pub fn count(&self) -> u8
+        ensures { result ≡ self.now.count }
+    {
+        self.sender.fields().count
+    }
+
+    /// The ticks that are left, at least 1, where the timer runs.
+    pub fn ticks(&self) -> Option<u16>
+        ensures { result ≡ self.now.ticks }
+    {
+        self.sender.fields().ticks
     }
 
     /// How many units wait in the bypass queue.

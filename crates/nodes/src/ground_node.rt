@@ -54,8 +54,8 @@ impl Ground {
     ghost use Rattle.std.specs.Prelude.{◌≡◌, true, length, option_map, option_copied, IfOk, IfSome, OnErr, IsOkUnless};
     ghost use Rattle.map_service.specs.Packets.{is_packet};
     ghost use Rattle.cop1.specs.Accepted.{accepted_beyond};
-    ghost use Rattle.cop1.specs.Units.{IsFop};
-    ghost use Rattle.nodes.specs.Ground.{new_ground, ground_step, Direct, Tick, TakeTelemetry, refill_step, outstanding};
+    ghost use Rattle.cop1.specs.Units.{IsFop, due_units};
+    ghost use Rattle.nodes.specs.Ground.{new_ground, ground_step, Direct, Tick, TakeTelemetry, refill_step, outstanding, unsent_segments};
     ghost use Rattle.nodes.specs.Ground.{is_closed};
     ghost use Rattle.nodes.specs.Parameters.{IsConfig};
 
@@ -156,6 +156,41 @@ impl Ground {
         ensures { result ≡ length (outstanding self.now) }
     {
         self.fop.sent() + usize::from(self.fop.waiting()) + self.pending.len()
+    }
+
+    /// How many segments wait to be sent for the first time.
+    pub fn unsent(&self) -> usize
+        ensures { result ≡ length (unsent_segments self.now) }
+    {
+        usize::from(self.fop.waiting()) + self.pending.len()
+    }
+
+    /// How many segments are due to be sent again.
+    pub fn due(&self) -> usize
+        ensures { result ≡ length (due_units self.now.fop.sent) }
+    {
+        self.fop.due()
+    }
+
+    /// How many bypass packets wait to be sent.
+    pub fn bypassed(&self) -> usize
+        ensures { result ≡ length self.now.fop.bypass }
+    {
+        self.fop.bypassed()
+    }
+
+    /// The sender's transmission count, 1 to its limit (CCSDS 232.1-B-2, 5.1).
+    pub fn count(&self) -> u8
+        ensures { result ≡ self.now.fop.count }
+    {
+        self.fop.count()
+    }
+
+    /// The ticks that are left, at least 1, where the sender's timer runs.
+    pub fn ticks(&self) -> Option<u16>
+        ensures { result ≡ self.now.fop.ticks }
+    {
+        self.fop.ticks()
     }
 
     /// Follows a directive; the alert is that of `Terminate` (CCSDS 232.1-B-2, table 5-1). Refuses as

@@ -49,7 +49,7 @@ impl Model for Spacecraft {
 }
 
 impl Spacecraft {
-    ghost use Rattle.std.specs.Prelude.{◌≡◌, ◌++◌, drop, take, Ok, option_map, IfOk, IfSome, IfErr, OnOk, OnErr, IsOkUnless, IsTrue};
+    ghost use Rattle.std.specs.Prelude.{◌≡◌, ◌++◌, drop, take, length, Ok, option_map, IfOk, IfSome, IfErr, OnOk, OnErr, IsOkUnless, IsTrue};
     ghost use Rattle.clcw.specs.Encoding.{fits};
     ghost use Rattle.cop1.specs.Report.{report_of};
     ghost use Rattle.tm_link.specs.Builder.{queue_fault};
@@ -173,6 +173,20 @@ impl Spacecraft {
         ensures fault { IfErr result (λ e. e ≡ queue_fault packet.now) }
     {
         self.builder.queue(packet)
+    }
+
+    /// How many packets of sequence-controlled frames wait to be taken.
+    pub fn ready(&self) -> usize
+        ensures { result ≡ length self.now.ready }
+    {
+        self.ready.len()
+    }
+
+    /// How many packets of frames past the sequence control wait to be taken.
+    pub fn bypassed(&self) -> usize
+        ensures { result ≡ length self.now.bypass }
+    {
+        self.bypass.len()
     }
 
     /// How many octets a telemetry frame has.

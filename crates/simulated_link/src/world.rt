@@ -87,6 +87,13 @@ impl World {
         &self.ground_node
     }
 
+    /// The node on board.
+    pub fn spacecraft(&self) -> &Spacecraft
+        ensures { result.now ≡ self.now.spacecraft }
+    {
+        &self.spacecraft
+    }
+
     /// How the session began. None before any.
     pub fn opening(&self) -> Option<Opening>
         ensures { result ≡ self.now.session.opening }

@@ -4,7 +4,7 @@ mod runs;
 
 use crate::event::keeps_octets;
 use cop1::{Directive, FopMode};
-use nodes::{Config, Event};
+use nodes::{Config, Event, Ground, Spacecraft};
 pub use runs::run;
 use simulated_link::{Reply, SimFault, World};
 use std::alloc::Global;
@@ -121,6 +121,20 @@ impl Sim {
         ensures { map (λ a. map_ok reply_view a) result.now ≡ self.now.answers }
     {
         self.answers.as_slice()
+    }
+
+    /// The node on the ground.
+    pub fn ground(&self) -> &Ground
+        ensures { result.now ≡ self.now.world.ground_node }
+    {
+        self.world.ground_node()
+    }
+
+    /// The node on board.
+    pub fn spacecraft(&self) -> &Spacecraft
+        ensures { result.now ≡ self.now.world.spacecraft }
+    {
+        self.world.spacecraft()
     }
 
     /// The state of the ground's sender.
