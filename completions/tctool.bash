@@ -6,14 +6,16 @@ _tctool() {
         words='farm map tc tm clcw check packets sim help --help --version -h -V'
     else
         case $before in
-            --width | --vr | --length) return ;;
+            --width | --vr | --scid | --vcid | --map | --length | --apid) return ;;
         esac
         case ${COMP_WORDS[1]} in
-            farm) words='--width --vr --check --help -h' ;;
-            map) words='--width --vr --check --blocking --help -h' ;;
-            tc) words='--check --help -h' ;;
-            tm) words='--length --report --help -h' ;;
-            clcw | check | packets | sim) words='--help -h' ;;
+            farm) words='--width --vr --scid --vcid --check --help -h' ;;
+            map) words='--width --vr --scid --vcid --map --check --blocking --help -h' ;;
+            tc) words='--scid --vcid --check --help -h' ;;
+            tm) words='--length --scid --vcid --report --help -h' ;;
+            clcw | sim) words='--help -h' ;;
+            check) words='--scid --vcid --help -h' ;;
+            packets) words='--apid --help -h' ;;
             help) words='farm map tc tm clcw check packets sim' ;;
         esac
     fi

@@ -11,6 +11,8 @@ use Rattle.clap.specs.Facts.{args_of, groups_of}
 use Rattle.clap.specs.Words.{IsSignedIn, first_value, found_of, one_text, without_minus}
 use Rattle.command_line.specs.declared.commands.Named.{Named}
 use Rattle.cop1.specs.Farm.{IsWidth}
+use Rattle.command_line.specs.declared.task.Channel.{Channel}
+use Rattle.command_line.specs.declared.task.MapPart.{MapPart}
 use Rattle.command_line.specs.declared.task.Task.{Task}
 use Rattle.command_line.specs.declared.task.UsageFault.{UsageFault}
 use Rattle.command_line.specs.declared.task.UsageFault.TheVariants.{Words, OddWidth}
@@ -53,18 +55,33 @@ report = named (codes "report")
 abbrev pub length : Wanted
 length = record { name = codes "length"; is_required = true; range = Some (16, 2048) }
 
+abbrev pub scid : Wanted
+scid = record (named (codes "scid")) { range = Some (0, 1023) }
+
+abbrev pub vcid : Wanted
+vcid = record (named (codes "vcid")) { range = Some (0, 63) }
+
+abbrev pub telemetry_vcid : Wanted
+telemetry_vcid = record (named (codes "vcid")) { range = Some (0, 7) }
+
+abbrev pub map : Wanted
+map = record (named (codes "map")) { range = Some (0, 63) }
+
+abbrev pub apid : Wanted
+apid = record (named (codes "apid")) { range = Some (0, 2047) }
+
 abbrev pub file : Wanted
 file = record { name = codes "FILE"; is_required = true; range = None }
 
 -- the arguments of each command but the file, which is the last of each
 abbrev pub options_of : Named → List Wanted
-options_of commands.Farm = width ∷ vr ∷ check ∷ []
-options_of commands.Map = width ∷ vr ∷ check ∷ blocking ∷ []
-options_of commands.Tc = check ∷ []
-options_of commands.Tm = length ∷ report ∷ []
+options_of commands.Farm = width ∷ vr ∷ scid ∷ vcid ∷ check ∷ []
+options_of commands.Map = width ∷ vr ∷ scid ∷ vcid ∷ map ∷ check ∷ blocking ∷ []
+options_of commands.Tc = scid ∷ vcid ∷ check ∷ []
+options_of commands.Tm = length ∷ scid ∷ telemetry_vcid ∷ report ∷ []
 options_of commands.Clcw = []
-options_of commands.Check = []
-options_of commands.Packets = []
+options_of commands.Check = scid ∷ vcid ∷ []
+options_of commands.Packets = apid ∷ []
 options_of commands.Sim = []
 
 abbrev pub wanted_of : Named → List Wanted
@@ -103,14 +120,24 @@ GivesAll given (wanted ∷ more) = Gives given wanted × GivesAll given more
 
 -- The ranges of the numbers that the words give.
 
+-- of a spacecraft, and of a virtual channel up to this one
+abbrev pub AreIdentifiers : ℕ → Channel → Type 0
+AreIdentifiers most c = IfSome c.scid (λ n. n ≤ 1023) × IfSome c.vcid (λ n. n ≤ most)
+
+abbrev pub IsMapPart : MapPart → Type 0
+IsMapPart p = AreIdentifiers 63 p.part.channel × IfSome p.map (λ n. n ≤ 63)
+
 abbrev pub IsInRange : Task → Type 0
-IsInRange (tasks.Farm check width vr) = IsWidth width × (vr < 256)
-IsInRange (tasks.Map check width vr blocking) = IsWidth width × (vr < 256)
-IsInRange (tasks.Tc check) = Unit {0}
-IsInRange (tasks.Tm length report) = (16 ≤ length) × (length ≤ 2048)
+IsInRange (tasks.Farm check width vr part) =
+    IsWidth width × (vr < 256) × IfSome part (λ p. AreIdentifiers 63 p.channel)
+IsInRange (tasks.Map check width vr blocking part) =
+    IsWidth width × (vr < 256) × IfSome part IsMapPart
+IsInRange (tasks.Tc check channel) = IfSome channel (AreIdentifiers 63)
+IsInRange (tasks.Tm length report channel) =
+    (16 ≤ length) × (length ≤ 2048) × IfSome channel (AreIdentifiers 7)
 IsInRange tasks.Clcw = Unit {0}
-IsInRange tasks.Check = Unit {0}
-IsInRange tasks.Packets = Unit {0}
+IsInRange (tasks.Check channel) = IfSome channel (AreIdentifiers 63)
+IsInRange (tasks.Packets apid) = IfSome apid (λ n. n ≤ 2047)
 IsInRange tasks.Sim = Unit {0}
 
 -- a width that is refused is odd

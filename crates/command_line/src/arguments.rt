@@ -3,40 +3,67 @@
 ghost use Rattle.std.specs.Prelude.{◌≡◌, ◌≤◌, Some, None, IfOk};
 ghost use Rattle.clap.specs.Facts.{least_values};
 ghost use Rattle.command_line.specs.Arguments.{AreArguments, IsArgument, wanted_of};
-ghost use Rattle.command_line.specs.Arguments.{blocking, check, file, length, named, report, vr, width};
+ghost use Rattle.command_line.specs.Arguments.{apid, blocking, check, file, length, map, named, report};
+ghost use Rattle.command_line.specs.Arguments.{scid, telemetry_vcid, vcid, vr, width};
 
 use crate::commands::Named;
+use clap::builder::ValueParser;
 use clap::{Arg, ArgAction, value_parser};
 use std::alloc::{AllocError, Global};
 
+/// The word for the number of the first frame that comes.
+pub const FIRST: &str = "first";
+
 impl Named {
-    /// The arguments that the command takes, where `help` says what its file is.
-    pub fn arguments<'a>(self, alloc: Global, help: &'a str) -> Result<Vec<Arg<'a>>, AllocError>
+    /// The arguments that the command takes, where `help` says what its file is, and `from_first` whether
+    /// the word of `--vr` is `FIRST`.
+    pub fn arguments<'a>(
+        self,
+        alloc: Global,
+        help: &'a str,
+        from_first: bool,
+    ) -> Result<Vec<Arg<'a>>, AllocError>
         ensures { IfOk result (λ arguments. AreArguments arguments.items (wanted_of self)) }
     {
         Ok(match self {
             Named::Farm => vec![in alloc;
                 width_option(alloc),
-                vr_option(alloc),
+                vr_option(alloc, from_first),
+                scid_option(alloc),
+                vcid_option(alloc),
                 check_flag(alloc),
                 file_argument(alloc, help),
             ]?,
             Named::Map => vec![in alloc;
                 width_option(alloc),
-                vr_option(alloc),
+                vr_option(alloc, from_first),
+                scid_option(alloc),
+                vcid_option(alloc),
+                map_option(alloc),
                 check_flag(alloc),
                 blocking_flag(alloc),
                 file_argument(alloc, help),
             ]?,
-            Named::Tc => vec![in alloc; check_flag(alloc), file_argument(alloc, help)]?,
+            Named::Tc => vec![in alloc;
+                scid_option(alloc),
+                vcid_option(alloc),
+                check_flag(alloc),
+                file_argument(alloc, help),
+            ]?,
             Named::Tm => vec![in alloc;
                 length_option(alloc),
+                scid_option(alloc),
+                telemetry_vcid_option(alloc),
                 report_flag(alloc),
                 file_argument(alloc, help),
             ]?,
-            Named::Clcw | Named::Check | Named::Packets | Named::Sim => {
-                vec![in alloc; file_argument(alloc, help)]?
-            }
+            Named::Check => vec![in alloc;
+                scid_option(alloc),
+                vcid_option(alloc),
+                file_argument(alloc, help),
+            ]?,
+            Named::Packets => vec![in alloc; apid_option(alloc), file_argument(alloc, help)]?,
+            Named::Clcw | Named::Sim => vec![in alloc; file_argument(alloc, help)]?,
         })
     }
 }
@@ -49,12 +76,59 @@ fn width_option<'a>(alloc: Global) -> Arg<'a>
     option(alloc, "width", "W", help).value_parser(value_parser!(u8).range(2..=254))
 }
 
-// `--vr N`, the number of the first frame that is expected.
-fn vr_option<'a>(alloc: Global) -> Arg<'a>
+// `--vr N`, the number of the first frame that is expected. A number and the word have a parser each.
+fn vr_option<'a>(alloc: Global, from_first: bool) -> Arg<'a>
     ensures { IsArgument result vr }
 {
-    let help = "Number of the first frame that is expected, 0 to 255 [default: 0]";
-    option(alloc, "vr", "N", help).value_parser(value_parser!(u8))
+    let help = "Number of the first frame that is expected, 0 to 255, or first [default: 0]";
+    let number = option(alloc, "vr", "N", help);
+    if from_first {
+        number
+            .value_parser(ValueParser::Names(&[FIRST]))
+            .hide_possible_values(true)
+    } else {
+        number.value_parser(value_parser!(u8))
+    }
+}
+
+// `--scid S`, the spacecraft.
+fn scid_option<'a>(alloc: Global) -> Arg<'a>
+    ensures { IsArgument result scid }
+{
+    let help = "Lists the frames of this spacecraft alone, 0 to 1023";
+    option(alloc, "scid", "S", help).value_parser(value_parser!(u16).range(0..=1023))
+}
+
+// `--vcid V`, the virtual channel of telecommand frames.
+fn vcid_option<'a>(alloc: Global) -> Arg<'a>
+    ensures { IsArgument result vcid }
+{
+    let help = "Lists the frames of this virtual channel alone, 0 to 63";
+    option(alloc, "vcid", "V", help).value_parser(value_parser!(u8).range(0..=63))
+}
+
+// `--vcid V`, the virtual channel of telemetry frames.
+fn telemetry_vcid_option<'a>(alloc: Global) -> Arg<'a>
+    ensures { IsArgument result telemetry_vcid }
+{
+    let help = "Lists the frames of this virtual channel alone, 0 to 7";
+    option(alloc, "vcid", "V", help).value_parser(value_parser!(u8).range(0..=7))
+}
+
+// `--map M`, the MAP.
+fn map_option<'a>(alloc: Global) -> Arg<'a>
+    ensures { IsArgument result map }
+{
+    let help = "Lists the packets of this MAP alone, 0 to 63; the receiver takes the frames of all";
+    option(alloc, "map", "M", help).value_parser(value_parser!(u8).range(0..=63))
+}
+
+// `--apid A`, the application process.
+fn apid_option<'a>(alloc: Global) -> Arg<'a>
+    ensures { IsArgument result apid }
+{
+    let help = "Lists the packets of this application process alone, 0 to 2047";
+    option(alloc, "apid", "A", help).value_parser(value_parser!(u16).range(0..=2047))
 }
 
 // `--length F`, the octets of a frame.

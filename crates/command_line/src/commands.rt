@@ -4,6 +4,7 @@ ghost use Rattle.std.specs.Prelude.{IfOk, IfErr, IfSome};
 ghost use Rattle.command_line.specs.Arguments.{GivesAll, IsBare, wanted_of};
 ghost use Rattle.command_line.specs.Arguments.{IsInRange, IsOddIfWidth};
 
+use crate::arguments::FIRST;
 use crate::given::file_given;
 use crate::help::{COMMANDS, Described, ending_of_help};
 use crate::task::{Options, UsageFault};
@@ -47,7 +48,9 @@ impl<'a> Described<'a> {
     fn given(self, alloc: Global, words: &'a [&'a str]) -> Result<ArgMatches<'a>, Error>
         ensures { IfOk result (λ given. GivesAll given (wanted_of self.entry.command)) }
     {
-        let arguments = self.command.arguments(alloc, self.file)?;
+        let arguments = self
+            .command
+            .arguments(alloc, self.file, is_from_first(words))?;
         let bare = self.bare(alloc)?;
         let command = bare.args(arguments)?;
         command.try_get_matches_from(words)
@@ -64,6 +67,18 @@ impl<'a> Described<'a> {
             file: file_given(&given),
         })
     }
+}
+
+// Whether the words have `--vr first`.
+fn is_from_first(words: &[&str]) -> bool {
+    let mut before = "";
+    for word in words {
+        if *word == "--vr=first" || (before == "--vr" && *word == FIRST) {
+            return true;
+        }
+        before = word;
+    }
+    false
 }
 
 /// Reads the words of a command line, the program's name first. The numbers of the task that it returns

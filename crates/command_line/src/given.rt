@@ -1,12 +1,14 @@
 // What the words of a command give.
 
-ghost use Rattle.std.specs.Prelude.{◌≤◌, IfOk, IfErr};
+ghost use Rattle.std.specs.Prelude.{◌≡◌, ◌≤◌, IfOk, IfErr, IfSome};
 ghost use Rattle.cop1.specs.Farm.{IsWidth};
 ghost use Rattle.command_line.specs.Arguments.{Gives, GivesAll, file, length, wanted_of, width};
-ghost use Rattle.command_line.specs.Arguments.{IsInRange, IsOddIfWidth};
+ghost use Rattle.command_line.specs.Arguments.{apid, map, scid, telemetry_vcid, vcid};
+ghost use Rattle.command_line.specs.Arguments.{AreIdentifiers, IsInRange, IsMapPart, IsOddIfWidth};
 
+use crate::arguments::FIRST;
 use crate::commands::Named;
-use crate::task::{Task, UsageFault};
+use crate::task::{Channel, MapPart, Part, Task, UsageFault};
 use clap::ArgMatches;
 
 impl Named {
@@ -21,23 +23,31 @@ impl Named {
                 check: given.get_flag("check"),
                 width: width_given(given)?,
                 vr: vr_given(given),
+                part: some_part(part_given(given)),
             },
             Named::Map => Task::Map {
                 check: given.get_flag("check"),
                 width: width_given(given)?,
                 vr: vr_given(given),
                 blocking: given.get_flag("blocking"),
+                part: map_part_given(given),
             },
             Named::Tc => Task::Tc {
                 check: given.get_flag("check"),
+                channel: some_channel(channel_given(given)),
             },
             Named::Tm => Task::Tm {
                 length: length_given(given),
                 report: given.get_flag("report"),
+                channel: some_channel(telemetry_channel_given(given)),
             },
             Named::Clcw => Task::Clcw,
-            Named::Check => Task::Check,
-            Named::Packets => Task::Packets,
+            Named::Check => Task::Check {
+                channel: some_channel(channel_given(given)),
+            },
+            Named::Packets => Task::Packets {
+                apid: apid_given(given),
+            },
             Named::Sim => Task::Sim,
         })
     }
@@ -59,6 +69,118 @@ fn width_given(given: &ArgMatches<'_>) -> Result<u8, UsageFault>
 // The number of the first frame, or else 0.
 fn vr_given(given: &ArgMatches<'_>) -> u8 {
     given.get_one::<u8>("vr").unwrap_or(0)
+}
+
+// Whether the number of the first frame is that of the first one in the file.
+fn is_from_first(given: &ArgMatches<'_>) -> bool {
+    given.get_str("vr") == Some(FIRST)
+}
+
+fn scid_given(given: &ArgMatches<'_>) -> Option<u16>
+    requires { Gives given.now scid }
+    ensures { IfSome result (λ n. n ≤ 1023) }
+{
+    given.get_one::<u16>("scid")
+}
+
+fn vcid_given(given: &ArgMatches<'_>) -> Option<u8>
+    requires { Gives given.now vcid }
+    ensures { IfSome result (λ n. n ≤ 63) }
+{
+    given.get_one::<u8>("vcid")
+}
+
+fn telemetry_vcid_given(given: &ArgMatches<'_>) -> Option<u8>
+    requires { Gives given.now telemetry_vcid }
+    ensures { IfSome result (λ n. n ≤ 7) }
+{
+    given.get_one::<u8>("vcid")
+}
+
+// The channel of telecommand frames.
+fn channel_given(given: &ArgMatches<'_>) -> Channel
+    requires scid { Gives given.now scid }
+    requires vcid { Gives given.now vcid }
+    ensures { AreIdentifiers 63 result }
+{
+    Channel {
+        scid: scid_given(given),
+        vcid: vcid_given(given),
+    }
+}
+
+// The channel of telemetry frames.
+fn telemetry_channel_given(given: &ArgMatches<'_>) -> Channel
+    requires scid { Gives given.now scid }
+    requires vcid { Gives given.now telemetry_vcid }
+    ensures { AreIdentifiers 7 result }
+{
+    Channel {
+        scid: scid_given(given),
+        vcid: telemetry_vcid_given(given),
+    }
+}
+
+// The channel, where any of it is given.
+fn some_channel(channel: Channel) -> Option<Channel>
+    ensures { IfSome result (λ c. c ≡ channel) }
+{
+    match channel {
+        Channel {
+            scid: None,
+            vcid: None,
+        } => None,
+        channel => Some(channel),
+    }
+}
+
+fn part_given(given: &ArgMatches<'_>) -> Part
+    requires scid { Gives given.now scid }
+    requires vcid { Gives given.now vcid }
+    ensures { AreIdentifiers 63 result.channel }
+{
+    Part {
+        channel: channel_given(given),
+        from_first: is_from_first(given),
+    }
+}
+
+// What a receiver takes, where that is not all.
+fn some_part(part: Part) -> Option<Part>
+    ensures { IfSome result (λ p. p ≡ part) }
+{
+    match some_channel(part.channel) {
+        None if !part.from_first => None,
+        _ => Some(part),
+    }
+}
+
+// What a receiver takes, and the MAP, where that is not all.
+fn map_part_given(given: &ArgMatches<'_>) -> Option<MapPart>
+    requires scid { Gives given.now scid }
+    requires vcid { Gives given.now vcid }
+    requires map { Gives given.now map }
+    ensures { IfSome result IsMapPart }
+{
+    let part = part_given(given);
+    match (some_part(part), map_given(given)) {
+        (None, None) => None,
+        (_, map) => Some(MapPart { part, map }),
+    }
+}
+
+fn map_given(given: &ArgMatches<'_>) -> Option<u8>
+    requires { Gives given.now map }
+    ensures { IfSome result (λ n. n ≤ 63) }
+{
+    given.get_one::<u8>("map")
+}
+
+fn apid_given(given: &ArgMatches<'_>) -> Option<u16>
+    requires { Gives given.now apid }
+    ensures { IfSome result (λ n. n ≤ 2047) }
+{
+    given.get_one::<u16>("apid")
 }
 
 // The length of a frame.

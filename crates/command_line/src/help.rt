@@ -32,7 +32,7 @@ macro_rules! ending_of_help {
 
 /// The end of a help where telecommand frames are read, with their faults.
 macro_rules! ending_of_frames {
-    ($line:literal) => {
+    ($line:literal $(, $more:literal)*) => {
         ending_of_help!(
             $line,
             "Faults of a frame, the first that applies:\n",
@@ -44,8 +44,9 @@ macro_rules! ending_of_frames {
             "  6 Check              the last two octets are not the check of the others\n",
             "  7 BypassNumber       N(S) of a Type-BD or Type-BC frame is not 0\n",
             "  8 EmptyData          no data, or a segment header alone\n",
-            "  9 Command            the data of a Type-BC frame are no command\n",
-            "\n"
+            "  9 Command            the data of a Type-BC frame are no command\n\n",
+            $($more,)*
+            "Without --scid and --vcid all frames are taken as those of one channel.\n\n"
         )
     };
 }
@@ -63,7 +64,10 @@ pub const COMMANDS: [Described<'static>; 8] = [
         bin_name: "tctool farm",
         about: "Lists what a receiver (FARM-1) makes of each frame",
         file: FRAMES,
-        ending: ending_of_frames!("3 BC unlock Open vr=0 l=0 w=0 t=0 b=1"),
+        ending: ending_of_frames!(
+            "3 BC unlock Open vr=0 l=0 w=0 t=0 b=1",
+            "--vr first begins at the number of the first Type-AD frame or Set V(R).\n"
+        ),
     },
     Described {
         command: Named::Map,
@@ -79,7 +83,9 @@ pub const COMMANDS: [Described<'static>; 8] = [
             "  NotAPacket           not exactly one packet (--blocking: whole packets)\n",
             "  TooLong              a packet is longer than 65,542 octets\n",
             "  Bypass               a Type-BD frame without exactly one packet\n",
-            "\nFaults of a frame: tctool help tc\n\n"
+            "\nFaults of a frame: tctool help tc\n\n",
+            "--vr first begins at the number of the first Type-AD frame or Set V(R).\n",
+            "Without --scid and --vcid all frames are taken as those of one channel.\n\n"
         ),
     },
     Described {
@@ -106,7 +112,7 @@ pub const COMMANDS: [Described<'static>; 8] = [
             "  4 Status             a status flag is not 0, or segment length not 11\n",
             "  5 Pointer            the first header pointer is not within the data\n",
             "  6 NoOcf              the frame has no operational control field\n",
-            "\n"
+            "\nWithout --scid and --vcid all frames are taken as those of one channel.\n\n"
         ),
     },
     Described {
@@ -148,7 +154,7 @@ pub const COMMANDS: [Described<'static>; 8] = [
             "  1 Truncated          the file ends within the packet\n",
             "  2 Version            the version number is not 000\n",
             "  3 IdleWithSecondary  an idle packet with a secondary header\n",
-            "\n"
+            "\nWithout --apid the packets of all application processes are listed.\n\n"
         ),
     },
     Described {

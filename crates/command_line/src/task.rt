@@ -2,7 +2,31 @@
 
 use clap::Error;
 
+/// The records that are listed, where not all are: those whose headers name this spacecraft and this
+/// virtual channel. What is not given is any.
+#[derive(Clone, Copy, Debug, Drop, PartialEq, Eq)]
+pub struct Channel {
+    pub scid: Option<u16>,
+    pub vcid: Option<u8>,
+}
+
+/// What a receiver takes, where that is not all from a number that is given: the frames of this channel,
+/// and whether it begins at the number of the first of them.
+#[derive(Clone, Copy, Debug, Drop, PartialEq, Eq)]
+pub struct Part {
+    pub channel: Channel,
+    pub from_first: bool,
+}
+
+/// What a receiver takes, and the MAP whose packets are listed, where they are not those of all.
+#[derive(Clone, Copy, Debug, Drop, PartialEq, Eq)]
+pub struct MapPart {
+    pub part: Part,
+    pub map: Option<u8>,
+}
+
 /// What is to be done with the file. Where there is `check`, it says whether frames end with their FECF.
+/// What of the file is listed is all of it, where it is not given.
 #[derive(Clone, Copy, Debug, Drop, PartialEq, Eq)]
 pub enum Task {
     /// Lists what a receiver makes of each frame: one of this window width, even, 2 to 254, that
@@ -11,6 +35,7 @@ pub enum Task {
         check: bool,
         width: u8,
         vr: u8,
+        part: Option<Part>,
     },
     /// Lists the packets out of the frames that such a receiver accepts, where a segment may hold
     /// several packets or, with no blocking, one.
@@ -19,23 +44,30 @@ pub enum Task {
         width: u8,
         vr: u8,
         blocking: bool,
+        part: Option<MapPart>,
     },
     /// Lists the fields of each telecommand frame.
     Tc {
         check: bool,
+        channel: Option<Channel>,
     },
     /// Lists the fields of each telemetry frame, of frames of this length, 16 to 2,048 octets, what its
     /// control word reports, if that is asked for, and the packets that are finished with it.
     Tm {
         length: u16,
         report: bool,
+        channel: Option<Channel>,
     },
     /// Lists what each control word reports.
     Clcw,
     /// Lists the frames that are refused, of frames that end with their FECF.
-    Check,
-    /// Lists the fields of each space packet.
-    Packets,
+    Check {
+        channel: Option<Channel>,
+    },
+    /// Lists the fields of each space packet, of those of this application process.
+    Packets {
+        apid: Option<u16>,
+    },
     /// Plays a script of the simulated link.
     Sim,
 }

@@ -11,3 +11,6 @@ pub mod Text
 pub mod RefusalLines
 pub mod Listing
 pub mod Layouts
+pub mod Filters
+pub mod FirstNumber
+pub mod OneMap

@@ -88,6 +88,20 @@ fn put_set_vr(room: &mut [u8], at: usize, vr: u8) -> usize
     put_word(room, next, b" ")
 }
 
+/// Gives a frame to the receiver, whose buffer is free.
+pub fn give(farm: &mut Farm, body: &Body)
+    ensures { farm.new ≡ after_body farm.old (body_view body.now) }
+{
+    match body {
+        Body::Ad { n, .. } => {
+            farm.ad(*n, true);
+        }
+        Body::Bd { .. } => farm.bd(),
+        Body::Bc(Command::Unlock) => farm.unlock(),
+        Body::Bc(Command::SetVr(vr)) => farm.set_vr(*vr),
+    }
+}
+
 /// Gives a frame to the receiver, whose buffer is free, and puts what it made of it.
 fn put_body(room: &mut [u8], at: usize, farm: &mut Farm, body: &Body) -> usize
     requires { at + 32 ≤ length room.old }

@@ -11,8 +11,11 @@ ghost use Rattle.map_service.specs.Exactness.{step_at, after_step};
 ghost use Rattle.tm_link.specs.Extractor.{octets_of};
 ghost use Rattle.listings.specs.Text.{Appends};
 ghost use Rattle.listings.specs.MapLines.{MapState, map_limits, map_opened, is_bypass, dropped_line, on_map_line, cause_text, map_packets_text, outcome_text, bypass_text, body_text, after_body, record_text, after_record, map_lines};
+ghost use Rattle.listings.specs.OneMap.{passed};
 ghost use Rattle.listings.specs.ListedPackets.{accepted_in, listed_on};
 
+use crate::farm::give;
+use crate::first_number::Begins;
 use crate::lines::{push_invalid, push_name, push_octets, push_refused};
 use crate::listing::Listing;
 use crate::parts::{put_field, put_number, put_word};
@@ -84,9 +87,28 @@ impl MapListing {
         push_packets(text, segment.header.map, taken.packets.as_slice())
     }
 
+    /// Gives a frame to the receiver alone, whose buffer is free.
+    pub(crate) fn pass(&mut self, body: &Body)
+        ensures { self.new ≡ passed self.old (body_view body.now) }
+    {
+        give(&mut self.farm, body);
+    }
+
+    /// Has the receiver expect this number.
+    pub(crate) fn begin(&mut self, vr: u8)
+        ensures { self.new ≡ record self.old { receiver = record self.old.receiver { vr = vr } } }
+    {
+        self.farm.begin(vr);
+    }
+
     /// Gives a frame to the receiver, whose buffer is free, and appends its lines.
     #[inline(always)]
-    fn push_body(&mut self, text: &mut Text, index: u64, body: Body) -> Result<(), AllocError>
+    pub(crate) fn push_body(
+        &mut self,
+        text: &mut Text,
+        index: u64,
+        body: Body,
+    ) -> Result<(), AllocError>
         ensures text { Appends result text.old text.new
             (body_text self.old index (body_view body.entry)) }
         ensures state { OnOk result (self.new ≡ after_body self.old (body_view body.entry)) }

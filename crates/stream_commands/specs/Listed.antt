@@ -1,14 +1,22 @@
 -- The table of commands, and what it says of the lines, the outcome and the end of a file. Nothing
 -- is listed of a script.
-use Rattle.std.specs.Prelude.{List, [], ℕ}
+use Rattle.std.specs.Prelude.{List, [], ℕ, Bool, Option, Some, None}
+use Rattle.tc_frame.specs.declared.frame.Check.{Check}
 use Rattle.tc_frame.specs.declared.frame.Check.TheVariants.{On}
+use Rattle.tc_frame.specs.declared.fault.TcFault.{TcFault}
 use Rattle.tc_frame.specs.Splitter.{check_if}
-use Rattle.cop1.specs.Farm.{new_farm}
+use Rattle.cop1.specs.Farm.{FarmState, new_farm}
+use Rattle.command_line.specs.declared.task.Channel.{Channel}
+use Rattle.command_line.specs.declared.task.MapPart.{MapPart}
+use Rattle.command_line.specs.declared.task.Part.{Part}
 use Rattle.command_line.specs.declared.task.Task.{Task}
 use Rattle.command_line.specs.declared.task.Task.TheVariants as tasks
 use Rattle.listings.specs.FarmLines.{farm_lines}
+use Rattle.listings.specs.Filters.{keeps_frame, keeps_packet, keeps_telemetry, only}
+use Rattle.listings.specs.FirstNumber.{farm_begun, from_first}
 use Rattle.listings.specs.FrameLines.{frame_lines}
-use Rattle.listings.specs.MapLines.{map_lines, map_opened}
+use Rattle.listings.specs.MapLines.{MapState, map_lines, map_opened}
+use Rattle.listings.specs.OneMap.{one_map_begun, one_map_lines}
 use Rattle.listings.specs.RefusalLines.{refusal_lines}
 use Rattle.listings.specs.PacketLines.{none_seen, packet_lines}
 use Rattle.listings.specs.ReportLines.{report_lines}
@@ -27,20 +35,55 @@ pub data Work : Type 1 where
   Lists : {S F : Type 0} → Layout F → Lines S F → S → Work
   Plays : Work
 
+-- the telecommand frames of a channel
+abbrev pub frames_on : Channel → List ℕ → Bool
+frames_on c octets = keeps_frame c.scid c.vcid octets
+
+-- the telemetry frames of a channel
+abbrev pub telemetry_on : Channel → List ℕ → Bool
+telemetry_on c octets = keeps_telemetry c.scid c.vcid octets
+
+-- of telecommand frames those of a channel are listed, or all
+abbrev pub frames_work : {S : Type 0} → Check → Lines S TcFault → S → Option Channel → Work
+frames_work check lines start None = Lists (frame_layout check) lines start
+frames_work check lines start (Some c) =
+    Lists (frame_layout check) (only (frames_on c) lines) start
+
+abbrev pub farm_work : Check → FarmState → Option Part → Work
+farm_work check start None = frames_work check (farm_lines check) start None
+farm_work check start (Some p) =
+    frames_work check (from_first farm_begun check (farm_lines check))
+    (record { awaits = p.from_first; kept = start }) (Some p.channel)
+
+abbrev pub map_work : Check → MapState → Option MapPart → Work
+map_work check start None = frames_work check (map_lines check) start None
+map_work check start (Some p) =
+    frames_work check (from_first one_map_begun check (one_map_lines check))
+    (record { awaits = p.part.from_first; kept = record { map = p.map; packets = start } })
+    (Some p.part.channel)
+
+abbrev pub telemetry_work : ℕ → Bool → Option Channel → Work
+telemetry_work size report None =
+    Lists (telemetry_layout size) (telemetry_lines size) (telemetry_opened report)
+telemetry_work size report (Some c) =
+    Lists (telemetry_layout size) (only (telemetry_on c) (telemetry_lines size))
+    (telemetry_opened report)
+
+abbrev pub packet_work : Option ℕ → Work
+packet_work None = Lists packet_layout packet_lines none_seen
+packet_work (Some apid) = Lists packet_layout (only (keeps_packet apid) packet_lines) none_seen
+
 -- the table of commands
 abbrev pub work_of : Task → Work
-work_of (tasks.Farm check width vr) =
-    Lists (frame_layout (check_if check)) (farm_lines (check_if check)) (new_farm width vr)
-work_of (tasks.Map check width vr blocking) =
-    Lists (frame_layout (check_if check)) (map_lines (check_if check))
-    (map_opened width vr blocking)
-work_of (tasks.Tc check) =
-    Lists (frame_layout (check_if check)) (frame_lines (check_if check)) tt
-work_of (tasks.Tm size report) =
-    Lists (telemetry_layout size) (telemetry_lines size) (telemetry_opened report)
+work_of (tasks.Farm check width vr part) = farm_work (check_if check) (new_farm width vr) part
+work_of (tasks.Map check width vr blocking part) =
+    map_work (check_if check) (map_opened width vr blocking) part
+work_of (tasks.Tc check channel) =
+    frames_work (check_if check) (frame_lines (check_if check)) tt channel
+work_of (tasks.Tm size report channel) = telemetry_work size report channel
 work_of tasks.Clcw = Lists word_layout report_lines tt
-work_of tasks.Check = Lists (frame_layout On) refusal_lines tt
-work_of tasks.Packets = Lists packet_layout packet_lines none_seen
+work_of (tasks.Check channel) = frames_work On refusal_lines tt channel
+work_of (tasks.Packets apid) = packet_work apid
 work_of tasks.Sim = Plays
 
 -- the lines for all octets of a file, its rest included; nothing is listed of a script

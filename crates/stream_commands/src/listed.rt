@@ -7,22 +7,26 @@ ghost use Rattle.listings.specs.Devices.{gained};
 ghost use Rattle.listings.specs.Layouts.{rest_by, IsRefused};
 ghost use Rattle.listings.specs.Listing.{fresh, text_of, is_all_good};
 ghost use Rattle.listings.specs.Streams.{Reads, WritesText};
-ghost use Rattle.stream_commands.specs.Listed.{listed_lines, listed_outcome, StopsAt};
+ghost use Rattle.cop1.specs.Farm.{IsWidth};
+ghost use Rattle.tc_frame.specs.Splitter.{check_if};
+ghost use Rattle.listings.specs.Filters.{only};
+ghost use Rattle.stream_commands.specs.Listed.{frames_work, listed_lines, listed_outcome, StopsAt};
+ghost use Rattle.stream_commands.specs.Listed.{work_lines, work_outcome, WorkStops};
 ghost use Rattle.stream_commands.specs.Outcome.{outcome_if};
 
 use crate::outcome::Outcome;
-use command_line::Task;
+use command_line::{Channel, MapPart, Part, Task};
 use cop1::Farm;
 use listings::{
-    ControlWords, Cutter, FrameCutter, FrameLength, FrameListing, Listing, ListingFault,
-    MapListing, PacketListing, RefusalListing, ReportListing, Sink, Source, TelemetryListing,
-    list_stream,
+    ControlWords, Cutter, Filter, FrameCutter, FrameLength, FrameListing, FramesOf, FromFirst,
+    Kept, Listing, ListingFault, MapListing, OneMap, Only, PacketListing, PacketsOf,
+    RefusalListing, ReportListing, Sink, Source, TelemetryListing, TelemetryOf, list_stream,
 };
 use octets::Splitter;
 use space_packet::Packets;
 use std::alloc::Global;
 use std::marker::Brand;
-use tc_frame::{Checked, Unchecked};
+use tc_frame::FrameLayout;
 
 /// Reads a stream to its end, in pieces, and writes the lines that a command but `sim` asks for: of each
 /// piece before the next is read.
@@ -50,69 +54,143 @@ pub fn list<R: Source, W: Sink>(
         ⊎ StopsAt task (gained (R.given reader.old) (R.given reader.new))) }
 {
     match task {
-        Task::Farm { check, width, vr } => {
-            let farm = Farm::new(width, vr).unwrap();
-            if check {
-                let cutter = Splitter::<Checked>::new(alloc);
-                list_records(alloc, reader, writer, task, cutter, farm)
-            } else {
-                let cutter = Splitter::<Unchecked>::new(alloc);
-                list_records(alloc, reader, writer, task, cutter, farm)
-            }
-        }
+        Task::Farm {
+            check: true,
+            width,
+            vr,
+            part,
+        } => list_farm::<true, R, W>(alloc, reader, writer, task, width, vr, part),
+        Task::Farm {
+            check: false,
+            width,
+            vr,
+            part,
+        } => list_farm::<false, R, W>(alloc, reader, writer, task, width, vr, part),
         Task::Map {
-            check,
+            check: true,
             width,
             vr,
             blocking,
-        } => {
-            let packets = MapListing::new(alloc, width, vr, blocking);
-            if check {
-                let cutter = Splitter::<Checked>::new(alloc);
-                list_records(alloc, reader, writer, task, cutter, packets)
-            } else {
-                let cutter = Splitter::<Unchecked>::new(alloc);
-                list_records(alloc, reader, writer, task, cutter, packets)
-            }
-        }
-        Task::Tc { check } => {
-            if check {
-                let cutter = Splitter::<Checked>::new(alloc);
-                list_records(alloc, reader, writer, task, cutter, FrameListing)
-            } else {
-                let cutter = Splitter::<Unchecked>::new(alloc);
-                list_records(alloc, reader, writer, task, cutter, FrameListing)
-            }
-        }
-        Task::Tm { length, report } => {
-            list_frames::<Brand, R, W>(alloc, reader, writer, task, length, report)
-        }
+            part,
+        } => list_maps::<true, R, W>(alloc, reader, writer, task, width, vr, blocking, part),
+        Task::Map {
+            check: false,
+            width,
+            vr,
+            blocking,
+            part,
+        } => list_maps::<false, R, W>(alloc, reader, writer, task, width, vr, blocking, part),
+        Task::Tc {
+            check: true,
+            channel,
+        } => list_on::<true, _, R, W>(alloc, reader, writer, task, FrameListing, channel),
+        Task::Tc {
+            check: false,
+            channel,
+        } => list_on::<false, _, R, W>(alloc, reader, writer, task, FrameListing, channel),
+        Task::Tm {
+            length,
+            report,
+            channel,
+        } => list_telemetry::<Brand, R, W>(alloc, reader, writer, task, length, report, channel),
         Task::Clcw => {
             let cutter = Splitter::<ControlWords>::new(alloc);
             list_records(alloc, reader, writer, task, cutter, ReportListing)
         }
-        Task::Check => {
-            let cutter = Splitter::<Checked>::new(alloc);
-            list_records(alloc, reader, writer, task, cutter, RefusalListing)
+        Task::Check { channel } => {
+            list_on::<true, _, R, W>(alloc, reader, writer, task, RefusalListing, channel)
         }
-        Task::Packets => {
-            let cutter = Splitter::<Packets>::new(alloc);
-            list_records(alloc, reader, writer, task, cutter, PacketListing::new())
-        }
+        Task::Packets { apid } => list_packets(alloc, reader, writer, task, apid),
         Task::Sim => unreachable!(),
     }
 }
 
+// The telecommand frames of a channel.
+fn frames_of(channel: Channel) -> FramesOf
+    ensures { result ≡ record { scid = channel.scid; vcid = channel.vcid } }
+{
+    FramesOf {
+        scid: channel.scid,
+        vcid: channel.vcid,
+    }
+}
+
+// Lists what a receiver makes of frames.
+fn list_farm<const CHECKED: bool, R: Source, W: Sink>(
+    alloc: Global,
+    reader: &mut R,
+    writer: &mut W,
+    task: Task,
+    width: u8,
+    vr: u8,
+    part: Option<Part>,
+) -> Result<Outcome, ListingFault>
+    requires task { task ≡ Task.Farm CHECKED width vr part }
+    requires width { IsWidth width }
+    ensures reads { Reads R.given R.remaining R.failures result reader.old reader.new }
+    ensures writes { WritesText W.taken_octets W.failures result writer.old writer.new
+        (listed_lines task (gained (R.given reader.old) (R.given reader.new))) }
+    ensures outcome { IfOk result (λ outcome. outcome
+        ≡ listed_outcome task (gained (R.given reader.old) (R.given reader.new))) }
+    ensures end { OnOk result (HasEnded (R.has_ended reader.new) (R.remaining reader.new)
+        ⊎ StopsAt task (gained (R.given reader.old) (R.given reader.new))) }
+{
+    let cutter = Splitter::<FrameLayout<CHECKED>>::new(alloc);
+    let farm = Farm::new(width, vr).unwrap();
+    match part {
+        None => list_records(alloc, reader, writer, task, cutter, farm),
+        Some(part) => {
+            let farm = FromFirst::new(farm, part.from_first);
+            let frames = frames_of(part.channel);
+            list_only::<Brand, _, _, _, R, W>(alloc, reader, writer, task, cutter, farm, frames)
+        }
+    }
+}
+
+// Lists the packets out of frames.
+fn list_maps<const CHECKED: bool, R: Source, W: Sink>(
+    alloc: Global,
+    reader: &mut R,
+    writer: &mut W,
+    task: Task,
+    width: u8,
+    vr: u8,
+    blocking: bool,
+    part: Option<MapPart>,
+) -> Result<Outcome, ListingFault>
+    requires task { task ≡ Task.Map CHECKED width vr blocking part }
+    requires width { IsWidth width }
+    ensures reads { Reads R.given R.remaining R.failures result reader.old reader.new }
+    ensures writes { WritesText W.taken_octets W.failures result writer.old writer.new
+        (listed_lines task (gained (R.given reader.old) (R.given reader.new))) }
+    ensures outcome { IfOk result (λ outcome. outcome
+        ≡ listed_outcome task (gained (R.given reader.old) (R.given reader.new))) }
+    ensures end { OnOk result (HasEnded (R.has_ended reader.new) (R.remaining reader.new)
+        ⊎ StopsAt task (gained (R.given reader.old) (R.given reader.new))) }
+{
+    let cutter = Splitter::<FrameLayout<CHECKED>>::new(alloc);
+    let packets = MapListing::new(alloc, width, vr, blocking);
+    match part {
+        None => list_records(alloc, reader, writer, task, cutter, packets),
+        Some(MapPart { part, map }) => {
+            let packets = FromFirst::new(OneMap::new(packets, map), part.from_first);
+            let frames = frames_of(part.channel);
+            list_only::<Brand, _, _, _, R, W>(alloc, reader, writer, task, cutter, packets, frames)
+        }
+    }
+}
+
 // Lists telemetry frames of this length, for which `K` stands.
-fn list_frames<K: FrameLength, R: Source, W: Sink>(
+fn list_telemetry<K: FrameLength, R: Source, W: Sink>(
     alloc: Global,
     reader: &mut R,
     writer: &mut W,
     task: Task,
     size: u16,
     report: bool,
+    channel: Option<Channel>,
 ) -> Result<Outcome, ListingFault>
-    requires task { task ≡ Task.Tm size report }
+    requires task { task ≡ Task.Tm size report channel }
     requires size { size ≡ K.payload + 12 }
     ensures reads { Reads R.given R.remaining R.failures result reader.old reader.new }
     ensures writes { WritesText W.taken_octets W.failures result writer.old writer.new
@@ -126,7 +204,106 @@ fn list_frames<K: FrameLength, R: Source, W: Sink>(
         return Err(ListingFault::Memory);
     };
     let cutter = FrameCutter::<K>::new(alloc, usize::from(size));
-    list_records(alloc, reader, writer, task, cutter, frames)
+    match channel {
+        None => list_records(alloc, reader, writer, task, cutter, frames),
+        Some(Channel { scid, vcid }) => {
+            let kept = TelemetryOf { scid, vcid };
+            list_only::<Brand, _, _, _, R, W>(alloc, reader, writer, task, cutter, frames, kept)
+        }
+    }
+}
+
+// Lists space packets.
+fn list_packets<R: Source, W: Sink>(
+    alloc: Global,
+    reader: &mut R,
+    writer: &mut W,
+    task: Task,
+    apid: Option<u16>,
+) -> Result<Outcome, ListingFault>
+    requires task { task ≡ Task.Packets apid }
+    ensures reads { Reads R.given R.remaining R.failures result reader.old reader.new }
+    ensures writes { WritesText W.taken_octets W.failures result writer.old writer.new
+        (listed_lines task (gained (R.given reader.old) (R.given reader.new))) }
+    ensures outcome { IfOk result (λ outcome. outcome
+        ≡ listed_outcome task (gained (R.given reader.old) (R.given reader.new))) }
+    ensures end { OnOk result (HasEnded (R.has_ended reader.new) (R.remaining reader.new)
+        ⊎ StopsAt task (gained (R.given reader.old) (R.given reader.new))) }
+{
+    let cutter = Splitter::<Packets>::new(alloc);
+    let packets = PacketListing::new();
+    match apid {
+        None => list_records(alloc, reader, writer, task, cutter, packets),
+        Some(apid) => {
+            let kept = PacketsOf { apid };
+            list_only::<Brand, _, _, _, R, W>(alloc, reader, writer, task, cutter, packets, kept)
+        }
+    }
+}
+
+// Lists telecommand frames, of a channel where it is given.
+fn list_on<const CHECKED: bool, C, R: Source, W: Sink>(
+    alloc: Global,
+    reader: &mut R,
+    writer: &mut W,
+    task: Task,
+    listing: C,
+    channel: Option<Channel>,
+) -> Result<Outcome, ListingFault>
+where
+    C: Listing<Splitter<FrameLayout<CHECKED>>> + Drop,
+    requires lines { (octets : List ℕ) → listed_lines task octets
+        ≡ work_lines (frames_work (check_if CHECKED) C.lines listing channel) octets }
+    requires outcome { (octets : List ℕ) → listed_outcome task octets
+        ≡ work_outcome (frames_work (check_if CHECKED) C.lines listing channel) octets }
+    requires stops { (octets : List ℕ)
+        → WorkStops (frames_work (check_if CHECKED) C.lines listing channel) octets → StopsAt task octets }
+    ensures reads { Reads R.given R.remaining R.failures result reader.old reader.new }
+    ensures writes { WritesText W.taken_octets W.failures result writer.old writer.new
+        (listed_lines task (gained (R.given reader.old) (R.given reader.new))) }
+    ensures outcome { IfOk result (λ outcome. outcome
+        ≡ listed_outcome task (gained (R.given reader.old) (R.given reader.new))) }
+    ensures end { OnOk result (HasEnded (R.has_ended reader.new) (R.remaining reader.new)
+        ⊎ StopsAt task (gained (R.given reader.old) (R.given reader.new))) }
+{
+    let cutter = Splitter::<FrameLayout<CHECKED>>::new(alloc);
+    match channel {
+        None => list_records(alloc, reader, writer, task, cutter, listing),
+        Some(Channel { scid, vcid }) => {
+            let frames = FramesOf { scid, vcid };
+            list_only::<Brand, _, _, _, R, W>(alloc, reader, writer, task, cutter, listing, frames)
+        }
+    }
+}
+
+// Lists the records that a filter keeps, for which `K` stands.
+fn list_only<K: Kept, S: Cutter + Drop, C: Listing<S> + Drop, F: Filter + Drop, R: Source, W: Sink>(
+    alloc: Global,
+    reader: &mut R,
+    writer: &mut W,
+    task: Task,
+    cutter: S,
+    listing: C,
+    filter: F,
+) -> Result<Outcome, ListingFault>
+    requires held { S.held cutter ≡ [] }
+    requires going { S.failure cutter ≡ None }
+    requires keeps { (octets : List ℕ) → F.keeps filter octets ≡ K.keeps octets }
+    requires lines { (octets : List ℕ) → listed_lines task octets
+        ≡ text_of (only K.keeps C.lines) S.layout (fresh listing octets) }
+    requires outcome { (octets : List ℕ) → listed_outcome task octets
+        ≡ outcome_if (is_all_good (only K.keeps C.lines) S.layout (fresh listing octets)) }
+    requires stops { (octets : List ℕ) → IsRefused S.layout (rest_by S.layout octets) → StopsAt task octets }
+    ensures reads { Reads R.given R.remaining R.failures result reader.old reader.new }
+    ensures writes { WritesText W.taken_octets W.failures result writer.old writer.new
+        (listed_lines task (gained (R.given reader.old) (R.given reader.new))) }
+    ensures outcome { IfOk result (λ outcome. outcome
+        ≡ listed_outcome task (gained (R.given reader.old) (R.given reader.new))) }
+    ensures end { OnOk result (HasEnded (R.has_ended reader.new) (R.remaining reader.new)
+        ⊎ StopsAt task (gained (R.given reader.old) (R.given reader.new))) }
+{
+    let listing = Only::<C, F, K>::new(listing, filter);
+    list_records(alloc, reader, writer, task, cutter, listing)
 }
 
 // Lists the records of a stream as this task asks for it, and says how it ends.

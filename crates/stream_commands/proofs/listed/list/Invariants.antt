@@ -2,5 +2,5 @@ use Rattle.std.specs.Prelude.{◌-◌}
 use Rattle.stream_commands.proofs.listed.list.Given as goal
 
 -- the frames' length is the one that the words give
-abbrev pub ghosts-list_frames : goal.ghosts-list_frames
-ghosts-list_frames g a = record { payload = a.size - 12 }
+abbrev pub ghosts-list_telemetry : goal.ghosts-list_telemetry
+ghosts-list_telemetry g a = record { payload = a.size - 12 }

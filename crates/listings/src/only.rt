@@ -1,0 +1,68 @@
+// A listing of some of the records of a stream.
+
+ghost use Rattle.std.specs.Prelude.{◌≡◌, ℕ, Bool, List, true};
+ghost use Rattle.listings.specs.Filters.{only};
+
+use crate::cutter::Cutter;
+use crate::filters::Filter;
+use crate::listing::Listing;
+use crate::text::Text;
+use std::alloc::AllocError;
+use std::marker::{Brand, Model, PhantomData};
+
+/// The records that are listed, which are known once the words are read. It is for proofs alone: `Brand`
+/// stands for every choice.
+pub trait Kept {
+    ghost keeps: { List ℕ → Bool };
+}
+
+// It stands for each choice in turn: a caller picks it.
+impl Kept for Brand {
+    ghost keeps = { λ octets. true };
+}
+
+/// Lists the records that a filter keeps. The listing below it sees no other.
+#[derive(Drop)]
+pub struct Only<C, F: Filter, K: Kept> {
+    listing: C,
+    filter: F,
+    kept: PhantomData<K>,
+}
+
+impl<C, F: Filter, K: Kept> Model for Only<C, F, K> {
+    ghost Value = { C };
+
+    ghost view = { λ l. l.listing };
+
+    ghost invariant = { λ l. (octets : List ℕ) → F.keeps l.filter octets ≡ K.keeps octets };
+}
+
+impl<C, F: Filter, K: Kept> Only<C, F, K> {
+    /// A listing of the records that this filter keeps.
+    pub fn new(listing: C, filter: F) -> Self
+        requires { (octets : List ℕ) → F.keeps filter octets ≡ K.keeps octets }
+        ensures { result ≡ listing }
+    {
+        Only {
+            listing,
+            filter,
+            kept: PhantomData,
+        }
+    }
+}
+
+impl<S: Cutter, C: Listing<S>, F: Filter, K: Kept> Listing<S> for Only<C, F, K> {
+    ghost lines = { only K.keeps C.lines };
+
+    #[inline(always)]
+    fn take(&mut self, text: &mut Text, index: u64, octets: &[u8]) -> Result<bool, AllocError> {
+        if !self.filter.keeps(octets) {
+            return Ok(true);
+        }
+        self.listing.take(text, index, octets)
+    }
+
+    fn refuse(text: &mut Text, index: u64, fault: S::Fault) -> Result<(), AllocError> {
+        C::refuse(text, index, fault)
+    }
+}
