@@ -54,15 +54,15 @@ const WITH_MAP = { submit: n.SEDGE_EVENT_SUBMIT, bypass: n.SEDGE_EVENT_BYPASS };
 
 // The event of a line; null where it is unreadable.
 export function eventOf(line) {
-    if (line in PLAIN) return { octets: NONE, ...PLAIN[line] };
+    if (Object.hasOwn(PLAIN, line)) return { octets: NONE, ...PLAIN[line] };
     const words = line.split(' '), last = words.pop(), first = words.join(' ');
-    if (first in NUMBERED) {
+    if (Object.hasOwn(NUMBERED, first)) {
         const [directive, most] = NUMBERED[first], value = numberOf(last, most);
         return value === null ? null : { kind: n.SEDGE_EVENT_DIRECTIVE, directive, value, octets: NONE };
     }
     const octets = octetsOf(last);
-    if (first in WITH_OCTETS) return octets && { kind: WITH_OCTETS[first], octets };
-    const map = words.length === 2 && words[0] in WITH_MAP ? numberOf(words[1], 255) : null;
+    if (Object.hasOwn(WITH_OCTETS, first)) return octets && { kind: WITH_OCTETS[first], octets };
+    const map = words.length === 2 && Object.hasOwn(WITH_MAP, words[0]) ? numberOf(words[1], 255) : null;
     return map === null ? null : octets && { kind: WITH_MAP[words[0]], map, octets };
 }
 
@@ -71,8 +71,9 @@ export function scriptOf(text) {
     const config = { ...DEFAULTS }, events = [];
     text.split('\n').forEach((line, k) => {
         if (line === '' || line.startsWith('#')) return;
-        const [word, name, value, ...more] = line.split(' ');
-        if (word === 'config' && events.length === 0 && name in config && more.length === 0 && /^\d+$/.test(value)) {
+        const [word, name, value, ...more] = line.split(' '), most = name === 'maps' ? DEFAULTS.maps : 65542;
+        const isField = word === 'config' && Object.hasOwn(config, name) && more.length === 0;
+        if (isField && events.length === 0 && numberOf(value, most) !== null) {
             config[name] = name === 'maps' ? BigInt(value) : Number(value);
             return;
         }

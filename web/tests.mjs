@@ -76,8 +76,12 @@ function memory() {
 }
 
 function lines() {
-    for (const line of ['submit 4', 'submit 256 00', 'up', 'up damage 0', 'vs 256', 'init', 'vs 01', 'send now', 'fly']) {
+    for (const line of ['submit 4', 'submit 256 00', 'up', 'up damage 0', 'vs 256', 'init', 'vs 01', 'send now', 'fly',
+        'toString', 'constructor 5', 'toString 00', 'valueOf 4 00']) {
         assert.equal(eventOf(line), null, line);
+    }
+    for (const field of ['width 010', 'scid 65543', 'maps 18446744073709551616', 'toString 5']) {
+        assert.throws(() => scriptOf(`config ${field}`), /^Error: line 1 is unreadable/, field);
     }
     assert.throws(() => scriptOf('# first\nsend\nconfig width 10\n'), /^Error: line 3 is unreadable/);
     assert.equal(scriptOf('config maps 18446744073709551615\n').config.maps, DEFAULTS.maps);
