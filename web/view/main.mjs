@@ -1,0 +1,209 @@
+// The page: a script is played line by line, and what is shown is that of the line played last. The address says what
+// to begin with: #example=NAME or #script=TEXT, then &line=N or &play; and octets to read, &octets=HEX&kind=KIND.
+import { load } from '../sedgechisel.mjs';
+import { octetsOf } from '../link.mjs';
+import { Ladder } from './ladder.mjs';
+import { decoded, make, showMachines, showPromises, showTransit } from './panels.mjs';
+import { Player } from './player.mjs';
+import { promisesOf } from './promises.mjs';
+import { KINDS } from './words.mjs';
+
+const PACE = 700, LONG = 90;
+const at = (name) => document.getElementById(name);
+
+class Page {
+    constructor(calls, made) {
+        Object.assign(this, { calls, made, player: new Player(calls), ladder: new Ladder(at('ladder')) });
+    }
+
+    // Does something, and says what is wrong with it, if anything is.
+    attempt(act) {
+        try {
+            act();
+            at('fault').hidden = true;
+        } catch (error) {
+            this.pause();
+            at('fault').textContent = error.message;
+            at('fault').hidden = false;
+        }
+    }
+
+    // Takes a script, and plays a number of its lines.
+    open(text, count) {
+        this.pause();
+        this.attempt(() => {
+            this.player.load(text);
+            this.items = text.replace(/\n$/, '').split('\n').map((line) =>
+                make('li', line.startsWith('#') ? 'remark' : '', make('code', '', line), ' ', make('b', 'answer')));
+            this.answered = 0;
+            at('lines').replaceChildren(...this.items);
+            at('line').max = this.items.length;
+            this.ladder.clear();
+            this.goTo(count);
+        });
+    }
+
+    // Takes an example; under no name, the script in the field.
+    choose(name, count) {
+        const example = this.made.examples[name];
+        at('example').value = example === undefined ? '' : name;
+        at('own').open = example === undefined;
+        if (example !== undefined) at('text').value = example;
+        this.open(at('text').value, count);
+    }
+
+    goTo(count) {
+        this.player.goTo(count);
+        this.show();
+    }
+
+    move(count) {
+        this.pause();
+        this.attempt(() => this.goTo(count));
+    }
+
+    // Plays up to a line of the script.
+    runTo(line) {
+        this.move(this.player.lines.filter((it) => it < line).length);
+    }
+
+    show() {
+        const { player, items } = this, { at: count, steps, last } = player;
+        for (; this.answered > count; this.answered--) this.answer(this.answered - 1, '');
+        for (; this.answered < count; this.answered++) this.answer(this.answered, steps[this.answered].answer);
+        this.current?.removeAttribute('aria-current');
+        this.current = items[last.at ?? 0];
+        this.current.setAttribute('aria-current', 'step');
+        this.ladder.show(steps, count);
+        showMachines(at('fop'), at('farm'), last, this.made);
+        showTransit(at('transit'), this.calls, last);
+        showPromises(at('promises'), promisesOf(player.link, last.after));
+        this.tell(count, last);
+        at('list').scrollTop = this.current.offsetTop - at('list').clientHeight / 2;
+        at('ladder').scrollTop = at('ladder').scrollHeight;
+    }
+
+    answer(k, words) {
+        const item = this.items[this.player.lines[k]];
+        item.lastChild.textContent = words;
+        item.classList.toggle('played', words !== '');
+    }
+
+    tell(count, last) {
+        const { length } = this.player.events, cut = (text) => (text.length > LONG ? `${text.slice(0, LONG)}..` : text);
+        at('last').textContent = count === 0 ? `Nothing is played of ${length} lines.`
+            : `Line ${last.at + 1}, ${count} of ${length}: ${cut(last.line)} \u2014 ${cut(last.answer)}`;
+        const isOver = { first: count === 0, back: count === 0, step: count === length, end: count === length };
+        for (const [name, is] of Object.entries(isOver)) at(name).setAttribute('aria-disabled', is);
+        if (count > 0) at('line').value = last.at + 1;
+    }
+
+    play() {
+        const isPlaying = this.timer !== undefined;
+        this.pause();
+        if (isPlaying) return;
+        at('play').textContent = 'Pause';
+        this.timer = setInterval(() => {
+            this.attempt(() => this.goTo(this.player.at + 1));
+            if (this.player.at === this.player.events.length) this.pause();
+        }, PACE);
+    }
+
+    pause() {
+        clearInterval(this.timer);
+        this.timer = undefined;
+        at('play').textContent = 'Play';
+    }
+
+    // Puts a line after the one that was played last, or before the first one, and plays it.
+    insert(template) {
+        const fields = { MAP: at('map').value, OCTETS: at('octets').value.trim() || '-', X: at('number').value };
+        const { player } = this, { at: count } = player, line = template.replace(/MAP|OCTETS|X$/g, (it) => fields[it]);
+        const lines = player.text === '' ? [] : player.text.replace(/\n$/, '').split('\n');
+        lines.splice(count > 0 ? player.last.at + 1 : player.lines[0] ?? lines.length, 0, line);
+        const text = `${lines.join('\n')}\n`;
+        this.open(text, count + 1);
+        if (player.text !== text) return;
+        at('text').value = text;
+        at('example').value = '';
+        if (/^(submit|bypass)/.test(line)) this.nextPacket();
+    }
+
+    // The packet in the field gets the next count.
+    nextPacket() {
+        const next = (_, head, count) => head + (0xc000 | parseInt(count, 16) + 1 & 0x3fff).toString(16).toUpperCase();
+        at('octets').value = at('octets').value.replace(/^([0-9A-F]{4})([CDEF][0-9A-F]{3})/i, next);
+    }
+
+    decode() {
+        const digits = at('pasted').value.replace(/\s/g, ''), octets = octetsOf(digits);
+        const [, read] = KINDS[at('kind').value], wrong = make('p', 'invalid', 'no pairs of hexadecimal digits');
+        at('decoded').replaceChildren(digits === '' ? '' : octets ? decoded(read(this.calls, octets)) : wrong);
+    }
+
+    // What the address says; or at first an example, which is played.
+    begin() {
+        const asked = new URLSearchParams(location.hash.slice(1)), [first] = Object.keys(this.made.examples);
+        if (asked.has('script')) at('text').value = asked.get('script');
+        const name = asked.has('script') ? '' : asked.get('example') ?? first;
+        this.choose(name, location.hash.length < 2 || asked.has('play') ? Infinity : 0);
+        if (asked.has('line')) this.runTo(Number(asked.get('line')));
+        if (asked.has('octets')) at('pasted').value = asked.get('octets');
+        if (asked.get('kind') in KINDS) at('kind').value = asked.get('kind');
+        this.decode();
+    }
+}
+
+// Binds the buttons of the player, and its keys where no field has the focus.
+function bindPlayer(page) {
+    const moves = { first: -Infinity, back: -1, step: 1, end: Infinity };
+    const keys = { Home: 'first', ArrowLeft: 'back', ArrowRight: 'step', End: 'end' };
+    const move = (name) => page.move(page.player.at + moves[name]);
+    for (const name of Object.keys(moves)) at(name).addEventListener('click', () => move(name));
+    document.addEventListener('keydown', (event) => {
+        const isPlain = !event.altKey && !event.ctrlKey && !event.metaKey && !event.shiftKey, name = keys[event.key];
+        if (!isPlain || name === undefined || /^(INPUT|TEXTAREA|SELECT)$/.test(event.target.tagName)) return;
+        event.preventDefault();
+        move(name);
+    });
+    at('play').addEventListener('click', () => page.play());
+    at('to').addEventListener('submit', (event) => {
+        event.preventDefault();
+        page.runTo(Number(at('line').value));
+    });
+    at('lines').addEventListener('click', (event) => page.runTo(page.items.indexOf(event.target.closest('li')) + 1));
+}
+
+function bindScript(page) {
+    at('example').addEventListener('change', () => {
+        location.hash = at('example').value === '' ? '' : `example=${at('example').value}`;
+        if (at('example').value === '') page.choose('', 0);
+    });
+    at('text').addEventListener('input', () => page.choose('', page.player.at));
+    at('events').addEventListener('click', ({ target }) => target.dataset.line && page.insert(target.dataset.line));
+    for (const name of ['kind', 'pasted']) at(name).addEventListener('input', () => page.decode());
+    addEventListener('hashchange', () => location.hash.length > 1 && page.begin());
+    addEventListener('resize', () => {
+        if (at('ladder').clientWidth === page.ladder.from) return;
+        page.ladder.clear();
+        page.ladder.show(page.player.steps, page.player.at);
+    });
+}
+
+async function start() {
+    const made = JSON.parse(at('made').textContent), option = (value, text) => new Option(text, value);
+    const octets = Uint8Array.from(atob(at('module').textContent), (it) => it.charCodeAt(0));
+    const calls = await load(new WebAssembly.Module(octets)), page = new Page(calls, made);
+    const examples = Object.keys(made.examples).map((it) => option(it, it.replaceAll('_', ' ')));
+    at('example').append(...examples, option('', 'a script of your own'));
+    at('kind').append(...Object.entries(KINDS).map(([kind, [name]]) => option(kind, name)));
+    at('version').textContent = calls.sedge_version();
+    page.begin();
+    bindPlayer(page);
+    bindScript(page);
+}
+
+start().catch((error) => {
+    at('fault').textContent = `The page does not run here: ${error.message}`;
+    at('fault').hidden = false;
+});

@@ -1,0 +1,112 @@
+// What stands beside the ladder: both machines, the rows of their tables, what is on its way, what is promised, and
+// octets that are read.
+import { numbers as n } from '../sedgechisel.mjs';
+import { frameName, frameWords, reportName, reportWords } from './words.mjs';
+
+const FOP_STATES = [
+    '', 'S1 Active', 'S2 Retransmit without wait', 'S3 Retransmit with wait', 'S4 Initialising without BC',
+    'S5 Initialising with BC', 'S6 Initial',
+];
+const MOST = 50; // frames that are listed each way
+const FARM_STATES = ['Open', 'Wait', 'Lockout'];
+// The variables of both machines: a name, and what it is.
+const FOP = [
+    ['V(S)', (it) => it.vs], ['NN(R)', (it) => it.nn], ['outstanding', (it) => it.outstanding],
+    ['sent queue', (it) => it.sent], ['to be sent again', (it) => it.due], ['wait queue', (it) => it.waiting],
+    ['pending', (it) => it.pending], ['bypass queue', (it) => it.bypass], ['window K', (it) => it.window],
+    ['count / limit', (it) => `${it.count}/${it.limit}`],
+    ['timer', (it) => (it.ticks ? `${it.ticks}/${it.timer}` : 'off')],
+    ['command', ({ control, vr }) => ['none', 'Unlock due', 'Unlock sent', `Set ${vr} due`, `Set ${vr} sent`][control]],
+];
+const FARM = [
+    ['V(R)', (it) => it.vr], ['lockout', (it) => it.lockout], ['wait', (it) => it.wait],
+    ['retransmit', (it) => it.retransmit], ['FARM-B', (it) => it.farm_b], ['ready on board', (it) => it.ready],
+];
+
+// An element with its class and what is in it: elements and words.
+export function make(name, kind, ...within) {
+    const it = document.createElement(name);
+    it.className = kind;
+    it.append(...within.flat(9));
+    return it;
+}
+
+function pairs(kind, rows) {
+    const pair = ([name, value, own = '']) => make('div', own, make('dt', '', name), make('dd', '', value));
+    return make('dl', kind, rows.map(pair));
+}
+
+// A value before and after.
+function change(before, after) {
+    return before === after ? [after] : [make('span', 'before', `${before} \u2192 `), make('b', '', `${after}`)];
+}
+
+function machine(names, variables, before, after) {
+    return [
+        make('p', 'state-name', change(names[before.state], names[after.state])),
+        pairs('variables', variables.map(([name, of]) => {
+            const is = change(of(before), of(after));
+            return [name, is, is.length > 1 ? 'changed' : ''];
+        })),
+    ];
+}
+
+function worded(title, words) {
+    return make('p', '', make('b', 'event', title), ` ${words}`);
+}
+
+// The event of FOP-1, and the rule of the profile; where there is no rule, what the profile says of the event.
+function fopRow(row, { fop, rules }) {
+    const [book, here] = fop[row?.event] ?? [], rule = rules[row?.part]?.[row.rule - 1];
+    if (!row) return make('p', 'none', 'No event of the sender.');
+    return make('div', 'row', book ? worded(row.event, book) : '',
+        rule ? worded(`Rule ${row.rule} of ${row.part}`, rule) : worded('Here', here));
+}
+
+// The event of FARM-1, and its row, with the cell of the state in which it was taken.
+function farmRow(row, state, { farm, cells }) {
+    if (!row) return make('p', 'none', 'No event of the receiver.');
+    const shown = (cells[row.event] ?? []).map((cell, k) => [FARM_STATES[k], cell, k === state ? 'taken' : '']);
+    return make('div', 'row', worded(row.event, farm[row.event][0]), pairs('cells', shown));
+}
+
+export function showMachines(fop, farm, { after, before = after, rows = {} }, made) {
+    fop.replaceChildren(...machine(FOP_STATES, FOP, before.fop, after.fop), fopRow(rows.fop, made));
+    const taken = farmRow(rows.farm, before.farm.state, made);
+    farm.replaceChildren(...machine(FARM_STATES, FARM, before.farm, after.farm), taken);
+}
+
+// Frames on their way, the first to arrive first.
+function frames(title, list, words) {
+    const shown = list.slice(0, MOST).map((it) => make('li', '', worded(...words(it))));
+    const left = list.length > MOST ? `and ${list.length - MOST} more` : list.length === 0 ? 'nothing' : '';
+    return make('div', '', make('h3', '', title), make('ol', 'frames', shown), make('p', 'none', left));
+}
+
+export function showTransit(box, calls, { up, down }) {
+    box.replaceChildren(frames('up, the next first', up, (it) => [frameName(it.frame), frameWords(calls, it)]),
+        frames('down, the next first', down, (it) => [reportName(it.word), reportWords(it.word)]));
+}
+
+function verdict({ isPromised, isSo }) {
+    const word = isPromised ? 'promised' : 'not promised';
+    if (isSo === undefined) return make('span', 'mark later', isPromised ? 'not yet' : word);
+    const kind = isSo ? (isPromised ? 'good' : 'later') : 'bad';
+    return make('span', `mark ${kind}`, `${word}: ${isSo ? 'holds' : 'does not hold'}`);
+}
+
+export function showPromises(box, found) {
+    if (found === null) return box.replaceChildren(make('p', 'none', 'No session has begun.'));
+    const why = found.isIdle ? 'It had an idle start, and the link keeps the order of its frames: so this is promised.'
+        : 'It had no idle start: nothing of this is promised.';
+    const promises = found.promises.map((it) => make('li', '', make('p', '', make('b', '', it.name), verdict(it)),
+        make('p', 'note', it.promise), it.seen.map((line) => make('p', 'seen', line))));
+    return box.replaceChildren(make('p', 'facts', `Session ${found.facts.join(', ')}.`),
+        make('p', found.isIdle ? 'note' : 'note bad', why), make('ul', 'promises', promises));
+}
+
+// What octets are, with what stands within them.
+export function decoded({ fault, name, fields, within }) {
+    if (fault !== undefined) return make('p', 'invalid', `invalid ${fault}`);
+    return make('div', 'record', make('h3', '', name), pairs('fields', fields), within.map(decoded));
+}

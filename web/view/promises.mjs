@@ -1,0 +1,78 @@
+// What is promised of the session (docs/PROMISES.md), and what is seen of it in the link's records, octet by octet.
+import { numbers as n } from '../sedgechisel.mjs';
+import { plural } from './words.mjs';
+
+const BEGUN = ['', 'without CLCW check', 'with CLCW check', 'by Unlock', 'by Set V(R)'];
+
+// Entry k of a record.
+function entry({ calls, sim }, record, map, k) {
+    const count = {};
+    calls.sedge_sim_entry_length(sim, record, map, k, count);
+    const out = new Uint8Array(count.value);
+    calls.sedge_sim_entry(sim, record, map, k, out, count);
+    return out;
+}
+
+// Whether the first entries of two records are the same, as many as this.
+function agree(link, one, other, map, count) {
+    for (let k = 0; k < count; k++) {
+        const [a, b] = [one, other].map((record) => entry(link, record, map, k));
+        if (a.length !== b.length || a.some((octet, at) => octet !== b[at])) return false;
+    }
+    return true;
+}
+
+// The MAPs on which packets were submitted or delivered, with how many, and whether these are a prefix of those.
+function mapsOf(link) {
+    return Array.from({ length: 64 }, (_, map) => {
+        const submitted = link.count(n.SEDGE_SUBMITTED, map), delivered = link.count(n.SEDGE_DELIVERED, map);
+        const isPrefix = delivered <= submitted && agree(link, n.SEDGE_SUBMITTED, n.SEDGE_DELIVERED, map, delivered);
+        return { map, submitted, delivered, isPrefix };
+    }).filter((it) => it.submitted + it.delivered > 0);
+}
+
+// Each promise: its name, what it says, whether it is so (undefined where it says nothing yet), and what is seen.
+function inOrder(maps) {
+    const seen = maps.map((it) => `MAP ${it.map}: ${it.delivered} delivered of ${it.submitted} submitted`);
+    const promise = 'On each MAP the packets delivered are a prefix of those submitted, each once and in order.';
+    return ['Delivery in order', promise, maps.every((it) => it.isPrefix), seen];
+}
+
+function accepted(link, read) {
+    const { sent, accepted: many, acknowledged } = read, isOrdered = acknowledged <= many && many <= sent;
+    const promise = 'The first frames sent, as many as are acknowledged, are the first ones accepted.';
+    const isSo = isOrdered && agree(link, n.SEDGE_SENT, n.SEDGE_RECEIVED, 0, acknowledged);
+    const seen = `${sent} sent, ${many} accepted, ${acknowledged} acknowledged`;
+    return ['Acknowledged means accepted', promise, isSo, [seen]];
+}
+
+function whole(maps, { state, outstanding }) {
+    const isDone = state === n.SEDGE_FOP_S1 && outstanding === 0;
+    const promise = 'In S1 with nothing outstanding, the packets delivered are the packets submitted.';
+    const isSo = isDone ? maps.every((it) => it.isPrefix && it.delivered === it.submitted) : undefined;
+    return ['All is delivered', promise, isSo, [`S${state}, ${plural(outstanding, 'segment')} outstanding`]];
+}
+
+function noFalseAlarm({ calls }, { begun, confirmed }, { farm, fop: { alert } }) {
+    const isLocked = farm.state === n.SEDGE_FARM_LOCKOUT, isChecking = begun > n.SEDGE_BEGUN_WITHOUT_CHECK;
+    const isTrue = [0, n.SEDGE_ALERT_LIMIT, n.SEDGE_ALERT_TIMER, n.SEDGE_ALERT_TERMINATED].includes(alert)
+        || (begun === n.SEDGE_BEGUN_WITH_CHECK && !confirmed);
+    const name = alert ? `alert ${calls.sedge_alert_name(alert)}` : 'no alert', place = isLocked ? 'in' : 'not in';
+    const seen = isChecking ? `${name}; ${place} Lockout` : 'begun without CLCW check';
+    const promise = 'The receiver does not enter Lockout, and alerts come only from the timer, the limit, Terminate, '
+        + 'or a CLCW check that failed.';
+    const isSo = confirmed || alert ? isTrue && !(confirmed && isLocked) : undefined;
+    return ['No false alarm', promise, isSo, [seen], isChecking];
+}
+
+// The session as it is, and its promises; null before one has begun.
+export function promisesOf(link, machines) {
+    const read = link.read(), { begun, clean, idle, confirmed } = read, maps = mapsOf(link);
+    if (begun === n.SEDGE_BEGUN_NOT) return null;
+    const how = BEGUN[begun] + (begun === n.SEDGE_BEGUN_SET_VR ? ` to ${read.vr}` : '');
+    const facts = [`begun ${how}`, clean ? 'clean' : 'not clean', idle ? 'idle start' : 'no idle start'];
+    if (begun !== n.SEDGE_BEGUN_WITHOUT_CHECK) facts.push(confirmed ? 'confirmed' : 'not confirmed');
+    const promises = [inOrder(maps), accepted(link, read), whole(maps, read), noFalseAlarm(link, read, machines)];
+    return { facts, isIdle: idle, promises: promises.map(([name, promise, isSo, seen, isAsked = true]) => (
+        { name, promise, isSo, seen, isPromised: idle && isAsked })) };
+}

@@ -1,0 +1,170 @@
+// Tests what the page is made of, but for what is drawn: `node web/view/tests.mjs MODULE SCRIPT ..`. Each script is
+// played forwards and back; the player itself compares both machines with the link at each line. It ends with 0 where
+// all is as wanted, and with an Error that says what is not.
+import assert from 'node:assert/strict';
+import { readFileSync } from 'node:fs';
+import { load, numbers as n } from '../sedgechisel.mjs';
+import { octetsOf } from '../link.mjs';
+import { Player } from './player.mjs';
+import { promisesOf } from './promises.mjs';
+import { KINDS } from './words.mjs';
+
+const [, , module, ...files] = process.argv;
+const calls = await load(readFileSync(module));
+// The events by which an alert or a verdict may come, by its number.
+const ALERTS = {
+    [n.SEDGE_ALERT_LOCKOUT]: ['E14'], [n.SEDGE_ALERT_NNR]: ['E13'], [n.SEDGE_ALERT_CLCW]: ['E3', 'E7'],
+    [n.SEDGE_ALERT_SYNCH]: ['E1', 'E4', 'E5'], [n.SEDGE_ALERT_LIMIT]: ['E101', 'E102'],
+    [n.SEDGE_ALERT_TIMER]: ['E16', 'E17'], [n.SEDGE_ALERT_TERMINATED]: ['E29'],
+};
+const VERDICTS = {
+    [n.SEDGE_ACCEPTED]: ['E1'], [n.SEDGE_NO_BUFFER]: ['E2'], [n.SEDGE_AHEAD]: ['E3'], [n.SEDGE_BEHIND]: ['E4'],
+    [n.SEDGE_OUTSIDE]: ['E5'], [n.SEDGE_DISCARDED]: ['E1', 'E2', 'E3', 'E4', 'E5'],
+};
+
+// The event of each directive, by the words of its line.
+const DIRECTIVES = {
+    'init none': 'E23', 'init check': 'E24', 'init unlock': 'E25', 'init set': 'E27', terminate: 'E29', vs: 'E35',
+    window: 'E36', timer: 'E37', limit: 'E38',
+};
+// What a report leads to in S1 to S3: the state, where there is no alert, and whether units are acknowledged.
+const REPORTS = {
+    E1: [undefined, false], E2: [1, true], E5: [undefined, false], E6: [1, true], E8: [2, true], E9: [3, true],
+    E10: [2, false], E11: [3, false], E12: [2, false], E103: [3, false], E101: [6, true], E102: [6, false],
+};
+
+// The rules that docs/PROFILE.md has for an event of FOP-1.
+const profile = readFileSync('docs/PROFILE.md', 'utf8').split('(table 6-1)')[0];
+const rowOf = (event) => profile.match(new RegExp(`^\\| ${event}[ ,].*\\|(.*)\\|$`, 'm'));
+const rulesOf = (event) => rowOf(event)[1].match(/\d+/g).map(Number);
+
+// The row of the sender is that of what has changed.
+function checkFop({ line, event, before: { fop: was }, after: { fop: is }, rows: { fop: row } }) {
+    const said = `${line}: ${JSON.stringify(row)}`, same = JSON.stringify(was) === JSON.stringify(is);
+    if (event.kind === n.SEDGE_EVENT_DIRECTIVE) assert.equal(row.event, DIRECTIVES[line.replace(/ ?[0-9]+$/, '')]);
+    if (row?.part === 'a report' && was.state <= 3 && row.event in REPORTS) {
+        const [state, isAcknowledged] = REPORTS[row.event];
+        assert.equal(is.state, is.state === 6 ? 6 : state ?? was.state, said);
+        assert.equal(was.nn !== is.nn, isAcknowledged, said);
+        if (row.event === 'E2' || row.event === 'E6') assert.equal(is.sent === 0, row.event === 'E2', said);
+        if (row.event === 'E10' || row.event === 'E11') assert.ok(was.count < was.limit, said);
+        if (row.event === 'E12' || row.event === 'E103') assert.ok(was.count >= was.limit, said);
+    }
+    const isNamed = row?.event && row.rule && row.rule !== 16 && row.event !== 'E20';
+    assert.ok(!isNamed || rulesOf(row.event).includes(row.rule), said);
+    if (row?.part === 'a submission') assert.equal(row.event, was.waiting && row.rule !== 1 ? 'E20' : 'E19', said);
+    if (row?.part === 'a pull') {
+        const so = [was.control !== is.control, was.bypass > is.bypass, was.due > is.due, was.vs !== is.vs, same];
+        assert.ok(so[row.rule - 1], said);
+    }
+    if (row?.part === 'a tick') {
+        const so = [was.state < 3 && is.due === is.sent, was.state === 3, was.state === 5, is.state === 6];
+        assert.ok(so[row.rule - 1] && is.count - was.count === (row.rule === 4 ? 0 : 1), said);
+        assert.equal(row.event, was.count < was.limit ? 'E16' : 'E17', said);
+    }
+}
+
+// The rows that a step took are those of what it was answered.
+function checkRows({ line, event, reply, rows, before, after }) {
+    const alert = reply.kind === n.SEDGE_REPLY_DOWN ? reply.down.alert : reply.alert;
+    if (alert) assert.ok(ALERTS[alert].includes(rows.fop.event), `${line}: ${rows.fop.event}`);
+    if (event.kind === n.SEDGE_EVENT_UP_DELIVER && reply.up?.kind === 3) {
+        assert.ok(VERDICTS[reply.up.verdict].includes(rows.farm.event), `${line}: ${rows.farm.event}`);
+    }
+    const isFop = JSON.stringify(before.fop) !== JSON.stringify(after.fop);
+    assert.ok(!isFop || rows.fop || event.kind === n.SEDGE_EVENT_TICK, `${line}: a sender that changes has its row`);
+    const { ready: _, ...was } = before.farm, { ready: __, ...is } = after.farm;
+    assert.ok(rows.farm || JSON.stringify(was) === JSON.stringify(is), `${line}: a receiver that changes has its row`);
+    if (before.fop.state === n.SEDGE_FOP_S6 && rows.fop?.part === 'a report') assert.equal(rows.fop.rule, 16);
+}
+
+// What is on its way after a step is what was, with the frame that was sent, and without the first one that is gone.
+function checkTransit({ line, reply, sent, gone, up, down }, was) {
+    const wanted = { up: [...was.up], down: [...was.down] }, way = (it) => (it.word ? wanted.down : wanted.up);
+    if (sent) way(sent).push(sent);
+    if (gone) assert.equal(way(gone).shift(), gone);
+    assert.deepEqual({ up, down }, wanted, line);
+    assert.equal(sent !== undefined, [n.SEDGE_REPLY_SENT, n.SEDGE_REPLY_REPORTED].includes(reply.kind));
+    assert.equal(gone !== undefined, [n.SEDGE_REPLY_LOST, n.SEDGE_REPLY_UP, n.SEDGE_REPLY_DOWN].includes(reply.kind));
+    if (reply.kind === n.SEDGE_REPLY_UP && reply.up.kind === 3) assert.equal(gone.frame.n, reply.up.n);
+}
+
+// What is promised is so.
+function checkPromises(player) {
+    const found = promisesOf(player.link, player.last.after);
+    for (const { name, isPromised, isSo } of found?.promises ?? []) assert.ok(!isPromised || isSo !== false, name);
+    return JSON.stringify(found);
+}
+
+function plays(file) {
+    const player = new Player(calls), seen = [];
+    player.load(readFileSync(file, 'latin1'));
+    for (let k = 0; k <= player.events.length; k += 997) {
+        player.goTo(k);
+        seen.push(checkPromises(player));
+    }
+    player.goTo(Infinity);
+    assert.equal(player.at, player.events.length);
+    player.steps.forEach(checkRows);
+    player.steps.forEach(checkFop);
+    player.steps.forEach((step, k) => checkTransit(step, player.steps[k - 1] ?? player.begin));
+    const steps = [...player.steps], lines = player.text.split('\n');
+    steps.forEach((step) => assert.equal(lines[step.at], step.line));
+    for (let k = seen.length - 1; k >= 0; k--) {
+        player.goTo(997 * k);
+        assert.equal(checkPromises(player), seen[k], `${file}: back to line ${997 * k}`);
+    }
+    player.goTo(Infinity);
+    assert.ok(player.steps.every((step, k) => step === steps[k]));
+    player.link.close();
+}
+
+// A session that begins with an old report on its way: of three packets the first is acknowledged and not accepted, so
+// nothing holds, though all is well on MAP 5; and nothing is promised. Before the last report, which acknowledges all,
+// as many are accepted as are acknowledged, but not the same ones.
+function uncleanSession() {
+    const submissions = ['submit 4 1005C0010000AB', 'submit 4 1005C0020000AC', 'submit 5 1005C0030000AD'];
+    const sent = ['send', 'send', 'send', 'up deliver', 'up deliver', 'report', 'up deliver', 'down deliver'];
+    const player = new Player(calls), begin = ['init none', 'report', 'submit 4 1005C0000000AA', 'send', 'up deliver'];
+    const again = ['terminate', 'init set 0', 'send', 'up lose', 'down deliver'];
+    player.load([...begin, ...again, ...submissions, ...sent, 'report', 'down deliver'].join('\n'));
+    player.goTo(player.events.length - 2);
+    const middle = promisesOf(player.link, player.last.after).promises;
+    assert.deepEqual(middle.map((it) => it.isSo), [false, false, undefined, true]);
+    assert.deepEqual(middle[1].seen, ['3 sent, 2 accepted, 2 acknowledged']);
+    player.goTo(Infinity);
+    const { facts, isIdle, promises } = promisesOf(player.link, player.last.after);
+    assert.deepEqual(promises.map((it) => it.isSo), [false, false, false, true]);
+    assert.ok(promises.every((it) => !it.isPromised));
+    assert.deepEqual(promises[0].seen, ['MAP 4: 1 delivered of 2 submitted', 'MAP 5: 1 delivered of 1 submitted']);
+    assert.deepEqual([isIdle, ...facts], [false, 'begun by Set V(R) to 0', 'not clean', 'no idle start', 'confirmed']);
+    player.link.close();
+}
+
+function read(kind, digits) {
+    const { fault, name, fields, within } = KINDS[kind][1](calls, octetsOf(digits));
+    return fault ?? { name, ...Object.fromEntries(fields), within: within.map((it) => it.fault ?? it.name) };
+}
+
+function reads() {
+    const [report, telemetry] = ['one_report', 'telemetry'].map((it) => readFileSync(`examples/${it}.bin`, 'hex'));
+    const frame = '0001080E00C41005C0000000AAE75D', { within, ...found } = read('tc', frame);
+    assert.deepEqual(within, ['Space packet']);
+    assert.deepEqual([found.frame, found.MAP, found.segment], ['AD 0', 4, 'alone']);
+    assert.equal(found.data, '7 octets: 1005C0000000AA');
+    assert.equal(read('tc', `${frame.slice(0, -1)}C`), '6 Check');
+    assert.equal(read('tc', '0001'), '1 Short');
+    assert.equal(read('bare', '30010807008200FF').frame, 'BC set 255');
+    assert.equal(read('tm', report)['first packet at'], 'none: idle data alone');
+    assert.deepEqual(read('tm', telemetry.slice(0, 40)).within.slice(0, 2), ['Control word (CLCW)', 'Space packet']);
+    assert.equal(read('clcw', '01080801').retransmit, 1);
+    assert.equal(read('clcw', '0108'), '6 Short: a control word has 4 octets');
+    assert.equal(read('clcw', '81080000'), '1 Kind');
+    assert.equal(read('packet', '1005C0000000AA00')['octets after it'], 1);
+    assert.equal(read('packet', '-'), '1 Truncated');
+}
+
+reads();
+uncleanSession();
+for (const file of files) plays(file);
+console.log('all as wanted');
