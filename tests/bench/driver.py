@@ -1,0 +1,241 @@
+#!/usr/bin/env python3
+"""Plays each cell of a table and random events against a program that speaks the lines of a node, beside the model:
+
+    driver.py --node spacecraft|ground --against "COMMAND" [--events N] [--seed S] [--most D] [--whole]
+
+COMMAND is a program that answers lines on standard input, as `tctool spacecraft` does (docs/PROFILE.md, "One node, line
+by line"). The model is farm.py or fop.py. A difference is shown with its cell, as the line of tables/farm.csv or
+tables/fop.csv, both answers, and as few lines as are enough to show one. The last line is 'N events, C of D cells, E
+differences', and the status is 0 only where nothing differs."""
+import argparse
+import random
+import shlex
+import subprocess
+import sys
+import threading
+from collections import Counter
+
+import cells
+import events
+from farm import Spacecraft
+from fop import Ground
+
+PIECE, EVENTS_A_RUN, CELL_PLAYS, PATIENCE = 8192, 1000, 2, 60
+
+
+class Program:
+    """A program that is given lines, and answers each."""
+
+    def __init__(self, command):
+        self.process = subprocess.Popen(command, stdin=subprocess.PIPE, stdout=subprocess.PIPE)
+
+    def answers(self, lines, count):
+        """Its answers to lines, so many; fewer where it ends, or does not answer within a minute."""
+        timer = threading.Timer(PATIENCE, self.process.kill)
+        timer.start()
+        try:
+            self.process.stdin.write("".join(f"{it}\n" for it in lines).encode("latin-1"))
+            self.process.stdin.flush()
+            got = []
+            while len(got) < count and (line := self.process.stdout.readline()):
+                got.append(line.decode("latin-1").rstrip("\n"))
+            return got
+        except BrokenPipeError:
+            return []
+        finally:
+            timer.cancel()
+
+    def close(self):
+        """The status with which it ends once there are no more lines."""
+        try:
+            self.process.stdin.close()
+        except BrokenPipeError:
+            pass
+        timer = threading.Timer(PATIENCE, self.process.kill)
+        timer.start()
+        try:
+            self.process.stdout.read()
+            return self.process.wait()
+        finally:
+            timer.cancel()
+            self.process.stdout.close()
+
+
+class Play:
+    """A program and the model of a node side by side, from their start on."""
+
+    def __init__(self, bench):
+        self.bench, self.node = bench, bench.model()
+        self.program = Program(bench.command)
+        self.lines, self.waiting, self.octets = [], [], 0
+
+    def line(self, line):
+        """Gives a line to the model, and later to the program; whether all is the same so far."""
+        self.bench.watch.cell = None
+        answer = self.node.answer(line)
+        self.waiting.append((line, answer, self.bench.watch.cell))
+        self.octets += len(line) + 1
+        return self.octets < PIECE or self.compare()
+
+    def compare(self):
+        """Gives the lines that wait to the program."""
+        wanted = [it for it in self.waiting if it[1] is not None]
+        got = self.program.answers([it[0] for it in self.waiting], len(wanted))
+        got += ["(no answer)"] * (len(wanted) - len(got))
+        at = 0
+        for line, answer, cell in self.waiting:
+            self.lines.append(line)
+            if answer is not None:
+                if got[at] != answer:
+                    self.bench.differs(self.lines, cell, got[at], answer)
+                    return False
+                at += 1
+                if cell:
+                    self.bench.met.add(cell.line)
+        self.waiting, self.octets = [], 0
+        return True
+
+    def close(self):
+        """Ends both, with the last lines compared, and the status."""
+        same = self.compare() if self.waiting else True
+        status, wanted = self.program.close(), 0 if self.node.good else 1
+        if same and status != wanted:
+            self.bench.differs(self.lines, None, f"status {status}", f"status {wanted}")
+
+
+class Bench:
+    """What is played, against which program, and what came of it."""
+
+    def __init__(self, node, command, most, whole):
+        self.most, self.whole, self.differing = most, whole, []
+        self.command, self.ground = shlex.split(command), node == "ground"
+        self.watch = cells.watch_fop() if self.ground else cells.watch_farm()
+        self.differences, self.events, self.met = 0, 0, set()
+
+    def model(self):
+        node, watch = (Ground if self.ground else Spacecraft)(), self.watch
+        begin = node.begin
+
+        def begins(config):
+            begin(config)
+            watch.of(node.fop if self.ground else node.farm)
+        node.begin = begins
+        return node
+
+    def differs(self, lines, cell, got, wanted):
+        """Shows a difference with few lines, the first one of each cell; ends the program after the most of these."""
+        self.differences += 1
+        if cell not in self.differing:
+            self.differing.append(cell)
+            print(f"difference {self.differences}, at line {len(lines)} since the start"
+                  f"{f': {self.watch.name}, {cell}' if cell else ''}")
+            print(f"    the program: {got}\n    the model:   {wanted}", flush=True)
+            lines = list(lines) if self.whole else shortened(self.is_different, list(lines))
+            print("    the lines since the start:" if self.whole else "    fewer lines that show one:")
+            print(*(f"        {it}" for it in lines), sep="\n", flush=True)
+            if len(self.differing) == self.most:
+                sys.exit(self.summary())
+
+    def summary(self):
+        """Writes what came of it all; the status."""
+        wrong = dict.fromkeys(self.watch.wrong)
+        for it in wrong:
+            print(f"    {it}")
+        for it in self.watch.cells.values():
+            if it.line not in self.met and not self.differences:
+                print(f"    not met: {it}")
+        differences = self.differences + len(wrong)
+        print(f"{self.events} events, {len(self.met)} of {len(self.watch.cells)} cells, {differences} differences")
+        return 1 if differences else 0
+
+    def is_different(self, lines):
+        """Whether the program and the model differ in their answers to these lines, or in the status after them."""
+        node, program = self.model(), Program(self.command)
+        wanted = [it for it in map(node.answer, lines) if it is not None]
+        got = program.answers(lines, len(wanted))
+        return program.close() != (0 if node.good else 1) or got != wanted
+
+    def play_cells(self):
+        """Plays each way to a state with each event there that comes to a cell that was not played often enough."""
+        ways, happens, after = (
+            (events.ground_ways, events.ground_events, events.GROUND_AFTER) if self.ground
+            else (events.spacecraft_ways, events.spacecraft_events, events.SPACECRAFT_AFTER))
+        played = Counter()
+        for way in ways():
+            node = self.model()
+            for line in way:
+                node.answer(line)
+            for event in happens(node):
+                cell = self.cell_of(way, event)
+                if cell and played[cell.line] < CELL_PLAYS:
+                    played[cell.line] += 1
+                    for then in after:
+                        self.play([*way, event, *then])
+
+    def cell_of(self, way, event):
+        """The cell of an event after a way."""
+        node = self.model()
+        for line in way:
+            node.answer(line)
+        self.watch.cell = None
+        node.answer(event)
+        return self.watch.cell
+
+    def play(self, lines):
+        play = Play(self)
+        for line in lines:
+            if not play.line(line):
+                break
+        self.events += 1
+        play.close()
+
+    def play_random(self, count, chance):
+        """Plays random events, some at a time from a new start."""
+        while count > 0:
+            play = Play(self)
+            for line in events.random_config(chance):
+                play.line(line)
+            play.line("show")
+            source = (events.GroundLines if self.ground else events.SpacecraftLines)(chance, play.node)
+            for _ in range(min(count, EVENTS_A_RUN)):
+                count -= 1
+                self.events += 1
+                if not (play.line(source.next()) and play.line("show")):
+                    break
+            play.close()
+
+
+def shortened(differs, lines):
+    """Fewer of these lines, which differ still."""
+    size = len(lines) // 2
+    while size:
+        at = 0
+        while at + size < len(lines):
+            fewer = lines[:at] + lines[at + size:]
+            if differs(fewer):
+                lines = fewer
+            else:
+                at += size
+        size //= 2
+    return lines
+
+
+def main():
+    words = argparse.ArgumentParser(description=__doc__, formatter_class=argparse.RawDescriptionHelpFormatter)
+    words.add_argument("--against", required=True, metavar="COMMAND")
+    words.add_argument("--node", required=True, choices=("spacecraft", "ground"))
+    words.add_argument("--events", type=int, default=20000, metavar="N", help="random events, by default 20,000")
+    words.add_argument("--seed", type=int, default=1, metavar="S", help="by default 1")
+    words.add_argument("--most", type=int, default=5, metavar="D", help="ends after D differences; by default 5")
+    words.add_argument("--no-cells", action="store_true", help="plays random events alone")
+    words.add_argument("--whole", action="store_true", help="shows all lines up to a difference, and not fewer")
+    given = words.parse_args()
+    bench = Bench(given.node, given.against, given.most, given.whole)
+    if not given.no_cells:
+        bench.play_cells()
+    bench.play_random(given.events, random.Random(given.seed))
+    return bench.summary()
+
+
+if __name__ == "__main__":
+    sys.exit(main())
