@@ -18,6 +18,7 @@ from collections import Counter
 import cells
 import events
 from farm import Spacecraft
+from frames import Fault
 from fop import Ground
 
 PIECE, EVENTS_A_RUN, CELL_PLAYS, PATIENCE = 8192, 1000, 2, 60
@@ -172,6 +173,23 @@ class Bench:
                     for then in after:
                         self.play([*way, event, *then])
 
+    def try_hidden(self):
+        """Has the model alone do what no line shows: a frame in Wait although a buffer is free, and units that FOP-1
+        refuses since one waits or it is in S6."""
+        for way in (events.ground_ways if self.ground else events.spacecraft_ways)():
+            node = self.model()
+            for line in [*way, "show"]:
+                node.answer(line)
+            if not self.ground:
+                node.farm.ad(node.farm.vr, True)
+            for _ in range(2 * self.ground):
+                try:
+                    node.fop.submit(b"")
+                except Fault:
+                    pass
+        self.watch.wrong += [f"the model never came to {it}" for it in self.watch.cells.values()
+                             if it.line not in self.watch.seen]
+
     def cell_of(self, way, event):
         """The cell of an event after a way."""
         node = self.model()
@@ -233,6 +251,7 @@ def main():
     bench = Bench(given.node, given.against, given.most, given.whole)
     if not given.no_cells:
         bench.play_cells()
+        bench.try_hidden()
     bench.play_random(given.events, random.Random(given.seed))
     return bench.summary()
 

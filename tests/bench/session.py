@@ -3,7 +3,6 @@
 import subprocess
 import sys
 
-
 def start(command):
     node = subprocess.Popen(command.split(), stdin=subprocess.PIPE, stdout=subprocess.PIPE, text=True)
 
@@ -11,7 +10,6 @@ def start(command):
         print(line, file=node.stdin, flush=True)
         return node.stdout.readline().rstrip("\n")
     return ask
-
 
 ground, spacecraft = start(sys.argv[1]), start(sys.argv[2])
 ground("init unlock")
