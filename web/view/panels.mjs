@@ -16,6 +16,7 @@ const FOP = [
     ['pending', (it) => it.pending], ['bypass queue', (it) => it.bypass], ['window K', (it) => it.window],
     ['count / limit', (it) => `${it.count}/${it.limit}`],
     ['timer', (it) => (it.ticks ? `${it.ticks}/${it.timer}` : 'off')],
+    ...['submissions', 'sent whole', 'acknowledged whole'].map((name, k) => [name, ({ whole }) => whole?.[k]]),
     ['command', ({ control, vr }) => ['none', 'Unlock due', 'Unlock sent', `Set ${vr} due`, `Set ${vr} sent`][control]],
 ];
 const FARM = [
@@ -44,10 +45,8 @@ function change(before, after) {
 function machine(names, variables, before, after) {
     return [
         make('p', 'state-name', change(names[before.state], names[after.state])),
-        pairs('variables', variables.map(([name, of]) => {
-            const is = change(of(before), of(after));
-            return [name, is, is.length > 1 ? 'changed' : ''];
-        })),
+        pairs('variables', variables.filter(([, of]) => of(after) !== undefined).map(([name, of]) => (
+            [name, change(of(before), of(after)), of(before) === of(after) ? '' : 'changed']))),
     ];
 }
 

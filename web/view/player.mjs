@@ -24,6 +24,7 @@ export class Player {
         this.link?.close();
         const lines = playedLines(text);
         Object.assign(this, { text, config, events, link, machines, begin, lines, steps: [], at: 0 });
+        this.compare(begin.after, n.SEDGE_FOP_S6);
     }
 
     // The step of the line that was played last.
@@ -59,29 +60,28 @@ export class Player {
 
     // What is on its way after an event, the frame that it sent, and the one that is gone; `from` is the step of it.
     transit(event, reply, up, down) {
-        const from = this.at, { kind } = reply;
+        const from = this.at, { kind, report: word } = reply, isGone = kind !== undefined;
         if (kind === n.SEDGE_REPLY_SENT) {
             const octets = this.link.octets(), frame = {}, place = {};
             this.calls.sedge_tc_decode(octets, true, frame, place);
             const sent = { from, frame, data: octets.subarray(place.from, place.from + place.count) };
             return { sent, up: [...up, sent], down };
         }
-        if (kind === n.SEDGE_REPLY_REPORTED) {
-            const sent = { from, word: reply.report };
-            return { sent, up, down: [...down, sent] };
-        }
-        if (kind !== undefined && UP.includes(event.kind)) return { gone: up[0], up: up.slice(1), down };
-        if (kind !== undefined && DOWN.includes(event.kind)) return { gone: down[0], up, down: down.slice(1) };
+        const sent = { from, word };
+        if (kind === n.SEDGE_REPLY_REPORTED) return { sent, up, down: [...down, sent] };
+        if (isGone && UP.includes(event.kind)) return { gone: up[0], up: up.slice(1), down };
+        if (isGone && DOWN.includes(event.kind)) return { gone: down[0], up, down: down.slice(1) };
         return { up, down };
     }
 
-    // The machines are as the link says of its nodes, as far as the module has the calls.
+    // What the link says of its nodes, as far as the module has the calls: the machines are as it says.
     compare({ fop, farm }, state) {
-        const { calls, machines, link: { sim } } = this, ground = {}, spacecraft = {};
+        const { calls, machines, link: { sim } } = this, ground = { state }, spacecraft = {};
         calls.sedge_sim_ground_read?.(sim, ground);
         calls.sedge_sim_spacecraft_read?.(sim, spacecraft);
-        const own = { ...fop, value: farm.vr, mode: farm.state, farm_b: farm.farm_b };
-        const said = { ...ground, ...spacecraft, mode: spacecraft.state ?? farm.state, state };
-        for (const field of Object.keys(said)) machines.same(own[field] ?? said[field], said[field], field);
+        const own = [{ ...fop, unsent: fop.waiting + fop.pending, bypassed: fop.bypass }, { ...farm, value: farm.vr }];
+        [ground, spacecraft].forEach((said, k) => Object.keys(said).forEach((field) =>
+            machines.same(own[k][field] ?? said[field], said[field], field)));
+        fop.whole = [ground.submitted, ground.sent_whole, ground.acknowledged_whole];
     }
 }
