@@ -69,8 +69,7 @@ export class Machines {
         const { fop, calls } = this, rows = reply.kind === undefined ? {} : this.act(event, reply, sent, word);
         if (fop.state !== n.SEDGE_FOP_S6 && fop.waiting === 0 && outstanding > fop.sent) calls.sedge_fop_submit(fop);
         const isBegun = rows.fop?.part === 'the directives' && rows.fop.rule <= n.SEDGE_INIT_SET_VR;
-        const isNew = isBegun && reply.kind === n.SEDGE_REPLY_DONE;
-        this.alert = isNew ? 0 : reply.alert || reply.down?.alert || this.alert;
+        this.alert = isBegun ? 0 : reply.alert || reply.down?.alert || this.alert;
         this.outstanding = outstanding;
         return rows;
     }
@@ -108,7 +107,7 @@ export class Machines {
     direct({ directive, value }, reply) {
         const fault = this.calls.sedge_fop_directive(this.fop, directive, value ?? 0);
         this.same(fault, reply.kind === n.SEDGE_REPLY_REFUSED ? reply.fault : 0, 'the answer to a directive');
-        return { event: DIRECTIVES[directive], part: 'the directives', rule: directive };
+        return { event: DIRECTIVES[directive], ...fault === 0 ? { part: 'the directives', rule: directive } : {} };
     }
 
     // Takes what goes next; the rule of a pull by which it does.

@@ -176,8 +176,9 @@ function bindPlayer(page) {
 
 function bindScript(page) {
     at('example').addEventListener('change', () => {
-        location.hash = at('example').value === '' ? '' : `example=${at('example').value}`;
-        if (at('example').value === '') page.choose('', 0);
+        const name = at('example').value, hash = `#example=${name}`;
+        if (name === '' || location.hash === hash) page.choose(name, 0);
+        else location.hash = hash;
     });
     at('text').addEventListener('input', () => page.choose('', page.player.at));
     at('events').addEventListener('click', ({ target }) => target.dataset.line && page.insert(target.dataset.line));
