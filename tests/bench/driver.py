@@ -47,7 +47,7 @@ class Program:
             timer.cancel()
 
     def close(self):
-        """The status with which it ends once there are no more lines."""
+        """How it ends once there are no more lines: what else it writes, and its status."""
         try:
             self.process.stdin.close()
         except BrokenPipeError:
@@ -55,11 +55,15 @@ class Program:
         timer = threading.Timer(PATIENCE, self.process.kill)
         timer.start()
         try:
-            self.process.stdout.read()
-            return self.process.wait()
+            more = self.process.stdout.read().decode("latin-1")
+            return f"{more!r} and status {self.process.wait()}"
         finally:
             timer.cancel()
             self.process.stdout.close()
+
+
+def ending(node):
+    return f"'' and status {0 if node.good else 1}"
 
 
 class Play:
@@ -68,7 +72,7 @@ class Play:
     def __init__(self, bench):
         self.bench, self.node = bench, bench.model()
         self.program = Program(bench.command)
-        self.lines, self.waiting, self.octets = [], [], 0
+        self.lines, self.waiting, self.octets, self.same = [], [], 0, True
 
     def line(self, line):
         """Gives a line to the model, and later to the program; whether all is the same so far."""
@@ -88,6 +92,7 @@ class Play:
             self.lines.append(line)
             if answer is not None:
                 if got[at] != answer:
+                    self.waiting, self.same = [], False
                     self.bench.differs(self.lines, cell, got[at], answer)
                     return False
                 at += 1
@@ -98,10 +103,11 @@ class Play:
 
     def close(self):
         """Ends both, with the last lines compared, and the status."""
-        same = self.compare() if self.waiting else True
-        status, wanted = self.program.close(), 0 if self.node.good else 1
-        if same and status != wanted:
-            self.bench.differs(self.lines, None, f"status {status}", f"status {wanted}")
+        if self.waiting:
+            self.compare()
+        got, wanted = self.program.close(), ending(self.node)
+        if self.same and got != wanted:
+            self.bench.differs(self.lines, None, got, wanted)
 
 
 class Bench:
@@ -154,7 +160,7 @@ class Bench:
         node, program = self.model(), Program(self.command)
         wanted = [it for it in map(node.answer, lines) if it is not None]
         got = program.answers(lines, len(wanted))
-        return program.close() != (0 if node.good else 1) or got != wanted
+        return program.close() != ending(node) or got != wanted
 
     def play_cells(self):
         """Plays each way to a state with each event there that comes to a cell that was not played often enough."""
@@ -211,9 +217,8 @@ class Bench:
         """Plays random events, some at a time from a new start."""
         while count > 0:
             play = Play(self)
-            for line in events.random_config(chance):
+            for line in [*events.odd_begin(chance), *events.random_config(chance), "show"]:
                 play.line(line)
-            play.line("show")
             source = (events.GroundLines if self.ground else events.SpacecraftLines)(chance, play.node)
             for _ in range(min(count, EVENTS_A_RUN)):
                 count -= 1

@@ -8,6 +8,11 @@ WORDS = ("", "bogus", "show ", "send  ", " take", "init", "init set 256", "confi
          "clcw 010800", "frame 0", "telemetry GG", "submit 256 -", "take\r")
 
 
+BEGINNINGS = ("", "# a note\xff", "config scid 65543", "config maps 18446744073709551616", "config foo 1",
+              "config width", "config limit 07", "config limit 300\nsend\nconfig limit 3",
+              "config width 9\ntake\nconfig width 254", "config window 2\nconfig width 2\nshow\nconfig width 254\nconfig window 127", "bogus", "report GG")
+
+
 def hexed(octets):
     return octets.hex() or "-"
 
@@ -81,6 +86,11 @@ GROUND_AFTER = [["show", *SENDS, "show", *TICKS, "show", *SENDS, *TICKS, "show"]
 
 
 # ---- Random lines ----
+
+
+def odd_begin(chance):
+    """Lines that come before a node is made: they are skipped, unreadable, or answered by a field out of its range."""
+    return "\n".join(chance.sample(BEGINNINGS, 3)).split("\n") if chance.random() < 0.2 else []
 
 
 def random_config(chance):
