@@ -15,11 +15,12 @@ import sys
 import threading
 from collections import Counter
 
-import cells
-import events
-from farm import Spacecraft
-from frames import Fault
-from fop import Ground
+sys.dont_write_bytecode = True
+import cells  # noqa: E402
+import events  # noqa: E402
+from farm import Spacecraft  # noqa: E402
+from fop import Ground  # noqa: E402
+from frames import Fault  # noqa: E402
 
 PIECE, EVENTS_A_RUN, CELL_PLAYS, PATIENCE = 8192, 1000, 2, 60
 

@@ -10,7 +10,8 @@ WORDS = ("", "bogus", "show ", "send  ", " take", "init", "init set 256", "confi
 
 BEGINNINGS = ("", "# a note\xff", "config scid 65543", "config maps 18446744073709551616", "config foo 1",
               "config width", "config limit 07", "config limit 300\nsend\nconfig limit 3",
-              "config width 9\ntake\nconfig width 254", "config window 2\nconfig width 2\nshow\nconfig width 254\nconfig window 127", "bogus", "report GG")
+              "config width 9\ntake\nconfig width 254", "bogus", "report GG",
+              "config window 2\nconfig width 2\nshow\nconfig width 254\nconfig window 127")
 
 
 def hexed(octets):

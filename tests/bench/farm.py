@@ -1,11 +1,13 @@
 #!/usr/bin/env python3
 """A spacecraft with FARM-1, line by line on standard input and output: an account of CCSDS 232.1-B-2, 6, and of
 docs/PROFILE.md that was written apart from the crates, to be played against another one by driver.py."""
+import sys
 from collections import deque
 
-from frames import (AD, ALONE, BD, CONTINUING, FIRST, Clcw, Fault, Telemetry, are_packets, apid_of, clcw, packet,
-                    read_tc, tm_frame)
-from lines import Node, serve
+sys.dont_write_bytecode = True
+from frames import (AD, ALONE, BD, CONTINUING, FIRST, Clcw, Fault, Telemetry, apid_of, are_packets,  # noqa: E402
+                    clcw, packet, read_tc, tm_frame)
+from lines import Node, serve  # noqa: E402
 
 OPEN, WAIT, LOCKOUT = "Open", "Wait", "Lockout"
 IDLE = 2047

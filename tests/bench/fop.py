@@ -1,12 +1,14 @@
 #!/usr/bin/env python3
 """A ground with FOP-1, line by line on standard input and output: an account of CCSDS 232.1-B-2, 5, and of
 docs/PROFILE.md that was written apart from the crates, to be played against another one by driver.py."""
+import sys
 from bisect import bisect_right
 from collections import deque
 
-from frames import (AD, ALONE, BC, BD, CONTINUING, FIRST, LAST, Fault, apid_of, are_packets, packet_length, packets_of,
-                    read_clcw, read_tm, tc_frame)
-from lines import Node, serve
+sys.dont_write_bytecode = True
+from frames import (AD, ALONE, BC, BD, CONTINUING, FIRST, LAST, Fault, apid_of, are_packets,  # noqa: E402
+                    packet_length, packets_of, read_clcw, read_tm, tc_frame)
+from lines import Node, serve  # noqa: E402
 
 IDLE, ONLY_IDLE, NO_START = 2047, 2046, 2047
 
@@ -106,11 +108,10 @@ class Fop:
             return None
         if self.state == 4 or self.count >= self.limit:
             return self.alert("Timer")
-        self.due = self.state == 5
-        self.count, self.ticks = self.count + 1, self.timer
         if self.state in (1, 2):
-            for it in self.sent:
-                it[1] = True
+            self.again()
+        else:
+            self.due, self.count, self.ticks = self.state == 5, self.count + 1, self.timer
         return None
 
     def submit(self, unit):
