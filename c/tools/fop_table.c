@@ -4,12 +4,12 @@
 #include "table.h"
 
 enum {
-    E1, E2, E3, E4, E5, E6, E7, E101, E102, E8, E9, E10, E11, E12, E103, E13, E14,
+    E1, E2, E3, E4, E5, E6, E7, E101, E102, E8, E9, E10, E11, E12, E103, E13, E14, E15,
     OFF, RUNNING, E16, E17, E19, E20, E23, E24, E25, E27, E29, E35, E36, E36_OUT, E37, E37_OUT, E38, E38_OUT,
     PULL_UNLOCK, PULL_SET_VR, PULL_AGAIN, PULL_FIRST, PULL_NOTHING, KINDS
 };
 enum { VS, NN, SENT, DUE, WAITING, CONTROL, TIMER, COUNT, VALUES, COLUMNS };
-enum { DONE = 0, ALERT = 100, REFUSED = 200, NEXT = 300, LAST_STATE = SEDGE_FOP_S6 };
+enum { DONE = 0, ALERT = 100, REFUSED = 200, NEXT = 300, NOT_ASKED = 400, LAST_STATE = SEDGE_FOP_S6 };
 
 static const struct kind kinds[KINDS] = {
     {"E1", "report: no flag; N(R) = V(S) = NN(R)", "report", {5, 0, 0, 13, 14, 16}, ""},
@@ -33,6 +33,7 @@ static const struct kind kinds[KINDS] = {
      {8, 8, 8, 0, 0, 16}, ""},
     {"E13", "report: N(R) below NN(R) or above V(S)", "report", {2, 2, 2, 10, 15, 16}, ""},
     {"E14", "report: lockout", "report", {1, 1, 1, 9, 15, 16}, ""},
+    {"E15", "report: not valid", "report", {0, 0, 0, 0, 0, 0}, "123456"},
     {"-", "tick: the timer is off", "tick", {0, 0, 0, 0, 0, 0}, "156"},
     {"-", "tick: ticks are left after it", "tick", {0, 0, 0, 0, 0, 0}, "12345"},
     {"E16", "tick: the timer ends; count below the limit", "tick", {1, 1, 2, 4, 3, 0}, "3"},
@@ -149,6 +150,17 @@ static void try_reports(const struct sedge_fop *before) {
         }
 }
 
+/* Octets that are no control word are refused before the sender is asked. */
+static void try_invalid(const struct sedge_fop *before) {
+    static const uint8_t octets[] = {0x81, 0x08, 0x20, 0x00};
+    struct sedge_clcw word = {0, 2, SEDGE_CLCW_LOCKOUT, 0, 0};
+    struct sedge_fop after = *before;
+    uint8_t released;
+    if (sedge_clcw_decode(octets, sizeof octets, &word) != SEDGE_CLCW_KIND)
+        sedge_fop_report(&after, 2, &word, &released);
+    keep(E15, before, &after, 256, before->nn, NOT_ASKED);
+}
+
 static void try_tick(const struct sedge_fop *before) {
     struct sedge_fop after = *before;
     uint8_t alert = sedge_fop_tick(&after);
@@ -236,6 +248,7 @@ static void try_all(void) {
         struct sedge_fop fop = choice(which, &left), copy = fop;
         if (left != 0 || sedge_fop_tick(&copy) == SEDGE_DAMAGED) continue;
         try_reports(&fop);
+        try_invalid(&fop);
         try_tick(&fop);
         try_submission(&fop);
         try_pull(&fop);
@@ -247,7 +260,9 @@ static void write_answer(int answer) {
     static const char *const nexts[] = {"nothing", "sends Unlock", "sends Set V(R)", "sends the waiting unit as V(S)",
                                         "sends the oldest due unit"};
     struct sedge_text name;
-    if (answer >= NEXT) {
+    if (answer == NOT_ASKED) {
+        printf("-");
+    } else if (answer >= NEXT) {
         printf("%s", nexts[answer - NEXT]);
     } else if (answer >= REFUSED) {
         name = sedge_cop_fault_name((uint8_t)(answer - REFUSED));

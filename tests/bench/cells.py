@@ -114,7 +114,7 @@ class Watch:
         if name == "pull":
             kind, _, data = result or (None, 0, b"")
             return {"BC": f"sends {COMMANDS.get(data[0])}" if data else None, None: "nothing"}.get(kind)
-        if self.name == "farm.csv":
+        if self.name == "farm.csv" or name == "invalid":
             return result if name == "ad" else None
         return f"alert {result}" if result else "ok"
 
@@ -165,7 +165,8 @@ def value_of(fop, fault, name, value):
 
 def watch_fop():
     initiations = {"none": "E23", "check": "E24", "unlock": "E25", "set": "E27"}
-    calls = {"report": lambda fop, word: (fop.event_of(word), word.value), "tick": tick_of, "pull": pull_of,
+    calls = {"report": lambda fop, word: (fop.event_of(word), word.value), "invalid": lambda fop: ("E15", 0),
+             "tick": tick_of, "pull": pull_of,
              "submit": lambda fop, unit: ("E19" if fop.waiting is None else "E20", 0),
              "terminate": lambda fop: ("E29", 0), "set_vs": lambda fop, vs: ("E35", vs), "set_value": value_of,
              "initiate": lambda fop, how, vr=None: (initiations[how], vr)}

@@ -78,7 +78,7 @@ def ground_events(node):
     yield from (f"clcw {report(value, flags)}" for value in values for flags in range(8))
     yield from ("tick", "send", f"submit 4 {COMMAND.hex()}", "init none", "init check", "init unlock", "init set 77",
                 "terminate", "vs 77", "window 5", "window 6", "window 0", "timer 9", "timer 0", "limit 9", "limit 0",
-                f"resume {vs}", f"bypass 4 {COMMAND.hex()}")
+                "clcw 81082000", f"resume {vs}", f"bypass 4 {COMMAND.hex()}")
 
 
 SENDS, TICKS = ["send"] * 3, ["tick"] * 4

@@ -100,6 +100,9 @@ class Fop:
                 return self.alert(action)
         return None
 
+    def invalid(self):
+        pass
+
     def tick(self):
         if self.ticks == 0:
             return None
@@ -306,6 +309,7 @@ class Ground(Node):
         try:
             word = read_clcw(octets)
         except Fault as fault:
+            self.fop.invalid()
             return f"invalid {fault}"
         return self.report(word) if word.vcid == self.config["vcid"] else "foreign"
 
