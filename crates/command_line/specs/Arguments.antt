@@ -73,7 +73,17 @@ apid = record (named (codes "apid")) { range = Some (0, 2047) }
 abbrev pub file : Wanted
 file = record { name = codes "FILE"; is_required = true; range = None }
 
--- the arguments of each command but the file, which is the last of each
+-- a file that may be left out
+abbrev pub input : Wanted
+input = named (codes "FILE")
+
+-- the file of each command, its last argument
+abbrev pub file_of : Named → Wanted
+file_of commands.Ground = input
+file_of commands.Spacecraft = input
+file_of _ = file
+
+-- the arguments of each command but the file
 abbrev pub options_of : Named → List Wanted
 options_of commands.Farm = width ∷ vr ∷ scid ∷ vcid ∷ check ∷ []
 options_of commands.Map = width ∷ vr ∷ scid ∷ vcid ∷ map ∷ check ∷ blocking ∷ []
@@ -83,9 +93,11 @@ options_of commands.Clcw = []
 options_of commands.Check = scid ∷ vcid ∷ []
 options_of commands.Packets = apid ∷ []
 options_of commands.Sim = []
+options_of commands.Ground = []
+options_of commands.Spacecraft = []
 
 abbrev pub wanted_of : Named → List Wanted
-wanted_of command = options_of command ++ file ∷ []
+wanted_of command = options_of command ++ file_of command ∷ []
 
 -- the argument is the one that is wanted, excludes nothing, and is of its command alone
 abbrev pub IsArgument : Arg → Wanted → Type 0
@@ -139,6 +151,8 @@ IsInRange tasks.Clcw = Unit {0}
 IsInRange (tasks.Check channel) = IfSome channel (AreIdentifiers 63)
 IsInRange (tasks.Packets apid) = IfSome apid (λ n. n ≤ 2047)
 IsInRange tasks.Sim = Unit {0}
+IsInRange tasks.Ground = Unit {0}
+IsInRange tasks.Spacecraft = Unit {0}
 
 -- a width that is refused is odd
 abbrev pub IsOddIfWidth : UsageFault → Type 0

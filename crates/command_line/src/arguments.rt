@@ -3,7 +3,7 @@
 ghost use Rattle.std.specs.Prelude.{◌≡◌, ◌≤◌, Some, None, IfOk};
 ghost use Rattle.clap.specs.Facts.{least_values};
 ghost use Rattle.command_line.specs.Arguments.{AreArguments, IsArgument, wanted_of};
-ghost use Rattle.command_line.specs.Arguments.{apid, blocking, check, file, length, map, named, report};
+ghost use Rattle.command_line.specs.Arguments.{apid, blocking, check, file, input, length, map, named, report};
 ghost use Rattle.command_line.specs.Arguments.{scid, telemetry_vcid, vcid, vr, width};
 
 use crate::commands::Named;
@@ -64,6 +64,7 @@ impl Named {
             ]?,
             Named::Packets => vec![in alloc; apid_option(alloc), file_argument(alloc, help)]?,
             Named::Clcw | Named::Sim => vec![in alloc; file_argument(alloc, help)]?,
+            Named::Ground | Named::Spacecraft => vec![in alloc; input_argument(alloc, help)]?,
         })
     }
 }
@@ -170,6 +171,13 @@ fn file_argument<'a>(alloc: Global, help: &'a str) -> Arg<'a>
         .required(true)
         .help(help)
         .action(ArgAction::Set)
+}
+
+// `[FILE]`; standard input where there is none.
+fn input_argument<'a>(alloc: Global, help: &'a str) -> Arg<'a>
+    ensures { IsArgument result input }
+{
+    Arg::new(alloc, "FILE").help(help).action(ArgAction::Set)
 }
 
 // `--name`.

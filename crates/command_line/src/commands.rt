@@ -5,7 +5,6 @@ ghost use Rattle.command_line.specs.Arguments.{GivesAll, IsBare, wanted_of};
 ghost use Rattle.command_line.specs.Arguments.{IsInRange, IsOddIfWidth};
 
 use crate::arguments::FIRST;
-use crate::given::file_given;
 use crate::help::{COMMANDS, Described, ending_of_help};
 use crate::task::{Options, UsageFault};
 use clap::error::ErrorKind;
@@ -23,6 +22,8 @@ pub enum Named {
     Check,
     Packets,
     Sim,
+    Ground,
+    Spacecraft,
 }
 
 impl<'a> Described<'a> {
@@ -64,7 +65,7 @@ impl<'a> Described<'a> {
         let given = self.given(alloc, words)?;
         Ok(Options {
             task: self.command.task(&given)?,
-            file: file_given(&given),
+            file: self.command.file(&given),
         })
     }
 }

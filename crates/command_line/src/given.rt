@@ -2,7 +2,7 @@
 
 ghost use Rattle.std.specs.Prelude.{◌≡◌, ◌≤◌, IfOk, IfErr, IfSome};
 ghost use Rattle.cop1.specs.Farm.{IsWidth};
-ghost use Rattle.command_line.specs.Arguments.{Gives, GivesAll, file, length, wanted_of, width};
+ghost use Rattle.command_line.specs.Arguments.{Gives, GivesAll, file_of, length, wanted_of, width};
 ghost use Rattle.command_line.specs.Arguments.{apid, map, scid, telemetry_vcid, vcid};
 ghost use Rattle.command_line.specs.Arguments.{AreIdentifiers, IsInRange, IsMapPart, IsOddIfWidth};
 
@@ -49,7 +49,19 @@ impl Named {
                 apid: apid_given(given),
             },
             Named::Sim => Task::Sim,
+            Named::Ground => Task::Ground,
+            Named::Spacecraft => Task::Spacecraft,
         })
+    }
+
+    /// The name of the file; standard input where none is given of those that play a node.
+    pub fn file<'a>(self, given: &ArgMatches<'a>) -> &'a str
+        requires { Gives given.now (file_of self) }
+    {
+        match self {
+            Named::Ground | Named::Spacecraft => given.get_str("FILE").unwrap_or("-"),
+            _ => given.get_str("FILE").unwrap(),
+        }
     }
 }
 
@@ -189,11 +201,4 @@ fn length_given(given: &ArgMatches<'_>) -> u16
     ensures { (16 ≤ result) × (result ≤ 2048) }
 {
     given.get_one::<u16>("length").unwrap()
-}
-
-/// The name of the file.
-pub fn file_given<'a>(given: &ArgMatches<'a>) -> &'a str
-    requires { Gives given.now file }
-{
-    given.get_str("FILE").unwrap()
 }

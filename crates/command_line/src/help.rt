@@ -57,7 +57,7 @@ pub(crate) use ending_of_help;
 const FRAMES: &str = "Telecommand frames, one after another";
 
 /// The commands in the order in which the help lists them.
-pub const COMMANDS: [Described<'static>; 8] = [
+pub const COMMANDS: [Described<'static>; 10] = [
     Described {
         command: Named::Farm,
         name: "farm",
@@ -163,6 +163,22 @@ pub const COMMANDS: [Described<'static>; 8] = [
         bin_name: "tctool sim",
         about: "Plays a script of the simulated link",
         file: "A script, a line for each event",
+        ending: ending_of_help!("AD 0 accepted ready"),
+    },
+    Described {
+        command: Named::Ground,
+        name: "ground",
+        bin_name: "tctool ground",
+        about: "Plays a ground (FOP-1), answering each line before it reads more",
+        file: "Lines, one for each call; standard input if it is not given",
+        ending: ending_of_help!("sent 0001080E00C41005C0000000AAE75D"),
+    },
+    Described {
+        command: Named::Spacecraft,
+        name: "spacecraft",
+        bin_name: "tctool spacecraft",
+        about: "Plays a spacecraft (FARM-1), answering each line before it reads more",
+        file: "Lines, one for each call; standard input if it is not given",
         ending: ending_of_help!("AD 0 accepted ready"),
     },
 ];

@@ -70,6 +70,10 @@ pub enum Task {
     },
     /// Plays a script of the simulated link.
     Sim,
+    /// Plays a ground, line by line.
+    Ground,
+    /// Plays a spacecraft, line by line.
+    Spacecraft,
 }
 
 /// What the words ask for.

@@ -2,8 +2,7 @@
 use Rattle.std.specs.Prelude.{ℕ, zero, suc, ◌+◌, if◌then◌else◌, List, [], ◌∷◌, ◌++◌, length, codes}
 use Rattle.std.specs.Prelude.{decimal, Option, Some, None, Result}
 use Rattle.std.specs.List.{flat_map}
-use Rattle.cop1.specs.declared.vocabulary.FopMode.{FopMode}
-use Rattle.cop1.specs.declared.vocabulary.FopMode.TheVariants.{S1, S2, S3, S4, S5, S6}
+use Rattle.node_answers.specs.Answers.{fop_state_word}
 use Rattle.simulated_link.specs.declared.fault.SimFault.{SimFault}
 use Rattle.simulated_link.specs.declared.session_start.Opening.{Opening}
 use Rattle.nodes.specs.Ground.{outstanding}
@@ -40,14 +39,6 @@ script_responses w (line ∷ more) =
     line_responses w line ++ script_responses (after_line w line) more
 
 -- ---- one line of text for each
-
-abbrev pub fop_state_word : FopMode → List ℕ
-fop_state_word S1 = codes "S1"
-fop_state_word S2 = codes "S2"
-fop_state_word S3 = codes "S3"
-fop_state_word S4 = codes "S4"
-fop_state_word S5 = codes "S5"
-fop_state_word S6 = codes "S6"
 
 -- how the session began
 abbrev pub clean_word : Option Opening → List ℕ

@@ -2,10 +2,10 @@
 
 ghost use Rattle.std.specs.Prelude.{◌≡◌, ◌++◌, ◌∷◌, [], decimal, length};
 ghost use Rattle.octets.specs.Beginning.{Appends};
-ghost use Rattle.script.specs.Player.{clean_word, fop_state_word, count_over_maps, packets_text, frames_text, acknowledged_text, show_text};
+ghost use Rattle.script.specs.Player.{clean_word, count_over_maps, packets_text, frames_text, acknowledged_text, show_text};
 ghost use Rattle.simulated_link.specs.World.{submitted, delivered, accepted};
 
-use cop1::FopMode;
+use node_answers::fop_state_word;
 use simulated_link::{Opening, World};
 use std::alloc::AllocError;
 use std::fmt::Write;
@@ -17,19 +17,6 @@ fn clean_word(opening: Option<Opening>) -> &'static str
         None => "none",
         Some(Opening { clean: true, .. }) => "yes",
         Some(Opening { clean: false, .. }) => "no",
-    }
-}
-
-fn fop_state_word(state: FopMode) -> &'static str
-    ensures { result.now ≡ fop_state_word state }
-{
-    match state {
-        FopMode::S1 => "S1",
-        FopMode::S2 => "S2",
-        FopMode::S3 => "S3",
-        FopMode::S4 => "S4",
-        FopMode::S5 => "S5",
-        FopMode::S6 => "S6",
     }
 }
 

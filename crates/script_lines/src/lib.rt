@@ -13,6 +13,7 @@ mod words;
 
 pub use laws::{law_of_commands, law_of_numbers, law_of_octets};
 pub use line::{Line, Rest, digits_of};
+pub use pieces::cut;
 pub use reader::read_line;
 pub use scripts::{Reading, read_script};
-pub use words::octets_in_word;
+pub use words::{is, is_octets, number_in_word, octets_in_word};

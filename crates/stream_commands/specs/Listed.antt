@@ -1,6 +1,6 @@
 -- The table of commands, and what it says of the lines, the outcome and the end of a file. Nothing
--- is listed of a script.
-use Rattle.std.specs.Prelude.{List, [], ℕ, Bool, Option, Some, None}
+-- is listed of what is played.
+use Rattle.std.specs.Prelude.{List, [], ℕ, Bool, true, false, Option, Some, None}
 use Rattle.tc_frame.specs.declared.frame.Check.{Check}
 use Rattle.tc_frame.specs.declared.frame.Check.TheVariants.{On}
 use Rattle.tc_frame.specs.declared.fault.TcFault.{TcFault}
@@ -30,7 +30,7 @@ use Rattle.stream_commands.specs.Outcome.{outcome_if}
 
 -- What is done with a file: its records are listed, cut by this layout, with these lines and this
 -- kept before the first;
--- or it is played as a script, which is no stream of records.
+-- or it is played, as a script or line by line, and is no stream of records.
 pub data Work : Type 1 where
   Lists : {S F : Type 0} → Layout F → Lines S F → S → Work
   Plays : Work
@@ -85,8 +85,17 @@ work_of tasks.Clcw = Lists word_layout report_lines tt
 work_of (tasks.Check channel) = frames_work On refusal_lines tt channel
 work_of (tasks.Packets apid) = packet_work apid
 work_of tasks.Sim = Plays
+work_of tasks.Ground = Plays
+work_of tasks.Spacecraft = Plays
 
--- the lines for all octets of a file, its rest included; nothing is listed of a script
+-- whether a file is listed
+abbrev pub is_listed : Task → Bool
+is_listed tasks.Sim = false
+is_listed tasks.Ground = false
+is_listed tasks.Spacecraft = false
+is_listed task = true
+
+-- the lines for all octets of a file, its rest included; nothing is listed of what is played
 abbrev pub work_lines : Work → List ℕ → List ℕ
 work_lines (Lists layout lines start) octets = text_of lines layout (fresh start octets)
 work_lines Plays octets = []
@@ -97,7 +106,7 @@ work_outcome (Lists layout lines start) octets =
     outcome_if (is_all_good lines layout (fresh start octets))
 work_outcome Plays octets = Good
 
--- a record's length is refused, so that nothing more is read; of a script all is read
+-- a record's length is refused, so that nothing more is read; of what is played all is read
 abbrev pub WorkStops : Work → List ℕ → Type 0
 WorkStops (Lists layout lines start) octets = IsRefused layout (rest_by layout octets)
 WorkStops Plays octets = ⊥

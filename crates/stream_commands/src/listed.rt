@@ -1,6 +1,6 @@
 // Lists a stream of records, as a command asks for it.
 
-ghost use Rattle.std.specs.Prelude.{◌≡◌, ◌≢◌, ◌⊎◌, ◌+◌, ℕ, List, [], None, OnOk, IfOk};
+ghost use Rattle.std.specs.Prelude.{◌≡◌, ◌⊎◌, ◌+◌, ℕ, List, [], true, None, OnOk, IfOk};
 ghost use Rattle.command_line.specs.Arguments.{IsInRange};
 ghost use Rattle.listings.specs.Devices.{HasEnded};
 ghost use Rattle.listings.specs.Devices.{gained};
@@ -10,7 +10,7 @@ ghost use Rattle.listings.specs.Streams.{Reads, WritesText};
 ghost use Rattle.cop1.specs.Farm.{IsWidth};
 ghost use Rattle.tc_frame.specs.Splitter.{check_if};
 ghost use Rattle.listings.specs.Filters.{only};
-ghost use Rattle.stream_commands.specs.Listed.{frames_work, listed_lines, listed_outcome, StopsAt};
+ghost use Rattle.stream_commands.specs.Listed.{frames_work, is_listed, listed_lines, listed_outcome, StopsAt};
 ghost use Rattle.stream_commands.specs.Listed.{work_lines, work_outcome, WorkStops};
 ghost use Rattle.stream_commands.specs.Outcome.{outcome_if};
 
@@ -28,8 +28,8 @@ use std::alloc::Global;
 use std::marker::Brand;
 use tc_frame::FrameLayout;
 
-/// Reads a stream to its end, in pieces, and writes the lines that a command but `sim` asks for: of each
-/// piece before the next is read.
+/// Reads a stream to its end, in pieces, and writes the lines that a command asks for that lists a file: of
+/// each piece before the next is read.
 ///
 /// An `Ok` says that all lines are written and nothing else, and whether every record was good. Where
 /// a record declares a length that none can have, its line is the last and nothing more is read. The
@@ -44,7 +44,7 @@ pub fn list<R: Source, W: Sink>(
     task: Task,
 ) -> Result<Outcome, ListingFault>
     requires range { IsInRange task }
-    requires listed { task ≢ Task.Sim }
+    requires listed { is_listed task ≡ true }
     ensures reads { Reads R.given R.remaining R.failures result reader.old reader.new }
     ensures writes { WritesText W.taken_octets W.failures result writer.old writer.new
         (listed_lines task (gained (R.given reader.old) (R.given reader.new))) }
@@ -101,7 +101,7 @@ pub fn list<R: Source, W: Sink>(
             list_on::<true, _, R, W>(alloc, reader, writer, task, RefusalListing, channel)
         }
         Task::Packets { apid } => list_packets(alloc, reader, writer, task, apid),
-        Task::Sim => unreachable!(),
+        Task::Sim | Task::Ground | Task::Spacecraft => unreachable!(),
     }
 }
 

@@ -1,11 +1,19 @@
--- What the commands write of the octets of a file, scripts among them.
-use Rattle.std.specs.Prelude.{List, ℕ}
+-- What the commands write of the octets of a file, those that play it among them.
+use Rattle.std.specs.Prelude.{◌≡◌, List, ℕ, ◌++◌, Result, Err}
 use Rattle.script.specs.Ending as ends
 use Rattle.script.specs.Ending.{script_ending, script_text}
 use Rattle.command_line.specs.declared.task.Task.{Task}
 use Rattle.command_line.specs.declared.task.Task.TheVariants as tasks
 use Rattle.stream_commands.specs.Listed.{listed_lines, listed_outcome}
 use Rattle.stream_commands.specs.Outcome.{OutcomeView, Good, Unreadable, OutOfRange, outcome_view}
+use Rattle.stream_commands.specs.Outcome.{outcome_if}
+use Rattle.stream_commands.specs.declared.outcome.Outcome.{Outcome}
+use Rattle.listings.specs.declared.fault.ListingFault.{ListingFault}
+use Rattle.listings.specs.declared.fault.ListingFault.TheVariants.{Read}
+use Rattle.line_stream.specs.Playing.{answers_of, answers_so_far, is_all_good}
+use Rattle.node_lines.specs.Ground.{ground_rules}
+use Rattle.node_lines.specs.Spacecraft.{spacecraft_rules}
+use Rattle.node_lines.specs.Playing.{node_playing, fresh_player}
 
 -- how a script ends
 abbrev pub as_outcome : ends.Ending → OutcomeView
@@ -16,9 +24,27 @@ as_outcome (ends.OutOfRange field) = OutOfRange field
 -- the lines for all octets of a file, its rest included
 abbrev pub lines_of : Task → List ℕ → List ℕ
 lines_of tasks.Sim octets = script_text octets
+lines_of tasks.Ground octets = answers_of (node_playing ground_rules) fresh_player octets
+lines_of tasks.Spacecraft octets = answers_of (node_playing spacecraft_rules) fresh_player octets
 lines_of task octets = listed_lines task octets
 
--- Good exactly where every record is good and nothing is left; a script is judged whole
+-- a node has answered all lines that had ended, where a read of more fails: so it answers them before
+-- each read
+abbrev pub AnswersInTime : Task → Result Outcome ListingFault → (old new octets : List ℕ) → Type 0
+AnswersInTime tasks.Ground result old new octets =
+    result ≡ Err Read
+    → new ≡ old ++ answers_so_far (node_playing ground_rules) fresh_player octets
+AnswersInTime tasks.Spacecraft result old new octets =
+    result ≡ Err Read
+    → new ≡ old ++ answers_so_far (node_playing spacecraft_rules) fresh_player octets
+AnswersInTime task result old new octets = Unit {0}
+
+-- Good exactly where every record is good and nothing is left, or every line that a node is asked is
+-- good; a script is judged whole
 abbrev pub outcome_for : Task → List ℕ → OutcomeView
 outcome_for tasks.Sim octets = as_outcome (script_ending octets)
+outcome_for tasks.Ground octets =
+    outcome_view (outcome_if (is_all_good (node_playing ground_rules) fresh_player octets))
+outcome_for tasks.Spacecraft octets =
+    outcome_view (outcome_if (is_all_good (node_playing spacecraft_rules) fresh_player octets))
 outcome_for task octets = outcome_view (listed_outcome task octets)

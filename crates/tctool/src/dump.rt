@@ -7,16 +7,18 @@ ghost use Rattle.listings.specs.Devices.{gained};
 ghost use Rattle.listings.specs.Streams.{Reads, WritesText};
 ghost use Rattle.stream_commands.specs.Listed.{StopsAt};
 ghost use Rattle.stream_commands.specs.Outcome.{outcome_view};
-ghost use Rattle.tctool.specs.Dumped.{lines_of, outcome_for};
+ghost use Rattle.tctool.specs.Dumped.{lines_of, outcome_for, AnswersInTime};
 
+use crate::node::play_node;
 use crate::simulation::simulate;
 use command_line::{Options, Task};
 use listings::{ListingFault, Sink, Source};
+use nodes::{Ground, Spacecraft};
 use std::alloc::Global;
 use stream_commands::{Outcome, list};
 
 /// Reads the input to its end, in pieces, and writes the lines that the words ask for: of each piece
-/// before the next is read, but of a script once all of it is read.
+/// before the next is read, but of a script once all of it is read. A node answers each line of a piece.
 ///
 /// An `Ok` says that all lines are written and nothing else, and whether every record was good. Where
 /// a record declares a length that none can have, its line is the last and nothing more is read. Of a
@@ -34,6 +36,8 @@ pub fn dump<R: Source, W: Sink>(
     ensures reads { Reads R.given R.remaining R.failures result reader.old reader.new }
     ensures writes { WritesText W.taken_octets W.failures result writer.old writer.new
         (lines_of options.now.task (gained (R.given reader.old) (R.given reader.new))) }
+    ensures in_time { AnswersInTime options.now.task result (W.taken_octets writer.old)
+        (W.taken_octets writer.new) (gained (R.given reader.old) (R.given reader.new)) }
     ensures outcome { IfOk result (λ outcome. outcome_view outcome
         ≡ outcome_for options.now.task (gained (R.given reader.old) (R.given reader.new))) }
     ensures end { OnOk result (HasEnded (R.has_ended reader.new) (R.remaining reader.new)
@@ -41,6 +45,8 @@ pub fn dump<R: Source, W: Sink>(
 {
     match options.task {
         Task::Sim => simulate(alloc, reader, writer),
+        Task::Ground => play_node::<Ground, R, W>(alloc, reader, writer),
+        Task::Spacecraft => play_node::<Spacecraft, R, W>(alloc, reader, writer),
         task => list(alloc, reader, writer, task),
     }
 }

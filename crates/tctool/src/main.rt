@@ -1,12 +1,13 @@
 //! The command `tctool`: what files of telecommand frames, telemetry frames and space packets hold, what a
-//! receiver makes of telecommand frames and which packets come out of them, and what scripts of a simulated
-//! link answer.
+//! receiver makes of telecommand frames and which packets come out of them, what scripts of a simulated link
+//! answer, and what a node answers that is played line by line.
 #![tactic(auto)]
 
 ghost use Rattle.command_line.specs.Arguments.{IsInRange};
 
 mod dump;
 mod given;
+mod node;
 mod simulation;
 
 use clap::Error;

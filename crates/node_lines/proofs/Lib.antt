@@ -1,0 +1,4 @@
+mod Refused
+mod Frames
+mod Numbers
+mod Asked

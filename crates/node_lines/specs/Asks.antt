@@ -1,0 +1,135 @@
+-- What a line says to a node: a line of a script, or one of `frame HEX`, `clcw HEX` and `resume X`.
+use Rattle.std.specs.Prelude.{◌≤◌, ℕ, if◌then◌else◌, List, [], ◌∷◌, codes, Option, Some, None, option_map}
+use Rattle.std.specs.Str.{bytes_eq}
+use Rattle.cop1.specs.declared.vocabulary.Directive.{Directive}
+use Rattle.nodes.specs.declared.event.Event.{Event}
+use Rattle.nodes.specs.declared.event.Event.TheVariants as events
+use Rattle.nodes.specs.declared.parameter.Parameter.{Parameter}
+use Rattle.script_lines.specs.Words.{words_in, number_in_word, octets_in_word}
+use Rattle.script_lines.specs.Lines.{ScriptLine, line_in, octets_of_digits}
+use Rattle.script_lines.specs.Lines as scripts
+use Rattle.node_lines.specs.declared.ask.Ask as code
+use Rattle.node_lines.specs.declared.ask.Ask.TheVariants as asks
+use Rattle.node_lines.specs.declared.ask.NodeLine as code_line
+use Rattle.node_lines.specs.declared.ask.NodeLine.TheVariants as lines
+
+-- what a line asks of a node
+pub data Ask : Type 0 where
+  Submit : (on_map : ℕ) (octets : List ℕ) → Ask
+  Bypass : (on_map : ℕ) (octets : List ℕ) → Ask
+  Direct : (directive : Directive) → Ask
+  Send : Ask
+  Report : Ask
+  Tick : Ask
+  Take : Ask
+  TakeBypass : Ask
+  -- of a ground: these octets come as telemetry; of a spacecraft: this packet is queued
+  Telemetry : (octets : List ℕ) → Ask
+  -- these octets come as a telecommand frame
+  Frame : (octets : List ℕ) → Ask
+  -- these octets come as a control word by itself
+  ControlWord : (octets : List ℕ) → Ask
+  -- a session goes on after an alert, by a report's value
+  Resume : (value : ℕ) → Ask
+  Show : Ask
+
+pub data NodeLine : Type 0 where
+  -- it is empty, or a note
+  Skipped : NodeLine
+  -- a managed parameter gets this value
+  Setting : Parameter → ℕ → NodeLine
+  Asking : Ask → NodeLine
+  Unreadable : NodeLine
+
+-- ---- a line of a script
+
+-- what an event asks of a node; the other events are a link's
+abbrev pub ask_of : Event → Option Ask
+ask_of (events.Submit m octets) = Some (Submit m octets.now)
+ask_of (events.Bypass m octets) = Some (Bypass m octets.now)
+ask_of (events.Directive directive) = Some (Direct directive)
+ask_of events.Send = Some Send
+ask_of events.Report = Some Report
+ask_of events.Tick = Some Tick
+ask_of events.Take = Some Take
+ask_of events.TakeBypass = Some TakeBypass
+ask_of (events.Telemetry octets) = Some (Telemetry octets.now)
+ask_of event = None
+
+abbrev pub asking : Option Ask → NodeLine
+asking (Some ask) = Asking ask
+asking None = Unreadable
+
+abbrev pub line_of_script : ScriptLine → NodeLine
+line_of_script scripts.Skipped = Skipped
+line_of_script (scripts.Setting parameter n) = Setting parameter n
+line_of_script (scripts.Happening event) = asking (ask_of event)
+line_of_script scripts.Showing = Asking Show
+line_of_script scripts.Unreadable = Unreadable
+
+-- ---- a line that no script has
+
+abbrev pub ask_of_two_words : List ℕ → List ℕ → Option Ask
+ask_of_two_words name word =
+    if bytes_eq name (codes "frame") then option_map Frame (octets_in_word word)
+    else if bytes_eq name (codes "clcw") then option_map ControlWord (octets_in_word word)
+    else if bytes_eq name (codes "resume") then option_map Resume (number_in_word 255 word)
+    else None
+
+abbrev pub ask_of_words : List (List ℕ) → Option Ask
+ask_of_words (name ∷ word ∷ []) = ask_of_two_words name word
+ask_of_words words = None
+
+-- ---- a line
+
+abbrev pub asking_or : Option Ask → NodeLine → NodeLine
+asking_or (Some ask) line = Asking ask
+asking_or None line = line
+
+abbrev pub node_line : List ℕ → NodeLine
+node_line line = asking_or (ask_of_words (words_in line)) (line_of_script (line_in line))
+
+-- ---- an ask as the code has it
+
+-- where its octets become these
+abbrev pub ask_with : (List ℕ → List ℕ) → code.Ask → Ask
+ask_with octets_for (asks.Submit m octets) = Submit m (octets_for octets.now)
+ask_with octets_for (asks.Bypass m octets) = Bypass m (octets_for octets.now)
+ask_with octets_for (asks.Direct directive) = Direct directive
+ask_with octets_for asks.Send = Send
+ask_with octets_for asks.Report = Report
+ask_with octets_for asks.Tick = Tick
+ask_with octets_for asks.Take = Take
+ask_with octets_for asks.TakeBypass = TakeBypass
+ask_with octets_for (asks.Telemetry octets) = Telemetry (octets_for octets.now)
+ask_with octets_for (asks.Frame octets) = Frame (octets_for octets.now)
+ask_with octets_for (asks.ControlWord octets) = ControlWord (octets_for octets.now)
+ask_with octets_for (asks.Resume value) = Resume value
+ask_with octets_for asks.Show = Show
+
+abbrev pub ask_view : code.Ask → Ask
+ask_view ask = ask_with (λ octets. octets) ask
+
+-- where it has digits in place of octets
+abbrev pub ask_said : code.Ask → Ask
+ask_said ask = ask_with octets_of_digits ask
+
+-- its octets, or the digits in their place; none where it carries none
+abbrev pub octets_in : code.Ask → List ℕ
+octets_in (asks.Submit m octets) = octets.now
+octets_in (asks.Bypass m octets) = octets.now
+octets_in (asks.Telemetry octets) = octets.now
+octets_in (asks.Frame octets) = octets.now
+octets_in (asks.ControlWord octets) = octets.now
+octets_in ask = []
+
+abbrev pub line_view : code_line.NodeLine → NodeLine
+line_view lines.Skipped = Skipped
+line_view (lines.Setting parameter n) = Setting parameter n
+line_view (lines.Asking ask) = Asking (ask_said ask)
+line_view lines.Unreadable = Unreadable
+
+-- what is read fits: a parameter's number is no greater than its most
+abbrev pub IsWellRead : code_line.NodeLine → Type 0
+IsWellRead (lines.Setting parameter n) = n ≤ scripts.most_for parameter
+IsWellRead line = Unit {0}

@@ -1,0 +1,124 @@
+-- A ground that is played line by line: what is answered to each line.
+use Rattle.std.specs.Prelude.{ℕ, ◌==◌, if◌then◌else◌, List, ◌++◌, length, codes, decimal, Option}
+use Rattle.std.specs.Prelude.{Some, None, Result, Ok, Err}
+use Rattle.hex.specs.Hex.{encode_upper}
+use Rattle.clcw.specs.Faults as clcw
+use Rattle.tc_frame.specs.declared.frame.Check.TheVariants.{On}
+use Rattle.tc_frame.specs.Layout.{FrameView}
+use Rattle.tc_frame.specs.Encoding.{spelling}
+use Rattle.cop1.specs.declared.fault.CopFault.{CopFault}
+use Rattle.cop1.specs.declared.vocabulary.Alert.{Alert}
+use Rattle.cop1.specs.Faults as cop
+use Rattle.cop1.specs.Units.{due_units}
+use Rattle.nodes.specs.declared.fault.LinkFault.{LinkFault}
+use Rattle.nodes.specs.declared.heard.HeardReport.{HeardReport}
+use Rattle.nodes.specs.declared.heard.HeardReport.TheVariants.{Used, Refused, OtherChannel}
+use Rattle.nodes.specs.Faults as link
+use Rattle.nodes.specs.Fates.{submitted, whole_with}
+use Rattle.nodes.specs.Ground.{GroundState, GroundEvent, GroundAnswer, ground_step, new_ground}
+use Rattle.nodes.specs.Ground.{outstanding, sent_beyond, unsent_segments}
+use Rattle.nodes.specs.Ground as calls
+use Rattle.node_answers.specs.Answers.{fault_text, sent_text, heard_text, tick_text, fop_state_word}
+use Rattle.node_lines.specs.Asks.{Ask, Submit, Bypass, Direct, Send, Tick, Take, Telemetry}
+use Rattle.node_lines.specs.Asks.{ControlWord, Resume, Show}
+use Rattle.node_lines.specs.Turns.{Turn, NodeRules, told}
+
+-- ---- the answers to calls, as texts
+
+abbrev pub done_text : Result (Unit {0}) LinkFault → List ℕ
+done_text (Ok done) = codes "ok"
+done_text (Err fault) = fault_text (codes "refused") (link.fault_row fault)
+
+abbrev pub obeyed_text : Result (Option Alert) CopFault → List ℕ
+obeyed_text (Ok alert) = tick_text alert
+obeyed_text (Err fault) = fault_text (codes "refused") (cop.fault_row fault)
+
+abbrev pub resumed_text : Result ℕ LinkFault → List ℕ
+resumed_text (Ok on_board) = codes "resumed " ++ decimal on_board
+resumed_text (Err fault) = fault_text (codes "refused") (link.fault_row fault)
+
+abbrev pub pulled_text : Option FrameView → List ℕ
+pulled_text (Some frame) = sent_text (spelling On frame)
+pulled_text None = codes "nothing"
+
+-- what becomes of a control word, and the alert that it gives
+abbrev pub reported_text : HeardReport → Option Alert → List ℕ
+reported_text Used alert = tick_text alert
+reported_text (Refused fault) alert = fault_text (codes "invalid") (clcw.fault_row fault)
+reported_text OtherChannel alert = codes "foreign"
+
+abbrev pub taken_text : Option (List ℕ) → List ℕ
+taken_text (Some packet) = codes "packet " ++ encode_upper packet
+taken_text None = codes "nothing"
+
+abbrev pub ground_text : (event : GroundEvent) → GroundAnswer event → List ℕ
+ground_text (calls.Submit m octets) answer = done_text answer
+ground_text (calls.Bypass m octets) answer = done_text answer
+ground_text (calls.Direct directive) answer = obeyed_text answer
+ground_text (calls.Resume value) answer = resumed_text answer
+ground_text calls.Pull answer = pulled_text answer
+ground_text calls.Tick answer = tick_text answer
+ground_text (calls.Telemetry octets) answer = heard_text answer
+ground_text (calls.ControlWord octets) answer = reported_text answer.report answer.alert
+ground_text calls.TakeTelemetry answer = taken_text answer
+ground_text calls.ForgetTelemetry answer = codes "ok"
+
+-- a call of the ground
+abbrev pub ground_call : GroundEvent → GroundState → Turn GroundState
+ground_call event s = record {
+  answer = ground_text event (ground_step s event).answer;
+  after = (ground_step s event).after;
+}
+
+-- ---- how the ground stands
+
+-- how far its submissions have come
+abbrev pub submissions_text : GroundState → List ℕ
+submissions_text s = codes " submitted=" ++ (decimal (submitted s.fates)
+    ++ (codes " sent=" ++ (decimal (whole_with (sent_beyond s) s.fates)
+    ++ (codes " acknowledged=" ++ (decimal (whole_with 0 s.fates)
+    ++ (codes " outstanding=" ++ decimal (length (outstanding s))))))))
+
+-- its sender
+abbrev pub sender_text : GroundState → List ℕ
+sender_text s = codes "state=" ++ (fop_state_word s.fop.state
+    ++ (codes " vs=" ++ (decimal s.fop.vs ++ (codes " nn=" ++ decimal s.fop.nn))))
+
+-- the ticks that are left of its timer, where this runs
+abbrev pub timer_text : Option ℕ → List ℕ
+timer_text None = codes "off"
+timer_text (Some ticks) = decimal ticks
+
+-- how often it has sent, and its timer
+abbrev pub count_text : GroundState → List ℕ
+count_text s =
+    codes " count=" ++ (decimal s.fop.count ++ (codes " timer=" ++ timer_text s.fop.ticks))
+
+-- the segments that are to be sent again, and what was not sent: segments, and packets past the
+-- sequence control
+abbrev pub queues_text : GroundState → List ℕ
+queues_text s = codes " due=" ++ (decimal (length (due_units s.fop.sent))
+    ++ (codes " unsent=" ++ (decimal (length (unsent_segments s))
+    ++ (codes " bypass=" ++ decimal (length s.fop.bypass)))))
+
+abbrev pub ground_show : GroundState → List ℕ
+ground_show s = sender_text s ++ (count_text s ++ (queues_text s ++ submissions_text s))
+
+-- ---- what is asked of a ground; a control word has four octets
+
+abbrev pub ground_asked : Ask → Option (GroundState → Turn GroundState)
+ground_asked (Submit m octets) = Some (ground_call (calls.Submit m octets))
+ground_asked (Bypass m octets) = Some (ground_call (calls.Bypass m octets))
+ground_asked (Direct directive) = Some (ground_call (calls.Direct directive))
+ground_asked Send = Some (ground_call calls.Pull)
+ground_asked Tick = Some (ground_call calls.Tick)
+ground_asked Take = Some (ground_call calls.TakeTelemetry)
+ground_asked (Telemetry octets) = Some (ground_call (calls.Telemetry octets))
+ground_asked (ControlWord octets) =
+    if length octets == 4 then Some (ground_call (calls.ControlWord octets)) else None
+ground_asked (Resume value) = Some (ground_call (calls.Resume value))
+ground_asked Show = Some (told ground_show)
+ground_asked _ = None
+
+abbrev pub ground_rules : NodeRules GroundState
+ground_rules = record { new = new_ground; asked = ground_asked }

@@ -1,0 +1,83 @@
+-- A spacecraft that is played line by line: what is answered to each line.
+use Rattle.std.specs.Prelude.{ℕ, List, ◌++◌, codes, decimal, length, Option, Some, None, Result, Ok, Err}
+use Rattle.clcw.specs.Encoding.{encode_answer}
+use Rattle.cop1.specs.Farm.{FarmState}
+use Rattle.cop1.specs.Report.{report_of}
+use Rattle.tm_link.specs.declared.fault.TmFault.{TmFault}
+use Rattle.tm_link.specs.Encoding.{spelling}
+use Rattle.tm_link.specs.Faults as tm
+use Rattle.nodes.specs.Packets.{PacketOn}
+use Rattle.nodes.specs.Spacecraft.{SpacecraftState, SpacecraftEvent, SpacecraftAnswer}
+use Rattle.nodes.specs.Spacecraft.{spacecraft_step, new_spacecraft}
+use Rattle.nodes.specs.Spacecraft as calls
+use Rattle.listings.specs.FarmLines.{state_word}
+use Rattle.listings.specs.Text.{flag_number}
+use Rattle.node_answers.specs.Answers.{fault_text, sent_text, packet_text, report_text}
+use Rattle.node_answers.specs.Answers.{received_text}
+use Rattle.node_lines.specs.Asks.{Ask, Frame, Send, Report, Take, TakeBypass, Telemetry, Show}
+use Rattle.node_lines.specs.Turns.{Turn, NodeRules, told}
+
+-- ---- the answers to calls, as texts
+
+abbrev pub handed_text : Option PacketOn → List ℕ
+handed_text (Some packet) = packet_text packet
+handed_text None = codes "nothing"
+
+abbrev pub queued_text : Result (Unit {0}) TmFault → List ℕ
+queued_text (Ok done) = codes "ok"
+queued_text (Err fault) = fault_text (codes "refused") (tm.fault_row fault)
+
+abbrev pub spacecraft_text : (event : SpacecraftEvent) → SpacecraftAnswer event → List ℕ
+spacecraft_text (calls.Receive octets) answer = received_text answer
+spacecraft_text calls.Take answer = handed_text answer
+spacecraft_text calls.TakeBypass answer = handed_text answer
+spacecraft_text (calls.Telemetry packet) answer = queued_text answer
+spacecraft_text calls.Report answer = sent_text (spelling answer)
+
+-- a call of the spacecraft
+abbrev pub spacecraft_call : SpacecraftEvent → SpacecraftState → Turn SpacecraftState
+spacecraft_call event s = record {
+  answer = spacecraft_text event (spacecraft_step s event).answer;
+  after = (spacecraft_step s event).after;
+}
+
+-- ---- how the spacecraft stands
+
+-- the control word that its next telemetry frame carries
+abbrev pub word_text : SpacecraftState → List ℕ
+word_text s =
+    codes "report " ++ report_text (encode_answer (report_of s.farm s.config.vcid))
+
+-- the receiver's flags, and FARM-B
+abbrev pub farm_flags_text : FarmState → List ℕ
+farm_flags_text farm = codes " l=" ++ (decimal (flag_number farm.lockout)
+    ++ (codes " w=" ++ (decimal (flag_number farm.wait)
+    ++ (codes " t=" ++ (decimal (flag_number farm.retransmit)
+    ++ (codes " b=" ++ decimal farm.farm_b))))))
+
+abbrev pub receiver_text : FarmState → List ℕ
+receiver_text farm =
+    codes "state=" ++ (state_word farm.state ++ (codes " vr=" ++ decimal farm.vr))
+
+-- the packets that wait to be taken
+abbrev pub waiting_text : SpacecraftState → List ℕ
+waiting_text s = codes " ready=" ++ (decimal (length s.ready)
+    ++ (codes " bypass=" ++ decimal (length s.bypass)))
+
+abbrev pub spacecraft_show : SpacecraftState → List ℕ
+spacecraft_show s = receiver_text s.farm ++ (farm_flags_text s.farm ++ waiting_text s)
+
+-- ---- what is asked of a spacecraft
+
+abbrev pub spacecraft_asked : Ask → Option (SpacecraftState → Turn SpacecraftState)
+spacecraft_asked (Frame octets) = Some (spacecraft_call (calls.Receive octets))
+spacecraft_asked (Telemetry packet) = Some (spacecraft_call (calls.Telemetry packet))
+spacecraft_asked Send = Some (spacecraft_call calls.Report)
+spacecraft_asked Report = Some (told word_text)
+spacecraft_asked Take = Some (spacecraft_call calls.Take)
+spacecraft_asked TakeBypass = Some (spacecraft_call calls.TakeBypass)
+spacecraft_asked Show = Some (told spacecraft_show)
+spacecraft_asked _ = None
+
+abbrev pub spacecraft_rules : NodeRules SpacecraftState
+spacecraft_rules = record { new = new_spacecraft; asked = spacecraft_asked }

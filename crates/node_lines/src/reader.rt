@@ -1,0 +1,95 @@
+// Reads the lines of a node.
+
+ghost use Rattle.std.specs.Prelude.{◌≡◌, option_map, Some, true, is_some};
+ghost use Rattle.nodes.specs.declared.event.Event.{Event};
+ghost use Rattle.script_lines.specs.Lines.{event_said, octets_of_digits};
+ghost use Rattle.script_lines.specs.Lines as scripts;
+ghost use Rattle.script_lines.specs.Words.{words_in, number_in_word, octets_in_word};
+ghost use Rattle.node_lines.specs.Asks.{ask_of, asking, ask_said, ask_of_two_words, ask_of_words, line_of_script, node_line, line_view, IsWellRead};
+
+use crate::ask::{Ask, NodeLine};
+use nodes::Event;
+use script_lines::{Line, cut, is, is_octets, number_in_word, read_line};
+
+/// What a line says to a node, a line of a script or one that no script has. The octets that it carries are
+/// lent as digits.
+/// Cost: n.
+pub fn node_line(line: &[u8]) -> NodeLine<'_>
+    ensures line { line_view result ≡ node_line line.now }
+    ensures fits { IsWellRead result }
+{
+    match ask_of_words(line) {
+        Some(ask) => NodeLine::Asking(ask),
+        None => line_of_script(read_line(line)),
+    }
+}
+
+fn line_of_script(line: Line<'_>) -> NodeLine<'_>
+    requires { scripts.IsWellRead line }
+    ensures line { line_view result ≡ line_of_script (scripts.line_view line.entry) }
+    ensures fits { IsWellRead result }
+{
+    match line {
+        Line::Skipped => NodeLine::Skipped,
+        Line::Setting(parameter, number) => NodeLine::Setting(parameter, number),
+        Line::Happening(event) => match ask_of(event) {
+            Some(ask) => NodeLine::Asking(ask),
+            None => NodeLine::Unreadable,
+        },
+        Line::Showing => NodeLine::Asking(Ask::Show),
+        Line::Unreadable => NodeLine::Unreadable,
+    }
+}
+
+// What an event asks of a node, if it is none of a link's.
+fn ask_of(event: Event<'_>) -> Option<Ask<'_>>
+    ensures { option_map ask_said result ≡ ask_of (event_said event.entry) }
+{
+    match event {
+        Event::Submit(map, digits) => Some(Ask::Submit(map, digits)),
+        Event::Bypass(map, digits) => Some(Ask::Bypass(map, digits)),
+        Event::Directive(directive) => Some(Ask::Direct(directive)),
+        Event::Send => Some(Ask::Send),
+        Event::Report => Some(Ask::Report),
+        Event::Tick => Some(Ask::Tick),
+        Event::Take => Some(Ask::Take),
+        Event::TakeBypass => Some(Ask::TakeBypass),
+        Event::Telemetry(digits) => Some(Ask::Telemetry(digits)),
+        Event::UpDeliver | Event::UpLose | Event::UpDamage(_) => None,
+        Event::DownDeliver | Event::DownLose | Event::DownDamage(_) => None,
+    }
+}
+
+fn ask_of_words(line: &[u8]) -> Option<Ask<'_>>
+    ensures { option_map ask_said result ≡ ask_of_words (words_in line.now) }
+{
+    let (name, after) = cut(line, b' ');
+    let (word, after) = cut(after?, b' ');
+    match after {
+        None => ask_of_two_words(name, word),
+        Some(_) => None,
+    }
+}
+
+fn ask_of_two_words<'a>(name: &'a [u8], word: &'a [u8]) -> Option<Ask<'a>>
+    ensures { option_map ask_said result ≡ ask_of_two_words name.now word.now }
+{
+    if is(name, "frame") {
+        return Some(Ask::Frame(digits_in(word)?));
+    }
+    if is(name, "clcw") {
+        return Some(Ask::ControlWord(digits_in(word)?));
+    }
+    if is(name, "resume") {
+        let value = number_in_word(word, 255)?;
+        return Some(Ask::Resume(value as u8));
+    }
+    None
+}
+
+// A word, if it is octets.
+fn digits_in(word: &[u8]) -> Option<&[u8]>
+    ensures { option_map (λ digits. octets_of_digits digits.now) result ≡ octets_in_word word.now }
+{
+    if is_octets(word) { Some(word) } else { None }
+}

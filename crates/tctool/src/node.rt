@@ -1,0 +1,35 @@
+// `tctool ground` and `tctool spacecraft`: a node that is played line by line.
+
+ghost use Rattle.std.specs.Prelude.{◌≡◌, ◌++◌, Err, OnOk, IfOk};
+ghost use Rattle.line_stream.specs.Playing.{answers_of, answers_so_far, is_all_good};
+ghost use Rattle.listings.specs.Devices.{HasEnded, gained};
+ghost use Rattle.listings.specs.Streams.{Reads, WritesText};
+ghost use Rattle.node_lines.specs.Playing.{node_playing, fresh_player};
+ghost use Rattle.stream_commands.specs.Outcome.{outcome_if};
+
+use line_stream::play_stream;
+use listings::{ListingFault, Sink, Source};
+use node_lines::{Node, NodePlayer};
+use std::alloc::Global;
+use stream_commands::Outcome;
+
+/// Plays a node: answers the lines of each piece of the input before the next is read.
+pub fn play_node<N: Node + Drop, R: Source, W: Sink>(
+    alloc: Global,
+    reader: &mut R,
+    writer: &mut W,
+) -> Result<Outcome, ListingFault>
+    ensures reads { Reads R.given R.remaining R.failures result reader.old reader.new }
+    ensures writes { WritesText W.taken_octets W.failures result writer.old writer.new
+        (answers_of (node_playing N.rules) fresh_player (gained (R.given reader.old) (R.given reader.new))) }
+    ensures in_time { result ≡ Err ListingFault.Read → W.taken_octets writer.new ≡ W.taken_octets writer.old
+        ++ answers_so_far (node_playing N.rules) fresh_player (gained (R.given reader.old) (R.given reader.new)) }
+    ensures outcome { IfOk result (λ outcome. outcome ≡ outcome_if
+        (is_all_good (node_playing N.rules) fresh_player (gained (R.given reader.old) (R.given reader.new)))) }
+    ensures end { OnOk result (HasEnded (R.has_ended reader.new) (R.remaining reader.new)) }
+{
+    match play_stream(alloc, reader, writer, NodePlayer::<N>::new()) {
+        Ok(good) => Ok(Outcome::of(good)),
+        Err(fault) => Err(fault),
+    }
+}
