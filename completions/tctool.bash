@@ -3,7 +3,7 @@ _tctool() {
     local word=${COMP_WORDS[COMP_CWORD]} before=${COMP_WORDS[COMP_CWORD - 1]} words
     COMPREPLY=()
     if [ "$COMP_CWORD" -eq 1 ]; then
-        words='farm map tc tm clcw check packets sim help --help --version -h -V'
+        words='farm map tc tm clcw check packets sim ground spacecraft help --help --version -h -V'
     else
         case $before in
             --width | --vr | --scid | --vcid | --map | --length | --apid) return ;;
@@ -13,10 +13,10 @@ _tctool() {
             map) words='--width --vr --scid --vcid --map --check --blocking --help -h' ;;
             tc) words='--scid --vcid --check --help -h' ;;
             tm) words='--length --scid --vcid --report --help -h' ;;
-            clcw | sim) words='--help -h' ;;
+            clcw | sim | ground | spacecraft) words='--help -h' ;;
             check) words='--scid --vcid --help -h' ;;
             packets) words='--apid --help -h' ;;
-            help) words='farm map tc tm clcw check packets sim' ;;
+            help) words='farm map tc tm clcw check packets sim ground spacecraft' ;;
         esac
     fi
     if [ "$COMP_CWORD" -eq 1 ] || [ "${COMP_WORDS[1]}" = help ] || [ "${word#-}" != "$word" ]; then

@@ -203,7 +203,8 @@ class Spacecraft(Node):
 
     def on_show(self):
         it = self.farm
-        return f"state={it.state} vr={it.vr} l={it.lockout} w={it.wait} t={it.retransmit} b={it.farm_b}"
+        return (f"state={it.state} vr={it.vr} l={it.lockout} w={it.wait} t={it.retransmit} b={it.farm_b} "
+                f"ready={len(self.ready)} bypass={len(self.kept)}")
 
     CALLS = {"frame HEX": on_frame, "telemetry HEX": on_telemetry, "send": on_send, "report": on_report,
              "take": on_take, "takebypass": on_take_bypass, "show": on_show}

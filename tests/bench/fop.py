@@ -328,9 +328,10 @@ class Ground(Node):
 
     def on_show(self):
         fop = self.fop
-        outstanding = len(fop.sent) + (fop.waiting is not None) + len(self.pending)
-        return (f"state=S{fop.state} vs={fop.vs} nn={fop.nn} submitted={len(self.ends)} sent={self.whole(self.sent)} "
-                f"acknowledged={self.whole(self.acknowledged)} outstanding={outstanding}")
+        unsent, due = (fop.waiting is not None) + len(self.pending), sum(marked for _, marked in fop.sent)
+        return (f"state=S{fop.state} vs={fop.vs} nn={fop.nn} count={fop.count} timer={fop.ticks or 'off'} due={due} "
+                f"unsent={unsent} bypass={len(fop.bypass)} submitted={len(self.ends)} sent={self.whole(self.sent)} "
+                f"acknowledged={self.whole(self.acknowledged)} outstanding={len(fop.sent) + unsent}")
 
     CALLS = {"submit M HEX": on_submit, "bypass M HEX": on_bypass, "init none": lambda self: self.initiate("none"),
              "init check": lambda self: self.initiate("check"), "init unlock": lambda self: self.initiate("unlock"),
