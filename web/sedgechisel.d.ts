@@ -148,10 +148,15 @@ export interface sedge_ground_reading {
     sent_whole: bigint;
     acknowledged_whole: bigint;
     outstanding: number;
+    unsent: number;
+    due: number;
+    bypassed: number;
     frame_length: number;
+    ticks: number;
     state: number;
     vs: number;
     nn: number;
+    count: number;
 }
 
 export interface sedge_spacecraft {
@@ -172,6 +177,8 @@ export interface sedge_received {
 
 export interface sedge_spacecraft_reading {
     frame_length: number;
+    ready: number;
+    bypassed: number;
     status: number;
     vcid: number;
     flags: number;
@@ -308,6 +315,8 @@ export interface Calls {
     sedge_sim_step(sim: Partial<sedge_sim>, event: sedge_event, reply: Partial<sedge_reply>): number;
     sedge_sim_octets(sim: Partial<sedge_sim>, out: Uint8Array, count: Partial<Box>): number;
     sedge_sim_read(sim: Partial<sedge_sim>, read: Partial<sedge_sim_reading>): number;
+    sedge_sim_ground_read(sim: Partial<sedge_sim>, read: Partial<sedge_ground_reading>): number;
+    sedge_sim_spacecraft_read(sim: Partial<sedge_sim>, read: Partial<sedge_spacecraft_reading>): number;
     sedge_sim_submissions(sim: Partial<sedge_sim>, count: Partial<Box>): number;
     sedge_sim_submission_length(sim: Partial<sedge_sim>, k: number, map: Partial<Box>, count: Partial<Box>): number;
     sedge_sim_submission(sim: Partial<sedge_sim>, k: number, map: Partial<Box>, out: Uint8Array, count: Partial<Box>): number;

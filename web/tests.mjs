@@ -51,9 +51,11 @@ function nodes() {
     assert.equal(sedge.sedge_spacecraft_report(spacecraft, out, count), n.SEDGE_NODE_OK);
     assert.equal(sedge.sedge_ground_telemetry(ground, out.subarray(0, count.value), heard), n.SEDGE_NODE_OK);
     assert.deepEqual([heard.kind, heard.report, heard.alert], [3, 0, 0]);
-    const read = {};
+    const read = {}, board = {};
     sedge.sedge_ground_read(ground, read);
-    assert.deepEqual([read.outstanding, read.vs, read.nn], [0, 1, 1]);
+    assert.deepEqual([read.outstanding, read.vs, read.nn, ...waits(read)], [0, 1, 1, 0, 0, 0, 0, 1]);
+    sedge.sedge_spacecraft_read(spacecraft, board);
+    assert.deepEqual([board.value, board.ready, board.bypassed], [1, 0, 0]);
     sedge.sedge_ground_close(ground);
     sedge.sedge_spacecraft_close(spacecraft);
     assert.equal(sedge.sedge_ground_tick(ground), n.SEDGE_NODE_NONE);
@@ -62,6 +64,30 @@ function nodes() {
     assert.deepEqual(defaults, DEFAULTS);
     assert.equal(sedge.sedge_config_fault({ ...DEFAULTS, width: 7 }), 4);
     assert.equal(sedge.sedge_parameter_name(4), 'width');
+}
+
+// What waits in a ground, the ticks that are left, and the transmission count.
+function waits(it) {
+    return [it.unsent, it.due, it.bypassed, it.ticks, it.count];
+}
+
+// The nodes of a link are read: a packet goes up under sequence control, and another one waits past it.
+function linked() {
+    const sim = {}, reply = {}, ground = {}, board = {}, none = { octets: new Uint8Array(0) };
+    assert.equal(sedge.sedge_sim_open(DEFAULTS, sim), n.SEDGE_NODE_OK);
+    const events = [{ kind: n.SEDGE_EVENT_DIRECTIVE, directive: n.SEDGE_INIT_WITHOUT_CHECK },
+        { kind: n.SEDGE_EVENT_SUBMIT, map: 4, octets: packet }, { kind: n.SEDGE_EVENT_SEND },
+        { kind: n.SEDGE_EVENT_UP_DELIVER }, { kind: n.SEDGE_EVENT_TICK },
+        { kind: n.SEDGE_EVENT_BYPASS, map: 5, octets: packet }];
+    for (const event of events) assert.equal(sedge.sedge_sim_step(sim, { ...none, ...event }, reply), n.SEDGE_NODE_OK);
+    assert.equal(sedge.sedge_sim_ground_read(sim, ground), n.SEDGE_NODE_OK);
+    assert.deepEqual([ground.submitted, ground.outstanding, ground.vs, ground.nn], [1n, 1, 1, 0]);
+    assert.deepEqual(waits(ground), [0, 0, 1, 9, 1]);
+    assert.equal(sedge.sedge_sim_spacecraft_read(sim, board), n.SEDGE_NODE_OK);
+    assert.deepEqual([board.value, board.ready, board.bypassed, board.state], [1, 1, 0, n.SEDGE_FARM_OPEN]);
+    sedge.sedge_sim_close(sim);
+    assert.equal(sedge.sedge_sim_ground_read(sim, ground), n.SEDGE_NODE_NONE);
+    assert.equal(sedge.sedge_sim_spacecraft_read(sim, board), n.SEDGE_NODE_NONE);
 }
 
 // What was opened and closed many times takes no more memory than once.
@@ -87,5 +113,5 @@ function lines() {
     assert.equal(scriptOf('config maps 18446744073709551615\n').config.maps, DEFAULTS.maps);
 }
 
-for (const test of [codecs, machines, nodes, memory, lines]) test();
+for (const test of [codecs, machines, nodes, linked, memory, lines]) test();
 console.log('all as wanted');

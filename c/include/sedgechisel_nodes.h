@@ -201,14 +201,19 @@ struct sedge_ground_reading {
     uint64_t sent_whole;         /* how many first ones of them were sent whole, each to its last segment */
     uint64_t acknowledged_whole; /* how many first ones are acknowledged whole, so that they are on board */
     size_t outstanding;          /* the number of segments that were submitted and are not acknowledged */
+    size_t unsent;               /* how many of them wait to be sent for the first time */
+    size_t due;                  /* how many of them are to be sent again */
+    size_t bypassed;             /* how many bypass packets wait to be sent */
     size_t frame_length;         /* of telemetry, in octets */
+    uint16_t ticks;              /* the ticks that are left of the timer, or 0 where it does not run */
     uint8_t state;               /* of the sender, 1 to 6 (232.1-B-2, 5.1) */
     uint8_t vs;                  /* V(S), the number of the next segment that is sent for the first time */
     uint8_t nn;                  /* NN(R), the number that the spacecraft was last known to expect */
+    uint8_t count;               /* the transmission count, at least 1 */
 };
 
-/* Reads the ground: how far its submissions have come, the sender's state, V(S) and NN(R), what is outstanding, and how
- * many octets a telemetry frame has. It stays as it was. Returns 0. */
+/* Reads the ground: how far its submissions have come, the sender's state, V(S), NN(R), transmission count and timer,
+ * what is outstanding and what waits, and how many octets a telemetry frame has. It stays as it was. Returns 0. */
 uint8_t sedge_ground_read(struct sedge_ground *ground, struct sedge_ground_reading *read);
 
 /* Writes how many of the segments that were sent and not acknowledged were accepted on board when a report of this
@@ -289,6 +294,8 @@ uint8_t sedge_spacecraft_report(struct sedge_spacecraft *spacecraft, uint8_t *ou
 
 struct sedge_spacecraft_reading {
     size_t frame_length; /* of telemetry, in octets */
+    size_t ready;        /* how many packets of sequence-controlled frames wait to be taken */
+    size_t bypassed;     /* how many packets that came past the sequence control wait to be taken */
     uint8_t status;      /* of the report that the next frame carries, as in struct sedge_clcw */
     uint8_t vcid;
     uint8_t flags;
@@ -297,8 +304,8 @@ struct sedge_spacecraft_reading {
     uint8_t state;       /* of the receiver, of sedge_farm_mode */
 };
 
-/* Reads the spacecraft: how many octets a telemetry frame has, the report that the next one carries, and the receiver's
- * state. It stays as it was. Returns 0. */
+/* Reads the spacecraft: how many octets a telemetry frame has, how many packets wait, the report that the next frame
+ * carries, and the receiver's state. It stays as it was. Returns 0. */
 uint8_t sedge_spacecraft_read(struct sedge_spacecraft *spacecraft, struct sedge_spacecraft_reading *read);
 
 /* ---- A simulated link between two nodes, for tests: it keeps its order in each direction, and loses or damages
@@ -524,6 +531,12 @@ struct sedge_sim_reading {
 
 /* Reads the link: how the session began and how far it is. It stays as it was. Returns 0. */
 uint8_t sedge_sim_read(struct sedge_sim *sim, struct sedge_sim_reading *read);
+
+/* Reads the link's ground, as sedge_ground_read reads a ground. The link stays as it was. Returns 0. */
+uint8_t sedge_sim_ground_read(struct sedge_sim *sim, struct sedge_ground_reading *read);
+
+/* Reads the link's spacecraft, as sedge_spacecraft_read reads a spacecraft. The link stays as it was. Returns 0. */
+uint8_t sedge_sim_spacecraft_read(struct sedge_sim *sim, struct sedge_spacecraft_reading *read);
 
 /* Writes how many submissions the session has: the calls of sedge_sim_submit that the ground accepted. Returns 0. */
 uint8_t sedge_sim_submissions(struct sedge_sim *sim, size_t *count);

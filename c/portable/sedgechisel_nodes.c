@@ -634,7 +634,7 @@ static const unsigned char constant_33[7] = {
 };
 
 /* Of nodes_config_Config_fault, sedge_config_fault_at. */
-static const unsigned char switch_table_sedge_config_fault_380[120] = {
+static const unsigned char switch_table_sedge_config_fault_388[120] = {
     4, 0, 0, 0, 0, 0, 0, 0, 4, 0, 0, 0, 0, 0, 0, 0, 7, 0, 0, 0, 0, 0, 0, 0, 5, 0, 0, 0, 0, 0, 0, 0, 6, 0, 0, 0, 0, 0,
     0, 0, 5, 0, 0, 0, 0, 0, 0, 0, 5, 0, 0, 0, 0, 0, 0, 0, 4, 0, 0, 0, 0, 0, 0, 0, 10, 0, 0, 0, 0, 0, 0, 0, 4, 0, 0, 0,
     0, 0, 0, 0, 11, 0, 0, 0, 0, 0, 0, 0, 12, 0, 0, 0, 0, 0, 0, 0, 11, 0, 0, 0, 0, 0, 0, 0, 12, 0, 0, 0, 0, 0, 0, 0, 8,
@@ -654,19 +654,19 @@ static const unsigned char switch_table_sedge_parameter_name[30] = {
 };
 
 /* Of sedge_parameter_name_at. */
-static const unsigned char switch_table_sedge_parameter_name_381[30] = {
+static const unsigned char switch_table_sedge_parameter_name_389[30] = {
     0, 0, 0, 0, 0, 0, 0, 0, 0, 0, 0, 0, 0, 0, 0, 0, 101, 116, 0, 0, 111, 116, 108, 111, 111, 116, 110, 103, 0, 0
 };
 
 /* Of sedge_parameter_name_at. */
-static const unsigned char switch_table_sedge_parameter_name_382[60] = {
+static const unsigned char switch_table_sedge_parameter_name_390[60] = {
     0, 0, 0, 0, 0, 0, 0, 0, 99, 105, 100, 0, 104, 0, 0, 0, 111, 119, 0, 0, 116, 0, 0, 0, 114, 0, 0, 0, 0, 0, 0, 0,
     112, 97, 99, 107, 0, 0, 0, 0, 121, 95, 115, 108, 115, 115, 95, 115, 101, 95, 115, 108, 101, 95, 108, 101, 107,
     105, 110, 103
 };
 
 /* Of sedge_parameter_name_at. */
-static const unsigned char switch_table_sedge_parameter_name_383[60] = {
+static const unsigned char switch_table_sedge_parameter_name_391[60] = {
     115, 99, 105, 100, 118, 99, 105, 100, 116, 109, 95, 118, 119, 105, 100, 116, 119, 105, 110, 100, 108, 105, 109,
     105, 116, 105, 109, 101, 112, 97, 114, 116, 109, 97, 120, 95, 109, 97, 112, 115, 114, 101, 97, 100, 98, 121, 112,
     97, 113, 117, 101, 117, 102, 114, 97, 109, 98, 108, 111, 99
@@ -760,8 +760,10 @@ static void sedge_sim_close_at(uint64_t sim);
 static uint32_t sedge_sim_count_at(uint64_t sim, uint32_t record, uint32_t map, uint64_t entries);
 static uint32_t sedge_sim_entry_at(uint64_t sim, uint32_t record, uint32_t map, uint64_t k, uint64_t out, uint64_t
     room, uint64_t count);
+static uint32_t sedge_sim_ground_read_at(uint64_t sim, uint64_t read);
 static uint32_t sedge_sim_octets_at(uint64_t sim, uint64_t out, uint64_t room, uint64_t count);
 static uint32_t sedge_sim_read_at(uint64_t sim, uint64_t read);
+static uint32_t sedge_sim_spacecraft_read_at(uint64_t sim, uint64_t read);
 static uint32_t sedge_sim_step_at(uint64_t sim, uint64_t event, uint64_t reply);
 static uint32_t sedge_sim_submission_at(uint64_t sim, uint64_t k, uint64_t map, uint64_t out, uint64_t room, uint64_t
     count);
@@ -906,7 +908,7 @@ l1:;
     v18 = 0;
     if ((v19 & 1) != 0) {
         v13 = (uint64_t)get8(v16) << 3;
-        v18 = get64(v13 + address(switch_table_sedge_config_fault_380));
+        v18 = get64(v13 + address(switch_table_sedge_config_fault_388));
         v17 = address(switch_table_sedge_config_fault[v13 / 8]);
         v13 = 1;
     }
@@ -8053,7 +8055,7 @@ static uint32_t sedge_config_fault_at(uint64_t config)
     do {
         v4 = get8(config + address(constant_0 + 15));
         v5 = ((uint64_t)v4 & 255) << 3;
-        if (v2 == get64(v5 + address(switch_table_sedge_config_fault_380))) {
+        if (v2 == get64(v5 + address(switch_table_sedge_config_fault_388))) {
             v5 = address(switch_table_sedge_config_fault[v5 / 8]);
             if (get8(v3) == get8(v5)) {
                 if ((get8(v3 + 1) & 255) == (get8(v5 + 1) & 255)) {
@@ -8157,10 +8159,10 @@ static uint64_t sedge_parameter_name_at(uint64_t result, uint32_t number)
     }
     v5 = (uint64_t)number & 255;
     v6 = v5 << 2;
-    number = get32(v6 + address(switch_table_sedge_parameter_name_383));
-    v4 = get32(v6 + address(switch_table_sedge_parameter_name_382));
+    number = get32(v6 + address(switch_table_sedge_parameter_name_391));
+    v4 = get32(v6 + address(switch_table_sedge_parameter_name_390));
     v5 = v5 << 1;
-    v3 = get16(v5 + address(switch_table_sedge_parameter_name_381));
+    v3 = get16(v5 + address(switch_table_sedge_parameter_name_389));
     v2 = get16(v5 + address(switch_table_sedge_parameter_name));
 l1:;
     put64(result + 12, 0);
@@ -9498,7 +9500,7 @@ l3:;
 static uint32_t sedge_ground_read_at(uint64_t ground, uint64_t read)
 {
     unsigned char frame_octets[400 + 15];
-    uint32_t v5 = 0, v6 = 0, v7 = 0, v17 = 0, v18 = 0;
+    uint32_t v5 = 0, v6 = 0, v7 = 0, v17 = 0, v18 = 0, v19 = 0, v20 = 0, v21 = 0;
     uint64_t v2 = 0, v3 = 0, v4 = 0, v8 = 0, v9 = 0, v10 = 0, v11 = 0, v12 = 0, v13 = 0, v14 = 0, v15 = 0, v16 = 0;
     v2 = aligned(frame_octets);
     v3 = get64(ground);
@@ -9538,22 +9540,32 @@ static uint32_t sedge_ground_read_at(uint64_t ground, uint64_t read)
         v4 = v9;
     }
 l3:;
+    v12 = get64(v3 + 152);
+    v15 = get64(v3 + 216);
     v17 = get8(v3 + 96);
-    v12 = get64(v3 + 216);
-    v15 = get64(v3 + 152);
-    v18 = get8(v3 + 73);
-    v16 = (uint64_t)get32(v3 + 60);
+    v18 = get16(v3 + 86);
+    v19 = get8(v3 + 84);
+    v20 = get8(v3 + 73);
+    v16 = (uint64_t)get8(v3 + 78);
+    v11 = get64(v3 + 176);
+    v13 = (uint64_t)get32(v3 + 60);
+    v21 = get8(v3 + 88);
     v5 = 0;
-    put32(read + 43, 0);
-    put8(read + 42, v6);
-    put8(read + 41, v7);
-    put64(read + 32, v16);
+    put16(read + 70, 0);
+    put8(read + 69, v21);
+    put8(read + 68, v6);
+    put8(read + 67, v7);
+    put64(read + 56, v13);
+    put64(read + 48, v11);
+    put64(read + 40, v16);
     put64(read + 16, v8);
     put64(read + 8, v4 + v8);
     put64(read, v9 + v8);
-    put8(read + 47, 0);
-    put8(read + 40, v18 + 1);
-    put64(read + 24, v12 + v15 + (uint64_t)(uint32_t)(v17 == 1));
+    put8(read + 66, v20 + 1);
+    put16(read + 64, (v19 == 1) ? v18 : 0U);
+    v4 = v15 + (uint64_t)(uint32_t)(v17 == 1);
+    put64(read + 32, v4);
+    put64(read + 24, v4 + v12);
     v4 = get64(ground);
     put64(ground, v3);
     if (v4 == 0) return v5;
@@ -10040,6 +10052,84 @@ l3:;
     return v9;
 }
 
+static uint32_t sedge_sim_ground_read_at(uint64_t sim, uint64_t read)
+{
+    unsigned char frame_octets[6048 + 15];
+    uint32_t v5 = 0, v6 = 0, v7 = 0, v17 = 0, v18 = 0, v19 = 0, v20 = 0, v21 = 0;
+    uint64_t v2 = 0, v3 = 0, v4 = 0, v8 = 0, v9 = 0, v10 = 0, v11 = 0, v12 = 0, v13 = 0, v14 = 0, v15 = 0, v16 = 0;
+    v2 = aligned(frame_octets);
+    v3 = get64(sim);
+    v4 = 0;
+    put64(sim, 0);
+    if (v3 == 0) {
+        v5 = 255;
+        return v5;
+    }
+    v6 = get8(v3 + 75);
+    v7 = get8(v3 + 74);
+    v8 = get64(v3 + 248);
+    v9 = get64(v3 + 264);
+    if (v9 != 0) {
+        v4 = get64(v3 + 288);
+        v10 = v4 - v9;
+        v11 = v9 - v4;
+        v12 = (uint64_t)(v7 - v6) & 255;
+        v13 = get64(v3 + 256);
+        v4 = 0;
+        v14 = v3 + 280;
+        do {
+            if (v4 < v11) {
+                v15 = v13 + (get64(v14) << 3);
+                v16 = v4;
+                goto l5;
+            }
+            v16 = v10 + v4;
+            v15 = v13;
+        l5:;
+            v15 = get64(v15 + (v16 << 3));
+            v15 = (v15 > 1) ? v15 : 1ULL;
+            if (v12 < v15) goto l3;
+            v12 = v12 - v15;
+            v4 = v4 + 1;
+        } while (v9 != v4);
+        v4 = v9;
+    }
+l3:;
+    v12 = get64(v3 + 152);
+    v15 = get64(v3 + 216);
+    v17 = get8(v3 + 96);
+    v18 = get16(v3 + 86);
+    v19 = get8(v3 + 84);
+    v20 = get8(v3 + 73);
+    v16 = (uint64_t)get8(v3 + 78);
+    v11 = get64(v3 + 176);
+    v13 = (uint64_t)get32(v3 + 60);
+    v21 = get8(v3 + 88);
+    v5 = 0;
+    put16(read + 70, 0);
+    put8(read + 69, v21);
+    put8(read + 68, v6);
+    put8(read + 67, v7);
+    put64(read + 56, v13);
+    put64(read + 48, v11);
+    put64(read + 40, v16);
+    put64(read + 16, v8);
+    put64(read + 8, v4 + v8);
+    put64(read, v9 + v8);
+    put8(read + 66, v20 + 1);
+    put16(read + 64, (v19 == 1) ? v18 : 0U);
+    v4 = v15 + (uint64_t)(uint32_t)(v17 == 1);
+    put64(read + 32, v4);
+    put64(read + 24, v4 + v12);
+    v4 = get64(sim);
+    put64(sim, v3);
+    if (v4 == 0) return v5;
+    copy(v2 + 8, v4, 0x1798);
+    rattle_dealloc_at(v4);
+    sedgechisel_nodes_sedgechisel_nodes_sim_link_Link_Destruct_drop(v2 + 8);
+    return v5;
+}
+
 static uint32_t sedge_sim_octets_at(uint64_t sim, uint64_t out, uint64_t room, uint64_t count)
 {
     unsigned char frame_octets[6048 + 15];
@@ -10163,6 +10253,47 @@ l3:;
     put8(read + 20, v12 & v5);
     put8(read + 19, v5 & v11);
     put64(read, v9 + v10 + (uint64_t)(uint32_t)(v8 == 1));
+    read = get64(sim);
+    put64(sim, v3);
+    if (read == 0) return v4;
+    copy(v2 + 8, read, 0x1798);
+    rattle_dealloc_at(read);
+    sedgechisel_nodes_sedgechisel_nodes_sim_link_Link_Destruct_drop(v2 + 8);
+    return v4;
+}
+
+static uint32_t sedge_sim_spacecraft_read_at(uint64_t sim, uint64_t read)
+{
+    unsigned char frame_octets[6048 + 15];
+    uint32_t v4 = 0, v5 = 0, v6 = 0, v7 = 0, v11 = 0, v12 = 0, v13 = 0;
+    uint64_t v2 = 0, v3 = 0, v8 = 0, v9 = 0, v10 = 0;
+    v2 = aligned(frame_octets);
+    v3 = get64(sim);
+    put64(sim, 0);
+    if (v3 == 0) {
+        v4 = 255;
+        return v4;
+    }
+    v5 = get8(v3 + 476);
+    v6 = get8(v3 + 475);
+    v7 = get8(v3 + 474);
+    v8 = (uint64_t)get32(v3 + 460);
+    v9 = get64(v3 + 0xa00);
+    v10 = get64(v3 + 0xa30);
+    v11 = get32(v3 + 404);
+    v12 = get8(v3 + 477);
+    v13 = get8(v3 + 473);
+    v4 = 0;
+    put16(read + 30, 0);
+    put8(read + 28, v13);
+    put8(read + 27, v12);
+    put8(read + 25, v11);
+    put8(read + 24, 0);
+    put64(read + 16, v10);
+    put64(read + 8, v9);
+    put64(read, v8);
+    put8(read + 29, (v7 != 0) ? 2U : v6);
+    put8(read + 26, ((v6 << 4) | (v7 << 5)) | (v5 << 3));
     read = get64(sim);
     put64(sim, v3);
     if (read == 0) return v4;
@@ -12392,8 +12523,8 @@ static uint32_t sedge_spacecraft_next_bypass_at(uint64_t spacecraft, uint64_t ma
 static uint32_t sedge_spacecraft_read_at(uint64_t spacecraft, uint64_t read)
 {
     unsigned char frame_octets[2336 + 15];
-    uint32_t v4 = 0, v5 = 0, v6 = 0, v7 = 0, v9 = 0, v10 = 0, v11 = 0;
-    uint64_t v2 = 0, v3 = 0, v8 = 0;
+    uint32_t v4 = 0, v5 = 0, v6 = 0, v7 = 0, v11 = 0, v12 = 0, v13 = 0;
+    uint64_t v2 = 0, v3 = 0, v8 = 0, v9 = 0, v10 = 0;
     v2 = aligned(frame_octets);
     v3 = get64(spacecraft);
     put64(spacecraft, 0);
@@ -12405,18 +12536,22 @@ static uint32_t sedge_spacecraft_read_at(uint64_t spacecraft, uint64_t read)
     v6 = get8(v3 + 75);
     v7 = get8(v3 + 74);
     v8 = (uint64_t)get32(v3 + 60);
-    v9 = get32(v3 + 4);
-    v10 = get8(v3 + 77);
-    v11 = get8(v3 + 73);
+    v9 = get64(v3 + 0x870);
+    v10 = get64(v3 + 0x8a0);
+    v11 = get32(v3 + 4);
+    v12 = get8(v3 + 77);
+    v13 = get8(v3 + 73);
     v4 = 0;
-    put16(read + 14, 0);
-    put8(read + 12, v11);
-    put8(read + 11, v10);
-    put8(read + 9, v9);
-    put8(read + 8, 0);
+    put16(read + 30, 0);
+    put8(read + 28, v13);
+    put8(read + 27, v12);
+    put8(read + 25, v11);
+    put8(read + 24, 0);
+    put64(read + 16, v10);
+    put64(read + 8, v9);
     put64(read, v8);
-    put8(read + 13, (v7 != 0) ? 2U : v6);
-    put8(read + 10, ((v6 << 4) | (v7 << 5)) | (v5 << 3));
+    put8(read + 29, (v7 != 0) ? 2U : v6);
+    put8(read + 26, ((v6 << 4) | (v7 << 5)) | (v5 << 3));
     read = get64(spacecraft);
     put64(spacecraft, v3);
     if (read == 0) return v4;
@@ -12954,10 +13089,15 @@ static void put_sedge_ground_reading(uint64_t at, const struct sedge_ground_read
     put64(at + 8, it->sent_whole);
     put64(at + 16, it->acknowledged_whole);
     put64(at + 24, it->outstanding);
-    put64(at + 32, it->frame_length);
-    put8(at + 40, it->state);
-    put8(at + 41, it->vs);
-    put8(at + 42, it->nn);
+    put64(at + 32, it->unsent);
+    put64(at + 40, it->due);
+    put64(at + 48, it->bypassed);
+    put64(at + 56, it->frame_length);
+    put16(at + 64, it->ticks);
+    put8(at + 66, it->state);
+    put8(at + 67, it->vs);
+    put8(at + 68, it->nn);
+    put8(at + 69, it->count);
 }
 
 static void get_sedge_ground_reading(uint64_t at, struct sedge_ground_reading *it)
@@ -12966,10 +13106,15 @@ static void get_sedge_ground_reading(uint64_t at, struct sedge_ground_reading *i
     it->sent_whole = get64(at + 8);
     it->acknowledged_whole = get64(at + 16);
     it->outstanding = (size_t)get64(at + 24);
-    it->frame_length = (size_t)get64(at + 32);
-    it->state = (uint8_t)get8(at + 40);
-    it->vs = (uint8_t)get8(at + 41);
-    it->nn = (uint8_t)get8(at + 42);
+    it->unsent = (size_t)get64(at + 32);
+    it->due = (size_t)get64(at + 40);
+    it->bypassed = (size_t)get64(at + 48);
+    it->frame_length = (size_t)get64(at + 56);
+    it->ticks = (uint16_t)get16(at + 64);
+    it->state = (uint8_t)get8(at + 66);
+    it->vs = (uint8_t)get8(at + 67);
+    it->nn = (uint8_t)get8(at + 68);
+    it->count = (uint8_t)get8(at + 69);
 }
 
 static void put_sedge_spacecraft(uint64_t at, const struct sedge_spacecraft *it)
@@ -13011,23 +13156,27 @@ static void get_sedge_received(uint64_t at, struct sedge_received *it)
 static void put_sedge_spacecraft_reading(uint64_t at, const struct sedge_spacecraft_reading *it)
 {
     put64(at, it->frame_length);
-    put8(at + 8, it->status);
-    put8(at + 9, it->vcid);
-    put8(at + 10, it->flags);
-    put8(at + 11, it->farm_b);
-    put8(at + 12, it->value);
-    put8(at + 13, it->state);
+    put64(at + 8, it->ready);
+    put64(at + 16, it->bypassed);
+    put8(at + 24, it->status);
+    put8(at + 25, it->vcid);
+    put8(at + 26, it->flags);
+    put8(at + 27, it->farm_b);
+    put8(at + 28, it->value);
+    put8(at + 29, it->state);
 }
 
 static void get_sedge_spacecraft_reading(uint64_t at, struct sedge_spacecraft_reading *it)
 {
     it->frame_length = (size_t)get64(at);
-    it->status = (uint8_t)get8(at + 8);
-    it->vcid = (uint8_t)get8(at + 9);
-    it->flags = (uint8_t)get8(at + 10);
-    it->farm_b = (uint8_t)get8(at + 11);
-    it->value = (uint8_t)get8(at + 12);
-    it->state = (uint8_t)get8(at + 13);
+    it->ready = (size_t)get64(at + 8);
+    it->bypassed = (size_t)get64(at + 16);
+    it->status = (uint8_t)get8(at + 24);
+    it->vcid = (uint8_t)get8(at + 25);
+    it->flags = (uint8_t)get8(at + 26);
+    it->farm_b = (uint8_t)get8(at + 27);
+    it->value = (uint8_t)get8(at + 28);
+    it->state = (uint8_t)get8(at + 29);
 }
 
 static void put_sedge_sim(uint64_t at, const struct sedge_sim *it)
@@ -13382,7 +13531,7 @@ uint8_t sedge_ground_read(struct sedge_ground *ground, struct sedge_ground_readi
 {
     unsigned char ground_octets[8 + 15];
     const uint64_t ground_at = aligned(ground_octets);
-    unsigned char read_octets[48 + 15];
+    unsigned char read_octets[72 + 15];
     const uint64_t read_at = aligned(read_octets);
     uint8_t answer;
     put_sedge_ground(ground_at, ground);
@@ -13565,7 +13714,7 @@ uint8_t sedge_spacecraft_read(struct sedge_spacecraft *spacecraft, struct sedge_
 {
     unsigned char spacecraft_octets[8 + 15];
     const uint64_t spacecraft_at = aligned(spacecraft_octets);
-    unsigned char read_octets[16 + 15];
+    unsigned char read_octets[32 + 15];
     const uint64_t read_at = aligned(read_octets);
     uint8_t answer;
     put_sedge_spacecraft(spacecraft_at, spacecraft);
@@ -13651,6 +13800,36 @@ uint8_t sedge_sim_read(struct sedge_sim *sim, struct sedge_sim_reading *read)
     answer = (uint8_t)sedge_sim_read_at(sim_at, read_at);
     get_sedge_sim(sim_at, sim);
     get_sedge_sim_reading(read_at, read);
+    return answer;
+}
+
+uint8_t sedge_sim_ground_read(struct sedge_sim *sim, struct sedge_ground_reading *read)
+{
+    unsigned char sim_octets[8 + 15];
+    const uint64_t sim_at = aligned(sim_octets);
+    unsigned char read_octets[72 + 15];
+    const uint64_t read_at = aligned(read_octets);
+    uint8_t answer;
+    put_sedge_sim(sim_at, sim);
+    put_sedge_ground_reading(read_at, read);
+    answer = (uint8_t)sedge_sim_ground_read_at(sim_at, read_at);
+    get_sedge_sim(sim_at, sim);
+    get_sedge_ground_reading(read_at, read);
+    return answer;
+}
+
+uint8_t sedge_sim_spacecraft_read(struct sedge_sim *sim, struct sedge_spacecraft_reading *read)
+{
+    unsigned char sim_octets[8 + 15];
+    const uint64_t sim_at = aligned(sim_octets);
+    unsigned char read_octets[32 + 15];
+    const uint64_t read_at = aligned(read_octets);
+    uint8_t answer;
+    put_sedge_sim(sim_at, sim);
+    put_sedge_spacecraft_reading(read_at, read);
+    answer = (uint8_t)sedge_sim_spacecraft_read_at(sim_at, read_at);
+    get_sedge_sim(sim_at, sim);
+    get_sedge_spacecraft_reading(read_at, read);
     return answer;
 }
 

@@ -87,6 +87,18 @@ static void comes_out(struct sedge_spacecraft *spacecraft, describe *next, take 
     WANT(take(spacecraft, &map, out, 0, &count) == 0 && map == 99 && count == 0);
 }
 
+/* What waits in the ground, the ticks that are left, and the transmission count. */
+static void waits(const struct sedge_ground_reading *read, size_t unsent, size_t due, size_t bypassed, int ticks,
+                  int count) {
+    WANT(read->unsent == unsent && read->due == due && read->bypassed == bypassed);
+    WANT(read->ticks == ticks && read->count == count);
+}
+
+/* What waits on board. */
+static void wait_on_board(const struct sedge_spacecraft_reading *read, size_t ready, size_t bypassed) {
+    WANT(read->ready == ready && read->bypassed == bypassed);
+}
+
 static void session(void) {
     struct sedge_ground ground = {0};
     struct sedge_spacecraft spacecraft = {0};
@@ -106,12 +118,17 @@ static void session(void) {
         ;
     WANT(sedge_ground_bypass(&ground, 5, packet, 7) == SEDGE_NODE_TOO_LONG);
     WANT(sedge_ground_read(&ground, &read) == 0 && read.outstanding == 3 && read.state == 1 && read.vs == 0);
+    waits(&read, 3, 0, 0, 0, 1);
     goes_up(&ground, &spacecraft, 3);
+    WANT(sedge_ground_read(&ground, &read) == 0 && read.outstanding == 3);
+    waits(&read, 2, 0, 0, 10, 1);
     goes_up(&ground, &spacecraft, 3);
     goes_up(&ground, &spacecraft, 3);
     WANT(sedge_ground_next(&ground, &count) == 0 && count == 0);
     WANT(sedge_ground_peek(&ground, up, 0, &count) == 0 && count == 0 && sedge_ground_advance(&ground) == 0);
     WANT(sedge_ground_pull(&ground, up, 0, &count) == 0 && count == 0);
+    WANT(sedge_spacecraft_read(&spacecraft, &board) == 0);
+    wait_on_board(&board, 1, 0);
     comes_out(&spacecraft, sedge_spacecraft_next, sedge_spacecraft_take, 4);
     WANT(sedge_ground_accepted_beyond(&ground, 2, &accepted) == 0 && accepted == 2);
     WANT(sedge_ground_accepted_beyond(&ground, 4, &accepted) == SEDGE_NODE_ABSENT && accepted == 2);
@@ -122,6 +139,7 @@ static void session(void) {
     WANT(sedge_spacecraft_read(&spacecraft, &board) == 0 && board.frame_length == 64 && board.value == 3);
     WANT(board.vcid == 2 && board.flags == 0 && board.status == 0 && board.farm_b == 0);
     WANT(board.state == SEDGE_FARM_OPEN);
+    wait_on_board(&board, 0, 0);
     count = 77, down[0] = 77;
     WANT(sedge_spacecraft_report(&spacecraft, down, 63, &count) == SEDGE_NODE_ROOM && count == 77 && down[0] == 77);
     WANT(sedge_spacecraft_report(&spacecraft, down, 64, &count) == 0 && count == 64);
@@ -138,6 +156,7 @@ static void session(void) {
     WANT(sedge_ground_clcw(&ground, control_word, 3, &heard) == SEDGE_NODE_ABSENT && heard.kind == 77);
     WANT(sedge_ground_forget_telemetry(&ground) == 0);
     WANT(sedge_ground_read(&ground, &read) == 0 && read.outstanding == 0 && read.vs == 3 && read.nn == 3);
+    waits(&read, 0, 0, 0, 0, 1);
     WANT(sedge_ground_tick(&ground) == 0);
     WANT(sedge_ground_next_telemetry(&ground, &count) == 0 && count == 7);
     WANT(sedge_ground_take_telemetry(&ground, out, 6, &count) == SEDGE_NODE_ROOM && count == 7);
@@ -153,6 +172,8 @@ static void past_the_sequence_control(void) {
     struct sedge_config whole = config;
     struct sedge_ground ground = {0};
     struct sedge_spacecraft spacecraft = {0};
+    struct sedge_ground_reading read = {0};
+    struct sedge_spacecraft_reading board = {0};
     whole.part = 1016;
     while (again(sedge_ground_open(&whole, &ground)))
         ;
@@ -160,7 +181,11 @@ static void past_the_sequence_control(void) {
         ;
     while (again(sedge_ground_bypass(&ground, 5, packet, sizeof packet)))
         ;
+    WANT(sedge_ground_read(&ground, &read) == 0);
+    waits(&read, 0, 0, 1, 0, 1);
     goes_up(&ground, &spacecraft, 4);
+    WANT(sedge_spacecraft_read(&spacecraft, &board) == 0);
+    wait_on_board(&board, 0, 1);
     comes_out(&spacecraft, sedge_spacecraft_next_bypass, sedge_spacecraft_take_bypass, 5);
     sedge_ground_close(&ground);
     sedge_spacecraft_close(&spacecraft);
@@ -170,7 +195,7 @@ static void past_the_sequence_control(void) {
 /* ---- A session goes on after an alert. ---- */
 
 static struct sedge_ground_reading read_of(struct sedge_ground *ground) {
-    struct sedge_ground_reading read = {77, 77, 77, 77, 77, 77, 77, 77};
+    struct sedge_ground_reading read = {77, 77, 77, 77, 77, 77, 77, 77, 77, 77, 77, 77, 77};
     WANT(sedge_ground_read(ground, &read) == 0);
     return read;
 }
@@ -360,7 +385,8 @@ static void handles_that_hold_none(void) {
     struct sedge_spacecraft spacecraft = {0};
     struct sedge_heard heard;
     struct sedge_received received;
-    struct sedge_ground_reading read = {77, 77, 77, 77, 77, 77, 77, 77};
+    struct sedge_ground_reading read = {77, 77, 77, 77, 77, 77, 77, 77, 77, 77, 77, 77, 77};
+    struct sedge_spacecraft_reading board = {77, 77, 77, 77, 77, 77, 77, 77, 77};
     struct sedge_clcw word = {77, 77, 77, 77, 77};
     uint64_t whole = 77;
     size_t count = 77;
@@ -390,7 +416,10 @@ static void handles_that_hold_none(void) {
     WANT(sedge_spacecraft_take_bypass(&spacecraft, &map, out, sizeof out, &count) == 255);
     WANT(sedge_spacecraft_telemetry(&spacecraft, packet, 7) == 255);
     WANT(sedge_spacecraft_report(&spacecraft, down, 2048, &count) == 255);
+    WANT(sedge_spacecraft_read(&spacecraft, &board) == SEDGE_NODE_NONE);
     WANT(count == 77 && map == 77 && read.state == 77 && read.submitted == 77);
+    waits(&read, 77, 77, 77, 77, 77);
+    wait_on_board(&board, 77, 77);
     sedge_ground_close(&ground);
     sedge_spacecraft_close(&spacecraft);
 }
@@ -436,6 +465,26 @@ static void is_read(struct sedge_sim *sim, size_t outstanding, size_t acknowledg
     WANT(read.state == state && read.begun == SEDGE_BEGUN_SET_VR && read.vr == 7 && read.clean && read.idle);
 }
 
+/* What is read of the link's ground: V(S) and NN(R), and what waits there. */
+static void has_ground(struct sedge_sim *sim, int vs, int nn, size_t unsent, size_t due, size_t bypassed, int ticks,
+                       int count) {
+    struct sedge_ground_reading read = {0};
+    struct sedge_sim_reading link;
+    WANT(sedge_sim_ground_read(sim, &read) == 0 && sedge_sim_read(sim, &link) == 0);
+    WANT(read.state == link.state && read.outstanding == link.outstanding && read.frame_length == 64);
+    WANT(read.vs == vs && read.nn == nn && read.submitted == 1);
+    waits(&read, unsent, due, bypassed, ticks, count);
+}
+
+/* What is read of its spacecraft. */
+static void has_spacecraft(struct sedge_sim *sim, int value, int farm_b, size_t ready, size_t bypassed) {
+    struct sedge_spacecraft_reading read = {0};
+    WANT(sedge_sim_spacecraft_read(sim, &read) == 0 && read.frame_length == 64);
+    WANT(read.value == value && read.farm_b == farm_b && read.vcid == 2 && read.flags == 0 && read.status == 0);
+    WANT(read.state == SEDGE_FARM_OPEN);
+    wait_on_board(&read, ready, bypassed);
+}
+
 static void link(void) {
     struct sedge_config whole = config;
     struct sedge_sim sim = {0};
@@ -452,6 +501,8 @@ static void link(void) {
     HAPPENS(sedge_sim_init_set_vr(&sim, 7, &reply), SEDGE_REPLY_DONE);
     HAPPENS(sedge_sim_submit(&sim, 4, packet, sizeof packet, &reply), SEDGE_REPLY_DONE);
     HAPPENS(sedge_sim_bypass(&sim, 5, packet, sizeof packet, &reply), SEDGE_REPLY_DONE);
+    has_ground(&sim, 7, 7, 1, 0, 1, 0, 1);
+    has_spacecraft(&sim, 0, 0, 0, 0);
     HAPPENS(sedge_sim_send(&sim, &reply), SEDGE_REPLY_SENT);
     WANT(reply.count == 10 && sedge_sim_octets(&sim, out, 9, &count) == SEDGE_NODE_ROOM);
     WANT(sedge_sim_octets(&sim, out, sizeof out, &count) == 0 && count == 10 && out[0] == 0x30 && out[5] == 0x82);
@@ -468,16 +519,23 @@ static void link(void) {
     HAPPENS(sedge_sim_send(&sim, &reply), SEDGE_REPLY_NOTHING);
     HAPPENS(sedge_sim_up_deliver(&sim, &reply), SEDGE_REPLY_UP);
     WANT(reply.up.kind == 4 && reply.up.kept);
+    has_ground(&sim, 8, 7, 0, 0, 0, 10, 1);
+    has_spacecraft(&sim, 7, 2, 0, 1);
     HAPPENS(sedge_sim_take_bypass(&sim, &reply), SEDGE_REPLY_PACKET);
     WANT(reply.map == 5 && reply.count == 7);
     WANT(sedge_sim_up_damage(&sim, packet, 7, &reply) == 0 && reply.kind == SEDGE_REPLY_UP && reply.up.kind == 1);
     WANT(sedge_sim_up_lose(&sim, &reply) == SEDGE_SIM_NOTHING_IN_TRANSIT);
-    for (int i = 0; i < 10; i++) HAPPENS(sedge_sim_tick(&sim, &reply), SEDGE_REPLY_DONE);
+    for (int i = 0; i < 9; i++) HAPPENS(sedge_sim_tick(&sim, &reply), SEDGE_REPLY_DONE);
+    has_ground(&sim, 8, 7, 0, 0, 0, 1, 1);
+    HAPPENS(sedge_sim_tick(&sim, &reply), SEDGE_REPLY_DONE);
+    has_ground(&sim, 8, 7, 0, 1, 0, 10, 2);
     HAPPENS(sedge_sim_send(&sim, &reply), SEDGE_REPLY_SENT);
+    has_ground(&sim, 8, 7, 0, 0, 0, 10, 2);
     WANT(sedge_sim_octets(&sim, out, sizeof out, &count) == 0);
     WANT(sedge_sim_up_damage(&sim, out, count, &reply) == SEDGE_SIM_NOT_DETECTABLE);
     HAPPENS(sedge_sim_up_deliver(&sim, &reply), SEDGE_REPLY_UP);
     WANT(reply.up.kind == 3 && reply.up.n == 7 && reply.up.verdict == SEDGE_ACCEPTED && reply.up.ready == 1);
+    has_spacecraft(&sim, 8, 2, 1, 0);
     HAPPENS(sedge_sim_telemetry(&sim, packet, 6, &reply), SEDGE_REPLY_REFUSED);
     WANT(reply.by == SEDGE_BY_TELEMETRY && reply.fault == 8);
     HAPPENS(sedge_sim_telemetry(&sim, packet, 7, &reply), SEDGE_REPLY_DONE);
@@ -486,6 +544,7 @@ static void link(void) {
     WANT(sedge_sim_down_damage(&sim, packet, 7, &reply) == 0 && reply.kind == SEDGE_REPLY_DOWN && reply.down.kind == 1);
     HAPPENS(sedge_sim_down_deliver(&sim, &reply), SEDGE_REPLY_DOWN);
     is_read(&sim, 0, 1, SEDGE_FOP_S1);
+    has_ground(&sim, 8, 8, 0, 0, 0, 0, 1);
     HAPPENS(sedge_sim_report(&sim, &reply), SEDGE_REPLY_REPORTED);
     HAPPENS(sedge_sim_down_lose(&sim, &reply), SEDGE_REPLY_LOST);
     HAPPENS(sedge_sim_take(&sim, &reply), SEDGE_REPLY_PACKET);
@@ -545,6 +604,8 @@ static void links_that_are_none(void) {
     struct sedge_sim sim = {0};
     struct sedge_reply reply = {0};
     struct sedge_sim_reading read;
+    struct sedge_ground_reading ground = {77, 77, 77, 77, 77, 77, 77, 77, 77, 77, 77, 77, 77};
+    struct sedge_spacecraft_reading board = {77, 77, 77, 77, 77, 77, 77, 77, 77};
     size_t count = 77;
     uint8_t map = 77;
     wrong.blocking = 2;
@@ -553,6 +614,9 @@ static void links_that_are_none(void) {
     WANT(sedge_sim_send(&sim, &reply) == 255 && sedge_sim_submit(&sim, 4, packet, 7, &reply) == 255);
     WANT(reply.kind == 77);
     WANT(sedge_sim_octets(&sim, out, 1, &count) == 255 && sedge_sim_read(&sim, &read) == 255);
+    WANT(sedge_sim_ground_read(&sim, &ground) == 255 && sedge_sim_spacecraft_read(&sim, &board) == 255);
+    waits(&ground, 77, 77, 77, 77, 77);
+    wait_on_board(&board, 77, 77);
     WANT(sedge_sim_count(&sim, SEDGE_SENT, 0, &count) == 255 && count == 77);
     WANT(sedge_sim_entry_length(&sim, SEDGE_SENT, 0, 0, &count) == 255);
     WANT(sedge_sim_entry(&sim, SEDGE_SENT, 0, 0, out, 1, &count) == 255 && count == 77);

@@ -336,11 +336,12 @@ static void takes(void) {
 }
 
 static void reports(void) {
-    struct sedge_spacecraft_reading read = {99, 99, 99, 99, 99, 99, 99};
+    struct sedge_spacecraft_reading read = {99, 99, 99, 99, 99, 99, 99, 99, 99};
     size_t count = 99, room;
     uint8_t *out, answer = sedge_spacecraft_read(&spacecraft, &read);
     WANT(is_answer(answer, SEDGE_NODE_OK, spacecraft.node) && (answer == 0 || read.state == 99));
     if (answer != SEDGE_NODE_OK) return;
+    WANT(read.ready <= 63 + 145 && read.bypassed <= 64); /* a segment brings up to 145 packets where one slot is free */
     WANT(read.frame_length >= 16 && read.frame_length <= 2048 && read.state <= 2 && read.farm_b <= 3);
     out = room_of(room = any_room(read.frame_length));
     answer = sedge_spacecraft_report(&spacecraft, out, room, &count);
@@ -388,13 +389,22 @@ static void telemetry(void) {
     WANT(answer != SEDGE_NODE_OK || given == 0 || was_put(out, given));
 }
 
+/* What waits is part of what is outstanding; the rest was sent, from NN(R) to V(S), and the timer runs for it. */
+static bool is_sound(const struct sedge_ground_reading *read) {
+    uint8_t sent = (uint8_t)(read->vs - read->nn);
+    if (read->count < 1 || (read->state == SEDGE_FOP_S6 && (read->ticks > 0 || read->outstanding > 0))) return false;
+    return read->state == SEDGE_FOP_S6 ||
+           (read->outstanding == read->unsent + sent && read->due <= sent && (sent == 0 || read->ticks > 0));
+}
+
 static void clocks(void) {
-    struct sedge_ground_reading read = {99, 99, 99, 99, 99, 99, 99, 99};
+    struct sedge_ground_reading read = {99, 99, 99, 99, 99, 99, 99, 99, 99, 99, 99, 99, 99};
     uint8_t accepted = 99, answer;
     WANT(is_answer(sedge_ground_tick(&ground), 7, ground.node));
     answer = sedge_ground_read(&ground, &read);
     WANT(is_answer(answer, SEDGE_NODE_OK, ground.node));
     WANT(answer == SEDGE_NODE_OK ? read.state >= 1 && read.state <= 6 : read.state == 99);
+    WANT(answer != SEDGE_NODE_OK || is_sound(&read));
     answer = sedge_ground_accepted_beyond(&ground, (uint8_t)below(256), &accepted);
     WANT(ground.node == NULL ? answer == SEDGE_NODE_NONE : answer == SEDGE_NODE_OK || answer == SEDGE_NODE_ABSENT);
     WANT(answer == SEDGE_NODE_OK ? accepted <= 127 : accepted == 99);
@@ -555,6 +565,8 @@ static void look_at_submissions(void) {
 static void links(void) {
     struct sedge_reply reply = {.kind = 77};
     struct sedge_sim_reading read = {.state = 99};
+    struct sedge_ground_reading of_ground = {.state = 99};
+    struct sedge_spacecraft_reading on_board = {.state = 99};
     size_t count = 99, room;
     uint8_t answer = CALL(SEDGE_SIM_MEMORY, happens(&reply)), *out;
     WANT(sim.link == NULL ? answer == SEDGE_NODE_NONE || answer == 0
@@ -570,6 +582,9 @@ static void links(void) {
     answer = sedge_sim_read(&sim, &read);
     WANT(is_answer(answer, SEDGE_NODE_OK, sim.link));
     WANT(answer == SEDGE_NODE_OK ? read.state >= 1 && read.state <= 6 : read.state == 99);
+    WANT(sedge_sim_ground_read(&sim, &of_ground) == answer && of_ground.state == read.state);
+    WANT(sedge_sim_spacecraft_read(&sim, &on_board) == answer && (on_board.state == 99) == (answer != SEDGE_NODE_OK));
+    WANT(answer != SEDGE_NODE_OK || (is_sound(&of_ground) && of_ground.outstanding == read.outstanding));
     if (below(8) == 0) look_at_records(), look_at_submissions();
 }
 

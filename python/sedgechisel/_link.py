@@ -6,10 +6,11 @@ from ctypes import POINTER, c_bool, c_char_p, c_size_t, c_uint8, c_uint16
 from enum import IntEnum
 from typing import List, Optional, Tuple
 
-from ._calls import Alert, Clcw, _directive
+from ._calls import Alert, Clcw, Mode, _directive
 from ._faults import CopFault, LinkFault, SimFault, TelemetryFault
 from ._library import octets_of, within
-from ._nodes import Config, Heard, Received, Sender, State, _call, _Heard, _Raw, _Received
+from ._nodes import (Config, Heard, Received, Sender, State, _call, _GroundReading, _Heard, _Raw, _Received,
+                     _SpacecraftReading)
 
 _REFUSED = 3
 _REFUSED_BY = {1: LinkFault, 2: CopFault, 3: TelemetryFault}
@@ -143,7 +144,7 @@ class Link(Sender):
         """A packet is queued on board to be sent as telemetry, as by `Spacecraft.telemetry`."""
         self._event("telemetry", 0, octets_of("packet", packet))
 
-    # The session and its records.
+    # The session.
 
     def _read(self) -> _SimReading:
         read = _SimReading()
@@ -189,6 +190,76 @@ class Link(Sender):
         """Whether a report has taken the ground from S4 or S5 to S1."""
         return bool(self._read().confirmed)
 
+    # Its nodes.
+
+    def _read_ground(self) -> _GroundReading:
+        read = _GroundReading()
+        self._asked(_sim_ground_read(self._handle, read))
+        return read
+
+    @property
+    def vs(self) -> int:
+        """V(S) of the ground, the number of the next segment that is sent for the first time."""
+        return int(self._read_ground().vs)
+
+    @property
+    def nn(self) -> int:
+        """NN(R) of the ground, the number that the spacecraft was last known to expect."""
+        return int(self._read_ground().nn)
+
+    @property
+    def unsent(self) -> int:
+        """How many of the segments that are outstanding wait to be sent for the first time."""
+        return int(self._read_ground().unsent)
+
+    @property
+    def due(self) -> int:
+        """How many of them are to be sent again."""
+        return int(self._read_ground().due)
+
+    @property
+    def bypass_unsent(self) -> int:
+        """How many bypass packets wait to be sent."""
+        return int(self._read_ground().bypassed)
+
+    @property
+    def ticks(self) -> int:
+        """The ticks that are left of the ground's timer, or 0 where it does not run."""
+        return int(self._read_ground().ticks)
+
+    @property
+    def count(self) -> int:
+        """The transmission count of the ground's sender, at least 1."""
+        return int(self._read_ground().count)
+
+    def _read_spacecraft(self) -> _SpacecraftReading:
+        read = _SpacecraftReading()
+        self._asked(_sim_spacecraft_read(self._handle, read))
+        return read
+
+    @property
+    def control_word(self) -> Clcw:
+        """The report that the next telemetry frame carries."""
+        it = self._read_spacecraft()
+        return Clcw(it.status, it.vcid, it.flags, it.farm_b, it.value)
+
+    @property
+    def mode(self) -> Mode:
+        """The state of the receiver on board."""
+        return Mode(self._read_spacecraft().state)
+
+    @property
+    def ready(self) -> int:
+        """How many packets of sequence-controlled frames wait on board to be taken."""
+        return int(self._read_spacecraft().ready)
+
+    @property
+    def bypass_ready(self) -> int:
+        """How many packets that came past the sequence control wait there to be taken."""
+        return int(self._read_spacecraft().bypassed)
+
+    # The records of its session.
+
     def _entries(self, record: int, map: int = 0) -> List[bytes]:
         entries, length = c_size_t(), c_size_t()
         found = []
@@ -232,6 +303,8 @@ class Link(Sender):
 _sim_step = _call("sim_step", c_uint8, POINTER(_Raw), POINTER(_Event), POINTER(_Reply))
 _sim_octets = _call("sim_octets", c_uint8, POINTER(_Raw), c_char_p, c_size_t, POINTER(c_size_t))
 _sim_read = _call("sim_read", c_uint8, POINTER(_Raw), POINTER(_SimReading))
+_sim_ground_read = _call("sim_ground_read", c_uint8, POINTER(_Raw), POINTER(_GroundReading))
+_sim_spacecraft_read = _call("sim_spacecraft_read", c_uint8, POINTER(_Raw), POINTER(_SpacecraftReading))
 _sim_submissions = _call("sim_submissions", c_uint8, POINTER(_Raw), POINTER(c_size_t))
 _sim_submission_length = _call("sim_submission_length", c_uint8, POINTER(_Raw), ("k", c_size_t), POINTER(c_uint8),
                                POINTER(c_size_t))

@@ -253,8 +253,9 @@ class _Heard(ctypes.Structure):
 
 class _GroundReading(ctypes.Structure):
     _fields_ = [("submitted", c_uint64), ("sent_whole", c_uint64), ("acknowledged_whole", c_uint64),
-                ("outstanding", c_size_t), ("frame_length", c_size_t), ("state", c_uint8), ("vs", c_uint8),
-                ("nn", c_uint8)]
+                ("outstanding", c_size_t), ("unsent", c_size_t), ("due", c_size_t), ("bypassed", c_size_t),
+                ("frame_length", c_size_t), ("ticks", c_uint16), ("state", c_uint8), ("vs", c_uint8), ("nn", c_uint8),
+                ("count", c_uint8)]
 
 
 class Sender(Handle):
@@ -460,6 +461,31 @@ class Ground(Sender):
         return int(self._read().outstanding)
 
     @property
+    def unsent(self) -> int:
+        """How many of them wait to be sent for the first time."""
+        return int(self._read().unsent)
+
+    @property
+    def due(self) -> int:
+        """How many of them are to be sent again."""
+        return int(self._read().due)
+
+    @property
+    def bypassed(self) -> int:
+        """How many bypass packets wait to be sent."""
+        return int(self._read().bypassed)
+
+    @property
+    def ticks(self) -> int:
+        """The ticks that are left of the timer, or 0 where it does not run."""
+        return int(self._read().ticks)
+
+    @property
+    def count(self) -> int:
+        """The transmission count, at least 1."""
+        return int(self._read().count)
+
+    @property
     def frame_length(self) -> int:
         """How many octets each frame of telemetry has."""
         return int(self._read().frame_length)
@@ -486,8 +512,8 @@ _ground_read = _call("ground_read", c_uint8, POINTER(_Raw), POINTER(_GroundReadi
 
 
 class _SpacecraftReading(ctypes.Structure):
-    _fields_ = [("frame_length", c_size_t), ("status", c_uint8), ("vcid", c_uint8), ("flags", c_uint8),
-                ("farm_b", c_uint8), ("value", c_uint8), ("state", c_uint8)]
+    _fields_ = [("frame_length", c_size_t), ("ready", c_size_t), ("bypassed", c_size_t), ("status", c_uint8),
+                ("vcid", c_uint8), ("flags", c_uint8), ("farm_b", c_uint8), ("value", c_uint8), ("state", c_uint8)]
 
 
 _spacecraft_open = _call("spacecraft_open", c_uint8, POINTER(Config), POINTER(_Raw))
@@ -557,6 +583,16 @@ class Spacecraft(Handle):
     def mode(self) -> Mode:
         """The receiver's state."""
         return Mode(self._read().state)
+
+    @property
+    def ready(self) -> int:
+        """How many packets of sequence-controlled frames wait to be taken."""
+        return int(self._read().ready)
+
+    @property
+    def bypassed(self) -> int:
+        """How many packets that came past the sequence control wait to be taken."""
+        return int(self._read().bypassed)
 
     @property
     def frame_length(self) -> int:

@@ -337,11 +337,14 @@ def longest_nodes(it):
         reports_alone(it, ground, down, board.control_word.encode())
         assert ground.submit(63, command) == 0
         assert (ground.state, ground.vs, ground.nn, ground.outstanding) == (it.State.S1, 255, 255, 65)
+        assert (ground.unsent, ground.due, ground.ticks, ground.count) == (65, 0, 0, 1)
         frames = [ground.pull(), *ground.frames()]
+        assert (ground.unsent, ground.due, ground.ticks, ground.count) == (0, 0, 65535, 1)
         assert [len(frame) for frame in frames] == [1024] * 64 + [526] and ground.pull() is None
         accepted = {"kind": it.Arrived.AD, "verdict": it.Verdict.ACCEPTED}
         assert [board.receive(frame) for frame in frames] == [
             it.Received(n=(255 + k) % 256, ready=k // 64, **accepted) for k in range(65)]
+        assert board.ready == 1
         assert board.take() == (63, command) and [*board.packets()] == [] and ground.accepted_beyond(64) == 65
         assert (ground.submitted, ground.sent_whole, ground.acknowledged_whole) == (1, 1, 0)
         # V(S) is 64, NN(R) 255, and the submission has 65 segments.
@@ -349,12 +352,13 @@ def longest_nodes(it):
         ground.advance()
         assert ground.peek() is None
         ground.bypass(63, it.Packet(kind=1).encode(DATA[:1010]))
+        assert ground.bypassed == 1
         octets = ground.peek()
         assert ground.peek() == octets
         ground.advance()
         assert ground.peek() is None
         assert len(octets) == 1024 and board.receive(octets) == it.Received(it.Arrived.BD, kept=True)
-        assert board.take_bypass() == (63, octets[6:-2]) and [*board.bypass_packets()] == []
+        assert board.bypassed == 1 and board.take_bypass() == (63, octets[6:-2]) and [*board.bypass_packets()] == []
         for _ in range(255):
             board.report()
         board.telemetry(packet)
@@ -377,8 +381,11 @@ def longest_link(it):
         assert link.down_deliver() == it.Heard(it.Arrived.TM, report=it.Report.USED)
         assert (link.begun, link.clean, link.idle, link.confirmed) == (it.Begun.SET_VR, True, True, True)
         link.submit(63, command), link.bypass(63, it.Packet(kind=1).encode(DATA[:1010]))
+        assert (link.vs, link.nn, link.unsent, link.bypass_unsent) == (255, 255, 65, 1)
         assert [len(link.send()) for _ in range(66)] == [1024] * 65 + [526] and link.send() is None
         came = [link.up_deliver() for _ in range(66)]
+        assert (link.due, link.ticks, link.count, link.ready, link.bypass_ready) == (0, 65535, 1, 1, 1)
+        assert link.control_word == it.Clcw(vcid=63, farm_b=2, value=64) and link.mode == it.Mode.OPEN
         assert [one.ready for one in came] == [0] * 65 + [1] and link.take() == (63, command) and link.take() is None
         assert link.take_bypass() == (63, it.Packet(kind=1).encode(DATA[:1010])) and link.take_bypass() is None
         assert link.submitted(63) == link.delivered(63) == [command] and link.submissions == [(63, command)]

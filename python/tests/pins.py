@@ -128,6 +128,7 @@ OTHERS = {
     "_Received.value": "dropped_word", "Handle.__init__": "config_fault", "Ground.report_in": "ground_report",
     "Ground._read": "ground_read", "Ground._direct": "ground_directive", "Fop._direct": "fop_directive",
     "Spacecraft._read": "spacecraft_read", "Link._read": "sim_read", "Link._event": "sim_step",
+    "Link._read_ground": "sim_ground_read", "Link._read_spacecraft": "sim_spacecraft_read",
     "Link._direct": "sim_directive",
     "Link._octets": "sim_octets",
     "Link._entries": "sim_count sim_entry_length sim_entry",
@@ -137,14 +138,19 @@ OTHERS = {
 BY = {
     "Link.submitted": "_entries _SUBMITTED", "Link.delivered": "_entries _DELIVERED", "Link.sent": "_entries _SENT",
     "Link.accepted": "_entries _ACCEPTED",
-    **{f"Ground.{name}": f"_read {name}" for name in ("state", "vs", "nn", "outstanding", "frame_length", "submitted",
-                                                      "sent_whole", "acknowledged_whole")},
+    **{f"Ground.{name}": f"_read {name}" for name in ("state", "vs", "nn", "outstanding", "unsent", "due", "bypassed",
+                                                      "ticks", "count", "frame_length", "submitted", "sent_whole",
+                                                      "acknowledged_whole")},
     "Ground._shown": "_read state vs nn", "Spacecraft._shown": "_read state value", "Spacecraft.mode": "_read state",
-    "Spacecraft.frame_length": "_read frame_length",
+    **{f"Spacecraft.{name}": f"_read {name}" for name in ("frame_length", "ready", "bypassed")},
     "Spacecraft.control_word": "_read status vcid flags farm_b value",
     **{f"Link.{name}": f"_read {name}" for name in ("state", "outstanding", "acknowledged", "begun", "clean", "idle",
                                                     "confirmed")},
     "Link._shown": "_read state outstanding acknowledged",
+    **{f"Link.{name}": f"_read_ground {name}" for name in ("vs", "nn", "unsent", "due", "ticks", "count")},
+    "Link.bypass_unsent": "_read_ground bypassed", "Link.bypass_ready": "_read_spacecraft bypassed",
+    "Link.mode": "_read_spacecraft state", "Link.ready": "_read_spacecraft ready",
+    "Link.control_word": "_read_spacecraft status vcid flags farm_b value",
     "Ground.frames": "iter pull", "Ground.packets": "iter take_telemetry", "Spacecraft.packets": "iter take",
     "Spacecraft.bypass_packets": "iter take_bypass",
 }
@@ -152,6 +158,8 @@ BY = {
 NONE = {"TmFrame.__init__", "TmFrame.ocf", "TmBuilder.waiting", "TmExtractor.__init__", "TmExtractor.dropped",
         "TmExtractor._begun", "Map.__init__", "Clcw.__init__", "TcFrame.__init__", "Packet.__init__", "Config.__init__",
         "Spacecraft._taken", "Link._taken", "Sender._direct"}
+# Methods that read a struct, of which another one gives a field.
+READS = ("_read", "_read_ground", "_read_spacecraft")
 # What a method keeps for itself, wherever it does.
 KEPT = {"room", "longest", "blocking"}
 
@@ -180,18 +188,18 @@ def calls_in(function, known):
 
 
 def reads_in(function):
-    """What a function makes its call by: `_entries` and the record, `_read` and the fields that it reads, or `iter` and
-    the method."""
+    """What a function makes its call by: `_entries` and the record, one of READS and the fields that it reads, or
+    `iter` and the method."""
     found = []
     for node in ast.walk(function):
-        if isinstance(node, ast.Call) and getattr(node.func, "attr", "") in ("_entries", "_read"):
+        if isinstance(node, ast.Call) and getattr(node.func, "attr", "") in ("_entries", *READS):
             found += [node.func.attr, *(one.id for one in node.args[:1])]
         if isinstance(node, ast.Call) and getattr(node.func, "id", "") == "iter":
             found += ["iter", *(one.attr for one in node.args[:1])]
     read = [node for node in ast.walk(function) if isinstance(node, ast.Attribute)
             and (isinstance(node.value, ast.Call) or getattr(node.value, "id", "") in ("it", "read"))]
     fields = {node.attr: (node.lineno, node.col_offset) for node in read}
-    return " ".join(found + sorted((it for it in fields if it not in ("_entries", "_read", "name")), key=fields.get))
+    return " ".join(found + sorted((it for it in fields if it not in ("_entries", "name", *READS)), key=fields.get))
 
 
 def methods_and_their_calls(it):

@@ -8,8 +8,9 @@ use Rattle.cop1.specs.declared.vocabulary.FopMode.TheVariants.{S1, S2, S3, S4, S
 use Rattle.cop1.specs.declared.vocabulary.Alert.{Alert}
 use Rattle.cop1.specs.declared.fault.CopFault.{CopFault}
 use Rattle.cop1.specs.Faults.{fault_row as cop_row}
+use Rattle.cop1.specs.Units.{due_units}
 use Rattle.nodes.specs.Ground.{GroundState, GroundEvent, Direct, Resume, ground_step, outstanding}
-use Rattle.nodes.specs.Ground.{sent_beyond}
+use Rattle.nodes.specs.Ground.{sent_beyond, unsent_segments}
 use Rattle.nodes.specs.Fates.{submitted, whole_with}
 use Rattle.nodes.specs.declared.fault.LinkFault.{LinkFault}
 use Rattle.nodes.specs.Faults.{fault_row}
@@ -74,8 +75,13 @@ reading_of s = record {
   sent_whole = whole_with (sent_beyond s) s.fates;
   acknowledged_whole = whole_with 0 s.fates;
   outstanding = length (outstanding s);
+  unsent = length (unsent_segments s);
+  due = length (due_units s.fop.sent);
+  bypassed = length s.fop.bypass;
   frame_length = s.config.frame_length;
+  ticks = unwrap_or s.fop.ticks 0;
   state = mode_number s.fop.state;
   vs = s.fop.vs;
   nn = s.fop.nn;
+  count = s.fop.count;
 }

@@ -1,6 +1,6 @@
 -- The spacecraft of a program in C: what a call answers, and what the program holds then.
 use Rattle.std.specs.Prelude.{◌≡◌, ◌≢◌, ℕ, List, Bool, true, false, Option, Some, None}
-use Rattle.std.specs.Prelude.{option_map, IfSome}
+use Rattle.std.specs.Prelude.{length, option_map, IfSome}
 use Rattle.tc_frame.specs.declared.frame.Command.TheVariants.{Unlock, SetVr}
 use Rattle.tc_frame.specs.Faults.{fault_row}
 use Rattle.cop1.specs.declared.farm.FarmMode.{FarmMode}
@@ -63,6 +63,8 @@ board_reading_of s =
     let word = report_of s.farm s.config.vcid in
     record {
       frame_length = s.config.frame_length;
+      ready = length s.ready;
+      bypassed = length s.bypass;
       status = word.status;
       vcid = word.vcid;
       flags = flags_number word.flags;

@@ -27,14 +27,24 @@ pub struct GroundReading {
     pub acknowledged_whole: u64,
     /// The number of segments that were submitted and are not acknowledged.
     pub outstanding: usize,
+    /// How many of them wait to be sent for the first time.
+    pub unsent: usize,
+    /// How many of them are to be sent again.
+    pub due: usize,
+    /// How many bypass packets wait to be sent.
+    pub bypassed: usize,
     /// Of telemetry, in octets.
     pub frame_length: usize,
+    /// The ticks that are left of the timer, or 0 where it does not run.
+    pub ticks: u16,
     /// Of the sender, 1 to 6 (232.1-B-2, 5.1).
     pub state: u8,
     /// V(S), the number of the next segment that is sent for the first time.
     pub vs: u8,
     /// NN(R), the number that the spacecraft was last known to expect.
     pub nn: u8,
+    /// The transmission count, at least 1.
+    pub count: u8,
 }
 
 pub(crate) fn number_of_mode(mode: FopMode) -> u8
@@ -43,7 +53,7 @@ pub(crate) fn number_of_mode(mode: FopMode) -> u8
     mode as u8 + 1
 }
 
-fn reading(node: &Ground) -> GroundReading
+pub(crate) fn reading(node: &Ground) -> GroundReading
     ensures { result ≡ reading_of node.now }
 {
     GroundReading {
@@ -51,15 +61,20 @@ fn reading(node: &Ground) -> GroundReading
         sent_whole: node.sent_whole(),
         acknowledged_whole: node.acknowledged_whole(),
         outstanding: node.outstanding(),
+        unsent: node.unsent(),
+        due: node.due(),
+        bypassed: node.bypassed(),
         frame_length: node.frame_length(),
+        ticks: node.ticks().unwrap_or(0),
         state: number_of_mode(node.state()),
         vs: node.vs(),
         nn: node.nn(),
+        count: node.count(),
     }
 }
 
-/// Reads the ground: how far its submissions have come, the sender's state, V(S) and NN(R), what is outstanding, and
-/// how many octets a telemetry frame has. It stays as it was. Returns 0.
+/// Reads the ground: how far its submissions have come, the sender's state, V(S), NN(R), transmission count and timer,
+/// what is outstanding and what waits, and how many octets a telemetry frame has. It stays as it was. Returns 0.
 #[unsafe(no_mangle)]
 pub extern "C" fn sedge_ground_read(
     alloc: Global,
@@ -72,13 +87,17 @@ pub extern "C" fn sedge_ground_read(
 }
 
 /// What is read of a spacecraft: the octets of a telemetry frame, and the report that the next one carries, its flags
-/// as the bits of the third octet (CCSDS 232.0-B-4, 4.2.1); and the receiver's state. For C it is
+/// as the bits of the third octet (CCSDS 232.0-B-4, 4.2.1); the packets that wait; and the receiver's state. For C it is
 /// `struct sedge_spacecraft_reading`.
 #[repr(C)]
 #[derive(Clone, Copy)]
 pub struct BoardReading {
     /// Of telemetry, in octets.
     pub frame_length: usize,
+    /// How many packets of sequence-controlled frames wait to be taken.
+    pub ready: usize,
+    /// How many packets that came past the sequence control wait to be taken.
+    pub bypassed: usize,
     /// Of the report that the next frame carries, as in struct `sedge_clcw`.
     pub status: u8,
     pub vcid: u8,
@@ -95,12 +114,14 @@ fn number_of_farm_mode(state: FarmMode) -> u8
     state as u8
 }
 
-fn board_reading(node: &Spacecraft) -> BoardReading
+pub(crate) fn board_reading(node: &Spacecraft) -> BoardReading
     ensures { result ≡ board_reading_of node.now }
 {
     let word = node.control_word();
     BoardReading {
         frame_length: node.frame_length(),
+        ready: node.ready(),
+        bypassed: node.bypassed(),
         status: word.status,
         vcid: word.vcid,
         flags: word.flags.bits(),
@@ -110,8 +131,8 @@ fn board_reading(node: &Spacecraft) -> BoardReading
     }
 }
 
-/// Reads the spacecraft: how many octets a telemetry frame has, the report that the next one carries, and the
-/// receiver's state. It stays as it was. Returns 0.
+/// Reads the spacecraft: how many octets a telemetry frame has, how many packets wait, the report that the next frame
+/// carries, and the receiver's state. It stays as it was. Returns 0.
 #[unsafe(no_mangle)]
 pub extern "C" fn sedge_spacecraft_read(
     alloc: Global,

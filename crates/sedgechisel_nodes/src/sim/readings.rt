@@ -1,12 +1,14 @@
-// What a program in C reads of a simulated link.
+// What a program in C reads of a simulated link and its nodes.
 
 ghost use Rattle.std.specs.Prelude.{◌≡◌, Some};
 ghost use Rattle.sedgechisel_nodes.specs.Calls.{IsRead};
+ghost use Rattle.sedgechisel_nodes.specs.Ground.{reading_of};
 ghost use Rattle.sedgechisel_nodes.specs.Links.{begun_number, link_reading_of};
 ghost use Rattle.sedgechisel_nodes.specs.Rooms.{next_answer, IsHanding};
+ghost use Rattle.sedgechisel_nodes.specs.Spacecraft.{board_reading_of};
 
 use crate::handles::SimHandle;
-use crate::readings::number_of_mode;
+use crate::readings::{BoardReading, GroundReading, board_reading, number_of_mode, reading};
 use crate::room::hand_out;
 use cop1::Directive;
 use std::alloc::Global;
@@ -68,6 +70,37 @@ pub extern "C" fn sedge_sim_read(alloc: Global, sim: &mut SimHandle, read: &mut 
     ensures { IsRead (λ l. Some (link_reading_of l.world)) sim.old.value sim.new.value result read.old read.new }
 {
     read!(alloc, sim, read, |link| link_reading(link.sim()))
+}
+
+/// Reads the link's ground, as `sedge_ground_read` reads a ground. The link stays as it was. Returns 0.
+#[unsafe(no_mangle)]
+pub extern "C" fn sedge_sim_ground_read(
+    alloc: Global,
+    sim: &mut SimHandle,
+    read: &mut GroundReading,
+) -> u8
+    ensures { IsRead (λ l. Some (reading_of l.world.ground_node))
+        sim.old.value sim.new.value result read.old read.new }
+{
+    read!(alloc, sim, read, |link| reading(link.sim().ground()))
+}
+
+/// Reads the link's spacecraft, as `sedge_spacecraft_read` reads a spacecraft. The link stays as it was. Returns 0.
+#[unsafe(no_mangle)]
+pub extern "C" fn sedge_sim_spacecraft_read(
+    alloc: Global,
+    sim: &mut SimHandle,
+    read: &mut BoardReading,
+) -> u8
+    ensures { IsRead (λ l. Some (board_reading_of l.world.spacecraft))
+        sim.old.value sim.new.value result read.old read.new }
+{
+    read!(
+        alloc,
+        sim,
+        read,
+        |link| board_reading(link.sim().spacecraft())
+    )
 }
 
 /// Writes the octets of the last event's frame or packet, of which the reply has the `count`, and their number; 0

@@ -102,10 +102,15 @@ pub struct GroundReading {
     pub sent_whole: u64,
     pub acknowledged_whole: u64,
     pub outstanding: usize,
+    pub unsent: usize,
+    pub due: usize,
+    pub bypassed: usize,
     pub frame_length: usize,
+    pub ticks: u16,
     pub state: u8,
     pub vs: u8,
     pub nn: u8,
+    pub count: u8,
 }
 
 #[repr(C)]
@@ -126,6 +131,8 @@ pub struct Received {
 #[derive(Clone, Copy, Debug, Default)]
 pub struct SpacecraftReading {
     pub frame_length: usize,
+    pub ready: usize,
+    pub bypassed: usize,
     pub status: u8,
     pub vcid: u8,
     pub flags: u8,
@@ -395,6 +402,8 @@ unsafe extern "C" {
     fn sedge_sim_step(sim: &mut Sim, event: &Event, reply: &mut Reply) -> u8;
     fn sedge_sim_octets(sim: &mut Sim, out: *mut u8, room: usize, count: &mut usize) -> u8;
     pub safe fn sedge_sim_read(sim: &mut Sim, read: &mut SimReading) -> u8;
+    pub safe fn sedge_sim_ground_read(sim: &mut Sim, read: &mut GroundReading) -> u8;
+    pub safe fn sedge_sim_spacecraft_read(sim: &mut Sim, read: &mut SpacecraftReading) -> u8;
     pub safe fn sedge_sim_submissions(sim: &mut Sim, count: &mut usize) -> u8;
     pub safe fn sedge_sim_submission_length(sim: &mut Sim, k: usize, map: &mut u8, count: &mut usize) -> u8;
     fn sedge_sim_submission(

@@ -302,6 +302,36 @@ impl Ground {
         self.read().outstanding
     }
 
+    /// The number of these that wait to be sent for the first time.
+    #[must_use]
+    pub fn unsent(&self) -> usize {
+        self.read().unsent
+    }
+
+    /// The number of these that are to be sent again.
+    #[must_use]
+    pub fn due(&self) -> usize {
+        self.read().due
+    }
+
+    /// The number of bypass packets that wait to be sent.
+    #[must_use]
+    pub fn bypassed(&self) -> usize {
+        self.read().bypassed
+    }
+
+    /// The ticks that are left while the timer runs, and 0 while it is off.
+    #[must_use]
+    pub fn ticks(&self) -> u16 {
+        self.read().ticks
+    }
+
+    /// The transmission count, at least 1.
+    #[must_use]
+    pub fn count(&self) -> u8 {
+        self.read().count
+    }
+
     /// The octets of a telemetry frame.
     #[must_use]
     pub fn frame_length(&self) -> usize {

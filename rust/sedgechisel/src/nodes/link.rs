@@ -1,10 +1,11 @@
 //! The simulated link between two nodes.
 
 use super::ground::alert_of;
+use super::spacecraft::word_of;
 use super::{room_for, Config, Heard, LinkFault, OpenFault, Received};
 use crate::ffi::nodes as raw;
 use crate::numbers::{done, never};
-use crate::{Alert, Clcw, CopFault, FopState, Packet, TcFrame, TmFault};
+use crate::{Alert, Clcw, CopFault, FarmMode, FopState, Packet, TcFrame, TmFault};
 use alloc::vec::Vec;
 use core::fmt;
 
@@ -277,6 +278,84 @@ impl Link {
     #[must_use]
     pub fn is_confirmed(&self) -> bool {
         self.read().confirmed
+    }
+
+    fn read_ground(&self) -> raw::GroundReading {
+        let mut read = raw::GroundReading::default();
+        self.0.read(|it| raw::sedge_sim_ground_read(it, &mut read));
+        read
+    }
+
+    /// V(S) of the ground, the number of the next segment that is sent for the first time.
+    #[must_use]
+    pub fn vs(&self) -> u8 {
+        self.read_ground().vs
+    }
+
+    /// NN(R) of the ground, the number that the spacecraft was last known to expect.
+    #[must_use]
+    pub fn nn(&self) -> u8 {
+        self.read_ground().nn
+    }
+
+    /// The number of segments outstanding that wait to be sent for the first time.
+    #[must_use]
+    pub fn unsent(&self) -> usize {
+        self.read_ground().unsent
+    }
+
+    /// The number of segments outstanding that are to be sent again.
+    #[must_use]
+    pub fn due(&self) -> usize {
+        self.read_ground().due
+    }
+
+    /// The number of bypass packets that wait to be sent.
+    #[must_use]
+    pub fn bypass_unsent(&self) -> usize {
+        self.read_ground().bypassed
+    }
+
+    /// The ticks that are left while the ground's timer runs, and 0 while it is off.
+    #[must_use]
+    pub fn ticks(&self) -> u16 {
+        self.read_ground().ticks
+    }
+
+    /// The transmission count of the ground's sender, at least 1.
+    #[must_use]
+    pub fn count(&self) -> u8 {
+        self.read_ground().count
+    }
+
+    fn read_spacecraft(&self) -> raw::SpacecraftReading {
+        let mut read = raw::SpacecraftReading::default();
+        self.0.read(|it| raw::sedge_sim_spacecraft_read(it, &mut read));
+        read
+    }
+
+    /// The report that the next telemetry frame carries.
+    #[must_use]
+    pub fn control_word(&self) -> Clcw {
+        word_of(self.read_spacecraft())
+    }
+
+    /// The state of the receiver on board.
+    #[must_use]
+    pub fn mode(&self) -> FarmMode {
+        FarmMode::of(self.read_spacecraft().state)
+    }
+
+    /// The number of packets of sequence-controlled frames that wait on board to be taken.
+    #[must_use]
+    pub fn ready(&self) -> usize {
+        self.read_spacecraft().ready
+    }
+
+    /// The number of packets that came past the sequence control and wait there to be taken.
+    #[must_use]
+    pub fn bypass_ready(&self) -> usize {
+        self.read_spacecraft().bypassed
     }
 
     /// What was submitted in the session, in order: the MAP and the octets of each submission, or for one for which

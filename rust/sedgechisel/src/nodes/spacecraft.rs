@@ -53,6 +53,17 @@ impl Received {
     }
 }
 
+/// The report in what is read of a spacecraft.
+pub(super) fn word_of(read: raw::SpacecraftReading) -> Clcw {
+    Clcw::from_raw(crate::ffi::Clcw {
+        status: read.status,
+        vcid: read.vcid,
+        flags: read.flags,
+        farm_b: read.farm_b,
+        value: read.value,
+    })
+}
+
 /// The spacecraft: it receives packets and reports, and sends telemetry (docs/PROFILE.md, "The node on board"). Its memory
 /// is given back when it is dropped.
 ///
@@ -148,20 +159,25 @@ impl Spacecraft {
     /// The report that the next telemetry frame carries.
     #[must_use]
     pub fn control_word(&self) -> Clcw {
-        let read = self.read();
-        Clcw::from_raw(crate::ffi::Clcw {
-            status: read.status,
-            vcid: read.vcid,
-            flags: read.flags,
-            farm_b: read.farm_b,
-            value: read.value,
-        })
+        word_of(self.read())
     }
 
     /// The receiver's state.
     #[must_use]
     pub fn mode(&self) -> FarmMode {
         FarmMode::of(self.read().state)
+    }
+
+    /// The number of packets of sequence-controlled frames that wait to be taken.
+    #[must_use]
+    pub fn ready(&self) -> usize {
+        self.read().ready
+    }
+
+    /// The number of packets that came past the sequence control and wait to be taken.
+    #[must_use]
+    pub fn bypassed(&self) -> usize {
+        self.read().bypassed
     }
 
     /// The octets of a telemetry frame.

@@ -85,7 +85,38 @@ fn records() {
     let heard = Heard::Frame { gap: None, packets: 0, report: HeardReport::Used, alert: None };
     assert_eq!(link.down_deliver(), Ok(heard));
     assert_eq!((link.outstanding(), link.acknowledged()), (1, 1));
+    assert_eq!((link.vs(), link.nn(), waits(&link)), (2, 1, (0, 0, 0, 10, 1)));
     assert_eq!((link.take(), link.take()), (Ok(Some((4, octets_of(P0)))), Ok(None)));
+}
+
+/// What waits on the ground, the ticks that are left, and the transmission count.
+fn waits(link: &Link) -> (usize, usize, usize, u16, u8) {
+    (link.unsent(), link.due(), link.bypass_unsent(), link.ticks(), link.count())
+}
+
+/// What is read of the nodes while a buffer is full on board, and one frame is sent again.
+#[test]
+fn nodes_are_read() {
+    let mut link = a_link(&Config { ready_slots: 1, ..Config::default() });
+    link.init_without_check().unwrap();
+    link.submit(4, &octets_of(P0)).unwrap();
+    link.submit(4, &octets_of(P1)).unwrap();
+    link.bypass(4, &octets_of(P0)).unwrap();
+    assert_eq!((link.vs(), link.nn(), waits(&link)), (0, 0, (2, 0, 1, 0, 1)));
+    for _ in 0..3 {
+        link.send().unwrap();
+        link.up_deliver().unwrap();
+    }
+    assert_eq!((link.vs(), link.nn(), waits(&link)), (2, 0, (0, 0, 0, 10, 1)));
+    assert_eq!((link.mode(), link.ready(), link.bypass_ready()), (FarmMode::Wait, 1, 1));
+    assert_eq!((link.control_word(), link.control_word().value), (link.report().unwrap(), 1));
+    link.take().unwrap();
+    link.take_bypass().unwrap();
+    assert_eq!((link.mode(), link.ready(), link.bypass_ready()), (FarmMode::Open, 0, 0));
+    link.report().unwrap();
+    link.down_lose().unwrap();
+    link.down_deliver().unwrap();
+    assert_eq!((link.state(), link.nn(), waits(&link)), (FopState::S2, 1, (0, 1, 0, 10, 2)));
 }
 
 /// What comes past the sequence control, and telemetry.

@@ -233,7 +233,9 @@ impl Nodes {
         trial.shown(&mut self.ground, |it| {
             (it.submitted(), it.sent_whole(), it.acknowledged_whole(), it.known_on_board(value))
         });
+        trial.shown(&mut self.ground, |it| (it.unsent(), it.due(), it.bypassed(), it.ticks(), it.count()));
         trial.shown(&mut self.spacecraft, |it| (it.mode(), it.control_word(), it.frame_length()));
+        trial.shown(&mut self.spacecraft, |it| (it.ready(), it.bypassed()));
     }
 }
 
@@ -298,6 +300,10 @@ fn happens(link: &mut Twins<Link>, trial: &mut Trial) {
 fn is_recorded(link: &mut Twins<Link>, trial: &mut Trial) {
     trial.shown(link, |it| (it.state(), it.outstanding(), it.acknowledged(), it.begun()));
     trial.shown(link, |it| (it.is_clean(), it.is_idle(), it.is_confirmed()));
+    trial.shown(link, |it| {
+        (it.vs(), it.nn(), it.unsent(), it.due(), it.bypass_unsent(), it.ticks(), it.count())
+    });
+    trial.shown(link, |it| (it.control_word(), it.mode(), it.ready(), it.bypass_ready()));
     let (place, map) = (trial.chance.below(4) as usize, trial.any_map());
     for record in [Record::Submitted(map), Record::Delivered(map), Record::Sent, Record::Received] {
         trial.both(link, |it| it.record(record).nth(place).transpose());

@@ -46,6 +46,11 @@ fn nodes_are_shown() {
     assert_eq!(format!("{link:?}"), "Link { state: S1, outstanding: 1, acknowledged: 0, .. }");
 }
 
+/// What waits, the ticks that are left, and the transmission count.
+fn waits(ground: &Ground) -> (usize, usize, usize, u16, u8) {
+    (ground.unsent(), ground.due(), ground.bypassed(), ground.ticks(), ground.count())
+}
+
 /// A frame is lost on its way up, and sent again (examples/lost_frame.script).
 #[test]
 fn a_frame_is_lost() {
@@ -56,7 +61,9 @@ fn a_frame_is_lost() {
     for packet in [P0, P1, P2] {
         ground.submit(4, &octets_of(packet)).unwrap();
     }
+    assert_eq!(waits(&ground), (3, 0, 0, 0, 1));
     let frames: Vec<_> = (0..3).map(|_| sent(&mut ground).unwrap()).collect();
+    assert_eq!(waits(&ground), (0, 0, 0, 10, 1));
     assert_eq!(frames[0], octets_of("0001080E00C41005C0000000AAE75D"));
     assert_eq!(frames[2], octets_of("0001080E02C41005C0020000ACAC94"));
     assert_eq!(spacecraft.receive(&frames[0]), Ok(sequence(0, Verdict::Accepted, 1)));
@@ -64,12 +71,14 @@ fn a_frame_is_lost() {
     assert_eq!(word_of(&spacecraft), [0x01, 0x08, 0x08, 0x01]);
     assert_eq!(ground.telemetry(&reported(&mut spacecraft)), Ok(used(Some(0), 0)));
     assert_eq!((ground.state(), ground.nn(), ground.vs(), ground.outstanding()), (FopState::S2, 1, 3, 2));
+    assert_eq!(waits(&ground), (0, 2, 0, 10, 2));
     for number in [1, 2] {
         assert_eq!(sent(&mut ground), Some(frames[number].clone()));
         assert_eq!(spacecraft.receive(&frames[number]), Ok(sequence(number as u8, Verdict::Accepted, 1)));
     }
     assert_eq!(ground.telemetry(&reported(&mut spacecraft)), Ok(used(Some(0), 0)));
     assert_eq!((ground.state(), ground.outstanding(), sent(&mut ground)), (FopState::S1, 0, None));
+    assert_eq!((waits(&ground), spacecraft.ready()), ((0, 0, 0, 0, 1), 3));
     for packet in [P0, P1, P2] {
         assert_eq!(spacecraft.take(), Ok(Some((4, octets_of(packet)))));
     }
