@@ -155,7 +155,20 @@ fn run(rt: &impl Abort, both: &mut Both, calls: &[Call]) {
         answer_of_sender(rt, &mut both.sender, *call);
         is_restored(rt, &mut both.sender);
         equal(rt, &seen_of_sender(&both.sender), &seen(&both.fop));
+        equal(rt, &clock_of_sender(&both.sender), &clock(&both.fop));
     }
+}
+
+// How many units are due again, the transmission count, and the ticks that are left.
+type Clock = (usize, u8, Option<u16>);
+
+fn clock(fop: &Fop<u8>) -> Clock {
+    (fop.due(), fop.count(), fop.ticks())
+}
+
+fn clock_of_sender(sender: &Sender) -> Clock {
+    let kept = sender.fields();
+    (usize::from(kept.due), kept.count, kept.ticks)
 }
 
 // A sender that has sent one unit, 10, with the number 0.

@@ -34,6 +34,9 @@ pub enum Ask<'a> {
     // What a report of this value says is on board whole.
     KnownOnBoard(u8, Option<u64>),
     Resume(u8, Result<u64, LinkFault>),
+    // How many segments wait for their first time and how many again, how many bypass packets wait, the ticks
+    // that are left, and the transmission count.
+    Waits([usize; 3], Option<u16>, u8),
 }
 
 /// The sender's state, V(S), NN(R), and how many segments are not acknowledged.
@@ -73,7 +76,17 @@ fn answers(rt: &(impl Abort + Eprint), ground: &mut Ground, ask: &Ask<'_>) {
         Ask::Counts(want) => equal(rt, &counts(ground), want),
         Ask::KnownOnBoard(value, want) => equal(rt, &ground.known_on_board(*value), want),
         Ask::Resume(value, want) => resumes(rt, ground, *value, *want),
+        Ask::Waits(waiting, ticks, count) => waits(rt, ground, *waiting, *ticks, *count),
     }
+}
+
+fn waits(rt: &impl Abort, ground: &Ground, waiting: [usize; 3], ticks: Option<u16>, count: u8) {
+    equal(
+        rt,
+        &[ground.unsent(), ground.due(), ground.bypassed()],
+        &waiting,
+    );
+    equal(rt, &(ground.ticks(), ground.count()), &(ticks, count));
 }
 
 fn counts(ground: &Ground) -> [u64; 3] {
@@ -290,6 +303,34 @@ fn a_report_by_itself(rt: HostRuntime) {
     ];
     let config = with_value(Parameter::FrameLength, 19);
     asks(&rt, rt.alloc(), &config, &rows);
+}
+
+// Three packets are two segments, of which the first is sent, and asked for again.
+#[test]
+fn what_waits(rt: HostRuntime) {
+    use FopMode::{S1, S2, S6};
+    let used = HeardClcw {
+        report: HeardReport::Used,
+        alert: None,
+    };
+    let rows = [
+        (Ask::Waits([0, 0, 0], None, 1), (S6, 0, 0, 0)),
+        (INIT, (S1, 0, 0, 0)),
+        (Ask::Submit(&THREE, Ok(())), (S1, 0, 0, 2)),
+        (Ask::Bypass(&P2, Ok(())), (S1, 0, 0, 2)),
+        (Ask::Waits([2, 0, 1], None, 1), (S1, 0, 0, 2)),
+        (Ask::Advance, (S1, 0, 0, 2)),
+        (Ask::Waits([2, 0, 0], None, 1), (S1, 0, 0, 2)),
+        (Ask::Advance, (S1, 1, 0, 2)),
+        (Ask::Waits([1, 0, 0], Some(10), 1), (S1, 1, 0, 2)),
+        (Ask::Tick(None), (S1, 1, 0, 2)),
+        (Ask::Waits([1, 0, 0], Some(9), 1), (S1, 1, 0, 2)),
+        (Ask::Clcw([0x01, 0x08, 0x08, 0x00], used), (S2, 1, 0, 2)),
+        (Ask::Waits([1, 1, 0], Some(10), 2), (S2, 1, 0, 2)),
+        (Ask::Advance, (S2, 1, 0, 2)),
+        (Ask::Waits([1, 0, 0], Some(10), 2), (S2, 1, 0, 2)),
+    ];
+    asks(&rt, rt.alloc(), &with_parts(14, 1), &rows);
 }
 
 #[test]

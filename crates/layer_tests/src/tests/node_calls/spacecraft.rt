@@ -24,6 +24,8 @@ enum Row<'a> {
     TakeBypass(Option<&'a [u8]>),
     Telemetry(&'a [u8], Result<(), TmFault>),
     Report([u8; 4], u8, Pointer, &'a [u8]),
+    // How many packets wait to be taken, of sequence-controlled frames and past the sequence control.
+    Waits(usize, usize),
 }
 
 impl<'a> Node<Row<'a>> for Spacecraft {
@@ -43,6 +45,9 @@ impl<'a> Node<Row<'a>> for Spacecraft {
             Row::Telemetry(packet, want) => equal(rt, &telemetry(rt, self, packet), want),
             Row::Report(word, number, pointer, data) => {
                 reports(rt, self, *word, *number, *pointer, data)
+            }
+            Row::Waits(ready, bypassed) => {
+                equal(rt, &(self.ready(), self.bypassed()), &(*ready, *bypassed));
             }
         }
     }
@@ -182,9 +187,11 @@ fn foreign_frames(rt: HostRuntime) {
         Row::Receive(&BD_TO_SPACECRAFT_2, Received::Foreign),
         Row::Receive(&BD_ON_CHANNEL_3, Received::Foreign),
         idle([0x01, 0x08, 0x02, 0x00], 1),
+        Row::Waits(0, 1),
         Row::Take(None),
         Row::TakeBypass(Some(&P0)),
         Row::TakeBypass(None),
+        Row::Waits(0, 0),
     ];
     plays::<Spacecraft, _>(&rt, rt.alloc(), &Config::default(), &rows);
 }
@@ -205,6 +212,7 @@ fn frames_in_sequence(rt: HostRuntime) {
         Row::Receive(&AD_0, sequence(0, Verdict::Behind, 0)),
         Row::Receive(&AD_NONE, none),
         idle([0x01, 0x08, 0x00, 0x02], 1),
+        Row::Waits(1, 0),
         Row::Take(Some(&P0)),
         Row::Take(None),
         Row::Telemetry(&P0[..6], Err(TmFault::NotAPacket)),
