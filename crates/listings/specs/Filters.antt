@@ -11,7 +11,8 @@ use Rattle.tm_link.specs.Layout.{IsTmFrame}
 use Rattle.space_packet.specs.Layout.{PacketView, IsPacket}
 use Rattle.listings.specs.Listing.{Lines}
 
--- what is written of the records that are kept: another one has no line, changes nothing, and is good
+-- what is written of the records that are kept: another one has no line, changes nothing, and is
+-- good
 abbrev pub only : {S F : Type 0} → (List ℕ → Bool) → Lines S F → Lines S F
 only keeps lines = record {
   line_of = λ s i r. if keeps r then lines.line_of s i r else [];

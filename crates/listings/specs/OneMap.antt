@@ -1,6 +1,7 @@
 -- The packets of one MAP. The receiver takes the frames of all MAPs: FARM-1 counts the Type-AD
 -- frames of a virtual channel, whatever their MAP (CCSDS 232.1-B-2, 6.1).
-use Rattle.std.specs.Prelude.{ℕ, is_ok, Bool, true, List, [], if◌then◌else◌, Option, Result, Ok, Err}
+use Rattle.std.specs.Prelude.{ℕ, is_ok, Bool, true, List, [], if◌then◌else◌, Option, Result, Ok}
+use Rattle.std.specs.Prelude.{Err}
 use Rattle.tc_frame.specs.declared.frame.Check.{Check}
 use Rattle.tc_frame.specs.declared.fault.TcFault.{TcFault}
 use Rattle.tc_frame.specs.Layout.{BodyView, Ad, Bd, Bc, FrameView}

@@ -1,5 +1,6 @@
 -- What a line says to a node: a line of a script, or one of `frame HEX`, `clcw HEX` and `resume X`.
-use Rattle.std.specs.Prelude.{◌≤◌, ℕ, if◌then◌else◌, List, [], ◌∷◌, codes, Option, Some, None, option_map}
+use Rattle.std.specs.Prelude.{◌≤◌, ℕ, if◌then◌else◌, List, [], ◌∷◌, codes, Option, Some, None}
+use Rattle.std.specs.Prelude.{option_map}
 use Rattle.std.specs.Str.{bytes_eq}
 use Rattle.cop1.specs.declared.vocabulary.Directive.{Directive}
 use Rattle.nodes.specs.declared.event.Event.{Event}

@@ -1,5 +1,5 @@
--- A node played line by line: what each line answers and leaves. The node is made at the first line that
--- asks something of it.
+-- A node played line by line: what each line answers and leaves. The node is made at the first line
+-- that asks something of it.
 use Rattle.std.specs.Prelude.{ℕ, List, [], ◌∷◌, ◌++◌, codes, Bool, true, false, Option, Some, None}
 use Rattle.nodes.specs.declared.config.Config.{Config}
 use Rattle.nodes.specs.declared.parameter.Parameter.{Parameter}

@@ -1,5 +1,6 @@
 -- A spacecraft that is played line by line: what is answered to each line.
-use Rattle.std.specs.Prelude.{ℕ, List, ◌++◌, codes, decimal, length, Option, Some, None, Result, Ok, Err}
+use Rattle.std.specs.Prelude.{ℕ, List, ◌++◌, codes, decimal, length, Option, Some, None, Result}
+use Rattle.std.specs.Prelude.{Ok, Err}
 use Rattle.clcw.specs.Encoding.{encode_answer}
 use Rattle.cop1.specs.Farm.{FarmState}
 use Rattle.cop1.specs.Report.{report_of}

@@ -9,8 +9,8 @@ use Rattle.node_lines.specs.Asks.{Ask}
 abbrev pub Turn : Type 0 → Type 0
 Turn S = Outcome S (List ℕ)
 
--- how a node is played: the one that a configuration makes, and what comes of what is asked, if it is
--- asked of such a node
+-- how a node is played: the one that a configuration makes, and what comes of what is asked, where
+-- it is asked of such a node
 pub record NodeRules (S : Type 0) : Type 0 where
   pub new : Config → S
   pub asked : Ask → Option (S → Turn S)

@@ -28,8 +28,8 @@ lines_of tasks.Ground octets = answers_of (node_playing ground_rules) fresh_play
 lines_of tasks.Spacecraft octets = answers_of (node_playing spacecraft_rules) fresh_player octets
 lines_of task octets = listed_lines task octets
 
--- a node has answered all lines that had ended, where a read of more fails: so it answers them before
--- each read
+-- a node has answered all lines that had ended, where a read of more fails: so it answers them
+-- before each read
 abbrev pub AnswersInTime : Task → Result Outcome ListingFault → (old new octets : List ℕ) → Type 0
 AnswersInTime tasks.Ground result old new octets =
     result ≡ Err Read
@@ -39,8 +39,8 @@ AnswersInTime tasks.Spacecraft result old new octets =
     → new ≡ old ++ answers_so_far (node_playing spacecraft_rules) fresh_player octets
 AnswersInTime task result old new octets = Unit {0}
 
--- Good exactly where every record is good and nothing is left, or every line that a node is asked is
--- good; a script is judged whole
+-- Good exactly where every record is good and nothing is left, or every line that a node is asked
+-- is good; a script is judged whole
 abbrev pub outcome_for : Task → List ℕ → OutcomeView
 outcome_for tasks.Sim octets = as_outcome (script_ending octets)
 outcome_for tasks.Ground octets =

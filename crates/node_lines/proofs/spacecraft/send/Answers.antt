@@ -9,9 +9,11 @@ use Rattle.node_lines.proofs.spacecraft.send.Goals as goal
 pub returns : goal.returns
 returns c =
     let e = c.report-count.ensures in
+    let sent = c.push_sent in
+    let frame = (spacecraft_step c.args.node.now Report).answer in
     record {
-      text = subst (λ (octets : List ℕ). Appends c.push_sent.result c.args.text.now c.push_sent.new.text (sent_text octets))
-          (front_is c.report-count.result c.report-count.new.out (spelling (spacecraft_step c.args.node.now Report).answer)
-          (replicate 2048 0) e.frame c.report-count.array_long e.spells.most) c.push_sent.ensures;
+      text = subst (λ (octets : List ℕ). Appends sent.result c.args.text.now sent.new.text (sent_text octets))
+          (front_is c.report-count.result c.report-count.new.out (spelling frame) (replicate 2048 0) e.frame
+          c.report-count.array_long e.spells.most) sent.ensures;
       node = search rules;
     }
