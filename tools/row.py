@@ -28,7 +28,8 @@ def spelled(text):
 
 
 class Row:
-    """What an entry says: `runs` has each input with what is written of it, `records` each line of octets."""
+    """What an entry says: `runs` has each input with what is written of it, `records` each line of octets, and of lines
+    that are answered one by one each line."""
 
     def __init__(self, name, says, head):
         self.name, self.says, self.words, self.has, self.records = name, says, [], [], []
@@ -66,6 +67,8 @@ class Row:
     def take_script(self, lines):
         script = "".join(f"{it}\n" for it, _ in lines if it is not None)
         self.runs = [(spelled(script), spelled("".join(it for _, it in lines)))]
+        if self.words and self.words[0][:1] in (["ground"], ["spacecraft"]):
+            self.records = [(spelled(f"{it}\n"), spelled(written)) for it, written in lines if it is not None]
 
     def take_each(self, lines):
         self.runs = [(spelled(it or ""), spelled(written)) for it, written in lines]

@@ -2,7 +2,7 @@
 
 ghost use Rattle.std.specs.Prelude.{◌≡◌, ◌≤◌, ◌++◌, ◌∷◌, [], codes, true, false, OnOk, IfOk};
 ghost use Rattle.octets.specs.Beginning.{Appends};
-ghost use Rattle.script_lines.specs.Lines.{most_for, octets_of_digits};
+ghost use Rattle.script_lines.specs.Lines.{most_for};
 ghost use Rattle.node_lines.specs.Asks.{ask_view};
 ghost use Rattle.node_lines.specs.Turns.{turned};
 
@@ -11,7 +11,7 @@ use crate::node::Node;
 use crate::reader::node_line;
 use line_stream::Player;
 use nodes::{Config, Parameter};
-use script_lines::octets_in_word;
+use script_lines::octets_of_digits;
 use std::alloc::{AllocError, Global};
 use std::fmt::Write;
 
@@ -146,15 +146,4 @@ fn push_out_of_range(text: &mut String, field: &str) -> Result<bool, AllocError>
 {
     write!(text, "config out of range: {field}\n")?;
     Ok(false)
-}
-
-// The octets of these digits.
-fn octets_of_digits(alloc: Global, digits: &[u8]) -> Result<Vec<u8>, AllocError>
-    ensures { IfOk result (λ octets. octets.items ≡ octets_of_digits digits.now) }
-{
-    match octets_in_word(alloc, digits) {
-        Ok(Some(octets)) => Ok(octets),
-        Ok(None) => Ok(Vec::new(alloc)),
-        Err(error) => Err(error),
-    }
 }

@@ -5,7 +5,7 @@ ghost use Rattle.std.specs.List.{flat_map};
 ghost use Rattle.octets.specs.Outcome.{map_ok};
 ghost use Rattle.simulated_link.specs.Replies.{reply_view};
 ghost use Rattle.simulated_link.specs.World.{World, world_step};
-ghost use Rattle.script_lines.specs.Lines.{with_octets, octets_of_digits, line_view};
+ghost use Rattle.script_lines.specs.Lines.{with_octets, line_view};
 ghost use Rattle.script_lines.specs.Programs.{lines_left};
 ghost use Rattle.octets.specs.Beginning.{Appends};
 ghost use Rattle.script.specs.Player.{ToEvent, line_responses, response_line, after_line, answers_from};
@@ -13,7 +13,7 @@ ghost use Rattle.script.specs.Ending.{remaining_answers};
 
 use crate::answer::push_answer;
 use crate::show::push_show;
-use script_lines::{Line, Rest, digits_of, octets_in_word};
+use script_lines::{Line, Rest, digits_of, octets_of_digits};
 use simulated_link::{Event, Reply, SimFault, World};
 use std::alloc::{AllocError, Global};
 
@@ -56,17 +56,6 @@ fn play_event(
 {
     let answer = step(world, event)?;
     push_answer(text, alloc, &answer)
-}
-
-// The octets of these digits.
-fn octets_of_digits(alloc: Global, digits: &[u8]) -> Result<Vec<u8>, AllocError>
-    ensures { IfOk result (λ octets. octets.items ≡ octets_of_digits digits.now) }
-{
-    match octets_in_word(alloc, digits) {
-        Ok(Some(octets)) => Ok(octets),
-        Ok(None) => Ok(Vec::new(alloc)),
-        Err(error) => Err(error),
-    }
 }
 
 // Plays a line, and appends the line of the response.

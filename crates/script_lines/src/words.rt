@@ -5,6 +5,7 @@ ghost use Rattle.std.specs.Result.{result_ok};
 ghost use Rattle.std.specs.Str.{bytes_eq};
 ghost use Rattle.std.specs.Str.Parse.{digits_value};
 ghost use Rattle.hex.specs.Hex.{is_hex_digit, decode_of};
+ghost use Rattle.script_lines.specs.Lines.{octets_of_digits};
 ghost use Rattle.script_lines.specs.Words.{starts_well, is_numeral, number_in_word, octets_in_word};
 
 use std::alloc::{AllocError, Global};
@@ -98,5 +99,17 @@ pub fn octets_in_word(alloc: Global, word: &[u8]) -> Result<Option<Vec<u8>>, All
     match hex::decode(alloc, word) {
         Ok(octets) => Ok(Some(octets)),
         Err(_) => Err(AllocError),
+    }
+}
+
+/// The octets of digits that a line carries; none of a word that is not octets.
+/// Faults: `AllocError`. Memory: yes. Cost: n.
+pub fn octets_of_digits(alloc: Global, digits: &[u8]) -> Result<Vec<u8>, AllocError>
+    ensures { IfOk result (λ octets. octets.items ≡ octets_of_digits digits.now) }
+{
+    match octets_in_word(alloc, digits) {
+        Ok(Some(octets)) => Ok(octets),
+        Ok(None) => Ok(Vec::new(alloc)),
+        Err(error) => Err(error),
     }
 }

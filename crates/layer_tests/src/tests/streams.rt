@@ -1,13 +1,15 @@
 // Each call once, over readers and writers of std and such that fail. The octets and the lines are worked by hand.
 
-ghost use Rattle.std.specs.Prelude.{◌≡◌, [], None};
+ghost use Rattle.std.specs.Prelude.{◌≡◌, [], None, Some};
+ghost use Rattle.listings.specs.Filters.{keeps_frame};
 
 use super::equal::equal;
 use cop1::Farm;
 use listings::{
-    Call, ControlWords, Cutter, DeviceLog, FrameCutter, FrameLength, FrameListing, Listing,
-    ListingFault, MapListing, PacketListing, Reader, RefusalListing, ReportListing, Sink, Source,
-    TelemetryListing, Writer, list_stream, write_all,
+    Begins, Call, ControlWords, Cutter, DeviceLog, Filter, FrameCutter, FrameLength, FrameListing,
+    FramesOf, FromFirst, Kept, Listing, ListingFault, MapListing, OneMap, Only, PacketListing,
+    PacketsOf, Reader, RefusalListing, ReportListing, Sink, Source, TelemetryListing, TelemetryOf,
+    Writer, list_stream, write_all,
 };
 use octets::{Splitter, remove_front};
 use space_packet::Packets;
@@ -119,6 +121,59 @@ fn lists_reports(rt: &impl Abort, alloc: Global) {
         false,
         lines,
     );
+}
+
+// The telecommand frames of virtual channel 3.
+struct ThirdChannel;
+
+impl Kept for ThirdChannel {
+    ghost keeps = { keeps_frame None (Some 3) };
+}
+
+// A channel, a MAP and a first number: what is of another has no line, and is good.
+#[test]
+fn listings_of_a_part(rt: HostRuntime) {
+    lists_a_channel(&rt, rt.alloc());
+    lists_from_the_first(&rt, rt.alloc());
+    keeps_its_own(&rt);
+}
+
+fn lists_a_channel(rt: &impl Abort, alloc: Global) {
+    let filter = FramesOf {
+        scid: None,
+        vcid: Some(3),
+    };
+    let frames = Only::<FrameListing, FramesOf, ThirdChannel>::new(FrameListing, filter);
+    let unchecked = Splitter::<Unchecked>::new(alloc);
+    is_listed(rt, alloc, &UNLOCK, unchecked, frames, true, "");
+    let packets = OneMap::new(MapListing::new(alloc, 254, 0, false), Some(5));
+    let unchecked = Splitter::<Unchecked>::new(alloc);
+    is_listed(rt, alloc, &DATA, unchecked, packets, true, "");
+}
+
+fn lists_from_the_first(rt: &impl Abort, alloc: Global) {
+    let mut farm = Farm::new(254, 9).unwrap();
+    farm.begin(100);
+    equal(rt, &farm.vr(), &100);
+    let unchecked = Splitter::<Unchecked>::new(alloc);
+    let line = "1 AD 0 accepted Open vr=1 l=0 w=0 t=0 b=0\n";
+    let frames = FromFirst::new(farm, true);
+    is_listed(rt, alloc, &DATA, unchecked, frames, true, line);
+}
+
+fn keeps_its_own(rt: &impl Abort) {
+    let frames = FramesOf {
+        scid: Some(1),
+        vcid: Some(2),
+    };
+    equal(rt, &frames.keeps(&UNLOCK), &true);
+    let telemetry = TelemetryOf {
+        scid: Some(1),
+        vcid: Some(1),
+    };
+    equal(rt, &telemetry.keeps(&TELEMETRY), &false);
+    let packets = PacketsOf { apid: 5 };
+    equal(rt, &packets.keeps(&DATA[6..]), &true);
 }
 
 #[test]
